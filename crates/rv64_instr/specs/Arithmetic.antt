@@ -1,0 +1,71 @@
+-- The arithmetic of RV64I's operations on numbers below 2^64 (RISC-V Unprivileged ISA, RV64I).
+use Rattle.std.specs.Prelude.{ℕ, ℤ, pos, negsuc, ◌+◌, ◌-◌, ◌*◌, ◌/◌, ◌%◌, ◌^◌, Bool, false, not, nat_eq, nat_lt, int_lt, bit_and, bit_or, bit_xor}
+use Rattle.std.specs.Int.{w8, w16, w32, w64, cast_unsigned, cast_signed, int_shr, from_bool}
+use Rattle.rv64_instr.specs.declared.op.Op.{Op}
+use Rattle.rv64_instr.specs.declared.op.Op.TheVariants.{Lui, Beq, Bne, Blt, Bge, Bltu, Bgeu, Lb, Lh, Lw, Ld, Lbu, Lhu, Lwu, Sb, Sh, Sw, Sd, Addi, Slti, Sltiu, Xori, Ori, Andi, Slli, Srli, Srai, Add, Sub, Sll, Slt, Sltu, Xor, Srl, Sra, Or, And, Addiw, Slliw, Srliw, Sraiw, Addw, Subw, Sllw, Srlw, Sraw, Copy, PseudoBr, PseudoCall, PseudoRet}
+
+-- a signed number modulo 2^64
+abbrev pub word : ℤ → ℕ
+word (pos n) = n % 2 ^ 64
+word (negsuc n) = 2 ^ 64 - 1 - n % 2 ^ 64
+
+-- the 64 bits of a signed number of 64 bits
+abbrev pub unsigned : ℤ → ℕ
+unsigned z = cast_unsigned w64 z
+
+-- the number that 64 bits stand for in two's complement
+abbrev pub signed : ℕ → ℤ
+signed n = cast_signed w64 n
+
+-- the low 32 bits, sign-extended to 64
+abbrev pub extend32 : ℕ → ℕ
+extend32 n = unsigned (cast_signed w32 (n % 2 ^ 32))
+
+-- what an operation on two registers gives. Shifts take the low 6 bits of the second, those of words the low 5
+unfoldable pub computed : Op → ℕ → ℕ → ℕ
+computed Add a b = (a + b) % 2 ^ 64
+computed Sub a b = (a + (2 ^ 64 - b)) % 2 ^ 64
+computed Sll a b = (a * 2 ^ (b % 64)) % 2 ^ 64
+computed Slt a b = from_bool (int_lt (signed a) (signed b))
+computed Sltu a b = from_bool (nat_lt a b)
+computed Xor a b = bit_xor a b
+computed Srl a b = a / 2 ^ (b % 64)
+computed Sra a b = unsigned (int_shr (signed a) (b % 64))
+computed Or a b = bit_or a b
+computed And a b = bit_and a b
+computed Addw a b = extend32 (a + b)
+computed Subw a b = extend32 (a + (2 ^ 64 - b))
+computed Sllw a b = extend32 (a * 2 ^ (b % 32))
+computed Srlw a b = extend32 ((a % 2 ^ 32) / 2 ^ (b % 32))
+computed Sraw a b = unsigned (int_shr (cast_signed w32 (a % 2 ^ 32)) (b % 32))
+computed _ a b = 0
+
+-- whether a conditional branch is taken
+unfoldable pub taken : Op → ℕ → ℕ → Bool
+taken Beq a b = nat_eq a b
+taken Bne a b = not (nat_eq a b)
+taken Blt a b = int_lt (signed a) (signed b)
+taken Bge a b = not (int_lt (signed a) (signed b))
+taken Bltu a b = nat_lt a b
+taken Bgeu a b = not (nat_lt a b)
+taken _ a b = false
+
+-- how many bytes a load or a store moves
+abbrev pub width_of : Op → ℕ
+width_of Lb = 1
+width_of Lbu = 1
+width_of Lh = 2
+width_of Lhu = 2
+width_of Lw = 4
+width_of Lwu = 4
+width_of Sb = 1
+width_of Sh = 2
+width_of Sw = 4
+width_of _ = 8
+
+-- what a load makes of the number that its bytes spell: sign-extended, but for the unsigned loads
+unfoldable pub extended : Op → ℕ → ℕ
+extended Lb n = unsigned (cast_signed w8 n)
+extended Lh n = unsigned (cast_signed w16 n)
+extended Lw n = unsigned (cast_signed w32 n)
+extended _ n = n

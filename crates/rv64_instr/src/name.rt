@@ -1,0 +1,4 @@
+use lists::List;
+
+/// A name, by its bytes. It need not be text, and may be empty.
+pub type Name = List<u8>;

@@ -1,0 +1,39 @@
+use crate::name::Name;
+use lists::List;
+
+/// Register contents, in a stated order.
+pub type Values = List<u64>;
+
+/// Bytes of memory as pairs of an address and its byte. The last pair of an address counts, and every other
+/// byte is 0.
+pub type Cells = List<(u64, u8)>;
+
+/// The registers and the memory with which a run starts.
+#[derive(Debug, Drop)]
+pub struct Start {
+    /// The content of x0 to x31.
+    pub regs: [u64; 32],
+    /// The bytes of memory that are not 0.
+    pub memory: Cells,
+}
+
+/// A call that a run makes.
+#[derive(Debug, Drop)]
+pub struct CallEvent {
+    /// The function that is called.
+    pub name: Name,
+    /// The contents of the registers that the call uses implicitly, in text order, x2 left out.
+    pub args: Values,
+    /// The call's number in its run, from 1.
+    pub number: u64,
+}
+
+/// What a call gives back.
+#[derive(Clone, Copy, Debug)]
+pub struct Answer {
+    /// The new contents of the caller-saved registers x1, x5 to x7, x10 to x17 and x28 to x31, in this order
+    /// (RISC-V ELF psABI, "Integer Register Convention").
+    pub regs: [u64; 16],
+    /// Up to eight bytes that it writes, each with its address, in order.
+    pub writes: [Option<(u64, u8)>; 8],
+}

@@ -1,0 +1,71 @@
+use crate::arithmetic::{compute, extend, is_taken};
+use crate::instr::Instr;
+use crate::op::Op;
+use crate::operand::{Operand, Operands};
+use crate::place::Place;
+use crate::reg::{Reg, physical};
+use std::alloc::Global;
+use std::test::Fail;
+
+/// An operation on registers, their contents, and what it gives.
+const ROWS: [(Op, u64, u64, u64); 15] = [
+    (Op::Add, 0xffff_ffff_ffff_ffff, 2, 1),
+    (Op::Sub, 0, 1, 0xffff_ffff_ffff_ffff),
+    (Op::Sll, 1, 65, 2),
+    (Op::Srl, 0x8000_0000_0000_0000, 63, 1),
+    (Op::Sra, 0x8000_0000_0000_0000, 63, 0xffff_ffff_ffff_ffff),
+    (Op::Slt, 0xffff_ffff_ffff_ffff, 0, 1),
+    (Op::Sltu, 0xffff_ffff_ffff_ffff, 0, 0),
+    (Op::Xor, 6, 3, 5),
+    (Op::Or, 6, 3, 7),
+    (Op::And, 6, 3, 2),
+    (Op::Addw, 0x7fff_ffff, 1, 0xffff_ffff_8000_0000),
+    (Op::Subw, 0, 1, 0xffff_ffff_ffff_ffff),
+    (Op::Sllw, 1, 63, 0xffff_ffff_8000_0000),
+    (Op::Srlw, 0xffff_ffff_8000_0000, 4, 0x0800_0000),
+    (Op::Sraw, 0x8000_0000, 31, 0xffff_ffff_ffff_ffff),
+];
+
+#[test]
+fn arithmetic_of_the_standard(rt: HostRuntime) {
+    for (op, a, b, wanted) in ROWS {
+        assert_eq!(rt; compute(op, a, b), wanted, "{op:?}");
+    }
+}
+
+#[test]
+fn branches_and_loads(rt: HostRuntime) {
+    assert!(rt; is_taken(Op::Blt, u64::MAX, 0));
+    assert!(rt; is_taken(Op::Bgeu, u64::MAX, 0));
+    assert_eq!(rt; extend(Op::Lb, 0x80), 0xffff_ffff_ffff_ff80);
+    assert_eq!(rt; extend(Op::Lhu, 0x8000), 0x8000);
+}
+
+#[test]
+fn names(rt: HostRuntime) {
+    assert_eq!(rt; Op::from_mnemonic(b"SRAIW"), Some(Op::Sraiw));
+    assert_eq!(rt; Op::from_mnemonic(b"AUIPC"), None);
+}
+
+fn register(n: u32) -> Result<Reg, Fail> {
+    Ok(physical(n).ok_or("no register")?)
+}
+
+/// A call with one argument.
+fn call_with(alloc: Global, argument: Reg) -> Result<Instr, Fail> {
+    let mut operands = Operands::new(alloc);
+    operands.push(Operand::Symbol(lists::List::new(alloc)))?;
+    operands.push(Operand::Mask)?;
+    operands.push(Operand::ImplicitUse(argument))?;
+    Ok(Instr::new(Op::PseudoCall, operands).ok_or("no form")?)
+}
+
+#[test]
+fn a_call(rt: HostRuntime) -> Result<(), Fail> {
+    let call = call_with(rt.alloc(), register(10)?)?;
+    assert!(rt; call.effect().call);
+    assert!(rt; call.uses(Place::Register(register(10)?)));
+    assert!(rt; call.defines(Place::Register(register(1)?)));
+    assert!(rt; !call.defines(Place::Register(register(8)?)));
+    Ok(())
+}
