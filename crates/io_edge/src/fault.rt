@@ -1,0 +1,8 @@
+//! The one fault of reading and writing.
+
+use thiserror::Error;
+
+/// A call of a source or a sink failed. What failed is not said.
+#[derive(Clone, Copy, Debug, PartialEq, Eq, Error)]
+#[error("reading or writing failed")]
+pub struct Failed;

@@ -1,0 +1,221 @@
+//! What no clause says: that each call succeeds with ample memory, and the adapters over the standard library.
+
+ghost use Rattle.std.specs.Prelude.{◌<◌};
+
+use crate::bytes::{Bytes, CallNumbers};
+use crate::fault::Failed;
+use crate::memory_sink::MemorySink;
+use crate::memory_source::MemorySource;
+use crate::reading::{ReadError, read_all};
+use crate::sink::Sink;
+use crate::source::Source;
+use crate::std_sink::StdSink;
+use crate::std_source::StdSource;
+use crate::writing::write_all;
+use std::alloc::{AllocError, Global};
+use std::io;
+use std::io::{ErrorKind, Read, Write};
+use std::test::Fail;
+
+fn source(alloc: Global, bytes: &[u8], fails: &[u64]) -> Result<MemorySource, AllocError> {
+    let bytes = Bytes::from_slice(alloc, bytes)?;
+    Ok(MemorySource::new(bytes, CallNumbers::from_slice(alloc, fails)?))
+}
+
+fn sink(alloc: Global, room: usize, fails: &[u64]) -> Result<MemorySink, AllocError> {
+    MemorySink::new(alloc, room, CallNumbers::from_slice(alloc, fails)?)
+}
+
+#[test]
+fn memory_source_gives_pieces_and_planned_faults(rt: HostRuntime) -> Result<(), Fail> {
+    let mut input = source(rt.alloc(), b"hello", &[2, 4])?;
+    let rows: [(usize, Result<usize, Failed>, &[u8]); 6] = [
+        (2, Ok(2), b"he"),
+        (2, Err(Failed), b".."),
+        (2, Ok(2), b"ll"),
+        (2, Err(Failed), b".."),
+        (4, Ok(1), b"o..."),
+        (4, Ok(0), b"...."),
+    ];
+    for (size, answer, filled) in rows {
+        let mut buf = [b'.'; 4];
+        assert!(rt; size <= 4);
+        let piece = &mut buf[..size];
+        assert_eq!(rt; input.read(piece), answer);
+        assert_eq!(rt; &*piece, filled);
+    }
+    Ok(())
+}
+
+#[test]
+fn memory_sink_keeps_what_fits(rt: HostRuntime) -> Result<(), Fail> {
+    let mut output = sink(rt.alloc(), 4, &[2])?;
+    let rows: [(&[u8], Result<usize, Failed>, &[u8]); 6] = [
+        (b"ab", Ok(2), b"ab"),
+        (b"cd", Err(Failed), b"ab"),
+        (b"", Ok(0), b"ab"),
+        (b"cde", Ok(2), b"abcd"),
+        (b"e", Err(Failed), b"abcd"),
+        (b"", Ok(0), b"abcd"),
+    ];
+    for (piece, answer, written) in rows {
+        assert_eq!(rt; output.write(piece), answer);
+        assert_eq!(rt; output.written(), written);
+    }
+    Ok(())
+}
+
+#[test]
+fn read_all_reads_to_the_end_or_says_why_not(rt: HostRuntime) -> Result<(), Fail> {
+    // The input, the calls that fail, the limit, and the error if there is one. A short input takes two reads.
+    let rows: [(&[u8], &[u64], usize, Option<ReadError>); 8] = [
+        (b"", &[], 0, None),
+        (b"hello", &[], 5, None),
+        (b"hello", &[], 6, None),
+        (b"hello", &[3], 6, None),
+        (b"h", &[], 0, Some(ReadError::TooLong)),
+        (b"hello", &[], 4, Some(ReadError::TooLong)),
+        (b"hello", &[1], 5, Some(ReadError::Failed)),
+        (b"hello", &[2], 5, Some(ReadError::Failed)),
+    ];
+    for (bytes, fails, limit, error) in rows {
+        let mut input = source(rt.alloc(), bytes, fails)?;
+        assert!(rt; limit < 100);
+        match read_all(rt.alloc(), &mut input, limit) {
+            Ok(read) => {
+                assert_eq!(rt; error, None);
+                assert_eq!(rt; read.as_slice(), bytes);
+            }
+            Err(e) => assert_eq!(rt; Some(e), error),
+        }
+    }
+    Ok(())
+}
+
+#[test]
+fn write_all_writes_all_or_a_prefix(rt: HostRuntime) -> Result<(), Fail> {
+    // The room, the calls that fail, the answer, and what was written of the piece.
+    let rows: [(usize, &[u64], Result<(), Failed>, &[u8]); 4] = [
+        (5, &[], Ok(()), b"hello"),
+        (9, &[2], Ok(()), b"hello"),
+        (3, &[], Err(Failed), b"hel"),
+        (9, &[1], Err(Failed), b""),
+    ];
+    for (room, fails, answer, written) in rows {
+        let mut output = sink(rt.alloc(), room, fails)?;
+        assert_eq!(rt; write_all(&mut output, b"hello"), answer);
+        assert_eq!(rt; output.written(), written);
+    }
+    Ok(())
+}
+
+/// A reader that gives a byte a call, counting down to 1, and fails at one of its calls.
+#[derive(Drop)]
+struct Countdown {
+    left: u8,
+    calls_to_fault: u8,
+}
+
+impl Read for Countdown {
+    fn read(&mut self, buf: &mut [u8]) -> io::Result<usize> {
+        if self.calls_to_fault == 0 {
+            return Err(io::Error::from(ErrorKind::Other));
+        }
+        self.calls_to_fault -= 1;
+        if buf.is_empty() || self.left == 0 {
+            return Ok(0);
+        }
+        buf[0] = self.left;
+        self.left -= 1;
+        Ok(1)
+    }
+}
+
+/// A writer that takes a byte a call. With its room full it fails, or takes nothing.
+#[derive(Drop)]
+struct Drip {
+    taken: Vec<u8>,
+    room: usize,
+    fails: bool,
+}
+
+impl Write for Drip {
+    fn write(&mut self, buf: &[u8]) -> io::Result<usize> {
+        if buf.is_empty() || (self.taken.len() >= self.room && !self.fails) {
+            return Ok(0);
+        }
+        if self.taken.len() >= self.room {
+            return Err(io::Error::from(ErrorKind::Other));
+        }
+        self.taken.push(buf[0])?;
+        Ok(1)
+    }
+
+    fn flush(&mut self) -> io::Result<()> {
+        Ok(())
+    }
+}
+
+#[test]
+fn std_source_passes_bytes_and_faults_on(rt: HostRuntime) -> Result<(), Fail> {
+    let mut input = StdSource::new(b"hello".as_slice());
+    assert_eq!(rt;
+        read_all(rt.alloc(), &mut input, 5)?.as_slice(),
+        b"hello".as_slice()
+    );
+    // The third read fails, or none does.
+    for (calls_to_fault, want) in [(2, None), (9, Some([3, 2, 1]))] {
+        let mut input = StdSource::new(Countdown {
+            left: 3,
+            calls_to_fault,
+        });
+        match (read_all(rt.alloc(), &mut input, 3), want) {
+            (Ok(read), Some(bytes)) => assert_eq!(rt; read.as_slice(), bytes.as_slice()),
+            (Err(e), None) => assert_eq!(rt; e, ReadError::Failed),
+            _ => assert!(rt; false, "with a fault after {calls_to_fault} calls"),
+        }
+    }
+    Ok(())
+}
+
+#[test]
+fn std_sink_passes_bytes_and_faults_on(rt: HostRuntime) -> Result<(), Fail> {
+    let mut bytes = Vec::new(rt.alloc());
+    assert_eq!(rt; write_all(&mut StdSink::new(&mut bytes), b"hello"), Ok(()));
+    assert_eq!(rt; bytes.as_slice(), b"hello".as_slice());
+    let rows: [(usize, bool, Result<(), Failed>, &[u8]); 3] = [
+        (5, true, Ok(()), b"hello"),
+        (3, true, Err(Failed), b"hel"),
+        (3, false, Err(Failed), b"hel"),
+    ];
+    for (room, fails, answer, taken) in rows {
+        let mut drip = Drip {
+            taken: Vec::new(rt.alloc()),
+            room,
+            fails,
+        };
+        assert_eq!(rt; write_all(&mut StdSink::new(&mut drip), b"hello"), answer);
+        assert_eq!(rt; drip.taken.as_slice(), taken);
+    }
+    Ok(())
+}
+
+#[test]
+fn read_all_grows_its_room(rt: HostRuntime) -> Result<(), Fail> {
+    // Three times as many bytes as the first room has.
+    for (size, is_ok) in [(200_000, true), (200_001, false)] {
+        let mut input = StdSource::new(io::repeat(b'x').take(size));
+        match read_all(rt.alloc(), &mut input, 200_000) {
+            Ok(read) => {
+                assert!(rt; is_ok);
+                assert_eq!(rt; read.len(), 200_000);
+                assert!(rt; read.as_slice().iter().all(|byte| *byte == b'x'));
+            }
+            Err(e) => {
+                assert!(rt; !is_ok);
+                assert_eq!(rt; e, ReadError::TooLong);
+            }
+        }
+    }
+    Ok(())
+}
