@@ -1,0 +1,10 @@
+pub mod Runs
+pub mod Spans
+pub mod Scan
+pub mod Cut
+pub mod Placed
+pub mod Unclosed
+pub mod Laws
+pub mod Reaches
+pub mod Longest
+pub mod Spelled

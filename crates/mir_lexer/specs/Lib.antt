@@ -1,0 +1,5 @@
+pub mod Bytes
+pub mod Front
+pub mod Line
+pub mod Comment
+pub mod Spelling

@@ -1,0 +1,38 @@
+//! Tokens: their classes, and where they stand in their line.
+
+use lists::List;
+
+/// What a token is, told by its first byte and in four cases by the bytes after it.
+#[derive(Clone, Copy, Debug, PartialEq, Eq)]
+pub enum Class {
+    /// A letter or `_`, and then letters, digits, `_`, `.` and `-`, as `ADDI`, `bb.0.entry` or `debug-location`.
+    Word,
+    /// `$` and at least one letter, digit, `_`, `.` or `-`, as `$x10`.
+    Register,
+    /// `%` and at least one letter, digit, `_`, `.` or `-`, as `%stack.0` or `%bb.1.entry`.
+    Percent,
+    /// `!` and digits, as `!5`: a metadata node.
+    Node,
+    /// `!` and a word, as `!DILocation`: the kind of a metadata node.
+    Kind,
+    /// `@` or `&`, and then letters, digits, `_`, `.`, `-` and `$`, or a text in double quotes, as `@main`.
+    Symbol,
+    /// Digits, behind a `-` or not, or `0x` and hexadecimal digits.
+    Integer,
+    /// The bytes between two double quotes or two single quotes, quotes included.
+    Text,
+    /// One of the bytes `= , ( ) : { } [ ] < > | + -`, where a `-` has no digit behind it.
+    Single(u8),
+}
+
+/// A token of a line: its class, and its place as a half-open range of byte indices into the line. Its text is the
+/// line's slice from `start` to `end`.
+#[derive(Clone, Copy, Debug, PartialEq, Eq)]
+pub struct Token {
+    pub class: Class,
+    pub start: usize,
+    pub end: usize,
+}
+
+/// The tokens of a line, from left to right.
+pub type Tokens = List<Token>;
