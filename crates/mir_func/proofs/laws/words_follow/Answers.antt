@@ -1,0 +1,5 @@
+use Rattle.mir_func.proofs.Words.{words_follow}
+use Rattle.mir_func.proofs.laws.words_follow.Goals as goal
+
+pub returns : goal.returns
+returns g c = words_follow g.I.Inside.inner

@@ -1,0 +1,5 @@
+pub mod Function
+pub mod Sound
+pub mod SoundFrame
+pub mod meaning
+pub mod laws

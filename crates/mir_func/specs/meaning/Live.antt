@@ -1,0 +1,46 @@
+-- Liveness over paths.
+use Rattle.std.specs.Prelude.{◌≡◌, true, Contains}
+use Rattle.rv64_instr.specs.declared.place.Place.{Place}
+use Rattle.rv64_instr.specs.declared.place.Place.TheVariants.{Register, Slot}
+use Rattle.rv64_instr.specs.Row.{Row, LoadsSlot, StoresSlot, row_of}
+use Rattle.rv64_instr.specs.Access.{reads, sets}
+use Rattle.rv64_instr.specs.Parts.{uses_of}
+use Rattle.mir_func.specs.declared.position.Pos.{Pos}
+use Rattle.mir_func.specs.declared.item.ItemKind.{ItemKind}
+use Rattle.mir_func.specs.declared.item.ItemKind.TheVariants.{Code}
+use Rattle.mir_func.specs.meaning.Step.{Fetch, Here, Program}
+use Rattle.mir_func.specs.meaning.Graph.{Edge}
+
+-- what a row does depends on these places, and on no others that code has
+abbrev pub RowUses : Row → Place → Type 0
+RowUses row (Register r) = Contains (reads row) r
+RowUses (LoadsSlot rd n) (Slot k) = n ≡ k
+RowUses _ _ = ⊥
+
+-- it may change these places, and no others
+abbrev pub RowDefines : Row → Place → Type 0
+RowDefines row (Register r) = Contains (sets row) r
+RowDefines (StoresSlot rs n) (Slot k) = n ≡ k
+RowDefines _ _ = ⊥
+
+abbrev pub KindUses : ItemKind → Place → Type 0
+KindUses (Code i k) x = uses_of i x ≡ true
+KindUses _ x = ⊥
+
+abbrev pub KindDefines : ItemKind → Place → Type 0
+KindDefines (Code i k) x = RowDefines (row_of i) x
+KindDefines _ x = ⊥
+
+-- code reads the place. Debug items are no uses
+abbrev pub Uses : Fetch → Place → Type 0
+Uses (Here i) x = KindUses i.kind x
+Uses _ x = ⊥
+
+abbrev pub Defines : Fetch → Place → Type 0
+Defines (Here i) x = KindDefines i.kind x
+Defines _ x = ⊥
+
+-- some path from the position reaches a use of the place before a definition of it
+pub data Live (g : Program) (x : Place) : Pos → Type 0 where
+  used : {p : Pos} → Uses (g.fetch p) x → Live g x p
+  later : {p q : Pos} → (Defines (g.fetch p) x → ⊥) → Edge g p q → Live g x q → Live g x p

@@ -1,0 +1,120 @@
+-- The state of a run: registers, frame slots and memory, and the history that debug items read.
+use Rattle.std.specs.Prelude.{◌≡◌, ◌<◌, length, All, ℕ, zero, suc, ◌+◌, ◌*◌, ◌/◌, ◌%◌, ◌^◌, List, [], ◌∷◌, Option, Some, None, Bool, false, true, cond, ◌&&◌, ◌||◌, nat_eq, nat_lt, nat_le}
+use Rattle.mir_func.specs.declared.position.Pos.{Pos}
+use Rattle.mir_func.specs.declared.variable.VarId.{VarId}
+
+-- what a run shows to the outside
+pub data Event : Type 0 where
+  -- it calls a function with these contents
+  Called : (name args : List ℕ) → Event
+  -- it writes these bytes to memory, from the address on
+  Wrote : (address : ℕ) (bytes : List ℕ) → Event
+
+-- the answer to a call: the contents of the caller-saved registers, ascending, and bytes written in order
+pub record Reply : Type 0 where
+  pub regs : List ℕ
+  pub writes : List (ℕ × ℕ)
+
+-- all that a run has but its position
+pub record Core : Type 0 where
+  -- the content of x2 at entry
+  pub entry : ℕ
+  -- each register's content. A virtual register is unwritten until it is set
+  pub regs : ℕ → Option ℕ
+  -- each frame slot's content, where it is written
+  pub slots : ℕ → Option ℕ
+  pub memory : ℕ → ℕ
+  -- the answers to calls that are left
+  pub script : List Reply
+  -- what it has shown so far, the newest first
+  pub events : List Event
+  -- the last value of each operand of each debug instruction number
+  pub pairs : ℕ → ℕ → Option ℕ
+  -- the assignments so far, the newest first
+  pub marks : List (VarId × Option ℕ)
+
+pub record State : Type 0 where
+  pub pos : Pos
+  pub core : Core
+
+-- a function with one of its values changed
+abbrev pub updated : {A : Type 0} → ℕ → A → (ℕ → A) → ℕ → A
+updated k v f q = cond (nat_eq q k) v (f q)
+
+-- the content of a register: x0 reads 0
+abbrev pub content : (ℕ → Option ℕ) → ℕ → Option ℕ
+content regs zero = Some 0
+content regs (suc r) = regs (suc r)
+
+-- a register set: x0 drops writes
+abbrev pub put : ℕ → ℕ → (ℕ → Option ℕ) → ℕ → Option ℕ
+put zero v regs = regs
+put (suc r) v regs = updated (suc r) (Some v) regs
+
+-- several registers set, in order
+abbrev pub put_all : List ℕ → List ℕ → (ℕ → Option ℕ) → ℕ → Option ℕ
+put_all [] vs regs = regs
+put_all (r ∷ rs) [] regs = put_all rs [] (put r 0 regs)
+put_all (r ∷ rs) (v ∷ vs) regs = put_all rs vs (put r v regs)
+
+-- the number that n bytes of memory spell from an address on, little-endian. Addresses wrap at 64 bits
+abbrev pub spelled : (ℕ → ℕ) → (address n : ℕ) → ℕ
+spelled m a zero = 0
+spelled m a (suc n) = m (a % 2 ^ 64) + 256 * spelled m (a + 1) n
+
+-- the low n bytes of a number, little-endian
+abbrev pub low_bytes : (n v : ℕ) → List ℕ
+low_bytes zero v = []
+low_bytes (suc n) v = (v % 256) ∷ low_bytes n (v / 256)
+
+-- memory with bytes written from an address on
+abbrev pub stored : (ℕ → ℕ) → ℕ → List ℕ → ℕ → ℕ
+stored m a [] = m
+stored m a (b ∷ bs) = stored (updated (a % 2 ^ 64) b m) (a + 1) bs
+
+-- memory with bytes written, each at its address, in order
+abbrev pub written : (ℕ → ℕ) → List (ℕ × ℕ) → ℕ → ℕ
+written m [] = m
+written m (w ∷ ws) = written (updated w.0 w.1 m) ws
+
+-- one of the 2,048 bytes below the stack pointer at entry, which are the frame's
+abbrev pub in_frame : (entry address : ℕ) → Bool
+in_frame entry a = nat_le entry (a + 2048) && nat_lt a entry
+
+-- one of n bytes from an address on is
+abbrev pub touches_frame : (entry address n : ℕ) → Bool
+touches_frame entry a zero = false
+touches_frame entry a (suc n) = in_frame entry (a % 2 ^ 64) || touches_frame entry (a + 1) n
+
+abbrev pub writes_frame : ℕ → List (ℕ × ℕ) → Bool
+writes_frame entry [] = false
+writes_frame entry (w ∷ ws) = in_frame entry w.0 || writes_frame entry ws
+
+-- two variables are the same
+abbrev pub is_same_node : Option ℕ → Option ℕ → Bool
+is_same_node None None = true
+is_same_node (Some m) (Some n) = nat_eq m n
+is_same_node _ _ = false
+
+abbrev pub is_same : VarId → VarId → Bool
+is_same v w = nat_eq v.node w.node && is_same_node v.inlined_at w.inlined_at
+
+-- what a variable's newest assignment gave: nothing too where it never had one
+abbrev pub assigned : {A : Type 0} → VarId → List (VarId × Option A) → Option A
+assigned v [] = None
+assigned v (m ∷ ms) = cond (is_same v m.0) m.1 (assigned v ms)
+
+-- an answer of a script: sixteen registers' contents, and bytes at addresses
+pub record IsReply (r : Reply) : Type 0 where
+  pub count : length r.regs ≡ 16
+  pub regs : All (λ v. v < 2 ^ 64) r.regs
+  pub writes : All (λ w. (w.0 < 2 ^ 64) × (w.1 < 256)) r.writes
+
+-- registers, slots and values have 64 bits, and memory has bytes
+pub record IsInRange (s : Core) : Type 0 where
+  pub regs : (r v : ℕ) → content s.regs r ≡ Some v → v < 2 ^ 64
+  pub slots : (n v : ℕ) → s.slots n ≡ Some v → v < 2 ^ 64
+  pub memory : (a : ℕ) → s.memory a < 256
+  pub script : All IsReply s.script
+  pub pairs : (k o v : ℕ) → s.pairs k o ≡ Some v → v < 2 ^ 64
+  pub marks : (v : VarId) (x : ℕ) → assigned v s.marks ≡ Some x → x < 2 ^ 64

@@ -1,0 +1,31 @@
+use crate::location::Loc;
+use crate::position::Origin;
+use crate::variable::{MarkValue, VarId};
+use lists::List;
+use rv64_instr::instr::Instr;
+use rv64_instr::place::Place;
+
+/// What an item is.
+#[derive(Debug, Drop)]
+pub enum ItemKind {
+    /// An instruction, with its debug instruction number where it has one.
+    Code(Instr, Option<u32>),
+    /// A mark: the variable is assigned the value.
+    Mark(VarId, MarkValue),
+    /// A phi: operand 0 of the number gets the content of the place, or nothing where there is no place.
+    Phi(Option<Place>, u32),
+}
+
+/// An item of a block.
+#[derive(Debug, Drop)]
+pub struct Item {
+    /// What it is.
+    pub kind: ItemKind,
+    /// Where it comes from.
+    pub origin: Origin,
+    /// The debug location that it carries.
+    pub loc: Loc,
+}
+
+/// The items of a block, in order.
+pub type Items = List<Item>;

@@ -1,0 +1,15 @@
+//! Functions of machine code with debug items, as every pass reads and writes them: blocks of items, each with
+//! the position in the source that it comes from. An item is an instruction, with its debug instruction number;
+//! a mark, which assigns to a variable of the program that is debugged; or a phi, which gives the content of a
+//! place to a number. With their frame, functions have slots at offsets from the stack pointer.
+#![tactic(auto)]
+
+pub mod block;
+pub mod entry;
+pub mod framed;
+pub mod func;
+pub mod item;
+pub mod laws;
+pub mod location;
+pub mod position;
+pub mod variable;

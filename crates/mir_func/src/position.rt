@@ -1,0 +1,29 @@
+/// A position in a function as it was read: the number N of a block `bb.N`, and the index of an item in it from 0.
+/// The index past a block's last item is its silent position, from which control goes on to the next block in
+/// the text.
+#[derive(Clone, Copy, Debug, PartialEq, Eq, PartialOrd, Ord)]
+pub struct Pos {
+    /// The block's number.
+    pub block: u32,
+    /// The index of the item.
+    pub item: u32,
+}
+
+/// Where an item of a function comes from in the source.
+#[derive(Clone, Copy, Debug, PartialEq, Eq)]
+pub enum Origin {
+    /// It is the source's item at this position, perhaps rewritten.
+    Kept(Pos),
+    /// It was added, and stands before this position.
+    Before(Pos),
+}
+
+/// A place before an item of a function with its frame: the index of a block, where 0 is the prologue, and the
+/// index of an item in it.
+#[derive(Clone, Copy, Debug, PartialEq, Eq, PartialOrd, Ord)]
+pub struct Point {
+    /// The block's index in the function.
+    pub block: u32,
+    /// The index of the item.
+    pub item: u32,
+}
