@@ -1,0 +1,5 @@
+use Rattle.substitution.proofs.Chains.{resolve_ends, ends_resolve}
+use Rattle.substitution.proofs.chain.resolve_is_end.Goals as goal
+
+pub returns : goal.returns
+returns c = λ subs k o r. (resolve_ends subs k o r, ends_resolve subs k o r)

@@ -1,0 +1,7 @@
+use Rattle.std.proofs.Common.{◌≡◌, ◌-◌}
+use Rattle.mir_func.specs.meaning.Resolve.{chain_end, resolve}
+use Rattle.substitution.proofs.substitutions.Substitutions.resolve.Given as goal
+
+abbrev pub invariant-loop : goal.invariant-loop
+invariant-loop l =
+    chain_end l.self-inside.entries.items (l.end - l.counter) l.at ≡ resolve l.self-inside.entries.items l.fn.pair.0 l.fn.pair.1

@@ -1,0 +1,150 @@
+ghost use Rattle.std.specs.Prelude.{◌≡◌, [], IfOk, OnOk, OnErr};
+ghost use Rattle.mir_func.specs.meaning.Resolve.{resolve};
+ghost use Rattle.substitution.specs.Added.{added};
+
+use mir_func::entry::Entry;
+use std::alloc::{AllocError, Global};
+use std::collections::HashMap;
+use std::marker::Model;
+
+/// Substitutions of debug instruction numbers, in the order in which they were added. No two have the same
+/// source. A contract sees them as the list of the entries.
+#[derive(Drop)]
+pub struct Substitutions {
+    entries: Vec<Entry>,
+    /// The entry of each source.
+    index: HashMap<(u32, u32), Entry>,
+}
+
+impl Model for Substitutions {
+    ghost use Rattle.std.specs.Prelude.{List};
+    ghost use Rattle.mir_func.specs.declared.entry.Entry.{Entry};
+
+    ghost Value = { List Entry };
+
+    ghost use Rattle.substitution.specs.Index.{IsIndexed};
+
+    ghost view = { λ s. s.entries.items };
+
+    ghost invariant = { λ s. IsIndexed s.entries.items s.index };
+}
+
+impl Substitutions {
+    /// No substitution. It takes no memory.
+    pub fn new(alloc: Global) -> Substitutions
+        ensures { result ≡ [] }
+    {
+        Substitutions {
+            entries: Vec::new(alloc),
+            index: HashMap::new(alloc),
+        }
+    }
+
+    /// The entries, in the order in which they were added.
+    pub fn entries(&self) -> &[Entry]
+        ensures { result.now ≡ self.now }
+    {
+        self.entries.as_slice()
+    }
+
+    /// Adds an entry at the end. One whose source has an entry already changes nothing, and neither does one that
+    /// is refused for want of memory.
+    pub fn add(&mut self, e: Entry) -> Result<(), AllocError>
+        ensures ok { OnOk result (self.new ≡ added self.old e) }
+        ensures err { OnErr result (self.new ≡ self.old) }
+    {
+        if self.index.contains_key(&e.src) {
+            return Ok(());
+        }
+        self.entries.reserve(1)?;
+        self.index.insert(e.src, e)?;
+        self.entries.push(e)?;
+        Ok(())
+    }
+
+    /// The same entries in the same order.
+    pub fn copy(&self) -> Result<Substitutions, AllocError>
+        ensures { IfOk result (λ copied. copied ≡ self.now) }
+    {
+        Ok(Substitutions {
+            entries: Vec::from_slice(*self.entries.allocator(), self.entries.as_slice())?,
+            index: self.index.clone()?,
+        })
+    }
+
+    /// The pair whose value a debug instruction number and an operand's index stand for: the end of their chain.
+    /// There is none exactly where the chain comes round, or meets an entry for a part of a register.
+    pub fn resolve(&self, pair: (u32, u32)) -> Option<(u32, u32)>
+        ensures { result ≡ resolve self.now pair.0 pair.1 }
+    {
+        let mut at = pair;
+        for _ in 0..self.entries.len() {
+            match self.index.get(&at) {
+                None => return Some(at),
+                Some(e) if e.subreg != 0 => return None,
+                Some(e) => at = e.dst,
+            }
+        }
+        match self.index.get(&at) {
+            None => Some(at),
+            Some(_) => None,
+        }
+    }
+}
+
+#[cfg(test)]
+mod tests {
+    use super::*;
+    use std::test::Fail;
+
+    fn entry(src: (u32, u32), dst: (u32, u32), subreg: u32) -> Entry {
+        Entry { src, dst, subreg }
+    }
+
+    #[test]
+    fn follows_chains(rt: HostRuntime) -> Result<(), Fail> {
+        let mut subs = Substitutions::new(rt.alloc());
+        for e in [
+            entry((1, 0), (2, 0), 0),
+            entry((2, 0), (3, 0), 0),
+            entry((3, 0), (4, 0), 0),
+            entry((5, 0), (6, 0), 0),
+            entry((6, 0), (5, 0), 0),
+            entry((7, 0), (4, 0), 1),
+        ] {
+            subs.add(e)?;
+        }
+        subs.add(entry((1, 0), (9, 9), 0))?;
+        let copied = subs.copy()?;
+        assert_eq!(rt; copied.entries().len(), 6);
+        for (pair, want) in [
+            ((1, 0), Some((4, 0))),
+            ((5, 0), None),
+            ((7, 0), None),
+            ((8, 1), Some((8, 1))),
+            ((1, 1), Some((1, 1))),
+        ] {
+            assert_eq!(rt; subs.resolve(pair), want, "at {pair:?}");
+            assert_eq!(rt; copied.resolve(pair), want, "in the copy, at {pair:?}");
+        }
+        Ok(())
+    }
+
+    #[test]
+    fn follows_long_chains(rt: HostRuntime) -> Result<(), Fail> {
+        for (last, want) in [(10_001, Some((10_001, 0))), (1, None)] {
+            let mut subs = Substitutions::new(rt.alloc());
+            for k in 1..10_000u32 {
+                subs.add(entry((k, 0), (k + 1, 0), 0))?;
+            }
+            subs.add(entry((10_000, 0), (last, 0), 0))?;
+            assert_eq!(rt; subs.entries().len(), 10_000);
+            assert_eq!(rt;
+                subs.resolve((1, 0)),
+                want,
+                "where the last one leads to {last}"
+            );
+        }
+        Ok(())
+    }
+}
