@@ -1,0 +1,137 @@
+-- One turn of each loop over memory and registers.
+use Rattle.std.proofs.Common.{◌≡◌, ◌≢◌, ℕ, zero, suc, ◌+◌, ◌-◌, ◌*◌, ◌/◌, ◌%◌, ◌^◌, ◌<◌, ◌≤◌, List, [], ◌∷◌, length, Option, Some, None, Bool, true, false, cond, refl, sym, ap, subst, ◌∙◌, inl, inr, drop, get_or, arith, get_or-set_other, get_or-set_same}
+use Rattle.std.proofs.Math.Seq.{drop-cons}
+use Rattle.std.proofs.Math.Nat.{pow-le-pow_right}
+use Rattle.std.proofs.lemmas.Nat.{pow-add}
+use Rattle.std.proofs.lemmas.Bool.{cases_eq, eq-eqb, ne_eqb, ltb-true, and_parts}
+use Rattle.std.specs.Prelude.{nat_eq, nat_lt, unwrap_or, slice_index_or, slice_set, ◌||◌}
+use Rattle.std.specs.List.{list_all, slice_get}
+use Rattle.std.specs.Option.{option_map}
+use Rattle.std.proofs.lemmas.Option.{slice_get-map, slice_get-get_or}
+use Rattle.mir_func.specs.declared.block.Block.{Block}
+use Rattle.mir_func.specs.Sound.{AreApart, ids_of}
+use Rattle.mir_func.specs.meaning.Graph.{from_block}
+use Rattle.std.specs.Map.{lookup}
+use Rattle.mir_func.specs.meaning.State.{updated, content, put, put_all, spelled, stored, low_bytes, written, in_frame, touches_frame}
+use Rattle.mir_semantics.specs.Places.{RegistersHold, MemoryHolds, some_writes}
+
+-- ---- the frame
+pub touches_later : (e a k n : ℕ) → k < n → in_frame e ((a + k) % 2 ^ 64) ≡ false → touches_frame e (a + (k + 1)) (n - (k + 1)) ≡ touches_frame e (a + k) (n - k)
+touches_later e a k n lt h =
+    let one : n - k ≡ suc (n - (k + 1)) = omega arith in
+    let next : a + (k + 1) ≡ a + k + 1 = omega arith in
+    ap (λ (x : ℕ). touches_frame e x (n - (k + 1))) next ∙ sym (ap (touches_frame e (a + k)) one ∙ ap (λ (b : Bool). b || touches_frame e (a + k + 1) (n - (k + 1))) h)
+
+-- ---- memory
+pub memory_put : (es fs : List (ℕ × ℕ)) (f : ℕ → ℕ) (k b : ℕ) → MemoryHolds es f → ((q : ℕ) → lookup (nat_eq q) fs ≡ cond (nat_eq k q) (Some b) (lookup (nat_eq q) es)) → MemoryHolds fs (updated k b f)
+memory_put es fs f k b holds put q =
+    elim (cases_eq q k) [
+      | inl e ↦
+          ap (λ (t : Bool). cond t b (f q)) (eq-eqb q k e) ∙ sym (ap (λ (o : Option ℕ). unwrap_or o 0) (put q ∙ ap (λ (t : Bool). cond t (Some b) (lookup (nat_eq q) es)) (eq-eqb k q (sym e))))
+      | inr ne ↦
+          let other : k ≡ q → ⊥ = λ e. ne (sym e) in
+          ap (λ (t : Bool). cond t b (f q)) (ne_eqb q k ne) ∙ holds q ∙ sym (ap (λ (o : Option ℕ). unwrap_or o 0) (put q ∙ ap (λ (t : Bool). cond t (Some b) (lookup (nat_eq q) es)) (ne_eqb k q other)))
+    ]
+
+pub stored_first : (f : ℕ → ℕ) (a n v : ℕ) → stored f (a + 0) (low_bytes (n - 0) v) ≡ stored f a (low_bytes n v)
+stored_first f a n v =
+    let x : a + 0 ≡ a = omega arith in
+    let y : n - 0 ≡ n = omega arith in
+    λ i. stored f (x i) (low_bytes (y i) v)
+
+pub stored_turn : (f : ℕ → ℕ) (a k n rest : ℕ) (t : ℕ → ℕ) → k < n → stored f (a + k) (low_bytes (n - k) rest) ≡ t → stored (updated ((a + k) % 2 ^ 64) (rest % 256) f) (a + (k + 1)) (low_bytes (n - (k + 1)) (rest / 256)) ≡ t
+stored_turn f a k n rest t lt h =
+    let one : n - k ≡ suc (n - (k + 1)) = omega arith in
+    let next : a + (k + 1) ≡ a + k + 1 = omega arith in
+    ap (λ (x : ℕ). stored (updated ((a + k) % 2 ^ 64) (rest % 256) f) x (low_bytes (n - (k + 1)) (rest / 256))) next ∙ sym (ap (λ (m : ℕ). stored f (a + k) (low_bytes m rest)) one) ∙ h
+
+pub written_some : (f : ℕ → ℕ) (ws : List (Option (ℕ × ℕ))) (i : ℕ) (d : Option (ℕ × ℕ)) (w : ℕ × ℕ) (t : ℕ → ℕ) → i < length ws → get_or ws i d ≡ Some w → written f (some_writes (drop i ws)) ≡ t → written (updated w.0 w.1 f) (some_writes (drop (i + 1) ws)) ≡ t
+written_some f ws i d w t lt e h =
+    let next : i + 1 ≡ suc i = omega arith in
+    let here : drop i ws ≡ Some w ∷ drop (i + 1) ws = drop-cons ws i d lt ∙ ap (λ o. o ∷ drop (suc i) ws) e ∙ ap (λ (n : ℕ). Some w ∷ drop n ws) (sym next) in
+    sym (ap (λ xs. written f (some_writes xs)) here) ∙ h
+
+drop_end : (ws : List (Option (ℕ × ℕ))) (i : ℕ) → length ws ≤ i → drop i ws ≡ []
+drop_end [] zero le = refl
+drop_end [] (suc i) le = refl
+drop_end (w ∷ ws) zero le = absurd (omega arith)
+drop_end (w ∷ ws) (suc i) le = drop_end ws i (omega arith)
+
+pub written_end : (es : List (ℕ × ℕ)) (f t : ℕ → ℕ) (ws : List (Option (ℕ × ℕ))) (i : ℕ) → length ws ≤ i → MemoryHolds es f → written f (some_writes (drop i ws)) ≡ t → MemoryHolds es t
+written_end es f t ws i le holds h =
+    let same : f ≡ t = sym (ap (λ xs. written f (some_writes xs)) (drop_end ws i le)) ∙ h in
+    subst (λ (g : ℕ → ℕ). MemoryHolds es g) same holds
+
+-- ---- numbers in memory
+pub power_next : (i : ℕ) → 2 ^ (8 * (i + 1)) ≡ 2 ^ (8 * i) * 256
+power_next i = (let e : 8 * (i + 1) ≡ 8 * i + 8 = omega arith in ap (λ (n : ℕ). 2 ^ n) e) ∙ pow-add 2 (8 * i) 8
+
+pub power_small : (i : ℕ) → i < 8 → 2 ^ (8 * i) ≤ 2 ^ 56
+power_small i lt = pow-le-pow_right {n = 2} (omega arith) {i = 8 * i} {j = 56} (omega arith)
+
+pub spelled_turn : (f : ℕ → ℕ) (a n i : ℕ) → i < n → spelled f (a + (n - (i + 1))) (i + 1) ≡ spelled f (a + (n - i)) i * 256 + f ((a + (n - i - 1)) % 2 ^ 64)
+spelled_turn f a n i lt =
+    let one : i + 1 ≡ suc i = omega arith in
+    let at : a + (n - (i + 1)) ≡ a + (n - i - 1) = omega arith in
+    let next : a + (n - i - 1) + 1 ≡ a + (n - i) = omega arith in
+    (λ j. spelled f (at j) (one j)) ∙ ap (λ (x : ℕ). f ((a + (n - i - 1)) % 2 ^ 64) + 256 * spelled f x i) next ∙ turned (f ((a + (n - i - 1)) % 2 ^ 64)) (spelled f (a + (n - i)) i)
+  where
+    turned : (x y : ℕ) → x + 256 * y ≡ y * 256 + x
+    turned x y = omega arith
+
+-- ---- registers
+pub put_holds : (xs : List (Option ℕ)) (f : ℕ → Option ℕ) (r v : ℕ) → 0 < r → r < length xs → RegistersHold xs f → RegistersHold (slice_set xs r (Some v)) (put r v f)
+put_holds xs f zero v pos lt h q = absurd (omega arith)
+put_holds xs f (suc r) v pos lt h zero =
+    let ne : zero ≢ suc r = λ e. omega (arith, e) in rw get_or-set_other (h zero)
+put_holds xs f (suc r) v pos lt h (suc q) =
+    elim (cases_eq (suc q) (suc r)) as (λ z. content (put (suc r) v f) (suc q) ≡ slice_index_or (slice_set xs (suc r) (Some v)) (suc q) None) [
+      | inl e ↦ rw (eq-eqb (suc q) (suc r) e, e, get_or-set_same) refl
+      | inr ne ↦ rw (ne_eqb (suc q) (suc r) ne, get_or-set_other) (h (suc q))
+    ]
+
+pub each_between : (xs : List ℕ) (n : ℕ) → list_all (λ x. nat_lt 0 x) xs ≡ true → list_all (λ x. nat_lt x n) xs ≡ true → (i : ℕ) → i < length xs → (0 < get_or xs i 0) × (get_or xs i 0 < n)
+each_between [] n h k i lt = absurd (omega arith)
+each_between (x ∷ xs) n h k zero lt =
+    let a = and_parts (nat_lt 0 x) (list_all (λ y. nat_lt 0 y) xs) h in
+    let b = and_parts (nat_lt x n) (list_all (λ y. nat_lt y n) xs) k in
+    (ltb-true 0 x a.0, ltb-true x n b.0)
+each_between (x ∷ xs) n h k (suc i) lt =
+    let a = and_parts (nat_lt 0 x) (list_all (λ y. nat_lt 0 y) xs) h in
+    let b = and_parts (nat_lt x n) (list_all (λ y. nat_lt y n) xs) k in
+    each_between xs n a.1 b.1 i (omega arith)
+
+put_all_more : (r : ℕ) (rs vs : List ℕ) (i : ℕ) (f : ℕ → Option ℕ) → put_all (r ∷ rs) (drop i vs) f ≡ put_all rs (drop (suc i) vs) (put r (get_or vs i 0) f)
+put_all_more r rs [] zero f = refl
+put_all_more r rs [] (suc i) f = refl
+put_all_more r rs (v ∷ vs) zero f = refl
+put_all_more r rs (v ∷ vs) (suc i) f = put_all_more r rs vs i f
+
+pub put_all_turn : (rs vs : List ℕ) (i : ℕ) (f t : ℕ → Option ℕ) → i < length rs → put_all (drop i rs) (drop i vs) f ≡ t → put_all (drop (i + 1) rs) (drop (i + 1) vs) (put (get_or rs i 0) (get_or vs i 0) f) ≡ t
+put_all_turn rs vs i f t lt h =
+    let next : i + 1 ≡ suc i = omega arith in
+    ap (λ (n : ℕ). put_all (drop n rs) (drop n vs) (put (get_or rs i 0) (get_or vs i 0) f)) next
+    ∙ sym (put_all_more (get_or rs i 0) (drop (suc i) rs) vs i f) ∙ sym (ap (λ (xs : List ℕ). put_all xs (drop i vs) f) (drop-cons rs i 0 lt)) ∙ h
+
+pub written_none : (f : ℕ → ℕ) (ws : List (Option (ℕ × ℕ))) (i : ℕ) (d : Option (ℕ × ℕ)) (t : ℕ → ℕ) → i < length ws → get_or ws i d ≡ None → written f (some_writes (drop i ws)) ≡ t → written f (some_writes (drop (i + 1) ws)) ≡ t
+written_none f ws i d t lt e h =
+    let next : i + 1 ≡ suc i = omega arith in
+    let here : drop i ws ≡ None ∷ drop (i + 1) ws = drop-cons ws i d lt ∙ ap (λ o. o ∷ drop (suc i) ws) e ∙ ap (λ (n : ℕ). None ∷ drop n ws) (sym next) in
+    sym (ap (λ xs. written f (some_writes xs)) here) ∙ h
+
+-- ---- blocks
+pub from_first : (bs : List Block) (i n : ℕ) → slice_get (ids_of bs) i ≡ Some n → ((j : ℕ) → slice_get (ids_of bs) j ≡ Some n → i ≤ j) → from_block bs n ≡ drop i bs
+from_first [] i n h first = (let no : ◌≡◌ {A = Option ℕ} None (Some n) = h in cc)
+from_first (b ∷ bs) zero n h first =
+    let some : Some b.id ≡ Some n = h in
+    let same : b.id ≡ n = cc in
+    ap (λ (t : Bool). cond t (b ∷ bs) (from_block bs n)) (eq-eqb b.id n same)
+from_first (b ∷ bs) (suc i) n h first =
+    let other : b.id ≡ n → ⊥ = λ e. (let le : suc i ≤ zero = first zero (ap (λ (x : ℕ). Some x) e) in omega (arith, le)) in
+    let later : (j : ℕ) → slice_get (ids_of bs) j ≡ Some n → i ≤ j = λ j k. (let le : suc i ≤ suc j = first (suc j) k in omega (arith, le)) in
+    ap (λ (t : Bool). cond t (b ∷ bs) (from_block bs n)) (ne_eqb b.id n other) ∙ from_first bs i n h later
+
+pub from_apart : (bs : List Block) (i n : ℕ) (d : Block) → AreApart (ids_of bs) → i < length bs → (get_or bs i d).id ≡ n → from_block bs n ≡ drop i bs
+from_apart bs i n d apart lt e =
+    let here : slice_get (ids_of bs) i ≡ Some n = slice_get-map (λ b. b.id) bs i ∙ ap (option_map (λ b. b.id)) (slice_get-get_or bs i d lt) ∙ ap (λ (x : ℕ). Some x) e in
+    from_first bs i n here (λ j k. (let same = apart i j n here k in omega (arith, same)))

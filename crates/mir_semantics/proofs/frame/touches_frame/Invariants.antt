@@ -1,0 +1,6 @@
+use Rattle.std.proofs.Common.{◌≡◌, ◌+◌, ◌-◌}
+use Rattle.mir_func.specs.meaning.State.{touches_frame}
+use Rattle.mir_semantics.proofs.frame.touches_frame.Given as goal
+
+abbrev pub invariant-loop-k : goal.invariant-loop-k
+invariant-loop-k l = touches_frame l.entry (l.address + l.k) (l.count - l.k) ≡ touches_frame l.entry l.address l.count

@@ -1,0 +1,9 @@
+use Rattle.std.proofs.Common.{◌≡◌, drop}
+use Rattle.rv64_instr.specs.Row.{implicit_uses}
+use Rattle.mir_func.specs.meaning.State.{Core}
+use Rattle.mir_func.specs.meaning.Step.{are_written}
+use Rattle.mir_semantics.specs.Acts.{MachineHolds}
+use Rattle.mir_semantics.proofs.machine.Machine.are_written.Given as goal
+
+abbrev pub invariant-loop-operand : goal.invariant-loop-operand
+invariant-loop-operand l = (s : Core) → MachineHolds l.self s → are_written s (implicit_uses (drop l.operand-index l.operands)) ≡ are_written s (implicit_uses l.operands)

@@ -1,0 +1,55 @@
+-- How a step ends, as the definitions have it.
+use Rattle.std.specs.Prelude.{◌≡◌, ℕ, List, [], Option, true}
+use Rattle.rv64_instr.specs.declared.start.Answer.{Answer}
+use Rattle.mir_func.specs.declared.block.Block.{Block}
+use Rattle.mir_func.specs.declared.entry.Entry.{Entry}
+use Rattle.mir_func.specs.meaning.State.{State}
+use Rattle.mir_func.specs.meaning.Step as step
+use Rattle.mir_func.specs.meaning.Step.{Next, Program}
+use Rattle.mir_func.specs.meaning.Graph.{program_of}
+use Rattle.mir_func.specs.meaning.Resolve.{resolve}
+use Rattle.mir_semantics.specs.declared.state.SourceStep.{SourceStep}
+use Rattle.mir_semantics.specs.declared.state.SourceStep.TheVariants.{Went, Returned, Fault, Waits}
+use Rattle.mir_func.specs.declared.position.Pos.{Pos}
+use Rattle.mir_func.specs.meaning.Step.{Fetch, do_fetch, moved, below, block_start}
+use Rattle.mir_semantics.specs.declared.machine.Outcome.{Outcome}
+use Rattle.mir_semantics.specs.declared.machine.Outcome.TheVariants.{Falls, Goes, Returns as Ended, Faults, Waits as Waiting}
+use Rattle.mir_semantics.specs.StandsFor.{Concrete, StandsFor, IsStepAnswered}
+
+-- the step is the definition's, and what is kept now stands for the state that it leads to
+abbrev pub IsStep : SourceStep → Concrete → Next → Type 0
+IsStep Went now n = (t : State) × (n ≡ step.Went t) × StandsFor now t
+IsStep Returned now n = (results : List ℕ) × (n ≡ step.Returned results)
+IsStep Fault now n = n ≡ step.Faulted
+IsStep Waits now n = n ≡ step.Waits
+
+-- the function with the content of x2 seen, as the source runs
+abbrev pub source_of : List Block → List Entry → Program
+source_of blocks subs = program_of true blocks (resolve subs)
+
+-- from each state that old stands for, with a script that agrees with the answer at a call, a step of the source ends so
+abbrev pub Steps : Program → Option Answer → SourceStep → Concrete → Concrete → Type 0
+Steps g answer r old new = (s : State) → StandsFor old s → IsStepAnswered (g.fetch s.pos) answer s.core.script → IsStep r new (step.step g s)
+
+-- a step that doesn't go on changes nothing
+abbrev pub ChangesOnlyByGoing : SourceStep → Concrete → Concrete → Type 0
+ChangesOnlyByGoing Went old new = Unit {0}
+ChangesOnlyByGoing _ old new = new ≡ old
+
+-- the same with what stands at the position
+abbrev pub StepsFrom : Fetch → List Entry → Option Answer → SourceStep → Concrete → Concrete → Type 0
+StepsFrom here subs answer r old new = (s : State) → StandsFor old s → IsStepAnswered here answer s.core.script →
+    IsStep r new (moved (λ n. n) s.pos (do_fetch (source_of [] subs) here s.core))
+
+-- how the step of an outcome ends, and where it leads
+abbrev pub step_after : Outcome → SourceStep
+step_after Falls = Went
+step_after (Goes n) = Went
+step_after Ended = Returned
+step_after Faults = Fault
+step_after Waiting = Waits
+
+abbrev pub position_after : Outcome → Pos → Pos
+position_after Falls p = below p
+position_after (Goes n) p = block_start n
+position_after _ p = p

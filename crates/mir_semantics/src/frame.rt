@@ -1,0 +1,36 @@
+ghost use Rattle.std.specs.Prelude.{◌≡◌};
+ghost use Rattle.mir_func.specs.meaning.State.{in_frame, touches_frame, writes_frame};
+ghost use Rattle.mir_semantics.specs.Places.{some_writes};
+
+/// Whether an address is one of the 2,048 below the stack pointer at entry.
+pub fn in_frame(entry: u64, address: u64) -> bool
+    ensures { result ≡ in_frame entry address }
+{
+    address < entry && entry - address <= 2048
+}
+
+/// Whether one of the `count` addresses from one on is. Addresses wrap at 64 bits.
+pub fn touches_frame(entry: u64, address: u64, count: usize) -> bool
+    ensures { result ≡ touches_frame entry address count }
+{
+    for k in 0..count {
+        if in_frame(entry, address.wrapping_add(k as u64)) {
+            return true;
+        }
+    }
+    false
+}
+
+/// Whether one of an answer's writes is in the frame.
+pub fn writes_frame(entry: u64, writes: &[Option<(u64, u8)>; 8]) -> bool
+    ensures { result ≡ writes_frame entry (some_writes writes.now) }
+{
+    for write in writes {
+        if let Some((address, _)) = *write {
+            if in_frame(entry, address) {
+                return true;
+            }
+        }
+    }
+    false
+}

@@ -1,0 +1,71 @@
+ghost use Rattle.std.specs.Prelude.{◌≡◌, ◌<◌, ℕ, Option, None, IfOk, slice_index_or};
+ghost use Rattle.rv64_instr.specs.Access.{caller_saved};
+ghost use Rattle.mir_func.specs.meaning.State.{put, put_all};
+ghost use Rattle.mir_semantics.specs.Places.{RegistersHold, starting_registers};
+
+use rv64_instr::reg::Reg;
+use std::alloc::{AllocError, Global};
+use std::marker::Model;
+
+/// The number of registers, physical and virtual.
+const COUNT: usize = 4128;
+
+/// The registers that a call sets, ascending (RISC-V ELF psABI, "Integer Register Convention").
+const CALLER_SAVED: [usize; 16] = [1, 5, 6, 7, 10, 11, 12, 13, 14, 15, 16, 17, 28, 29, 30, 31];
+
+/// The registers' contents, by number. A virtual register is unwritten until it is set.
+#[derive(Drop)]
+pub struct Registers {
+    contents: Vec<Option<u64>>,
+}
+
+impl Model for Registers {
+    ghost use Rattle.std.specs.Prelude.{◌≡◌, ℕ, List, Option, length};
+
+    ghost Value = { List (Option ℕ) };
+
+    ghost view = { λ r. r.contents.items };
+
+    ghost invariant = { λ r. length r.contents.items ≡ 4128 };
+}
+
+impl Registers {
+    /// The registers at the start of a run. x0 holds 0.
+    pub fn new(alloc: Global, start: &[u64; 32]) -> Result<Registers, AllocError>
+        ensures { IfOk result (λ made. RegistersHold made (starting_registers start.now)) }
+    {
+        let mut contents = Vec::with_capacity(alloc, COUNT)?;
+        contents.push(Some(0))?;
+        for r in 1..COUNT {
+            contents.push(if r < 32 { Some(start[r]) } else { None })?;
+        }
+        Ok(Registers { contents })
+    }
+
+    /// The content of a register, where it is written.
+    pub fn read(&self, r: Reg) -> Option<u64>
+        ensures { result ≡ slice_index_or self.now r None }
+    {
+        self.contents[r.number() as usize]
+    }
+
+    /// Sets a register. x0 drops writes.
+    pub fn write(&mut self, r: Reg, value: u64)
+        ensures { (held : ℕ → Option ℕ) → RegistersHold self.old held
+            → RegistersHold self.new (put r value held) }
+    {
+        if r.number() != 0 {
+            self.contents[r.number() as usize] = Some(value);
+        }
+    }
+
+    /// Sets the registers that a call sets, in ascending order.
+    pub fn write_caller_saved(&mut self, values: &[u64; 16])
+        ensures { (held : ℕ → Option ℕ) → RegistersHold self.old held
+            → RegistersHold self.new (put_all caller_saved values.now held) }
+    {
+        for i in 0..16 {
+            self.contents[CALLER_SAVED[i]] = Some(values[i]);
+        }
+    }
+}
