@@ -1,0 +1,116 @@
+-- The one spelling of an item (LLVM, Machine IR (MIR) Format Reference Manual, "Machine Instructions").
+use Rattle.std.specs.Prelude.{ℕ, ◌+◌, ◌-◌, ◌/◌, ◌%◌, zero, suc, Bool, true, false, cond, ◌&&◌, ◌||◌, not, nat_eq, nat_le, nat_lt, List, [], ◌∷◌, ◌++◌, Option, Some, None, codes, filter, map}
+use Rattle.std.specs.List.{flat_map, list_all}
+use Rattle.std.specs.Fmt.{decimal, signed_decimal}
+use Rattle.rv64_instr.specs.declared.operand.Operand.{Operand}
+use Rattle.rv64_instr.specs.declared.operand.Operand.TheVariants.{Def, Use, ImplicitDef, ImplicitUse, Imm, Slot as SlotOperand, Block, Symbol, Mask}
+use Rattle.rv64_instr.specs.declared.place.Place.{Place}
+use Rattle.rv64_instr.specs.declared.place.Place.TheVariants.{Register, Slot, Const}
+use Rattle.rv64_instr.specs.Instruction.{Instruction}
+use Rattle.rv64_instr.specs.Mnemonic.{mnemonic_of}
+use Rattle.mir_func.specs.declared.location.Loc.{Loc}
+use Rattle.mir_func.specs.declared.location.Loc.TheVariants.{Absent, Node, Inline}
+use Rattle.mir_func.specs.declared.location.InlineLoc.{InlineLoc}
+use Rattle.mir_func.specs.declared.variable.VarId.{VarId}
+use Rattle.mir_func.specs.declared.variable.MarkValue.{MarkValue}
+use Rattle.mir_func.specs.declared.variable.MarkValue.TheVariants.{Nothing, Constant, At, Pair}
+use Rattle.mir_func.specs.declared.item.Item.{Item}
+use Rattle.mir_func.specs.declared.item.ItemKind.{ItemKind}
+use Rattle.mir_func.specs.declared.item.ItemKind.TheVariants.{Code, Mark, Phi}
+
+-- the texts with ", " between them
+abbrev pub comma_separated : List (List ℕ) → List ℕ
+comma_separated [] = []
+comma_separated (t ∷ []) = t
+comma_separated (t ∷ u ∷ rest) = t ++ codes ", " ++ comma_separated (u ∷ rest)
+
+-- a letter, a digit, `_`, `.`, `-` or `$`
+abbrev pub is_bare : ℕ → Bool
+is_bare b = (nat_le 65 b && nat_le b 90) || (nat_le 97 b && nat_le b 122) || (nat_le 48 b && nat_le b 57) || nat_eq b 95 || nat_eq b 46 || nat_eq b 45 || nat_eq b 36
+
+-- a hexadecimal digit, upper case
+abbrev pub upper_hex_digit : ℕ → ℕ
+upper_hex_digit n = cond (nat_lt n 10) (48 + n) (55 + n)
+
+-- a byte in double quotes: itself where it is printable ASCII other than `"` and `\`, else `\` and two hexadecimal digits
+abbrev pub quoted_byte : ℕ → List ℕ
+quoted_byte b = cond (nat_le 32 b && nat_le b 126 && not (nat_eq b 34 || nat_eq b 92)) (b ∷ [])
+    (92 ∷ upper_hex_digit (b / 16) ∷ upper_hex_digit (b % 16) ∷ [])
+
+abbrev pub is_empty : List ℕ → Bool
+is_empty [] = true
+is_empty (b ∷ bs) = false
+
+-- a symbol: `@` and its name, in double quotes unless it is one or more bare bytes
+abbrev pub symbol_text : List ℕ → List ℕ
+symbol_text name = 64 ∷ cond (not (is_empty name) && list_all is_bare name) name (34 ∷ (flat_map quoted_byte name ++ 34 ∷ []))
+
+-- a register: `$xN`, and virtual ones `%K` from K = 0 on
+abbrev pub register_text : ℕ → List ℕ
+register_text r = cond (nat_lt r 32) (codes "$x" ++ decimal r) (codes "%" ++ decimal (r - 32))
+
+abbrev pub operand_text : Operand → List ℕ
+operand_text (Def r) = register_text r
+operand_text (Use r) = register_text r
+operand_text (ImplicitDef r) = codes "implicit-def " ++ register_text r
+operand_text (ImplicitUse r) = codes "implicit " ++ register_text r
+operand_text (Imm i) = signed_decimal i
+operand_text (SlotOperand n) = codes "%stack." ++ decimal n
+operand_text (Block n) = codes "%bb." ++ decimal n
+operand_text (Symbol name) = symbol_text name
+operand_text Mask = codes "mask"
+
+abbrev pub is_definition : Operand → Bool
+is_definition (Def r) = true
+is_definition _ = false
+
+-- definitions with commas between them and " = " after them
+abbrev pub definitions_text : List Operand → List ℕ
+definitions_text [] = []
+definitions_text (o ∷ os) = comma_separated (map operand_text (o ∷ os)) ++ codes " = "
+
+-- a blank, and the operands with commas between them
+abbrev pub uses_text : List Operand → List ℕ
+uses_text [] = []
+uses_text (o ∷ os) = codes " " ++ comma_separated (map operand_text (o ∷ os))
+
+abbrev pub instruction_text : Instruction → List ℕ
+instruction_text i = definitions_text (filter is_definition i.operands) ++ mnemonic_of i.op ++ uses_text (filter (λ o. not (is_definition o)) i.operands)
+
+abbrev pub number_text : Option ℕ → List ℕ
+number_text None = []
+number_text (Some k) = codes ", debug-instr-number " ++ decimal k
+
+-- the place of a phi: `$x0` for a constant, of which a phi has 0 alone
+abbrev pub phi_place_text : Option Place → List ℕ
+phi_place_text None = codes "$noreg"
+phi_place_text (Some (Register r)) = register_text r
+phi_place_text (Some (Slot n)) = codes "%stack." ++ decimal n
+phi_place_text (Some (Const c)) = codes "$x0"
+
+abbrev pub value_mark_text : List ℕ → ℕ → List ℕ
+value_mark_text value node = codes "DBG_VALUE " ++ value ++ codes ", $noreg, !" ++ decimal node ++ codes ", !DIExpression()"
+
+abbrev pub mark_text : VarId → MarkValue → List ℕ
+mark_text v Nothing = value_mark_text (codes "$noreg") v.node
+mark_text v (Constant c) = value_mark_text (signed_decimal c) v.node
+mark_text v (At r) = value_mark_text (register_text r) v.node
+mark_text v (Pair k o) = codes "DBG_INSTR_REF !" ++ decimal v.node ++ codes ", !DIExpression(DW_OP_LLVM_arg, 0), dbg-instr-ref(" ++ decimal k ++ codes ", " ++ decimal o ++ codes ")"
+
+abbrev pub kind_text : ItemKind → List ℕ
+kind_text (Code i k) = instruction_text i ++ number_text k
+kind_text (Mark v m) = mark_text v m
+kind_text (Phi p k) = codes "DBG_PHI " ++ phi_place_text p ++ codes ", " ++ decimal k
+
+abbrev pub inlined_at_text : Option ℕ → List ℕ
+inlined_at_text None = []
+inlined_at_text (Some n) = codes ", inlinedAt: !" ++ decimal n
+
+abbrev pub location_text : Loc → List ℕ
+location_text Absent = []
+location_text (Node n) = codes ", debug-location !" ++ decimal n
+location_text (Inline l) = codes ", debug-location !DILocation(line: " ++ decimal l.line ++ codes ", column: " ++ decimal l.column ++ codes ", scope: !" ++ decimal l.scope ++ inlined_at_text l.inlined_at ++ codes ")"
+
+-- the item on its line
+abbrev pub item_text : Item → List ℕ
+item_text i = kind_text i.kind ++ location_text i.loc

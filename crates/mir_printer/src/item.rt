@@ -1,0 +1,235 @@
+ghost use Rattle.std.specs.Prelude.{◌≡◌, ◌++◌, OnOk, OnErr};
+ghost use Rattle.mir_printer.specs.Growth.{GrownFrom};
+ghost use Rattle.mir_printer.specs.Spelling.{item_text, kind_text};
+
+use crate::instruction::{push_instruction, push_number};
+use crate::location::push_location;
+use crate::mark::{push_mark, push_phi};
+use crate::text::Text;
+use mir_func::item::{Item, ItemKind};
+use std::alloc::AllocError;
+
+/// Appends an item, without the blanks before it and the end of its line.
+pub fn push_item(text: &mut Text, item: &Item) -> Result<(), AllocError>
+    ensures ok { OnOk result (text.new ≡ text.old ++ item_text item.now) }
+    ensures err { OnErr result (GrownFrom text.old text.new) }
+{
+    push_kind(text, &item.kind)?;
+    push_location(text, &item.loc)
+}
+
+fn push_kind(text: &mut Text, kind: &ItemKind) -> Result<(), AllocError>
+    ensures ok { OnOk result (text.new ≡ text.old ++ kind_text kind.now) }
+    ensures err { OnErr result (GrownFrom text.old text.new) }
+{
+    match kind {
+        ItemKind::Code(instr, number) => {
+            push_instruction(text, instr)?;
+            push_number(text, *number)
+        }
+        ItemKind::Mark(variable, value) => push_mark(text, *variable, *value),
+        ItemKind::Phi(place, number) => push_phi(text, place, *number),
+    }
+}
+
+#[cfg(test)]
+mod tests {
+    use super::*;
+    use crate::text::Text;
+    use mir_func::location::{InlineLoc, Loc};
+    use mir_func::position::{Origin, Pos};
+    use mir_func::variable::{MarkValue, VarId};
+    use rv64_instr::instr::Instr;
+    use rv64_instr::name::Name;
+    use rv64_instr::op::Op;
+    use rv64_instr::operand::{Operand, Operands};
+    use rv64_instr::place::Place;
+    use rv64_instr::reg::Reg;
+    use std::alloc::Global;
+    use std::process::Abort;
+    use std::test::Fail;
+
+    const V: VarId = VarId {
+        node: 4,
+        inlined_at: None,
+    };
+
+    fn item(kind: ItemKind, loc: Loc) -> Item {
+        Item {
+            kind,
+            origin: Origin::Kept(Pos { block: 0, item: 0 }),
+            loc,
+        }
+    }
+
+    fn reg(n: u32) -> Result<Reg, Fail> {
+        Ok(Reg::new(n).ok_or("no register")?)
+    }
+
+    fn code(
+        alloc: Global,
+        op: Op,
+        operands: &[Operand],
+        number: Option<u32>,
+    ) -> Result<Item, Fail> {
+        let mut list = Operands::new(alloc);
+        for operand in operands {
+            list.push(operand.copy()?)?;
+        }
+        let instr = Instr::new(op, list).ok_or("no instruction")?;
+        Ok(item(ItemKind::Code(instr, number), Loc::Absent))
+    }
+
+    fn symbol(alloc: Global, name: &[u8]) -> Result<Operand, Fail> {
+        Ok(Operand::Symbol(Name::from_slice(alloc, name)?))
+    }
+
+    fn prints(rt: &impl Abort, alloc: Global, item: &Item, expected: &str) -> Result<(), Fail> {
+        let mut text = Text::new(alloc);
+        push_item(&mut text, item)?;
+        let printed = text.as_slice();
+        assert_eq!(rt; printed, expected.as_bytes());
+        Ok(())
+    }
+
+    #[test]
+    fn prints_code(rt: HostRuntime) -> Result<(), Fail> {
+        let alloc = rt.alloc();
+        let (x10, x11) = (reg(10)?, reg(11)?);
+        let add = [Operand::Def(x10), Operand::Use(x10), Operand::Imm(-1)];
+        let add = code(alloc, Op::Addi, &add, Some(1))?;
+        prints(
+            &rt,
+            alloc,
+            &add,
+            "$x10 = ADDI $x10, -1, debug-instr-number 1",
+        )?;
+        let store = [Operand::Use(x10), Operand::Slot(3), Operand::Imm(0)];
+        prints(
+            &rt,
+            alloc,
+            &code(alloc, Op::Sd, &store, None)?,
+            "SD $x10, %stack.3, 0",
+        )?;
+        let branch = [
+            Operand::Use(x10),
+            Operand::Use(reg(32)?),
+            Operand::Block(2),
+            Operand::ImplicitUse(x11),
+        ];
+        let branch = code(alloc, Op::Beq, &branch, None)?;
+        prints(&rt, alloc, &branch, "BEQ $x10, %0, %bb.2, implicit $x11")?;
+        let jump = code(alloc, Op::PseudoBr, &[Operand::Block(7)], None)?;
+        prints(&rt, alloc, &jump, "PseudoBR %bb.7")?;
+        let empty: [Operand; 0] = [];
+        prints(
+            &rt,
+            alloc,
+            &code(alloc, Op::PseudoRet, &empty, None)?,
+            "PseudoRET",
+        )
+    }
+
+    #[test]
+    fn prints_calls(rt: HostRuntime) -> Result<(), Fail> {
+        let alloc = rt.alloc();
+        let call = [
+            symbol(alloc, b"f.1$_-")?,
+            Operand::Mask,
+            Operand::ImplicitDef(reg(1)?),
+            Operand::ImplicitUse(reg(10)?),
+        ];
+        let call = code(alloc, Op::PseudoCall, &call, Some(9))?;
+        let text =
+            "PseudoCALL @f.1$_-, mask, implicit-def $x1, implicit $x10, debug-instr-number 9";
+        prints(&rt, alloc, &call, text)?;
+        let call = [symbol(alloc, b"a \"\\\x1f\xff~")?, Operand::Mask];
+        let call = code(alloc, Op::PseudoCall, &call, None)?;
+        prints(&rt, alloc, &call, r#"PseudoCALL @"a \22\5C\1F\FF~", mask"#)?;
+        let call = [symbol(alloc, b"")?, Operand::Mask];
+        prints(
+            &rt,
+            alloc,
+            &code(alloc, Op::PseudoCall, &call, None)?,
+            r#"PseudoCALL @"", mask"#,
+        )
+    }
+
+    #[test]
+    fn prints_marks_and_phis(rt: HostRuntime) -> Result<(), Fail> {
+        let alloc = rt.alloc();
+        let marks = [
+            (
+                MarkValue::Nothing,
+                "DBG_VALUE $noreg, $noreg, !4, !DIExpression()",
+            ),
+            (
+                MarkValue::Constant(-7),
+                "DBG_VALUE -7, $noreg, !4, !DIExpression()",
+            ),
+            (
+                MarkValue::At(reg(10)?),
+                "DBG_VALUE $x10, $noreg, !4, !DIExpression()",
+            ),
+            (
+                MarkValue::Pair(1, 0),
+                "DBG_INSTR_REF !4, !DIExpression(DW_OP_LLVM_arg, 0), dbg-instr-ref(1, 0)",
+            ),
+        ];
+        for (value, text) in marks {
+            prints(
+                &rt,
+                alloc,
+                &item(ItemKind::Mark(V, value), Loc::Absent),
+                text,
+            )?;
+        }
+        let phis = [
+            (None, "DBG_PHI $noreg, 2"),
+            (Some(Place::Register(reg(12)?)), "DBG_PHI $x12, 2"),
+            (Some(Place::Slot(1)), "DBG_PHI %stack.1, 2"),
+            (Some(Place::Const(0)), "DBG_PHI $x0, 2"),
+        ];
+        for (place, text) in phis {
+            prints(
+                &rt,
+                alloc,
+                &item(ItemKind::Phi(place, 2), Loc::Absent),
+                text,
+            )?;
+        }
+        Ok(())
+    }
+
+    #[test]
+    fn prints_locations(rt: HostRuntime) -> Result<(), Fail> {
+        let alloc = rt.alloc();
+        let inline = InlineLoc {
+            line: 3,
+            column: 1,
+            scope: 5,
+            inlined_at: None,
+        };
+        let inlined = InlineLoc {
+            inlined_at: Some(9),
+            line: 3,
+            column: 1,
+            scope: 5,
+        };
+        let locations = [
+            (Loc::Node(5), "DBG_PHI $noreg, 2, debug-location !5"),
+            (
+                Loc::Inline(inline),
+                "DBG_PHI $noreg, 2, debug-location !DILocation(line: 3, column: 1, scope: !5)",
+            ),
+            (
+                Loc::Inline(inlined),
+                "DBG_PHI $noreg, 2, debug-location !DILocation(line: 3, column: 1, scope: !5, inlinedAt: !9)",
+            ),
+        ];
+        for (loc, text) in locations {
+            prints(&rt, alloc, &item(ItemKind::Phi(None, 2), loc), text)?;
+        }
+        Ok(())
+    }
+}
