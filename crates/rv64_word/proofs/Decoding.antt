@@ -1,0 +1,49 @@
+-- The word of a machine operation is decoded to it.
+use Rattle.std.proofs.Common.{◌≡◌, ℕ, ◌/◌, ◌%◌, IsTrue, Some, ap, ◌∙◌}
+use Rattle.rv64_word.specs.declared.format.Field.TheVariants.{Rd, Rs1, Rs2, Imm}
+use Rattle.rv64_word.specs.declared.format.Format.{Format}
+use Rattle.rv64_word.specs.declared.format.Format.TheVariants.{Register, Immediate, Shift, WordShift, Store, Branch, Upper, Jump}
+use Rattle.rv64_word.specs.declared.machine_op.MachineOp.{MachineOp}
+use Rattle.rv64_word.specs.Format.{slices_of, shown, number_of}
+use Rattle.rv64_word.specs.Operation.{encoding_of}
+use Rattle.rv64_word.specs.Listing.{operation_of}
+use Rattle.rv64_word.specs.MachineOp.{value_of, word_of, is_encodable, read_as}
+use Rattle.rv64_word.proofs.Reading.{shown-fold, fields_back, CodesOf, codes}
+use Rattle.rv64_word.proofs.Operations.{Matches, listed}
+
+read_own : (m : MachineOp) → IsTrue (is_encodable m) → read_as m.op (word_of m) ≡ m
+unfolding word_of
+read_own m fits =
+    let format = (encoding_of m.op).format in
+    let slices = slices_of format in
+    let back = fields_back format m fits in
+    let rd : shown slices Rd (word_of m) ≡ m.rd = shown-fold (value_of m) slices 0 Rd ∙ back.rd in
+    let rs1 : shown slices Rs1 (word_of m) ≡ m.rs1 = shown-fold (value_of m) slices 0 Rs1 ∙ back.rs1 in
+    let rs2 : shown slices Rs2 (word_of m) ≡ m.rs2 = shown-fold (value_of m) slices 0 Rs2 ∙ back.rs2 in
+    let imm : number_of format (shown slices Imm (word_of m)) ≡ m.imm = ap (number_of format) (shown-fold (value_of m) slices 0 Imm) ∙ back.imm in
+    λ i. record { op = m.op; rd = rd i; rs1 = rs1 i; rs2 = rs2 i; imm = imm i }
+
+-- the fields of a word are those of its operation
+pub read_at : (m : MachineOp) → IsTrue (is_encodable m) → (w : ℕ) → word_of m ≡ w → read_as m.op w ≡ m
+read_at m fits w e = rw e at (read_own m fits)
+
+same_codes : (format : Format) (m : MachineOp) (w : ℕ) → CodesOf format (value_of m) w → Matches format (encoding_of m.op) (w / 4096 % 8) (w / 33554432)
+same_codes Register m w h = h
+same_codes Immediate m w h = h
+same_codes Shift m w h = h
+same_codes WordShift m w h = h
+same_codes Store m w h = h
+same_codes Branch m w h = h
+same_codes Upper m w h = tt
+same_codes Jump m w h = tt
+
+operation_own : (m : MachineOp) → operation_of (word_of m % 128) (word_of m / 4096 % 8) (word_of m / 33554432) ≡ Some m.op
+unfolding word_of
+operation_own m =
+    let format = (encoding_of m.op).format in
+    let k = codes format (value_of m) in
+    rw k.0 (listed m.op _ _ (same_codes format m (word_of m) k.1))
+
+-- the operation that a word's opcode, funct3 and funct7 name
+pub operation_at : (m : MachineOp) (w : ℕ) → word_of m ≡ w → operation_of (w % 128) (w / 4096 % 8) (w / 33554432) ≡ Some m.op
+operation_at m w e = rw e at (operation_own m)

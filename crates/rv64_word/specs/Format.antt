@@ -1,0 +1,61 @@
+-- The formats of words (RISC-V Unprivileged ISA, chapters 2.2, 2.3 and 5.2), by one table for both directions.
+use Rattle.std.specs.Prelude.{ℕ, suc, ◌+◌, ◌-◌, ◌*◌, ◌/◌, ◌%◌, ◌^◌, ℤ, pos, ◌-ℤ◌, Bool, true, false, cond, if◌then◌else◌, nat_lt, List, [], ◌∷◌, fold, sum_by}
+use Rattle.rv64_word.specs.declared.format.Field.{Field}
+use Rattle.rv64_word.specs.declared.format.Field.TheVariants.{Opcode, Rd, Funct3, Rs1, Rs2, Funct7, Imm}
+use Rattle.rv64_word.specs.declared.format.Slice.{Slice}
+use Rattle.rv64_word.specs.declared.format.Format.{Format}
+use Rattle.rv64_word.specs.declared.format.Format.TheVariants.{Register, Immediate, Shift, WordShift, Store, Branch, Upper, Jump}
+
+-- the bits of a field from `high` down to `low`, both included
+abbrev pub bits : Field → (high low : ℕ) → Slice
+bits field high low = record { field = field; low = low; width = suc high - low }
+
+-- a format's words, from bit 31 down to bit 0
+abbrev pub slices_of : Format → List Slice
+slices_of Register = bits Funct7 6 0 ∷ bits Rs2 4 0 ∷ bits Rs1 4 0 ∷ bits Funct3 2 0 ∷ bits Rd 4 0 ∷ bits Opcode 6 0 ∷ []
+slices_of Immediate = bits Imm 11 0 ∷ bits Rs1 4 0 ∷ bits Funct3 2 0 ∷ bits Rd 4 0 ∷ bits Opcode 6 0 ∷ []
+slices_of Shift = bits Funct7 6 1 ∷ bits Imm 5 0 ∷ bits Rs1 4 0 ∷ bits Funct3 2 0 ∷ bits Rd 4 0 ∷ bits Opcode 6 0 ∷ []
+slices_of WordShift = bits Funct7 6 0 ∷ bits Imm 4 0 ∷ bits Rs1 4 0 ∷ bits Funct3 2 0 ∷ bits Rd 4 0 ∷ bits Opcode 6 0 ∷ []
+slices_of Store = bits Imm 11 5 ∷ bits Rs2 4 0 ∷ bits Rs1 4 0 ∷ bits Funct3 2 0 ∷ bits Imm 4 0 ∷ bits Opcode 6 0 ∷ []
+slices_of Branch = bits Imm 12 12 ∷ bits Imm 10 5 ∷ bits Rs2 4 0 ∷ bits Rs1 4 0 ∷ bits Funct3 2 0 ∷ bits Imm 4 1 ∷ bits Imm 11 11 ∷ bits Opcode 6 0 ∷ []
+slices_of Upper = bits Imm 19 0 ∷ bits Rd 4 0 ∷ bits Opcode 6 0 ∷ []
+slices_of Jump = bits Imm 20 20 ∷ bits Imm 10 1 ∷ bits Imm 11 11 ∷ bits Imm 19 12 ∷ bits Rd 4 0 ∷ bits Opcode 6 0 ∷ []
+
+-- the bits of a number that a slice shows
+abbrev pub bits_of : Slice → ℕ → ℕ
+bits_of s value = value / 2 ^ s.low % 2 ^ s.width
+
+-- the number that slices spell, the first one highest, where each field has a value
+abbrev pub spelled : List Slice → (Field → ℕ) → ℕ
+spelled slices value = fold (λ word s. word * 2 ^ s.width + bits_of s (value s.field)) 0 slices
+
+-- how many bits slices have
+abbrev pub width_of : List Slice → ℕ
+width_of slices = sum_by (λ s. s.width) slices
+
+abbrev pub same_field : Field → Field → Bool
+same_field Opcode Opcode = true
+same_field Rd Rd = true
+same_field Funct3 Funct3 = true
+same_field Rs1 Rs1 = true
+same_field Rs2 Rs2 = true
+same_field Funct7 Funct7 = true
+same_field Imm Imm = true
+same_field _ _ = false
+
+-- the number that slices of a word show of a field, by the same table
+abbrev pub shown : List Slice → Field → ℕ → ℕ
+shown [] field word = 0
+shown (s ∷ rest) field word = cond (same_field s.field field) (word / 2 ^ width_of rest % 2 ^ s.width * 2 ^ s.low) 0 + shown rest field word
+
+-- the number that so many bits stand for in two's complement
+abbrev pub sign_extended : ℕ → ℕ → ℤ
+sign_extended bits n = if nat_lt n (2 ^ (bits - 1)) then pos n else (pos n -ℤ pos (2 ^ bits))
+
+-- the immediate that its bits in a word stand for: signed, but in shifts and in LUI
+abbrev pub number_of : Format → ℕ → ℤ
+number_of Immediate n = sign_extended 12 n
+number_of Store n = sign_extended 12 n
+number_of Branch n = sign_extended 13 n
+number_of Jump n = sign_extended 21 n
+number_of _ n = pos n

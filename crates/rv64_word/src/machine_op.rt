@@ -1,0 +1,162 @@
+ghost use Rattle.std.specs.Prelude.{◌≡◌, Some, IsTrue, IfSome, ◌&&◌, nat_eq};
+ghost use Rattle.rv64_instr.specs.Form.{is_within};
+ghost use Rattle.rv64_word.specs.MachineOp.{value_of, word_of, is_encodable, read_as, is_register, is_even};
+
+use crate::format::{Field, Format};
+use crate::listing::operation;
+use crate::word_op::WordOp;
+
+/// A machine operation: what a word spells.
+#[derive(Clone, Copy, Debug, PartialEq, Eq)]
+pub struct MachineOp {
+    /// The operation.
+    pub op: WordOp,
+    /// The number of the register that it sets, and 0 where its format has none.
+    pub rd: u32,
+    /// The number of the first register that it reads, and 0 where its format has none.
+    pub rs1: u32,
+    /// The number of the second register that it reads, and 0 where its format has none.
+    pub rs2: u32,
+    /// The immediate, and 0 where its format has none. In branches and JAL it is the target's offset from the
+    /// word's own address in bytes. In LUI it is the 20 bits of the operand, without a sign.
+    pub imm: i64,
+}
+
+/// The word of a machine operation (RISC-V Unprivileged ISA, chapter 2.2), as a number whose bit 0 is the
+/// lowest bit of the first byte. The operation's fields are in range. It takes no memory.
+pub fn encode(m: &MachineOp) -> u32
+    requires { IsTrue (is_encodable m.now) }
+    ensures { result ≡ word_of m.now }
+{
+    m.spell()
+}
+
+/// The machine operation that a word spells, and `None` exactly for a word that no machine operation has. It takes
+/// no memory.
+pub fn decode(word: u32) -> Option<MachineOp>
+    // What is decoded has its fields in range, and encodes to the word.
+    ensures found { IfSome result (λ m. IsTrue (is_encodable m) × (word_of m ≡ word)) }
+    // A word that a machine operation has is decoded to it, and to no other.
+    ensures only { (m : MachineOp) → IsTrue (is_encodable m) → word_of m ≡ word → result ≡ Some m }
+{
+    let op = operation(word % 128, (word >> 12) % 8, word >> 25)?;
+    let m = MachineOp::read(op, word);
+    if m.is_encodable() && m.spell() == word {
+        Some(m)
+    } else {
+        None
+    }
+}
+
+impl MachineOp {
+    /// The operation's fields as a word shows them.
+    fn read(op: WordOp, word: u32) -> MachineOp
+        ensures { result ≡ read_as op word }
+    {
+        let format = op.encoding().format;
+        MachineOp {
+            op,
+            rd: format.read(Field::Rd, word),
+            rs1: format.read(Field::Rs1, word),
+            rs2: format.read(Field::Rs2, word),
+            imm: format.number(format.read(Field::Imm, word)),
+        }
+    }
+
+    /// The bits of the fields, in the slices of the format.
+    #[tactic(auto, unfolding(crate::specs::MachineOp::word_of))]
+    fn spell(&self) -> u32
+        ensures { result ≡ word_of self.now }
+    {
+        let mut word = 0;
+        for slice in self.op.encoding().format.slices() {
+            word = (word << slice.width) | slice.of(self.value(slice.field));
+        }
+        word
+    }
+
+    /// The value of a field, the immediate in two's complement.
+    fn value(&self, field: Field) -> u64
+        ensures { result ≡ value_of self.now field }
+    {
+        match field {
+            Field::Opcode => u64::from(self.op.encoding().opcode),
+            Field::Rd => u64::from(self.rd),
+            Field::Funct3 => u64::from(self.op.encoding().funct3),
+            Field::Rs1 => u64::from(self.rs1),
+            Field::Rs2 => u64::from(self.rs2),
+            Field::Funct7 => u64::from(self.op.encoding().funct7),
+            Field::Imm => self.imm.cast_unsigned(),
+        }
+    }
+
+    /// Whether the fields fit the format of the operation: registers below 32, the immediate in its range, and 0 in
+    /// each field that the format lacks.
+    pub fn is_encodable(&self) -> bool
+        ensures { result ≡ is_encodable self.now }
+    {
+        match self.op.encoding().format {
+            Format::Register => {
+                is_register(self.rd)
+                    && is_register(self.rs1)
+                    && is_register(self.rs2)
+                    && is_within(0, 0, self.imm)
+            }
+            Format::Immediate => self.has_one_input() && is_within(-2048, 2047, self.imm),
+            Format::Shift => self.has_one_input() && is_within(0, 63, self.imm),
+            Format::WordShift => self.has_one_input() && is_within(0, 31, self.imm),
+            Format::Store => self.has_no_output() && is_within(-2048, 2047, self.imm),
+            Format::Branch => {
+                self.has_no_output() && is_within(-4096, 4094, self.imm) && is_even(self.imm)
+            }
+            Format::Upper => self.has_no_input() && is_within(0, 1_048_575, self.imm),
+            Format::Jump => {
+                self.has_no_input()
+                    && is_within(-1_048_576, 1_048_574, self.imm)
+                    && is_even(self.imm)
+            }
+        }
+    }
+
+    fn has_one_input(&self) -> bool
+        ensures { result ≡ (is_register self.now.rd && is_register self.now.rs1 && nat_eq self.now.rs2 0) }
+    {
+        is_register(self.rd) && is_register(self.rs1) && self.rs2 == 0
+    }
+
+    fn has_no_output(&self) -> bool
+        ensures { result ≡ (nat_eq self.now.rd 0 && is_register self.now.rs1 && is_register self.now.rs2) }
+    {
+        self.rd == 0 && is_register(self.rs1) && is_register(self.rs2)
+    }
+
+    fn has_no_input(&self) -> bool
+        ensures { result ≡ (is_register self.now.rd && nat_eq self.now.rs1 0 && nat_eq self.now.rs2 0) }
+    {
+        is_register(self.rd) && self.rs1 == 0 && self.rs2 == 0
+    }
+}
+
+/// Whether it is a number of a register.
+fn is_register(n: u32) -> bool
+    ensures { result ≡ is_register n }
+{
+    n < 32
+}
+
+/// Whether the number lies between the two, both included.
+fn is_within(low: i64, high: i64, i: i64) -> bool
+    ensures { result ≡ is_within low high i }
+{
+    low <= i && i <= high
+}
+
+/// Whether bit 0 is clear.
+fn is_even(i: i64) -> bool
+    ensures { result ≡ is_even i }
+{
+    i.cast_unsigned() % 2 == 0
+}
+
+#[cfg(test)]
+mod tests;
