@@ -1,0 +1,4 @@
+pub mod Leb
+pub mod Ranges
+pub mod Spelling
+pub mod Reading

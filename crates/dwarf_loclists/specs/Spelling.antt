@@ -1,0 +1,46 @@
+-- The one spelling of location lists: the section .debug_loclists (DWARF 5 section 7.29).
+use Rattle.std.specs.Prelude.{ℕ, pos, ◌+◌, ◌*◌, List, [], ◌∷◌, ◌++◌, length}
+use Rattle.std.specs.List.{flat_map}
+use Rattle.std.specs.Int.{w16, w32, to_le_bytes}
+use Rattle.rv64_instr.specs.declared.place.Place.{Place}
+use Rattle.rv64_instr.specs.declared.place.Place.TheVariants.{Register, Slot, Const}
+use Rattle.dwarf_loclists.specs.declared.range.Range.{Range}
+use Rattle.dwarf_loclists.specs.declared.constants.TheConstants.{VERSION, ADDRESS_SIZE, SEGMENT_SELECTOR_SIZE, DW_LLE_end_of_list, DW_LLE_offset_pair, DW_OP_reg0, DW_OP_breg2, DW_OP_consts, DW_OP_stack_value}
+use Rattle.dwarf_loclists.specs.Leb.{uleb_of, sleb_of}
+
+-- the expression of a place (section 2.6.1): a register, memory at an offset from x2, or a value
+abbrev pub expression : Place → List ℕ
+expression (Register r) = (DW_OP_reg0 + r) ∷ []
+expression (Slot offset) = DW_OP_breg2 ∷ sleb_of (pos offset)
+expression (Const c) = DW_OP_consts ∷ sleb_of c ++ DW_OP_stack_value ∷ []
+
+-- an entry (section 2.6.2): the two ends of the range, the second exclusive, and a counted expression
+abbrev pub entry : Range → List ℕ
+entry r =
+    let place = expression r.place in
+    DW_LLE_offset_pair ∷ uleb_of r.lo ++ uleb_of r.hi ++ uleb_of (length place) ++ place
+
+-- a list: its entries, and the end
+abbrev pub list_spelling : List Range → List ℕ
+list_spelling ranges = flat_map entry ranges ++ DW_LLE_end_of_list ∷ []
+
+-- the lists one after the other
+abbrev pub bodies : List (List Range) → List ℕ
+bodies lists = flat_map list_spelling lists
+
+-- the offset of each list, where the first one has this offset
+abbrev pub offsets_from : ℕ → List (List Range) → List ℕ
+offsets_from first [] = []
+offsets_from first (ranges ∷ rest) = to_le_bytes w32 first ++ offsets_from (first + length (list_spelling ranges)) rest
+
+-- the header (section 7.29): the length of what follows it, the version, the sizes of addresses and of segment selectors, and how many offsets follow
+abbrev pub header : (length_after count : ℕ) → List ℕ
+header length_after count =
+    to_le_bytes w32 length_after ++ to_le_bytes w16 VERSION
+    ++ (ADDRESS_SIZE ∷ SEGMENT_SELECTOR_SIZE ∷ []) ++ to_le_bytes w32 count
+
+-- the section. Its length doesn't count its own four bytes; the offsets count from the first offset, and the first list follows the last one
+unfoldable pub spelling : List (List Range) → List ℕ
+spelling lists =
+    header (8 + 4 * length lists + length (bodies lists)) (length lists)
+    ++ offsets_from (4 * length lists) lists ++ bodies lists
