@@ -1,0 +1,6 @@
+pub mod Naming
+pub mod Rows
+pub mod Along
+pub mod Backwards
+pub mod Sharing
+pub mod Paths

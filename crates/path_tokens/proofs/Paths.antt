@@ -1,0 +1,15 @@
+-- A run takes a path.
+use Rattle.std.proofs.Common.{ℕ}
+use Rattle.mir_func.specs.meaning.State.{State}
+use Rattle.mir_func.specs.meaning.Step.{Program}
+use Rattle.mir_func.specs.meaning.Token.{Tokens, Path}
+use Rattle.mir_func.specs.meaning.Token as token
+use Rattle.mir_func.proofs.Edges.{step_edge}
+use Rattle.path_tokens.specs.Trace.{Trace, begin, onward, RunsTakePaths}
+
+path_of : {g : Program} {start : State} {n : ℕ} {s : State} {t : Tokens} → Trace g start n s t → Path g start.pos n s.pos t
+path_of begin = token.begin
+path_of {g = g} (onward {n} {s} {u} {t} trace went) = token.onward (path_of trace) (step_edge g s u went)
+
+pub runs_take_paths : RunsTakePaths
+runs_take_paths g start n s t trace = path_of trace
