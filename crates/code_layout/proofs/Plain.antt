@@ -1,0 +1,105 @@
+-- Plain code does the same in the source and in the machine.
+use Rattle.std.proofs.Common.{◌≡◌, ℕ, zero, suc, ◌<◌, List, [], ◌∷◌, map, All, Option, Some, None, Bool, true, false, cond, eqb, refl, ap, ◌∙◌}
+use Rattle.std.specs.Prelude.{IsSome, is_some, ◌&&◌}
+use Rattle.std.proofs.lemmas.List.Elements.{All-head, All-tail}
+use Rattle.rv64_instr.specs.declared.operand.Operand.{Operand}
+use Rattle.rv64_instr.specs.Arithmetic.{computed}
+use Rattle.rv64_instr.specs.Row.{Input, Content, Number, Row, Fixes, Moves, Sets, Returns}
+use Rattle.rv64_instr.specs.Access.{input_reads}
+use Rattle.mir_func.specs.meaning.State.{Core, content, put}
+use Rattle.mir_func.specs.meaning.Step.{Outcome, Falls, Gives, Traps, act, does, read, or_zero, input_value, are_written, numbered}
+use Rattle.mir_func.specs.meaning.Step as source
+use Rattle.code_layout.specs.Machine.{Machine, register, register_in, input, set_in}
+use Rattle.code_layout.specs.MachineStep.{Continues, past, set_register, does_row}
+use Rattle.code_layout.specs.Straight.{IsPlainInput, IsPlainRow}
+use Rattle.code_layout.specs.StraightLaws.{HoldTheSame}
+
+-- the machine and the source hold the same, and the source's physical registers are written and no slot is
+pub record Holding (m : Machine) (c : Core) : Type 0 where
+  pub same : HoldTheSame m c
+  pub written : (r : ℕ) → r < 32 → IsSome (content c.regs r)
+  pub slots : (n : ℕ) → c.slots n ≡ None
+
+is_there : (o : Option ℕ) → IsSome o → is_some o ≡ true
+is_there None h = cc
+is_there (Some n) h = refl
+
+-- both set a register to one number
+pub record SetsAlike (row : Row) (m : Machine) (c : Core) : Type 0 where
+  pub rd : ℕ
+  pub value : ℕ
+  pub machine : does_row row m ≡ Continues (past 4 (set_register rd value m))
+  pub core : act row c ≡ Falls (source.set_register rd value c)
+
+input_alike : (m : Machine) (c : Core) (b : Input) → Holding m c → input m b ≡ input_value c b
+input_alike m c (Content r) h = h.same.regs r
+input_alike m c (Number n) h = refl
+
+inputs_written : (c : Core) (b : Input) → IsPlainInput b → ((r : ℕ) → r < 32 → IsSome (content c.regs r)) → are_written c (input_reads b) ≡ true
+inputs_written c (Content r) p h = ap (λ (x : Bool). x && true) (is_there (content c.regs r) (h r p))
+inputs_written c (Number n) p h = refl
+
+falls_if : (b : Bool) (x : Outcome) → b ≡ true → cond b x Traps ≡ x
+falls_if true x e = refl
+falls_if false x e = cc
+
+both : (a b : Bool) → a ≡ true → b ≡ true → (a && b) ≡ true
+both true b e f = f
+both false b e f = cc
+
+pub sets_alike : (row : Row) (m : Machine) (c : Core) → IsPlainRow row → Holding m c → SetsAlike row m c
+unfolding act does does_row
+sets_alike (Fixes rd n) m c p h = record { rd = rd; value = n; machine = refl; core = refl }
+sets_alike (Moves rd rs) m c p h = record {
+  rd = rd;
+  value = read c rs;
+  machine = ap (λ (x : ℕ). Continues (past 4 (set_register rd x m))) (h.same.regs rs);
+  core = falls_if _ _ (both _ true (is_there (content c.regs rs) (h.written rs p)) refl);
+}
+sets_alike (Sets rd op a b) m c p h = record {
+  rd = rd;
+  value = computed op (read c a) (input_value c b);
+  machine = ap (λ (x : ℕ). Continues (past 4 (set_register rd (computed op x (input m b)) m))) (h.same.regs a)
+      ∙ ap (λ (x : ℕ). Continues (past 4 (set_register rd (computed op (read c a) x) m))) (input_alike m c b h);
+  core = falls_if _ _ (both _ _ (is_there (content c.regs a) (h.written a p.0)) (inputs_written c b p.1 h.written));
+}
+sets_alike _ m c p h = absurd p
+
+-- a register that is set in both
+set_alike : (rd v : ℕ) (f : ℕ → ℕ) (g : ℕ → Option ℕ) → ((r : ℕ) → register_in f r ≡ or_zero (content g r)) → (r : ℕ) → register_in (set_in rd v f) r ≡ or_zero (content (put rd v g) r)
+set_alike zero v f g h r = h r
+set_alike (suc rd) v f g h zero = refl
+set_alike (suc rd) v f g h (suc r) = elim (eqb (suc r) (suc rd)) as (λ b. cond b v (f (suc r)) ≡ or_zero (cond b (Some v) (g (suc r)))) [ true ↦ refl | false ↦ h (suc r) ]
+
+set_written : (rd v : ℕ) (g : ℕ → Option ℕ) → ((r : ℕ) → r < 32 → IsSome (content g r)) → (r : ℕ) → r < 32 → IsSome (content (put rd v g) r)
+set_written zero v g h r lt = h r lt
+set_written (suc rd) v g h zero lt = h zero lt
+set_written (suc rd) v g h (suc r) lt = elim (eqb (suc r) (suc rd)) as (λ b. IsSome (cond b (Some v) (g (suc r)))) [ true ↦ (refl) | false ↦ h (suc r) lt ]
+
+pub holding_set : (rd v : ℕ) (m : Machine) (c : Core) → Holding m c → Holding (past 4 (set_register rd v m)) (source.set_register rd v c)
+holding_set rd v m c h = record {
+  same = record { regs = set_alike rd v m.regs c.regs h.same.regs; memory = h.same.memory; events = h.same.events };
+  written = set_written rd v c.regs h.written;
+  slots = h.slots;
+}
+
+pub holding_numbered : (m : Machine) (sp call : Bool) (k : Option ℕ) (operands : List Operand) (c : Core) → Holding m c → Holding m (numbered sp call k operands c)
+holding_numbered m sp call None operands c h = h
+holding_numbered m sp call (Some k) operands c h = record {
+  same = record { regs = h.same.regs; memory = h.same.memory; events = h.same.events };
+  written = h.written;
+  slots = h.slots;
+}
+
+-- what is returned
+pub read_alike : (m : Machine) (c : Core) → Holding m c → (rs : List ℕ) → map (register m) rs ≡ map (read c) rs
+read_alike m c h [] = refl
+read_alike m c h (r ∷ rs) = ap (λ (x : ℕ). x ∷ map (register m) rs) (h.same.regs r) ∙ ap (λ (xs : List ℕ). read c r ∷ xs) (read_alike m c h rs)
+
+all_written : (c : Core) → ((r : ℕ) → r < 32 → IsSome (content c.regs r)) → (rs : List ℕ) → All (λ r. r < 32) rs → are_written c rs ≡ true
+all_written c h [] a = refl
+all_written c h (r ∷ rs) a = both _ _ (is_there (content c.regs r) (h r (All-head (λ (q : ℕ). q < 32) r rs a))) (all_written c h rs (All-tail (λ (q : ℕ). q < 32) r rs a))
+
+pub gives : (c : Core) → ((r : ℕ) → r < 32 → IsSome (content c.regs r)) → (rs : List ℕ) → All (λ r. r < 32) rs → act (Returns rs) c ≡ Gives (map (read c) rs)
+unfolding act does
+gives c h rs a = falls_if _ _ (all_written c h rs a)

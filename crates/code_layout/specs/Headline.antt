@@ -1,0 +1,47 @@
+-- What location lists promise of a machine's run: the sentence that the compiler's top call states.
+use Rattle.std.specs.Prelude.{◌≡◌, ◌⊎◌, ℕ, List, Option, Some, false, true}
+use Rattle.rv64_instr.specs.declared.place.Place.{Place}
+use Rattle.mir_func.specs.declared.variable.VarId.{VarId}
+use Rattle.mir_func.specs.declared.block.Block.{Block}
+use Rattle.mir_func.specs.meaning.State.{State}
+use Rattle.mir_func.specs.meaning.Step.{Program, Returned, step}
+use Rattle.mir_func.specs.meaning.Graph.{program_of}
+use Rattle.mir_func.specs.meaning.Follow.{first_of, IsStart}
+use Rattle.mir_func.specs.meaning.Align.{position_of, waits_at, since_of, Since, Start, First, Aligns, FailsBefore, Tells}
+use Rattle.code_layout.specs.Image.{CodeLine, Image, line_at}
+use Rattle.code_layout.specs.Machine.{Machine, place_content, machine_start}
+use Rattle.code_layout.specs.MachineStep.{Continues, Ends, machine_step, Comes, IsWell}
+
+-- the source goes on from s to its next state aligned with a line: its first state at the position of the line's origin
+abbrev pub AlignsWith : Program → CodeLine → Since → State → State → Type 0
+AlignsWith src l since s t = Aligns src (First (position_of l.origin)) (position_of l.origin) since s t
+
+-- the source stops on a frame fault before it comes there
+abbrev pub FailsBeforeLine : Program → CodeLine → Since → State → Type 0
+FailsBeforeLine src l since s = FailsBefore src (First (position_of l.origin)) (position_of l.origin) since s
+
+-- the machine's run from m0 beside the source's from s0 is at m; the source was aligned last at s, and the next alignment
+-- counts so: where code was added before a position, the source may still stand there at the next line
+pub data MachineAlong (src : Program) (image : Image) (m0 : Machine) (s0 : State) : Machine → State → Since → Type 0 where
+  at_start : MachineAlong src image m0 s0 m0 s0 Start
+  after_step : {m m' : Machine} {s s' : State} {since : Since} (l : CodeLine) → MachineAlong src image m0 s0 m s since → line_at image.lines m.counter ≡ Some l →
+      AlignsWith src l since s s' → machine_step image m ≡ Continues m' → MachineAlong src image m0 s0 m' s' (since_of (waits_at false l.origin))
+
+-- what is owed where the machine at m is aligned with the source at s: the stores and calls so far are the same, a return of
+-- the machine is one of the source with the same result, and each place that a list gives for a variable holds the value of
+-- its newest assignment
+pub record MachineAgrees (src : Program) (image : Image) (lists : VarId → ℕ → Place → Type 0) (m : Machine) (s : State) : Type 0 where
+  pub events : m.events ≡ s.core.events
+  pub returns : (results : List ℕ) → machine_step image m ≡ Ends results → step src s ≡ Returned results
+  pub places : (v : VarId) (place : Place) → lists v m.counter place → Tells s v (place_content place m)
+
+-- the headline, of a source, its image and its lists: from every start, for every script and number of machine steps
+pub record Headline (blocks : List Block) (resolve : ℕ → ℕ → Option (ℕ × ℕ)) (image : Image) (lists : VarId → ℕ → Place → Type 0) : Type 0 where
+  -- at each line that the machine comes to, the source comes to the line's origin and both agree, unless the source stops on a
+  -- frame fault before it
+  pub agrees : (s0 : State) → IsStart (first_of blocks) s0 → (m : Machine) (s : State) (since : Since) (l : CodeLine) →
+      MachineAlong (program_of true blocks resolve) image (machine_start image s0) s0 m s since → line_at image.lines m.counter ≡ Some l →
+      ((s' : State) × AlignsWith (program_of true blocks resolve) l since s s' × MachineAgrees (program_of true blocks resolve) image lists m s')
+      ⊎ FailsBeforeLine (program_of true blocks resolve) l since s
+  -- and the machine stops nowhere but at a return, whatever the source does
+  pub stops : (s0 : State) → IsStart (first_of blocks) s0 → (m : Machine) → Comes image (machine_start image s0) m → IsWell (machine_step image m)

@@ -1,0 +1,36 @@
+-- The headline speaks of every state that the machine comes to.
+use Rattle.std.specs.Prelude.{◌≡◌, ◌⊎◌, ℕ, List, Option, Some, true}
+use Rattle.rv64_instr.specs.declared.place.Place.{Place}
+use Rattle.mir_func.specs.declared.variable.VarId.{VarId}
+use Rattle.mir_func.specs.declared.block.Block.{Block}
+use Rattle.mir_func.specs.meaning.State.{State}
+use Rattle.mir_func.specs.meaning.Step.{Program}
+use Rattle.mir_func.specs.meaning.Graph.{program_of}
+use Rattle.mir_func.specs.meaning.Follow.{first_of, IsStart}
+use Rattle.mir_func.specs.meaning.Align.{Since}
+use Rattle.code_layout.specs.Image.{CodeLine, Image, line_at}
+use Rattle.code_layout.specs.Machine.{Machine, machine_start}
+use Rattle.code_layout.specs.MachineStep.{Comes}
+use Rattle.code_layout.specs.Headline.{FailsBeforeLine, MachineAlong, Headline}
+
+-- the source has come along with the machine
+pub record HasCome (src : Program) (image : Image) (m0 : Machine) (s0 : State) (m : Machine) : Type 0 where
+  pub aligned : State
+  pub since : Since
+  pub along : MachineAlong src image m0 s0 m aligned since
+
+-- it stopped on a frame fault before a line that the machine came to
+pub record HasFailed (src : Program) (image : Image) (m0 : Machine) (s0 : State) : Type 0 where
+  pub machine : Machine
+  pub aligned : State
+  pub since : Since
+  pub line : CodeLine
+  pub along : MachineAlong src image m0 s0 machine aligned since
+  pub stands : line_at image.lines machine.counter ≡ Some line
+  pub fails : FailsBeforeLine src line since aligned
+
+-- Where the headline holds, the source comes along with every step of the machine, or stops on a frame fault.
+abbrev pub HeadlineReachesEveryStep : (VarId → (address : ℕ) → Place → Type 0) → Type 0
+HeadlineReachesEveryStep lists = (blocks : List Block) (resolve : ℕ → ℕ → Option (ℕ × ℕ)) (image : Image) → Headline blocks resolve image lists → (s0 : State) → IsStart (first_of blocks) s0 →
+    (m : Machine) → Comes image (machine_start image s0) m →
+    HasCome (program_of true blocks resolve) image (machine_start image s0) s0 m ⊎ HasFailed (program_of true blocks resolve) image (machine_start image s0) s0

@@ -1,0 +1,30 @@
+-- The machine code of a function as it lies in a section, and what its listing tells of it.
+use Rattle.std.specs.Prelude.{ℕ, List, [], ◌∷◌, length, take, drop, Option, Some, None, cond, nat_eq}
+use Rattle.std.specs.Int.{w32, from_le_bytes}
+use Rattle.rv64_instr.specs.Instruction.{Instruction}
+use Rattle.mir_func.specs.declared.position.Origin.{Origin}
+
+-- a line of the listing with code: the address of its first byte, where it comes from, and the instruction that stands there
+pub record CodeLine : Type 0 where
+  pub address : ℕ
+  pub origin : Origin
+  pub instruction : Instruction
+
+-- the bytes of `.text`, which lie at the addresses from 0 on, the address where the function begins, and its lines with code
+pub record Image : Type 0 where
+  pub text : List ℕ
+  pub low : ℕ
+  pub lines : List CodeLine
+
+-- the line at an address
+abbrev pub line_at : List CodeLine → (address : ℕ) → Option CodeLine
+line_at [] a = None
+line_at (l ∷ lines) a = cond (nat_eq l.address a) (Some l) (line_at lines a)
+
+-- four bytes as a word, the lowest first (RISC-V Unprivileged ISA, "Base Instruction-Length Encoding")
+abbrev pub word_of_bytes : List ℕ → Option ℕ
+word_of_bytes bytes = cond (nat_eq (length bytes) 4) (Some (from_le_bytes w32 bytes)) None
+
+-- the word at an address
+abbrev pub word_at : (text : List ℕ) → (address : ℕ) → Option ℕ
+word_at text a = word_of_bytes (take 4 (drop a text))

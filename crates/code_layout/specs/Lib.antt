@@ -1,0 +1,9 @@
+pub mod Image
+pub mod Decoded
+pub mod Machine
+pub mod MachineStep
+pub mod Headline
+pub mod HeadlineLaws
+pub mod Straight
+pub mod StraightLaws
+pub mod Exact
