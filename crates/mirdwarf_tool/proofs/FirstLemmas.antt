@@ -1,0 +1,86 @@
+-- A function that a text in the first form stands for has one block of plain items.
+use Rattle.std.specs.Prelude.{Some, None, All, Bool, true, false, ◌&&◌, nat_lt}
+use Rattle.std.specs.List.{list_all}
+use Rattle.std.proofs.Common.{◌≡◌, ℕ, zero, suc, ◌<◌, List, [], ◌∷◌, length, arith, ap, refl}
+use Rattle.std.proofs.lemmas.Bool.Decides.{nat_tests}
+use Rattle.std.proofs.lemmas.List.Elements.{All-cons, All-nil}
+use Rattle.rv64_instr.specs.Arithmetic.{word}
+use Rattle.rv64_instr.specs.Row.{immediate_row}
+use Rattle.rv64_instr.specs.declared.op.Op.TheVariants.{Addi}
+use Rattle.rv64_instr.specs.declared.operand.Operand.{Operand}
+use Rattle.rv64_instr.specs.declared.operand.Operand.TheVariants.{Def, Use, Imm}
+use Rattle.mir_func.specs.meaning.Step.{defined}
+use Rattle.first_form.specs.declared.line.Line.{Line}
+use Rattle.first_form.specs.declared.line.Statement.{Statement}
+use Rattle.first_form.specs.declared.line.Statement.TheVariants.{AddImmediate, Add, Value, Reference, Return}
+use Rattle.first_form.specs.FirstForm.{is_allowed, is_target, is_source, is_immediate, is_small_or_none, kind_of, items_from, item_of}
+use Rattle.mirdwarf_tool.specs.Code.{IsPlain, IsPlainKind, IsPlainRow, DefinesFirst}
+
+pub both_left : (a b : Bool) → (a && b) ≡ true → a ≡ true
+both_left true b e = refl
+both_left false b e = cc
+
+pub both_right : (a b : Bool) → (a && b) ≡ true → b ≡ true
+both_right true b e = e
+both_right false b e = cc
+
+both : (a b : Bool) → a ≡ true → b ≡ true → (a && b) ≡ true
+both true b h e = e
+both false b h e = cc
+
+target_below : (r : ℕ) → is_target r ≡ true → r < 32
+target_below r h = grind (arith, nat_tests)
+
+pub source_below : (r : ℕ) → is_source r ≡ true → r < 32
+source_below r h = grind (arith, nat_tests)
+
+below_register : (r : ℕ) → r < 32 → nat_lt r 32 ≡ true
+below_register r h = grind (arith, nat_tests)
+
+add_row : (to from n : ℕ) → to < 32 → from < 32 → IsPlainRow (immediate_row Addi to from n)
+add_row to zero n to_below from_below = to_below
+add_row to (suc r) zero to_below from_below = (to_below, from_below)
+add_row to (suc r) (suc n) to_below from_below = to_below
+
+-- of three operands the first alone defines a register
+three : (a b c : Operand) → defined false (Some b) ≡ None → defined false (Some c) ≡ None → DefinesFirst (a ∷ b ∷ c ∷ [])
+three a b c second third zero = second
+three a b c second third (suc zero) = third
+three a b c second third (suc (suc o)) = refl
+
+pub plain_kind : (s : Statement) → is_allowed s ≡ true → IsPlainKind (kind_of s)
+plain_kind (AddImmediate to from i k) h =
+    let front = both_left (is_target to && is_source from && is_immediate i) (is_small_or_none k) h in
+    let registers = both_left (is_target to && is_source from) (is_immediate i) front in
+    let to_below = target_below to (both_left (is_target to) (is_source from) registers) in
+    let from_below = source_below from (both_right (is_target to) (is_source from) registers) in
+    let in_range = both_right (is_target to && is_source from) (is_immediate i) front in (
+      both (nat_lt to 32 && nat_lt from 32 && true) (is_immediate i) (both (nat_lt to 32 && nat_lt from 32) true (both (nat_lt to 32) (nat_lt from 32) (below_register to to_below) (below_register from from_below)) refl) in_range,
+      add_row to from (word i) to_below from_below,
+      three (Def to) (Use from) (Imm i) refl refl,
+    )
+plain_kind (Add to left right k) h =
+    let front = both_left (is_target to && is_source left && is_source right) (is_small_or_none k) h in
+    let two = both_left (is_target to && is_source left) (is_source right) front in
+    let to_below = target_below to (both_left (is_target to) (is_source left) two) in
+    let left_below = source_below left (both_right (is_target to) (is_source left) two) in
+    let right_below = source_below right (both_right (is_target to && is_source left) (is_source right) front) in (
+      both (nat_lt to 32 && nat_lt left 32 && nat_lt right 32) true
+          (both (nat_lt to 32 && nat_lt left 32) (nat_lt right 32) (both (nat_lt to 32) (nat_lt left 32) (below_register to to_below) (below_register left left_below)) (below_register right right_below)) refl,
+      to_below,
+      three (Def to) (Use left) (Use right) refl refl,
+    )
+plain_kind (Value r v) h = tt
+plain_kind (Reference v k o) h = tt
+plain_kind (Return None) h = (refl, tt, λ o. refl)
+plain_kind (Return (Some r)) h = (refl, tt, λ o. refl)
+
+pub plain_items : (n : ℕ) (lines : List Line) → list_all (λ l. is_allowed l.statement) lines ≡ true → All IsPlain (items_from n lines)
+plain_items n [] h = All-nil IsPlain
+plain_items n (l ∷ ls) h =
+    All-cons IsPlain (item_of n l) (items_from (suc n) ls) (plain_kind l.statement (both_left (is_allowed l.statement) (list_all (λ l. is_allowed l.statement) ls) h))
+    (plain_items (suc n) ls (both_right (is_allowed l.statement) (list_all (λ l. is_allowed l.statement) ls) h))
+
+pub length-items_from : (n : ℕ) (lines : List Line) → length (items_from n lines) ≡ length lines
+length-items_from n [] = refl
+length-items_from n (l ∷ ls) = ap suc (length-items_from (suc n) ls)

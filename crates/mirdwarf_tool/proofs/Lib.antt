@@ -1,0 +1,10 @@
+pub mod RangesLemmas
+pub mod PlacesLemmas
+pub mod FirstLemmas
+pub mod StraightLemmas
+pub mod RunLemmas
+pub mod TrackingLemmas
+pub mod WalkLemmas
+pub mod VariablesLemmas
+pub mod PromiseLemmas
+pub mod ExactLemmas

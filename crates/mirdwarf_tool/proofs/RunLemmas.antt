@@ -1,0 +1,117 @@
+-- Why a run ended as it did.
+use Rattle.std.specs.Prelude.{◌⊎◌, Option, Some, None, IfSome}
+use Rattle.std.proofs.Common.{◌≡◌, ◌≢◌, ℕ, ◌+◌, ◌≤◌, List, ◌++◌, length, ap, sym, ◌∙◌, refl, subst, inl, inr, append-nil}
+use Rattle.io_edge.specs.declared.reading.ReadError.{ReadError}
+use Rattle.io_edge.specs.declared.reading.ReadError.TheVariants as reading
+use Rattle.io_edge.specs.Faults.{CountRose}
+use Rattle.io_edge.specs.Told.{Takes, TakesCount, IsAtEnd, Appends}
+use Rattle.mir_func.specs.Function.{Function}
+use Rattle.first_form.specs.FirstForm.{Stands}
+use Rattle.mirdwarf_tool.specs.declared.driver.TheConstants.{LIMIT}
+use Rattle.mirdwarf_tool.specs.declared.fault.Fault.{Fault}
+use Rattle.mirdwarf_tool.specs.declared.fault.Fault.TheVariants.{Usage, Read, TooLong, NotBuilt, Write, Memory}
+use Rattle.mirdwarf_tool.specs.declared.status.Status.TheVariants as status
+use Rattle.mirdwarf_tool.specs.Fault.{reading_fault, status_of}
+use Rattle.mirdwarf_tool.specs.Fault.{line_of}
+use Rattle.mirdwarf_tool.specs.Run.{Finishes, HasWritten, KeepsHeadline, WroteExactly, Explains, IsTooLong, IsNotBuilt, ReadingEnds, MayBeInForm, IsInForm}
+
+pub reading_ends : (before after : Option (List ℕ)) (count count_after : ℕ) (e : ReadError) → (e ≡ reading.Failed → CountRose count count_after)
+    → (e ≡ reading.TooLong → TakesCount before after (LIMIT + 1)) → ReadingEnds before after count count_after (reading_fault e)
+reading_ends before after count count_after reading.Failed failed too_long = failed refl
+reading_ends before after count count_after reading.TooLong failed too_long = too_long refl
+reading_ends before after count count_after reading.Memory failed too_long = tt
+
+-- what was read of bytes that are told are these bytes
+pub all_read : (text bytes : List ℕ) (after : Option (List ℕ)) → Takes (Some text) after bytes → IsAtEnd after → bytes ≡ text
+all_read text bytes None takes end = cc
+all_read text bytes (Some rest) takes end = sym (append-nil bytes) ∙ (ap (λ r. bytes ++ r) (sym end) ∙ some_same (bytes ++ rest) text (sym takes))
+  where
+    some_same : (a b : List ℕ) → Some a ≡ Some b → a ≡ b
+    some_same a b same = cc
+
+pub reading_in_form : (before : Option (List ℕ)) (e : ReadError) → IsInForm before → IfSome before (λ bytes. length bytes ≤ LIMIT → e ≢ reading.TooLong) → MayBeInForm (reading_fault e)
+reading_in_form before reading.Failed form fits = tt
+reading_in_form before reading.Memory form fits = tt
+reading_in_form before reading.TooLong form fits =
+    let P : Option (List ℕ) → Type 0 = λ b. IfSome b (λ bytes. length bytes ≤ LIMIT → reading.TooLong ≢ reading.TooLong) in
+    absurd (subst P form.told fits form.within refl)
+
+pub not_refused : (before after : Option (List ℕ)) (bytes : List ℕ) → IsInForm before → Takes before after bytes → IsAtEnd after → ((f : Function) → Stands bytes f → ⊥) → ⊥
+not_refused before after bytes form takes end refused =
+    let P : Option (List ℕ) → Type 0 = λ b. Takes b after bytes in
+    let same : bytes ≡ form.text = all_read form.text bytes after (subst P form.told takes) end in
+    let Q : List ℕ → Type 0 = λ b. Stands b form.function in
+    refused form.function (subst Q (sym same) form.stands)
+
+has_written : (before after written written_after : Option (List ℕ)) → Finishes before after written written_after → HasWritten before after written written_after
+has_written before after written written_after is = record {
+  text = is.accepted.text;
+  read = is.accepted.read;
+  function = is.accepted.function;
+  stands = is.accepted.stands;
+  block = is.accepted.compiles.block;
+  one = is.accepted.compiles.one;
+  lists = is.accepted.compiles.compiled.lists;
+  section = is.accepted.compiles.compiled.section;
+  whole = subst (λ (bytes : List ℕ). Appends written written_after bytes) is.accepted.compiles.compiled.written is.whole;
+}
+
+pub headline_kept : (before after written written_after : Option (List ℕ)) → Finishes before after written written_after → KeepsHeadline before after written written_after
+unfolding has_written
+headline_kept before after written written_after is = record { wrote = has_written before after written written_after is; headline = is.accepted.compiles.compiled.promise }
+
+pub wrote_exactly : (before after written written_after : Option (List ℕ)) → Finishes before after written written_after → WroteExactly before after written written_after
+unfolding has_written
+wrote_exactly before after written written_after is = record { wrote = has_written before after written written_after is; exact = is.accepted.compiles.compiled.exact }
+
+-- ---- the fault by the status
+
+pub is_usage : (fault : Fault) → status_of fault ≡ status.Usage → fault ≡ Usage
+is_usage Usage e = refl
+is_usage Read e = cc
+is_usage TooLong e = cc
+is_usage NotBuilt e = cc
+is_usage Write e = cc
+is_usage Memory e = cc
+
+pub is_read : (fault : Fault) → status_of fault ≡ status.ReadFault → fault ≡ Read
+is_read Usage e = cc
+is_read Read e = refl
+is_read TooLong e = cc
+is_read NotBuilt e = cc
+is_read Write e = cc
+is_read Memory e = cc
+
+pub is_write : (fault : Fault) → status_of fault ≡ status.WriteFault → fault ≡ Write
+is_write Usage e = cc
+is_write Read e = cc
+is_write TooLong e = cc
+is_write NotBuilt e = cc
+is_write Write e = refl
+is_write Memory e = cc
+
+pub is_memory : (fault : Fault) → status_of fault ≡ status.Memory → fault ≡ Memory
+is_memory Usage e = cc
+is_memory Read e = cc
+is_memory TooLong e = cc
+is_memory NotBuilt e = cc
+is_memory Write e = cc
+is_memory Memory e = refl
+
+pub not_done : (fault : Fault) → status_of fault ≡ status.Done → ⊥
+not_done Usage e = cc
+not_done Read e = cc
+not_done TooLong e = cc
+not_done NotBuilt e = cc
+not_done Write e = cc
+not_done Memory e = cc
+
+pub refusal : (words : List (List ℕ)) (before after written written_after : Option (List ℕ)) (reads reads_after writes writes_after : ℕ) (told : List ℕ → Type 0) (fault : Fault)
+    → status_of fault ≡ status.Refused → Explains words before after written written_after reads reads_after writes writes_after fault → told (line_of fault)
+    → (IsTooLong before after × told (line_of TooLong)) ⊎ (IsNotBuilt before after × told (line_of NotBuilt))
+refusal words before after written written_after reads reads_after writes writes_after told TooLong e explains tells = inl (explains.1, tells)
+refusal words before after written written_after reads reads_after writes writes_after told NotBuilt e explains tells = inr (explains.1, tells)
+refusal words before after written written_after reads reads_after writes writes_after told Usage e explains tells = cc
+refusal words before after written written_after reads reads_after writes writes_after told Read e explains tells = cc
+refusal words before after written written_after reads reads_after writes writes_after told Write e explains tells = cc
+refusal words before after written written_after reads reads_after writes writes_after told Memory e explains tells = cc

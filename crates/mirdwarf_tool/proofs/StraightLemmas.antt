@@ -1,0 +1,111 @@
+-- The items of a text in the first form run straight to their return.
+use Rattle.std.specs.Prelude.{Some, None, All, Bool, true, false, ◌&&◌, not, cond, nat_eq}
+use Rattle.std.specs.List.{flat_map, list_all}
+use Rattle.std.specs.Int.{w32, to_le_bytes}
+use Rattle.std.proofs.Common.{◌≡◌, ℕ, zero, suc, ◌<◌, List, [], ◌∷◌, ◌++◌, arith, ap, sym, refl, subst}
+use Rattle.std.proofs.lemmas.Bool.Decides.{nat_tests}
+use Rattle.std.proofs.lemmas.List.Elements.{All-cons, All-nil}
+use Rattle.rv64_instr.specs.Arithmetic.{word}
+use Rattle.rv64_instr.specs.Row.{immediate_row}
+use Rattle.rv64_instr.specs.declared.op.Op.TheVariants.{Addi}
+use Rattle.rv64_word.specs.MachineOp.{word_of}
+use Rattle.mir_func.specs.declared.location.Loc.{Loc}
+use Rattle.mir_func.specs.declared.position.Origin.TheVariants.{Kept}
+use Rattle.mir_func.specs.declared.item.Item.{Item}
+use Rattle.mir_func.specs.declared.item.ItemKind.{ItemKind}
+use Rattle.mir_func.specs.declared.item.ItemKind.TheVariants.{Code, Mark, Phi}
+use Rattle.mir_func.specs.declared.block.Block.{Block}
+use Rattle.first_form.specs.declared.line.Line.{Line}
+use Rattle.first_form.specs.declared.line.Statement.{Statement}
+use Rattle.first_form.specs.declared.line.Statement.TheVariants.{AddImmediate, Add, Value, Reference, Return}
+use Rattle.first_form.specs.FirstForm.{is_allowed, is_target, is_source, is_result, is_immediate, is_small_or_none, is_return, ends_in_return, kind_of, items_from, loc_of}
+use Rattle.code_layout.specs.MachineStep.{return_word}
+use Rattle.code_layout.specs.Straight.{IsStraight, IsStraightImage, returns, goes_on, marks}
+use Rattle.code_layout.specs.Straight as straight
+use Rattle.mirdwarf_tool.specs.Code.{code_bytes, code_of, operation_of, return_operation}
+use Rattle.mirdwarf_tool.specs.Promise.{image_of}
+use Rattle.mirdwarf_tool.proofs.FirstLemmas.{both_left, both_right, source_below, plain_kind}
+
+abbrev words_in : ItemKind → List ℕ
+words_in (Code i k) = word_of (operation_of i) ∷ []
+words_in _ = []
+
+abbrev words_of : List Item → List ℕ
+words_of [] = []
+words_of (i ∷ items) = words_in i.kind ++ words_of items
+
+bytes_more : (k : ItemKind) (bytes words : List ℕ) → bytes ≡ flat_map (to_le_bytes w32) words → code_bytes k ++ bytes ≡ flat_map (to_le_bytes w32) (words_in k ++ words)
+bytes_more (Code i n) bytes words e = ap (λ (b : List ℕ). to_le_bytes w32 (word_of (operation_of i)) ++ b) e
+bytes_more (Mark v m) bytes words e = e
+bytes_more (Phi p n) bytes words e = e
+
+code_by_words : (items : List Item) → code_of items ≡ flat_map (to_le_bytes w32) (words_of items)
+code_by_words [] = refl
+code_by_words (i ∷ items) = bytes_more i.kind (code_of items) (words_of items) (code_by_words items)
+
+return_spelled : word_of return_operation ≡ return_word
+unfolding word_of
+return_spelled = refl
+
+immediate_plain : (to from n : ℕ) → from < 32 → straight.IsPlainRow (immediate_row Addi to from n)
+immediate_plain to zero n below = tt
+immediate_plain to (suc r) zero below = below
+immediate_plain to (suc r) (suc n) below = (below, tt)
+
+-- an item of block 0 at its own index
+abbrev own : (n : ℕ) → Statement → Loc → Item
+own n s loc = record { kind = kind_of s; origin = Kept (record { block = 0; item = n }); loc = loc }
+
+result_below : (r : ℕ) → is_result r ≡ true → r < 32
+result_below r h = grind (arith, nat_tests)
+
+physical : (b : Bool) (r : ℕ) → r < 32 → All (λ q. q < 32) (cond b [] (r ∷ []))
+physical true r below = All-nil (λ (q : ℕ). q < 32)
+physical false r below = All-cons (λ (q : ℕ). q < 32) r [] below (All-nil (λ (q : ℕ). q < 32))
+
+straight_last : (n : ℕ) (s : Statement) (loc : Loc) → is_allowed s ≡ true → is_return s ≡ true → IsStraight 0 n (own n s loc ∷ []) (words_in (kind_of s) ++ [])
+straight_last n (Return None) loc h r =
+    subst (λ (w : ℕ). IsStraight 0 n (own n (Return None) loc ∷ []) (w ∷ [])) (sym return_spelled) (returns refl refl refl (All-nil (λ (q : ℕ). q < 32)))
+straight_last n (Return (Some x)) loc h r =
+    subst (λ (w : ℕ). IsStraight 0 n (own n (Return (Some x)) loc ∷ []) (w ∷ [])) (sym return_spelled) (returns refl refl refl (physical (nat_eq x 2) x (result_below x h)))
+straight_last n (AddImmediate to from i k) loc h r = absurd cc
+straight_last n (Add to left right k) loc h r = absurd cc
+straight_last n (Value x v) loc h r = absurd cc
+straight_last n (Reference v k o) loc h r = absurd cc
+
+straight_next : (n : ℕ) (s : Statement) (loc : Loc) (items : List Item) (words : List ℕ) → is_allowed s ≡ true → not (is_return s) ≡ true → IsStraight 0 (suc n) items words
+    → IsStraight 0 n (own n s loc ∷ items) (words_in (kind_of s) ++ words)
+straight_next n (AddImmediate to from i k) loc items words h r rest =
+    let front = both_left (is_target to && is_source from && is_immediate i) (is_small_or_none k) h in
+    let registers = both_left (is_target to && is_source from) (is_immediate i) front in
+    let from_below = source_below from (both_right (is_target to) (is_source from) registers) in
+    let plain = plain_kind (AddImmediate to from i k) h in
+    goes_on _ refl refl (immediate_plain to from (word i) from_below) (record { operation = _; fits = plain.0; spelled = refl; does = λ a. refl }) rest
+straight_next n (Add to left right k) loc items words h r rest =
+    let front = both_left (is_target to && is_source left && is_source right) (is_small_or_none k) h in
+    let two = both_left (is_target to && is_source left) (is_source right) front in
+    let left_below = source_below left (both_right (is_target to) (is_source left) two) in
+    let right_below = source_below right (both_right (is_target to && is_source left) (is_source right) front) in
+    let plain = plain_kind (Add to left right k) h in
+    goes_on _ refl refl (left_below, right_below) (record { operation = _; fits = plain.0; spelled = refl; does = λ a. refl }) rest
+straight_next n (Value x v) loc items words h r rest = marks refl rest
+straight_next n (Reference v k o) loc items words h r rest = marks refl rest
+straight_next n (Return x) loc items words h r rest = absurd cc
+
+straight_items : (n : ℕ) (lines : List Line) → list_all (λ l. is_allowed l.statement) lines ≡ true → ends_in_return lines ≡ true → IsStraight 0 n (items_from n lines) (words_of (items_from n lines))
+straight_items n [] h ends = absurd cc
+straight_items n (l ∷ []) h ends = straight_last n l.statement (loc_of l.located) (both_left (is_allowed l.statement) true h) ends
+straight_items n (l ∷ m ∷ ls) h ends =
+    straight_next n l.statement (loc_of l.located) (items_from (suc n) (m ∷ ls)) (words_of (items_from (suc n) (m ∷ ls)))
+    (both_left (is_allowed l.statement) (list_all (λ l. is_allowed l.statement) (m ∷ ls)) h) (both_left (not (is_return l.statement)) (ends_in_return (m ∷ ls)) ends)
+    (straight_items (suc n) (m ∷ ls) (both_right (is_allowed l.statement) (list_all (λ l. is_allowed l.statement) (m ∷ ls)) h) (both_right (not (is_return l.statement)) (ends_in_return (m ∷ ls)) ends))
+
+pub straight_image : (lines : List Line) (block : Block) → block.id ≡ 0 → block.items ≡ items_from 0 lines → list_all (λ l. is_allowed l.statement) lines ≡ true → ends_in_return lines ≡ true
+    → IsStraightImage block (image_of block)
+straight_image lines block id items h ends = record {
+  words = words_of block.items;
+  straight = subst (λ (b : ℕ). IsStraight b 0 block.items (words_of block.items)) (sym id) (subst (λ (xs : List Item). IsStraight 0 0 xs (words_of xs)) (sym items) (straight_items 0 lines h ends));
+  low = refl;
+  text = code_by_words block.items;
+  lines = refl;
+}

@@ -1,0 +1,7 @@
+use Rattle.std.proofs.Common.{◌+◌, ◌*◌, ◌^◌, ◌<◌, length, arith}
+use Rattle.mirdwarf_tool.proofs.compile.section_of.Goals as goal
+
+pub unreachable-requires : goal.unreachable-requires
+unreachable-requires c =
+    let room : 12 + length c.args.lists.now * (5 + 43 * 8192) < 2 ^ 31 = omega arith in
+    cc (c.in-None.ensures.few 8192 c.requires.short room)

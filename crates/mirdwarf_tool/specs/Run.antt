@@ -1,0 +1,113 @@
+-- What a run of the command did to its input, its output and its faults.
+use Rattle.std.specs.Prelude.{◌≡◌, ℕ, ◌+◌, ◌≤◌, List, [], ◌∷◌, length, Option, Some, ◌⊎◌}
+use Rattle.io_edge.specs.Faults.{CountRose}
+use Rattle.io_edge.specs.Told.{Takes, TakesCount, IsAtEnd, Appends, AppendsPrefix}
+use Rattle.mir_func.specs.declared.block.Block.{Block}
+use Rattle.mir_func.specs.Function.{Function}
+use Rattle.first_form.specs.FirstForm.{Stands}
+use Rattle.dwarf_loclists.specs.declared.range.Range.{Range}
+use Rattle.dwarf_loclists.specs.Spelling as loclists
+use Rattle.dwarf_loclists.specs.Reading.{IsSection}
+use Rattle.code_layout.specs.Headline.{Headline}
+use Rattle.mirdwarf_tool.specs.declared.driver.TheConstants.{LIMIT}
+use Rattle.mirdwarf_tool.specs.declared.fault.Fault.{Fault}
+use Rattle.mirdwarf_tool.specs.declared.fault.Fault.TheVariants.{Usage, Read, TooLong, NotBuilt, Write, Memory}
+use Rattle.mirdwarf_tool.specs.Command.{IsCommand}
+use Rattle.mirdwarf_tool.specs.Variables.{variables_of}
+use Rattle.mirdwarf_tool.specs.Walk.{unchanged}
+use Rattle.mirdwarf_tool.specs.Output.{compiled_text}
+use Rattle.mirdwarf_tool.specs.Promise.{image_of, Gives, IsExact}
+use Rattle.mirdwarf_tool.specs.Compiled.{Compiles}
+
+-- the input was read to its end, and these were its bytes
+pub record HasRead (before after : Option (List ℕ)) (text : List ℕ) : Type 0 where
+  pub takes : Takes before after text
+  pub ended : IsAtEnd after
+  pub within : length text ≤ LIMIT
+
+-- the text that was read stands for a function, and this is what is to be written of it
+pub record Accepts (before after : Option (List ℕ)) (output : List ℕ) : Type 0 where
+  pub text : List ℕ
+  pub read : HasRead before after text
+  pub function : Function
+  pub stands : Stands text function
+  pub compiles : Compiles function output
+
+-- the input has more bytes than the limit: one more was read
+abbrev pub IsTooLong : (before after : Option (List ℕ)) → Type 0
+IsTooLong before after = TakesCount before after (LIMIT + 1)
+
+-- the text that was read isn't in the first form
+pub record IsNotBuilt (before after : Option (List ℕ)) : Type 0 where
+  pub text : List ℕ
+  pub read : HasRead before after text
+  pub refused : (f : Function) → Stands text f → ⊥
+
+-- all that is to be written was written
+pub record Finishes (before after written written_after : Option (List ℕ)) : Type 0 where
+  pub output : List ℕ
+  pub accepted : Accepts before after output
+  pub whole : Appends written written_after output
+
+-- what was written is the text of a block, that of the function that was read, and of lists of its variables
+pub record HasWritten (before after written written_after : Option (List ℕ)) : Type 0 where
+  pub text : List ℕ
+  pub read : HasRead before after text
+  pub function : Function
+  pub stands : Stands text function
+  pub block : Block
+  pub one : function.blocks ≡ block ∷ []
+  pub lists : List (List Range)
+  pub section : IsSection (loclists.spelling lists) lists
+  pub whole : Appends written written_after (compiled_text function.name block lists)
+
+-- the headline holds of what was written: from every start, for every script and number of steps, the machine on the written
+-- code stands where the written lines say the source stands, with the source's events and result, and each place that the
+-- written section gives for a variable holds its newest assignment
+pub record KeepsHeadline (before after written written_after : Option (List ℕ)) : Type 0 where
+  pub wrote : HasWritten before after written written_after
+  pub headline : Headline (wrote.block ∷ []) unchanged (image_of wrote.block) (Gives (loclists.spelling wrote.lists) (variables_of [] wrote.block.items))
+
+-- the written section gives each variable of a list the place that is wanted, and none exactly where none is
+pub record WroteExactly (before after written written_after : Option (List ℕ)) : Type 0 where
+  pub wrote : HasWritten before after written written_after
+  pub exact : IsExact wrote.block (loclists.spelling wrote.lists)
+
+-- a prefix of it was written
+pub record IsCutOff (before after written written_after : Option (List ℕ)) : Type 0 where
+  pub output : List ℕ
+  pub accepted : Accepts before after output
+  pub front : AppendsPrefix written written_after output
+
+-- a line was written whole, or a prefix of it where the count of faults rose
+abbrev pub Tells : (written written_after : Option (List ℕ)) → (count count_after : ℕ) → List ℕ → Type 0
+Tells written written_after count count_after line = Appends written written_after line ⊎ (AppendsPrefix written written_after line × CountRose count count_after)
+
+-- the bytes of an input are told, and they are a text in the first form within the limit
+pub record IsInForm (left : Option (List ℕ)) : Type 0 where
+  pub text : List ℕ
+  pub told : left ≡ Some text
+  pub within : length text ≤ LIMIT
+  pub function : Function
+  pub stands : Stands text function
+
+-- why the reading of an input gave nothing to write
+abbrev pub ReadingEnds : (before after : Option (List ℕ)) → (count count_after : ℕ) → Fault → Type 0
+ReadingEnds before after count count_after Read = CountRose count count_after
+ReadingEnds before after count count_after TooLong = IsTooLong before after
+ReadingEnds before after count count_after NotBuilt = IsNotBuilt before after
+ReadingEnds before after count count_after Memory = Unit {0}
+ReadingEnds before after count count_after Usage = ⊥
+ReadingEnds before after count count_after Write = ⊥
+
+-- why a run ended in a fault
+abbrev pub Explains : (words : List (List ℕ)) → (before after written written_after : Option (List ℕ)) → (reads reads_after writes writes_after : ℕ) → Fault → Type 0
+Explains words before after written written_after reads reads_after writes writes_after Usage = IsCommand words → ⊥
+Explains words before after written written_after reads reads_after writes writes_after Write = IsCommand words × IsCutOff before after written written_after × CountRose writes writes_after
+Explains words before after written written_after reads reads_after writes writes_after fault = IsCommand words × ReadingEnds before after reads reads_after fault
+
+-- the faults that a text in the first form may meet
+abbrev pub MayBeInForm : Fault → Type 0
+MayBeInForm TooLong = ⊥
+MayBeInForm NotBuilt = ⊥
+MayBeInForm _ = Unit {0}

@@ -1,0 +1,20 @@
+-- The variables of a function, which number the lists.
+use Rattle.std.specs.Prelude.{List, [], ◌∷◌, ◌++◌, cond}
+use Rattle.std.specs.List.{list_any}
+use Rattle.mir_func.specs.declared.variable.VarId.{VarId}
+use Rattle.mir_func.specs.declared.item.Item.{Item}
+use Rattle.mir_func.specs.declared.item.ItemKind.{ItemKind}
+use Rattle.mir_func.specs.declared.item.ItemKind.TheVariants.{Mark}
+use Rattle.mir_func.specs.meaning.State.{is_same}
+
+abbrev pub with_variable : List VarId → VarId → List VarId
+with_variable known v = cond (list_any (is_same v) known) known (known ++ v ∷ [])
+
+abbrev pub with_mark : List VarId → ItemKind → List VarId
+with_mark known (Mark v m) = with_variable known v
+with_mark known _ = known
+
+-- the variables known, and then those of the marks that aren't known, by first appearance
+abbrev pub variables_of : List VarId → List Item → List VarId
+variables_of known [] = known
+variables_of known (i ∷ items) = variables_of (with_mark known i.kind) items
