@@ -1,0 +1,74 @@
+#!/usr/bin/env python3
+"""Counts the instructions of a built program at inputs that double, with valgrind's callgrind.
+
+  bench/growth.py lex      crates/mirdwarf_bench/out/mirdwarf_bench, on texts of 1, 2 and 4 MiB
+  bench/growth.py compile  crates/mirdwarf/out/mirdwarf, on functions of 1,000 to 8,000 items
+
+Build the program first by `rt run` in its crate's folder. Each line has the input's size, the count and its growth.
+"""
+import os
+import re
+import subprocess
+import sys
+import tempfile
+
+TOP = os.path.join(os.path.dirname(os.path.abspath(__file__)), "..")
+
+
+def count(program, words, text):
+    """The instructions that one run executes."""
+    with tempfile.TemporaryDirectory() as folder:
+        run = subprocess.run(
+            ["valgrind", "--tool=callgrind", "--callgrind-out-file=" + os.path.join(folder, "out"), program, *words],
+            input=text, capture_output=True)
+    if run.returncode != 0:
+        raise SystemExit("%s ended with %d: %s" % (program, run.returncode, run.stderr.decode()))
+    return int(re.search(rb"Collected : (\d+)", run.stderr).group(1))
+
+
+def one_line_functions(size):
+    one = b"---\nname: f\nbody: |\n  $x10 = ADDI $x10, 1\n...\n"
+    return one * (size // len(one))
+
+
+def one_long_line(size):
+    head, item, tail = b"---\nname: f\nbody: |\n", b" $x10 = ADDI $x10, 1,", b"\n...\n"
+    return head + item * ((size - len(head) - len(tail)) // len(item)) + tail
+
+
+def one_block(items):
+    """A function in the first form: numbered sums, with a mark after each."""
+    with open(os.path.join(TOP, "examples", "increment.mir"), "rb") as file:
+        head = file.read().split(b"  bb.0:\n")[0] + b"  bb.0:\n"
+    lines = []
+    for n in range((items - 1) // 2):
+        register = (5, 6, 7, 10, 11, 12, 13, 14)[n % 8]
+        number = b", debug-instr-number %d" % (n + 1) if n < 4000 else b""
+        lines.append(b"    $x%d = ADDI $x%d, %d%s\n" % (register, (register + n) % 32 or 1 if (register + n) % 32 != 2 else 3, n % 200, number))
+        lines.append(b"    DBG_INSTR_REF !%d, !DIExpression(DW_OP_LLVM_arg, 0), dbg-instr-ref(%d, 0)\n" % ((4, 6)[n % 2], n % 4000 + 1))
+    lines.extend(b"    $x28 = ADD $x10, $x11\n" for _ in range(items - 1 - len(lines)))
+    return head + b"".join(lines) + b"    PseudoRET implicit $x10\n...\n"
+
+
+def table(name, program, words, sizes, make):
+    print(name)
+    before = None
+    for size in sizes:
+        instructions = count(os.path.join(TOP, program), words, make(size))
+        print("  %9d  %13d  %s" % (size, instructions, "%.3f" % (instructions / before) if before else ""))
+        before = instructions
+
+
+def main():
+    what = sys.argv[1:]
+    if what == ["lex"]:
+        program, sizes = "crates/mirdwarf_bench/out/mirdwarf_bench", [n << 20 for n in (1, 2, 4)]
+        table("functions of one line, by bytes", program, [], sizes, one_line_functions)
+        table("one long line, by bytes", program, [], sizes, one_long_line)
+    elif what == ["compile"]:
+        table("one block, by items", "crates/mirdwarf/out/mirdwarf", ["compile", "--passes=none"], (1000, 2000, 4000, 8000), one_block)
+    else:
+        raise SystemExit(__doc__)
+
+
+main()
