@@ -8,7 +8,8 @@ use Rattle.dwarf_loclists.specs.declared.range.Range.{Range}
 use Rattle.dwarf_loclists.specs.declared.constants.TheConstants.{VERSION, ADDRESS_SIZE, SEGMENT_SELECTOR_SIZE, DW_LLE_end_of_list, DW_LLE_offset_pair, DW_OP_reg0, DW_OP_breg2, DW_OP_consts, DW_OP_stack_value}
 use Rattle.dwarf_loclists.specs.Leb.{uleb_of, sleb_of}
 
--- the expression of a place (section 2.6.1): a register, memory at an offset from x2, or a value
+-- the expression of a place (section 2.6.1): a register, memory at an offset from x2, or a value. xN has the number N (RISC-V ELF
+-- psABI, "DWARF Register Numbers")
 abbrev pub expression : Place → List ℕ
 expression (Register r) = (DW_OP_reg0 + r) ∷ []
 expression (Slot offset) = DW_OP_breg2 ∷ sleb_of (pos offset)

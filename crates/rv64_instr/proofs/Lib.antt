@@ -1,1 +1,1 @@
-pub mod Decoding
+pub mod Names

@@ -1,6 +1,6 @@
 -- Which registers an instruction reads and sets, by its row.
 use Rattle.std.specs.Prelude.{ℕ, List, [], ◌∷◌}
-use Rattle.rv64_instr.specs.Row.{Input, Content, Number, Row, Fixes, Moves, Sets, Loads, Stores, LoadsSlot, StoresSlot, Branches, Jumps, Calls, Returns, Unfit}
+use Rattle.rv64_instr.specs.Row.{Input, Content, Number, Row, Fixes, Moves, Sets, Loads, Stores, LoadsSlot, StoresSlot, Branches, Calls, Returns}
 
 -- the registers that a call sets (RISC-V ELF psABI, "Integer Register Convention": ra, t0 to t6, a0 to a7)
 abbrev pub caller_saved : List ℕ

@@ -1,5 +1,5 @@
 -- The row of an instruction as code sees it.
-use Rattle.std.specs.Prelude.{◌≡◌, ℕ, List, Option, Some, None}
+use Rattle.std.specs.Prelude.{◌≡◌, ℕ, List}
 use Rattle.rv64_instr.specs.Row as row
 use Rattle.rv64_instr.specs.Row.{Row}
 use Rattle.rv64_instr.specs.declared.decoded.Input.{Input}
@@ -7,26 +7,7 @@ use Rattle.rv64_instr.specs.declared.decoded.Input.TheVariants.{Content, Number}
 use Rattle.rv64_instr.specs.declared.decoded.Decoded.{Decoded}
 use Rattle.rv64_instr.specs.declared.decoded.Decoded.TheVariants.{Fixes, Moves, Sets, Loads, Stores, LoadsSlot, StoresSlot, Branches, Jumps, Calls, Returns}
 
--- an input of a row
-abbrev pub brief_input : row.Input → Input
-brief_input (row.Content r) = Content r
-brief_input (row.Number n) = Number n
-
--- the row without the lists of a call and a return, and none for operands that have no form
-abbrev pub brief : Row → Option Decoded
-brief (row.Fixes rd n) = Some (Fixes rd n)
-brief (row.Moves rd rs) = Some (Moves rd rs)
-brief (row.Sets rd op a b) = Some (Sets rd op a (brief_input b))
-brief (row.Loads rd op base offset) = Some (Loads rd op base offset)
-brief (row.Stores op rs base offset) = Some (Stores op rs base offset)
-brief (row.LoadsSlot rd n) = Some (LoadsSlot rd n)
-brief (row.StoresSlot rs n) = Some (StoresSlot rs n)
-brief (row.Branches op a b target) = Some (Branches op a b target)
-brief (row.Jumps target) = Some (Jumps target)
-brief (row.Calls name args) = Some Calls
-brief (row.Returns results) = Some Returns
-brief row.Unfit = None
-
+-- an input that code sees
 abbrev pub full_input : Input → row.Input
 full_input (Content r) = row.Content r
 full_input (Number n) = row.Number n

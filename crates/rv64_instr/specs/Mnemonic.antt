@@ -1,5 +1,5 @@
 -- The names of opcodes (LLVM, Machine IR Format Reference Manual, "Instructions").
-use Rattle.std.specs.Prelude.{ℕ, List, codes}
+use Rattle.std.specs.Prelude.{◌≡◌, ℕ, List, Option, Some, None, codes}
 use Rattle.rv64_instr.specs.declared.op.Op.{Op}
 use Rattle.rv64_instr.specs.declared.op.Op.TheVariants.{Lui, Beq, Bne, Blt, Bge, Bltu, Bgeu, Lb, Lh, Lw, Ld, Lbu, Lhu, Lwu, Sb, Sh, Sw, Sd, Addi, Slti, Sltiu, Xori, Ori, Andi, Slli, Srli, Srai, Add, Sub, Sll, Slt, Sltu, Xor, Srl, Sra, Or, And, Addiw, Slliw, Srliw, Sraiw, Addw, Subw, Sllw, Srlw, Sraw, Copy, PseudoBr, PseudoCall, PseudoRet}
 
@@ -55,3 +55,8 @@ mnemonic_of Copy = codes "COPY"
 mnemonic_of PseudoBr = codes "PseudoBR"
 mnemonic_of PseudoCall = codes "PseudoCALL"
 mnemonic_of PseudoRet = codes "PseudoRET"
+
+-- the text is the opcode's name, or no opcode's
+abbrev pub Names : List ℕ → Option Op → Type 0
+Names text (Some op) = text ≡ mnemonic_of op
+Names text None = (op : Op) → text ≡ mnemonic_of op → ⊥

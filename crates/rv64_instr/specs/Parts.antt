@@ -67,7 +67,7 @@ abbrev pub constant_of : Row → Option ℤ
 constant_of (Fixes rd n) = Some (signed n)
 constant_of _ = None
 
--- it does nothing beside setting one place: no store to memory, no branch, call or return
+-- no store to memory, no branch, call or return: where it goes on, at most its one place is set. A load may stop on a frame fault instead
 abbrev pub is_pure : Row → Bool
 is_pure (Stores op rs base offset) = false
 is_pure (Branches op a b target) = false
@@ -101,7 +101,7 @@ abbrev pub is_implicit_use : ℕ → Operand → Bool
 is_implicit_use r (ImplicitUse s) = nat_eq s r
 is_implicit_use r _ = false
 
--- the operand names the register
+-- the place is the register
 abbrev pub is_register : ℕ → Option Place → Bool
 is_register r (Some (Register s)) = nat_eq r s
 is_register r _ = false

@@ -3,8 +3,9 @@ ghost use Rattle.rv64_instr.specs.Arithmetic.{computed, taken, extended, width_o
 
 use crate::op::Op;
 
-/// What an operation on two registers gives, at the contents of the two (RISC-V Unprivileged ISA, chapters 2.4
-/// and 5.2). Of an operation with an immediate ask its register form. 0 for an opcode that computes nothing.
+/// What an operation on two registers gives, at the contents of the two (RISC-V Unprivileged ISA, RV32I
+/// and RV64I, "Integer Register-Register Operations"). Of an operation with an immediate ask its register form. 0 for
+/// an opcode that computes nothing.
 #[tactic(auto, unfolding(crate::specs::Arithmetic::computed))]
 pub fn compute(op: Op, a: u64, b: u64) -> u64
     ensures { result ≡ computed op a b }

@@ -1,7 +1,8 @@
-ghost use Rattle.std.specs.Prelude.{◌≡◌, IsTrue, Some};
+ghost use Rattle.std.specs.Prelude.{◌≡◌, IsTrue};
+ghost use Rattle.rv64_instr.specs.Arithmetic.{word};
 ghost use Rattle.rv64_instr.specs.Form.{fits};
 ghost use Rattle.rv64_instr.specs.Row.{row_of, row_by, move_row, immediate_row, register_form};
-ghost use Rattle.rv64_instr.specs.Decoded.{brief, Shows};
+ghost use Rattle.rv64_instr.specs.Decoded.{Shows};
 
 use crate::arithmetic::extend32;
 use crate::form::{Form, Width, form_of};
@@ -50,7 +51,6 @@ pub enum Decoded {
 impl Instr {
     /// What the instruction does.
     pub fn decoded(&self) -> Decoded
-        ensures brief { brief (row_of self.now) ≡ Some result }
         ensures row { Shows result (row_of self.now) }
     {
         decode(self)
@@ -58,7 +58,7 @@ impl Instr {
 }
 
 fn decode(i: &Instr) -> Decoded
-    ensures { brief (row_of i.now) ≡ Some result }
+    ensures { Shows result (row_of i.now) }
 {
     let op = i.op;
     let operands = i.operands.as_slice();
@@ -78,7 +78,7 @@ fn decode(i: &Instr) -> Decoded
 
 fn of_registers(op: Op, operands: &[Operand]) -> Decoded
     requires { IsTrue (fits Form.Registers operands.now) }
-    ensures { brief (row_by Form.Registers op operands.now) ≡ Some result }
+    ensures { Shows result (row_by Form.Registers op operands.now) }
 {
     match operands {
         [Operand::Def(rd), Operand::Use(a), Operand::Use(b), ..] => {
@@ -90,28 +90,26 @@ fn of_registers(op: Op, operands: &[Operand]) -> Decoded
 
 fn of_immediate(op: Op, low: i64, high: i64, operands: &[Operand]) -> Decoded
     requires { IsTrue (fits (Form.Immediate low high) operands.now) }
-    ensures { brief (row_by (Form.Immediate low high) op operands.now) ≡ Some result }
+    ensures { Shows result (row_by (Form.Immediate low high) op operands.now) }
 {
     match operands {
-        [Operand::Def(rd), Operand::Use(a), Operand::Imm(i), ..] => {
-            with_number(op, *rd, *a, i.cast_unsigned())
-        }
+        [Operand::Def(rd), Operand::Use(a), Operand::Imm(i), ..] => { with_number(op, *rd, *a, *i) }
         _ => unreachable!(),
     }
 }
 
 /// `ADDI rd, x0, n` sets n, and `ADDI rd, rs, 0` is a copy.
-fn with_number(op: Op, rd: Reg, a: Reg, n: u64) -> Decoded
-    ensures { brief (immediate_row op rd a n) ≡ Some result }
+fn with_number(op: Op, rd: Reg, a: Reg, i: i64) -> Decoded
+    ensures { Shows result (immediate_row op rd a (word i)) }
 {
     match op {
-        Op::Addi => add_number(rd, a, n),
-        _ => Decoded::Sets(rd, register_form(op), a, Input::Number(n)),
+        Op::Addi => add_number(rd, a, i.cast_unsigned()),
+        _ => Decoded::Sets(rd, register_form(op), a, Input::Number(i.cast_unsigned())),
     }
 }
 
 fn add_number(rd: Reg, a: Reg, n: u64) -> Decoded
-    ensures { brief (immediate_row Op.Addi rd a n) ≡ Some result }
+    ensures { Shows result (immediate_row Op.Addi rd a n) }
 {
     if a.number() == 0 {
         Decoded::Fixes(rd, n)
@@ -146,7 +144,7 @@ pub fn register_form(op: Op) -> Op
 
 fn of_upper(op: Op, operands: &[Operand]) -> Decoded
     requires { IsTrue (fits Form.Upper operands.now) }
-    ensures { brief (row_by Form.Upper op operands.now) ≡ Some result }
+    ensures { Shows result (row_by Form.Upper op operands.now) }
 {
     match operands {
         [Operand::Def(rd), Operand::Imm(i), ..] => {
@@ -158,7 +156,7 @@ fn of_upper(op: Op, operands: &[Operand]) -> Decoded
 
 fn of_load(op: Op, width: Width, operands: &[Operand]) -> Decoded
     requires { IsTrue (fits (Form.Load width) operands.now) }
-    ensures { brief (row_by (Form.Load width) op operands.now) ≡ Some result }
+    ensures { Shows result (row_by (Form.Load width) op operands.now) }
 {
     match operands {
         [Operand::Def(rd), Operand::Use(base), Operand::Imm(i), ..] => {
@@ -171,7 +169,7 @@ fn of_load(op: Op, width: Width, operands: &[Operand]) -> Decoded
 
 fn of_store(op: Op, width: Width, operands: &[Operand]) -> Decoded
     requires { IsTrue (fits (Form.Store width) operands.now) }
-    ensures { brief (row_by (Form.Store width) op operands.now) ≡ Some result }
+    ensures { Shows result (row_by (Form.Store width) op operands.now) }
 {
     match operands {
         [Operand::Use(rs), Operand::Use(base), Operand::Imm(i), ..] => {
@@ -184,7 +182,7 @@ fn of_store(op: Op, width: Width, operands: &[Operand]) -> Decoded
 
 fn of_branch(op: Op, operands: &[Operand]) -> Decoded
     requires { IsTrue (fits Form.Branch operands.now) }
-    ensures { brief (row_by Form.Branch op operands.now) ≡ Some result }
+    ensures { Shows result (row_by Form.Branch op operands.now) }
 {
     match operands {
         [Operand::Use(a), Operand::Use(b), Operand::Block(target), ..] => {
@@ -196,7 +194,7 @@ fn of_branch(op: Op, operands: &[Operand]) -> Decoded
 
 fn of_move(op: Op, operands: &[Operand]) -> Decoded
     requires { IsTrue (fits Form.Move operands.now) }
-    ensures { brief (row_by Form.Move op operands.now) ≡ Some result }
+    ensures { Shows result (row_by Form.Move op operands.now) }
 {
     match operands {
         [Operand::Def(rd), Operand::Use(rs), ..] => of_copy(*rd, *rs),
@@ -206,7 +204,7 @@ fn of_move(op: Op, operands: &[Operand]) -> Decoded
 
 /// A copy from x0 sets 0.
 fn of_copy(rd: Reg, rs: Reg) -> Decoded
-    ensures { brief (move_row rd rs) ≡ Some result }
+    ensures { Shows result (move_row rd rs) }
 {
     if rs.number() == 0 {
         Decoded::Fixes(rd, 0)
@@ -217,7 +215,7 @@ fn of_copy(rd: Reg, rs: Reg) -> Decoded
 
 fn of_jump(op: Op, operands: &[Operand]) -> Decoded
     requires { IsTrue (fits Form.Jump operands.now) }
-    ensures { brief (row_by Form.Jump op operands.now) ≡ Some result }
+    ensures { Shows result (row_by Form.Jump op operands.now) }
 {
     match operands {
         [Operand::Block(target), ..] => Decoded::Jumps(*target),
@@ -227,7 +225,7 @@ fn of_jump(op: Op, operands: &[Operand]) -> Decoded
 
 fn of_call(op: Op, operands: &[Operand]) -> Decoded
     requires { IsTrue (fits Form.Call operands.now) }
-    ensures { brief (row_by Form.Call op operands.now) ≡ Some result }
+    ensures { Shows result (row_by Form.Call op operands.now) }
 {
     match operands {
         [Operand::Symbol(_), Operand::Mask, ..] => Decoded::Calls,

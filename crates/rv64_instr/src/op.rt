@@ -1,7 +1,5 @@
 ghost use Rattle.std.specs.Prelude.{◌≡◌, Some, IfSome};
-ghost use Rattle.std.specs.List.{find};
-ghost use Rattle.std.specs.Str.{bytes_eq};
-ghost use Rattle.rv64_instr.specs.Mnemonic.{mnemonic_of};
+ghost use Rattle.rv64_instr.specs.Mnemonic.{mnemonic_of, Names};
 
 /// An opcode of machine code: the operations of RV64I that code may have, and LLVM's four pseudo operations.
 #[derive(Clone, Copy, Debug, PartialEq, Eq)]
@@ -57,60 +55,6 @@ pub enum Op {
     PseudoCall,
     PseudoRet,
 }
-
-/// Every opcode, in the order of their declaration.
-pub const OPS: [Op; 50] = [
-    Op::Lui,
-    Op::Beq,
-    Op::Bne,
-    Op::Blt,
-    Op::Bge,
-    Op::Bltu,
-    Op::Bgeu,
-    Op::Lb,
-    Op::Lh,
-    Op::Lw,
-    Op::Ld,
-    Op::Lbu,
-    Op::Lhu,
-    Op::Lwu,
-    Op::Sb,
-    Op::Sh,
-    Op::Sw,
-    Op::Sd,
-    Op::Addi,
-    Op::Slti,
-    Op::Sltiu,
-    Op::Xori,
-    Op::Ori,
-    Op::Andi,
-    Op::Slli,
-    Op::Srli,
-    Op::Srai,
-    Op::Add,
-    Op::Sub,
-    Op::Sll,
-    Op::Slt,
-    Op::Sltu,
-    Op::Xor,
-    Op::Srl,
-    Op::Sra,
-    Op::Or,
-    Op::And,
-    Op::Addiw,
-    Op::Slliw,
-    Op::Srliw,
-    Op::Sraiw,
-    Op::Addw,
-    Op::Subw,
-    Op::Sllw,
-    Op::Srlw,
-    Op::Sraw,
-    Op::Copy,
-    Op::PseudoBr,
-    Op::PseudoCall,
-    Op::PseudoRet,
-];
 
 impl Op {
     /// The opcode's name in MIR.
@@ -176,14 +120,65 @@ impl Op {
         ensures found { IfSome result (λ op. text.now ≡ mnemonic_of op) }
         ensures only { (op : Op) → text.now ≡ mnemonic_of op → result ≡ Some op }
     {
-        find_named(text)
+        named(text)
     }
 }
 
-fn find_named(text: &[u8]) -> Option<Op>
-    ensures { result ≡ find (λ op. bytes_eq (mnemonic_of op) text.now) OPS }
+/// The opcode of a name in MIR.
+fn named(text: &[u8]) -> Option<Op>
+    ensures { Names text.now result }
 {
-    OPS.iter()
-        .copied()
-        .find(|op| op.mnemonic().as_bytes() == text)
+    match text {
+        b"LUI" => Some(Op::Lui),
+        b"BEQ" => Some(Op::Beq),
+        b"BNE" => Some(Op::Bne),
+        b"BLT" => Some(Op::Blt),
+        b"BGE" => Some(Op::Bge),
+        b"BLTU" => Some(Op::Bltu),
+        b"BGEU" => Some(Op::Bgeu),
+        b"LB" => Some(Op::Lb),
+        b"LH" => Some(Op::Lh),
+        b"LW" => Some(Op::Lw),
+        b"LD" => Some(Op::Ld),
+        b"LBU" => Some(Op::Lbu),
+        b"LHU" => Some(Op::Lhu),
+        b"LWU" => Some(Op::Lwu),
+        b"SB" => Some(Op::Sb),
+        b"SH" => Some(Op::Sh),
+        b"SW" => Some(Op::Sw),
+        b"SD" => Some(Op::Sd),
+        b"ADDI" => Some(Op::Addi),
+        b"SLTI" => Some(Op::Slti),
+        b"SLTIU" => Some(Op::Sltiu),
+        b"XORI" => Some(Op::Xori),
+        b"ORI" => Some(Op::Ori),
+        b"ANDI" => Some(Op::Andi),
+        b"SLLI" => Some(Op::Slli),
+        b"SRLI" => Some(Op::Srli),
+        b"SRAI" => Some(Op::Srai),
+        b"ADD" => Some(Op::Add),
+        b"SUB" => Some(Op::Sub),
+        b"SLL" => Some(Op::Sll),
+        b"SLT" => Some(Op::Slt),
+        b"SLTU" => Some(Op::Sltu),
+        b"XOR" => Some(Op::Xor),
+        b"SRL" => Some(Op::Srl),
+        b"SRA" => Some(Op::Sra),
+        b"OR" => Some(Op::Or),
+        b"AND" => Some(Op::And),
+        b"ADDIW" => Some(Op::Addiw),
+        b"SLLIW" => Some(Op::Slliw),
+        b"SRLIW" => Some(Op::Srliw),
+        b"SRAIW" => Some(Op::Sraiw),
+        b"ADDW" => Some(Op::Addw),
+        b"SUBW" => Some(Op::Subw),
+        b"SLLW" => Some(Op::Sllw),
+        b"SRLW" => Some(Op::Srlw),
+        b"SRAW" => Some(Op::Sraw),
+        b"COPY" => Some(Op::Copy),
+        b"PseudoBR" => Some(Op::PseudoBr),
+        b"PseudoCALL" => Some(Op::PseudoCall),
+        b"PseudoRET" => Some(Op::PseudoRet),
+        _ => None,
+    }
 }

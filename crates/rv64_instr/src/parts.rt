@@ -25,7 +25,8 @@ pub struct Effect {
     pub moved_from: Option<Place>,
     /// The number that a constant definition sets, also one of x0.
     pub constant: Option<i64>,
-    /// It does nothing beside setting `def`: it is no store to memory, branch, call or return.
+    /// It is no store to memory, branch, call or return. Where it goes on, at most `def` is set; a load may stop on a
+    /// frame fault instead.
     pub pure: bool,
     /// It is a call, which sets the caller-saved registers.
     pub call: bool,
@@ -184,7 +185,7 @@ impl Decoded {
         }
     }
 
-    /// Whether it does nothing beside setting one place: it is no store to memory, branch, call or return.
+    /// Whether it is no store to memory, branch, call or return.
     fn is_pure(&self) -> bool
         ensures { (row : Row) → Shows self.now row → result ≡ is_pure row }
     {

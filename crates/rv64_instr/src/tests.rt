@@ -69,3 +69,14 @@ fn a_call(rt: HostRuntime) -> Result<(), Fail> {
     assert!(rt; !call.defines(Place::Register(register(8)?)));
     Ok(())
 }
+
+#[test]
+fn copies(rt: HostRuntime) -> Result<(), Fail> {
+    let call = call_with(rt.alloc(), register(10)?)?;
+    let copied = call.copy()?;
+    assert!(rt; copied.effect().call);
+    assert!(rt; copied.uses(Place::Register(register(10)?)));
+    let operands = call.operands.copy()?;
+    assert_eq!(rt; operands.as_slice().len(), 3);
+    Ok(())
+}

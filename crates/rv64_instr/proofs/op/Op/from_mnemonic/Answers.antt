@@ -1,24 +1,20 @@
-use Rattle.std.proofs.Common.{◌≡◌, ℕ, Bool, true, false, cond, List, [], ◌∷◌, Some, refl, sym}
+use Rattle.std.proofs.Common.{◌≡◌, ℕ, List, Option, Some, None, sym, ap, ◌∙◌}
 use Rattle.std.specs.Prelude.{IfSome}
-use Rattle.std.specs.List.{find}
-use Rattle.std.specs.Str.{bytes_eq}
-use Rattle.std.proofs.lemmas.Slice.Eq.{bytes_eq-Decides}
 use Rattle.rv64_instr.specs.declared.op.Op.{Op}
-use Rattle.rv64_instr.specs.declared.op.TheConstants.{OPS}
-use Rattle.rv64_instr.specs.Mnemonic.{mnemonic_of}
+use Rattle.rv64_instr.specs.Mnemonic.{mnemonic_of, Names}
+use Rattle.rv64_instr.proofs.Names.{mnemonic_of-injective}
 use Rattle.rv64_instr.proofs.op.Op.from_mnemonic.Goals as goal
 
--- what is found among opcodes has the name
-abbrev IsNamed : List ℕ → Op → Type 0
-IsNamed text op = text ≡ mnemonic_of op
+named_so : (text : List ℕ) (o : Option Op) → Names text o → IfSome o (λ op. text ≡ mnemonic_of op)
+named_so text None h = tt
+named_so text (Some op) h = h
 
-found_here : (text : List ℕ) (op : Op) (ops : List Op) (b : Bool) → bytes_eq (mnemonic_of op) text ≡ b → IfSome (find (λ o. bytes_eq (mnemonic_of o) text) ops) (IsNamed text) → IfSome (cond b (Some op) (find (λ o. bytes_eq (mnemonic_of o) text) ops)) (IsNamed text)
-found_here text op ops true e later = sym ((bytes_eq-Decides (mnemonic_of op) text).0 e)
-found_here text op ops false e later = later
-
-found_named : (text : List ℕ) (ops : List Op) → IfSome (find (λ o. bytes_eq (mnemonic_of o) text) ops) (IsNamed text)
-found_named text [] = tt
-found_named text (op ∷ ops) = found_here text op ops (bytes_eq (mnemonic_of op) text) refl (found_named text ops)
+no_other : (text : List ℕ) (o : Option Op) → Names text o → (op : Op) → text ≡ mnemonic_of op → o ≡ Some op
+no_other text None h op e = absurd (h op e)
+no_other text (Some a) h op e = ap (λ (x : Op). Some x) (mnemonic_of-injective a op (sym h ∙ e))
 
 pub returns-clause-found : goal.returns-clause-found
-returns-clause-found c = rw c.find_named.ensures (found_named c.args.text.now OPS)
+returns-clause-found c = named_so c.args.text.now c.named.result c.named.ensures
+
+pub returns-clause-only : goal.returns-clause-only
+returns-clause-only c = no_other c.args.text.now c.named.result c.named.ensures
