@@ -1,6 +1,8 @@
--- The word of a machine operation is decoded to it.
-use Rattle.std.proofs.Common.{◌≡◌, ℕ, ◌/◌, ◌%◌, IsTrue, Some, ap, ◌∙◌}
-use Rattle.rv64_word.specs.declared.format.Field.TheVariants.{Rd, Rs1, Rs2, Imm}
+-- The word of a machine operation is decoded to it, and what is decoded has the word.
+use Rattle.std.proofs.Common.{◌≡◌, ℕ, ◌/◌, ◌%◌, ◌^◌, ◌<◌, Option, IsTrue, Some, None, refl, ap, ◌∙◌, arith}
+use Rattle.std.specs.Prelude.{IfSome}
+use Rattle.std.specs.Option.{option_map}
+use Rattle.rv64_word.specs.declared.format.Field.TheVariants.{Opcode, Rd, Funct3, Rs1, Rs2, Funct7, Imm}
 use Rattle.rv64_word.specs.declared.format.Format.{Format}
 use Rattle.rv64_word.specs.declared.format.Format.TheVariants.{Register, Immediate, Shift, WordShift, Store, Branch, Upper, Jump}
 use Rattle.rv64_word.specs.declared.machine_op.MachineOp.{MachineOp}
@@ -8,8 +10,16 @@ use Rattle.rv64_word.specs.Format.{slices_of, shown, number_of}
 use Rattle.rv64_word.specs.Operation.{encoding_of}
 use Rattle.rv64_word.specs.Listing.{operation_of}
 use Rattle.rv64_word.specs.MachineOp.{value_of, word_of, is_encodable, read_as}
-use Rattle.rv64_word.proofs.Reading.{shown-fold, fields_back, CodesOf, codes}
+use Rattle.rv64_word.specs.Decoded.{code, decoded}
+use Rattle.rv64_word.specs.declared.word_op.WordOp.{WordOp}
+use Rattle.rv64_word.proofs.Reading.{shown-fold, fields_back, CodesOf, codes, spelled_below}
 use Rattle.rv64_word.proofs.Operations.{Matches, listed}
+use Rattle.rv64_word.proofs.Codes.{HasCodes, operation_codes}
+use Rattle.rv64_word.proofs.Spelling.{read_fits}
+
+word_below : (m : MachineOp) (w : ℕ) → word_of m ≡ w → w < 2 ^ 32
+unfolding word_of
+word_below m w e = rw e at (spelled_below (encoding_of m.op).format (value_of m))
 
 read_own : (m : MachineOp) → IsTrue (is_encodable m) → read_as m.op (word_of m) ≡ m
 unfolding word_of
@@ -47,3 +57,34 @@ operation_own m =
 -- the operation that a word's opcode, funct3 and funct7 name
 pub operation_at : (m : MachineOp) (w : ℕ) → word_of m ≡ w → operation_of (w % 128) (w / 4096 % 8) (w / 33554432) ≡ Some m.op
 operation_at m w e = rw e at (operation_own m)
+
+code_opcode : (w : ℕ) → code Opcode w ≡ w % 128
+code_opcode w = omega arith
+
+code_funct3 : (w : ℕ) → code Funct3 w ≡ w / 4096 % 8
+code_funct3 w = omega arith
+
+code_funct7 : (w : ℕ) → w < 2 ^ 32 → code Funct7 w ≡ w / 33554432
+code_funct7 w low = omega arith
+
+-- the codes of a word below 2^32 are its low seven bits, the bits 14 to 12, and the high seven bits
+pub decoded_by : (w : ℕ) → w < 2 ^ 32 → decoded w ≡ option_map (λ op. read_as op w) (operation_of (w % 128) (w / 4096 % 8) (w / 33554432))
+unfolding decoded
+decoded_by w low = rw (code_opcode w, code_funct3 w, code_funct7 w low) refl
+
+pub is_decoded : (m : MachineOp) (w : ℕ) → IsTrue (is_encodable m) → word_of m ≡ w → decoded w ≡ Some m
+is_decoded m w fits e =
+    decoded_by w (word_below m w e) ∙ ap (option_map (λ op. read_as op w)) (operation_at m w e) ∙ ap (λ (x : MachineOp). Some x) (read_at m fits w e)
+
+-- the operation has its fields in range, and the word
+abbrev pub IsOf : ℕ → MachineOp → Type 0
+IsOf w m = IsTrue (is_encodable m) × (word_of m ≡ w)
+
+read_back : (w : ℕ) → w < 2 ^ 32 → (o : Option WordOp) → IfSome o (HasCodes (w % 128) (w / 4096 % 8) (w / 33554432)) → IfSome (option_map (λ op. read_as op w) o) (IsOf w)
+unfolding word_of
+read_back w low None h = tt
+read_back w low (Some op) h = read_fits (encoding_of op).format op w low h
+
+pub decoded_back : (w : ℕ) → w < 2 ^ 32 → IfSome (decoded w) (IsOf w)
+decoded_back w low =
+    rw (decoded_by w low) (read_back w low (operation_of (w % 128) (w / 4096 % 8) (w / 33554432)) (operation_codes (w % 128) (w / 4096 % 8) (w / 33554432)))

@@ -1,10 +1,10 @@
 -- What was spelled is read back.
-use Rattle.std.proofs.Common.{◌≡◌, ℕ, ◌+◌, ◌-◌, ◌*◌, ◌/◌, ◌^◌, ◌%◌, ◌<◌, ◌≤◌, suc, ℤ, ◌-ℤ◌, pos, negsuc, Bool, true, false, ◌&&◌, cond, List, [], ◌∷◌, ◌++◌, IsTrue, ltb, refl, ap, ◌∙◌, arith, zero-add}
+use Rattle.std.proofs.Common.{◌≡◌, ℕ, ◌+◌, ◌-◌, ◌*◌, ◌/◌, ◌^◌, ◌%◌, ◌<◌, ◌≤◌, suc, ℤ, ◌-ℤ◌, pos, negsuc, true, false, cond, List, [], ◌∷◌, ◌++◌, IsTrue, ltb, leb, refl, sym, ap, ◌∙◌, arith, zero-add}
 use Rattle.std.specs.Prelude.{fold}
 use Rattle.std.proofs.lemmas.Nat.{pow-add, shr_high, mod_low}
 use Rattle.std.proofs.lemmas.Int.{ints}
 use Rattle.std.proofs.lemmas.List.Sums.{sum_by-cons, fold-append}
-use Rattle.std.proofs.lemmas.Bool.{lt-ltb, le-ltb}
+use Rattle.std.proofs.lemmas.Bool.{lt-ltb, le-ltb, leb-true, eqb-true}
 use Rattle.std.proofs.lemmas.Bool.Decides.{nat_tests}
 use Rattle.rv64_instr.specs.Arithmetic.{word}
 use Rattle.rv64_instr.specs.Form.{is_within}
@@ -16,13 +16,14 @@ use Rattle.rv64_word.specs.declared.format.Format.TheVariants.{Register, Immedia
 use Rattle.rv64_word.specs.declared.machine_op.MachineOp.{MachineOp}
 use Rattle.rv64_word.specs.Format.{bits, slices_of, bits_of, spelled, width_of, same_field, shown, sign_extended, number_of}
 use Rattle.rv64_word.specs.MachineOp.{value_of, fits, is_even}
+use Rattle.rv64_word.proofs.Fitting.{right, Fits, fitting}
 use Rattle.rv64_word.proofs.Slices.{joined, fold_below, bits_below, width_is}
 
 moved_up : (a b p q f : ℕ) → (a * p + b) * q + f ≡ a * (p * q) + ((0 * p + b) * q + f)
 moved_up a b p q f = omega arith
 
 -- slices behind a number move it up by their bits
-fold_shift : (v : Field → ℕ) (slices : List Slice) (a : ℕ) → fold (joined v) a slices ≡ a * 2 ^ width_of slices + fold (joined v) 0 slices
+pub fold_shift : (v : Field → ℕ) (slices : List Slice) (a : ℕ) → fold (joined v) a slices ≡ a * 2 ^ width_of slices + fold (joined v) 0 slices
 fold_shift v [] a = omega arith
 fold_shift v (s ∷ rest) a =
     let b = bits_of s (v s.field) in
@@ -46,7 +47,7 @@ pub shown-fold : (v : Field → ℕ) (slices : List Slice) (before : ℕ) (field
 shown-fold v [] before field = refl
 shown-fold v (s ∷ rest) before field = rw (at_slice v before s rest, shown-fold v rest (joined v before s) field) refl
 
-below_zero : (m full n : ℕ) → m + suc n ≡ full → pos m -ℤ pos full ≡ negsuc n
+pub below_zero : (m full n : ℕ) → m + suc n ≡ full → pos m -ℤ pos full ≡ negsuc n
 below_zero m full n e = omega (arith, ints)
 
 pub back12 : (i : ℤ) → IsTrue (is_within (negsuc 2047) (pos 2047) i) → sign_extended 12 (word i % 4096) ≡ i
@@ -97,51 +98,48 @@ pub record Back (format : Format) (m : MachineOp) : Type 0 where
 -- a number that is not negative stands for itself
 unsigned : (high : ℕ) (i : ℤ) → high < 2 ^ 64 → IsTrue (is_within (pos 0) (pos high) i) → (word i ≤ high) × (pos (word i) ≡ i)
 unsigned high (pos n) wide h =
-    let small : n ≤ high = grind (arith, nat_tests) in
+    let small : n ≤ high = leb-true n high (right (leb 0 n) (leb n high) h) in
     let e : word (pos n) ≡ n = omega arith in
     (omega arith, ap pos e)
 unsigned high (negsuc n) wide h = let f : ⊥ = cc in absurd f
 
-left : (a b : Bool) → IsTrue (a && b) → IsTrue a
-left true b h = refl
-left false b h = h
-
-right : (a b : Bool) → IsTrue (a && b) → IsTrue b
-right true b h = h
-right false b h = cc
-
 even : (i : ℤ) → IsTrue (is_even i) → word i % 2 ≡ 0
-even i h = grind (arith, nat_tests)
+even i h = eqb-true (word i % 2) 0 h
+
+fitting_back : (format : Format) (m : MachineOp) → Fits format m → Back format m
+fitting_back Register m (rd, rs1, rs2, range) =
+    let k : (word m.imm ≤ 0) × (pos (word m.imm) ≡ m.imm) = unsigned 0 m.imm (omega arith) range in
+    let e : 0 ≡ word m.imm = omega (arith, k.0) in
+    record { rd = omega (arith, rd); rs1 = omega (arith, rs1); rs2 = omega (arith, rs2); imm = ap pos e ∙ k.1 }
+fitting_back Immediate m (rd, rs1, rs2, range) =
+    let e : collected (slices_of Immediate) Imm (value_of m) ≡ word m.imm % 4096 = omega arith in
+    record { rd = omega (arith, rd); rs1 = omega (arith, rs1); rs2 = sym rs2; imm = ap (sign_extended 12) e ∙ back12 m.imm range }
+fitting_back Shift m (rd, rs1, rs2, range) =
+    let k : (word m.imm ≤ 63) × (pos (word m.imm) ≡ m.imm) = unsigned 63 m.imm (omega arith) range in
+    let e : collected (slices_of Shift) Imm (value_of m) ≡ word m.imm = omega (arith, k.0) in
+    record { rd = omega (arith, rd); rs1 = omega (arith, rs1); rs2 = sym rs2; imm = ap pos e ∙ k.1 }
+fitting_back WordShift m (rd, rs1, rs2, range) =
+    let k : (word m.imm ≤ 31) × (pos (word m.imm) ≡ m.imm) = unsigned 31 m.imm (omega arith) range in
+    let e : collected (slices_of WordShift) Imm (value_of m) ≡ word m.imm = omega (arith, k.0) in
+    record { rd = omega (arith, rd); rs1 = omega (arith, rs1); rs2 = sym rs2; imm = ap pos e ∙ k.1 }
+fitting_back Store m (rd, rs1, rs2, range) =
+    let e : collected (slices_of Store) Imm (value_of m) ≡ word m.imm % 4096 = omega arith in
+    record { rd = sym rd; rs1 = omega (arith, rs1); rs2 = omega (arith, rs2); imm = ap (sign_extended 12) e ∙ back12 m.imm range }
+fitting_back Branch m (rd, rs1, rs2, range, last) =
+    let zero_bit : word m.imm % 2 ≡ 0 = even m.imm last in
+    let e : collected (slices_of Branch) Imm (value_of m) ≡ word m.imm % 8192 = omega (arith, zero_bit) in
+    record { rd = sym rd; rs1 = omega (arith, rs1); rs2 = omega (arith, rs2); imm = ap (sign_extended 13) e ∙ back13 m.imm range }
+fitting_back Upper m (rd, rs1, rs2, range) =
+    let k : (word m.imm ≤ 1048575) × (pos (word m.imm) ≡ m.imm) = unsigned 1048575 m.imm (omega arith) range in
+    let e : collected (slices_of Upper) Imm (value_of m) ≡ word m.imm = omega (arith, k.0) in
+    record { rd = omega (arith, rd); rs1 = sym rs1; rs2 = sym rs2; imm = ap pos e ∙ k.1 }
+fitting_back Jump m (rd, rs1, rs2, range, last) =
+    let zero_bit : word m.imm % 2 ≡ 0 = even m.imm last in
+    let e : collected (slices_of Jump) Imm (value_of m) ≡ word m.imm % 2097152 = omega (arith, zero_bit) in
+    record { rd = omega (arith, rd); rs1 = sym rs1; rs2 = sym rs2; imm = ap (sign_extended 21) e ∙ back21 m.imm range }
 
 pub fields_back : (format : Format) (m : MachineOp) → IsTrue (fits format m) → Back format m
-fields_back Register m h =
-    let k : (word m.imm ≤ 0) × (pos (word m.imm) ≡ m.imm) = unsigned 0 m.imm (omega arith) (right _ _ h) in
-    let e : 0 ≡ word m.imm = omega (arith, k.0) in
-    record { rd = grind (arith, nat_tests); rs1 = grind (arith, nat_tests); rs2 = grind (arith, nat_tests); imm = ap pos e ∙ k.1 }
-fields_back Immediate m h =
-    let e : collected (slices_of Immediate) Imm (value_of m) ≡ word m.imm % 4096 = omega arith in
-    record { rd = grind (arith, nat_tests); rs1 = grind (arith, nat_tests); rs2 = grind (arith, nat_tests); imm = ap (sign_extended 12) e ∙ back12 m.imm (right _ _ h) }
-fields_back Shift m h =
-    let k : (word m.imm ≤ 63) × (pos (word m.imm) ≡ m.imm) = unsigned 63 m.imm (omega arith) (right _ _ h) in
-    let e : collected (slices_of Shift) Imm (value_of m) ≡ word m.imm = omega (arith, k.0) in
-    record { rd = grind (arith, nat_tests); rs1 = grind (arith, nat_tests); rs2 = grind (arith, nat_tests); imm = ap pos e ∙ k.1 }
-fields_back WordShift m h =
-    let k : (word m.imm ≤ 31) × (pos (word m.imm) ≡ m.imm) = unsigned 31 m.imm (omega arith) (right _ _ h) in
-    let e : collected (slices_of WordShift) Imm (value_of m) ≡ word m.imm = omega (arith, k.0) in
-    record { rd = grind (arith, nat_tests); rs1 = grind (arith, nat_tests); rs2 = grind (arith, nat_tests); imm = ap pos e ∙ k.1 }
-fields_back Store m h =
-    let e : collected (slices_of Store) Imm (value_of m) ≡ word m.imm % 4096 = omega arith in
-    record { rd = grind (arith, nat_tests); rs1 = grind (arith, nat_tests); rs2 = grind (arith, nat_tests); imm = ap (sign_extended 12) e ∙ back12 m.imm (right _ _ h) }
-fields_back Branch m h =
-    let e : collected (slices_of Branch) Imm (value_of m) ≡ word m.imm % 8192 = omega (arith, even m.imm (right _ _ h)) in
-    record { rd = grind (arith, nat_tests); rs1 = grind (arith, nat_tests); rs2 = grind (arith, nat_tests); imm = ap (sign_extended 13) e ∙ back13 m.imm (right _ _ (left _ _ h)) }
-fields_back Upper m h =
-    let k : (word m.imm ≤ 1048575) × (pos (word m.imm) ≡ m.imm) = unsigned 1048575 m.imm (omega arith) (right _ _ h) in
-    let e : collected (slices_of Upper) Imm (value_of m) ≡ word m.imm = omega (arith, k.0) in
-    record { rd = grind (arith, nat_tests); rs1 = grind (arith, nat_tests); rs2 = grind (arith, nat_tests); imm = ap pos e ∙ k.1 }
-fields_back Jump m h =
-    let e : collected (slices_of Jump) Imm (value_of m) ≡ word m.imm % 2097152 = omega (arith, even m.imm (right _ _ h)) in
-    record { rd = grind (arith, nat_tests); rs1 = grind (arith, nat_tests); rs2 = grind (arith, nat_tests); imm = ap (sign_extended 21) e ∙ back21 m.imm (right _ _ (left _ _ h)) }
+fields_back format m h = fitting_back format m (fitting format m h)
 
 -- what a word that was spelled has of opcode, funct3 and funct7
 abbrev pub CodesOf : Format → (Field → ℕ) → ℕ → Type 0

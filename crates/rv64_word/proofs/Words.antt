@@ -1,6 +1,7 @@
 -- The word of an instruction does what the instruction does.
 use Rattle.std.proofs.Common.{◌≡◌, ℕ, zero, suc, ℤ, pos, Bool, true, false, cond, List, ◌∷◌, Option, Some, None, refl, sym, ◌∙◌, subst}
 use Rattle.std.specs.Prelude.{IfSome, IsTrue, option_and_then}
+use Rattle.std.specs.Option.{option_map}
 use Rattle.rv64_instr.specs.Instruction.{Instruction}
 use Rattle.rv64_instr.specs.declared.op.Op.{Op}
 use Rattle.rv64_instr.specs.declared.op.Op.TheVariants as op
@@ -12,6 +13,7 @@ use Rattle.rv64_instr.specs.Arithmetic.{word}
 use Rattle.rv64_instr.specs.Form.{form_of}
 use Rattle.rv64_instr.specs.Row.{row_of, row_by, immediate_row, move_row}
 use Rattle.rv64_word.specs.declared.machine_op.MachineOp.{MachineOp}
+use Rattle.rv64_word.specs.declared.word_op.WordOp.{WordOp}
 use Rattle.rv64_word.specs.declared.word_op.WordOp.TheVariants.{Addi}
 use Rattle.rv64_word.specs.MachineOp.{is_encodable}
 use Rattle.rv64_word.specs.MachineRow.{MachineRow, Does, machine_row, row_as, row_in, placed, at_offset}
@@ -39,13 +41,17 @@ fits_at m false e = tt
 in_range_fits : (m : MachineOp) → IfSome (in_range m) (λ x. IsTrue (is_encodable x))
 in_range_fits m = fits_at m (is_encodable m) refl
 
+-- a word of the operation has the row by the form and the opcode
+abbrev RowsAs : Form → Op → WordOp → Type 0
+RowsAs f o w = (address : ℕ) (m : MachineOp) → row_as w address m ≡ Does (row_in f o address m)
+
 -- an opcode whose word's row is by the same form and opcode
 abbrev Regular : Form → Op → Type 0
 Regular Move o = Unit {0}
 Regular Jump o = Unit {0}
 Regular Call o = Unit {0}
 Regular Return o = Unit {0}
-Regular f o = (address : ℕ) (m : MachineOp) → row_as (word_op_of o) address m ≡ Does (row_in f o address m)
+Regular f o = IfSome (word_op_of o) (RowsAs f o)
 
 regular : (o : Op) → Regular (form_of o) o
 regular op.Lui = λ address m. refl
@@ -111,15 +117,19 @@ copied rd (suc rs) address target = refl
 at_same : (address : ℕ) (row : MachineRow) (m n : MachineOp) → Some m ≡ Some n → machine_row address m ≡ row → machine_row address n ≡ row
 at_same address row m n e h = subst (λ (x : MachineOp). machine_row address x ≡ row) (same m n e) h
 
+by_word : (f : Form) (o : Op) (w : Option WordOp) → IfSome w (RowsAs f o) → (make : WordOp → MachineOp) (address : ℕ) (row : MachineRow) → ((w : WordOp) → RowsAs f o w → machine_row address (make w) ≡ row) → (m : MachineOp) → option_map make w ≡ Some m → machine_row address m ≡ row
+by_word f o None h make address row k m e = absurd (apart m e)
+by_word f o (Some w) h make address row k m e = at_same address row (make w) m e (k w h)
+
 by_form : (f : Form) (o : Op) → Regular f o → (operands : List Operand) (offset : ℤ) (address : ℕ) (m : MachineOp) → fields_of f o operands offset ≡ Some m → machine_row address m ≡ placed (at_offset address offset) (row_by f o operands)
-by_form Registers o h (Def rd ∷ Use a ∷ Use b ∷ rest) offset address m e = at_same address _ _ m e (h address (machine_op (word_op_of o) rd a b (pos 0)))
-by_form (Immediate low high) o h (Def rd ∷ Use a ∷ Imm i ∷ rest) offset address m e = at_same address _ _ m e (h address (machine_op (word_op_of o) rd a 0 i) ∙ sym (placed_immediate o rd a (word i) (at_offset address offset)))
-by_form Upper o h (Def rd ∷ Imm i ∷ rest) offset address m e = at_same address _ _ m e (h address (machine_op (word_op_of o) rd 0 0 i))
-by_form (Load w) o h (Def rd ∷ Use base ∷ Imm i ∷ rest) offset address m e = at_same address _ _ m e (h address (machine_op (word_op_of o) rd base 0 i))
+by_form Registers o h (Def rd ∷ Use a ∷ Use b ∷ rest) offset address m e = by_word Registers o (word_op_of o) h (λ w. machine_op w rd a b (pos 0)) address _ (λ w r. r address (machine_op w rd a b (pos 0))) m e
+by_form (Immediate low high) o h (Def rd ∷ Use a ∷ Imm i ∷ rest) offset address m e = by_word (Immediate low high) o (word_op_of o) h (λ w. machine_op w rd a 0 i) address _ (λ w r. r address (machine_op w rd a 0 i) ∙ sym (placed_immediate o rd a (word i) (at_offset address offset))) m e
+by_form Upper o h (Def rd ∷ Imm i ∷ rest) offset address m e = by_word Upper o (word_op_of o) h (λ w. machine_op w rd 0 0 i) address _ (λ w r. r address (machine_op w rd 0 0 i)) m e
+by_form (Load w) o h (Def rd ∷ Use base ∷ Imm i ∷ rest) offset address m e = by_word (Load w) o (word_op_of o) h (λ w. machine_op w rd base 0 i) address _ (λ w r. r address (machine_op w rd base 0 i)) m e
 by_form (Load w) o h (Def rd ∷ Slot n ∷ rest) offset address m e = at_same address _ _ m e refl
-by_form (Store w) o h (Use rs ∷ Use base ∷ Imm i ∷ rest) offset address m e = at_same address _ _ m e (h address (machine_op (word_op_of o) 0 base rs i))
+by_form (Store w) o h (Use rs ∷ Use base ∷ Imm i ∷ rest) offset address m e = by_word (Store w) o (word_op_of o) h (λ w. machine_op w 0 base rs i) address _ (λ w r. r address (machine_op w 0 base rs i)) m e
 by_form (Store w) o h (Use rs ∷ Slot n ∷ rest) offset address m e = at_same address _ _ m e refl
-by_form Branch o h (Use a ∷ Use b ∷ Block n ∷ rest) offset address m e = at_same address _ _ m e (h address (machine_op (word_op_of o) 0 a b offset))
+by_form Branch o h (Use a ∷ Use b ∷ Block n ∷ rest) offset address m e = by_word Branch o (word_op_of o) h (λ w. machine_op w 0 a b offset) address _ (λ w r. r address (machine_op w 0 a b offset)) m e
 by_form Move o h (Def rd ∷ Use rs ∷ rest) offset address m e = at_same address _ _ m e (copied rd rs address (at_offset address offset))
 by_form Jump o h (Block n ∷ rest) offset address m e = at_same address _ _ m e refl
 by_form Return o h rest offset address m e = at_same address _ _ m e refl

@@ -1,4 +1,5 @@
--- The formats of words (RISC-V Unprivileged ISA, chapters 2.2, 2.3 and 5.2), by one table for both directions.
+-- The formats of words, by one table for both directions (RISC-V Unprivileged ISA, RV32I, "Base Instruction Formats" and
+-- "Immediate Encoding Variants"; RV64I, "Integer Register-Immediate Instructions" for the shifts).
 use Rattle.std.specs.Prelude.{ℕ, suc, ◌+◌, ◌-◌, ◌*◌, ◌/◌, ◌%◌, ◌^◌, ℤ, pos, ◌-ℤ◌, Bool, true, false, cond, if◌then◌else◌, nat_lt, List, [], ◌∷◌, fold, sum_by}
 use Rattle.rv64_word.specs.declared.format.Field.{Field}
 use Rattle.rv64_word.specs.declared.format.Field.TheVariants.{Opcode, Rd, Funct3, Rs1, Rs2, Funct7, Imm}

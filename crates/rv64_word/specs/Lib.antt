@@ -1,6 +1,7 @@
 pub mod Format
 pub mod Operation
 pub mod MachineOp
+pub mod Decoded
 pub mod Listing
 pub mod WordOp
 pub mod MachineRow

@@ -1,5 +1,6 @@
 -- The machine operation of an instruction that has one word.
 use Rattle.std.specs.Prelude.{ℕ, ℤ, pos, List, ◌∷◌, Option, Some, None, if◌then◌else◌, option_and_then}
+use Rattle.std.specs.Option.{option_map}
 use Rattle.rv64_instr.specs.declared.op.Op.{Op}
 use Rattle.rv64_instr.specs.declared.form.Form.{Form}
 use Rattle.rv64_instr.specs.declared.form.Form.TheVariants.{Registers, Immediate, Upper, Load, Store, Branch, Move, Jump, Return}
@@ -19,14 +20,14 @@ machine_op op rd rs1 rs2 imm = record { op = op; rd = rd; rs1 = rs1; rs2 = rs2; 
 -- the fields of operands in a form, where the target has an offset, and a frame slot's number is its offset from x2. A call
 -- has two words, and so none
 abbrev pub fields_of : Form → Op → List Operand → (offset : ℤ) → Option MachineOp
-fields_of Registers op (Def rd ∷ Use a ∷ Use b ∷ rest) offset = Some (machine_op (word_op_of op) rd a b (pos 0))
-fields_of (Immediate low high) op (Def rd ∷ Use a ∷ Imm i ∷ rest) offset = Some (machine_op (word_op_of op) rd a 0 i)
-fields_of Upper op (Def rd ∷ Imm i ∷ rest) offset = Some (machine_op (word_op_of op) rd 0 0 i)
-fields_of (Load w) op (Def rd ∷ Use base ∷ Imm i ∷ rest) offset = Some (machine_op (word_op_of op) rd base 0 i)
+fields_of Registers op (Def rd ∷ Use a ∷ Use b ∷ rest) offset = option_map (λ o. machine_op o rd a b (pos 0)) (word_op_of op)
+fields_of (Immediate low high) op (Def rd ∷ Use a ∷ Imm i ∷ rest) offset = option_map (λ o. machine_op o rd a 0 i) (word_op_of op)
+fields_of Upper op (Def rd ∷ Imm i ∷ rest) offset = option_map (λ o. machine_op o rd 0 0 i) (word_op_of op)
+fields_of (Load w) op (Def rd ∷ Use base ∷ Imm i ∷ rest) offset = option_map (λ o. machine_op o rd base 0 i) (word_op_of op)
 fields_of (Load w) op (Def rd ∷ Slot n ∷ rest) offset = Some (machine_op Ld rd 2 0 (pos n))
-fields_of (Store w) op (Use rs ∷ Use base ∷ Imm i ∷ rest) offset = Some (machine_op (word_op_of op) 0 base rs i)
+fields_of (Store w) op (Use rs ∷ Use base ∷ Imm i ∷ rest) offset = option_map (λ o. machine_op o 0 base rs i) (word_op_of op)
 fields_of (Store w) op (Use rs ∷ Slot n ∷ rest) offset = Some (machine_op Sd 0 2 rs (pos n))
-fields_of Branch op (Use a ∷ Use b ∷ Block n ∷ rest) offset = Some (machine_op (word_op_of op) 0 a b offset)
+fields_of Branch op (Use a ∷ Use b ∷ Block n ∷ rest) offset = option_map (λ o. machine_op o 0 a b offset) (word_op_of op)
 fields_of Move op (Def rd ∷ Use rs ∷ rest) offset = Some (machine_op Addi rd rs 0 (pos 0))
 fields_of Jump op (Block n ∷ rest) offset = Some (machine_op Jal 0 0 0 offset)
 fields_of Return op rest offset = Some (machine_op Jalr 0 1 0 (pos 0))

@@ -1,5 +1,5 @@
 -- What a word does, by the rows of instructions.
-use Rattle.std.specs.Prelude.{ℕ, zero, suc, ◌+◌, ◌%◌, ◌^◌, ℤ, pos, ◌*ℤ◌}
+use Rattle.std.specs.Prelude.{ℕ, zero, suc, ◌+◌, ◌%◌, ◌^◌, ℤ, pos, ◌*ℤ◌, Option, Some, None}
 use Rattle.rv64_instr.specs.declared.op.Op.{Op}
 use Rattle.rv64_instr.specs.declared.op.Op.TheVariants as op
 use Rattle.rv64_instr.specs.declared.form.Form.{Form}
@@ -41,11 +41,16 @@ row_in (form.Store w) op address m = Stores op m.rs2 m.rs1 (word m.imm)
 row_in form.Branch op address m = Branches op m.rs1 m.rs2 (at_offset address m.imm)
 row_in _ op address m = Unfit
 
+-- the row of a word of an operation with an opcode's name
+abbrev pub row_named : Option Op → (address : ℕ) → MachineOp → Row
+row_named (Some op) address m = row_in (form_of op) op address m
+row_named None address m = Unfit
+
 -- the row of a word of an operation
 abbrev pub row_as : WordOp → (address : ℕ) → MachineOp → MachineRow
 row_as Jal address m = link_row m.rd (at_offset address m.imm)
 row_as Jalr address m = LinksTo m.rd m.rs1 (word m.imm)
-row_as operation address m = Does (row_in (form_of (op_of operation)) (op_of operation) address m)
+row_as operation address m = Does (row_named (op_of operation) address m)
 
 -- the row of a word at an address
 abbrev pub machine_row : (address : ℕ) → MachineOp → MachineRow

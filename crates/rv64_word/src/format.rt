@@ -31,7 +31,8 @@ pub struct Slice {
     pub width: u32,
 }
 
-/// A format of words (RISC-V Unprivileged ISA, chapters 2.2 and 2.3), with the shifts by an immediate apart.
+/// A format of words (RISC-V Unprivileged ISA, RV32I, "Base Instruction Formats" and "Immediate Encoding Variants"), with
+/// the shifts by an immediate apart.
 #[derive(Clone, Copy, Debug, PartialEq, Eq)]
 pub enum Format {
     /// The R format.
@@ -177,7 +178,7 @@ impl Format {
 
 impl Slice {
     /// The slice of a field's value, as a number below 2 to the slice's width.
-    pub fn of(self, value: u64) -> u32
+    pub(crate) fn of(self, value: u64) -> u32
         requires low { self.low < 32 }
         requires width { self.width ≤ 20 }
         ensures { result ≡ bits_of self value }
@@ -187,7 +188,7 @@ impl Slice {
     }
 
     /// The part of a field's value that the lowest bits of a number are.
-    pub fn back(self, bits: u32) -> u32
+    fn back(self, bits: u32) -> u32
         requires { self.low + self.width ≤ 21 }
         ensures value { result ≡ bits % 2 ^ self.width * 2 ^ self.low }
         ensures below { result < 2 ^ 21 }

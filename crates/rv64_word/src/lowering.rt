@@ -73,7 +73,7 @@ fn of_registers(op: Op, operands: &[Operand], offset: i64) -> Option<MachineOp>
 {
     match operands {
         [Operand::Def(rd), Operand::Use(a), Operand::Use(b), ..] => {
-            Some(machine_op(WordOp::of(op), rd.number(), a.number(), b.number(), 0))
+            Some(machine_op(WordOp::of(op)?, rd.number(), a.number(), b.number(), 0))
         }
         _ => None,
     }
@@ -84,7 +84,7 @@ fn of_immediate(op: Op, low: i64, high: i64, operands: &[Operand], offset: i64) 
 {
     match operands {
         [Operand::Def(rd), Operand::Use(a), Operand::Imm(i), ..] => {
-            Some(machine_op(WordOp::of(op), rd.number(), a.number(), 0, *i))
+            Some(machine_op(WordOp::of(op)?, rd.number(), a.number(), 0, *i))
         }
         _ => None,
     }
@@ -95,7 +95,7 @@ fn of_upper(op: Op, operands: &[Operand], offset: i64) -> Option<MachineOp>
 {
     match operands {
         [Operand::Def(rd), Operand::Imm(i), ..] => {
-            Some(machine_op(WordOp::of(op), rd.number(), 0, 0, *i))
+            Some(machine_op(WordOp::of(op)?, rd.number(), 0, 0, *i))
         }
         _ => None,
     }
@@ -106,7 +106,7 @@ fn of_load(op: Op, width: Width, operands: &[Operand], offset: i64) -> Option<Ma
 {
     match operands {
         [Operand::Def(rd), Operand::Use(base), Operand::Imm(i), ..] => {
-            Some(machine_op(WordOp::of(op), rd.number(), base.number(), 0, *i))
+            Some(machine_op(WordOp::of(op)?, rd.number(), base.number(), 0, *i))
         }
         [Operand::Def(rd), Operand::Slot(n), ..] => {
             Some(machine_op(WordOp::Ld, rd.number(), 2, 0, i64::from(*n)))
@@ -120,7 +120,7 @@ fn of_store(op: Op, width: Width, operands: &[Operand], offset: i64) -> Option<M
 {
     match operands {
         [Operand::Use(rs), Operand::Use(base), Operand::Imm(i), ..] => {
-            Some(machine_op(WordOp::of(op), 0, base.number(), rs.number(), *i))
+            Some(machine_op(WordOp::of(op)?, 0, base.number(), rs.number(), *i))
         }
         [Operand::Use(rs), Operand::Slot(n), ..] => {
             Some(machine_op(WordOp::Sd, 0, 2, rs.number(), i64::from(*n)))
@@ -134,7 +134,7 @@ fn of_branch(op: Op, operands: &[Operand], offset: i64) -> Option<MachineOp>
 {
     match operands {
         [Operand::Use(a), Operand::Use(b), Operand::Block(_), ..] => {
-            Some(machine_op(WordOp::of(op), 0, a.number(), b.number(), offset))
+            Some(machine_op(WordOp::of(op)?, 0, a.number(), b.number(), offset))
         }
         _ => None,
     }

@@ -1,5 +1,6 @@
 ghost use Rattle.std.specs.Prelude.{◌≡◌, Some, IsTrue, IfSome, ◌&&◌, nat_eq};
 ghost use Rattle.rv64_instr.specs.Form.{is_within};
+ghost use Rattle.rv64_word.specs.Decoded.{decoded};
 ghost use Rattle.rv64_word.specs.MachineOp.{value_of, word_of, is_encodable, read_as, is_register, is_even};
 
 use crate::format::{Field, Format};
@@ -22,8 +23,8 @@ pub struct MachineOp {
     pub imm: i64,
 }
 
-/// The word of a machine operation (RISC-V Unprivileged ISA, chapter 2.2), as a number whose bit 0 is the
-/// lowest bit of the first byte. The operation's fields are in range. It takes no memory.
+/// The word of a machine operation (RISC-V Unprivileged ISA, RV32I, "Base Instruction Formats"), as a number whose
+/// bit 0 is the lowest bit of the first byte. The operation's fields are in range. It takes no memory.
 pub fn encode(m: &MachineOp) -> u32
     requires { IsTrue (is_encodable m.now) }
     ensures { result ≡ word_of m.now }
@@ -34,18 +35,22 @@ pub fn encode(m: &MachineOp) -> u32
 /// The machine operation that a word spells, and `None` exactly for a word that no machine operation has. It takes
 /// no memory.
 pub fn decode(word: u32) -> Option<MachineOp>
+    ensures value { result ≡ decoded word }
     // What is decoded has its fields in range, and encodes to the word.
     ensures found { IfSome result (λ m. IsTrue (is_encodable m) × (word_of m ≡ word)) }
     // A word that a machine operation has is decoded to it, and to no other.
     ensures only { (m : MachineOp) → IsTrue (is_encodable m) → word_of m ≡ word → result ≡ Some m }
 {
+    by_listing(word)
+}
+
+/// The operation that the word's codes name, with the fields that its format shows.
+#[tactic(auto, unfolding(crate::specs::Decoded::decoded))]
+fn by_listing(word: u32) -> Option<MachineOp>
+    ensures { result ≡ decoded word }
+{
     let op = operation(word % 128, (word >> 12) % 8, word >> 25)?;
-    let m = MachineOp::read(op, word);
-    if m.is_encodable() && m.spell() == word {
-        Some(m)
-    } else {
-        None
-    }
+    Some(MachineOp::read(op, word))
 }
 
 impl MachineOp {

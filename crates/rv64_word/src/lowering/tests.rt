@@ -1,20 +1,102 @@
 use super::*;
 use crate::machine_op::encode;
 use rv64_instr::operand::Operands;
-use rv64_instr::reg::physical;
+use rv64_instr::reg::{Reg, physical};
 use std::test::Fail;
+
+/// An operand by its number, or none.
+#[derive(Clone, Copy)]
+enum Part {
+    Def(u32),
+    Use(u32),
+    Imm(i64),
+    Slot(u32),
+    Block(u32),
+    Absent,
+}
+
+use Part::*;
+
+/// An opcode, its operands, the target's offset, and the word that `llvm-mc` of LLVM 14 writes for the instruction, or
+/// none where the offset is out of range.
+const ROWS: [(Op, [Part; 3], i64, Option<u32>); 16] = [
+    (Op::Add, [Def(5), Use(6), Use(7)], 0, Some(0x007302b3)),
+    (
+        Op::Addi,
+        [Def(11), Use(12), Imm(-2048)],
+        0,
+        Some(0x80060593),
+    ),
+    (Op::Srai, [Def(5), Use(6), Imm(63)], 0, Some(0x43f35293)),
+    (
+        Op::Lui,
+        [Def(10), Imm(1_048_575), Absent],
+        0,
+        Some(0xfffff537),
+    ),
+    (Op::Lw, [Def(5), Use(6), Imm(-4)], 0, Some(0xffc32283)),
+    (Op::Ld, [Def(10), Slot(16), Imm(0)], 0, Some(0x01013503)),
+    (Op::Ld, [Def(10), Slot(2048), Imm(0)], 0, None),
+    (Op::Sb, [Use(7), Use(8), Imm(2047)], 0, Some(0x7e740fa3)),
+    (Op::Sd, [Use(11), Slot(24), Imm(0)], 0, Some(0x00b13c23)),
+    (Op::Beq, [Use(5), Use(6), Block(1)], -8, Some(0xfe628ce3)),
+    (
+        Op::Bgeu,
+        [Use(10), Use(11), Block(1)],
+        4094,
+        Some(0x7eb57fe3),
+    ),
+    (Op::Beq, [Use(5), Use(6), Block(1)], 4096, None),
+    (Op::Copy, [Def(10), Use(11), Absent], 0, Some(0x00058513)),
+    (
+        Op::PseudoBr,
+        [Block(1), Absent, Absent],
+        2048,
+        Some(0x0010006f),
+    ),
+    (Op::PseudoBr, [Block(1), Absent, Absent], 1, None),
+    (Op::PseudoRet, [Absent, Absent, Absent], 0, Some(0x00008067)),
+];
 
 #[test]
 fn words_of_instructions(rt: HostRuntime) -> Result<(), Fail> {
-    let x10 = physical(10).ok_or("no register")?;
-    let mut operands = Operands::new(rt.alloc());
-    operands.push(Operand::Def(x10))?;
-    operands.push(Operand::Imm(1_048_575))?;
-    let upper = Instr::new(Op::Lui, operands).ok_or("no form")?;
-    let m = lower(&upper, 0).ok_or("no word")?;
-    assert_eq!(rt; encode(&m), 0xffff_f537);
-    let back = Instr::new(Op::PseudoRet, Operands::new(rt.alloc())).ok_or("no form")?;
-    let m = lower(&back, 0).ok_or("no word")?;
-    assert_eq!(rt; encode(&m), 0x0000_8067);
+    for (op, parts, offset, word) in ROWS {
+        let mut operands = Operands::new(rt.alloc());
+        for part in parts {
+            push(&mut operands, part)?;
+        }
+        let instr = Instr::new(op, operands).ok_or("no form")?;
+        let found = match lower(&instr, offset) {
+            Some(m) => Some(encode(&m)),
+            None => None,
+        };
+        assert_eq!(rt; found, word, "{op:?} at {offset}");
+    }
     Ok(())
+}
+
+#[test]
+fn a_call_has_no_one_word(rt: HostRuntime) -> Result<(), Fail> {
+    let mut operands = Operands::new(rt.alloc());
+    operands.push(Operand::Symbol(lists::List::new(rt.alloc())))?;
+    operands.push(Operand::Mask)?;
+    let call = Instr::new(Op::PseudoCall, operands).ok_or("no form")?;
+    assert_eq!(rt; lower(&call, 0), None);
+    Ok(())
+}
+
+fn push(operands: &mut Operands, part: Part) -> Result<(), Fail> {
+    match part {
+        Def(n) => operands.push(Operand::Def(register(n)?))?,
+        Use(n) => operands.push(Operand::Use(register(n)?))?,
+        Imm(i) => operands.push(Operand::Imm(i))?,
+        Slot(n) => operands.push(Operand::Slot(n))?,
+        Block(n) => operands.push(Operand::Block(n))?,
+        Absent => {}
+    }
+    Ok(())
+}
+
+fn register(n: u32) -> Result<Reg, Fail> {
+    Ok(physical(n).ok_or("no register")?)
 }

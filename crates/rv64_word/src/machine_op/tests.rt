@@ -116,8 +116,15 @@ fn words_both_ways(rt: HostRuntime) -> Result<(), Fail> {
 
 #[test]
 fn words_outside_the_table(rt: HostRuntime) -> Result<(), Fail> {
-    // AUIPC, the word of zeros, and MUL.
-    for word in [0x0000_0097, 0x0000_0000, 0x02b5_0533] {
+    // AUIPC, the word of zeros, MUL, SLLI with bit 30, SLLIW by 32, and ECALL.
+    for word in [
+        0x0000_0097,
+        0x0000_0000,
+        0x02b5_0533,
+        0x4000_1013,
+        0x0200_101b,
+        0x0000_0073,
+    ] {
         assert_eq!(rt; decode(word), None);
     }
     Ok(())

@@ -1,0 +1,18 @@
+-- The machine operation that a word spells.
+use Rattle.std.specs.Prelude.{ℕ, Option}
+use Rattle.std.specs.Option.{option_map}
+use Rattle.rv64_word.specs.declared.format.Field.{Field}
+use Rattle.rv64_word.specs.declared.format.Field.TheVariants.{Opcode, Funct3, Funct7}
+use Rattle.rv64_word.specs.declared.format.Format.TheVariants.{Register}
+use Rattle.rv64_word.specs.declared.machine_op.MachineOp.{MachineOp}
+use Rattle.rv64_word.specs.Format.{slices_of, shown}
+use Rattle.rv64_word.specs.Listing.{operation_of}
+use Rattle.rv64_word.specs.MachineOp.{read_as}
+
+-- a code of a word: the R format has all three, and the others have theirs in the same place
+abbrev pub code : Field → (word : ℕ) → ℕ
+code field word = shown (slices_of Register) field word
+
+-- the operation that a word's codes name in the listings, with the fields that its format shows. The word is below 2^32
+unfoldable pub decoded : (word : ℕ) → Option MachineOp
+decoded word = option_map (λ op. read_as op word) (operation_of (code Opcode word) (code Funct3 word) (code Funct7 word))
