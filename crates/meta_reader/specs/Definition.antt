@@ -4,6 +4,8 @@ use Rattle.std.specs.Prelude.{ℕ, ◌+◌, Bool, false, not, ◌&&◌, ◌==◌
 use Rattle.std.specs.List.{prefix_len, starts_with}
 use Rattle.std.specs.Char.{is_ascii_digit}
 use Rattle.mir_lexer.specs.Bytes.{is_blank, is_symbol_byte}
+use Rattle.meta_reader.specs.declared.definition.Sought.{Sought}
+use Rattle.meta_reader.specs.declared.definition.Sought.TheVariants.{Symbol, Attachment}
 use Rattle.meta_reader.specs.Number.{spelled}
 use Rattle.meta_reader.specs.Text.{unescaped, inside_quotes}
 
@@ -69,6 +71,11 @@ is_attachment text = is_some (attachment text)
 -- a line from its first `!dbg !N` on
 abbrev pub from_attachment : List ℕ → List ℕ
 from_attachment line = from_first is_attachment false line
+
+-- what is looked for is at the front
+abbrev pub is_sought : Sought → List ℕ → Bool
+is_sought Symbol = is_symbol
+is_sought Attachment = is_attachment
 
 -- the name that a symbol has behind its `@`, with the bytes that its escapes stand for
 abbrev pub name_of : List ℕ → List ℕ

@@ -1,40 +1,17 @@
 //! A line that defines a function, with its subprogram: `define i64 @f(i64 %0) !dbg !7 {`.
 
-ghost use Rattle.std.specs.Prelude.{◌≡◌, ◌==◌, ◌<◌, ◌≤◌, length, position, IfOk, IfSome};
+ghost use Rattle.std.specs.Prelude.{◌≡◌, ◌<◌, ◌≤◌, false, length, IfOk, IfSome};
 ghost use Rattle.std.specs.List.{prefix_len};
-ghost use Rattle.std.specs.Char.{is_ascii_digit};
-ghost use Rattle.mir_lexer.specs.Bytes.{is_blank, is_symbol_byte};
+ghost use Rattle.mir_lexer.specs.Bytes.{is_blank};
 ghost use Rattle.meta_reader.specs.Field.{Spells};
-ghost use Rattle.meta_reader.specs.Definition.{is_outside, is_symbol, is_attachment, symbol_len, quoted_behind, from_symbol, from_attachment, node_digits, node_behind, attachment, name_of, definition_of_line};
+ghost use Rattle.meta_reader.specs.Definition.{is_outside, is_sought, symbol_len, quoted_behind, from_first, node_digits, node_behind, attachment, name_of, definition_of_line};
 
 use crate::number::spelled;
 use crate::text::{inside_quotes, unescaped};
 use lists::List;
+use mir_lexer::bytes::{digits, is_blank, position, symbol_bytes};
 use rv64_instr::name::Name;
 use std::alloc::{AllocError, Global};
-
-/// Whether a byte separates tokens.
-fn is_blank(byte: u8) -> bool
-    ensures { result ≡ is_blank byte }
-{
-    byte == b' ' || byte == b'\t'
-}
-
-/// Whether a byte may stand in the bare name of a symbol.
-fn is_symbol_byte(byte: u8) -> bool
-    ensures { result ≡ is_symbol_byte byte }
-{
-    byte.is_ascii_alphanumeric() || byte == b'_' || byte == b'.' || byte == b'-' || byte == b'$'
-}
-
-/// How many bytes of a bare name are at the front.
-#[tactic(auto, using(crate::proofs::Runs::runs))]
-fn symbol_bytes(text: &[u8]) -> usize
-    ensures value { result ≡ prefix_len is_symbol_byte text.now }
-    ensures within { result ≤ length text.now }
-{
-    text.iter().take_while(|b| is_symbol_byte(**b)).count()
-}
 
 /// How many spaces and tabs are at the front.
 #[tactic(auto, using(crate::proofs::Runs::runs))]
@@ -45,23 +22,6 @@ fn blanks(text: &[u8]) -> usize
     text.iter().take_while(|b| is_blank(**b)).count()
 }
 
-/// How many decimal digits are at the front.
-#[tactic(auto, using(crate::proofs::Runs::runs))]
-fn digits(text: &[u8]) -> usize
-    ensures value { result ≡ prefix_len is_ascii_digit text.now }
-    ensures within { result ≤ length text.now }
-{
-    text.iter().take_while(|b| b.is_ascii_digit()).count()
-}
-
-/// The first place of a double quote.
-fn closing_quote(text: &[u8]) -> Option<usize>
-    ensures value { result ≡ position (λ b. b == 34) text.now }
-    ensures within { IfSome result (λ place. place < length text.now) }
-{
-    text.iter().position(|b| *b == b'"')
-}
-
 /// How long the symbol at the front is: `@`, and a bare name or one in double quotes.
 #[tactic(auto, unfolding(crate::specs::Definition::symbol_len))]
 fn symbol_len(text: &[u8]) -> Option<usize>
@@ -69,7 +29,7 @@ fn symbol_len(text: &[u8]) -> Option<usize>
     ensures within { IfSome result (λ len. (0 < len) × (len ≤ length text.now)) }
 {
     match text {
-        [b'@', b'"', name @ ..] => match closing_quote(name) {
+        [b'@', b'"', name @ ..] => match position(b'"', name) {
             Some(place) => Some(place + 3),
             None => None,
         },
@@ -86,27 +46,6 @@ fn quoted_behind(quoted: bool, byte: u8) -> bool
     ensures { result ≡ quoted_behind quoted byte }
 {
     quoted != (byte == b'"')
-}
-
-/// Whether a symbol is at the front, outside quotes.
-fn is_symbol(quoted: bool, text: &[u8]) -> bool
-    ensures { result ≡ is_outside is_symbol quoted text.now }
-{
-    !quoted && symbol_len(text).is_some()
-}
-
-/// A line from the first place outside quotes on where a symbol stands, and nothing where none stands.
-fn from_symbol(line: &[u8]) -> &[u8]
-    ensures { result.now ≡ from_symbol line.now }
-{
-    let mut quoted = false;
-    for (at, byte) in line.iter().enumerate() {
-        if is_symbol(quoted, &line[at..]) {
-            return &line[at..];
-        }
-        quoted = quoted_behind(quoted, *byte);
-    }
-    &line[line.len()..]
 }
 
 /// The digits of a node's number at the front.
@@ -142,20 +81,39 @@ fn attachment(text: &[u8]) -> Option<&[u8]>
     }
 }
 
-/// Whether a subprogram is at the front, outside quotes.
-fn is_attachment(quoted: bool, text: &[u8]) -> bool
-    ensures { result ≡ is_outside is_attachment quoted text.now }
-{
-    !quoted && attachment(text).is_some()
+/// What is looked for in a line.
+#[derive(Clone, Copy)]
+enum Sought {
+    /// A symbol.
+    Symbol,
+    /// A subprogram: `!dbg`, and a node's number.
+    Attachment,
 }
 
-/// A line from the first place outside quotes on where a subprogram stands, and nothing where none stands.
-fn from_attachment(line: &[u8]) -> &[u8]
-    ensures { result.now ≡ from_attachment line.now }
+/// Whether it is at the front.
+fn is_sought(sought: Sought, text: &[u8]) -> bool
+    ensures { result ≡ is_sought sought text.now }
+{
+    match sought {
+        Sought::Symbol => symbol_len(text).is_some(),
+        Sought::Attachment => attachment(text).is_some(),
+    }
+}
+
+/// Whether it is at the front, outside quotes.
+fn is_outside(sought: Sought, quoted: bool, text: &[u8]) -> bool
+    ensures { result ≡ is_outside (is_sought sought) quoted text.now }
+{
+    !quoted && is_sought(sought, text)
+}
+
+/// A line from the first place outside quotes on where it stands, and nothing where it stands nowhere.
+fn from_first(sought: Sought, line: &[u8]) -> &[u8]
+    ensures { result.now ≡ from_first (is_sought sought) false line.now }
 {
     let mut quoted = false;
     for (at, byte) in line.iter().enumerate() {
-        if is_attachment(quoted, &line[at..]) {
+        if is_outside(sought, quoted, &line[at..]) {
             return &line[at..];
         }
         quoted = quoted_behind(quoted, *byte);
@@ -181,11 +139,11 @@ pub fn definition_of_line(alloc: Global, line: &[u8]) -> Result<Option<(Name, u3
     if !line.starts_with(b"define") {
         return Ok(None);
     }
-    let symbol = from_symbol(line);
+    let symbol = from_first(Sought::Symbol, line);
     let Some(len) = symbol_len(symbol) else {
         return Ok(None);
     };
-    let Some(digits) = attachment(from_attachment(&symbol[len..])) else {
+    let Some(digits) = attachment(from_first(Sought::Attachment, &symbol[len..])) else {
         return Ok(None);
     };
     let Some(number) = spelled(10, digits) else {

@@ -16,6 +16,7 @@ pub struct VariableNode {
 /// A place in the source: `!DILocation`.
 #[derive(Clone, Copy, Debug)]
 pub struct LocationNode {
+    /// The line in the source file, counted from 1, and 0 for code of no line.
     pub line: u32,
     /// 0 where no column is given.
     pub column: u32,

@@ -6,7 +6,7 @@
 //! A comment, and what follows `::` on an instruction's line, is cut off before a line is lexed.
 #![tactic(auto)]
 
-mod bytes;
+pub mod bytes;
 pub mod comment;
 pub mod fault;
 mod front;

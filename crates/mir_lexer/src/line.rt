@@ -5,10 +5,12 @@ use lists::List;
 /// Bytes of a text.
 pub type Bytes = List<u8>;
 
-/// A line with its number in the text, counted from 1. Its text has no line ending.
+/// A line of a text.
 #[derive(Debug, Drop)]
 pub struct Line {
+    /// Its number in the text, counted from 1.
     pub number: u32,
+    /// Its bytes without a line ending.
     pub text: Bytes,
 }
 

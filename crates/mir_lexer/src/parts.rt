@@ -25,12 +25,14 @@ pub enum Class {
     Single(u8),
 }
 
-/// A token of a line: its class, and its place as a half-open range of byte indices into the line. Its text is the
-/// line's slice from `start` to `end`.
+/// A token of a line. Its text is the line's slice from `start` to `end`.
 #[derive(Clone, Copy, Debug, PartialEq, Eq)]
 pub struct Token {
+    /// What it is.
     pub class: Class,
+    /// The index in the line of its first byte.
     pub start: usize,
+    /// The index in the line behind its last byte.
     pub end: usize,
 }
 

@@ -7,7 +7,7 @@ use crate::parts::{Class, Token};
 use lists::List;
 use std::test::Fail;
 
-/// Lines, most of them written by llc, with the class and the text of each token.
+/// Lines, most of them written by llc, with the class and the text of each token before memory operands.
 const LINES: &[(&str, &[(Class, &str)])] = &[
     (
         "  bb.1 (%ir-block.4):",
@@ -50,6 +50,51 @@ const LINES: &[(&str, &[(Class, &str)])] = &[
             (Single(b','), ","),
             (Word, "debug-location"),
             (Node, "!24"),
+        ],
+    ),
+    (
+        "    renamable $x9 = COPY killed renamable $x10",
+        &[
+            (Word, "renamable"),
+            (Register, "$x9"),
+            (Single(b'='), "="),
+            (Word, "COPY"),
+            (Word, "killed"),
+            (Word, "renamable"),
+            (Register, "$x10"),
+        ],
+    ),
+    (
+        "    SD killed renamable $x14, killed renamable $x13, 0 :: (store (s64) into %ir.arrayidx, !tbaa !28)",
+        &[
+            (Word, "SD"),
+            (Word, "killed"),
+            (Word, "renamable"),
+            (Register, "$x14"),
+            (Single(b','), ","),
+            (Word, "killed"),
+            (Word, "renamable"),
+            (Register, "$x13"),
+            (Single(b','), ","),
+            (Integer, "0"),
+        ],
+    ),
+    (
+        "    PseudoCALL @g, CustomRegMask($x1,$x8), implicit-def dead $x1",
+        &[
+            (Word, "PseudoCALL"),
+            (Symbol, "@g"),
+            (Single(b','), ","),
+            (Word, "CustomRegMask"),
+            (Single(b'('), "("),
+            (Register, "$x1"),
+            (Single(b','), ","),
+            (Register, "$x8"),
+            (Single(b')'), ")"),
+            (Single(b','), ","),
+            (Word, "implicit-def"),
+            (Word, "dead"),
+            (Register, "$x1"),
         ],
     ),
     (
@@ -193,7 +238,7 @@ const CUTS: &[(&str, &str, &str)] = &[
 #[test]
 fn classes(rt: HostRuntime) -> Result<(), Fail> {
     for (line, expected) in LINES {
-        let found = tokens(rt.alloc(), line.as_bytes())?;
+        let found = tokens(rt.alloc(), before_memory_operands(line.as_bytes()))?;
         assert_eq!(rt; found.len(), expected.len(), "{line}");
         for (token, (class, text)) in found.as_slice().iter().zip(*expected) {
             let Token {
