@@ -5,18 +5,15 @@ use Rattle.std.proofs.lemmas.Map.Made.{Contains-tail}
 use Rattle.rv64_instr.specs.declared.op.Op.{Op}
 use Rattle.rv64_instr.specs.declared.place.Place.{Place}
 use Rattle.rv64_instr.specs.declared.place.Place.TheVariants.{Register, Slot, Const}
-use Rattle.rv64_instr.specs.Arithmetic.{word, computed, taken, width_of, extended}
-use Rattle.rv64_instr.specs.Row.{Content, Number, Row, Fixes, Moves, Sets, Loads, Stores, LoadsSlot, StoresSlot, Branches, Jumps, Calls, Returns, Unfit, row_of}
-use Rattle.rv64_instr.specs.Access.{caller_saved, reads}
-use Rattle.rv64_instr.specs.declared.operand.Operand.{Operand}
+use Rattle.rv64_instr.specs.Arithmetic.{computed, taken, width_of, extended}
+use Rattle.rv64_instr.specs.Row.{Content, Number, Row, Fixes, Moves, Sets, Loads, Stores, LoadsSlot, StoresSlot, Branches, Jumps, Calls, Returns, Unfit}
+use Rattle.rv64_instr.specs.Access.{caller_saved, reads, sets}
 use Rattle.mir_func.specs.declared.variable.VarId.{VarId}
-use Rattle.mir_func.specs.declared.item.ItemKind.{ItemKind}
-use Rattle.mir_func.specs.declared.item.ItemKind.TheVariants.{Code, Mark, Phi}
 use Rattle.mir_func.specs.meaning.State.{Called, Reply, Core, content, updated, put, put_all, spelled, low_bytes, written, touches_frame, writes_frame}
-use Rattle.mir_func.specs.meaning.Step.{Outcome, Falls, Goes, Gives, Traps, Asks, Breaks, or_zero, read, input_value, set_register, answered, slot_loaded, loaded, saved, does, are_written, act, with_core, is_call, numbered, Program, do_item}
-use Rattle.mir_func.specs.meaning.Live.{RowUses, RowDefines, KindDefines}
+use Rattle.mir_func.specs.meaning.Step.{Outcome, Falls, Goes, Traps, or_zero, read, input_value, set_register, answered, slot_loaded, loaded, saved, does, are_written, act, with_core}
+use Rattle.mir_func.specs.laws.Effects.{held_in, OnCore, EndAlike, SameWorld}
 use Rattle.mir_func.proofs.Places.{put_other, put_all_other, updated_same, updated_other, contains_head, contains_tail}
-use Rattle.mir_func.proofs.Outcomes.{EndAlike, OnCore, on_either, alike_either}
+use Rattle.mir_func.proofs.Outcomes.{on_either, alike_either}
 
 -- code neither reads nor sets pairs and marks
 abbrev pub told_by : (ℕ → ℕ → Option ℕ) → List (VarId × Option ℕ) → Core → Core
@@ -53,11 +50,17 @@ module _ (pairs : ℕ → ℕ → Option ℕ) (marks : List (VarId × Option ℕ
   unfolding act
   act_apart r c = apart_either (are_written c (reads r)) (does r c) Traps _ _ (does_apart r c) refl
 
--- the content of a place
-abbrev pub held_in : Place → Core → Option ℕ
-held_in (Register r) c = content c.regs r
-held_in (Slot n) c = c.slots n
-held_in (Const z) c = Some (word z)
+-- what a row does depends on these places, and on no others that code has
+abbrev pub RowUses : Row → Place → Type 0
+RowUses row (Register r) = Contains (reads row) r
+RowUses (LoadsSlot rd n) (Slot k) = n ≡ k
+RowUses _ _ = ⊥
+
+-- it may change these places, and no others
+abbrev pub RowDefines : Row → Place → Type 0
+RowDefines row (Register r) = Contains (sets row) r
+RowDefines (StoresSlot rs n) (Slot k) = n ≡ k
+RowDefines _ _ = ⊥
 
 -- what a row doesn't define, stays
 abbrev pub Keeps : Place → Core → Core → Type 0
@@ -114,13 +117,6 @@ module _ (x : Place) (c : Core) where
   pub act_keeps : (r : Row) → (RowDefines r x → ⊥) → OnCore (Keeps x c) (act r c)
   unfolding act
   act_keeps r ne = on_either (Keeps x c) (are_written c (reads r)) (does r c) Traps (does_keeps r ne) tt
-
--- two cores alike but for registers, slots and what is told
-pub record SameWorld (c d : Core) : Type 0 where
-  pub entry : c.entry ≡ d.entry
-  pub memory : c.memory ≡ d.memory
-  pub script : c.script ≡ d.script
-  pub events : c.events ≡ d.events
 
 -- the registers and slots that may hold something else
 abbrev pub other_places : (ℕ → Option ℕ) → (ℕ → Option ℕ) → (ℕ → ℕ → Option ℕ) → List (VarId × Option ℕ) → Core → Core
@@ -287,29 +283,3 @@ act_alike r c d w u =
       at (Register r) e = e
       at (Slot n) e = e
       at (Const z) e = e
-
-keeps_with : (x : Place) (c : Core) (k : Core → Core) → ((d : Core) → held_in x (k d) ≡ held_in x d) → (o : Outcome) → OnCore (Keeps x c) o → OnCore (Keeps x c) (with_core k o)
-keeps_with x c k f (Falls d) h = f d ∙ h
-keeps_with x c k f (Goes n d) h = f d ∙ h
-keeps_with x c k f (Gives v) h = tt
-keeps_with x c k f Traps h = tt
-keeps_with x c k f Asks h = tt
-keeps_with x c k f Breaks h = tt
-
-numbers_keep : (x : Place) (sp call : Bool) (n : Option ℕ) (os : List Operand) (d : Core) → held_in x (numbered sp call n os d) ≡ held_in x d
-numbers_keep (Register r) sp call None os d = refl
-numbers_keep (Register r) sp call (Some n) os d = refl
-numbers_keep (Slot k) sp call None os d = refl
-numbers_keep (Slot k) sp call (Some n) os d = refl
-numbers_keep (Const z) sp call n os d = refl
-
--- what an item doesn't define, stays: debug items define no place
-pub item_keeps : (g : Program) (k : ItemKind) (x : Place) (c : Core) → (KindDefines k x → ⊥) → OnCore (Keeps x c) (do_item g k c)
-item_keeps g (Code i n) x c ne =
-    keeps_with x c (numbered g.sees_pointer (is_call (row_of i)) n i.operands) (λ d. numbers_keep x g.sees_pointer (is_call (row_of i)) n i.operands d) (act (row_of i) c) (act_keeps x c (row_of i) ne)
-item_keeps g (Mark v m) (Register r) c ne = refl
-item_keeps g (Mark v m) (Slot n) c ne = refl
-item_keeps g (Mark v m) (Const z) c ne = refl
-item_keeps g (Phi p n) (Register r) c ne = refl
-item_keeps g (Phi p n) (Slot k) c ne = refl
-item_keeps g (Phi p n) (Const z) c ne = refl

@@ -24,7 +24,8 @@ use Rattle.mir_func.specs.declared.item.ItemKind.TheVariants.{Code, Mark, Phi}
 use Rattle.mir_func.specs.meaning.State.{Called, Reply, Core, State, updated, content, put, put_all, spelled, low_bytes, stored, written, touches_frame, writes_frame, is_same, assigned, IsReply, IsInRange}
 use Rattle.mir_func.specs.meaning.Step.{Program, Fetch, Here, Silent, Outside, Next, Went, Returned, Faulted, Waits, Lost, Outcome, Falls, Goes, Gives, Traps, Asks, Breaks, or_zero, read, input_value, set_register, answered, slot_loaded, saved, does, are_written, act, seen, is_call, defined, given, numbered, with_core, place_value, pair_value, mark_value, do_item, do_fetch, below, block_start, moved, step, after, run}
 use Rattle.mir_func.specs.meaning.Follow.{IsStart}
-use Rattle.mir_func.proofs.Outcomes.{OnCore, on_either}
+use Rattle.mir_func.specs.laws.Effects.{OnCore}
+use Rattle.mir_func.proofs.Outcomes.{on_either}
 use Rattle.mir_func.proofs.Range.{IsWord, word_in_range, extend32_in_range, computed_in_range, extended_in_range}
 
 -- the numbers of a row are below 2^64

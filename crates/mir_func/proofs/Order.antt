@@ -1,10 +1,11 @@
 -- The order of a block's origins, and which of f's stations may be passed by it.
 use Rattle.std.proofs.Common.{◌≡◌, ℕ, ◌+◌, ◌*◌, ◌<◌, ◌≤◌, List, [], ◌∷◌, Option, Some, None, Bool, true, false, refl, sym, ap, ◌∙◌, subst, inl, inr, ◌⊎◌, arith}
-use Rattle.std.proofs.lemmas.Bool.{cases_eq}
+use Rattle.std.proofs.lemmas.Bool.{cases_eq, cases_lt}
 use Rattle.mir_func.specs.declared.position.Pos.{Pos}
 use Rattle.mir_func.specs.declared.position.Origin.{Origin}
 use Rattle.mir_func.specs.declared.position.Origin.TheVariants.{Kept, Before}
 use Rattle.mir_func.specs.declared.item.Item.{Item}
+use Rattle.mir_func.specs.meaning.Step.{Program, Here}
 use Rattle.mir_func.specs.meaning.Align.{position_of, is_code, Count, moves_on, waits_at, Station, station_of, IsOrigin, Same, since_of}
 use Rattle.mir_func.specs.meaning.Follow.{rank, next_rank, InOrder}
 use Rattle.mir_func.specs.laws.Refinement.{waiting, MayPass, gone, early, late}
@@ -65,6 +66,19 @@ done_self (Before r) = inr refl
 pub waits_where : (o : Origin) (q : Pos) → waits_after o ≡ Some q → (q ≡ position_of o) × (2 * q.item ≤ next_rank o)
 waits_where (Kept r) q e = cc
 waits_where (Before r) q e = let k : r ≡ q = cc in (sym k, subst (λ (z : Pos). 2 * z.item ≤ 2 * r.item) k (omega arith))
+
+-- what of g is done once it is past its item y at p
+pub done_next : (g : Program) → ((q : Pos) (i : Item) → g.fetch q ≡ Here i → (position_of i.origin).block ≡ q.block) → (p : Pos) (b n n' : ℕ) (last last' : Option Pos) (y : Item) → b ≡ p.block → g.fetch p ≡ Here y → ((q : Pos) → q.block ≡ b → IsDone n last q → IsDone n' last' q) → (is_code y.kind ≡ true → IsDone n' last' (position_of y.origin)) →
+    ((j : ℕ) (i : Item) → j < p.item → g.fetch (record { block = b; item = j }) ≡ Here i → is_code i.kind ≡ true → IsDone n last (position_of i.origin)) →
+    (j : ℕ) (i : Item) → j < p.item + 1 → g.fetch (record { block = b; item = j }) ≡ Here i → is_code i.kind ≡ true → IsDone n' last' (position_of i.origin)
+done_next g home p b n n' last last' y bp fy more own done j i lt fi ci =
+    elim (cases_lt j p.item) as (λ z. IsDone n' last' (position_of i.origin)) [
+      | inl l ↦ more (position_of i.origin) (home _ i fi) (done j i l fi ci)
+      | inr ge ↦
+          let w : Here y ≡ Here i = sym fy ∙ subst (λ (z : Pos). g.fetch z ≡ Here i) (same_pos (record { block = b; item = j }) p bp (omega (arith, lt, ge))) fi in
+          let yi : y ≡ i = cc in
+          subst (λ (z : Item). IsDone n' last' (position_of z.origin)) yi (own (subst (λ (z : Item). is_code z.kind ≡ true) (sym yi) ci))
+    ]
 
 -- a position is no later than the code that is ahead in its block
 abbrev pub IsNoLater : (b : ℕ) → Pos → List Item → Type 0

@@ -4,22 +4,7 @@ use Rattle.mir_func.specs.declared.position.Pos.{Pos}
 use Rattle.mir_func.specs.declared.item.Item.{Item}
 use Rattle.mir_func.specs.meaning.State.{State, Core}
 use Rattle.mir_func.specs.meaning.Step.{Program, Fetch, Here, Silent, Went, Returned, Faulted, Outcome, Falls, Goes, Gives, Traps, Asks, Breaks, below, block_start, moved, with_core, do_item, do_fetch, step}
-
--- both go on, to the same place and with cores so related, or both end alike
-abbrev pub EndAlike : (Core → Core → Type 0) → Outcome → Outcome → Type 0
-EndAlike R (Falls c) (Falls d) = R c d
-EndAlike R (Goes m c) (Goes n d) = (m ≡ n) × R c d
-EndAlike R (Gives v) (Gives w) = v ≡ w
-EndAlike R Traps Traps = Unit {0}
-EndAlike R Asks Asks = Unit {0}
-EndAlike R Breaks Breaks = Unit {0}
-EndAlike R _ _ = ⊥
-
--- where it goes on, its core is so
-abbrev pub OnCore : (Core → Type 0) → Outcome → Type 0
-OnCore P (Falls c) = P c
-OnCore P (Goes n c) = P c
-OnCore P _ = Unit {0}
+use Rattle.mir_func.specs.laws.Effects.{OnCore, EndAlike}
 
 pub on_either : (P : Core → Type 0) (b : Bool) (x y : Outcome) → OnCore P x → OnCore P y → OnCore P (cond b x y)
 on_either P true x y a b = a

@@ -4,7 +4,8 @@ use Rattle.mir_func.specs.declared.position.Pos.{Pos}
 use Rattle.mir_func.specs.meaning.State.{State}
 use Rattle.mir_func.specs.meaning.Step.{Program, Went, Faulted, step}
 use Rattle.mir_func.specs.meaning.Align.{Station, IsOrigin, Arrives, here, onward, ArrivesLater, Since, Start, Same, After, since_of, Aligns, AnyOrigin, Along, begin, other, met, Fails, fails_here, fails_on, FailsLater, FailsBefore, Agrees, RunsAlong}
-use Rattle.mir_func.specs.laws.Refinement.{waiting, MayPass, gone, early, late, Walk, there, on, past, IsDoomed, faults, later, later_past, still, pass, IsDoomedFrom, Meets, Refines, RefinementFollows}
+use Rattle.mir_func.specs.laws.Refinement.{waiting, MayPass, gone, early, late, Walk, there, on, past, IsDoomed, faults, later, later_past, Passes, still, pass, FaultsAt, Lingers, stays, goes_by, waits_by, Halts, IsStuck, doomed, halted, IsStuckFrom, Meets, Refines, RefinementFollows}
+use Rattle.mir_func.proofs.Order.{cases_pos}
 use Rattle.mir_func.proofs.Alignment.{aligns_at, aligns_once, aligns_fewer, aligns_not_fails, fails_before_fewer}
 
 -- after a station the source isn't at its start
@@ -118,7 +119,24 @@ module _ (src : Program) (gs : Pos → Option Station) (p : Pos) (gp : IsOrigin 
     by_since true = (λ h. ne (sym at ∙ h), inl f)
     by_since false = inl f
 
-module _ (src f g : Program) (fs gs : Pos → Option Station) (R : Option Pos → State → State → Type 0) (s0 f0 g0 : State) (follows : RunsAlong src f fs (AnyOrigin fs) s0 f0) (refines : Refines f g fs gs R) where
+-- where the source comes, whatever stops it on its way for f
+module _ (src : Program) where
+  comes_on : {A : Pos → Type 0} {p : Pos} {s t x : State} → Arrives src A p s t → Arrives src (λ q. ⊥) x.pos t x → Arrives src (λ q. ⊥) x.pos s x
+  comes_on (here e) k = k
+  comes_on (onward free go rest) k = onward (λ b. b) go (comes_on rest k)
+
+  comes_aligned : (A : Pos → Type 0) (p : Pos) (m : Since) (s t : State) → Aligns src A p m s t → Arrives src (λ q. ⊥) t.pos s t
+  comes_aligned A p Start s t a = comes_on a (here refl)
+  comes_aligned A p Same s t (inl a) = subst (λ (y : State). Arrives src (λ q. ⊥) t.pos y t) (sym a.1) (here refl)
+  comes_aligned A p Same s t (inr (ne, (u, go, rest))) = onward (λ b. b) go (comes_on rest (here refl))
+  comes_aligned A p After s t (u, go, rest) = onward (λ b. b) go (comes_on rest (here refl))
+
+  comes_along : (f : Program) (fs : Pos → Option Station) (Stops : Pos → Pos → Type 0) (s0 f0 : State) {t s : State} {m : Since} → Along src f fs Stops s0 f0 t s m → Arrives src (λ q. ⊥) s.pos s0 s
+  comes_along f fs Stops s0 f0 begin = here refl
+  comes_along f fs Stops s0 f0 (other a e go) = comes_along f fs Stops s0 f0 a
+  comes_along f fs Stops s0 f0 (met {s = s} {s' = s'} {m = m} i a e al go) = comes_on (comes_along f fs Stops s0 f0 a) (comes_aligned (Stops i.pos) i.pos m s s' al)
+
+module _ (src f g : Program) (fs gs : Pos → Option Station) (R : Option Pos → State → State → Type 0) (s0 f0 g0 : State) (follows : RunsAlong src f fs (AnyOrigin fs) s0 f0) (refines : Refines src f g s0 fs gs R) where
   abbrev AlongF : State → State → Since → Type 0
   AlongF u s m = Along src f fs (AnyOrigin fs) s0 f0 u s m
 
@@ -127,6 +145,14 @@ module _ (src f g : Program) (fs gs : Pos → Option Station) (R : Option Pos �
 
   fewer_fails : (p : Pos) (m : Since) (s : State) → FailsBefore src (IsOrigin fs) p m s → FailsBefore src (IsOrigin gs) p m s
   fewer_fails p m s a = fails_before_fewer src (IsOrigin fs) (IsOrigin gs) refines.origins p m s a
+
+  -- the source, which waits at s, stops there; as long as g is at its position both agree
+  abbrev IsIdle : State → State → Type 0
+  IsIdle t s = (t1 : State) (j : Station) → Lingers g gs s.pos t t1 → gs t1.pos ≡ Some j → j.pos ≡ s.pos → Agrees src g t1 s
+
+  -- the source stops at s, and g, at t, owes no more than that
+  abbrev Over : State → State → Since → Type 0
+  Over t s m = (step src s ≡ Faulted) × ((m ≡ After) ⊎ ((m ≡ Same) × IsIdle t s))
 
   -- on the way to position p: the source was at sg when g's last station was met
   module _ (p : Pos) (gp : IsOrigin gs p) (mg : Since) (sg : State) where
@@ -172,24 +198,24 @@ module _ (src f g : Program) (fs gs : Pos → Option Station) (R : Option Pos �
         ]
 
     -- where f is doomed, the source fails before p
-    doomed : {last : Option Pos} {u : State} → IsDoomed f fs gs p last u → (m : Since) (s : State) → At u s m last → Fault
-    doomed (faults {last = last} {u = u} j e may ne st) m s (a, known, next, bad) =
+    fails_doomed : {last : Option Pos} {u : State} → IsDoomed f fs gs p last u → (m : Since) (s : State) → At u s m last → Fault
+    fails_doomed (faults {last = last} {u = u} j e may ne st) m s (a, known, next, bad) =
         elim (follows u s m j a e) as (λ z. Fault) [
           | inl z ↦
               let al = fewer j.pos m s z.0 z.1 in
               bad (passes_fails src gs p gp j last may m s z.0 known al (fault_at src gs p gp j z.0 (aligns_at src (IsOrigin gs) j.pos m s z.0 al) ne (z.2.faults st)))
           | inr z ↦ bad (fails_there src gs p gp j last may m s known (fewer_fails j.pos m s z))
         ]
-    doomed (later e st rest) m s (a, known, next, bad) = doomed rest m s (other a e st, known, next, bad)
-    doomed (later_past {last = last} {u = u} {v = v} j e may st rest) m s at =
+    fails_doomed (later e st rest) m s (a, known, next, bad) = fails_doomed rest m s (other a e st, known, next, bad)
+    fails_doomed (later_past {last = last} {u = u} {v = v} j e may st rest) m s at =
         elim (beyond u v m s last j at e may st) as (λ z. Fault) [
-          | inl z ↦ doomed rest (since_of j.waits) z.0 z.1
+          | inl z ↦ fails_doomed rest (since_of j.waits) z.0 z.1
           | inr z ↦ z
         ]
 
     -- after a station g is related with f, or the source is over
     abbrev Goes : State → State → Station → Type 0
-    Goes t' to i = ((w' : State) × AlongF w' to (since_of i.waits) × R (waiting (since_of i.waits) i.pos) t' w') ⊎ ((since_of i.waits ≡ After) × (step src to ≡ Faulted))
+    Goes t' to i = ((w' : State) × AlongF w' to (since_of i.waits) × R (waiting (since_of i.waits) i.pos) t' w') ⊎ Over t' to (since_of i.waits)
 
     -- g at its station, and the source's state to which f comes there
     record Met (t : State) (i : Station) : Type 0 where
@@ -209,14 +235,48 @@ module _ (src f g : Program) (fs gs : Pos → Option Station) (R : Option Pos �
                 agrees = record { events = k.events ∙ y.2.events; told = λ v x h. y.2.told v x (k.told v x h); returns = λ rs h. y.2.returns rs (k.returns rs h); faults = λ h. y.2.faults (k.faults h) };
                 goes = λ t' h. elim (k.goes t' h) as (λ _. Goes t' y.0 i) [
                   | inl w' ↦ inl (w'.0, subst (λ (n : Since). AlongF w'.0 y.0 n) k.since (met k.station r.along k.stands y.1 w'.1), w'.2)
-                  | inr z ↦ inr (z.0, y.2.faults z.1)
+                  | inr z ↦ inr (y.2.faults z.1, inl z.0)
                 ];
               })
           | inr y ↦ inr (r.bad (subst (λ (q : Pos). FailsBefore src (IsOrigin gs) q r.m r.s) (k.pos ∙ ip) (fewer_fails k.station.pos r.m r.s y)))
         ]
 
+    -- f stops at g's station, and so does the source
+    halts_there : (t w : State) (i : Station) → i.pos ≡ p → gs t.pos ≡ Some i → Halts src f g s0 fs gs t w i → Reached w → Met t i ⊎ Fault
+    halts_there t w i ip e k r =
+        elim (follows w r.s r.m k.station r.along k.stands) as (λ z. Met t i ⊎ Fault) [
+          | inl y ↦ inl (meets_halted y.0 y.1 y.2)
+          | inr y ↦ inr (r.bad (subst (λ (q : Pos). FailsBefore src (IsOrigin gs) q r.m r.s) (k.pos ∙ ip) (fewer_fails k.station.pos r.m r.s y)))
+        ] where
+          meets_halted : (s : State) → Aligns src (IsOrigin fs) k.station.pos r.m r.s s → Agrees src f w s → Met t i
+          meets_halted s al ag = record { to = s; aligns = r.next s (subst (λ (q : Pos). Aligns src (IsOrigin gs) q r.m r.s s) (k.pos ∙ ip) (fewer k.station.pos r.m r.s s al)); agrees = agree t i stays e refl; goes = λ t' go. inr (stopped, by_since t' go i.waits refl) } where
+            at : s.pos ≡ i.pos
+            at = aligns_at src (IsOrigin fs) k.station.pos r.m r.s s al ∙ k.pos
+
+            stopped : step src s ≡ Faulted
+            stopped = ag.faults k.faults
+
+            faulted : FaultsAt src s0 i.pos
+            faulted = (s, subst (λ (q : Pos). Arrives src (λ z. ⊥) q s0 s) at (comes_on src (comes_along src f fs (AnyOrigin fs) s0 f0 r.along) (comes_aligned src (IsOrigin fs) k.station.pos r.m r.s s al)), stopped)
+
+            agree : (t1 : State) (j : Station) → Lingers g gs i.pos t t1 → gs t1.pos ≡ Some j → j.pos ≡ i.pos → Agrees src g t1 s
+            agree t1 j l e jp = let d = k.idles faulted t1 j l e jp in record { events = d.events ∙ ag.events; told = λ v x h. ag.told v x (d.told v x h); returns = λ rs h. absurd (d.returns rs h); faults = λ h. stopped }
+
+            by_since : (t' : State) → step g t ≡ Went t' → (b : Bool) → i.waits ≡ b → (since_of b ≡ After) ⊎ ((since_of b ≡ Same) × IsIdle t' s)
+            by_since t' go false w = inl refl
+            by_since t' go true w =
+                inr (refl, λ t1 j l ej jp. agree t1 j (waits_by i e refl (ap since_of w) go (subst (λ (q : Pos). Lingers g gs q t' t1) at l)) ej (jp ∙ at))
+
     start_at : (u : State) (last : Option Pos) → AlongF u sg mg → last ≡ waiting mg sg.pos → At u sg mg last
     start_at u last a known = (a, known, λ x c. c, λ b. b)
+
+    stuck : (last : Option Pos) (t u : State) (i : Station) → i.pos ≡ p → gs t.pos ≡ Some i → At u sg mg last → IsStuck src f g s0 fs gs last t u i → Met t i ⊎ Fault
+    stuck last t u i ip e at (doomed d) = inr (fails_doomed (subst (λ (q : Pos). IsDoomed f fs gs q last u) ip d) mg sg at)
+    stuck last t u i ip e at (halted w walk k) =
+        elim (walks (subst (λ (q : Pos). Walk f fs gs q last u w) ip walk) mg sg at) as (λ z. Met t i ⊎ Fault) [
+          | inl z ↦ halts_there t w i ip e k z
+          | inr z ↦ inr z
+        ]
 
     meet : (last : Option Pos) (t u : State) (i : Station) → i.pos ≡ p → R last t u → gs t.pos ≡ Some i → AlongF u sg mg → last ≡ waiting mg sg.pos → Met t i ⊎ Fault
     meet last t u i ip r e a known =
@@ -226,7 +286,7 @@ module _ (src f g : Program) (fs gs : Pos → Option Station) (R : Option Pos �
                 | inl z ↦ meets_there t d.0 i ip d.2 z
                 | inr z ↦ inr z
               ]
-          | inr d ↦ inr (doomed (subst (λ (q : Pos). IsDoomed f fs gs q last u) ip d) mg sg (start_at u last a known))
+          | inr d ↦ stuck last t u i ip e (start_at u last a known) d
         ]
 
   -- g at t is related with f, and the source is where f has it
@@ -235,10 +295,7 @@ module _ (src f g : Program) (fs gs : Pos → Option Station) (R : Option Pos �
     u : State
     along : AlongF u s m
     known : last ≡ waiting m s.pos
-    related : R last t u ⊎ IsDoomedFrom f g fs gs last t u
-
-  abbrev Over : State → Since → Type 0
-  Over s m = (m ≡ After) × (step src s ≡ Faulted)
+    related : R last t u ⊎ IsStuckFrom src f g s0 fs gs last t u
 
   module _ (begins : R None g0 f0) where
     origin_of : (t : State) (i : Station) → gs t.pos ≡ Some i → IsOrigin gs i.pos
@@ -248,46 +305,64 @@ module _ (src f g : Program) (fs gs : Pos → Option Station) (R : Option Pos �
     tied_meets t s m i e z =
         elim z.related as (λ _. Met i.pos (origin_of t i e) m s t i ⊎ FailsBefore src (IsOrigin gs) i.pos m s) [
           | inl r ↦ meet i.pos (origin_of t i e) m s z.last t z.u i refl r e z.along z.known
-          | inr d ↦ inr (doomed i.pos (origin_of t i e) m s (d.on_the_way t i still e) m s (start_at i.pos (origin_of t i e) m s z.u z.last z.along z.known))
+          | inr d ↦ stuck i.pos (origin_of t i e) m s z.last t z.u i refl e (start_at i.pos (origin_of t i e) m s z.u z.last z.along z.known) (d.on_the_way t i still e)
         ]
 
-    tied : {t s : State} {m : Since} → Along src g gs (AnyOrigin gs) s0 g0 t s m → Tied t s m ⊎ Over s m
+    -- where the source is over, g's next station is at its position, and owes what it did, or the fault comes before it
+    over_meets : (t s : State) (m : Since) (i : Station) → gs t.pos ≡ Some i → Over t s m → ((m ≡ Same) × (s.pos ≡ i.pos) × IsIdle t s) ⊎ FailsBefore src (IsOrigin gs) i.pos m s
+    over_meets t s m i e (st, inl af) = inr (subst (λ (n : Since). FailsBefore src (IsOrigin gs) i.pos n s) (sym af) (inl st))
+    over_meets t s m i e (st, inr z) =
+        elim (cases_pos s.pos i.pos) as (λ _. ((m ≡ Same) × (s.pos ≡ i.pos) × IsIdle t s) ⊎ FailsBefore src (IsOrigin gs) i.pos m s) [
+          | inl at ↦ inl (z.0, at, z.1)
+          | inr ne ↦ inr (subst (λ (n : Since). FailsBefore src (IsOrigin gs) i.pos n s) (sym z.0) (ne, inl st))
+        ]
+
+    -- g goes on past a station of the source's position
+    over_past : (t s s' t' : State) (i : Station) → gs t.pos ≡ Some i → step src s ≡ Faulted → s.pos ≡ i.pos → IsIdle t s → s ≡ s' → step g t ≡ Went t' → Over t' s' (since_of i.waits)
+    over_past t s s' t' i e st at idle same go = subst (λ (y : State). Over t' y (since_of i.waits)) same (st, by_since i.waits refl) where
+      by_since : (b : Bool) → i.waits ≡ b → (since_of b ≡ After) ⊎ ((since_of b ≡ Same) × IsIdle t' s)
+      by_since false w = inl refl
+      by_since true w = inr (refl, λ t1 j l ej jp. idle t1 j (waits_by i e (sym at) (ap since_of w) go l) ej jp)
+
+    tied : {t s : State} {m : Since} → Along src g gs (AnyOrigin gs) s0 g0 t s m → Tied t s m ⊎ Over t s m
     tied begin = inl (record { last = None; u = f0; along = begin; known = refl; related = inl begins })
     tied (other {t = t} {s = s} {t' = t'} {m = m} a e st) =
-        elim (tied a) as (λ z. Tied t' s m ⊎ Over s m) [
+        elim (tied a) as (λ z. Tied t' s m ⊎ Over t' s m) [
           | inl z ↦ inl (record {
             last = z.last;
             u = z.u;
             along = z.along;
             known = z.known;
-            related = elim z.related as (λ _. R z.last t' z.u ⊎ IsDoomedFrom f g fs gs z.last t' z.u) [
-              | inl r ↦ elim (refines.between z.last t z.u t' r e st) as (λ _. R z.last t' z.u ⊎ IsDoomedFrom f g fs gs z.last t' z.u) [
+            related = elim z.related as (λ _. R z.last t' z.u ⊎ IsStuckFrom src f g s0 fs gs z.last t' z.u) [
+              | inl r ↦ elim (refines.between z.last t z.u t' r e st) as (λ _. R z.last t' z.u ⊎ IsStuckFrom src f g s0 fs gs z.last t' z.u) [
                 | inl y ↦ inl y
                 | inr d ↦ inr (record { on_the_way = λ t1 i w h. d.on_the_way t1 i (pass e st w) h })
               ]
               | inr d ↦ inr (record { on_the_way = λ t1 i w h. d.on_the_way t1 i (pass e st w) h })
             ];
           })
-          | inr z ↦ inr z
+          | inr z ↦ inr (z.0, elim z.1 as (λ _. (m ≡ After) ⊎ ((m ≡ Same) × IsIdle t' s)) [ inl w ↦ inl w | inr w ↦ inr (w.0, λ t1 j l ej jp. w.1 t1 j (goes_by e st l) ej jp) ])
         ]
     tied (met {t = t} {s = s} {s' = s'} {t' = t'} {m = m} i a e al st) =
         let o = origin_of t i e in
         let since = since_of i.waits in
-        elim (tied a) as (λ z. Tied t' s' since ⊎ Over s' since) [
+        elim (tied a) as (λ z. Tied t' s' since ⊎ Over t' s' since) [
           | inl z ↦
-              elim (tied_meets t s m i e z) as (λ y. Tied t' s' since ⊎ Over s' since) [
+              elim (tied_meets t s m i e z) as (λ y. Tied t' s' since ⊎ Over t' s' since) [
                 | inl y ↦
                     let same = aligns_once src (IsOrigin gs) i.pos o m s y.to s' y.aligns al in
-                    elim (y.goes t' st) as (λ _. Tied t' s' since ⊎ Over s' since) [
+                    elim (y.goes t' st) as (λ _. Tied t' s' since ⊎ Over t' s' since) [
                       | inl w ↦ inl (record { last = waiting since i.pos; u = w.0; along = subst (λ (x : State). AlongF w.0 x since) same w.1; known = ap (waiting since) (sym (aligns_at src (IsOrigin gs) i.pos m s s' al)); related = inl w.2 })
-                      | inr w ↦ inr (w.0, ap (step src) (sym same) ∙ w.1)
+                      | inr w ↦ inr (subst (λ (x : State). Over t' x since) same w)
                     ]
                 | inr y ↦ absurd (aligns_not_fails src (IsOrigin gs) i.pos o m s s' al y)
               ]
-          | inr z ↦ absurd (aligns_not_fails src (IsOrigin gs) i.pos o m s s' al (over i.pos s m z))
-        ] where
-          over : (p : Pos) (s : State) (m : Since) → Over s m → FailsBefore src (IsOrigin gs) p m s
-          over p s m z = subst (λ (n : Since). FailsBefore src (IsOrigin gs) p n s) (sym z.0) (inl z.1)
+          | inr z ↦
+              elim (over_meets t s m i e z) as (λ y. Tied t' s' since ⊎ Over t' s' since) [
+                | inl y ↦ inr (over_past t s s' t' i e z.0 y.1 y.2 (stays_at src (IsOrigin gs) i.pos s s' y.1 (subst (λ (n : Since). Aligns src (IsOrigin gs) i.pos n s s') y.0 al)) st)
+                | inr y ↦ absurd (aligns_not_fails src (IsOrigin gs) i.pos o m s s' al y)
+              ]
+        ]
 
     pub still_follows : RunsAlong src g gs (AnyOrigin gs) s0 g0
     still_follows t s m i a e =
@@ -297,8 +372,33 @@ module _ (src f g : Program) (fs gs : Pos → Option Station) (R : Option Pos �
                 | inl y ↦ inl (y.to, y.aligns, y.agrees)
                 | inr y ↦ inr y
               ]
-          | inr z ↦ inr (subst (λ (n : Since). FailsBefore src (IsOrigin gs) i.pos n s) (sym z.0) (inl z.1))
+          | inr z ↦
+              elim (over_meets t s m i e z) as (λ y. ((s' : State) × Aligns src (IsOrigin gs) i.pos m s s' × Agrees src g t s') ⊎ FailsBefore src (IsOrigin gs) i.pos m s) [
+                | inl y ↦ inl (s, subst (λ (n : Since). Aligns src (IsOrigin gs) i.pos n s s) (sym y.0) (inl (y.1, refl)), y.2 t i stays e (sym y.1))
+                | inr y ↦ inr y
+              ]
         ]
+
+-- f is doomed on the way to g's next station, whichever it is
+pub record IsDoomedFrom (f g : Program) (fs gs : Pos → Option Station) (last : Option Pos) (t u : State) : Type 0 where
+  pub on_the_way : (t1 : State) (i : Station) → Passes g gs t t1 → gs t1.pos ≡ Some i → IsDoomed f fs gs i.pos last u
+
+-- it is enough that f is doomed where it stops
+module _ (src f g : Program) (s0 : State) (fs gs : Pos → Option Station) (R : Option Pos → State → State → Type 0) (origins : (p : Pos) → IsOrigin gs p → IsOrigin fs p)
+    (between : (last : Option Pos) (t u t' : State) → R last t u → gs t.pos ≡ None → step g t ≡ Went t' → R last t' u ⊎ IsDoomedFrom f g fs gs last t u)
+    (meets : (last : Option Pos) (t u : State) (i : Station) → R last t u → gs t.pos ≡ Some i → ((w : State) × Walk f fs gs i.pos last u w × Meets f g fs R t w i) ⊎ IsDoomed f fs gs i.pos last u) where
+  pub refines_or_doomed : Refines src f g s0 fs gs R
+  refines_or_doomed = record {
+    origins = origins;
+    between = λ last t u t' r e st. elim (between last t u t' r e st) as (λ _. R last t' u ⊎ IsStuckFrom src f g s0 fs gs last t u) [
+      | inl y ↦ inl y
+      | inr d ↦ inr (record { on_the_way = λ t1 i w h. doomed (d.on_the_way t1 i w h) })
+    ];
+    meets = λ last t u i r e. elim (meets last t u i r e) as (λ _. ((w : State) × Walk f fs gs i.pos last u w × Meets f g fs R t w i) ⊎ IsStuck src f g s0 fs gs last t u i) [
+      | inl y ↦ inl y
+      | inr d ↦ inr (doomed d)
+    ];
+  }
 
 pub refinement_follows : (R : Option Pos → State → State → Type 0) → RefinementFollows R
 refinement_follows R src f g fs gs s0 f0 g0 follows refines begins = still_follows src f g fs gs R s0 f0 g0 follows refines begins

@@ -4,25 +4,25 @@ use Rattle.std.proofs.lemmas.Bool.{cases_lt, cases_Bool}
 use Rattle.mir_func.specs.declared.position.Pos.{Pos}
 use Rattle.mir_func.specs.declared.position.Origin.{Origin}
 use Rattle.mir_func.specs.declared.item.Item.{Item}
-use Rattle.mir_func.specs.declared.item.ItemKind.{ItemKind}
-use Rattle.mir_func.specs.declared.item.ItemKind.TheVariants.{Code, Mark, Phi}
 use Rattle.mir_func.specs.meaning.State.{State, Core}
 use Rattle.mir_func.specs.meaning.Step.{Program, Fetch, Here, Silent, Outside, Went, Returned, Faulted, Lost, Outcome, Falls, Goes, Gives, Traps, Asks, Breaks, below, block_start, moved, do_item, do_fetch, step}
-use Rattle.mir_func.specs.meaning.Align.{position_of, is_code, Station, ByItems, ByEnds, moves_on, waits_at, station_of, station_at, IsOrigin, Since, After, since_of, AnyOrigin, RunsAlong}
-use Rattle.mir_func.specs.meaning.Graph.{FetchEdge, KindEdge}
+use Rattle.mir_func.specs.meaning.Align.{position_of, is_code, Station, ByItems, ByEnds, moves_on, waits_at, station_of, station_at, Since, After, since_of, AnyOrigin, RunsAlong}
+use Rattle.mir_func.specs.meaning.Graph.{FetchEdge}
 use Rattle.mir_func.specs.meaning.Follow.{rank, next_rank, InOrder}
-use Rattle.mir_func.specs.laws.Refinement.{waiting, Walk, there, on, past, MayPass, gone, late, IsDoomed, faults, later, later_past, Passes, still, pass, IsDoomedFrom, Meets}
+use Rattle.mir_func.specs.laws.Refinement.{waiting, Walk, there, on, IsDoomed, later, Passes, still, pass, Meets}
 use Rattle.mir_func.specs.laws.InPlace.{since_item, ShowsSame}
-use Rattle.mir_func.specs.laws.Rewired.{Reaches, arrived, debug, jump, finish, Leaves, by_end, by_jump, by_branch, DoAlike, View, both, added, paired, closes, ended, Rewired, RewiredFollows}
+use Rattle.mir_func.specs.laws.Rewired.{Reaches, Leaves, DoAlike, View, both, added, paired, closes, ended, RewiredFollows}
 use Rattle.mir_func.proofs.Alignment.{went_once}
 use Rattle.mir_func.proofs.Edges.{step_edge}
-use Rattle.mir_func.proofs.Outcomes.{step_item, step_end}
-use Rattle.mir_func.proofs.Refinement.{still_follows}
-use Rattle.mir_func.proofs.Order.{rank_high, rank_next, same_pos, cases_waiting, IsDone, done_more, waits_after, done_past, done_self, waits_where, IsUntil, until_more, until_here}
-use Rattle.mir_func.proofs.Stations.{code_station, debug_station, end_is_station, code_is_some, code_is, debug_is_none, IsStationOf, of_item, of_end, station_is_of, not_past_items, falls_stays}
+use Rattle.mir_func.proofs.Outcomes.{step_item}
+use Rattle.mir_func.proofs.Refinement.{IsDoomedFrom, refines_or_doomed, still_follows}
+use Rattle.mir_func.proofs.Order.{done_next, rank_next, same_pos, IsDone, done_more, waits_after, done_past, done_self, waits_where, IsUntil, until_more, until_here}
+use Rattle.mir_func.proofs.Stations.{not_code, debug_below, code_station, debug_station, end_is_station, code_is_some, code_is, debug_is_none, IsStationOf, of_item, of_end, station_is_of, not_past_items, falls_stays}
+use Rattle.mir_func.proofs.Bypassed.{Rewiring, AllDone, ends_f, ends_g, leaves, not_waiting, reaches}
 
-module _ (f g : Program) (rf rg : Pos → List Item) (place : ℕ → ℕ) (Has : ℕ → Type 0) (Stage : Type 0) (entry : ℕ → Stage) (S : Stage → ℕ → List Item → List Item → Type 0) (Q : Stage → ℕ → List Item → List Item → Core → Core → Type 0) (G : ℕ → Core → Core → Type 0)
-    (ip : Rewired f g rf rg place Has Stage entry S Q G) where
+module _ (rewiring : Rewiring) where
+  open rewiring use {f, g, rf, rg, place, Has, Stage, entry, S, Q, G, ip}
+
   abbrev fs : Pos → Option Station
   fs p = station_at ByEnds f p
 
@@ -40,105 +40,6 @@ module _ (f g : Program) (rf rg : Pos → List Item) (place : ℕ → ℕ) (Has 
 
   abbrev Seen : ℕ → Stage → List Item → List Item → Type 0
   Seen b k xs ys = View f g rf rg place Has Stage entry S Q G b k xs ys
-
-  -- steps of both programs
-  goes_to_f : (p : Pos) (c : Core) (x : Item) (n : ℕ) (e : Core) → f.fetch p ≡ Here x → do_item f x.kind c ≡ Goes n e → step f (record { pos = p; core = c }) ≡ Went (record { pos = block_start n; core = e })
-  goes_to_f p c x n e fx o = step_item f (record { pos = p; core = c }) x (Goes n e) fx o ∙ ap (λ (z : ℕ). Went (record { pos = block_start z; core = e })) (ip.enter_f n)
-
-  ends_f : (p : Pos) (c : Core) (k n : ℕ) → f.fetch p ≡ Silent k n → step f (record { pos = p; core = c }) ≡ Went (record { pos = block_start n; core = c })
-  ends_f p c k n fx = step_end f (record { pos = p; core = c }) k n fx ∙ ap (λ (z : ℕ). Went (record { pos = block_start z; core = c })) (ip.enter_f n)
-
-  ends_g : (t : State) (k n : ℕ) → g.fetch t.pos ≡ Silent k n → step g t ≡ Went (record { pos = block_start n; core = t.core })
-  ends_g t k n fx = step_end g t k n fx ∙ ap (λ (z : ℕ). Went (record { pos = block_start z; core = t.core })) (ip.enter_g n)
-
-  not_waiting : (p : Pos) → None ≡ Some p → ⊥
-  not_waiting p e = cc
-
-  -- f has come from v to the start of block e; positions that are Far it may have passed on its way
-  record Come (e : ℕ) (last : Option Pos) (v : State) (d : Core) (Far : Pos → Type 0) : Type 0 where
-    c : Core
-    carried : G e c d
-    walks : (p : Pos) (z : State) → Far p → Walk f fs gs p None (record { pos = block_start e; core = c }) z → Walk f fs gs p last v z
-    dooms : (p : Pos) → Far p → IsDoomed f fs gs p None (record { pos = block_start e; core = c }) → IsDoomed f fs gs p last v
-
-  abbrev Any : Pos → Type 0
-  Any p = Unit {0}
-
-  -- past a station at which it doesn't stay
-  past_station : (e : ℕ) (last : Option Pos) (v w : State) (d : Core) (Far : Pos → Type 0) (Near : Pos → Type 0) (j : Station) → fs v.pos ≡ Some j → since_of j.waits ≡ After → step f v ≡ Went w → ((p : Pos) → Far p → MayPass gs p last j) → ((p : Pos) → Far p → Near p) → Come e None w d Near → Come e last v d Far
-  past_station e last v w d Far Near j s af go may near r = record {
-    c = r.c;
-    carried = r.carried;
-    walks = λ p z far k. past j s (may p far) go (subst (λ (m : Since). Walk f fs gs p (waiting m j.pos) w z) (sym af) (r.walks p z (near p far) k));
-    dooms = λ p far k. later_past j s (may p far) go (subst (λ (m : Since). IsDoomed f fs gs p (waiting m j.pos) w) (sym af) (r.dooms p (near p far) k));
-  }
-
-  reaches : (e : ℕ) {p : Pos} → To e p → (c d : Core) → G e c d → Come e None (record { pos = p; core = c }) d Any
-  reaches e (arrived {p = p} at) c d k = record { c = c; carried = k; walks = λ q z fa w. subst (λ (y : Pos). Walk f fs gs q None (record { pos = y; core = c }) z) (sym at) w; dooms = λ q fa w. subst (λ (y : Pos). IsDoomed f fs gs q None (record { pos = y; core = c })) (sym at) w }
-  reaches e (debug {p = p} x fx cx h rest) c d k =
-      let a = h c d k in
-      let r = reaches e rest a.0 d a.2 in
-      let none = debug_station ByEnds f p x fx cx in
-      let go = step_item f (record { pos = p; core = c }) x (Falls a.0) fx a.1 in
-      record { c = r.c; carried = r.carried; walks = λ q z fa w. on none go (r.walks q z fa w); dooms = λ q fa w. later none go (r.dooms q fa w) }
-  reaches e (jump {p = p} x n fx cx af absent h rest) c d k =
-      let a = h c d k in
-      past_station e None (record { pos = p; core = c }) (record { pos = block_start n; core = a.0 }) d Any Any (station_of ByEnds x) (code_station ByEnds f p x fx cx) af (goes_to_f p c x n a.0 fx a.1) (λ q fa. gone absent (not_waiting q)) (λ q fa. fa) (reaches e rest a.0 d a.2)
-  reaches e (finish {p = p} k0 n fx absent rest) c d k =
-      past_station e None (record { pos = p; core = c }) (record { pos = block_start n; core = c }) d Any Any (record { pos = record { block = p.block; item = k0 }; waits = false }) (end_is_station ByEnds f p k0 n fx) refl (ends_f p c k0 n fx) (λ q fa. gone absent (not_waiting q)) (λ q fa. fa) (reaches e rest c d k)
-
-  -- all code of g from block b is before a rank
-  abbrev AllDone : (b n : ℕ) → Option Pos → Type 0
-  AllDone b n last = (q : Pos) → IsOrigin gs q → q.block ≡ b → IsDone n last q
-
-  may_leave : (b n : ℕ) (last : Option Pos) (p : Pos) (j : Station) → j.pos.block ≡ b → n ≤ 2 * j.pos.item + 1 → AllDone b n last → (last ≡ Some p → ⊥) → MayPass gs p last j
-  may_leave b n last p j jb le done far =
-      elim (cases_waiting last j.pos) as (λ z. MayPass gs p last j) [
-        | inl e ↦ late e (λ k. far (e ∙ ap Some k))
-        | inr ne ↦ gone (λ o. elim (done j.pos o jb) as (λ z. ⊥) [ inl h ↦ omega (arith, h, le) | inr h ↦ ne h ]) far
-      ]
-
-  -- f is doomed on the way to whatever station of g, where the source doesn't wait
-  abbrev Fate : Option Pos → State → Type 0
-  Fate last v = (q : Pos) → IsOrigin gs q → (last ≡ Some q → ⊥) → IsDoomed f fs gs q last v
-
-  apart : (b n : ℕ) (last : Option Pos) (p : Pos) (j : Station) → j.pos.block ≡ b → n ≤ 2 * j.pos.item + 1 → AllDone b n last → IsOrigin gs p → (last ≡ Some p → ⊥) → j.pos ≡ p → ⊥
-  apart b n last p j jb le done o far e =
-      elim (done p o (ap (λ (z : Pos). z.block) (sym e) ∙ jb)) as (λ z. ⊥) [
-        | inl h ↦ (let i : j.pos.item ≡ p.item = ap (λ (z : Pos). z.item) e in omega (arith, h, le, i))
-        | inr h ↦ far h
-      ]
-
-  -- f leaves its block, where g's is over
-  leaves : (e b : ℕ) {xs : List Item} → From e b xs → (p : Pos) (c d : Core) (n : ℕ) (last : Option Pos) → p.block ≡ b → rf p ≡ xs → InOrder b n xs → ((q : Pos) (k l : ℕ) → q.block ≡ b → f.fetch q ≡ Silent k l → n ≤ 2 * k) → ((q : Pos) → last ≡ Some q → q.block ≡ b → 2 * q.item ≤ n) → AllDone b n last → G e c d →
-      Come e last (record { pos = p; core = c }) d (λ q. last ≡ Some q → ⊥) ⊎ Fate last (record { pos = p; core = c })
-  leaves e b (by_end k m at to) p c d n last pb ef ord high known done gg =
-      let fx = at p pb ef in
-      let hi = high p k m pb fx in
-      let j : Station = record { pos = record { block = p.block; item = k }; waits = false } in
-      inl (past_station e last (record { pos = p; core = c }) (record { pos = block_start m; core = c }) d (λ q. last ≡ Some q → ⊥) Any j (end_is_station ByEnds f p k m fx) refl (ends_f p c k m fx) (λ q far. may_leave b n last q j pb (omega (arith, hi)) done far) (λ q far. tt) (reaches e to c d gg))
-  leaves e b (by_jump {xs = xs} x m cx af h to) p c d n last pb ef ord high known done gg =
-      let fx = (ip.laid_f.cons p x xs ef).0 in
-      let a = h c d gg in
-      let le : n ≤ 2 * (position_of x.origin).item + 1 = (let kh = rank_high x.origin in let o = ord.1 in omega (arith, kh, o)) in
-      inl (past_station e last (record { pos = p; core = c }) (record { pos = block_start m; core = a.0 }) d (λ q. last ≡ Some q → ⊥) Any (station_of ByEnds x) (code_station ByEnds f p x fx cx) af (goes_to_f p c x m a.0 fx a.1) (λ q far. may_leave b n last q (station_of ByEnds x) ord.0 le done far) (λ q far. tt) (reaches e to a.0 d a.2))
-  leaves e b (by_branch {xs = xs} x m cx stays af h to more) p c d n last pb ef ord high known done gg =
-      let v : State = record { pos = p; core = c } in
-      let fe = ip.laid_f.cons p x xs ef in
-      let sx = code_station ByEnds f p x fe.0 cx in
-      let le : n ≤ 2 * (position_of x.origin).item + 1 = (let kh = rank_high x.origin in let o = ord.1 in omega (arith, kh, o)) in
-      elim (h c d gg) as (λ z. Come e last (record { pos = p; core = c }) d (λ q. last ≡ Some q → ⊥) ⊎ Fate last (record { pos = p; core = c })) [
-        | inl a ↦ inl (past_station e last v (record { pos = block_start m; core = a.0 }) d (λ q. last ≡ Some q → ⊥) Any (station_of ByEnds x) sx af (goes_to_f p c x m a.0 fe.0 a.1) (λ q far. may_leave b n last q (station_of ByEnds x) ord.0 le done far) (λ q far. tt) (reaches e to a.0 d a.2))
-        | inr (inr tr) ↦ inr (λ q oq far. faults (station_of ByEnds x) sx (may_leave b n last q (station_of ByEnds x) ord.0 le done far) (apart b n last q (station_of ByEnds x) ord.0 le done oq far) (step_item f v x Traps fe.0 tr))
-        | inr (inl a) ↦
-            let go = step_item f v x (Falls a.0) fe.0 a.1 in
-            let after : since_of (waits_at false x.origin) ≡ After = ap (λ (y : Bool). since_of (waits_at y x.origin)) (sym stays) ∙ af in
-            let done' : AllDone b (next_rank x.origin) None = λ q o qb. subst (λ (y : Since). IsDone (next_rank x.origin) (waiting y (position_of x.origin)) q) after (done_past x.origin n last q (ord.0 ∙ sym qb) ord.1 (λ k. known q k qb) (done q o qb)) in
-            elim (leaves e b more (below p) a.0 d (next_rank x.origin) None pb fe.1 ord.2 (λ q k l qb fq. ip.within_f p q x k l fe.0 fq (pb ∙ sym qb)) (λ q bad qb. absurd (not_waiting q bad)) done' a.2) as (λ z. Come e last (record { pos = p; core = c }) d (λ q. last ≡ Some q → ⊥) ⊎ Fate last (record { pos = p; core = c })) [
-              | inl r ↦ inl (past_station e last v (record { pos = below p; core = a.0 }) d (λ q. last ≡ Some q → ⊥) (λ q. None ≡ Some q → ⊥) (station_of ByEnds x) sx af go (λ q far. may_leave b n last q (station_of ByEnds x) ord.0 le done far) (λ q far. not_waiting q) r)
-              | inr w ↦ inr (λ q oq far. later_past (station_of ByEnds x) sx (may_leave b n last q (station_of ByEnds x) ord.0 le done far) go (subst (λ (m : Since). IsDoomed f fs gs q (waiting m (position_of x.origin)) (record { pos = below p; core = a.0 })) (sym af) (w q oq (not_waiting q))))
-            ]
-      ]
 
   -- f stands at v beside g at t in one block; it was at u right after the station that both met last
   record Within (last0 : Option Pos) (t u : State) : Type 0 where
@@ -186,7 +87,7 @@ module _ (f g : Program) (rf rg : Pos → List Item) (place : ℕ → ℕ) (Has 
     static = ip.starts e has;
     dynamic = q;
     order_f = ip.order_f e;
-    known = λ p bad. absurd (not_waiting p bad);
+    known = λ p bad. absurd (not_waiting rewiring p bad);
     done = λ j i lt fi ci. absurd (omega (arith, lt));
     high = λ p j l pb fp. omega arith;
     walks = walks;
@@ -199,7 +100,7 @@ module _ (f g : Program) (rf rg : Pos → List Item) (place : ℕ → ℕ) (Has 
   nothing_past (suc j) q i e fi = let z : q.item + suc j ≡ (q.item + 1) + j = omega arith in nothing_past j (below q) i (ip.laid_g.nil q e).1 (subst (λ (n : ℕ). g.fetch (record { block = q.block; item = n }) ≡ Here i) z fi)
 
   -- where g's block is over, all its code is done
-  all_done : (b n : ℕ) (last : Option Pos) (t : Pos) → t.block ≡ b → rg t ≡ [] → ((j : ℕ) (i : Item) → j < t.item → g.fetch (record { block = b; item = j }) ≡ Here i → is_code i.kind ≡ true → IsDone n last (position_of i.origin)) → AllDone b n last
+  all_done : (b n : ℕ) (last : Option Pos) (t : Pos) → t.block ≡ b → rg t ≡ [] → ((j : ℕ) (i : Item) → j < t.item → g.fetch (record { block = b; item = j }) ≡ Here i → is_code i.kind ≡ true → IsDone n last (position_of i.origin)) → AllDone rewiring b n last
   all_done b n last t tb eg done q o qb = by_station (station_is_of ByItems g o.place o.station o.stands) where
     by_station : IsStationOf ByItems g o.place o.station → IsDone n last q
     by_station (of_end k m fe ce ie) = cc
@@ -221,27 +122,6 @@ module _ (f g : Program) (rf rg : Pos → List Item) (place : ℕ → ℕ) (Has 
         | inr x ↦ omega (arith, x, lt, le)
       ]
 
-  -- what is done once g is past its item y
-  done_next : (p : Pos) (b n n' : ℕ) (last last' : Option Pos) (y : Item) → b ≡ p.block → g.fetch p ≡ Here y → ((q : Pos) → q.block ≡ b → IsDone n last q → IsDone n' last' q) → (is_code y.kind ≡ true → IsDone n' last' (position_of y.origin)) →
-      ((j : ℕ) (i : Item) → j < p.item → g.fetch (record { block = b; item = j }) ≡ Here i → is_code i.kind ≡ true → IsDone n last (position_of i.origin)) →
-      (j : ℕ) (i : Item) → j < p.item + 1 → g.fetch (record { block = b; item = j }) ≡ Here i → is_code i.kind ≡ true → IsDone n' last' (position_of i.origin)
-  done_next p b n n' last last' y bp fy more own done j i lt fi ci =
-      elim (cases_lt j p.item) as (λ z. IsDone n' last' (position_of i.origin)) [
-        | inl l ↦ more (position_of i.origin) (ip.home _ i fi) (done j i l fi ci)
-        | inr ge ↦
-            let w : Here y ≡ Here i = sym fy ∙ subst (λ (z : Pos). g.fetch z ≡ Here i) (same_pos (record { block = b; item = j }) p bp (omega (arith, lt, ge))) fi in
-            let yi : y ≡ i = cc in
-            subst (λ (z : Item). IsDone n' last' (position_of z.origin)) yi (own (subst (λ (z : Item). is_code z.kind ≡ true) (sym yi) ci))
-      ]
-
-  not_code : {P : Type 0} (y : Item) → is_code y.kind ≡ false → is_code y.kind ≡ true → P
-  not_code y e h = let bad : true ≡ false = sym h ∙ e in cc
-
-  debug_kind_below : (k : ItemKind) → is_code k ≡ false → (p q : Pos) → KindEdge g.enter k p q → q ≡ below p
-  debug_kind_below (Code c n) e p q k = cc
-  debug_kind_below (Mark v m) e p q k = k
-  debug_kind_below (Phi r n) e p q k = k
-
   -- g goes down between stations
   goes_down : (t t' : State) → gs t.pos ≡ None → step g t ≡ Went t' → place t.pos.block ≤ place t'.pos.block
   goes_down t t' none go = by_fetch (g.fetch t.pos) refl where
@@ -250,12 +130,12 @@ module _ (f g : Program) (rf rg : Pos → List Item) (place : ℕ → ℕ) (Has 
         elim (cases_Bool (is_code y.kind)) as (λ _. place t.pos.block ≤ place t'.pos.block) [
           | inl c ↦ absurd (code_is_some ByItems g t.pos y none e c)
           | inr c ↦
-              let at = debug_kind_below y.kind c t.pos t'.pos (subst (λ (z : Fetch). FetchEdge g.enter z t.pos t'.pos) e (step_edge g t t' go)) in
+              let at = debug_below g y.kind c t.pos t'.pos (subst (λ (z : Fetch). FetchEdge g.enter z t.pos t'.pos) e (step_edge g t t' go)) in
               let k : place t'.pos.block ≡ place t.pos.block = ap (λ (z : Pos). place z.block) at in omega (arith, k)
         ]
     by_fetch (Silent k n) e =
         let lt = ip.onward t.pos k n e in
-        let z : place t'.pos.block ≡ place n = ap (λ (q : State). place q.pos.block) (went_once g t t' (record { pos = block_start n; core = t.core }) go (ends_g t k n e)) in
+        let z : place t'.pos.block ≡ place n = ap (λ (q : State). place q.pos.block) (went_once g t t' (record { pos = block_start n; core = t.core }) go (ends_g rewiring t k n e)) in
         omega (arith, lt, z)
     by_fetch Outside e = let bad : Lost ≡ Went t' = sym (ap (λ (z : Fetch). moved g.enter t.pos (do_fetch g z t.core)) e) ∙ go in cc
 
@@ -290,7 +170,7 @@ module _ (f g : Program) (rf rg : Pos → List Item) (place : ℕ → ℕ) (Has 
         dynamic = rw ge.1 (subst (λ (z : List Item). Q k' b z ts r.v.core d.0) (sym ef) d.2);
         order_f = r.order_f;
         known = r.known;
-        done = done_next t.pos b r.n r.n r.last r.last y (sym r.block) ge.0 (λ q qb z. z) (λ c. not_code y cy c) r.done;
+        done = done_next g ip.home t.pos b r.n r.n r.last r.last y (sym r.block) ge.0 (λ q qb z. z) (λ c. not_code y cy c) r.done;
         high = r.high;
         walks = r.walks;
         dooms = r.dooms;
@@ -316,7 +196,7 @@ module _ (f g : Program) (rf rg : Pos → List Item) (place : ℕ → ℕ) (Has 
         dynamic = rw (fe.1, ge.1) d.4;
         order_f = rw fe.1 ord.2;
         known = λ p k. until_more place b r.n (next_rank x.origin) p le (r.known p k);
-        done = done_next t.pos b r.n (next_rank x.origin) r.last r.last y (sym r.block) ge.0 (λ q qb z. done_more r.n (next_rank x.origin) r.last q le z) (λ c. not_code y cy c) r.done;
+        done = done_next g ip.home t.pos b r.n (next_rank x.origin) r.last r.last y (sym r.block) ge.0 (λ q qb z. done_more r.n (next_rank x.origin) r.last q le z) (λ c. not_code y cy c) r.done;
         high = λ q k l qb fq. ip.within_f r.v.pos q x k l fe.0 fq (sym qb);
         walks = λ p le2 w j. r.walks p le2 w (on none_f go_f j);
         dooms = λ p le2 w. r.dooms p le2 (later none_f go_f w);
@@ -327,13 +207,13 @@ module _ (f g : Program) (rf rg : Pos → List Item) (place : ℕ → ℕ) (Has 
       let fl = falls t.pos r.block eg in
       let lt : place b < place e = subst (λ (z : ℕ). place z < place e) r.block (ip.onward t.pos fl.0 e fl.1) in
       let t1 : State = record { pos = block_start e; core = t.core } in
-      elim (leaves e b rest r.v.pos r.v.core t.core r.n r.last refl ef (subst (InOrder b r.n) ef r.order_f) r.high (λ q k qb. until_here place b r.n q qb (r.known q k)) (all_done b r.n r.last t.pos r.block eg r.done) (h r.v.core t.core (dynamic_at last0 t u r xs [] ef eg))) as (λ _. Within last0 t' u ⊎ IsDoomedFrom f g fs gs last0 t u) [
+      elim (leaves rewiring e b rest r.v.pos r.v.core t.core r.n r.last refl ef (subst (InOrder b r.n) ef r.order_f) r.high (λ q k qb. until_here place b r.n q qb (r.known q k)) (all_done b r.n r.last t.pos r.block eg r.done) (h r.v.core t.core (dynamic_at last0 t u r xs [] ef eg))) as (λ _. Within last0 t' u ⊎ IsDoomedFrom f g fs gs last0 t u) [
         | inl l ↦
             let made = at_start last0 u e l.c t.core has (ip.arrives e l.c t.core has l.carried) (λ p le w j. r.walks p (omega (arith, lt, le)) w (l.walks p w (not_until b r.n r.last p e r.known lt le) j)) (λ p le w. r.dooms p (omega (arith, lt, le)) (l.dooms p (not_until b r.n r.last p e r.known lt le) w)) in
-            inl (subst (λ (z : State). Within last0 z u) (went_once g t t1 t' (ends_g t fl.0 e fl.1) go) made)
+            inl (subst (λ (z : State). Within last0 z u) (went_once g t t1 t' (ends_g rewiring t fl.0 e fl.1) go) made)
         | inr w ↦ inr (record {
           on_the_way = λ t2 i w2 e2.
-              let le : place e ≤ place i.pos.block = (let z = past_end t t' t2 i none go w2 e2 in let y : place t'.pos.block ≡ place e = ap (λ (q : State). place q.pos.block) (went_once g t t' t1 go (ends_g t fl.0 e fl.1)) in omega (arith, z, y)) in
+              let le : place e ≤ place i.pos.block = (let z = past_end t t' t2 i none go w2 e2 in let y : place t'.pos.block ≡ place e = ap (λ (q : State). place q.pos.block) (went_once g t t' t1 go (ends_g rewiring t fl.0 e fl.1)) in omega (arith, z, y)) in
               r.dooms i.pos (omega (arith, lt, le)) (w i.pos (record { place = t2.pos; station = i; stands = e2; from = refl }) (not_until b r.n r.last i.pos e r.known lt le));
         })
       ]
@@ -344,7 +224,7 @@ module _ (f g : Program) (rf rg : Pos → List Item) (place : ℕ → ℕ) (Has 
   between last0 t u t' (inr (inl r)) none st =
       let t1 : State = record { pos = block_start r.e; core = t.core } in
       let made = at_start last0 u r.e r.c t.core r.has (ip.arrives r.e r.c t.core r.has r.carried) (λ p le w j. r.walks p w j) (λ p le w. r.dooms p w) in
-      inl (inl (subst (λ (z : State). Within last0 z u) (went_once g t t1 t' (ends_g t r.k r.e r.falls) st) made))
+      inl (inl (subst (λ (z : State). Within last0 z u) (went_once g t t1 t' (ends_g rewiring t r.k r.e r.falls) st) made))
 
   do_returns : (b : ℕ) (xs ys : List Item) (m : Since) (x y : Outcome) → Alike b xs ys m x y → (p q : Pos) (v : List ℕ) → moved g.enter q y ≡ Returned v → moved f.enter p x ≡ Returned v
   do_returns b xs ys m (Gives v) (Gives w) e p q z h = ap Returned e ∙ h
@@ -401,7 +281,7 @@ module _ (f g : Program) (rf rg : Pos → List Item) (place : ℕ → ℕ) (Has 
         dynamic = rw (fe.1, ge.1) al.2;
         order_f = rw fe.1 (subst (λ (z : Origin). InOrder b (next_rank z) xs) o ord.2);
         known = λ p k. let z = waits_where y.origin p k in inl (ap (λ (q : Pos). q.block) z.0 ∙ home, z.1);
-        done = done_next t.pos b r.n (next_rank y.origin) r.last last y (sym r.block) ge.0 (λ q qb z. done_past y.origin r.n r.last q (home ∙ sym qb) low (λ k. until_here place b r.n q qb (r.known q k)) z) (λ c. done_self y.origin) r.done;
+        done = done_next g ip.home t.pos b r.n (next_rank y.origin) r.last last y (sym r.block) ge.0 (λ q qb z. done_past y.origin r.n r.last q (home ∙ sym qb) low (λ k. until_here place b r.n q qb (r.known q k)) z) (λ c. done_self y.origin) r.done;
         high = λ q k m qb fq. subst (λ (z : Origin). next_rank z ≤ 2 * k) o (ip.within_f r.v.pos q x k m fe.0 fq (sym qb));
         walks = λ p ok w j. j;
         dooms = λ p le w. w;
@@ -413,7 +293,7 @@ module _ (f g : Program) (rf rg : Pos → List Item) (place : ℕ → ℕ) (Has 
       let went : Went t1 ≡ Went t' = ap (λ (z : ℕ). Went (record { pos = block_start z; core = e' })) (sym (ip.enter_g k)) ∙ st in
       let is : t1 ≡ t' = cc in
       let after : since_item ByItems y ≡ After = sym sy ∙ al.0 in
-      let l = reaches k al.2 e e' al.3 in
+      let l = reaches rewiring k al.2 e e' al.3 in
       let made = at_start None w1 k l.c e' al.1 (ip.arrives k l.c e' al.1 l.carried) (λ p le w j. l.walks p w tt j) (λ p le w. l.dooms p tt w) in
       inl (w1, ap (λ (z : ℕ). Went (record { pos = block_start z; core = e })) (ip.enter_f n), inl (subst (λ (z : State). Within (waiting (since_item ByItems y) (position_of y.origin)) z w1) is (subst (λ (z : Since). Within (waiting z (position_of y.origin)) t1 w1) (sym after) made)))
   goes_on last0 t u r x y xs ys ef eg o sy (Falls e) (Goes k e') stays stays_f al t' st =
@@ -429,14 +309,14 @@ module _ (f g : Program) (rf rg : Pos → List Item) (place : ℕ → ℕ) (Has 
       let is : t1 ≡ t' = cc in
       let after : since_item ByItems y ≡ After = sym sy ∙ al.0 in
       let past_y : since_of (waits_at false y.origin) ≡ After = ap (λ (z : Origin). since_of (waits_at false z)) (sym o) ∙ ap (λ (z : Bool). since_of (waits_at z x.origin)) (sym (stays_f e refl)) ∙ al.0 in
-      let done0 = done_next t.pos b r.n (next_rank y.origin) r.last (waits_after y.origin) y (sym r.block) ge.0 (λ q qb z. done_past y.origin r.n r.last q (home ∙ sym qb) low (λ k. until_here place b r.n q qb (r.known q k)) z) (λ c. done_self y.origin) r.done in
-      let done : AllDone b (next_rank y.origin) None = subst (λ (z : Since). AllDone b (next_rank y.origin) (waiting z (position_of y.origin))) past_y (all_done b (next_rank y.origin) (waits_after y.origin) (below t.pos) r.block (ge.1 ∙ al.2) done0) in
-      elim (leaves k b al.3 (below r.v.pos) e e' (next_rank y.origin) None refl fe.1 (subst (λ (z : Origin). InOrder b (next_rank z) xs) o ord.2) (λ q j m qb fq. subst (λ (z : Origin). next_rank z ≤ 2 * j) o (ip.within_f r.v.pos q x j m fe.0 fq (sym qb))) (λ q bad qb. absurd (not_waiting q bad)) done al.4)
+      let done0 = done_next g ip.home t.pos b r.n (next_rank y.origin) r.last (waits_after y.origin) y (sym r.block) ge.0 (λ q qb z. done_past y.origin r.n r.last q (home ∙ sym qb) low (λ k. until_here place b r.n q qb (r.known q k)) z) (λ c. done_self y.origin) r.done in
+      let done : AllDone rewiring b (next_rank y.origin) None = subst (λ (z : Since). AllDone rewiring b (next_rank y.origin) (waiting z (position_of y.origin))) past_y (all_done b (next_rank y.origin) (waits_after y.origin) (below t.pos) r.block (ge.1 ∙ al.2) done0) in
+      elim (leaves rewiring k b al.3 (below r.v.pos) e e' (next_rank y.origin) None refl fe.1 (subst (λ (z : Origin). InOrder b (next_rank z) xs) o ord.2) (λ q j m qb fq. subst (λ (z : Origin). next_rank z ≤ 2 * j) o (ip.within_f r.v.pos q x j m fe.0 fq (sym qb))) (λ q bad qb. absurd (not_waiting rewiring q bad)) done al.4)
       as (λ _. Onward r.v y (Falls e) t') [
         | inl l ↦
-            let made = at_start None w1 k l.c e' al.1 (ip.arrives k l.c e' al.1 l.carried) (λ p le w j. l.walks p w (not_waiting p) j) (λ p le w. l.dooms p (not_waiting p) w) in
+            let made = at_start None w1 k l.c e' al.1 (ip.arrives k l.c e' al.1 l.carried) (λ p le w j. l.walks p w (not_waiting rewiring p) j) (λ p le w. l.dooms p (not_waiting rewiring p) w) in
             inl (w1, refl, inl (subst (λ (z : State). Within (waiting (since_item ByItems y) (position_of y.origin)) z w1) is (subst (λ (z : Since). Within (waiting z (position_of y.origin)) t1 w1) (sym after) made)))
-        | inr w ↦ inl (w1, refl, inr (inr (subst (λ (z : Since). IsDoomedFrom f g fs gs (waiting z (position_of y.origin)) t' w1) (sym after) (record { on_the_way = λ t2 i w2 e2. w i.pos (record { place = t2.pos; station = i; stands = e2; from = refl }) (not_waiting i.pos) }))))
+        | inr w ↦ inl (w1, refl, inr (inr (subst (λ (z : Since). IsDoomedFrom f g fs gs (waiting z (position_of y.origin)) t' w1) (sym after) (record { on_the_way = λ t2 i w2 e2. w i.pos (record { place = t2.pos; station = i; stands = e2; from = refl }) (not_waiting rewiring i.pos) }))))
       ]
   goes_on last0 t u r x y xs ys ef eg o sy (Goes n e) (Falls e') stays stays_f al t' st =
       let ge = ip.laid_g.cons t.pos y ys eg in
@@ -447,7 +327,7 @@ module _ (f g : Program) (rf rg : Pos → List Item) (place : ℕ → ℕ) (Has 
       let to = al.2 in
       let over : rg (below t.pos) ≡ [] = ge.1 ∙ al.1 in
       let fl = to.2 (below t.pos) r.block over in
-      let l = reaches to.0 to.3 e e' to.4 in
+      let l = reaches rewiring to.0 to.3 e e' to.4 in
       let made : AtDoor None t1 w1 = record { e = to.0; c = l.c; k = fl.0; has = to.1; over = over; falls = fl.1; carried = l.carried; walks = λ p w j. l.walks p w tt j; dooms = λ p w. l.dooms p tt w } in
       inl (w1, ap (λ (z : ℕ). Went (record { pos = block_start z; core = e })) (ip.enter_f n), inr (inl (subst (λ (z : State). AtDoor (waiting (since_item ByItems y) (position_of y.origin)) z w1) is (subst (λ (z : Since). AtDoor (waiting z (position_of y.origin)) t1 w1) (sym after) made))))
   goes_on last0 t u r x y xs ys ef eg o sy (Gives v) (Gives w) stays stays_f al t' st = cc
@@ -504,9 +384,9 @@ module _ (f g : Program) (rf rg : Pos → List Item) (place : ℕ → ℕ) (Has 
       let ge = ip.laid_g.cons t.pos y ys eg in
       let w1 : State = record { pos = block_start n; core = r.v.core } in
       let t1 : State = record { pos = block_start e; core = d } in
-      let go_f = ends_f r.v.pos r.v.core k n fx in
+      let go_f = ends_f rewiring r.v.pos r.v.core k n fx in
       let go : step g t ≡ Went t1 = step_item g t y (Goes e d) ge.0 goes ∙ ap (λ (z : ℕ). Went (record { pos = block_start z; core = d })) (ip.enter_g e) in
-      let l = reaches e to r.v.core d gg in
+      let l = reaches rewiring e to r.v.core d gg in
       let next : Beside None t1 w1 = inl (at_start None w1 e l.c d has (ip.arrives e l.c d has l.carried) (λ p le w q. l.walks p w tt q) (λ p le w. l.dooms p tt w)) in
       let near : place b ≤ place (position_of y.origin).block = (let q : place (position_of y.origin).block ≡ place b = ap (λ (z : Pos). place z.block) o in omega (arith, q)) in
       let made : Meets f g fs Beside t r.v (station_of ByItems y) = record {
@@ -549,8 +429,9 @@ module _ (f g : Program) (rf rg : Pos → List Item) (place : ℕ → ℕ) (Has 
   rewired_runs_along src s0 b at has q follows =
       let s1 : State = record { pos = block_start b; core = s0.core } in
       let e : s1 ≡ s0 = λ i. record { pos = sym at i; core = s0.core } in
-      still_follows src f g fs gs Beside s0 s0 s0 follows (record { origins = ip.origins; between = between; meets = meets })
+      still_follows src f g fs gs Beside s0 s0 s0 follows (refines_or_doomed src f g s0 fs gs Beside ip.origins between meets)
       (inl (subst (λ (z : State). Within None z z) e (at_start None s1 b s0.core s0.core has q (λ p le w j. j) (λ p le w. w))))
 
 pub rewired_follows : (Has : ℕ → Type 0) (Stage : Type 0) (entry : ℕ → Stage) (S : Stage → ℕ → List Item → List Item → Type 0) (Q : Stage → ℕ → List Item → List Item → Core → Core → Type 0) (G : ℕ → Core → Core → Type 0) → RewiredFollows Has Stage entry S Q G
-rewired_follows Has Stage entry S Q G src f g rf rg place ip s0 b at has q follows = rewired_runs_along f g rf rg place Has Stage entry S Q G ip src s0 b at has q follows
+rewired_follows Has Stage entry S Q G src f g rf rg place ip s0 b at has q follows =
+    rewired_runs_along (record { f = f; g = g; rf = rf; rg = rg; place = place; Has = Has; Stage = Stage; entry = entry; S = S; Q = Q; G = G; ip = ip }) src s0 b at has q follows

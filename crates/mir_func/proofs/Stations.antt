@@ -6,7 +6,8 @@ use Rattle.mir_func.specs.declared.item.Item.{Item}
 use Rattle.mir_func.specs.declared.item.ItemKind.{ItemKind}
 use Rattle.mir_func.specs.declared.item.ItemKind.TheVariants.{Code, Mark, Phi}
 use Rattle.mir_func.specs.meaning.State.{Core}
-use Rattle.mir_func.specs.meaning.Step.{Program, Fetch, Here, Silent, Outside, Falls, does, act, with_core, numbered, is_call, do_item}
+use Rattle.mir_func.specs.meaning.Step.{Program, Fetch, Here, Silent, Outside, Falls, below, does, act, with_core, numbered, is_call, do_item}
+use Rattle.mir_func.specs.meaning.Graph.{KindEdge}
 use Rattle.mir_func.specs.meaning.Align.{is_code, is_jump, is_jump_row, Station, Count, ByItems, ByEnds, ByWords, moves_on, station_of, item_station, end_station, fetch_station, station_at}
 use Rattle.mir_func.specs.laws.InPlace.{IsPastItems}
 
@@ -92,3 +93,18 @@ moves_on_less ByWords k e = refl
 
 pub falls_stays : (ct : Count) (g : Program) (k : ItemKind) (c d : Core) → do_item g k c ≡ Falls d → moves_on ct k ≡ false
 falls_stays ct g k c d e = moves_on_less ct k (falls_no_jump g k c d e)
+
+-- a debug item is no code, and goes below
+pub not_code : {P : Type 0} (y : Item) → is_code y.kind ≡ false → is_code y.kind ≡ true → P
+not_code y e h = let bad : true ≡ false = sym h ∙ e in cc
+
+pub debug_below : (g : Program) (k : ItemKind) → is_code k ≡ false → (p q : Pos) → KindEdge g.enter k p q → q ≡ below p
+debug_below g (Code c n) e p q k = cc
+debug_below g (Mark v m) e p q k = k
+debug_below g (Phi r n) e p q k = k
+
+-- a debug item falls through
+pub debug_falls : (g : Program) (k : ItemKind) (c : Core) → is_code k ≡ false → (e : Core) × (do_item g k c ≡ Falls e)
+debug_falls g (Code i n) c e = cc
+debug_falls g (Mark v m) c e = (_, refl)
+debug_falls g (Phi p n) c e = (_, refl)

@@ -12,7 +12,8 @@ use Rattle.mir_func.specs.declared.item.ItemKind.TheVariants.{Code, Mark, Phi}
 use Rattle.mir_func.specs.meaning.State.{State, Core, updated, is_same, assigned}
 use Rattle.mir_func.specs.meaning.Step.{Program, Fetch, Here, Silent, Outside, Went, Outcome, Falls, Goes, Gives, Traps, Asks, Breaks, moved, with_core, act, seen, is_call, defined, given, numbered, place_value, pair_value, mark_value, do_item, do_fetch, step}
 use Rattle.mir_func.specs.meaning.Align.{Agrees}
-use Rattle.mir_func.proofs.Outcomes.{EndAlike, alike_went, alike_returns, alike_faults}
+use Rattle.mir_func.specs.laws.Effects.{EndAlike}
+use Rattle.mir_func.proofs.Outcomes.{alike_went, alike_returns, alike_faults}
 use Rattle.mir_func.proofs.Effects.{told_by, act_apart}
 
 -- where the second has a value, the first has it too

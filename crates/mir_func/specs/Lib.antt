@@ -1,5 +1,9 @@
 pub mod Function
 pub mod Sound
+pub mod Exits
+pub mod Checks
 pub mod SoundFrame
+pub mod Strip
+pub mod Successors
 pub mod meaning
 pub mod laws

@@ -5,3 +5,4 @@ pub mod InPlace
 pub mod Added
 pub mod Rewired
 pub mod Words
+pub mod Effects

@@ -1,5 +1,8 @@
-use crate::item::Items;
+ghost use Rattle.std.specs.Prelude.{◌≡◌, IfOk};
+
+use crate::item::{Items, copy_items};
 use lists::List;
+use std::alloc::{AllocError, Global};
 
 /// A block of a function.
 #[derive(Debug, Drop)]
@@ -15,3 +18,27 @@ pub struct Block {
 
 /// The blocks of a function, in the order of the text.
 pub type Blocks = List<Block>;
+
+impl Block {
+    /// An equal block.
+    pub fn copy(&self, alloc: Global) -> Result<Block, AllocError>
+        ensures { IfOk result (λ copied. copied ≡ self.now) }
+    {
+        Ok(Block {
+            id: self.id,
+            items: copy_items(alloc, self.items.as_slice())?,
+            silent: self.silent,
+        })
+    }
+}
+
+/// Equal blocks.
+pub fn copy_blocks(alloc: Global, blocks: &[Block]) -> Result<Blocks, AllocError>
+    ensures { IfOk result (λ copied. copied ≡ blocks.now) }
+{
+    let mut copied = Blocks::new(alloc);
+    for b in blocks {
+        copied.push(b.copy(alloc)?)?;
+    }
+    Ok(copied)
+}

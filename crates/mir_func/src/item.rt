@@ -1,9 +1,12 @@
+ghost use Rattle.std.specs.Prelude.{◌≡◌, IfOk};
+
 use crate::location::Loc;
 use crate::position::Origin;
 use crate::variable::{MarkValue, VarId};
 use lists::List;
 use rv64_instr::instr::Instr;
 use rv64_instr::place::Place;
+use std::alloc::{AllocError, Global};
 
 /// What an item is.
 #[derive(Debug, Drop)]
@@ -29,3 +32,40 @@ pub struct Item {
 
 /// The items of a block, in order.
 pub type Items = List<Item>;
+
+impl ItemKind {
+    /// An equal kind.
+    pub fn copy(&self) -> Result<ItemKind, AllocError>
+        ensures { IfOk result (λ copied. copied ≡ self.now) }
+    {
+        match self {
+            ItemKind::Code(i, number) => Ok(ItemKind::Code(i.copy()?, *number)),
+            ItemKind::Mark(variable, value) => Ok(ItemKind::Mark(*variable, *value)),
+            ItemKind::Phi(place, number) => Ok(ItemKind::Phi(*place, *number)),
+        }
+    }
+}
+
+impl Item {
+    /// An equal item.
+    pub fn copy(&self) -> Result<Item, AllocError>
+        ensures { IfOk result (λ copied. copied ≡ self.now) }
+    {
+        Ok(Item {
+            kind: self.kind.copy()?,
+            origin: self.origin,
+            loc: self.loc,
+        })
+    }
+}
+
+/// Equal items.
+pub fn copy_items(alloc: Global, items: &[Item]) -> Result<Items, AllocError>
+    ensures { IfOk result (λ copied. copied ≡ items.now) }
+{
+    let mut copied = Items::new(alloc);
+    for i in items {
+        copied.push(i.copy()?)?;
+    }
+    Ok(copied)
+}

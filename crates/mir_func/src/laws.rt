@@ -5,12 +5,19 @@ ghost use Rattle.std.specs.Prelude.{ℕ, List, Option};
 ghost use Rattle.mir_func.specs.declared.position.Pos.{Pos};
 ghost use Rattle.mir_func.specs.declared.item.Item.{Item};
 ghost use Rattle.mir_func.specs.meaning.State.{Core, State};
+ghost use Rattle.mir_func.specs.laws.Effects.{EffectsHold};
 ghost use Rattle.mir_func.specs.laws.Itself.{SourceFollowsItself};
 ghost use Rattle.mir_func.specs.laws.Refinement.{RefinementFollows};
 ghost use Rattle.mir_func.specs.laws.Words.{WordsFollow};
 ghost use Rattle.mir_func.specs.laws.Added.{Standing, AddedFollows};
 ghost use Rattle.mir_func.specs.laws.InPlace.{InPlaceFollows};
 ghost use Rattle.mir_func.specs.laws.Rewired.{RewiredFollows};
+
+/// What `effect`, `uses` and `defines` say of an instruction holds of each of its runs: what it doesn't define stays, what
+/// it does depends on what it uses alone, and so for what it sets, moves and fixes, and for pure code.
+pub fn effects_hold()
+    ensures { EffectsHold }
+{}
 
 /// A function as it is read follows itself, and has whole ends: its marks and numbers see all that the source's do
 /// but the stack pointer.

@@ -6,10 +6,17 @@
 
 pub mod block;
 pub mod entry;
+mod exit;
 pub mod framed;
 pub mod func;
 pub mod item;
 pub mod laws;
 pub mod location;
+mod numbers;
 pub mod position;
+mod sound;
+pub mod strip;
+pub mod successors;
+#[cfg(test)]
+mod tests;
 pub mod variable;

@@ -1,12 +1,14 @@
 -- Changes in place: each block keeps its code, rewritten perhaps, but for code that is taken out; debug items come and go.
-use Rattle.std.specs.Prelude.{◌≡◌, ℕ, ◌*◌, ◌<◌, ◌≤◌, List, [], ◌∷◌, Some, true, false}
+use Rattle.std.specs.Prelude.{◌≡◌, ◌⊎◌, ℕ, ◌*◌, ◌<◌, ◌≤◌, List, [], ◌∷◌, All, Some, true, false}
 use Rattle.mir_func.specs.declared.position.Pos.{Pos}
+use Rattle.mir_func.specs.declared.position.Origin.TheVariants.{Kept}
 use Rattle.mir_func.specs.declared.variable.VarId.{VarId}
 use Rattle.mir_func.specs.declared.item.Item.{Item}
 use Rattle.mir_func.specs.meaning.State.{Core, State, assigned}
 use Rattle.mir_func.specs.meaning.Step.{Fetch, Here, Silent, Outside, Program, Outcome, Falls, Goes, Gives, Traps, Asks, Breaks, below, block_start, do_item}
 use Rattle.mir_func.specs.meaning.Align.{position_of, is_code, Count, moves_on, station_of, station_at, IsOrigin, Since, After, since_of, AnyOrigin, RunsAlong}
 use Rattle.mir_func.specs.meaning.Follow.{next_rank, InOrder}
+use Rattle.mir_func.specs.laws.Refinement.{FaultsAt}
 
 -- no item stands there: a block's end, if anything
 abbrev pub IsPastItems : Fetch → Type 0
@@ -34,8 +36,25 @@ pub record ShowsSame (c d : Core) : Type 0 where
   pub events : d.events ≡ c.events
   pub told : (v : VarId) (x : ℕ) → assigned v d.marks ≡ Some x → assigned v c.marks ≡ Some x
 
+-- it goes on with as much shown and no more told, or the source moves on after it
+abbrev pub ShowsNoMore : Since → Core → Outcome → Type 0
+ShowsNoMore m d (Falls e) = ShowsSame d e
+ShowsNoMore m d (Goes n e) = m ≡ After
+ShowsNoMore m d (Gives v) = ⊥
+ShowsNoMore m d _ = Unit {0}
+
+-- it is kept of p, which isn't its block's end, and doesn't return
+pub record IsNoReturn (g : Program) (p : Pos) (y : Item) : Type 0 where
+  pub kept : y.origin ≡ Kept p
+  pub stays : (d : Core) (v : List ℕ) → do_item g y.kind d ≡ Gives v → ⊥
+  pub inner : (e : Pos) (k n : ℕ) → e.block ≡ p.block → g.fetch e ≡ Silent k n → p.item < k
+
+-- g may have it ahead where the source stops at p: it comes from later positions, shows no more, or is kept of p
+abbrev pub IsIdleAt : Count → Program → Pos → Item → Type 0
+IsIdleAt ct g p y = (position_of y.origin).item ≤ p.item → ((d : Core) → ShowsNoMore (since_item ct y) d (do_item g y.kind d)) ⊎ IsNoReturn g p y
+
 -- S b xs ys relates the rest of f's block b with g's, and Q b xs ys the cores where they stand there
-module _ (ct : Count) (f g : Program) (rf rg : Pos → List Item) (S : ℕ → List Item → List Item → Type 0) (Q : ℕ → List Item → List Item → Core → Core → Type 0) where
+module _ (ct : Count) (src f g : Program) (s0 : State) (rf rg : Pos → List Item) (S : ℕ → List Item → List Item → Type 0) (Q : ℕ → List Item → List Item → Core → Core → Type 0) where
   -- what f's code does and what g's code of one origin does
   abbrev pub DoAlike : (b : ℕ) → List Item → List Item → Since → Outcome → Outcome → Type 0
   DoAlike b xs ys m (Falls c) (Falls d) = Q b xs ys c d
@@ -46,15 +65,18 @@ module _ (ct : Count) (f g : Program) (rf rg : Pos → List Item) (S : ℕ → L
   DoAlike b xs ys m Breaks Breaks = Unit {0}
   DoAlike b xs ys m _ _ = ⊥
 
-  -- how the rests of a block begin: with code of both; with code of f alone, which traps only where the source moves on
-  -- after it, or a debug item of f alone; with a debug item of g
-  -- alone; with a debug item of each
+  -- code of f alone may trap where the source moves on after it, and where g idles ahead, if the source stops there
+  abbrev pub MayTrap : Item → List Item → Type 0
+  MayTrap x ys = (since_item ct x ≡ After) ⊎ (FaultsAt src s0 (position_of x.origin) → All (IsIdleAt ct g (position_of x.origin)) ys)
+
+  -- how the rests of a block begin: with code of both; with code of f alone; with a debug item of f alone, of g alone, or
+  -- of each
   pub data View (b : ℕ) : List Item → List Item → Type 0 where
     ended : View b [] []
     both : {x y : Item} {xs ys : List Item} → is_code x.kind ≡ true → is_code y.kind ≡ true → x.origin ≡ y.origin → moves_on ct x.kind ≡ moves_on ct y.kind → S b xs ys →
         ((c d : Core) → Q b (x ∷ xs) (y ∷ ys) c d → DoAlike b xs ys (since_item ct x) (do_item f x.kind c) (do_item g y.kind d)) → View b (x ∷ xs) (y ∷ ys)
     taken : {x : Item} {xs ys : List Item} → is_code x.kind ≡ true → moves_on ct x.kind ≡ false → S b xs ys →
-        ((c d : Core) → Q b (x ∷ xs) ys c d → FallsOrTraps (since_item ct x ≡ After) (λ e. Q b xs ys e d) (do_item f x.kind c)) → View b (x ∷ xs) ys
+        ((c d : Core) → Q b (x ∷ xs) ys c d → FallsOrTraps (MayTrap x ys) (λ e. Q b xs ys e d) (do_item f x.kind c)) → View b (x ∷ xs) ys
     passed : {x : Item} {xs ys : List Item} → is_code x.kind ≡ false → S b xs ys →
         ((c d : Core) → Q b (x ∷ xs) ys c d → (e : Core) × (do_item f x.kind c ≡ Falls e) × Q b xs ys e d) → View b (x ∷ xs) ys
     added : {y : Item} {xs ys : List Item} → is_code y.kind ≡ false → S b xs ys →
@@ -85,6 +107,5 @@ module _ (ct : Count) (f g : Program) (rf rg : Pos → List Item) (S : ℕ → L
 
 -- what is changed in place follows what it followed
 abbrev pub InPlaceFollows : (ℕ → List Item → List Item → Type 0) → (ℕ → List Item → List Item → Core → Core → Type 0) → Type 0
-InPlaceFollows S Q = (ct : Count) (src f g : Program) (rf rg : Pos → List Item) (place : ℕ → ℕ) → InPlace ct f g rf rg S Q place →
-    (s0 : State) → s0.pos.item ≡ 0 → Q s0.pos.block (rf s0.pos) (rg s0.pos) s0.core s0.core →
+InPlaceFollows S Q = (ct : Count) (src f g : Program) (rf rg : Pos → List Item) (place : ℕ → ℕ) → (s0 : State) → InPlace ct src f g s0 rf rg S Q place → s0.pos.item ≡ 0 → Q s0.pos.block (rf s0.pos) (rg s0.pos) s0.core s0.core →
     RunsAlong src f (station_at ct f) (AnyOrigin (station_at ct f)) s0 s0 → RunsAlong src g (station_at ct g) (AnyOrigin (station_at ct g)) s0 s0

@@ -1,34 +1,20 @@
 -- Liveness over paths.
-use Rattle.std.specs.Prelude.{◌≡◌, true, Contains}
+use Rattle.std.specs.Prelude.{◌≡◌, true}
 use Rattle.rv64_instr.specs.declared.place.Place.{Place}
-use Rattle.rv64_instr.specs.declared.place.Place.TheVariants.{Register, Slot}
-use Rattle.rv64_instr.specs.Row.{Row, LoadsSlot, StoresSlot, row_of}
-use Rattle.rv64_instr.specs.Access.{reads, sets}
-use Rattle.rv64_instr.specs.Parts.{uses_of}
+use Rattle.rv64_instr.specs.Row.{row_of}
+use Rattle.rv64_instr.specs.Parts.{uses_of, defines_of}
 use Rattle.mir_func.specs.declared.position.Pos.{Pos}
 use Rattle.mir_func.specs.declared.item.ItemKind.{ItemKind}
 use Rattle.mir_func.specs.declared.item.ItemKind.TheVariants.{Code}
 use Rattle.mir_func.specs.meaning.Step.{Fetch, Here, Program}
 use Rattle.mir_func.specs.meaning.Graph.{Edge}
 
--- what a row does depends on these places, and on no others that code has
-abbrev pub RowUses : Row → Place → Type 0
-RowUses row (Register r) = Contains (reads row) r
-RowUses (LoadsSlot rd n) (Slot k) = n ≡ k
-RowUses _ _ = ⊥
-
--- it may change these places, and no others
-abbrev pub RowDefines : Row → Place → Type 0
-RowDefines row (Register r) = Contains (sets row) r
-RowDefines (StoresSlot rs n) (Slot k) = n ≡ k
-RowDefines _ _ = ⊥
-
 abbrev pub KindUses : ItemKind → Place → Type 0
 KindUses (Code i k) x = uses_of i x ≡ true
 KindUses _ x = ⊥
 
 abbrev pub KindDefines : ItemKind → Place → Type 0
-KindDefines (Code i k) x = RowDefines (row_of i) x
+KindDefines (Code i k) x = defines_of (row_of i) x ≡ true
 KindDefines _ x = ⊥
 
 -- code reads the place. Debug items are no uses

@@ -51,7 +51,7 @@ abbrev pub put : ℕ → ℕ → (ℕ → Option ℕ) → ℕ → Option ℕ
 put zero v regs = regs
 put (suc r) v regs = updated (suc r) (Some v) regs
 
--- several registers set, in order
+-- several registers set, in order: to 0 where no content is left
 abbrev pub put_all : List ℕ → List ℕ → (ℕ → Option ℕ) → ℕ → Option ℕ
 put_all [] vs regs = regs
 put_all (r ∷ rs) [] regs = put_all rs [] (put r 0 regs)

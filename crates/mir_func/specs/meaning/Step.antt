@@ -49,7 +49,7 @@ pub data Outcome : Type 0 where
   -- there is no such instruction
   Breaks : Outcome
 
--- a register's number
+-- a register's number, and 0 where it isn't written
 abbrev pub or_zero : Option ℕ → ℕ
 or_zero None = 0
 or_zero (Some n) = n

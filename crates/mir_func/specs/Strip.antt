@@ -1,0 +1,31 @@
+-- A function without its debug items: what the machine runs is all that is left.
+use Rattle.std.specs.Prelude.{List, map, Option, Some, None, filter_map}
+use Rattle.mir_func.specs.declared.block.Block.{Block}
+use Rattle.mir_func.specs.declared.item.Item.{Item}
+use Rattle.mir_func.specs.declared.item.ItemKind.{ItemKind}
+use Rattle.mir_func.specs.declared.item.ItemKind.TheVariants.{Code, Mark, Phi}
+use Rattle.mir_func.specs.declared.position.Origin.{Origin}
+use Rattle.mir_func.specs.declared.location.Loc.{Loc}
+use Rattle.mir_func.specs.Function.{Function}
+
+-- an item of this kind, origin and debug location: code loses its number, and a mark or a phi is left out
+abbrev pub bare : ItemKind → Origin → Loc → Option Item
+bare (Code i k) origin loc = Some (record { kind = Code i None; origin = origin; loc = loc })
+bare (Mark v m) origin loc = None
+bare (Phi p k) origin loc = None
+
+abbrev pub stripped_item : Item → Option Item
+stripped_item i = bare i.kind i.origin i.loc
+
+abbrev pub stripped_items : List Item → List Item
+stripped_items items = filter_map stripped_item items
+
+abbrev pub stripped_block : Block → Block
+stripped_block b = record { id = b.id; items = stripped_items b.items; silent = b.silent }
+
+abbrev pub stripped_blocks : List Block → List Block
+stripped_blocks blocks = map stripped_block blocks
+
+-- the function without its marks, phis and numbers
+abbrev pub stripped : Function → Function
+stripped f = record { name = f.name; slots = f.slots; blocks = stripped_blocks f.blocks }

@@ -1,0 +1,82 @@
+ghost use Rattle.std.specs.Prelude.{◌≡◌, ◌↔◌, ℕ, ◌<◌, ◌∷◌, Bool, Option, length, slice_index, slice_get, Contains};
+ghost use Rattle.mir_func.specs.Sound.{ids_of, IsJumpAtMost, EndsWell};
+ghost use Rattle.mir_func.specs.meaning.Graph.{program_of};
+ghost use Rattle.mir_func.specs.Successors.{numbers_of, GoesTo, ways};
+
+use crate::block::Block;
+use crate::exit::Exit;
+use crate::func::Func;
+use crate::item::Item;
+
+/// The numbers of the blocks to which control may go from a block. Two may be the same.
+#[derive(Clone, Copy, Debug, PartialEq, Eq)]
+pub enum Successors {
+    /// To none: the block returns.
+    Nowhere,
+    /// To one.
+    One(u32),
+    /// By a conditional branch to the first, or else to the second.
+    Two(u32, u32),
+}
+
+impl Func {
+    /// The numbers of the blocks to which control may go from the block of this index, whatever the data. It takes no
+    /// memory.
+    pub fn successors(&self, block: usize) -> Successors
+        requires { block < length self.now.blocks }
+        ensures { (sees_pointer : Bool) (resolve : ℕ → ℕ → Option (ℕ × ℕ)) (n : ℕ) →
+            Contains (numbers_of result) n
+            ↔ GoesTo (program_of sees_pointer self.now.blocks resolve) (slice_index (ids_of self.now.blocks) block) n }
+    {
+        let blocks = self.blocks.as_slice();
+        let next = id_at(blocks, block + 1);
+        successors_of(blocks[block].items.as_slice(), next)
+    }
+}
+
+/// The number of the block of this index, if there is one.
+fn id_at(blocks: &[Block], index: usize) -> Option<u32>
+    ensures { result ≡ slice_get (ids_of blocks.now) index }
+{
+    match blocks.get(index) {
+        Some(b) => Some(b.id),
+        None => None,
+    }
+}
+
+/// Where control may go from a block of these items, before a block of this number.
+fn successors_of(items: &[Item], next: Option<u32>) -> Successors
+    requires { EndsWell items.now }
+    ensures { numbers_of result ≡ ways items.now next }
+{
+    let mut rest = items;
+    while let Some((i, tail)) = rest.split_first() {
+        match i.kind.exit() {
+            Exit::Onward => rest = tail,
+            Exit::Perhaps(n) => return after_branch(n, tail, next),
+            Exit::Always(n) => return Successors::One(n),
+            Exit::Final => return Successors::Nowhere,
+        }
+    }
+    match next {
+        Some(n) => Successors::One(n),
+        None => Successors::Nowhere,
+    }
+}
+
+/// Where control may go from a conditional branch to a block, with these items below it.
+fn after_branch(target: u32, tail: &[Item], next: Option<u32>) -> Successors
+    requires { IsJumpAtMost tail.now }
+    ensures { numbers_of result ≡ target ∷ ways tail.now next }
+{
+    match tail {
+        [] => match next {
+            Some(n) => Successors::Two(target, n),
+            None => Successors::One(target),
+        },
+        [j, ..] => match j.kind.exit() {
+            Exit::Always(n) => Successors::Two(target, n),
+            _ => unreachable!(),
+        },
+    }
+}
