@@ -1,0 +1,12 @@
+mod Composition
+mod Growth
+mod Thinning
+mod NopRuns
+mod NopFollows
+mod NopSound
+mod NopCode
+mod NopSizes
+mod NopDebug
+mod InPlaceMap
+mod LostNumbers
+mod Results

@@ -1,0 +1,211 @@
+-- What taking out no-operations does with debug items.
+use Rattle.std.proofs.Common.{◌≡◌, ℕ, zero, suc, ◌+◌, ◌<◌, ◌↔◌, List, [], ◌∷◌, ◌++◌, filter, length, All, Contains, Option, Some, None, Bool, true, false, cond, not, ◌&&◌, slice_get, get_or, append-nil, refl, sym, ap, ◌∙◌, subst, inl, inr, ◌⊎◌, arith}
+use Rattle.std.specs.List.{flat_map, cons_option}
+use Rattle.std.proofs.lemmas.List.{get_or-map, length-map}
+use Rattle.std.proofs.lemmas.List.Elements.{All-weaker, All-contains_itself, Contains-append_left, Contains-append_right}
+use Rattle.std.proofs.lemmas.Option.{slice_get-get_or}
+use Rattle.rv64_instr.specs.declared.place.Place.{Place}
+use Rattle.rv64_instr.specs.declared.place.Place.TheVariants.{Register, Slot, Const}
+use Rattle.rv64_instr.specs.Row.{Row, Moves, row_of}
+use Rattle.mir_func.specs.declared.position.Pos.{Pos}
+use Rattle.mir_func.specs.declared.position.Origin.{Origin}
+use Rattle.mir_func.specs.declared.location.Loc.{Loc}
+use Rattle.mir_func.specs.declared.variable.MarkValue.{MarkValue}
+use Rattle.mir_func.specs.declared.variable.MarkValue.TheVariants.{Nothing, Constant, At, Pair}
+use Rattle.mir_func.specs.declared.block.Block.{Block}
+use Rattle.mir_func.specs.declared.entry.Entry.{Entry}
+use Rattle.mir_func.specs.declared.item.Item.{Item}
+use Rattle.mir_func.specs.declared.item.ItemKind.{ItemKind}
+use Rattle.mir_func.specs.declared.item.ItemKind.TheVariants.{Code, Mark, Phi}
+use Rattle.mir_func.specs.Function.{Function}
+use Rattle.mir_func.specs.Sound.{AreApart, ids_of, code_number, IsSound}
+use Rattle.follow_law.specs.declared.loss.Reason.TheVariants.{Removed}
+use Rattle.follow_law.specs.declared.loss.Lost.TheVariants as lost
+use Rattle.follow_law.specs.declared.loss.Loss.{Loss}
+use Rattle.follow_law.specs.Change.{Change}
+use Rattle.follow_law.specs.Order.{IsInOrder}
+use Rattle.follow_law.specs.Debug.{number_lost, IsCopy, IsKillAt, ValueIsUnspilled, PlaceIsUnspilled, Becomes, mark_stays, phi_stays, code_stays, code_unnumbered, code_goes, number_goes, BecomeAll, over, next, BlocksBecome, none, stays as block_stays, HasCause, KeepsItems, KeepsDebugItems}
+use Rattle.follow_law.specs.Nops.{is_nop_row, is_nop, has_added_saves, stays, thinned_blocks, thinned, IsTaken, nop_rule, nop_number, numbers_in_items, nop_numbers, lost_in}
+use Rattle.follow_law.proofs.NopRuns.{out_is}
+
+-- where an element of a list that is put together comes from
+in_first : {A : Type 0} (x : A) (xs : List A) (y : A) → Contains (x ∷ xs) y → (x ≡ y) ⊎ Contains xs y
+in_first x xs y (zero, lt, at) = inl at
+in_first x xs y (suc k, lt, at) = inr (k, omega (arith, lt), at)
+
+at_first : {A : Type 0} (x : A) (xs : List A) → Contains (x ∷ xs) x
+at_first x xs = (zero, omega arith, refl)
+
+at_later : {A : Type 0} (x : A) (xs : List A) (y : A) → Contains xs y → Contains (x ∷ xs) y
+at_later x xs y (k, lt, at) = (suc k, omega (arith, lt), at)
+
+in_append : {A : Type 0} (xs ys : List A) (y : A) → Contains (xs ++ ys) y → Contains xs y ⊎ Contains ys y
+in_append [] ys y h = inr h
+in_append (x ∷ xs) ys y h = elim (in_first x (xs ++ ys) y h) [ inl e ↦ inl (subst (Contains (x ∷ xs)) e (at_first x xs)) | inr k ↦ elim (in_append xs ys y k) [ inl l ↦ inl (at_later x xs y l) | inr l ↦ inr l ] ]
+
+none_in : {A P : Type 0} (y : A) → Contains [] y → P
+none_in y h = absurd (omega (arith, h.1))
+
+in_flat : {A B : Type 0} (h : A → List B) (xs : List A) (y : B) → Contains (flat_map h xs) y → (x : A) × Contains xs x × Contains (h x) y
+in_flat h [] y k = none_in y k
+in_flat h (x ∷ xs) y k = elim (in_append (h x) (flat_map h xs) y k) [ inl l ↦ (x, at_first x xs, l) | inr l ↦ (let w = in_flat h xs y l in (w.0, at_later x xs w.0 w.1, w.2)) ]
+
+of_flat : {A B : Type 0} (h : A → List B) (xs : List A) (x : A) (y : B) → Contains xs x → Contains (h x) y → Contains (flat_map h xs) y
+of_flat h [] x y k l = none_in x k
+of_flat {A} h (z ∷ zs) x y k l = elim (in_first z zs x k) [ inl e ↦ Contains-append_left (h z) (flat_map h zs) y (subst (λ (w : A). Contains (h w) y) (sym e) l) | inr m ↦ Contains-append_right (h z) (flat_map h zs) y (of_flat h zs x y m l) ]
+
+-- a no-operation with a number among items
+record IsAmong (xs : List Item) (k : ℕ) : Type 0 where
+  index : ℕ
+  found : Item
+  at : slice_get xs index ≡ Some found
+  number : nop_number found.kind ≡ Some k
+
+later_among : (x : Item) (xs : List Item) (k : ℕ) → IsAmong xs k → IsAmong (x ∷ xs) k
+later_among x xs k h = record { index = suc h.index; found = h.found; at = h.at; number = h.number }
+
+in_items : (xs : List Item) (k : ℕ) → Contains (numbers_in_items xs) k → IsAmong xs k
+in_items [] k h = none_in k h
+in_items (x ∷ xs) k h = by_number (nop_number x.kind) refl (in_items xs k) h where
+  by_number : (o : Option ℕ) → nop_number x.kind ≡ o → (Contains (numbers_in_items xs) k → IsAmong xs k) → Contains (cons_option o (numbers_in_items xs)) k → IsAmong (x ∷ xs) k
+  by_number None e rec h = later_among x xs k (rec h)
+  by_number (Some n) e rec h = elim (in_first n (numbers_in_items xs) k h) [ inl same ↦ record { index = 0; found = x; at = refl; number = e ∙ ap Some same } | inr l ↦ later_among x xs k (rec l) ]
+
+more_option : (o : Option ℕ) (ns : List ℕ) (k : ℕ) → Contains ns k → Contains (cons_option o ns) k
+more_option None ns k h = h
+more_option (Some n) ns k h = at_later n ns k h
+
+of_items : (xs : List Item) (n : ℕ) (x : Item) (k : ℕ) → slice_get xs n ≡ Some x → nop_number x.kind ≡ Some k → Contains (numbers_in_items xs) k
+of_items [] n x k at e = cc
+of_items (y ∷ ys) zero x k at e =
+    let w : y ≡ x = cc in
+    let o : nop_number y.kind ≡ Some k = ap (λ (z : Item). nop_number z.kind) w ∙ e in
+    subst (λ (z : Option ℕ). Contains (cons_option z (numbers_in_items ys)) k) (sym o) (at_first k (numbers_in_items ys))
+of_items (y ∷ ys) (suc n) x k at e = more_option (nop_number y.kind) (numbers_in_items ys) k (of_items ys n x k at e)
+
+-- what is taken out is a no-operation with this number
+out_idle : (busy nop : Bool) → not (not busy && nop) ≡ false → busy ≡ false
+out_idle true nop e = cc
+out_idle false nop e = refl
+
+nop_with : (busy : Bool) (x : ItemKind) (k : ℕ) → not (not busy && is_nop x) ≡ false → code_number x ≡ Some k → nop_number x ≡ Some k
+nop_with busy (Code i None) k out e = cc
+nop_with busy (Code i (Some m)) k out e = ap (λ (z : Bool). cond z (Some m) None) (out_is busy (is_nop_row (row_of i)) out) ∙ e
+nop_with busy (Mark v m) k out e = cc
+nop_with busy (Phi p m) k out e = cc
+
+with_nop : (x : ItemKind) (k : ℕ) → nop_number x ≡ Some k → (is_nop x ≡ true) × (code_number x ≡ Some k)
+with_nop (Code i None) k e = cc
+with_nop (Code i (Some m)) k e = by_test (is_nop_row (row_of i)) refl e where
+  by_test : (z : Bool) → is_nop_row (row_of i) ≡ z → cond z (Some m) None ≡ Some k → (is_nop_row (row_of i) ≡ true) × (Some m ≡ Some k)
+  by_test true h e = (h, e)
+  by_test false h e = cc
+with_nop (Mark v m) k e = cc
+with_nop (Phi p m) k e = cc
+
+no_copy : (r : Row) → is_nop_row r ≡ true → IsCopy r → ⊥
+no_copy (Moves rd rs) e h = cc
+no_copy _ e h = absurd h
+
+-- two blocks of one number are one
+one_block : (bs : List Block) → AreApart (ids_of bs) → (a b : Block) → Contains bs a → Contains bs b → a.id ≡ b.id → a ≡ b
+one_block bs apart a b (i, lt, at) (j, lt', at') same =
+    let id_at : (n : ℕ) (c : Block) → n < length bs → get_or bs n c ≡ c → slice_get (ids_of bs) n ≡ Some c.id =
+    λ n c l e. slice_get-get_or (ids_of bs) n c.id (subst (λ (m : ℕ). n < m) (sym (length-map bs (λ (x : Block). x.id))) l) ∙ ap Some (get_or-map (λ (x : Block). x.id) bs n c c.id l ∙ ap (λ (x : Block). x.id) e) in
+    let e : i ≡ j = apart i j a.id (id_at i a lt at) (id_at j b lt' at' ∙ ap Some (sym same)) in
+    let w : Some a ≡ Some b = sym (slice_get-get_or bs i a lt ∙ ap Some at) ∙ ap (slice_get bs) e ∙ slice_get-get_or bs j b lt' ∙ ap Some at' in
+    cc
+
+-- nothing is spilled
+value_unspilled : (c : Change) (m : MarkValue) → ValueIsUnspilled nop_rule c m
+value_unspilled c Nothing = tt
+value_unspilled c (Constant z) = tt
+value_unspilled c (At r) = λ slot h. h
+value_unspilled c (Pair k o) = tt
+
+place_unspilled : (c : Change) (p : Option Place) → PlaceIsUnspilled nop_rule c p
+place_unspilled c None = tt
+place_unspilled c (Some (Register r)) = λ slot h. h
+place_unspilled c (Some (Slot n)) = tt
+place_unspilled c (Some (Const z)) = tt
+
+module _ (f : Function) (sound : IsSound f) (subs : List Entry) where
+  abbrev busy : Bool
+  busy = has_added_saves f.blocks
+
+  abbrev change : Change
+  change = record { old = f; old_subs = subs; new = thinned f; new_subs = subs }
+
+  -- the numbers that are lost are those of what is taken out
+  taken_of : (k : ℕ) → Contains (lost_in f) k → (place : Pos) × IsTaken f place k
+  taken_of k h = by_busy busy refl h where
+    by_busy : (z : Bool) → busy ≡ z → Contains (cond z [] (nop_numbers f.blocks)) k → (place : Pos) × IsTaken f place k
+    by_busy true e h = none_in k h
+    by_busy false e h =
+        let b = in_flat (λ (c : Block). numbers_in_items c.items) f.blocks k h in
+        let w = in_items b.0.items k b.2 in
+        let nop = with_nop w.found.kind k w.number in
+        (record { block = b.0.id; item = w.index }, record { block = b.0; item = w.found; member = b.1; id = refl; stands = w.at; out = (λ i. not (not (e i) && nop.0 i)); number = nop.1 })
+
+  lost_of_taken : (place : Pos) (k : ℕ) → IsTaken f place k → Contains (lost_in f) k
+  lost_of_taken place k t =
+      let idle : busy ≡ false = out_idle busy (is_nop t.item.kind) t.out in
+      let number : nop_number t.item.kind ≡ Some k = nop_with busy t.item.kind k t.out t.number in
+      subst (λ (z : Bool). Contains (cond z [] (nop_numbers f.blocks)) k) (sym idle) (of_flat (λ (c : Block). numbers_in_items c.items) f.blocks t.block k t.member (of_items t.block.items place.item t.item k t.stands number))
+
+  module _ (b : Block) (member : Contains f.blocks b) where
+    abbrev place : ℕ → Pos
+    place n = record { block = b.id; item = n }
+
+    -- what is taken out at a place is what stands there
+    taken_is : (n k : ℕ) (x : Item) → slice_get b.items n ≡ Some x → (t : IsTaken f (place n) k) → t.item ≡ x
+    taken_is n k x at t =
+        let same : t.block ≡ b = one_block f.blocks sound.blocks_apart t.block b t.member member t.id in
+        let w : Some t.item ≡ Some x = sym t.stands ∙ ap (λ (c : Block). slice_get c.items n) same ∙ at in
+        cc
+
+    becomes : (n : ℕ) (k : ItemKind) (o : Origin) (l : Loc) → slice_get b.items n ≡ Some (record { kind = k; origin = o; loc = l }) → (z : Bool) → stays busy (record { kind = k; origin = o; loc = l }) ≡ z →
+        Becomes nop_rule change (place n) (record { kind = k; origin = o; loc = l }) (cond z (record { kind = k; origin = o; loc = l } ∷ []) [])
+    becomes n (Mark v m) o l at true stay = mark_stays (λ why h. (let e : lost.Mark _ ≡ lost.Number h.0 = ap (λ (x : Loss). x.what) h.2 in cc)) (value_unspilled change m)
+    becomes n (Mark v m) o l at false out = let bad : false ≡ true = out_is busy false out in cc
+    becomes n (Phi p k) o l at true stay = phi_stays (λ why h. (let e : None ≡ Some h.0 = sym (ap (λ (x : Item). code_number x.kind) (taken_is n h.0 _ at h.1)) ∙ h.1.number in cc)) (place_unspilled change p)
+    becomes n (Phi p k) o l at false out = let bad : false ≡ true = out_is busy false out in cc
+    becomes n (Code i None) o l at true stay = code_unnumbered (λ k h. h)
+    becomes n (Code i (Some k)) o l at true stay = code_stays (λ why h. (let e : false ≡ true = sym h.1.out ∙ ap (stays busy) (taken_is n h.0 _ at h.1) ∙ stay in cc))
+    becomes n (Code i None) o l at false out = code_goes
+    becomes n (Code i (Some k)) o l at false out =
+        number_goes Removed (no_copy (row_of i) (out_is busy (is_nop_row (row_of i)) out)) (k, record { block = b; item = _; member = member; id = refl; stands = at; out = out; number = refl }, refl)
+
+    become_all : (n : ℕ) (xs : List Item) → ((k : ℕ) (x : Item) → slice_get xs k ≡ Some x → slice_get b.items (n + k) ≡ Some x) → BecomeAll nop_rule change b.id n xs (filter (stays busy) xs)
+    become_all n [] at = over
+    become_all n (x ∷ xs) at = by_test (stays busy x) refl (become_all (suc n) xs later) where
+      here : slice_get b.items n ≡ Some x
+      here = let z : n + 0 ≡ n = omega arith in sym (ap (slice_get b.items) z) ∙ at 0 x refl
+
+      later : (k : ℕ) (y : Item) → slice_get xs k ≡ Some y → slice_get b.items (suc n + k) ≡ Some y
+      later k y e = let z : n + suc k ≡ suc n + k = omega arith in sym (ap (slice_get b.items) z) ∙ at (suc k) y e
+
+      by_test : (z : Bool) → stays busy x ≡ z → BecomeAll nop_rule change b.id (suc n) xs (filter (stays busy) xs) → BecomeAll nop_rule change b.id n (x ∷ xs) (cond z (x ∷ filter (stays busy) xs) (filter (stays busy) xs))
+      by_test true e rest = next (becomes n x.kind x.origin x.loc here true e) rest
+      by_test false e rest = next (becomes n x.kind x.origin x.loc here false e) rest
+
+  none_killed : (b : ℕ) → All (IsKillAt b) []
+  none_killed b k d lt = absurd (omega (arith, lt))
+
+  blocks_become : (bs : List Block) → ((b : Block) → Contains bs b → Contains f.blocks b) → BlocksBecome nop_rule change bs (thinned_blocks busy bs)
+  blocks_become [] members = none
+  blocks_become (b ∷ bs) members =
+      block_stays [] (filter (stays busy) b.items) refl refl refl refl (none_killed b.id)
+      (become_all b (members b (at_first b bs)) 0 b.items (λ k x e. (let z : k ≡ 0 + k = omega arith in sym (ap (slice_get b.items) z) ∙ e)))
+      (blocks_become bs (λ c h. members c (at_later b bs c h)))
+
+  pub nops_debug : (losses : List Loss) → IsInOrder losses → ((l : Loss) → Contains losses l ↔ ((k : ℕ) × Contains (lost_in f) k × (l ≡ number_lost k Removed))) → KeepsDebugItems (nop_rule ∷ []) change losses
+  nops_debug losses ordered each =
+      let kept : KeepsItems nop_rule change losses = record {
+        blocks = blocks_become f.blocks (λ b h. h);
+        subs = ([], sym (append-nil subs), refl);
+        caused = All-weaker (Contains losses) (HasCause nop_rule change) (λ l h. (let w = (each l).0 h in let t = taken_of w.0 w.1 in inl (t.0, (w.0, t.1, w.2)))) losses (All-contains_itself losses);
+        told = λ l h. elim h [ inl w ↦ (each l).1 (w.1.0, lost_of_taken w.0 w.1.0 w.1.1, w.1.2) | inr w ↦ absurd w.3 ];
+        ordered = ordered;
+      } in
+      (thinned f, subs, losses, [], kept, (refl, refl, refl), sym (append-nil losses))

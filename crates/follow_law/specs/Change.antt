@@ -1,0 +1,11 @@
+-- What a pass is given and what it leaves.
+use Rattle.std.specs.Prelude.{List}
+use Rattle.mir_func.specs.declared.entry.Entry.{Entry}
+use Rattle.mir_func.specs.Function.{Function}
+
+-- a function with its substitutions, before a pass and after it
+pub record Change : Type 0 where
+  pub old : Function
+  pub old_subs : List Entry
+  pub new : Function
+  pub new_subs : List Entry

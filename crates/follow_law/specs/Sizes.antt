@@ -1,0 +1,83 @@
+-- How far a pass may make a function grow.
+use Rattle.std.specs.Prelude.{ℕ, ◌+◌, ◌*◌, ◌<◌, ◌≤◌, max, List, [], ◌∷◌, ◌++◌, length, count_by, flat_map, Some, Bool, false, All}
+use Rattle.rv64_instr.specs.declared.operand.Operand.{Operand}
+use Rattle.rv64_instr.specs.declared.operand.Operand.TheVariants.{Def, Use, ImplicitDef, ImplicitUse}
+use Rattle.rv64_instr.specs.declared.place.Place.TheVariants.{Register}
+use Rattle.rv64_instr.specs.Row.{row_of}
+use Rattle.rv64_instr.specs.Parts.{is_call}
+use Rattle.mir_func.specs.declared.item.ItemKind.{ItemKind}
+use Rattle.mir_func.specs.declared.item.ItemKind.TheVariants.{Code, Mark, Phi}
+use Rattle.mir_func.specs.declared.variable.MarkValue.TheVariants.{At, Pair}
+use Rattle.mir_func.specs.declared.block.Block.{Block}
+use Rattle.mir_func.specs.declared.entry.Entry.{Entry}
+use Rattle.mir_func.specs.Function.{Function}
+use Rattle.mir_func.specs.Sound.{items_of, AllItems}
+use Rattle.mir_func.specs.meaning.Align.{is_code}
+use Rattle.follow_law.specs.Change.{Change}
+
+-- the greatest of some numbers, or 0 where there is none
+abbrev pub greatest : List ℕ → ℕ
+greatest [] = 0
+greatest (n ∷ ns) = max n (greatest ns)
+
+-- the debug instruction numbers that an item gives or asks for
+abbrev pub numbers_of : ItemKind → List ℕ
+numbers_of (Code i (Some k)) = k ∷ []
+numbers_of (Phi p k) = k ∷ []
+numbers_of (Mark v (Pair k o)) = k ∷ []
+numbers_of _ = []
+
+-- the debug instruction numbers of a function with its substitutions: on items, in marks, and on both sides of entries
+abbrev pub numbers_in : List Block → List Entry → List ℕ
+numbers_in blocks subs = flat_map (λ i. numbers_of i.kind) (items_of blocks) ++ flat_map (λ e. e.src.0 ∷ e.dst.0 ∷ []) subs
+
+abbrev pub greatest_number : Function → List Entry → ℕ
+greatest_number f subs = greatest (numbers_in f.blocks subs)
+
+abbrev pub item_count : Function → ℕ
+item_count f = length (items_of f.blocks)
+
+abbrev pub code_count : Function → ℕ
+code_count f = count_by (λ i. is_code i.kind) (items_of f.blocks)
+
+abbrev pub calls : ItemKind → Bool
+calls (Code i k) = is_call (row_of i)
+calls _ = false
+
+abbrev pub call_count : Function → ℕ
+call_count f = count_by (λ i. calls i.kind) (items_of f.blocks)
+
+-- the registers of an item are x0 to x31
+abbrev pub OperandIsPhysical : Operand → Type 0
+OperandIsPhysical (Def r) = r < 32
+OperandIsPhysical (Use r) = r < 32
+OperandIsPhysical (ImplicitDef r) = r < 32
+OperandIsPhysical (ImplicitUse r) = r < 32
+OperandIsPhysical _ = Unit {0}
+
+abbrev pub KindIsPhysical : ItemKind → Type 0
+KindIsPhysical (Code i k) = All OperandIsPhysical i.operands
+KindIsPhysical (Mark v (At r)) = r < 32
+KindIsPhysical (Phi (Some (Register r)) k) = r < 32
+KindIsPhysical _ = Unit {0}
+
+-- no virtual register stands in the function
+abbrev pub IsPhysical : Function → Type 0
+IsPhysical f = AllItems (λ i. KindIsPhysical i.kind) f.blocks
+
+-- how many items a pass may make of some: its factor times as many, and 1,024 a count more, for each of which a block may get one
+abbrev pub most : (factor count items : ℕ) → ℕ
+most factor count n = factor * (n + 1024 * count)
+
+-- the most debug instruction numbers that it may add
+abbrev pub most_numbers : (factor count : ℕ) → Function → ℕ
+most_numbers factor count f = count * most factor count (item_count f)
+
+-- the bounds of a pass with a factor and a count
+pub record KeepsSizes (factor count : ℕ) (c : Change) : Type 0 where
+  pub items : item_count c.new ≤ most factor count (item_count c.old)
+  pub code : code_count c.new ≤ most factor count (code_count c.old)
+  pub calls : call_count c.new ≤ call_count c.old
+  pub physical : IsPhysical c.old → IsPhysical c.new
+  pub numbers : greatest_number c.new c.new_subs ≤ greatest_number c.old c.old_subs + most_numbers factor count c.old
+  pub slots : greatest c.new.slots ≤ greatest c.old.slots + 224 * count

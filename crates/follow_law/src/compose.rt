@@ -1,0 +1,84 @@
+ghost use Rattle.std.specs.Prelude.{◌≡◌, ◌++◌, ◌+◌, ◌*◌, true, false, not, ◌&&◌, ◌||◌, []};
+ghost use Rattle.follow_law.specs.Code.{IsSameCode, RewritesThen};
+ghost use Rattle.follow_law.specs.Laws.{one_same, one_then, grows_then};
+ghost use Rattle.std.proofs.Common.{rules};
+
+use crate::loss::Losses;
+use crate::pass::Pass;
+use mir_func::func::Func;
+use std::alloc::{AllocError, Global};
+use substitution::substitutions::Substitutions;
+
+/// The pass that does nothing.
+#[derive(Drop)]
+pub struct Nothing;
+
+impl Pass for Nothing {
+    ghost asks = { false };
+
+    ghost keeps = { true };
+
+    ghost fits = { true };
+
+    ghost factor = { 1 };
+
+    ghost count = { 0 };
+
+    ghost rewrites = { λ s. IsSameCode };
+
+    ghost rules = { λ s. [] };
+
+    fn run(
+        &mut self,
+        alloc: Global,
+        _f: &mut Func,
+        _subs: &mut Substitutions,
+    ) -> Result<Losses, AllocError> {
+        Ok(Losses::new(alloc))
+    }
+
+    ghost one_code = { λ s. one_same };
+
+    ghost grows = { Prim.search rules };
+}
+
+/// One pass, and then another.
+#[derive(Drop)]
+pub struct Then<A: Pass, B: Pass> {
+    /// The one.
+    pub first: A,
+    /// The other.
+    pub second: B,
+}
+
+impl<A: Pass, B: Pass> Pass for Then<A, B> {
+    ghost asks = { A.asks || B.asks };
+
+    ghost keeps = { A.keeps && B.keeps };
+
+    ghost fits = { A.fits && (B.fits && (not B.asks || A.keeps)) };
+
+    ghost factor = { A.factor * B.factor };
+
+    ghost count = { A.count * B.factor + B.count };
+
+    ghost rewrites = { λ s. RewritesThen (A.rewrites s.first) (B.rewrites s.second) };
+
+    ghost rules = { λ s. A.rules s.first ++ B.rules s.second };
+
+    fn run(
+        &mut self,
+        alloc: Global,
+        f: &mut Func,
+        subs: &mut Substitutions,
+    ) -> Result<Losses, AllocError> {
+        let mut losses = self.first.run(alloc, f, subs)?;
+        let later = self.second.run(alloc, f, subs)?;
+        losses.extend_from_slice(later.as_slice())?;
+        Ok(losses)
+    }
+
+    ghost one_code = { λ s. one_then (A.one_code s.first) (B.one_code s.second) };
+
+    ghost grows = { grows_then A.factor B.factor A.grows B.grows };
+}
