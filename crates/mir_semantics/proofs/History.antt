@@ -53,6 +53,7 @@ mark_does subs v m answer old fs x is put = record {
         },
       );
   stays = tt;
+  leads = λ p. refl;
   pos = refl;
 }
 
@@ -95,5 +96,6 @@ phi_does subs p k answer old fs x is put = record {
     },
   );
   stays = tt;
+  leads = λ p. refl;
   pos = refl;
 }

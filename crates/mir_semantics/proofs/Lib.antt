@@ -1,6 +1,6 @@
 pub mod Rows
-pub mod Implicit
 pub mod Loops
 pub mod History
 pub mod Numbers
+pub mod Inside
 pub mod Stepping

@@ -1,5 +1,5 @@
 -- What code of each row does, from what is read.
-use Rattle.std.proofs.Common.{◌≡◌, ℕ, zero, suc, ◌*◌, List, [], ◌∷◌, Option, Some, None, Bool, true, false, cond, refl, sym, ap, ◌∙◌, subst}
+use Rattle.std.proofs.Common.{◌≡◌, ℕ, zero, suc, ◌*◌, List, [], ◌∷◌, Option, Some, None, Bool, true, false, cond, refl, sym, ap, ◌∙◌, subst, inl, inr}
 use Rattle.std.specs.Prelude.{is_some, ◌&&◌, slice_index_or, ◌+◌, ◌%◌, ◌^◌}
 use Rattle.std.specs.List.{list_all}
 use Rattle.rv64_instr.specs.Arithmetic.{computed, taken, width_of, extended}
@@ -11,7 +11,7 @@ use Rattle.rv64_instr.specs.Instruction.{Instruction}
 use Rattle.rv64_instr.specs.declared.operand.Operand.{Operand}
 use Rattle.std.specs.Prelude.{Result, Ok, Err, IfOk}
 use Rattle.std.specs.declared.alloc.AllocError.{AllocError}
-use Rattle.mir_semantics.proofs.Implicit.{AreImplicit, implicit}
+use Rattle.mir_func.proofs.Implicit.{AreImplicit, implicit}
 use Rattle.mir_semantics.specs.declared.machine.Outcome.{Outcome}
 use Rattle.mir_func.specs.meaning.State.{Core, Reply, Called, content, put, put_all, updated, spelled, stored, written, low_bytes, touches_frame, writes_frame}
 use Rattle.mir_func.specs.meaning.Step as step
@@ -19,7 +19,7 @@ use Rattle.mir_func.specs.meaning.Step.{act, does, are_written, read, or_zero, i
 use Rattle.mir_semantics.specs.declared.machine.Machine.{Machine}
 use Rattle.mir_semantics.specs.declared.machine.Outcome.TheVariants.{Falls, Goes, Returns as Ended, Faults, Waits}
 use Rattle.mir_semantics.specs.Places.{RegistersHold, SlotsHold, MemoryHolds, byte_in, some_writes}
-use Rattle.mir_semantics.specs.Acts.{MachineHolds, Moved, EndsSo, Acts, Does, InputHolds, saves, Takes, reply_of}
+use Rattle.mir_semantics.specs.Acts.{MachineHolds, Moved, EndsSo, Leads, GoesNowhere, Acts, Does, InputHolds, saves, Takes, reply_of}
 
 -- code whose registers are written does what its row says
 act_written : (r : Row) (s : Core) → are_written s (reads r) ≡ true → act r s ≡ does r s
@@ -52,7 +52,7 @@ held m s r o h e = h.registers r ∙ sym e
 
 -- ---- how a row ends, with the places that are kept
 pub faults : (m : Machine) (r : Row) → ((s : Core) → MachineHolds m s → act r s ≡ step.Traps) → (answer : Option Answer) → Acts r answer Faults m m
-faults m r h answer = record { ends = λ s holds script. h s holds; stays = refl }
+faults m r h answer = record { ends = λ s holds script. h s holds; stays = refl; leads = tt }
 
 moved_set : (old : Machine) (kept : List (Option ℕ)) (rd v : ℕ) (s : Core) → ((f : ℕ → Option ℕ) → RegistersHold old.registers f → RegistersHold kept (put rd v f)) → MachineHolds old s → Moved (record old { registers = kept }) s (set_register rd v s)
 moved_set old kept rd v s writes holds = record {
@@ -61,11 +61,19 @@ moved_set old kept rd v s writes holds = record {
   marks = refl;
 }
 
-pub sets_so : (old : Machine) (kept : List (Option ℕ)) (r : Row) (rd v : ℕ) → ((f : ℕ → Option ℕ) → RegistersHold old.registers f → RegistersHold kept (put rd v f)) → ((s : Core) → MachineHolds old s → act r s ≡ step.Falls (set_register rd v s)) → (answer : Option Answer) → Acts r answer Falls old (record old { registers = kept })
-sets_so old kept r rd v writes goes answer = record { ends = λ s holds script. (set_register rd v s, goes s holds, moved_set old kept rd v s writes holds); stays = tt }
+pub sets_so : (old : Machine) (kept : List (Option ℕ)) (r : Row) (rd v : ℕ) → Leads r Falls → ((f : ℕ → Option ℕ) → RegistersHold old.registers f → RegistersHold kept (put rd v f)) → ((s : Core) → MachineHolds old s → act r s ≡ step.Falls (set_register rd v s)) → (answer : Option Answer) → Acts r answer Falls old (record old { registers = kept })
+sets_so old kept r rd v leads writes goes answer = record { ends = λ s holds script. (set_register rd v s, goes s holds, moved_set old kept rd v s writes holds); stays = tt; leads = leads }
 
 unmoved : (m : Machine) (s : Core) → MachineHolds m s → Moved m s s
 unmoved m s holds = record { machine = holds; pairs = refl; marks = refl }
+
+-- code that goes to no block leads on below
+leads_below : (r : Row) (o : Outcome) → Leads r Falls → GoesNowhere o → Leads r o
+leads_below r Falls below nowhere = below
+leads_below r (Goes n) below nowhere = absurd nowhere
+leads_below r Ended below nowhere = tt
+leads_below r Faults below nowhere = tt
+leads_below r Waits below nowhere = tt
 
 -- ---- constant definitions and copies
 pub fixes_so : (rd n : ℕ) (s : Core) → act (Fixes rd n) s ≡ step.Falls (set_register rd n s)
@@ -110,6 +118,7 @@ loads_so m new o rd base b offset op e h answer = record {
       let same = act_written (Loads rd op base offset) s (written_one s base b k) ∙ ap (λ (x : Option ℕ). loaded rd op ((or_zero x + offset) % 2 ^ 64) s) k in
       subst (λ (x : step.Outcome). EndsSo o new s x) (sym same) (h.ends s holds);
   stays = h.stays;
+  leads = leads_below (Loads rd op base offset) o (λ p. refl) h.leads;
 }
 
 pub loads_faults : (m : Machine) (rd base offset : ℕ) (op : Op) → None ≡ slice_index_or m.registers base None → (s : Core) → MachineHolds m s → act (Loads rd op base offset) s ≡ step.Traps
@@ -125,6 +134,7 @@ stores_so m new o rs v base b offset op e f h answer = record {
       ap (λ (x : Option ℕ). saves op (or_zero (content s.regs rs)) ((or_zero x + offset) % 2 ^ 64) s) k ∙ ap (λ (x : Option ℕ). saves op (or_zero x) ((b + offset) % 2 ^ 64) s) j in
       subst (λ (x : step.Outcome). EndsSo o new s x) (sym same) (h.ends s holds);
   stays = h.stays;
+  leads = leads_below (Stores op rs base offset) o (λ p. refl) h.leads;
 }
 
 pub stores_faults_first : (m : Machine) (rs base offset : ℕ) (op : Op) → None ≡ slice_index_or m.registers rs None → (s : Core) → MachineHolds m s → act (Stores op rs base offset) s ≡ step.Traps
@@ -152,6 +162,7 @@ slot_stores_so old kept rs n v e writes answer = record {
         record { machine = record { entry = holds.entry; registers = holds.registers; slots = writes s.slots holds.slots; memory = holds.memory }; pairs = refl; marks = refl },
       );
   stays = tt;
+  leads = λ p. refl;
 }
 
 pub slot_stores_faults : (m : Machine) (rs n : ℕ) → None ≡ slice_index_or m.registers rs None → (s : Core) → MachineHolds m s → act (StoresSlot rs n) s ≡ step.Traps
@@ -171,12 +182,14 @@ pub branches_goes : (m : Machine) (a b x y target : ℕ) (op : Op) → Some x �
 branches_goes m a b x y target op e f t answer = record {
   ends = λ s holds script. (s, branches_act m a b x y target op e f s holds ∙ ap (λ (z : Bool). cond z (step.Goes target s) (step.Falls s)) t, unmoved m s holds);
   stays = tt;
+  leads = λ p. inl refl;
 }
 
 pub branches_falls : (m : Machine) (a b x y target : ℕ) (op : Op) → Some x ≡ slice_index_or m.registers a None → Some y ≡ slice_index_or m.registers b None → taken op x y ≡ false → (answer : Option Answer) → Acts (Branches op a b target) answer Falls m m
 branches_falls m a b x y target op e f t answer = record {
   ends = λ s holds script. (s, branches_act m a b x y target op e f s holds ∙ ap (λ (z : Bool). cond z (step.Goes target s) (step.Falls s)) t, unmoved m s holds);
   stays = tt;
+  leads = λ p. inr refl;
 }
 
 pub branches_faults_first : (m : Machine) (a b target : ℕ) (op : Op) → None ≡ slice_index_or m.registers a None → (s : Core) → MachineHolds m s → act (Branches op a b target) s ≡ step.Traps
@@ -187,12 +200,12 @@ branches_faults_second m a b target op e s holds = act_unwritten (Branches op a 
 
 pub jumps_so : (m : Machine) (target : ℕ) (answer : Option Answer) → Acts (Jumps target) answer (Goes target) m m
 unfolding act does
-jumps_so m target answer = record { ends = λ s holds script. (s, refl, unmoved m s holds); stays = tt }
+jumps_so m target answer = record { ends = λ s holds script. (s, refl, unmoved m s holds); stays = tt; leads = λ p. refl }
 
 -- ---- calls and returns
 pub returns_so : (m : Machine) (results : List ℕ) → ((s : Core) → MachineHolds m s → true ≡ are_written s results) → (answer : Option Answer) → Acts (Returns results) answer Ended m m
 unfolding does
-returns_so m results h answer = record { ends = λ s holds script. (_, act_written (Returns results) s (sym (h s holds))); stays = refl }
+returns_so m results h answer = record { ends = λ s holds script. (_, act_written (Returns results) s (sym (h s holds))); stays = refl; leads = tt }
 
 pub returns_faults : (m : Machine) (results : List ℕ) → ((s : Core) → MachineHolds m s → false ≡ are_written s results) → (s : Core) → MachineHolds m s → act (Returns results) s ≡ step.Traps
 returns_faults m results h s holds = act_unwritten (Returns results) s (sym (h s holds))
@@ -205,6 +218,7 @@ unfolding does
 calls_waits m name args h = record {
   ends = λ s holds script. act_written (Calls name args) s (sym (h s holds)) ∙ ap (answered name (Rattle.std.specs.Prelude.map (read s) args) s) script;
   stays = refl;
+  leads = tt;
 }
 
 pub calls_takes : (m new : Machine) (o : Outcome) (name args : List ℕ) (a : Answer) → ((s : Core) → MachineHolds m s → true ≡ are_written s args) → Takes a o m new → Acts (Calls name args) (Some a) o m new
@@ -215,6 +229,7 @@ calls_takes m new o name args a h took = record {
       let same = act_written (Calls name args) s (sym (h s holds)) ∙ ap (answered name values s) script.1 in
       subst (λ (x : step.Outcome). EndsSo o new s x) (sym same) (took.ends name values script.0 s holds);
   stays = took.stays;
+  leads = leads_below (Calls name args) o (λ p. refl) took.leads;
 }
 
 -- ---- memory and answers
@@ -229,6 +244,7 @@ pub loaded_faults : (m : Machine) (rd a : ℕ) (op : Op) → true ≡ touches_fr
 loaded_faults m rd a op e = record {
   ends = λ s holds. ap (λ (b : Bool). cond b step.Traps (step.Falls (set_register rd (extended op (spelled s.memory a (width_of op))) s))) (touches_same m s a (width_of op) true holds e);
   stays = refl;
+  leads = tt;
 }
 
 pub loaded_falls : (old : Machine) (kept : List (Option ℕ)) (rd a v : ℕ) (op : Op) → false ≡ touches_frame old.entry a (width_of op) → v ≡ extended op (spelled (byte_in old.memory) a (width_of op)) → ((f : ℕ → Option ℕ) → RegistersHold old.registers f → RegistersHold kept (put rd v f)) → Does (loaded rd op a) Falls old (record old { registers = kept })
@@ -241,12 +257,14 @@ loaded_falls old kept rd a v op e is writes = record {
     moved_set old kept rd v s writes holds,
   );
   stays = tt;
+  leads = tt;
 }
 
 pub saves_faults : (m : Machine) (v a : ℕ) (op : Op) → true ≡ touches_frame m.entry a (width_of op) → Does (saves op v a) Faults m m
 saves_faults m v a op e = record {
   ends = λ s holds. ap (λ (b : Bool). cond b step.Traps (step.Falls (saved a (low_bytes (width_of op) v) s))) (touches_same m s a (width_of op) true holds e);
   stays = refl;
+  leads = tt;
 }
 
 pub saves_falls : (old : Machine) (kept : List (ℕ × ℕ)) (v a : ℕ) (op : Op) → false ≡ touches_frame old.entry a (width_of op) → ((f : ℕ → ℕ) → MemoryHolds old.memory f → MemoryHolds kept (stored f a (low_bytes (width_of op) v))) → Does (saves op v a) Falls old (record old { memory = kept })
@@ -257,6 +275,7 @@ saves_falls old kept v a op e writes = record {
     record { machine = record { entry = holds.entry; registers = holds.registers; slots = holds.slots; memory = writes s.memory holds.memory }; pairs = refl; marks = refl },
   );
   stays = tt;
+  leads = tt;
 }
 
 taken_core : (name args : List ℕ) (s : Core) (a : Answer) (rest : List Reply) → Core
@@ -270,6 +289,7 @@ pub takes_faults : (m : Machine) (a : Answer) → true ≡ writes_frame m.entry 
 takes_faults m a e = record {
   ends = λ name args rest s holds. answered_by name args s a rest true (ap (λ (x : ℕ). writes_frame x (some_writes a.writes)) holds.entry ∙ sym e);
   stays = refl;
+  leads = tt;
 }
 
 pub takes_falls : (old : Machine) (regs : List (Option ℕ)) (bytes : List (ℕ × ℕ)) (a : Answer) → false ≡ writes_frame old.entry (some_writes a.writes) → ((f : ℕ → Option ℕ) → RegistersHold old.registers f → RegistersHold regs (put_all caller_saved a.regs f)) → ((f : ℕ → ℕ) → MemoryHolds old.memory f → MemoryHolds bytes (written f (some_writes a.writes))) → Takes a Falls old (record old { registers = regs; memory = bytes })
@@ -281,6 +301,7 @@ takes_falls old regs bytes a e registers memory = record {
     record { machine = record { entry = holds.entry; registers = registers s.regs holds.registers; slots = holds.slots; memory = memory s.memory holds.memory }; pairs = refl; marks = refl },
   );
   stays = tt;
+  leads = tt;
 }
 
 -- ---- the same under a result that may lack memory

@@ -1,8 +1,7 @@
 -- What items do, and where steps lead.
-use Rattle.std.proofs.Common.{◌≡◌, ℕ, zero, suc, ◌<◌, ◌≤◌, List, [], ◌∷◌, length, Option, Some, Bool, true, cond, refl, sym, ap, ◌∙◌, subst, drop, get_or, arith}
+use Rattle.std.proofs.Common.{◌≡◌, ℕ, zero, suc, ◌<◌, ◌≤◌, List, [], ◌∷◌, length, Option, Some, Bool, true, refl, sym, ap, ◌∙◌, subst, drop, get_or, arith}
 use Rattle.std.specs.Prelude.{Result, Ok, Err, IfOk, nat_eq}
 use Rattle.std.specs.Map.{lookup}
-use Rattle.std.proofs.lemmas.Bool.{eq-eqb}
 use Rattle.std.specs.declared.alloc.AllocError.{AllocError}
 use Rattle.rv64_instr.specs.Row.{row_of}
 use Rattle.rv64_instr.specs.Instruction.{Instruction}
@@ -14,7 +13,9 @@ use Rattle.mir_func.specs.declared.item.Item.{Item}
 use Rattle.mir_func.specs.declared.entry.Entry.{Entry}
 use Rattle.mir_func.specs.declared.item.ItemKind.{ItemKind}
 use Rattle.mir_func.specs.declared.item.ItemKind.TheVariants.{Code, Mark, Phi}
-use Rattle.mir_func.specs.Sound.{LastCloses, Closes}
+use Rattle.mir_func.specs.Sound.{LastCloses, ids_of}
+use Rattle.mir_func.proofs.Places.{contains_head}
+use Rattle.mir_semantics.proofs.Inside.{block_inside}
 use Rattle.mir_func.specs.meaning.State.{Core, State}
 use Rattle.mir_func.specs.meaning.Step as step
 use Rattle.mir_func.specs.meaning.Step.{numbered, with_core, is_call}
@@ -64,6 +65,7 @@ code_falls subs i k answer old m kept fs call operands o eo ec ek is acts given 
             numbered_holds old m fs (is_call (row_of i)) k i.operands s a.0 a.2 holds (given_at i k m kept old.pairs fs call operands eo ec ek given),
           );
       stays = tt;
+      leads = falls.leads;
       pos = refl;
     }
 
@@ -81,6 +83,7 @@ code_goes subs i k answer old m kept fs call operands o n eo ec ek is acts given
             numbered_holds old m fs (is_call (row_of i)) k i.operands s a.0 a.2 holds (given_at i k m kept old.pairs fs call operands eo ec ek given),
           );
       stays = tt;
+      leads = goes.leads;
       pos = refl;
     }
 
@@ -175,17 +178,6 @@ starts_stands blocks start m es fs n s starts made e f first = record {
   };
 }
 
--- in blocks whose last one closes, the first position is none past the end
-pub start_inside : (b : Block) (bs : List Block) → LastCloses (b ∷ bs) → fetch_in (b ∷ bs) 0 ≡ step.Outside → ⊥
-start_inside b bs closes = inside b.items bs (λ e. subst (λ (cs : List Block). LastCloses (b ∷ cs)) e closes)
-  where
-    inside : (is : List Item) (cs : List Block) → (cs ≡ [] → Closes is) → front is b.silent cs ≡ step.Outside → ⊥
-    inside (i ∷ is) cs h e = (let no : step.Here i ≡ step.Outside = e in cc)
-    inside [] (c ∷ cs) h e = (let no : step.Silent b.silent c.id ≡ step.Outside = e in cc)
-    inside [] [] h e = h refl
-
 pub first_position : (blocks : List Block) (n : ℕ) → LastCloses blocks → n ≡ first_of blocks → IsPosition blocks (record { block = n; item = 0 })
 first_position [] n closes e = absurd closes
-first_position (b ∷ bs) n closes e = λ out.
-    let same : from_block (b ∷ bs) n ≡ b ∷ bs = ap (λ (t : Bool). cond t (b ∷ bs) (from_block bs n)) (eq-eqb b.id n (sym e)) in
-    start_inside b bs closes (sym (ap (λ xs. fetch_in xs 0) same) ∙ out)
+first_position (b ∷ bs) n closes e = subst (λ (x : ℕ). IsPosition (b ∷ bs) (step.block_start x)) (sym e) (block_inside (b ∷ bs) b.id closes (contains_head b.id (ids_of bs)))

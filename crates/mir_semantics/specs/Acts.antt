@@ -6,9 +6,11 @@ use Rattle.rv64_instr.specs.declared.op.Op.{Op}
 use Rattle.rv64_instr.specs.Row.{Input, Row, Calls}
 use Rattle.rv64_instr.specs.declared.start.Answer.{Answer}
 use Rattle.rv64_instr.specs.declared.start.Start.{Start}
+use Rattle.mir_func.specs.declared.position.Pos.{Pos}
 use Rattle.mir_func.specs.meaning.State.{Core, Reply, written, touches_frame, low_bytes}
 use Rattle.mir_func.specs.meaning.Step as step
-use Rattle.mir_func.specs.meaning.Step.{act, answered, are_written, input_value, saved}
+use Rattle.mir_func.specs.meaning.Step.{act, answered, are_written, input_value, saved, below, block_start}
+use Rattle.mir_func.specs.meaning.Graph.{RowEdge}
 use Rattle.mir_semantics.specs.declared.machine.Machine.{Machine}
 use Rattle.mir_semantics.specs.declared.machine.Outcome.{Outcome}
 use Rattle.mir_semantics.specs.declared.machine.Outcome.TheVariants.{Falls, Goes, Returns as Ended, Faults, Waits}
@@ -62,15 +64,28 @@ Stays Falls old new = Unit {0}
 Stays (Goes n) old new = Unit {0}
 Stays _ old new = new ≡ old
 
+-- code of this row that goes on does so along one of the row's edges, wherever it stands
+abbrev pub Leads : Row → Outcome → Type 0
+Leads r Falls = (p : Pos) → RowEdge (λ n. n) r p (below p)
+Leads r (Goes n) = (p : Pos) → RowEdge (λ n. n) r p (block_start n)
+Leads r _ = Unit {0}
+
+-- code that goes to no block
+abbrev pub GoesNowhere : Outcome → Type 0
+GoesNowhere (Goes n) = ⊥
+GoesNowhere _ = Unit {0}
+
 -- from the places old, code of this row leads to the places new and ends so
 pub record Acts (r : Row) (answer : Option Answer) (o : Outcome) (old new : Machine) : Type 0 where
   pub ends : (s : Core) → MachineHolds old s → IsAnswered r answer s.script → EndsSo o new s (act r s)
   pub stays : Stays o old new
+  pub leads : Leads r o
 
 -- the same for a part of what code of a row does
 pub record Does (f : Core → step.Outcome) (o : Outcome) (old new : Machine) : Type 0 where
   pub ends : (s : Core) → MachineHolds old s → EndsSo o new s (f s)
   pub stays : Stays o old new
+  pub leads : GoesNowhere o
 
 -- a store of a number to an address
 abbrev pub saves : Op → (v address : ℕ) → Core → step.Outcome
@@ -80,6 +95,7 @@ saves op v a s = cond (touches_frame s.entry a (width_of op)) step.Traps (step.F
 pub record Takes (a : Answer) (o : Outcome) (old new : Machine) : Type 0 where
   pub ends : (name args : List ℕ) (rest : List Reply) (s : Core) → MachineHolds old s → EndsSo o new s (answered name args s (reply_of a ∷ rest))
   pub stays : Stays o old new
+  pub leads : GoesNowhere o
 
 -- an input has this value, or reads an unwritten register
 abbrev pub InputHolds : Core → Input → Option ℕ → Type 0

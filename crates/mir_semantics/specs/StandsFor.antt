@@ -13,8 +13,8 @@ use Rattle.mir_func.specs.declared.item.ItemKind.{ItemKind}
 use Rattle.mir_func.specs.declared.item.ItemKind.TheVariants.{Code}
 use Rattle.mir_func.specs.meaning.State.{Core, State, Reply, assigned, content, written}
 use Rattle.mir_func.specs.meaning.Step as step
-use Rattle.mir_func.specs.meaning.Step.{Fetch, Here, Outside, Program, do_item, block_start}
-use Rattle.mir_func.specs.meaning.Graph.{program_of, fetch_in, from_block}
+use Rattle.mir_func.specs.meaning.Step.{Fetch, Here, Outside, Program, do_item, below, block_start}
+use Rattle.mir_func.specs.meaning.Graph.{program_of, fetch_in, from_block, KindEdge}
 use Rattle.mir_func.specs.meaning.Follow.{first_of}
 use Rattle.mir_func.specs.meaning.Resolve.{resolve, is_pair}
 use Rattle.mir_semantics.specs.declared.machine.Machine.{Machine}
@@ -92,16 +92,23 @@ StaysAll Falls old new = Unit {0}
 StaysAll (Goes n) old new = Unit {0}
 StaysAll _ old new = new ≡ old
 
+-- an item that goes on does so along an edge, wherever it stands
+abbrev pub ItemLeads : ItemKind → Outcome → Type 0
+ItemLeads kind Falls = (p : Pos) → KindEdge (λ n. n) kind p (below p)
+ItemLeads kind (Goes n) = (p : Pos) → KindEdge (λ n. n) kind p (block_start n)
+ItemLeads kind _ = Unit {0}
+
 -- an item leads from what was kept to what is kept now, and ends so
 pub record DoesItem (subs : List Entry) (kind : ItemKind) (answer : Option Answer) (o : Outcome) (old new : Concrete) : Type 0 where
   pub ends : (s : Core) → Holds old s → IsItemAnswered kind answer s.script → EndsItem o new (do_item (program_of true [] (resolve subs)) kind s)
   pub stays : StaysAll o old new
+  pub leads : ItemLeads kind o
   pub pos : new.pos ≡ old.pos
 
 -- a position of the function, other than the last block's end
 abbrev pub IsPosition : List Block → Pos → Type 0
 IsPosition blocks p = fetch_in (from_block blocks p.block) p.item ≡ Outside → ⊥
 
--- each block has fewer items than a position can count
+-- each block has fewer items than a position can count, as those of a function that was read have: `silent`, of 32 bits, is their number
 abbrev pub AreCounted : List Block → Type 0
 AreCounted blocks = All (λ b. length b.items < 2 ^ 32) blocks

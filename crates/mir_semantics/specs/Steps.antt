@@ -6,7 +6,7 @@ use Rattle.mir_func.specs.declared.entry.Entry.{Entry}
 use Rattle.mir_func.specs.meaning.State.{State}
 use Rattle.mir_func.specs.meaning.Step as step
 use Rattle.mir_func.specs.meaning.Step.{Next, Program}
-use Rattle.mir_func.specs.meaning.Graph.{program_of}
+use Rattle.mir_func.specs.meaning.Graph.{program_of, FetchEdge}
 use Rattle.mir_func.specs.meaning.Resolve.{resolve}
 use Rattle.mir_semantics.specs.declared.state.SourceStep.{SourceStep}
 use Rattle.mir_semantics.specs.declared.state.SourceStep.TheVariants.{Went, Returned, Fault, Waits}
@@ -40,6 +40,11 @@ ChangesOnlyByGoing _ old new = new ≡ old
 abbrev pub StepsFrom : Fetch → List Entry → Option Answer → SourceStep → Concrete → Concrete → Type 0
 StepsFrom here subs answer r old new = (s : State) → StandsFor old s → IsStepAnswered here answer s.core.script →
     IsStep r new (moved (λ n. n) s.pos (do_fetch (source_of [] subs) here s.core))
+
+-- a step that goes on leads along an edge, and one that doesn't leads nowhere
+abbrev pub GoesAlong : Fetch → SourceStep → Pos → Pos → Type 0
+GoesAlong here Went p q = FetchEdge (λ n. n) here p q
+GoesAlong here _ p q = q ≡ p
 
 -- how the step of an outcome ends, and where it leads
 abbrev pub step_after : Outcome → SourceStep

@@ -3,15 +3,13 @@ ghost use Rattle.rv64_instr.specs.Access.{caller_saved};
 ghost use Rattle.mir_func.specs.meaning.State.{put, put_all};
 ghost use Rattle.mir_semantics.specs.Places.{RegistersHold, starting_registers};
 
+use rv64_instr::parts::CALLER_SAVED;
 use rv64_instr::reg::Reg;
 use std::alloc::{AllocError, Global};
 use std::marker::Model;
 
 /// The number of registers, physical and virtual.
 const COUNT: usize = 4128;
-
-/// The registers that a call sets, ascending (RISC-V ELF psABI, "Integer Register Convention").
-const CALLER_SAVED: [usize; 16] = [1, 5, 6, 7, 10, 11, 12, 13, 14, 15, 16, 17, 28, 29, 30, 31];
 
 /// The registers' contents, by number. A virtual register is unwritten until it is set.
 #[derive(Drop)]
@@ -65,7 +63,7 @@ impl Registers {
             → RegistersHold self.new (put_all caller_saved values.now held) }
     {
         for i in 0..16 {
-            self.contents[CALLER_SAVED[i]] = Some(values[i]);
+            self.contents[CALLER_SAVED[i] as usize] = Some(values[i]);
         }
     }
 }

@@ -1,4 +1,4 @@
-ghost use Rattle.std.specs.Prelude.{◌≡◌, ◌<◌, ◌+◌, ◌^◌, true, [], List, Option, Some, None, IfOk, OnErr, length};
+ghost use Rattle.std.specs.Prelude.{◌≡◌, ◌<◌, ◌+◌, ◌^◌, true, [], List, Option, Some, None, IfOk, OnErr, IsTrue, ◌↔◌, length};
 ghost use Rattle.std.specs.Option.{option_copied};
 ghost use Rattle.rv64_instr.specs.declared.start.Answer.{Answer};
 ghost use Rattle.mir_func.specs.declared.entry.Entry.{Entry};
@@ -8,7 +8,7 @@ ghost use Rattle.mir_func.specs.meaning.Graph.{program_of, fetch_in};
 ghost use Rattle.mir_func.specs.meaning.Resolve.{resolve};
 ghost use Rattle.mir_func.specs.meaning.Follow.{first_of};
 ghost use Rattle.mir_semantics.specs.StandsFor.{DoesItem, Holds, StandsFor, Starts, IsPosition, AreCounted};
-ghost use Rattle.mir_semantics.specs.Steps.{Steps, StepsFrom, ChangesOnlyByGoing, source_of, step_after, position_after};
+ghost use Rattle.mir_semantics.specs.Steps.{Steps, StepsFrom, ChangesOnlyByGoing, GoesAlong, source_of, step_after, position_after};
 ghost use Rattle.rv64_instr.specs.Row.{row_of};
 
 use crate::blocks;
@@ -80,6 +80,13 @@ impl SourceState {
         })
     }
 
+    /// Whether `step` can run a function: each block has fewer items than a position can count.
+    pub fn can_run(f: &Func) -> bool
+        ensures { IsTrue result ↔ AreCounted f.now.blocks }
+    {
+        are_counted(f.blocks.as_slice())
+    }
+
     /// The position: a block's number, and the index of an item, which at a block's end is the number of its items.
     pub fn position(&self) -> Pos
         ensures { result ≡ self.now.pos }
@@ -112,6 +119,7 @@ impl SourceState {
             (option_copied answer.entry) r self.old self.new) }
         ensures stays { IfOk result (λ r. ChangesOnlyByGoing r self.old self.new) }
         ensures memory { OnErr result (self.new ≡ self.old) }
+        ensures at { IsPosition f.now.blocks self.new.pos }
     {
         let blocks = f.blocks.as_slice();
         match blocks::find(&self.probable, blocks, self.pos.block) {
@@ -133,6 +141,7 @@ impl SourceState {
         ensures step { IfOk result (λ r. StepsFrom (fetch_in blocks.now self.old.pos.item) subs.now
             (option_copied answer.entry) r self.old self.new) }
         ensures stays { IfOk result (λ r. ChangesOnlyByGoing r self.old self.new) }
+        ensures edge { IfOk result (λ r. GoesAlong (fetch_in blocks.now self.old.pos.item) r self.old.pos self.new.pos) }
         ensures memory { OnErr result (self.new ≡ self.old) }
     {
         let items = blocks[0].items.as_slice();
@@ -316,6 +325,18 @@ impl SourceState {
     }
 }
 
+/// Whether each block has fewer items than a position can count.
+fn are_counted(blocks: &[Block]) -> bool
+    ensures { IsTrue result ↔ AreCounted blocks.now }
+{
+    for b in blocks {
+        if b.items.len() > u32::MAX as usize {
+            return false;
+        }
+    }
+    true
+}
+
 /// The number of the first block.
 fn first(blocks: &[Block]) -> u32
     requires { 0 < length blocks.now }
@@ -333,3 +354,8 @@ fn is_call(i: &Instr) -> bool
         _ => false,
     }
 }
+
+#[cfg(test)]
+mod build;
+#[cfg(test)]
+mod tests;

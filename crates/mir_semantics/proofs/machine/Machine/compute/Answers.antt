@@ -1,4 +1,4 @@
-use Rattle.std.proofs.Common.{sym, ap, ◌∙◌}
+use Rattle.std.proofs.Common.{refl, sym, ap, ◌∙◌}
 use Rattle.mir_func.specs.meaning.Step as step
 use Rattle.mir_func.specs.meaning.Step.{set_register}
 use Rattle.mir_semantics.proofs.Rows.{sets_so, sets_does, sets_faults_first, sets_faults_second, faults}
@@ -6,7 +6,7 @@ use Rattle.mir_semantics.proofs.machine.Machine.compute.Goals as goal
 
 pub returns-in-Some-Some : goal.returns-in-Some-Some
 returns-in-Some-Some c =
-    sets_so c.args.self.now c.write.new.self _ c.args.rd c.compute.result c.write.ensures
+    sets_so c.args.self.now c.write.new.self _ c.args.rd c.compute.result (λ p. refl) c.write.ensures
     (λ s holds. sets_does c.args.self.now c.args.rd c.args.a c.in-Some-Some.x c.in-Some-Some.y c.args.op _ c.in-Some-Some.ensures c.in-Some-Some.ensures' s holds
     ∙ ap (λ v. step.Falls (set_register c.args.rd v s)) (sym c.compute.ensures))
 
