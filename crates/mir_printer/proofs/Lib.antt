@@ -1,2 +1,7 @@
 pub mod Appends
 pub mod ListedLemmas
+pub mod Cuts
+pub mod Symbols
+pub mod Operands
+pub mod Instructions
+pub mod Items

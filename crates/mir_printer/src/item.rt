@@ -1,5 +1,6 @@
 ghost use Rattle.std.specs.Prelude.{◌≡◌, ◌++◌, OnOk, OnErr};
 ghost use Rattle.mir_printer.specs.Growth.{GrownFrom};
+ghost use Rattle.mir_printer.specs.Printable.{ItemTextTells, ItemLineTells};
 ghost use Rattle.mir_printer.specs.Spelling.{item_text, kind_text};
 
 use crate::instruction::{push_instruction, push_number};
@@ -31,6 +32,14 @@ fn push_kind(text: &mut Text, kind: &ItemKind) -> Result<(), AllocError>
         ItemKind::Phi(place, number) => push_phi(text, place, *number),
     }
 }
+
+/// The text of an item stands for one kind and one location, and so does its line, whatever follows it. The items are
+/// printable: their instruction has the form of its opcode, a phi of `$x0` is one of the constant 0, and a mark's
+/// variable is inlined where its location is.
+pub fn one_reading()
+    ensures text { ItemTextTells }
+    ensures line { ItemLineTells }
+{}
 
 #[cfg(test)]
 mod tests {

@@ -1,4 +1,4 @@
-use Rattle.std.proofs.Common.{◌≡◌, ◌+◌, ◌<◌, ◌++◌, ◌∷◌, [], ◌∙◌, sym, ap, take, length, get_or, true, false, arith, append_assoc}
+use Rattle.std.proofs.Common.{◌≡◌, ◌<◌, ◌++◌, ◌∙◌, sym, ap, take, length, get_or, true, false, append_assoc}
 use Rattle.mir_printer.specs.Spelling.{operand_text}
 use Rattle.mir_printer.specs.Listed.{selects, selected_texts, listed_text, has_any}
 use Rattle.mir_printer.proofs.ListedLemmas.{next_lead, listed_text-snoc, selected_texts-taken, selected_texts-left, next_lead-snoc, has_any-snoc}

@@ -1,6 +1,6 @@
 use Rattle.std.proofs.Common.{◌++◌, append_assoc, codes}
 use Rattle.std.specs.Fmt.{decimal}
-use Rattle.mir_printer.proofs.Appends.{joined, ended}
+use Rattle.mir_printer.proofs.Appends.{ended}
 use Rattle.mir_printer.proofs.mark.push_variable.Goals as goal
 
 pub returns-clause-ok : goal.returns-clause-ok

@@ -1,0 +1,369 @@
+-- The item that a text stands for.
+use Rattle.std.proofs.Common.{◌≡◌, ℕ, ℤ, pos, ◌-◌, ◌<◌, ◌≤◌, Bool, true, false, nat_lt, List, [], ◌∷◌, ◌++◌, Option, Some, None, refl, sym, ap, ◌∙◌, append_assoc, arith}
+use Rattle.std.specs.Prelude.{codes, IfSome}
+use Rattle.std.specs.Fmt.{decimal, signed_decimal}
+use Rattle.std.proofs.lemmas.Fmt.{decimal_digit}
+use Rattle.rv64_instr.specs.Instruction.{Instruction}
+use Rattle.rv64_instr.specs.declared.place.Place.{Place}
+use Rattle.rv64_instr.specs.declared.place.Place.TheVariants.{Register, Slot, Const}
+use Rattle.mir_func.specs.declared.location.Loc.{Loc}
+use Rattle.mir_func.specs.declared.location.Loc.TheVariants.{Absent, Node, Inline}
+use Rattle.mir_func.specs.declared.location.InlineLoc.{InlineLoc}
+use Rattle.mir_func.specs.declared.variable.VarId.{VarId}
+use Rattle.mir_func.specs.declared.variable.MarkValue.{MarkValue}
+use Rattle.mir_func.specs.declared.variable.MarkValue.TheVariants.{Nothing, Constant, At, Pair}
+use Rattle.mir_func.specs.declared.item.Item.{Item}
+use Rattle.mir_func.specs.declared.item.ItemKind.{ItemKind}
+use Rattle.mir_func.specs.declared.item.ItemKind.TheVariants.{Code, Mark, Phi}
+use Rattle.mir_printer.specs.Spelling.{register_text, instruction_text, number_text, phi_place_text, mark_text, kind_text, inlined_at_text, location_text, item_text}
+use Rattle.mir_printer.specs.Printable.{IsNumber, IsSigned, IsPrintableInstruction, IsPrintablePlace, IsPrintableValue, IsPrintableLoc, IsPrintableKind, IsPrintable, inlined_at}
+use Rattle.mir_printer.proofs.Cuts.{front_one, apart, Stops, is_digit, decimal_head, signed_one, signed_head}
+use Rattle.mir_printer.proofs.Operands.{goes_on, wide, number_one, register_one}
+use Rattle.mir_printer.proofs.Instructions.{EndsInstruction, instruction_one, instruction_begins}
+
+some_number : (m n : ℕ) → m ≡ n → Some m ≡ Some n
+some_number m n e = ap (λ (k : ℕ). Some k) e
+
+-- a digit is no `-`, no `$` and no `%`
+digit_apart : (n b : ℕ) (r s : List ℕ) → IsNumber n → (48 ≤ b → b ≤ 57 → ⊥) → decimal n ++ r ≡ b ∷ s → ⊥
+digit_apart n b r s small other e =
+    let is = decimal_head n r (wide n small) in
+    let both : is.0 ∷ is.1 ≡ b ∷ s = sym is.2 ∙ e in
+    let same : is.0 ≡ b = cc in
+    other (omega (arith, same, is.3)) (omega (arith, same, is.4))
+
+sign_apart : (i : ℤ) (b : ℕ) (r s : List ℕ) → IsSigned i → (45 ≤ b → b ≤ 57 → ⊥) → signed_decimal i ++ r ≡ b ∷ s → ⊥
+sign_apart i b r s small other e =
+    let is = signed_head i r small in
+    let both : is.0 ∷ is.1 ≡ b ∷ s = sym is.2 ∙ e in
+    let same : is.0 ≡ b = cc in
+    other (omega (arith, same, is.3)) (omega (arith, same, is.4))
+
+-- ---- locations, up to the end of the line
+
+abbrev inlined_before : Option ℕ → List ℕ → List ℕ
+inlined_before None rest = codes ")" ++ rest
+inlined_before (Some n) rest = codes ", inlinedAt: !" ++ (decimal n ++ (codes ")" ++ rest))
+
+abbrev inline_before : InlineLoc → List ℕ → List ℕ
+inline_before l rest = decimal l.line ++ (codes ", column: " ++ (decimal l.column ++ (codes ", scope: !" ++ (decimal l.scope ++ inlined_before l.inlined_at rest))))
+
+-- behind `, debug-location !`
+abbrev node_before : Loc → List ℕ → List ℕ
+node_before Absent rest = rest
+node_before (Node n) rest = decimal n ++ rest
+node_before (Inline l) rest = codes "DILocation(line: " ++ inline_before l rest
+
+abbrev location_before : Loc → List ℕ → List ℕ
+location_before Absent rest = rest
+location_before (Node n) rest = codes ", debug-location !" ++ (decimal n ++ rest)
+location_before (Inline l) rest = codes ", debug-location !DILocation(line: " ++ inline_before l rest
+
+inline_parts : (a b c d e f g h rest : List ℕ) → (a ++ b ++ c ++ d ++ e ++ f ++ g ++ h) ++ rest ≡ a ++ (b ++ (c ++ (d ++ (e ++ (f ++ (g ++ (h ++ rest)))))))
+inline_parts a b c d e f g h rest = simp append_assoc
+
+inlined_is : (o : Option ℕ) (rest : List ℕ) → inlined_at_text o ++ (codes ")" ++ rest) ≡ inlined_before o rest
+inlined_is None rest = refl
+inlined_is (Some n) rest = append_assoc (codes ", inlinedAt: !") (decimal n) (codes ")" ++ rest)
+
+location_is : (l : Loc) (rest : List ℕ) → location_text l ++ rest ≡ location_before l rest
+location_is Absent rest = refl
+location_is (Node n) rest = append_assoc (codes ", debug-location !") (decimal n) rest
+location_is (Inline l) rest =
+    inline_parts (codes ", debug-location !DILocation(line: ") (decimal l.line) (codes ", column: ") (decimal l.column) (codes ", scope: !") (decimal l.scope) (inlined_at_text l.inlined_at) (codes ")") rest
+    ∙ ap (λ (t : List ℕ). codes ", debug-location !DILocation(line: " ++ (decimal l.line ++ (codes ", column: " ++ (decimal l.column ++ (codes ", scope: !" ++ (decimal l.scope ++ t)))))) (inlined_is l.inlined_at rest)
+
+inlined_stops : (o : Option ℕ) (rest : List ℕ) → Stops is_digit (inlined_before o rest)
+inlined_stops None rest = refl
+inlined_stops (Some n) rest = refl
+
+inlined_one : (a b : Option ℕ) (r s : List ℕ) → IfSome a IsNumber → IfSome b IsNumber → inlined_before a r ≡ inlined_before b s → (a ≡ b) × (r ≡ s)
+inlined_one None None r s small other e = (refl, front_one (codes ")") r s e)
+inlined_one None (Some n) r s small other e = absurd (apart 41 44 r (codes " inlinedAt: !" ++ (decimal n ++ (codes ")" ++ s))) refl e)
+inlined_one (Some m) None r s small other e = absurd (apart 44 41 (codes " inlinedAt: !" ++ (decimal m ++ (codes ")" ++ r))) s refl e)
+inlined_one (Some m) (Some n) r s small other e =
+    let found = number_one m n (codes ")" ++ r) (codes ")" ++ s) small other refl refl (front_one (codes ", inlinedAt: !") (decimal m ++ (codes ")" ++ r)) (decimal n ++ (codes ")" ++ s)) e) in
+    (some_number m n found.0, front_one (codes ")") r s found.1)
+
+inline_one : (a b : InlineLoc) (r s : List ℕ) → IsPrintableLoc (Inline a) → IsPrintableLoc (Inline b) → inline_before a r ≡ inline_before b s → (a ≡ b) × (r ≡ s)
+inline_one a b r s is others e =
+    let line = number_one a.line b.line _ _ is.0 others.0 refl refl e in
+    let column = number_one a.column b.column _ _ is.1 others.1 refl refl (front_one (codes ", column: ") _ _ line.1) in
+    let scope = number_one a.scope b.scope _ _ is.2 others.2 (inlined_stops a.inlined_at r) (inlined_stops b.inlined_at s) (front_one (codes ", scope: !") _ _ column.1) in
+    let inlined = inlined_one a.inlined_at b.inlined_at r s is.3 others.3 scope.1 in
+    (λ k. record { line = line.0 k; column = column.0 k; scope = scope.0 k; inlined_at = inlined.0 k }, inlined.1)
+
+-- one location, where what follows is the end of a line
+location_one : (l m : Loc) (r s : List ℕ) → IsPrintableLoc l → IsPrintableLoc m → location_before l (10 ∷ r) ≡ location_before m (10 ∷ s) → (l ≡ m) × (r ≡ s)
+location_one Absent Absent r s is others e = (refl, front_one (10 ∷ []) r s e)
+location_one (Node m) (Node n) r s is others e =
+    let found = number_one m n (10 ∷ r) (10 ∷ s) is others refl refl (front_one (codes ", debug-location !") (decimal m ++ (10 ∷ r)) (decimal n ++ (10 ∷ s)) e) in
+    (ap Node found.0, front_one (10 ∷ []) r s found.1)
+location_one (Inline l) (Inline m) r s is others e =
+    let found = inline_one l m (10 ∷ r) (10 ∷ s) is others (front_one (codes ", debug-location !DILocation(line: ") _ _ e) in
+    (ap Inline found.0, front_one (10 ∷ []) r s found.1)
+location_one Absent (Node n) r s is others e = absurd (apart 10 44 r (codes " debug-location !" ++ (decimal n ++ (10 ∷ s))) refl e)
+location_one (Node n) Absent r s is others e = absurd (apart 10 44 s (codes " debug-location !" ++ (decimal n ++ (10 ∷ r))) refl (sym e))
+location_one Absent (Inline l) r s is others e = absurd (apart 10 44 r (codes " debug-location !DILocation(line: " ++ inline_before l (10 ∷ s)) refl e)
+location_one (Inline l) Absent r s is others e = absurd (apart 10 44 s (codes " debug-location !DILocation(line: " ++ inline_before l (10 ∷ r)) refl (sym e))
+location_one (Node n) (Inline l) r s is others e =
+    absurd (digit_apart n 68 (10 ∷ r) (codes "ILocation(line: " ++ inline_before l (10 ∷ s)) is (λ low high. omega arith) (front_one (codes ", debug-location !") (decimal n ++ (10 ∷ r)) _ e))
+location_one (Inline l) (Node n) r s is others e =
+    absurd (digit_apart n 68 (10 ∷ s) (codes "ILocation(line: " ++ inline_before l (10 ∷ r)) others (λ low high. omega arith) (front_one (codes ", debug-location !") (decimal n ++ (10 ∷ s)) _ (sym e)))
+
+-- ---- debug instruction numbers, and the locations behind them
+
+abbrev number_before : Option ℕ → List ℕ → List ℕ
+number_before None rest = rest
+number_before (Some k) rest = codes ", debug-instr-number " ++ (decimal k ++ rest)
+
+number_is : (k : Option ℕ) (rest : List ℕ) → number_text k ++ rest ≡ number_before k rest
+number_is None rest = refl
+number_is (Some k) rest = append_assoc (codes ", debug-instr-number ") (decimal k) rest
+
+location_ends : (l : Loc) (r : List ℕ) → EndsInstruction (location_before l (10 ∷ r))
+location_ends Absent r = record { tail = record { follows = record { digits = refl; bare = refl }; ends = no_more r; blank = refl }; letter = refl }
+  where
+    no_more : (r : List ℕ) → goes_on (10 ∷ r) ≡ false
+    no_more [] = refl
+    no_more (a ∷ []) = refl
+    no_more (a ∷ b ∷ bs) = refl
+location_ends (Node n) r = record { tail = record { follows = record { digits = refl; bare = refl }; ends = refl; blank = refl }; letter = refl }
+location_ends (Inline l) r = record { tail = record { follows = record { digits = refl; bare = refl }; ends = refl; blank = refl }; letter = refl }
+
+number_ends : (k : Option ℕ) (l : Loc) (r : List ℕ) → EndsInstruction (number_before k (location_before l (10 ∷ r)))
+number_ends None l r = location_ends l r
+number_ends (Some k) l r = record { tail = record { follows = record { digits = refl; bare = refl }; ends = refl; blank = refl }; letter = refl }
+
+location_stops : (l : Loc) (r : List ℕ) → Stops is_digit (location_before l (10 ∷ r))
+location_stops Absent r = refl
+location_stops (Node n) r = refl
+location_stops (Inline l) r = refl
+
+-- a number is no location
+number_apart : (k : ℕ) (l : Loc) (r s : List ℕ) → codes ", debug-instr-number " ++ r ≡ location_before l (10 ∷ s) → ⊥
+number_apart k Absent r s e = apart 44 10 (codes " debug-instr-number " ++ r) s refl e
+number_apart k (Node n) r s e = apart 105 108 (codes "nstr-number " ++ r) (codes "ocation !" ++ (decimal n ++ (10 ∷ s))) refl (front_one (codes ", debug-") _ _ e)
+number_apart k (Inline l) r s e = apart 105 108 (codes "nstr-number " ++ r) (codes "ocation !DILocation(line: " ++ inline_before l (10 ∷ s)) refl (front_one (codes ", debug-") _ _ e)
+
+numbers_one : (j k : Option ℕ) (l m : Loc) (r s : List ℕ) → IfSome j IsNumber → IfSome k IsNumber → IsPrintableLoc l → IsPrintableLoc m →
+    number_before j (location_before l (10 ∷ r)) ≡ number_before k (location_before m (10 ∷ s)) → (j ≡ k) × (l ≡ m) × (r ≡ s)
+numbers_one None None l m r s small other is others e = let found = location_one l m r s is others e in (refl, found.0, found.1)
+numbers_one None (Some k) l m r s small other is others e = absurd (number_apart k l (decimal k ++ location_before m (10 ∷ s)) r (sym e))
+numbers_one (Some j) None l m r s small other is others e = absurd (number_apart j m (decimal j ++ location_before l (10 ∷ r)) s e)
+numbers_one (Some j) (Some k) l m r s small other is others e =
+    let number = number_one j k (location_before l (10 ∷ r)) (location_before m (10 ∷ s)) small other (location_stops l r) (location_stops m s) (front_one (codes ", debug-instr-number ") _ _ e) in
+    let found = location_one l m r s is others number.1 in
+    (some_number j k number.0, found.0, found.1)
+
+-- ---- values of marks, and places of phis, each before a comma
+
+abbrev value_text : MarkValue → List ℕ
+value_text Nothing = codes "$noreg"
+value_text (Constant c) = signed_decimal c
+value_text (At r) = register_text r
+value_text (Pair k o) = []
+
+-- a register begins with `$x` or `%`
+not_noreg : (p : Bool) (n : ℕ) (r s : List ℕ) → nat_lt n 32 ≡ p → register_text n ++ r ≡ codes "$noreg" ++ s → ⊥
+not_noreg true n r s is e =
+    let named : codes "$x" ++ (decimal n ++ r) ≡ codes "$noreg" ++ s = rw is at e in
+    apart 120 110 (decimal n ++ r) (codes "oreg" ++ s) refl (front_one (codes "$") _ _ named)
+not_noreg false n r s is e =
+    let named : codes "%" ++ (decimal (n - 32) ++ r) ≡ codes "$noreg" ++ s = rw is at e in
+    apart 37 36 (decimal (n - 32) ++ r) (codes "noreg" ++ s) refl named
+
+not_signed : (p : Bool) (n : ℕ) (i : ℤ) (r s : List ℕ) → nat_lt n 32 ≡ p → IsSigned i → signed_decimal i ++ s ≡ register_text n ++ r → ⊥
+not_signed true n i r s is small e =
+    let named : signed_decimal i ++ s ≡ codes "$x" ++ (decimal n ++ r) = rw is at e in
+    sign_apart i 36 s (120 ∷ (decimal n ++ r)) small (λ low high. omega arith) named
+not_signed false n i r s is small e =
+    let named : signed_decimal i ++ s ≡ codes "%" ++ (decimal (n - 32) ++ r) = rw is at e in
+    sign_apart i 37 s (decimal (n - 32) ++ r) small (λ low high. omega arith) named
+
+-- a value that isn't a pair
+abbrev is_value : MarkValue → Bool
+is_value (Pair k o) = false
+is_value m = true
+
+value_one : (m n : MarkValue) (r s : List ℕ) → is_value m ≡ true → is_value n ≡ true → IsPrintableValue m → IsPrintableValue n → Stops is_digit r → Stops is_digit s →
+    value_text m ++ r ≡ value_text n ++ s → (m ≡ n) × (r ≡ s)
+value_one Nothing Nothing r s v w is others stop stops e = (refl, front_one (codes "$noreg") r s e)
+value_one (Constant c) (Constant d) r s v w is others stop stops e = let found = signed_one c d r s is others stop stops e in (ap Constant found.0, found.1)
+value_one (At m) (At n) r s v w is others stop stops e = let found = register_one m n r s is others stop stops e in (ap At found.0, found.1)
+value_one Nothing (Constant c) r s v w is others stop stops e = absurd (sign_apart c 36 s (codes "noreg" ++ r) others (λ low high. omega arith) (sym e))
+value_one (Constant c) Nothing r s v w is others stop stops e = absurd (sign_apart c 36 r (codes "noreg" ++ s) is (λ low high. omega arith) e)
+value_one Nothing (At n) r s v w is others stop stops e = absurd (not_noreg (nat_lt n 32) n s r refl (sym e))
+value_one (At n) Nothing r s v w is others stop stops e = absurd (not_noreg (nat_lt n 32) n r s refl e)
+value_one (Constant c) (At n) r s v w is others stop stops e = absurd (not_signed (nat_lt n 32) n c s r refl is e)
+value_one (At n) (Constant c) r s v w is others stop stops e = absurd (not_signed (nat_lt n 32) n c r s refl others (sym e))
+value_one m n r s v w is others stop stops e = absurd cc
+
+place_zero : (p : Bool) (n : ℕ) (r s : List ℕ) → nat_lt n 32 ≡ p → 0 < n → IsNumber n → Stops is_digit r → Stops is_digit s → register_text n ++ r ≡ codes "$x0" ++ s → ⊥
+place_zero true n r s is some small stop stops e =
+    let named : codes "$x" ++ (decimal n ++ r) ≡ codes "$x" ++ (codes "0" ++ s) = rw is at e in
+    let zero : decimal n ++ r ≡ decimal 0 ++ s = front_one (codes "$x") (decimal n ++ r) (codes "0" ++ s) named ∙ ap (λ (t : List ℕ). t ++ s) (sym (decimal_digit 0 (omega arith))) in
+    omega (arith, (number_one n 0 r s small (omega arith) stop stops zero).0)
+place_zero false n r s is some small stop stops e =
+    let named : codes "%" ++ (decimal (n - 32) ++ r) ≡ codes "$x0" ++ s = rw is at e in
+    apart 37 36 (decimal (n - 32) ++ r) (codes "x0" ++ s) refl named
+
+short : (n : ℕ) → IsNumber n → IsNumber (n - 32)
+short n small = omega arith
+
+not_stack : (p : Bool) (n : ℕ) (r s : List ℕ) → nat_lt n 32 ≡ p → IsNumber n → register_text n ++ r ≡ codes "%stack." ++ s → ⊥
+not_stack true n r s is small e =
+    let named : codes "$x" ++ (decimal n ++ r) ≡ codes "%stack." ++ s = rw is at e in
+    apart 36 37 (120 ∷ (decimal n ++ r)) (codes "stack." ++ s) refl named
+not_stack false n r s is small e =
+    let named : codes "%" ++ (decimal (n - 32) ++ r) ≡ codes "%stack." ++ s = rw is at e in
+    digit_apart (n - 32) 115 r (codes "tack." ++ s) (short n small) (λ low high. omega arith) (front_one (codes "%") (decimal (n - 32) ++ r) (codes "stack." ++ s) named)
+
+const_one : (c d : ℤ) → c ≡ pos 0 → d ≡ pos 0 → Some (Const c) ≡ Some (Const d)
+const_one c d is others = ap (λ (i : ℤ). Some (Const i)) (is ∙ sym others)
+
+place_one : (p q : Option Place) (r s : List ℕ) → IsPrintablePlace p → IsPrintablePlace q → Stops is_digit r → Stops is_digit s → phi_place_text p ++ r ≡ phi_place_text q ++ s → (p ≡ q) × (r ≡ s)
+place_one None None r s is others stop stops e = (refl, front_one (codes "$noreg") r s e)
+place_one (Some (Register m)) (Some (Register n)) r s is others stop stops e =
+    let found = register_one m n r s is.1 others.1 stop stops e in (ap (λ (k : ℕ). Some (Register k)) found.0, found.1)
+place_one (Some (Slot m)) (Some (Slot n)) r s is others stop stops e =
+    let found = number_one m n r s is others stop stops (front_one (codes "%stack.") (decimal m ++ r) (decimal n ++ s) e) in (ap (λ (k : ℕ). Some (Slot k)) found.0, found.1)
+place_one (Some (Const c)) (Some (Const d)) r s is others stop stops e = (const_one c d is others, front_one (codes "$x0") r s e)
+place_one None (Some (Register n)) r s is others stop stops e = absurd (not_noreg (nat_lt n 32) n s r refl (sym e))
+place_one (Some (Register n)) None r s is others stop stops e = absurd (not_noreg (nat_lt n 32) n r s refl e)
+place_one None (Some (Slot n)) r s is others stop stops e = absurd (apart 36 37 (codes "noreg" ++ r) (codes "stack." ++ (decimal n ++ s)) refl e)
+place_one (Some (Slot n)) None r s is others stop stops e = absurd (apart 36 37 (codes "noreg" ++ s) (codes "stack." ++ (decimal n ++ r)) refl (sym e))
+place_one None (Some (Const c)) r s is others stop stops e = absurd (apart 110 120 (codes "oreg" ++ r) (codes "0" ++ s) refl (front_one (codes "$") (codes "noreg" ++ r) (codes "x0" ++ s) e))
+place_one (Some (Const c)) None r s is others stop stops e = absurd (apart 110 120 (codes "oreg" ++ s) (codes "0" ++ r) refl (front_one (codes "$") (codes "noreg" ++ s) (codes "x0" ++ r) (sym e)))
+place_one (Some (Register m)) (Some (Slot n)) r s is others stop stops e = absurd (not_stack (nat_lt m 32) m r (decimal n ++ s) refl is.1 e)
+place_one (Some (Slot n)) (Some (Register m)) r s is others stop stops e = absurd (not_stack (nat_lt m 32) m s (decimal n ++ r) refl others.1 (sym e))
+place_one (Some (Register m)) (Some (Const c)) r s is others stop stops e = absurd (place_zero (nat_lt m 32) m r s refl is.0 is.1 stop stops e)
+place_one (Some (Const c)) (Some (Register m)) r s is others stop stops e = absurd (place_zero (nat_lt m 32) m s r refl others.0 others.1 stops stop (sym e))
+place_one (Some (Slot n)) (Some (Const c)) r s is others stop stops e = absurd (apart 37 36 (codes "stack." ++ (decimal n ++ r)) (codes "x0" ++ s) refl e)
+place_one (Some (Const c)) (Some (Slot n)) r s is others stop stops e = absurd (apart 37 36 (codes "stack." ++ (decimal n ++ s)) (codes "x0" ++ r) refl (sym e))
+
+-- ---- marks
+
+abbrev variable_before : ℕ → List ℕ → List ℕ
+variable_before node rest = codes ", $noreg, !" ++ (decimal node ++ (codes ", !DIExpression()" ++ rest))
+
+abbrev pair_before : ℕ → ℕ → ℕ → List ℕ → List ℕ
+pair_before node k o rest = decimal node ++ (codes ", !DIExpression(DW_OP_LLVM_arg, 0), dbg-instr-ref(" ++ (decimal k ++ (codes ", " ++ (decimal o ++ (codes ")" ++ rest)))))
+
+abbrev mark_before : ℕ → MarkValue → List ℕ → List ℕ
+mark_before node (Pair k o) rest = codes "DBG_INSTR_REF !" ++ pair_before node k o rest
+mark_before node m rest = codes "DBG_VALUE " ++ (value_text m ++ variable_before node rest)
+
+value_parts : (a b c d e rest : List ℕ) → (a ++ b ++ c ++ d ++ e) ++ rest ≡ a ++ (b ++ (c ++ (d ++ (e ++ rest))))
+value_parts a b c d e rest = simp append_assoc
+
+pair_parts : (a b c d e f g rest : List ℕ) → (a ++ b ++ c ++ d ++ e ++ f ++ g) ++ rest ≡ a ++ (b ++ (c ++ (d ++ (e ++ (f ++ (g ++ rest))))))
+pair_parts a b c d e f g rest = simp append_assoc
+
+mark_is : (v : VarId) (m : MarkValue) (rest : List ℕ) → mark_text v m ++ rest ≡ mark_before v.node m rest
+mark_is v Nothing rest = value_parts (codes "DBG_VALUE ") (codes "$noreg") (codes ", $noreg, !") (decimal v.node) (codes ", !DIExpression()") rest
+mark_is v (Constant c) rest = value_parts (codes "DBG_VALUE ") (signed_decimal c) (codes ", $noreg, !") (decimal v.node) (codes ", !DIExpression()") rest
+mark_is v (At n) rest = value_parts (codes "DBG_VALUE ") (register_text n) (codes ", $noreg, !") (decimal v.node) (codes ", !DIExpression()") rest
+mark_is v (Pair k o) rest = pair_parts (codes "DBG_INSTR_REF !") (decimal v.node) (codes ", !DIExpression(DW_OP_LLVM_arg, 0), dbg-instr-ref(") (decimal k) (codes ", ") (decimal o) (codes ")") rest
+
+pair_one : (u v j k o q : ℕ) (r s : List ℕ) → IsNumber u → IsNumber v → IsNumber j × IsNumber o → IsNumber k × IsNumber q → pair_before u j o r ≡ pair_before v k q s → (u ≡ v) × (Pair j o ≡ Pair k q) × (r ≡ s)
+pair_one u v j k o q r s small other is others e =
+    let node = number_one u v _ _ small other refl refl e in
+    let number = number_one j k _ _ is.0 others.0 refl refl (front_one (codes ", !DIExpression(DW_OP_LLVM_arg, 0), dbg-instr-ref(") _ _ node.1) in
+    let operand = number_one o q (codes ")" ++ r) (codes ")" ++ s) is.1 others.1 refl refl (front_one (codes ", ") _ _ number.1) in
+    (node.0, (let first : j ≡ k = number.0 in let second : o ≡ q = operand.0 in cc), front_one (codes ")") r s operand.1)
+
+variable_one : (u v : ℕ) (r s : List ℕ) → IsNumber u → IsNumber v → variable_before u r ≡ variable_before v s → (u ≡ v) × (r ≡ s)
+variable_one u v r s small other e =
+    let node = number_one u v (codes ", !DIExpression()" ++ r) (codes ", !DIExpression()" ++ s) small other refl refl (front_one (codes ", $noreg, !") _ _ e) in
+    (node.0, front_one (codes ", !DIExpression()") r s node.1)
+
+plain_one : (u v : ℕ) (m n : MarkValue) (r s : List ℕ) → is_value m ≡ true → is_value n ≡ true → IsNumber u → IsNumber v → IsPrintableValue m → IsPrintableValue n →
+    codes "DBG_VALUE " ++ (value_text m ++ variable_before u r) ≡ codes "DBG_VALUE " ++ (value_text n ++ variable_before v s) → (u ≡ v) × (m ≡ n) × (r ≡ s)
+plain_one u v m n r s a b small other is others e =
+    let value = value_one m n (variable_before u r) (variable_before v s) a b is others refl refl (front_one (codes "DBG_VALUE ") _ _ e) in
+    let node = variable_one u v r s small other value.1 in
+    (node.0, value.0, node.1)
+
+mark_one : (u v : ℕ) (m n : MarkValue) (r s : List ℕ) → IsNumber u → IsNumber v → IsPrintableValue m → IsPrintableValue n → mark_before u m r ≡ mark_before v n s → (u ≡ v) × (m ≡ n) × (r ≡ s)
+mark_one u v (Pair j o) (Pair k q) r s small other is others e = pair_one u v j k o q r s small other is others (front_one (codes "DBG_INSTR_REF !") (pair_before u j o r) (pair_before v k q s) e)
+mark_one u v (Pair j o) Nothing r s small other is others e = absurd (apart 73 86 _ _ refl (front_one (codes "DBG_") _ _ e))
+mark_one u v (Pair j o) (Constant c) r s small other is others e = absurd (apart 73 86 _ _ refl (front_one (codes "DBG_") _ _ e))
+mark_one u v (Pair j o) (At n) r s small other is others e = absurd (apart 73 86 _ _ refl (front_one (codes "DBG_") _ _ e))
+mark_one u v Nothing (Pair k q) r s small other is others e = absurd (apart 86 73 _ _ refl (front_one (codes "DBG_") _ _ e))
+mark_one u v (Constant c) (Pair k q) r s small other is others e = absurd (apart 86 73 _ _ refl (front_one (codes "DBG_") _ _ e))
+mark_one u v (At n) (Pair k q) r s small other is others e = absurd (apart 86 73 _ _ refl (front_one (codes "DBG_") _ _ e))
+mark_one u v m n r s small other is others e = plain_one u v m n r s refl refl small other is others e
+
+-- ---- items
+
+abbrev kind_before : ItemKind → List ℕ → List ℕ → List ℕ
+kind_before (Code i k) behind numbered = instruction_text i ++ numbered
+kind_before (Mark v m) behind numbered = mark_before v.node m behind
+kind_before (Phi p k) behind numbered = codes "DBG_PHI " ++ (phi_place_text p ++ (codes ", " ++ (decimal k ++ behind)))
+
+abbrev code_number : ItemKind → Option ℕ
+code_number (Code i k) = k
+code_number _ = None
+
+abbrev line_before : ItemKind → Loc → List ℕ → List ℕ
+line_before kind l rest = kind_before kind (location_before l (10 ∷ rest)) (number_before (code_number kind) (location_before l (10 ∷ rest)))
+
+kind_is : (kind : ItemKind) (behind : List ℕ) → kind_text kind ++ behind ≡ kind_before kind behind (number_before (code_number kind) behind)
+kind_is (Code i k) behind = append_assoc (instruction_text i) (number_text k) behind ∙ ap (λ (t : List ℕ). instruction_text i ++ t) (number_is k behind)
+kind_is (Mark v m) behind = mark_is v m behind
+kind_is (Phi p k) behind = phi_parts (codes "DBG_PHI ") (phi_place_text p) (codes ", ") (decimal k) behind
+  where
+    phi_parts : (a b c d rest : List ℕ) → (a ++ b ++ c ++ d) ++ rest ≡ a ++ (b ++ (c ++ (d ++ rest)))
+    phi_parts a b c d rest = simp append_assoc
+
+line_is : (i : Item) (rest : List ℕ) → item_text i ++ 10 ∷ rest ≡ line_before i.kind i.loc rest
+line_is i rest =
+    append_assoc (kind_text i.kind) (location_text i.loc) (10 ∷ rest) ∙ (ap (λ (t : List ℕ). kind_text i.kind ++ t) (location_is i.loc (10 ∷ rest)) ∙ kind_is i.kind (location_before i.loc (10 ∷ rest)))
+
+variable_same : (v w : VarId) → v.node ≡ w.node → v.inlined_at ≡ w.inlined_at → v ≡ w
+variable_same v w node inlined = λ k. record { node = node k; inlined_at = inlined k }
+
+-- a mark begins with a `D`
+mark_begins : (node : ℕ) (m : MarkValue) (rest : List ℕ) → (t : List ℕ) × (mark_before node m rest ≡ 68 ∷ t)
+mark_begins node (Pair k o) rest = (codes "BG_INSTR_REF !" ++ pair_before node k o rest, refl)
+mark_begins node m rest = (codes "BG_VALUE " ++ (value_text m ++ variable_before node rest), refl)
+
+code_apart : (i : Instruction) (r t u : List ℕ) → IsPrintableInstruction i → t ≡ 68 ∷ u → instruction_text i ++ r ≡ t → ⊥
+code_apart i r t u is d e = instruction_begins i r u is (e ∙ d)
+
+phi_apart : (node : ℕ) (m : MarkValue) (rest s : List ℕ) → mark_before node m rest ≡ codes "DBG_PHI " ++ s → ⊥
+phi_apart node (Pair k o) rest s e = apart 73 80 _ _ refl (front_one (codes "DBG_") _ (codes "PHI " ++ s) e)
+phi_apart node m rest s e = apart 86 80 _ _ refl (front_one (codes "DBG_") _ (codes "PHI " ++ s) e)
+
+kind_one : (inlined : ℕ → Option ℕ) (x y : ItemKind) (l m : Loc) (r s : List ℕ) → IsPrintableKind inlined l x → IsPrintableKind inlined m y → IsPrintableLoc l → IsPrintableLoc m →
+    line_before x l r ≡ line_before y m s → (x ≡ y) × (l ≡ m) × (r ≡ s)
+kind_one inlined (Code i j) (Code h k) l m r s is others at ats e =
+    let code = instruction_one i h _ _ is.0 others.0 (number_ends j l r) (number_ends k m s) e in
+    let rest = numbers_one j k l m r s is.1 others.1 at ats code.1 in
+    ((let first : i ≡ h = code.0 in let number : j ≡ k = rest.0 in cc), rest.1, rest.2)
+kind_one inlined (Mark v a) (Mark w b) l m r s is others at ats e =
+    let mark = mark_one v.node w.node a b _ _ is.0 others.0 is.2 others.2 e in
+    let place = location_one l m r s at ats mark.2 in
+    let variable : v ≡ w = variable_same v w mark.0 (is.1 ∙ (ap (inlined_at inlined) place.0 ∙ sym others.1)) in
+    ((let value : a ≡ b = mark.1 in cc), place.0, place.1)
+kind_one inlined (Phi p j) (Phi q k) l m r s is others at ats e =
+    let place = place_one p q _ _ is.0 others.0 refl refl (front_one (codes "DBG_PHI ") _ _ e) in
+    let number = number_one j k _ _ is.1 others.1 (location_stops l r) (location_stops m s) (front_one (codes ", ") _ _ place.1) in
+    let rest = location_one l m r s at ats number.1 in
+    ((let first : p ≡ q = place.0 in let second : j ≡ k = number.0 in cc), rest.0, rest.1)
+kind_one inlined (Code i j) (Mark w b) l m r s is others at ats e = absurd (code_apart i _ _ _ is.0 (mark_begins w.node b _).1 e)
+kind_one inlined (Mark v a) (Code h k) l m r s is others at ats e = absurd (code_apart h _ _ _ others.0 (mark_begins v.node a _).1 (sym e))
+kind_one inlined (Code i j) (Phi q k) l m r s is others at ats e = absurd (instruction_begins i _ _ is.0 e)
+kind_one inlined (Phi p j) (Code h k) l m r s is others at ats e = absurd (instruction_begins h _ _ others.0 (sym e))
+kind_one inlined (Mark v a) (Phi q k) l m r s is others at ats e = absurd (phi_apart v.node a _ _ e)
+kind_one inlined (Phi p j) (Mark w b) l m r s is others at ats e = absurd (phi_apart w.node b _ _ (sym e))
+
+pub item_line_one : (inlined : ℕ → Option ℕ) (i j : Item) → IsPrintable inlined i → IsPrintable inlined j → (r s : List ℕ) → item_text i ++ 10 ∷ r ≡ item_text j ++ 10 ∷ s → (i.kind ≡ j.kind) × (i.loc ≡ j.loc) × (r ≡ s)
+item_line_one inlined i j is others r s e =
+    kind_one inlined i.kind j.kind i.loc j.loc r s is.kind others.kind is.loc others.loc (sym (line_is i r) ∙ (e ∙ line_is j s))
+
+pub item_text_one : (inlined : ℕ → Option ℕ) (i j : Item) → IsPrintable inlined i → IsPrintable inlined j → item_text i ≡ item_text j → (i.kind ≡ j.kind) × (i.loc ≡ j.loc)
+item_text_one inlined i j is others e =
+    let found = item_line_one inlined i j is others [] [] (ap (λ (t : List ℕ). t ++ 10 ∷ []) e) in
+    (found.0, found.1)

@@ -1,0 +1,220 @@
+-- The operands that a text stands for.
+use Rattle.std.proofs.Common.{◌≡◌, ℕ, ◌-◌, ◌^◌, ◌<◌, ◌≤◌, Bool, true, false, ◌&&◌, not, nat_eq, nat_lt, cond, List, [], ◌∷◌, ◌++◌, refl, sym, ap, ◌∙◌, append_assoc, arith}
+use Rattle.std.specs.Prelude.{codes, map}
+use Rattle.std.specs.Fmt.{decimal}
+use Rattle.std.proofs.lemmas.Bool.{ltb-false, ne_eqb}
+use Rattle.rv64_instr.specs.declared.operand.Operand.{Operand}
+use Rattle.rv64_instr.specs.declared.operand.Operand.TheVariants.{Def, Use, ImplicitDef, ImplicitUse, Imm, Slot, Block, Symbol, Mask}
+use Rattle.mir_printer.specs.Spelling.{comma_separated, is_bare, is_definition, operand_text, register_text, uses_text}
+use Rattle.mir_printer.specs.Printable.{IsNumber, HasNumbers}
+use Rattle.mir_printer.proofs.Cuts.{front_one, apart, Stops, is_digit, decimal_one, decimal_head, signed_one, signed_head}
+use Rattle.mir_printer.proofs.Symbols.{symbol_one}
+
+pub wide : (n : ℕ) → IsNumber n → n < 2 ^ 64
+wide n small = omega arith
+
+less : (n : ℕ) → IsNumber n → n - 32 < 2 ^ 64
+less n small = omega arith
+
+pub number_one : (m n : ℕ) (r s : List ℕ) → IsNumber m → IsNumber n → Stops is_digit r → Stops is_digit s → decimal m ++ r ≡ decimal n ++ s → (m ≡ n) × (r ≡ s)
+number_one m n r s small other stop stops e = decimal_one m n r s (wide m small) (wide n other) stop stops e
+
+-- ---- registers
+
+abbrev register_by : Bool → ℕ → List ℕ
+register_by p r = cond p (codes "$x" ++ decimal r) (codes "%" ++ decimal (r - 32))
+
+register_cases : (p q : Bool) (m n : ℕ) (r s : List ℕ) → nat_lt m 32 ≡ p → nat_lt n 32 ≡ q → IsNumber m → IsNumber n → Stops is_digit r → Stops is_digit s →
+    register_by p m ++ r ≡ register_by q n ++ s → (m ≡ n) × (r ≡ s)
+register_cases true true m n r s is others small other stop stops e =
+    let tails : decimal m ++ r ≡ decimal n ++ s = cc in number_one m n r s small other stop stops tails
+register_cases true false m n r s is others small other stop stops e = absurd (apart 36 37 (120 ∷ (decimal m ++ r)) (decimal (n - 32) ++ s) refl e)
+register_cases false true m n r s is others small other stop stops e = absurd (apart 37 36 (decimal (m - 32) ++ r) (120 ∷ (decimal n ++ s)) refl e)
+register_cases false false m n r s is others small other stop stops e =
+    let tails : decimal (m - 32) ++ r ≡ decimal (n - 32) ++ s = cc in
+    let found = decimal_one (m - 32) (n - 32) r s (less m small) (less n other) stop stops tails in
+    let same : m ≡ n = omega (arith, found.0, ltb-false m 32 is, ltb-false n 32 others) in
+    (same, found.1)
+
+pub register_one : (m n : ℕ) (r s : List ℕ) → IsNumber m → IsNumber n → Stops is_digit r → Stops is_digit s → register_text m ++ r ≡ register_text n ++ s → (m ≡ n) × (r ≡ s)
+register_one m n r s small other stop stops e = register_cases (nat_lt m 32) (nat_lt n 32) m n r s refl refl small other stop stops e
+
+-- ---- one operand
+
+-- what the first bytes of an operand's text say of it
+data Lead : Type 0 where
+  at_register : Lead
+  at_slot : Lead
+  at_block : Lead
+  at_symbol : Lead
+  at_mask : Lead
+  at_implicit : Lead
+  at_number : Lead
+
+abbrev after_percent : List ℕ → Lead
+after_percent [] = at_register
+after_percent (b ∷ bs) = cond (nat_eq b 115) at_slot (cond (nat_eq b 98) at_block at_register)
+
+abbrev lead : List ℕ → Lead
+lead [] = at_number
+lead (b ∷ bs) = cond (nat_eq b 36) at_register (cond (nat_eq b 37) (after_percent bs) (cond (nat_eq b 64) at_symbol (cond (nat_eq b 109) at_mask (cond (nat_eq b 105) at_implicit at_number))))
+
+abbrev lead_of : Operand → Lead
+lead_of (Def r) = at_register
+lead_of (Use r) = at_register
+lead_of (ImplicitDef r) = at_implicit
+lead_of (ImplicitUse r) = at_implicit
+lead_of (Imm i) = at_number
+lead_of (Slot n) = at_slot
+lead_of (Block n) = at_block
+lead_of (Symbol name) = at_symbol
+lead_of Mask = at_mask
+
+digit_after : (b : ℕ) (bs : List ℕ) → 48 ≤ b → b ≤ 57 → after_percent (b ∷ bs) ≡ at_register
+digit_after b bs low high = rw (ne_eqb b 115 (λ e. omega arith), ne_eqb b 98 (λ e. omega arith)) refl
+
+number_lead : (b : ℕ) (bs : List ℕ) → 45 ≤ b → b ≤ 57 → lead (b ∷ bs) ≡ at_number
+number_lead b bs low high =
+    rw (ne_eqb b 36 (λ e. omega arith), ne_eqb b 37 (λ e. omega arith), ne_eqb b 64 (λ e. omega arith), ne_eqb b 109 (λ e. omega arith), ne_eqb b 105 (λ e. omega arith)) refl
+
+register_lead : (p : Bool) (n : ℕ) (r : List ℕ) → IsNumber n → lead (register_by p n ++ r) ≡ at_register
+register_lead true n r small = refl
+register_lead false n r small = let is = decimal_head (n - 32) r (less n small) in ap after_percent is.2 ∙ digit_after is.0 is.1 is.3 is.4
+
+-- an operand other than a definition
+abbrev pub IsUse : Operand → Type 0
+IsUse o = (is_definition o ≡ false) × HasNumbers o
+
+lead_is : (o : Operand) (r : List ℕ) → IsUse o → lead (operand_text o ++ r) ≡ lead_of o
+lead_is (Def n) r is = let no : true ≡ false = is.0 in absurd cc
+lead_is (Use n) r is = register_lead (nat_lt n 32) n r is.1
+lead_is (ImplicitDef n) r is = refl
+lead_is (ImplicitUse n) r is = refl
+lead_is (Imm i) r is = let h = signed_head i r is.1 in ap lead h.2 ∙ number_lead h.0 h.1 h.3 h.4
+lead_is (Slot n) r is = refl
+lead_is (Block n) r is = refl
+lead_is (Symbol name) r is = refl
+lead_is Mask r is = refl
+
+-- what may follow an operand
+pub record Follows (text : List ℕ) : Type 0 where
+  pub digits : Stops is_digit text
+  pub bare : Stops is_bare text
+
+same_lead : (o p : Operand) (r s : List ℕ) → IsUse o → IsUse p → operand_text o ++ r ≡ operand_text p ++ s → lead_of o ≡ lead_of p
+same_lead o p r s is others e = sym (lead_is o r is) ∙ (ap lead e ∙ lead_is p s others)
+
+implicits : (m n : ℕ) (r s : List ℕ) → operand_text (ImplicitDef m) ++ r ≡ operand_text (ImplicitUse n) ++ s → ⊥
+implicits m n r s e =
+    apart 45 32 (codes "def " ++ (register_text m ++ r)) (register_text n ++ s) refl (front_one (codes "implicit") (codes "-def " ++ (register_text m ++ r)) (codes " " ++ (register_text n ++ s)) e)
+
+pub operand_one : (o p : Operand) (r s : List ℕ) → IsUse o → IsUse p → Follows r → Follows s → operand_text o ++ r ≡ operand_text p ++ s → (o ≡ p) × (r ≡ s)
+operand_one (Use m) (Use n) r s is others follow follows e =
+    let found = register_one m n r s is.1 others.1 follow.digits follows.digits e in (ap Use found.0, found.1)
+operand_one (ImplicitDef m) (ImplicitDef n) r s is others follow follows e =
+    let tails : register_text m ++ r ≡ register_text n ++ s = cc in
+    let found = register_one m n r s is.1 others.1 follow.digits follows.digits tails in (ap ImplicitDef found.0, found.1)
+operand_one (ImplicitUse m) (ImplicitUse n) r s is others follow follows e =
+    let tails : register_text m ++ r ≡ register_text n ++ s = cc in
+    let found = register_one m n r s is.1 others.1 follow.digits follows.digits tails in (ap ImplicitUse found.0, found.1)
+operand_one (Imm i) (Imm j) r s is others follow follows e =
+    let found = signed_one i j r s is.1 others.1 follow.digits follows.digits e in (ap Imm found.0, found.1)
+operand_one (Slot m) (Slot n) r s is others follow follows e =
+    let tails : decimal m ++ r ≡ decimal n ++ s = cc in
+    let found = number_one m n r s is.1 others.1 follow.digits follows.digits tails in (ap Slot found.0, found.1)
+operand_one (Block m) (Block n) r s is others follow follows e =
+    let tails : decimal m ++ r ≡ decimal n ++ s = cc in
+    let found = number_one m n r s is.1 others.1 follow.digits follows.digits tails in (ap Block found.0, found.1)
+operand_one (Symbol a) (Symbol b) r s is others follow follows e =
+    let found = symbol_one a b r s follow.bare follows.bare e in (ap Symbol found.0, found.1)
+operand_one Mask Mask r s is others follow follows e = (refl, (let tails : r ≡ s = cc in tails))
+operand_one (ImplicitDef m) (ImplicitUse n) r s is others follow follows e = absurd (implicits m n r s e)
+operand_one (ImplicitUse m) (ImplicitDef n) r s is others follow follows e = absurd (implicits n m s r (sym e))
+operand_one o p r s is others follow follows e =
+    let lead : lead_of o ≡ lead_of p = same_lead o p r s is others e in
+    let no : is_definition o ≡ false = is.0 in
+    let none : is_definition p ≡ false = others.0 in
+    absurd cc
+
+-- ---- operands with commas between them
+
+abbrev pub AllUses : List Operand → Type 0
+AllUses [] = Unit {0}
+AllUses (o ∷ os) = IsUse o × AllUses os
+
+-- operands that go on a list, before a text
+abbrev pub rest_text : List Operand → List ℕ → List ℕ
+rest_text [] tail = tail
+rest_text (o ∷ os) tail = codes ", " ++ (operand_text o ++ rest_text os tail)
+
+commas : (o : Operand) (os : List Operand) (tail : List ℕ) → comma_separated (map operand_text (o ∷ os)) ++ tail ≡ operand_text o ++ rest_text os tail
+commas o [] tail = refl
+commas o (p ∷ os) tail =
+    let grouped : comma_separated (map operand_text (o ∷ p ∷ os)) ++ tail ≡ operand_text o ++ (codes ", " ++ (comma_separated (map operand_text (p ∷ os)) ++ tail)) = simp append_assoc in
+    grouped ∙ ap (λ (t : List ℕ). operand_text o ++ (codes ", " ++ t)) (commas p os tail)
+
+-- another operand comes: behind the comma and the blank no `d` stands
+abbrev pub goes_on : List ℕ → Bool
+goes_on [] = false
+goes_on (a ∷ []) = false
+goes_on (a ∷ b ∷ []) = false
+goes_on (a ∷ b ∷ c ∷ bs) = nat_eq a 44 && not (nat_eq c 100)
+
+number_goes_on : (b : ℕ) (bs : List ℕ) → 45 ≤ b → b ≤ 57 → goes_on (44 ∷ 32 ∷ b ∷ bs) ≡ true
+number_goes_on b bs low high = rw (ne_eqb b 100 (λ e. omega arith)) refl
+
+register_goes_on : (p : Bool) (n : ℕ) (r : List ℕ) → goes_on (44 ∷ 32 ∷ (register_by p n ++ r)) ≡ true
+register_goes_on true n r = refl
+register_goes_on false n r = refl
+
+operand_goes_on : (o : Operand) (r : List ℕ) → IsUse o → goes_on (44 ∷ 32 ∷ (operand_text o ++ r)) ≡ true
+operand_goes_on (Def n) r is = register_goes_on (nat_lt n 32) n r
+operand_goes_on (Use n) r is = register_goes_on (nat_lt n 32) n r
+operand_goes_on (ImplicitDef n) r is = refl
+operand_goes_on (ImplicitUse n) r is = refl
+operand_goes_on (Imm i) r is = let h = signed_head i r is.1 in ap (λ (t : List ℕ). goes_on (44 ∷ 32 ∷ t)) h.2 ∙ number_goes_on h.0 h.1 h.3 h.4
+operand_goes_on (Slot n) r is = refl
+operand_goes_on (Block n) r is = refl
+operand_goes_on (Symbol name) r is = refl
+operand_goes_on Mask r is = refl
+
+-- what may follow an instruction's operands
+pub record IsTail (text : List ℕ) : Type 0 where
+  pub follows : Follows text
+  pub ends : goes_on text ≡ false
+  pub blank : Stops (nat_eq 32) text
+
+follows_rest : (os : List Operand) (tail : List ℕ) → Follows tail → Follows (rest_text os tail)
+follows_rest [] tail is = is
+follows_rest (o ∷ os) tail is = record { digits = refl; bare = refl }
+
+ended : (o : Operand) (os : List Operand) (r s : List ℕ) → IsUse o → goes_on s ≡ false → s ≡ rest_text (o ∷ os) r → ⊥
+ended o os r s is ends e =
+    let both : goes_on s ≡ true = ap goes_on e ∙ operand_goes_on o (rest_text os r) is in
+    absurd cc
+
+rest_one : (os ps : List Operand) (r s : List ℕ) → AllUses os → AllUses ps → IsTail r → IsTail s → rest_text os r ≡ rest_text ps s → (os ≡ ps) × (r ≡ s)
+rest_one [] [] r s all others tail tails e = (refl, e)
+rest_one [] (p ∷ ps) r s all others tail tails e = absurd (ended p ps s r others.0 tail.ends e)
+rest_one (o ∷ os) [] r s all others tail tails e = absurd (ended o os r s all.0 tails.ends (sym e))
+rest_one (o ∷ os) (p ∷ ps) r s all others tail tails e =
+    let after : operand_text o ++ rest_text os r ≡ operand_text p ++ rest_text ps s = cc in
+    let first = operand_one o p (rest_text os r) (rest_text ps s) all.0 others.0 (follows_rest os r tail.follows) (follows_rest ps s tails.follows) after in
+    let rest = rest_one os ps r s all.1 others.1 tail tails first.1 in
+    (let head : o ≡ p = first.0 in let more : os ≡ ps = rest.0 in cc, rest.1)
+
+no_blank : (t s : List ℕ) → Stops (nat_eq 32) s → s ≡ 32 ∷ t → ⊥
+no_blank t [] stop e = absurd cc
+no_blank t (b ∷ bs) stop e =
+    let same : b ≡ 32 = cc in
+    let both : nat_eq 32 b ≡ true = ap (nat_eq 32) same in
+    absurd cc
+
+pub uses_one : (os ps : List Operand) (r s : List ℕ) → AllUses os → AllUses ps → IsTail r → IsTail s → uses_text os ++ r ≡ uses_text ps ++ s → (os ≡ ps) × (r ≡ s)
+uses_one [] [] r s all others tail tails e = (refl, e)
+uses_one [] (p ∷ ps) r s all others tail tails e = absurd (no_blank (comma_separated (map operand_text (p ∷ ps)) ++ s) r tail.blank e)
+uses_one (o ∷ os) [] r s all others tail tails e = absurd (no_blank (comma_separated (map operand_text (o ∷ os)) ++ r) s tails.blank (sym e))
+uses_one (o ∷ os) (p ∷ ps) r s all others tail tails e =
+    let after : comma_separated (map operand_text (o ∷ os)) ++ r ≡ comma_separated (map operand_text (p ∷ ps)) ++ s = cc in
+    let found : operand_text o ++ rest_text os r ≡ operand_text p ++ rest_text ps s = sym (commas o os r) ∙ (after ∙ commas p ps s) in
+    rest_one (o ∷ os) (p ∷ ps) r s all others tail tails (ap (λ (t : List ℕ). codes ", " ++ t) found)
