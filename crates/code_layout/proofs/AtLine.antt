@@ -13,11 +13,11 @@ use Rattle.mir_func.specs.meaning.Token.{Token, Fixed, Tokens}
 use Rattle.path_tokens.specs.Trace.{Trace, Names, NamesAlong, HasRegisters}
 use Rattle.path_tokens.specs.Trace as trace
 use Rattle.code_layout.specs.Image.{CodeLine, Image, word_at}
-use Rattle.code_layout.specs.Decoded.{decoded}
+use Rattle.rv64_word.specs.Decoded.{decoded}
 use Rattle.code_layout.specs.Machine.{Machine, register, place_content}
 use Rattle.code_layout.specs.MachineStep.{Ends, return_word, does_row, does, does_operation, does_word, does_line}
 use Rattle.code_layout.specs.Straight.{IsPlainRow, IsWordOf, Holds}
-use Rattle.code_layout.proofs.Decoding.{is_decoded}
+use Rattle.rv64_word.proofs.Decoding.{is_decoded}
 use Rattle.code_layout.proofs.Fetching.{not_return}
 use Rattle.code_layout.proofs.Plain.{Holding}
 

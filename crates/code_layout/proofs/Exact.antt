@@ -1,7 +1,6 @@
 -- One path leads to each item of straight-line code, so the walk's tokens are those of every path.
-use Rattle.std.proofs.Common.{◌≡◌, ℕ, zero, suc, ◌+◌, List, [], ◌∷◌, drop, Option, Some, None, Bool, true, false, cond, eqb, eq-eqb, eqb-true, refl, sym, ap, ◌∙◌, subst, inl, inr, arith}
-use Rattle.std.specs.Prelude.{◌↔◌, ◌⊎◌}
-use Rattle.rv64_instr.specs.Instruction.{Instruction}
+use Rattle.std.proofs.Common.{◌≡◌, ℕ, zero, suc, ◌+◌, List, [], ◌∷◌, drop, Option, Some, Bool, true, cond, eq-eqb, refl, sym, ap, ◌∙◌, subst, arith}
+use Rattle.std.specs.Prelude.{◌↔◌, slice_get}
 use Rattle.rv64_instr.specs.declared.place.Place.{Place}
 use Rattle.rv64_instr.specs.Row.{Row, Fixes, Moves, Sets, row_of}
 use Rattle.mir_func.specs.declared.position.Pos.{Pos}
@@ -10,14 +9,14 @@ use Rattle.mir_func.specs.declared.block.Block.{Block}
 use Rattle.mir_func.specs.declared.item.Item.{Item}
 use Rattle.mir_func.specs.declared.item.ItemKind.{ItemKind}
 use Rattle.mir_func.specs.declared.item.ItemKind.TheVariants.{Code}
-use Rattle.mir_func.specs.meaning.Step.{Fetch, Here, Program, below}
-use Rattle.mir_func.specs.meaning.Graph.{front, fetch_in, program_of, Edge, RowEdge, KindEdge, FetchEdge}
-use Rattle.mir_func.specs.meaning.Align.{is_code, position_of}
+use Rattle.mir_func.specs.meaning.Step.{Fetch, Here, Silent, Program, below, block_start}
+use Rattle.mir_func.specs.meaning.Graph.{front, framed_program, Edge, RowEdge, KindEdge, FetchEdge}
+use Rattle.mir_func.specs.meaning.Align.{is_code}
 use Rattle.mir_func.specs.meaning.Token.{Tokens, after_item, after_fetch, entry_tokens, variable_token, place_token, Path, begin, onward, SitsIn, IsWanted, NoneIsWanted}
-use Rattle.code_layout.specs.Image.{CodeLine, Image, line_at}
-use Rattle.code_layout.specs.Straight.{IsPlainRow, IsStraight, returns, goes_on, marks, lines_of, Holds}
-use Rattle.code_layout.specs.Exact.{IsFirst, GiveFirstAt, GiveFirstIf, GiveFirst, IsPointOf, StraightListsAreExact}
-use Rattle.code_layout.proofs.Laid.{kept_line, code_lines, mark_lines, drop_one, drop_zero}
+use Rattle.code_layout.specs.Straight.{IsPlainRow, IsStraight, returns, goes_on, marks, Holds}
+use Rattle.code_layout.specs.Exact.{IsFirst, GiveFirstAt, GiveFirstIf, GiveFirst, address_at, IsPointOf, StraightListsAreExact}
+use Rattle.code_layout.proofs.Laid.{drop_one, drop_zero}
+use Rattle.code_layout.proofs.Later.{entry_later, give_later}
 
 -- control goes from plain code to the item below
 plain_edge : (enter : ℕ → ℕ) (row : Row) (p q : Pos) → IsPlainRow row → q ≡ below p → RowEdge enter row p q
@@ -26,12 +25,16 @@ plain_edge enter (Moves rd rs) p q h e = e
 plain_edge enter (Sets rd op a b) p q h e = e
 plain_edge enter _ p q h e = absurd h
 
-module _ (sp : Bool) (block : Block) (resolve : ℕ → ℕ → Option (ℕ × ℕ)) where
+module _ (prologue block : Block) (resolve : ℕ → ℕ → Option (ℕ × ℕ)) where
   abbrev g : Program
-  g = program_of sp (block ∷ []) resolve
+  g = framed_program (prologue ∷ block ∷ []) resolve
 
+  abbrev start : Pos
+  start = block_start 0
+
+  -- the block is behind the prologue
   abbrev spot : ℕ → Pos
-  spot n = record { block = block.id; item = n }
+  spot n = record { block = 1; item = n }
 
   -- from each item control goes to the one below alone
   goes_below : {n : ℕ} {items : List Item} {words : List ℕ} → IsStraight block.id n items words → (j : ℕ) (p q : Pos) → FetchEdge g.enter (front (drop j items) block.silent []) p q → q ≡ below p
@@ -54,127 +57,156 @@ module _ (sp : Bool) (block : Block) (resolve : ℕ → ℕ → Option (ℕ × �
   goes_below (marks kind rest) (suc j) p q e = goes_below rest j p q e
 
   fetch_spot : (n : ℕ) → g.fetch (spot n) ≡ front (drop n block.items) block.silent []
-  fetch_spot n = ap (λ (b : Bool). fetch_in (cond b (block ∷ []) []) n) (eq-eqb block.id block.id refl)
+  fetch_spot n = refl
 
   below_spot : (n : ℕ) → below (spot n) ≡ spot (suc n)
   below_spot n = let k : n + 1 ≡ suc n = omega arith in ap spot k
 
-  -- the tokens before an item
+  -- the tokens before an item: the prologue's end is the path's first step
   walked : ℕ → Tokens
   walked zero = entry_tokens
-  walked (suc n) = after_fetch resolve n (g.fetch (spot n)) (walked n)
+  walked (suc n) = after_fetch resolve (suc n) (g.fetch (spot n)) (walked n)
 
-  module _ {words : List ℕ} (straight : IsStraight block.id 0 block.items words) where
+  module _ {words : List ℕ} (empty : prologue.items ≡ []) (straight : IsStraight block.id 0 block.items words) where
+    fetch_start : g.fetch start ≡ Silent prologue.silent block.id
+    fetch_start = ap (λ (xs : List Item). front (drop 0 xs) prologue.silent (block ∷ [])) empty
+
+    entered : g.enter block.id ≡ 1
+    entered = ap (λ (b : Bool). suc (cond b 0 1)) (eq-eqb block.id block.id refl)
+
+    edge_in : (q : Pos) → Edge g start q → q ≡ spot 0
+    edge_in q e =
+        let silent : FetchEdge g.enter (Silent prologue.silent block.id) start q = subst (λ (x : Fetch). FetchEdge g.enter x start q) fetch_start e in
+        silent ∙ ap block_start entered
+
     edge_down : (n : ℕ) (q : Pos) → Edge g (spot n) q → q ≡ spot (suc n)
     edge_down n q e = goes_below straight n (spot n) q (subst (λ (x : Fetch). FetchEdge g.enter x (spot n) q) (fetch_spot n) e) ∙ below_spot n
 
-    one_path : {n : ℕ} {p : Pos} {t : Tokens} → Path g (spot 0) n p t → (p ≡ spot n) × (t ≡ walked n)
+    tokens_in : (t : Tokens) → after_fetch resolve 0 (g.fetch start) t ≡ t
+    tokens_in t = ap (λ (x : Fetch). after_fetch resolve 0 x t) fetch_start
+
+    -- where a path ends, and its tokens
+    data Reaches : ℕ → Pos → Tokens → Type 0 where
+      outside : Reaches 0 start entry_tokens
+      inside : (n : ℕ) → Reaches (suc n) (spot n) (walked n)
+
+    one_more : {n : ℕ} {p q : Pos} {t : Tokens} → Reaches n p t → Edge g p q → Reaches (suc n) q (after_fetch resolve n (g.fetch p) t)
     unfolding walked
-    one_path begin = (refl, refl)
-    one_path (onward {n} {p} {q} {t} path e) =
-        let (at, is) = one_path path in (
-          edge_down n q (subst (λ (x : Pos). Edge g x q) at e),
-          ap (λ (x : Pos). after_fetch resolve n (g.fetch x) t) at ∙ ap (after_fetch resolve n (g.fetch (spot n))) is,
-        )
+    one_more {q = q} outside e =
+        subst (λ (x : Pos). Reaches 1 x (after_fetch resolve 0 (g.fetch start) entry_tokens)) (sym (edge_in q e)) (subst (λ (x : Tokens). Reaches 1 (spot 0) x) (sym (tokens_in entry_tokens)) (inside 0))
+    one_more {q = q} (inside n) e =
+        subst (λ (x : Pos). Reaches (suc (suc n)) x (after_fetch resolve (suc n) (g.fetch (spot n)) (walked n))) (sym (edge_down n q e)) (inside (suc n))
+
+    reaches : {n : ℕ} {p : Pos} {t : Tokens} → Path g start n p t → Reaches n p t
+    reaches begin = outside
+    reaches (onward path e) = one_more (reaches path) e
+
+    walked_at : {m : ℕ} {p : Pos} {t : Tokens} (n : ℕ) → Reaches m p t → p ≡ spot n → t ≡ walked n
+    walked_at n outside e = absurd (apart (ap (λ (x : Pos). x.block) e) refl refl)
+      where
+        apart : {m n : ℕ} → m ≡ n → m ≡ 0 → n ≡ 1 → ⊥
+        apart e first second = omega arith
+    walked_at n (inside k) e = ap walked (ap (λ (x : Pos). x.item) e)
 
     -- on all paths to an item the tokens are the same
-    same_tokens : (n m : ℕ) (t u : Tokens) → Path g (spot 0) n (spot n) t → Path g (spot 0) m (spot n) u → t ≡ u
-    same_tokens n m t u a b =
-        let k : n ≡ m = ap (λ (p : Pos). p.item) (one_path b).0 in
-        (one_path a).1 ∙ ap walked k ∙ sym (one_path b).1
+    same_tokens : (n m k : ℕ) (t u : Tokens) → Path g start m (spot n) t → Path g start k (spot n) u → t ≡ u
+    same_tokens n m k t u a b = walked_at n (reaches a) refl ∙ sym (walked_at n (reaches b) refl)
 
-    sits : (n : ℕ) (t : Tokens) (v : VarId) (place : Place) → Path g (spot 0) n (spot n) t → Holds v t place → SitsIn g (spot 0) v place (spot n)
-    sits n t v place path h = record {
-      reached = (n, t, path);
-      same = λ m u other. let is = same_tokens n m t u path other in
+    sits : (n m : ℕ) (t : Tokens) (v : VarId) (place : Place) → Path g start m (spot n) t → Holds v t place → SitsIn g start v place (spot n)
+    sits n m t v place path h = record {
+      reached = (m, t, path);
+      same = λ k u other. let is = same_tokens n m k t u path other in
           (h.token, subst (λ (x : Tokens). variable_token v x ≡ Some h.token) is h.variable, subst (λ (x : Tokens). place_token (Some place) x ≡ Some h.token) is h.held);
     }
 
-    holds : (n : ℕ) (t : Tokens) (v : VarId) (place : Place) → Path g (spot 0) n (spot n) t → SitsIn g (spot 0) v place (spot n) → Holds v t place
-    holds n t v place path s = let (k, variable, held) = s.same n t path in record { token = k; variable = variable; held = held }
+    holds : (n m : ℕ) (t : Tokens) (v : VarId) (place : Place) → Path g start m (spot n) t → SitsIn g start v place (spot n) → Holds v t place
+    holds n m t v place path s = let (k, variable, held) = s.same m t path in record { token = k; variable = variable; held = held }
 
-    wanted : (n : ℕ) (t : Tokens) (v : VarId) (place : Place) → Path g (spot 0) n (spot n) t → IsFirst v t place → IsWanted g (spot 0) v (spot n) place
-    wanted n t v place path f = record { named = f.named; sits = sits n t v place path f.holds; first = λ other named precedes s. f.first other named precedes (holds n t v other path s) }
+    wanted : (n m : ℕ) (t : Tokens) (v : VarId) (place : Place) → Path g start m (spot n) t → IsFirst v t place → IsWanted g start v (spot n) place
+    wanted n m t v place path f = record { named = f.named; sits = sits n m t v place path f.holds; first = λ other named precedes s. f.first other named precedes (holds n m t v other path s) }
 
-    is_first : (n : ℕ) (t : Tokens) (v : VarId) (place : Place) → Path g (spot 0) n (spot n) t → IsWanted g (spot 0) v (spot n) place → IsFirst v t place
-    is_first n t v place path w = record { named = w.named; holds = holds n t v place path w.sits; first = λ other named precedes h. w.first other named precedes (sits n t v other path h) }
+    is_first : (n m : ℕ) (t : Tokens) (v : VarId) (place : Place) → Path g start m (spot n) t → IsWanted g start v (spot n) place → IsFirst v t place
+    is_first n m t v place path w = record { named = w.named; holds = holds n m t v place path w.sits; first = λ other named precedes h. w.first other named precedes (sits n m t v other path h) }
+
+    path_in : Path g start 1 (spot 0) entry_tokens
+    path_in =
+        subst (λ (x : Tokens). Path g start 1 (spot 0) x) (tokens_in entry_tokens)
+        (onward begin (subst (λ (x : Fetch). FetchEdge g.enter x start (spot 0)) (sym fetch_start) (sym (ap block_start entered))))
 
     fetch_here : (n : ℕ) (i : Item) (items : List Item) → drop n block.items ≡ i ∷ items → g.fetch (spot n) ≡ Here i
     fetch_here n i items rest = fetch_spot n ∙ ap (λ (xs : List Item). front xs block.silent []) rest
 
-    path_on : (n : ℕ) (i : Item) (items : List Item) (t : Tokens) → drop n block.items ≡ i ∷ items → KindEdge g.enter i.kind (spot n) (spot (suc n)) → Path g (spot 0) n (spot n) t →
-        Path g (spot 0) (suc n) (spot (suc n)) (after_item resolve n i.kind t)
+    path_on : (n : ℕ) (i : Item) (items : List Item) (t : Tokens) → drop n block.items ≡ i ∷ items → KindEdge g.enter i.kind (spot n) (spot (suc n)) → Path g start (suc n) (spot n) t →
+        Path g start (suc (suc n)) (spot (suc n)) (after_item resolve (suc n) i.kind t)
     path_on n i items t rest e path =
         let f = fetch_here n i items rest in
-        subst (λ (x : Fetch). Path g (spot 0) (suc n) (spot (suc n)) (after_fetch resolve n x t)) f (onward path (subst (λ (x : Fetch). FetchEdge g.enter x (spot n) (spot (suc n))) (sym f) e))
+        subst (λ (x : Fetch). Path g start (suc (suc n)) (spot (suc n)) (after_fetch resolve (suc n) x t)) f (onward path (subst (λ (x : Fetch). FetchEdge g.enter x (spot n) (spot (suc n))) (sym f) e))
 
-    module _ (listed : VarId → Type 0) (lists : VarId → (address : ℕ) → Place → Type 0) where
-      -- a line's item, with the path to it
-      record Located (x : ℕ) (l : CodeLine) : Type 0 where
-        index : ℕ
+    module _ (lists : VarId → (address : ℕ) → Place → Type 0) where
+      -- an item, with the path to it
+      record Located (x index : ℕ) : Type 0 where
         tokens : Tokens
-        path : Path g (spot 0) index (spot index) tokens
-        from : position_of l.origin ≡ spot index
-        gives : GiveFirstAt listed lists x tokens
+        path : Path g start (suc index) (spot index) tokens
+        gives : GiveFirstAt lists x tokens
 
-      at_head : (n a x : ℕ) (t : Tokens) (i : Item) (c : Instruction) (k : Option ℕ) (l : CodeLine) → i.kind ≡ Code c k → a ≡ x → Some (kept_line block.id n a c) ≡ Some l → Path g (spot 0) n (spot n) t →
-          GiveFirstIf (is_code i.kind) listed lists a t → Located x l
-      at_head n a x t i c k l kind here is path given =
-          let same : kept_line block.id n a c ≡ l = cc in
-          let code : GiveFirstAt listed lists a t = subst (λ (z : ItemKind). GiveFirstIf (is_code z) listed lists a t) kind given in
-          record { index = n; tokens = t; path = path; from = ap (λ (z : CodeLine). position_of z.origin) (sym same); gives = subst (λ (z : ℕ). GiveFirstAt listed lists z t) here code }
+      at_head : (n a : ℕ) (t : Tokens) (i j : Item) → Some i ≡ Some j → is_code j.kind ≡ true → Path g start (suc n) (spot n) t → GiveFirstIf (is_code i.kind) lists a t → Located a n
+      at_head n a t i j same code path given =
+          let is : i ≡ j = cc in
+          let here : is_code i.kind ≡ true = ap (λ (x : Item). is_code x.kind) is ∙ code in
+          record { tokens = t; path = path; gives = subst (λ (b : Bool). GiveFirstIf b lists a t) here given }
 
-      -- the line is the head's, or one of the others
-      one_of : (b : Bool) (l0 l : CodeLine) (rest : Option CodeLine) → cond b (Some l0) rest ≡ Some l → ((b ≡ true) × (Some l0 ≡ Some l)) ⊎ (rest ≡ Some l)
-      one_of true l0 l rest e = inl (refl, e)
-      one_of false l0 l rest e = inr e
-
-      locate : {n : ℕ} {items : List Item} {words : List ℕ} → IsStraight block.id n items words → (a : ℕ) (t : Tokens) → drop n block.items ≡ items → Path g (spot 0) n (spot n) t → GiveFirst listed lists resolve n a t items →
-          (x : ℕ) (l : CodeLine) → line_at (lines_of a items) x ≡ Some l → Located x l
-      locate (returns {n} {i} {c} {k} kind own row physical) a t rest path given x l e =
-          let at : line_at (kept_line block.id n a c ∷ []) x ≡ Some l = subst (λ (ls : List CodeLine). line_at ls x ≡ Some l) (code_lines block.id n a i [] c k kind own) e in
-          elim (one_of (eqb a x) (kept_line block.id n a c) l None at) as (λ z. Located x l) [
-            | inl h ↦ at_head n a x t i c k l kind (eqb-true a x h.0) h.1 path given.0
-            | inr h ↦ absurd (cc)
-          ]
-      locate (goes_on {n} {i} {items} {words} {c} {k} w kind own plain is more) a t rest path given x l e =
-          let at : line_at (kept_line block.id n a c ∷ lines_of (a + 4) items) x ≡ Some l = subst (λ (ls : List CodeLine). line_at ls x ≡ Some l) (code_lines block.id n a i items c k kind own) e in
+      locate : {n : ℕ} {items : List Item} {words : List ℕ} → IsStraight block.id n items words → (a : ℕ) (t : Tokens) → drop n block.items ≡ items → Path g start (suc n) (spot n) t → GiveFirst lists resolve (suc n) a t items →
+          (j : ℕ) (i : Item) → slice_get items j ≡ Some i → is_code i.kind ≡ true → Located (address_at a items j) (n + j)
+      locate (returns {n} {i} {c} {k} kind own row physical) a t rest path given zero x e code =
+          let at : n ≡ n + 0 = omega arith in
+          subst (Located a) at (at_head n a t i x e code path given.0)
+      locate (returns kind own row physical) a t rest path given (suc j) x e code = absurd cc
+      locate (goes_on {n} {i} {items} {words} {c} {k} w kind own plain is more) a t rest path given zero x e code =
+          let at : n ≡ n + 0 = omega arith in
+          subst (Located a) at (at_head n a t i x e code path given.0)
+      locate (goes_on {n} {i} {items} {words} {c} {k} w kind own plain is more) a t rest path given (suc j) x e code =
           let edge : KindEdge g.enter i.kind (spot n) (spot (suc n)) = subst (λ (z : ItemKind). KindEdge g.enter z (spot n) (spot (suc n))) (sym kind) (plain_edge g.enter (row_of c) (spot n) (spot (suc n)) plain (sym (below_spot n))) in
-          let others : GiveFirst listed lists resolve (suc n) (a + 4) (after_item resolve n i.kind t) items =
-          subst (λ (z : ItemKind). GiveFirst listed lists resolve (suc n) (cond (is_code z) (a + 4) a) (after_item resolve n i.kind t) items) kind given.1 in
-          elim (one_of (eqb a x) (kept_line block.id n a c) l (line_at (lines_of (a + 4) items) x) at) as (λ z. Located x l) [
-            | inl h ↦ at_head n a x t i c k l kind (eqb-true a x h.0) h.1 path given.0
-            | inr h ↦ locate more (a + 4) (after_item resolve n i.kind t) (drop_one block.items n i items rest) (path_on n i items t rest edge path) others x l h
-          ]
-      locate (marks {n} {i} {items} {words} {v} {m} kind more) a t rest path given x l e =
-          let at : line_at (lines_of a items) x ≡ Some l = subst (λ (ls : List CodeLine). line_at ls x ≡ Some l) (mark_lines a i items v m kind) e in
+          let at : suc n + j ≡ n + suc j = omega arith in
+          subst (Located (address_at a (i ∷ items) (suc j))) at
+          (locate more (cond (is_code i.kind) (a + 4) a) (after_item resolve (suc n) i.kind t) (drop_one block.items n i items rest) (path_on n i items t rest edge path) given.1 j x e code)
+      locate (marks {n} {i} {items} {words} {v} {m} kind more) a t rest path given zero x e code =
+          let at : n ≡ n + 0 = omega arith in
+          subst (Located a) at (at_head n a t i x e code path given.0)
+      locate (marks {n} {i} {items} {words} {v} {m} kind more) a t rest path given (suc j) x e code =
           let edge : KindEdge g.enter i.kind (spot n) (spot (suc n)) = subst (λ (z : ItemKind). KindEdge g.enter z (spot n) (spot (suc n))) (sym kind) (sym (below_spot n)) in
-          let others : GiveFirst listed lists resolve (suc n) a (after_item resolve n i.kind t) items =
-          subst (λ (z : ItemKind). GiveFirst listed lists resolve (suc n) (cond (is_code z) (a + 4) a) (after_item resolve n i.kind t) items) kind given.1 in
-          locate more a (after_item resolve n i.kind t) (drop_one block.items n i items rest) (path_on n i items t rest edge path) others x l at
+          let at : suc n + j ≡ n + suc j = omega arith in
+          subst (Located (address_at a (i ∷ items) (suc j))) at
+          (locate more (cond (is_code i.kind) (a + 4) a) (after_item resolve (suc n) i.kind t) (drop_one block.items n i items rest) (path_on n i items t rest edge path) given.1 j x e code)
 
-      module _ (image : Image) (lines : image.lines ≡ lines_of 0 block.items) (given : GiveFirst listed lists resolve 0 0 entry_tokens block.items) where
-        located : (a : ℕ) (p : Pos) → (point : IsPointOf image a p) → Located a point.line
-        located a p point = locate straight 0 entry_tokens (drop_zero block.items) begin given a point.line (subst (λ (ls : List CodeLine). line_at ls a ≡ Some point.line) lines point.stands)
+      module _ (given : GiveFirst lists resolve 0 0 entry_tokens block.items) where
+        given_in : GiveFirst lists resolve 1 0 entry_tokens block.items
+        given_in = subst (λ (t : Tokens). GiveFirst lists resolve 1 0 t block.items) entry_later (give_later lists resolve 0 0 entry_tokens block.items given)
 
-        at_point : (a : ℕ) (p : Pos) (point : IsPointOf image a p) → spot (located a p point).index ≡ p
-        at_point a p point = sym (located a p point).from ∙ point.from
+        located : (a : ℕ) (p : Pos) → (point : IsPointOf 1 block.items a p) → Located a point.number
+        located a p point =
+            let at : 0 + point.number ≡ point.number = omega arith in
+            let found = locate straight 0 entry_tokens (drop_zero block.items) path_in given_in point.number point.item point.stands point.code in
+            subst (λ (x : ℕ). Located x point.number) (sym point.address) (subst (Located (address_at 0 block.items point.number)) at found)
 
-        gives : (v : VarId) → listed v → (a : ℕ) (p : Pos) → IsPointOf image a p → (place : Place) → lists v a place ↔ IsWanted g (spot 0) v p place
-        gives v has a p point place =
+        gives : (v : VarId) (a : ℕ) (p : Pos) → IsPointOf 1 block.items a p → (place : Place) → lists v a place ↔ IsWanted g start v p place
+        gives v a p point place =
             let x = located a p point in
-            let first = x.gives.gives v has place in (
-              λ l. subst (λ (q : Pos). IsWanted g (spot 0) v q place) (at_point a p point) (wanted x.index x.tokens v place x.path (first.0 l)),
-              λ w. first.1 (is_first x.index x.tokens v place x.path (subst (λ (q : Pos). IsWanted g (spot 0) v q place) (sym (at_point a p point)) w)),
+            let n : ℕ = point.number in
+            let first = x.gives.gives v place in (
+              λ l. subst (λ (q : Pos). IsWanted g start v q place) (sym point.position) (wanted n (suc n) x.tokens v place x.path (first.0 l)),
+              λ w. first.1 (is_first n (suc n) x.tokens v place x.path (subst (λ (q : Pos). IsWanted g start v q place) point.position w)),
             )
 
-        gives_none : (v : VarId) → listed v → (a : ℕ) (p : Pos) → IsPointOf image a p → ((place : Place) → lists v a place → ⊥) → NoneIsWanted g (spot 0) v p
-        gives_none v has a p point none place named s =
+        gives_none : (v : VarId) (a : ℕ) (p : Pos) → IsPointOf 1 block.items a p → ((place : Place) → lists v a place → ⊥) ↔ NoneIsWanted g start v p
+        gives_none v a p point =
             let x = located a p point in
-            x.gives.gives_none v has none place named (holds x.index x.tokens v place x.path (subst (λ (q : Pos). SitsIn g (spot 0) v place q) (sym (at_point a p point)) s))
+            let n : ℕ = point.number in (
+              λ none place named s. x.gives.gives_none v none place named (holds n (suc n) x.tokens v place x.path (subst (λ (q : Pos). SitsIn g start v place q) point.position s)),
+              λ none place l. let w = (gives v a p point place).0 l in none place w.named w.sits,
+            )
 
-pub straight_lists_are_exact : (listed : VarId → Type 0) (lists : VarId → (address : ℕ) → Place → Type 0) → StraightListsAreExact listed lists
-straight_lists_are_exact listed lists sp block resolve image is given = record {
-  gives = gives sp block resolve is.straight listed lists image is.lines given;
-  gives_none = gives_none sp block resolve is.straight listed lists image is.lines given;
+pub straight_lists_are_exact : (lists : VarId → (address : ℕ) → Place → Type 0) → StraightListsAreExact lists
+straight_lists_are_exact lists prologue block resolve words empty straight given = record {
+  gives = gives prologue block resolve empty straight lists given;
+  gives_none = gives_none prologue block resolve empty straight lists given;
 }

@@ -11,10 +11,10 @@ use Rattle.rv64_word.specs.MachineRow.{Does, LinksTo, machine_row}
 use Rattle.rv64_word.specs.Operation.{encoding_of}
 use Rattle.rv64_word.proofs.Reading.{spelled_below}
 use Rattle.code_layout.specs.Image.{word_of_bytes, word_at}
-use Rattle.code_layout.specs.Decoded.{decoded}
+use Rattle.rv64_word.specs.Decoded.{decoded}
 use Rattle.code_layout.specs.MachineStep.{return_word}
 use Rattle.code_layout.specs.Straight.{IsWordOf}
-use Rattle.code_layout.proofs.Decoding.{is_decoded}
+use Rattle.rv64_word.proofs.Decoding.{is_decoded}
 
 -- an operation's word has 32 bits
 word_below : (m : MachineOp) → word_of m < 2 ^ 32

@@ -1,5 +1,4 @@
 pub mod Image
-pub mod Decoded
 pub mod Machine
 pub mod MachineStep
 pub mod Headline

@@ -3,26 +3,14 @@
 ghost use Rattle.std.specs.Prelude.{ℕ};
 ghost use Rattle.rv64_instr.specs.declared.place.Place.{Place};
 ghost use Rattle.mir_func.specs.declared.variable.VarId.{VarId};
-ghost use Rattle.code_layout.specs.Decoded.{DecodedIsTheOperation};
 ghost use Rattle.code_layout.specs.Exact.{StraightListsAreExact};
 ghost use Rattle.code_layout.specs.HeadlineLaws.{HeadlineReachesEveryStep};
 ghost use Rattle.code_layout.specs.StraightLaws.{StraightCodeRunsAlong, StraightCodeMeetsTheHeadline};
-
-/// A word is decoded to the one machine operation whose word it is.
-pub fn decoded_is_the_operation()
-    ensures { DecodedIsTheOperation }
-{}
 
 /// The location lists of a function.
 pub trait LocationLists {
     /// Which place a variable's list gives at an address.
     ghost gives: { VarId → ℕ → Place → Type 0 };
-}
-
-/// The location lists of chosen variables.
-pub trait ListedVariables: LocationLists {
-    /// Whether a variable has a list.
-    ghost has: { VarId → Type 0 };
 }
 
 /// Where the headline holds, the source comes along with every step of the machine, or stops on a frame fault.
@@ -41,7 +29,7 @@ pub fn straight_code_meets_the_headline<L: LocationLists>()
 {}
 
 /// Lists of straight-line code that give the first places by tokens are exact: they give the wanted place, and none
-/// exactly where none is wanted.
-pub fn straight_lists_are_exact<L: ListedVariables>()
-    ensures { StraightListsAreExact L.has L.gives }
+/// exactly where none is wanted, by the paths of the function behind an empty prologue.
+pub fn straight_lists_are_exact<L: LocationLists>()
+    ensures { StraightListsAreExact L.gives }
 {}
