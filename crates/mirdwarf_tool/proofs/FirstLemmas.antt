@@ -1,5 +1,5 @@
 -- A function that a text in the first form stands for has one block of plain items.
-use Rattle.std.specs.Prelude.{Some, None, All, Bool, true, false, ◌&&◌, nat_lt}
+use Rattle.std.specs.Prelude.{Some, None, IsSome, if◌then◌else◌, pos, All, Bool, true, false, ◌&&◌, nat_lt}
 use Rattle.std.specs.List.{list_all}
 use Rattle.std.proofs.Common.{◌≡◌, ℕ, zero, suc, ◌<◌, List, [], ◌∷◌, length, arith, ap, refl}
 use Rattle.std.proofs.lemmas.Bool.Decides.{nat_tests}
@@ -9,6 +9,10 @@ use Rattle.rv64_instr.specs.Row.{immediate_row}
 use Rattle.rv64_instr.specs.declared.op.Op.TheVariants.{Addi}
 use Rattle.rv64_instr.specs.declared.operand.Operand.{Operand}
 use Rattle.rv64_instr.specs.declared.operand.Operand.TheVariants.{Def, Use, Imm}
+use Rattle.rv64_word.specs.declared.machine_op.MachineOp.{MachineOp}
+use Rattle.rv64_word.specs.declared.word_op.WordOp.TheVariants as word_op
+use Rattle.rv64_word.specs.MachineOp.{is_encodable}
+use Rattle.rv64_word.specs.Lowering.{in_range, machine_op}
 use Rattle.mir_func.specs.meaning.Step.{defined}
 use Rattle.first_form.specs.declared.line.Line.{Line}
 use Rattle.first_form.specs.declared.line.Statement.{Statement}
@@ -48,14 +52,22 @@ three a b c second third zero = second
 three a b c second third (suc zero) = third
 three a b c second third (suc (suc o)) = refl
 
+by_test : (b : Bool) (m : MachineOp) → b ≡ true → IsSome (if b then Some m else None)
+by_test true m e = refl
+by_test false m e = cc
+
+has_word : (m : MachineOp) → is_encodable m ≡ true → IsSome (in_range m)
+has_word m e = by_test (is_encodable m) m e
+
 pub plain_kind : (s : Statement) → is_allowed s ≡ true → IsPlainKind (kind_of s)
 plain_kind (AddImmediate to from i k) h =
     let front = both_left (is_target to && is_source from && is_immediate i) (is_small_or_none k) h in
     let registers = both_left (is_target to && is_source from) (is_immediate i) front in
     let to_below = target_below to (both_left (is_target to) (is_source from) registers) in
     let from_below = source_below from (both_right (is_target to) (is_source from) registers) in
-    let in_range = both_right (is_target to && is_source from) (is_immediate i) front in (
-      both (nat_lt to 32 && nat_lt from 32 && true) (is_immediate i) (both (nat_lt to 32 && nat_lt from 32) true (both (nat_lt to 32) (nat_lt from 32) (below_register to to_below) (below_register from from_below)) refl) in_range,
+    let fits = both_right (is_target to && is_source from) (is_immediate i) front in (
+      has_word (machine_op word_op.Addi to from 0 i)
+          (both (nat_lt to 32 && nat_lt from 32 && true) (is_immediate i) (both (nat_lt to 32 && nat_lt from 32) true (both (nat_lt to 32) (nat_lt from 32) (below_register to to_below) (below_register from from_below)) refl) fits),
       add_row to from (word i) to_below from_below,
       three (Def to) (Use from) (Imm i) refl refl,
     )
@@ -65,8 +77,9 @@ plain_kind (Add to left right k) h =
     let to_below = target_below to (both_left (is_target to) (is_source left) two) in
     let left_below = source_below left (both_right (is_target to) (is_source left) two) in
     let right_below = source_below right (both_right (is_target to && is_source left) (is_source right) front) in (
-      both (nat_lt to 32 && nat_lt left 32 && nat_lt right 32) true
-          (both (nat_lt to 32 && nat_lt left 32) (nat_lt right 32) (both (nat_lt to 32) (nat_lt left 32) (below_register to to_below) (below_register left left_below)) (below_register right right_below)) refl,
+      has_word (machine_op word_op.Add to left right (pos 0))
+          (both (nat_lt to 32 && nat_lt left 32 && nat_lt right 32) true
+          (both (nat_lt to 32 && nat_lt left 32) (nat_lt right 32) (both (nat_lt to 32) (nat_lt left 32) (below_register to to_below) (below_register left left_below)) (below_register right right_below)) refl),
       to_below,
       three (Def to) (Use left) (Use right) refl refl,
     )

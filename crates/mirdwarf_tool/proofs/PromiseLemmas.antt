@@ -1,125 +1,256 @@
--- The written lists give only places that hold the variable's value, and so the headline holds.
-use Rattle.std.specs.Prelude.{Option, Some, None, Bool, true, false, cond, codes, slice_get}
-use Rattle.std.proofs.Common.{◌≡◌, ℕ, suc, ◌+◌, ◌*◌, ◌^◌, ◌<◌, List, [], ◌∷◌, ◌++◌, length, arith, ap, sym, ◌∙◌, refl}
+-- The written lists give each variable the first place that holds its value, and so the headline holds and they are exact.
+use Rattle.std.specs.Prelude.{Option, Some, None, Bool, true, false, cond, slice_get, ◌↔◌, ◌⊎◌}
+use Rattle.std.specs.List.{list_any}
+use Rattle.std.proofs.Common.{◌≡◌, ℕ, zero, suc, ◌+◌, ◌*◌, ◌^◌, ◌<◌, List, [], ◌∷◌, length, arith, ap, sym, ◌∙◌, refl, subst, inl, inr}
 use Rattle.rv64_instr.specs.declared.place.Place.{Place}
 use Rattle.mir_func.specs.declared.variable.VarId.{VarId}
 use Rattle.mir_func.specs.declared.item.Item.{Item}
-use Rattle.mir_func.specs.declared.item.ItemKind.{ItemKind}
-use Rattle.mir_func.specs.declared.item.ItemKind.TheVariants.{Code, Mark, Phi}
 use Rattle.mir_func.specs.declared.block.Block.{Block}
-use Rattle.mir_func.specs.meaning.Align as align
-use Rattle.mir_func.specs.meaning.Token.{Tokens, entry_tokens, after_item, place_token}
+use Rattle.mir_func.specs.meaning.State.{assigned, is_same}
+use Rattle.mir_func.specs.meaning.Align.{is_code}
+use Rattle.mir_func.specs.meaning.Token.{Tokens, entry_tokens, after_item, IsPlace}
 use Rattle.dwarf_loclists.specs.declared.range.Range.{Range}
+use Rattle.dwarf_loclists.specs.Ranges.{place_in}
 use Rattle.dwarf_loclists.specs.Spelling.{spelling}
 use Rattle.dwarf_loclists.specs.Reading.{IsSection}
 use Rattle.dwarf_loclists.proofs.SpellingLemmas.{length-spelling}
 use Rattle.dwarf_loclists.proofs.OneReading.{entered, spelling_one}
-use Rattle.code_layout.specs.Straight.{IsStraightImage, GiveHeldAt, GiveHeld}
-use Rattle.code_layout.specs.Straight as straight
-use Rattle.code_layout.proofs.Straight.{straight_code_meets_the_headline}
-use Rattle.mirdwarf_tool.specs.Code.{code_of, is_code, is_code_kind}
-use Rattle.mirdwarf_tool.specs.Output.{section_text, listing_text, compiled_text}
+use Rattle.code_layout.specs.Straight.{Holds, GiveHeldAt, GiveHeld}
+use Rattle.code_layout.specs.Exact.{IsFirst, GiveFirstIf, GiveFirst}
+use Rattle.mirdwarf_tool.specs.Output.{ListedVariable, Output}
+use Rattle.mirdwarf_tool.specs.Listing.{variable_name, listed_variables, listing_of, output_with}
 use Rattle.mirdwarf_tool.specs.Variables.{variables_of}
-use Rattle.mirdwarf_tool.specs.Walk.{unchanged, IsFirstPlace, FirstPlaces, at_code, at_mark}
+use Rattle.mirdwarf_tool.specs.Walk.{unchanged, IsFirstPlace, FirstPlaces}
 use Rattle.mirdwarf_tool.specs.Lists.{AreLists}
-use Rattle.mirdwarf_tool.specs.Promise.{image_of, Gives, Promises}
+use Rattle.mirdwarf_tool.specs.Promise.{Gives}
+use Rattle.mirdwarf_tool.proofs.FirstPlaceLemmas.{walk_at_code, walk_at_mark, same_first, one_walk}
+use Rattle.mirdwarf_tool.proofs.MarkedLemmas.{IsUnmarked, unmarked, numbered, not_in, still_none}
 
-same_code : (k : ItemKind) → is_code_kind k ≡ align.is_code k
-same_code (Code i n) = refl
-same_code (Mark v m) = refl
-same_code (Phi p n) = refl
+-- ---- a variable along a walk
 
--- a walk from an item on, and what its places say of one place that is given at an address
-record Located (v : VarId) (x : ℕ) (place : Place) (n a : ℕ) (t : Tokens) (items : List Item) : Type 0 where
+-- a walk from an item on, whose places are those that are given
+record Told (v : VarId) (gives : ℕ → Place → Type 0) (n a : ℕ) (t : Tokens) (items : List Item) : Type 0 where
   places : List (Option Place)
   walk : FirstPlaces v n t items places
-  found : (m : ℕ) (q : Option Place) → slice_get places m ≡ Some q → x ≡ a + 4 * m → Some place ≡ q
+  given : (m : ℕ) (q : Option Place) → slice_get places m ≡ Some q → (x : ℕ) → x ≡ a + 4 * m → (p : Place) → gives x p ↔ (q ≡ Some p)
 
--- a walk's first place before code, and the walk after it
-pub record AtCode (v : VarId) (n : ℕ) (t : Tokens) (i : Item) (items : List Item) (places : List (Option Place)) : Type 0 where
-  pub first : Option Place
-  pub rest : List (Option Place)
-  pub both : places ≡ first ∷ rest
-  pub is_first : IsFirstPlace v t first
-  pub walk : FirstPlaces v (suc n) (after_item unchanged n i.kind t) items rest
+-- no mark of the variable from an item on, and none before it
+record Untold (v : VarId) (gives : ℕ → Place → Type 0) (t : Tokens) (items : List Item) : Type 0 where
+  unmarked : IsUnmarked v items
+  none : assigned v t.marks ≡ None
+  never : (x : ℕ) (p : Place) → gives x p → ⊥
 
-pub walk_at_code : {v : VarId} {n : ℕ} {t : Tokens} {i : Item} {items : List Item} {places : List (Option Place)} → is_code i ≡ true → FirstPlaces v n t (i ∷ items) places → AtCode v n t i items places
-walk_at_code e (at_code {p = p} {places = ps} c f w) = record { first = p; rest = ps; both = refl; is_first = f; walk = w }
-walk_at_code e (at_mark c w) = absurd cc
+abbrev Walked : VarId → (ℕ → Place → Type 0) → ℕ → ℕ → Tokens → List Item → Type 0
+Walked v gives n a t items = Told v gives n a t items ⊎ Untold v gives t items
 
-pub walk_at_mark : {v : VarId} {n : ℕ} {t : Tokens} {i : Item} {items : List Item} {places : List (Option Place)} → is_code i ≡ false → FirstPlaces v n t (i ∷ items) places
-    → FirstPlaces v (suc n) (after_item unchanged n i.kind t) items places
-walk_at_mark e (at_code c f w) = absurd cc
-walk_at_mark e (at_mark c w) = w
+-- what a list gives at code is the first place, and where it gives none there is none
+record Firsts (v : VarId) (gives : ℕ → Place → Type 0) (a : ℕ) (t : Tokens) : Type 0 where
+  some : (p : Place) → gives a p ↔ IsFirst v t p
+  no_one : ((p : Place) → gives a p → ⊥) → (p : Place) → IsPlace p → Holds v t p → ⊥
 
-first_held : (v : VarId) (t : Tokens) (p : Place) (q : Option Place) → Some p ≡ q → IsFirstPlace v t q → straight.Holds v t p
-first_held v t p None e f = absurd cc
-first_held v t p (Some q) e f =
-    let same : p ≡ q = cc in
-    record { token = f.1.token; variable = f.1.variable; held = ap (λ (z : Place). place_token (Some z) t) same ∙ f.1.held }
+first_of : (v : VarId) (t : Tokens) (p : Place) (q : Option Place) → q ≡ Some p → IsFirstPlace v t q → IsFirst v t p
+first_of v t p q e f =
+    let is : IsFirstPlace v t (Some p) = subst (IsFirstPlace v t) e f in
+    record { named = is.0; holds = is.1; first = is.2 }
 
-here_held : (v : VarId) (p : Place) (n a : ℕ) (t : Tokens) (i : Item) (items : List Item) → is_code i ≡ true → Located v a p n a t (i ∷ items) → straight.Holds v t p
-here_held v p n a t i items code l =
-    let at = walk_at_code code l.walk in
-    first_held v t p at.first (l.found 0 at.first (ap (λ (ps : List (Option Place)). slice_get ps 0) at.both) (omega arith)) at.is_first
+no_first : (v : VarId) (gives : ℕ → Place → Type 0) (a : ℕ) (t : Tokens) (q : Option Place) → IsFirstPlace v t q → ((p : Place) → q ≡ Some p → gives a p) → ((p : Place) → gives a p → ⊥) → (p : Place) → IsPlace p → Holds v t p → ⊥
+no_first v gives a t None f given never p named h = f p named h
+no_first v gives a t (Some r) f given never p named h = never r (given r refl)
 
-past_item : (b : Bool) (v : VarId) (x : ℕ) (p : Place) (n a : ℕ) (t : Tokens) (i : Item) (items : List Item) → is_code i ≡ b → Located v x p n a t (i ∷ items)
-    → Located v x p (suc n) (cond b (a + 4) a) (after_item unchanged n i.kind t) items
-past_item true v x p n a t i items code l =
-    let at = walk_at_code code l.walk in
+code_told : (v : VarId) (gives : ℕ → Place → Type 0) (n a : ℕ) (t : Tokens) (i : Item) (items : List Item) → is_code i.kind ≡ true → Told v gives n a t (i ∷ items) → Firsts v gives a t
+code_told v gives n a t i items code told =
+    let at = walk_at_code code told.walk in
+    let q : Option Place = at.first in
+    let here : a ≡ a + 4 * 0 = omega arith in
+    let given = told.given 0 at.first (ap (λ (ps : List (Option Place)). slice_get ps 0) at.both) a here in
+    record {
+      some = λ p. (
+        λ g. first_of v t p at.first ((given p).0 g) at.is_first,
+        λ f. (given p).1 (same_first v t at.first (Some p) at.is_first (f.named, f.holds, f.first)),
+      );
+      no_one = no_first v gives a t at.first at.is_first (λ p. (given p).1);
+    }
+
+no_token : (v : VarId) (t : Tokens) (p : Place) → assigned v t.marks ≡ None → Holds v t p → ⊥
+no_token v t p none h =
+    let both : None ≡ Some h.token = sym none ∙ h.variable in
+    cc
+
+code_untold : (v : VarId) (gives : ℕ → Place → Type 0) (a : ℕ) (t : Tokens) (items : List Item) → Untold v gives t items → Firsts v gives a t
+code_untold v gives a t items untold = record {
+  some = λ p. (λ g. absurd (untold.never a p g), λ f. absurd (no_token v t p untold.none f.holds));
+  no_one = λ never p named h. no_token v t p untold.none h;
+}
+
+firsts : (v : VarId) (gives : ℕ → Place → Type 0) (n a : ℕ) (t : Tokens) (i : Item) (items : List Item) → is_code i.kind ≡ true → Walked v gives n a t (i ∷ items) → Firsts v gives a t
+firsts v gives n a t i items code walked = elim walked [
+  | inl told ↦ code_told v gives n a t i items code told
+  | inr untold ↦ code_untold v gives a t (i ∷ items) untold
+]
+
+past_told : (b : Bool) (v : VarId) (gives : ℕ → Place → Type 0) (n a : ℕ) (t : Tokens) (i : Item) (items : List Item) → is_code i.kind ≡ b → Told v gives n a t (i ∷ items)
+    → Told v gives (suc n) (cond b (a + 4) a) (after_item unchanged n i.kind t) items
+past_told true v gives n a t i items code told =
+    let at = walk_at_code code told.walk in
     record {
       places = at.rest;
       walk = at.walk;
-      found = λ m q got e. l.found (suc m) q (ap (λ (ps : List (Option Place)). slice_get ps (suc m)) at.both ∙ got) (omega (arith, e));
+      given = λ m q got x e. told.given (suc m) q (ap (λ (ps : List (Option Place)). slice_get ps (suc m)) at.both ∙ got) x (omega (arith, e));
     }
-past_item false v x p n a t i items code l = record { places = l.places; walk = walk_at_mark code l.walk; found = l.found }
+past_told false v gives n a t i items code told = record { places = told.places; walk = walk_at_mark code told.walk; given = told.given }
 
-held_from : (lists : VarId → (address : ℕ) → Place → Type 0) (n a : ℕ) (t : Tokens) (items : List Item)
-    → ((v : VarId) (x : ℕ) (p : Place) → lists v x p → Located v x p n a t items) → GiveHeld lists unchanged n a t items
-held_from lists n a t [] located = tt
-held_from lists n a t (i ∷ items) located = (
-  here (align.is_code i.kind) refl,
-  held_from lists (suc n) (cond (align.is_code i.kind) (a + 4) a) (after_item unchanged n i.kind t) items
-      (λ v x p g. past_item (align.is_code i.kind) v x p n a t i items (same_code i.kind) (located v x p g)),
+past : (b : Bool) (v : VarId) (gives : ℕ → Place → Type 0) (n a : ℕ) (t : Tokens) (i : Item) (items : List Item) → is_code i.kind ≡ b → Walked v gives n a t (i ∷ items)
+    → Walked v gives (suc n) (cond b (a + 4) a) (after_item unchanged n i.kind t) items
+past b v gives n a t i items code walked = elim walked [
+  | inl told ↦ inl (past_told b v gives n a t i items code told)
+  | inr untold ↦ inr (record { unmarked = untold.unmarked.1; none = still_none v n i.kind t untold.unmarked.0 untold.none; never = untold.never })
+]
+
+-- ---- all variables along the walk
+
+first_from : (lists : VarId → (address : ℕ) → Place → Type 0) (n a : ℕ) (t : Tokens) (items : List Item) → ((v : VarId) → Walked v (lists v) n a t items) → GiveFirst lists unchanged n a t items
+first_from lists n a t [] walked = tt
+first_from lists n a t (i ∷ items) walked = (
+  here (is_code i.kind) refl,
+  first_from lists (suc n) (cond (is_code i.kind) (a + 4) a) (after_item unchanged n i.kind t) items (λ v. past (is_code i.kind) v (lists v) n a t i items refl (walked v)),
 )
   where
-    here : (b : Bool) → align.is_code i.kind ≡ b → GiveHeldAt lists b a t
-    here true e = λ v p g. here_held v p n a t i items (same_code i.kind ∙ e) (located v a p g)
+    here : (b : Bool) → is_code i.kind ≡ b → GiveFirstIf b lists a t
+    here true e = record {
+      gives = λ v. (firsts v (lists v) n a t i items e (walked v)).some;
+      gives_none = λ v. (firsts v (lists v) n a t i items e (walked v)).no_one;
+    }
     here false e = tt
+
+held_at : (b : Bool) (lists : VarId → (address : ℕ) → Place → Type 0) (a : ℕ) (t : Tokens) → GiveFirstIf b lists a t → GiveHeldAt lists b a t
+held_at true lists a t is = λ v p g. ((is.gives v p).0 g).holds
+held_at false lists a t is = tt
+
+-- what is first holds the value
+pub held_from : (lists : VarId → (address : ℕ) → Place → Type 0) (n a : ℕ) (t : Tokens) (items : List Item) → GiveFirst lists unchanged n a t items → GiveHeld lists unchanged n a t items
+held_from lists n a t [] is = tt
+held_from lists n a t (i ∷ items) is = (
+  held_at (is_code i.kind) lists a t is.0,
+  held_from lists (suc n) (cond (is_code i.kind) (a + 4) a) (after_item unchanged n i.kind t) items is.1,
+)
+
+-- ---- the lists of a section
 
 count_fits : (bytes : List ℕ) (lists : List (List Range)) → IsSection bytes lists → length lists < 2 ^ 32
 count_fits bytes lists is = omega (arith, length-spelling lists, ap length is.spelled, is.size)
 
-pub one_section : (bytes : List ℕ) (a b : List (List Range)) → IsSection bytes a → IsSection bytes b → a ≡ b
+one_section : (bytes : List ℕ) (a b : List (List Range)) → IsSection bytes a → IsSection bytes b → a ≡ b
 one_section bytes a b is_a is_b =
     spelling_one a b (entered a is_a.places) (entered b is_b.places) (count_fits bytes a is_a) (count_fits bytes b is_b) (sym is_a.spelled ∙ is_b.spelled)
 
-located : (items : List Item) (lists : List (List Range)) → AreLists items lists → (v : VarId) (x : ℕ) (p : Place) → Gives (spelling lists) (variables_of [] items) v x p
-    → Located v x p 0 0 entry_tokens items
-located items lists are v x p gives =
-    let mine : IsSection (spelling lists) lists = record { spelled = refl; size = gives.given.section.size; ascend = are.ascend; places = are.places } in
-    let same : gives.given.lists ≡ lists = one_section (spelling lists) gives.given.lists lists gives.given.section mine in
-    let list : slice_get lists gives.number ≡ Some gives.given.ranges = ap (λ (ls : List (List Range)). slice_get ls gives.number) (sym same) ∙ gives.given.list in
-    let of_variable = are.exact gives.number v gives.given.ranges gives.named list in
-    record {
-      places = of_variable.places;
-      walk = of_variable.first;
-      found = λ m q got e. gives.given.found ∙ of_variable.listed.inside m q got x (omega (arith, e)) (omega (arith, e));
-    }
+-- a variable's number is that of a list
+record HasList (lists : List (List Range)) (k : ℕ) : Type 0 where
+  ranges : List Range
+  at : slice_get lists k ≡ Some ranges
 
-pub promises : (block : Block) (lists : List (List Range)) → IsStraightImage block (image_of block) → AreLists block.items lists → Promises block (spelling lists)
-promises block lists is are =
-    let gives = Gives (spelling lists) (variables_of [] block.items) in
-    straight_code_meets_the_headline gives block unchanged (image_of block) is (held_from gives 0 0 entry_tokens block.items (located block.items lists are))
+has_list : (vs : List VarId) (lists : List (List Range)) (k : ℕ) (v : VarId) → length lists ≡ length vs → slice_get vs k ≡ Some v → HasList lists k
+has_list [] lists k v each e = absurd (cc)
+has_list (x ∷ vs) [] k v each e = absurd (omega arith)
+has_list (x ∷ vs) (r ∷ lists) zero v each e = record { ranges = r; at = refl }
+has_list (x ∷ vs) (r ∷ lists) (suc k) v each e = let more = has_list vs lists k v (omega (arith, each)) e in record { ranges = more.ranges; at = more.at }
 
-abbrev text_of : (name : List ℕ) → Block → (code bytes : List ℕ) → List VarId → List ℕ
-text_of name block code bytes variables = section_text (codes ".text") code ++ section_text (codes ".debug_loclists") bytes ++ listing_text name (length code) variables block
+-- the line of a variable, and back
+line_at : (vs : List VarId) (j k : ℕ) (v : VarId) → slice_get vs k ≡ Some v → slice_get (listed_variables j vs) k ≡ Some (record { list = j + k; variable = v; name = variable_name v.node })
+line_at [] j k v e = absurd cc
+line_at (x ∷ vs) j zero v e =
+    let same : x ≡ v = cc in
+    let at : j ≡ j + 0 = omega arith in
+    ap (λ (y : VarId). Some (record { list = j; variable = y; name = variable_name y.node })) same ∙ ap (λ (n : ℕ). Some (record { list = n; variable = v; name = variable_name v.node })) at
+line_at (x ∷ vs) j (suc k) v e =
+    let at : (j + 1) + k ≡ j + suc k = omega arith in
+    line_at vs (j + 1) k v e ∙ ap (λ (n : ℕ). Some (record { list = n; variable = v; name = variable_name v.node })) at
 
-pub written_as : (name : List ℕ) (block : Block) (lists : List (List Range)) (code bytes : List ℕ) (variables : List VarId) (text : List ℕ)
-    → code ≡ code_of block.items → bytes ≡ spelling lists → variables ≡ variables_of [] block.items
-    → text ≡ section_text (codes ".text") code ++ section_text (codes ".debug_loclists") bytes ++ listing_text name (length code) variables block
-    → text ≡ compiled_text name block lists
-written_as name block lists code bytes variables text code_is bytes_is variables_is e =
-    e ∙ (ap (λ (c : List ℕ). text_of name block c bytes variables) code_is
-    ∙ (ap (λ (b : List ℕ). text_of name block (code_of block.items) b variables) bytes_is
-    ∙ ap (λ (vs : List VarId). text_of name block (code_of block.items) (spelling lists) vs) variables_is))
+variable_at : (vs : List VarId) (j k : ℕ) (line : ListedVariable) → slice_get (listed_variables j vs) k ≡ Some line → (slice_get vs k ≡ Some line.variable) × (line.list ≡ j + k)
+variable_at [] j k line e = absurd cc
+variable_at (x ∷ vs) j zero line e =
+    let same : record { list = j; variable = x; name = variable_name x.node } ≡ line = cc in
+    let at : j ≡ j + 0 = omega arith in
+    (ap (λ (l : ListedVariable). Some l.variable) same, sym (ap (λ (l : ListedVariable). l.list) same) ∙ at)
+variable_at (x ∷ vs) j (suc k) line e =
+    let found = variable_at vs (j + 1) k line e in
+    let at : (j + 1) + k ≡ j + suc k = omega arith in
+    (found.0, found.1 ∙ at)
+
+-- ---- the variables of a block along its walk
+
+module _ (name code : List ℕ) (block : Block) (lists : List (List Range)) (are : AreLists block.items lists) (section : IsSection (spelling lists) lists) where
+  abbrev variables : List VarId
+  variables = variables_of [] block.items
+
+  abbrev output : Output
+  output = output_with name code (spelling lists) (variables_of [] block.items) block
+
+  abbrev given : VarId → ℕ → Place → Type 0
+  given = Gives output (listing_of name (length code) (variables_of [] block.items) block)
+
+  -- the list that is given, with its number
+  record ByNumber (v : VarId) (x : ℕ) (p : Place) : Type 0 where
+    number : ℕ
+    ranges : List Range
+    named : slice_get variables number ≡ Some v
+    list : slice_get lists number ≡ Some ranges
+    found : Some p ≡ place_in ranges x
+
+  by_number : (v : VarId) (x : ℕ) (p : Place) → given v x p → ByNumber v x p
+  by_number v x p g =
+      let at = variable_at variables 0 g.number g.line g.stands in
+      let zeroth : 0 + g.number ≡ g.number = omega arith in
+      let same : g.given.lists ≡ lists = one_section (spelling lists) g.given.lists lists g.given.section section in
+      record {
+        number = g.number;
+        ranges = g.given.ranges;
+        named = at.0 ∙ ap (λ (y : VarId). Some y) g.named;
+        list = ap (λ (ls : List (List Range)). slice_get ls g.number) (sym same) ∙ (ap (λ (n : ℕ). slice_get g.given.lists n) (sym (at.1 ∙ zeroth)) ∙ g.given.list);
+        found = g.given.found;
+      }
+
+  given_by : (v : VarId) (k : ℕ) (ranges : List Range) → slice_get variables k ≡ Some v → slice_get lists k ≡ Some ranges → (x : ℕ) (p : Place) → place_in ranges x ≡ Some p → given v x p
+  given_by v k ranges named list x p says =
+      let zeroth : 0 + k ≡ k = omega arith in
+      record {
+        number = k;
+        line = record { list = k; variable = v; name = variable_name v.node };
+        stands = line_at variables 0 k v named ∙ ap (λ (n : ℕ). Some (record { list = n; variable = v; name = variable_name v.node })) zeroth;
+        named = refl;
+        given = record { lists = lists; ranges = ranges; section = section; list = list; found = sym says };
+      }
+
+  told : (v : VarId) (k : ℕ) → slice_get variables k ≡ Some v → Told v (given v) 0 0 entry_tokens block.items
+  told v k named =
+      let list = has_list variables lists k v are.each named in
+      let mine = are.exact k v list.ranges named list.at in
+      record {
+        places = mine.places;
+        walk = mine.first;
+        given = λ m q got x e p. (
+          λ g.
+              let by = by_number v x p g in
+              let other = are.exact by.number v by.ranges by.named by.list in
+              let same : mine.places ≡ other.places = one_walk v block.items 0 entry_tokens mine.places other.places mine.first other.first in
+              let there : slice_get other.places m ≡ Some q = ap (λ (ps : List (Option Place)). slice_get ps m) (sym same) ∙ got in
+              sym (by.found ∙ other.listed.inside m q there x (omega (arith, e)) (omega (arith, e))),
+          λ is. given_by v k list.ranges named list.at x p (mine.listed.inside m q got x (omega (arith, e)) (omega (arith, e)) ∙ is),
+        );
+      }
+
+  untold : (v : VarId) → list_any (is_same v) variables ≡ false → Untold v (given v) entry_tokens block.items
+  untold v none = record {
+    unmarked = unmarked v block.items none;
+    none = refl;
+    never = λ x p g. not_in v variables (by_number v x p g).number none (by_number v x p g).named;
+  }
+
+  walked : (v : VarId) → Walked v (given v) 0 0 entry_tokens block.items
+  walked v = by (list_any (is_same v) variables) refl
+    where
+      by : (b : Bool) → list_any (is_same v) variables ≡ b → Walked v (given v) 0 0 entry_tokens block.items
+      by true some = let k = numbered v variables some in inl (told v k.0 k.1)
+      by false none = inr (untold v none)
+
+  pub gives_first : GiveFirst given unchanged 0 0 entry_tokens block.items
+  gives_first = first_from given 0 0 entry_tokens block.items walked

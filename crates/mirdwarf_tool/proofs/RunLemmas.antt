@@ -4,7 +4,7 @@ use Rattle.std.proofs.Common.{◌≡◌, ◌≢◌, ℕ, ◌+◌, ◌≤◌, Lis
 use Rattle.io_edge.specs.declared.reading.ReadError.{ReadError}
 use Rattle.io_edge.specs.declared.reading.ReadError.TheVariants as reading
 use Rattle.io_edge.specs.Faults.{CountRose}
-use Rattle.io_edge.specs.Told.{Takes, TakesCount, IsAtEnd, Appends}
+use Rattle.io_edge.specs.Told.{Takes, TakesCount, IsAtEnd}
 use Rattle.mir_func.specs.Function.{Function}
 use Rattle.first_form.specs.FirstForm.{Stands}
 use Rattle.mirdwarf_tool.specs.declared.driver.TheConstants.{LIMIT}
@@ -49,20 +49,17 @@ has_written before after written written_after is = record {
   read = is.accepted.read;
   function = is.accepted.function;
   stands = is.accepted.stands;
-  block = is.accepted.compiles.block;
-  one = is.accepted.compiles.one;
-  lists = is.accepted.compiles.compiled.lists;
-  section = is.accepted.compiles.compiled.section;
-  whole = subst (λ (bytes : List ℕ). Appends written written_after bytes) is.accepted.compiles.compiled.written is.whole;
+  bytes = is.output;
+  whole = is.whole;
 }
 
 pub headline_kept : (before after written written_after : Option (List ℕ)) → Finishes before after written written_after → KeepsHeadline before after written written_after
 unfolding has_written
-headline_kept before after written written_after is = record { wrote = has_written before after written written_after is; headline = is.accepted.compiles.compiled.promise }
+headline_kept before after written written_after is = record { wrote = has_written before after written written_after is; headline = is.accepted.compiles.promise }
 
 pub wrote_exactly : (before after written written_after : Option (List ℕ)) → Finishes before after written written_after → WroteExactly before after written written_after
 unfolding has_written
-wrote_exactly before after written written_after is = record { wrote = has_written before after written written_after is; exact = is.accepted.compiles.compiled.exact }
+wrote_exactly before after written written_after is = record { wrote = has_written before after written written_after is; listed = is.accepted.compiles.listed; exact = is.accepted.compiles.exact }
 
 -- ---- the fault by the status
 

@@ -1,14 +1,21 @@
 -- The items of a text in the first form run straight to their return.
-use Rattle.std.specs.Prelude.{Some, None, All, Bool, true, false, ◌&&◌, not, cond, nat_eq}
+use Rattle.std.specs.Prelude.{Option, Some, None, IsSome, IfSome, IsTrue, pos, All, Bool, true, false, ◌&&◌, not, cond, nat_eq}
 use Rattle.std.specs.List.{flat_map, list_all}
 use Rattle.std.specs.Int.{w32, to_le_bytes}
-use Rattle.std.proofs.Common.{◌≡◌, ℕ, zero, suc, ◌<◌, List, [], ◌∷◌, ◌++◌, arith, ap, sym, refl, subst}
+use Rattle.std.proofs.Common.{◌≡◌, ℕ, zero, suc, ◌<◌, List, [], ◌∷◌, ◌++◌, arith, ap, sym, ◌∙◌, refl, subst}
 use Rattle.std.proofs.lemmas.Bool.Decides.{nat_tests}
 use Rattle.std.proofs.lemmas.List.Elements.{All-cons, All-nil}
 use Rattle.rv64_instr.specs.Arithmetic.{word}
-use Rattle.rv64_instr.specs.Row.{immediate_row}
+use Rattle.rv64_instr.specs.Instruction.{Instruction}
+use Rattle.rv64_instr.specs.Row.{Row, Fixes, Moves, Sets, immediate_row, row_of}
 use Rattle.rv64_instr.specs.declared.op.Op.TheVariants.{Addi}
-use Rattle.rv64_word.specs.MachineOp.{word_of}
+use Rattle.rv64_word.specs.declared.machine_op.MachineOp.{MachineOp}
+use Rattle.rv64_word.specs.declared.word_op.WordOp.TheVariants.{Jalr}
+use Rattle.rv64_word.specs.declared.word_op.WordOp.TheVariants as word_op
+use Rattle.rv64_word.specs.MachineOp.{is_encodable, word_of}
+use Rattle.rv64_word.specs.MachineRow.{Does, placed, at_offset}
+use Rattle.rv64_word.specs.Lowering.{in_range, machine_op}
+use Rattle.rv64_word.proofs.Words.{ActsAs, lowered_acts, lowered_fits}
 use Rattle.mir_func.specs.declared.location.Loc.{Loc}
 use Rattle.mir_func.specs.declared.position.Origin.TheVariants.{Kept}
 use Rattle.mir_func.specs.declared.item.Item.{Item}
@@ -20,22 +27,30 @@ use Rattle.first_form.specs.declared.line.Statement.{Statement}
 use Rattle.first_form.specs.declared.line.Statement.TheVariants.{AddImmediate, Add, Value, Reference, Return}
 use Rattle.first_form.specs.FirstForm.{is_allowed, is_target, is_source, is_result, is_immediate, is_small_or_none, is_return, ends_in_return, kind_of, items_from, loc_of}
 use Rattle.code_layout.specs.MachineStep.{return_word}
-use Rattle.code_layout.specs.Straight.{IsStraight, IsStraightImage, returns, goes_on, marks}
+use Rattle.code_layout.specs.Straight.{IsStraight, IsStraightImage, IsWordOf, returns, goes_on, marks}
 use Rattle.code_layout.specs.Straight as straight
-use Rattle.mirdwarf_tool.specs.Code.{code_bytes, code_of, operation_of, return_operation}
-use Rattle.mirdwarf_tool.specs.Promise.{image_of}
+use Rattle.mirdwarf_tool.specs.Code.{code_bytes, code_of, operation_of, word_bytes}
+use Rattle.mirdwarf_tool.specs.Listing.{block_image}
 use Rattle.mirdwarf_tool.proofs.FirstLemmas.{both_left, both_right, source_below, plain_kind}
 
+abbrev word_in : Option MachineOp → List ℕ
+word_in None = []
+word_in (Some m) = word_of m ∷ []
+
 abbrev words_in : ItemKind → List ℕ
-words_in (Code i k) = word_of (operation_of i) ∷ []
+words_in (Code i k) = word_in (operation_of i)
 words_in _ = []
 
 abbrev words_of : List Item → List ℕ
 words_of [] = []
 words_of (i ∷ items) = words_in i.kind ++ words_of items
 
+bytes_of_word : (o : Option MachineOp) (bytes words : List ℕ) → bytes ≡ flat_map (to_le_bytes w32) words → word_bytes o ++ bytes ≡ flat_map (to_le_bytes w32) (word_in o ++ words)
+bytes_of_word None bytes words e = e
+bytes_of_word (Some m) bytes words e = ap (λ (b : List ℕ). to_le_bytes w32 (word_of m) ++ b) e
+
 bytes_more : (k : ItemKind) (bytes words : List ℕ) → bytes ≡ flat_map (to_le_bytes w32) words → code_bytes k ++ bytes ≡ flat_map (to_le_bytes w32) (words_in k ++ words)
-bytes_more (Code i n) bytes words e = ap (λ (b : List ℕ). to_le_bytes w32 (word_of (operation_of i)) ++ b) e
+bytes_more (Code i n) bytes words e = bytes_of_word (operation_of i) bytes words e
 bytes_more (Mark v m) bytes words e = e
 bytes_more (Phi p n) bytes words e = e
 
@@ -43,7 +58,7 @@ code_by_words : (items : List Item) → code_of items ≡ flat_map (to_le_bytes 
 code_by_words [] = refl
 code_by_words (i ∷ items) = bytes_more i.kind (code_of items) (words_of items) (code_by_words items)
 
-return_spelled : word_of return_operation ≡ return_word
+return_spelled : word_of (machine_op Jalr 0 1 0 (pos 0)) ≡ return_word
 unfolding word_of
 return_spelled = refl
 
@@ -51,6 +66,28 @@ immediate_plain : (to from n : ℕ) → from < 32 → straight.IsPlainRow (immed
 immediate_plain to zero n below = tt
 immediate_plain to (suc r) zero below = below
 immediate_plain to (suc r) (suc n) below = (below, tt)
+
+-- a plain row is itself in memory, wherever it stands
+plain_placed : (target : ℕ) (row : Row) → straight.IsPlainRow row → placed target row ≡ Does row
+plain_placed target (Fixes rd n) plain = refl
+plain_placed target (Moves rd rs) plain = refl
+plain_placed target (Sets rd op a b) plain = refl
+plain_placed target row plain = absurd plain
+
+word_does : (i : Instruction) (m : MachineOp) → operation_of i ≡ Some m → straight.IsPlainRow (row_of i) → IsWordOf (row_of i) (word_of m)
+word_does i m e plain =
+    let acts = subst (λ (o : Option MachineOp). IfSome o (ActsAs (pos 0) i)) e (lowered_acts (pos 0) i) in
+    record {
+      operation = m;
+      fits = subst (λ (o : Option MachineOp). IfSome o (λ n. IsTrue (is_encodable n))) e (lowered_fits (pos 0) i);
+      spelled = refl;
+      does = λ address. acts address ∙ plain_placed (at_offset address (pos 0)) (row_of i) plain;
+    }
+
+on_word : (n : ℕ) (i : Item) {c : Instruction} {k : Option ℕ} (o : Option MachineOp) (items : List Item) (words : List ℕ) → i.kind ≡ Code c k → i.origin ≡ Kept (record { block = 0; item = n })
+    → operation_of c ≡ o → IsSome o → straight.IsPlainRow (row_of c) → IsStraight 0 (suc n) items words → IsStraight 0 n (i ∷ items) (word_in o ++ words)
+on_word n i None items words kind own e some plain rest = cc
+on_word n i {c = c} (Some m) items words kind own e some plain rest = goes_on (word_of m) kind own plain (word_does c m e plain) rest
 
 -- an item of block 0 at its own index
 abbrev own : (n : ℕ) → Statement → Loc → Item
@@ -80,14 +117,14 @@ straight_next n (AddImmediate to from i k) loc items words h r rest =
     let registers = both_left (is_target to && is_source from) (is_immediate i) front in
     let from_below = source_below from (both_right (is_target to) (is_source from) registers) in
     let plain = plain_kind (AddImmediate to from i k) h in
-    goes_on _ refl refl (immediate_plain to from (word i) from_below) (record { operation = _; fits = plain.0; spelled = refl; does = λ a. refl }) rest
+    on_word n (own n (AddImmediate to from i k) loc) (in_range (machine_op word_op.Addi to from 0 i)) items words refl refl refl plain.0 (immediate_plain to from (word i) from_below) rest
 straight_next n (Add to left right k) loc items words h r rest =
     let front = both_left (is_target to && is_source left && is_source right) (is_small_or_none k) h in
     let two = both_left (is_target to && is_source left) (is_source right) front in
     let left_below = source_below left (both_right (is_target to) (is_source left) two) in
     let right_below = source_below right (both_right (is_target to && is_source left) (is_source right) front) in
     let plain = plain_kind (Add to left right k) h in
-    goes_on _ refl refl (left_below, right_below) (record { operation = _; fits = plain.0; spelled = refl; does = λ a. refl }) rest
+    on_word n (own n (Add to left right k) loc) (in_range (machine_op word_op.Add to left right (pos 0))) items words refl refl refl plain.0 (left_below, right_below) rest
 straight_next n (Value x v) loc items words h r rest = marks refl rest
 straight_next n (Reference v k o) loc items words h r rest = marks refl rest
 straight_next n (Return x) loc items words h r rest = absurd cc
@@ -101,7 +138,7 @@ straight_items n (l ∷ m ∷ ls) h ends =
     (straight_items (suc n) (m ∷ ls) (both_right (is_allowed l.statement) (list_all (λ l. is_allowed l.statement) (m ∷ ls)) h) (both_right (not (is_return l.statement)) (ends_in_return (m ∷ ls)) ends))
 
 pub straight_image : (lines : List Line) (block : Block) → block.id ≡ 0 → block.items ≡ items_from 0 lines → list_all (λ l. is_allowed l.statement) lines ≡ true → ends_in_return lines ≡ true
-    → IsStraightImage block (image_of block)
+    → IsStraightImage block (block_image block)
 straight_image lines block id items h ends = record {
   words = words_of block.items;
   straight = subst (λ (b : ℕ). IsStraight b 0 block.items (words_of block.items)) (sym id) (subst (λ (xs : List Item). IsStraight 0 0 xs (words_of xs)) (sym items) (straight_items 0 lines h ends));

@@ -1,17 +1,25 @@
 -- A text in the first form stands for a function of one block of plain items, with at most two variables.
-use Rattle.std.specs.Prelude.{Some, None, true, false, ◌&&◌, nat_eq}
+use Rattle.std.specs.Prelude.{Some, None, true, false, ◌&&◌, nat_eq, All}
 use Rattle.std.specs.List.{list_all}
-use Rattle.std.proofs.Common.{◌≡◌, ℕ, suc, ◌≤◌, List, [], ◌∷◌, length, arith, sym, refl, subst, inl, inr}
+use Rattle.std.proofs.Common.{◌≡◌, ℕ, suc, ◌<◌, ◌≤◌, List, [], ◌∷◌, length, arith, sym, refl, subst, inl, inr}
 use Rattle.std.proofs.lemmas.Bool.Decides.{eqb_tells}
+use Rattle.std.proofs.lemmas.List.Elements.{All-cons, All-nil}
 use Rattle.mir_func.specs.declared.variable.VarId.{VarId}
 use Rattle.first_form.specs.declared.line.Line.{Line}
 use Rattle.first_form.specs.declared.line.Statement.{Statement}
 use Rattle.first_form.specs.declared.line.Statement.TheVariants.{AddImmediate, Add, Value, Reference, Return}
+use Rattle.mir_func.specs.declared.block.Block.{Block}
 use Rattle.mir_func.specs.Function.{Function}
+use Rattle.mir_printer.specs.Printable.{IsNumber}
 use Rattle.first_form.specs.FirstForm.{AreFirst, Stands, function_of, is_allowed, is_source, is_small, is_variable, variable_of, kind_of, items_from}
 use Rattle.mirdwarf_tool.specs.Compiled.{IsFirst}
+use Rattle.mirdwarf_tool.specs.Code.{code_of}
+use Rattle.mirdwarf_tool.specs.Output.{ListedVariable, ListedBlock}
+use Rattle.mirdwarf_tool.specs.Shown.{IsPrintableLine, IsPrintableVariable, IsPrintableEntry, IsPrintableBlock, IsPrintableFunction, not_inlined}
+use Rattle.mirdwarf_tool.specs.Listing.{variable_name, listed_variables, listed_items, listing_of}
 use Rattle.mirdwarf_tool.specs.Variables.{with_variable, with_mark, variables_of}
 use Rattle.mirdwarf_tool.proofs.FirstLemmas.{both_left, both_right, plain_items, length-items_from}
+use Rattle.mirdwarf_tool.proofs.PrintableLemmas.{lines_printable, code_few}
 use Rattle.mirdwarf_tool.proofs.StraightLemmas.{straight_image}
 
 -- the variables so far: none, one of the two, or both in either order
@@ -74,11 +82,43 @@ known_two _ six_four = omega arith
 two_variables : (lines : List Line) → list_all (λ l. is_allowed l.statement) lines ≡ true → length (variables_of [] (items_from 0 lines)) ≤ 2
 two_variables lines h = known_two (variables_of [] (items_from 0 lines)) (known_all [] 0 lines no_one h)
 
+-- a listed variable of the two
+listed_printable : (k n : ℕ) (vs : List ListedVariable) → k < 2 → n < 7 → All IsPrintableVariable vs → All IsPrintableVariable (record { list = k; variable = variable_of n; name = variable_name n } ∷ vs)
+listed_printable k n vs few small all =
+    All-cons IsPrintableVariable (record { list = k; variable = variable_of n; name = variable_name n }) vs (record { list = omega arith; node = omega arith; inlined_at = tt }) all
+
+known_printable : (known : List VarId) → IsKnown known → All IsPrintableVariable (listed_variables 0 known)
+known_printable _ no_one = All-nil IsPrintableVariable
+known_printable _ four = listed_printable 0 4 [] (omega arith) (omega arith) (All-nil IsPrintableVariable)
+known_printable _ six = listed_printable 0 6 [] (omega arith) (omega arith) (All-nil IsPrintableVariable)
+known_printable _ four_six = listed_printable 0 4 (record { list = 1; variable = variable_of 6; name = variable_name 6 } ∷ []) (omega arith) (omega arith) (listed_printable 1 6 [] (omega arith) (omega arith) (All-nil IsPrintableVariable))
+known_printable _ six_four = listed_printable 0 6 (record { list = 1; variable = variable_of 4; name = variable_name 4 } ∷ []) (omega arith) (omega arith) (listed_printable 1 4 [] (omega arith) (omega arith) (All-nil IsPrintableVariable))
+
+abbrev block_of : List Line → Block
+block_of lines = record { id = 0; items = items_from 0 lines; silent = length lines }
+
+size_small : (lines : List Line) → AreFirst lines → IsNumber (length (code_of (items_from 0 lines)))
+size_small lines first = omega (arith, code_few (items_from 0 lines), length-items_from 0 lines, first.items)
+
+listing_printable : (lines : List Line) → AreFirst lines → IsPrintableFunction not_inlined (listing_of (function_of lines).name (length (code_of (items_from 0 lines))) (variables_of [] (items_from 0 lines)) (block_of lines))
+listing_printable lines first =
+    let block : ListedBlock = record { id = 0; lines = listed_items 0 (items_from 0 lines) } in
+    record {
+      low = omega arith;
+      high = size_small lines first;
+      variables = known_printable (variables_of [] (items_from 0 lines)) (known_all [] 0 lines no_one first.allowed);
+      substitutions = All-nil IsPrintableEntry;
+      prologue = All-nil (IsPrintableLine not_inlined);
+      blocks = All-cons (IsPrintableBlock not_inlined) block [] (record { id = omega arith; lines = lines_printable 0 0 lines (omega (arith, first.items)) (omega arith) first.allowed }) (All-nil (IsPrintableBlock not_inlined));
+    }
+
 first_of_lines : (lines : List Line) → AreFirst lines → IsFirst (function_of lines)
 first_of_lines lines first = record {
   block = record { id = 0; items = items_from 0 lines; silent = length lines };
   one = refl;
   plain = plain_items 0 lines first.allowed;
+  silent = sym (length-items_from 0 lines);
+  printable = listing_printable lines first;
   straight = straight_image lines (record { id = 0; items = items_from 0 lines; silent = length lines }) refl refl first.allowed first.ends;
   few = omega (arith, length-items_from 0 lines, first.items);
   two = two_variables lines first.allowed;

@@ -6,7 +6,7 @@ use Rattle.rv64_instr.specs.declared.place.Place.{Place}
 use Rattle.mir_func.specs.declared.variable.VarId.{VarId}
 use Rattle.mir_func.specs.declared.item.Item.{Item}
 use Rattle.mir_func.specs.meaning.Token.{Tokens, entry_tokens, after_item}
-use Rattle.mirdwarf_tool.specs.Code.{is_code}
+use Rattle.mir_func.specs.meaning.Align.{is_code}
 use Rattle.mirdwarf_tool.specs.Walk.{unchanged, FirstPlaces, Notes, NotesBy, at_code, at_mark, finished}
 
 -- the walk so far is a walk of all items, whatever the places of the rest
@@ -16,7 +16,7 @@ WalksOn v i t items before = (rest : List (Option Place)) → FirstPlaces v i t 
 next_item : (items : List Item) (i : ℕ) (item : Item) → i < length items → item ≡ get_or items i item → drop i items ≡ item ∷ drop (suc i) items
 next_item items i item inside is = drop-cons items i item inside ∙ ap (λ (x : Item). x ∷ drop (suc i) items) (sym is)
 
-walk_by : (b : Bool) (v : VarId) (i : ℕ) (t : Tokens) (item : Item) (items : List Item) (before after : List (Option Place)) → is_code item ≡ b → NotesBy b v t before after
+walk_by : (b : Bool) (v : VarId) (i : ℕ) (t : Tokens) (item : Item) (items : List Item) (before after : List (Option Place)) → is_code item.kind ≡ b → NotesBy b v t before after
     → drop i items ≡ item ∷ drop (suc i) items → WalksOn v i t items before
     → (rest : List (Option Place)) → FirstPlaces v (suc i) (after_item unchanged i item.kind t) (drop (suc i) items) rest → FirstPlaces v 0 entry_tokens items (after ++ rest)
 walk_by true v i t item items before after code notes next walks rest walk =
@@ -32,7 +32,7 @@ pub walk_more : (v : VarId) (i : ℕ) (t : Tokens) (item : Item) (items : List I
 walk_more v i t item items before after inside is notes walks =
     let next = next_item items i item inside is in
     subst (λ (k : ℕ). WalksOn v k (after_item unchanged i item.kind t) items after) (sym (add-one i))
-    (walk_by (is_code item) v i t item items before after refl notes next walks)
+    (walk_by (is_code item.kind) v i t item items before after refl notes next walks)
 
 pub walk_ends : (v : VarId) (i : ℕ) (t : Tokens) (items : List Item) (places : List (Option Place)) → length items ≤ i → WalksOn v i t items places → FirstPlaces v 0 entry_tokens items places
 walk_ends v i t items places end walks =

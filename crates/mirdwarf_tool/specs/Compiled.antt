@@ -6,32 +6,37 @@ use Rattle.dwarf_loclists.specs.declared.range.Range.{Range}
 use Rattle.dwarf_loclists.specs.Spelling as loclists
 use Rattle.dwarf_loclists.specs.Reading.{IsSection}
 use Rattle.code_layout.specs.Straight.{IsStraightImage}
-use Rattle.mirdwarf_tool.specs.Code.{IsPlain}
+use Rattle.mirdwarf_tool.specs.Code.{code_of, IsPlain}
 use Rattle.mirdwarf_tool.specs.Variables.{variables_of}
-use Rattle.mirdwarf_tool.specs.Output.{compiled_text}
+use Rattle.mirdwarf_tool.specs.Listing.{listing_of, compiled_text, block_image}
+use Rattle.mirdwarf_tool.specs.Shown.{IsPrintableFunction, OfShown, not_inlined}
 use Rattle.mirdwarf_tool.specs.Lists.{AreLists}
-use Rattle.mirdwarf_tool.specs.Promise.{image_of, Promises, IsExact}
+use Rattle.mirdwarf_tool.specs.Promise.{Promises, IsExact, ListsSources}
 
--- a function of one block of at most 8,192 plain items, which run straight to a return, with at most two variables
+-- a function of one block of at most 8,192 plain items, which run straight to a return, with at most two variables, whose listing
+-- tells it
 pub record IsFirst (f : Function) : Type 0 where
   pub block : Block
   pub one : f.blocks ≡ block ∷ []
   pub plain : All IsPlain block.items
-  pub straight : IsStraightImage block (image_of block)
+  pub silent : block.silent ≡ length block.items
+  pub printable : IsPrintableFunction not_inlined (listing_of f.name (length (code_of block.items)) (variables_of [] block.items) block)
+  pub straight : IsStraightImage block (block_image block)
   pub few : length block.items ≤ 8192
   pub two : length (variables_of [] block.items) ≤ 2
 
--- the text is that of a block, of a function of this name, and of its lists, keeps its promise, and is exact
+-- the text is that of a block, of a function of this name, and of its lists
 pub record CompilesBlock (name : List ℕ) (block : Block) (text : List ℕ) : Type 0 where
   pub lists : List (List Range)
   pub located : AreLists block.items lists
   pub section : IsSection (loclists.spelling lists) lists
   pub written : text ≡ compiled_text name block lists
-  pub promise : Promises block (loclists.spelling lists)
-  pub exact : IsExact block (loclists.spelling lists)
 
--- the text is that of the function's one block
+-- the text is that of the function's one block, and the output that it shows keeps its promise, lists the function and is exact
 pub record Compiles (f : Function) (text : List ℕ) : Type 0 where
   pub block : Block
   pub one : f.blocks ≡ block ∷ []
   pub compiled : CompilesBlock f.name block text
+  pub promise : OfShown (Promises (f ∷ [])) text
+  pub listed : OfShown (ListsSources (f ∷ [])) text
+  pub exact : OfShown IsExact text

@@ -5,6 +5,8 @@ pub mod Hex
 pub mod Code
 pub mod Variables
 pub mod Output
+pub mod Shown
+pub mod Listing
 pub mod Ranges
 pub mod Walk
 pub mod Lists

@@ -1,40 +1,92 @@
--- What the written text promises of a run of its code.
-use Rattle.std.specs.Prelude.{◌≡◌, ℕ, List, [], ◌∷◌, Some, false, slice_get, ◌↔◌}
+-- What an output promises of a run of its code.
+use Rattle.std.specs.Prelude.{◌≡◌, ℕ, List, [], ◌∷◌, length, Option, Some, slice_get, map, All}
+use Rattle.std.specs.List.{flat_map}
 use Rattle.rv64_instr.specs.declared.place.Place.{Place}
+use Rattle.mir_func.specs.declared.position.Pos.{Pos}
+use Rattle.mir_func.specs.declared.position.Origin.{Origin}
 use Rattle.mir_func.specs.declared.variable.VarId.{VarId}
+use Rattle.mir_func.specs.declared.item.ItemKind.{ItemKind}
+use Rattle.mir_func.specs.declared.item.ItemKind.TheVariants.{Code}
 use Rattle.mir_func.specs.declared.block.Block.{Block}
-use Rattle.mir_func.specs.meaning.Align.{position_of}
-use Rattle.mir_func.specs.meaning.Step.{block_start}
-use Rattle.mir_func.specs.meaning.Graph.{program_of}
-use Rattle.mir_func.specs.meaning.Token.{IsWanted, NoneIsWanted}
+use Rattle.mir_func.specs.Function.{Function}
+use Rattle.mir_func.specs.meaning.Step.{Program, block_start}
+use Rattle.mir_func.specs.meaning.Graph.{framed_program}
+use Rattle.mir_func.specs.meaning.Resolve.{resolve}
 use Rattle.dwarf_loclists.specs.Reading.{PlaceAt}
 use Rattle.code_layout.specs.Image.{CodeLine, Image}
-use Rattle.code_layout.specs.Straight.{lines_of}
 use Rattle.code_layout.specs.Headline.{Headline}
-use Rattle.mirdwarf_tool.specs.Code.{code_of}
-use Rattle.mirdwarf_tool.specs.Variables.{variables_of}
+use Rattle.code_layout.specs.Exact.{AreExact}
+use Rattle.mirdwarf_tool.specs.Output.{ItemLine, ListedVariable, ListedBlock, ListedFunction, Output}
 use Rattle.mirdwarf_tool.specs.Walk.{unchanged}
 
--- the image that the text shows of a block: its machine code from address 0 on, and the lines of its code items, each with
+-- a line with an address and an instruction, as the machine's image has it
+abbrev pub code_line : Option ℕ → Origin → ItemKind → List CodeLine
+code_line (Some address) origin (Code c k) = record { address = address; origin = origin; instruction = c } ∷ []
+code_line _ origin kind = []
+
+-- the number of the first block
+abbrev pub first_id : List ListedBlock → ℕ
+first_id [] = 0
+first_id (b ∷ bs) = b.id
+
+-- the blocks of a function with what stands before the first as prologue, which has the first block's number
+abbrev pub blocks_of : ListedFunction → List ListedBlock
+blocks_of f = record { id = first_id f.blocks; lines = f.prologue } ∷ f.blocks
+
+-- the image of a function of an output: the bytes of `.text`, the function's first address, and its lines with code, each with
 -- its address, its origin and its instruction
-abbrev pub image_of : Block → Image
-image_of block = record { text = code_of block.items; low = 0; lines = lines_of 0 block.items }
+abbrev pub image_of : Output → ListedFunction → Image
+image_of o f = record { text = o.text; low = f.low; lines = flat_map (λ l. code_line l.address l.item.origin l.item.kind) (flat_map (λ b. b.lines) (blocks_of f)) }
 
--- the bytes of a section give a variable a place at an address: the list of the variable's number says it there
-pub record Gives (section : List ℕ) (variables : List VarId) (v : VarId) (address : ℕ) (place : Place) : Type 0 where
+-- the bytes of the section of lists give a variable of a function a place at an address: the list that a line of the variable
+-- names says it there
+pub record Gives (o : Output) (f : ListedFunction) (v : VarId) (address : ℕ) (place : Place) : Type 0 where
   pub number : ℕ
-  pub named : slice_get variables number ≡ Some v
-  pub given : PlaceAt section number address (Some place)
+  pub line : ListedVariable
+  pub stands : slice_get f.variables number ≡ Some line
+  pub named : line.variable ≡ v
+  pub given : PlaceAt o.loclists line.list address (Some place)
 
--- from every start, for every script and number of steps, the machine on the block's code stands where its lines say the
--- source stands, with the source's events and result, and what the section gives holds the newest assignment
-abbrev pub Promises : Block → (section : List ℕ) → Type 0
-Promises block section = Headline (block ∷ []) unchanged (image_of block) (Gives section (variables_of [] block.items))
+-- as many functions are listed as there are sources, and what is said holds of each source and what is listed at its place
+pub record OfEach (P : Function → ListedFunction → Type 0) (sources : List Function) (listed : List ListedFunction) : Type 0 where
+  pub as_many : length listed ≡ length sources
+  pub each : (n : ℕ) (source : Function) (f : ListedFunction) → slice_get sources n ≡ Some source → slice_get listed n ≡ Some f → P source f
 
--- the section of a block is exact: at each line it gives a variable of its lists the place that is wanted at the line's
--- origin, by the tokens of all paths there, and none exactly where none is wanted
-pub record IsExact (block : Block) (section : List ℕ) : Type 0 where
-  pub wanted : (k : ℕ) (v : VarId) → slice_get (variables_of [] block.items) k ≡ Some v → (n : ℕ) (l : CodeLine) → slice_get (image_of block).lines n ≡ Some l → (place : Place) →
-      Gives section (variables_of [] block.items) v l.address place ↔ IsWanted (program_of false (block ∷ []) unchanged) (block_start block.id) v (position_of l.origin) place
-  pub none : (k : ℕ) (v : VarId) → slice_get (variables_of [] block.items) k ≡ Some v → (n : ℕ) (l : CodeLine) → slice_get (image_of block).lines n ≡ Some l →
-      ((place : Place) → Gives section (variables_of [] block.items) v l.address place → ⊥) ↔ NoneIsWanted (program_of false (block ∷ []) unchanged) (block_start block.id) v (position_of l.origin)
+-- the headline of a source and what is listed of it: from every start, for every script and number of steps, the machine on the
+-- function's code stands where its lines say the source stands, with the source's events and result, and what the section gives
+-- holds the newest assignment
+abbrev pub MeetsHeadline : Output → List Block → ListedFunction → Type 0
+MeetsHeadline o source f = Headline source unchanged (image_of o f) (Gives o f)
+
+-- the items that the lines of a block show
+abbrev pub block_shown : ListedBlock → Block
+block_shown b = record { id = b.id; items = map (λ l. l.item) b.lines; silent = length b.lines }
+
+-- the function that the lines show, with its prologue
+abbrev pub program_shown : ListedFunction → Program
+program_shown f = framed_program (map block_shown (blocks_of f)) (resolve f.substitutions)
+
+-- a line with this address stands at this place of its function: in this block, 0 for the prologue, and at this index
+pub record IsListedAt (f : ListedFunction) (address : ℕ) (p : Pos) : Type 0 where
+  pub block : ListedBlock
+  pub line : ItemLine
+  pub stands : slice_get (blocks_of f) p.block ≡ Some block
+  pub within : slice_get block.lines p.item ≡ Some line
+  pub here : line.address ≡ Some address
+
+-- at the address of each line the section gives a variable the place that is wanted at the line, by the tokens of all paths of
+-- the function that the lines show, and none exactly where none is wanted
+abbrev pub IsExactFor : Output → ListedFunction → Type 0
+IsExactFor o f = AreExact (program_shown f) (block_start 0) (IsListedAt f) (Gives o f)
+
+-- the headline holds of each source and what is listed of it
+abbrev pub Promises : List Function → Output → Type 0
+Promises sources o = OfEach (λ source f. MeetsHeadline o source.blocks f) sources o.functions
+
+-- the lists are exact for each function
+abbrev pub IsExact : Output → Type 0
+IsExact o = All (IsExactFor o) o.functions
+
+-- the blocks that are listed are those of the sources: nothing is changed on the way
+abbrev pub ListsSources : List Function → Output → Type 0
+ListsSources sources o = OfEach (λ source f. map block_shown f.blocks ≡ source.blocks) sources o.functions

@@ -2,21 +2,14 @@
 use Rattle.std.specs.Prelude.{◌≡◌, ℕ, ◌+◌, ◌≤◌, List, [], ◌∷◌, length, Option, Some, ◌⊎◌}
 use Rattle.io_edge.specs.Faults.{CountRose}
 use Rattle.io_edge.specs.Told.{Takes, TakesCount, IsAtEnd, Appends, AppendsPrefix}
-use Rattle.mir_func.specs.declared.block.Block.{Block}
 use Rattle.mir_func.specs.Function.{Function}
 use Rattle.first_form.specs.FirstForm.{Stands}
-use Rattle.dwarf_loclists.specs.declared.range.Range.{Range}
-use Rattle.dwarf_loclists.specs.Spelling as loclists
-use Rattle.dwarf_loclists.specs.Reading.{IsSection}
-use Rattle.code_layout.specs.Headline.{Headline}
 use Rattle.mirdwarf_tool.specs.declared.driver.TheConstants.{LIMIT}
 use Rattle.mirdwarf_tool.specs.declared.fault.Fault.{Fault}
 use Rattle.mirdwarf_tool.specs.declared.fault.Fault.TheVariants.{Usage, Read, TooLong, NotBuilt, Write, Memory}
 use Rattle.mirdwarf_tool.specs.Command.{IsCommand}
-use Rattle.mirdwarf_tool.specs.Variables.{variables_of}
-use Rattle.mirdwarf_tool.specs.Walk.{unchanged}
-use Rattle.mirdwarf_tool.specs.Output.{compiled_text}
-use Rattle.mirdwarf_tool.specs.Promise.{image_of, Gives, IsExact}
+use Rattle.mirdwarf_tool.specs.Shown.{OfShown}
+use Rattle.mirdwarf_tool.specs.Promise.{Promises, IsExact, ListsSources}
 use Rattle.mirdwarf_tool.specs.Compiled.{Compiles}
 
 -- the input was read to its end, and these were its bytes
@@ -49,29 +42,28 @@ pub record Finishes (before after written written_after : Option (List ℕ)) : T
   pub accepted : Accepts before after output
   pub whole : Appends written written_after output
 
--- what was written is the text of a block, that of the function that was read, and of lists of its variables
+-- a text was read that stands for a function, and bytes were written
 pub record HasWritten (before after written written_after : Option (List ℕ)) : Type 0 where
   pub text : List ℕ
   pub read : HasRead before after text
   pub function : Function
   pub stands : Stands text function
-  pub block : Block
-  pub one : function.blocks ≡ block ∷ []
-  pub lists : List (List Range)
-  pub section : IsSection (loclists.spelling lists) lists
-  pub whole : Appends written written_after (compiled_text function.name block lists)
+  pub bytes : List ℕ
+  pub whole : Appends written written_after bytes
 
--- the headline holds of what was written: from every start, for every script and number of steps, the machine on the written
--- code stands where the written lines say the source stands, with the source's events and result, and each place that the
--- written section gives for a variable holds its newest assignment
+-- the headline holds of what was read and what was written, for each function: from every start, for every script and number of
+-- steps, the machine on the code that the bytes show stands where their lines say the source stands, with the source's events
+-- and result, and each place that their section gives for a variable holds its newest assignment
 pub record KeepsHeadline (before after written written_after : Option (List ℕ)) : Type 0 where
   pub wrote : HasWritten before after written written_after
-  pub headline : Headline (wrote.block ∷ []) unchanged (image_of wrote.block) (Gives (loclists.spelling wrote.lists) (variables_of [] wrote.block.items))
+  pub headline : OfShown (Promises (wrote.function ∷ [])) wrote.bytes
 
--- the written section gives each variable of a list the place that is wanted, and none exactly where none is
+-- the bytes show the functions that were read, and their section gives each variable the place that is wanted at the address of
+-- each line that they show, and none exactly where none is wanted
 pub record WroteExactly (before after written written_after : Option (List ℕ)) : Type 0 where
   pub wrote : HasWritten before after written written_after
-  pub exact : IsExact wrote.block (loclists.spelling wrote.lists)
+  pub listed : OfShown (ListsSources (wrote.function ∷ [])) wrote.bytes
+  pub exact : OfShown IsExact wrote.bytes
 
 -- a prefix of it was written
 pub record IsCutOff (before after written written_after : Option (List ℕ)) : Type 0 where

@@ -3,18 +3,13 @@ use Rattle.std.specs.Prelude.{◌≡◌, ℕ, suc, Bool, true, false, List, [], 
 use Rattle.rv64_instr.specs.declared.place.Place.{Place}
 use Rattle.mir_func.specs.declared.variable.VarId.{VarId}
 use Rattle.mir_func.specs.declared.item.Item.{Item}
-use Rattle.mir_func.specs.meaning.Token.{Token, Tokens, after_item, variable_token, place_token, IsPlace, Precedes}
-use Rattle.mirdwarf_tool.specs.Code.{is_code}
+use Rattle.mir_func.specs.meaning.Token.{Tokens, after_item, IsPlace, Precedes}
+use Rattle.mir_func.specs.meaning.Align.{is_code}
+use Rattle.code_layout.specs.Straight.{Holds}
 
 -- no number is substituted
 abbrev pub unchanged : ℕ → ℕ → Option (ℕ × ℕ)
 unchanged k o = Some (k, o)
-
--- the place holds the variable's value: both have a token, the same one
-pub record Holds (v : VarId) (t : Tokens) (place : Place) : Type 0 where
-  pub token : Token
-  pub variable : variable_token v t ≡ Some token
-  pub held : place_token (Some place) t ≡ Some token
 
 -- the first place that holds it, or none where no place does
 abbrev pub IsFirstPlace : VarId → Tokens → Option Place → Type 0
@@ -24,9 +19,9 @@ IsFirstPlace v t (Some place) = IsPlace place × Holds v t place × ((other : Pl
 -- the first places before the instructions among the items, where the first item has this index and these tokens before it
 pub data FirstPlaces (v : VarId) : ℕ → Tokens → List Item → List (Option Place) → Type 0 where
   finished : {n : ℕ} {t : Tokens} → FirstPlaces v n t [] []
-  at_code : {n : ℕ} {t : Tokens} {i : Item} {items : List Item} {p : Option Place} {places : List (Option Place)} → is_code i ≡ true → IsFirstPlace v t p
+  at_code : {n : ℕ} {t : Tokens} {i : Item} {items : List Item} {p : Option Place} {places : List (Option Place)} → is_code i.kind ≡ true → IsFirstPlace v t p
       → FirstPlaces v (suc n) (after_item unchanged n i.kind t) items places → FirstPlaces v n t (i ∷ items) (p ∷ places)
-  at_mark : {n : ℕ} {t : Tokens} {i : Item} {items : List Item} {places : List (Option Place)} → is_code i ≡ false
+  at_mark : {n : ℕ} {t : Tokens} {i : Item} {items : List Item} {places : List (Option Place)} → is_code i.kind ≡ false
       → FirstPlaces v (suc n) (after_item unchanged n i.kind t) items places → FirstPlaces v n t (i ∷ items) places
 
 -- what is noted of an item: the variable's first place before an instruction, and nothing of any other item
@@ -35,4 +30,4 @@ NotesBy true v t before after = (p : Option Place) × IsFirstPlace v t p × (aft
 NotesBy false v t before after = after ≡ before
 
 abbrev pub Notes : VarId → Tokens → Item → List (Option Place) → List (Option Place) → Type 0
-Notes v t i before after = NotesBy (is_code i) v t before after
+Notes v t i before after = NotesBy (is_code i.kind) v t before after

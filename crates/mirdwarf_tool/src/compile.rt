@@ -2,12 +2,12 @@ ghost use Rattle.std.specs.Prelude.{◌≡◌, ◌++◌, ◌^◌, ◌<◌, ◌�
 ghost use Rattle.mirdwarf_tool.specs.Code.{IsPlain};
 ghost use Rattle.mirdwarf_tool.specs.Compiled.{IsFirst, Compiles, CompilesBlock};
 ghost use Rattle.mirdwarf_tool.specs.Variables.{variables_of};
-ghost use Rattle.mirdwarf_tool.specs.Output.{section_text, listing_text};
+ghost use Rattle.mirdwarf_tool.specs.Output as output;
+ghost use Rattle.mirdwarf_tool.specs.Listing.{output_with, block_image};
 ghost use Rattle.dwarf_loclists.specs.Ranges.{Ascend, ArePlaces};
 ghost use Rattle.dwarf_loclists.specs.Spelling.{spelling};
 ghost use Rattle.dwarf_loclists.specs.Reading.{IsSection};
 ghost use Rattle.code_layout.specs.Straight.{IsStraightImage};
-ghost use Rattle.mirdwarf_tool.specs.Promise.{image_of};
 
 use crate::code::machine_code;
 use crate::listing::push_listing;
@@ -36,7 +36,7 @@ pub fn compile(alloc: Global, f: &Func) -> Result<Text, AllocError>
 /// The text of a function of one block.
 fn compile_block(alloc: Global, name: &[u8], block: &Block) -> Result<Text, AllocError>
     requires plain { All IsPlain block.now.items }
-    requires straight { IsStraightImage block.now (image_of block.now) }
+    requires straight { IsStraightImage block.now (block_image block.now) }
     requires few { length block.now.items ≤ 8192 }
     requires two { length (variables_of [] block.now.items) ≤ 2 }
     ensures { IfOk result (CompilesBlock name.now block.now) }
@@ -69,7 +69,7 @@ fn print(
     requires code { length code.now < 2 ^ 32 }
     requires items { length block.now.items < 2 ^ 16 }
     requires variables { length variables.now < 2 ^ 16 }
-    ensures { IfOk result (λ text. text ≡ section_text (codes ".text") code.now ++ section_text (codes ".debug_loclists") loclists.now ++ listing_text name.now (length code.now) variables.now block.now) }
+    ensures { IfOk result (λ text. text ≡ output.spelling (output_with name.now code.now loclists.now variables.now block.now)) }
 {
     let mut text = Text::new(alloc);
     push_section(&mut text, ".text", code)?;

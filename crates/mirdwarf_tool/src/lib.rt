@@ -8,15 +8,16 @@
 //! nothing stands on the output before every byte of it is there.
 #![tactic(auto)]
 
-pub mod code;
-pub mod command;
-pub mod compile;
+mod code;
+mod command;
+mod compile;
 pub mod driver;
 pub mod fault;
 mod hex;
 mod listing;
 mod lists_of;
 mod ranges;
+pub mod reading;
 mod section;
 pub mod status;
 mod token;

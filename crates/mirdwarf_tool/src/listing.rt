@@ -1,7 +1,8 @@
 ghost use Rattle.std.specs.Prelude.{◌≡◌, ◌++◌, ◌+◌, ◌*◌, ◌^◌, ◌<◌, ◌≤◌, length, OnOk};
 ghost use Rattle.std.specs.Fmt.{decimal};
 ghost use Rattle.std.specs.List.{flat_map};
-ghost use Rattle.mirdwarf_tool.specs.Output.{name_text, name_byte, function_line, variable_name, variable_line, variable_lines, inlined_text, origin_text, position_text, start_text, block_line, item_line, item_lines, listing_text};
+ghost use Rattle.mirdwarf_tool.specs.Output.{name_text, name_byte, function_line, function_text, variable_line, inlined_text, origin_text, position_text, start_text, block_line, item_line};
+ghost use Rattle.mirdwarf_tool.specs.Listing.{variable_name, listed_variables, start_of, item_listed, listed_items, listing_of};
 
 use crate::code::is_code;
 use crate::hex::push_address;
@@ -25,7 +26,7 @@ pub fn push_listing(
 ) -> Result<(), AllocError>
     requires items { length block.now.items < 2 ^ 16 }
     requires variables { length variables.now < 2 ^ 16 }
-    ensures { OnOk result (text.new ≡ text.old ++ listing_text name.now size variables.now block.now) }
+    ensures { OnOk result (text.new ≡ text.old ++ function_text (listing_of name.now size variables.now block.now)) }
 {
     push_function(text, name, size)?;
     push_variables(text, variables)?;
@@ -34,7 +35,7 @@ pub fn push_listing(
 }
 
 fn push_function(text: &mut Text, name: &[u8], size: u32) -> Result<(), AllocError>
-    ensures { OnOk result (text.new ≡ text.old ++ function_line name.now size) }
+    ensures { OnOk result (text.new ≡ text.old ++ function_line name.now 0 size) }
 {
     push_str(text, "function ")?;
     push_name(text, name)?;
@@ -67,7 +68,7 @@ fn push_name_byte(text: &mut Text, b: u8) -> Result<(), AllocError>
 
 fn push_variables(text: &mut Text, variables: &[VarId]) -> Result<(), AllocError>
     requires { length variables.now < 2 ^ 16 }
-    ensures { OnOk result (text.new ≡ text.old ++ variable_lines 0 variables.now) }
+    ensures { OnOk result (text.new ≡ text.old ++ flat_map variable_line (listed_variables 0 variables.now)) }
 {
     for (k, variable) in variables.iter().enumerate() {
         push_variable(text, k as u32, variable)?;
@@ -76,7 +77,7 @@ fn push_variables(text: &mut Text, variables: &[VarId]) -> Result<(), AllocError
 }
 
 fn push_variable(text: &mut Text, k: u32, variable: &VarId) -> Result<(), AllocError>
-    ensures { OnOk result (text.new ≡ text.old ++ variable_line k variable.now) }
+    ensures { OnOk result (text.new ≡ text.old ++ variable_line (record { list = k; variable = variable.now; name = variable_name variable.now.node })) }
 {
     push_numbered(text, "variable ", k)?;
     push_numbered(text, " !", variable.node)?;
@@ -111,7 +112,7 @@ fn push_block(text: &mut Text, id: u32) -> Result<(), AllocError>
 
 fn push_items(text: &mut Text, items: &[Item]) -> Result<(), AllocError>
     requires { length items.now < 2 ^ 16 }
-    ensures { OnOk result (text.new ≡ text.old ++ item_lines 0 items.now) }
+    ensures { OnOk result (text.new ≡ text.old ++ flat_map item_line (listed_items 0 items.now)) }
 {
     let mut address = 0;
     for item in items {
@@ -124,7 +125,7 @@ fn push_items(text: &mut Text, items: &[Item]) -> Result<(), AllocError>
 }
 
 fn push_line(text: &mut Text, address: u32, item: &Item) -> Result<(), AllocError>
-    ensures { OnOk result (text.new ≡ text.old ++ item_line address item.now) }
+    ensures { OnOk result (text.new ≡ text.old ++ item_line (item_listed address item.now)) }
 {
     push_start(text, address, is_code(item))?;
     push_origin(text, item.origin)?;
@@ -134,7 +135,7 @@ fn push_line(text: &mut Text, address: u32, item: &Item) -> Result<(), AllocErro
 
 /// Appends the address of code, or `-`.
 fn push_start(text: &mut Text, address: u32, is_code: bool) -> Result<(), AllocError>
-    ensures { OnOk result (text.new ≡ text.old ++ start_text address is_code) }
+    ensures { OnOk result (text.new ≡ text.old ++ start_text (start_of address is_code)) }
 {
     if is_code {
         push_address(text, address)

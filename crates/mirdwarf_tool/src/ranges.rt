@@ -86,8 +86,7 @@ fn pass_range(
     ensures current { IfOk result (λ after. after ≡ opened_at (Some range) address place) }
     ensures closed { OnOk result (ranges.new ≡ ranges.old ++ closed_at (Some range) address place) }
 {
-    let before = range.place;
-    if is_same_place(&before, &place) {
+    if range.place == place {
         Ok(word_range(range.lo, address, place))
     } else {
         ranges.push(range)?;
@@ -104,44 +103,5 @@ fn word_range(lo: u64, address: u64, place: Place) -> Range
         lo,
         hi: address + 4,
         place,
-    }
-}
-
-/// Whether two places are the same.
-fn is_same_place(a: &Place, b: &Place) -> bool
-    ensures { result ≡ is_same_place a.now b.now }
-{
-    match a {
-        Place::Register(r) => is_register(b, r.number()),
-        Place::Slot(n) => is_slot(b, *n),
-        Place::Const(c) => is_constant(b, *c),
-    }
-}
-
-fn is_register(place: &Place, r: u32) -> bool
-    requires { r < 4128 }
-    ensures { result ≡ is_same_place (Place.Register r) place.now }
-{
-    match place {
-        Place::Register(s) => r == s.number(),
-        _ => false,
-    }
-}
-
-fn is_slot(place: &Place, m: u32) -> bool
-    ensures { result ≡ is_same_place (Place.Slot m) place.now }
-{
-    match place {
-        Place::Slot(n) => m == *n,
-        _ => false,
-    }
-}
-
-fn is_constant(place: &Place, c: i64) -> bool
-    ensures { result ≡ is_same_place (Place.Const c) place.now }
-{
-    match place {
-        Place::Const(d) => c == *d,
-        _ => false,
     }
 }

@@ -9,7 +9,6 @@ ghost use Rattle.mirdwarf_tool.specs.Tracking.{token_at, with_token, regs_after,
 ghost use Rattle.mirdwarf_tool.specs.Walk.{unchanged, IsFirstPlace};
 
 use crate::token::Token;
-use crate::variables::is_same;
 use mir_func::item::ItemKind;
 use mir_func::variable::{MarkValue, VarId};
 use rv64_instr::decoded::Decoded;
@@ -119,7 +118,7 @@ impl Tracker {
         ensures tracks { (t : Tokens) → Tracks self.old t → Tracks self.new (after_item unchanged index (Mark variable value.now) t) }
         ensures variable { self.new.variable ≡ self.old.variable }
     {
-        if is_same(self.variable, variable) {
+        if self.variable == variable {
             self.value = self.assigned(value);
         }
     }

@@ -1,6 +1,6 @@
 ghost use Rattle.std.specs.Prelude.{◌≡◌, ◌+◌, ◌≤◌, [], length, IfOk, OnOk};
 ghost use Rattle.std.specs.List.{list_any};
-ghost use Rattle.mir_func.specs.meaning.State.{is_same, is_same_node};
+ghost use Rattle.mir_func.specs.meaning.State.{is_same};
 ghost use Rattle.mirdwarf_tool.specs.Variables.{variables_of, with_mark, with_variable};
 
 use lists::List;
@@ -49,22 +49,5 @@ fn add(variables: &mut VarIds, variable: VarId) -> Result<(), AllocError>
 fn has(variables: &[VarId], variable: VarId) -> bool
     ensures { result ≡ list_any (is_same variable) variables.now }
 {
-    variables.iter().any(|other| is_same(variable, *other))
-}
-
-/// Whether two variables are the same.
-pub fn is_same(a: VarId, b: VarId) -> bool
-    ensures { result ≡ is_same a b }
-{
-    a.node == b.node && is_same_node(a.inlined_at, b.inlined_at)
-}
-
-fn is_same_node(a: Option<u32>, b: Option<u32>) -> bool
-    ensures { result ≡ is_same_node a b }
-{
-    match (a, b) {
-        (None, None) => true,
-        (Some(m), Some(n)) => m == n,
-        _ => false,
-    }
+    variables.iter().any(|other| variable == *other)
 }

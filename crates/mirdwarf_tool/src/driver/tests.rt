@@ -6,8 +6,9 @@ use io_edge::memory_source::MemorySource;
 use std::process::Abort;
 use std::test::Fail;
 
-/// The items of three small functions, and what is written of them.
-const ROWS: [(&str, &str); 3] = [
+/// The items of small functions, and what is written of them: a variable, its place lost, two variables that move, a
+/// constant, a variable without a place, a second register, and no variable.
+const ROWS: [(&str, &str); 7] = [
     (
         "    DBG_VALUE $x10, $noreg, !4, !DIExpression(), debug-location !5
     $x10 = ADDI $x10, 1, debug-instr-number 1, debug-location !5
@@ -45,6 +46,111 @@ block 0
 ",
     ),
     (
+        "    DBG_VALUE $x10, $noreg, !4, !DIExpression()
+    DBG_VALUE $x11, $noreg, !6, !DIExpression()
+    $x12 = ADDI $x10, 0, debug-instr-number 1
+    $x10 = ADD $x10, $x11, debug-instr-number 2
+    DBG_INSTR_REF !4, !DIExpression(DW_OP_LLVM_arg, 0), dbg-instr-ref(1, 0), debug-location !5
+    $x11 = ADDI $x0, 7, debug-instr-number 3
+    DBG_INSTR_REF !6, !DIExpression(DW_OP_LLVM_arg, 0), dbg-instr-ref(3, 0)
+    $x12 = ADDI $x10, 0
+    $x10 = ADD $x10, $x11, debug-instr-number 4
+    DBG_INSTR_REF !4, !DIExpression(DW_OP_LLVM_arg, 0), dbg-instr-ref(2, 0)
+    PseudoRET implicit $x10, debug-location !5
+",
+        "section .text 24
+130605003305b50093057000130605003305b50067800000
+section .debug_loclists 49
+2d00000005000800020000000800000018000000040008015a040810015c0414
+18015c0004000c015b040c180311079f00
+function f 00000000 00000018
+variable 0 !4 - v
+variable 1 !6 - a
+block 0
+- =0.0 DBG_VALUE $x10, $noreg, !4, !DIExpression()
+- =0.1 DBG_VALUE $x11, $noreg, !6, !DIExpression()
+00000000 =0.2 $x12 = ADDI $x10, 0, debug-instr-number 1
+00000004 =0.3 $x10 = ADD $x10, $x11, debug-instr-number 2
+- =0.4 DBG_INSTR_REF !4, !DIExpression(DW_OP_LLVM_arg, 0), dbg-instr-ref(1, 0), debug-location !5
+00000008 =0.5 $x11 = ADDI $x0, 7, debug-instr-number 3
+- =0.6 DBG_INSTR_REF !6, !DIExpression(DW_OP_LLVM_arg, 0), dbg-instr-ref(3, 0)
+0000000c =0.7 $x12 = ADDI $x10, 0
+00000010 =0.8 $x10 = ADD $x10, $x11, debug-instr-number 4
+- =0.9 DBG_INSTR_REF !4, !DIExpression(DW_OP_LLVM_arg, 0), dbg-instr-ref(2, 0)
+00000014 =0.10 PseudoRET implicit $x10, debug-location !5
+",
+    ),
+    (
+        "    $x11 = ADDI $x0, -7, debug-instr-number 3
+    DBG_INSTR_REF !4, !DIExpression(DW_OP_LLVM_arg, 0), dbg-instr-ref(3, 0)
+    $x11 = ADDI $x11, 0
+    $x12 = ADDI $x11, 1
+    DBG_INSTR_REF !6, !DIExpression(DW_OP_LLVM_arg, 0), dbg-instr-ref(3, 0)
+    PseudoRET
+",
+        "section .text 16
+930590ff938505001386150067800000
+section .debug_loclists 36
+20000000050008000200000008000000100000000404100311799f00040c1003
+11799f00
+function f 00000000 00000010
+variable 0 !4 - v
+variable 1 !6 - a
+block 0
+00000000 =0.0 $x11 = ADDI $x0, -7, debug-instr-number 3
+- =0.1 DBG_INSTR_REF !4, !DIExpression(DW_OP_LLVM_arg, 0), dbg-instr-ref(3, 0)
+00000004 =0.2 $x11 = ADDI $x11, 0
+00000008 =0.3 $x12 = ADDI $x11, 1
+- =0.4 DBG_INSTR_REF !6, !DIExpression(DW_OP_LLVM_arg, 0), dbg-instr-ref(3, 0)
+0000000c =0.5 PseudoRET
+",
+    ),
+    (
+        "    DBG_INSTR_REF !4, !DIExpression(DW_OP_LLVM_arg, 0), dbg-instr-ref(9, 0)
+    DBG_VALUE $x0, $noreg, !6, !DIExpression()
+    $x10 = ADD $x10, $x0
+    DBG_INSTR_REF !4, !DIExpression(DW_OP_LLVM_arg, 0), dbg-instr-ref(9, 1)
+    PseudoRET
+",
+        "section .text 8
+3305050067800000
+section .debug_loclists 29
+1900000005000800020000000800000009000000000400080311009f00
+function f 00000000 00000008
+variable 0 !4 - v
+variable 1 !6 - a
+block 0
+- =0.0 DBG_INSTR_REF !4, !DIExpression(DW_OP_LLVM_arg, 0), dbg-instr-ref(9, 0)
+- =0.1 DBG_VALUE 0, $noreg, !6, !DIExpression()
+00000000 =0.2 $x10 = ADD $x10, $x0
+- =0.3 DBG_INSTR_REF !4, !DIExpression(DW_OP_LLVM_arg, 0), dbg-instr-ref(9, 1)
+00000004 =0.4 PseudoRET
+",
+    ),
+    (
+        "    $x11 = ADDI $x10, 5, debug-instr-number 1
+    $x12 = ADDI $x11, 0
+    DBG_INSTR_REF !4, !DIExpression(DW_OP_LLVM_arg, 0), dbg-instr-ref(1, 0)
+    $x11 = ADDI $x10, 6
+    $x10 = ADD $x11, $x12
+    PseudoRET implicit $x10
+",
+        "section .text 20
+9305550013860500930565003385c50067800000
+section .debug_loclists 27
+1700000005000800010000000400000004080c015b040c14015c00
+function f 00000000 00000014
+variable 0 !4 - v
+block 0
+00000000 =0.0 $x11 = ADDI $x10, 5, debug-instr-number 1
+00000004 =0.1 $x12 = ADDI $x11, 0
+- =0.2 DBG_INSTR_REF !4, !DIExpression(DW_OP_LLVM_arg, 0), dbg-instr-ref(1, 0)
+00000008 =0.3 $x11 = ADDI $x10, 6
+0000000c =0.4 $x10 = ADD $x11, $x12
+00000010 =0.5 PseudoRET implicit $x10
+",
+    ),
+    (
         "    PseudoRET
 ",
         "section .text 4
@@ -57,6 +163,84 @@ block 0
 ",
     ),
 ];
+
+/// The words of the command.
+const COMMAND: &[&str] = &["compile", "--passes=none"];
+
+/// Room for every output.
+const ROOM: usize = 1 << 20;
+
+/// A run that has no fault but those of its words and its text.
+const NO_FAULT: Faulty = Faulty {
+    reads: &[],
+    room: ROOM,
+    writes: &[],
+};
+
+/// Faults of a run: which calls of its input fail, how many bytes its output has room for, and which calls of it fail.
+struct Faulty {
+    reads: &'static [u64],
+    room: usize,
+    writes: &'static [u64],
+}
+
+/// The number of a run's status, what stands on its output, and what is told.
+type Ending = (u8, &'static str, &'static str);
+
+/// Words, items and faults of runs, and how they end.
+const ENDINGS: [(&[&str], &str, Faulty, Ending); 8] = [
+    (&[], RETURN, NO_FAULT, USAGE),
+    (&["compile"], RETURN, NO_FAULT, USAGE),
+    (&["--passes=none", "compile"], RETURN, NO_FAULT, USAGE),
+    (
+        &["compile", "--passes=none", "--passes=none"],
+        RETURN,
+        NO_FAULT,
+        USAGE,
+    ),
+    (
+        COMMAND,
+        "    $x10 = SUB $x10, $x11\n    PseudoRET\n",
+        NO_FAULT,
+        NOT_BUILT,
+    ),
+    (
+        COMMAND,
+        RETURN,
+        Faulty {
+            reads: &[2],
+            room: ROOM,
+            writes: &[],
+        },
+        (4, "", "mirdwarf: read\n"),
+    ),
+    (
+        COMMAND,
+        RETURN,
+        Faulty {
+            reads: &[],
+            room: ROOM,
+            writes: &[1],
+        },
+        (5, "", "mirdwarf: write\n"),
+    ),
+    (
+        COMMAND,
+        RETURN,
+        Faulty {
+            reads: &[],
+            room: 20,
+            writes: &[],
+        },
+        (5, "section .text 4\n6780", "mirdwarf: write\n"),
+    ),
+];
+
+const RETURN: &str = "    PseudoRET\n";
+
+const USAGE: Ending = (2, "", "mirdwarf: usage\n");
+
+const NOT_BUILT: Ending = (1, "", "mirdwarf: line 0: NotBuilt\n");
 
 fn words(alloc: Global, list: &[&str]) -> Result<Vec<String>, Fail> {
     let mut words = Vec::new(alloc);
@@ -74,26 +258,33 @@ fn text_of(alloc: Global, items: &str) -> Result<Bytes, Fail> {
     Ok(bytes)
 }
 
-fn sink(alloc: Global, fails: &[u64]) -> Result<MemorySink, Fail> {
-    let fails = CallNumbers::from_slice(alloc, fails)?;
-    Ok(MemorySink::new(alloc, 1 << 20, fails)?)
+/// Runs words on a text, and gives the number of the status, the output and what was told.
+fn run_on(
+    alloc: Global,
+    list: &[&str],
+    text: Bytes,
+    faulty: &Faulty,
+) -> Result<(u8, MemorySink, MemorySink), Fail> {
+    let words = words(alloc, list)?;
+    let mut input = MemorySource::new(text, CallNumbers::from_slice(alloc, faulty.reads)?);
+    let writes = CallNumbers::from_slice(alloc, faulty.writes)?;
+    let mut output = MemorySink::new(alloc, faulty.room, writes)?;
+    let mut faults = MemorySink::new(alloc, ROOM, CallNumbers::new(alloc))?;
+    let status = mirdwarf(alloc, &words, &mut input, &mut output, &mut faults);
+    Ok((status.number(), output, faults))
 }
 
-/// Runs the command on a text, where some calls of the input and of the output fail, and compares the number of the
-/// status and what stands on the output and on the faults.
+/// Runs words on a text, and compares how it ends.
 fn ends(
     rt: &impl Abort,
     alloc: Global,
+    list: &[&str],
     text: Bytes,
-    fails: (&[u64], &[u64]),
-    want: (u8, &str, &str),
+    faulty: &Faulty,
+    want: Ending,
 ) -> Result<(), Fail> {
-    let words = words(alloc, &["compile", "--passes=none"])?;
-    let mut input = MemorySource::new(text, CallNumbers::from_slice(alloc, fails.0)?);
-    let mut output = sink(alloc, fails.1)?;
-    let mut faults = sink(alloc, &[])?;
-    let status = mirdwarf(alloc, &words, &mut input, &mut output, &mut faults);
-    assert_eq!(rt; status.number(), want.0);
+    let (status, output, faults) = run_on(alloc, list, text, faulty)?;
+    assert_eq!(rt; status, want.0);
     assert_eq!(rt; output.written(), want.1.as_bytes());
     assert_eq!(rt; faults.written(), want.2.as_bytes());
     Ok(())
@@ -103,13 +294,17 @@ fn ends(
 fn compiles(rt: HostRuntime) -> Result<(), Fail> {
     let alloc = rt.alloc();
     for (items, output) in ROWS {
-        ends(
-            &rt,
-            alloc,
-            text_of(alloc, items)?,
-            (&[], &[]),
-            (0, output, ""),
-        )?;
+        let text = text_of(alloc, items)?;
+        ends(&rt, alloc, COMMAND, text, &NO_FAULT, (0, output, ""))?;
+    }
+    Ok(())
+}
+
+#[test]
+fn ends_as_its_faults_say(rt: HostRuntime) -> Result<(), Fail> {
+    let alloc = rt.alloc();
+    for (words, items, faulty, want) in &ENDINGS {
+        ends(&rt, alloc, words, text_of(alloc, items)?, faulty, *want)?;
     }
     Ok(())
 }
@@ -117,55 +312,18 @@ fn compiles(rt: HostRuntime) -> Result<(), Fail> {
 #[test]
 fn refuses(rt: HostRuntime) -> Result<(), Fail> {
     let alloc = rt.alloc();
-    let not_built = (1, "", "mirdwarf: line 0: NotBuilt\n");
-    ends(&rt, alloc, Bytes::new(alloc), (&[], &[]), not_built)?;
-    let sub = text_of(alloc, "    $x10 = SUB $x10, $x11\n    PseudoRET\n")?;
-    ends(&rt, alloc, sub, (&[], &[]), not_built)?;
+    ends(&rt, alloc, COMMAND, Bytes::new(alloc), &NO_FAULT, NOT_BUILT)?;
     let mut filled = Vec::new(alloc);
     filled.resize(LIMIT + 1, b'#')?;
     let too_long = (1, "", "mirdwarf: line 0: TooLong\n");
-    ends(&rt, alloc, Bytes::from(filled), (&[], &[]), too_long)
-}
-
-#[test]
-fn meets_faults(rt: HostRuntime) -> Result<(), Fail> {
-    let alloc = rt.alloc();
-    let ret = "    PseudoRET\n";
     ends(
         &rt,
         alloc,
-        text_of(alloc, ret)?,
-        (&[2], &[]),
-        (4, "", "mirdwarf: read\n"),
-    )?;
-    ends(
-        &rt,
-        alloc,
-        text_of(alloc, ret)?,
-        (&[], &[1]),
-        (5, "", "mirdwarf: write\n"),
+        COMMAND,
+        Bytes::from(filled),
+        &NO_FAULT,
+        too_long,
     )
-}
-
-#[test]
-fn asks_for_its_words(rt: HostRuntime) -> Result<(), Fail> {
-    let alloc = rt.alloc();
-    let faulty: [&[&str]; 4] = [
-        &[],
-        &["compile"],
-        &["--passes=none", "compile"],
-        &["compile", "--passes=none", "--passes=none"],
-    ];
-    for list in faulty {
-        let words = words(alloc, list)?;
-        let mut input = MemorySource::new(Bytes::new(alloc), CallNumbers::new(alloc));
-        let mut output = sink(alloc, &[])?;
-        let mut faults = sink(alloc, &[])?;
-        let status = mirdwarf(alloc, &words, &mut input, &mut output, &mut faults);
-        assert_eq!(rt; status.number(), 2);
-        assert_eq!(rt; faults.written(), b"mirdwarf: usage\n".as_slice());
-    }
-    Ok(())
 }
 
 /// As many items as a text may have: the last of 8,192 is the return.
@@ -177,12 +335,8 @@ fn compiles_as_much_as_it_may(rt: HostRuntime) -> Result<(), Fail> {
         text.extend_from_slice(b"    $x10 = ADDI $x10, 1\n")?;
     }
     text.extend_from_slice(b"    PseudoRET\n...\n")?;
-    let words = words(alloc, &["compile", "--passes=none"])?;
-    let mut input = MemorySource::new(text, CallNumbers::new(alloc));
-    let mut output = sink(alloc, &[])?;
-    let mut faults = sink(alloc, &[])?;
-    let status = mirdwarf(alloc, &words, &mut input, &mut output, &mut faults);
-    assert_eq!(rt; status.number(), 0);
+    let (status, output, _) = run_on(alloc, COMMAND, text, &NO_FAULT)?;
+    assert_eq!(rt; status, 0);
     assert!(rt; output.written().starts_with(b"section .text 32768\n"));
     assert!(rt; output.written().ends_with(b"00007ffc =0.8191 PseudoRET\n"));
     Ok(())

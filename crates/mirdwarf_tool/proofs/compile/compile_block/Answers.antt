@@ -8,8 +8,7 @@ use Rattle.dwarf_loclists.specs.Spelling.{spelling}
 use Rattle.mirdwarf_tool.specs.Code.{code_of}
 use Rattle.mirdwarf_tool.specs.Variables.{variables_of}
 use Rattle.mirdwarf_tool.specs.Lists.{AreLists, IsListFor}
-use Rattle.mirdwarf_tool.proofs.PromiseLemmas.{promises, written_as}
-use Rattle.mirdwarf_tool.proofs.ExactLemmas.{is_exact}
+use Rattle.mirdwarf_tool.proofs.ShownLemmas.{written_as}
 use Rattle.mirdwarf_tool.proofs.compile.compile_block.Goals as goal
 
 pub returns : goal.returns
@@ -36,6 +35,4 @@ returns c =
       located = located;
       section = section;
       written = written_as c.args.name.now block lists c.as_slice-3.result.now c.as_slice-4.result.now c.as_slice-2.result.now c.in_ok-text.text code bytes printed c.in_ok-text.ensures;
-      promise = promises block lists c.requires.straight located;
-      exact = is_exact block lists c.requires.plain c.requires.straight located section;
     }

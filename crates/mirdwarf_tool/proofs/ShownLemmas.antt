@@ -1,0 +1,218 @@
+-- The output of a block: its image, the places of its lines, and what it promises.
+use Rattle.std.specs.Prelude.{Some, Result, Ok, Err, IfOk, Bool, true, false, cond, slice_get, map}
+use Rattle.std.specs.List.{flat_map}
+use Rattle.std.proofs.Common.{◌≡◌, ℕ, zero, suc, ◌+◌, List, [], ◌∷◌, ◌++◌, length, ap, sym, ◌∙◌, refl, subst, arith, append-nil, get_or}
+use Rattle.std.proofs.lemmas.List.Elements.{All-cons, All-nil}
+use Rattle.mir_func.specs.declared.position.Pos.{Pos}
+use Rattle.mir_func.specs.declared.position.Origin.{Origin}
+use Rattle.mir_func.specs.declared.variable.VarId.{VarId}
+use Rattle.mir_func.specs.declared.item.Item.{Item}
+use Rattle.mir_func.specs.declared.item.ItemKind.{ItemKind}
+use Rattle.mir_func.specs.declared.item.ItemKind.TheVariants.{Code, Mark, Phi}
+use Rattle.mir_func.specs.declared.block.Block.{Block}
+use Rattle.mir_func.specs.Function.{Function}
+use Rattle.mir_func.specs.meaning.Align.{is_code}
+use Rattle.mir_func.specs.meaning.Resolve.{resolve}
+use Rattle.mir_func.specs.meaning.Token.{entry_tokens}
+use Rattle.mir_printer.specs.Printable.{IsNumber}
+use Rattle.dwarf_loclists.specs.declared.range.Range.{Range}
+use Rattle.dwarf_loclists.specs.Spelling as loclists
+use Rattle.dwarf_loclists.specs.Reading.{IsSection}
+use Rattle.code_layout.specs.Image.{CodeLine, Image}
+use Rattle.code_layout.specs.Straight.{IsStraight, IsStraightImage}
+use Rattle.code_layout.specs.Straight as straight
+use Rattle.code_layout.specs.Exact.{GiveFirst, address_at, IsPointOf}
+use Rattle.code_layout.proofs.Straight.{straight_code_meets_the_headline}
+use Rattle.code_layout.proofs.Exact.{straight_lists_are_exact}
+use Rattle.mirdwarf_tool.specs.Code.{code_of}
+use Rattle.mirdwarf_tool.specs.Output.{ItemLine, ListedBlock, ListedFunction, Output, spelling}
+use Rattle.mirdwarf_tool.specs.Shown.{IsPrintableFunction, Shows, OfShown, not_inlined}
+use Rattle.mirdwarf_tool.specs.Listing.{start_of, item_listed, listed_items, listing_of, output_with, output_of, compiled_text, block_image}
+use Rattle.mirdwarf_tool.specs.Variables.{variables_of}
+use Rattle.mirdwarf_tool.specs.Walk.{unchanged}
+use Rattle.mirdwarf_tool.specs.Lists.{AreLists}
+use Rattle.mirdwarf_tool.specs.Promise.{code_line, blocks_of, block_shown, image_of, Gives, OfEach, MeetsHeadline, Promises, IsListedAt, IsExactFor, IsExact, ListsSources}
+use Rattle.mirdwarf_tool.specs.Compiled.{IsFirst, CompilesBlock, Compiles}
+use Rattle.mirdwarf_tool.proofs.OneOutput.{one_reading}
+use Rattle.mirdwarf_tool.proofs.PromiseLemmas.{held_from, gives_first}
+
+-- ---- the image
+
+abbrev line_shown : ItemLine → List CodeLine
+line_shown l = code_line l.address l.item.origin l.item.kind
+
+line_same : (a : ℕ) (o : Origin) (k : ItemKind) → code_line (start_of a (is_code k)) o k ≡ straight.line_of a o k
+line_same a o (Code c n) = refl
+line_same a o (Mark v m) = refl
+line_same a o (Phi p n) = refl
+
+lines_same : (a : ℕ) (items : List Item) → flat_map (λ l. code_line l.address l.item.origin l.item.kind) (listed_items a items) ≡ straight.lines_of a items
+lines_same a [] = refl
+lines_same a (i ∷ items) =
+    ap (λ (t : List CodeLine). t ++ flat_map line_shown (listed_items (cond (is_code i.kind) (a + 4) a) items)) (line_same a i.origin i.kind)
+    ∙ ap (λ (t : List CodeLine). straight.line_of a i.origin i.kind ++ t) (lines_same (cond (is_code i.kind) (a + 4) a) items)
+
+abbrev listing : (name : List ℕ) → Block → ListedFunction
+listing name block = listing_of name (length (code_of block.items)) (variables_of [] block.items) block
+
+image_same : (name : List ℕ) (block : Block) (lists : List (List Range)) → image_of (output_of name block lists) (listing name block) ≡ block_image block
+image_same name block lists =
+    let lines : flat_map line_shown (listed_items 0 block.items ++ []) ≡ straight.lines_of 0 block.items = ap (flat_map line_shown) (append-nil (listed_items 0 block.items)) ∙ lines_same 0 block.items in
+    λ k. record { text = code_of block.items; low = 0; lines = lines k }
+
+-- ---- the places of lines
+
+start_is : (b : Bool) (here a : ℕ) → start_of here b ≡ Some a → (b ≡ true) × (a ≡ here)
+start_is true here a e = (refl, (let same : here ≡ a = cc in sym same))
+start_is false here a e = absurd cc
+
+-- the item of a line with an address
+record HasItem (items : List Item) (first n a : ℕ) : Type 0 where
+  item : Item
+  stands : slice_get items n ≡ Some item
+  code : is_code item.kind ≡ true
+  address : a ≡ address_at first items n
+
+has_item : (items : List Item) (first n a : ℕ) (l : ItemLine) → slice_get (listed_items first items) n ≡ Some l → l.address ≡ Some a → HasItem items first n a
+has_item [] first n a l e here = absurd cc
+has_item (i ∷ items) first zero a l e here =
+    let same : item_listed first i ≡ l = cc in
+    let start = start_is (is_code i.kind) first a (ap (λ (x : ItemLine). x.address) same ∙ here) in
+    record { item = i; stands = refl; code = start.0; address = start.1 }
+has_item (i ∷ items) first (suc n) a l e here =
+    let more = has_item items (cond (is_code i.kind) (first + 4) first) n a l e here in
+    record { item = more.item; stands = more.stands; code = more.code; address = more.address }
+
+items_back : (a : ℕ) (items : List Item) → map (λ l. l.item) (listed_items a items) ≡ items
+items_back a [] = refl
+items_back a (i ∷ items) = ap (λ (is : List Item). i ∷ is) (items_back (cond (is_code i.kind) (a + 4) a) items)
+
+items_count : (a : ℕ) (items : List Item) → length (listed_items a items) ≡ length items
+items_count a [] = refl
+items_count a (i ∷ items) = ap suc (items_count (cond (is_code i.kind) (a + 4) a) items)
+
+-- the lines of a block show it
+block_back : (block : Block) → block.silent ≡ length block.items → block_shown (record { id = block.id; lines = listed_items 0 block.items }) ≡ block
+block_back block silent =
+    let items = items_back 0 block.items in
+    let count : length (listed_items 0 block.items) ≡ block.silent = items_count 0 block.items ∙ sym silent in
+    λ k. record { id = block.id; items = items k; silent = count k }
+
+no_line : (n : ℕ) (l : ItemLine) → slice_get [] n ≡ Some l → ⊥
+no_line n l e = cc
+
+-- a line stands in the one block
+in_block : (name : List ℕ) (block : Block) (b n : ℕ) (lb : ListedBlock) (l : ItemLine) → slice_get (blocks_of (listing name block)) b ≡ Some lb → slice_get lb.lines n ≡ Some l →
+    (b ≡ 1) × (slice_get (listed_items 0 block.items) n ≡ Some l)
+in_block name block zero n lb l e within =
+    let same : record { id = block.id; lines = [] } ≡ lb = cc in
+    absurd (no_line n l (ap (λ (x : ListedBlock). slice_get x.lines n) same ∙ within))
+in_block name block (suc zero) n lb l e within =
+    let same : record { id = block.id; lines = listed_items 0 block.items } ≡ lb = cc in
+    (refl, ap (λ (x : ListedBlock). slice_get x.lines n) same ∙ within)
+in_block name block (suc (suc b)) n lb l e within = absurd cc
+
+point_of : (name : List ℕ) (block : Block) (a : ℕ) (p : Pos) → IsListedAt (listing name block) a p → IsPointOf 1 block.items a p
+point_of name block a p at =
+    let place = in_block name block p.block p.item at.block at.line at.stands at.within in
+    let found = has_item block.items 0 p.item a at.line place.1 at.here in
+    record { number = p.item; item = found.item; stands = found.stands; code = found.code; address = found.address; position = λ k. record { block = place.0 k; item = p.item } }
+
+-- ---- the headline and exactness
+
+module _ (name : List ℕ) (block : Block) (lists : List (List Range)) (are : AreLists block.items lists) (section : IsSection (loclists.spelling lists) lists) where
+  firsts : GiveFirst (Gives (output_of name block lists) (listing name block)) unchanged 0 0 entry_tokens block.items
+  firsts = gives_first name (code_of block.items) block lists are section
+
+  pub headline_of : IsStraightImage block (block_image block) → MeetsHeadline (output_of name block lists) (block ∷ []) (listing name block)
+  headline_of is =
+      let image : Image = image_of (output_of name block lists) (listing name block) in
+      let straight_image : IsStraightImage block (image_of (output_of name block lists) (listing name block)) = subst (IsStraightImage block) (sym (image_same name block lists)) is in
+      straight_code_meets_the_headline (Gives (output_of name block lists) (listing name block)) block unchanged (image_of (output_of name block lists) (listing name block)) straight_image
+      (held_from (Gives (output_of name block lists) (listing name block)) 0 0 entry_tokens block.items firsts)
+
+  pub exact_of : IsStraightImage block (block_image block) → IsExactFor (output_of name block lists) (listing name block)
+  exact_of is =
+      let shown : Block = block_shown (record { id = block.id; lines = listed_items 0 block.items }) in
+      let prologue : Block = block_shown (record { id = block.id; lines = [] }) in
+      let back : block.items ≡ map (λ l. l.item) (listed_items 0 block.items) = sym (items_back 0 block.items) in
+      let law = straight_lists_are_exact (Gives (output_of name block lists) (listing name block)) (block_shown (record { id = block.id; lines = [] }))
+      (block_shown (record { id = block.id; lines = listed_items 0 block.items })) (resolve []) is.words refl
+      (subst (λ (xs : List Item). IsStraight block.id 0 xs is.words) back is.straight)
+      (subst (GiveFirst (Gives (output_of name block lists) (listing name block)) unchanged 0 0 entry_tokens) back firsts) in
+      record {
+        gives = λ v a p at. law.gives v a p (subst (λ (xs : List Item). IsPointOf 1 xs a p) back (point_of name block a p at));
+        gives_none = λ v a p at. law.gives_none v a p (subst (λ (xs : List Item). IsPointOf 1 xs a p) back (point_of name block a p at));
+      }
+
+-- ---- what is written shows the output, and no other
+
+pub written_as : (name : List ℕ) (block : Block) (lists : List (List Range)) (code bytes : List ℕ) (variables : List VarId) (text : List ℕ)
+    → code ≡ code_of block.items → bytes ≡ loclists.spelling lists → variables ≡ variables_of [] block.items
+    → text ≡ spelling (output_with name code bytes variables block) → text ≡ compiled_text name block lists
+written_as name block lists code bytes variables text code_is bytes_is variables_is e =
+    e ∙ (ap (λ (c : List ℕ). spelling (output_with name c bytes variables block)) code_is
+    ∙ (ap (λ (b : List ℕ). spelling (output_with name (code_of block.items) b variables block)) bytes_is
+    ∙ ap (λ (vs : List VarId). spelling (output_with name (code_of block.items) (loclists.spelling lists) vs block)) variables_is))
+
+-- what is said of one function and its listing is said of each
+of_each : (P : Function → ListedFunction → Type 0) (source : Function) (f : ListedFunction) → P source f → OfEach P (source ∷ []) (f ∷ [])
+of_each P source f is = record { as_many = refl; each = each }
+  where
+    each : (n : ℕ) (g : Function) (h : ListedFunction) → slice_get (source ∷ []) n ≡ Some g → slice_get (f ∷ []) n ≡ Some h → P g h
+    each zero g h a b =
+        let first : source ≡ g = cc in
+        let second : f ≡ h = cc in
+        subst (λ (x : Function). P x h) first (subst (P source) second is)
+    each (suc n) g h a b = absurd cc
+
+-- what holds of the output that a text shows holds of every one that it shows
+of_shown : (P : Output → Type 0) (text : List ℕ) (o : Output) → Shows not_inlined text o → P o → OfShown P text
+of_shown P text o shows is = record { output = o; shown = shows; every = λ p others. subst P (one_reading not_inlined text o p shows others) is }
+
+list_count : (lists : List (List Range)) → IsSection (loclists.spelling lists) lists → IsNumber (length (loclists.spelling lists))
+list_count lists section = omega (arith, section.size)
+
+pub compiles : (f : Function) (text : List ℕ) → IsFirst f → (block : Block) → f.blocks ≡ block ∷ [] → CompilesBlock f.name block text → Compiles f text
+compiles f text first block one is =
+    let same : first.block ≡ block = one_block first.block block (sym first.one ∙ one) in
+    let straight_image : IsStraightImage block (block_image block) = subst (λ (b : Block). IsStraightImage b (block_image b)) same first.straight in
+    let silent : block.silent ≡ length block.items = subst (λ (b : Block). b.silent ≡ length b.items) same first.silent in
+    let printable : IsPrintableFunction not_inlined (listing f.name block) = subst (λ (b : Block). IsPrintableFunction not_inlined (listing f.name b)) same first.printable in
+    let shows : Shows not_inlined text (output_of f.name block is.lists) = record {
+      spelled = is.written;
+      printable = record {
+        text = printable.high;
+        loclists = list_count is.lists is.section;
+        functions = All-cons (IsPrintableFunction not_inlined) (listing f.name block) [] printable (All-nil (IsPrintableFunction not_inlined));
+      };
+    } in
+    let headline : MeetsHeadline (output_of f.name block is.lists) f.blocks (listing f.name block) =
+    subst (λ (bs : List Block). MeetsHeadline (output_of f.name block is.lists) bs (listing f.name block)) (sym one) (headline_of f.name block is.lists is.located is.section straight_image) in
+    let exact : IsExact (output_of f.name block is.lists) =
+    All-cons (IsExactFor (output_of f.name block is.lists)) (listing f.name block) [] (exact_of f.name block is.lists is.located is.section straight_image) (All-nil (IsExactFor (output_of f.name block is.lists))) in
+    record {
+      block = block;
+      one = one;
+      compiled = is;
+      promise = of_shown (Promises (f ∷ [])) text (output_of f.name block is.lists) shows
+          (of_each (λ source g. MeetsHeadline (output_of f.name block is.lists) source.blocks g) f (listing f.name block) headline);
+      listed = of_shown (ListsSources (f ∷ [])) text (output_of f.name block is.lists) shows
+          (of_each (λ source g. map block_shown g.blocks ≡ source.blocks) f (listing f.name block) (ap (λ (b : Block). b ∷ []) (block_back block silent) ∙ sym one));
+      exact = of_shown IsExact text (output_of f.name block is.lists) shows exact;
+    }
+  where
+    one_block : (a b : Block) → a ∷ [] ≡ b ∷ [] → a ≡ b
+    one_block a b e = cc
+
+item_is : (xs : List Block) (b x : Block) → xs ≡ b ∷ [] → x ≡ get_or xs 0 x → x ≡ b
+item_is xs b x e is = is ∙ ap (λ (bs : List Block). get_or bs 0 x) e
+
+-- the same of what a call gave
+pub compiles_ok : {E : Type 0} (r : Result (List ℕ) E) (f : Function) (name : List ℕ) (blocks : List Block) (block : Block) → IsFirst f → name ≡ f.name → blocks ≡ f.blocks → block ≡ get_or blocks 0 block →
+    IfOk r (CompilesBlock name block) → IfOk r (Compiles f)
+compiles_ok (Err e) f name blocks block first named all is given = tt
+compiles_ok (Ok text) f name blocks block first named all is given =
+    let same : block ≡ first.block = item_is blocks first.block block (all ∙ first.one) is in
+    let one : f.blocks ≡ block ∷ [] = first.one ∙ ap (λ (b : Block). b ∷ []) (sym same) in
+    compiles f text first block one (subst (λ (n : List ℕ). CompilesBlock n block text) named given)

@@ -1,0 +1,63 @@
+-- The output of a function of one block.
+use Rattle.std.specs.Prelude.{ℕ, ◌+◌, Bool, true, false, cond, nat_eq, List, [], ◌∷◌, length, codes, Option, Some, None}
+use Rattle.mir_func.specs.declared.variable.VarId.{VarId}
+use Rattle.mir_func.specs.declared.item.Item.{Item}
+use Rattle.mir_func.specs.declared.block.Block.{Block}
+use Rattle.mir_func.specs.meaning.Align.{is_code}
+use Rattle.dwarf_loclists.specs.declared.range.Range.{Range}
+use Rattle.dwarf_loclists.specs.Spelling as loclists
+use Rattle.code_layout.specs.Image.{Image}
+use Rattle.code_layout.specs.Straight as straight
+use Rattle.mirdwarf_tool.specs.Code.{code_of}
+use Rattle.mirdwarf_tool.specs.Output.{ItemLine, ListedVariable, ListedFunction, Output, spelling}
+use Rattle.mirdwarf_tool.specs.Variables.{variables_of}
+
+-- the names of the two variables of the fixed metadata, by their nodes
+abbrev pub variable_name : ℕ → List ℕ
+variable_name node = cond (nat_eq node 6) (codes "a") (codes "v")
+
+-- variables, whose lists have the numbers from k on
+abbrev pub listed_variables : ℕ → List VarId → List ListedVariable
+listed_variables k [] = []
+listed_variables k (v ∷ vs) = record { list = k; variable = v; name = variable_name v.node } ∷ listed_variables (k + 1) vs
+
+-- the address of code
+abbrev pub start_of : ℕ → Bool → Option ℕ
+start_of address true = Some address
+start_of address false = None
+
+abbrev pub item_listed : ℕ → Item → ItemLine
+item_listed address i = record { address = start_of address (is_code i.kind); item = i }
+
+-- items from an address on. Code has four bytes
+abbrev pub listed_items : ℕ → List Item → List ItemLine
+listed_items address [] = []
+listed_items address (i ∷ items) = item_listed address i ∷ listed_items (cond (is_code i.kind) (address + 4) address) items
+
+-- a function of one block, from address 0 on
+abbrev pub listing_of : (name : List ℕ) → (size : ℕ) → List VarId → Block → ListedFunction
+listing_of name size variables block = record {
+  name = name;
+  low = 0;
+  high = size;
+  variables = listed_variables 0 variables;
+  substitutions = [];
+  prologue = [];
+  blocks = record { id = block.id; lines = listed_items 0 block.items } ∷ [];
+}
+
+-- the output of a function of one block, by the bytes of its sections
+abbrev pub output_with : (name : List ℕ) → (code bytes : List ℕ) → List VarId → Block → Output
+output_with name code bytes variables block = record { text = code; loclists = bytes; functions = listing_of name (length code) variables block ∷ [] }
+
+-- the output of a function of one block with its lists
+abbrev pub output_of : (name : List ℕ) → Block → List (List Range) → Output
+output_of name block lists = output_with name (code_of block.items) (loclists.spelling lists) (variables_of [] block.items) block
+
+-- what is written of it
+abbrev pub compiled_text : (name : List ℕ) → Block → List (List Range) → List ℕ
+compiled_text name block lists = spelling (output_of name block lists)
+
+-- the image of a block that is laid out from address 0 on
+abbrev pub block_image : Block → Image
+block_image block = record { text = code_of block.items; low = 0; lines = straight.lines_of 0 block.items }
