@@ -14,7 +14,7 @@ use Rattle.mir_func.specs.Sound.{code_number}
 use Rattle.follow_law.specs.declared.loss.Reason.TheVariants.{Removed}
 use Rattle.follow_law.specs.Debug.{Rule, number_lost}
 
--- a no-operation (RISC-V Unprivileged ISA, 2.4.1, NOP): a constant definition of x0
+-- a no-operation (RISC-V Unprivileged ISA, RV32I, "NOP Instruction"): a constant definition of x0
 abbrev pub is_nop_row : Row → Bool
 is_nop_row (Fixes zero n) = true
 is_nop_row _ = false
