@@ -32,7 +32,7 @@ use Rattle.mirdwarf_tool.specs.Variables.{variables_of}
 use Rattle.mirdwarf_tool.specs.Walk.{unchanged}
 use Rattle.mirdwarf_tool.specs.Lists.{AreLists}
 use Rattle.mirdwarf_tool.specs.Promise.{code_line, blocks_of, block_shown, image_of, Gives, OfEach, MeetsHeadline, Promises, IsListedAt, IsExactFor, IsExact, ListsSources}
-use Rattle.mirdwarf_tool.specs.Compiled.{IsFirst, CompilesBlock, Compiles}
+use Rattle.mirdwarf_tool.specs.Compiled.{IsFirstForm, CompilesBlock, Compiles}
 use Rattle.mirdwarf_tool.proofs.OneOutput.{one_reading}
 use Rattle.mirdwarf_tool.proofs.PromiseLemmas.{held_from, gives_first}
 
@@ -173,7 +173,7 @@ of_shown P text o shows is = record { output = o; shown = shows; every = λ p ot
 list_count : (lists : List (List Range)) → IsSection (loclists.spelling lists) lists → IsNumber (length (loclists.spelling lists))
 list_count lists section = omega (arith, section.size)
 
-pub compiles : (f : Function) (text : List ℕ) → IsFirst f → (block : Block) → f.blocks ≡ block ∷ [] → CompilesBlock f.name block text → Compiles f text
+pub compiles : (f : Function) (text : List ℕ) → IsFirstForm f → (block : Block) → f.blocks ≡ block ∷ [] → CompilesBlock f.name block text → Compiles f text
 compiles f text first block one is =
     let same : first.block ≡ block = one_block first.block block (sym first.one ∙ one) in
     let straight_image : IsStraightImage block (block_image block) = subst (λ (b : Block). IsStraightImage b (block_image b)) same first.straight in
@@ -209,7 +209,7 @@ item_is : (xs : List Block) (b x : Block) → xs ≡ b ∷ [] → x ≡ get_or x
 item_is xs b x e is = is ∙ ap (λ (bs : List Block). get_or bs 0 x) e
 
 -- the same of what a call gave
-pub compiles_ok : {E : Type 0} (r : Result (List ℕ) E) (f : Function) (name : List ℕ) (blocks : List Block) (block : Block) → IsFirst f → name ≡ f.name → blocks ≡ f.blocks → block ≡ get_or blocks 0 block →
+pub compiles_ok : {E : Type 0} (r : Result (List ℕ) E) (f : Function) (name : List ℕ) (blocks : List Block) (block : Block) → IsFirstForm f → name ≡ f.name → blocks ≡ f.blocks → block ≡ get_or blocks 0 block →
     IfOk r (CompilesBlock name block) → IfOk r (Compiles f)
 compiles_ok (Err e) f name blocks block first named all is given = tt
 compiles_ok (Ok text) f name blocks block first named all is given =

@@ -12,7 +12,7 @@ use Rattle.mir_func.specs.declared.block.Block.{Block}
 use Rattle.mir_func.specs.Function.{Function}
 use Rattle.mir_printer.specs.Printable.{IsNumber}
 use Rattle.first_form.specs.FirstForm.{AreFirst, Stands, function_of, is_allowed, is_source, is_small, is_variable, variable_of, kind_of, items_from}
-use Rattle.mirdwarf_tool.specs.Compiled.{IsFirst}
+use Rattle.mirdwarf_tool.specs.Compiled.{IsFirstForm}
 use Rattle.mirdwarf_tool.specs.Code.{code_of}
 use Rattle.mirdwarf_tool.specs.Output.{ListedVariable, ListedBlock}
 use Rattle.mirdwarf_tool.specs.Shown.{IsPrintableLine, IsPrintableVariable, IsPrintableEntry, IsPrintableBlock, IsPrintableFunction, not_inlined}
@@ -112,7 +112,7 @@ listing_printable lines first =
       blocks = All-cons (IsPrintableBlock not_inlined) block [] (record { id = omega arith; lines = lines_printable 0 0 lines (omega (arith, first.items)) (omega arith) first.allowed }) (All-nil (IsPrintableBlock not_inlined));
     }
 
-first_of_lines : (lines : List Line) → AreFirst lines → IsFirst (function_of lines)
+first_of_lines : (lines : List Line) → AreFirst lines → IsFirstForm (function_of lines)
 first_of_lines lines first = record {
   block = record { id = 0; items = items_from 0 lines; silent = length lines };
   one = refl;
@@ -124,5 +124,5 @@ first_of_lines lines first = record {
   two = two_variables lines first.allowed;
 }
 
-pub stands_first : (text : List ℕ) (f : Function) → Stands text f → IsFirst f
-stands_first text f stands = subst IsFirst (sym stands.function) (first_of_lines stands.lines stands.first)
+pub stands_first : (text : List ℕ) (f : Function) → Stands text f → IsFirstForm f
+stands_first text f stands = subst IsFirstForm (sym stands.function) (first_of_lines stands.lines stands.first)

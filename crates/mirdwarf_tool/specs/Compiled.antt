@@ -15,7 +15,7 @@ use Rattle.mirdwarf_tool.specs.Promise.{Promises, IsExact, ListsSources}
 
 -- a function of one block of at most 8,192 plain items, which run straight to a return, with at most two variables, whose listing
 -- tells it
-pub record IsFirst (f : Function) : Type 0 where
+pub record IsFirstForm (f : Function) : Type 0 where
   pub block : Block
   pub one : f.blocks ≡ block ∷ []
   pub plain : All IsPlain block.items

@@ -1,5 +1,5 @@
 -- What a run of the command did to its input, its output and its faults.
-use Rattle.std.specs.Prelude.{◌≡◌, ℕ, ◌+◌, ◌≤◌, List, [], ◌∷◌, length, Option, Some, ◌⊎◌}
+use Rattle.std.specs.Prelude.{◌≡◌, ℕ, ◌+◌, ◌≤◌, List, [], ◌∷◌, length, Option, Some}
 use Rattle.io_edge.specs.Faults.{CountRose}
 use Rattle.io_edge.specs.Told.{Takes, TakesCount, IsAtEnd, Appends, AppendsPrefix}
 use Rattle.mir_func.specs.Function.{Function}
@@ -70,10 +70,6 @@ pub record IsCutOff (before after written written_after : Option (List ℕ)) : T
   pub output : List ℕ
   pub accepted : Accepts before after output
   pub front : AppendsPrefix written written_after output
-
--- a line was written whole, or a prefix of it where the count of faults rose
-abbrev pub Tells : (written written_after : Option (List ℕ)) → (count count_after : ℕ) → List ℕ → Type 0
-Tells written written_after count count_after line = Appends written written_after line ⊎ (AppendsPrefix written written_after line × CountRose count count_after)
 
 -- the bytes of an input are told, and they are a text in the first form within the limit
 pub record IsInForm (left : Option (List ℕ)) : Type 0 where

@@ -1,6 +1,6 @@
 ghost use Rattle.std.specs.Prelude.{◌≡◌, ◌++◌, ◌^◌, ◌<◌, ◌≤◌, [], codes, length, All, IfOk};
 ghost use Rattle.mirdwarf_tool.specs.Code.{IsPlain};
-ghost use Rattle.mirdwarf_tool.specs.Compiled.{IsFirst, Compiles, CompilesBlock};
+ghost use Rattle.mirdwarf_tool.specs.Compiled.{IsFirstForm, Compiles, CompilesBlock};
 ghost use Rattle.mirdwarf_tool.specs.Variables.{variables_of};
 ghost use Rattle.mirdwarf_tool.specs.Output as output;
 ghost use Rattle.mirdwarf_tool.specs.Listing.{output_with, block_image};
@@ -24,7 +24,7 @@ use std::alloc::{AllocError, Global};
 
 /// The text of a function's sections and of its listing.
 pub fn compile(alloc: Global, f: &Func) -> Result<Text, AllocError>
-    requires { IsFirst f.now }
+    requires { IsFirstForm f.now }
     ensures { IfOk result (Compiles f.now) }
 {
     let [block] = f.blocks.as_slice() else {

@@ -1,8 +1,9 @@
 ghost use Rattle.std.specs.Prelude.{◌≡◌, ◌≢◌, ◌≤◌, ◌↔◌, ◌⊎◌, IfOk, OnOk, OnErr, IfErr, IsErrOf, map, string_bytes};
 ghost use Rattle.io_edge.specs.Faults.{CountRose};
+ghost use Rattle.io_edge.specs.Told.{AppendsUnlessFault};
 ghost use Rattle.mirdwarf_tool.specs.Command.{IsCommand};
 ghost use Rattle.mirdwarf_tool.specs.Fault.{line_of};
-ghost use Rattle.mirdwarf_tool.specs.Run.{Accepts, IsTooLong, IsNotBuilt, Finishes, KeepsHeadline, WroteExactly, IsCutOff, Tells, IsInForm, Explains, ReadingEnds, MayBeInForm};
+ghost use Rattle.mirdwarf_tool.specs.Run.{Accepts, IsTooLong, IsNotBuilt, Finishes, KeepsHeadline, WroteExactly, IsCutOff, IsInForm, Explains, ReadingEnds, MayBeInForm};
 
 use crate::command::is_command;
 use crate::compile::compile;
@@ -50,11 +51,11 @@ pub fn mirdwarf<S: Source, K: Sink, E: Sink>(
 
     // What it tells.
     ensures quiet { result ≡ Status.Done → faults.new ≡ faults.old }
-    ensures tells_refusal { result ≡ Status.Refused → (IsTooLong (S.left input.old) (S.left input.new) × Tells (E.written faults.old) (E.written faults.new) (E.faults faults.old) (E.faults faults.new) (line_of Fault.TooLong)) ⊎ (IsNotBuilt (S.left input.old) (S.left input.new) × Tells (E.written faults.old) (E.written faults.new) (E.faults faults.old) (E.faults faults.new) (line_of Fault.NotBuilt)) }
-    ensures tells_usage { result ≡ Status.Usage → Tells (E.written faults.old) (E.written faults.new) (E.faults faults.old) (E.faults faults.new) (line_of Fault.Usage) }
-    ensures tells_memory { result ≡ Status.Memory → Tells (E.written faults.old) (E.written faults.new) (E.faults faults.old) (E.faults faults.new) (line_of Fault.Memory) }
-    ensures tells_read { result ≡ Status.ReadFault → Tells (E.written faults.old) (E.written faults.new) (E.faults faults.old) (E.faults faults.new) (line_of Fault.Read) }
-    ensures tells_write { result ≡ Status.WriteFault → Tells (E.written faults.old) (E.written faults.new) (E.faults faults.old) (E.faults faults.new) (line_of Fault.Write) }
+    ensures tells_refusal { result ≡ Status.Refused → (IsTooLong (S.left input.old) (S.left input.new) × AppendsUnlessFault (E.written faults.old) (E.written faults.new) (E.faults faults.old) (E.faults faults.new) (line_of Fault.TooLong)) ⊎ (IsNotBuilt (S.left input.old) (S.left input.new) × AppendsUnlessFault (E.written faults.old) (E.written faults.new) (E.faults faults.old) (E.faults faults.new) (line_of Fault.NotBuilt)) }
+    ensures tells_usage { result ≡ Status.Usage → AppendsUnlessFault (E.written faults.old) (E.written faults.new) (E.faults faults.old) (E.faults faults.new) (line_of Fault.Usage) }
+    ensures tells_memory { result ≡ Status.Memory → AppendsUnlessFault (E.written faults.old) (E.written faults.new) (E.faults faults.old) (E.faults faults.new) (line_of Fault.Memory) }
+    ensures tells_read { result ≡ Status.ReadFault → AppendsUnlessFault (E.written faults.old) (E.written faults.new) (E.faults faults.old) (E.faults faults.new) (line_of Fault.Read) }
+    ensures tells_write { result ≡ Status.WriteFault → AppendsUnlessFault (E.written faults.old) (E.written faults.new) (E.faults faults.old) (E.faults faults.new) (line_of Fault.Write) }
 
     // Counts never fall.
     ensures counts { (S.faults input.old ≤ S.faults input.new) × (K.faults output.old ≤ K.faults output.new) × (E.faults faults.old ≤ E.faults faults.new) }
@@ -70,7 +71,7 @@ pub fn mirdwarf<S: Source, K: Sink, E: Sink>(
 
 /// Tells of a fault, as far as the sink takes it.
 fn tell<E: Sink>(fault: Fault, faults: &mut E)
-    ensures line { Tells (E.written faults.old) (E.written faults.new) (E.faults faults.old) (E.faults faults.new) (line_of fault) }
+    ensures line { AppendsUnlessFault (E.written faults.old) (E.written faults.new) (E.faults faults.old) (E.faults faults.new) (line_of fault) }
     ensures counts { E.faults faults.old ≤ E.faults faults.new }
 {
     let _ = write_all(faults, fault.line().as_bytes());
