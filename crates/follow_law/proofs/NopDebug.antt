@@ -24,7 +24,7 @@ use Rattle.follow_law.specs.declared.loss.Lost.TheVariants as lost
 use Rattle.follow_law.specs.declared.loss.Loss.{Loss}
 use Rattle.follow_law.specs.Change.{Change}
 use Rattle.follow_law.specs.Order.{IsInOrder}
-use Rattle.follow_law.specs.Debug.{number_lost, IsCopy, IsKillAt, ValueIsUnspilled, PlaceIsUnspilled, Becomes, mark_stays, phi_stays, code_stays, code_unnumbered, code_goes, number_goes, BecomeAll, over, next, BlocksBecome, none, stays as block_stays, HasCause, KeepsItems, KeepsDebugItems}
+use Rattle.follow_law.specs.Debug.{number_lost, IsCopy, IsFor, IsKillAt, ValueIsUnspilled, PlaceIsUnspilled, Becomes, mark_stays, phi_stays, code_stays, code_unnumbered, code_goes, number_goes, BecomeAll, over, next, BlocksBecome, none, stays as block_stays, HasCause, KeepsItems, KeepsDebugItems}
 use Rattle.follow_law.specs.Nops.{is_nop_row, is_nop, has_added_saves, stays, thinned_blocks, thinned, IsTaken, nop_rule, nop_number, numbers_in_items, nop_numbers, lost_in}
 use Rattle.follow_law.proofs.NopRuns.{out_is}
 
@@ -172,9 +172,9 @@ module _ (f : Function) (sound : IsSound f) (subs : List Entry) where
     becomes n (Phi p k) o l at false out = let bad : false ≡ true = out_is busy false out in cc
     becomes n (Code i None) o l at true stay = code_unnumbered (λ k h. h)
     becomes n (Code i (Some k)) o l at true stay = code_stays (λ why h. (let e : false ≡ true = sym h.1.out ∙ ap (stays busy) (taken_is n h.0 _ at h.1) ∙ stay in cc))
-    becomes n (Code i None) o l at false out = code_goes
+    becomes n (Code i None) o l at false out = code_goes (λ k h. h)
     becomes n (Code i (Some k)) o l at false out =
-        number_goes Removed (no_copy (row_of i) (out_is busy (is_nop_row (row_of i)) out)) (k, record { block = b; item = _; member = member; id = refl; stands = at; out = out; number = refl }, refl)
+        number_goes k Removed (no_copy (row_of i) (out_is busy (is_nop_row (row_of i)) out)) refl (k, record { block = b; item = _; member = member; id = refl; stands = at; out = out; number = refl }, refl)
 
     become_all : (n : ℕ) (xs : List Item) → ((k : ℕ) (x : Item) → slice_get xs k ≡ Some x → slice_get b.items (n + k) ≡ Some x) → BecomeAll nop_rule change b.id n xs (filter (stays busy) xs)
     become_all n [] at = over
@@ -189,8 +189,11 @@ module _ (f : Function) (sound : IsSound f) (subs : List Entry) where
       by_test true e rest = next (becomes n x.kind x.origin x.loc here true e) rest
       by_test false e rest = next (becomes n x.kind x.origin x.loc here false e) rest
 
-  none_killed : (b : ℕ) → All (IsKillAt b) []
+  none_killed : (b : ℕ) → All (IsKillAt nop_rule change b) []
   none_killed b k d lt = absurd (omega (arith, lt))
+
+  none_added : (losses : List Loss) → All (IsFor change losses) []
+  none_added losses k d lt = absurd (omega (arith, lt))
 
   blocks_become : (bs : List Block) → ((b : Block) → Contains bs b → Contains f.blocks b) → BlocksBecome nop_rule change bs (thinned_blocks busy bs)
   blocks_become [] members = none
@@ -203,7 +206,7 @@ module _ (f : Function) (sound : IsSound f) (subs : List Entry) where
   nops_debug losses ordered each =
       let kept : KeepsItems nop_rule change losses = record {
         blocks = blocks_become f.blocks (λ b h. h);
-        subs = ([], sym (append-nil subs), refl);
+        subs = ([], sym (append-nil subs), refl, none_added losses);
         caused = All-weaker (Contains losses) (HasCause nop_rule change) (λ l h. (let w = (each l).0 h in let t = taken_of w.0 w.1 in inl (t.0, (w.0, t.1, w.2)))) losses (All-contains_itself losses);
         told = λ l h. elim h [ inl w ↦ (each l).1 (w.1.0, lost_of_taken w.0 w.1.0 w.1.1, w.1.2) | inr w ↦ absurd w.3 ];
         ordered = ordered;

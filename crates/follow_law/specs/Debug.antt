@@ -1,5 +1,6 @@
 -- The third law of passes, the debug rule: marks, phis, numbers and substitutions stay, or their loss is told.
 use Rattle.std.specs.Prelude.{◌≡◌, ◌⊎◌, ℕ, suc, List, [], ◌∷◌, ◌++◌, Option, Some, None, All, Contains}
+use Rattle.std.specs.List.{filter_map}
 use Rattle.rv64_instr.specs.declared.place.Place.{Place}
 use Rattle.rv64_instr.specs.declared.place.Place.TheVariants.{Register, Slot}
 use Rattle.rv64_instr.specs.Instruction.{Instruction}
@@ -19,7 +20,10 @@ use Rattle.mir_func.specs.declared.item.ItemKind.TheVariants.{Code, Mark, Phi}
 use Rattle.mir_func.specs.declared.block.Block.{Block}
 use Rattle.mir_func.specs.declared.entry.Entry.{Entry}
 use Rattle.mir_func.specs.Function.{Function}
-use Rattle.mir_func.specs.meaning.Resolve.{entry_of}
+use Rattle.mir_func.specs.Sound.{items_of, number_of}
+use Rattle.mir_func.specs.meaning.Step.{Here}
+use Rattle.mir_func.specs.meaning.Graph.{fetch_in, from_block}
+use Rattle.mir_func.specs.meaning.Resolve.{entry_of, Ends}
 use Rattle.mir_func.specs.meaning.Align.{position_of}
 use Rattle.follow_law.specs.declared.loss.Reason.{Reason}
 use Rattle.follow_law.specs.declared.loss.Reason.TheVariants.{Removed, WrongPlace, Scratch, Bypassed, Unreachable}
@@ -73,15 +77,6 @@ abbrev pub IsJump : Row → Type 0
 IsJump (Jumps target) = Unit {0}
 IsJump _ = ⊥
 
--- a kill at the start of a block: its variable is assigned nothing, or its number gives nothing
-abbrev pub IsKillOf : ItemKind → Type 0
-IsKillOf (Mark v Nothing) = Unit {0}
-IsKillOf (Phi None k) = Unit {0}
-IsKillOf _ = ⊥
-
-abbrev pub IsKillAt : (block : ℕ) → Item → Type 0
-IsKillAt b i = IsKillOf i.kind × (i.origin ≡ Before (record { block = b; item = 0 }))
-
 abbrev pub number_lost : ℕ → Reason → Loss
 number_lost k why = record { what = lost.Number k; reason = why }
 
@@ -97,6 +92,14 @@ item k o l = record { kind = k; origin = o; loc = l }
 -- an item that stands before what this one stood for, with no debug location
 abbrev pub item_before : ItemKind → Origin → Item
 item_before k o = record { kind = k; origin = Before (position_of o); loc = Absent }
+
+-- the item stands at the place
+abbrev pub StandsAt : Function → (place : Pos) → Item → Type 0
+StandsAt f p i = fetch_in (from_block f.blocks p.block) p.item ≡ Here i
+
+-- the numbers that code and phis give
+abbrev pub numbers_on : Function → List ℕ
+numbers_on f = filter_map (λ i. number_of i.kind) (items_of f.blocks)
 
 module _ (rule : Rule) (c : Change) where
   -- the item at a place has no such loss, and what asks for this value asks for no spilled register
@@ -114,6 +117,21 @@ module _ (rule : Rule) (c : Change) where
   PlaceIsUnspilled (Some (Register r)) = IsUnspilled r
   PlaceIsUnspilled _ = Unit {0}
 
+  -- the number that code at a place has, or gets on the way
+  abbrev pub Has : (at : Pos) → Option ℕ → ℕ → Type 0
+  Has at (Some j) k = j ≡ k
+  Has at None k = rule.numbers c at k
+
+  -- a kill at the start of a block: its variable is assigned nothing, and a mark of it is lost with a block that is
+  -- bypassed; or its number gives nothing, and is lost so
+  abbrev pub IsKillOf : ItemKind → Type 0
+  IsKillOf (Mark v Nothing) = (at : Pos) × (m : MarkValue) × (o : Origin) × (l : Loc) × StandsAt c.old at (item (Mark v m) o l) × rule.loses c at (mark_lost o Bypassed)
+  IsKillOf (Phi None k) = (at : Pos) × rule.loses c at (number_lost k Bypassed)
+  IsKillOf _ = ⊥
+
+  abbrev pub IsKillAt : (block : ℕ) → Item → Type 0
+  IsKillAt b i = IsKillOf i.kind × (i.origin ≡ Before (record { block = b; item = 0 }))
+
   -- what the item at a place becomes
   pub data Becomes (at : Pos) : Item → List Item → Type 0 where
     -- a mark or a phi stays
@@ -125,18 +143,18 @@ module _ (rule : Rule) (c : Change) where
     code_unnumbered : {i j : Instruction} {o : Origin} {l : Loc} → ((k : ℕ) → rule.numbers c at k → ⊥) → Becomes at (item (Code i None) o l) (item (Code j None) o l ∷ [])
     -- a jump stays with its number, perhaps where another branch stood
     jump_stays : {i j : Instruction} {k : Option ℕ} {o o' : Origin} {l l' : Loc} → IsJump (row_of i) → IsJump (row_of j) → Becomes at (item (Code i k) o l) (item (Code j k) o' l' ∷ [])
-    -- code is gone that has no number; or that has one and defines nothing, with an entry if the pass says so
-    code_goes : {i : Instruction} {o : Origin} {l : Loc} → Becomes at (item (Code i None) o l) []
+    -- code is gone that has no number and gets none; or that has one and defines nothing, with an entry if the pass says so
+    code_goes : {i : Instruction} {o : Origin} {l : Loc} → ((k : ℕ) → rule.numbers c at k → ⊥) → Becomes at (item (Code i None) o l) []
     idle_goes : {i : Instruction} {k : ℕ} {o : Origin} {l : Loc} → sets (row_of i) ≡ [] → Becomes at (item (Code i (Some k)) o l) []
-    -- code is gone with its number
-    number_goes : {i : Instruction} {k : ℕ} {o : Origin} {l : Loc} (why : Reason) → IsOfCode (row_of i) why → rule.loses c at (number_lost k why) → Becomes at (item (Code i (Some k)) o l) []
+    -- code is gone with the number that it has or got
+    number_goes : {i : Instruction} {n : Option ℕ} {o : Origin} {l : Loc} (k : ℕ) (why : Reason) → IsOfCode (row_of i) why → Has at n k → rule.loses c at (number_lost k why) → Becomes at (item (Code i n) o l) []
     -- a copy is gone, and another pair stands for its number; or a phi of its number is there for it, which gives
     -- nothing where its place is wrong
-    substituted : {i : Instruction} {k : ℕ} {o : Origin} {l : Loc} (e : Entry) → IsCopy (row_of i) → entry_of c.new_subs (k, 0) ≡ Some e → Becomes at (item (Code i (Some k)) o l) []
-    salvaged : {i : Instruction} {k : ℕ} {o : Origin} {l : Loc} {p : Place} → IsCopy (row_of i) → rule.salvages c at p → IsUnlost at (number_lost k) →
-        Becomes at (item (Code i (Some k)) o l) (item_before (Phi (Some p) k) o ∷ [])
-    salvaged_wrong : {i : Instruction} {k : ℕ} {o : Origin} {l : Loc} {p : Place} → IsCopy (row_of i) → rule.salvages c at p → rule.loses c at (number_lost k WrongPlace) →
-        Becomes at (item (Code i (Some k)) o l) (item_before (Phi None k) o ∷ [])
+    substituted : {i : Instruction} {n : Option ℕ} {o : Origin} {l : Loc} (k : ℕ) (e : Entry) → IsCopy (row_of i) → Has at n k → entry_of c.new_subs (k, 0) ≡ Some e → Becomes at (item (Code i n) o l) []
+    salvaged : {i : Instruction} {n : Option ℕ} {k : ℕ} {o : Origin} {l : Loc} {p : Place} → IsCopy (row_of i) → Has at n k → rule.salvages c at p → IsUnlost at (number_lost k) →
+        Becomes at (item (Code i n) o l) (item_before (Phi (Some p) k) o ∷ [])
+    salvaged_wrong : {i : Instruction} {n : Option ℕ} {k : ℕ} {o : Origin} {l : Loc} {p : Place} → IsCopy (row_of i) → Has at n k → rule.salvages c at p → rule.loses c at (number_lost k WrongPlace) →
+        Becomes at (item (Code i n) o l) (item_before (Phi None k) o ∷ [])
     -- a mark of a register, or a phi of a place, gives nothing any more
     mark_silenced : {v : VarId} {r : ℕ} {o : Origin} {l : Loc} (why : Reason) → IsSilencing why → rule.loses c at (mark_lost o why) → Becomes at (item (Mark v (At r)) o l) (item (Mark v Nothing) o l ∷ [])
     phi_silenced : {p : Place} {k : ℕ} {o : Origin} {l : Loc} (why : Reason) → IsSilencing why → rule.loses c at (number_lost k why) → Becomes at (item (Phi (Some p) k) o l) (item (Phi None k) o l ∷ [])
@@ -165,11 +183,18 @@ module _ (rule : Rule) (c : Change) where
 abbrev pub HasCause : Rule → Change → Loss → Type 0
 HasCause rule c loss = ((place : Pos) × rule.loses c place loss) ⊎ ((r : ℕ) × (why : Reason) × (loss ≡ register_lost r why) × rule.leaves c r why)
 
--- the debug rule: what the blocks become; substitutions are added behind those that were there; and the losses are those
--- that have a cause, each once and in order
+-- what an added entry is for: a number that no item gives any more. The pair that has its value now resolves to one whose
+-- number an item gives, or is lost
+pub record IsFor (c : Change) (losses : List Loss) (e : Entry) : Type 0 where
+  pub whole : (e.src.1 ≡ 0) × (e.subreg ≡ 0)
+  pub gone : Contains (numbers_on c.new) e.src.0 → ⊥
+  pub stands : (q : ℕ × ℕ) × Ends c.new_subs e.dst q × (Contains (numbers_on c.new) q.0 ⊎ ((why : Reason) × Contains losses (number_lost q.0 why)))
+
+-- the debug rule: what the blocks become; substitutions are added behind those that were there, each for a number that is
+-- gone; and the losses are those that have a cause, each once and in order
 pub record KeepsItems (rule : Rule) (c : Change) (losses : List Loss) : Type 0 where
   pub blocks : BlocksBecome rule c c.old.blocks c.new.blocks
-  pub subs : (more : List Entry) × (c.new_subs ≡ c.old_subs ++ more) × rule.substitutes c more
+  pub subs : (more : List Entry) × (c.new_subs ≡ c.old_subs ++ more) × rule.substitutes c more × All (IsFor c losses) more
   pub caused : All (HasCause rule c) losses
   pub told : (loss : Loss) → HasCause rule c loss → Contains losses loss
   pub ordered : IsInOrder losses
