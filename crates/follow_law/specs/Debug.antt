@@ -42,7 +42,7 @@ pub record Rule : Type 1 where
   pub leaves : Change → (r : ℕ) → Reason → Type 0
   -- which registers are spilled, and into which slots
   pub spills : Change → (r slot : ℕ) → Type 0
-  -- the number that the code at a place gets, or the phi that is put before the mark there
+  -- the number that the code at a place gets, also if it goes later, or the phi that is put before the mark there
   pub numbers : Change → (place : Pos) → (number : ℕ) → Type 0
   -- the place where the phi finds its value that is put for the copy at a place
   pub salvages : Change → (place : Pos) → Place → Type 0
@@ -183,7 +183,7 @@ module _ (rule : Rule) (c : Change) where
 abbrev pub HasCause : Rule → Change → Loss → Type 0
 HasCause rule c loss = ((place : Pos) × rule.loses c place loss) ⊎ ((r : ℕ) × (why : Reason) × (loss ≡ register_lost r why) × rule.leaves c r why)
 
--- what an added entry is for: a number that no item gives any more. The pair that has its value now resolves to one whose
+-- what an added entry is for: a number that no item gives any more. The chain of entries from its pair ends at one whose
 -- number an item gives, or is lost
 pub record IsFor (c : Change) (losses : List Loss) (e : Entry) : Type 0 where
   pub whole : (e.src.1 ≡ 0) × (e.subreg ≡ 0)

@@ -13,12 +13,15 @@ use substitution::substitutions::Substitutions;
 
 /// A change of a function and its substitutions, with what it keeps. A pass states of itself the facts below, and its
 /// laws are the clauses of `run` over them:
-/// - `follows`: whatever source the function followed before, it follows after, so that debug locations that are true of
-///   the function after the pass are true of the source; and the source's ends of blocks stay if the pass keeps them.
+/// - `follows`: where its parts fit (`fits`), whatever source the function followed before, with the source's ends of
+///   blocks if the pass asks for them, it follows after, so that debug locations that are true of the function after the
+///   pass are true of the source; and the source's ends of blocks stay if the pass keeps them.
 /// - `code`: the code after it is what the pass's code function makes of the code before it, which sees no mark, phi, number
 ///   or substitution: debug items never change code.
-/// - `debug`: each mark, phi, number and substitution is there after it, or the losses name it with its cause; they name
-///   nothing else, and nothing is added but what the pass says of itself.
+/// - `debug`: each mark, phi, number and substitution stays or the losses name it with its cause, but for numbers that a
+///   substitution replaces or whose code defines nothing. The losses name nothing else, and nothing is added but what the
+///   pass says of itself: a substitution only for a number that is gone, a kill only for what is lost with a block that
+///   is bypassed.
 /// - `sizes`: how many items, calls, numbers and slots there may be after it, so that none runs out.
 /// - `same`: the pass itself stays as it was, and may run again.
 pub trait Pass {
