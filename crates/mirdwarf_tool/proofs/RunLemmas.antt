@@ -1,6 +1,6 @@
 -- Why a run ended as it did.
 use Rattle.std.specs.Prelude.{◌⊎◌, Option, Some, None, IfSome}
-use Rattle.std.proofs.Common.{◌≡◌, ◌≢◌, ℕ, ◌+◌, ◌≤◌, List, ◌++◌, length, ap, sym, ◌∙◌, refl, subst, inl, inr, append-nil}
+use Rattle.std.proofs.Common.{◌≡◌, ◌≢◌, ℕ, ◌+◌, ◌≤◌, List, [], ◌∷◌, ◌++◌, length, ap, sym, ◌∙◌, refl, subst, inl, inr, append-nil}
 use Rattle.io_edge.specs.declared.reading.ReadError.{ReadError}
 use Rattle.io_edge.specs.declared.reading.ReadError.TheVariants as reading
 use Rattle.io_edge.specs.Faults.{CountRose}
@@ -13,7 +13,9 @@ use Rattle.mirdwarf_tool.specs.declared.fault.Fault.TheVariants.{Usage, Read, To
 use Rattle.mirdwarf_tool.specs.declared.status.Status.TheVariants as status
 use Rattle.mirdwarf_tool.specs.Fault.{reading_fault, status_of}
 use Rattle.mirdwarf_tool.specs.Fault.{line_of}
-use Rattle.mirdwarf_tool.specs.Run.{Finishes, HasWritten, KeepsHeadline, WroteExactly, Explains, IsTooLong, IsNotBuilt, ReadingEnds, MayBeInForm, IsInForm}
+use Rattle.mirdwarf_tool.specs.Shown.{not_inlined}
+use Rattle.mirdwarf_tool.specs.Promise.{unsubstituted}
+use Rattle.mirdwarf_tool.specs.Run.{Finishes, one, HasWritten, KeepsHeadline, WroteExactly, Explains, IsTooLong, IsNotBuilt, ReadingEnds, MayBeInForm, IsInForm}
 
 pub reading_ends : (before after : Option (List ℕ)) (count count_after : ℕ) (e : ReadError) → (e ≡ reading.Failed → CountRose count count_after)
     → (e ≡ reading.TooLong → TakesCount before after (LIMIT + 1)) → ReadingEnds before after count count_after (reading_fault e)
@@ -47,8 +49,9 @@ has_written : (before after written written_after : Option (List ℕ)) → Finis
 has_written before after written written_after is = record {
   text = is.accepted.text;
   read = is.accepted.read;
-  function = is.accepted.function;
-  stands = is.accepted.stands;
+  sources = unsubstituted is.accepted.function ∷ [];
+  inlined = not_inlined;
+  stands = one is.accepted.stands;
   bytes = is.output;
   whole = is.whole;
 }

@@ -19,6 +19,7 @@ use Rattle.dwarf_loclists.specs.declared.range.Range.{Range}
 use Rattle.dwarf_loclists.specs.Spelling as loclists
 use Rattle.dwarf_loclists.specs.Reading.{IsSection}
 use Rattle.code_layout.specs.Image.{CodeLine, Image}
+use Rattle.code_layout.specs.Headline.{Headline}
 use Rattle.code_layout.specs.Straight.{IsStraight, IsStraightImage}
 use Rattle.code_layout.specs.Straight as straight
 use Rattle.code_layout.specs.Exact.{GiveFirst, address_at, IsPointOf}
@@ -31,7 +32,7 @@ use Rattle.mirdwarf_tool.specs.Listing.{start_of, item_listed, listed_items, lis
 use Rattle.mirdwarf_tool.specs.Variables.{variables_of}
 use Rattle.mirdwarf_tool.specs.Walk.{unchanged}
 use Rattle.mirdwarf_tool.specs.Lists.{AreLists}
-use Rattle.mirdwarf_tool.specs.Promise.{code_line, blocks_of, block_shown, image_of, Gives, OfEach, MeetsHeadline, Promises, IsListedAt, IsExactFor, IsExact, ListsSources}
+use Rattle.mirdwarf_tool.specs.Promise.{code_line, blocks_of, block_shown, image_of, Gives, SourceFunction, unsubstituted, OfEach, MeetsHeadline, Promises, IsListedAt, IsExactFor, IsExact, ListsSource, ListsSources}
 use Rattle.mirdwarf_tool.specs.Compiled.{IsFirstForm, CompilesBlock, Compiles}
 use Rattle.mirdwarf_tool.proofs.OneOutput.{one_reading}
 use Rattle.mirdwarf_tool.proofs.PromiseLemmas.{held_from, gives_first}
@@ -124,11 +125,11 @@ module _ (name : List ℕ) (block : Block) (lists : List (List Range)) (are : Ar
   firsts : GiveFirst (Gives (output_of name block lists) (listing name block)) unchanged 0 0 entry_tokens block.items
   firsts = gives_first name (code_of block.items) block lists are section
 
-  pub headline_of : IsStraightImage block (block_image block) → MeetsHeadline (output_of name block lists) (block ∷ []) (listing name block)
+  pub headline_of : IsStraightImage block (block_image block) → Headline (block ∷ []) (resolve []) (image_of (output_of name block lists) (listing name block)) (Gives (output_of name block lists) (listing name block))
   headline_of is =
       let image : Image = image_of (output_of name block lists) (listing name block) in
       let straight_image : IsStraightImage block (image_of (output_of name block lists) (listing name block)) = subst (IsStraightImage block) (sym (image_same name block lists)) is in
-      straight_code_meets_the_headline (Gives (output_of name block lists) (listing name block)) block unchanged (image_of (output_of name block lists) (listing name block)) straight_image
+      straight_code_meets_the_headline (Gives (output_of name block lists) (listing name block)) block (resolve []) (image_of (output_of name block lists) (listing name block)) straight_image
       (held_from (Gives (output_of name block lists) (listing name block)) 0 0 entry_tokens block.items firsts)
 
   pub exact_of : IsStraightImage block (block_image block) → IsExactFor (output_of name block lists) (listing name block)
@@ -156,18 +157,18 @@ written_as name block lists code bytes variables text code_is bytes_is variables
     ∙ ap (λ (vs : List VarId). spelling (output_with name (code_of block.items) (loclists.spelling lists) vs block)) variables_is))
 
 -- what is said of one function and its listing is said of each
-of_each : (P : Function → ListedFunction → Type 0) (source : Function) (f : ListedFunction) → P source f → OfEach P (source ∷ []) (f ∷ [])
+of_each : (P : SourceFunction → ListedFunction → Type 0) (source : SourceFunction) (f : ListedFunction) → P source f → OfEach P (source ∷ []) (f ∷ [])
 of_each P source f is = record { as_many = refl; each = each }
   where
-    each : (n : ℕ) (g : Function) (h : ListedFunction) → slice_get (source ∷ []) n ≡ Some g → slice_get (f ∷ []) n ≡ Some h → P g h
+    each : (n : ℕ) (g : SourceFunction) (h : ListedFunction) → slice_get (source ∷ []) n ≡ Some g → slice_get (f ∷ []) n ≡ Some h → P g h
     each zero g h a b =
         let first : source ≡ g = cc in
         let second : f ≡ h = cc in
-        subst (λ (x : Function). P x h) first (subst (P source) second is)
+        subst (λ (x : SourceFunction). P x h) first (subst (P source) second is)
     each (suc n) g h a b = absurd cc
 
 -- what holds of the output that a text shows holds of every one that it shows
-of_shown : (P : Output → Type 0) (text : List ℕ) (o : Output) → Shows not_inlined text o → P o → OfShown P text
+of_shown : (P : Output → Type 0) (text : List ℕ) (o : Output) → Shows not_inlined text o → P o → OfShown not_inlined P text
 of_shown P text o shows is = record { output = o; shown = shows; every = λ p others. subst P (one_reading not_inlined text o p shows others) is }
 
 list_count : (lists : List (List Range)) → IsSection (loclists.spelling lists) lists → IsNumber (length (loclists.spelling lists))
@@ -187,18 +188,18 @@ compiles f text first block one is =
         functions = All-cons (IsPrintableFunction not_inlined) (listing f.name block) [] printable (All-nil (IsPrintableFunction not_inlined));
       };
     } in
-    let headline : MeetsHeadline (output_of f.name block is.lists) f.blocks (listing f.name block) =
-    subst (λ (bs : List Block). MeetsHeadline (output_of f.name block is.lists) bs (listing f.name block)) (sym one) (headline_of f.name block is.lists is.located is.section straight_image) in
+    let headline : MeetsHeadline (output_of f.name block is.lists) (unsubstituted f) (listing f.name block) =
+    subst (λ (bs : List Block). Headline bs (resolve []) (image_of (output_of f.name block is.lists) (listing f.name block)) (Gives (output_of f.name block is.lists) (listing f.name block))) (sym one) (headline_of f.name block is.lists is.located is.section straight_image) in
     let exact : IsExact (output_of f.name block is.lists) =
     All-cons (IsExactFor (output_of f.name block is.lists)) (listing f.name block) [] (exact_of f.name block is.lists is.located is.section straight_image) (All-nil (IsExactFor (output_of f.name block is.lists))) in
     record {
       block = block;
       one = one;
       compiled = is;
-      promise = of_shown (Promises (f ∷ [])) text (output_of f.name block is.lists) shows
-          (of_each (λ source g. MeetsHeadline (output_of f.name block is.lists) source.blocks g) f (listing f.name block) headline);
-      listed = of_shown (ListsSources (f ∷ [])) text (output_of f.name block is.lists) shows
-          (of_each (λ source g. map block_shown g.blocks ≡ source.blocks) f (listing f.name block) (ap (λ (b : Block). b ∷ []) (block_back block silent) ∙ sym one));
+      promise = of_shown (Promises (unsubstituted f ∷ [])) text (output_of f.name block is.lists) shows
+          (of_each (MeetsHeadline (output_of f.name block is.lists)) (unsubstituted f) (listing f.name block) headline);
+      listed = of_shown (ListsSources (unsubstituted f ∷ [])) text (output_of f.name block is.lists) shows
+          (of_each ListsSource (unsubstituted f) (listing f.name block) (record { blocks = ap (λ (b : Block). b ∷ []) (block_back block silent) ∙ sym one; substitutions = refl }));
       exact = of_shown IsExact text (output_of f.name block is.lists) shows exact;
     }
   where

@@ -11,7 +11,7 @@ use Rattle.mirdwarf_tool.specs.Variables.{variables_of}
 use Rattle.mirdwarf_tool.specs.Listing.{listing_of, compiled_text, block_image}
 use Rattle.mirdwarf_tool.specs.Shown.{IsPrintableFunction, OfShown, not_inlined}
 use Rattle.mirdwarf_tool.specs.Lists.{AreLists}
-use Rattle.mirdwarf_tool.specs.Promise.{Promises, IsExact, ListsSources}
+use Rattle.mirdwarf_tool.specs.Promise.{unsubstituted, Promises, IsExact, ListsSources}
 
 -- a function of one block of at most 8,192 plain items, which run straight to a return, with at most two variables, whose listing
 -- tells it
@@ -37,6 +37,6 @@ pub record Compiles (f : Function) (text : List ℕ) : Type 0 where
   pub block : Block
   pub one : f.blocks ≡ block ∷ []
   pub compiled : CompilesBlock f.name block text
-  pub promise : OfShown (Promises (f ∷ [])) text
-  pub listed : OfShown (ListsSources (f ∷ [])) text
-  pub exact : OfShown IsExact text
+  pub promise : OfShown not_inlined (Promises (unsubstituted f ∷ [])) text
+  pub listed : OfShown not_inlined (ListsSources (unsubstituted f ∷ [])) text
+  pub exact : OfShown not_inlined IsExact text

@@ -8,6 +8,7 @@ use Rattle.mir_func.specs.declared.variable.VarId.{VarId}
 use Rattle.mir_func.specs.declared.item.ItemKind.{ItemKind}
 use Rattle.mir_func.specs.declared.item.ItemKind.TheVariants.{Code}
 use Rattle.mir_func.specs.declared.block.Block.{Block}
+use Rattle.mir_func.specs.declared.entry.Entry.{Entry}
 use Rattle.mir_func.specs.Function.{Function}
 use Rattle.mir_func.specs.meaning.Step.{Program, block_start}
 use Rattle.mir_func.specs.meaning.Graph.{framed_program}
@@ -17,7 +18,6 @@ use Rattle.code_layout.specs.Image.{CodeLine, Image}
 use Rattle.code_layout.specs.Headline.{Headline}
 use Rattle.code_layout.specs.Exact.{AreExact}
 use Rattle.mirdwarf_tool.specs.Output.{ItemLine, ListedVariable, ListedBlock, ListedFunction, Output}
-use Rattle.mirdwarf_tool.specs.Walk.{unchanged}
 
 -- a line with an address and an instruction, as the machine's image has it
 abbrev pub code_line : Option ℕ → Origin → ItemKind → List CodeLine
@@ -47,16 +47,25 @@ pub record Gives (o : Output) (f : ListedFunction) (v : VarId) (address : ℕ) (
   pub named : line.variable ≡ v
   pub given : PlaceAt o.loclists line.list address (Some place)
 
+-- a function that was read, with the substitutions of its debug instruction numbers
+pub record SourceFunction : Type 0 where
+  pub function : Function
+  pub substitutions : List Entry
+
+-- a function without substitutions
+abbrev pub unsubstituted : Function → SourceFunction
+unsubstituted f = record { function = f; substitutions = [] }
+
 -- as many functions are listed as there are sources, and what is said holds of each source and what is listed at its place
-pub record OfEach (P : Function → ListedFunction → Type 0) (sources : List Function) (listed : List ListedFunction) : Type 0 where
+pub record OfEach (P : SourceFunction → ListedFunction → Type 0) (sources : List SourceFunction) (listed : List ListedFunction) : Type 0 where
   pub as_many : length listed ≡ length sources
-  pub each : (n : ℕ) (source : Function) (f : ListedFunction) → slice_get sources n ≡ Some source → slice_get listed n ≡ Some f → P source f
+  pub each : (n : ℕ) (source : SourceFunction) (f : ListedFunction) → slice_get sources n ≡ Some source → slice_get listed n ≡ Some f → P source f
 
 -- the headline of a source and what is listed of it: from every start, for every script and number of steps, the machine on the
 -- function's code stands where its lines say the source stands, with the source's events and result, and what the section gives
 -- holds the newest assignment
-abbrev pub MeetsHeadline : Output → List Block → ListedFunction → Type 0
-MeetsHeadline o source f = Headline source unchanged (image_of o f) (Gives o f)
+abbrev pub MeetsHeadline : Output → SourceFunction → ListedFunction → Type 0
+MeetsHeadline o source f = Headline source.function.blocks (resolve source.substitutions) (image_of o f) (Gives o f)
 
 -- the items that the lines of a block show
 abbrev pub block_shown : ListedBlock → Block
@@ -80,13 +89,17 @@ abbrev pub IsExactFor : Output → ListedFunction → Type 0
 IsExactFor o f = AreExact (program_shown f) (block_start 0) (IsListedAt f) (Gives o f)
 
 -- the headline holds of each source and what is listed of it
-abbrev pub Promises : List Function → Output → Type 0
-Promises sources o = OfEach (λ source f. MeetsHeadline o source.blocks f) sources o.functions
+abbrev pub Promises : List SourceFunction → Output → Type 0
+Promises sources o = OfEach (MeetsHeadline o) sources o.functions
 
 -- the lists are exact for each function
 abbrev pub IsExact : Output → Type 0
 IsExact o = All (IsExactFor o) o.functions
 
--- the blocks that are listed are those of the sources: nothing is changed on the way
-abbrev pub ListsSources : List Function → Output → Type 0
-ListsSources sources o = OfEach (λ source f. map block_shown f.blocks ≡ source.blocks) sources o.functions
+-- the blocks and the substitutions that are listed are those of the source: nothing is changed on the way
+pub record ListsSource (source : SourceFunction) (f : ListedFunction) : Type 0 where
+  pub blocks : map block_shown f.blocks ≡ source.function.blocks
+  pub substitutions : f.substitutions ≡ source.substitutions
+
+abbrev pub ListsSources : List SourceFunction → Output → Type 0
+ListsSources sources o = OfEach ListsSource sources o.functions

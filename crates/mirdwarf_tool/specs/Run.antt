@@ -8,8 +8,8 @@ use Rattle.mirdwarf_tool.specs.declared.driver.TheConstants.{LIMIT}
 use Rattle.mirdwarf_tool.specs.declared.fault.Fault.{Fault}
 use Rattle.mirdwarf_tool.specs.declared.fault.Fault.TheVariants.{Usage, Read, TooLong, NotBuilt, Write, Memory}
 use Rattle.mirdwarf_tool.specs.Command.{IsCommand}
-use Rattle.mirdwarf_tool.specs.Shown.{OfShown}
-use Rattle.mirdwarf_tool.specs.Promise.{Promises, IsExact, ListsSources}
+use Rattle.mirdwarf_tool.specs.Shown.{OfShown, not_inlined}
+use Rattle.mirdwarf_tool.specs.Promise.{SourceFunction, unsubstituted, Promises, IsExact, ListsSources}
 use Rattle.mirdwarf_tool.specs.Compiled.{Compiles}
 
 -- the input was read to its end, and these were its bytes
@@ -42,12 +42,18 @@ pub record Finishes (before after written written_after : Option (List ℕ)) : T
   pub accepted : Accepts before after output
   pub whole : Appends written written_after output
 
--- a text was read that stands for a function, and bytes were written
+-- the functions that a text stands for, and at which node each node of its locations is inlined: today one function without
+-- substitutions, and no location is inlined
+pub data StandsForAll (text : List ℕ) : List SourceFunction → (inlined : ℕ → Option ℕ) → Type 0 where
+  one : {f : Function} → Stands text f → StandsForAll text (unsubstituted f ∷ []) not_inlined
+
+-- a text was read that stands for functions, and bytes were written
 pub record HasWritten (before after written written_after : Option (List ℕ)) : Type 0 where
   pub text : List ℕ
   pub read : HasRead before after text
-  pub function : Function
-  pub stands : Stands text function
+  pub sources : List SourceFunction
+  pub inlined : ℕ → Option ℕ
+  pub stands : StandsForAll text sources inlined
   pub bytes : List ℕ
   pub whole : Appends written written_after bytes
 
@@ -56,14 +62,14 @@ pub record HasWritten (before after written written_after : Option (List ℕ)) :
 -- and result, and each place that their section gives for a variable holds its newest assignment
 pub record KeepsHeadline (before after written written_after : Option (List ℕ)) : Type 0 where
   pub wrote : HasWritten before after written written_after
-  pub headline : OfShown (Promises (wrote.function ∷ [])) wrote.bytes
+  pub headline : OfShown wrote.inlined (Promises wrote.sources) wrote.bytes
 
 -- the bytes show the functions that were read, and their section gives each variable the place that is wanted at the address of
 -- each line that they show, and none exactly where none is wanted
 pub record WroteExactly (before after written written_after : Option (List ℕ)) : Type 0 where
   pub wrote : HasWritten before after written written_after
-  pub listed : OfShown (ListsSources (wrote.function ∷ [])) wrote.bytes
-  pub exact : OfShown IsExact wrote.bytes
+  pub listed : OfShown wrote.inlined (ListsSources wrote.sources) wrote.bytes
+  pub exact : OfShown wrote.inlined IsExact wrote.bytes
 
 -- a prefix of it was written
 pub record IsCutOff (before after written written_after : Option (List ℕ)) : Type 0 where

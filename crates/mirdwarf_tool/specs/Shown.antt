@@ -58,7 +58,7 @@ abbrev pub not_inlined : ℕ → Option ℕ
 not_inlined node = None
 
 -- the text shows an output, and of every output that it shows this holds
-pub record OfShown (P : Output → Type 0) (text : List ℕ) : Type 0 where
+pub record OfShown (inlined : ℕ → Option ℕ) (P : Output → Type 0) (text : List ℕ) : Type 0 where
   pub output : Output
-  pub shown : Shows not_inlined text output
-  pub every : (o : Output) → Shows not_inlined text o → P o
+  pub shown : Shows inlined text output
+  pub every : (o : Output) → Shows inlined text o → P o
