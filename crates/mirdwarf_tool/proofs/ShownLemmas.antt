@@ -1,11 +1,14 @@
 -- The output of a block: its image, the places of its lines, and what it promises.
-use Rattle.std.specs.Prelude.{Some, Result, Ok, Err, IfOk, Bool, true, false, cond, slice_get, map}
+use Rattle.std.specs.Prelude.{Option, Some, Result, Ok, Err, IfOk, Bool, true, false, cond, slice_get, map}
 use Rattle.std.specs.List.{flat_map}
 use Rattle.std.proofs.Common.{◌≡◌, ℕ, zero, suc, ◌+◌, List, [], ◌∷◌, ◌++◌, length, ap, sym, ◌∙◌, refl, subst, arith, append-nil, get_or}
 use Rattle.std.proofs.lemmas.List.Elements.{All-cons, All-nil}
+use Rattle.rv64_instr.specs.Instruction.{Instruction}
+use Rattle.rv64_instr.specs.Row.{Row, Fixes, Moves, Sets, Loads, Stores, LoadsSlot, StoresSlot, Branches, Jumps, Calls, Returns, Unfit, row_of}
 use Rattle.mir_func.specs.declared.position.Pos.{Pos}
 use Rattle.mir_func.specs.declared.position.Origin.{Origin}
 use Rattle.mir_func.specs.declared.variable.VarId.{VarId}
+use Rattle.mir_func.specs.declared.variable.MarkValue.{MarkValue}
 use Rattle.mir_func.specs.declared.item.Item.{Item}
 use Rattle.mir_func.specs.declared.item.ItemKind.{ItemKind}
 use Rattle.mir_func.specs.declared.item.ItemKind.TheVariants.{Code, Mark, Phi}
@@ -20,7 +23,7 @@ use Rattle.dwarf_loclists.specs.Spelling as loclists
 use Rattle.dwarf_loclists.specs.Reading.{IsSection}
 use Rattle.code_layout.specs.Image.{CodeLine, Image}
 use Rattle.code_layout.specs.Headline.{Headline}
-use Rattle.code_layout.specs.Straight.{IsStraight, IsStraightImage}
+use Rattle.code_layout.specs.Straight.{IsPlainRow, IsStraight, IsStraightImage, returns, goes_on, marks}
 use Rattle.code_layout.specs.Straight as straight
 use Rattle.code_layout.specs.Exact.{GiveFirst, address_at, IsPointOf}
 use Rattle.code_layout.proofs.Straight.{straight_code_meets_the_headline}
@@ -32,7 +35,7 @@ use Rattle.mirdwarf_tool.specs.Listing.{start_of, item_listed, listed_items, lis
 use Rattle.mirdwarf_tool.specs.Variables.{variables_of}
 use Rattle.mirdwarf_tool.specs.Walk.{unchanged}
 use Rattle.mirdwarf_tool.specs.Lists.{AreLists}
-use Rattle.mirdwarf_tool.specs.Promise.{code_line, blocks_of, block_shown, image_of, Gives, SourceFunction, unsubstituted, OfEach, MeetsHeadline, Promises, IsListedAt, IsExactFor, IsExact, ListsSource, ListsSources}
+use Rattle.mirdwarf_tool.specs.Promise.{code_line, blocks_of, raised_by, raised, item_shown, block_shown, image_of, Gives, SourceFunction, unsubstituted, OfEach, MeetsHeadline, Promises, IsListedAt, IsExactFor, IsExact, ListsSource, ListsSources}
 use Rattle.mirdwarf_tool.specs.Compiled.{IsFirstForm, CompilesBlock, Compiles}
 use Rattle.mirdwarf_tool.proofs.OneOutput.{one_reading}
 use Rattle.mirdwarf_tool.proofs.PromiseLemmas.{held_from, gives_first}
@@ -84,18 +87,47 @@ has_item (i ∷ items) first (suc n) a l e here =
     let more = has_item items (cond (is_code i.kind) (first + 4) first) n a l e here in
     record { item = more.item; stands = more.stands; code = more.code; address = more.address }
 
-items_back : (a : ℕ) (items : List Item) → map (λ l. l.item) (listed_items a items) ≡ items
-items_back a [] = refl
-items_back a (i ∷ items) = ap (λ (is : List Item). i ∷ is) (items_back (cond (is_code i.kind) (a + 4) a) items)
+-- straight code accesses no slot
+plain_raised : (r : Row) (c : Instruction) → IsPlainRow r → raised_by r c ≡ c
+plain_raised (Fixes rd n) c plain = refl
+plain_raised (Moves rd rs) c plain = refl
+plain_raised (Sets rd op x y) c plain = refl
+plain_raised (Loads rd op base n) c plain = absurd plain
+plain_raised (Stores op rs base n) c plain = absurd plain
+plain_raised (LoadsSlot rd n) c plain = absurd plain
+plain_raised (StoresSlot rs n) c plain = absurd plain
+plain_raised (Branches op x y target) c plain = absurd plain
+plain_raised (Jumps target) c plain = absurd plain
+plain_raised (Calls name args) c plain = absurd plain
+plain_raised (Returns results) c plain = absurd plain
+plain_raised Unfit c plain = absurd plain
+
+code_raised : (kind : ItemKind) (c : Instruction) (k : Option ℕ) → kind ≡ Code c k → raised_by (row_of c) c ≡ c → raised kind ≡ kind
+code_raised kind c k is same = ap raised is ∙ (ap (λ (d : Instruction). Code d k) same ∙ sym is)
+
+mark_raised : (kind : ItemKind) (v : VarId) (m : MarkValue) → kind ≡ Mark v m → raised kind ≡ kind
+mark_raised kind v m is = ap raised is ∙ sym is
+
+one_more : (a : ℕ) (i : Item) (items : List Item) → raised i.kind ≡ i.kind → map item_shown (listed_items (cond (is_code i.kind) (a + 4) a) items) ≡ items → map item_shown (listed_items a (i ∷ items)) ≡ i ∷ items
+one_more a i items kind rest =
+    ap (λ (k : ItemKind). record i { kind = k } ∷ map item_shown (listed_items (cond (is_code i.kind) (a + 4) a) items)) kind ∙ ap (λ (is : List Item). i ∷ is) rest
+
+items_back : {b n : ℕ} {items : List Item} {words : List ℕ} → IsStraight b n items words → (a : ℕ) → map item_shown (listed_items a items) ≡ items
+items_back (returns {i = i} {c = c} {k = k} kind own row physical) a =
+    one_more a i [] (code_raised i.kind c k kind (ap (λ (r : Row). raised_by r c) row)) refl
+items_back (goes_on {i = i} {items = items} {c = c} {k = k} w kind own plain is rest) a =
+    one_more a i items (code_raised i.kind c k kind (plain_raised (row_of c) c plain)) (items_back rest (cond (is_code i.kind) (a + 4) a))
+items_back (marks {i = i} {items = items} {v = v} {m = m} kind rest) a =
+    one_more a i items (mark_raised i.kind v m kind) (items_back rest (cond (is_code i.kind) (a + 4) a))
 
 items_count : (a : ℕ) (items : List Item) → length (listed_items a items) ≡ length items
 items_count a [] = refl
 items_count a (i ∷ items) = ap suc (items_count (cond (is_code i.kind) (a + 4) a) items)
 
 -- the lines of a block show it
-block_back : (block : Block) → block.silent ≡ length block.items → block_shown (record { id = block.id; lines = listed_items 0 block.items }) ≡ block
-block_back block silent =
-    let items = items_back 0 block.items in
+block_back : (block : Block) → IsStraightImage block (block_image block) → block.silent ≡ length block.items → block_shown (record { id = block.id; lines = listed_items 0 block.items }) ≡ block
+block_back block is silent =
+    let items = items_back is.straight 0 in
     let count : length (listed_items 0 block.items) ≡ block.silent = items_count 0 block.items ∙ sym silent in
     λ k. record { id = block.id; items = items k; silent = count k }
 
@@ -136,7 +168,7 @@ module _ (name : List ℕ) (block : Block) (lists : List (List Range)) (are : Ar
   exact_of is =
       let shown : Block = block_shown (record { id = block.id; lines = listed_items 0 block.items }) in
       let prologue : Block = block_shown (record { id = block.id; lines = [] }) in
-      let back : block.items ≡ map (λ l. l.item) (listed_items 0 block.items) = sym (items_back 0 block.items) in
+      let back : block.items ≡ map item_shown (listed_items 0 block.items) = sym (items_back is.straight 0) in
       let law = straight_lists_are_exact (Gives (output_of name block lists) (listing name block)) (block_shown (record { id = block.id; lines = [] }))
       (block_shown (record { id = block.id; lines = listed_items 0 block.items })) (resolve []) is.words refl
       (subst (λ (xs : List Item). IsStraight block.id 0 xs is.words) back is.straight)
@@ -199,7 +231,7 @@ compiles f text first block one is =
       promise = of_shown (Promises (unsubstituted f ∷ [])) text (output_of f.name block is.lists) shows
           (of_each (MeetsHeadline (output_of f.name block is.lists)) (unsubstituted f) (listing f.name block) headline);
       listed = of_shown (ListsSources (unsubstituted f ∷ [])) text (output_of f.name block is.lists) shows
-          (of_each ListsSource (unsubstituted f) (listing f.name block) (record { blocks = ap (λ (b : Block). b ∷ []) (block_back block silent) ∙ sym one; substitutions = refl }));
+          (of_each ListsSource (unsubstituted f) (listing f.name block) (record { blocks = ap (λ (b : Block). b ∷ []) (block_back block straight_image silent) ∙ sym one; substitutions = refl }));
       exact = of_shown IsExact text (output_of f.name block is.lists) shows exact;
     }
   where

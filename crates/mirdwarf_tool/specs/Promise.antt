@@ -1,10 +1,15 @@
 -- What an output promises of a run of its code.
-use Rattle.std.specs.Prelude.{◌≡◌, ℕ, List, [], ◌∷◌, length, Option, Some, slice_get, map, All}
+use Rattle.std.specs.Prelude.{◌≡◌, ℕ, zero, suc, pos, List, [], ◌∷◌, length, drop, Option, Some, slice_get, map, All}
 use Rattle.std.specs.List.{flat_map}
+use Rattle.rv64_instr.specs.declared.op.Op.TheVariants.{Ld, Sd}
+use Rattle.rv64_instr.specs.declared.operand.Operand.TheVariants.{Def, Use, Imm, Slot}
 use Rattle.rv64_instr.specs.declared.place.Place.{Place}
+use Rattle.rv64_instr.specs.Instruction.{Instruction}
+use Rattle.rv64_instr.specs.Row.{Row, Loads, Stores, row_of}
 use Rattle.mir_func.specs.declared.position.Pos.{Pos}
 use Rattle.mir_func.specs.declared.position.Origin.{Origin}
 use Rattle.mir_func.specs.declared.variable.VarId.{VarId}
+use Rattle.mir_func.specs.declared.item.Item.{Item}
 use Rattle.mir_func.specs.declared.item.ItemKind.{ItemKind}
 use Rattle.mir_func.specs.declared.item.ItemKind.TheVariants.{Code}
 use Rattle.mir_func.specs.declared.block.Block.{Block}
@@ -67,9 +72,23 @@ pub record OfEach (P : SourceFunction → ListedFunction → Type 0) (sources : 
 abbrev pub MeetsHeadline : Output → SourceFunction → ListedFunction → Type 0
 MeetsHeadline o source f = Headline source.function.blocks (resolve source.substitutions) (image_of o f) (Gives o f)
 
--- the items that the lines of a block show
+-- an access at an offset from x2, as its word makes it, is one of the frame slot with that offset: no other code names x2
+abbrev pub raised_by : Row → Instruction → Instruction
+raised_by (Loads rd Ld (suc (suc zero)) n) i = record { op = Ld; operands = Def rd ∷ Slot n ∷ Imm (pos 0) ∷ drop 3 i.operands }
+raised_by (Stores Sd rs (suc (suc zero)) n) i = record { op = Sd; operands = Use rs ∷ Slot n ∷ Imm (pos 0) ∷ drop 3 i.operands }
+raised_by row i = i
+
+abbrev pub raised : ItemKind → ItemKind
+raised (Code i k) = Code (raised_by (row_of i) i) k
+raised kind = kind
+
+-- the item that a line shows
+abbrev pub item_shown : ItemLine → Item
+item_shown l = record l.item { kind = raised l.item.kind }
+
+-- the block that its lines show
 abbrev pub block_shown : ListedBlock → Block
-block_shown b = record { id = b.id; items = map (λ l. l.item) b.lines; silent = length b.lines }
+block_shown b = record { id = b.id; items = map item_shown b.lines; silent = length b.lines }
 
 -- the function that the lines show, with its prologue
 abbrev pub program_shown : ListedFunction → Program
