@@ -54,6 +54,7 @@ has_written before after written written_after is = record {
   stands = one is.accepted.stands;
   bytes = is.output;
   whole = is.whole;
+  laid_out = is.accepted.compiles.laid_out;
 }
 
 pub headline_kept : (before after written written_after : Option (List ℕ)) → Finishes before after written written_after → KeepsHeadline before after written written_after

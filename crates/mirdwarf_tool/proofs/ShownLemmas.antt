@@ -1,7 +1,8 @@
 -- The output of a block: its image, the places of its lines, and what it promises.
 use Rattle.std.specs.Prelude.{Option, Some, Result, Ok, Err, IfOk, Bool, true, false, cond, slice_get, map}
 use Rattle.std.specs.List.{flat_map}
-use Rattle.std.proofs.Common.{◌≡◌, ℕ, zero, suc, ◌+◌, List, [], ◌∷◌, ◌++◌, length, ap, sym, ◌∙◌, refl, subst, arith, append-nil, get_or}
+use Rattle.std.specs.Int.{w32, to_le_bytes}
+use Rattle.std.proofs.Common.{◌≡◌, ℕ, zero, suc, ◌+◌, List, [], ◌∷◌, ◌++◌, length, ap, sym, ◌∙◌, refl, subst, arith, append-nil, length-append, get_or}
 use Rattle.std.proofs.lemmas.List.Elements.{All-cons, All-nil}
 use Rattle.rv64_instr.specs.Instruction.{Instruction}
 use Rattle.rv64_instr.specs.Row.{Row, Fixes, Moves, Sets, Loads, Stores, LoadsSlot, StoresSlot, Branches, Jumps, Calls, Returns, Unfit, row_of}
@@ -14,6 +15,7 @@ use Rattle.mir_func.specs.declared.item.ItemKind.{ItemKind}
 use Rattle.mir_func.specs.declared.item.ItemKind.TheVariants.{Code, Mark, Phi}
 use Rattle.mir_func.specs.declared.block.Block.{Block}
 use Rattle.mir_func.specs.Function.{Function}
+use Rattle.mir_func.specs.meaning.Step.{is_call}
 use Rattle.mir_func.specs.meaning.Align.{is_code}
 use Rattle.mir_func.specs.meaning.Resolve.{resolve}
 use Rattle.mir_func.specs.meaning.Token.{entry_tokens}
@@ -35,7 +37,7 @@ use Rattle.mirdwarf_tool.specs.Listing.{start_of, item_listed, listed_items, lis
 use Rattle.mirdwarf_tool.specs.Variables.{variables_of}
 use Rattle.mirdwarf_tool.specs.Walk.{unchanged}
 use Rattle.mirdwarf_tool.specs.Lists.{AreLists}
-use Rattle.mirdwarf_tool.specs.Promise.{code_line, blocks_of, raised_by, raised, item_shown, block_shown, image_of, Gives, SourceFunction, unsubstituted, OfEach, MeetsHeadline, Promises, IsListedAt, IsExactFor, IsExact, ListsSource, ListsSources}
+use Rattle.mirdwarf_tool.specs.Promise.{code_line, blocks_of, lines_of, raised_by, raised, item_shown, block_shown, image_of, Gives, SourceFunction, unsubstituted, OfEach, past_item, LinesLie, IsLaidOut, AreLaidOut, MeetsHeadline, Promises, IsListedAt, IsExactFor, IsExact, ListsSource, ListsSources}
 use Rattle.mirdwarf_tool.specs.Compiled.{IsFirstForm, CompilesBlock, Compiles}
 use Rattle.mirdwarf_tool.proofs.OneOutput.{one_reading}
 use Rattle.mirdwarf_tool.proofs.PromiseLemmas.{held_from, gives_first}
@@ -130,6 +132,54 @@ block_back block is silent =
     let items = items_back is.straight 0 in
     let count : length (listed_items 0 block.items) ≡ block.silent = items_count 0 block.items ∙ sym silent in
     λ k. record { id = block.id; items = items k; silent = count k }
+
+-- straight code has no call
+plain_no_call : (r : Row) → IsPlainRow r → is_call r ≡ false
+plain_no_call (Fixes rd n) plain = refl
+plain_no_call (Moves rd rs) plain = refl
+plain_no_call (Sets rd op x y) plain = refl
+plain_no_call (Loads rd op base n) plain = refl
+plain_no_call (Stores op rs base n) plain = refl
+plain_no_call (LoadsSlot rd n) plain = refl
+plain_no_call (StoresSlot rs n) plain = refl
+plain_no_call (Branches op x y target) plain = refl
+plain_no_call (Jumps target) plain = refl
+plain_no_call (Calls name args) plain = absurd plain
+plain_no_call (Returns results) plain = refl
+plain_no_call Unfit plain = refl
+
+-- the address after code of one word
+record IsWordLong (kind : ItemKind) (a : ℕ) : Type 0 where
+  past : past_item a kind ≡ cond (is_code kind) (a + 4) a
+  next : cond (is_code kind) (a + 4) a ≡ a + 4
+
+word_long : (kind : ItemKind) (c : Instruction) (k : Option ℕ) (a : ℕ) → kind ≡ Code c k → is_call (row_of c) ≡ false → IsWordLong kind a
+word_long kind c k a is no_call = subst (λ (x : ItemKind). IsWordLong x a) (sym is) (record { past = ap (λ (b : Bool). a + cond b 8 4) no_call; next = refl })
+
+length-words : (w : ℕ) (words : List ℕ) → length (flat_map (to_le_bytes w32) (w ∷ words)) ≡ 4 + length (flat_map (to_le_bytes w32) words)
+length-words w words = length-append (to_le_bytes w32 w) (flat_map (to_le_bytes w32) words)
+
+first_lies : (a e : ℕ) (i : Item) (items : List Item) → past_item a i.kind ≡ cond (is_code i.kind) (a + 4) a
+    → LinesLie (cond (is_code i.kind) (a + 4) a) (listed_items (cond (is_code i.kind) (a + 4) a) items) e → LinesLie a (listed_items a (i ∷ items)) e
+first_lies a e i items past rest = (refl, subst (λ (x : ℕ). LinesLie x (listed_items (cond (is_code i.kind) (a + 4) a) items) e) (sym past) rest)
+
+-- the lines of straight code lie in its bytes
+lines_lie : {b n : ℕ} {items : List Item} {words : List ℕ} → IsStraight b n items words → (a e : ℕ) → e ≡ a + length (flat_map (to_le_bytes w32) words) → LinesLie a (listed_items a items) e
+lines_lie (returns {i = i} {c = c} {k = k} kind own row physical) a e end =
+    let word = word_long i.kind c k a kind (ap is_call row) in
+    first_lies a e i [] word.past (word.next ∙ sym end)
+lines_lie (goes_on {i = i} {items = items} {words = words} {c = c} {k = k} w kind own plain is rest) a e end =
+    let word = word_long i.kind c k a kind (plain_no_call (row_of c) plain) in
+    first_lies a e i items word.past (lines_lie rest (cond (is_code i.kind) (a + 4) a) e (omega (arith, end, word.next, length-words w words)))
+lines_lie (marks {i = i} {items = items} {words = words} {v = v} {m = m} kind rest) a e end =
+    first_lies a e i items (subst (λ (x : ItemKind). past_item a x ≡ cond (is_code x) (a + 4) a) (sym kind) refl)
+    (lines_lie rest (cond (is_code i.kind) (a + 4) a) e (end ∙ ap (λ (x : ItemKind). cond (is_code x) (a + 4) a + length (flat_map (to_le_bytes w32) words)) (sym kind)))
+
+-- a block is laid out so
+block_laid_out : (name : List ℕ) (block : Block) → IsStraightImage block (block_image block) → LinesLie 0 (lines_of (listing name block)) (length (code_of block.items))
+block_laid_out name block is =
+    let end : length (code_of block.items) ≡ length (flat_map (to_le_bytes w32) is.words) = ap length is.text in
+    subst (λ (ls : List ItemLine). LinesLie 0 ls (length (code_of block.items))) (sym (append-nil (listed_items 0 block.items))) (lines_lie is.straight 0 (length (code_of block.items)) (omega (arith, end)))
 
 no_line : (n : ℕ) (l : ItemLine) → slice_get [] n ≡ Some l → ⊥
 no_line n l e = cc
@@ -228,6 +278,10 @@ compiles f text first block one is =
       block = block;
       one = one;
       compiled = is;
+      laid_out = of_shown (AreLaidOut (unsubstituted f ∷ [])) text (output_of f.name block is.lists) shows (record {
+        each = of_each IsLaidOut (unsubstituted f) (listing f.name block) (record { named = refl; lines = block_laid_out f.name block straight_image });
+        functions = (refl, refl);
+      });
       promise = of_shown (Promises (unsubstituted f ∷ [])) text (output_of f.name block is.lists) shows
           (of_each (MeetsHeadline (output_of f.name block is.lists)) (unsubstituted f) (listing f.name block) headline);
       listed = of_shown (ListsSources (unsubstituted f ∷ [])) text (output_of f.name block is.lists) shows

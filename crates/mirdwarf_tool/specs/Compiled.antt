@@ -11,7 +11,7 @@ use Rattle.mirdwarf_tool.specs.Variables.{variables_of}
 use Rattle.mirdwarf_tool.specs.Listing.{listing_of, compiled_text, block_image}
 use Rattle.mirdwarf_tool.specs.Shown.{IsPrintableFunction, OfShown, not_inlined}
 use Rattle.mirdwarf_tool.specs.Lists.{AreLists}
-use Rattle.mirdwarf_tool.specs.Promise.{unsubstituted, Promises, IsExact, ListsSources}
+use Rattle.mirdwarf_tool.specs.Promise.{unsubstituted, AreLaidOut, Promises, IsExact, ListsSources}
 
 -- a function of one block of at most 8,192 plain items, which run straight to a return, with at most two variables, whose listing
 -- tells it
@@ -32,11 +32,13 @@ pub record CompilesBlock (name : List ℕ) (block : Block) (text : List ℕ) : T
   pub section : IsSection (loclists.spelling lists) lists
   pub written : text ≡ compiled_text name block lists
 
--- the text is that of the function's one block, and the output that it shows keeps its promise, lists the function and is exact
+-- the text is that of the function's one block, and the output that it shows has the function laid out, keeps its promise, lists
+-- the function and is exact
 pub record Compiles (f : Function) (text : List ℕ) : Type 0 where
   pub block : Block
   pub one : f.blocks ≡ block ∷ []
   pub compiled : CompilesBlock f.name block text
+  pub laid_out : OfShown not_inlined (AreLaidOut (unsubstituted f ∷ [])) text
   pub promise : OfShown not_inlined (Promises (unsubstituted f ∷ [])) text
   pub listed : OfShown not_inlined (ListsSources (unsubstituted f ∷ [])) text
   pub exact : OfShown not_inlined IsExact text

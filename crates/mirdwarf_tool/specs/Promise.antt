@@ -1,5 +1,5 @@
 -- What an output promises of a run of its code.
-use Rattle.std.specs.Prelude.{◌≡◌, ℕ, zero, suc, pos, List, [], ◌∷◌, length, drop, Option, Some, slice_get, map, All}
+use Rattle.std.specs.Prelude.{◌≡◌, ℕ, zero, suc, ◌+◌, cond, pos, List, [], ◌∷◌, length, drop, Option, Some, slice_get, map, All}
 use Rattle.std.specs.List.{flat_map}
 use Rattle.rv64_instr.specs.declared.op.Op.TheVariants.{Ld, Sd}
 use Rattle.rv64_instr.specs.declared.operand.Operand.TheVariants.{Def, Use, Imm, Slot}
@@ -15,7 +15,8 @@ use Rattle.mir_func.specs.declared.item.ItemKind.TheVariants.{Code}
 use Rattle.mir_func.specs.declared.block.Block.{Block}
 use Rattle.mir_func.specs.declared.entry.Entry.{Entry}
 use Rattle.mir_func.specs.Function.{Function}
-use Rattle.mir_func.specs.meaning.Step.{Program, block_start}
+use Rattle.mir_func.specs.meaning.Step.{Program, block_start, is_call}
+use Rattle.mir_func.specs.meaning.Align.{is_code}
 use Rattle.mir_func.specs.meaning.Graph.{framed_program}
 use Rattle.mir_func.specs.meaning.Resolve.{resolve}
 use Rattle.dwarf_loclists.specs.Reading.{PlaceAt}
@@ -23,6 +24,7 @@ use Rattle.code_layout.specs.Image.{CodeLine, Image}
 use Rattle.code_layout.specs.Headline.{Headline}
 use Rattle.code_layout.specs.Exact.{AreExact}
 use Rattle.mirdwarf_tool.specs.Output.{ItemLine, ListedVariable, ListedBlock, ListedFunction, Output}
+use Rattle.mirdwarf_tool.specs.Listing.{start_of}
 
 -- a line with an address and an instruction, as the machine's image has it
 abbrev pub code_line : Option ℕ → Origin → ItemKind → List CodeLine
@@ -38,10 +40,14 @@ first_id (b ∷ bs) = b.id
 abbrev pub blocks_of : ListedFunction → List ListedBlock
 blocks_of f = record { id = first_id f.blocks; lines = f.prologue } ∷ f.blocks
 
+-- all lines of a function
+abbrev pub lines_of : ListedFunction → List ItemLine
+lines_of f = flat_map (λ b. b.lines) (blocks_of f)
+
 -- the image of a function of an output: the bytes of `.text`, the function's first address, and its lines with code, each with
 -- its address, its origin and its instruction
 abbrev pub image_of : Output → ListedFunction → Image
-image_of o f = record { text = o.text; low = f.low; lines = flat_map (λ l. code_line l.address l.item.origin l.item.kind) (flat_map (λ b. b.lines) (blocks_of f)) }
+image_of o f = record { text = o.text; low = f.low; lines = flat_map (λ l. code_line l.address l.item.origin l.item.kind) (lines_of f) }
 
 -- the bytes of the section of lists give a variable of a function a place at an address: the list that a line of the variable
 -- names says it there
@@ -65,6 +71,31 @@ unsubstituted f = record { function = f; substitutions = [] }
 pub record OfEach (P : SourceFunction → ListedFunction → Type 0) (sources : List SourceFunction) (listed : List ListedFunction) : Type 0 where
   pub as_many : length listed ≡ length sources
   pub each : (n : ℕ) (source : SourceFunction) (f : ListedFunction) → slice_get sources n ≡ Some source → slice_get listed n ≡ Some f → P source f
+
+-- the address after an item: a call has two words, other code one, and a debug item none
+abbrev pub past_item : ℕ → ItemKind → ℕ
+past_item a (Code i k) = a + cond (is_call (row_of i)) 8 4
+past_item a kind = a
+
+-- lines lie one after the other between two addresses. Code has its address, and a debug item none
+abbrev pub LinesLie : ℕ → List ItemLine → ℕ → Type 0
+LinesLie a [] b = a ≡ b
+LinesLie a (l ∷ ls) b = (l.address ≡ start_of a (is_code l.item.kind)) × LinesLie (past_item a l.item.kind) ls b
+
+-- so do functions: each begins where the one before it ends
+abbrev pub FunctionsLie : ℕ → List ListedFunction → ℕ → Type 0
+FunctionsLie a [] b = a ≡ b
+FunctionsLie a (f ∷ fs) b = (f.low ≡ a) × FunctionsLie f.high fs b
+
+-- what is listed of a source has its name, and all lines between its first address and its end
+pub record IsLaidOut (source : SourceFunction) (f : ListedFunction) : Type 0 where
+  pub named : f.name ≡ source.function.name
+  pub lines : LinesLie f.low (lines_of f) f.high
+
+-- each source is laid out so, and their functions fill `.text`
+pub record AreLaidOut (sources : List SourceFunction) (o : Output) : Type 0 where
+  pub each : OfEach IsLaidOut sources o.functions
+  pub functions : FunctionsLie 0 o.functions (length o.text)
 
 -- the headline of a source and what is listed of it: from every start, for every script and number of steps, the machine on the
 -- function's code stands where its lines say the source stands, with the source's events and result, and what the section gives

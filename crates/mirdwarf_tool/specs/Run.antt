@@ -9,7 +9,7 @@ use Rattle.mirdwarf_tool.specs.declared.fault.Fault.{Fault}
 use Rattle.mirdwarf_tool.specs.declared.fault.Fault.TheVariants.{Usage, Read, TooLong, NotBuilt, Write, Memory}
 use Rattle.mirdwarf_tool.specs.Command.{IsCommand}
 use Rattle.mirdwarf_tool.specs.Shown.{OfShown, not_inlined}
-use Rattle.mirdwarf_tool.specs.Promise.{SourceFunction, unsubstituted, Promises, IsExact, ListsSources}
+use Rattle.mirdwarf_tool.specs.Promise.{SourceFunction, unsubstituted, AreLaidOut, Promises, IsExact, ListsSources}
 use Rattle.mirdwarf_tool.specs.Compiled.{Compiles}
 
 -- the input was read to its end, and these were its bytes
@@ -47,7 +47,7 @@ pub record Finishes (before after written written_after : Option (List ℕ)) : T
 pub data StandsForAll (text : List ℕ) : List SourceFunction → (inlined : ℕ → Option ℕ) → Type 0 where
   one : {f : Function} → Stands text f → StandsForAll text (unsubstituted f ∷ []) not_inlined
 
--- a text was read that stands for functions, and bytes were written
+-- a text was read that stands for functions, and bytes were written that show each of them laid out
 pub record HasWritten (before after written written_after : Option (List ℕ)) : Type 0 where
   pub text : List ℕ
   pub read : HasRead before after text
@@ -56,6 +56,7 @@ pub record HasWritten (before after written written_after : Option (List ℕ)) :
   pub stands : StandsForAll text sources inlined
   pub bytes : List ℕ
   pub whole : Appends written written_after bytes
+  pub laid_out : OfShown inlined (AreLaidOut sources) bytes
 
 -- the headline holds of what was read and what was written, for each function: from every start, for every script and number of
 -- steps, the machine on the code that the bytes show stands where their lines say the source stands, with the source's events
