@@ -103,7 +103,7 @@ pub record AreLaidOut (sources : List SourceFunction) (o : Output) : Type 0 wher
 abbrev pub MeetsHeadline : Output → SourceFunction → ListedFunction → Type 0
 MeetsHeadline o source f = Headline source.function.blocks (resolve source.substitutions) (image_of o f) (Gives o f)
 
--- an access at an offset from x2, as its word makes it, is one of the frame slot with that offset: no other code names x2
+-- an access at an offset from x2, as its word makes it, is one of the frame slot with that offset: no other access goes by x2
 abbrev pub raised_by : Row → Instruction → Instruction
 raised_by (Loads rd Ld (suc (suc zero)) n) i = record { op = Ld; operands = Def rd ∷ Slot n ∷ Imm (pos 0) ∷ drop 3 i.operands }
 raised_by (Stores Sd rs (suc (suc zero)) n) i = record { op = Sd; operands = Use rs ∷ Slot n ∷ Imm (pos 0) ∷ drop 3 i.operands }
