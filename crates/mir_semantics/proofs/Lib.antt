@@ -4,3 +4,4 @@ pub mod History
 pub mod Numbers
 pub mod Inside
 pub mod Stepping
+pub mod Again

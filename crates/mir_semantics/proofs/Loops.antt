@@ -1,5 +1,5 @@
 -- One turn of each loop over memory and registers.
-use Rattle.std.proofs.Common.{◌≡◌, ◌≢◌, ℕ, zero, suc, ◌+◌, ◌-◌, ◌*◌, ◌/◌, ◌%◌, ◌^◌, ◌<◌, ◌≤◌, List, [], ◌∷◌, length, Option, Some, None, Bool, true, false, cond, refl, sym, ap, subst, ◌∙◌, inl, inr, drop, get_or, arith, get_or-set_other, get_or-set_same}
+use Rattle.std.proofs.Common.{◌≡◌, ◌≢◌, ℕ, zero, suc, ◌+◌, ◌-◌, ◌*◌, ◌/◌, ◌%◌, ◌^◌, ◌<◌, ◌≤◌, List, [], ◌∷◌, length, Option, Some, None, Bool, true, false, cond, refl, sym, ap, subst, ◌∙◌, inl, inr, drop, get_or, arith, get_or-set_other, get_or-set_same, length-set}
 use Rattle.std.proofs.Math.Seq.{drop-cons}
 use Rattle.std.proofs.Math.Nat.{pow-le-pow_right}
 use Rattle.std.proofs.lemmas.Nat.{pow-add}
@@ -13,7 +13,7 @@ use Rattle.mir_func.specs.Sound.{AreApart, ids_of}
 use Rattle.mir_func.specs.meaning.Graph.{from_block}
 use Rattle.std.specs.Map.{lookup}
 use Rattle.mir_func.specs.meaning.State.{updated, content, put, put_all, spelled, stored, low_bytes, written, in_frame, touches_frame}
-use Rattle.mir_semantics.specs.Places.{RegistersHold, MemoryHolds, some_writes}
+use Rattle.mir_semantics.specs.Places.{AreRegisters, RegistersHold, MemoryHolds, some_writes}
 
 -- ---- the frame
 pub touches_later : (e a k n : ℕ) → k < n → in_frame e ((a + k) % 2 ^ 64) ≡ false → touches_frame e (a + (k + 1)) (n - (k + 1)) ≡ touches_frame e (a + k) (n - k)
@@ -80,6 +80,11 @@ spelled_turn f a n i lt =
     turned x y = omega arith
 
 -- ---- registers
+pub set_keeps : (xs : List (Option ℕ)) (k v : ℕ) → AreRegisters xs → 0 < k → AreRegisters (slice_set xs k (Some v))
+set_keeps xs k v are lt =
+    let ne : zero ≢ k = λ e. omega (arith, e, lt) in
+    record { long = length-set xs k (Some v) ∙ are.long; zero = get_or-set_other xs k 0 (Some v) None ne ∙ are.zero }
+
 pub put_holds : (xs : List (Option ℕ)) (f : ℕ → Option ℕ) (r v : ℕ) → 0 < r → r < length xs → RegistersHold xs f → RegistersHold (slice_set xs r (Some v)) (put r v f)
 put_holds xs f zero v pos lt h q = absurd (omega arith)
 put_holds xs f (suc r) v pos lt h zero =

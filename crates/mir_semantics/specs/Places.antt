@@ -1,7 +1,12 @@
 -- Registers, frame slots and memory as they are kept, and the functions of the definitions that they stand for.
-use Rattle.std.specs.Prelude.{◌≡◌, ℕ, List, [], ◌∷◌, Option, Some, None, cond, nat_eq, nat_lt, slice_index, slice_index_or, unwrap_or}
+use Rattle.std.specs.Prelude.{◌≡◌, ℕ, List, [], ◌∷◌, Option, Some, None, cond, nat_eq, nat_lt, slice_index, slice_index_or, unwrap_or, length}
 use Rattle.std.specs.Map.{lookup}
 use Rattle.mir_func.specs.meaning.State.{content}
+
+-- there is a place for each register, and x0 holds 0
+pub record AreRegisters (xs : List (Option ℕ)) : Type 0 where
+  pub long : length xs ≡ 4128
+  pub zero : slice_index_or xs 0 None ≡ Some 0
 
 -- each register holds what the list says: nothing where it is unwritten
 abbrev pub RegistersHold : List (Option ℕ) → (ℕ → Option ℕ) → Type 0

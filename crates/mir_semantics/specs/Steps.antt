@@ -3,7 +3,7 @@ use Rattle.std.specs.Prelude.{◌≡◌, ℕ, List, [], Option, true}
 use Rattle.rv64_instr.specs.declared.start.Answer.{Answer}
 use Rattle.mir_func.specs.declared.block.Block.{Block}
 use Rattle.mir_func.specs.declared.entry.Entry.{Entry}
-use Rattle.mir_func.specs.meaning.State.{State}
+use Rattle.mir_func.specs.meaning.State.{Event, Reply, State}
 use Rattle.mir_func.specs.meaning.Step as step
 use Rattle.mir_func.specs.meaning.Step.{Next, Program}
 use Rattle.mir_func.specs.meaning.Graph.{program_of, FetchEdge}
@@ -58,3 +58,15 @@ abbrev pub position_after : Outcome → Pos → Pos
 position_after Falls p = below p
 position_after (Goes n) p = block_start n
 position_after _ p = p
+
+-- what is kept stands for a state with this script and these events
+pub record IsState (c : Concrete) (script : List Reply) (events : List Event) : Type 0 where
+  pub state : State
+  pub stands : StandsFor c state
+  pub same_script : state.core.script ≡ script
+  pub same_events : state.core.events ≡ events
+
+-- where a step returned and changed nothing, each later step returns too, whatever answer it is given
+abbrev pub ReturnsAgain : Type 0
+ReturnsAgain = (g : Program) (answer other : Option Answer) (r : SourceStep) (kept new : Concrete) → ((script : List Reply) (events : List Event) → IsState kept script events) →
+    Steps g answer Returned kept kept → Steps g other r kept new → r ≡ Returned

@@ -1,4 +1,4 @@
-ghost use Rattle.std.specs.Prelude.{◌≡◌, ◌<◌, ℕ, Option, None, IfOk, slice_index_or};
+ghost use Rattle.std.specs.Prelude.{◌≡◌, ◌<◌, ℕ, Option, Some, None, IfOk, slice_index_or};
 ghost use Rattle.rv64_instr.specs.Access.{caller_saved};
 ghost use Rattle.mir_func.specs.meaning.State.{put, put_all};
 ghost use Rattle.mir_semantics.specs.Places.{RegistersHold, starting_registers};
@@ -18,13 +18,15 @@ pub struct Registers {
 }
 
 impl Model for Registers {
-    ghost use Rattle.std.specs.Prelude.{◌≡◌, ℕ, List, Option, length};
+    ghost use Rattle.std.specs.Prelude.{ℕ, List, Option};
 
     ghost Value = { List (Option ℕ) };
 
     ghost view = { λ r. r.contents.items };
 
-    ghost invariant = { λ r. length r.contents.items ≡ 4128 };
+    ghost use Rattle.mir_semantics.specs.Places.{AreRegisters};
+
+    ghost invariant = { λ r. AreRegisters r.contents.items };
 }
 
 impl Registers {
@@ -45,6 +47,13 @@ impl Registers {
         ensures { result ≡ slice_index_or self.now r None }
     {
         self.contents[r.number() as usize]
+    }
+
+    /// x0 holds 0.
+    pub fn hold_zero(&self)
+        ensures { slice_index_or self.now 0 None ≡ Some 0 }
+    {
+        let _ = &self.contents;
     }
 
     /// Sets a register. x0 drops writes.

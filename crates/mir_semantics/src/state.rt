@@ -2,13 +2,13 @@ ghost use Rattle.std.specs.Prelude.{◌≡◌, ◌<◌, ◌+◌, ◌^◌, true, 
 ghost use Rattle.std.specs.Option.{option_copied};
 ghost use Rattle.rv64_instr.specs.declared.start.Answer.{Answer};
 ghost use Rattle.mir_func.specs.declared.entry.Entry.{Entry};
-ghost use Rattle.mir_func.specs.meaning.State.{Core, State, assigned};
+ghost use Rattle.mir_func.specs.meaning.State.{Core, Event, Reply, State, assigned};
 ghost use Rattle.mir_func.specs.meaning.Step as step;
 ghost use Rattle.mir_func.specs.meaning.Graph.{program_of, fetch_in};
 ghost use Rattle.mir_func.specs.meaning.Resolve.{resolve};
 ghost use Rattle.mir_func.specs.meaning.Follow.{first_of};
 ghost use Rattle.mir_semantics.specs.StandsFor.{DoesItem, Holds, StandsFor, Starts, IsPosition, AreCounted};
-ghost use Rattle.mir_semantics.specs.Steps.{Steps, StepsFrom, ChangesOnlyByGoing, GoesAlong, source_of, step_after, position_after};
+ghost use Rattle.mir_semantics.specs.Steps.{IsState, ReturnsAgain, Steps, StepsFrom, ChangesOnlyByGoing, GoesAlong, source_of, step_after, position_after};
 ghost use Rattle.rv64_instr.specs.Row.{row_of};
 
 use crate::blocks;
@@ -92,6 +92,13 @@ impl SourceState {
         ensures { result ≡ self.now.pos }
     {
         self.pos
+    }
+
+    /// What is kept stands for a state of the run, whatever answers are to come and whatever was shown.
+    pub fn stands_for_a_state(&self)
+        ensures { (script : List Reply) (events : List Event) → IsState self.now script events }
+    {
+        self.machine.registers.hold_zero();
     }
 
     /// What a variable was assigned last. None where nothing was assigned to it yet, or its last assignment gave no
@@ -336,6 +343,11 @@ fn are_counted(blocks: &[Block]) -> bool
     }
     true
 }
+
+/// A step that returned changes nothing, and each later step returns too.
+pub fn returns_again()
+    ensures { ReturnsAgain }
+{}
 
 /// The number of the first block.
 fn first(blocks: &[Block]) -> u32
