@@ -7,9 +7,10 @@ use Rattle.rv64_instr.specs.Row.{Row, Fixes, Moves, Sets, implicit_uses}
 use Rattle.rv64_word.specs.declared.machine_op.MachineOp.{MachineOp}
 use Rattle.rv64_word.specs.MachineRow.{MachineRow}
 use Rattle.mir_func.specs.declared.variable.VarId.{VarId}
-use Rattle.mir_func.specs.meaning.State.{Core, State, content, assigned}
-use Rattle.mir_func.specs.meaning.Step.{Program, or_zero}
-use Rattle.mir_func.specs.meaning.Token.{Token, Fixed, Tokens}
+use Rattle.mir_meaning.specs.State.{Core, State, content, assigned}
+use Rattle.mir_meaning.specs.Step.{or_zero}
+use Rattle.mir_func.specs.Graph.{Program}
+use Rattle.mir_meaning.specs.Token.{Token, Fixed, Tokens}
 use Rattle.path_tokens.specs.Trace.{Trace, Names, NamesAlong, HasRegisters}
 use Rattle.path_tokens.specs.Trace as trace
 use Rattle.code_layout.specs.Image.{CodeLine, Image, word_at}

@@ -9,10 +9,10 @@ use Rattle.mir_func.specs.declared.block.Block.{Block}
 use Rattle.mir_func.specs.declared.item.Item.{Item}
 use Rattle.mir_func.specs.declared.item.ItemKind.{ItemKind}
 use Rattle.mir_func.specs.declared.item.ItemKind.TheVariants.{Code}
-use Rattle.mir_func.specs.meaning.Step.{Fetch, Here, Silent, Program, below, block_start}
-use Rattle.mir_func.specs.meaning.Graph.{front, framed_program, Edge, RowEdge, KindEdge, FetchEdge}
-use Rattle.mir_func.specs.meaning.Align.{is_code}
-use Rattle.mir_func.specs.meaning.Token.{Tokens, after_item, after_fetch, entry_tokens, variable_token, place_token, Path, begin, onward, SitsIn, IsWanted, NoneIsWanted}
+use Rattle.mir_func.specs.Graph.{Fetch, Here, Silent, Program, below, block_start}
+use Rattle.mir_func.specs.Graph.{front, framed_program, Edge, RowEdge, KindEdge, FetchEdge}
+use Rattle.mir_meaning.specs.Align.{is_code}
+use Rattle.mir_meaning.specs.Token.{Tokens, after_item, after_fetch, entry_tokens, variable_token, place_token, Path, begin, onward, SitsIn, IsWanted, NoneIsWanted}
 use Rattle.code_layout.specs.Straight.{IsPlainRow, IsStraight, returns, goes_on, marks, Holds}
 use Rattle.code_layout.specs.Exact.{IsFirst, GiveFirstAt, GiveFirstIf, GiveFirst, address_at, IsPointOf, StraightListsAreExact}
 use Rattle.code_layout.proofs.Laid.{drop_one, drop_zero}

@@ -11,7 +11,7 @@ use Rattle.mir_func.specs.declared.variable.MarkValue.{MarkValue}
 use Rattle.mir_func.specs.declared.item.Item.{Item}
 use Rattle.mir_func.specs.declared.item.ItemKind.{ItemKind}
 use Rattle.mir_func.specs.declared.item.ItemKind.TheVariants.{Code, Mark}
-use Rattle.mir_func.specs.meaning.Align.{is_code}
+use Rattle.mir_meaning.specs.Align.{is_code}
 use Rattle.code_layout.specs.Image.{CodeLine}
 use Rattle.code_layout.specs.MachineStep.{return_word}
 use Rattle.code_layout.specs.Straight.{IsPlainRow, IsWordOf, IsStraight, line_of, lines_of}

@@ -12,10 +12,10 @@ use Rattle.mir_func.specs.declared.variable.MarkValue.TheVariants.{Nothing, Cons
 use Rattle.mir_func.specs.declared.item.Item.{Item}
 use Rattle.mir_func.specs.declared.item.ItemKind.{ItemKind}
 use Rattle.mir_func.specs.declared.item.ItemKind.TheVariants.{Code, Mark, Phi}
-use Rattle.mir_func.specs.meaning.State.{updated, assigned, is_same}
-use Rattle.mir_func.specs.meaning.Step.{is_call, defined}
-use Rattle.mir_func.specs.meaning.Align.{is_code}
-use Rattle.mir_func.specs.meaning.Token.{Token, Entry, Made, Fixed, Tokens, register_token, put_token, make_all, moved_tokens, sets_pointer, code_tokens, given_token, numbered_tokens, place_token, pair_token, mark_token, after_item, entry_tokens, variable_token}
+use Rattle.mir_meaning.specs.State.{updated, assigned, is_same}
+use Rattle.mir_meaning.specs.Step.{is_call, defined}
+use Rattle.mir_meaning.specs.Align.{is_code}
+use Rattle.mir_meaning.specs.Token.{Token, Entry, Made, Fixed, Tokens, register_token, put_token, make_all, moved_tokens, sets_pointer, code_tokens, given_token, numbered_tokens, place_token, pair_token, mark_token, after_item, entry_tokens, variable_token}
 use Rattle.code_layout.specs.Straight.{Holds}
 use Rattle.code_layout.specs.Exact.{IsFirst, GiveFirstAt, GiveFirstIf, GiveFirst}
 

@@ -6,9 +6,9 @@ use Rattle.rv64_instr.specs.declared.operand.Operand.{Operand}
 use Rattle.rv64_instr.specs.Arithmetic.{computed}
 use Rattle.rv64_instr.specs.Row.{Input, Content, Number, Row, Fixes, Moves, Sets, Returns}
 use Rattle.rv64_instr.specs.Access.{input_reads}
-use Rattle.mir_func.specs.meaning.State.{Core, content, put}
-use Rattle.mir_func.specs.meaning.Step.{Outcome, Falls, Gives, Traps, act, does, read, or_zero, input_value, are_written, numbered}
-use Rattle.mir_func.specs.meaning.Step as source
+use Rattle.mir_meaning.specs.State.{Core, content, put}
+use Rattle.mir_meaning.specs.Step.{Outcome, Falls, Gives, Traps, act, does, read, or_zero, input_value, are_written, numbered}
+use Rattle.mir_meaning.specs.Step as source
 use Rattle.code_layout.specs.Machine.{Machine, register, register_in, input, set_in}
 use Rattle.code_layout.specs.MachineStep.{Continues, past, set_register, does_row}
 use Rattle.code_layout.specs.Straight.{IsPlainInput, IsPlainRow}

@@ -14,15 +14,16 @@ use Rattle.mir_func.specs.declared.block.Block.{Block}
 use Rattle.mir_func.specs.declared.item.Item.{Item}
 use Rattle.mir_func.specs.declared.item.ItemKind.{ItemKind}
 use Rattle.mir_func.specs.declared.item.ItemKind.TheVariants.{Code, Mark}
-use Rattle.mir_func.specs.meaning.State.{Core, State}
-use Rattle.mir_func.specs.meaning.Step.{Fetch, Here, Program, Outcome, Falls, Gives, Went, Returned, act, read, or_zero, is_call, numbered, with_core, mark_value, do_item, step, below}
-use Rattle.mir_func.specs.meaning.Step as source
-use Rattle.mir_func.specs.meaning.Graph.{front, fetch_in, program_of}
-use Rattle.mir_func.specs.meaning.Follow.{IsStart}
-use Rattle.mir_func.specs.meaning.Align.{is_code, waits_at, since_of, Since, Start, Same, After, First, Arrives, here, onward, Aligns, Tells}
-use Rattle.mir_func.specs.meaning.Token.{Tokens, after_item, after_fetch, entry_tokens}
-use Rattle.mir_func.proofs.Alignment.{aligns_once}
-use Rattle.mir_func.proofs.Outcomes.{step_item}
+use Rattle.mir_meaning.specs.State.{Core, State}
+use Rattle.mir_meaning.specs.Step.{Outcome, Falls, Gives, Went, Returned, act, read, or_zero, is_call, numbered, with_core, mark_value, do_item, step}
+use Rattle.mir_func.specs.Graph.{Fetch, Here, Program, below}
+use Rattle.mir_meaning.specs.Step as source
+use Rattle.mir_func.specs.Graph.{front, fetch_in, program_of}
+use Rattle.mir_meaning.specs.Follow.{IsStart}
+use Rattle.mir_meaning.specs.Align.{is_code, waits_at, since_of, Since, Start, Same, After, First, Arrives, here, onward, Aligns, Tells}
+use Rattle.mir_meaning.specs.Token.{Tokens, after_item, after_fetch, entry_tokens}
+use Rattle.mir_meaning.proofs.Alignment.{aligns_once}
+use Rattle.mir_meaning.proofs.Outcomes.{step_item}
 use Rattle.path_tokens.specs.Trace.{Trace, Names, NamesAlong, HasRegisters}
 use Rattle.path_tokens.specs.Trace as trace
 use Rattle.path_tokens.proofs.Along.{tokens_name_values}

@@ -5,10 +5,10 @@ use Rattle.mir_func.specs.declared.position.Pos.{Pos}
 use Rattle.mir_func.specs.declared.variable.VarId.{VarId}
 use Rattle.mir_func.specs.declared.block.Block.{Block}
 use Rattle.mir_func.specs.declared.item.Item.{Item}
-use Rattle.mir_func.specs.meaning.Step.{Program, block_start}
-use Rattle.mir_func.specs.meaning.Graph.{framed_program}
-use Rattle.mir_func.specs.meaning.Align.{is_code}
-use Rattle.mir_func.specs.meaning.Token.{Tokens, after_item, entry_tokens, IsPlace, Precedes, IsWanted, NoneIsWanted}
+use Rattle.mir_func.specs.Graph.{Program, block_start}
+use Rattle.mir_func.specs.Graph.{framed_program}
+use Rattle.mir_meaning.specs.Align.{is_code}
+use Rattle.mir_meaning.specs.Token.{Tokens, after_item, entry_tokens, IsPlace, Precedes, IsWanted, NoneIsWanted}
 use Rattle.code_layout.specs.Straight.{Holds, IsStraight}
 
 -- location lists are exact for a function: at each address of a point of it they give a variable a place exactly where that is

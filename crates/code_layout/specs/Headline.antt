@@ -3,11 +3,12 @@ use Rattle.std.specs.Prelude.{◌≡◌, ◌⊎◌, ℕ, List, Option, Some, fal
 use Rattle.rv64_instr.specs.declared.place.Place.{Place}
 use Rattle.mir_func.specs.declared.variable.VarId.{VarId}
 use Rattle.mir_func.specs.declared.block.Block.{Block}
-use Rattle.mir_func.specs.meaning.State.{State}
-use Rattle.mir_func.specs.meaning.Step.{Program, Returned, step}
-use Rattle.mir_func.specs.meaning.Graph.{program_of}
-use Rattle.mir_func.specs.meaning.Follow.{first_of, IsStart}
-use Rattle.mir_func.specs.meaning.Align.{position_of, waits_at, since_of, Since, Start, First, Aligns, FailsBefore, Tells}
+use Rattle.mir_meaning.specs.State.{State}
+use Rattle.mir_meaning.specs.Step.{Returned, step}
+use Rattle.mir_func.specs.Graph.{Program}
+use Rattle.mir_func.specs.Graph.{program_of}
+use Rattle.mir_meaning.specs.Follow.{first_of, IsStart}
+use Rattle.mir_meaning.specs.Align.{position_of, waits_at, since_of, Since, Start, First, Aligns, FailsBefore, Tells}
 use Rattle.code_layout.specs.Image.{CodeLine, Image, line_at}
 use Rattle.code_layout.specs.Machine.{Machine, place_content, machine_start}
 use Rattle.code_layout.specs.MachineStep.{Continues, Ends, machine_step, Comes, IsWell}

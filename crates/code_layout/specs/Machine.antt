@@ -4,8 +4,8 @@ use Rattle.rv64_instr.specs.declared.place.Place.{Place}
 use Rattle.rv64_instr.specs.declared.place.Place.TheVariants.{Register, Slot, Const}
 use Rattle.rv64_instr.specs.Arithmetic.{word}
 use Rattle.rv64_instr.specs.Row.{Input, Content, Number}
-use Rattle.mir_func.specs.meaning.State.{Event, Reply, State, updated, spelled}
-use Rattle.mir_func.specs.meaning.Step.{read}
+use Rattle.mir_meaning.specs.State.{Event, Reply, State, updated, spelled}
+use Rattle.mir_meaning.specs.Step.{read}
 use Rattle.code_layout.specs.Image.{Image}
 
 -- the content of x2 at entry, the counter, 32 registers, the bytes of memory, the answers to calls that are left, and the

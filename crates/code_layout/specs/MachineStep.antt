@@ -5,7 +5,7 @@ use Rattle.rv64_instr.specs.Row.{Row, Fixes, Moves, Sets, Loads, Stores, Branche
 use Rattle.rv64_instr.specs.Access.{caller_saved}
 use Rattle.rv64_word.specs.declared.machine_op.MachineOp.{MachineOp}
 use Rattle.rv64_word.specs.MachineRow.{MachineRow, Does, Links, LinksTo, machine_row}
-use Rattle.mir_func.specs.meaning.State.{Called, Wrote, Event, Reply, spelled, low_bytes, stored, written, touches_frame}
+use Rattle.mir_meaning.specs.State.{Called, Wrote, Event, Reply, spelled, low_bytes, stored, written, touches_frame}
 use Rattle.code_layout.specs.Image.{CodeLine, Image, line_at, word_at}
 use Rattle.rv64_word.specs.Decoded.{decoded}
 use Rattle.code_layout.specs.Machine.{Machine, register, input, set_in, set_all_in, address_of}

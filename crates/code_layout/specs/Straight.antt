@@ -16,8 +16,8 @@ use Rattle.mir_func.specs.declared.item.Item.{Item}
 use Rattle.mir_func.specs.declared.item.ItemKind.{ItemKind}
 use Rattle.mir_func.specs.declared.item.ItemKind.TheVariants.{Code, Mark}
 use Rattle.mir_func.specs.declared.block.Block.{Block}
-use Rattle.mir_func.specs.meaning.Align.{is_code}
-use Rattle.mir_func.specs.meaning.Token.{Token, Tokens, after_item, variable_token, place_token}
+use Rattle.mir_meaning.specs.Align.{is_code}
+use Rattle.mir_meaning.specs.Token.{Token, Tokens, after_item, variable_token, place_token}
 use Rattle.code_layout.specs.Image.{CodeLine, Image}
 use Rattle.code_layout.specs.MachineStep.{return_word}
 

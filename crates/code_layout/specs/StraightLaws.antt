@@ -3,12 +3,12 @@ use Rattle.std.specs.Prelude.{◌≡◌, ℕ, [], ◌∷◌, Option, Some, true}
 use Rattle.rv64_instr.specs.declared.place.Place.{Place}
 use Rattle.mir_func.specs.declared.variable.VarId.{VarId}
 use Rattle.mir_func.specs.declared.block.Block.{Block}
-use Rattle.mir_func.specs.meaning.State.{Core, State}
-use Rattle.mir_func.specs.meaning.Step.{read}
-use Rattle.mir_func.specs.meaning.Graph.{program_of}
-use Rattle.mir_func.specs.meaning.Follow.{IsStart}
-use Rattle.mir_func.specs.meaning.Align.{Since}
-use Rattle.mir_func.specs.meaning.Token.{entry_tokens}
+use Rattle.mir_meaning.specs.State.{Core, State}
+use Rattle.mir_meaning.specs.Step.{read}
+use Rattle.mir_func.specs.Graph.{program_of}
+use Rattle.mir_meaning.specs.Follow.{IsStart}
+use Rattle.mir_meaning.specs.Align.{Since}
+use Rattle.mir_meaning.specs.Token.{entry_tokens}
 use Rattle.code_layout.specs.Image.{CodeLine, Image, line_at}
 use Rattle.code_layout.specs.Machine.{Machine, register, machine_start}
 use Rattle.code_layout.specs.Headline.{AlignsWith, MachineAlong, Headline}

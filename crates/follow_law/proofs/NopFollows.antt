@@ -16,15 +16,16 @@ use Rattle.mir_func.specs.declared.item.ItemKind.{ItemKind}
 use Rattle.mir_func.specs.declared.item.ItemKind.TheVariants.{Code, Mark, Phi}
 use Rattle.mir_func.specs.Function.{Function}
 use Rattle.mir_func.specs.Sound.{items_of, number_of, NumbersOnce, OriginIn, IsSound}
-use Rattle.mir_func.specs.meaning.State.{Core, State}
-use Rattle.mir_func.specs.meaning.Step.{Here, Program, Falls, Goes, Traps, act, does, slot_loaded, with_core, is_call, are_written, numbered, do_item}
-use Rattle.mir_func.specs.meaning.Graph.{fetch_in, from_block, program_of}
-use Rattle.mir_func.specs.meaning.Resolve.{resolve}
-use Rattle.mir_func.specs.meaning.Align.{is_jump, is_jump_row, waits_at, moves_on, Count, ByItems, ByEnds, station_at, AnyOrigin, RunsAlong, After, since_of}
-use Rattle.mir_func.specs.meaning.Follow.{MayAdd, KindFits, MarkFits, InOrder, next_rank, Among, none, same, left, first_of, OnRow, GoesTo, IsSlotSave, Shape, IsStart, SameEnd, IsEnd, KindsEndAlike, EndIsKept, EndComesFrom}
-use Rattle.mir_func.proofs.Reading.{found_in, front_item, within_list}
-use Rattle.mir_func.proofs.Order.{rank_next}
-use Rattle.mir_func.proofs.Told.{tells_itself}
+use Rattle.mir_meaning.specs.State.{Core, State}
+use Rattle.mir_meaning.specs.Step.{Falls, Goes, Traps, act, does, slot_loaded, with_core, is_call, are_written, numbered, do_item}
+use Rattle.mir_func.specs.Graph.{Here, Program}
+use Rattle.mir_func.specs.Graph.{fetch_in, from_block, program_of}
+use Rattle.mir_func.specs.Resolve.{resolve}
+use Rattle.mir_meaning.specs.Align.{is_jump, is_jump_row, waits_at, moves_on, Count, ByItems, ByEnds, station_at, AnyOrigin, RunsAlong, After, since_of}
+use Rattle.mir_meaning.specs.Follow.{MayAdd, KindFits, MarkFits, InOrder, next_rank, Among, none, same, left, first_of, OnRow, GoesTo, IsSlotSave, Shape, IsStart, SameEnd, IsEnd, KindsEndAlike, EndIsKept, EndComesFrom}
+use Rattle.mir_meaning.proofs.Reading.{found_in, front_item, within_list}
+use Rattle.simulation.proofs.Order.{rank_next}
+use Rattle.mir_meaning.proofs.Told.{tells_itself}
 use Rattle.follow_law.specs.Following.{KeepsFollowing}
 use Rattle.follow_law.specs.Nops.{is_nop_row, is_nop, is_save_row, is_added_save, has_added_saves, stays, thinned_blocks, thinned}
 use Rattle.follow_law.proofs.Thinning.{thin, item_from, item_to}

@@ -10,20 +10,21 @@ use Rattle.mir_func.specs.declared.item.Item.{Item}
 use Rattle.mir_func.specs.declared.item.ItemKind.{ItemKind}
 use Rattle.mir_func.specs.declared.item.ItemKind.TheVariants.{Code, Mark, Phi}
 use Rattle.mir_func.specs.Sound.{AreApart, ids_of, items_of, number_of, code_number, OriginIn}
-use Rattle.mir_func.specs.meaning.State.{Core, State, updated}
-use Rattle.mir_func.specs.meaning.Step.{Program, Outcome, Falls, Goes, Gives, Traps, Asks, Breaks, block_start, act, does, with_core, is_call, numbered, given, defined, place_value, do_item}
-use Rattle.mir_func.specs.meaning.Graph.{from_block, index_of, program_of}
-use Rattle.mir_func.specs.meaning.Align.{is_code, is_jump, is_jump_row, Count, end_station, station_at, IsOrigin, Since, After, AnyOrigin, RunsAlong}
-use Rattle.mir_func.specs.meaning.Follow.{InOrder}
-use Rattle.mir_func.specs.laws.InPlace.{FallsOrTraps, since_item, DoAlike, View, ended, both, taken, paired, InPlace}
-use Rattle.mir_func.proofs.Effects.{told_by, act_apart}
-use Rattle.mir_func.specs.laws.Effects.{EndAlike, OnCore}
-use Rattle.mir_func.proofs.Places.{updated_other}
-use Rattle.mir_func.proofs.Told.{TellsLess, SeesLess, item_less}
-use Rattle.mir_func.proofs.Stations.{moves_on_less, code_station, end_is_station, IsStationOf, of_item, of_end, station_is_of}
-use Rattle.mir_func.proofs.Laid.{rest_in, rest_of, laid_out, in_order_at, one_end, from_home, from_within, from_before_end, falls_down}
-use Rattle.mir_func.proofs.Reading.{found_in}
-use Rattle.mir_func.proofs.InPlace.{in_place_follows}
+use Rattle.mir_meaning.specs.State.{Core, State, updated}
+use Rattle.mir_meaning.specs.Step.{Outcome, Falls, Goes, Gives, Traps, Asks, Breaks, act, does, with_core, is_call, numbered, given, defined, place_value, do_item}
+use Rattle.mir_func.specs.Graph.{Program, block_start}
+use Rattle.mir_func.specs.Graph.{from_block, index_of, program_of}
+use Rattle.mir_meaning.specs.Align.{is_code, is_jump, is_jump_row, Count, end_station, station_at, IsOrigin, Since, After, AnyOrigin, RunsAlong}
+use Rattle.mir_meaning.specs.Follow.{InOrder}
+use Rattle.simulation.specs.InPlace.{FallsOrTraps, since_item, DoAlike, View, ended, both, taken, paired, InPlace}
+use Rattle.mir_meaning.proofs.Effects.{told_by, act_apart}
+use Rattle.mir_meaning.specs.Effects.{EndAlike, OnCore}
+use Rattle.mir_meaning.proofs.Places.{updated_other}
+use Rattle.mir_meaning.proofs.Told.{TellsLess, SeesLess, item_less}
+use Rattle.simulation.proofs.Stations.{moves_on_less, code_station, end_is_station, IsStationOf, of_item, of_end, station_is_of}
+use Rattle.simulation.proofs.Laid.{rest_in, rest_of, laid_out, in_order_at, one_end, from_home, from_within, from_before_end, falls_down}
+use Rattle.mir_meaning.proofs.Reading.{found_in}
+use Rattle.simulation.proofs.InPlace.{in_place_follows}
 use Rattle.follow_law.specs.Nops.{is_nop_row, is_nop, stays, thinned_blocks}
 use Rattle.follow_law.proofs.Thinning.{drop_zero, item_from, end_from, end_there, rest_thin}
 

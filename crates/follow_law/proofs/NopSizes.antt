@@ -8,7 +8,7 @@ use Rattle.mir_func.specs.declared.entry.Entry.{Entry}
 use Rattle.mir_func.specs.declared.item.Item.{Item}
 use Rattle.mir_func.specs.Function.{Function}
 use Rattle.mir_func.specs.Sound.{items_of}
-use Rattle.mir_func.specs.meaning.Align.{is_code}
+use Rattle.mir_meaning.specs.Align.{is_code}
 use Rattle.follow_law.specs.Sizes.{greatest, most_numbers, numbers_of, calls, KindIsPhysical, KeepsSizes}
 use Rattle.follow_law.specs.Nops.{stays, thinned_blocks}
 use Rattle.follow_law.proofs.NopFollows.{each_left}

@@ -13,7 +13,7 @@ use Rattle.mir_func.specs.declared.item.ItemKind.{ItemKind}
 use Rattle.mir_func.specs.declared.item.ItemKind.TheVariants.{Code, Mark, Phi}
 use Rattle.mir_func.specs.Function.{Function}
 use Rattle.mir_func.specs.Sound.{AreApart, ids_of, items_of, number_of, code_number, NumbersOnce, OriginIn, TargetsIn, SlotsIn, LeavesPointer, Exit, Onward, Perhaps, Always, Final, row_exit, exit_of, IsJumpAtMost, MayFollow, EndsWell, Closes, LastCloses, IsSound}
-use Rattle.mir_func.proofs.Reading.{within_list}
+use Rattle.mir_meaning.proofs.Reading.{within_list}
 use Rattle.follow_law.specs.Nops.{is_nop_row, is_nop, stays, thinned_blocks}
 use Rattle.follow_law.proofs.Thinning.{thin}
 use Rattle.follow_law.proofs.NopFollows.{each_left, origin_thin, stays_else}

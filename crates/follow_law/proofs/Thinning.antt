@@ -3,9 +3,9 @@ use Rattle.std.proofs.Common.{◌≡◌, ℕ, zero, suc, List, [], ◌∷◌, ma
 use Rattle.mir_func.specs.declared.position.Pos.{Pos}
 use Rattle.mir_func.specs.declared.block.Block.{Block}
 use Rattle.mir_func.specs.declared.item.Item.{Item}
-use Rattle.mir_func.specs.meaning.Step.{Here, Silent, Program, block_start}
-use Rattle.mir_func.specs.meaning.Graph.{end_of, front, fetch_in, from_block, program_of}
-use Rattle.mir_func.proofs.Laid.{rest_in, rest_of}
+use Rattle.mir_func.specs.Graph.{Here, Silent, Program, block_start}
+use Rattle.mir_func.specs.Graph.{end_of, front, fetch_in, from_block, program_of}
+use Rattle.simulation.proofs.Laid.{rest_in, rest_of}
 
 -- the first of what is left from an index on
 first_of_front : (xs : List Item) (k : ℕ) (bs : List Block) (y : Item) → front xs k bs ≡ Here y → (more : List Item) × (xs ≡ y ∷ more)

@@ -21,10 +21,10 @@ use Rattle.mir_func.specs.declared.block.Block.{Block}
 use Rattle.mir_func.specs.declared.entry.Entry.{Entry}
 use Rattle.mir_func.specs.Function.{Function}
 use Rattle.mir_func.specs.Sound.{items_of, number_of}
-use Rattle.mir_func.specs.meaning.Step.{Here}
-use Rattle.mir_func.specs.meaning.Graph.{fetch_in, from_block}
-use Rattle.mir_func.specs.meaning.Resolve.{entry_of, Ends}
-use Rattle.mir_func.specs.meaning.Align.{position_of}
+use Rattle.mir_func.specs.Graph.{Here}
+use Rattle.mir_func.specs.Graph.{fetch_in, from_block}
+use Rattle.mir_func.specs.Resolve.{entry_of, Ends}
+use Rattle.mir_meaning.specs.Align.{position_of}
 use Rattle.follow_law.specs.declared.loss.Reason.{Reason}
 use Rattle.follow_law.specs.declared.loss.Reason.TheVariants.{Removed, WrongPlace, Scratch, Bypassed, Unreachable}
 use Rattle.follow_law.specs.declared.loss.Lost.TheVariants as lost

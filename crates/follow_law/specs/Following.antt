@@ -3,8 +3,8 @@ use Rattle.std.specs.Prelude.{List, Bool, IsTrue}
 use Rattle.mir_func.specs.declared.entry.Entry.{Entry}
 use Rattle.mir_func.specs.Function.{Function}
 use Rattle.mir_func.specs.Sound.{IsSound}
-use Rattle.mir_func.specs.meaning.Resolve.{resolve}
-use Rattle.mir_func.specs.meaning.Follow.{Follows, HasWholeEnds, IsRead}
+use Rattle.mir_func.specs.Resolve.{resolve}
+use Rattle.mir_meaning.specs.Follow.{Follows, HasWholeEnds, IsRead}
 use Rattle.follow_law.specs.Change.{Change}
 
 -- a source: a function as it was read, with its substitutions

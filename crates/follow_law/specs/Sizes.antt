@@ -12,7 +12,7 @@ use Rattle.mir_func.specs.declared.block.Block.{Block}
 use Rattle.mir_func.specs.declared.entry.Entry.{Entry}
 use Rattle.mir_func.specs.Function.{Function}
 use Rattle.mir_func.specs.Sound.{items_of, AllItems}
-use Rattle.mir_func.specs.meaning.Align.{is_code}
+use Rattle.mir_meaning.specs.Align.{is_code}
 use Rattle.follow_law.specs.Change.{Change}
 
 -- the greatest of some numbers, or 0 where there is none

@@ -6,8 +6,8 @@ use Rattle.mir_func.specs.declared.position.Pos.{Pos}
 use Rattle.mir_func.specs.declared.block.Block.{Block}
 use Rattle.mir_func.specs.declared.item.ItemKind.{ItemKind}
 use Rattle.mir_func.specs.declared.item.ItemKind.TheVariants.{Code, Mark, Phi}
-use Rattle.mir_func.specs.meaning.Step.{Fetch, Here, Silent, Outside, below, block_start}
-use Rattle.mir_func.specs.meaning.Graph.{program_of, RowEdge, KindEdge, FetchEdge, Edge, Leads, stay, go}
+use Rattle.mir_func.specs.Graph.{Fetch, Here, Silent, Outside, below, block_start}
+use Rattle.mir_func.specs.Graph.{program_of, RowEdge, KindEdge, FetchEdge, Edge, Leads, stay, go}
 use Rattle.mir_func.specs.Successors.{pos_in, ComesDown, GoesTo}
 
 -- an edge goes to a block's start, or to the position below

@@ -12,8 +12,8 @@ use Rattle.mir_func.specs.declared.item.ItemKind.TheVariants.{Code, Mark, Phi}
 use Rattle.mir_func.specs.declared.exit.Exit.{Exit}
 use Rattle.mir_func.specs.declared.exit.Exit.TheVariants.{Onward, Perhaps, Always, Final}
 use Rattle.mir_func.specs.Sound.{AreApart, ids_of}
-use Rattle.mir_func.specs.meaning.Step.{Fetch, Here, Silent, Outside, below, block_start}
-use Rattle.mir_func.specs.meaning.Graph.{end_of, front, fetch_in, from_block, program_of, RowEdge, KindEdge, FetchEdge}
+use Rattle.mir_func.specs.Graph.{Fetch, Here, Silent, Outside, below, block_start}
+use Rattle.mir_func.specs.Graph.{end_of, front, fetch_in, from_block, program_of, RowEdge, KindEdge, FetchEdge}
 use Rattle.mir_func.specs.Exits.{row_leaving, leaving}
 use Rattle.mir_func.specs.Successors.{pos_in, GoesTo, ways_from, ways}
 

@@ -3,7 +3,7 @@ pub mod Sound
 pub mod Exits
 pub mod Checks
 pub mod SoundFrame
+pub mod Graph
+pub mod Resolve
 pub mod Strip
 pub mod Successors
-pub mod meaning
-pub mod laws

@@ -6,8 +6,8 @@ use Rattle.mir_func.specs.declared.exit.Exit.{Exit}
 use Rattle.mir_func.specs.declared.exit.Exit.TheVariants.{Onward, Perhaps, Always, Final}
 use Rattle.mir_func.specs.declared.successors.Successors.{Successors}
 use Rattle.mir_func.specs.declared.successors.Successors.TheVariants.{Nowhere, One, Two}
-use Rattle.mir_func.specs.meaning.Step.{Program, below, block_start}
-use Rattle.mir_func.specs.meaning.Graph.{Edge}
+use Rattle.mir_func.specs.Graph.{Program, below, block_start}
+use Rattle.mir_func.specs.Graph.{Edge}
 use Rattle.mir_func.specs.Exits.{leaving}
 
 abbrev pub numbers_of : Successors → List ℕ

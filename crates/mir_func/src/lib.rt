@@ -10,7 +10,6 @@ mod exit;
 pub mod framed;
 pub mod func;
 pub mod item;
-pub mod laws;
 pub mod location;
 mod numbers;
 pub mod position;

@@ -1,6 +1,6 @@
 ghost use Rattle.std.specs.Prelude.{◌≡◌, ◌↔◌, ℕ, ◌<◌, ◌∷◌, Bool, Option, length, slice_index, slice_get, Contains};
 ghost use Rattle.mir_func.specs.Sound.{ids_of, IsJumpAtMost, EndsWell};
-ghost use Rattle.mir_func.specs.meaning.Graph.{program_of};
+ghost use Rattle.mir_func.specs.Graph.{program_of};
 ghost use Rattle.mir_func.specs.Successors.{numbers_of, GoesTo, ways};
 
 use crate::block::Block;

@@ -10,10 +10,10 @@ use Rattle.mir_func.specs.declared.entry.Entry.{Entry}
 use Rattle.mir_func.specs.declared.variable.VarId.{VarId}
 use Rattle.mir_func.specs.declared.variable.MarkValue.{MarkValue}
 use Rattle.mir_func.specs.declared.item.ItemKind.TheVariants.{Mark, Phi}
-use Rattle.mir_func.specs.meaning.State.{Core, updated, assigned, is_same, is_same_node}
-use Rattle.mir_func.specs.meaning.Step.{mark_value, place_value}
-use Rattle.mir_func.specs.meaning.Graph.{program_of}
-use Rattle.mir_func.specs.meaning.Resolve.{resolve, is_pair}
+use Rattle.mir_meaning.specs.State.{Core, updated, assigned, is_same, is_same_node}
+use Rattle.mir_meaning.specs.Step.{mark_value, place_value}
+use Rattle.mir_func.specs.Graph.{program_of}
+use Rattle.mir_func.specs.Resolve.{resolve, is_pair}
 use Rattle.mir_semantics.specs.declared.machine.Outcome.TheVariants.{Falls}
 use Rattle.mir_semantics.specs.StandsFor.{Concrete, flat, PairsHold, MarksHold, Holds, DoesItem, is_key}
 

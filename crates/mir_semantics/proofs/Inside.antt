@@ -12,9 +12,9 @@ use Rattle.mir_func.specs.declared.item.ItemKind.{ItemKind}
 use Rattle.mir_func.specs.declared.item.ItemKind.TheVariants.{Code, Mark, Phi}
 use Rattle.mir_func.specs.Function.{Function}
 use Rattle.mir_func.specs.Sound.{IsSound, Exit, Onward, Perhaps, Always, Final, row_exit, exit_of, TargetIn, TargetsIn, AllItems, ids_of, LastCloses, Closes}
-use Rattle.mir_func.specs.meaning.Step.{Here, Silent, Outside, below, block_start}
-use Rattle.mir_func.specs.meaning.Graph.{fetch_in, front, from_block, FetchEdge, KindEdge, RowEdge}
-use Rattle.mir_func.proofs.Places.{contains_head, contains_tail}
+use Rattle.mir_func.specs.Graph.{Here, Silent, Outside, below, block_start}
+use Rattle.mir_func.specs.Graph.{fetch_in, front, from_block, FetchEdge, KindEdge, RowEdge}
+use Rattle.mir_meaning.proofs.Places.{contains_head, contains_tail}
 use Rattle.mir_semantics.specs.declared.state.SourceStep.{SourceStep}
 use Rattle.mir_semantics.specs.declared.state.SourceStep.TheVariants.{Went, Returned, Fault, Waits}
 use Rattle.mir_semantics.specs.StandsFor.{Concrete, IsPosition}

@@ -10,9 +10,9 @@ use Rattle.std.specs.Option.{option_map}
 use Rattle.std.proofs.lemmas.Option.{slice_get-map, slice_get-get_or}
 use Rattle.mir_func.specs.declared.block.Block.{Block}
 use Rattle.mir_func.specs.Sound.{AreApart, ids_of}
-use Rattle.mir_func.specs.meaning.Graph.{from_block}
+use Rattle.mir_func.specs.Graph.{from_block}
 use Rattle.std.specs.Map.{lookup}
-use Rattle.mir_func.specs.meaning.State.{updated, content, put, put_all, spelled, stored, low_bytes, written, in_frame, touches_frame}
+use Rattle.mir_meaning.specs.State.{updated, content, put, put_all, spelled, stored, low_bytes, written, in_frame, touches_frame}
 use Rattle.mir_semantics.specs.Places.{AreRegisters, RegistersHold, MemoryHolds, some_writes}
 
 -- ---- the frame

@@ -11,11 +11,11 @@ use Rattle.rv64_instr.specs.Instruction.{Instruction}
 use Rattle.rv64_instr.specs.declared.operand.Operand.{Operand}
 use Rattle.std.specs.Prelude.{Result, Ok, Err, IfOk}
 use Rattle.std.specs.declared.alloc.AllocError.{AllocError}
-use Rattle.mir_func.proofs.Implicit.{AreImplicit, implicit}
+use Rattle.mir_meaning.proofs.Implicit.{AreImplicit, implicit}
 use Rattle.mir_semantics.specs.declared.machine.Outcome.{Outcome}
-use Rattle.mir_func.specs.meaning.State.{Core, Reply, Called, content, put, put_all, updated, spelled, stored, written, low_bytes, touches_frame, writes_frame}
-use Rattle.mir_func.specs.meaning.Step as step
-use Rattle.mir_func.specs.meaning.Step.{act, does, are_written, read, or_zero, input_value, set_register, loaded, saved, slot_loaded, answered}
+use Rattle.mir_meaning.specs.State.{Core, Reply, Called, content, put, put_all, updated, spelled, stored, written, low_bytes, touches_frame, writes_frame}
+use Rattle.mir_meaning.specs.Step as step
+use Rattle.mir_meaning.specs.Step.{act, does, are_written, read, or_zero, input_value, set_register, loaded, saved, slot_loaded, answered}
 use Rattle.mir_semantics.specs.declared.machine.Machine.{Machine}
 use Rattle.mir_semantics.specs.declared.machine.Outcome.TheVariants.{Falls, Goes, Returns as Ended, Faults, Waits}
 use Rattle.mir_semantics.specs.Places.{RegistersHold, SlotsHold, MemoryHolds, byte_in, some_writes}

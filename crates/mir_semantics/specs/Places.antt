@@ -1,7 +1,7 @@
 -- Registers, frame slots and memory as they are kept, and the functions of the definitions that they stand for.
 use Rattle.std.specs.Prelude.{◌≡◌, ℕ, List, [], ◌∷◌, Option, Some, None, cond, nat_eq, nat_lt, slice_index, slice_index_or, unwrap_or, length}
 use Rattle.std.specs.Map.{lookup}
-use Rattle.mir_func.specs.meaning.State.{content}
+use Rattle.mir_meaning.specs.State.{content}
 
 -- there is a place for each register, and x0 holds 0
 pub record AreRegisters (xs : List (Option ℕ)) : Type 0 where

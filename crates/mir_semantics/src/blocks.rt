@@ -1,6 +1,6 @@
 ghost use Rattle.std.specs.Prelude.{◌≡◌, ◌<◌, [], MatchOption, length, drop};
 ghost use Rattle.mir_func.specs.Sound.{AreApart, ids_of};
-ghost use Rattle.mir_func.specs.meaning.Graph.{from_block};
+ghost use Rattle.mir_func.specs.Graph.{from_block};
 
 use mir_func::block::Block;
 use std::alloc::{AllocError, Global};

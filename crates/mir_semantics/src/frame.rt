@@ -1,5 +1,5 @@
 ghost use Rattle.std.specs.Prelude.{◌≡◌};
-ghost use Rattle.mir_func.specs.meaning.State.{in_frame, touches_frame, writes_frame};
+ghost use Rattle.mir_meaning.specs.State.{in_frame, touches_frame, writes_frame};
 ghost use Rattle.mir_semantics.specs.Places.{some_writes};
 
 /// Whether an address is one of the 2,048 below the stack pointer at entry.

@@ -4,8 +4,8 @@ ghost use Rattle.rv64_instr.specs.Row as row;
 ghost use Rattle.rv64_instr.specs.Row.{row_of, implicit_uses};
 ghost use Rattle.rv64_instr.specs.Decoded.{full_input};
 ghost use Rattle.rv64_instr.specs.declared.start.Answer.{Answer};
-ghost use Rattle.mir_func.specs.meaning.State.{Core};
-ghost use Rattle.mir_func.specs.meaning.Step.{are_written, loaded};
+ghost use Rattle.mir_meaning.specs.State.{Core};
+ghost use Rattle.mir_meaning.specs.Step.{are_written, loaded};
 ghost use Rattle.mir_semantics.specs.Acts.{Acts, Does, InputHolds, MachineHolds, StartsMachine, Takes, saves};
 
 use crate::frame::{touches_frame, writes_frame};

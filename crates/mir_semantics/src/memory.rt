@@ -1,5 +1,5 @@
 ghost use Rattle.std.specs.Prelude.{◌≡◌, ◌<◌, ◌≤◌, ◌*◌, ◌^◌, ℕ, IfOk, OnOk, OnErr};
-ghost use Rattle.mir_func.specs.meaning.State.{spelled, stored, low_bytes, written};
+ghost use Rattle.mir_meaning.specs.State.{spelled, stored, low_bytes, written};
 ghost use Rattle.mir_semantics.specs.Places.{MemoryHolds, byte_in, some_writes};
 
 use indexmap::IndexMap;

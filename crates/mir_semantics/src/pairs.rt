@@ -1,7 +1,7 @@
 ghost use Rattle.std.specs.Prelude.{◌≡◌, ◌≤◌, true, Some, IsOk, length};
 ghost use Rattle.indexmap.specs.IndexMap.{spare};
-ghost use Rattle.mir_func.specs.meaning.State.{Core};
-ghost use Rattle.mir_func.specs.meaning.Step.{defined as defined_by, numbered};
+ghost use Rattle.mir_meaning.specs.State.{Core};
+ghost use Rattle.mir_meaning.specs.Step.{defined as defined_by, numbered};
 ghost use Rattle.mir_semantics.specs.Places.{RegistersHold};
 ghost use Rattle.mir_semantics.specs.StandsFor.{PairsHold};
 

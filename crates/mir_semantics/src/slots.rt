@@ -1,6 +1,6 @@
 ghost use Rattle.std.specs.Prelude.{◌≡◌, [], ℕ, Option, Some, OnOk, OnErr, nat_eq};
 ghost use Rattle.std.specs.Map.{lookup};
-ghost use Rattle.mir_func.specs.meaning.State.{updated};
+ghost use Rattle.mir_meaning.specs.State.{updated};
 ghost use Rattle.mir_semantics.specs.Places.{SlotsHold};
 
 use indexmap::IndexMap;

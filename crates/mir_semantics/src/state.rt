@@ -2,11 +2,11 @@ ghost use Rattle.std.specs.Prelude.{◌≡◌, ◌<◌, ◌+◌, ◌^◌, true, 
 ghost use Rattle.std.specs.Option.{option_copied};
 ghost use Rattle.rv64_instr.specs.declared.start.Answer.{Answer};
 ghost use Rattle.mir_func.specs.declared.entry.Entry.{Entry};
-ghost use Rattle.mir_func.specs.meaning.State.{Core, Event, Reply, State, assigned};
-ghost use Rattle.mir_func.specs.meaning.Step as step;
-ghost use Rattle.mir_func.specs.meaning.Graph.{program_of, fetch_in};
-ghost use Rattle.mir_func.specs.meaning.Resolve.{resolve};
-ghost use Rattle.mir_func.specs.meaning.Follow.{first_of};
+ghost use Rattle.mir_meaning.specs.State.{Core, Event, Reply, State, assigned};
+ghost use Rattle.mir_meaning.specs.Step as step;
+ghost use Rattle.mir_func.specs.Graph.{program_of, fetch_in};
+ghost use Rattle.mir_func.specs.Resolve.{resolve};
+ghost use Rattle.mir_meaning.specs.Follow.{first_of};
 ghost use Rattle.mir_semantics.specs.StandsFor.{DoesItem, Holds, StandsFor, Starts, IsPosition, AreCounted};
 ghost use Rattle.mir_semantics.specs.Steps.{IsState, ReturnsAgain, Steps, StepsFrom, ChangesOnlyByGoing, GoesAlong, source_of, step_after, position_after};
 ghost use Rattle.rv64_instr.specs.Row.{row_of};

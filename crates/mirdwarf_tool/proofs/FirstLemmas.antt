@@ -13,7 +13,7 @@ use Rattle.rv64_word.specs.declared.machine_op.MachineOp.{MachineOp}
 use Rattle.rv64_word.specs.declared.word_op.WordOp.TheVariants as word_op
 use Rattle.rv64_word.specs.MachineOp.{is_encodable}
 use Rattle.rv64_word.specs.Lowering.{in_range, machine_op}
-use Rattle.mir_func.specs.meaning.Step.{defined}
+use Rattle.mir_meaning.specs.Step.{defined}
 use Rattle.first_form.specs.declared.line.Line.{Line}
 use Rattle.first_form.specs.declared.line.Statement.{Statement}
 use Rattle.first_form.specs.declared.line.Statement.TheVariants.{AddImmediate, Add, Value, Reference, Return}

@@ -6,8 +6,8 @@ use Rattle.rv64_instr.specs.declared.place.Place.{Place}
 use Rattle.rv64_instr.specs.declared.place.Place.TheVariants.{Register, Slot, Const}
 use Rattle.mir_func.specs.declared.variable.VarId.{VarId}
 use Rattle.mir_func.specs.declared.item.Item.{Item}
-use Rattle.mir_func.specs.meaning.Align.{is_code}
-use Rattle.mir_func.specs.meaning.Token.{Token, Fixed, Tokens, after_item, place_token, IsPlace}
+use Rattle.mir_meaning.specs.Align.{is_code}
+use Rattle.mir_meaning.specs.Token.{Token, Fixed, Tokens, after_item, place_token, IsPlace}
 use Rattle.code_layout.specs.Straight.{Holds}
 use Rattle.mirdwarf_tool.specs.Walk.{unchanged, IsFirstPlace, FirstPlaces, finished, at_code, at_mark}
 

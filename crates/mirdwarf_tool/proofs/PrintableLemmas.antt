@@ -11,7 +11,7 @@ use Rattle.rv64_word.specs.declared.machine_op.MachineOp.{MachineOp}
 use Rattle.mir_func.specs.declared.item.Item.{Item}
 use Rattle.mir_func.specs.declared.item.ItemKind.{ItemKind}
 use Rattle.mir_func.specs.declared.item.ItemKind.TheVariants.{Code, Mark, Phi}
-use Rattle.mir_func.specs.meaning.Align.{is_code}
+use Rattle.mir_meaning.specs.Align.{is_code}
 use Rattle.mir_printer.specs.Printable.{IsNumber, IsSigned, HasNumbers, IsPrintableLoc, IsPrintableKind}
 use Rattle.first_form.specs.declared.line.Line.{Line}
 use Rattle.first_form.specs.declared.line.Statement.{Statement}

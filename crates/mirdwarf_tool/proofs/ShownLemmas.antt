@@ -15,10 +15,10 @@ use Rattle.mir_func.specs.declared.item.ItemKind.{ItemKind}
 use Rattle.mir_func.specs.declared.item.ItemKind.TheVariants.{Code, Mark, Phi}
 use Rattle.mir_func.specs.declared.block.Block.{Block}
 use Rattle.mir_func.specs.Function.{Function}
-use Rattle.mir_func.specs.meaning.Step.{is_call}
-use Rattle.mir_func.specs.meaning.Align.{is_code}
-use Rattle.mir_func.specs.meaning.Resolve.{resolve}
-use Rattle.mir_func.specs.meaning.Token.{entry_tokens}
+use Rattle.mir_meaning.specs.Step.{is_call}
+use Rattle.mir_meaning.specs.Align.{is_code}
+use Rattle.mir_func.specs.Resolve.{resolve}
+use Rattle.mir_meaning.specs.Token.{entry_tokens}
 use Rattle.mir_printer.specs.Printable.{IsNumber}
 use Rattle.dwarf_loclists.specs.declared.range.Range.{Range}
 use Rattle.dwarf_loclists.specs.Spelling as loclists

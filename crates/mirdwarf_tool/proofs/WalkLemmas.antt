@@ -5,8 +5,8 @@ use Rattle.std.proofs.lemmas.List.{drop_all}
 use Rattle.rv64_instr.specs.declared.place.Place.{Place}
 use Rattle.mir_func.specs.declared.variable.VarId.{VarId}
 use Rattle.mir_func.specs.declared.item.Item.{Item}
-use Rattle.mir_func.specs.meaning.Token.{Tokens, entry_tokens, after_item}
-use Rattle.mir_func.specs.meaning.Align.{is_code}
+use Rattle.mir_meaning.specs.Token.{Tokens, entry_tokens, after_item}
+use Rattle.mir_meaning.specs.Align.{is_code}
 use Rattle.mirdwarf_tool.specs.Walk.{unchanged, FirstPlaces, Notes, NotesBy, at_code, at_mark, finished}
 
 -- the walk so far is a walk of all items, whatever the places of the rest

@@ -8,7 +8,7 @@ use Rattle.rv64_instr.specs.Row.{Row, Fixes, Moves, Sets, Returns, row_of}
 use Rattle.rv64_word.specs.declared.machine_op.MachineOp.{MachineOp}
 use Rattle.rv64_word.specs.MachineOp.{word_of}
 use Rattle.rv64_word.specs.Lowering.{lowered}
-use Rattle.mir_func.specs.meaning.Step.{defined}
+use Rattle.mir_meaning.specs.Step.{defined}
 use Rattle.mir_func.specs.declared.item.Item.{Item}
 use Rattle.mir_func.specs.declared.item.ItemKind.{ItemKind}
 use Rattle.mir_func.specs.declared.item.ItemKind.TheVariants.{Code, Mark, Phi}

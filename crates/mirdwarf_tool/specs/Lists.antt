@@ -3,7 +3,7 @@ use Rattle.std.specs.Prelude.{◌≡◌, ℕ, List, [], Option, Some, length, Al
 use Rattle.rv64_instr.specs.declared.place.Place.{Place}
 use Rattle.mir_func.specs.declared.variable.VarId.{VarId}
 use Rattle.mir_func.specs.declared.item.Item.{Item}
-use Rattle.mir_func.specs.meaning.Token.{entry_tokens}
+use Rattle.mir_meaning.specs.Token.{entry_tokens}
 use Rattle.dwarf_loclists.specs.declared.range.Range.{Range}
 use Rattle.dwarf_loclists.specs.Ranges.{ArePlaces, Ascend}
 use Rattle.mirdwarf_tool.specs.Ranges.{IsListOf}

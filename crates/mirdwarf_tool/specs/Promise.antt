@@ -15,10 +15,11 @@ use Rattle.mir_func.specs.declared.item.ItemKind.TheVariants.{Code}
 use Rattle.mir_func.specs.declared.block.Block.{Block}
 use Rattle.mir_func.specs.declared.entry.Entry.{Entry}
 use Rattle.mir_func.specs.Function.{Function}
-use Rattle.mir_func.specs.meaning.Step.{Program, block_start, is_call}
-use Rattle.mir_func.specs.meaning.Align.{is_code}
-use Rattle.mir_func.specs.meaning.Graph.{framed_program}
-use Rattle.mir_func.specs.meaning.Resolve.{resolve}
+use Rattle.mir_meaning.specs.Step.{is_call}
+use Rattle.mir_func.specs.Graph.{Program, block_start}
+use Rattle.mir_meaning.specs.Align.{is_code}
+use Rattle.mir_func.specs.Graph.{framed_program}
+use Rattle.mir_func.specs.Resolve.{resolve}
 use Rattle.dwarf_loclists.specs.Reading.{PlaceAt}
 use Rattle.code_layout.specs.Image.{CodeLine, Image}
 use Rattle.code_layout.specs.Headline.{Headline}

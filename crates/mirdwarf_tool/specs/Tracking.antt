@@ -6,8 +6,8 @@ use Rattle.std.specs.declared.hash.BuildHasherDefault.{BuildHasherDefault}
 use Rattle.rv64_instr.specs.declared.place.Place.{Place}
 use Rattle.rv64_instr.specs.declared.place.Place.TheVariants.{Register, Slot, Const}
 use Rattle.rv64_instr.specs.Row.{Row, Fixes, Moves, Sets}
-use Rattle.mir_func.specs.meaning.Token as token
-use Rattle.mir_func.specs.meaning.Token.{Tokens, variable_token}
+use Rattle.mir_meaning.specs.Token as token
+use Rattle.mir_meaning.specs.Token.{Tokens, variable_token}
 use Rattle.mirdwarf_tool.specs.declared.token.Token.{Token}
 use Rattle.mirdwarf_tool.specs.declared.token.Token.TheVariants.{Entry, Made, Fixed}
 use Rattle.mirdwarf_tool.specs.declared.tracker.Tracker.{Tracker}

@@ -3,8 +3,8 @@ use Rattle.std.specs.Prelude.{◌≡◌, ℕ, suc, Bool, true, false, List, [], 
 use Rattle.rv64_instr.specs.declared.place.Place.{Place}
 use Rattle.mir_func.specs.declared.variable.VarId.{VarId}
 use Rattle.mir_func.specs.declared.item.Item.{Item}
-use Rattle.mir_func.specs.meaning.Token.{Tokens, after_item, IsPlace, Precedes}
-use Rattle.mir_func.specs.meaning.Align.{is_code}
+use Rattle.mir_meaning.specs.Token.{Tokens, after_item, IsPlace, Precedes}
+use Rattle.mir_meaning.specs.Align.{is_code}
 use Rattle.code_layout.specs.Straight.{Holds}
 
 -- no number is substituted

@@ -1,5 +1,5 @@
 ghost use Rattle.std.specs.Prelude.{◌≡◌, ◌≤◌, ◌+◌, ◌++◌, ◌*◌, All, length, IsSome, IfOk, OnOk};
-ghost use Rattle.mir_func.specs.meaning.Align.{is_code};
+ghost use Rattle.mir_meaning.specs.Align.{is_code};
 ghost use Rattle.mirdwarf_tool.specs.Code.{code_bytes, operation_of, word_bytes, code_of, IsPlain, IsPlainKind};
 
 use io_edge::bytes::Bytes;

@@ -1,7 +1,7 @@
 ghost use Rattle.std.specs.Prelude.{◌≡◌, ℕ, ◌<◌, ◌≤◌, ◌+◌, List, Option, Some, length, slice_get, All, IfOk, OnOk};
 ghost use Rattle.rv64_instr.specs.declared.place.Place.{Place};
 ghost use Rattle.mir_func.specs.declared.variable.VarId.{VarId};
-ghost use Rattle.mir_func.specs.meaning.Token.{Tokens, entry_tokens, after_item};
+ghost use Rattle.mir_meaning.specs.Token.{Tokens, entry_tokens, after_item};
 ghost use Rattle.dwarf_loclists.specs.declared.range.Range.{Range};
 ghost use Rattle.dwarf_loclists.specs.Ranges.{Ascend, ArePlaces};
 ghost use Rattle.mirdwarf_tool.specs.Code.{IsPlain};

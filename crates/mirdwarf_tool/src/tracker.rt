@@ -1,8 +1,8 @@
 ghost use Rattle.std.specs.Prelude.{◌≡◌, ◌≢◌, ℕ, ◌<◌, Option, None, Some, false, cond, nat_eq, slice_get, length, nat_lt, not, ◌&&◌, IsTrue, ◌↔◌, OnOk};
 ghost use Rattle.rv64_instr.specs.Row.{row_of};
 ghost use Rattle.mir_func.specs.declared.item.ItemKind.TheVariants.{Code, Mark};
-ghost use Rattle.mir_func.specs.meaning.Step.{defined};
-ghost use Rattle.mir_func.specs.meaning.Token.{Tokens, entry_tokens, after_item, mark_token};
+ghost use Rattle.mir_meaning.specs.Step.{defined};
+ghost use Rattle.mir_meaning.specs.Token.{Tokens, entry_tokens, after_item, mark_token};
 ghost use Rattle.mirdwarf_tool.specs.Code.{IsPlainKind, IsPlainRow, DefinesFirst};
 ghost use Rattle.mirdwarf_tool.specs.Ranges.{MayBeListed};
 ghost use Rattle.mirdwarf_tool.specs.Tracking.{token_at, with_token, regs_after, number_at, pair_at, register_at, named, Tracks, IsLowest};

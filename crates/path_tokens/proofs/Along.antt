@@ -14,9 +14,10 @@ use Rattle.mir_func.specs.declared.variable.MarkValue.TheVariants.{Nothing, Cons
 use Rattle.mir_func.specs.declared.item.ItemKind.{ItemKind}
 use Rattle.mir_func.specs.declared.item.ItemKind.TheVariants.{Code, Mark, Phi}
 use Rattle.mir_func.specs.declared.position.Pos.{Pos}
-use Rattle.mir_func.specs.meaning.State.{Core, State, updated, content, assigned, is_same}
-use Rattle.mir_func.specs.meaning.Step.{Fetch, Here, Silent, Outside, Program, Outcome, Falls, Goes, Gives, Traps, Asks, Breaks, Went, moved, act, seen, defined, given, numbered, with_core, is_call, place_value, pair_value, mark_value, do_item, do_fetch, step, or_zero, below, block_start}
-use Rattle.mir_func.specs.meaning.Token.{Token, Entry, Made, Fixed, Tokens, register_token, code_tokens, given_token, numbered_tokens, place_token, pair_token, mark_token, after_item, after_fetch, entry_tokens}
+use Rattle.mir_meaning.specs.State.{Core, State, updated, content, assigned, is_same}
+use Rattle.mir_meaning.specs.Step.{Outcome, Falls, Goes, Gives, Traps, Asks, Breaks, Went, moved, act, seen, defined, given, numbered, with_core, is_call, place_value, pair_value, mark_value, do_item, do_fetch, step, or_zero}
+use Rattle.mir_func.specs.Graph.{Fetch, Here, Silent, Outside, Program, below, block_start}
+use Rattle.mir_meaning.specs.Token.{Token, Entry, Made, Fixed, Tokens, register_token, code_tokens, given_token, numbered_tokens, place_token, pair_token, mark_token, after_item, after_fetch, entry_tokens}
 use Rattle.path_tokens.specs.Trace.{Trace, begin, onward, Names, NamesAlong, HasRegisters, TokensNameValues}
 use Rattle.path_tokens.proofs.Naming.{Holds, IsOld, IsOlder, Good, AreOld, AgreeBelow, good_agree, extend, extend_agrees, old_later, are_old_later}
 use Rattle.path_tokens.proofs.Rows.{GoesOn, AfterCode, code_names}

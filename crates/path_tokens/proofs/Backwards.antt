@@ -11,9 +11,9 @@ use Rattle.rv64_instr.specs.Access.{caller_saved}
 use Rattle.mir_func.specs.declared.variable.MarkValue.{MarkValue}
 use Rattle.mir_func.specs.declared.variable.MarkValue.TheVariants.{Nothing, Constant, At, Pair}
 use Rattle.mir_func.specs.declared.item.ItemKind.TheVariants.{Code, Mark, Phi}
-use Rattle.mir_func.specs.meaning.State.{updated, is_same}
-use Rattle.mir_func.specs.meaning.Step.{is_call, defined}
-use Rattle.mir_func.specs.meaning.Token.{Token, Made, Fixed, Tokens, register_token, put_token, make_all, moved_tokens, sets_pointer, code_tokens, given_token, numbered_tokens, place_token, pair_token, mark_token}
+use Rattle.mir_meaning.specs.State.{updated, is_same}
+use Rattle.mir_meaning.specs.Step.{is_call, defined}
+use Rattle.mir_meaning.specs.Token.{Token, Made, Fixed, Tokens, register_token, put_token, make_all, moved_tokens, sets_pointer, code_tokens, given_token, numbered_tokens, place_token, pair_token, mark_token}
 use Rattle.path_tokens.specs.Pullback.{Tracked, InRegister, InSlot, OfPair, OfVariable, OfNumber, token_of, Back, Was, New, Nameless, token_back, put_back, back_row, clear_slots, back_code, given_back, back_place, back_pair, back_mark, TokensPullBack}
 
 token_put : (n rd : ℕ) (b : Back) (t : Tokens) (r : ℕ) → register_token (put_token rd (token_back n t b) t.regs) r ≡ token_back n t (put_back rd b r)

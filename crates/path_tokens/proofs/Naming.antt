@@ -2,9 +2,9 @@
 use Rattle.std.proofs.Common.{◌≡◌, ℕ, zero, suc, ◌<◌, List, [], ◌∷◌, Option, Some, None, Bool, true, false, cond, refl, sym, ap, ◌∙◌, subst, inl, inr, eqb, arith}
 use Rattle.std.proofs.lemmas.Bool.{eqb-true, eq-eqb, ne_eqb, cases_Bool}
 use Rattle.mir_func.specs.declared.variable.VarId.{VarId}
-use Rattle.mir_func.specs.meaning.State.{Core, content, put, put_all, assigned}
-use Rattle.mir_func.specs.meaning.Step.{or_zero}
-use Rattle.mir_func.specs.meaning.Token.{Token, Entry, Made, Fixed, Tokens, register_token, put_token, make_all}
+use Rattle.mir_meaning.specs.State.{Core, content, put, put_all, assigned}
+use Rattle.mir_meaning.specs.Step.{or_zero}
+use Rattle.mir_meaning.specs.Token.{Token, Entry, Made, Fixed, Tokens, register_token, put_token, make_all}
 
 -- the content is the value that the token names, where there is a token
 abbrev pub Holds : (Token → ℕ) → Option Token → Option ℕ → Type 0

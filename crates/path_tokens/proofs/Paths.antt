@@ -1,10 +1,10 @@
 -- A run takes a path.
 use Rattle.std.proofs.Common.{ℕ}
-use Rattle.mir_func.specs.meaning.State.{State}
-use Rattle.mir_func.specs.meaning.Step.{Program}
-use Rattle.mir_func.specs.meaning.Token.{Tokens, Path}
-use Rattle.mir_func.specs.meaning.Token as token
-use Rattle.mir_func.proofs.Edges.{step_edge}
+use Rattle.mir_meaning.specs.State.{State}
+use Rattle.mir_func.specs.Graph.{Program}
+use Rattle.mir_meaning.specs.Token.{Tokens, Path}
+use Rattle.mir_meaning.specs.Token as token
+use Rattle.mir_meaning.proofs.Edges.{step_edge}
 use Rattle.path_tokens.specs.Trace.{Trace, begin, onward, RunsTakePaths}
 
 path_of : {g : Program} {start : State} {n : ℕ} {s : State} {t : Tokens} → Trace g start n s t → Path g start.pos n s.pos t

@@ -4,9 +4,9 @@ use Rattle.std.proofs.lemmas.Bool.{ne_eqb}
 use Rattle.rv64_instr.specs.Arithmetic.{taken, width_of}
 use Rattle.rv64_instr.specs.Row.{Row, Fixes, Moves, Sets, Loads, Stores, LoadsSlot, StoresSlot, Branches, Jumps, Calls, Returns, Unfit}
 use Rattle.rv64_instr.specs.Access.{caller_saved, reads}
-use Rattle.mir_func.specs.meaning.State.{Core, Reply, updated, content, put, put_all, touches_frame, writes_frame}
-use Rattle.mir_func.specs.meaning.Step.{Outcome, Falls, Goes, Traps, act, does, read, or_zero, set_register, answered, slot_loaded, are_written}
-use Rattle.mir_func.specs.meaning.Token.{Token, Made, Fixed, Tokens, register_token, put_token, make_all, moved_tokens, sets_pointer, code_tokens}
+use Rattle.mir_meaning.specs.State.{Core, Reply, updated, content, put, put_all, touches_frame, writes_frame}
+use Rattle.mir_meaning.specs.Step.{Outcome, Falls, Goes, Traps, act, does, read, or_zero, set_register, answered, slot_loaded, are_written}
+use Rattle.mir_meaning.specs.Token.{Token, Made, Fixed, Tokens, register_token, put_token, make_all, moved_tokens, sets_pointer, code_tokens}
 use Rattle.path_tokens.proofs.Naming.{Holds, IsOld, Good, AreOld, holds_agree, extend, extend_agrees, made_put, made_all, holds_put, holds_made, old_put, old_made_or, old_later}
 
 -- the core after an outcome that goes on

@@ -2,8 +2,8 @@
 use Rattle.std.proofs.Common.{◌≡◌, ℕ, zero, suc, ◌<◌, Option, Some, None, true, false, cond, refl, sym, ap, subst, arith, eqb}
 use Rattle.std.specs.Prelude.{◌↔◌, nat_lt, not, ◌&&◌}
 use Rattle.mir_func.specs.declared.position.Pos.{Pos}
-use Rattle.mir_func.specs.meaning.Step.{Fetch, Here, Silent, Outside, Program}
-use Rattle.mir_func.specs.meaning.Token.{Token, Entry, Made, Tokens, entry_tokens, after_item, after_fetch, Path, begin, onward}
+use Rattle.mir_func.specs.Graph.{Fetch, Here, Silent, Outside, Program}
+use Rattle.mir_meaning.specs.Token.{Token, Entry, Made, Tokens, entry_tokens, after_item, after_fetch, Path, begin, onward}
 use Rattle.path_tokens.specs.Pullback.{Tracked, InRegister, InSlot, OfPair, OfVariable, OfNumber, token_of, Back, Was, New, Nameless, token_back, back, Share, BacksShare, SharingPullsBack}
 use Rattle.path_tokens.proofs.Naming.{IsOld, IsOlder, old_later}
 use Rattle.path_tokens.proofs.Backwards.{tokens_pull_back}

@@ -12,9 +12,10 @@ use Rattle.mir_func.specs.declared.variable.MarkValue.{MarkValue}
 use Rattle.mir_func.specs.declared.variable.MarkValue.TheVariants.{Nothing, Constant, At, Pair}
 use Rattle.mir_func.specs.declared.item.ItemKind.{ItemKind}
 use Rattle.mir_func.specs.declared.item.ItemKind.TheVariants.{Code, Mark, Phi}
-use Rattle.mir_func.specs.meaning.State.{assigned, is_same}
-use Rattle.mir_func.specs.meaning.Step.{Program, is_call, defined}
-use Rattle.mir_func.specs.meaning.Token.{Token, Made, Fixed, Tokens, register_token, sets_pointer, after_item, Path}
+use Rattle.mir_meaning.specs.State.{assigned, is_same}
+use Rattle.mir_meaning.specs.Step.{is_call, defined}
+use Rattle.mir_func.specs.Graph.{Program}
+use Rattle.mir_meaning.specs.Token.{Token, Made, Fixed, Tokens, register_token, sets_pointer, after_item, Path}
 
 -- what has tokens: a register, a slot, a pair, a variable, and a number, which always has its own
 pub data Tracked : Type 0 where

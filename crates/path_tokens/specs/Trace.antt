@@ -1,9 +1,10 @@
 -- Tokens along the path that a run takes, and the values that they name.
 use Rattle.std.specs.Prelude.{◌≡◌, ℕ, suc, ◌<◌, Some, IsSome}
 use Rattle.mir_func.specs.declared.variable.VarId.{VarId}
-use Rattle.mir_func.specs.meaning.State.{Core, State, content, assigned}
-use Rattle.mir_func.specs.meaning.Step.{Program, Went, step}
-use Rattle.mir_func.specs.meaning.Token.{Token, Fixed, Tokens, register_token, after_fetch, entry_tokens, Path}
+use Rattle.mir_meaning.specs.State.{Core, State, content, assigned}
+use Rattle.mir_meaning.specs.Step.{Went, step}
+use Rattle.mir_func.specs.Graph.{Program}
+use Rattle.mir_meaning.specs.Token.{Token, Fixed, Tokens, register_token, after_fetch, entry_tokens, Path}
 
 -- the run is at a state after so many steps, with these tokens there
 pub data Trace (g : Program) (start : State) : ℕ → State → Tokens → Type 0 where

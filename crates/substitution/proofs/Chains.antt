@@ -3,7 +3,7 @@ use Rattle.std.proofs.Common.{◌≡◌, ℕ, ◌≤◌, ◌<◌, ◌+◌, ◌-�
 use Rattle.std.specs.Prelude.{nat_eq}
 use Rattle.std.proofs.lemmas.Bool.{cases_Bool, eqb-true, eq-eqb}
 use Rattle.mir_func.specs.declared.entry.Entry.{Entry}
-use Rattle.mir_func.specs.meaning.Resolve.{is_pair, entry_of, chain_end, resolve, Ends, at, by}
+use Rattle.mir_func.specs.Resolve.{is_pair, entry_of, chain_end, resolve, Ends, at, by}
 use Rattle.substitution.proofs.Entries.{is_pair-true, entry_of-later}
 
 -- one look-up of a chain

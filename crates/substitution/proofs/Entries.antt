@@ -3,7 +3,7 @@ use Rattle.std.proofs.Common.{◌≡◌, ℕ, List, [], ◌∷◌, ◌++◌, Opt
 use Rattle.std.specs.Prelude.{nat_eq, is_some}
 use Rattle.std.proofs.lemmas.Bool.{cases_Bool, and_parts, and_from, eqb-true, eq-eqb}
 use Rattle.mir_func.specs.declared.entry.Entry.{Entry}
-use Rattle.mir_func.specs.meaning.Resolve.{is_pair, entry_of}
+use Rattle.mir_func.specs.Resolve.{is_pair, entry_of}
 
 pub is_pair-true : (p q : ℕ × ℕ) → is_pair p q ≡ true → p ≡ q
 is_pair-true p q h =

@@ -1,7 +1,7 @@
 -- What adding a substitution does.
 use Rattle.std.specs.Prelude.{List, [], ◌∷◌, ◌++◌, cond, is_some}
 use Rattle.mir_func.specs.declared.entry.Entry.{Entry}
-use Rattle.mir_func.specs.meaning.Resolve.{entry_of}
+use Rattle.mir_func.specs.Resolve.{entry_of}
 
 -- the entries with one more at the end, unless its source has one already
 abbrev pub added : List Entry → Entry → List Entry

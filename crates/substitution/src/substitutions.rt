@@ -1,5 +1,5 @@
 ghost use Rattle.std.specs.Prelude.{◌≡◌, [], IfOk, OnOk, OnErr};
-ghost use Rattle.mir_func.specs.meaning.Resolve.{resolve};
+ghost use Rattle.mir_func.specs.Resolve.{resolve};
 ghost use Rattle.substitution.specs.Added.{added};
 
 use mir_func::entry::Entry;

@@ -1,5 +1,5 @@
 use Rattle.std.proofs.Common.{◌≡◌, drop}
-use Rattle.mir_func.specs.meaning.Graph.{from_block}
+use Rattle.mir_func.specs.Graph.{from_block}
 use Rattle.mir_semantics.proofs.blocks.find.Given as goal
 
 abbrev pub invariant-loop-i : goal.invariant-loop-i

@@ -1,6 +1,6 @@
 use Rattle.std.proofs.Common.{Option, ℕ, Some, arith, sym, ap, subst, ◌∙◌}
-use Rattle.mir_func.specs.meaning.Step.{defined}
-use Rattle.mir_func.specs.meaning.State.{updated}
+use Rattle.mir_meaning.specs.Step.{defined}
+use Rattle.mir_meaning.specs.State.{updated}
 use Rattle.mir_semantics.specs.StandsFor.{PairsHold}
 use Rattle.mir_semantics.proofs.History.{pairs_put}
 use Rattle.mir_semantics.proofs.Numbers.{given_below, pairs_alike, below_skips, below_gives, below_all}

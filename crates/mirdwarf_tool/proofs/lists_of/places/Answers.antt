@@ -1,6 +1,6 @@
 use Rattle.std.proofs.Common.{◌∙◌, arith, subst}
 use Rattle.mir_func.specs.declared.variable.VarId.{VarId}
-use Rattle.mir_func.specs.meaning.Token.{after_item}
+use Rattle.mir_meaning.specs.Token.{after_item}
 use Rattle.mirdwarf_tool.specs.Walk.{unchanged, Notes}
 use Rattle.mirdwarf_tool.proofs.WalkLemmas.{walk_more, walk_ends}
 use Rattle.mirdwarf_tool.proofs.lists_of.places.Goals as goal

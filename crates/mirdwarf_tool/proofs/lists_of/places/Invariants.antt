@@ -1,7 +1,7 @@
 use Rattle.std.proofs.Common.{◌≡◌, ◌≤◌, ◌++◌, List, drop, length}
 use Rattle.std.specs.Prelude.{Option, All}
 use Rattle.rv64_instr.specs.declared.place.Place.{Place}
-use Rattle.mir_func.specs.meaning.Token.{Tokens, entry_tokens}
+use Rattle.mir_meaning.specs.Token.{Tokens, entry_tokens}
 use Rattle.mirdwarf_tool.specs.Ranges.{MayBeListed}
 use Rattle.mirdwarf_tool.specs.Tracking.{Tracks}
 use Rattle.mirdwarf_tool.specs.Walk.{FirstPlaces}

@@ -3,7 +3,7 @@ use Rattle.std.specs.Prelude.{Contains}
 use Rattle.std.specs.List.{slice_get}
 use Rattle.mir_func.specs.declared.block.Block.{Block}
 use Rattle.mir_func.specs.Sound.{ids_of}
-use Rattle.mir_func.specs.meaning.Graph.{program_of}
+use Rattle.mir_func.specs.Graph.{program_of}
 use Rattle.mir_func.specs.Successors.{numbers_of, GoesTo, ways}
 use Rattle.mir_func.proofs.Ways.{block_ways}
 use Rattle.mir_func.proofs.func.Func.successors.Goals as goal

@@ -1,6 +1,6 @@
 use Rattle.std.proofs.Common.{ap, ◌∙◌}
 use Rattle.rv64_instr.specs.Arithmetic.{extended}
-use Rattle.mir_func.specs.meaning.State.{spelled, touches_frame}
+use Rattle.mir_meaning.specs.State.{spelled, touches_frame}
 use Rattle.mir_semantics.specs.Places.{byte_in}
 use Rattle.mir_semantics.proofs.Rows.{loaded_falls}
 use Rattle.mir_semantics.proofs.machine.Machine.load_from.Goals as goal

@@ -1,5 +1,5 @@
 use Rattle.std.proofs.Common.{ℕ, ap, subst, ◌∙◌}
-use Rattle.mir_func.specs.meaning.State.{touches_frame, stored, low_bytes}
+use Rattle.mir_meaning.specs.State.{touches_frame, stored, low_bytes}
 use Rattle.mir_semantics.specs.Places.{MemoryHolds}
 use Rattle.mir_semantics.proofs.Rows.{saves_falls}
 use Rattle.mir_semantics.proofs.machine.Machine.store_to.Goals as goal

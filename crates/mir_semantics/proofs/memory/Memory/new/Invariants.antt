@@ -1,5 +1,5 @@
 use Rattle.std.proofs.Common.{◌≡◌, ℕ, drop}
-use Rattle.mir_func.specs.meaning.State.{written}
+use Rattle.mir_meaning.specs.State.{written}
 use Rattle.mir_semantics.specs.Places.{MemoryHolds}
 use Rattle.mir_semantics.proofs.memory.Memory.new.Given as goal
 

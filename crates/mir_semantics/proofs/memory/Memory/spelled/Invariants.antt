@@ -1,5 +1,5 @@
 use Rattle.std.proofs.Common.{◌≡◌, ◌<◌, ◌+◌, ◌-◌, ◌*◌, ◌^◌}
-use Rattle.mir_func.specs.meaning.State.{spelled}
+use Rattle.mir_meaning.specs.State.{spelled}
 use Rattle.mir_semantics.specs.Places.{byte_in}
 use Rattle.mir_semantics.proofs.memory.Memory.spelled.Given as goal
 

@@ -1,5 +1,5 @@
 use Rattle.std.proofs.Common.{arith}
-use Rattle.mir_func.specs.meaning.State.{updated}
+use Rattle.mir_meaning.specs.State.{updated}
 use Rattle.mir_semantics.proofs.Loops.{memory_put, stored_first, stored_turn}
 use Rattle.mir_semantics.proofs.memory.Memory.store.Goals as goal
 

@@ -1,6 +1,6 @@
 use Rattle.std.proofs.Common.{◌≡◌, ℕ, ◌≤◌, ◌+◌, ◌-◌}
 use Rattle.std.specs.HashMap.{spare}
-use Rattle.mir_func.specs.meaning.State.{stored, low_bytes}
+use Rattle.mir_meaning.specs.State.{stored, low_bytes}
 use Rattle.mir_semantics.specs.Places.{MemoryHolds}
 use Rattle.mir_semantics.proofs.memory.Memory.store.Given as goal
 

@@ -1,5 +1,5 @@
 use Rattle.std.proofs.Common.{arith}
-use Rattle.mir_func.specs.meaning.State.{updated}
+use Rattle.mir_meaning.specs.State.{updated}
 use Rattle.mir_semantics.proofs.Loops.{memory_put, written_some, written_none, written_end}
 use Rattle.mir_semantics.proofs.memory.Memory.write.Goals as goal
 use Rattle.mir_semantics.proofs.memory.Memory.write.Goals.{in-Some+in_ok-insert, in_default}

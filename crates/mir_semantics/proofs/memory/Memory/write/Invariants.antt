@@ -1,6 +1,6 @@
 use Rattle.std.proofs.Common.{◌≡◌, ℕ, ◌≤◌, ◌-◌, drop, length}
 use Rattle.std.specs.HashMap.{spare}
-use Rattle.mir_func.specs.meaning.State.{written}
+use Rattle.mir_meaning.specs.State.{written}
 use Rattle.mir_semantics.specs.Places.{MemoryHolds, some_writes}
 use Rattle.mir_semantics.proofs.memory.Memory.write.Given as goal
 

@@ -1,7 +1,7 @@
 use Rattle.std.proofs.Common.{ap, subst, ◌∙◌}
 use Rattle.mir_func.specs.Sound.{LastCloses}
 use Rattle.mir_func.specs.Function.{Function}
-use Rattle.mir_func.specs.meaning.Follow.{first_of}
+use Rattle.mir_meaning.specs.Follow.{first_of}
 use Rattle.mir_semantics.proofs.Stepping.{starts_stands, first_position}
 use Rattle.mir_semantics.proofs.state.SourceState.new.Goals as goal
 

@@ -5,7 +5,7 @@ use Rattle.mir_func.specs.Function.{Function}
 use Rattle.mir_func.specs.Sound.{IsSound}
 use Rattle.mir_func.specs.declared.position.Pos.{Pos}
 use Rattle.mir_func.specs.declared.block.Block.{Block}
-use Rattle.mir_func.specs.meaning.Graph.{from_block, fetch_in}
+use Rattle.mir_func.specs.Graph.{from_block, fetch_in}
 use Rattle.mir_semantics.specs.StandsFor.{Concrete}
 use Rattle.mir_semantics.specs.Steps.{GoesAlong}
 use Rattle.mir_semantics.proofs.Inside.{stays_inside_ok}

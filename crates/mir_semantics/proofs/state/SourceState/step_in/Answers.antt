@@ -1,7 +1,7 @@
 use Rattle.std.proofs.Common.{◌≡◌, ◌≤◌, length, get_or, ap, sym, subst, refl, arith}
 use Rattle.std.specs.Option.{option_copied}
-use Rattle.mir_func.specs.meaning.Step as step
-use Rattle.mir_func.specs.meaning.Graph.{fetch_in}
+use Rattle.mir_meaning.specs.Step as step
+use Rattle.mir_func.specs.Graph.{fetch_in}
 use Rattle.mir_semantics.specs.StandsFor.{Concrete}
 use Rattle.mir_semantics.proofs.Stepping.{silent_steps, more_blocks}
 use Rattle.mir_semantics.proofs.state.SourceState.step_in.Goals as goal

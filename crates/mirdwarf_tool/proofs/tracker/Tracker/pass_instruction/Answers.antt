@@ -1,7 +1,7 @@
 use Rattle.std.proofs.Common.{sym, subst}
 use Rattle.rv64_instr.specs.Row.{row_of}
-use Rattle.mir_func.specs.meaning.Step.{is_call}
-use Rattle.mir_func.specs.meaning.Token.{Tokens, code_tokens}
+use Rattle.mir_meaning.specs.Step.{is_call}
+use Rattle.mir_meaning.specs.Token.{Tokens, code_tokens}
 use Rattle.mirdwarf_tool.specs.declared.tracker.Tracker.{Tracker}
 use Rattle.mirdwarf_tool.specs.Tracking.{Tracks}
 use Rattle.mirdwarf_tool.proofs.TrackingLemmas.{code_tracks, number_tracks, plain_is_no_call}

@@ -1,6 +1,6 @@
 use Rattle.std.proofs.Common.{ap, sym, ◌∙◌, ◌++◌, ◌∷◌, []}
 use Rattle.std.specs.HashMap.{get}
-use Rattle.mir_func.specs.meaning.Resolve.{is_pair}
+use Rattle.mir_func.specs.Resolve.{is_pair}
 use Rattle.substitution.proofs.Entries.{indexed-push}
 use Rattle.substitution.proofs.substitutions.Substitutions.add.Goals as goal
 

@@ -1,5 +1,5 @@
 use Rattle.std.proofs.Common.{◌≡◌, ◌-◌}
-use Rattle.mir_func.specs.meaning.Resolve.{chain_end, resolve}
+use Rattle.mir_func.specs.Resolve.{chain_end, resolve}
 use Rattle.substitution.proofs.substitutions.Substitutions.resolve.Given as goal
 
 abbrev pub invariant-loop : goal.invariant-loop

@@ -1,5 +1,0 @@
-use Rattle.mir_func.proofs.Added.{added_follows}
-use Rattle.mir_func.proofs.laws.added_follows.Goals as goal
-
-pub returns : goal.returns
-returns g c = let a = g.A.CodeAddition in added_follows a.stops a.extra a.reach a.Stage a.standing a.body a.rests a.cores

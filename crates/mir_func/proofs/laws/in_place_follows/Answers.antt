@@ -1,5 +1,0 @@
-use Rattle.mir_func.proofs.InPlace.{in_place_follows}
-use Rattle.mir_func.proofs.laws.in_place_follows.Goals as goal
-
-pub returns : goal.returns
-returns g c = in_place_follows g.C.BlockChange.rests g.C.BlockChange.cores

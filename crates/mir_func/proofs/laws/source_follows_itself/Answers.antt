@@ -1,5 +1,0 @@
-use Rattle.mir_func.proofs.Reading.{follows_itself, whole_ends_of_itself}
-use Rattle.mir_func.proofs.laws.source_follows_itself.Goals as goal
-
-pub returns : goal.returns
-returns c = λ blocks resolve read. (follows_itself blocks read resolve, whole_ends_of_itself blocks read resolve)

@@ -1,0 +1,90 @@
+-- Functions as programs, and the paths through them.
+use Rattle.std.specs.Prelude.{◌≡◌, ◌⊎◌, ℕ, suc, List, [], ◌∷◌, drop, Option, Bool, false, cond, nat_eq}
+use Rattle.rv64_instr.specs.Row.{Row, Branches, Jumps, Returns, Unfit, row_of}
+use Rattle.mir_func.specs.declared.position.Pos.{Pos}
+use Rattle.mir_func.specs.declared.block.Block.{Block}
+use Rattle.mir_func.specs.declared.item.Item.{Item}
+use Rattle.mir_func.specs.declared.item.ItemKind.{ItemKind}
+use Rattle.mir_func.specs.declared.item.ItemKind.TheVariants.{Code}
+use Rattle.mir_func.specs.SoundFrame.{body_of}
+
+-- what stands at a position
+pub data Fetch : Type 0 where
+  Here : Item → Fetch
+  -- a block's end: its silent index in the source, and the block that comes next
+  Silent : (index next : ℕ) → Fetch
+  Outside : Fetch
+
+-- a function as it runs
+pub record Program : Type 0 where
+  pub fetch : Pos → Fetch
+  -- the position's block of a branch's target
+  pub enter : ℕ → ℕ
+  -- what pairs resolve to
+  pub resolve : ℕ → ℕ → Option (ℕ × ℕ)
+  -- marks and numbers see the content of x2: in the source alone
+  pub sees_pointer : Bool
+
+-- the position below, and the first one of a block
+abbrev pub below : Pos → Pos
+below p = record { block = p.block; item = p.item + 1 }
+
+abbrev pub block_start : ℕ → Pos
+block_start n = record { block = n; item = 0 }
+
+-- a block's end, with the blocks after it
+abbrev pub end_of : (silent : ℕ) → List Block → Fetch
+end_of k [] = Outside
+end_of k (b ∷ bs) = Silent k b.id
+
+abbrev pub front : List Item → (silent : ℕ) → List Block → Fetch
+front [] k bs = end_of k bs
+front (i ∷ is) k bs = Here i
+
+-- the item of this index in the first of the blocks, or its end
+abbrev pub fetch_in : List Block → ℕ → Fetch
+fetch_in [] n = Outside
+fetch_in (b ∷ bs) n = front (drop n b.items) b.silent bs
+
+-- the blocks from the one with this number on
+abbrev pub from_block : List Block → ℕ → List Block
+from_block [] n = []
+from_block (b ∷ bs) n = cond (nat_eq b.id n) (b ∷ bs) (from_block bs n)
+
+-- a function: a position's block is a block's number
+abbrev pub program_of : (sees_pointer : Bool) → List Block → (ℕ → ℕ → Option (ℕ × ℕ)) → Program
+program_of sp blocks resolve = record { fetch = λ p. fetch_in (from_block blocks p.block) p.item; enter = λ n. n; resolve = resolve; sees_pointer = sp }
+
+abbrev pub index_of : List Block → ℕ → ℕ
+index_of [] n = 0
+index_of (b ∷ bs) n = cond (nat_eq b.id n) 0 (suc (index_of bs n))
+
+-- a function with its frame: a position's block is a block's index, and a branch goes past the prologue
+abbrev pub framed_program : List Block → (ℕ → ℕ → Option (ℕ × ℕ)) → Program
+framed_program blocks resolve = record { fetch = λ p. fetch_in (drop p.block blocks) p.item; enter = λ n. suc (index_of (body_of blocks) n); resolve = resolve; sees_pointer = false }
+
+-- where control may go from code of a row
+abbrev pub RowEdge : (ℕ → ℕ) → Row → Pos → Pos → Type 0
+RowEdge enter (Branches op a b target) p q = (q ≡ block_start (enter target)) ⊎ (q ≡ below p)
+RowEdge enter (Jumps target) p q = q ≡ block_start (enter target)
+RowEdge enter (Returns results) p q = ⊥
+RowEdge enter Unfit p q = ⊥
+RowEdge enter _ p q = q ≡ below p
+
+abbrev pub KindEdge : (ℕ → ℕ) → ItemKind → Pos → Pos → Type 0
+KindEdge enter (Code i k) p q = RowEdge enter (row_of i) p q
+KindEdge enter _ p q = q ≡ below p
+
+abbrev pub FetchEdge : (ℕ → ℕ) → Fetch → Pos → Pos → Type 0
+FetchEdge enter (Here i) p q = KindEdge enter i.kind p q
+FetchEdge enter (Silent k n) p q = q ≡ block_start (enter n)
+FetchEdge enter Outside p q = ⊥
+
+-- control may go from one position to the other
+abbrev pub Edge : Program → Pos → Pos → Type 0
+Edge g p q = FetchEdge g.enter (g.fetch p) p q
+
+-- a path leads from one position to the other
+pub data Leads (g : Program) : Pos → Pos → Type 0 where
+  stay : {p : Pos} → Leads g p p
+  go : {p q r : Pos} → Edge g p q → Leads g q r → Leads g p r

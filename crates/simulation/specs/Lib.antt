@@ -1,0 +1,5 @@
+pub mod Refinement
+pub mod InPlace
+pub mod Added
+pub mod Rewired
+pub mod Words
