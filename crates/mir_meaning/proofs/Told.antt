@@ -122,7 +122,7 @@ module _ (g h : Program) (less : SeesLess g h) where
   value_less (Pair k o) c d t v e = pair_less (g.resolve k o) c d t v (ap (λ (q : Option (ℕ × ℕ)). pair_value q d) (sym (less.resolve k o)) ∙ e)
 
   with_less : (j k : Core → Core) → ((c d : Core) → TellsLess c d → TellsLess (j c) (k d)) → (x y : Outcome) → EndAlike TellsLess x y → EndAlike TellsLess (with_core j x) (with_core k y)
-  with_less j k f x y e = Rattle.mir_func.proofs.Outcomes.alike_with TellsLess TellsLess j k f x y e
+  with_less j k f x y e = Rattle.mir_meaning.proofs.Outcomes.alike_with TellsLess TellsLess j k f x y e
 
   pub item_less : (k : ItemKind) (c d : Core) → TellsLess c d → EndAlike TellsLess (do_item g k c) (do_item h k d)
   item_less (Code i n) c d t =
