@@ -1,6 +1,10 @@
 -- Which registers an instruction reads and sets, by its row.
 use Rattle.std.specs.Prelude.{ℕ, List, [], ◌∷◌}
-use Rattle.rv64_instr.specs.Row.{Input, Content, Number, Row, Fixes, Moves, Sets, Loads, Stores, LoadsSlot, StoresSlot, Branches, Calls, Returns}
+use Rattle.rv64_instr.specs.declared.decoded.Input.{Input}
+use Rattle.rv64_instr.specs.declared.decoded.Input.TheVariants.{Content, Number}
+use Rattle.rv64_instr.specs.declared.decoded.Base.{Base}
+use Rattle.rv64_instr.specs.declared.decoded.Base.TheVariants.{PointedBy, ObjectAt}
+use Rattle.rv64_instr.specs.Row.{Row, Fixes, Moves, Sets, Addresses, Loads, Stores, LoadsSlot, StoresSlot, Branches, Jumps, Calls, Returns, Unfit}
 
 -- the registers that a call sets (RISC-V ELF psABI, "Integer Register Convention": ra, t0 to t6, a0 to a7)
 abbrev pub caller_saved : List ℕ
@@ -10,24 +14,38 @@ abbrev pub input_reads : Input → List ℕ
 input_reads (Content r) = r ∷ []
 input_reads (Number n) = []
 
+abbrev pub base_reads : Base → List ℕ
+base_reads (PointedBy r) = r ∷ []
+base_reads (ObjectAt n) = []
+
 -- the registers that it reads
 abbrev pub reads : Row → List ℕ
+reads (Fixes rd n) = []
 reads (Moves rd rs) = rs ∷ []
 reads (Sets rd op a b) = a ∷ input_reads b
-reads (Loads rd op base offset) = base ∷ []
-reads (Stores op rs base offset) = rs ∷ base ∷ []
+reads (Addresses rd n offset) = []
+reads (Loads rd op base offset) = base_reads base
+reads (Stores op rs base offset) = rs ∷ base_reads base
+reads (LoadsSlot rd n) = []
 reads (StoresSlot rs n) = rs ∷ []
 reads (Branches op a b target) = a ∷ b ∷ []
+reads (Jumps target) = []
 reads (Calls name args) = args
 reads (Returns results) = results
-reads _ = []
+reads Unfit = []
 
 -- the registers that it sets. A write to x0 is dropped
 abbrev pub sets : Row → List ℕ
 sets (Fixes rd n) = rd ∷ []
 sets (Moves rd rs) = rd ∷ []
 sets (Sets rd op a b) = rd ∷ []
+sets (Addresses rd n offset) = rd ∷ []
 sets (Loads rd op base offset) = rd ∷ []
+sets (Stores op rs base offset) = []
 sets (LoadsSlot rd n) = rd ∷ []
+sets (StoresSlot rs n) = []
+sets (Branches op a b target) = []
+sets (Jumps target) = []
 sets (Calls name args) = caller_saved
-sets _ = []
+sets (Returns results) = []
+sets Unfit = []

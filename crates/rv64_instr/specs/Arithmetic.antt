@@ -1,8 +1,14 @@
 -- The arithmetic of RV64I's operations on numbers below 2^64 (RISC-V Unprivileged ISA, RV64I).
-use Rattle.std.specs.Prelude.{ℕ, ℤ, pos, negsuc, ◌+◌, ◌-◌, ◌*◌, ◌/◌, ◌%◌, ◌^◌, Bool, false, not, nat_eq, nat_lt, int_lt, bit_and, bit_or, bit_xor}
+use Rattle.std.specs.Prelude.{ℕ, ℤ, pos, negsuc, ◌+◌, ◌-◌, ◌*◌, ◌/◌, ◌%◌, ◌^◌, Bool, not, nat_eq, nat_lt, int_lt, bit_and, bit_or, bit_xor}
 use Rattle.std.specs.Int.{w8, w16, w32, w64, cast_unsigned, cast_signed, int_shr, from_bool}
-use Rattle.rv64_instr.specs.declared.op.Op.{Op}
-use Rattle.rv64_instr.specs.declared.op.Op.TheVariants.{Beq, Bne, Blt, Bge, Bltu, Bgeu, Lb, Lh, Lw, Lbu, Lhu, Lwu, Sb, Sh, Sw, Add, Sub, Sll, Slt, Sltu, Xor, Srl, Sra, Or, And, Addw, Subw, Sllw, Srlw, Sraw}
+use Rattle.rv64_instr.specs.declared.op.RegisterOp.{RegisterOp}
+use Rattle.rv64_instr.specs.declared.op.BranchOp.{BranchOp}
+use Rattle.rv64_instr.specs.declared.op.LoadOp.{LoadOp}
+use Rattle.rv64_instr.specs.declared.op.StoreOp.{StoreOp}
+use Rattle.rv64_instr.specs.declared.op.RegisterOp.TheVariants.{Add, Sub, Sll, Slt, Sltu, Xor, Srl, Sra, Or, And, Addw, Subw, Sllw, Srlw, Sraw}
+use Rattle.rv64_instr.specs.declared.op.BranchOp.TheVariants.{Beq, Bne, Blt, Bge, Bltu, Bgeu}
+use Rattle.rv64_instr.specs.declared.op.LoadOp.TheVariants.{Lb, Lh, Lw, Ld, Lbu, Lhu, Lwu}
+use Rattle.rv64_instr.specs.declared.op.StoreOp.TheVariants.{Sb, Sh, Sw, Sd}
 
 -- a signed number modulo 2^64
 abbrev pub word : ℤ → ℕ
@@ -22,7 +28,7 @@ abbrev pub extend32 : ℕ → ℕ
 extend32 n = unsigned (cast_signed w32 (n % 2 ^ 32))
 
 -- what an operation on two registers gives. Shifts take the low 6 bits of the second, those of words the low 5
-unfoldable pub computed : Op → ℕ → ℕ → ℕ
+unfoldable pub computed : RegisterOp → ℕ → ℕ → ℕ
 computed Add a b = (a + b) % 2 ^ 64
 computed Sub a b = (a + (2 ^ 64 - b)) % 2 ^ 64
 computed Sll a b = (a * 2 ^ (b % 64)) % 2 ^ 64
@@ -38,34 +44,39 @@ computed Subw a b = extend32 (a + (2 ^ 64 - b))
 computed Sllw a b = extend32 (a * 2 ^ (b % 32))
 computed Srlw a b = extend32 ((a % 2 ^ 32) / 2 ^ (b % 32))
 computed Sraw a b = unsigned (int_shr (cast_signed w32 (a % 2 ^ 32)) (b % 32))
-computed _ a b = 0
 
 -- whether a conditional branch is taken
-unfoldable pub taken : Op → ℕ → ℕ → Bool
+unfoldable pub taken : BranchOp → ℕ → ℕ → Bool
 taken Beq a b = nat_eq a b
 taken Bne a b = not (nat_eq a b)
 taken Blt a b = int_lt (signed a) (signed b)
 taken Bge a b = not (int_lt (signed a) (signed b))
 taken Bltu a b = nat_lt a b
 taken Bgeu a b = not (nat_lt a b)
-taken _ a b = false
 
--- how many bytes a load or a store moves
-abbrev pub width_of : Op → ℕ
-width_of Lb = 1
-width_of Lbu = 1
-width_of Lh = 2
-width_of Lhu = 2
-width_of Lw = 4
-width_of Lwu = 4
-width_of Sb = 1
-width_of Sh = 2
-width_of Sw = 4
-width_of _ = 8
+-- how many bytes a load moves
+abbrev pub load_width : LoadOp → ℕ
+load_width Lb = 1
+load_width Lh = 2
+load_width Lw = 4
+load_width Ld = 8
+load_width Lbu = 1
+load_width Lhu = 2
+load_width Lwu = 4
+
+-- how many bytes a store moves
+abbrev pub store_width : StoreOp → ℕ
+store_width Sb = 1
+store_width Sh = 2
+store_width Sw = 4
+store_width Sd = 8
 
 -- what a load makes of the number that its bytes spell: sign-extended, but for the unsigned loads
-unfoldable pub extended : Op → ℕ → ℕ
+unfoldable pub extended : LoadOp → ℕ → ℕ
 extended Lb n = unsigned (cast_signed w8 n)
 extended Lh n = unsigned (cast_signed w16 n)
 extended Lw n = unsigned (cast_signed w32 n)
-extended _ n = n
+extended Ld n = n
+extended Lbu n = n
+extended Lhu n = n
+extended Lwu n = n

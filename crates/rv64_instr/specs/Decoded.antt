@@ -2,21 +2,15 @@
 use Rattle.std.specs.Prelude.{◌≡◌, ℕ, List}
 use Rattle.rv64_instr.specs.Row as row
 use Rattle.rv64_instr.specs.Row.{Row}
-use Rattle.rv64_instr.specs.declared.decoded.Input.{Input}
-use Rattle.rv64_instr.specs.declared.decoded.Input.TheVariants.{Content, Number}
 use Rattle.rv64_instr.specs.declared.decoded.Decoded.{Decoded}
-use Rattle.rv64_instr.specs.declared.decoded.Decoded.TheVariants.{Fixes, Moves, Sets, Loads, Stores, LoadsSlot, StoresSlot, Branches, Jumps, Calls, Returns}
-
--- an input that code sees
-abbrev pub full_input : Input → row.Input
-full_input (Content r) = row.Content r
-full_input (Number n) = row.Number n
+use Rattle.rv64_instr.specs.declared.decoded.Decoded.TheVariants.{Fixes, Moves, Sets, Addresses, Loads, Stores, LoadsSlot, StoresSlot, Branches, Jumps, Calls, Returns}
 
 -- the row is the one that code sees so
 abbrev pub Shows : Decoded → Row → Type 0
 Shows (Fixes rd n) r = r ≡ row.Fixes rd n
 Shows (Moves rd rs) r = r ≡ row.Moves rd rs
-Shows (Sets rd op a b) r = r ≡ row.Sets rd op a (full_input b)
+Shows (Sets rd op a b) r = r ≡ row.Sets rd op a b
+Shows (Addresses rd n offset) r = r ≡ row.Addresses rd n offset
 Shows (Loads rd op base offset) r = r ≡ row.Loads rd op base offset
 Shows (Stores op rs base offset) r = r ≡ row.Stores op rs base offset
 Shows (LoadsSlot rd n) r = r ≡ row.LoadsSlot rd n

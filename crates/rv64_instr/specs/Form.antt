@@ -1,57 +1,48 @@
--- The operands that an opcode takes.
-use Rattle.std.specs.Prelude.{ℕ, ℤ, pos, negsuc, Bool, true, false, ◌&&◌, ◌||◌, List, ◌∷◌, int_le, nat_le, nat_lt}
+-- The operands that an opcode takes (RISC-V Unprivileged ISA, RV64I; LLVM, Machine IR (MIR) Format Reference Manual).
+use Rattle.std.specs.Prelude.{ℕ, ℤ, pos, negsuc, Bool, true, false, ◌&&◌, ◌||◌, List, ◌∷◌, int_le, nat_le, nat_lt, nat_eq}
 use Rattle.std.specs.List.{list_all}
 use Rattle.rv64_instr.specs.declared.op.Op.{Op}
-use Rattle.rv64_instr.specs.declared.op.Op.TheVariants.{Lui, Beq, Bne, Blt, Bge, Bltu, Bgeu, Lb, Lh, Lw, Ld, Lbu, Lhu, Lwu, Sb, Sh, Sw, Sd, Addi, Slti, Sltiu, Xori, Ori, Andi, Slli, Srli, Srai, Addiw, Slliw, Srliw, Sraiw, Copy, PseudoBr, PseudoCall, PseudoRet}
-use Rattle.rv64_instr.specs.declared.form.Width.{Width}
-use Rattle.rv64_instr.specs.declared.form.Width.TheVariants.{Byte, Half, Word, Double}
-use Rattle.rv64_instr.specs.declared.form.Form.{Form}
-use Rattle.rv64_instr.specs.declared.form.Form.TheVariants.{Registers, Immediate, Upper, Load, Store, Branch, Move, Jump, Call, Return}
+use Rattle.rv64_instr.specs.declared.op.ImmediateOp.{ImmediateOp}
+use Rattle.rv64_instr.specs.declared.op.LoadOp.{LoadOp}
+use Rattle.rv64_instr.specs.declared.op.StoreOp.{StoreOp}
+use Rattle.rv64_instr.specs.declared.op.Op.TheVariants.{Registers, Immediate, Lui, Branch, Load, Store, Copy, PseudoBr, PseudoCall, PseudoRet}
+use Rattle.rv64_instr.specs.declared.op.ImmediateOp.TheVariants.{Addi, Slti, Sltiu, Xori, Ori, Andi, Slli, Srli, Srai, Addiw, Slliw, Srliw, Sraiw}
 use Rattle.rv64_instr.specs.declared.operand.Operand.{Operand}
-use Rattle.rv64_instr.specs.declared.operand.Operand.TheVariants.{Def, Use, ImplicitDef, ImplicitUse, Imm, Slot, Block, Symbol, Mask}
-
--- the form of an opcode's operands (RISC-V Unprivileged ISA, RV64I; shifts have an immediate of 6 bits, those of words of 5)
-abbrev pub form_of : Op → Form
-form_of Lui = Upper
-form_of Beq = Branch
-form_of Bne = Branch
-form_of Blt = Branch
-form_of Bge = Branch
-form_of Bltu = Branch
-form_of Bgeu = Branch
-form_of Lb = Load Byte
-form_of Lh = Load Half
-form_of Lw = Load Word
-form_of Ld = Load Double
-form_of Lbu = Load Byte
-form_of Lhu = Load Half
-form_of Lwu = Load Word
-form_of Sb = Store Byte
-form_of Sh = Store Half
-form_of Sw = Store Word
-form_of Sd = Store Double
-form_of Addi = Immediate (negsuc 2047) (pos 2047)
-form_of Slti = Immediate (negsuc 2047) (pos 2047)
-form_of Sltiu = Immediate (negsuc 2047) (pos 2047)
-form_of Xori = Immediate (negsuc 2047) (pos 2047)
-form_of Ori = Immediate (negsuc 2047) (pos 2047)
-form_of Andi = Immediate (negsuc 2047) (pos 2047)
-form_of Addiw = Immediate (negsuc 2047) (pos 2047)
-form_of Slli = Immediate (pos 0) (pos 63)
-form_of Srli = Immediate (pos 0) (pos 63)
-form_of Srai = Immediate (pos 0) (pos 63)
-form_of Slliw = Immediate (pos 0) (pos 31)
-form_of Srliw = Immediate (pos 0) (pos 31)
-form_of Sraiw = Immediate (pos 0) (pos 31)
-form_of Copy = Move
-form_of PseudoBr = Jump
-form_of PseudoCall = Call
-form_of PseudoRet = Return
-form_of _ = Registers
+use Rattle.rv64_instr.specs.declared.operand.Operand.TheVariants.{Def, Use, ImplicitDef, ImplicitUse, Imm, Slot, Object, Block, Symbol, Mask}
+use Rattle.rv64_instr.specs.Arithmetic.{load_width, store_width}
 
 -- the number lies between the two, both included
 abbrev pub is_within : ℤ → ℤ → ℤ → Bool
 is_within low high i = int_le low i && int_le i high
+
+-- a signed number of 12 bits
+abbrev pub has_12_bits : ℤ → Bool
+has_12_bits i = is_within (negsuc 2047) (pos 2047) i
+
+-- the number is in the operation's range: shifts have 6 bits, those of words 5, and all others 12 signed ones
+abbrev pub is_immediate : ImmediateOp → ℤ → Bool
+is_immediate Addi i = has_12_bits i
+is_immediate Slti i = has_12_bits i
+is_immediate Sltiu i = has_12_bits i
+is_immediate Xori i = has_12_bits i
+is_immediate Ori i = has_12_bits i
+is_immediate Andi i = has_12_bits i
+is_immediate Slli i = is_within (pos 0) (pos 63) i
+is_immediate Srli i = is_within (pos 0) (pos 63) i
+is_immediate Srai i = is_within (pos 0) (pos 63) i
+is_immediate Addiw i = has_12_bits i
+is_immediate Slliw i = is_within (pos 0) (pos 31) i
+is_immediate Srliw i = is_within (pos 0) (pos 31) i
+is_immediate Sraiw i = is_within (pos 0) (pos 31) i
+
+-- `ADDI`, which alone adds a number to the address of a stack object
+abbrev pub is_addi : ImmediateOp → Bool
+is_addi Addi = true
+is_addi _ = false
+
+-- a frame slot has eight bytes, and may stand in the address's place of what moves as many
+abbrev pub moves_slot : (width : ℕ) → ℤ → Bool
+moves_slot width i = nat_eq width 8 && is_within (pos 0) (pos 0) i
 
 -- an implicit operand, which is physical
 abbrev pub is_implicit : Operand → Bool
@@ -74,27 +65,65 @@ abbrev pub is_result : Operand → Bool
 is_result (ImplicitUse r) = nat_le 10 r && nat_le r 17
 is_result _ = false
 
--- a slot may stand in the address's place
-abbrev pub takes_slot : Width → Bool
-takes_slot Double = true
-takes_slot _ = false
+-- `rd = OP rs1, rs2`
+abbrev pub fits_registers : List Operand → Bool
+fits_registers (Def rd ∷ Use rs1 ∷ Use rs2 ∷ rest) = list_all is_implicit rest
+fits_registers _ = false
 
--- these operands have the form, with their immediate in range
-abbrev pub fits : Form → List Operand → Bool
-fits Registers (Def rd ∷ Use rs1 ∷ Use rs2 ∷ rest) = list_all is_implicit rest
-fits (Immediate low high) (Def rd ∷ Use rs1 ∷ Imm i ∷ rest) = is_within low high i && list_all is_implicit rest
-fits Upper (Def rd ∷ Imm i ∷ rest) = is_within (pos 0) (pos 1048575) i && list_all is_implicit rest
-fits (Load w) (Def rd ∷ Use rs1 ∷ Imm i ∷ rest) = is_within (negsuc 2047) (pos 2047) i && list_all is_implicit rest
-fits (Load w) (Def rd ∷ Slot n ∷ Imm i ∷ rest) = takes_slot w && is_within (pos 0) (pos 0) i && list_all is_implicit rest
-fits (Store w) (Use rs2 ∷ Use rs1 ∷ Imm i ∷ rest) = is_within (negsuc 2047) (pos 2047) i && list_all is_implicit rest
-fits (Store w) (Use rs2 ∷ Slot n ∷ Imm i ∷ rest) = takes_slot w && is_within (pos 0) (pos 0) i && list_all is_implicit rest
-fits Branch (Use rs1 ∷ Use rs2 ∷ Block n ∷ rest) = list_all is_implicit rest
-fits Move (Def rd ∷ Use rs ∷ rest) = list_all is_implicit rest
-fits Jump (Block n ∷ rest) = list_all is_implicit rest
-fits Call (Symbol name ∷ Mask ∷ rest) = list_all is_argument rest
-fits Return rest = list_all is_result rest
-fits _ _ = false
+-- `rd = OP rs1, imm`, or `rd = ADDI %stack.N, imm` of a stack object
+abbrev pub fits_immediate : ImmediateOp → List Operand → Bool
+fits_immediate op (Def rd ∷ Use rs1 ∷ Imm i ∷ rest) = is_immediate op i && list_all is_implicit rest
+fits_immediate op (Def rd ∷ Object n ∷ Imm i ∷ rest) = is_addi op && is_immediate op i && list_all is_implicit rest
+fits_immediate op _ = false
 
--- the operands have the form of the opcode
+-- `rd = LUI imm`, with 20 bits
+abbrev pub fits_upper : List Operand → Bool
+fits_upper (Def rd ∷ Imm i ∷ rest) = is_within (pos 0) (pos 1048575) i && list_all is_implicit rest
+fits_upper _ = false
+
+-- `OP rs1, rs2, %bb.N`
+abbrev pub fits_branch : List Operand → Bool
+fits_branch (Use rs1 ∷ Use rs2 ∷ Block n ∷ rest) = list_all is_implicit rest
+fits_branch _ = false
+
+-- `rd = OP rs1, imm`, `rd = LD %stack.N, 0` of a slot, or `rd = OP %stack.N, imm` of a stack object
+abbrev pub fits_load : LoadOp → List Operand → Bool
+fits_load op (Def rd ∷ Use rs1 ∷ Imm i ∷ rest) = has_12_bits i && list_all is_implicit rest
+fits_load op (Def rd ∷ Slot n ∷ Imm i ∷ rest) = moves_slot (load_width op) i && list_all is_implicit rest
+fits_load op (Def rd ∷ Object n ∷ Imm i ∷ rest) = has_12_bits i && list_all is_implicit rest
+fits_load op _ = false
+
+-- `OP rs2, rs1, imm`, `SD rs2, %stack.N, 0` of a slot, or `OP rs2, %stack.N, imm` of a stack object
+abbrev pub fits_store : StoreOp → List Operand → Bool
+fits_store op (Use rs2 ∷ Use rs1 ∷ Imm i ∷ rest) = has_12_bits i && list_all is_implicit rest
+fits_store op (Use rs2 ∷ Slot n ∷ Imm i ∷ rest) = moves_slot (store_width op) i && list_all is_implicit rest
+fits_store op (Use rs2 ∷ Object n ∷ Imm i ∷ rest) = has_12_bits i && list_all is_implicit rest
+fits_store op _ = false
+
+-- `rd = COPY rs`
+abbrev pub fits_copy : List Operand → Bool
+fits_copy (Def rd ∷ Use rs ∷ rest) = list_all is_implicit rest
+fits_copy _ = false
+
+-- `PseudoBR %bb.N`
+abbrev pub fits_jump : List Operand → Bool
+fits_jump (Block n ∷ rest) = list_all is_implicit rest
+fits_jump _ = false
+
+-- `PseudoCALL symbol, mask`
+abbrev pub fits_call : List Operand → Bool
+fits_call (Symbol name ∷ Mask ∷ rest) = list_all is_argument rest
+fits_call _ = false
+
+-- the operands have the form of the opcode, with their immediate in range. Implicit operands come last
 abbrev pub has_form : Op → List Operand → Bool
-has_form op operands = fits (form_of op) operands
+has_form (Registers op) operands = fits_registers operands
+has_form (Immediate op) operands = fits_immediate op operands
+has_form Lui operands = fits_upper operands
+has_form (Branch op) operands = fits_branch operands
+has_form (Load op) operands = fits_load op operands
+has_form (Store op) operands = fits_store op operands
+has_form Copy operands = fits_copy operands
+has_form PseudoBr operands = fits_jump operands
+has_form PseudoCall operands = fits_call operands
+has_form PseudoRet operands = list_all is_result operands

@@ -1,56 +1,86 @@
--- The names of opcodes (LLVM, Machine IR Format Reference Manual, "Instructions").
+-- The names of opcodes (LLVM, Machine IR (MIR) Format Reference Manual, "Instructions").
 use Rattle.std.specs.Prelude.{◌≡◌, ℕ, List, Option, Some, None, codes}
 use Rattle.rv64_instr.specs.declared.op.Op.{Op}
-use Rattle.rv64_instr.specs.declared.op.Op.TheVariants.{Lui, Beq, Bne, Blt, Bge, Bltu, Bgeu, Lb, Lh, Lw, Ld, Lbu, Lhu, Lwu, Sb, Sh, Sw, Sd, Addi, Slti, Sltiu, Xori, Ori, Andi, Slli, Srli, Srai, Add, Sub, Sll, Slt, Sltu, Xor, Srl, Sra, Or, And, Addiw, Slliw, Srliw, Sraiw, Addw, Subw, Sllw, Srlw, Sraw, Copy, PseudoBr, PseudoCall, PseudoRet}
+use Rattle.rv64_instr.specs.declared.op.Op.TheVariants.{Registers, Immediate, Lui, Branch, Load, Store, Copy, PseudoBr, PseudoCall, PseudoRet}
+use Rattle.rv64_instr.specs.declared.op.RegisterOp.{RegisterOp}
+use Rattle.rv64_instr.specs.declared.op.RegisterOp.TheVariants.{Add, Sub, Sll, Slt, Sltu, Xor, Srl, Sra, Or, And, Addw, Subw, Sllw, Srlw, Sraw}
+use Rattle.rv64_instr.specs.declared.op.ImmediateOp.{ImmediateOp}
+use Rattle.rv64_instr.specs.declared.op.ImmediateOp.TheVariants.{Addi, Slti, Sltiu, Xori, Ori, Andi, Slli, Srli, Srai, Addiw, Slliw, Srliw, Sraiw}
+use Rattle.rv64_instr.specs.declared.op.BranchOp.{BranchOp}
+use Rattle.rv64_instr.specs.declared.op.BranchOp.TheVariants.{Beq, Bne, Blt, Bge, Bltu, Bgeu}
+use Rattle.rv64_instr.specs.declared.op.LoadOp.{LoadOp}
+use Rattle.rv64_instr.specs.declared.op.LoadOp.TheVariants.{Lb, Lh, Lw, Ld, Lbu, Lhu, Lwu}
+use Rattle.rv64_instr.specs.declared.op.StoreOp.{StoreOp}
+use Rattle.rv64_instr.specs.declared.op.StoreOp.TheVariants.{Sb, Sh, Sw, Sd}
+
+-- the name of an operation on two registers
+abbrev pub register_name : RegisterOp → List ℕ
+register_name Add = codes "ADD"
+register_name Sub = codes "SUB"
+register_name Sll = codes "SLL"
+register_name Slt = codes "SLT"
+register_name Sltu = codes "SLTU"
+register_name Xor = codes "XOR"
+register_name Srl = codes "SRL"
+register_name Sra = codes "SRA"
+register_name Or = codes "OR"
+register_name And = codes "AND"
+register_name Addw = codes "ADDW"
+register_name Subw = codes "SUBW"
+register_name Sllw = codes "SLLW"
+register_name Srlw = codes "SRLW"
+register_name Sraw = codes "SRAW"
+
+-- the name of an operation on a register and a number
+abbrev pub immediate_name : ImmediateOp → List ℕ
+immediate_name Addi = codes "ADDI"
+immediate_name Slti = codes "SLTI"
+immediate_name Sltiu = codes "SLTIU"
+immediate_name Xori = codes "XORI"
+immediate_name Ori = codes "ORI"
+immediate_name Andi = codes "ANDI"
+immediate_name Slli = codes "SLLI"
+immediate_name Srli = codes "SRLI"
+immediate_name Srai = codes "SRAI"
+immediate_name Addiw = codes "ADDIW"
+immediate_name Slliw = codes "SLLIW"
+immediate_name Srliw = codes "SRLIW"
+immediate_name Sraiw = codes "SRAIW"
+
+-- the name of a conditional branch
+abbrev pub branch_name : BranchOp → List ℕ
+branch_name Beq = codes "BEQ"
+branch_name Bne = codes "BNE"
+branch_name Blt = codes "BLT"
+branch_name Bge = codes "BGE"
+branch_name Bltu = codes "BLTU"
+branch_name Bgeu = codes "BGEU"
+
+-- the name of a load
+abbrev pub load_name : LoadOp → List ℕ
+load_name Lb = codes "LB"
+load_name Lh = codes "LH"
+load_name Lw = codes "LW"
+load_name Ld = codes "LD"
+load_name Lbu = codes "LBU"
+load_name Lhu = codes "LHU"
+load_name Lwu = codes "LWU"
+
+-- the name of a store
+abbrev pub store_name : StoreOp → List ℕ
+store_name Sb = codes "SB"
+store_name Sh = codes "SH"
+store_name Sw = codes "SW"
+store_name Sd = codes "SD"
 
 -- the opcode's name in MIR
 abbrev pub mnemonic_of : Op → List ℕ
+mnemonic_of (Registers op) = register_name op
+mnemonic_of (Immediate op) = immediate_name op
+mnemonic_of (Branch op) = branch_name op
+mnemonic_of (Load op) = load_name op
+mnemonic_of (Store op) = store_name op
 mnemonic_of Lui = codes "LUI"
-mnemonic_of Beq = codes "BEQ"
-mnemonic_of Bne = codes "BNE"
-mnemonic_of Blt = codes "BLT"
-mnemonic_of Bge = codes "BGE"
-mnemonic_of Bltu = codes "BLTU"
-mnemonic_of Bgeu = codes "BGEU"
-mnemonic_of Lb = codes "LB"
-mnemonic_of Lh = codes "LH"
-mnemonic_of Lw = codes "LW"
-mnemonic_of Ld = codes "LD"
-mnemonic_of Lbu = codes "LBU"
-mnemonic_of Lhu = codes "LHU"
-mnemonic_of Lwu = codes "LWU"
-mnemonic_of Sb = codes "SB"
-mnemonic_of Sh = codes "SH"
-mnemonic_of Sw = codes "SW"
-mnemonic_of Sd = codes "SD"
-mnemonic_of Addi = codes "ADDI"
-mnemonic_of Slti = codes "SLTI"
-mnemonic_of Sltiu = codes "SLTIU"
-mnemonic_of Xori = codes "XORI"
-mnemonic_of Ori = codes "ORI"
-mnemonic_of Andi = codes "ANDI"
-mnemonic_of Slli = codes "SLLI"
-mnemonic_of Srli = codes "SRLI"
-mnemonic_of Srai = codes "SRAI"
-mnemonic_of Add = codes "ADD"
-mnemonic_of Sub = codes "SUB"
-mnemonic_of Sll = codes "SLL"
-mnemonic_of Slt = codes "SLT"
-mnemonic_of Sltu = codes "SLTU"
-mnemonic_of Xor = codes "XOR"
-mnemonic_of Srl = codes "SRL"
-mnemonic_of Sra = codes "SRA"
-mnemonic_of Or = codes "OR"
-mnemonic_of And = codes "AND"
-mnemonic_of Addiw = codes "ADDIW"
-mnemonic_of Slliw = codes "SLLIW"
-mnemonic_of Srliw = codes "SRLIW"
-mnemonic_of Sraiw = codes "SRAIW"
-mnemonic_of Addw = codes "ADDW"
-mnemonic_of Subw = codes "SUBW"
-mnemonic_of Sllw = codes "SLLW"
-mnemonic_of Srlw = codes "SRLW"
-mnemonic_of Sraw = codes "SRAW"
 mnemonic_of Copy = codes "COPY"
 mnemonic_of PseudoBr = codes "PseudoBR"
 mnemonic_of PseudoCall = codes "PseudoCALL"

@@ -1,8 +1,6 @@
--- What an instruction sets, reads and moves, by its row. A constant is no place that is set or read.
+-- What an instruction sets, reads and moves, by its row. A constant and a stack object are no places.
 use Rattle.std.specs.Prelude.{ℕ, zero, suc, ℤ, Bool, true, false, ◌||◌, ◌&&◌, [], ◌∷◌, Option, Some, None, nat_eq}
 use Rattle.std.specs.List.{list_any}
-use Rattle.rv64_instr.specs.declared.decoded.Input as decoded
-use Rattle.rv64_instr.specs.declared.decoded.Input.TheVariants as decoded_input
 use Rattle.rv64_instr.specs.declared.operand.Operand.{Operand}
 use Rattle.rv64_instr.specs.declared.operand.Operand.TheVariants.{ImplicitUse}
 use Rattle.rv64_instr.specs.declared.place.Place.{Place}
@@ -10,7 +8,11 @@ use Rattle.rv64_instr.specs.declared.place.Place.TheVariants.{Register, Slot, Co
 use Rattle.rv64_instr.specs.declared.parts.Effect.{Effect}
 use Rattle.rv64_instr.specs.Instruction.{Instruction}
 use Rattle.rv64_instr.specs.Arithmetic.{signed}
-use Rattle.rv64_instr.specs.Row.{Input, Content, Number, Row, Fixes, Moves, Sets, Loads, Stores, LoadsSlot, StoresSlot, Branches, Jumps, Calls, Returns, row_of}
+use Rattle.rv64_instr.specs.declared.decoded.Input.{Input}
+use Rattle.rv64_instr.specs.declared.decoded.Input.TheVariants.{Content, Number}
+use Rattle.rv64_instr.specs.declared.decoded.Base.{Base}
+use Rattle.rv64_instr.specs.declared.decoded.Base.TheVariants.{PointedBy, ObjectAt}
+use Rattle.rv64_instr.specs.Row.{Row, Fixes, Moves, Sets, Addresses, Loads, Stores, LoadsSlot, StoresSlot, Branches, Jumps, Calls, Returns, Unfit, row_of}
 use Rattle.rv64_instr.specs.Access.{sets}
 
 -- the place that a definition of a register sets: a write to x0 is dropped
@@ -23,74 +25,161 @@ abbrev pub set_by : Row → Option Place
 set_by (Fixes rd n) = place_set rd
 set_by (Moves rd rs) = place_set rd
 set_by (Sets rd op a b) = place_set rd
+set_by (Addresses rd n offset) = place_set rd
 set_by (Loads rd op base offset) = place_set rd
+set_by (Stores op rs base offset) = None
 set_by (LoadsSlot rd n) = place_set rd
 set_by (StoresSlot rs n) = Some (Slot n)
-set_by _ = None
-
-abbrev pub place_of_input : decoded.Input → Option Place
-place_of_input (decoded_input.Content r) = Some (Register r)
-place_of_input (decoded_input.Number n) = None
+set_by (Branches op a b target) = None
+set_by (Jumps target) = None
+set_by (Calls name args) = None
+set_by (Returns results) = None
+set_by Unfit = None
 
 -- the place that an input is read from
 abbrev pub input_place : Input → Option Place
 input_place (Content r) = Some (Register r)
 input_place (Number n) = None
 
+abbrev pub base_place : Base → Option Place
+base_place (PointedBy r) = Some (Register r)
+base_place (ObjectAt n) = None
+
 -- the places that it reads by explicit operands, in text order. A constant definition reads none
 abbrev pub first_use : Row → Option Place
+first_use (Fixes rd n) = None
 first_use (Moves rd rs) = Some (Register rs)
 first_use (Sets rd op a b) = Some (Register a)
-first_use (Loads rd op base offset) = Some (Register base)
+first_use (Addresses rd n offset) = None
+first_use (Loads rd op base offset) = base_place base
 first_use (Stores op rs base offset) = Some (Register rs)
 first_use (LoadsSlot rd n) = Some (Slot n)
 first_use (StoresSlot rs n) = Some (Register rs)
 first_use (Branches op a b target) = Some (Register a)
-first_use _ = None
+first_use (Jumps target) = None
+first_use (Calls name args) = None
+first_use (Returns results) = None
+first_use Unfit = None
 
+-- the second of them
 abbrev pub second_use : Row → Option Place
+second_use (Fixes rd n) = None
+second_use (Moves rd rs) = None
 second_use (Sets rd op a b) = input_place b
-second_use (Stores op rs base offset) = Some (Register base)
+second_use (Addresses rd n offset) = None
+second_use (Loads rd op base offset) = None
+second_use (Stores op rs base offset) = base_place base
+second_use (LoadsSlot rd n) = None
+second_use (StoresSlot rs n) = None
 second_use (Branches op a b target) = Some (Register b)
-second_use _ = None
+second_use (Jumps target) = None
+second_use (Calls name args) = None
+second_use (Returns results) = None
+second_use Unfit = None
+
+-- a copy into x0 moves nothing
+abbrev pub moved_into : (rd rs : ℕ) → Option Place
+moved_into zero rs = None
+moved_into (suc rd) rs = Some (Register rs)
 
 -- the place whose content it moves unchanged: of slot loads, slot stores, and copies but those into x0
 abbrev pub moved_by : Row → Option Place
-moved_by (Moves zero rs) = None
-moved_by (Moves (suc rd) rs) = Some (Register rs)
+moved_by (Fixes rd n) = None
+moved_by (Moves rd rs) = moved_into rd rs
+moved_by (Sets rd op a b) = None
+moved_by (Addresses rd n offset) = None
+moved_by (Loads rd op base offset) = None
+moved_by (Stores op rs base offset) = None
 moved_by (LoadsSlot rd n) = Some (Slot n)
 moved_by (StoresSlot rs n) = Some (Register rs)
-moved_by _ = None
+moved_by (Branches op a b target) = None
+moved_by (Jumps target) = None
+moved_by (Calls name args) = None
+moved_by (Returns results) = None
+moved_by Unfit = None
 
 -- the number that a constant definition sets, also one of x0
 abbrev pub constant_of : Row → Option ℤ
 constant_of (Fixes rd n) = Some (signed n)
-constant_of _ = None
+constant_of (Moves rd rs) = None
+constant_of (Sets rd op a b) = None
+constant_of (Addresses rd n offset) = None
+constant_of (Loads rd op base offset) = None
+constant_of (Stores op rs base offset) = None
+constant_of (LoadsSlot rd n) = None
+constant_of (StoresSlot rs n) = None
+constant_of (Branches op a b target) = None
+constant_of (Jumps target) = None
+constant_of (Calls name args) = None
+constant_of (Returns results) = None
+constant_of Unfit = None
 
 -- no store to memory, no branch, call or return: where it goes on, at most its one place is set. A load may stop on a frame fault instead
 abbrev pub is_pure : Row → Bool
+is_pure (Fixes rd n) = true
+is_pure (Moves rd rs) = true
+is_pure (Sets rd op a b) = true
+is_pure (Addresses rd n offset) = true
+is_pure (Loads rd op base offset) = true
 is_pure (Stores op rs base offset) = false
+is_pure (LoadsSlot rd n) = true
+is_pure (StoresSlot rs n) = true
 is_pure (Branches op a b target) = false
 is_pure (Jumps target) = false
 is_pure (Calls name args) = false
 is_pure (Returns results) = false
-is_pure _ = true
+is_pure Unfit = true
 
 abbrev pub is_call : Row → Bool
 is_call (Calls name args) = true
 is_call _ = false
 
 abbrev pub effect_of : Row → Effect
-effect_of row = record { def = set_by row; uses = first_use row ∷ second_use row ∷ []; moved_from = moved_by row; constant = constant_of row; pure = is_pure row; call = is_call row }
+effect_of row = record {
+  def = set_by row;
+  uses = first_use row ∷ second_use row ∷ [];
+  moved_from = moved_by row;
+  constant = constant_of row;
+  pure = is_pure row;
+  call = is_call row;
+}
 
--- the frame slot that it reads, and the one that it sets
+-- the frame slot that it reads
 abbrev pub slot_read : Row → Option ℕ
+slot_read (Fixes rd n) = None
+slot_read (Moves rd rs) = None
+slot_read (Sets rd op a b) = None
+slot_read (Addresses rd n offset) = None
+slot_read (Loads rd op base offset) = None
+slot_read (Stores op rs base offset) = None
 slot_read (LoadsSlot rd n) = Some n
-slot_read _ = None
+slot_read (StoresSlot rs n) = None
+slot_read (Branches op a b target) = None
+slot_read (Jumps target) = None
+slot_read (Calls name args) = None
+slot_read (Returns results) = None
+slot_read Unfit = None
 
+-- the frame slot that it sets
 abbrev pub slot_set : Row → Option ℕ
+slot_set (Fixes rd n) = None
+slot_set (Moves rd rs) = None
+slot_set (Sets rd op a b) = None
+slot_set (Addresses rd n offset) = None
+slot_set (Loads rd op base offset) = None
+slot_set (Stores op rs base offset) = None
+slot_set (LoadsSlot rd n) = None
 slot_set (StoresSlot rs n) = Some n
-slot_set _ = None
+slot_set (Branches op a b target) = None
+slot_set (Jumps target) = None
+slot_set (Calls name args) = None
+slot_set (Returns results) = None
+slot_set Unfit = None
+
+-- it stores into a frame slot
+abbrev pub IsSlotStore : Row → Type 0
+IsSlotStore (StoresSlot rs n) = Unit {0}
+IsSlotStore _ = ⊥
 
 abbrev pub names_slot : Option ℕ → ℕ → Bool
 names_slot (Some m) n = nat_eq m n
@@ -114,7 +203,8 @@ has_implicit_uses _ = false
 
 -- it reads the place: a register by an explicit operand, or by an implicit one of a call or a return; or a slot
 abbrev pub uses_of : Instruction → Place → Bool
-uses_of i (Register r) = is_register r (first_use (row_of i)) || is_register r (second_use (row_of i)) || (has_implicit_uses (row_of i) && list_any (is_implicit_use r) i.operands)
+uses_of i (Register r) = is_register r (first_use (row_of i)) || is_register r (second_use (row_of i))
+    || (has_implicit_uses (row_of i) && list_any (is_implicit_use r) i.operands)
 uses_of i (Slot n) = names_slot (slot_read (row_of i)) n
 uses_of i (Const c) = false
 

@@ -1,78 +1,90 @@
+//! The arithmetic of RV64I: what operations give, which branches are taken, and what loads make of their bytes.
+
 ghost use Rattle.std.specs.Prelude.{◌≡◌, ◌<◌, ◌*◌, ◌^◌, ◌%◌};
-ghost use Rattle.rv64_instr.specs.Arithmetic.{computed, taken, extended, width_of, extend32};
+ghost use Rattle.rv64_instr.specs.Arithmetic.{computed, taken, extended, load_width, store_width, extend32};
 
-use crate::op::Op;
+use crate::op::{BranchOp, LoadOp, RegisterOp, StoreOp};
 
-/// What an operation on two registers gives, at the contents of the two (RISC-V Unprivileged ISA, RV32I
-/// and RV64I, "Integer Register-Register Operations"). Of an operation with an immediate ask its register form. 0 for
-/// an opcode that computes nothing.
+/// What an operation on two registers gives, at the contents of the two (RISC-V Unprivileged ISA, RV32I and RV64I,
+/// "Integer Register-Register Operations").
 #[tactic(auto, unfolding(crate::specs::Arithmetic::computed))]
-pub fn compute(op: Op, a: u64, b: u64) -> u64
+pub fn compute(op: RegisterOp, a: u64, b: u64) -> u64
     ensures { result ≡ computed op a b }
 {
     match op {
-        Op::Add => a.wrapping_add(b),
-        Op::Sub => a.wrapping_sub(b),
-        Op::Sll => a << (b % 64),
-        Op::Slt => u64::from(a.cast_signed() < b.cast_signed()),
-        Op::Sltu => u64::from(a < b),
-        Op::Xor => a ^ b,
-        Op::Srl => a >> (b % 64),
-        Op::Sra => (a.cast_signed() >> (b % 64)).cast_unsigned(),
-        Op::Or => a | b,
-        Op::And => a & b,
-        Op::Addw => extend32(a.wrapping_add(b)),
-        Op::Subw => extend32(a.wrapping_sub(b)),
-        Op::Sllw => extend32(a << (b % 32)),
-        Op::Srlw => extend32((a % (1 << 32)) >> (b % 32)),
-        Op::Sraw => {
+        RegisterOp::Add => a.wrapping_add(b),
+        RegisterOp::Sub => a.wrapping_sub(b),
+        RegisterOp::Sll => a << (b % 64),
+        RegisterOp::Slt => u64::from(a.cast_signed() < b.cast_signed()),
+        RegisterOp::Sltu => u64::from(a < b),
+        RegisterOp::Xor => a ^ b,
+        RegisterOp::Srl => a >> (b % 64),
+        RegisterOp::Sra => (a.cast_signed() >> (b % 64)).cast_unsigned(),
+        RegisterOp::Or => a | b,
+        RegisterOp::And => a & b,
+        RegisterOp::Addw => extend32(a.wrapping_add(b)),
+        RegisterOp::Subw => extend32(a.wrapping_sub(b)),
+        RegisterOp::Sllw => extend32(a << (b % 32)),
+        RegisterOp::Srlw => extend32((a % (1 << 32)) >> (b % 32)),
+        RegisterOp::Sraw => {
             let low = (a % (1 << 32)) as u32;
             i64::from(low.cast_signed() >> (b % 32)).cast_unsigned()
         }
-        _ => 0,
     }
 }
 
-/// Whether a conditional branch is taken, at the contents of its two registers. False for any other opcode.
+/// Whether a conditional branch is taken, at the contents of its two registers (RISC-V Unprivileged ISA, RV32I,
+/// "Conditional Branches").
 #[tactic(auto, unfolding(crate::specs::Arithmetic::taken))]
-pub fn is_taken(op: Op, a: u64, b: u64) -> bool
+pub fn is_taken(op: BranchOp, a: u64, b: u64) -> bool
     ensures { result ≡ taken op a b }
 {
     match op {
-        Op::Beq => a == b,
-        Op::Bne => a != b,
-        Op::Blt => a.cast_signed() < b.cast_signed(),
-        Op::Bge => !(a.cast_signed() < b.cast_signed()),
-        Op::Bltu => a < b,
-        Op::Bgeu => !(a < b),
-        _ => false,
+        BranchOp::Beq => a == b,
+        BranchOp::Bne => a != b,
+        BranchOp::Blt => a.cast_signed() < b.cast_signed(),
+        BranchOp::Bge => !(a.cast_signed() < b.cast_signed()),
+        BranchOp::Bltu => a < b,
+        BranchOp::Bgeu => !(a < b),
     }
 }
 
-/// How many bytes a load or a store moves: 1, 2, 4 or 8, and 8 for any other opcode.
-pub fn width(op: Op) -> usize
-    ensures { result ≡ width_of op }
+/// How many bytes a load moves: 1, 2, 4 or 8.
+pub fn load_width(op: LoadOp) -> usize
+    ensures { result ≡ load_width op }
 {
     match op {
-        Op::Lb | Op::Lbu | Op::Sb => 1,
-        Op::Lh | Op::Lhu | Op::Sh => 2,
-        Op::Lw | Op::Lwu | Op::Sw => 4,
-        _ => 8,
+        LoadOp::Lb | LoadOp::Lbu => 1,
+        LoadOp::Lh | LoadOp::Lhu => 2,
+        LoadOp::Lw | LoadOp::Lwu => 4,
+        LoadOp::Ld => 8,
+    }
+}
+
+/// How many bytes a store moves: 1, 2, 4 or 8.
+pub fn store_width(op: StoreOp) -> usize
+    ensures { result ≡ store_width op }
+{
+    match op {
+        StoreOp::Sb => 1,
+        StoreOp::Sh => 2,
+        StoreOp::Sw => 4,
+        StoreOp::Sd => 8,
     }
 }
 
 /// What a load makes of the number that its bytes spell, the first byte lowest: sign-extended, but for the unsigned
 /// loads.
 #[tactic(auto, unfolding(crate::specs::Arithmetic::extended))]
-pub fn extend(op: Op, n: u64) -> u64
-    requires { n < 2 ^ (8 * width_of op) }
+pub fn extend(op: LoadOp, n: u64) -> u64
+    requires { n < 2 ^ (8 * load_width op) }
     ensures { result ≡ extended op n }
 {
     match op {
-        Op::Lb => i64::from((n as u8).cast_signed()).cast_unsigned(),
-        Op::Lh => i64::from((n as u16).cast_signed()).cast_unsigned(),
-        Op::Lw => i64::from((n as u32).cast_signed()).cast_unsigned(),
-        _ => n,
+        LoadOp::Lb => i64::from((n as u8).cast_signed()).cast_unsigned(),
+        LoadOp::Lh => i64::from((n as u16).cast_signed()).cast_unsigned(),
+        LoadOp::Lw => i64::from((n as u32).cast_signed()).cast_unsigned(),
+        LoadOp::Ld | LoadOp::Lbu | LoadOp::Lhu | LoadOp::Lwu => n,
     }
 }
 

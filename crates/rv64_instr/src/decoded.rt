@@ -1,15 +1,41 @@
+//! What an instruction does, decoded from its opcode and operands.
+
 ghost use Rattle.std.specs.Prelude.{◌≡◌, IsTrue};
 ghost use Rattle.rv64_instr.specs.Arithmetic.{word};
-ghost use Rattle.rv64_instr.specs.Form.{fits};
-ghost use Rattle.rv64_instr.specs.Row.{row_of, row_by, move_row, immediate_row, register_form};
+ghost use Rattle.rv64_instr.specs.Form.{
+  fits_registers,
+  fits_immediate,
+  fits_upper,
+  fits_branch,
+  fits_load,
+  fits_store,
+  fits_copy,
+  fits_jump,
+  fits_call,
+};
+ghost use Rattle.rv64_instr.specs.Row.{
+  row_of,
+  registers_row,
+  number_row,
+  upper_row,
+  branch_row,
+  load_row,
+  store_row,
+  copy_row,
+  jump_row,
+  call_row,
+  move_row,
+  add_row,
+  immediate_row,
+};
 ghost use Rattle.rv64_instr.specs.Decoded.{Shows};
 
 use crate::arithmetic::extend32;
-use crate::form::{Form, Width, form_of};
 use crate::instr::Instr;
-use crate::op::Op;
+use crate::op::{BranchOp, ImmediateOp, LoadOp, Op, RegisterOp, StoreOp};
 use crate::operand::Operand;
 use crate::reg::Reg;
+use numbers::code::{BlockId, ObjectId, SlotId};
 
 /// The second input of an operation.
 #[derive(Clone, Copy, Debug, PartialEq, Eq)]
@@ -20,8 +46,17 @@ pub enum Input {
     Number(u64),
 }
 
+/// What an access counts its offset from.
+#[derive(Clone, Copy, Debug, PartialEq, Eq)]
+pub enum Base {
+    /// The content of a register.
+    PointedBy(Reg),
+    /// The address of a stack object.
+    ObjectAt(ObjectId),
+}
+
 /// What an instruction does, without the lists of a call and a return. Offsets of addresses are in bytes, and count
-/// modulo 2^64. Targets are block numbers.
+/// modulo 2^64.
 #[derive(Clone, Copy, Debug, PartialEq, Eq)]
 pub enum Decoded {
     /// A constant definition: sets the register to a number.
@@ -29,19 +64,21 @@ pub enum Decoded {
     /// A copy: sets the first register to the content of the second, which isn't x0.
     Moves(Reg, Reg),
     /// Sets the first register to what an operation on registers gives at the second and the input.
-    Sets(Reg, Op, Reg, Input),
-    /// Sets the first register from memory, at the second one's content plus an offset.
-    Loads(Reg, Op, Reg, u64),
-    /// Writes the content of the first register to memory, at the second one's content plus an offset.
-    Stores(Op, Reg, Reg, u64),
+    Sets(Reg, RegisterOp, Reg, Input),
+    /// Sets the register to the address of a stack object plus an offset.
+    Addresses(Reg, ObjectId, u64),
+    /// Sets the register from memory, at a base plus an offset.
+    Loads(Reg, LoadOp, Base, u64),
+    /// Writes the content of the register to memory, at a base plus an offset.
+    Stores(StoreOp, Reg, Base, u64),
     /// Sets the register from a frame slot.
-    LoadsSlot(Reg, u32),
+    LoadsSlot(Reg, SlotId),
     /// Writes the content of the register to a frame slot.
-    StoresSlot(Reg, u32),
+    StoresSlot(Reg, SlotId),
     /// Goes to a block if a conditional branch is taken at the contents of the two registers.
-    Branches(Op, Reg, Reg, u32),
+    Branches(BranchOp, Reg, Reg, BlockId),
     /// Goes to a block.
-    Jumps(u32),
+    Jumps(BlockId),
     /// Calls a function.
     Calls,
     /// Ends the run.
@@ -60,25 +97,24 @@ impl Instr {
 fn decode(i: &Instr) -> Decoded
     ensures { Shows result (row_of i.now) }
 {
-    let op = i.op;
     let operands = i.operands.as_slice();
-    match form_of(op) {
-        Form::Registers => of_registers(op, operands),
-        Form::Immediate(low, high) => of_immediate(op, low, high, operands),
-        Form::Upper => of_upper(op, operands),
-        Form::Load(width) => of_load(op, width, operands),
-        Form::Store(width) => of_store(op, width, operands),
-        Form::Branch => of_branch(op, operands),
-        Form::Move => of_move(op, operands),
-        Form::Jump => of_jump(op, operands),
-        Form::Call => of_call(op, operands),
-        Form::Return => Decoded::Returns,
+    match i.op {
+        Op::Registers(op) => of_registers(op, operands),
+        Op::Immediate(op) => of_immediate(op, operands),
+        Op::Lui => of_upper(operands),
+        Op::Branch(op) => of_branch(op, operands),
+        Op::Load(op) => of_load(op, operands),
+        Op::Store(op) => of_store(op, operands),
+        Op::Copy => of_copy(operands),
+        Op::PseudoBr => of_jump(operands),
+        Op::PseudoCall => of_call(operands),
+        Op::PseudoRet => Decoded::Returns,
     }
 }
 
-fn of_registers(op: Op, operands: &[Operand]) -> Decoded
-    requires { IsTrue (fits Form.Registers operands.now) }
-    ensures { Shows result (row_by Form.Registers op operands.now) }
+fn of_registers(op: RegisterOp, operands: &[Operand]) -> Decoded
+    requires { IsTrue (fits_registers operands.now) }
+    ensures { Shows result (registers_row op operands.now) }
 {
     match operands {
         [Operand::Def(rd), Operand::Use(a), Operand::Use(b), ..] => {
@@ -88,63 +124,59 @@ fn of_registers(op: Op, operands: &[Operand]) -> Decoded
     }
 }
 
-fn of_immediate(op: Op, low: i64, high: i64, operands: &[Operand]) -> Decoded
-    requires { IsTrue (fits (Form.Immediate low high) operands.now) }
-    ensures { Shows result (row_by (Form.Immediate low high) op operands.now) }
+fn of_immediate(op: ImmediateOp, operands: &[Operand]) -> Decoded
+    requires { IsTrue (fits_immediate op operands.now) }
+    ensures { Shows result (number_row op operands.now) }
 {
     match operands {
-        [Operand::Def(rd), Operand::Use(a), Operand::Imm(i), ..] => { with_number(op, *rd, *a, *i) }
+        [Operand::Def(rd), Operand::Use(a), Operand::Imm(i), ..] => {
+            with_number(op, *rd, *a, i.cast_unsigned())
+        }
+        [Operand::Def(rd), Operand::Object(n), Operand::Imm(i), ..] => {
+            Decoded::Addresses(*rd, *n, i.cast_unsigned())
+        }
         _ => unreachable!(),
     }
 }
 
-/// `ADDI rd, x0, n` sets n, and `ADDI rd, rs, 0` is a copy.
-fn with_number(op: Op, rd: Reg, a: Reg, i: i64) -> Decoded
-    ensures { Shows result (immediate_row op rd a (word i)) }
+/// An operation with a number is the one on registers.
+fn with_number(op: ImmediateOp, rd: Reg, a: Reg, n: u64) -> Decoded
+    ensures { Shows result (immediate_row op rd a n) }
 {
+    let second = Input::Number(n);
     match op {
-        Op::Addi => add_number(rd, a, i.cast_unsigned()),
-        _ => Decoded::Sets(rd, register_form(op), a, Input::Number(i.cast_unsigned())),
+        ImmediateOp::Addi => add_number(rd, a, n),
+        ImmediateOp::Slti => Decoded::Sets(rd, RegisterOp::Slt, a, second),
+        ImmediateOp::Sltiu => Decoded::Sets(rd, RegisterOp::Sltu, a, second),
+        ImmediateOp::Xori => Decoded::Sets(rd, RegisterOp::Xor, a, second),
+        ImmediateOp::Ori => Decoded::Sets(rd, RegisterOp::Or, a, second),
+        ImmediateOp::Andi => Decoded::Sets(rd, RegisterOp::And, a, second),
+        ImmediateOp::Slli => Decoded::Sets(rd, RegisterOp::Sll, a, second),
+        ImmediateOp::Srli => Decoded::Sets(rd, RegisterOp::Srl, a, second),
+        ImmediateOp::Srai => Decoded::Sets(rd, RegisterOp::Sra, a, second),
+        ImmediateOp::Addiw => Decoded::Sets(rd, RegisterOp::Addw, a, second),
+        ImmediateOp::Slliw => Decoded::Sets(rd, RegisterOp::Sllw, a, second),
+        ImmediateOp::Srliw => Decoded::Sets(rd, RegisterOp::Srlw, a, second),
+        ImmediateOp::Sraiw => Decoded::Sets(rd, RegisterOp::Sraw, a, second),
     }
 }
 
+/// `ADDI rd, x0, n` sets n, and `ADDI rd, rs, 0` is a copy.
 fn add_number(rd: Reg, a: Reg, n: u64) -> Decoded
-    ensures { Shows result (immediate_row Op.Addi rd a n) }
+    ensures { Shows result (add_row rd a n) }
 {
     if a.number() == 0 {
         Decoded::Fixes(rd, n)
     } else if n == 0 {
         Decoded::Moves(rd, a)
     } else {
-        Decoded::Sets(rd, Op::Add, a, Input::Number(n))
+        Decoded::Sets(rd, RegisterOp::Add, a, Input::Number(n))
     }
 }
 
-/// The operation on two registers that an operation with an immediate does with its number.
-pub fn register_form(op: Op) -> Op
-    ensures { result ≡ register_form op }
-{
-    match op {
-        Op::Addi => Op::Add,
-        Op::Slli => Op::Sll,
-        Op::Slti => Op::Slt,
-        Op::Sltiu => Op::Sltu,
-        Op::Xori => Op::Xor,
-        Op::Srli => Op::Srl,
-        Op::Srai => Op::Sra,
-        Op::Ori => Op::Or,
-        Op::Andi => Op::And,
-        Op::Addiw => Op::Addw,
-        Op::Slliw => Op::Sllw,
-        Op::Srliw => Op::Srlw,
-        Op::Sraiw => Op::Sraw,
-        _ => op,
-    }
-}
-
-fn of_upper(op: Op, operands: &[Operand]) -> Decoded
-    requires { IsTrue (fits Form.Upper operands.now) }
-    ensures { Shows result (row_by Form.Upper op operands.now) }
+fn of_upper(operands: &[Operand]) -> Decoded
+    requires { IsTrue (fits_upper operands.now) }
+    ensures { Shows result (upper_row operands.now) }
 {
     match operands {
         [Operand::Def(rd), Operand::Imm(i), ..] => {
@@ -154,35 +186,9 @@ fn of_upper(op: Op, operands: &[Operand]) -> Decoded
     }
 }
 
-fn of_load(op: Op, width: Width, operands: &[Operand]) -> Decoded
-    requires { IsTrue (fits (Form.Load width) operands.now) }
-    ensures { Shows result (row_by (Form.Load width) op operands.now) }
-{
-    match operands {
-        [Operand::Def(rd), Operand::Use(base), Operand::Imm(i), ..] => {
-            Decoded::Loads(*rd, op, *base, i.cast_unsigned())
-        }
-        [Operand::Def(rd), Operand::Slot(n), ..] => Decoded::LoadsSlot(*rd, *n),
-        _ => unreachable!(),
-    }
-}
-
-fn of_store(op: Op, width: Width, operands: &[Operand]) -> Decoded
-    requires { IsTrue (fits (Form.Store width) operands.now) }
-    ensures { Shows result (row_by (Form.Store width) op operands.now) }
-{
-    match operands {
-        [Operand::Use(rs), Operand::Use(base), Operand::Imm(i), ..] => {
-            Decoded::Stores(op, *rs, *base, i.cast_unsigned())
-        }
-        [Operand::Use(rs), Operand::Slot(n), ..] => Decoded::StoresSlot(*rs, *n),
-        _ => unreachable!(),
-    }
-}
-
-fn of_branch(op: Op, operands: &[Operand]) -> Decoded
-    requires { IsTrue (fits Form.Branch operands.now) }
-    ensures { Shows result (row_by Form.Branch op operands.now) }
+fn of_branch(op: BranchOp, operands: &[Operand]) -> Decoded
+    requires { IsTrue (fits_branch operands.now) }
+    ensures { Shows result (branch_row op operands.now) }
 {
     match operands {
         [Operand::Use(a), Operand::Use(b), Operand::Block(target), ..] => {
@@ -192,18 +198,50 @@ fn of_branch(op: Op, operands: &[Operand]) -> Decoded
     }
 }
 
-fn of_move(op: Op, operands: &[Operand]) -> Decoded
-    requires { IsTrue (fits Form.Move operands.now) }
-    ensures { Shows result (row_by Form.Move op operands.now) }
+fn of_load(op: LoadOp, operands: &[Operand]) -> Decoded
+    requires { IsTrue (fits_load op operands.now) }
+    ensures { Shows result (load_row op operands.now) }
 {
     match operands {
-        [Operand::Def(rd), Operand::Use(rs), ..] => of_copy(*rd, *rs),
+        [Operand::Def(rd), Operand::Use(base), Operand::Imm(i), ..] => {
+            Decoded::Loads(*rd, op, Base::PointedBy(*base), i.cast_unsigned())
+        }
+        [Operand::Def(rd), Operand::Slot(n), ..] => { Decoded::LoadsSlot(*rd, *n) }
+        [Operand::Def(rd), Operand::Object(n), Operand::Imm(i), ..] => {
+            Decoded::Loads(*rd, op, Base::ObjectAt(*n), i.cast_unsigned())
+        }
+        _ => unreachable!(),
+    }
+}
+
+fn of_store(op: StoreOp, operands: &[Operand]) -> Decoded
+    requires { IsTrue (fits_store op operands.now) }
+    ensures { Shows result (store_row op operands.now) }
+{
+    match operands {
+        [Operand::Use(rs), Operand::Use(base), Operand::Imm(i), ..] => {
+            Decoded::Stores(op, *rs, Base::PointedBy(*base), i.cast_unsigned())
+        }
+        [Operand::Use(rs), Operand::Slot(n), ..] => { Decoded::StoresSlot(*rs, *n) }
+        [Operand::Use(rs), Operand::Object(n), Operand::Imm(i), ..] => {
+            Decoded::Stores(op, *rs, Base::ObjectAt(*n), i.cast_unsigned())
+        }
+        _ => unreachable!(),
+    }
+}
+
+fn of_copy(operands: &[Operand]) -> Decoded
+    requires { IsTrue (fits_copy operands.now) }
+    ensures { Shows result (copy_row operands.now) }
+{
+    match operands {
+        [Operand::Def(rd), Operand::Use(rs), ..] => { copy_of(*rd, *rs) }
         _ => unreachable!(),
     }
 }
 
 /// A copy from x0 sets 0.
-fn of_copy(rd: Reg, rs: Reg) -> Decoded
+fn copy_of(rd: Reg, rs: Reg) -> Decoded
     ensures { Shows result (move_row rd rs) }
 {
     if rs.number() == 0 {
@@ -213,22 +251,22 @@ fn of_copy(rd: Reg, rs: Reg) -> Decoded
     }
 }
 
-fn of_jump(op: Op, operands: &[Operand]) -> Decoded
-    requires { IsTrue (fits Form.Jump operands.now) }
-    ensures { Shows result (row_by Form.Jump op operands.now) }
+fn of_jump(operands: &[Operand]) -> Decoded
+    requires { IsTrue (fits_jump operands.now) }
+    ensures { Shows result (jump_row operands.now) }
 {
     match operands {
-        [Operand::Block(target), ..] => Decoded::Jumps(*target),
+        [Operand::Block(target), ..] => { Decoded::Jumps(*target) }
         _ => unreachable!(),
     }
 }
 
-fn of_call(op: Op, operands: &[Operand]) -> Decoded
-    requires { IsTrue (fits Form.Call operands.now) }
-    ensures { Shows result (row_by Form.Call op operands.now) }
+fn of_call(operands: &[Operand]) -> Decoded
+    requires { IsTrue (fits_call operands.now) }
+    ensures { Shows result (call_row operands.now) }
 {
     match operands {
-        [Operand::Symbol(_), Operand::Mask, ..] => Decoded::Calls,
+        [Operand::Symbol(_), Operand::Mask, ..] => { Decoded::Calls }
         _ => unreachable!(),
     }
 }

@@ -1,122 +1,108 @@
+//! The form of an opcode's operands: which stand where, and the range of its immediate.
+
 ghost use Rattle.std.specs.Prelude.{◌≡◌};
 ghost use Rattle.std.specs.List.{list_all};
-ghost use Rattle.rv64_instr.specs.Form.{form_of, fits, has_form, is_implicit, is_argument, is_result, is_clobbered};
+ghost use Rattle.rv64_instr.specs.Form.{
+  has_form,
+  fits_registers,
+  fits_immediate,
+  fits_upper,
+  fits_branch,
+  fits_load,
+  fits_store,
+  fits_copy,
+  fits_jump,
+  fits_call,
+  is_immediate,
+  has_12_bits,
+  is_addi,
+  moves_slot,
+  is_implicit,
+  is_argument,
+  is_result,
+  is_clobbered,
+};
 
-use crate::op::Op;
+use crate::arithmetic::{load_width, store_width};
+use crate::op::{ImmediateOp, LoadOp, Op, StoreOp};
 use crate::operand::Operand;
-
-/// How many bytes a load or a store moves.
-#[derive(Clone, Copy, Debug, PartialEq, Eq)]
-pub enum Width {
-    /// One byte.
-    Byte,
-    /// Two bytes.
-    Half,
-    /// Four bytes.
-    Word,
-    /// Eight bytes. Such a load or store may have a frame slot in the address's place.
-    Double,
-}
-
-/// The explicit operands that an opcode takes. Implicit ones may follow.
-#[derive(Clone, Copy, Debug, PartialEq, Eq)]
-pub enum Form {
-    /// `rd = OP rs1, rs2`
-    Registers,
-    /// `rd = OP rs1, imm`, with the least and the greatest immediate.
-    Immediate(i64, i64),
-    /// `rd = OP imm`, with an immediate of 20 bits.
-    Upper,
-    /// `rd = OP rs1, imm`, or `rd = OP %stack.N, 0` at eight bytes.
-    Load(Width),
-    /// `OP rs2, rs1, imm`, or `OP rs2, %stack.N, 0` at eight bytes.
-    Store(Width),
-    /// `OP rs1, rs2, %bb.N`
-    Branch,
-    /// `rd = OP rs`
-    Move,
-    /// `OP %bb.N`
-    Jump,
-    /// `OP symbol, mask`
-    Call,
-    /// `OP`
-    Return,
-}
-
-/// The form that the operands of an opcode have.
-pub fn form_of(op: Op) -> Form
-    ensures { result ≡ form_of op }
-{
-    match op {
-        Op::Lui => Form::Upper,
-        Op::Beq | Op::Bne | Op::Blt | Op::Bge | Op::Bltu | Op::Bgeu => Form::Branch,
-        Op::Lb | Op::Lbu => Form::Load(Width::Byte),
-        Op::Lh | Op::Lhu => Form::Load(Width::Half),
-        Op::Lw | Op::Lwu => Form::Load(Width::Word),
-        Op::Ld => Form::Load(Width::Double),
-        Op::Sb => Form::Store(Width::Byte),
-        Op::Sh => Form::Store(Width::Half),
-        Op::Sw => Form::Store(Width::Word),
-        Op::Sd => Form::Store(Width::Double),
-        Op::Slli | Op::Srli | Op::Srai => Form::Immediate(0, 63),
-        Op::Slliw | Op::Srliw | Op::Sraiw => Form::Immediate(0, 31),
-        Op::Addi | Op::Slti | Op::Sltiu | Op::Xori | Op::Ori | Op::Andi | Op::Addiw => {
-            Form::Immediate(-2048, 2047)
-        }
-        Op::Copy => Form::Move,
-        Op::PseudoBr => Form::Jump,
-        Op::PseudoCall => Form::Call,
-        Op::PseudoRet => Form::Return,
-        _ => Form::Registers,
-    }
-}
 
 /// Whether operands have the form of an opcode, with their immediate in range.
 pub fn has_form(op: Op, operands: &[Operand]) -> bool
     ensures { result ≡ has_form op operands.now }
 {
-    fits(form_of(op), operands)
-}
-
-fn fits(form: Form, operands: &[Operand]) -> bool
-    ensures { result ≡ fits form operands.now }
-{
-    match form {
-        Form::Registers => fits_registers(operands),
-        Form::Immediate(low, high) => fits_immediate(low, high, operands),
-        Form::Upper => fits_upper(operands),
-        Form::Load(width) => fits_load(width, operands),
-        Form::Store(width) => fits_store(width, operands),
-        Form::Branch => fits_branch(operands),
-        Form::Move => fits_move(operands),
-        Form::Jump => fits_jump(operands),
-        Form::Call => fits_call(operands),
-        Form::Return => are_results(operands),
+    match op {
+        Op::Registers(_) => fits_registers(operands),
+        Op::Immediate(op) => fits_immediate(op, operands),
+        Op::Lui => fits_upper(operands),
+        Op::Branch(_) => fits_branch(operands),
+        Op::Load(op) => fits_load(op, operands),
+        Op::Store(op) => fits_store(op, operands),
+        Op::Copy => fits_copy(operands),
+        Op::PseudoBr => fits_jump(operands),
+        Op::PseudoCall => fits_call(operands),
+        Op::PseudoRet => are_results(operands),
     }
 }
 
 fn fits_registers(operands: &[Operand]) -> bool
-    ensures { result ≡ fits Form.Registers operands.now }
+    ensures { result ≡ fits_registers operands.now }
 {
     match operands {
-        [Operand::Def(_), Operand::Use(_), Operand::Use(_), rest @ ..] => are_implicit(rest),
+        [Operand::Def(_), Operand::Use(_), Operand::Use(_), rest @ ..] => { are_implicit(rest) }
         _ => false,
     }
 }
 
-fn fits_immediate(low: i64, high: i64, operands: &[Operand]) -> bool
-    ensures { result ≡ fits (Form.Immediate low high) operands.now }
+fn fits_immediate(op: ImmediateOp, operands: &[Operand]) -> bool
+    ensures { result ≡ fits_immediate op operands.now }
 {
     match operands {
         [Operand::Def(_), Operand::Use(_), Operand::Imm(i), rest @ ..] => {
-            low <= *i && *i <= high && are_implicit(rest)
+            is_immediate(op, *i) && are_implicit(rest)
         }
+        [
+            Operand::Def(_),
+            Operand::Object(_),
+            Operand::Imm(i),
+            rest @ ..,
+        ] => { is_addi(op) && is_immediate(op, *i) && are_implicit(rest) }
         _ => false,
     }
 }
 
+/// Whether the number is in the operation's range.
+pub fn is_immediate(op: ImmediateOp, i: i64) -> bool
+    ensures { result ≡ is_immediate op i }
+{
+    match op {
+        ImmediateOp::Addi
+        | ImmediateOp::Slti
+        | ImmediateOp::Sltiu
+        | ImmediateOp::Xori
+        | ImmediateOp::Ori
+        | ImmediateOp::Andi
+        | ImmediateOp::Addiw => has_12_bits(i),
+        ImmediateOp::Slli | ImmediateOp::Srli | ImmediateOp::Srai => 0 <= i && i <= 63,
+        ImmediateOp::Slliw | ImmediateOp::Srliw | ImmediateOp::Sraiw => 0 <= i && i <= 31,
+    }
+}
+
+/// Whether it is a signed number of 12 bits.
+pub fn has_12_bits(i: i64) -> bool
+    ensures { result ≡ has_12_bits i }
+{
+    -2048 <= i && i <= 2047
+}
+
+fn is_addi(op: ImmediateOp) -> bool
+    ensures { result ≡ is_addi op }
+{
+    matches!(op, ImmediateOp::Addi)
+}
+
 fn fits_upper(operands: &[Operand]) -> bool
-    ensures { result ≡ fits Form.Upper operands.now }
+    ensures { result ≡ fits_upper operands.now }
 {
     match operands {
         [Operand::Def(_), Operand::Imm(i), rest @ ..] => {
@@ -126,42 +112,8 @@ fn fits_upper(operands: &[Operand]) -> bool
     }
 }
 
-fn fits_load(width: Width, operands: &[Operand]) -> bool
-    ensures { result ≡ fits (Form.Load width) operands.now }
-{
-    match operands {
-        [Operand::Def(_), Operand::Use(_), Operand::Imm(i), rest @ ..] => {
-            -2048 <= *i && *i <= 2047 && are_implicit(rest)
-        }
-        [
-            Operand::Def(_),
-            Operand::Slot(_),
-            Operand::Imm(i),
-            rest @ ..,
-        ] => { width == Width::Double && *i == 0 && are_implicit(rest) }
-        _ => false,
-    }
-}
-
-fn fits_store(width: Width, operands: &[Operand]) -> bool
-    ensures { result ≡ fits (Form.Store width) operands.now }
-{
-    match operands {
-        [Operand::Use(_), Operand::Use(_), Operand::Imm(i), rest @ ..] => {
-            -2048 <= *i && *i <= 2047 && are_implicit(rest)
-        }
-        [
-            Operand::Use(_),
-            Operand::Slot(_),
-            Operand::Imm(i),
-            rest @ ..,
-        ] => { width == Width::Double && *i == 0 && are_implicit(rest) }
-        _ => false,
-    }
-}
-
 fn fits_branch(operands: &[Operand]) -> bool
-    ensures { result ≡ fits Form.Branch operands.now }
+    ensures { result ≡ fits_branch operands.now }
 {
     match operands {
         [
@@ -169,34 +121,87 @@ fn fits_branch(operands: &[Operand]) -> bool
             Operand::Use(_),
             Operand::Block(_),
             rest @ ..,
-        ] => are_implicit(rest),
+        ] => { are_implicit(rest) }
         _ => false,
     }
 }
 
-fn fits_move(operands: &[Operand]) -> bool
-    ensures { result ≡ fits Form.Move operands.now }
+fn fits_load(op: LoadOp, operands: &[Operand]) -> bool
+    ensures { result ≡ fits_load op operands.now }
 {
     match operands {
-        [Operand::Def(_), Operand::Use(_), rest @ ..] => are_implicit(rest),
+        [Operand::Def(_), Operand::Use(_), Operand::Imm(i), rest @ ..] => {
+            has_12_bits(*i) && are_implicit(rest)
+        }
+        [
+            Operand::Def(_),
+            Operand::Slot(_),
+            Operand::Imm(i),
+            rest @ ..,
+        ] => { moves_slot(load_width(op), *i) && are_implicit(rest) }
+        [
+            Operand::Def(_),
+            Operand::Object(_),
+            Operand::Imm(i),
+            rest @ ..,
+        ] => { has_12_bits(*i) && are_implicit(rest) }
+        _ => false,
+    }
+}
+
+fn fits_store(op: StoreOp, operands: &[Operand]) -> bool
+    ensures { result ≡ fits_store op operands.now }
+{
+    match operands {
+        [Operand::Use(_), Operand::Use(_), Operand::Imm(i), rest @ ..] => {
+            has_12_bits(*i) && are_implicit(rest)
+        }
+        [
+            Operand::Use(_),
+            Operand::Slot(_),
+            Operand::Imm(i),
+            rest @ ..,
+        ] => { moves_slot(store_width(op), *i) && are_implicit(rest) }
+        [
+            Operand::Use(_),
+            Operand::Object(_),
+            Operand::Imm(i),
+            rest @ ..,
+        ] => { has_12_bits(*i) && are_implicit(rest) }
+        _ => false,
+    }
+}
+
+/// Whether what moves so many bytes moves a slot, with this number behind the slot.
+fn moves_slot(width: usize, i: i64) -> bool
+    ensures { result ≡ moves_slot width i }
+{
+    width == 8 && 0 <= i && i <= 0
+}
+
+fn fits_copy(operands: &[Operand]) -> bool
+    ensures { result ≡ fits_copy operands.now }
+{
+    match operands {
+        [Operand::Def(_), Operand::Use(_), rest @ ..] => { are_implicit(rest) }
         _ => false,
     }
 }
 
 fn fits_jump(operands: &[Operand]) -> bool
-    ensures { result ≡ fits Form.Jump operands.now }
+    ensures { result ≡ fits_jump operands.now }
 {
     match operands {
-        [Operand::Block(_), rest @ ..] => are_implicit(rest),
+        [Operand::Block(_), rest @ ..] => { are_implicit(rest) }
         _ => false,
     }
 }
 
 fn fits_call(operands: &[Operand]) -> bool
-    ensures { result ≡ fits Form.Call operands.now }
+    ensures { result ≡ fits_call operands.now }
 {
     match operands {
-        [Operand::Symbol(_), Operand::Mask, rest @ ..] => are_arguments(rest),
+        [Operand::Symbol(_), Operand::Mask, rest @ ..] => { are_arguments(rest) }
         _ => false,
     }
 }

@@ -1,3 +1,5 @@
+//! Instructions, in the form of their opcode.
+
 ghost use Rattle.std.specs.Prelude.{◌≡◌, false, true, IfOk, IfSome, IsNone, ◌↔◌};
 
 use crate::form::has_form;

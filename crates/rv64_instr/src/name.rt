@@ -1,3 +1,5 @@
+//! Names of functions and variables.
+
 use lists::List;
 
 /// A name, by its bytes. It need not be text, and may be empty.

@@ -1,36 +1,11 @@
-ghost use Rattle.std.specs.Prelude.{◌≡◌, Some, IfSome};
-ghost use Rattle.rv64_instr.specs.Mnemonic.{mnemonic_of, Names};
+//! Opcodes, each in the class of those whose operands stand alike, and their names.
 
-/// An opcode of machine code: the operations of RV64I that code may have, and LLVM's four pseudo operations.
+ghost use Rattle.std.specs.Prelude.{◌≡◌, Some, IfSome};
+ghost use Rattle.rv64_instr.specs.Mnemonic.{mnemonic_of, register_name, immediate_name, branch_name, load_name, store_name, Names};
+
+/// An operation on two registers (RISC-V Unprivileged ISA, RV32I and RV64I, "Integer Register-Register Operations").
 #[derive(Clone, Copy, Debug, PartialEq, Eq)]
-pub enum Op {
-    Lui,
-    Beq,
-    Bne,
-    Blt,
-    Bge,
-    Bltu,
-    Bgeu,
-    Lb,
-    Lh,
-    Lw,
-    Ld,
-    Lbu,
-    Lhu,
-    Lwu,
-    Sb,
-    Sh,
-    Sw,
-    Sd,
-    Addi,
-    Slti,
-    Sltiu,
-    Xori,
-    Ori,
-    Andi,
-    Slli,
-    Srli,
-    Srai,
+pub enum RegisterOp {
     Add,
     Sub,
     Sll,
@@ -41,19 +16,172 @@ pub enum Op {
     Sra,
     Or,
     And,
-    Addiw,
-    Slliw,
-    Srliw,
-    Sraiw,
     Addw,
     Subw,
     Sllw,
     Srlw,
     Sraw,
+}
+
+/// An operation on a register and a number (RISC-V Unprivileged ISA, RV32I and RV64I, "Integer Register-Immediate
+/// Instructions").
+#[derive(Clone, Copy, Debug, PartialEq, Eq)]
+pub enum ImmediateOp {
+    Addi,
+    Slti,
+    Sltiu,
+    Xori,
+    Ori,
+    Andi,
+    Slli,
+    Srli,
+    Srai,
+    Addiw,
+    Slliw,
+    Srliw,
+    Sraiw,
+}
+
+/// A conditional branch (RISC-V Unprivileged ISA, RV32I, "Conditional Branches").
+#[derive(Clone, Copy, Debug, PartialEq, Eq)]
+pub enum BranchOp {
+    Beq,
+    Bne,
+    Blt,
+    Bge,
+    Bltu,
+    Bgeu,
+}
+
+/// A load (RISC-V Unprivileged ISA, RV32I and RV64I, "Load and Store Instructions").
+#[derive(Clone, Copy, Debug, PartialEq, Eq)]
+pub enum LoadOp {
+    Lb,
+    Lh,
+    Lw,
+    Ld,
+    Lbu,
+    Lhu,
+    Lwu,
+}
+
+/// A store (RISC-V Unprivileged ISA, RV32I and RV64I, "Load and Store Instructions").
+#[derive(Clone, Copy, Debug, PartialEq, Eq)]
+pub enum StoreOp {
+    Sb,
+    Sh,
+    Sw,
+    Sd,
+}
+
+/// An opcode of machine code: the operations of RV64I that code may have, and LLVM's four pseudo operations.
+#[derive(Clone, Copy, Debug, PartialEq, Eq)]
+pub enum Op {
+    Registers(RegisterOp),
+    Immediate(ImmediateOp),
+    Lui,
+    Branch(BranchOp),
+    Load(LoadOp),
+    Store(StoreOp),
     Copy,
     PseudoBr,
     PseudoCall,
     PseudoRet,
+}
+
+impl RegisterOp {
+    /// The operation's name in MIR.
+    pub fn mnemonic(self) -> &'static str
+        ensures { result.now ≡ register_name self }
+    {
+        match self {
+            RegisterOp::Add => "ADD",
+            RegisterOp::Sub => "SUB",
+            RegisterOp::Sll => "SLL",
+            RegisterOp::Slt => "SLT",
+            RegisterOp::Sltu => "SLTU",
+            RegisterOp::Xor => "XOR",
+            RegisterOp::Srl => "SRL",
+            RegisterOp::Sra => "SRA",
+            RegisterOp::Or => "OR",
+            RegisterOp::And => "AND",
+            RegisterOp::Addw => "ADDW",
+            RegisterOp::Subw => "SUBW",
+            RegisterOp::Sllw => "SLLW",
+            RegisterOp::Srlw => "SRLW",
+            RegisterOp::Sraw => "SRAW",
+        }
+    }
+}
+
+impl ImmediateOp {
+    /// The operation's name in MIR.
+    pub fn mnemonic(self) -> &'static str
+        ensures { result.now ≡ immediate_name self }
+    {
+        match self {
+            ImmediateOp::Addi => "ADDI",
+            ImmediateOp::Slti => "SLTI",
+            ImmediateOp::Sltiu => "SLTIU",
+            ImmediateOp::Xori => "XORI",
+            ImmediateOp::Ori => "ORI",
+            ImmediateOp::Andi => "ANDI",
+            ImmediateOp::Slli => "SLLI",
+            ImmediateOp::Srli => "SRLI",
+            ImmediateOp::Srai => "SRAI",
+            ImmediateOp::Addiw => "ADDIW",
+            ImmediateOp::Slliw => "SLLIW",
+            ImmediateOp::Srliw => "SRLIW",
+            ImmediateOp::Sraiw => "SRAIW",
+        }
+    }
+}
+
+impl BranchOp {
+    /// The operation's name in MIR.
+    pub fn mnemonic(self) -> &'static str
+        ensures { result.now ≡ branch_name self }
+    {
+        match self {
+            BranchOp::Beq => "BEQ",
+            BranchOp::Bne => "BNE",
+            BranchOp::Blt => "BLT",
+            BranchOp::Bge => "BGE",
+            BranchOp::Bltu => "BLTU",
+            BranchOp::Bgeu => "BGEU",
+        }
+    }
+}
+
+impl LoadOp {
+    /// The operation's name in MIR.
+    pub fn mnemonic(self) -> &'static str
+        ensures { result.now ≡ load_name self }
+    {
+        match self {
+            LoadOp::Lb => "LB",
+            LoadOp::Lh => "LH",
+            LoadOp::Lw => "LW",
+            LoadOp::Ld => "LD",
+            LoadOp::Lbu => "LBU",
+            LoadOp::Lhu => "LHU",
+            LoadOp::Lwu => "LWU",
+        }
+    }
+}
+
+impl StoreOp {
+    /// The operation's name in MIR.
+    pub fn mnemonic(self) -> &'static str
+        ensures { result.now ≡ store_name self }
+    {
+        match self {
+            StoreOp::Sb => "SB",
+            StoreOp::Sh => "SH",
+            StoreOp::Sw => "SW",
+            StoreOp::Sd => "SD",
+        }
+    }
 }
 
 impl Op {
@@ -62,52 +190,12 @@ impl Op {
         ensures { result.now ≡ mnemonic_of self }
     {
         match self {
+            Op::Registers(op) => op.mnemonic(),
+            Op::Immediate(op) => op.mnemonic(),
+            Op::Branch(op) => op.mnemonic(),
+            Op::Load(op) => op.mnemonic(),
+            Op::Store(op) => op.mnemonic(),
             Op::Lui => "LUI",
-            Op::Beq => "BEQ",
-            Op::Bne => "BNE",
-            Op::Blt => "BLT",
-            Op::Bge => "BGE",
-            Op::Bltu => "BLTU",
-            Op::Bgeu => "BGEU",
-            Op::Lb => "LB",
-            Op::Lh => "LH",
-            Op::Lw => "LW",
-            Op::Ld => "LD",
-            Op::Lbu => "LBU",
-            Op::Lhu => "LHU",
-            Op::Lwu => "LWU",
-            Op::Sb => "SB",
-            Op::Sh => "SH",
-            Op::Sw => "SW",
-            Op::Sd => "SD",
-            Op::Addi => "ADDI",
-            Op::Slti => "SLTI",
-            Op::Sltiu => "SLTIU",
-            Op::Xori => "XORI",
-            Op::Ori => "ORI",
-            Op::Andi => "ANDI",
-            Op::Slli => "SLLI",
-            Op::Srli => "SRLI",
-            Op::Srai => "SRAI",
-            Op::Add => "ADD",
-            Op::Sub => "SUB",
-            Op::Sll => "SLL",
-            Op::Slt => "SLT",
-            Op::Sltu => "SLTU",
-            Op::Xor => "XOR",
-            Op::Srl => "SRL",
-            Op::Sra => "SRA",
-            Op::Or => "OR",
-            Op::And => "AND",
-            Op::Addiw => "ADDIW",
-            Op::Slliw => "SLLIW",
-            Op::Srliw => "SRLIW",
-            Op::Sraiw => "SRAIW",
-            Op::Addw => "ADDW",
-            Op::Subw => "SUBW",
-            Op::Sllw => "SLLW",
-            Op::Srlw => "SRLW",
-            Op::Sraw => "SRAW",
             Op::Copy => "COPY",
             Op::PseudoBr => "PseudoBR",
             Op::PseudoCall => "PseudoCALL",
@@ -129,52 +217,52 @@ fn named(text: &[u8]) -> Option<Op>
     ensures { Names text.now result }
 {
     match text {
+        b"ADD" => Some(Op::Registers(RegisterOp::Add)),
+        b"SUB" => Some(Op::Registers(RegisterOp::Sub)),
+        b"SLL" => Some(Op::Registers(RegisterOp::Sll)),
+        b"SLT" => Some(Op::Registers(RegisterOp::Slt)),
+        b"SLTU" => Some(Op::Registers(RegisterOp::Sltu)),
+        b"XOR" => Some(Op::Registers(RegisterOp::Xor)),
+        b"SRL" => Some(Op::Registers(RegisterOp::Srl)),
+        b"SRA" => Some(Op::Registers(RegisterOp::Sra)),
+        b"OR" => Some(Op::Registers(RegisterOp::Or)),
+        b"AND" => Some(Op::Registers(RegisterOp::And)),
+        b"ADDW" => Some(Op::Registers(RegisterOp::Addw)),
+        b"SUBW" => Some(Op::Registers(RegisterOp::Subw)),
+        b"SLLW" => Some(Op::Registers(RegisterOp::Sllw)),
+        b"SRLW" => Some(Op::Registers(RegisterOp::Srlw)),
+        b"SRAW" => Some(Op::Registers(RegisterOp::Sraw)),
+        b"ADDI" => Some(Op::Immediate(ImmediateOp::Addi)),
+        b"SLTI" => Some(Op::Immediate(ImmediateOp::Slti)),
+        b"SLTIU" => Some(Op::Immediate(ImmediateOp::Sltiu)),
+        b"XORI" => Some(Op::Immediate(ImmediateOp::Xori)),
+        b"ORI" => Some(Op::Immediate(ImmediateOp::Ori)),
+        b"ANDI" => Some(Op::Immediate(ImmediateOp::Andi)),
+        b"SLLI" => Some(Op::Immediate(ImmediateOp::Slli)),
+        b"SRLI" => Some(Op::Immediate(ImmediateOp::Srli)),
+        b"SRAI" => Some(Op::Immediate(ImmediateOp::Srai)),
+        b"ADDIW" => Some(Op::Immediate(ImmediateOp::Addiw)),
+        b"SLLIW" => Some(Op::Immediate(ImmediateOp::Slliw)),
+        b"SRLIW" => Some(Op::Immediate(ImmediateOp::Srliw)),
+        b"SRAIW" => Some(Op::Immediate(ImmediateOp::Sraiw)),
+        b"BEQ" => Some(Op::Branch(BranchOp::Beq)),
+        b"BNE" => Some(Op::Branch(BranchOp::Bne)),
+        b"BLT" => Some(Op::Branch(BranchOp::Blt)),
+        b"BGE" => Some(Op::Branch(BranchOp::Bge)),
+        b"BLTU" => Some(Op::Branch(BranchOp::Bltu)),
+        b"BGEU" => Some(Op::Branch(BranchOp::Bgeu)),
+        b"LB" => Some(Op::Load(LoadOp::Lb)),
+        b"LH" => Some(Op::Load(LoadOp::Lh)),
+        b"LW" => Some(Op::Load(LoadOp::Lw)),
+        b"LD" => Some(Op::Load(LoadOp::Ld)),
+        b"LBU" => Some(Op::Load(LoadOp::Lbu)),
+        b"LHU" => Some(Op::Load(LoadOp::Lhu)),
+        b"LWU" => Some(Op::Load(LoadOp::Lwu)),
+        b"SB" => Some(Op::Store(StoreOp::Sb)),
+        b"SH" => Some(Op::Store(StoreOp::Sh)),
+        b"SW" => Some(Op::Store(StoreOp::Sw)),
+        b"SD" => Some(Op::Store(StoreOp::Sd)),
         b"LUI" => Some(Op::Lui),
-        b"BEQ" => Some(Op::Beq),
-        b"BNE" => Some(Op::Bne),
-        b"BLT" => Some(Op::Blt),
-        b"BGE" => Some(Op::Bge),
-        b"BLTU" => Some(Op::Bltu),
-        b"BGEU" => Some(Op::Bgeu),
-        b"LB" => Some(Op::Lb),
-        b"LH" => Some(Op::Lh),
-        b"LW" => Some(Op::Lw),
-        b"LD" => Some(Op::Ld),
-        b"LBU" => Some(Op::Lbu),
-        b"LHU" => Some(Op::Lhu),
-        b"LWU" => Some(Op::Lwu),
-        b"SB" => Some(Op::Sb),
-        b"SH" => Some(Op::Sh),
-        b"SW" => Some(Op::Sw),
-        b"SD" => Some(Op::Sd),
-        b"ADDI" => Some(Op::Addi),
-        b"SLTI" => Some(Op::Slti),
-        b"SLTIU" => Some(Op::Sltiu),
-        b"XORI" => Some(Op::Xori),
-        b"ORI" => Some(Op::Ori),
-        b"ANDI" => Some(Op::Andi),
-        b"SLLI" => Some(Op::Slli),
-        b"SRLI" => Some(Op::Srli),
-        b"SRAI" => Some(Op::Srai),
-        b"ADD" => Some(Op::Add),
-        b"SUB" => Some(Op::Sub),
-        b"SLL" => Some(Op::Sll),
-        b"SLT" => Some(Op::Slt),
-        b"SLTU" => Some(Op::Sltu),
-        b"XOR" => Some(Op::Xor),
-        b"SRL" => Some(Op::Srl),
-        b"SRA" => Some(Op::Sra),
-        b"OR" => Some(Op::Or),
-        b"AND" => Some(Op::And),
-        b"ADDIW" => Some(Op::Addiw),
-        b"SLLIW" => Some(Op::Slliw),
-        b"SRLIW" => Some(Op::Srliw),
-        b"SRAIW" => Some(Op::Sraiw),
-        b"ADDW" => Some(Op::Addw),
-        b"SUBW" => Some(Op::Subw),
-        b"SLLW" => Some(Op::Sllw),
-        b"SRLW" => Some(Op::Srlw),
-        b"SRAW" => Some(Op::Sraw),
         b"COPY" => Some(Op::Copy),
         b"PseudoBR" => Some(Op::PseudoBr),
         b"PseudoCALL" => Some(Op::PseudoCall),

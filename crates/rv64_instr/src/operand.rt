@@ -1,7 +1,10 @@
+//! Operands of instructions.
+
 ghost use Rattle.std.specs.Prelude.{◌≡◌, [], ◌∷◌, ◌++◌, OnOk, OnErr, IfOk};
 
 use crate::name::Name;
 use crate::reg::Reg;
+use numbers::code::{BlockId, ObjectId, SlotId};
 use smallvec::SmallVec;
 use std::alloc::{AllocError, Global};
 use std::marker::Model;
@@ -19,10 +22,12 @@ pub enum Operand {
     ImplicitUse(Reg),
     /// An immediate.
     Imm(i64),
-    /// A frame slot, by its number, or in a function with its frame by its offset from x2 in bytes.
-    Slot(u32),
-    /// A block, by its number.
-    Block(u32),
+    /// A frame slot.
+    Slot(SlotId),
+    /// A stack object.
+    Object(ObjectId),
+    /// A block.
+    Block(BlockId),
     /// The function that a call names.
     Symbol(Name),
     /// A register mask, of which only its presence is kept.
@@ -42,6 +47,7 @@ impl Operand {
             Operand::ImplicitUse(r) => Ok(Operand::ImplicitUse(*r)),
             Operand::Imm(i) => Ok(Operand::Imm(*i)),
             Operand::Slot(n) => Ok(Operand::Slot(*n)),
+            Operand::Object(n) => Ok(Operand::Object(*n)),
             Operand::Block(n) => Ok(Operand::Block(*n)),
             Operand::Symbol(name) => Ok(Operand::Symbol(name.copy()?)),
             Operand::Mask => Ok(Operand::Mask),

@@ -1,15 +1,18 @@
+//! What an instruction sets, reads and moves.
+
 ghost use Rattle.std.specs.Prelude.{◌≡◌, nat_eq};
 ghost use Rattle.std.specs.List.{list_any};
 ghost use Rattle.rv64_instr.specs.Access.{sets, caller_saved};
 ghost use Rattle.rv64_instr.specs.Row.{Row, row_of};
 ghost use Rattle.rv64_instr.specs.Decoded.{Shows};
-ghost use Rattle.rv64_instr.specs.Parts.{effect_of, set_by, place_set, place_of_input, first_use, second_use, moved_by, constant_of, is_pure, is_call, uses_of, defines_of, slot_read, slot_set, names_slot, is_implicit_use};
+ghost use Rattle.rv64_instr.specs.Parts.{effect_of, set_by, place_set, input_place, base_place, moved_into, first_use, second_use, moved_by, constant_of, is_pure, is_call, uses_of, defines_of, slot_read, slot_set, names_slot, is_implicit_use};
 
-use crate::decoded::{Decoded, Input};
+use crate::decoded::{Base, Decoded, Input};
 use crate::instr::Instr;
 use crate::operand::Operand;
 use crate::place::Place;
 use crate::reg::Reg;
+use numbers::code::SlotId;
 
 /// The numbers of the registers that a call sets, ascending (RISC-V ELF psABI, "Integer Register Convention").
 pub const CALLER_SAVED: [u32; 16] = [1, 5, 6, 7, 10, 11, 12, 13, 14, 15, 16, 17, 28, 29, 30, 31];
@@ -47,7 +50,7 @@ impl Instr {
     {
         match p {
             Place::Register(r) => self.uses_register(r),
-            Place::Slot(n) => matches!(self.decoded(), Decoded::LoadsSlot(_, m) if m == n),
+            Place::Slot(n) => self.decoded().slot_read() == Some(n),
             Place::Const(_) => false,
         }
     }
@@ -59,7 +62,7 @@ impl Instr {
     {
         match p {
             Place::Register(r) => self.decoded().sets_register(r),
-            Place::Slot(n) => matches!(self.decoded(), Decoded::StoresSlot(_, m) if m == n),
+            Place::Slot(n) => self.decoded().slot_set() == Some(n),
             Place::Const(_) => false,
         }
     }
@@ -71,11 +74,14 @@ impl Instr {
             Decoded::Calls | Decoded::Returns => uses_implicitly(r, self.operands.as_slice()),
             Decoded::Moves(_, rs) => rs == r,
             Decoded::Sets(_, _, a, b) => a == r || b.place() == Some(Place::Register(r)),
-            Decoded::Loads(_, _, base, _) => base == r,
-            Decoded::Stores(_, rs, base, _) => rs == r || base == r,
+            Decoded::Loads(_, _, base, _) => base.place() == Some(Place::Register(r)),
+            Decoded::Stores(_, rs, base, _) => rs == r || base.place() == Some(Place::Register(r)),
             Decoded::StoresSlot(rs, _) => rs == r,
             Decoded::Branches(_, a, b, _) => a == r || b == r,
-            Decoded::Fixes(_, _) | Decoded::LoadsSlot(_, _) | Decoded::Jumps(_) => false,
+            Decoded::Fixes(_, _)
+            | Decoded::Addresses(_, _, _)
+            | Decoded::LoadsSlot(_, _)
+            | Decoded::Jumps(_) => false,
         }
     }
 }
@@ -122,10 +128,15 @@ impl Decoded {
             Decoded::Fixes(rd, _) => place_set(rd),
             Decoded::Moves(rd, _) => place_set(rd),
             Decoded::Sets(rd, _, _, _) => place_set(rd),
+            Decoded::Addresses(rd, _, _) => place_set(rd),
             Decoded::Loads(rd, _, _, _) => place_set(rd),
             Decoded::LoadsSlot(rd, _) => place_set(rd),
             Decoded::StoresSlot(_, n) => Some(Place::Slot(n)),
-            _ => None,
+            Decoded::Stores(_, _, _, _)
+            | Decoded::Branches(_, _, _, _)
+            | Decoded::Jumps(_)
+            | Decoded::Calls
+            | Decoded::Returns => None,
         }
     }
 
@@ -136,12 +147,16 @@ impl Decoded {
         match *self {
             Decoded::Moves(_, rs) => Some(Place::Register(rs)),
             Decoded::Sets(_, _, a, _) => Some(Place::Register(a)),
-            Decoded::Loads(_, _, base, _) => Some(Place::Register(base)),
+            Decoded::Loads(_, _, base, _) => base.place(),
             Decoded::Stores(_, rs, _, _) => Some(Place::Register(rs)),
             Decoded::LoadsSlot(_, n) => Some(Place::Slot(n)),
             Decoded::StoresSlot(rs, _) => Some(Place::Register(rs)),
             Decoded::Branches(_, a, _, _) => Some(Place::Register(a)),
-            _ => None,
+            Decoded::Fixes(_, _)
+            | Decoded::Addresses(_, _, _)
+            | Decoded::Jumps(_)
+            | Decoded::Calls
+            | Decoded::Returns => None,
         }
     }
 
@@ -151,9 +166,17 @@ impl Decoded {
     {
         match *self {
             Decoded::Sets(_, _, _, b) => b.place(),
-            Decoded::Stores(_, _, base, _) => Some(Place::Register(base)),
+            Decoded::Stores(_, _, base, _) => base.place(),
             Decoded::Branches(_, _, b, _) => Some(Place::Register(b)),
-            _ => None,
+            Decoded::Fixes(_, _)
+            | Decoded::Moves(_, _)
+            | Decoded::Addresses(_, _, _)
+            | Decoded::Loads(_, _, _, _)
+            | Decoded::LoadsSlot(_, _)
+            | Decoded::StoresSlot(_, _)
+            | Decoded::Jumps(_)
+            | Decoded::Calls
+            | Decoded::Returns => None,
         }
     }
 
@@ -162,16 +185,18 @@ impl Decoded {
         ensures { (row : Row) → Shows self.now row → result ≡ moved_by row }
     {
         match *self {
-            Decoded::Moves(rd, rs) => {
-                if rd.number() == 0 {
-                    None
-                } else {
-                    Some(Place::Register(rs))
-                }
-            }
+            Decoded::Moves(rd, rs) => moved_into(rd, rs),
             Decoded::LoadsSlot(_, n) => Some(Place::Slot(n)),
             Decoded::StoresSlot(rs, _) => Some(Place::Register(rs)),
-            _ => None,
+            Decoded::Fixes(_, _)
+            | Decoded::Sets(_, _, _, _)
+            | Decoded::Addresses(_, _, _)
+            | Decoded::Loads(_, _, _, _)
+            | Decoded::Stores(_, _, _, _)
+            | Decoded::Branches(_, _, _, _)
+            | Decoded::Jumps(_)
+            | Decoded::Calls
+            | Decoded::Returns => None,
         }
     }
 
@@ -181,7 +206,17 @@ impl Decoded {
     {
         match *self {
             Decoded::Fixes(_, n) => Some(n.cast_signed()),
-            _ => None,
+            Decoded::Moves(_, _)
+            | Decoded::Sets(_, _, _, _)
+            | Decoded::Addresses(_, _, _)
+            | Decoded::Loads(_, _, _, _)
+            | Decoded::Stores(_, _, _, _)
+            | Decoded::LoadsSlot(_, _)
+            | Decoded::StoresSlot(_, _)
+            | Decoded::Branches(_, _, _, _)
+            | Decoded::Jumps(_)
+            | Decoded::Calls
+            | Decoded::Returns => None,
         }
     }
 
@@ -195,7 +230,13 @@ impl Decoded {
             | Decoded::Jumps(_)
             | Decoded::Calls
             | Decoded::Returns => false,
-            _ => true,
+            Decoded::Fixes(_, _)
+            | Decoded::Moves(_, _)
+            | Decoded::Sets(_, _, _, _)
+            | Decoded::Addresses(_, _, _)
+            | Decoded::Loads(_, _, _, _)
+            | Decoded::LoadsSlot(_, _)
+            | Decoded::StoresSlot(_, _) => true,
         }
     }
 
@@ -207,10 +248,35 @@ impl Decoded {
             Decoded::Fixes(rd, _) => rd == r,
             Decoded::Moves(rd, _) => rd == r,
             Decoded::Sets(rd, _, _, _) => rd == r,
+            Decoded::Addresses(rd, _, _) => rd == r,
             Decoded::Loads(rd, _, _, _) => rd == r,
             Decoded::LoadsSlot(rd, _) => rd == r,
             Decoded::Calls => is_caller_saved(r),
-            _ => false,
+            Decoded::Stores(_, _, _, _)
+            | Decoded::StoresSlot(_, _)
+            | Decoded::Branches(_, _, _, _)
+            | Decoded::Jumps(_)
+            | Decoded::Returns => false,
+        }
+    }
+
+    /// The frame slot that it reads.
+    pub fn slot_read(&self) -> Option<SlotId>
+        ensures { (row : Row) → Shows self.now row → result ≡ slot_read row }
+    {
+        match *self {
+            Decoded::LoadsSlot(_, n) => Some(n),
+            _ => None,
+        }
+    }
+
+    /// The frame slot that it sets.
+    pub fn slot_set(&self) -> Option<SlotId>
+        ensures { (row : Row) → Shows self.now row → result ≡ slot_set row }
+    {
+        match *self {
+            Decoded::StoresSlot(_, n) => Some(n),
+            _ => None,
         }
     }
 
@@ -233,14 +299,37 @@ fn place_set(rd: Reg) -> Option<Place>
     }
 }
 
+/// The place whose content a copy moves: none into x0.
+fn moved_into(rd: Reg, rs: Reg) -> Option<Place>
+    ensures { result ≡ moved_into rd rs }
+{
+    if rd.number() == 0 {
+        None
+    } else {
+        Some(Place::Register(rs))
+    }
+}
+
 impl Input {
     /// The place that the input is read from.
     fn place(self) -> Option<Place>
-        ensures { result ≡ place_of_input self }
+        ensures { result ≡ input_place self }
     {
         match self {
             Input::Content(r) => Some(Place::Register(r)),
             Input::Number(_) => None,
+        }
+    }
+}
+
+impl Base {
+    /// The place that the base is read from.
+    fn place(self) -> Option<Place>
+        ensures { result ≡ base_place self }
+    {
+        match self {
+            Base::PointedBy(r) => Some(Place::Register(r)),
+            Base::ObjectAt(_) => None,
         }
     }
 }

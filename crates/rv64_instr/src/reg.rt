@@ -1,3 +1,5 @@
+//! Registers.
+
 ghost use Rattle.std.specs.Prelude.{◌≡◌, ◌<◌, ◌≤◌, ◌↔◌, IfSome, IsNone};
 
 use lists::List;

@@ -1,3 +1,5 @@
+//! With what a run starts, the calls that it makes, and their answers.
+
 use crate::name::Name;
 use lists::List;
 

@@ -1,6 +1,6 @@
 use crate::arithmetic::{compute, extend, is_taken};
 use crate::instr::Instr;
-use crate::op::Op;
+use crate::op::{BranchOp, ImmediateOp, LoadOp, Op, RegisterOp};
 use crate::operand::{Operand, Operands};
 use crate::place::Place;
 use crate::reg::{Reg, physical};
@@ -8,22 +8,27 @@ use std::alloc::Global;
 use std::test::Fail;
 
 /// An operation on registers, their contents, and what it gives.
-const ROWS: [(Op, u64, u64, u64); 15] = [
-    (Op::Add, 0xffff_ffff_ffff_ffff, 2, 1),
-    (Op::Sub, 0, 1, 0xffff_ffff_ffff_ffff),
-    (Op::Sll, 1, 65, 2),
-    (Op::Srl, 0x8000_0000_0000_0000, 63, 1),
-    (Op::Sra, 0x8000_0000_0000_0000, 63, 0xffff_ffff_ffff_ffff),
-    (Op::Slt, 0xffff_ffff_ffff_ffff, 0, 1),
-    (Op::Sltu, 0xffff_ffff_ffff_ffff, 0, 0),
-    (Op::Xor, 6, 3, 5),
-    (Op::Or, 6, 3, 7),
-    (Op::And, 6, 3, 2),
-    (Op::Addw, 0x7fff_ffff, 1, 0xffff_ffff_8000_0000),
-    (Op::Subw, 0, 1, 0xffff_ffff_ffff_ffff),
-    (Op::Sllw, 1, 63, 0xffff_ffff_8000_0000),
-    (Op::Srlw, 0xffff_ffff_8000_0000, 4, 0x0800_0000),
-    (Op::Sraw, 0x8000_0000, 31, 0xffff_ffff_ffff_ffff),
+const ROWS: [(RegisterOp, u64, u64, u64); 15] = [
+    (RegisterOp::Add, 0xffff_ffff_ffff_ffff, 2, 1),
+    (RegisterOp::Sub, 0, 1, 0xffff_ffff_ffff_ffff),
+    (RegisterOp::Sll, 1, 65, 2),
+    (RegisterOp::Srl, 0x8000_0000_0000_0000, 63, 1),
+    (
+        RegisterOp::Sra,
+        0x8000_0000_0000_0000,
+        63,
+        0xffff_ffff_ffff_ffff,
+    ),
+    (RegisterOp::Slt, 0xffff_ffff_ffff_ffff, 0, 1),
+    (RegisterOp::Sltu, 0xffff_ffff_ffff_ffff, 0, 0),
+    (RegisterOp::Xor, 6, 3, 5),
+    (RegisterOp::Or, 6, 3, 7),
+    (RegisterOp::And, 6, 3, 2),
+    (RegisterOp::Addw, 0x7fff_ffff, 1, 0xffff_ffff_8000_0000),
+    (RegisterOp::Subw, 0, 1, 0xffff_ffff_ffff_ffff),
+    (RegisterOp::Sllw, 1, 63, 0xffff_ffff_8000_0000),
+    (RegisterOp::Srlw, 0xffff_ffff_8000_0000, 4, 0x0800_0000),
+    (RegisterOp::Sraw, 0x8000_0000, 31, 0xffff_ffff_ffff_ffff),
 ];
 
 #[test]
@@ -35,15 +40,18 @@ fn arithmetic_of_the_standard(rt: HostRuntime) {
 
 #[test]
 fn branches_and_loads(rt: HostRuntime) {
-    assert!(rt; is_taken(Op::Blt, u64::MAX, 0));
-    assert!(rt; is_taken(Op::Bgeu, u64::MAX, 0));
-    assert_eq!(rt; extend(Op::Lb, 0x80), 0xffff_ffff_ffff_ff80);
-    assert_eq!(rt; extend(Op::Lhu, 0x8000), 0x8000);
+    assert!(rt; is_taken(BranchOp::Blt, u64::MAX, 0));
+    assert!(rt; is_taken(BranchOp::Bgeu, u64::MAX, 0));
+    assert_eq!(rt; extend(LoadOp::Lb, 0x80), 0xffff_ffff_ffff_ff80);
+    assert_eq!(rt; extend(LoadOp::Lhu, 0x8000), 0x8000);
 }
 
 #[test]
 fn names(rt: HostRuntime) {
-    assert_eq!(rt; Op::from_mnemonic(b"SRAIW"), Some(Op::Sraiw));
+    assert_eq!(rt;
+        Op::from_mnemonic(b"SRAIW"),
+        Some(Op::Immediate(ImmediateOp::Sraiw))
+    );
     assert_eq!(rt; Op::from_mnemonic(b"AUIPC"), None);
 }
 

@@ -1,0 +1,6 @@
+//! Numbers that name or count different things have different types: a block's number is no slot's, and neither is a
+//! node's. A contract sees each as the plain number.
+#![tactic(auto)]
+
+pub mod code;
+pub mod metadata;
