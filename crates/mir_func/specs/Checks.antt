@@ -3,19 +3,14 @@ use Rattle.std.specs.Prelude.{ℕ, List, Contains, All}
 use Rattle.mir_func.specs.declared.block.Block.{Block}
 use Rattle.mir_func.specs.declared.item.Item.{Item}
 use Rattle.mir_func.specs.declared.item.ItemKind.{ItemKind}
-use Rattle.mir_func.specs.declared.item.ItemKind.TheVariants.{Phi}
-use Rattle.mir_func.specs.Sound.{AreApart, TargetsIn, SlotsIn, LeavesPointer, OriginIn, EndsWell, LastCloses, Exit, Always, Final}
-
--- control doesn't go on to the next item
-abbrev pub Leaves : Exit → Type 0
-Leaves Always = Unit {0}
-Leaves Final = Unit {0}
-Leaves _ = ⊥
+use Rattle.mir_func.specs.declared.item.ItemKind.TheVariants.{Code, Mark, Phi}
+use Rattle.mir_func.specs.Sound.{AreApart, TargetsIn, SlotsIn, LeavesPointer, OriginIn, EndsWell, LastCloses}
 
 -- the number of a phi is none of these
 abbrev pub PhiIsApart : List ℕ → ItemKind → Type 0
 PhiIsApart numbers (Phi p k) = Contains numbers k → ⊥
-PhiIsApart numbers _ = Unit {0}
+PhiIsApart numbers (Code i k) = Unit {0}
+PhiIsApart numbers (Mark v m) = Unit {0}
 
 -- what an item of a block of a sound function keeps, where these are the numbers of its blocks, of its slots and of its code
 pub record IsSoundItem (ids declared codes : List ℕ) (b : Block) (i : Item) : Type 0 where

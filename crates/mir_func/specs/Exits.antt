@@ -1,26 +1,38 @@
--- How control leaves an item, as code has it: with the number of the block to which it may go.
-use Rattle.rv64_instr.specs.Row.{Row, Branches, Jumps, Returns, Unfit, row_of}
+-- How control leaves an item.
+use Rattle.rv64_instr.specs.Row.{Row, Fixes, Moves, Sets, Addresses, Loads, Stores, LoadsSlot, StoresSlot, Branches, Jumps, Calls, Returns, Unfit, row_of}
 use Rattle.mir_func.specs.declared.exit.Exit.{Exit}
 use Rattle.mir_func.specs.declared.exit.Exit.TheVariants.{Onward, Perhaps, Always, Final}
 use Rattle.mir_func.specs.declared.item.ItemKind.{ItemKind}
-use Rattle.mir_func.specs.declared.item.ItemKind.TheVariants.{Code}
-use Rattle.mir_func.specs.Sound as sound
-
--- the same without the number
-abbrev pub exit_shown : Exit → sound.Exit
-exit_shown Onward = sound.Onward
-exit_shown (Perhaps n) = sound.Perhaps
-exit_shown (Always n) = sound.Always
-exit_shown Final = sound.Final
+use Rattle.mir_func.specs.declared.item.ItemKind.TheVariants.{Code, Mark, Phi}
 
 -- how control leaves code of a row. From what is no instruction it goes nowhere
-abbrev pub row_leaving : Row → Exit
-row_leaving (Branches op a b target) = Perhaps target
-row_leaving (Jumps target) = Always target
-row_leaving (Returns results) = Final
-row_leaving Unfit = Final
-row_leaving _ = Onward
+abbrev pub row_exit : Row → Exit
+row_exit (Fixes rd n) = Onward
+row_exit (Moves rd rs) = Onward
+row_exit (Sets rd op a b) = Onward
+row_exit (Addresses rd n offset) = Onward
+row_exit (Loads rd op base offset) = Onward
+row_exit (Stores op rs base offset) = Onward
+row_exit (LoadsSlot rd n) = Onward
+row_exit (StoresSlot rs n) = Onward
+row_exit (Branches op a b target) = Perhaps target
+row_exit (Jumps target) = Always target
+row_exit (Calls name args) = Onward
+row_exit (Returns results) = Final
+row_exit Unfit = Final
 
-abbrev pub leaving : ItemKind → Exit
-leaving (Code i k) = row_leaving (row_of i)
-leaving _ = Onward
+abbrev pub exit_of : ItemKind → Exit
+exit_of (Code i k) = row_exit (row_of i)
+exit_of (Mark v m) = Onward
+exit_of (Phi p k) = Onward
+
+-- it always goes to a block
+abbrev pub IsAlways : Exit → Type 0
+IsAlways (Always n) = Unit {0}
+IsAlways _ = ⊥
+
+-- it doesn't go on to the next item
+abbrev pub Leaves : Exit → Type 0
+Leaves (Always n) = Unit {0}
+Leaves Final = Unit {0}
+Leaves _ = ⊥

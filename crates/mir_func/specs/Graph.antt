@@ -1,11 +1,12 @@
 -- Functions as programs, and the paths through them.
 use Rattle.std.specs.Prelude.{◌≡◌, ◌⊎◌, ◌+◌, ℕ, suc, List, [], ◌∷◌, drop, Option, Bool, false, cond, nat_eq}
-use Rattle.rv64_instr.specs.Row.{Row, Branches, Jumps, Returns, Unfit, row_of}
+use Rattle.rv64_instr.specs.Row.{Row, Fixes, Moves, Sets, Addresses, Loads, Stores, LoadsSlot, StoresSlot, Branches, Jumps, Calls, Returns, Unfit, row_of}
 use Rattle.mir_func.specs.declared.position.Pos.{Pos}
 use Rattle.mir_func.specs.declared.block.Block.{Block}
+use Rattle.mir_func.specs.declared.entry.OperandPair.{OperandPair}
 use Rattle.mir_func.specs.declared.item.Item.{Item}
 use Rattle.mir_func.specs.declared.item.ItemKind.{ItemKind}
-use Rattle.mir_func.specs.declared.item.ItemKind.TheVariants.{Code}
+use Rattle.mir_func.specs.declared.item.ItemKind.TheVariants.{Code, Mark, Phi}
 use Rattle.mir_func.specs.SoundFrame.{body_of}
 
 -- what stands at a position
@@ -21,7 +22,7 @@ pub record Program : Type 0 where
   -- the position's block of a branch's target
   pub enter : ℕ → ℕ
   -- what pairs resolve to
-  pub resolve : ℕ → ℕ → Option (ℕ × ℕ)
+  pub resolve : OperandPair → Option OperandPair
   -- marks and numbers see the content of x2: in the source alone
   pub sees_pointer : Bool
 
@@ -52,7 +53,7 @@ from_block [] n = []
 from_block (b ∷ bs) n = cond (nat_eq b.id n) (b ∷ bs) (from_block bs n)
 
 -- a function: a position's block is a block's number
-abbrev pub program_of : (sees_pointer : Bool) → List Block → (ℕ → ℕ → Option (ℕ × ℕ)) → Program
+abbrev pub program_of : (sees_pointer : Bool) → List Block → (OperandPair → Option OperandPair) → Program
 program_of sp blocks resolve = record { fetch = λ p. fetch_in (from_block blocks p.block) p.item; enter = λ n. n; resolve = resolve; sees_pointer = sp }
 
 abbrev pub index_of : List Block → ℕ → ℕ
@@ -60,7 +61,7 @@ index_of [] n = 0
 index_of (b ∷ bs) n = cond (nat_eq b.id n) 0 (suc (index_of bs n))
 
 -- a function with its frame: a position's block is a block's index, and a branch goes past the prologue
-abbrev pub framed_program : List Block → (ℕ → ℕ → Option (ℕ × ℕ)) → Program
+abbrev pub framed_program : List Block → (OperandPair → Option OperandPair) → Program
 framed_program blocks resolve = record { fetch = λ p. fetch_in (drop p.block blocks) p.item; enter = λ n. suc (index_of (body_of blocks) n); resolve = resolve; sees_pointer = false }
 
 -- where control may go from code of a row
@@ -69,11 +70,20 @@ RowEdge enter (Branches op a b target) p q = (q ≡ block_start (enter target)) 
 RowEdge enter (Jumps target) p q = q ≡ block_start (enter target)
 RowEdge enter (Returns results) p q = ⊥
 RowEdge enter Unfit p q = ⊥
-RowEdge enter _ p q = q ≡ below p
+RowEdge enter (Fixes rd n) p q = q ≡ below p
+RowEdge enter (Moves rd rs) p q = q ≡ below p
+RowEdge enter (Sets rd op a b) p q = q ≡ below p
+RowEdge enter (Addresses rd n offset) p q = q ≡ below p
+RowEdge enter (Loads rd op base offset) p q = q ≡ below p
+RowEdge enter (Stores op rs base offset) p q = q ≡ below p
+RowEdge enter (LoadsSlot rd n) p q = q ≡ below p
+RowEdge enter (StoresSlot rs n) p q = q ≡ below p
+RowEdge enter (Calls name args) p q = q ≡ below p
 
 abbrev pub KindEdge : (ℕ → ℕ) → ItemKind → Pos → Pos → Type 0
 KindEdge enter (Code i k) p q = RowEdge enter (row_of i) p q
-KindEdge enter _ p q = q ≡ below p
+KindEdge enter (Mark v m) p q = q ≡ below p
+KindEdge enter (Phi r k) p q = q ≡ below p
 
 abbrev pub FetchEdge : (ℕ → ℕ) → Fetch → Pos → Pos → Type 0
 FetchEdge enter (Here i) p q = KindEdge enter i.kind p q

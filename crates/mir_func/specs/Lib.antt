@@ -1,6 +1,10 @@
+pub mod Limits
+pub mod Parts
+pub mod Variables
+pub mod Objects
 pub mod Function
-pub mod Sound
 pub mod Exits
+pub mod Sound
 pub mod Checks
 pub mod SoundFrame
 pub mod Graph

@@ -1,16 +1,25 @@
 -- What every function keeps (LLVM, Machine IR (MIR) Format Reference Manual, "Machine Basic Blocks").
-use Rattle.std.specs.Prelude.{◌≡◌, ℕ, ◌<◌, ◌≤◌, List, [], ◌∷◌, map, length, ◌⊎◌, Option, Some, None, slice_get, All, Contains}
+use Rattle.std.specs.Prelude.{◌≡◌, ℕ, ◌+◌, ◌<◌, ◌≤◌, List, [], ◌∷◌, map, length, Option, Some, None, slice_get, All, Contains}
 use Rattle.std.specs.List.{flat_map}
 use Rattle.rv64_instr.specs.declared.operand.Operand.{Operand}
 use Rattle.rv64_instr.specs.declared.operand.Operand.TheVariants.{Def, Use}
+use Rattle.rv64_instr.specs.declared.place.Place.{Place}
 use Rattle.rv64_instr.specs.declared.place.Place.TheVariants.{Slot}
-use Rattle.rv64_instr.specs.Row.{Row, LoadsSlot, StoresSlot, Branches, Jumps, Returns, row_of}
+use Rattle.rv64_instr.specs.declared.decoded.Base.TheVariants.{ObjectAt}
+use Rattle.rv64_instr.specs.Arithmetic.{load_width, store_width}
+use Rattle.rv64_instr.specs.Row.{Row, Addresses, Loads, Stores, LoadsSlot, StoresSlot, Branches, Jumps, row_of}
 use Rattle.mir_func.specs.declared.block.Block.{Block}
 use Rattle.mir_func.specs.declared.item.Item.{Item}
 use Rattle.mir_func.specs.declared.item.ItemKind.{ItemKind}
 use Rattle.mir_func.specs.declared.item.ItemKind.TheVariants.{Code, Mark, Phi}
+use Rattle.mir_func.specs.declared.object.Object.{Object}
 use Rattle.mir_func.specs.declared.position.Origin.{Origin}
 use Rattle.mir_func.specs.declared.position.Origin.TheVariants.{Kept, Before}
+use Rattle.mir_func.specs.declared.exit.Exit.{Exit}
+use Rattle.mir_func.specs.declared.exit.Exit.TheVariants.{Onward, Perhaps, Always, Final}
+use Rattle.mir_func.specs.Exits.{exit_of, IsAlways, Leaves}
+use Rattle.mir_func.specs.Limits.{MAX_BLOCKS, MAX_SLOTS, MAX_NUMBER}
+use Rattle.mir_func.specs.Objects.{ALIGNMENTS, object_of, AreLaidFrom}
 use Rattle.mir_func.specs.Function.{Function}
 
 -- no number stands twice
@@ -35,7 +44,8 @@ TargetIn ids _ = Unit {0}
 
 abbrev pub TargetsIn : List ℕ → ItemKind → Type 0
 TargetsIn ids (Code i n) = TargetIn ids (row_of i)
-TargetsIn ids _ = Unit {0}
+TargetsIn ids (Mark v m) = Unit {0}
+TargetsIn ids (Phi p k) = Unit {0}
 
 -- a slot that this row names is one of these
 abbrev pub SlotIn : List ℕ → Row → Type 0
@@ -43,10 +53,30 @@ SlotIn slots (LoadsSlot rd n) = Contains slots n
 SlotIn slots (StoresSlot rs n) = Contains slots n
 SlotIn slots _ = Unit {0}
 
+abbrev pub PlaceIn : List ℕ → Option Place → Type 0
+PlaceIn slots (Some (Slot n)) = Contains slots n
+PlaceIn slots _ = Unit {0}
+
 abbrev pub SlotsIn : List ℕ → ItemKind → Type 0
 SlotsIn slots (Code i k) = SlotIn slots (row_of i)
-SlotsIn slots (Phi (Some (Slot n)) k) = Contains slots n
-SlotsIn slots _ = Unit {0}
+SlotsIn slots (Mark v m) = Unit {0}
+SlotsIn slots (Phi p k) = PlaceIn slots p
+
+-- an object of this number is there, and has so many bytes at least
+abbrev pub HasBytes : List Object → (n bytes : ℕ) → Type 0
+HasBytes objects n bytes = (o : Object) × (object_of objects n ≡ Some o) × (bytes ≤ o.size)
+
+-- an access by an object stays in it, and what is added to its address leads past its end at most
+abbrev pub ObjectIn : List Object → Row → Type 0
+ObjectIn objects (Addresses rd n offset) = HasBytes objects n offset
+ObjectIn objects (Loads rd op (ObjectAt n) offset) = HasBytes objects n (offset + load_width op)
+ObjectIn objects (Stores op rs (ObjectAt n) offset) = HasBytes objects n (offset + store_width op)
+ObjectIn objects _ = Unit {0}
+
+abbrev pub ObjectsIn : List Object → ItemKind → Type 0
+ObjectsIn objects (Code i k) = ObjectIn objects (row_of i)
+ObjectsIn objects (Mark v m) = Unit {0}
+ObjectsIn objects (Phi p k) = Unit {0}
 
 -- an explicit operand isn't x2
 abbrev pub IsNotPointer : Operand → Type 0
@@ -56,7 +86,8 @@ IsNotPointer _ = Unit {0}
 
 abbrev pub LeavesPointer : ItemKind → Type 0
 LeavesPointer (Code i k) = All IsNotPointer i.operands
-LeavesPointer _ = Unit {0}
+LeavesPointer (Mark v m) = Unit {0}
+LeavesPointer (Phi p k) = Unit {0}
 
 -- the debug instruction number that an item gives
 abbrev pub number_of : ItemKind → Option ℕ
@@ -66,7 +97,8 @@ number_of (Phi p k) = Some k
 
 abbrev pub code_number : ItemKind → Option ℕ
 code_number (Code i k) = k
-code_number _ = None
+code_number (Mark v m) = None
+code_number (Phi p k) = None
 
 -- the number of code stands on no other item; several phis may share one
 abbrev pub NumbersOnce : List Item → Type 0
@@ -78,33 +110,16 @@ abbrev pub OriginIn : Block → Origin → Type 0
 OriginIn b (Kept p) = (p.block ≡ b.id) × (p.item < b.silent)
 OriginIn b (Before p) = (p.block ≡ b.id) × (p.item ≤ b.silent)
 
--- how control leaves an item: to the next one, perhaps to a block, always to a block, or out of the function
-pub data Exit : Type 0 where
-  Onward : Exit
-  Perhaps : Exit
-  Always : Exit
-  Final : Exit
-
-abbrev pub row_exit : Row → Exit
-row_exit (Branches op a b target) = Perhaps
-row_exit (Jumps target) = Always
-row_exit (Returns results) = Final
-row_exit _ = Onward
-
-abbrev pub exit_of : ItemKind → Exit
-exit_of (Code i k) = row_exit (row_of i)
-exit_of _ = Onward
-
 -- after a conditional branch a jump may stand, and nothing after it
 abbrev pub IsJumpAtMost : List Item → Type 0
 IsJumpAtMost [] = Unit {0}
-IsJumpAtMost (j ∷ []) = exit_of j.kind ≡ Always
+IsJumpAtMost (j ∷ []) = IsAlways (exit_of j.kind)
 IsJumpAtMost _ = ⊥
 
 abbrev pub MayFollow : Exit → List Item → Type 0
 MayFollow Onward rest = Unit {0}
-MayFollow Perhaps rest = IsJumpAtMost rest
-MayFollow Always rest = rest ≡ []
+MayFollow (Perhaps n) rest = IsJumpAtMost rest
+MayFollow (Always n) rest = rest ≡ []
 MayFollow Final rest = rest ≡ []
 
 -- a block ends with no branch, a return, a jump, a conditional branch, or a conditional branch and a jump
@@ -115,7 +130,7 @@ EndsWell (i ∷ rest) = MayFollow (exit_of i.kind) rest × EndsWell rest
 -- control doesn't fall out of the items
 abbrev pub Closes : List Item → Type 0
 Closes [] = ⊥
-Closes (i ∷ []) = (exit_of i.kind ≡ Always) ⊎ (exit_of i.kind ≡ Final)
+Closes (i ∷ []) = Leaves (exit_of i.kind)
 Closes (i ∷ j ∷ rest) = Closes (j ∷ rest)
 
 -- there is a block, and control doesn't fall out of the last one
@@ -124,14 +139,23 @@ LastCloses [] = ⊥
 LastCloses (b ∷ []) = Closes b.items
 LastCloses (b ∷ c ∷ rest) = LastCloses (c ∷ rest)
 
+-- what an object keeps
+pub record IsSoundObject (o : Object) : Type 0 where
+  pub size : o.size ≤ MAX_NUMBER
+  pub aligned : Contains ALIGNMENTS o.align
+
 -- what every function keeps
 pub record IsSound (f : Function) : Type 0 where
   pub blocks_apart : AreApart (ids_of f.blocks)
   pub slots_apart : AreApart f.slots
-  pub few_blocks : length f.blocks ≤ 1024
-  pub few_slots : length f.slots ≤ 224
+  pub objects_apart : AreApart (map (λ o. o.id) f.objects)
+  pub few_blocks : length f.blocks ≤ MAX_BLOCKS
+  pub few_slots : length f.slots + length f.objects ≤ MAX_SLOTS
+  pub each_object : All IsSoundObject f.objects
+  pub objects_laid : AreLaidFrom 0 f.objects
   pub targets : AllItems (λ i. TargetsIn (ids_of f.blocks) i.kind) f.blocks
   pub slots : AllItems (λ i. SlotsIn f.slots i.kind) f.blocks
+  pub objects : AllItems (λ i. ObjectsIn f.objects i.kind) f.blocks
   pub pointer : AllItems (λ i. LeavesPointer i.kind) f.blocks
   pub numbers : NumbersOnce (items_of f.blocks)
   pub origins : All (λ b. All (λ i. OriginIn b i.origin) b.items) f.blocks

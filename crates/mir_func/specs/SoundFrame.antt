@@ -1,22 +1,36 @@
--- What every function with its frame keeps.
-use Rattle.std.specs.Prelude.{◌≡◌, ◌⊎◌, ℕ, zero, suc, ℤ, pos, ◌-ℤ◌, ◌%◌, ◌<◌, ◌≤◌, List, [], ◌∷◌, ◌++◌, map, Some, All}
+-- What every function with its frame keeps (RISC-V ELF psABI, "Integer Calling Convention").
+use Rattle.std.specs.Prelude.{◌≡◌, ◌⊎◌, ℕ, zero, suc, ℤ, pos, ◌-ℤ◌, ◌-◌, ◌%◌, ◌<◌, ◌≤◌, List, [], ◌∷◌, ◌++◌, map, Option, Some, None, All}
 use Rattle.std.specs.List.Sorted.{IsStrictlyIncreasing}
-use Rattle.rv64_instr.specs.declared.op.Op.TheVariants.{Addi}
+use Rattle.rv64_instr.specs.declared.op.Op.TheVariants.{Immediate, Load, Store}
+use Rattle.rv64_instr.specs.declared.op.ImmediateOp.TheVariants.{Addi}
+use Rattle.rv64_instr.specs.declared.op.LoadOp.TheVariants.{Ld}
+use Rattle.rv64_instr.specs.declared.op.StoreOp.TheVariants.{Sd}
 use Rattle.rv64_instr.specs.declared.operand.Operand.{Operand}
-use Rattle.rv64_instr.specs.declared.operand.Operand.TheVariants.{Def, Use, ImplicitDef, ImplicitUse, Imm}
+use Rattle.rv64_instr.specs.declared.operand.Operand.TheVariants.{Def, Use, ImplicitDef, ImplicitUse, Imm, Slot}
+use Rattle.rv64_instr.specs.declared.place.Place.{Place}
 use Rattle.rv64_instr.specs.declared.place.Place.TheVariants.{Register}
-use Rattle.rv64_instr.specs.Row.{Row, StoresSlot, row_of}
+use Rattle.rv64_instr.specs.Instruction.{Instruction}
 use Rattle.mir_func.specs.declared.block.Block.{Block}
+use Rattle.mir_func.specs.declared.exit.Exit.TheVariants.{Final}
+use Rattle.mir_func.specs.declared.framed.SavedRegister.{SavedRegister}
 use Rattle.mir_func.specs.declared.item.Item.{Item}
 use Rattle.mir_func.specs.declared.item.ItemKind.{ItemKind}
 use Rattle.mir_func.specs.declared.item.ItemKind.TheVariants.{Code, Mark, Phi}
+use Rattle.mir_func.specs.declared.variable.MarkValue.{MarkValue}
 use Rattle.mir_func.specs.declared.variable.MarkValue.TheVariants.{At}
 use Rattle.mir_func.specs.Function.{FramedFunction}
-use Rattle.mir_func.specs.Sound.{AreApart, ids_of, AllItems, TargetsIn, SlotsIn, LeavesPointer, EndsWell, LastCloses, exit_of, Final}
+use Rattle.mir_func.specs.Exits.{exit_of}
+use Rattle.mir_func.specs.Limits.{MAX_FRAME}
+use Rattle.mir_func.specs.Objects.{AreLaidFrom, area_of}
+use Rattle.mir_func.specs.Sound.{AreApart, ids_of, AllItems, TargetsIn, SlotsIn, ObjectsIn, IsSoundObject, LeavesPointer, EndsWell, LastCloses}
 
 -- the offsets of slots and of saved registers, in bytes from x2
 abbrev pub slot_offsets : FramedFunction → List ℕ
-slot_offsets f = map (λ s. s.1) f.offsets ++ map (λ s. s.1) f.saved
+slot_offsets f = map (λ s. s.offset) f.offsets ++ map (λ s. s.offset) f.saved
+
+-- the bytes of the frame below its stack objects: slots and saved registers
+abbrev pub own_size : FramedFunction → ℕ
+own_size f = f.size - area_of f.objects
 
 -- an operand's register is physical
 abbrev pub IsPhysical : Operand → Type 0
@@ -26,51 +40,58 @@ IsPhysical (ImplicitDef r) = r < 32
 IsPhysical (ImplicitUse r) = r < 32
 IsPhysical _ = Unit {0}
 
+abbrev pub ValueIsPhysical : MarkValue → Type 0
+ValueIsPhysical (At r) = r < 32
+ValueIsPhysical _ = Unit {0}
+
+abbrev pub PlaceIsPhysical : Option Place → Type 0
+PlaceIsPhysical (Some (Register r)) = r < 32
+PlaceIsPhysical _ = Unit {0}
+
+-- the registers of an item are x0 to x31
 abbrev pub HasPhysical : ItemKind → Type 0
 HasPhysical (Code i k) = All IsPhysical i.operands
-HasPhysical (Mark v (At r)) = r < 32
-HasPhysical (Phi (Some (Register r)) k) = r < 32
-HasPhysical _ = Unit {0}
+HasPhysical (Mark v m) = ValueIsPhysical m
+HasPhysical (Phi p k) = PlaceIsPhysical p
 
 -- `ADDI x2, x2, n`
-abbrev pub AddsToPointer : ℤ → ItemKind → Type 0
-AddsToPointer n (Code i k) = i ≡ record { op = Addi; operands = Def 2 ∷ Use 2 ∷ Imm n ∷ [] }
-AddsToPointer n _ = ⊥
+abbrev pub adds_to_pointer : ℤ → Instruction
+adds_to_pointer n = record { op = Immediate Addi; operands = Def 2 ∷ Use 2 ∷ Imm n ∷ [] }
 
-abbrev pub StoresInFrame : Row → Type 0
-StoresInFrame (StoresSlot rs n) = Unit {0}
-StoresInFrame _ = ⊥
+-- a register is stored into its place in the frame, and loaded from it
+abbrev pub saves : SavedRegister → Instruction
+saves s = record { op = Store Sd; operands = Use s.register ∷ Slot s.offset ∷ Imm (pos 0) ∷ [] }
 
-abbrev pub IsSlotStore : ItemKind → Type 0
-IsSlotStore (Code i k) = StoresInFrame (row_of i)
-IsSlotStore _ = ⊥
+abbrev pub restores : SavedRegister → Instruction
+restores s = record { op = Load Ld; operands = Def s.register ∷ Slot s.offset ∷ Imm (pos 0) ∷ [] }
 
--- the prologue makes the frame, and then stores into it alone
-abbrev pub IsPrologue : ℕ → List Item → Type 0
-IsPrologue size [] = ⊥
-IsPrologue size (i ∷ rest) = AddsToPointer (pos 0 -ℤ pos size) i.kind × All (λ j. IsSlotStore j.kind) rest
+-- the prologue lowers x2 by the frame's size, and then saves registers; the epilogue loads them, and then raises x2
+abbrev pub prologue_code : (size : ℕ) → List SavedRegister → List Instruction
+prologue_code size saved = adds_to_pointer (pos 0 -ℤ pos size) ∷ map saves saved
 
--- directly before each return but one at the front the frame is given back, and x2 is named by no other code
-abbrev pub GivesBackWithin : ℕ → List Item → Type 0
-GivesBackWithin size [] = Unit {0}
-GivesBackWithin size (i ∷ []) = LeavesPointer i.kind
-GivesBackWithin size (i ∷ j ∷ rest) =
-    ((AddsToPointer (pos size) i.kind × (exit_of j.kind ≡ Final)) ⊎ (LeavesPointer i.kind × (exit_of j.kind ≡ Final → ⊥))) × GivesBackWithin size (j ∷ rest)
+abbrev pub epilogue_code : (size : ℕ) → List SavedRegister → List Instruction
+epilogue_code size saved = map restores saved ++ adds_to_pointer (pos size) ∷ []
 
--- the items don't begin with a return
-abbrev pub IsNoReturn : List Item → Type 0
-IsNoReturn [] = Unit {0}
-IsNoReturn (i ∷ rest) = exit_of i.kind ≡ Final → ⊥
+-- the items are this code, without numbers
+abbrev pub AreCode : List Item → List Instruction → Type 0
+AreCode items code = map (λ i. i.kind) items ≡ map (λ i. Code i None) code
 
--- the frame is given back directly before each return, and x2 is named by no other code
-abbrev pub GivesBack : ℕ → List Item → Type 0
-GivesBack size items = IsNoReturn items × GivesBackWithin size items
+-- code of the body: it leaves x2 alone, and doesn't return
+pub record IsBody (i : Item) : Type 0 where
+  pub pointer : LeavesPointer i.kind
+  pub stays : exit_of i.kind ≡ Final → ⊥
 
--- with a frame, a prologue and epilogues; without one, none
-abbrev pub HasFrame : ℕ → List Block → Type 0
-HasFrame zero (p ∷ blocks) = (p.items ≡ []) × AllItems (λ i. LeavesPointer i.kind) blocks
-HasFrame (suc n) (p ∷ blocks) = IsPrologue (suc n) p.items × All (λ b. GivesBack (suc n) b.items) blocks
-HasFrame size [] = ⊥
+-- the items of a block give the frame back right before a return, which is their last, and name x2 nowhere else
+pub data GivesBack (epilogue : List Instruction) : List Item → Type 0 where
+  goes_on : {items : List Item} → All IsBody items → GivesBack epilogue items
+  returns : (body given_back : List Item) (last : Item) → All IsBody body → AreCode given_back epilogue → exit_of last.kind ≡ Final →
+      LeavesPointer last.kind → GivesBack epilogue (body ++ given_back ++ last ∷ [])
+
+-- with a frame, a prologue, and an epilogue before each return; without one, none
+abbrev pub HasFrame : (size : ℕ) → List SavedRegister → List Block → Type 0
+HasFrame size saved [] = ⊥
+HasFrame zero saved (p ∷ blocks) = (p.items ≡ []) × (saved ≡ []) × AllItems (λ i. LeavesPointer i.kind) blocks
+HasFrame (suc n) saved (p ∷ blocks) = AreCode p.items (prologue_code (suc n) saved) × All (λ b. GivesBack (epilogue_code (suc n) saved) b.items) blocks
 
 -- the blocks after the prologue
 abbrev pub body_of : List Block → List Block
@@ -82,16 +103,26 @@ abbrev pub NumberedAlike : List Block → Type 0
 NumberedAlike (p ∷ b ∷ rest) = p.id ≡ b.id
 NumberedAlike _ = ⊥
 
+-- an offset of a doubleword below the frame's stack objects
+abbrev pub IsSlotOffset : FramedFunction → ℕ → Type 0
+IsSlotOffset f o = (o % 8 ≡ 0) × (o < own_size f)
+
 -- what every function with its frame keeps
 pub record IsFramed (f : FramedFunction) : Type 0 where
   pub aligned : f.size % 16 ≡ 0
-  pub small : f.size ≤ 2032
-  pub offsets : All (λ o. (o % 8 ≡ 0) × (o ≤ 2024) × (o < f.size)) (slot_offsets f)
+  pub small : f.size ≤ MAX_FRAME
+  pub room : area_of f.objects ≤ f.size
+  pub offsets : All (IsSlotOffset f) (slot_offsets f)
+  pub offsets_apart : AreApart (slot_offsets f)
+  pub each_object : All IsSoundObject f.objects
+  pub objects_apart : AreApart (map (λ o. o.id) f.objects)
+  pub objects_laid : AreLaidFrom 0 f.objects
   pub slots : AllItems (λ i. SlotsIn (slot_offsets f) i.kind) f.blocks
-  pub saved : IsStrictlyIncreasing (map (λ s. s.0) f.saved)
-  pub saved_physical : All (λ s. s.0 < 32) f.saved
+  pub objects : AllItems (λ i. ObjectsIn f.objects i.kind) f.blocks
+  pub saved : IsStrictlyIncreasing (map (λ s. s.register) f.saved)
+  pub saved_physical : All (λ s. s.register < 32) f.saved
   pub physical : AllItems (λ i. HasPhysical i.kind) f.blocks
-  pub frame : HasFrame f.size f.blocks
+  pub frame : HasFrame f.size f.saved f.blocks
   pub number : NumberedAlike f.blocks
   pub blocks_apart : AreApart (ids_of (body_of f.blocks))
   pub targets : AllItems (λ i. TargetsIn (ids_of (body_of f.blocks)) i.kind) f.blocks

@@ -28,4 +28,4 @@ stripped_blocks blocks = map stripped_block blocks
 
 -- the function without its marks, phis and numbers
 abbrev pub stripped : Function → Function
-stripped f = record { name = f.name; slots = f.slots; blocks = stripped_blocks f.blocks }
+stripped f = record { name = f.name; slots = f.slots; objects = f.objects; blocks = stripped_blocks f.blocks }

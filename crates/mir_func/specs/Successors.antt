@@ -8,7 +8,7 @@ use Rattle.mir_func.specs.declared.successors.Successors.{Successors}
 use Rattle.mir_func.specs.declared.successors.Successors.TheVariants.{Nowhere, One, Two}
 use Rattle.mir_func.specs.Graph.{Program, below, block_start}
 use Rattle.mir_func.specs.Graph.{Edge}
-use Rattle.mir_func.specs.Exits.{leaving}
+use Rattle.mir_func.specs.Exits.{exit_of}
 
 abbrev pub numbers_of : Successors → List ℕ
 numbers_of Nowhere = []
@@ -37,4 +37,4 @@ ways_from Final rest = []
 -- the numbers of the blocks to which control may go from items, before a block of this number
 abbrev pub ways : List Item → (next : Option ℕ) → List ℕ
 ways [] next = option_to_list next
-ways (i ∷ is) next = ways_from (leaving i.kind) (ways is next)
+ways (i ∷ is) next = ways_from (exit_of i.kind) (ways is next)

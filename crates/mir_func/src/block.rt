@@ -1,14 +1,17 @@
+//! Blocks.
+
 ghost use Rattle.std.specs.Prelude.{◌≡◌, IfOk};
 
 use crate::item::{Items, copy_items};
 use lists::List;
+use numbers::code::BlockId;
 use std::alloc::{AllocError, Global};
 
 /// A block of a function.
 #[derive(Debug, Drop)]
 pub struct Block {
     /// The N of `bb.N`.
-    pub id: u32,
+    pub id: BlockId,
     /// Its items, in order.
     pub items: Items,
     /// The index of the block's silent position in the source, which is the number of items that were read. No

@@ -1,10 +1,24 @@
+//! Operands of instructions by their debug instruction numbers, and which stand for which.
+
+use numbers::code::{DebugNumber, OperandIndex};
+
+/// An operand of the instruction that has a debug instruction number (LLVM, "Instruction referencing for debug info": a debug
+/// instruction operand pair).
+#[derive(Clone, Copy, Debug, PartialEq, Eq, PartialOrd, Ord)]
+pub struct OperandPair {
+    /// The instruction's number.
+    pub number: DebugNumber,
+    /// The operand's index.
+    pub operand: OperandIndex,
+}
+
 /// A substitution of debug instruction numbers: whoever asks for the value of `src` gets that of `dst`.
 #[derive(Clone, Copy, Debug, PartialEq, Eq)]
 pub struct Entry {
-    /// A debug instruction number and an operand's index.
-    pub src: (u32, u32),
-    /// The pair that has the value.
-    pub dst: (u32, u32),
+    /// What is asked for.
+    pub src: OperandPair,
+    /// What has the value.
+    pub dst: OperandPair,
     /// The part of the register that is meant, or 0 for all of it.
     pub subreg: u32,
 }

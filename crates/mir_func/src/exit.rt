@@ -1,10 +1,12 @@
+//! How control leaves an item.
+
 ghost use Rattle.std.specs.Prelude.{◌≡◌};
 ghost use Rattle.rv64_instr.specs.Row.{Row};
 ghost use Rattle.rv64_instr.specs.Decoded.{Shows};
-ghost use Rattle.mir_func.specs.Sound.{exit_of, row_exit};
-ghost use Rattle.mir_func.specs.Exits.{exit_shown, row_leaving, leaving};
+ghost use Rattle.mir_func.specs.Exits.{row_exit, exit_of};
 
 use crate::item::ItemKind;
+use numbers::code::BlockId;
 use rv64_instr::decoded::Decoded;
 
 /// How control leaves an item.
@@ -13,9 +15,9 @@ pub enum Exit {
     /// To the next one.
     Onward,
     /// To the block of this number, or to the next one.
-    Perhaps(u32),
+    Perhaps(BlockId),
     /// To the block of this number.
-    Always(u32),
+    Always(BlockId),
     /// Out of the function.
     Final,
 }
@@ -23,24 +25,30 @@ pub enum Exit {
 impl ItemKind {
     /// How control leaves an item of this kind.
     pub fn exit(&self) -> Exit
-        ensures leaving { result ≡ leaving self.now }
-        ensures shown { exit_of self.now ≡ exit_shown result }
+        ensures { result ≡ exit_of self.now }
     {
         match self {
-            ItemKind::Code(i, _) => exit_of(&i.decoded()),
+            ItemKind::Code(i, _) => row_exit(&i.decoded()),
             ItemKind::Mark(_, _) | ItemKind::Phi(_, _) => Exit::Onward,
         }
     }
 }
 
-fn exit_of(decoded: &Decoded) -> Exit
-    ensures leaving { (row : Row) → Shows decoded.now row → result ≡ row_leaving row }
-    ensures shown { (row : Row) → Shows decoded.now row → row_exit row ≡ exit_shown result }
+fn row_exit(decoded: &Decoded) -> Exit
+    ensures { (row : Row) → Shows decoded.now row → result ≡ row_exit row }
 {
     match *decoded {
         Decoded::Branches(_, _, _, n) => Exit::Perhaps(n),
         Decoded::Jumps(n) => Exit::Always(n),
         Decoded::Returns => Exit::Final,
-        _ => Exit::Onward,
+        Decoded::Fixes(_, _)
+        | Decoded::Moves(_, _)
+        | Decoded::Sets(_, _, _, _)
+        | Decoded::Addresses(_, _, _)
+        | Decoded::Loads(_, _, _, _)
+        | Decoded::Stores(_, _, _, _)
+        | Decoded::LoadsSlot(_, _)
+        | Decoded::StoresSlot(_, _)
+        | Decoded::Calls => Exit::Onward,
     }
 }

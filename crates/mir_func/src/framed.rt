@@ -1,14 +1,36 @@
+//! Functions with their frame.
+
 use crate::block::Blocks;
+use crate::object::Objects;
 use lists::List;
+use numbers::code::SlotId;
 use rv64_instr::name::Name;
 use rv64_instr::reg::Reg;
 use std::marker::Model;
 
-/// Frame slots: each slot's number with its offset from x2 in bytes.
-pub type Offsets = List<(u32, u32)>;
+/// Where a frame slot is.
+#[derive(Clone, Copy, Debug, PartialEq, Eq)]
+pub struct SlotPlace {
+    /// The slot, by its number in the function without its frame.
+    pub slot: SlotId,
+    /// Its offset from x2, in bytes.
+    pub offset: u32,
+}
 
-/// Saved registers, ascending: each with the offset from x2 of the place that keeps it, in bytes.
-pub type Saved = List<(Reg, u32)>;
+/// Where a register is saved.
+#[derive(Clone, Copy, Debug, PartialEq, Eq)]
+pub struct SavedRegister {
+    /// The register.
+    pub register: Reg,
+    /// The offset from x2 of the place that keeps it, in bytes.
+    pub offset: u32,
+}
+
+/// Frame slots, in declared order.
+pub type Offsets = List<SlotPlace>;
+
+/// Saved registers, ascending.
+pub type Saved = List<SavedRegister>;
 
 /// A function with its frame. In its items `Slot(o)` names the eight bytes at x2 plus o. The block with index 0 is
 /// the prologue, without items where there is no frame; its number is that of the next block, and a branch to this
@@ -17,12 +39,14 @@ pub type Saved = List<(Reg, u32)>;
 pub struct Framed {
     /// Its name.
     pub name: Name,
-    /// The frame's size in bytes, a multiple of 16.
+    /// The frame's size in bytes, its objects included: a multiple of 16.
     pub size: u32,
     /// Where its slots are.
     pub offsets: Offsets,
     /// Where it keeps the registers that it saves.
     pub saved: Saved,
+    /// Its stack objects, which lie above its slots and saved registers.
+    pub objects: Objects,
     /// The prologue, and the blocks.
     pub blocks: Blocks,
 }
@@ -34,7 +58,7 @@ impl Model for Framed {
 
     ghost use Rattle.mir_func.specs.SoundFrame.{IsFramed};
 
-    ghost view = { λ f. record { name = f.name; size = f.size; offsets = f.offsets; saved = f.saved; blocks = f.blocks } };
+    ghost view = { λ f. record { name = f.name; size = f.size; offsets = f.offsets; saved = f.saved; objects = f.objects; blocks = f.blocks } };
 
-    ghost invariant = { λ f. IsFramed (record { name = f.name; size = f.size; offsets = f.offsets; saved = f.saved; blocks = f.blocks }) };
+    ghost invariant = { λ f. IsFramed (record { name = f.name; size = f.size; offsets = f.offsets; saved = f.saved; objects = f.objects; blocks = f.blocks }) };
 }

@@ -1,17 +1,19 @@
+//! Functions between reading and their frame.
+
 ghost use Rattle.std.specs.Prelude.{◌≡◌, IfOk, IsErrOf};
 ghost use Rattle.mir_func.specs.Sound.{IsSound};
 ghost use Rattle.mir_func.specs.declared.func.FuncError.TheVariants.{Memory};
 
 use crate::block::{Blocks, copy_blocks};
-use crate::sound::are_sound;
+use crate::object::Objects;
 use lists::List;
+use numbers::code::SlotId;
 use rv64_instr::name::Name;
 use std::alloc::{AllocError, Global};
 use std::marker::Model;
-use thiserror::Error;
 
 /// The numbers of a function's frame slots of eight bytes, in declared order.
-pub type SlotIds = List<u32>;
+pub type SlotIds = List<SlotId>;
 
 /// A function that is sound: its blocks end as blocks must, and its branch targets and slots are there.
 #[derive(Debug, Drop)]
@@ -20,6 +22,8 @@ pub struct Func {
     pub name: Name,
     /// Its frame slots.
     pub slots: SlotIds,
+    /// Its stack objects.
+    pub objects: Objects,
     /// Its blocks. The first is where it starts.
     pub blocks: Blocks,
 }
@@ -31,47 +35,12 @@ impl Model for Func {
 
     ghost use Rattle.mir_func.specs.Sound.{IsSound};
 
-    ghost view = { λ f. record { name = f.name; slots = f.slots; blocks = f.blocks } };
+    ghost view = { λ f. record { name = f.name; slots = f.slots; objects = f.objects; blocks = f.blocks } };
 
-    ghost invariant = { λ f. IsSound (record { name = f.name; slots = f.slots; blocks = f.blocks }) };
-}
-
-/// Why no function was made.
-#[derive(Debug, Drop, Error)]
-pub enum FuncError {
-    /// There is no sound function of these parts.
-    #[error("no sound function")]
-    Unsound,
-    /// Memory ran out.
-    #[error("out of memory")]
-    Memory,
-}
-
-impl From<AllocError> for FuncError {
-    ghost from_gives = { λ _ e. e ≡ Memory };
-
-    fn from(_: AllocError) -> FuncError {
-        FuncError::Memory
-    }
+    ghost invariant = { λ f. IsSound (record { name = f.name; slots = f.slots; objects = f.objects; blocks = f.blocks }) };
 }
 
 impl Func {
-    /// The function of these parts. It is `Unsound` exactly where they make no sound function.
-    pub fn new(alloc: Global, name: Name, slots: SlotIds, blocks: Blocks) -> Result<Func, FuncError>
-        ensures made { IfOk result (λ f. f ≡ record { name = name; slots = slots; blocks = blocks }) }
-        ensures unsound { IsErrOf result FuncError.Unsound →
-            IsSound (record { name = name; slots = slots; blocks = blocks }) → ⊥ }
-    {
-        if !are_sound(alloc, slots.as_slice(), blocks.as_slice())? {
-            return Err(FuncError::Unsound);
-        }
-        Ok(Func {
-            name,
-            slots,
-            blocks,
-        })
-    }
-
     /// An equal function.
     pub fn copy(&self) -> Result<Func, AllocError>
         ensures { IfOk result (λ copied. copied ≡ self.now) }
@@ -79,6 +48,7 @@ impl Func {
         Ok(Func {
             name: self.name.copy()?,
             slots: self.slots.copy()?,
+            objects: self.objects.copy()?,
             blocks: copy_blocks(*self.name.items.allocator(), self.blocks.as_slice())?,
         })
     }

@@ -1,9 +1,12 @@
+//! Items of blocks.
+
 ghost use Rattle.std.specs.Prelude.{◌≡◌, IfOk};
 
 use crate::location::Loc;
 use crate::position::Origin;
 use crate::variable::{MarkValue, VarId};
 use lists::List;
+use numbers::code::DebugNumber;
 use rv64_instr::instr::Instr;
 use rv64_instr::place::Place;
 use std::alloc::{AllocError, Global};
@@ -12,11 +15,11 @@ use std::alloc::{AllocError, Global};
 #[derive(Debug, Drop)]
 pub enum ItemKind {
     /// An instruction, with its debug instruction number where it has one.
-    Code(Instr, Option<u32>),
-    /// A mark: the variable is assigned the value.
+    Code(Instr, Option<DebugNumber>),
+    /// A mark: the part of a variable is assigned the value.
     Mark(VarId, MarkValue),
     /// A phi: operand 0 of the number gets the content of the place, or nothing where there is no place.
-    Phi(Option<Place>, u32),
+    Phi(Option<Place>, DebugNumber),
 }
 
 /// An item of a block.

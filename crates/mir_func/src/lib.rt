@@ -6,16 +6,13 @@
 
 pub mod block;
 pub mod entry;
-mod exit;
+pub mod exit;
 pub mod framed;
 pub mod func;
 pub mod item;
 pub mod location;
-mod numbers;
+pub mod object;
 pub mod position;
-mod sound;
 pub mod strip;
 pub mod successors;
-#[cfg(test)]
-mod tests;
 pub mod variable;

@@ -1,10 +1,14 @@
+//! Where items stand, and where they come from.
+
+use numbers::code::{BlockId, BlockIndex};
+
 /// A position in a function as it was read: the number N of a block `bb.N`, and the index of an item in it from 0.
 /// The index past a block's last item is its silent position, from which control goes on to the next block in
 /// the text.
 #[derive(Clone, Copy, Debug, PartialEq, Eq, PartialOrd, Ord)]
 pub struct Pos {
     /// The block's number.
-    pub block: u32,
+    pub block: BlockId,
     /// The index of the item.
     pub item: u32,
 }
@@ -23,7 +27,7 @@ pub enum Origin {
 #[derive(Clone, Copy, Debug, PartialEq, Eq, PartialOrd, Ord)]
 pub struct Point {
     /// The block's index in the function.
-    pub block: u32,
+    pub block: BlockIndex,
     /// The index of the item.
     pub item: u32,
 }

@@ -1,3 +1,5 @@
+//! Functions without their debug items.
+
 ghost use Rattle.std.specs.Prelude.{◌≡◌, IfOk};
 ghost use Rattle.mir_func.specs.Strip.{stripped_item, stripped_items, stripped_block, stripped_blocks, stripped};
 
@@ -13,6 +15,7 @@ pub fn strip(alloc: Global, f: &Func) -> Result<Func, AllocError>
     Ok(Func {
         name: f.name.copy()?,
         slots: f.slots.copy()?,
+        objects: f.objects.copy()?,
         blocks: strip_blocks(alloc, f.blocks.as_slice())?,
     })
 }

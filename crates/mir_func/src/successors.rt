@@ -1,5 +1,8 @@
+//! Where control may go from a block.
+
 ghost use Rattle.std.specs.Prelude.{◌≡◌, ◌↔◌, ℕ, ◌<◌, ◌∷◌, Bool, Option, length, slice_index, slice_get, Contains};
 ghost use Rattle.mir_func.specs.Sound.{ids_of, IsJumpAtMost, EndsWell};
+ghost use Rattle.mir_func.specs.declared.entry.OperandPair.{OperandPair};
 ghost use Rattle.mir_func.specs.Graph.{program_of};
 ghost use Rattle.mir_func.specs.Successors.{numbers_of, GoesTo, ways};
 
@@ -7,6 +10,7 @@ use crate::block::Block;
 use crate::exit::Exit;
 use crate::func::Func;
 use crate::item::Item;
+use numbers::code::BlockId;
 
 /// The numbers of the blocks to which control may go from a block. Two may be the same.
 #[derive(Clone, Copy, Debug, PartialEq, Eq)]
@@ -14,9 +18,9 @@ pub enum Successors {
     /// To none: the block returns.
     Nowhere,
     /// To one.
-    One(u32),
+    One(BlockId),
     /// By a conditional branch to the first, or else to the second.
-    Two(u32, u32),
+    Two(BlockId, BlockId),
 }
 
 impl Func {
@@ -24,7 +28,7 @@ impl Func {
     /// memory.
     pub fn successors(&self, block: usize) -> Successors
         requires { block < length self.now.blocks }
-        ensures { (sees_pointer : Bool) (resolve : ℕ → ℕ → Option (ℕ × ℕ)) (n : ℕ) →
+        ensures { (sees_pointer : Bool) (resolve : OperandPair → Option OperandPair) (n : ℕ) →
             Contains (numbers_of result) n
             ↔ GoesTo (program_of sees_pointer self.now.blocks resolve) (slice_index (ids_of self.now.blocks) block) n }
     {
@@ -35,7 +39,7 @@ impl Func {
 }
 
 /// The number of the block of this index, if there is one.
-fn id_at(blocks: &[Block], index: usize) -> Option<u32>
+fn id_at(blocks: &[Block], index: usize) -> Option<BlockId>
     ensures { result ≡ slice_get (ids_of blocks.now) index }
 {
     match blocks.get(index) {
@@ -45,7 +49,7 @@ fn id_at(blocks: &[Block], index: usize) -> Option<u32>
 }
 
 /// Where control may go from a block of these items, before a block of this number.
-fn successors_of(items: &[Item], next: Option<u32>) -> Successors
+fn successors_of(items: &[Item], next: Option<BlockId>) -> Successors
     requires { EndsWell items.now }
     ensures { numbers_of result ≡ ways items.now next }
 {
@@ -65,7 +69,7 @@ fn successors_of(items: &[Item], next: Option<u32>) -> Successors
 }
 
 /// Where control may go from a conditional branch to a block, with these items below it.
-fn after_branch(target: u32, tail: &[Item], next: Option<u32>) -> Successors
+fn after_branch(target: BlockId, tail: &[Item], next: Option<BlockId>) -> Successors
     requires { IsJumpAtMost tail.now }
     ensures { numbers_of result ≡ target ∷ ways tail.now next }
 {

@@ -1,15 +1,80 @@
-use rv64_instr::reg::Reg;
+//! Variables of the program that is debugged, their parts, and what marks assign to them.
 
-/// A variable of the program that is debugged, in one inlined instance of its function.
+ghost use Rattle.std.specs.Prelude.{◌≡◌, IfSome, IsNone, ◌↔◌};
+
+use crate::entry::OperandPair;
+use numbers::metadata::NodeId;
+use rv64_instr::reg::Reg;
+use std::marker::Model;
+
+/// Some bytes of a variable: from an offset on, 1 to 8 of them, and none from byte 8,192 on (LLVM Language Reference,
+/// `DW_OP_LLVM_fragment`).
 #[derive(Clone, Copy, Debug, PartialEq, Eq)]
-pub struct VarId {
-    /// The number of its `DILocalVariable` node.
-    pub node: u32,
-    /// The number of the node that its location is inlined at, where there is one.
-    pub inlined_at: Option<u32>,
+pub struct Fragment {
+    offset: u32,
+    length: u32,
 }
 
-/// What a mark assigns to its variable.
+impl Model for Fragment {
+    ghost use Rattle.mir_func.specs.Parts.{Bytes, IsPart};
+
+    ghost Value = { Bytes };
+
+    ghost view = { λ f. record { offset = f.offset; length = f.length } };
+
+    ghost invariant = { λ f. IsPart (record { offset = f.offset; length = f.length }) };
+
+    ghost inverse = { λ b. record { offset = b.offset; length = b.length } };
+}
+
+impl Fragment {
+    ghost use Rattle.mir_func.specs.Parts.{IsPart};
+
+    /// So many bytes from an offset on. `None` exactly where a variable has no such part.
+    pub fn new(offset: u32, length: u32) -> Option<Fragment>
+        ensures none { IsNone result ↔ (IsPart (record { offset = offset; length = length }) → ⊥) }
+        ensures value { IfSome result (λ f. f ≡ record { offset = offset; length = length }) }
+    {
+        if length == 0 || MAX_PART < length || MAX_PART_END < offset || MAX_PART_END - offset < length {
+            return None;
+        }
+        Some(Fragment { offset, length })
+    }
+
+    /// The first byte.
+    pub fn offset(self) -> u32
+        ensures { result ≡ self.offset }
+    {
+        self.offset
+    }
+
+    /// How many bytes.
+    pub fn length(self) -> u32
+        ensures { result ≡ self.length }
+    {
+        self.length
+    }
+}
+
+/// The longest part of a variable, in bytes.
+const MAX_PART: u32 = 8;
+
+/// The greatest end of a part, in bytes.
+const MAX_PART_END: u32 = 8_192;
+
+/// A part of a variable of the program that is debugged, in one inlined instance of its function: some of its bytes, or the
+/// whole.
+#[derive(Clone, Copy, Debug, PartialEq, Eq)]
+pub struct VarId {
+    /// Its `DILocalVariable` node.
+    pub node: NodeId,
+    /// The node that its location is inlined at, where there is one.
+    pub inlined_at: Option<NodeId>,
+    /// The bytes that are meant, and `None` for the whole.
+    pub fragment: Option<Fragment>,
+}
+
+/// What a mark assigns to its part of a variable.
 #[derive(Clone, Copy, Debug, PartialEq, Eq)]
 pub enum MarkValue {
     /// No value.
@@ -18,6 +83,6 @@ pub enum MarkValue {
     Constant(i64),
     /// The content of a register.
     At(Reg),
-    /// The last value of a debug instruction number's operand, by the number and the operand's index.
-    Pair(u32, u32),
+    /// The last value of an operand of the instruction with a debug instruction number.
+    Pair(OperandPair),
 }

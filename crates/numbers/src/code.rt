@@ -119,3 +119,26 @@ impl OperandIndex {
         self.0
     }
 }
+
+/// The place of a block in the order of its function, from 0; in a function with its frame 0 is the prologue.
+#[derive(Clone, Copy, Debug, PartialEq, Eq, PartialOrd, Ord)]
+pub struct BlockIndex(pub u32);
+
+impl Model for BlockIndex {
+    ghost use Rattle.std.specs.Prelude.{ℕ};
+
+    ghost Value = { ℕ };
+
+    ghost view = { λ b. b.0 };
+
+    ghost inverse = { λ b. record { 0 = b } };
+}
+
+impl BlockIndex {
+    /// The plain number.
+    pub fn number(self) -> u32
+        ensures { result ≡ self }
+    {
+        self.0
+    }
+}

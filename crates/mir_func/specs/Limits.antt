@@ -1,0 +1,29 @@
+-- The limits of functions.
+use Rattle.std.specs.Prelude.{ℕ}
+
+-- how many blocks a function may have
+abbrev pub MAX_BLOCKS : ℕ
+MAX_BLOCKS = 1024
+
+-- how many frame slots and stack objects it may have together
+abbrev pub MAX_SLOTS : ℕ
+MAX_SLOTS = 224
+
+-- the greatest number that a text may give to something, and the greatest size of a stack object in bytes: 2^30 - 1
+abbrev pub MAX_NUMBER : ℕ
+MAX_NUMBER = 1073741823
+
+-- the greatest frame, in bytes: what one `ADDI` lowers x2 by, and a multiple of 16
+abbrev pub MAX_FRAME : ℕ
+MAX_FRAME = 2032
+
+-- how many bytes below the stack pointer at entry are kept for frames
+abbrev pub FRAME_ROOM : ℕ
+FRAME_ROOM = 2048
+
+-- the longest part of a variable, and the greatest end of one, in bytes
+abbrev pub MAX_PART : ℕ
+MAX_PART = 8
+
+abbrev pub MAX_PART_END : ℕ
+MAX_PART_END = 8192

@@ -1,0 +1,41 @@
+-- When two parts of variables are the same, and when they overlap.
+use Rattle.std.specs.Prelude.{ℕ, ◌+◌, ◌*◌, ◌%◌, ◌^◌, Bool, true, false, ◌&&◌, Option, Some, None, nat_eq, nat_lt}
+use Rattle.mir_func.specs.declared.variable.VarId.{VarId}
+use Rattle.mir_func.specs.Parts.{Bytes}
+
+abbrev pub is_same_node : Option ℕ → Option ℕ → Bool
+is_same_node None None = true
+is_same_node (Some m) (Some n) = nat_eq m n
+is_same_node None (Some n) = false
+is_same_node (Some m) None = false
+
+-- parts of one variable, in one inlined instance
+abbrev pub is_same_variable : VarId → VarId → Bool
+is_same_variable v w = nat_eq v.node w.node && is_same_node v.inlined_at w.inlined_at
+
+abbrev pub are_same_bytes : Option Bytes → Option Bytes → Bool
+are_same_bytes None None = true
+are_same_bytes (Some a) (Some b) = nat_eq a.offset b.offset && nat_eq a.length b.length
+are_same_bytes None (Some b) = false
+are_same_bytes (Some a) None = false
+
+abbrev pub is_same : VarId → VarId → Bool
+is_same v w = is_same_variable v w && are_same_bytes v.fragment w.fragment
+
+-- some byte is in both. The whole has all bytes
+abbrev pub do_meet : Option Bytes → Option Bytes → Bool
+do_meet None b = true
+do_meet (Some a) None = true
+do_meet (Some a) (Some b) = nat_lt a.offset (b.offset + b.length) && nat_lt b.offset (a.offset + a.length)
+
+-- parts of one variable of which some byte is in both
+abbrev pub overlaps : VarId → VarId → Bool
+overlaps v w = is_same_variable v w && do_meet v.fragment w.fragment
+
+-- what a part of so many bytes holds of a value: its low bytes
+abbrev pub low_part : Option Bytes → ℕ → ℕ
+low_part None x = x
+low_part (Some b) x = x % 2 ^ (8 * b.length)
+
+abbrev pub part_value : VarId → ℕ → ℕ
+part_value v x = low_part v.fragment x

@@ -1,0 +1,20 @@
+//! Stack objects.
+
+use lists::List;
+use numbers::code::ObjectId;
+
+/// A stack object: bytes of the frame whose address code may take.
+#[derive(Clone, Copy, Debug, PartialEq, Eq)]
+pub struct Object {
+    /// Its number.
+    pub id: ObjectId,
+    /// Its size in bytes.
+    pub size: u32,
+    /// Its alignment in bytes: 1, 2, 4, 8 or 16.
+    pub align: u32,
+    /// How far it lies above the first object's first byte, in bytes.
+    pub offset: u64,
+}
+
+/// The stack objects of a function, in declared order.
+pub type Objects = List<Object>;
