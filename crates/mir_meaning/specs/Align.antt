@@ -18,7 +18,8 @@ position_of (Before p) = p
 
 abbrev pub is_code : ItemKind → Bool
 is_code (Code i k) = true
-is_code _ = false
+is_code (Mark v m) = false
+is_code (Phi p k) = false
 
 abbrev pub is_jump_row : Row → Bool
 is_jump_row (Jumps n) = true
@@ -134,7 +135,7 @@ FailsBefore src Stops p Start s = Fails src Stops s
 FailsBefore src Stops p Same s = (s.pos ≡ p → ⊥) × FailsLater src Stops s
 FailsBefore src Stops p After s = FailsLater src Stops s
 
--- the variable's newest assignment gave this value
+-- the newest assignment of the part gave this value
 abbrev pub Tells : State → VarId → ℕ → Type 0
 Tells s v x = assigned v s.core.marks ≡ Some x
 

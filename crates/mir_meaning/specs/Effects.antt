@@ -34,6 +34,8 @@ EndAlike R _ _ = ⊥
 -- two cores alike but for registers, slots and what is told
 pub record SameWorld (c d : Core) : Type 0 where
   pub entry : c.entry ≡ d.entry
+  pub area : c.area ≡ d.area
+  pub objects : c.objects ≡ d.objects
   pub memory : c.memory ≡ d.memory
   pub script : c.script ≡ d.script
   pub events : c.events ≡ d.events

@@ -1,10 +1,15 @@
 -- When a function follows a source: its shape, and its runs from every start.
 use Rattle.std.specs.Prelude.{◌≡◌, ◌⊎◌, ℕ, ◌+◌, ◌*◌, ◌%◌, ◌^◌, ◌<◌, ◌≤◌, List, [], ◌∷◌, length, All, Contains, Option, Some, None, true, false, slice_get}
-use Rattle.rv64_instr.specs.Row.{Row, Fixes, Moves, Stores, LoadsSlot, StoresSlot, Branches, Jumps, Calls, Returns, Unfit, row_of}
+use Rattle.rv64_instr.specs.Row.{Row, Fixes, Moves, Sets, Addresses, Loads, Stores, LoadsSlot, StoresSlot, Branches, Jumps, Calls, Returns, Unfit, row_of}
+use Rattle.rv64_instr.specs.Parts.{IsSlotStore}
 use Rattle.mir_func.specs.declared.position.Pos.{Pos}
 use Rattle.mir_func.specs.declared.position.Origin.{Origin}
 use Rattle.mir_func.specs.declared.position.Origin.TheVariants.{Kept, Before}
 use Rattle.mir_func.specs.declared.block.Block.{Block}
+use Rattle.mir_func.specs.declared.entry.OperandPair.{OperandPair}
+use Rattle.mir_func.specs.declared.object.Object.{Object}
+use Rattle.mir_func.specs.Limits.{FRAME_ROOM}
+use Rattle.mir_func.specs.Objects.{area_of, offset_of}
 use Rattle.mir_func.specs.declared.item.Item.{Item}
 use Rattle.mir_func.specs.declared.item.ItemKind.{ItemKind}
 use Rattle.mir_func.specs.declared.item.ItemKind.TheVariants.{Code, Mark}
@@ -30,8 +35,14 @@ class_of (Jumps target) = Branch
 class_of (Calls name args) = Call
 class_of (Returns results) = Return
 class_of (Stores op rs base offset) = Store
+class_of (Fixes rd n) = Plain
+class_of (Moves rd rs) = Plain
+class_of (Sets rd op a b) = Plain
+class_of (Addresses rd n offset) = Plain
+class_of (Loads rd op base offset) = Plain
+class_of (LoadsSlot rd n) = Plain
+class_of (StoresSlot rs n) = Plain
 class_of Unfit = Odd
-class_of _ = Plain
 
 -- code that may be added before a position of a block with this silent index: slot loads and constant definitions not at
 -- the silent position, slot stores, and jumps at the silent position
@@ -57,7 +68,8 @@ RowFits src r silent (Before p) = MayAdd r p.item silent
 
 abbrev pub KindFits : Program → ItemKind → (silent : ℕ) → Origin → Type 0
 KindFits src (Code c k) silent o = RowFits src (row_of c) silent o
-KindFits src _ silent o = Unit {0}
+KindFits src (Mark v m) silent o = Unit {0}
+KindFits src (Phi p k) silent o = Unit {0}
 
 -- a mark that is added assigns nothing
 abbrev pub MarkFits : ItemKind → Origin → Type 0
@@ -100,10 +112,6 @@ GoesTo n (Branches op a b target) = target ≡ n
 GoesTo n (Jumps target) = target ≡ n
 GoesTo n _ = ⊥
 
-abbrev pub IsSlotSave : Row → Type 0
-IsSlotSave (StoresSlot rs n) = Unit {0}
-IsSlotSave _ = ⊥
-
 -- neither a branch nor a copy of a register to itself
 abbrev pub Counts : Row → Type 0
 Counts (Branches op a b target) = ⊥
@@ -125,19 +133,21 @@ pub record Shape (src f : List Block) (srcp fp : Program) : Type 0 where
   pub order : All (λ b. InOrder b.id 0 b.items) f
   pub items : All (λ b. All (λ i. KindFits srcp i.kind b.silent i.origin) b.items) f
   -- with a slot store at a block's end goes other code: so a cycle of jumps alone stores in no slot
-  pub stores : (b : Block) → Contains f b → (p : Pos) (i : Item) → p.block ≡ b.id → fp.fetch p ≡ Here i → OnRow IsSlotSave i.kind →
+  pub stores : (b : Block) → Contains f b → (p : Pos) (i : Item) → p.block ≡ b.id → fp.fetch p ≡ Here i → OnRow IsSlotStore i.kind →
       i.origin ≡ Before (record { block = b.id; item = b.silent }) → (q : Pos) × (j : Item) × IsMetApart fp p b.silent q j
   -- between code that is added before a position and what is kept there no variable gets a value
   pub marks : All (λ b. All (λ i. MarkFits i.kind i.origin) b.items) f
 
--- a start of a run: x2 is a multiple of 16 with room for a frame, and all else is free
-pub record IsStart (first : ℕ) (s : State) : Type 0 where
+-- a start of a run of a function with these stack objects: x2 is a multiple of 16 with room for a frame, and all else is free
+pub record IsStart (objects : List Object) (first : ℕ) (s : State) : Type 0 where
   pub pos : s.pos ≡ block_start first
   pub regs : (r : ℕ) → r < 32 → (v : ℕ) × (content s.core.regs r ≡ Some v) × (v < 2 ^ 64)
   pub virtual : (r : ℕ) → 32 ≤ r → content s.core.regs r ≡ None
   pub pointer : content s.core.regs 2 ≡ Some s.core.entry
   pub aligned : s.core.entry % 16 ≡ 0
-  pub room : 2048 ≤ s.core.entry
+  pub room : FRAME_ROOM ≤ s.core.entry
+  pub area : s.core.area ≡ area_of objects
+  pub objects : (n : ℕ) → s.core.objects n ≡ offset_of objects n
   pub slots : (n : ℕ) → s.core.slots n ≡ None
   pub memory : (a : ℕ) → s.core.memory a < 256
   pub script : All IsReply s.core.script
@@ -146,9 +156,9 @@ pub record IsStart (first : ℕ) (s : State) : Type 0 where
   pub marks : s.core.marks ≡ []
 
 -- f follows the source: it has its shape, and from every start it runs along
-pub record Follows (src f : List Block) (subs fsubs : ℕ → ℕ → Option (ℕ × ℕ)) : Type 0 where
+pub record Follows (objects : List Object) (src f : List Block) (subs fsubs : OperandPair → Option OperandPair) : Type 0 where
   pub shape : Shape src f (program_of true src subs) (program_of false f fsubs)
-  pub runs : (s : State) → IsStart (first_of src) s → RunsAlong (program_of true src subs) (program_of false f fsubs)
+  pub runs : (s : State) → IsStart objects (first_of src) s → RunsAlong (program_of true src subs) (program_of false f fsubs)
       (station_at ByItems (program_of false f fsubs)) (AnyOrigin (station_at ByItems (program_of false f fsubs))) s s
 
 -- the same end of a block, register names aside
@@ -177,11 +187,11 @@ abbrev pub EndComesFrom : Program → Item → Type 0
 EndComesFrom src j = (p : Pos) × (i : Item) × (src.fetch p ≡ Here i) × (j.origin ≡ Kept p) × KindsEndAlike i.kind j.kind
 
 -- f has whole ends: it has every block of the source with its branches and returns, and runs along at the blocks' ends too
-pub record HasWholeEnds (src f : List Block) (subs fsubs : ℕ → ℕ → Option (ℕ × ℕ)) : Type 0 where
+pub record HasWholeEnds (objects : List Object) (src f : List Block) (subs fsubs : OperandPair → Option OperandPair) : Type 0 where
   pub blocks : length f ≡ length src
   pub kept : (p : Pos) (i : Item) → (program_of true src subs).fetch p ≡ Here i → OnRow IsEnd i.kind → EndIsKept (program_of false f fsubs) p i
   pub only : (q : Pos) (j : Item) → (program_of false f fsubs).fetch q ≡ Here j → OnRow IsEnd j.kind → EndComesFrom (program_of true src subs) j
-  pub runs : (s : State) → IsStart (first_of src) s → RunsAlong (program_of true src subs) (program_of false f fsubs)
+  pub runs : (s : State) → IsStart objects (first_of src) s → RunsAlong (program_of true src subs) (program_of false f fsubs)
       (station_at ByEnds (program_of false f fsubs)) (AnyOrigin (station_at ByEnds (program_of false f fsubs))) s s
 
 -- the position isn't past its block's end

@@ -2,6 +2,8 @@
 use Rattle.std.specs.Prelude.{◌≡◌, ◌<◌, length, All, ℕ, zero, suc, ◌+◌, ◌*◌, ◌/◌, ◌%◌, ◌^◌, List, [], ◌∷◌, Option, Some, None, Bool, false, true, cond, ◌&&◌, ◌||◌, nat_eq, nat_lt, nat_le}
 use Rattle.mir_func.specs.declared.position.Pos.{Pos}
 use Rattle.mir_func.specs.declared.variable.VarId.{VarId}
+use Rattle.mir_func.specs.Limits.{FRAME_ROOM}
+use Rattle.mir_func.specs.Variables.{is_same, overlaps}
 
 -- what a run shows to the outside
 pub data Event : Type 0 where
@@ -19,6 +21,9 @@ pub record Reply : Type 0 where
 pub record Core : Type 0 where
   -- the content of x2 at entry
   pub entry : ℕ
+  -- the bytes right below it that the stack objects take together, and how far each object lies above the lowest of them
+  pub area : ℕ
+  pub objects : ℕ → ℕ
   -- each register's content. A virtual register is unwritten until it is set
   pub regs : ℕ → Option ℕ
   -- each frame slot's content, where it is written
@@ -77,32 +82,24 @@ abbrev pub written : (ℕ → ℕ) → List (ℕ × ℕ) → ℕ → ℕ
 written m [] = m
 written m (w ∷ ws) = written (updated w.0 w.1 m) ws
 
--- one of the 2,048 bytes below the stack pointer at entry, which are the frame's
-abbrev pub in_frame : (entry address : ℕ) → Bool
-in_frame entry a = nat_le entry (a + 2048) && nat_lt a entry
+-- one of the frame's bytes: the 2,048 bytes below the stack pointer at entry, but for those of stack objects right below it
+abbrev pub in_frame : (entry area address : ℕ) → Bool
+in_frame entry area a = nat_le entry (a + FRAME_ROOM) && nat_lt (a + area) entry
 
 -- one of n bytes from an address on is
-abbrev pub touches_frame : (entry address n : ℕ) → Bool
-touches_frame entry a zero = false
-touches_frame entry a (suc n) = in_frame entry (a % 2 ^ 64) || touches_frame entry (a + 1) n
+abbrev pub touches_frame : (entry area address n : ℕ) → Bool
+touches_frame entry area a zero = false
+touches_frame entry area a (suc n) = in_frame entry area (a % 2 ^ 64) || touches_frame entry area (a + 1) n
 
-abbrev pub writes_frame : ℕ → List (ℕ × ℕ) → Bool
-writes_frame entry [] = false
-writes_frame entry (w ∷ ws) = in_frame entry w.0 || writes_frame entry ws
+abbrev pub writes_frame : (entry area : ℕ) → List (ℕ × ℕ) → Bool
+writes_frame entry area [] = false
+writes_frame entry area (w ∷ ws) = in_frame entry area w.0 || writes_frame entry area ws
 
--- two variables are the same
-abbrev pub is_same_node : Option ℕ → Option ℕ → Bool
-is_same_node None None = true
-is_same_node (Some m) (Some n) = nat_eq m n
-is_same_node _ _ = false
-
-abbrev pub is_same : VarId → VarId → Bool
-is_same v w = nat_eq v.node w.node && is_same_node v.inlined_at w.inlined_at
-
--- what a variable's newest assignment gave: nothing too where it never had one
+-- what the newest assignment of a part of a variable gave: nothing too where it never had one, or where a part that overlaps
+-- it was assigned later
 abbrev pub assigned : {A : Type 0} → VarId → List (VarId × Option A) → Option A
 assigned v [] = None
-assigned v (m ∷ ms) = cond (is_same v m.0) m.1 (assigned v ms)
+assigned v (m ∷ ms) = cond (is_same v m.0) m.1 (cond (overlaps v m.0) None (assigned v ms))
 
 -- an answer of a script: sixteen registers' contents, and bytes at addresses
 pub record IsReply (r : Reply) : Type 0 where

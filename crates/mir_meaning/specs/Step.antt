@@ -1,19 +1,28 @@
 -- One step of a run.
 use Rattle.std.specs.Prelude.{ℕ, ◌+◌, ◌%◌, ◌^◌, zero, suc, List, [], ◌∷◌, map, Option, Some, None, Bool, true, false, cond, nat_eq, is_some, slice_get}
 use Rattle.std.specs.List.{list_all}
-use Rattle.rv64_instr.specs.declared.op.Op.{Op}
+use Rattle.rv64_instr.specs.declared.op.LoadOp.{LoadOp}
+use Rattle.rv64_instr.specs.declared.op.StoreOp.{StoreOp}
 use Rattle.rv64_instr.specs.declared.operand.Operand.{Operand}
 use Rattle.rv64_instr.specs.declared.operand.Operand.TheVariants.{Def, ImplicitDef}
 use Rattle.rv64_instr.specs.declared.place.Place.{Place}
 use Rattle.rv64_instr.specs.declared.place.Place.TheVariants.{Register, Slot, Const}
-use Rattle.rv64_instr.specs.Arithmetic.{word, computed, taken, width_of, extended}
-use Rattle.rv64_instr.specs.Row.{Input, Content, Number, Row, Fixes, Moves, Sets, Loads, Stores, LoadsSlot, StoresSlot, Branches, Jumps, Calls, Returns, Unfit, row_of}
+use Rattle.rv64_instr.specs.Arithmetic.{word, computed, taken, load_width, store_width, extended}
+use Rattle.rv64_instr.specs.declared.decoded.Input.{Input}
+use Rattle.rv64_instr.specs.declared.decoded.Input.TheVariants.{Content, Number}
+use Rattle.rv64_instr.specs.declared.decoded.Base.{Base}
+use Rattle.rv64_instr.specs.declared.decoded.Base.TheVariants.{PointedBy, ObjectAt}
+use Rattle.rv64_instr.specs.Row.{Row, Fixes, Moves, Sets, Addresses, Loads, Stores, LoadsSlot, StoresSlot, Branches, Jumps, Calls, Returns, Unfit, row_of}
 use Rattle.rv64_instr.specs.Access.{caller_saved, reads}
+use Rattle.rv64_instr.specs.Parts.{is_call}
+use Rattle.mir_func.specs.declared.entry.OperandPair.{OperandPair}
 use Rattle.mir_func.specs.declared.position.Pos.{Pos}
+use Rattle.mir_func.specs.declared.variable.VarId.{VarId}
 use Rattle.mir_func.specs.declared.variable.MarkValue.{MarkValue}
 use Rattle.mir_func.specs.declared.variable.MarkValue.TheVariants.{Nothing, Constant, At, Pair}
 use Rattle.mir_func.specs.declared.item.ItemKind.{ItemKind}
 use Rattle.mir_func.specs.declared.item.ItemKind.TheVariants.{Code, Mark, Phi}
+use Rattle.mir_func.specs.Variables.{part_value}
 use Rattle.mir_func.specs.Graph.{Fetch, Here, Silent, Outside, Program, below, block_start}
 use Rattle.mir_meaning.specs.State.{Called, Wrote, Reply, Core, State, updated, content, put, put_all, spelled, low_bytes, stored, written, touches_frame, writes_frame}
 
@@ -44,13 +53,29 @@ abbrev pub input_value : Core → Input → ℕ
 input_value s (Content r) = read s r
 input_value s (Number n) = n
 
+-- the address of a stack object, modulo 2^64
+abbrev pub object_address : Core → ℕ → ℕ
+object_address s n = (s.entry + (2 ^ 64 - s.area) + s.objects n) % 2 ^ 64
+
+abbrev pub base_value : Core → Base → ℕ
+base_value s (PointedBy r) = read s r
+base_value s (ObjectAt n) = object_address s n
+
+abbrev pub address_at : Core → Base → (offset : ℕ) → ℕ
+address_at s base offset = (base_value s base + offset) % 2 ^ 64
+
+-- an access of n bytes at an address touches the frame. By a stack object it is none
+abbrev pub is_fault : Base → Core → (address n : ℕ) → Bool
+is_fault (PointedBy r) s a n = touches_frame s.entry s.area a n
+is_fault (ObjectAt m) s a n = false
+
 abbrev pub set_register : (rd v : ℕ) → Core → Core
 set_register rd v s = record s { regs = put rd v s.regs }
 
 -- a call with the next answer. An answer that writes in the frame is a frame fault
 abbrev pub answered : (name args : List ℕ) → Core → List Reply → Outcome
 answered name args s [] = Asks
-answered name args s (r ∷ rest) = cond (writes_frame s.entry r.writes) Traps
+answered name args s (r ∷ rest) = cond (writes_frame s.entry s.area r.writes) Traps
     (Falls (record s { regs = put_all caller_saved r.regs s.regs; memory = written s.memory r.writes; script = rest; events = Called name args ∷ s.events }))
 
 -- a slot that isn't written can't be loaded
@@ -58,20 +83,24 @@ abbrev pub slot_loaded : ℕ → Core → Option ℕ → Outcome
 slot_loaded rd s None = Traps
 slot_loaded rd s (Some v) = Falls (set_register rd v s)
 
-abbrev pub loaded : (rd : ℕ) → Op → (address : ℕ) → Core → Outcome
-loaded rd op a s = cond (touches_frame s.entry a (width_of op)) Traps (Falls (set_register rd (extended op (spelled s.memory a (width_of op))) s))
+abbrev pub loaded : (rd : ℕ) → LoadOp → Base → (address : ℕ) → Core → Outcome
+loaded rd op base a s =
+    cond (is_fault base s a (load_width op)) Traps (Falls (set_register rd (extended op (spelled s.memory a (load_width op))) s))
 
 abbrev pub saved : (address : ℕ) → List ℕ → Core → Core
 saved a bytes s = record s { memory = stored s.memory a bytes; events = Wrote a bytes ∷ s.events }
+
+abbrev pub put_in_memory : StoreOp → Base → (address v : ℕ) → Core → Outcome
+put_in_memory op base a v s = cond (is_fault base s a (store_width op)) Traps (Falls (saved a (low_bytes (store_width op) v) s))
 
 -- what an instruction of this row does, where all that it reads is written
 unfoldable pub does : Row → Core → Outcome
 does (Fixes rd n) s = Falls (set_register rd n s)
 does (Moves rd rs) s = Falls (set_register rd (read s rs) s)
 does (Sets rd op a b) s = Falls (set_register rd (computed op (read s a) (input_value s b)) s)
-does (Loads rd op base offset) s = loaded rd op ((read s base + offset) % 2 ^ 64) s
-does (Stores op rs base offset) s = let a = (read s base + offset) % 2 ^ 64 in
-    cond (touches_frame s.entry a (width_of op)) Traps (Falls (saved a (low_bytes (width_of op) (read s rs)) s))
+does (Addresses rd n offset) s = Falls (set_register rd (address_at s (ObjectAt n) offset) s)
+does (Loads rd op base offset) s = loaded rd op base (address_at s base offset) s
+does (Stores op rs base offset) s = put_in_memory op base (address_at s base offset) (read s rs) s
 does (LoadsSlot rd n) s = slot_loaded rd s (s.slots n)
 does (StoresSlot rs n) s = Falls (record s { slots = updated n (Some (read s rs)) s.slots })
 does (Branches op a b target) s = cond (taken op (read s a) (read s b)) (Goes target s) (Falls s)
@@ -92,10 +121,6 @@ act r s = cond (are_written s (reads r)) (does r s) Traps
 abbrev pub seen : Bool → ℕ → Core → Option ℕ
 seen true r s = content s.regs r
 seen false r s = cond (nat_eq r 2) None (content s.regs r)
-
-abbrev pub is_call : Row → Bool
-is_call (Calls name args) = true
-is_call _ = false
 
 -- the register that an operand defines: an implicit definition defines on calls alone
 abbrev pub defined : Bool → Option Operand → Option ℕ
@@ -127,20 +152,25 @@ place_value (Some (Register r)) s = seen false r s
 place_value (Some (Slot n)) s = s.slots n
 place_value (Some (Const c)) s = Some (word c)
 
-abbrev pub pair_value : Option (ℕ × ℕ) → Core → Option ℕ
+abbrev pub pair_value : Option OperandPair → Core → Option ℕ
 pair_value None s = None
-pair_value (Some q) s = s.pairs q.0 q.1
+pair_value (Some q) s = s.pairs q.number q.operand
 
 abbrev pub mark_value : Program → MarkValue → Core → Option ℕ
 mark_value g Nothing s = None
 mark_value g (Constant c) s = Some (word c)
 mark_value g (At r) s = seen g.sees_pointer r s
-mark_value g (Pair k o) s = pair_value (g.resolve k o) s
+mark_value g (Pair q) s = pair_value (g.resolve q) s
+
+-- what a part of a variable gets of it: its low bytes
+abbrev pub part_of : VarId → Option ℕ → Option ℕ
+part_of v None = None
+part_of v (Some x) = Some (part_value v x)
 
 -- what an item does
 abbrev pub do_item : Program → ItemKind → Core → Outcome
 do_item g (Code i k) s = with_core (numbered g.sees_pointer (is_call (row_of i)) k i.operands) (act (row_of i) s)
-do_item g (Mark v m) s = Falls (record s { marks = (v, mark_value g m s) ∷ s.marks })
+do_item g (Mark v m) s = Falls (record s { marks = (v, part_of v (mark_value g m s)) ∷ s.marks })
 do_item g (Phi p k) s = Falls (record s { pairs = updated k (updated 0 (place_value p s) (s.pairs k)) s.pairs })
 
 abbrev pub do_fetch : Program → Fetch → Core → Outcome

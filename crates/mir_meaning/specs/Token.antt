@@ -5,8 +5,10 @@ use Rattle.rv64_instr.specs.declared.operand.Operand.{Operand}
 use Rattle.rv64_instr.specs.declared.place.Place.{Place}
 use Rattle.rv64_instr.specs.declared.place.Place.TheVariants.{Register, Slot, Const}
 use Rattle.rv64_instr.specs.Arithmetic.{word}
-use Rattle.rv64_instr.specs.Row.{Row, Fixes, Moves, Sets, Loads, LoadsSlot, StoresSlot, Calls, row_of}
+use Rattle.rv64_instr.specs.Row.{Row, Fixes, Moves, Sets, Addresses, Loads, Stores, LoadsSlot, StoresSlot, Branches, Jumps, Calls, Returns, Unfit, row_of}
+use Rattle.rv64_instr.specs.Parts.{is_call}
 use Rattle.rv64_instr.specs.Access.{caller_saved, sets}
+use Rattle.mir_func.specs.declared.entry.OperandPair.{OperandPair}
 use Rattle.mir_func.specs.declared.position.Pos.{Pos}
 use Rattle.mir_func.specs.declared.variable.VarId.{VarId}
 use Rattle.mir_func.specs.declared.variable.MarkValue.{MarkValue}
@@ -14,7 +16,7 @@ use Rattle.mir_func.specs.declared.variable.MarkValue.TheVariants.{Nothing, Cons
 use Rattle.mir_func.specs.declared.item.ItemKind.{ItemKind}
 use Rattle.mir_func.specs.declared.item.ItemKind.TheVariants.{Code, Mark, Phi}
 use Rattle.mir_meaning.specs.State.{updated, assigned}
-use Rattle.mir_meaning.specs.Step.{is_call, defined}
+use Rattle.mir_meaning.specs.Step.{defined}
 use Rattle.mir_func.specs.Graph.{Fetch, Here, Silent, Outside, Program}
 use Rattle.mir_func.specs.Graph.{Edge}
 
@@ -54,11 +56,16 @@ unfoldable pub moved_tokens : (index : ℕ) → Row → Tokens → Tokens
 moved_tokens n (Fixes rd c) t = record t { regs = put_token rd (Some (Fixed c)) t.regs }
 moved_tokens n (Moves rd rs) t = record t { regs = put_token rd (register_token t.regs rs) t.regs }
 moved_tokens n (Sets rd op a b) t = record t { regs = put_token rd (Some (Made n rd)) t.regs }
+moved_tokens n (Addresses rd k offset) t = record t { regs = put_token rd (Some (Made n rd)) t.regs }
 moved_tokens n (Loads rd op base offset) t = record t { regs = put_token rd (Some (Made n rd)) t.regs }
 moved_tokens n (LoadsSlot rd k) t = record t { regs = put_token rd (t.slots k) t.regs }
 moved_tokens n (StoresSlot rs k) t = record t { slots = updated k (register_token t.regs rs) t.slots }
 moved_tokens n (Calls name args) t = record t { regs = make_all n caller_saved t.regs }
-moved_tokens n _ t = t
+moved_tokens n (Stores op rs base offset) t = t
+moved_tokens n (Branches op a b target) t = t
+moved_tokens n (Jumps target) t = t
+moved_tokens n (Returns results) t = t
+moved_tokens n Unfit t = t
 
 -- a write of x2 takes every slot's token away, since slots are found by x2
 abbrev pub sets_pointer : Row → Bool
@@ -82,23 +89,23 @@ place_token (Some (Register r)) t = register_token t.regs r
 place_token (Some (Slot n)) t = t.slots n
 place_token (Some (Const c)) t = Some (Fixed (word c))
 
-abbrev pub pair_token : Option (ℕ × ℕ) → Tokens → Option Token
+abbrev pub pair_token : Option OperandPair → Tokens → Option Token
 pair_token None t = None
-pair_token (Some q) t = t.pairs q.0 q.1
+pair_token (Some q) t = t.pairs q.number q.operand
 
-abbrev pub mark_token : (ℕ → ℕ → Option (ℕ × ℕ)) → MarkValue → Tokens → Option Token
+abbrev pub mark_token : (OperandPair → Option OperandPair) → MarkValue → Tokens → Option Token
 mark_token resolve Nothing t = None
 mark_token resolve (Constant c) t = Some (Fixed (word c))
 mark_token resolve (At r) t = register_token t.regs r
-mark_token resolve (Pair k o) t = pair_token (resolve k o) t
+mark_token resolve (Pair q) t = pair_token (resolve q) t
 
 -- the tokens after the item at an index of the path
-abbrev pub after_item : (ℕ → ℕ → Option (ℕ × ℕ)) → (index : ℕ) → ItemKind → Tokens → Tokens
+abbrev pub after_item : (OperandPair → Option OperandPair) → (index : ℕ) → ItemKind → Tokens → Tokens
 after_item resolve n (Code i k) t = numbered_tokens (is_call (row_of i)) k i.operands (code_tokens n (row_of i) t)
 after_item resolve n (Mark v m) t = record t { marks = (v, mark_token resolve m t) ∷ t.marks }
 after_item resolve n (Phi p k) t = record t { pairs = updated k (updated 0 (place_token p t) (t.pairs k)) t.pairs }
 
-abbrev pub after_fetch : (ℕ → ℕ → Option (ℕ × ℕ)) → (index : ℕ) → Fetch → Tokens → Tokens
+abbrev pub after_fetch : (OperandPair → Option OperandPair) → (index : ℕ) → Fetch → Tokens → Tokens
 after_fetch resolve n (Here i) t = after_item resolve n i.kind t
 after_fetch resolve n (Silent k m) t = t
 after_fetch resolve n Outside t = t
@@ -117,7 +124,7 @@ pub record Sits (g : Program) (start : Pos) (x y : Tokens → Option Token) (p :
   pub reached : (n : ℕ) × (t : Tokens) × Path g start n p t
   pub same : (n : ℕ) (t : Tokens) → Path g start n p t → (k : Token) × (x t ≡ Some k) × (y t ≡ Some k)
 
--- a variable's token is that of its newest mark
+-- the token of a part of a variable is that of its newest mark, and none where a part that overlaps it was marked later
 abbrev pub variable_token : VarId → Tokens → Option Token
 variable_token v t = assigned v t.marks
 
@@ -137,11 +144,11 @@ Precedes (Register q) (Slot n) = Unit {0}
 Precedes (Slot m) (Slot n) = m < n
 Precedes _ _ = ⊥
 
--- the place in which a variable's value sits
+-- the place in which the value of a part of a variable sits
 abbrev pub SitsIn : Program → Pos → VarId → Place → Pos → Type 0
 SitsIn g start v place p = Sits g start (variable_token v) (place_token (Some place)) p
 
--- the place that is wanted for a variable at a position: the first one in which its value sits
+-- the place that is wanted for a part of a variable at a position: the first one in which its value sits
 pub record IsWanted (g : Program) (start : Pos) (v : VarId) (p : Pos) (place : Place) : Type 0 where
   pub named : IsPlace place
   pub sits : SitsIn g start v place p
