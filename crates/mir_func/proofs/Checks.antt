@@ -9,8 +9,9 @@ use Rattle.mir_func.specs.declared.block.Block.{Block}
 use Rattle.mir_func.specs.declared.item.Item.{Item}
 use Rattle.mir_func.specs.declared.item.ItemKind.{ItemKind}
 use Rattle.mir_func.specs.declared.item.ItemKind.TheVariants.{Code, Mark, Phi}
-use Rattle.mir_func.specs.Sound.{ids_of, items_of, AllItems, TargetsIn, SlotsIn, LeavesPointer, OriginIn, EndsWell, Exit, Onward, Perhaps, Always, Final, exit_of, Closes, LastCloses, IsSound}
-use Rattle.mir_func.specs.Checks.{Leaves, PhiIsApart, IsSoundItem, IsSoundBlock, AreSoundParts}
+use Rattle.mir_func.specs.Sound.{ids_of, items_of, AllItems, TargetsIn, SlotsIn, LeavesPointer, OriginIn, EndsWell, Closes, LastCloses, IsSound}
+use Rattle.mir_func.specs.Exits.{exit_of, Leaves}
+use Rattle.mir_func.specs.Checks.{PhiIsApart, IsSoundItem, IsSoundBlock, AreSoundParts}
 use Rattle.mir_func.proofs.Once.{codes_of, IsCode, PhiOff, codes_apart, phis_off, once_from}
 
 -- what `all` answers, both ways
@@ -21,15 +22,9 @@ both_from_all P (x ∷ xs) false h = (λ e. absurd (false≢true e), λ a. absur
 
 -- ---- the end
 
-leaves_as : (x : Exit) → Leaves x ↔ ((x ≡ Always) ⊎ (x ≡ Final))
-leaves_as Always = (λ _. inl refl, λ _. tt)
-leaves_as Final = (λ _. inr refl, λ _. tt)
-leaves_as Onward = (λ h. absurd h, λ e. elim e [ inl p ↦ cc | inr p ↦ cc ])
-leaves_as Perhaps = (λ h. absurd h, λ e. elim e [ inl p ↦ cc | inr p ↦ cc ])
-
 closes_at : (items : List Item) (n : ℕ) (i : Item) → length items ≡ suc n → slice_get items n ≡ Some i → Leaves (exit_of i.kind) ↔ Closes items
 closes_at [] n i l e = absurd (omega arith)
-closes_at (x ∷ []) zero i l e = let same : x ≡ i = cc in subst (λ (y : Item). Leaves (exit_of y.kind) ↔ Closes (x ∷ [])) same (leaves_as (exit_of x.kind))
+closes_at (x ∷ []) zero i l e = let same : x ≡ i = cc in subst (λ (y : Item). Leaves (exit_of y.kind) ↔ Closes (x ∷ [])) same (λ h. h, λ h. h)
 closes_at (x ∷ []) (suc n) i l e = absurd cc
 closes_at (x ∷ y ∷ rest) zero i l e = absurd (omega arith)
 closes_at (x ∷ y ∷ rest) (suc n) i l e = closes_at (y ∷ rest) n i (omega arith) e
@@ -106,65 +101,3 @@ off_apart : (items : List Item) (k : ItemKind) → PhiOff (IsCode items) k → P
 off_apart items (Code i k) h = tt
 off_apart items (Mark v m) h = tt
 off_apart items (Phi p k) h = λ c. h (c.0, contains_at (codes_of items) c.0 k c.1 c.2)
-
--- ---- the whole
-
--- one thing that each item keeps, from all that it keeps
-each_item : (ids slots codes : List ℕ) (P : Block → Item → Type 0) (blocks : List Block) → All (IsSoundBlock ids slots codes) blocks →
-    ((b : Block) (i : Item) → IsSoundItem ids slots codes b i → P b i) → All (λ b. All (P b) b.items) blocks
-each_item ids slots codes P blocks h part =
-    All-weaker (IsSoundBlock ids slots codes) (λ (b : Block). All (P b) b.items) (λ b s. All-weaker (IsSoundItem ids slots codes b) (P b) (part b) b.items s.each) blocks h
-
-sound_from : (name slots : List ℕ) (blocks : List Block) → length blocks ≤ 1024 → length slots ≤ 224 → AreSoundParts (ids_of blocks) slots (codes_of (items_of blocks)) blocks → IsSound (record { name = name; slots = slots; blocks = blocks })
-sound_from name slots blocks few_b few_s s =
-    let ids = ids_of blocks in
-    let codes = codes_of (items_of blocks) in
-    let phis : All (λ i. PhiIsApart codes i.kind) (items_of blocks) =
-    all_items (λ i. PhiIsApart codes i.kind) blocks (each_item ids slots codes (λ b i. PhiIsApart codes i.kind) blocks s.each (λ b i t. t.phi)) in
-    record {
-      blocks_apart = s.ids_apart;
-      slots_apart = s.slots_apart;
-      few_blocks = few_b;
-      few_slots = few_s;
-      targets = each_item ids slots codes (λ b i. TargetsIn ids i.kind) blocks s.each (λ b i t. t.target);
-      slots = each_item ids slots codes (λ b i. SlotsIn slots i.kind) blocks s.each (λ b i t. t.slot);
-      pointer = each_item ids slots codes (λ b i. LeavesPointer i.kind) blocks s.each (λ b i t. t.pointer);
-      numbers = once_from (items_of blocks) s.codes_apart (λ i x e. apart_off (items_of blocks) x.kind (at_get (λ i. PhiIsApart codes i.kind) (items_of blocks) i x phis e));
-      origins = each_item ids slots codes (λ b i. OriginIn b i.origin) blocks s.each (λ b i t. t.origin);
-      ends = All-weaker (IsSoundBlock ids slots codes) (λ (b : Block). EndsWell b.items) (λ b t. t.ends) blocks s.each;
-      last = s.last;
-    }
-
-parts_from : (name slots : List ℕ) (blocks : List Block) → IsSound (record { name = name; slots = slots; blocks = blocks }) → AreSoundParts (ids_of blocks) slots (codes_of (items_of blocks)) blocks
-parts_from name slots blocks s =
-    let codes = codes_of (items_of blocks) in
-    let phis : AllItems (λ i. PhiIsApart codes i.kind) blocks =
-    items_all (λ i. PhiIsApart codes i.kind) blocks
-    (from_get (λ i. PhiIsApart codes i.kind) (items_of blocks) (λ i x e. off_apart (items_of blocks) x.kind (phis_off (items_of blocks) s.numbers i x e))) in
-    record {
-      ids_apart = s.blocks_apart;
-      slots_apart = s.slots_apart;
-      codes_apart = codes_apart (items_of blocks) s.numbers;
-      each = λ k d l. record {
-        each = λ n x m. record {
-          target = s.targets k d l n x m;
-          slot = s.slots k d l n x m;
-          pointer = s.pointer k d l n x m;
-          phi = phis k d l n x m;
-          origin = s.origins k d l n x m;
-        };
-        ends = s.ends k d l;
-      };
-      last = s.last;
-    }
-
--- the function is sound exactly where its parts are
-pub sound_by_parts : (ids declared codes slots : List ℕ) (blocks : List Block) (b : Bool) → length blocks ≤ 1024 → length slots ≤ 224 →
-    ids ≡ ids_of blocks → declared ≡ slots → codes ≡ codes_of (items_of blocks) → IsTrue b ↔ AreSoundParts ids declared codes blocks →
-    (name : List ℕ) → IsTrue b ↔ IsSound (record { name = name; slots = slots; blocks = blocks })
-sound_by_parts ids declared codes slots blocks b few_b few_s i d c both name =
-    let here : IsTrue b ↔ AreSoundParts (ids_of blocks) slots (codes_of (items_of blocks)) blocks =
-    subst (λ (ns : List ℕ). IsTrue b ↔ AreSoundParts (ids_of blocks) slots ns blocks) c
-    (subst (λ (ns : List ℕ). IsTrue b ↔ AreSoundParts (ids_of blocks) ns codes blocks) d
-    (subst (λ (ns : List ℕ). IsTrue b ↔ AreSoundParts ns declared codes blocks) i both)) in
-    (λ t. sound_from name slots blocks few_b few_s (here.0 t), λ s. here.1 (parts_from name slots blocks s))

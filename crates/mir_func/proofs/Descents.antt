@@ -4,6 +4,7 @@ use Rattle.std.proofs.lemmas.Bool.{cases_eq}
 use Rattle.rv64_instr.specs.Row.{Row, Branches, Jumps, Returns, Unfit, row_of}
 use Rattle.mir_func.specs.declared.position.Pos.{Pos}
 use Rattle.mir_func.specs.declared.block.Block.{Block}
+use Rattle.mir_func.specs.declared.entry.OperandPair.{OperandPair}
 use Rattle.mir_func.specs.declared.item.ItemKind.{ItemKind}
 use Rattle.mir_func.specs.declared.item.ItemKind.TheVariants.{Code, Mark, Phi}
 use Rattle.mir_func.specs.Graph.{Fetch, Here, Silent, Outside, below, block_start}
@@ -31,7 +32,7 @@ fetch_end (Here i) p q h = kind_end i.kind p q h
 fetch_end (Silent k m) p q h = inl (m, h)
 fetch_end Outside p q h = absurd h
 
-module _ (sp : Bool) (blocks : List Block) (resolve : ℕ → ℕ → Option (ℕ × ℕ)) where
+module _ (sp : Bool) (blocks : List Block) (resolve : OperandPair → Option OperandPair) where
   abbrev Down : Pos → Type 0
   Down p = ComesDown (program_of sp blocks resolve) p.block p.item
 

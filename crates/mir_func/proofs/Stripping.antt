@@ -1,5 +1,5 @@
 -- A function without its debug items is sound where it was.
-use Rattle.std.proofs.Common.{◌≡◌, ◌⊎◌, ℕ, suc, List, [], ◌∷◌, length, Option, Some, None, refl, sym, ap, subst, ◌∙◌, inl, inr}
+use Rattle.std.proofs.Common.{◌≡◌, ℕ, suc, List, [], ◌∷◌, length, Option, Some, None, refl, sym, ap, subst, ◌∙◌}
 use Rattle.std.specs.Prelude.{All}
 use Rattle.std.specs.List.{cons_option}
 use Rattle.std.proofs.lemmas.List.Elements.{All-nil, All-cons, All-head, All-tail, All-append}
@@ -11,8 +11,11 @@ use Rattle.mir_func.specs.declared.item.ItemKind.TheVariants.{Code, Mark, Phi}
 use Rattle.mir_func.specs.declared.location.Loc.{Loc}
 use Rattle.mir_func.specs.declared.position.Origin.{Origin}
 use Rattle.mir_func.specs.declared.position.Origin.TheVariants.{Kept, Before}
+use Rattle.mir_func.specs.declared.exit.Exit.{Exit}
+use Rattle.mir_func.specs.declared.exit.Exit.TheVariants.{Onward, Perhaps, Always, Final}
+use Rattle.mir_func.specs.Exits.{exit_of, IsAlways, Leaves}
 use Rattle.mir_func.specs.Function.{Function}
-use Rattle.mir_func.specs.Sound.{AreApart, ids_of, items_of, AllItems, TargetsIn, SlotsIn, LeavesPointer, code_number, NumbersOnce, OriginIn, Exit, Onward, Perhaps, Always, Final, exit_of, IsJumpAtMost, MayFollow, EndsWell, Closes, LastCloses, IsSound}
+use Rattle.mir_func.specs.Sound.{AreApart, ids_of, items_of, AllItems, TargetsIn, SlotsIn, ObjectsIn, LeavesPointer, code_number, NumbersOnce, OriginIn, IsJumpAtMost, MayFollow, EndsWell, Closes, LastCloses, IsSound}
 use Rattle.mir_func.specs.Strip.{bare, stripped_items, stripped_block, stripped_blocks, stripped}
 use Rattle.mir_func.proofs.Checks.{at_get}
 
@@ -69,10 +72,10 @@ once_stripped blocks i j x y k e f g d =
 
 -- ---- ends
 
-jump_with : (k : ItemKind) (o : Origin) (l : Loc) → exit_of k ≡ Always → IsJumpAtMost (cons_option (bare k o l) [])
+jump_with : (k : ItemKind) (o : Origin) (l : Loc) → IsAlways (exit_of k) → IsJumpAtMost (cons_option (bare k o l) [])
 jump_with (Code i k) o l e = e
-jump_with (Mark v m) o l e = absurd cc
-jump_with (Phi x k) o l e = absurd cc
+jump_with (Mark v m) o l e = absurd e
+jump_with (Phi x k) o l e = absurd e
 
 jump_stripped : (items : List Item) → IsJumpAtMost items → IsJumpAtMost (stripped_items items)
 jump_stripped [] h = tt
@@ -81,8 +84,8 @@ jump_stripped (j ∷ i ∷ is) h = absurd h
 
 follow_stripped : (x : Exit) (rest : List Item) → MayFollow x rest → MayFollow x (stripped_items rest)
 follow_stripped Onward rest h = tt
-follow_stripped Perhaps rest h = jump_stripped rest h
-follow_stripped Always rest h = ap stripped_items h
+follow_stripped (Perhaps n) rest h = jump_stripped rest h
+follow_stripped (Always n) rest h = ap stripped_items h
 follow_stripped Final rest h = ap stripped_items h
 
 ends_with : (k : ItemKind) (o : Origin) (l : Loc) (rest : List Item) → MayFollow (exit_of k) rest → EndsWell rest → EndsWell (cons_option (bare k o l) rest)
@@ -94,12 +97,10 @@ ends_stripped : (items : List Item) → EndsWell items → EndsWell (stripped_it
 ends_stripped [] h = tt
 ends_stripped (i ∷ is) h = ends_with i.kind i.origin i.loc (stripped_items is) (follow_stripped (exit_of i.kind) is h.0) (ends_stripped is h.1)
 
-closes_alone : (k : ItemKind) (o : Origin) (l : Loc) → (exit_of k ≡ Always) ⊎ (exit_of k ≡ Final) → Closes (cons_option (bare k o l) [])
+closes_alone : (k : ItemKind) (o : Origin) (l : Loc) → Leaves (exit_of k) → Closes (cons_option (bare k o l) [])
 closes_alone (Code i k) o l e = e
-closes_alone (Mark v m) o l (inl e) = absurd cc
-closes_alone (Mark v m) o l (inr e) = absurd cc
-closes_alone (Phi x k) o l (inl e) = absurd cc
-closes_alone (Phi x k) o l (inr e) = absurd cc
+closes_alone (Mark v m) o l e = absurd e
+closes_alone (Phi x k) o l e = absurd e
 
 closes_after : (k : ItemKind) (o : Origin) (l : Loc) (rest : List Item) → Closes rest → Closes (cons_option (bare k o l) rest)
 closes_after (Code i k) o l [] h = absurd h
@@ -123,11 +124,15 @@ stripped_sound f s =
     record {
       blocks_apart = subst (λ (ns : List ℕ). AreApart ns) same s.blocks_apart;
       slots_apart = s.slots_apart;
+      objects_apart = s.objects_apart;
       few_blocks = rw length-stripped s.few_blocks;
       few_slots = s.few_slots;
+      each_object = s.each_object;
+      objects_laid = s.objects_laid;
       targets = subst (λ (ns : List ℕ). AllItems (λ i. TargetsIn ns i.kind) (stripped_blocks f.blocks)) same
           (items_stripped (λ i. TargetsIn (ids_of f.blocks) i.kind) (λ i. TargetsIn (ids_of f.blocks) i.kind) (λ i k o l h. h) f.blocks s.targets);
       slots = items_stripped (λ i. SlotsIn f.slots i.kind) (λ i. SlotsIn f.slots i.kind) (λ i k o l h. h) f.blocks s.slots;
+      objects = items_stripped (λ i. ObjectsIn f.objects i.kind) (λ i. ObjectsIn f.objects i.kind) (λ i k o l h. h) f.blocks s.objects;
       pointer = items_stripped (λ i. LeavesPointer i.kind) (λ i. LeavesPointer i.kind) (λ i k o l h. h) f.blocks s.pointer;
       numbers = once_stripped f.blocks;
       origins = blocks_stripped (λ b. All (λ i. OriginIn b i.origin) b.items) (λ b. All (λ i. OriginIn b i.origin) b.items)

@@ -6,6 +6,7 @@ use Rattle.std.proofs.lemmas.Bool.{eq-eqb, ne_eqb}
 use Rattle.rv64_instr.specs.Row.{Row, Branches, Jumps, Returns, Unfit, row_of}
 use Rattle.mir_func.specs.declared.position.Pos.{Pos}
 use Rattle.mir_func.specs.declared.block.Block.{Block}
+use Rattle.mir_func.specs.declared.entry.OperandPair.{OperandPair}
 use Rattle.mir_func.specs.declared.item.Item.{Item}
 use Rattle.mir_func.specs.declared.item.ItemKind.{ItemKind}
 use Rattle.mir_func.specs.declared.item.ItemKind.TheVariants.{Code, Mark, Phi}
@@ -14,7 +15,7 @@ use Rattle.mir_func.specs.declared.exit.Exit.TheVariants.{Onward, Perhaps, Alway
 use Rattle.mir_func.specs.Sound.{AreApart, ids_of}
 use Rattle.mir_func.specs.Graph.{Fetch, Here, Silent, Outside, below, block_start}
 use Rattle.mir_func.specs.Graph.{end_of, front, fetch_in, from_block, program_of, RowEdge, KindEdge, FetchEdge}
-use Rattle.mir_func.specs.Exits.{row_leaving, leaving}
+use Rattle.mir_func.specs.Exits.{row_exit, exit_of}
 use Rattle.mir_func.specs.Successors.{pos_in, GoesTo, ways_from, ways}
 
 -- ---- edges down and out
@@ -37,14 +38,14 @@ Stays n = n
 not_start : (p : Pos) (n : ℕ) → below p ≡ block_start n → ⊥
 not_start p n e = let k : p.item + 1 ≡ 0 = ap (λ (q : Pos). q.item) e in omega arith
 
-row_down : (r : Row) (p : Pos) → RowEdge Stays r p (below p) ↔ IsDown (row_leaving r)
+row_down : (r : Row) (p : Pos) → RowEdge Stays r p (below p) ↔ IsDown (row_exit r)
 row_down (Branches op a b t) p = (λ h. tt, λ h. inr refl)
 row_down (Jumps t) p = (λ h. not_start p t h, λ h. absurd h)
 row_down (Returns v) p = (λ h. h, λ h. h)
 row_down Unfit p = (λ h. h, λ h. h)
 row_down r p = (λ h. tt, λ h. refl)
 
-row_out : (r : Row) (p : Pos) (n : ℕ) → RowEdge Stays r p (block_start n) ↔ IsOut (row_leaving r) n
+row_out : (r : Row) (p : Pos) (n : ℕ) → RowEdge Stays r p (block_start n) ↔ IsOut (row_exit r) n
 row_out (Branches op a b t) p n =
     (λ h. elim h [ inl e ↦ sym (ap (λ (q : Pos). q.block) e) | inr e ↦ absurd (not_start p n (sym e)) ], λ e. inl (ap block_start (sym e)))
 row_out (Jumps t) p n = (λ e. sym (ap (λ (q : Pos). q.block) e), λ e. ap block_start (sym e))
@@ -52,23 +53,23 @@ row_out (Returns v) p n = (λ h. h, λ h. h)
 row_out Unfit p n = (λ h. h, λ h. h)
 row_out r p n = (λ e. not_start p n (sym e), λ h. absurd h)
 
-kind_down : (k : ItemKind) (p : Pos) → KindEdge Stays k p (below p) ↔ IsDown (leaving k)
+kind_down : (k : ItemKind) (p : Pos) → KindEdge Stays k p (below p) ↔ IsDown (exit_of k)
 kind_down (Code i k) p = row_down (row_of i) p
 kind_down (Mark v m) p = (λ h. tt, λ h. refl)
 kind_down (Phi x k) p = (λ h. tt, λ h. refl)
 
-kind_out : (k : ItemKind) (p : Pos) (n : ℕ) → KindEdge Stays k p (block_start n) ↔ IsOut (leaving k) n
+kind_out : (k : ItemKind) (p : Pos) (n : ℕ) → KindEdge Stays k p (block_start n) ↔ IsOut (exit_of k) n
 kind_out (Code i k) p n = row_out (row_of i) p n
 kind_out (Mark v m) p n = (λ e. not_start p n (sym e), λ h. absurd h)
 kind_out (Phi x k) p n = (λ e. not_start p n (sym e), λ h. absurd h)
 
 abbrev pub DownAt : Fetch → Type 0
-DownAt (Here i) = IsDown (leaving i.kind)
+DownAt (Here i) = IsDown (exit_of i.kind)
 DownAt (Silent k m) = ⊥
 DownAt Outside = ⊥
 
 abbrev pub OutAt : Fetch → ℕ → Type 0
-OutAt (Here i) n = IsOut (leaving i.kind) n
+OutAt (Here i) n = IsOut (exit_of i.kind) n
 OutAt (Silent k m) n = m ≡ n
 OutAt Outside n = ⊥
 
@@ -137,11 +138,11 @@ way_back Final n rest h = absurd (contains_none n h)
 way_from : (items : List Item) (s : ℕ) (bs : List Block) (n : ℕ) → Goes items s bs n → Contains (ways items (head_id bs)) n
 way_from [] s bs n (zero, down, out) = end_from s bs n out
 way_from [] s bs n (suc k, down, out) = end_from s bs n out
-way_from (i ∷ is) s bs n (zero, down, out) = out_way (leaving i.kind) n (ways is (head_id bs)) out
+way_from (i ∷ is) s bs n (zero, down, out) = out_way (exit_of i.kind) n (ways is (head_id bs)) out
 way_from (i ∷ is) s bs n (suc k, down, out) =
-    down_way (leaving i.kind) n (ways is (head_id bs)) (down zero (omega arith)) (way_from is s bs n (k, λ j l. down (suc j) (omega arith), out))
+    down_way (exit_of i.kind) n (ways is (head_id bs)) (down zero (omega arith)) (way_from is s bs n (k, λ j l. down (suc j) (omega arith), out))
 
-past : (i : Item) (is : List Item) (s : ℕ) (bs : List Block) (n : ℕ) → IsDown (leaving i.kind) → Goes is s bs n → Goes (i ∷ is) s bs n
+past : (i : Item) (is : List Item) (s : ℕ) (bs : List Block) (n : ℕ) → IsDown (exit_of i.kind) → Goes is s bs n → Goes (i ∷ is) s bs n
 past i is s bs n d (k, down, out) = (suc k, each, out) where
   each : (j : ℕ) → j < suc k → DownAt (at_index (i ∷ is) s bs j)
   each zero l = d
@@ -149,7 +150,7 @@ past i is s bs n d (k, down, out) = (suc k, each, out) where
 
 way_to : (items : List Item) (s : ℕ) (bs : List Block) (n : ℕ) → Contains (ways items (head_id bs)) n → Goes items s bs n
 way_to [] s bs n h = (zero, λ j l. absurd (omega arith), end_to s bs n h)
-way_to (i ∷ is) s bs n h = elim (way_back (leaving i.kind) n (ways is (head_id bs)) h) [
+way_to (i ∷ is) s bs n h = elim (way_back (exit_of i.kind) n (ways is (head_id bs)) h) [
   | inl o ↦ (zero, λ j l. absurd (omega arith), o)
   | inr (d, c) ↦ past i is s bs n d (way_to is s bs n c)
 ]
@@ -179,7 +180,7 @@ head_id-drop [] (suc i) = refl
 head_id-drop (b ∷ bs) zero = refl
 head_id-drop (b ∷ bs) (suc i) = head_id-drop bs i
 
-module _ (sp : Bool) (blocks : List Block) (resolve : ℕ → ℕ → Option (ℕ × ℕ)) (i : ℕ) (b : Block) (found : from_block blocks b.id ≡ b ∷ drop (suc i) blocks) where
+module _ (sp : Bool) (blocks : List Block) (resolve : OperandPair → Option OperandPair) (i : ℕ) (b : Block) (found : from_block blocks b.id ≡ b ∷ drop (suc i) blocks) where
   fetched : (k : ℕ) → fetch_in (from_block blocks b.id) k ≡ at_index b.items b.silent (drop (suc i) blocks) k
   fetched k = ap (λ (bs : List Block). fetch_in bs k) found
 
@@ -199,7 +200,7 @@ module _ (sp : Bool) (blocks : List Block) (resolve : ℕ → ℕ → Option (�
 
 -- the ways from a block's items are the blocks to which control may go from it
 ways_are : (blocks : List Block) (i : ℕ) (b : Block) → AreApart (ids_of blocks) → slice_get blocks i ≡ Some b →
-    (sp : Bool) (resolve : ℕ → ℕ → Option (ℕ × ℕ)) (n : ℕ) → Contains (ways b.items (slice_get (ids_of blocks) (suc i))) n ↔ GoesTo (program_of sp blocks resolve) b.id n
+    (sp : Bool) (resolve : OperandPair → Option OperandPair) (n : ℕ) → Contains (ways b.items (slice_get (ids_of blocks) (suc i))) n ↔ GoesTo (program_of sp blocks resolve) b.id n
 ways_are blocks i b apart e sp resolve n =
     let found = from_block-at blocks i b apart e in
     let next = head_id-drop blocks (suc i) in (
@@ -220,7 +221,7 @@ id_at (m ∷ ns) (suc i) n e = id_at ns i n e
 -- the same of the numbers that were found by index
 pub block_ways : (blocks : List Block) (i : ℕ) (b : Block) (next : Option ℕ) (ns : List ℕ) → AreApart (ids_of blocks) → i < length blocks → b ≡ get_or blocks i b →
     next ≡ slice_get (ids_of blocks) (i + 1) → ns ≡ ways b.items next →
-    (sp : Bool) (resolve : ℕ → ℕ → Option (ℕ × ℕ)) (n : ℕ) → Contains ns n ↔ GoesTo (program_of sp blocks resolve) (get_or (ids_of blocks) i 0) n
+    (sp : Bool) (resolve : OperandPair → Option OperandPair) (n : ℕ) → Contains ns n ↔ GoesTo (program_of sp blocks resolve) (get_or (ids_of blocks) i 0) n
 block_ways blocks i b next ns apart l e after w sp resolve n =
     let stands = get_at blocks i b l e in
     let one : i + 1 ≡ suc i = omega arith in

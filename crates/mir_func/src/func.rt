@@ -1,8 +1,7 @@
 //! Functions between reading and their frame.
 
-ghost use Rattle.std.specs.Prelude.{◌≡◌, IfOk, IsErrOf};
+ghost use Rattle.std.specs.Prelude.{◌≡◌, IfOk};
 ghost use Rattle.mir_func.specs.Sound.{IsSound};
-ghost use Rattle.mir_func.specs.declared.func.FuncError.TheVariants.{Memory};
 
 use crate::block::{Blocks, copy_blocks};
 use crate::object::Objects;

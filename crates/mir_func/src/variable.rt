@@ -35,7 +35,11 @@ impl Fragment {
         ensures none { IsNone result ↔ (IsPart (record { offset = offset; length = length }) → ⊥) }
         ensures value { IfSome result (λ f. f ≡ record { offset = offset; length = length }) }
     {
-        if length == 0 || MAX_PART < length || MAX_PART_END < offset || MAX_PART_END - offset < length {
+        if length == 0
+            || MAX_PART < length
+            || MAX_PART_END < offset
+            || MAX_PART_END - offset < length
+        {
             return None;
         }
         Some(Fragment { offset, length })
