@@ -2,6 +2,7 @@
 use Rattle.std.proofs.Common.{◌≡◌, ℕ, List, Option, Some, None, true, refl, inl, inr}
 use Rattle.std.specs.Prelude.{◌⊎◌}
 use Rattle.rv64_instr.specs.declared.place.Place.{Place}
+use Rattle.mir_func.specs.declared.entry.OperandPair.{OperandPair}
 use Rattle.mir_func.specs.declared.variable.VarId.{VarId}
 use Rattle.mir_func.specs.declared.block.Block.{Block}
 use Rattle.mir_meaning.specs.State.{State}
@@ -18,7 +19,7 @@ from_line : (image : Image) (m u : Machine) (o : Option CodeLine) → does_at im
 from_line image m u None e = absurd (cc)
 from_line image m u (Some l) e = (l, refl)
 
-module _ (lists : VarId → (address : ℕ) → Place → Type 0) (blocks : List Block) (resolve : ℕ → ℕ → Option (ℕ × ℕ)) (image : Image) (headline : Headline blocks resolve image lists)
+module _ (lists : VarId → (address : ℕ) → Place → Type 0) (blocks : List Block) (resolve : OperandPair → Option OperandPair) (image : Image) (headline : Headline blocks resolve image lists)
     (s0 : State) (start : IsStart (first_of blocks) s0) where
   abbrev Told : Machine → Type 0
   Told m = HasCome (program_of true blocks resolve) image (machine_start image s0) s0 m ⊎ HasFailed (program_of true blocks resolve) image (machine_start image s0) s0

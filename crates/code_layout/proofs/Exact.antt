@@ -3,14 +3,14 @@ use Rattle.std.proofs.Common.{◌≡◌, ℕ, zero, suc, ◌+◌, List, [], ◌�
 use Rattle.std.specs.Prelude.{◌↔◌, slice_get}
 use Rattle.rv64_instr.specs.declared.place.Place.{Place}
 use Rattle.rv64_instr.specs.Row.{Row, Fixes, Moves, Sets, row_of}
+use Rattle.mir_func.specs.declared.entry.OperandPair.{OperandPair}
 use Rattle.mir_func.specs.declared.position.Pos.{Pos}
 use Rattle.mir_func.specs.declared.variable.VarId.{VarId}
 use Rattle.mir_func.specs.declared.block.Block.{Block}
 use Rattle.mir_func.specs.declared.item.Item.{Item}
 use Rattle.mir_func.specs.declared.item.ItemKind.{ItemKind}
 use Rattle.mir_func.specs.declared.item.ItemKind.TheVariants.{Code}
-use Rattle.mir_func.specs.Graph.{Fetch, Here, Silent, Program, below, block_start}
-use Rattle.mir_func.specs.Graph.{front, framed_program, Edge, RowEdge, KindEdge, FetchEdge}
+use Rattle.mir_func.specs.Graph.{Fetch, Here, Silent, Program, below, block_start, front, framed_program, Edge, RowEdge, KindEdge, FetchEdge}
 use Rattle.mir_meaning.specs.Align.{is_code}
 use Rattle.mir_meaning.specs.Token.{Tokens, after_item, after_fetch, entry_tokens, variable_token, place_token, Path, begin, onward, SitsIn, IsWanted, NoneIsWanted}
 use Rattle.code_layout.specs.Straight.{IsPlainRow, IsStraight, returns, goes_on, marks, Holds}
@@ -25,7 +25,7 @@ plain_edge enter (Moves rd rs) p q h e = e
 plain_edge enter (Sets rd op a b) p q h e = e
 plain_edge enter _ p q h e = absurd h
 
-module _ (prologue block : Block) (resolve : ℕ → ℕ → Option (ℕ × ℕ)) where
+module _ (prologue block : Block) (resolve : OperandPair → Option OperandPair) where
   abbrev g : Program
   g = framed_program (prologue ∷ block ∷ []) resolve
 

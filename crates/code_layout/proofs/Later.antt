@@ -6,14 +6,17 @@ use Rattle.rv64_instr.specs.declared.place.Place.{Place}
 use Rattle.rv64_instr.specs.declared.place.Place.TheVariants.{Register, Slot, Const}
 use Rattle.rv64_instr.specs.Access.{caller_saved}
 use Rattle.rv64_instr.specs.Row.{Row, Fixes, Moves, Sets, Loads, LoadsSlot, StoresSlot, Calls, row_of}
+use Rattle.mir_func.specs.declared.entry.OperandPair.{OperandPair}
 use Rattle.mir_func.specs.declared.variable.VarId.{VarId}
 use Rattle.mir_func.specs.declared.variable.MarkValue.{MarkValue}
 use Rattle.mir_func.specs.declared.variable.MarkValue.TheVariants.{Nothing, Constant, At, Pair}
 use Rattle.mir_func.specs.declared.item.Item.{Item}
 use Rattle.mir_func.specs.declared.item.ItemKind.{ItemKind}
 use Rattle.mir_func.specs.declared.item.ItemKind.TheVariants.{Code, Mark, Phi}
-use Rattle.mir_meaning.specs.State.{updated, assigned, is_same}
-use Rattle.mir_meaning.specs.Step.{is_call, defined}
+use Rattle.mir_meaning.specs.State.{updated, assigned}
+use Rattle.mir_func.specs.Variables.{is_same}
+use Rattle.mir_meaning.specs.Step.{defined}
+use Rattle.rv64_instr.specs.Parts.{is_call}
 use Rattle.mir_meaning.specs.Align.{is_code}
 use Rattle.mir_meaning.specs.Token.{Token, Entry, Made, Fixed, Tokens, register_token, put_token, make_all, moved_tokens, sets_pointer, code_tokens, given_token, numbered_tokens, place_token, pair_token, mark_token, after_item, entry_tokens, variable_token}
 use Rattle.code_layout.specs.Straight.{Holds}
@@ -112,13 +115,13 @@ pair_later : (q : Option (ℕ × ℕ)) (t : Tokens) → pair_token q (later_toke
 pair_later None t = refl
 pair_later (Some q) t = refl
 
-mark_later : (resolve : ℕ → ℕ → Option (ℕ × ℕ)) (m : MarkValue) (t : Tokens) → mark_token resolve m (later_tokens t) ≡ laters (mark_token resolve m t)
+mark_later : (resolve : OperandPair → Option OperandPair) (m : MarkValue) (t : Tokens) → mark_token resolve m (later_tokens t) ≡ laters (mark_token resolve m t)
 mark_later resolve Nothing t = refl
 mark_later resolve (Constant c) t = refl
 mark_later resolve (At r) t = register_later t.regs r
 mark_later resolve (Pair k o) t = pair_later (resolve k o) t
 
-item_later : (resolve : ℕ → ℕ → Option (ℕ × ℕ)) (n : ℕ) (kind : ItemKind) (t : Tokens) → after_item resolve (suc n) kind (later_tokens t) ≡ later_tokens (after_item resolve n kind t)
+item_later : (resolve : OperandPair → Option OperandPair) (n : ℕ) (kind : ItemKind) (t : Tokens) → after_item resolve (suc n) kind (later_tokens t) ≡ later_tokens (after_item resolve n kind t)
 item_later resolve n (Code i k) t =
     ap (numbered_tokens (is_call (row_of i)) k i.operands) (code_later n (row_of i) t) ∙ numbered_later (is_call (row_of i)) k i.operands (code_tokens n (row_of i) t)
 item_later resolve n (Mark v m) t = ap (λ (x : Option Token). record (later_tokens t) { marks = (v, x) ∷ later_marks t.marks }) (mark_later resolve m t)
@@ -182,7 +185,7 @@ first_later v t p = (
   λ f. record { named = f.named; holds = holds_before v t p f.holds; first = λ other named precedes h. f.first other named precedes (holds_later v t other h) },
 )
 
-module _ (lists : VarId → (address : ℕ) → Place → Type 0) (resolve : ℕ → ℕ → Option (ℕ × ℕ)) where
+module _ (lists : VarId → (address : ℕ) → Place → Type 0) (resolve : OperandPair → Option OperandPair) where
   at_later : (a : ℕ) (t : Tokens) → GiveFirstAt lists a t → GiveFirstAt lists a (later_tokens t)
   at_later a t is = record {
     gives = λ v p. let both = is.gives v p in let moved = first_later v t p in (λ g. moved.0 (both.0 g), λ f. both.1 (moved.1 f));

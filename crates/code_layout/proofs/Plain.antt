@@ -4,7 +4,9 @@ use Rattle.std.specs.Prelude.{IsSome, is_some, ◌&&◌}
 use Rattle.std.proofs.lemmas.List.Elements.{All-head, All-tail}
 use Rattle.rv64_instr.specs.declared.operand.Operand.{Operand}
 use Rattle.rv64_instr.specs.Arithmetic.{computed}
-use Rattle.rv64_instr.specs.Row.{Input, Content, Number, Row, Fixes, Moves, Sets, Returns}
+use Rattle.rv64_instr.specs.Row.{Row, Fixes, Moves, Sets, Returns}
+use Rattle.rv64_instr.specs.declared.decoded.Input.{Input}
+use Rattle.rv64_instr.specs.declared.decoded.Input.TheVariants.{Content, Number}
 use Rattle.rv64_instr.specs.Access.{input_reads}
 use Rattle.mir_meaning.specs.State.{Core, content, put}
 use Rattle.mir_meaning.specs.Step.{Outcome, Falls, Gives, Traps, act, does, read, or_zero, input_value, are_written, numbered}

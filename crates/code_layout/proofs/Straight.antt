@@ -7,6 +7,7 @@ use Rattle.std.proofs.lemmas.List.{drop-drop}
 use Rattle.rv64_instr.specs.Instruction.{Instruction}
 use Rattle.rv64_instr.specs.declared.place.Place.{Place}
 use Rattle.rv64_instr.specs.Row.{Row, Returns, implicit_uses, row_of}
+use Rattle.mir_func.specs.declared.entry.OperandPair.{OperandPair}
 use Rattle.mir_func.specs.declared.position.Pos.{Pos}
 use Rattle.mir_func.specs.declared.variable.VarId.{VarId}
 use Rattle.mir_func.specs.declared.variable.MarkValue.{MarkValue}
@@ -15,10 +16,10 @@ use Rattle.mir_func.specs.declared.item.Item.{Item}
 use Rattle.mir_func.specs.declared.item.ItemKind.{ItemKind}
 use Rattle.mir_func.specs.declared.item.ItemKind.TheVariants.{Code, Mark}
 use Rattle.mir_meaning.specs.State.{Core, State}
-use Rattle.mir_meaning.specs.Step.{Outcome, Falls, Gives, Went, Returned, act, read, or_zero, is_call, numbered, with_core, mark_value, do_item, step}
-use Rattle.mir_func.specs.Graph.{Fetch, Here, Program, below}
+use Rattle.mir_meaning.specs.Step.{Outcome, Falls, Gives, Went, Returned, act, read, or_zero, numbered, with_core, mark_value, do_item, step}
+use Rattle.rv64_instr.specs.Parts.{is_call}
+use Rattle.mir_func.specs.Graph.{Fetch, Here, Program, below, front, fetch_in, program_of}
 use Rattle.mir_meaning.specs.Step as source
-use Rattle.mir_func.specs.Graph.{front, fetch_in, program_of}
 use Rattle.mir_meaning.specs.Follow.{IsStart}
 use Rattle.mir_meaning.specs.Align.{is_code, waits_at, since_of, Since, Start, Same, After, First, Arrives, here, onward, Aligns, Tells}
 use Rattle.mir_meaning.specs.Token.{Tokens, after_item, after_fetch, entry_tokens}
@@ -41,7 +42,7 @@ use Rattle.code_layout.proofs.Plain.{Holding, sets_alike, holding_set, holding_n
 drop_more : (xs : List ℕ) (a k : ℕ) → drop (a + k) xs ≡ drop k (drop a xs)
 drop_more xs a k = sym (drop-drop k a xs)
 
-module _ (block : Block) (resolve : ℕ → ℕ → Option (ℕ × ℕ)) (image : Image) (lists : VarId → (address : ℕ) → Place → Type 0) (s0 : State) where
+module _ (block : Block) (resolve : OperandPair → Option OperandPair) (image : Image) (lists : VarId → (address : ℕ) → Place → Type 0) (s0 : State) where
   abbrev src : Program
   src = program_of true (block ∷ []) resolve
 
@@ -452,7 +453,7 @@ module _ (block : Block) (resolve : ℕ → ℕ → Option (ℕ × ℕ)) (image 
     agrees_along m s since l along line = let (x, aligns) = met_at m s since l along line in (x.state, aligns, agrees_there m s since x)
 
 -- lists that give nothing
-none_given : (resolve : ℕ → ℕ → Option (ℕ × ℕ)) (n a : ℕ) (t : Tokens) (items : List Item) → GiveHeld (λ v a p. ⊥) resolve n a t items
+none_given : (resolve : OperandPair → Option OperandPair) (n a : ℕ) (t : Tokens) (items : List Item) → GiveHeld (λ v a p. ⊥) resolve n a t items
 none_given resolve n a t [] = tt
 none_given resolve n a t (i ∷ items) = (none_at (is_code i.kind), none_given resolve (suc n) _ _ items)
   where

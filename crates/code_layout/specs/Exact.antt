@@ -1,12 +1,12 @@
 -- Exact lists: they give the wanted place, and none exactly where none is wanted.
 use Rattle.std.specs.Prelude.{◌≡◌, ◌↔◌, ℕ, zero, suc, ◌+◌, Bool, true, false, cond, List, [], ◌∷◌, Option, Some, slice_get}
 use Rattle.rv64_instr.specs.declared.place.Place.{Place}
+use Rattle.mir_func.specs.declared.entry.OperandPair.{OperandPair}
 use Rattle.mir_func.specs.declared.position.Pos.{Pos}
 use Rattle.mir_func.specs.declared.variable.VarId.{VarId}
 use Rattle.mir_func.specs.declared.block.Block.{Block}
 use Rattle.mir_func.specs.declared.item.Item.{Item}
-use Rattle.mir_func.specs.Graph.{Program, block_start}
-use Rattle.mir_func.specs.Graph.{framed_program}
+use Rattle.mir_func.specs.Graph.{Program, block_start, framed_program}
 use Rattle.mir_meaning.specs.Align.{is_code}
 use Rattle.mir_meaning.specs.Token.{Tokens, after_item, entry_tokens, IsPlace, Precedes, IsWanted, NoneIsWanted}
 use Rattle.code_layout.specs.Straight.{Holds, IsStraight}
@@ -33,7 +33,7 @@ GiveFirstIf true lists a t = GiveFirstAt lists a t
 GiveFirstIf false lists a t = Unit {0}
 
 -- they do so at each code item of a list, whose first index, address and tokens are these
-abbrev pub GiveFirst : (lists : VarId → (address : ℕ) → Place → Type 0) → (ℕ → ℕ → Option (ℕ × ℕ)) → (index address : ℕ) → Tokens → List Item → Type 0
+abbrev pub GiveFirst : (lists : VarId → (address : ℕ) → Place → Type 0) → (OperandPair → Option OperandPair) → (index address : ℕ) → Tokens → List Item → Type 0
 GiveFirst lists resolve n a t [] = Unit {0}
 GiveFirst lists resolve n a t (i ∷ items) = GiveFirstIf (is_code i.kind) lists a t
     × GiveFirst lists resolve (suc n) (cond (is_code i.kind) (a + 4) a) (after_item resolve n i.kind t) items
@@ -56,5 +56,5 @@ pub record IsPointOf (index : ℕ) (items : List Item) (a : ℕ) (p : Pos) : Typ
 -- Lists of straight-line code that give the first places by the walk's tokens are exact over all paths of the function that has an
 -- empty prologue before it.
 abbrev pub StraightListsAreExact : (VarId → (address : ℕ) → Place → Type 0) → Type 0
-StraightListsAreExact lists = (prologue block : Block) (resolve : ℕ → ℕ → Option (ℕ × ℕ)) (words : List ℕ) → prologue.items ≡ [] → IsStraight block.id 0 block.items words →
+StraightListsAreExact lists = (prologue block : Block) (resolve : OperandPair → Option OperandPair) (words : List ℕ) → prologue.items ≡ [] → IsStraight block.id 0 block.items words →
     GiveFirst lists resolve 0 0 entry_tokens block.items → AreExact (framed_program (prologue ∷ block ∷ []) resolve) (block_start 0) (IsPointOf 1 block.items) lists

@@ -1,12 +1,12 @@
 -- What location lists promise of a machine's run: the sentence that the compiler's top call states.
 use Rattle.std.specs.Prelude.{◌≡◌, ◌⊎◌, ℕ, List, Option, Some, false, true}
 use Rattle.rv64_instr.specs.declared.place.Place.{Place}
+use Rattle.mir_func.specs.declared.entry.OperandPair.{OperandPair}
 use Rattle.mir_func.specs.declared.variable.VarId.{VarId}
 use Rattle.mir_func.specs.declared.block.Block.{Block}
 use Rattle.mir_meaning.specs.State.{State}
 use Rattle.mir_meaning.specs.Step.{Returned, step}
-use Rattle.mir_func.specs.Graph.{Program}
-use Rattle.mir_func.specs.Graph.{program_of}
+use Rattle.mir_func.specs.Graph.{Program, program_of}
 use Rattle.mir_meaning.specs.Follow.{first_of, IsStart}
 use Rattle.mir_meaning.specs.Align.{position_of, waits_at, since_of, Since, Start, First, Aligns, FailsBefore, Tells}
 use Rattle.code_layout.specs.Image.{CodeLine, Image, line_at}
@@ -37,7 +37,7 @@ pub record MachineAgrees (src : Program) (image : Image) (lists : VarId → ℕ 
   pub places : (v : VarId) (place : Place) → lists v m.counter place → Tells s v (place_content place m)
 
 -- the headline, of a source, its image and its lists: from every start, for every script and number of machine steps
-pub record Headline (blocks : List Block) (resolve : ℕ → ℕ → Option (ℕ × ℕ)) (image : Image) (lists : VarId → ℕ → Place → Type 0) : Type 0 where
+pub record Headline (blocks : List Block) (resolve : OperandPair → Option OperandPair) (image : Image) (lists : VarId → ℕ → Place → Type 0) : Type 0 where
   -- at each line that the machine comes to, the source comes to the line's origin and both agree, unless the source stops on a
   -- frame fault before it
   pub agrees : (s0 : State) → IsStart (first_of blocks) s0 → (m : Machine) (s : State) (since : Since) (l : CodeLine) →

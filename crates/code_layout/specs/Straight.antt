@@ -4,10 +4,13 @@ use Rattle.std.specs.List.{flat_map}
 use Rattle.std.specs.Int.{w32, to_le_bytes}
 use Rattle.rv64_instr.specs.Instruction.{Instruction}
 use Rattle.rv64_instr.specs.declared.place.Place.{Place}
-use Rattle.rv64_instr.specs.Row.{Input, Content, Number, Row, Fixes, Moves, Sets, Returns, implicit_uses, row_of}
+use Rattle.rv64_instr.specs.Row.{Row, Fixes, Moves, Sets, Returns, implicit_uses, row_of}
+use Rattle.rv64_instr.specs.declared.decoded.Input.{Input}
+use Rattle.rv64_instr.specs.declared.decoded.Input.TheVariants.{Content, Number}
 use Rattle.rv64_word.specs.declared.machine_op.MachineOp.{MachineOp}
 use Rattle.rv64_word.specs.MachineOp.{is_encodable, word_of}
 use Rattle.rv64_word.specs.MachineRow.{Does, machine_row}
+use Rattle.mir_func.specs.declared.entry.OperandPair.{OperandPair}
 use Rattle.mir_func.specs.declared.position.Origin.{Origin}
 use Rattle.mir_func.specs.declared.position.Origin.TheVariants.{Kept}
 use Rattle.mir_func.specs.declared.variable.VarId.{VarId}
@@ -80,7 +83,7 @@ GiveHeldAt lists false a t = Unit {0}
 
 -- at the address of each code item the lists give no place but such as hold the variable's value there. The items' first
 -- index, address and tokens are these
-abbrev pub GiveHeld : (lists : VarId → (address : ℕ) → Place → Type 0) → (ℕ → ℕ → Option (ℕ × ℕ)) → (index address : ℕ) → Tokens → List Item → Type 0
+abbrev pub GiveHeld : (lists : VarId → (address : ℕ) → Place → Type 0) → (OperandPair → Option OperandPair) → (index address : ℕ) → Tokens → List Item → Type 0
 GiveHeld lists resolve n a t [] = Unit {0}
 GiveHeld lists resolve n a t (i ∷ items) = GiveHeldAt lists (is_code i.kind) a t
     × GiveHeld lists resolve (suc n) (cond (is_code i.kind) (a + 4) a) (after_item resolve n i.kind t) items

@@ -7,7 +7,7 @@ use Rattle.std.proofs.lemmas.List.{append-nil, take_more, length-take}
 use Rattle.std.proofs.lemmas.List.Elements.{All-nil, All-cons}
 use Rattle.std.proofs.lemmas.Map.Keys.{IsDistinct-head, IsDistinct-tail}
 use Rattle.std.proofs.lemmas.Map.Made.{IsDistinct-from_AllPairs}
-use Rattle.rv64_instr.specs.declared.op.Op.TheVariants.{Addi}
+use Rattle.rv64_instr.specs.declared.op.ImmediateOp.TheVariants.{Addi}
 use Rattle.rv64_instr.specs.declared.operand.Operand.TheVariants.{Def, Use, ImplicitUse, Imm}
 use Rattle.rv64_instr.specs.Arithmetic.{word}
 use Rattle.rv64_instr.specs.Row.{immediate_row}
@@ -16,7 +16,10 @@ use Rattle.mir_func.specs.declared.item.Item.{Item}
 use Rattle.mir_func.specs.declared.item.ItemKind.{ItemKind}
 use Rattle.mir_func.specs.declared.item.ItemKind.TheVariants.{Code, Mark, Phi}
 use Rattle.mir_func.specs.Function.{Function}
-use Rattle.mir_func.specs.Sound.{AreApart, IsSound, TargetIn, TargetsIn, SlotIn, SlotsIn, IsNotPointer, LeavesPointer, number_of, code_number, NumbersOnce, OriginIn, Exit, Onward, Final, row_exit, exit_of, MayFollow, EndsWell, Closes}
+use Rattle.mir_func.specs.Sound.{AreApart, IsSound, TargetIn, TargetsIn, SlotIn, SlotsIn, IsNotPointer, LeavesPointer, number_of, code_number, NumbersOnce, OriginIn, MayFollow, EndsWell, Closes}
+use Rattle.mir_func.specs.declared.exit.Exit.{Exit}
+use Rattle.mir_func.specs.declared.exit.Exit.TheVariants.{Onward, Final}
+use Rattle.mir_func.specs.Exits.{row_exit, exit_of}
 use Rattle.first_form.specs.declared.line.Line.{Line}
 use Rattle.first_form.specs.declared.line.Statement.{Statement}
 use Rattle.first_form.specs.declared.line.Statement.TheVariants.{AddImmediate, Add, Value, Reference, Return}

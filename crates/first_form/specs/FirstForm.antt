@@ -3,7 +3,9 @@ use Rattle.std.specs.Prelude.{◌≡◌, ◌≢◌, ℕ, ℤ, pos, negsuc, zero,
 use Rattle.std.specs.List.{filter_map, list_all, AllPairs}
 use Rattle.std.specs.Ordering.{int_eq}
 use Rattle.std.specs.Set.{distinct_count}
-use Rattle.rv64_instr.specs.declared.op.Op.TheVariants.{Addi, Add as Sum, PseudoRet}
+use Rattle.rv64_instr.specs.declared.op.Op.TheVariants.{PseudoRet}
+use Rattle.rv64_instr.specs.declared.op.ImmediateOp.TheVariants.{Addi}
+use Rattle.rv64_instr.specs.declared.op.RegisterOp.TheVariants.{Add as Sum}
 use Rattle.rv64_instr.specs.declared.operand.Operand.{Operand}
 use Rattle.rv64_instr.specs.declared.operand.Operand.TheVariants.{Def, Use, ImplicitUse, Imm}
 use Rattle.mir_func.specs.declared.location.Loc.{Loc}

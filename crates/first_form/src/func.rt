@@ -1,7 +1,9 @@
 ghost use Rattle.std.specs.Prelude.{◌≡◌, ◌<◌, ◌≤◌, true, length, [], ◌∷◌, IfOk};
 ghost use Rattle.std.specs.List.{list_all};
 ghost use Rattle.rv64_instr.specs.Instruction.{Instruction};
-ghost use Rattle.rv64_instr.specs.declared.op.Op.TheVariants.{Addi, Add, PseudoRet};
+ghost use Rattle.rv64_instr.specs.declared.op.Op.TheVariants.{PseudoRet};
+ghost use Rattle.rv64_instr.specs.declared.op.ImmediateOp.TheVariants.{Addi};
+ghost use Rattle.rv64_instr.specs.declared.op.RegisterOp.TheVariants.{Add};
 ghost use Rattle.rv64_instr.specs.declared.operand.Operand.TheVariants.{Def, Use, Imm};
 ghost use Rattle.first_form.specs.FirstForm.{is_immediate, is_result_or_none, is_allowed, variable_of, value_of, result_operands, kind_of, loc_of, item_of, items_from, function_of, AreFirst};
 

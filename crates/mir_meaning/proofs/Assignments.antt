@@ -2,7 +2,8 @@
 use Rattle.std.proofs.Common.{◌≡◌, ℕ, List, ◌∷◌, Option, Some, None, Bool, true, false, refl, ap, nat_eq, eq-eqb, eqb-true}
 use Rattle.std.proofs.lemmas.Bool.{and_parts, and_from}
 use Rattle.mir_func.specs.declared.variable.VarId.{VarId}
-use Rattle.mir_meaning.specs.State.{assigned, is_same, is_same_node}
+use Rattle.mir_meaning.specs.State.{assigned}
+use Rattle.mir_func.specs.Variables.{is_same, is_same_node}
 
 same_node_refl : (m : Option ℕ) → is_same_node m m ≡ true
 same_node_refl None = refl

@@ -7,9 +7,9 @@ use Rattle.rv64_instr.specs.Row.{Row, Fixes, Moves, Sets, Loads, Stores, LoadsSl
 use Rattle.rv64_instr.specs.Arithmetic.{taken, width_of, extended}
 use Rattle.rv64_instr.specs.Access.{reads, caller_saved}
 use Rattle.mir_meaning.specs.State.{State, Core, Reply, Called, spelled, put_all, written, low_bytes, touches_frame, writes_frame, updated}
-use Rattle.mir_meaning.specs.Step.{Went, Outcome, Falls, Goes, Gives, Traps, Asks, Breaks, moved, read, set_register, saved, answered, slot_loaded, does, act, are_written, is_call, numbered, with_core, mark_value, place_value, do_item, do_fetch, step}
-use Rattle.mir_func.specs.Graph.{Program, Fetch, Here, Silent, Outside, below, block_start}
-use Rattle.mir_func.specs.Graph.{Edge, FetchEdge, KindEdge, RowEdge, Leads, stay, go}
+use Rattle.mir_meaning.specs.Step.{Went, Outcome, Falls, Goes, Gives, Traps, Asks, Breaks, moved, read, set_register, saved, answered, slot_loaded, does, act, are_written, numbered, with_core, mark_value, place_value, do_item, do_fetch, step}
+use Rattle.rv64_instr.specs.Parts.{is_call}
+use Rattle.mir_func.specs.Graph.{Program, Fetch, Here, Silent, Outside, below, block_start, Edge, FetchEdge, KindEdge, RowEdge, Leads, stay, go}
 
 -- where an outcome leads, an edge of the row leads too
 abbrev pub Allows : (ℕ → ℕ) → Row → Pos → Outcome → Type 0

@@ -6,7 +6,8 @@ use Rattle.rv64_instr.specs.declared.op.Op.{Op}
 use Rattle.rv64_instr.specs.declared.place.Place.{Place}
 use Rattle.rv64_instr.specs.declared.place.Place.TheVariants.{Register, Slot, Const}
 use Rattle.rv64_instr.specs.Arithmetic.{computed, taken, width_of, extended}
-use Rattle.rv64_instr.specs.Row.{Content, Number, Row, Fixes, Moves, Sets, Loads, Stores, LoadsSlot, StoresSlot, Branches, Jumps, Calls, Returns, Unfit}
+use Rattle.rv64_instr.specs.Row.{Row, Fixes, Moves, Sets, Loads, Stores, LoadsSlot, StoresSlot, Branches, Jumps, Calls, Returns, Unfit}
+use Rattle.rv64_instr.specs.declared.decoded.Input.TheVariants.{Content, Number}
 use Rattle.rv64_instr.specs.Access.{caller_saved, reads, sets}
 use Rattle.mir_func.specs.declared.variable.VarId.{VarId}
 use Rattle.mir_meaning.specs.State.{Called, Reply, Core, content, updated, put, put_all, spelled, low_bytes, written, touches_frame, writes_frame}

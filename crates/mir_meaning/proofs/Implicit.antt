@@ -1,7 +1,7 @@
 -- What a call reads and a return gives are the implicit uses of the operands.
 use Rattle.std.proofs.Common.{◌≡◌, ℕ, zero, suc, List, ◌∷◌, refl}
 use Rattle.rv64_instr.specs.declared.op.Op.{Op}
-use Rattle.rv64_instr.specs.declared.op.Op.TheVariants.{Addi}
+use Rattle.rv64_instr.specs.declared.op.ImmediateOp.TheVariants.{Addi}
 use Rattle.rv64_instr.specs.declared.form.Form.{Form}
 use Rattle.rv64_instr.specs.declared.form.Form.TheVariants.{Registers, Immediate, Upper, Load, Store, Branch, Move, Jump, Call, Return}
 use Rattle.rv64_instr.specs.declared.operand.Operand.{Operand}

@@ -3,7 +3,9 @@ use Rattle.std.proofs.Common.{◌≡◌, ℕ, zero, suc, ◌+◌, ◌*◌, ◌/�
 use Rattle.std.proofs.lemmas.Bool.{cases_lt}
 use Rattle.std.proofs.lemmas.List.Elements.{All-head, All-tail}
 use Rattle.rv64_instr.specs.declared.op.Op.{Op}
-use Rattle.rv64_instr.specs.declared.op.Op.TheVariants.{Addi, Lb, Lbu, Lh, Lhu, Lw, Lwu, Sb, Sh, Sw}
+use Rattle.rv64_instr.specs.declared.op.ImmediateOp.TheVariants.{Addi}
+use Rattle.rv64_instr.specs.declared.op.LoadOp.TheVariants.{Lb, Lbu, Lh, Lhu, Lw, Lwu}
+use Rattle.rv64_instr.specs.declared.op.StoreOp.TheVariants.{Sb, Sh, Sw}
 use Rattle.rv64_instr.specs.declared.form.Form.{Form}
 use Rattle.rv64_instr.specs.declared.form.Form.TheVariants.{Registers, Immediate, Upper, Load, Store, Branch, Move, Jump, Call, Return}
 use Rattle.rv64_instr.specs.declared.operand.Operand.{Operand}
@@ -13,7 +15,9 @@ use Rattle.rv64_instr.specs.declared.place.Place.TheVariants.{Register, Slot, Co
 use Rattle.rv64_instr.specs.Instruction.{Instruction}
 use Rattle.rv64_instr.specs.Form.{form_of}
 use Rattle.rv64_instr.specs.Arithmetic.{word, computed, extended, width_of, taken}
-use Rattle.rv64_instr.specs.Row.{Input, Content, Number, Row, Fixes, Moves, Sets, Loads, Stores, LoadsSlot, StoresSlot, Branches, Jumps, Calls, Returns, Unfit, row_of, row_by, move_row, immediate_row}
+use Rattle.rv64_instr.specs.Row.{Row, Fixes, Moves, Sets, Loads, Stores, LoadsSlot, StoresSlot, Branches, Jumps, Calls, Returns, Unfit, row_of, row_by, move_row, immediate_row}
+use Rattle.rv64_instr.specs.declared.decoded.Input.{Input}
+use Rattle.rv64_instr.specs.declared.decoded.Input.TheVariants.{Content, Number}
 use Rattle.rv64_instr.specs.Access.{caller_saved, reads}
 use Rattle.mir_func.specs.declared.position.Pos.{Pos}
 use Rattle.mir_func.specs.declared.variable.VarId.{VarId}
@@ -21,8 +25,10 @@ use Rattle.mir_func.specs.declared.variable.MarkValue.{MarkValue}
 use Rattle.mir_func.specs.declared.variable.MarkValue.TheVariants.{Nothing, Constant, At, Pair}
 use Rattle.mir_func.specs.declared.item.ItemKind.{ItemKind}
 use Rattle.mir_func.specs.declared.item.ItemKind.TheVariants.{Code, Mark, Phi}
-use Rattle.mir_meaning.specs.State.{Called, Reply, Core, State, updated, content, put, put_all, spelled, low_bytes, stored, written, touches_frame, writes_frame, is_same, assigned, IsReply, IsInRange}
-use Rattle.mir_meaning.specs.Step.{Next, Went, Returned, Faulted, Waits, Lost, Outcome, Falls, Goes, Gives, Traps, Asks, Breaks, or_zero, read, input_value, set_register, answered, slot_loaded, saved, does, are_written, act, seen, is_call, defined, given, numbered, with_core, place_value, pair_value, mark_value, do_item, do_fetch, moved, step, after, run}
+use Rattle.mir_meaning.specs.State.{Called, Reply, Core, State, updated, content, put, put_all, spelled, low_bytes, stored, written, touches_frame, writes_frame, assigned, IsReply, IsInRange}
+use Rattle.mir_func.specs.Variables.{is_same}
+use Rattle.mir_meaning.specs.Step.{Next, Went, Returned, Faulted, Waits, Lost, Outcome, Falls, Goes, Gives, Traps, Asks, Breaks, or_zero, read, input_value, set_register, answered, slot_loaded, saved, does, are_written, act, seen, defined, given, numbered, with_core, place_value, pair_value, mark_value, do_item, do_fetch, moved, step, after, run}
+use Rattle.rv64_instr.specs.Parts.{is_call}
 use Rattle.mir_func.specs.Graph.{Program, Fetch, Here, Silent, Outside, below, block_start}
 use Rattle.mir_meaning.specs.Follow.{IsStart}
 use Rattle.mir_meaning.specs.Effects.{OnCore}

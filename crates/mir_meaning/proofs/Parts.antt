@@ -9,14 +9,15 @@ use Rattle.rv64_instr.specs.declared.place.Place.{Place}
 use Rattle.rv64_instr.specs.declared.place.Place.TheVariants.{Register, Slot, Const}
 use Rattle.rv64_instr.specs.Instruction.{Instruction}
 use Rattle.rv64_instr.specs.Arithmetic.{word, signed, width_of, extended}
-use Rattle.rv64_instr.specs.Row.{Content, Number, Row, Fixes, Moves, Sets, Loads, Stores, LoadsSlot, StoresSlot, Branches, Jumps, Calls, Returns, Unfit, row_of, implicit_uses}
+use Rattle.rv64_instr.specs.Row.{Row, Fixes, Moves, Sets, Loads, Stores, LoadsSlot, StoresSlot, Branches, Jumps, Calls, Returns, Unfit, row_of, implicit_uses}
+use Rattle.rv64_instr.specs.declared.decoded.Input.TheVariants.{Content, Number}
 use Rattle.rv64_instr.specs.Access.{reads, sets}
-use Rattle.rv64_instr.specs.Parts.{place_set, set_by, moved_by, constant_of, is_pure, is_call as calls, uses_of, defines_of, first_use, second_use, is_register, has_implicit_uses, is_implicit_use, names_slot, slot_read}
+use Rattle.rv64_instr.specs.Parts.{place_set, set_by, moved_by, constant_of, is_pure, is_call as calls, uses_of, defines_of, first_use, second_use, is_register, has_implicit_uses, is_implicit_use, names_slot, slot_read, is_call}
 use Rattle.mir_func.specs.declared.item.ItemKind.{ItemKind}
 use Rattle.mir_func.specs.declared.item.ItemKind.TheVariants.{Code, Mark, Phi}
 use Rattle.mir_meaning.specs.Live.{KindDefines}
 use Rattle.mir_meaning.specs.State.{Core, content, updated, spelled, touches_frame}
-use Rattle.mir_meaning.specs.Step.{Outcome, Falls, Goes, Gives, Traps, Asks, Breaks, with_core, is_call, numbered, do_item, read, or_zero, set_register, slot_loaded, does, are_written, act}
+use Rattle.mir_meaning.specs.Step.{Outcome, Falls, Goes, Gives, Traps, Asks, Breaks, with_core, numbered, do_item, read, or_zero, set_register, slot_loaded, does, are_written, act}
 use Rattle.mir_func.specs.Graph.{Program}
 use Rattle.mir_meaning.specs.Effects.{held_in, OnCore, EndAlike, SameWorld, FallsInto, AreHeldAlike, EffectsHold}
 use Rattle.mir_meaning.proofs.Places.{contains_head, contains_tail, put_same, updated_same}

@@ -4,7 +4,8 @@ use Rattle.std.specs.Int.{cast_signed, int_shr, from_bool}
 use Rattle.std.proofs.lemmas.Bool.{cases_lt}
 use Rattle.std.proofs.lemmas.Nat.{or_lt, xor_lt, and_le_l}
 use Rattle.rv64_instr.specs.declared.op.Op.{Op}
-use Rattle.rv64_instr.specs.declared.op.Op.TheVariants.{Lb, Lh, Lw, Add, Sub, Sll, Slt, Sltu, Xor, Srl, Sra, Or, And, Addw, Subw, Sllw, Srlw, Sraw}
+use Rattle.rv64_instr.specs.declared.op.LoadOp.TheVariants.{Lb, Lh, Lw}
+use Rattle.rv64_instr.specs.declared.op.RegisterOp.TheVariants.{Add, Sub, Sll, Slt, Sltu, Xor, Srl, Sra, Or, And, Addw, Subw, Sllw, Srlw, Sraw}
 use Rattle.rv64_instr.specs.Arithmetic.{word, unsigned, signed, extend32, computed, extended}
 
 -- 64 bits

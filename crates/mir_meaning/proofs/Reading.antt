@@ -3,6 +3,7 @@ use Rattle.std.proofs.Common.{◌≡◌, ℕ, zero, suc, ◌+◌, ◌*◌, ◌<�
 use Rattle.std.proofs.lemmas.Bool.{eqb-true}
 use Rattle.std.proofs.lemmas.List.Elements.{All-weaker, All-contains, All-contains_itself}
 use Rattle.rv64_instr.specs.Row.{Row, Fixes, Moves, Sets, Loads, Stores, LoadsSlot, StoresSlot, Branches, Jumps, Calls, Returns, Unfit, row_of}
+use Rattle.mir_func.specs.declared.entry.OperandPair.{OperandPair}
 use Rattle.mir_func.specs.declared.position.Pos.{Pos}
 use Rattle.mir_func.specs.declared.position.Origin.{Origin}
 use Rattle.mir_func.specs.declared.position.Origin.TheVariants.{Kept, Before}
@@ -13,10 +14,10 @@ use Rattle.mir_func.specs.declared.item.ItemKind.TheVariants.{Code, Mark, Phi}
 use Rattle.mir_func.specs.declared.variable.MarkValue.TheVariants.{Nothing, Constant, At, Pair}
 use Rattle.mir_func.specs.Sound.{AreApart, ids_of}
 use Rattle.mir_meaning.specs.State.{State, Core, content}
-use Rattle.mir_func.specs.Graph.{Program, Fetch, Here, Silent, Outside, below, block_start}
-use Rattle.mir_func.specs.Graph.{end_of, front, fetch_in, from_block, program_of, FetchEdge, KindEdge, RowEdge}
+use Rattle.mir_func.specs.Graph.{Program, Fetch, Here, Silent, Outside, below, block_start, end_of, front, fetch_in, from_block, program_of, FetchEdge, KindEdge, RowEdge}
 use Rattle.mir_meaning.specs.Align.{Count, ByItems, ByEnds, station_at, AnyOrigin, RunsAlong}
-use Rattle.mir_meaning.specs.Follow.{IsWithin, IsSource, IsRead, Among, none, same, first_of, OnRow, GoesTo, IsSlotSave, IsEnd, SameEnd, KindsEndAlike, EndIsKept, EndComesFrom, InOrder, rank, next_rank, class_of, HasClass, RowFits, KindFits, MarkFits, IsMetApart, Shape, IsStart, Follows, HasWholeEnds}
+use Rattle.mir_meaning.specs.Follow.{IsWithin, IsSource, IsRead, Among, none, same, first_of, OnRow, GoesTo, IsEnd, SameEnd, KindsEndAlike, EndIsKept, EndComesFrom, InOrder, rank, next_rank, class_of, HasClass, RowFits, KindFits, MarkFits, IsMetApart, Shape, IsStart, Follows, HasWholeEnds}
+use Rattle.rv64_instr.specs.Parts.{IsSlotStore}
 use Rattle.mir_meaning.proofs.Sources.{in_step_any}
 use Rattle.mir_meaning.proofs.Told.{SeesLess, Beside, goes_beside, agrees_beside, tells_itself}
 
@@ -147,7 +148,7 @@ back_edge (Code c m) q n e = by_row (row_of c) e where
   by_row (Calls v a) e = not_below e
 
 module _ (blocks : List Block) (read : IsRead blocks) where
-  module _ (sp : Bool) (resolve : ℕ → ℕ → Option (ℕ × ℕ)) where
+  module _ (sp : Bool) (resolve : OperandPair → Option OperandPair) where
     abbrev program : Program
     program = program_of sp blocks resolve
 
@@ -206,7 +207,7 @@ module _ (blocks : List Block) (read : IsRead blocks) where
           (let x = h.1 in let y = h.2 in omega (arith, lt, len, x, y));
     }
 
-  module _ (resolve : ℕ → ℕ → Option (ℕ × ℕ)) where
+  module _ (resolve : OperandPair → Option OperandPair) where
     abbrev src : Program
     src = program_of true blocks resolve
 

@@ -9,8 +9,10 @@ use Rattle.mir_func.specs.declared.variable.MarkValue.{MarkValue}
 use Rattle.mir_func.specs.declared.variable.MarkValue.TheVariants.{Nothing, Constant, At, Pair}
 use Rattle.mir_func.specs.declared.item.ItemKind.{ItemKind}
 use Rattle.mir_func.specs.declared.item.ItemKind.TheVariants.{Code, Mark, Phi}
-use Rattle.mir_meaning.specs.State.{State, Core, updated, is_same, assigned}
-use Rattle.mir_meaning.specs.Step.{Went, Outcome, Falls, Goes, Gives, Traps, Asks, Breaks, moved, with_core, act, seen, is_call, defined, given, numbered, place_value, pair_value, mark_value, do_item, do_fetch, step}
+use Rattle.mir_meaning.specs.State.{State, Core, updated, assigned}
+use Rattle.mir_func.specs.Variables.{is_same}
+use Rattle.mir_meaning.specs.Step.{Went, Outcome, Falls, Goes, Gives, Traps, Asks, Breaks, moved, with_core, act, seen, defined, given, numbered, place_value, pair_value, mark_value, do_item, do_fetch, step}
+use Rattle.rv64_instr.specs.Parts.{is_call}
 use Rattle.mir_func.specs.Graph.{Program, Fetch, Here, Silent, Outside}
 use Rattle.mir_meaning.specs.Align.{Agrees}
 use Rattle.mir_meaning.specs.Effects.{EndAlike}

@@ -7,7 +7,7 @@ use Rattle.mir_func.specs.declared.position.Origin.TheVariants.{Kept, Before}
 use Rattle.mir_func.specs.declared.variable.VarId.{VarId}
 use Rattle.mir_func.specs.declared.item.Item.{Item}
 use Rattle.mir_func.specs.declared.item.ItemKind.{ItemKind}
-use Rattle.mir_func.specs.declared.item.ItemKind.TheVariants.{Code}
+use Rattle.mir_func.specs.declared.item.ItemKind.TheVariants.{Code, Mark, Phi}
 use Rattle.mir_meaning.specs.State.{State, assigned}
 use Rattle.mir_meaning.specs.Step.{Went, Returned, Faulted, step}
 use Rattle.mir_func.specs.Graph.{Fetch, Here, Silent, Outside, Program}

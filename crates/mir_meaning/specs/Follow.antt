@@ -12,12 +12,11 @@ use Rattle.mir_func.specs.Limits.{FRAME_ROOM}
 use Rattle.mir_func.specs.Objects.{area_of, offset_of}
 use Rattle.mir_func.specs.declared.item.Item.{Item}
 use Rattle.mir_func.specs.declared.item.ItemKind.{ItemKind}
-use Rattle.mir_func.specs.declared.item.ItemKind.TheVariants.{Code, Mark}
+use Rattle.mir_func.specs.declared.item.ItemKind.TheVariants.{Code, Mark, Phi}
 use Rattle.mir_func.specs.declared.variable.MarkValue.TheVariants.{Nothing}
 use Rattle.mir_func.specs.Sound.{AreApart, ids_of}
 use Rattle.mir_meaning.specs.State.{IsReply, State, content}
-use Rattle.mir_func.specs.Graph.{Fetch, Here, Silent, Program, below, block_start}
-use Rattle.mir_func.specs.Graph.{program_of, Edge, Leads}
+use Rattle.mir_func.specs.Graph.{Fetch, Here, Silent, Program, below, block_start, program_of, Edge, Leads}
 use Rattle.mir_meaning.specs.Align.{position_of, ByItems, ByEnds, station_at, AnyOrigin, RunsAlong}
 
 -- kinds of code, which stay where code is kept
@@ -139,15 +138,15 @@ pub record Shape (src f : List Block) (srcp fp : Program) : Type 0 where
   pub marks : All (λ b. All (λ i. MarkFits i.kind i.origin) b.items) f
 
 -- a start of a run of a function with these stack objects: x2 is a multiple of 16 with room for a frame, and all else is free
-pub record IsStart (objects : List Object) (first : ℕ) (s : State) : Type 0 where
+pub record IsStart (stack : List Object) (first : ℕ) (s : State) : Type 0 where
   pub pos : s.pos ≡ block_start first
   pub regs : (r : ℕ) → r < 32 → (v : ℕ) × (content s.core.regs r ≡ Some v) × (v < 2 ^ 64)
   pub virtual : (r : ℕ) → 32 ≤ r → content s.core.regs r ≡ None
   pub pointer : content s.core.regs 2 ≡ Some s.core.entry
   pub aligned : s.core.entry % 16 ≡ 0
   pub room : FRAME_ROOM ≤ s.core.entry
-  pub area : s.core.area ≡ area_of objects
-  pub objects : (n : ℕ) → s.core.objects n ≡ offset_of objects n
+  pub area : s.core.area ≡ area_of stack
+  pub objects : (n : ℕ) → s.core.objects n ≡ offset_of stack n
   pub slots : (n : ℕ) → s.core.slots n ≡ None
   pub memory : (a : ℕ) → s.core.memory a < 256
   pub script : All IsReply s.core.script

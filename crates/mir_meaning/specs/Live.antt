@@ -6,8 +6,7 @@ use Rattle.rv64_instr.specs.Parts.{uses_of, defines_of}
 use Rattle.mir_func.specs.declared.position.Pos.{Pos}
 use Rattle.mir_func.specs.declared.item.ItemKind.{ItemKind}
 use Rattle.mir_func.specs.declared.item.ItemKind.TheVariants.{Code}
-use Rattle.mir_func.specs.Graph.{Fetch, Here, Program}
-use Rattle.mir_func.specs.Graph.{Edge}
+use Rattle.mir_func.specs.Graph.{Fetch, Here, Program, Edge}
 
 abbrev pub KindUses : ItemKind → Place → Type 0
 KindUses (Code i k) x = uses_of i x ≡ true

@@ -17,8 +17,7 @@ use Rattle.mir_func.specs.declared.item.ItemKind.{ItemKind}
 use Rattle.mir_func.specs.declared.item.ItemKind.TheVariants.{Code, Mark, Phi}
 use Rattle.mir_meaning.specs.State.{updated, assigned}
 use Rattle.mir_meaning.specs.Step.{defined}
-use Rattle.mir_func.specs.Graph.{Fetch, Here, Silent, Outside, Program}
-use Rattle.mir_func.specs.Graph.{Edge}
+use Rattle.mir_func.specs.Graph.{Fetch, Here, Silent, Outside, Program, Edge}
 
 -- the name of a value along one path: a register's content at entry, what the item at an index of the path gave a
 -- register, or a number modulo 2^64

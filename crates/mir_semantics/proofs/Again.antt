@@ -11,7 +11,8 @@ use Rattle.mir_func.specs.declared.position.Pos.{Pos}
 use Rattle.mir_func.specs.declared.variable.VarId.{VarId}
 use Rattle.mir_func.specs.declared.item.ItemKind.{ItemKind}
 use Rattle.mir_func.specs.declared.item.ItemKind.TheVariants.{Code, Mark, Phi}
-use Rattle.mir_meaning.specs.State.{Called, Core, Event, Reply, assigned, is_same, is_same_node, content, put_all, written, writes_frame}
+use Rattle.mir_meaning.specs.State.{Called, Core, Event, Reply, assigned, content, put_all, written, writes_frame}
+use Rattle.mir_func.specs.Variables.{is_same, is_same_node}
 use Rattle.mir_meaning.specs.Step as step
 use Rattle.mir_meaning.specs.Step.{moved, with_core, are_written, act, does, answered, read, do_item, do_fetch}
 use Rattle.mir_func.specs.Graph.{Fetch, Here, Silent, Outside, Program}

@@ -10,7 +10,8 @@ use Rattle.mir_func.specs.declared.entry.Entry.{Entry}
 use Rattle.mir_func.specs.declared.variable.VarId.{VarId}
 use Rattle.mir_func.specs.declared.variable.MarkValue.{MarkValue}
 use Rattle.mir_func.specs.declared.item.ItemKind.TheVariants.{Mark, Phi}
-use Rattle.mir_meaning.specs.State.{Core, updated, assigned, is_same, is_same_node}
+use Rattle.mir_meaning.specs.State.{Core, updated, assigned}
+use Rattle.mir_func.specs.Variables.{is_same, is_same_node}
 use Rattle.mir_meaning.specs.Step.{mark_value, place_value}
 use Rattle.mir_func.specs.Graph.{program_of}
 use Rattle.mir_func.specs.Resolve.{resolve, is_pair}

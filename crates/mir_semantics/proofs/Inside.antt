@@ -11,9 +11,11 @@ use Rattle.mir_func.specs.declared.item.Item.{Item}
 use Rattle.mir_func.specs.declared.item.ItemKind.{ItemKind}
 use Rattle.mir_func.specs.declared.item.ItemKind.TheVariants.{Code, Mark, Phi}
 use Rattle.mir_func.specs.Function.{Function}
-use Rattle.mir_func.specs.Sound.{IsSound, Exit, Onward, Perhaps, Always, Final, row_exit, exit_of, TargetIn, TargetsIn, AllItems, ids_of, LastCloses, Closes}
-use Rattle.mir_func.specs.Graph.{Here, Silent, Outside, below, block_start}
-use Rattle.mir_func.specs.Graph.{fetch_in, front, from_block, FetchEdge, KindEdge, RowEdge}
+use Rattle.mir_func.specs.Sound.{IsSound, TargetIn, TargetsIn, AllItems, ids_of, LastCloses, Closes}
+use Rattle.mir_func.specs.declared.exit.Exit.{Exit}
+use Rattle.mir_func.specs.declared.exit.Exit.TheVariants.{Onward, Perhaps, Always, Final}
+use Rattle.mir_func.specs.Exits.{row_exit, exit_of}
+use Rattle.mir_func.specs.Graph.{Here, Silent, Outside, below, block_start, fetch_in, front, from_block, FetchEdge, KindEdge, RowEdge}
 use Rattle.mir_meaning.proofs.Places.{contains_head, contains_tail}
 use Rattle.mir_semantics.specs.declared.state.SourceStep.{SourceStep}
 use Rattle.mir_semantics.specs.declared.state.SourceStep.TheVariants.{Went, Returned, Fault, Waits}

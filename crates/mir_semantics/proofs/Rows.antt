@@ -1,15 +1,16 @@
 -- What code of each row does, from what is read.
 use Rattle.std.proofs.Common.{◌≡◌, ℕ, zero, suc, ◌*◌, List, [], ◌∷◌, Option, Some, None, Bool, true, false, cond, refl, sym, ap, ◌∙◌, subst, inl, inr}
-use Rattle.std.specs.Prelude.{is_some, ◌&&◌, slice_index_or, ◌+◌, ◌%◌, ◌^◌}
+use Rattle.std.specs.Prelude.{is_some, ◌&&◌, slice_index_or, ◌+◌, ◌%◌, ◌^◌, Result, Ok, Err, IfOk}
 use Rattle.std.specs.List.{list_all}
 use Rattle.rv64_instr.specs.Arithmetic.{computed, taken, width_of, extended}
 use Rattle.rv64_instr.specs.Access.{reads, input_reads, caller_saved}
 use Rattle.rv64_instr.specs.declared.op.Op.{Op}
 use Rattle.rv64_instr.specs.declared.start.Answer.{Answer}
-use Rattle.rv64_instr.specs.Row.{Input, Content, Row, Fixes, Moves, Sets, Loads, Stores, LoadsSlot, StoresSlot, Branches, Jumps, Calls, Returns, row_of, implicit_uses}
+use Rattle.rv64_instr.specs.Row.{Row, Fixes, Moves, Sets, Loads, Stores, LoadsSlot, StoresSlot, Branches, Jumps, Calls, Returns, row_of, implicit_uses}
+use Rattle.rv64_instr.specs.declared.decoded.Input.{Input}
+use Rattle.rv64_instr.specs.declared.decoded.Input.TheVariants.{Content}
 use Rattle.rv64_instr.specs.Instruction.{Instruction}
 use Rattle.rv64_instr.specs.declared.operand.Operand.{Operand}
-use Rattle.std.specs.Prelude.{Result, Ok, Err, IfOk}
 use Rattle.std.specs.declared.alloc.AllocError.{AllocError}
 use Rattle.mir_meaning.proofs.Implicit.{AreImplicit, implicit}
 use Rattle.mir_semantics.specs.declared.machine.Outcome.{Outcome}

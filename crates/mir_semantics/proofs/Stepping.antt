@@ -18,7 +18,8 @@ use Rattle.mir_meaning.proofs.Places.{contains_head}
 use Rattle.mir_semantics.proofs.Inside.{block_inside}
 use Rattle.mir_meaning.specs.State.{Core, State}
 use Rattle.mir_meaning.specs.Step as step
-use Rattle.mir_meaning.specs.Step.{numbered, with_core, is_call}
+use Rattle.mir_meaning.specs.Step.{numbered, with_core}
+use Rattle.rv64_instr.specs.Parts.{is_call}
 use Rattle.mir_func.specs.Graph.{fetch_in, front, from_block}
 use Rattle.mir_meaning.specs.Follow.{first_of}
 use Rattle.mir_semantics.specs.declared.machine.Machine.{Machine}
@@ -27,10 +28,9 @@ use Rattle.mir_semantics.specs.declared.machine.Outcome.TheVariants.{Falls, Goes
 use Rattle.mir_semantics.specs.declared.state.SourceStep.TheVariants.{Went}
 use Rattle.mir_semantics.specs.Places.{RegistersHold}
 use Rattle.mir_semantics.specs.Acts.{Acts, Moved, StartsMachine}
-use Rattle.mir_semantics.specs.StandsFor.{Concrete, PairsHold, MarksHold, Holds, StandsFor, Starts, DoesItem, IsPosition}
+use Rattle.mir_semantics.specs.StandsFor.{Concrete, PairsHold, MarksHold, Holds, StandsFor, Starts, DoesItem, IsPosition, IsStepAnswered}
 use Rattle.mir_semantics.specs.declared.state.SourceStep.{SourceStep}
 use Rattle.mir_func.specs.declared.variable.MarkValue.TheVariants.{Nothing, Constant, At, Pair}
-use Rattle.mir_semantics.specs.StandsFor.{IsStepAnswered}
 use Rattle.mir_semantics.specs.Steps.{IsStep, Steps, StepsFrom, source_of}
 
 -- what `number` gives, at the instruction's own operands

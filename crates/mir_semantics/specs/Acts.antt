@@ -3,15 +3,15 @@ use Rattle.std.specs.Prelude.{◌≡◌, ℕ, List, [], ◌∷◌, Option, Some,
 use Rattle.rv64_instr.specs.Arithmetic.{width_of}
 use Rattle.rv64_instr.specs.Access.{input_reads}
 use Rattle.rv64_instr.specs.declared.op.Op.{Op}
-use Rattle.rv64_instr.specs.Row.{Input, Row, Calls}
+use Rattle.rv64_instr.specs.Row.{Row, Calls}
+use Rattle.rv64_instr.specs.declared.decoded.Input.{Input}
 use Rattle.rv64_instr.specs.declared.start.Answer.{Answer}
 use Rattle.rv64_instr.specs.declared.start.Start.{Start}
 use Rattle.mir_func.specs.declared.position.Pos.{Pos}
 use Rattle.mir_meaning.specs.State.{Core, Reply, written, touches_frame, low_bytes}
 use Rattle.mir_meaning.specs.Step as step
 use Rattle.mir_meaning.specs.Step.{act, answered, are_written, input_value, saved}
-use Rattle.mir_func.specs.Graph.{below, block_start}
-use Rattle.mir_func.specs.Graph.{RowEdge}
+use Rattle.mir_func.specs.Graph.{below, block_start, RowEdge}
 use Rattle.mir_semantics.specs.declared.machine.Machine.{Machine}
 use Rattle.mir_semantics.specs.declared.machine.Outcome.{Outcome}
 use Rattle.mir_semantics.specs.declared.machine.Outcome.TheVariants.{Falls, Goes, Returns as Ended, Faults, Waits}

@@ -14,8 +14,7 @@ use Rattle.mir_func.specs.declared.item.ItemKind.TheVariants.{Code}
 use Rattle.mir_meaning.specs.State.{Core, State, Reply, assigned, content, written}
 use Rattle.mir_meaning.specs.Step as step
 use Rattle.mir_meaning.specs.Step.{do_item}
-use Rattle.mir_func.specs.Graph.{Fetch, Here, Outside, Program, below, block_start}
-use Rattle.mir_func.specs.Graph.{program_of, fetch_in, from_block, KindEdge}
+use Rattle.mir_func.specs.Graph.{Fetch, Here, Outside, Program, below, block_start, program_of, fetch_in, from_block, KindEdge}
 use Rattle.mir_meaning.specs.Follow.{first_of}
 use Rattle.mir_func.specs.Resolve.{resolve, is_pair}
 use Rattle.mir_semantics.specs.declared.machine.Machine.{Machine}

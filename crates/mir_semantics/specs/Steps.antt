@@ -5,15 +5,12 @@ use Rattle.mir_func.specs.declared.block.Block.{Block}
 use Rattle.mir_func.specs.declared.entry.Entry.{Entry}
 use Rattle.mir_meaning.specs.State.{Event, Reply, State}
 use Rattle.mir_meaning.specs.Step as step
-use Rattle.mir_meaning.specs.Step.{Next}
-use Rattle.mir_func.specs.Graph.{Program}
-use Rattle.mir_func.specs.Graph.{program_of, FetchEdge}
+use Rattle.mir_meaning.specs.Step.{Next, do_fetch, moved}
+use Rattle.mir_func.specs.Graph.{Program, program_of, FetchEdge, Fetch, below, block_start}
 use Rattle.mir_func.specs.Resolve.{resolve}
 use Rattle.mir_semantics.specs.declared.state.SourceStep.{SourceStep}
 use Rattle.mir_semantics.specs.declared.state.SourceStep.TheVariants.{Went, Returned, Fault, Waits}
 use Rattle.mir_func.specs.declared.position.Pos.{Pos}
-use Rattle.mir_meaning.specs.Step.{do_fetch, moved}
-use Rattle.mir_func.specs.Graph.{Fetch, below, block_start}
 use Rattle.mir_semantics.specs.declared.machine.Outcome.{Outcome}
 use Rattle.mir_semantics.specs.declared.machine.Outcome.TheVariants.{Falls, Goes, Returns as Ended, Faults, Waits as Waiting}
 use Rattle.mir_semantics.specs.StandsFor.{Concrete, StandsFor, IsStepAnswered}

@@ -9,8 +9,9 @@ use Rattle.mir_func.specs.declared.variable.VarId.{VarId}
 use Rattle.mir_func.specs.declared.item.Item.{Item}
 use Rattle.mir_func.specs.declared.item.ItemKind.{ItemKind}
 use Rattle.mir_func.specs.declared.item.ItemKind.TheVariants.{Code, Mark, Phi}
-use Rattle.mir_meaning.specs.State.{assigned, is_same}
-use Rattle.mir_meaning.specs.Step.{is_call}
+use Rattle.mir_meaning.specs.State.{assigned}
+use Rattle.mir_func.specs.Variables.{is_same}
+use Rattle.rv64_instr.specs.Parts.{is_call}
 use Rattle.mir_meaning.specs.Token.{Tokens, moved_tokens, sets_pointer, code_tokens, numbered_tokens, after_item}
 use Rattle.mir_meaning.proofs.Assignments.{same_refl, same_is}
 use Rattle.mirdwarf_tool.specs.Variables.{with_mark, variables_of}

@@ -6,7 +6,8 @@ use Rattle.rv64_instr.specs.declared.place.Place.{Place}
 use Rattle.mir_func.specs.declared.variable.VarId.{VarId}
 use Rattle.mir_func.specs.declared.item.Item.{Item}
 use Rattle.mir_func.specs.declared.block.Block.{Block}
-use Rattle.mir_meaning.specs.State.{assigned, is_same}
+use Rattle.mir_meaning.specs.State.{assigned}
+use Rattle.mir_func.specs.Variables.{is_same}
 use Rattle.mir_meaning.specs.Align.{is_code}
 use Rattle.mir_meaning.specs.Token.{Tokens, entry_tokens, after_item, IsPlace}
 use Rattle.dwarf_loclists.specs.declared.range.Range.{Range}

@@ -15,7 +15,7 @@ use Rattle.mir_func.specs.declared.item.ItemKind.{ItemKind}
 use Rattle.mir_func.specs.declared.item.ItemKind.TheVariants.{Code, Mark, Phi}
 use Rattle.mir_func.specs.declared.block.Block.{Block}
 use Rattle.mir_func.specs.Function.{Function}
-use Rattle.mir_meaning.specs.Step.{is_call}
+use Rattle.rv64_instr.specs.Parts.{is_call}
 use Rattle.mir_meaning.specs.Align.{is_code}
 use Rattle.mir_func.specs.Resolve.{resolve}
 use Rattle.mir_meaning.specs.Token.{entry_tokens}

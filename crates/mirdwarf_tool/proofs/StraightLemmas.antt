@@ -8,7 +8,7 @@ use Rattle.std.proofs.lemmas.List.Elements.{All-cons, All-nil}
 use Rattle.rv64_instr.specs.Arithmetic.{word}
 use Rattle.rv64_instr.specs.Instruction.{Instruction}
 use Rattle.rv64_instr.specs.Row.{Row, Fixes, Moves, Sets, immediate_row, row_of}
-use Rattle.rv64_instr.specs.declared.op.Op.TheVariants.{Addi}
+use Rattle.rv64_instr.specs.declared.op.ImmediateOp.TheVariants.{Addi}
 use Rattle.rv64_word.specs.declared.machine_op.MachineOp.{MachineOp}
 use Rattle.rv64_word.specs.declared.word_op.WordOp.TheVariants.{Jalr}
 use Rattle.rv64_word.specs.declared.word_op.WordOp.TheVariants as word_op

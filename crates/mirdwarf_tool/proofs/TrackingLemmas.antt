@@ -5,7 +5,8 @@ use Rattle.std.proofs.lemmas.Bool.Decides.{nat_tests, eqb_tells, leb_tells}
 use Rattle.std.proofs.lemmas.List.{get_or_past}
 use Rattle.rv64_instr.specs.declared.operand.Operand.{Operand}
 use Rattle.rv64_instr.specs.Row.{Row, Fixes, Moves, Sets, Loads, Stores, LoadsSlot, StoresSlot, Branches, Jumps, Calls, Returns, Unfit}
-use Rattle.mir_meaning.specs.Step.{defined, is_call}
+use Rattle.mir_meaning.specs.Step.{defined}
+use Rattle.rv64_instr.specs.Parts.{is_call}
 use Rattle.mir_meaning.specs.Token as token
 use Rattle.mir_meaning.specs.Token.{Tokens, variable_token, register_token, put_token, moved_tokens, code_tokens, sets_pointer, given_token, numbered_tokens}
 use Rattle.mirdwarf_tool.specs.declared.token.Token.{Token}

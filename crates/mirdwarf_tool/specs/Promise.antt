@@ -1,7 +1,8 @@
 -- What an output promises of a run of its code.
 use Rattle.std.specs.Prelude.{◌≡◌, ℕ, zero, suc, ◌+◌, cond, pos, List, [], ◌∷◌, length, drop, Option, Some, slice_get, map, All}
 use Rattle.std.specs.List.{flat_map}
-use Rattle.rv64_instr.specs.declared.op.Op.TheVariants.{Ld, Sd}
+use Rattle.rv64_instr.specs.declared.op.LoadOp.TheVariants.{Ld}
+use Rattle.rv64_instr.specs.declared.op.StoreOp.TheVariants.{Sd}
 use Rattle.rv64_instr.specs.declared.operand.Operand.TheVariants.{Def, Use, Imm, Slot}
 use Rattle.rv64_instr.specs.declared.place.Place.{Place}
 use Rattle.rv64_instr.specs.Instruction.{Instruction}
@@ -15,10 +16,9 @@ use Rattle.mir_func.specs.declared.item.ItemKind.TheVariants.{Code}
 use Rattle.mir_func.specs.declared.block.Block.{Block}
 use Rattle.mir_func.specs.declared.entry.Entry.{Entry}
 use Rattle.mir_func.specs.Function.{Function}
-use Rattle.mir_meaning.specs.Step.{is_call}
-use Rattle.mir_func.specs.Graph.{Program, block_start}
+use Rattle.rv64_instr.specs.Parts.{is_call}
+use Rattle.mir_func.specs.Graph.{Program, block_start, framed_program}
 use Rattle.mir_meaning.specs.Align.{is_code}
-use Rattle.mir_func.specs.Graph.{framed_program}
 use Rattle.mir_func.specs.Resolve.{resolve}
 use Rattle.dwarf_loclists.specs.Reading.{PlaceAt}
 use Rattle.code_layout.specs.Image.{CodeLine, Image}

@@ -5,7 +5,7 @@ use Rattle.mir_func.specs.declared.variable.VarId.{VarId}
 use Rattle.mir_func.specs.declared.item.Item.{Item}
 use Rattle.mir_func.specs.declared.item.ItemKind.{ItemKind}
 use Rattle.mir_func.specs.declared.item.ItemKind.TheVariants.{Mark}
-use Rattle.mir_meaning.specs.State.{is_same}
+use Rattle.mir_func.specs.Variables.{is_same}
 
 abbrev pub with_variable : List VarId → VarId → List VarId
 with_variable known v = cond (list_any (is_same v) known) known (known ++ v ∷ [])

@@ -1,6 +1,7 @@
 -- The walk over a block: the tokens before each item, and the first place that holds a variable's value.
 use Rattle.std.specs.Prelude.{◌≡◌, ℕ, suc, Bool, true, false, List, [], ◌∷◌, ◌++◌, Option, Some, None}
 use Rattle.rv64_instr.specs.declared.place.Place.{Place}
+use Rattle.mir_func.specs.declared.entry.OperandPair.{OperandPair}
 use Rattle.mir_func.specs.declared.variable.VarId.{VarId}
 use Rattle.mir_func.specs.declared.item.Item.{Item}
 use Rattle.mir_meaning.specs.Token.{Tokens, after_item, IsPlace, Precedes}
@@ -8,7 +9,7 @@ use Rattle.mir_meaning.specs.Align.{is_code}
 use Rattle.code_layout.specs.Straight.{Holds}
 
 -- no number is substituted
-abbrev pub unchanged : ℕ → ℕ → Option (ℕ × ℕ)
+abbrev pub unchanged : OperandPair → Option OperandPair
 unchanged k o = Some (k, o)
 
 -- the first place that holds it, or none where no place does

@@ -1,6 +1,6 @@
 ghost use Rattle.std.specs.Prelude.{◌≡◌, ◌+◌, ◌≤◌, [], length, IfOk, OnOk};
 ghost use Rattle.std.specs.List.{list_any};
-ghost use Rattle.mir_meaning.specs.State.{is_same};
+ghost use Rattle.mir_func.specs.Variables.{is_same};
 ghost use Rattle.mirdwarf_tool.specs.Variables.{variables_of, with_mark, with_variable};
 
 use lists::List;

@@ -8,14 +8,17 @@ use Rattle.rv64_instr.specs.declared.place.Place.{Place}
 use Rattle.rv64_instr.specs.declared.place.Place.TheVariants.{Register, Slot, Const}
 use Rattle.rv64_instr.specs.Arithmetic.{word}
 use Rattle.rv64_instr.specs.Row.{row_of}
+use Rattle.mir_func.specs.declared.entry.OperandPair.{OperandPair}
 use Rattle.mir_func.specs.declared.variable.VarId.{VarId}
 use Rattle.mir_func.specs.declared.variable.MarkValue.{MarkValue}
 use Rattle.mir_func.specs.declared.variable.MarkValue.TheVariants.{Nothing, Constant, At, Pair}
 use Rattle.mir_func.specs.declared.item.ItemKind.{ItemKind}
 use Rattle.mir_func.specs.declared.item.ItemKind.TheVariants.{Code, Mark, Phi}
 use Rattle.mir_func.specs.declared.position.Pos.{Pos}
-use Rattle.mir_meaning.specs.State.{Core, State, updated, content, assigned, is_same}
-use Rattle.mir_meaning.specs.Step.{Outcome, Falls, Goes, Gives, Traps, Asks, Breaks, Went, moved, act, seen, defined, given, numbered, with_core, is_call, place_value, pair_value, mark_value, do_item, do_fetch, step, or_zero}
+use Rattle.mir_meaning.specs.State.{Core, State, updated, content, assigned}
+use Rattle.mir_func.specs.Variables.{is_same}
+use Rattle.mir_meaning.specs.Step.{Outcome, Falls, Goes, Gives, Traps, Asks, Breaks, Went, moved, act, seen, defined, given, numbered, with_core, place_value, pair_value, mark_value, do_item, do_fetch, step, or_zero}
+use Rattle.rv64_instr.specs.Parts.{is_call}
 use Rattle.mir_func.specs.Graph.{Fetch, Here, Silent, Outside, Program, below, block_start}
 use Rattle.mir_meaning.specs.Token.{Token, Entry, Made, Fixed, Tokens, register_token, code_tokens, given_token, numbered_tokens, place_token, pair_token, mark_token, after_item, after_fetch, entry_tokens}
 use Rattle.path_tokens.specs.Trace.{Trace, begin, onward, Names, NamesAlong, HasRegisters, TokensNameValues}
@@ -64,7 +67,7 @@ holds_mark V g (Constant k) t c pointer good = ap Some (sym (good.numbers (word 
 holds_mark V g (At r) t c pointer good = holds_seen V g.sees_pointer r t c pointer (good.regs r)
 holds_mark V g (Pair k o) t c pointer good = holds_pair V (g.resolve k o) t c good
 
-old_mark : (n : ℕ) (resolve : ℕ → ℕ → Option (ℕ × ℕ)) (m : MarkValue) (t : Tokens) → AreOld n t → IsOld n (mark_token resolve m t)
+old_mark : (n : ℕ) (resolve : OperandPair → Option OperandPair) (m : MarkValue) (t : Tokens) → AreOld n t → IsOld n (mark_token resolve m t)
 old_mark n resolve Nothing t o = tt
 old_mark n resolve (Constant k) t o = tt
 old_mark n resolve (At r) t o = o.regs r

@@ -8,11 +8,14 @@ use Rattle.rv64_instr.specs.declared.place.Place.{Place}
 use Rattle.rv64_instr.specs.declared.place.Place.TheVariants.{Register, Slot, Const}
 use Rattle.rv64_instr.specs.Row.{Row, Fixes, Moves, Sets, Loads, LoadsSlot, StoresSlot, Calls, row_of}
 use Rattle.rv64_instr.specs.Access.{caller_saved}
+use Rattle.mir_func.specs.declared.entry.OperandPair.{OperandPair}
 use Rattle.mir_func.specs.declared.variable.MarkValue.{MarkValue}
 use Rattle.mir_func.specs.declared.variable.MarkValue.TheVariants.{Nothing, Constant, At, Pair}
 use Rattle.mir_func.specs.declared.item.ItemKind.TheVariants.{Code, Mark, Phi}
-use Rattle.mir_meaning.specs.State.{updated, is_same}
-use Rattle.mir_meaning.specs.Step.{is_call, defined}
+use Rattle.mir_meaning.specs.State.{updated}
+use Rattle.mir_func.specs.Variables.{is_same}
+use Rattle.mir_meaning.specs.Step.{defined}
+use Rattle.rv64_instr.specs.Parts.{is_call}
 use Rattle.mir_meaning.specs.Token.{Token, Made, Fixed, Tokens, register_token, put_token, make_all, moved_tokens, sets_pointer, code_tokens, given_token, numbered_tokens, place_token, pair_token, mark_token}
 use Rattle.path_tokens.specs.Pullback.{Tracked, InRegister, InSlot, OfPair, OfVariable, OfNumber, token_of, Back, Was, New, Nameless, token_back, put_back, back_row, clear_slots, back_code, given_back, back_place, back_pair, back_mark, TokensPullBack}
 
@@ -116,7 +119,7 @@ pair_is_back : (n : ℕ) (q : Option (ℕ × ℕ)) (t : Tokens) → pair_token q
 pair_is_back n None t = refl
 pair_is_back n (Some q) t = refl
 
-mark_is_back : (n : ℕ) (resolve : ℕ → ℕ → Option (ℕ × ℕ)) (m : MarkValue) (t : Tokens) → mark_token resolve m t ≡ token_back n t (back_mark resolve m)
+mark_is_back : (n : ℕ) (resolve : OperandPair → Option OperandPair) (m : MarkValue) (t : Tokens) → mark_token resolve m t ≡ token_back n t (back_mark resolve m)
 mark_is_back n resolve Nothing t = refl
 mark_is_back n resolve (Constant c) t = refl
 mark_is_back n resolve (At r) t = refl

@@ -6,14 +6,17 @@ use Rattle.rv64_instr.specs.declared.place.Place.TheVariants.{Register, Slot, Co
 use Rattle.rv64_instr.specs.Arithmetic.{word}
 use Rattle.rv64_instr.specs.Row.{Row, Fixes, Moves, Sets, Loads, LoadsSlot, StoresSlot, Calls, row_of}
 use Rattle.rv64_instr.specs.Access.{caller_saved}
+use Rattle.mir_func.specs.declared.entry.OperandPair.{OperandPair}
 use Rattle.mir_func.specs.declared.position.Pos.{Pos}
 use Rattle.mir_func.specs.declared.variable.VarId.{VarId}
 use Rattle.mir_func.specs.declared.variable.MarkValue.{MarkValue}
 use Rattle.mir_func.specs.declared.variable.MarkValue.TheVariants.{Nothing, Constant, At, Pair}
 use Rattle.mir_func.specs.declared.item.ItemKind.{ItemKind}
 use Rattle.mir_func.specs.declared.item.ItemKind.TheVariants.{Code, Mark, Phi}
-use Rattle.mir_meaning.specs.State.{assigned, is_same}
-use Rattle.mir_meaning.specs.Step.{is_call, defined}
+use Rattle.mir_meaning.specs.State.{assigned}
+use Rattle.mir_func.specs.Variables.{is_same}
+use Rattle.mir_meaning.specs.Step.{defined}
+use Rattle.rv64_instr.specs.Parts.{is_call}
 use Rattle.mir_func.specs.Graph.{Program}
 use Rattle.mir_meaning.specs.Token.{Token, Made, Fixed, Tokens, register_token, sets_pointer, after_item, Path}
 
@@ -82,14 +85,14 @@ abbrev pub back_pair : Option (ℕ × ℕ) → Back
 back_pair None = Nameless
 back_pair (Some q) = Was (OfPair q.0 q.1)
 
-abbrev pub back_mark : (ℕ → ℕ → Option (ℕ × ℕ)) → MarkValue → Back
+abbrev pub back_mark : (OperandPair → Option OperandPair) → MarkValue → Back
 back_mark resolve Nothing = Nameless
 back_mark resolve (Constant c) = Was (OfNumber (word c))
 back_mark resolve (At r) = Was (InRegister r)
 back_mark resolve (Pair k o) = back_pair (resolve k o)
 
 -- what a thing's token is after an item, by what stood before it
-abbrev pub back : (ℕ → ℕ → Option (ℕ × ℕ)) → ItemKind → Tracked → Back
+abbrev pub back : (OperandPair → Option OperandPair) → ItemKind → Tracked → Back
 back resolve (Code i None) x = back_code (row_of i) x
 back resolve (Code i (Some j)) (OfPair k o) = cond (nat_eq k j) (given_back (row_of i) (defined (is_call (row_of i)) (slice_get i.operands o)) (OfPair k o)) (Was (OfPair k o))
 back resolve (Code i (Some j)) x = back_code (row_of i) x
@@ -99,7 +102,7 @@ back resolve _ x = Was x
 
 -- After each item each tracked thing has the token that its pull-back tells.
 abbrev pub TokensPullBack : Type 0
-TokensPullBack = (resolve : ℕ → ℕ → Option (ℕ × ℕ)) (index : ℕ) (k : ItemKind) (t : Tokens) (x : Tracked) →
+TokensPullBack = (resolve : OperandPair → Option OperandPair) (index : ℕ) (k : ItemKind) (t : Tokens) (x : Tracked) →
     token_of x (after_item resolve index k t) ≡ token_back index t (back resolve k x)
 
 -- both have a token, and the same one

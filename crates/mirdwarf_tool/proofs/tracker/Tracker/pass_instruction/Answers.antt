@@ -1,6 +1,6 @@
 use Rattle.std.proofs.Common.{sym, subst}
 use Rattle.rv64_instr.specs.Row.{row_of}
-use Rattle.mir_meaning.specs.Step.{is_call}
+use Rattle.rv64_instr.specs.Parts.{is_call}
 use Rattle.mir_meaning.specs.Token.{Tokens, code_tokens}
 use Rattle.mirdwarf_tool.specs.declared.tracker.Tracker.{Tracker}
 use Rattle.mirdwarf_tool.specs.Tracking.{Tracks}
