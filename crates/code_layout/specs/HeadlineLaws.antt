@@ -3,15 +3,14 @@ use Rattle.std.specs.Prelude.{◌≡◌, ◌⊎◌, ℕ, List, Option, Some, tru
 use Rattle.rv64_instr.specs.declared.place.Place.{Place}
 use Rattle.mir_func.specs.declared.entry.OperandPair.{OperandPair}
 use Rattle.mir_func.specs.declared.variable.VarId.{VarId}
-use Rattle.mir_func.specs.declared.block.Block.{Block}
+use Rattle.mir_func.specs.Function.{Function}
 use Rattle.mir_meaning.specs.State.{State}
 use Rattle.mir_func.specs.Graph.{Program, program_of}
-use Rattle.mir_meaning.specs.Follow.{first_of, IsStart}
 use Rattle.mir_meaning.specs.Align.{Since}
 use Rattle.code_layout.specs.Image.{CodeLine, Image, line_at}
 use Rattle.code_layout.specs.Machine.{Machine, machine_start}
 use Rattle.code_layout.specs.MachineStep.{Comes}
-use Rattle.code_layout.specs.Headline.{FailsBeforeLine, MachineAlong, Headline}
+use Rattle.code_layout.specs.Headline.{StartsAt, FailsBeforeLine, MachineAlong, Headline}
 
 -- the source has come along with the machine
 pub record HasCome (src : Program) (image : Image) (m0 : Machine) (s0 : State) (m : Machine) : Type 0 where
@@ -31,6 +30,6 @@ pub record HasFailed (src : Program) (image : Image) (m0 : Machine) (s0 : State)
 
 -- Where the headline holds, the source comes along with every step of the machine, or stops on a frame fault.
 abbrev pub HeadlineReachesEveryStep : (VarId → (address : ℕ) → Place → Type 0) → Type 0
-HeadlineReachesEveryStep lists = (blocks : List Block) (resolve : OperandPair → Option OperandPair) (image : Image) → Headline blocks resolve image lists → (s0 : State) → IsStart (first_of blocks) s0 →
-    (m : Machine) → Comes image (machine_start image s0) m →
-    HasCome (program_of true blocks resolve) image (machine_start image s0) s0 m ⊎ HasFailed (program_of true blocks resolve) image (machine_start image s0) s0
+HeadlineReachesEveryStep lists = (source : Function) (resolve : OperandPair → Option OperandPair) (image : Image) → Headline source resolve image lists →
+    (s0 : State) → StartsAt source s0 → (m : Machine) → Comes image (machine_start image s0) m →
+    HasCome (program_of true source.blocks resolve) image (machine_start image s0) s0 m ⊎ HasFailed (program_of true source.blocks resolve) image (machine_start image s0) s0

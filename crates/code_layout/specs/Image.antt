@@ -10,10 +10,12 @@ pub record CodeLine : Type 0 where
   pub origin : Origin
   pub instruction : Instruction
 
--- the bytes of `.text`, which lie at the addresses from 0 on, the address where the function begins, and its lines with code
+-- the bytes of `.text`, which lie at the addresses from 0 on, the address where the function begins, the bytes that its stack
+-- objects take together right below the stack pointer at entry, and its lines with code
 pub record Image : Type 0 where
   pub text : List ℕ
   pub low : ℕ
+  pub area : ℕ
   pub lines : List CodeLine
 
 -- the line at an address

@@ -1,7 +1,8 @@
 -- One step of the machine, from the words of the image and the table of rows.
 use Rattle.std.specs.Prelude.{◌≡◌, ℕ, ◌+◌, ◌*◌, ◌/◌, ◌%◌, ◌^◌, List, [], ◌∷◌, length, map, Option, Some, None, cond, nat_eq}
-use Rattle.rv64_instr.specs.Arithmetic.{computed, taken, width_of, extended}
-use Rattle.rv64_instr.specs.Row.{Row, Fixes, Moves, Sets, Loads, Stores, Branches, Jumps, Calls, implicit_uses, row_of}
+use Rattle.rv64_instr.specs.Arithmetic.{computed, taken, load_width, store_width, extended}
+use Rattle.rv64_instr.specs.declared.decoded.Base.TheVariants.{PointedBy, ObjectAt}
+use Rattle.rv64_instr.specs.Row.{Row, Fixes, Moves, Sets, Addresses, Loads, Stores, LoadsSlot, StoresSlot, Branches, Jumps, Calls, Returns, Unfit, row_of, implicit_uses}
 use Rattle.rv64_instr.specs.Access.{caller_saved}
 use Rattle.rv64_word.specs.declared.machine_op.MachineOp.{MachineOp}
 use Rattle.rv64_word.specs.MachineRow.{MachineRow, Does, Links, LinksTo, machine_row}
@@ -37,23 +38,32 @@ at target s = record s { counter = target }
 abbrev pub set_register : (rd v : ℕ) → Machine → Machine
 set_register rd v s = record s { regs = set_in rd v s.regs }
 
--- a store's event: none is shown of the 2,048 bytes below the stack pointer at entry, which are the frame's
+-- a store's event: none is shown of the frame's bytes
 abbrev pub shown_store : (address : ℕ) → List ℕ → Machine → List Event
-shown_store a bytes s = cond (touches_frame s.entry a (length bytes)) s.events (Wrote a bytes ∷ s.events)
+shown_store a bytes s = cond (touches_frame s.entry s.area a (length bytes)) s.events (Wrote a bytes ∷ s.events)
 
 abbrev pub store : (address : ℕ) → List ℕ → Machine → Machine
 store a bytes s = record s { memory = stored s.memory a bytes; events = shown_store a bytes s }
 
--- what a word does that has the row of an instruction. Words have no slots, calls and returns
+-- what a word does that has the row of an instruction. Words have no slots, stack objects, calls and returns
 unfoldable pub does_row : Row → Machine → Stepped
 does_row (Fixes rd n) s = Continues (past 4 (set_register rd n s))
 does_row (Moves rd rs) s = Continues (past 4 (set_register rd (register s rs) s))
 does_row (Sets rd op a b) s = Continues (past 4 (set_register rd (computed op (register s a) (input s b)) s))
-does_row (Loads rd op base offset) s = Continues (past 4 (set_register rd (extended op (spelled s.memory (address_of s base offset) (width_of op))) s))
-does_row (Stores op rs base offset) s = Continues (past 4 (store (address_of s base offset) (low_bytes (width_of op) (register s rs)) s))
+does_row (Addresses rd n offset) s = BadWord
+does_row (Loads rd op (PointedBy r) offset) s =
+    Continues (past 4 (set_register rd (extended op (spelled s.memory (address_of s r offset) (load_width op))) s))
+does_row (Loads rd op (ObjectAt n) offset) s = BadWord
+does_row (Stores op rs (PointedBy r) offset) s =
+    Continues (past 4 (store (address_of s r offset) (low_bytes (store_width op) (register s rs)) s))
+does_row (Stores op rs (ObjectAt n) offset) s = BadWord
+does_row (LoadsSlot rd n) s = BadWord
+does_row (StoresSlot rs n) s = BadWord
 does_row (Branches op a b target) s = Continues (cond (taken op (register s a) (register s b)) (at target s) (past 4 s))
 does_row (Jumps target) s = Continues (at target s)
-does_row _ s = BadWord
+does_row (Calls name args) s = BadWord
+does_row (Returns results) s = BadWord
+does_row Unfit s = BadWord
 
 -- what a word does. A jump by a register clears bit 0 of its target
 abbrev pub does : MachineRow → Machine → Stepped

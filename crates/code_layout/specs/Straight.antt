@@ -28,11 +28,15 @@ abbrev pub IsPlainInput : Input → Type 0
 IsPlainInput (Content r) = r < 32
 IsPlainInput (Number n) = Unit {0}
 
--- a constant, a copy, or arithmetic, which reads physical registers
+-- the register is none that a function gives back as it found it
+abbrev pub IsSpare : ℕ → Type 0
+IsSpare r = list_any (nat_eq r) KEPT ≡ false
+
+-- a constant, a copy, or arithmetic, which reads physical registers and sets a spare one
 abbrev pub IsPlainRow : Row → Type 0
-IsPlainRow (Fixes rd n) = Unit {0}
-IsPlainRow (Moves rd rs) = rs < 32
-IsPlainRow (Sets rd op a b) = (a < 32) × IsPlainInput b
+IsPlainRow (Fixes rd n) = IsSpare rd
+IsPlainRow (Moves rd rs) = IsSpare rd × (rs < 32)
+IsPlainRow (Sets rd op a b) = IsSpare rd × (a < 32) × IsPlainInput b
 IsPlainRow _ = ⊥
 
 -- a word that does what a row does, wherever it stands
@@ -67,10 +71,11 @@ pub record IsStraightImage (block : Block) (image : Image) : Type 0 where
   pub words : List ℕ
   pub straight : IsStraight block.id 0 block.items words
   pub low : image.low ≡ 0
+  pub area : image.area ≡ 0
   pub text : image.text ≡ flat_map (to_le_bytes w32) words
   pub lines : image.lines ≡ lines_of 0 block.items
 
--- the place holds the variable's value: both have a token, the same one
+-- the place holds the value of the part of a variable: both have a token, the same one
 pub record Holds (v : VarId) (t : Tokens) (place : Place) : Type 0 where
   pub token : Token
   pub variable : variable_token v t ≡ Some token

@@ -23,11 +23,12 @@ pub record HoldTheSame (m : Machine) (c : Core) : Type 0 where
 
 -- At each line that the machine comes to, the source comes to the line's origin, and both hold the same.
 abbrev pub StraightCodeRunsAlong : Type 0
-StraightCodeRunsAlong = (block : Block) (resolve : OperandPair → Option OperandPair) (image : Image) → IsStraightImage block image → (s0 : State) → IsStart block.id s0 →
+StraightCodeRunsAlong = (block : Block) (resolve : OperandPair → Option OperandPair) (image : Image) → IsStraightImage block image → (s0 : State) → IsStart [] block.id s0 →
     (m : Machine) (s : State) (since : Since) (l : CodeLine) → MachineAlong (program_of true (block ∷ []) resolve) image (machine_start image s0) s0 m s since →
     line_at image.lines m.counter ≡ Some l → (s' : State) × AlignsWith (program_of true (block ∷ []) resolve) l since s s' × HoldTheSame m s'.core
 
 -- Where the lists give only places that hold the variable's value by the walk's tokens, the headline holds.
 abbrev pub StraightCodeMeetsTheHeadline : (VarId → (address : ℕ) → Place → Type 0) → Type 0
-StraightCodeMeetsTheHeadline lists = (block : Block) (resolve : OperandPair → Option OperandPair) (image : Image) → IsStraightImage block image →
-    GiveHeld lists resolve 0 0 entry_tokens block.items → Headline (block ∷ []) resolve image lists
+StraightCodeMeetsTheHeadline lists = (source : Function) (block : Block) (resolve : OperandPair → Option OperandPair) (image : Image) →
+    source.blocks ≡ block ∷ [] → source.objects ≡ [] → IsStraightImage block image → GiveHeld lists resolve 0 0 entry_tokens block.items →
+    Headline source resolve image lists

@@ -35,15 +35,17 @@ token_of (OfPair k o) t = t.pairs k o
 token_of (OfVariable v) t = assigned v t.marks
 token_of (OfNumber c) t = Some (Fixed c)
 
--- where a token comes from: something had it before the item, the item made it for a register, or there is none
+-- where a token after some items comes from: something had it before them, the item at an index among them made it for a
+-- register, or there is none
 pub data Back : Type 0 where
   Was : Tracked → Back
-  New : (r : ℕ) → Back
+  New : (index r : ℕ) → Back
   Nameless : Back
 
-abbrev pub token_back : (index : ℕ) → Tokens → Back → Option Token
+-- the token, where the first of the items stands at this index of the path, with these tokens before it
+abbrev pub token_back : (first : ℕ) → Tokens → Back → Option Token
 token_back n t (Was x) = token_of x t
-token_back n t (New r) = Some (Made n r)
+token_back n t (New i r) = Some (Made (n + i) r)
 token_back n t Nameless = None
 
 -- a register where rd was put: x0 drops writes, and x2 has no token
@@ -52,28 +54,41 @@ put_back rd b zero = Was (InRegister zero)
 put_back zero b (suc r) = Was (InRegister (suc r))
 put_back (suc rd) b (suc r) = cond (nat_eq (suc r) (suc rd)) (cond (nat_eq rd 1) Nameless b) (Was (InRegister (suc r)))
 
-abbrev pub back_row : Row → Tracked → Back
-back_row (Fixes rd c) (InRegister r) = put_back rd (Was (OfNumber c)) r
-back_row (Moves rd rs) (InRegister r) = put_back rd (Was (InRegister rs)) r
-back_row (Sets rd op a b) (InRegister r) = put_back rd (New rd) r
-back_row (Loads rd op base offset) (InRegister r) = put_back rd (New rd) r
-back_row (LoadsSlot rd n) (InRegister r) = put_back rd (Was (InSlot n)) r
-back_row (StoresSlot rs n) (InSlot k) = cond (nat_eq k n) (Was (InRegister rs)) (Was (InSlot k))
-back_row (Calls name args) (InRegister r) = cond (list_any (λ q. nat_eq r q) caller_saved) (New r) (Was (InRegister r))
-back_row _ x = Was x
+-- a register after code of a row
+abbrev pub back_register : (index : ℕ) → Row → (r : ℕ) → Back
+back_register i (Fixes rd c) r = put_back rd (Was (OfNumber c)) r
+back_register i (Moves rd rs) r = put_back rd (Was (InRegister rs)) r
+back_register i (Sets rd op a b) r = put_back rd (New i rd) r
+back_register i (Addresses rd n offset) r = put_back rd (New i rd) r
+back_register i (Loads rd op base offset) r = put_back rd (New i rd) r
+back_register i (Stores op rs base offset) r = Was (InRegister r)
+back_register i (LoadsSlot rd n) r = put_back rd (Was (InSlot n)) r
+back_register i (StoresSlot rs n) r = Was (InRegister r)
+back_register i (Branches op a b target) r = Was (InRegister r)
+back_register i (Jumps target) r = Was (InRegister r)
+back_register i (Calls name args) r = cond (list_any (λ q. nat_eq r q) caller_saved) (New i r) (Was (InRegister r))
+back_register i (Returns results) r = Was (InRegister r)
+back_register i Unfit r = Was (InRegister r)
 
--- a write of x2 takes every slot's token away
-abbrev pub clear_slots : Tracked → Back → Back
-clear_slots (InSlot n) b = Nameless
-clear_slots _ b = b
+abbrev pub slot_stored : Row → (k : ℕ) → Back
+slot_stored (StoresSlot rs n) k = cond (nat_eq k n) (Was (InRegister rs)) (Was (InSlot k))
+slot_stored _ k = Was (InSlot k)
 
-abbrev pub back_code : Row → Tracked → Back
-back_code r x = cond (sets_pointer r) (clear_slots x (back_row r x)) (back_row r x)
+-- a slot after code of a row: a write of x2 takes every slot's token away
+abbrev pub back_slot : Row → (k : ℕ) → Back
+back_slot row k = cond (sets_pointer row) Nameless (slot_stored row k)
+
+abbrev pub back_row : (index : ℕ) → Row → Tracked → Back
+back_row i row (InRegister r) = back_register i row r
+back_row i row (InSlot k) = back_slot row k
+back_row i row (OfPair k o) = Was (OfPair k o)
+back_row i row (OfVariable v) = Was (OfVariable v)
+back_row i row (OfNumber c) = Was (OfNumber c)
 
 -- the pair of code's number has what its defining operand's register has after the code
-abbrev pub given_back : Row → Option ℕ → Tracked → Back
-given_back r None x = Was x
-given_back r (Some rd) x = back_code r (InRegister rd)
+abbrev pub given_back : (index : ℕ) → Row → Option ℕ → Tracked → Back
+given_back i row None x = Was x
+given_back i row (Some rd) x = back_register i row rd
 
 abbrev pub back_place : Option Place → Back
 back_place None = Nameless
@@ -81,29 +96,76 @@ back_place (Some (Register r)) = Was (InRegister r)
 back_place (Some (Slot n)) = Was (InSlot n)
 back_place (Some (Const c)) = Was (OfNumber (word c))
 
-abbrev pub back_pair : Option (ℕ × ℕ) → Back
+abbrev pub back_pair : Option OperandPair → Back
 back_pair None = Nameless
-back_pair (Some q) = Was (OfPair q.0 q.1)
+back_pair (Some q) = Was (OfPair q.number q.operand)
 
-abbrev pub back_mark : (OperandPair → Option OperandPair) → MarkValue → Back
-back_mark resolve Nothing = Nameless
-back_mark resolve (Constant c) = Was (OfNumber (word c))
-back_mark resolve (At r) = Was (InRegister r)
-back_mark resolve (Pair k o) = back_pair (resolve k o)
+abbrev pub back_value : (OperandPair → Option OperandPair) → MarkValue → Back
+back_value resolve Nothing = Nameless
+back_value resolve (Constant c) = Was (OfNumber (word c))
+back_value resolve (At r) = Was (InRegister r)
+back_value resolve (Pair q) = back_pair (resolve q)
 
--- what a thing's token is after an item, by what stood before it
-abbrev pub back : (OperandPair → Option OperandPair) → ItemKind → Tracked → Back
-back resolve (Code i None) x = back_code (row_of i) x
-back resolve (Code i (Some j)) (OfPair k o) = cond (nat_eq k j) (given_back (row_of i) (defined (is_call (row_of i)) (slice_get i.operands o)) (OfPair k o)) (Was (OfPair k o))
-back resolve (Code i (Some j)) x = back_code (row_of i) x
-back resolve (Mark v m) (OfVariable w) = cond (is_same w v) (back_mark resolve m) (Was (OfVariable w))
-back resolve (Phi p j) (OfPair k o) = cond (nat_eq k j) (cond (nat_eq o 0) (back_place p) (Was (OfPair k o))) (Was (OfPair k o))
-back resolve _ x = Was x
+-- a pair after code with a number
+abbrev pub back_numbered : (index : ℕ) → Instruction → (number k o : ℕ) → Back
+back_numbered i c j k o =
+    cond (nat_eq k j) (given_back i (row_of c) (defined (is_call (row_of c)) (slice_get c.operands o)) (OfPair k o)) (Was (OfPair k o))
 
--- After each item each tracked thing has the token that its pull-back tells.
+abbrev pub back_code : (index : ℕ) → Instruction → Option ℕ → Tracked → Back
+back_code i c (Some j) (OfPair k o) = back_numbered i c j k o
+back_code i c number x = back_row i (row_of c) x
+
+-- a mark gives its part what it asks for, and takes the token of every other part away that overlaps it
+abbrev pub back_mark : (OperandPair → Option OperandPair) → VarId → MarkValue → Tracked → Back
+back_mark resolve v m (OfVariable w) = cond (is_same w v) (back_value resolve m) (cond (overlaps w v) Nameless (Was (OfVariable w)))
+back_mark resolve v m x = Was x
+
+abbrev pub back_phi : Option Place → (number : ℕ) → Tracked → Back
+back_phi p j (OfPair k o) = cond (nat_eq k j) (cond (nat_eq o 0) (back_place p) (Was (OfPair k o))) (Was (OfPair k o))
+back_phi p j x = Was x
+
+-- what a thing's token is after the item at an index among some, by what stood before it
+abbrev pub back : (OperandPair → Option OperandPair) → (index : ℕ) → ItemKind → Tracked → Back
+back resolve i (Code c k) x = back_code i c k x
+back resolve i (Mark v m) x = back_mark resolve v m x
+back resolve i (Phi p k) x = back_phi p k x
+
+-- what comes from something that comes from somewhere
+abbrev pub through : (Tracked → Back) → Back → Back
+through f (Was x) = f x
+through f (New i r) = New i r
+through f Nameless = Nameless
+
+-- the same over a list of items, of which the first has this index: from the last one upward
+abbrev pub back_over : (OperandPair → Option OperandPair) → (index : ℕ) → List Item → Tracked → Back
+back_over resolve i [] x = Was x
+back_over resolve i (item ∷ items) x = through (back resolve i item.kind) (back_over resolve (suc i) items x)
+
+-- the tokens after items, of which the first stands at this index of the path
+abbrev pub after_items : (OperandPair → Option OperandPair) → (index : ℕ) → List Item → Tokens → Tokens
+after_items resolve n [] t = t
+after_items resolve n (item ∷ items) t = after_items resolve (suc n) items (after_item resolve n item.kind t)
+
+-- After items each tracked thing has the token that its pull-back tells.
 abbrev pub TokensPullBack : Type 0
-TokensPullBack = (resolve : OperandPair → Option OperandPair) (index : ℕ) (k : ItemKind) (t : Tokens) (x : Tracked) →
-    token_of x (after_item resolve index k t) ≡ token_back index t (back resolve k x)
+TokensPullBack = (resolve : OperandPair → Option OperandPair) (first : ℕ) (items : List Item) (t : Tokens) (x : Tracked) →
+    token_of x (after_items resolve first items t) ≡ token_back first t (back_over resolve 0 items x)
+
+-- two pull-backs tell one token, or both none: the same new one, or what stood before is so
+abbrev pub BacksAgree : Tokens → Back → Back → Type 0
+BacksAgree t (Was x) (Was y) = token_of x t ≡ token_of y t
+BacksAgree t (New i q) (New j r) = (i ≡ j) × (q ≡ r)
+BacksAgree t Nameless Nameless = Unit {0}
+BacksAgree t (Was x) Nameless = token_of x t ≡ None
+BacksAgree t Nameless (Was y) = token_of y t ≡ None
+BacksAgree t _ _ = ⊥
+
+-- On a path, two things have one token after items, or both have none, exactly where their pull-backs agree before them: a token
+-- that an item made is none that was there.
+abbrev pub AgreementPullsBack : Type 0
+AgreementPullsBack = (g : Program) (start : Pos) (n : ℕ) (p : Pos) (t : Tokens) → Path g start n p t → (items : List Item) (x y : Tracked) →
+    (token_of x (after_items g.resolve n items t) ≡ token_of y (after_items g.resolve n items t))
+    ↔ BacksAgree t (back_over g.resolve 0 items x) (back_over g.resolve 0 items y)
 
 -- both have a token, and the same one
 abbrev pub Share : Option Token → Option Token → Type 0
@@ -112,11 +174,11 @@ Share a b = (k : Token) × (a ≡ Some k) × (b ≡ Some k)
 -- two pull-backs tell one token: the same new one, or one that both had before
 abbrev pub BacksShare : Tokens → Back → Back → Type 0
 BacksShare t (Was x) (Was y) = Share (token_of x t) (token_of y t)
-BacksShare t (New q) (New r) = q ≡ r
+BacksShare t (New i q) (New j r) = (i ≡ j) × (q ≡ r)
 BacksShare t _ _ = ⊥
 
--- On a path, two things share a token after an item exactly where their pull-backs do before it: a token that the item made
--- is none that was there.
+-- On a path, two things share a token after items exactly where their pull-backs do before them.
 abbrev pub SharingPullsBack : Type 0
-SharingPullsBack = (g : Program) (start : Pos) (n : ℕ) (p : Pos) (t : Tokens) → Path g start n p t → (k : ItemKind) (x y : Tracked) →
-    Share (token_of x (after_item g.resolve n k t)) (token_of y (after_item g.resolve n k t)) ↔ BacksShare t (back g.resolve k x) (back g.resolve k y)
+SharingPullsBack = (g : Program) (start : Pos) (n : ℕ) (p : Pos) (t : Tokens) → Path g start n p t → (items : List Item) (x y : Tracked) →
+    Share (token_of x (after_items g.resolve n items t)) (token_of y (after_items g.resolve n items t))
+    ↔ BacksShare t (back_over g.resolve 0 items x) (back_over g.resolve 0 items y)

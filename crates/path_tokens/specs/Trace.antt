@@ -3,6 +3,7 @@ use Rattle.std.specs.Prelude.{◌≡◌, ℕ, suc, ◌<◌, Some, IsSome}
 use Rattle.mir_func.specs.declared.variable.VarId.{VarId}
 use Rattle.mir_meaning.specs.State.{Core, State, content, assigned}
 use Rattle.mir_meaning.specs.Step.{Went, step}
+use Rattle.mir_func.specs.Variables.{part_value}
 use Rattle.mir_func.specs.Graph.{Program}
 use Rattle.mir_meaning.specs.Token.{Token, Fixed, Tokens, register_token, after_fetch, entry_tokens, Path}
 
@@ -11,13 +12,14 @@ pub data Trace (g : Program) (start : State) : ℕ → State → Tokens → Type
   begin : Trace g start 0 start entry_tokens
   onward : {n : ℕ} {s u : State} {t : Tokens} → Trace g start n s t → step g s ≡ Went u → Trace g start (suc n) u (after_fetch g.resolve n (g.fetch s.pos) t)
 
--- what has a token holds the value that the token names, and a number's token names the number
+-- what has a token holds the value that the token names, a part of a variable its low bytes, and a number's token names the
+-- number
 pub record Names (value : Token → ℕ) (t : Tokens) (s : Core) : Type 0 where
   pub numbers : (n : ℕ) → value (Fixed n) ≡ n
   pub regs : (r : ℕ) (k : Token) → register_token t.regs r ≡ Some k → content s.regs r ≡ Some (value k)
   pub slots : (n : ℕ) (k : Token) → t.slots n ≡ Some k → s.slots n ≡ Some (value k)
   pub pairs : (n o : ℕ) (k : Token) → t.pairs n o ≡ Some k → s.pairs n o ≡ Some (value k)
-  pub variables : (v : VarId) (k : Token) → assigned v t.marks ≡ Some k → assigned v s.marks ≡ Some (value k)
+  pub variables : (v : VarId) (k : Token) → assigned v t.marks ≡ Some k → assigned v s.marks ≡ Some (part_value v (value k))
 
 -- it does so at each state of the run so far
 abbrev pub NamesAlong : {g : Program} {start : State} {n : ℕ} {s : State} {t : Tokens} → (Token → ℕ) → Trace g start n s t → Type 0
