@@ -3,11 +3,11 @@ use Rattle.std.proofs.Common.{◌≡◌, ℕ, ◌+◌, ◌%◌, ◌^◌, List, [
 use Rattle.mir_func.specs.declared.position.Pos.{Pos}
 use Rattle.mir_func.specs.declared.item.ItemKind.{ItemKind}
 use Rattle.mir_func.specs.declared.item.ItemKind.TheVariants.{Code, Mark, Phi}
-use Rattle.rv64_instr.specs.Row.{Row, Fixes, Moves, Sets, Loads, Stores, LoadsSlot, StoresSlot, Branches, Jumps, Calls, Returns, Unfit, row_of}
-use Rattle.rv64_instr.specs.Arithmetic.{taken, width_of, extended}
+use Rattle.rv64_instr.specs.Row.{Row, Fixes, Moves, Sets, Addresses, Loads, Stores, LoadsSlot, StoresSlot, Branches, Jumps, Calls, Returns, Unfit, row_of}
+use Rattle.rv64_instr.specs.Arithmetic.{taken, load_width, store_width, extended}
 use Rattle.rv64_instr.specs.Access.{reads, caller_saved}
-use Rattle.mir_meaning.specs.State.{State, Core, Reply, Called, spelled, put_all, written, low_bytes, touches_frame, writes_frame, updated}
-use Rattle.mir_meaning.specs.Step.{Went, Outcome, Falls, Goes, Gives, Traps, Asks, Breaks, moved, read, set_register, saved, answered, slot_loaded, does, act, are_written, numbered, with_core, mark_value, place_value, do_item, do_fetch, step}
+use Rattle.mir_meaning.specs.State.{State, Core, Reply, Called, spelled, put_all, written, low_bytes, writes_frame, updated}
+use Rattle.mir_meaning.specs.Step.{Went, Outcome, Falls, Goes, Gives, Traps, Asks, Breaks, moved, read, address_at, is_fault, part_of, set_register, saved, answered, slot_loaded, does, act, are_written, numbered, with_core, mark_value, place_value, do_item, do_fetch, step}
 use Rattle.rv64_instr.specs.Parts.{is_call}
 use Rattle.mir_func.specs.Graph.{Program, Fetch, Here, Silent, Outside, below, block_start, Edge, FetchEdge, KindEdge, RowEdge, Leads, stay, go}
 
@@ -27,12 +27,15 @@ module _ (enter : ℕ → ℕ) (p : Pos) where
   does_allows (Fixes rd n) c = refl
   does_allows (Moves rd rs) c = refl
   does_allows (Sets rd op a b) c = refl
+  does_allows (Addresses rd n o) c = refl
   does_allows (Loads rd op b o) c =
-      let a = (read c b + o) % 2 ^ 64 in
-      either (Loads rd op b o) (touches_frame c.entry a (width_of op)) Traps (Falls (set_register rd (extended op (spelled c.memory a (width_of op))) c)) tt refl
+      let a = address_at c b o in
+      let v = extended op (spelled c.memory a (load_width op)) in
+      either (Loads rd op b o) (is_fault b c a (load_width op)) Traps (Falls (set_register rd v c)) tt refl
   does_allows (Stores op rs b o) c =
-      let a = (read c b + o) % 2 ^ 64 in
-      either (Stores op rs b o) (touches_frame c.entry a (width_of op)) Traps (Falls (saved a (low_bytes (width_of op) (read c rs)) c)) tt refl
+      let a = address_at c b o in
+      let bytes = low_bytes (store_width op) (read c rs) in
+      either (Stores op rs b o) (is_fault b c a (store_width op)) Traps (Falls (saved a bytes c)) tt refl
   does_allows (LoadsSlot rd n) c = by_slot (c.slots n) where
     by_slot : (x : Option ℕ) → Allows enter (LoadsSlot rd n) p (slot_loaded rd c x)
     by_slot None = tt
@@ -43,7 +46,7 @@ module _ (enter : ℕ → ℕ) (p : Pos) where
   does_allows (Calls name args) c = by_script (map (read c) args) c.script where
     by_script : (vs : List ℕ) (rs : List Reply) → Allows enter (Calls name args) p (answered name vs c rs)
     by_script vs [] = tt
-    by_script vs (r ∷ rs) = either (Calls name args) (writes_frame c.entry r.writes) Traps (Falls (record c { regs = put_all caller_saved r.regs c.regs; memory = written c.memory r.writes; script = rs; events = Called name vs ∷ c.events })) tt refl
+    by_script vs (r ∷ rs) = either (Calls name args) (writes_frame c.entry c.area r.writes) Traps (Falls (record c { regs = put_all caller_saved r.regs c.regs; memory = written c.memory r.writes; script = rs; events = Called name vs ∷ c.events })) tt refl
   does_allows (Returns v) c = tt
   does_allows Unfit c = tt
 
@@ -70,7 +73,7 @@ fetch_edge : (g : Program) (x : Fetch) (p : Pos) (c : Core) (u : State) → move
 fetch_edge g (Here i) p c u e = by_kind i.kind e where
   by_kind : (k : ItemKind) → moved g.enter p (do_item g k c) ≡ Went u → KindEdge g.enter k p u.pos
   by_kind (Code j n) e = moved_allows g.enter p (row_of j) (numbered g.sees_pointer (is_call (row_of j)) n j.operands) (act (row_of j) c) u (act_allows g.enter p (row_of j) c) e
-  by_kind (Mark v m) e = falls_below g.enter p (record c { marks = (v, mark_value g m c) ∷ c.marks }) u e
+  by_kind (Mark v m) e = falls_below g.enter p (record c { marks = (v, part_of v (mark_value g m c)) ∷ c.marks }) u e
   by_kind (Phi q n) e = falls_below g.enter p (record c { pairs = updated n (updated 0 (place_value q c) (c.pairs n)) c.pairs }) u e
 fetch_edge g (Silent k n) p c u e = goes_to_start g.enter p n c u e
 fetch_edge g Outside p c u e = cc

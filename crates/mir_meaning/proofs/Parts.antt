@@ -4,20 +4,21 @@ use Rattle.std.specs.List.{list_any}
 use Rattle.std.proofs.lemmas.Bool.{cases_eq, cases_lt, eqb-true}
 use Rattle.std.proofs.lemmas.Map.Made.{Contains-tail}
 use Rattle.rv64_instr.specs.declared.operand.Operand.{Operand}
-use Rattle.rv64_instr.specs.declared.operand.Operand.TheVariants.{Def, Use, ImplicitDef, ImplicitUse, Imm, Slot as SlotOperand, Block, Symbol, Mask}
+use Rattle.rv64_instr.specs.declared.operand.Operand.TheVariants.{Def, Use, ImplicitDef, ImplicitUse, Imm, Slot as SlotOperand, Object, Block, Symbol, Mask}
 use Rattle.rv64_instr.specs.declared.place.Place.{Place}
 use Rattle.rv64_instr.specs.declared.place.Place.TheVariants.{Register, Slot, Const}
 use Rattle.rv64_instr.specs.Instruction.{Instruction}
-use Rattle.rv64_instr.specs.Arithmetic.{word, signed, width_of, extended}
-use Rattle.rv64_instr.specs.Row.{Row, Fixes, Moves, Sets, Loads, Stores, LoadsSlot, StoresSlot, Branches, Jumps, Calls, Returns, Unfit, row_of, implicit_uses}
+use Rattle.rv64_instr.specs.Arithmetic.{word, signed, load_width, extended}
+use Rattle.rv64_instr.specs.Row.{Row, Fixes, Moves, Sets, Addresses, Loads, Stores, LoadsSlot, StoresSlot, Branches, Jumps, Calls, Returns, Unfit, row_of, implicit_uses}
 use Rattle.rv64_instr.specs.declared.decoded.Input.TheVariants.{Content, Number}
+use Rattle.rv64_instr.specs.declared.decoded.Base.TheVariants.{PointedBy, ObjectAt}
 use Rattle.rv64_instr.specs.Access.{reads, sets}
 use Rattle.rv64_instr.specs.Parts.{place_set, set_by, moved_by, constant_of, is_pure, is_call as calls, uses_of, defines_of, first_use, second_use, is_register, has_implicit_uses, is_implicit_use, names_slot, slot_read, is_call}
 use Rattle.mir_func.specs.declared.item.ItemKind.{ItemKind}
 use Rattle.mir_func.specs.declared.item.ItemKind.TheVariants.{Code, Mark, Phi}
 use Rattle.mir_meaning.specs.Live.{KindDefines}
-use Rattle.mir_meaning.specs.State.{Core, content, updated, spelled, touches_frame}
-use Rattle.mir_meaning.specs.Step.{Outcome, Falls, Goes, Gives, Traps, Asks, Breaks, with_core, numbered, do_item, read, or_zero, set_register, slot_loaded, does, are_written, act}
+use Rattle.mir_meaning.specs.State.{Core, content, updated, spelled}
+use Rattle.mir_meaning.specs.Step.{Outcome, Falls, Goes, Gives, Traps, Asks, Breaks, with_core, numbered, do_item, read, or_zero, address_at, is_fault, set_register, slot_loaded, does, are_written, act}
 use Rattle.mir_func.specs.Graph.{Program}
 use Rattle.mir_meaning.specs.Effects.{held_in, OnCore, EndAlike, SameWorld, FallsInto, AreHeldAlike, EffectsHold}
 use Rattle.mir_meaning.proofs.Places.{contains_head, contains_tail, put_same, updated_same}
@@ -88,6 +89,7 @@ implicit_any q (Use r ∷ os) k = implicit_any q os k
 implicit_any q (ImplicitDef r ∷ os) k = implicit_any q os k
 implicit_any q (Imm z ∷ os) k = implicit_any q os k
 implicit_any q (SlotOperand n ∷ os) k = implicit_any q os k
+implicit_any q (Object n ∷ os) k = implicit_any q os k
 implicit_any q (Block n ∷ os) k = implicit_any q os k
 implicit_any q (Symbol n ∷ os) k = implicit_any q os k
 implicit_any q (Mask ∷ os) k = implicit_any q os k
@@ -107,8 +109,10 @@ register_used os (Sets rd op a (Content b)) q h k =
       | inr ne ↦ rw (only_one b q (Contains-tail a (b ∷ []) q ne k)) (or_left (nat_eq q a || true) false (or_right (nat_eq q a) true refl))
     ]
 register_used os (Sets rd op a (Number n)) q h k = rw (only_one a q k) refl
-register_used os (Loads rd op b o) q h k = rw (only_one b q k) refl
-register_used os (Stores op rs b o) q h k =
+register_used os (Loads rd op (PointedBy b) o) q h k = rw (only_one b q k) refl
+register_used os (Loads rd op (ObjectAt n) o) q h k = absurd (omega (arith, k.1))
+register_used os (Stores op rs (ObjectAt n) o) q h k = rw (only_one rs q k) refl
+register_used os (Stores op rs (PointedBy b) o) q h k =
     elim (cases_eq rs q) as (λ _. (nat_eq q rs || nat_eq q b || false) ≡ true) [
       | inl e ↦ rw (eq-eqb q rs (sym e)) refl
       | inr ne ↦ rw (only_one b q (Contains-tail rs (b ∷ []) q ne k)) (or_left (nat_eq q rs || true) false (or_right (nat_eq q rs) true refl))
@@ -122,6 +126,7 @@ register_used os (Branches op a b t) q h k =
 register_used os (Calls name args) q h k = implicit_any q os (subst (λ (qs : List ℕ). Contains qs q) h k)
 register_used os (Returns results) q h k = implicit_any q os (subst (λ (qs : List ℕ). Contains qs q) h k)
 register_used os (Fixes rd n) q h k = absurd (omega (arith, k.1))
+register_used os (Addresses rd n o) q h k = absurd (omega (arith, k.1))
 register_used os (LoadsSlot rd n) q h k = absurd (omega (arith, k.1))
 register_used os (Jumps t) q h k = absurd (omega (arith, k.1))
 register_used os Unfit q h k = absurd (omega (arith, k.1))
@@ -150,6 +155,7 @@ one_set : (r : Row) (x : Place) → calls r ≡ false → RowDefines r x → (x 
 one_set (Fixes rd n) (Register q) e k = by_register rd q k
 one_set (Moves rd rs) (Register q) e k = by_register rd q k
 one_set (Sets rd op a b) (Register q) e k = by_register rd q k
+one_set (Addresses rd n o) (Register q) e k = by_register rd q k
 one_set (Loads rd op b o) (Register q) e k = by_register rd q k
 one_set (LoadsSlot rd n) (Register q) e k = by_register rd q k
 one_set (StoresSlot rs n) (Slot m) e k = inr (ap (λ (z : ℕ). Some (Slot z)) k)
@@ -210,6 +216,7 @@ row_moves (StoresSlot rs n) from to c m s w =
     subst (λ (x : Place). held_in to d ≡ held_in x c) f (subst (λ (x : Place). held_in x d ≡ content c.regs rs) t (updated_same n (Some (read c rs)) c.slots ∙ first_held c rs w))
 row_moves (Fixes rd n) from to c m s w = cc
 row_moves (Sets rd op a b) from to c m s w = cc
+row_moves (Addresses rd n o) from to c m s w = cc
 row_moves (Loads rd op b o) from to c m s w = cc
 row_moves (Stores op rs b o) from to c m s w = cc
 row_moves (Branches op a b t) from to c m s w = cc
@@ -238,6 +245,7 @@ row_fixes (Moves rd rs) z to c k e s = cc
 row_fixes (LoadsSlot rd n) z to c k e s = cc
 row_fixes (StoresSlot rs n) z to c k e s = cc
 row_fixes (Sets rd op a b) z to c k e s = cc
+row_fixes (Addresses rd n o) z to c k e s = cc
 row_fixes (Loads rd op b o) z to c k e s = cc
 row_fixes (Stores op rs b o) z to c k e s = cc
 row_fixes (Branches op a b t) z to c k e s = cc
@@ -252,7 +260,7 @@ fixes i z to c e s = acts (OnCore (λ d. held_in to d ≡ Some (word z))) tt (ro
 -- ---- pure code
 
 same_world : (c : Core) → SameWorld c c
-same_world c = record { entry = refl; memory = refl; script = refl; events = refl }
+same_world c = record { entry = refl; area = refl; objects = refl; memory = refl; script = refl; events = refl }
 
 falls_either : (P : Core → Type 0) (b : Bool) (x y : Outcome) → FallsInto P x → FallsInto P y → FallsInto P (cond b x y)
 falls_either P true x y h k = h
@@ -260,18 +268,19 @@ falls_either P false x y h k = k
 
 row_pure : (r : Row) (c : Core) → is_pure r ≡ true → FallsInto (SameWorld c) (does r c)
 unfolding does
-row_pure (Fixes rd n) c e = record { entry = refl; memory = refl; script = refl; events = refl }
-row_pure (Moves rd rs) c e = record { entry = refl; memory = refl; script = refl; events = refl }
-row_pure (Sets rd op a b) c e = record { entry = refl; memory = refl; script = refl; events = refl }
+row_pure (Fixes rd n) c e = record { entry = refl; area = refl; objects = refl; memory = refl; script = refl; events = refl }
+row_pure (Moves rd rs) c e = record { entry = refl; area = refl; objects = refl; memory = refl; script = refl; events = refl }
+row_pure (Sets rd op a b) c e = record { entry = refl; area = refl; objects = refl; memory = refl; script = refl; events = refl }
+row_pure (Addresses rd n o) c e = record { entry = refl; area = refl; objects = refl; memory = refl; script = refl; events = refl }
 row_pure (Loads rd op b o) c e =
-    let a = (read c b + o) % 2 ^ 64 in
-    let d : Core = set_register rd (extended op (spelled c.memory a (width_of op))) c in
-    falls_either (SameWorld c) (touches_frame c.entry a (width_of op)) Traps (Falls d) tt (record { entry = refl; memory = refl; script = refl; events = refl })
+    let a = address_at c b o in
+    let d : Core = set_register rd (extended op (spelled c.memory a (load_width op))) c in
+    falls_either (SameWorld c) (is_fault b c a (load_width op)) Traps (Falls d) tt (record { entry = refl; area = refl; objects = refl; memory = refl; script = refl; events = refl })
 row_pure (LoadsSlot rd n) c e = by_slot (c.slots n) where
   by_slot : (x : Option ℕ) → FallsInto (SameWorld c) (slot_loaded rd c x)
   by_slot None = tt
-  by_slot (Some v) = record { entry = refl; memory = refl; script = refl; events = refl }
-row_pure (StoresSlot rs n) c e = record { entry = refl; memory = refl; script = refl; events = refl }
+  by_slot (Some v) = record { entry = refl; area = refl; objects = refl; memory = refl; script = refl; events = refl }
+row_pure (StoresSlot rs n) c e = record { entry = refl; area = refl; objects = refl; memory = refl; script = refl; events = refl }
 row_pure Unfit c e = tt
 row_pure (Stores op rs b o) c e = cc
 row_pure (Branches op a b t) c e = cc

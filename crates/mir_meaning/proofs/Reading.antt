@@ -2,12 +2,13 @@
 use Rattle.std.proofs.Common.{◌≡◌, ℕ, zero, suc, ◌+◌, ◌*◌, ◌<◌, ◌≤◌, List, [], ◌∷◌, length, drop, All, Contains, slice_get, slice_index_or, Option, Some, None, Bool, true, false, cond, nat_eq, eq-eqb, ne_eqb, refl, sym, ap, ◌∙◌, subst, inl, inr, ◌⊎◌, arith}
 use Rattle.std.proofs.lemmas.Bool.{eqb-true}
 use Rattle.std.proofs.lemmas.List.Elements.{All-weaker, All-contains, All-contains_itself}
-use Rattle.rv64_instr.specs.Row.{Row, Fixes, Moves, Sets, Loads, Stores, LoadsSlot, StoresSlot, Branches, Jumps, Calls, Returns, Unfit, row_of}
+use Rattle.rv64_instr.specs.Row.{Row, Fixes, Moves, Sets, Addresses, Loads, Stores, LoadsSlot, StoresSlot, Branches, Jumps, Calls, Returns, Unfit, row_of}
 use Rattle.mir_func.specs.declared.entry.OperandPair.{OperandPair}
 use Rattle.mir_func.specs.declared.position.Pos.{Pos}
 use Rattle.mir_func.specs.declared.position.Origin.{Origin}
 use Rattle.mir_func.specs.declared.position.Origin.TheVariants.{Kept, Before}
 use Rattle.mir_func.specs.declared.block.Block.{Block}
+use Rattle.mir_func.specs.declared.object.Object.{Object}
 use Rattle.mir_func.specs.declared.item.Item.{Item}
 use Rattle.mir_func.specs.declared.item.ItemKind.{ItemKind}
 use Rattle.mir_func.specs.declared.item.ItemKind.TheVariants.{Code, Mark, Phi}
@@ -141,6 +142,7 @@ back_edge (Code c m) q n e = by_row (row_of c) e where
   by_row (Fixes rd v) e = not_below e
   by_row (Moves rd rs) e = not_below e
   by_row (Sets rd op a b) e = not_below e
+  by_row (Addresses rd v o) e = not_below e
   by_row (Loads rd op a b) e = not_below e
   by_row (Stores op rs a b) e = not_below e
   by_row (LoadsSlot rd v) e = not_below e
@@ -240,7 +242,7 @@ module _ (blocks : List Block) (read : IsRead blocks) where
     kept_fits (Mark v Nothing) p = tt
     kept_fits (Mark v (Constant z)) p = tt
     kept_fits (Mark v (At r)) p = tt
-    kept_fits (Mark v (Pair k o)) p = tt
+    kept_fits (Mark v (Pair q)) p = tt
     kept_fits (Phi x n) p = tt
 
     item_kept : (b : Block) → Contains blocks b → (i : Item) → (c : Contains b.items i) → i.origin ≡ Kept (record { block = b.id; item = c.0 })
@@ -273,27 +275,27 @@ module _ (blocks : List Block) (read : IsRead blocks) where
       by_edge q Outside f e = absurd e
 
     sees_less : SeesLess src fp
-    sees_less = record { sees = λ r c v e. by_register r c v (nat_eq r 2) e; resolve = λ k o. refl } where
+    sees_less = record { sees = λ r c v e. by_register r c v (nat_eq r 2) e; resolve = λ q. refl } where
       by_register : (r : ℕ) (c : Core) (v : ℕ) (z : Bool) → cond z None (content c.regs r) ≡ Some v → content c.regs r ≡ Some v
       by_register r c v true e = cc
       by_register r c v false e = e
 
-    runs : (c : Count) (s : State) → IsStart (first_of blocks) s → RunsAlong src fp (station_at c fp) (AnyOrigin (station_at c fp)) s s
-    runs c s st =
+    runs : (c : Count) (objects : List Object) (s : State) → IsStart objects (first_of blocks) s → RunsAlong src fp (station_at c fp) (AnyOrigin (station_at c fp)) s s
+    runs c objects s st =
         let own = is_source false resolve in
         in_step_any fp own c src (Beside src fp sees_less)
         (record { pos = λ t u b. b.pos; goes = goes_beside src fp sees_less refl refl; agrees = agrees_beside src fp sees_less refl refl })
         s s (record { pos = refl; tells = tells_itself s.core }) (subst (IsWithin fp) (sym st.pos) (own.starts (first_of blocks)))
 
     -- it follows itself
-    pub follows_itself : Follows blocks blocks resolve resolve
-    follows_itself = record { shape = shape; runs = runs ByItems }
+    pub follows_itself : (objects : List Object) → Follows objects blocks blocks resolve resolve
+    follows_itself objects = record { shape = shape; runs = runs ByItems objects }
 
     -- and has its own blocks and their ends
-    pub whole_ends_of_itself : HasWholeEnds blocks blocks resolve resolve
-    whole_ends_of_itself = record {
+    pub whole_ends_of_itself : (objects : List Object) → HasWholeEnds objects blocks blocks resolve resolve
+    whole_ends_of_itself objects = record {
       blocks = refl;
       kept = λ p i f e. (p, i, f, (is_source false resolve).items p i f, end_alike i.kind e);
       only = λ q j f e. (q, j, f, (is_source false resolve).items q j f, end_alike j.kind e);
-      runs = runs ByEnds;
+      runs = runs ByEnds objects;
     }
