@@ -209,10 +209,10 @@ module _ (c : Core) (regs slots : ℕ → Option ℕ) (pairs : ℕ → ℕ → O
       subst (λ (z : Bool). EndAlike (Agreeing r c d) (put_in_memory op b a v c) (cond z Traps (Falls (saved a bytes d)))) (fault_alike b a (store_width op))
       (alike_either (Agreeing r c d) (is_fault b c a (store_width op)) Traps (Falls (saved a bytes c)) Traps (Falls (saved a bytes d)) tt
       (record { entry = refl; area = refl; objects = refl; memory = refl; script = refl; events = refl }, by_place bytes)) where
-    by_place : (bytes : List ℕ) (x : Place) → RowDefines (Stores op rs b o) x ⊎ (held_in x c ≡ held_in x d) → held_in x (saved a bytes c) ≡ held_in x (saved a bytes d)
-    by_place bytes (Register q) h = elim h as (λ _. content c.regs q ≡ content regs q) [ inl k ↦ absurd (none_in q k) | inr k ↦ k ]
-    by_place bytes (Slot n) h = elim h as (λ _. c.slots n ≡ slots n) [ inl k ↦ absurd k | inr k ↦ k ]
-    by_place bytes (Const z) h = refl
+        by_place : (bytes : List ℕ) (x : Place) → RowDefines (Stores op rs b o) x ⊎ (held_in x c ≡ held_in x d) → held_in x (saved a bytes c) ≡ held_in x (saved a bytes d)
+        by_place bytes (Register q) h = elim h as (λ _. content c.regs q ≡ content regs q) [ inl k ↦ absurd (none_in q k) | inr k ↦ k ]
+        by_place bytes (Slot n) h = elim h as (λ _. c.slots n ≡ slots n) [ inl k ↦ absurd k | inr k ↦ k ]
+        by_place bytes (Const z) h = refl
 
   map_alike : (r : Row) → UsesAlike r → (qs : List ℕ) → ((q : ℕ) → Contains qs q → Contains (reads r) q) → map (read c) qs ≡ map (read d) qs
   map_alike r u [] in' = refl

@@ -1,5 +1,5 @@
 -- What the parts of an instruction tell of its runs.
-use Rattle.std.proofs.Common.{◌≡◌, ℕ, ℤ, zero, suc, ◌+◌, ◌%◌, ◌^◌, List, [], ◌∷◌, Contains, Option, Some, None, Bool, true, false, cond, ◌&&◌, ◌||◌, nat_eq, is_some, eq-eqb, lt-ltb, le-ltb, refl, sym, ap, ◌∙◌, subst, inl, inr, ◌⊎◌, arith}
+use Rattle.std.proofs.Common.{◌≡◌, ℕ, ℤ, zero, suc, ◌^◌, List, [], ◌∷◌, Contains, Option, Some, None, Bool, true, false, cond, ◌&&◌, ◌||◌, nat_eq, is_some, eq-eqb, lt-ltb, le-ltb, refl, sym, ap, ◌∙◌, subst, inl, inr, ◌⊎◌, arith}
 use Rattle.std.specs.List.{list_any}
 use Rattle.std.proofs.lemmas.Bool.{cases_eq, cases_lt, eqb-true}
 use Rattle.std.proofs.lemmas.Map.Made.{Contains-tail}

@@ -18,7 +18,6 @@ use Rattle.mir_meaning.specs.State.{State, Core, content}
 use Rattle.mir_func.specs.Graph.{Program, Fetch, Here, Silent, Outside, below, block_start, end_of, front, fetch_in, from_block, program_of, FetchEdge, KindEdge, RowEdge}
 use Rattle.mir_meaning.specs.Align.{Count, ByItems, ByEnds, station_at, AnyOrigin, RunsAlong}
 use Rattle.mir_meaning.specs.Follow.{IsWithin, IsSource, IsRead, Among, none, same, first_of, OnRow, GoesTo, IsEnd, SameEnd, KindsEndAlike, EndIsKept, EndComesFrom, InOrder, rank, next_rank, class_of, HasClass, RowFits, KindFits, MarkFits, IsMetApart, Shape, IsStart, Follows, HasWholeEnds}
-use Rattle.rv64_instr.specs.Parts.{IsSlotStore}
 use Rattle.mir_meaning.proofs.Sources.{in_step_any}
 use Rattle.mir_meaning.proofs.Told.{SeesLess, Beside, goes_beside, agrees_beside, tells_itself}
 

@@ -136,7 +136,7 @@ module _ (g h : Program) (less : SeesLess g h) where
   item_less (Code i n) c d t =
       with_less (numbered g.sees_pointer (is_call (row_of i)) n i.operands) (numbered h.sees_pointer (is_call (row_of i)) n i.operands)
       (λ c' d' t'. numbered_less (is_call (row_of i)) n i.operands c' d' t') (act (row_of i) c) (act (row_of i) d) (act_less (row_of i) c d t)
-  item_less (Mark v m) c d t = marks_less c d _ _ t 
+  item_less (Mark v m) c d t = marks_less c d _ _ t
       (mark_less v (part_of v (mark_value g m c)) (part_of v (mark_value h m d)) c.marks d.marks
       (part_less v (mark_value g m c) (mark_value h m d) (value_less m c d t)) t.marks)
   item_less (Phi p n) c d t =
