@@ -1,5 +1,6 @@
 -- What a part of a variable was assigned last, and what it holds of a value.
-use Rattle.std.proofs.Common.{◌≡◌, ℕ, ◌+◌, ◌*◌, ◌^◌, ◌<◌, List, [], ◌∷◌, Option, Some, None, Bool, true, false, cond, ◌&&◌, nat_eq, nat_lt, refl, sym, ap, ◌∙◌, subst, inl, inr, eq-eqb, eqb-true, ne_eqb, lt-ltb, lt_of_le_of_lt, IfSome, arith}
+use Rattle.std.proofs.Common.{◌≡◌, ℕ, ◌+◌, ◌*◌, ◌^◌, ◌<◌, List, [], ◌∷◌, Option, Some, None, Bool, true, false, cond, ◌&&◌, nat_eq, nat_lt, refl, sym, ap}
+use Rattle.std.proofs.Common.{◌∙◌, subst, inl, inr, eq-eqb, eqb-true, ne_eqb, lt-ltb, lt_of_le_of_lt, IfSome, arith}
 use Rattle.std.proofs.lemmas.Bool.{and_parts, and_from, cases_eq}
 use Rattle.std.proofs.Math.Bool.{and_comm}
 use Rattle.std.proofs.Math.Nat.{mod-le, mod-mod}
@@ -115,14 +116,17 @@ module _ {A : Type 0} where
   pub assigned_over : (v w : VarId) (x : Option A) (ms : List (VarId × Option A)) → is_same v w ≡ false → overlaps v w ≡ true → assigned v ((w, x) ∷ ms) ≡ None
   assigned_over v w x ms s o = λ i. cond (s i) x (cond (o i) None (assigned v ms))
 
-  pub assigned_other : (v w : VarId) (x : Option A) (ms : List (VarId × Option A)) → is_same v w ≡ false → overlaps v w ≡ false → assigned v ((w, x) ∷ ms) ≡ assigned v ms
+  pub assigned_other : (v w : VarId) (x : Option A) (ms : List (VarId × Option A)) → is_same v w ≡ false → overlaps v w ≡ false →
+      assigned v ((w, x) ∷ ms) ≡ assigned v ms
   assigned_other v w x ms s o = λ i. cond (s i) x (cond (o i) None (assigned v ms))
 
   -- of two parts that overlap one has no assignment
-  pub one_assigned : (v w : VarId) (ms : List (VarId × Option A)) (a b : A) → overlaps v w ≡ true → is_same v w ≡ false → assigned v ms ≡ Some a → assigned w ms ≡ Some b → ⊥
+  pub one_assigned : (v w : VarId) (ms : List (VarId × Option A)) (a b : A) → overlaps v w ≡ true → is_same v w ≡ false → assigned v ms ≡ Some a →
+      assigned w ms ≡ Some b → ⊥
   one_assigned v w [] a b o s e f = cc
   one_assigned v w (m ∷ ms) a b o s e f =
-      by_first (is_same v m.0) (overlaps v m.0) refl refl e (λ e'. by_second (is_same w m.0) (overlaps w m.0) refl refl f (λ f'. one_assigned v w ms a b o s e' f')) where
+      by_first (is_same v m.0) (overlaps v m.0) refl refl e (λ e'. by_second (is_same w m.0) (overlaps w m.0) refl refl f
+          (λ f'. one_assigned v w ms a b o s e' f')) where
         -- w's assignment after a mark of v itself, and v's where w is marked
         hidden : v ≡ m.0 → ⊥
         hidden k =
@@ -131,14 +135,16 @@ module _ {A : Type 0} where
             let none : None ≡ Some b = sym (assigned_over w m.0 m.1 ms s' o') ∙ f in
             cc
 
-        by_second : (same over : Bool) → is_same w m.0 ≡ same → overlaps w m.0 ≡ over → cond same m.1 (cond over None (assigned w ms)) ≡ Some b → (assigned w ms ≡ Some b → ⊥) → overlaps v m.0 ≡ false → ⊥
+        by_second : (same over : Bool) → is_same w m.0 ≡ same → overlaps w m.0 ≡ over → cond same m.1 (cond over None (assigned w ms)) ≡ Some b →
+            (assigned w ms ≡ Some b → ⊥) → overlaps v m.0 ≡ false → ⊥
         by_second true over t u f' later apart =
             let met : false ≡ true = sym apart ∙ ap (overlaps v) (sym (same_is w m.0 t)) ∙ o in
             cc
         by_second false true t u f' later apart = cc
         by_second false false t u f' later apart = later f'
 
-        by_first : (same over : Bool) → is_same v m.0 ≡ same → overlaps v m.0 ≡ over → cond same m.1 (cond over None (assigned v ms)) ≡ Some a → (assigned v ms ≡ Some a → overlaps v m.0 ≡ false → ⊥) → ⊥
+        by_first : (same over : Bool) → is_same v m.0 ≡ same → overlaps v m.0 ≡ over → cond same m.1 (cond over None (assigned v ms)) ≡ Some a →
+            (assigned v ms ≡ Some a → overlaps v m.0 ≡ false → ⊥) → ⊥
         by_first true over t u e' later = hidden (same_is v m.0 t)
         by_first false true t u e' later = cc
         by_first false false t u e' later = later e' u

@@ -7,7 +7,8 @@ use Rattle.rv64_instr.specs.Row.{Row, Fixes, Moves, Sets, Addresses, Loads, Stor
 use Rattle.rv64_instr.specs.Arithmetic.{taken, load_width, store_width, extended}
 use Rattle.rv64_instr.specs.Access.{reads, caller_saved}
 use Rattle.mir_meaning.specs.State.{State, Core, Reply, Called, spelled, put_all, written, low_bytes, writes_frame, updated}
-use Rattle.mir_meaning.specs.Step.{Went, Outcome, Falls, Goes, Gives, Traps, Asks, Breaks, moved, read, address_at, is_fault, part_of, set_register, saved, answered, slot_loaded, does, act, are_written, numbered, with_core, mark_value, place_value, do_item, do_fetch, step}
+use Rattle.mir_meaning.specs.Step.{Went, Outcome, Falls, Goes, Gives, Traps, Asks, Breaks, moved, read, address_at, is_fault, part_of, set_register, saved}
+use Rattle.mir_meaning.specs.Step.{answered, slot_loaded, does, act, are_written, numbered, with_core, mark_value, place_value, do_item, do_fetch, step}
 use Rattle.rv64_instr.specs.Parts.{is_call}
 use Rattle.mir_func.specs.Graph.{Program, Fetch, Here, Silent, Outside, below, block_start, Edge, FetchEdge, KindEdge, RowEdge, Leads, stay, go}
 
@@ -46,7 +47,9 @@ module _ (enter : ℕ → ℕ) (p : Pos) where
   does_allows (Calls name args) c = by_script (map (read c) args) c.script where
     by_script : (vs : List ℕ) (rs : List Reply) → Allows enter (Calls name args) p (answered name vs c rs)
     by_script vs [] = tt
-    by_script vs (r ∷ rs) = either (Calls name args) (writes_frame c.entry c.area r.writes) Traps (Falls (record c { regs = put_all caller_saved r.regs c.regs; memory = written c.memory r.writes; script = rs; events = Called name vs ∷ c.events })) tt refl
+    by_script vs (r ∷ rs) = either (Calls name args) (writes_frame c.entry c.area r.writes) Traps
+        (Falls (record c { regs = put_all caller_saved r.regs c.regs; memory = written c.memory r.writes; script = rs; events = Called name vs ∷ c.events }))
+        tt refl
   does_allows (Returns v) c = tt
   does_allows Unfit c = tt
 
@@ -55,8 +58,10 @@ module _ (enter : ℕ → ℕ) (p : Pos) where
   act_allows r c = either r (are_written c (reads r)) (does r c) Traps (does_allows r c) tt
 
   moved_allows : (r : Row) (k : Core → Core) (o : Outcome) (u : State) → Allows enter r p o → moved enter p (with_core k o) ≡ Went u → RowEdge enter r p u.pos
-  moved_allows r k (Falls c) u a e = let made : State = record { pos = below p; core = k c } in let w : made ≡ u = cc in subst (λ (z : State). RowEdge enter r p z.pos) w a
-  moved_allows r k (Goes n c) u a e = let made : State = record { pos = block_start (enter n); core = k c } in let w : made ≡ u = cc in subst (λ (z : State). RowEdge enter r p z.pos) w a
+  moved_allows r k (Falls c) u a e = let made : State = record { pos = below p; core = k c } in let w : made ≡ u = cc in
+      subst (λ (z : State). RowEdge enter r p z.pos) w a
+  moved_allows r k (Goes n c) u a e = let made : State = record { pos = block_start (enter n); core = k c } in let w : made ≡ u = cc in
+      subst (λ (z : State). RowEdge enter r p z.pos) w a
   moved_allows r k (Gives v) u a e = cc
   moved_allows r k Traps u a e = cc
   moved_allows r k Asks u a e = cc
@@ -72,7 +77,8 @@ module _ (enter : ℕ → ℕ) (p : Pos) where
 fetch_edge : (g : Program) (x : Fetch) (p : Pos) (c : Core) (u : State) → moved g.enter p (do_fetch g x c) ≡ Went u → FetchEdge g.enter x p u.pos
 fetch_edge g (Here i) p c u e = by_kind i.kind e where
   by_kind : (k : ItemKind) → moved g.enter p (do_item g k c) ≡ Went u → KindEdge g.enter k p u.pos
-  by_kind (Code j n) e = moved_allows g.enter p (row_of j) (numbered g.sees_pointer (is_call (row_of j)) n j.operands) (act (row_of j) c) u (act_allows g.enter p (row_of j) c) e
+  by_kind (Code j n) e = moved_allows g.enter p (row_of j) (numbered g.sees_pointer (is_call (row_of j)) n j.operands) (act (row_of j) c) u
+      (act_allows g.enter p (row_of j) c) e
   by_kind (Mark v m) e = falls_below g.enter p (record c { marks = (v, part_of v (mark_value g m c)) ∷ c.marks }) u e
   by_kind (Phi q n) e = falls_below g.enter p (record c { pairs = updated n (updated 0 (place_value q c) (c.pairs n)) c.pairs }) u e
 fetch_edge g (Silent k n) p c u e = goes_to_start g.enter p n c u e
@@ -90,7 +96,8 @@ pub leads_trans : (g : Program) {p q r : Pos} → Leads g p q → Leads g q r �
 leads_trans g stay b = b
 leads_trans g (go a more) b = go a (leads_trans g more b)
 
-moved_from : (enter : ℕ → ℕ) (p : Pos) (o : Outcome) (u : State) (b n : ℕ) → moved enter p o ≡ Went u → u.pos ≡ record { block = b; item = n + 1 } → p ≡ record { block = b; item = n }
+moved_from : (enter : ℕ → ℕ) (p : Pos) (o : Outcome) (u : State) (b n : ℕ) → moved enter p o ≡ Went u → u.pos ≡ record { block = b; item = n + 1 } →
+    p ≡ record { block = b; item = n }
 moved_from enter p (Falls c) u b n e at =
     let k : below p ≡ record { block = b; item = n + 1 } = sym (falls_below enter p c u e) ∙ at in
     let block : p.block ≡ b = ap (λ (q : Pos). q.block) k in
@@ -107,5 +114,6 @@ moved_from enter p Asks u b n e at = cc
 moved_from enter p Breaks u b n e at = cc
 
 -- a position past its block's first is reached from the one before it alone
-pub step_from_before : (g : Program) (s u : State) (b n : ℕ) → step g s ≡ Went u → u.pos ≡ record { block = b; item = n + 1 } → s.pos ≡ record { block = b; item = n }
+pub step_from_before : (g : Program) (s u : State) (b n : ℕ) → step g s ≡ Went u → u.pos ≡ record { block = b; item = n + 1 } →
+    s.pos ≡ record { block = b; item = n }
 step_from_before g s u b n went at = moved_from g.enter s.pos (do_fetch g (g.fetch s.pos) s.core) u b n went at

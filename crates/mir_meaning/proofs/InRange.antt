@@ -1,5 +1,6 @@
 -- A run keeps its registers, slots and values below 2^64, and bytes in memory.
-use Rattle.std.proofs.Common.{◌≡◌, ℕ, zero, suc, ◌+◌, ◌*◌, ◌/◌, ◌%◌, ◌^◌, ◌<◌, List, [], ◌∷◌, map, All, slice_get, Option, Some, None, Bool, true, false, cond, nat_eq, refl, sym, ap, ◌∙◌, subst, inl, inr, pow-suc, arith}
+use Rattle.std.proofs.Common.{◌≡◌, ℕ, zero, suc, ◌+◌, ◌*◌, ◌/◌, ◌%◌, ◌^◌, ◌<◌, List, [], ◌∷◌, map, All, slice_get, Option, Some, None, Bool, true, false}
+use Rattle.std.proofs.Common.{cond, nat_eq, refl, sym, ap, ◌∙◌, subst, inl, inr, pow-suc, arith}
 use Rattle.std.proofs.lemmas.Bool.{cases_lt}
 use Rattle.std.proofs.lemmas.List.Elements.{All-head, All-tail}
 use Rattle.rv64_instr.specs.declared.op.Op.{Op}
@@ -14,7 +15,8 @@ use Rattle.rv64_instr.specs.declared.place.Place.{Place}
 use Rattle.rv64_instr.specs.declared.place.Place.TheVariants.{Register, Slot, Const}
 use Rattle.rv64_instr.specs.Instruction.{Instruction}
 use Rattle.rv64_instr.specs.Arithmetic.{word, computed, extended, load_width, store_width, taken}
-use Rattle.rv64_instr.specs.Row.{Row, Fixes, Moves, Sets, Addresses, Loads, Stores, LoadsSlot, StoresSlot, Branches, Jumps, Calls, Returns, Unfit, row_of, row_by, move_row, immediate_row}
+use Rattle.rv64_instr.specs.Row.{Row, Fixes, Moves, Sets, Addresses, Loads, Stores, LoadsSlot, StoresSlot, Branches, Jumps, Calls, Returns, Unfit, row_of}
+use Rattle.rv64_instr.specs.Row.{row_by, move_row, immediate_row}
 use Rattle.rv64_instr.specs.declared.decoded.Input.{Input}
 use Rattle.rv64_instr.specs.declared.decoded.Input.TheVariants.{Content, Number}
 use Rattle.rv64_instr.specs.declared.decoded.Base.TheVariants.{ObjectAt}
@@ -27,9 +29,12 @@ use Rattle.mir_func.specs.declared.variable.MarkValue.{MarkValue}
 use Rattle.mir_func.specs.declared.variable.MarkValue.TheVariants.{Nothing, Constant, At, Pair}
 use Rattle.mir_func.specs.declared.item.ItemKind.{ItemKind}
 use Rattle.mir_func.specs.declared.item.ItemKind.TheVariants.{Code, Mark, Phi}
-use Rattle.mir_meaning.specs.State.{Called, Reply, Core, State, updated, content, put, put_all, spelled, low_bytes, stored, written, writes_frame, assigned, IsReply, IsInRange}
+use Rattle.mir_meaning.specs.State.{Called, Reply, Core, State, updated, content, put, put_all, spelled, low_bytes, stored, written, writes_frame, assigned}
+use Rattle.mir_meaning.specs.State.{IsReply, IsInRange}
 use Rattle.mir_func.specs.Variables.{is_same, overlaps, part_value}
-use Rattle.mir_meaning.specs.Step.{Next, Went, Returned, Faulted, Waits, Lost, Outcome, Falls, Goes, Gives, Traps, Asks, Breaks, or_zero, read, input_value, base_value, address_at, is_fault, part_of, set_register, answered, slot_loaded, saved, does, are_written, act, seen, defined, given, numbered, with_core, place_value, pair_value, mark_value, do_item, do_fetch, moved, step, after, run}
+use Rattle.mir_meaning.specs.Step.{Next, Went, Returned, Faulted, Waits, Lost, Outcome, Falls, Goes, Gives, Traps, Asks, Breaks, or_zero, read, input_value}
+use Rattle.mir_meaning.specs.Step.{base_value, address_at, is_fault, part_of, set_register, answered, slot_loaded, saved, does, are_written, act, seen}
+use Rattle.mir_meaning.specs.Step.{defined, given, numbered, with_core, place_value, pair_value, mark_value, do_item, do_fetch, moved, step, after, run}
 use Rattle.rv64_instr.specs.Parts.{is_call}
 use Rattle.mir_func.specs.Graph.{Program, Fetch, Here, Silent, Outside, below, block_start}
 use Rattle.mir_meaning.specs.Follow.{IsStart}
@@ -122,7 +127,8 @@ put_in_range (suc r) v regs h hs = by_register where
 put_all_in_range : (rs vs : List ℕ) (regs : ℕ → Option ℕ) → All IsWord vs → RegsInRange regs → RegsInRange (put_all rs vs regs)
 put_all_in_range [] vs regs h hs = hs
 put_all_in_range (r ∷ rs) [] regs h hs = put_all_in_range rs [] (put r 0 regs) h (put_in_range r 0 regs (omega arith) hs)
-put_all_in_range (r ∷ rs) (v ∷ vs) regs h hs = put_all_in_range rs vs (put r v regs) (All-tail IsWord v vs h) (put_in_range r v regs (All-head IsWord v vs h) hs)
+put_all_in_range (r ∷ rs) (v ∷ vs) regs h hs = put_all_in_range rs vs (put r v regs) (All-tail IsWord v vs h)
+    (put_in_range r v regs (All-head IsWord v vs h) hs)
 
 -- bytes spell a number below the power
 pub spelled_below : (m : ℕ → ℕ) → ((a : ℕ) → m a < 256) → (n a : ℕ) → spelled m a n < 256 ^ n
@@ -188,7 +194,8 @@ module _ (c : Core) (h : IsInRange c) where
   unfolding does
   does_in_range (Fixes rd n) k = set_in_range c rd n h k
   does_in_range (Moves rd rs) k = set_in_range c rd (read c rs) h (read_in_range c h.regs rs)
-  does_in_range (Sets rd op a b) k = set_in_range c rd (computed op (read c a) (input_value c b)) h (computed_in_range op (read c a) (input_value c b) (read_in_range c h.regs a) (input_in_range b k))
+  does_in_range (Sets rd op a b) k = set_in_range c rd (computed op (read c a) (input_value c b)) h (computed_in_range op (read c a) (input_value c b)
+      (read_in_range c h.regs a) (input_in_range b k))
   does_in_range (Addresses rd n o) k = set_in_range c rd (address_at c (ObjectAt n) o) h (reduced (base_value c (ObjectAt n) + o))
   does_in_range (Loads rd op b o) k =
       let a = address_at c b o in
@@ -204,7 +211,8 @@ module _ (c : Core) (h : IsInRange c) where
     by_slot : (x : Option ℕ) → MaybeWord x → OnCore IsInRange (slot_loaded rd c x)
     by_slot None k = tt
     by_slot (Some v) k = set_in_range c rd v h (k v refl)
-  does_in_range (StoresSlot rs n) k = record { regs = h.regs; slots = updated_in_range n (Some (read c rs)) c.slots (some_word (read c rs) (read_in_range c h.regs rs)) h.slots; memory = h.memory; script = h.script; pairs = h.pairs; marks = h.marks }
+  does_in_range (StoresSlot rs n) k = record { regs = h.regs; slots = updated_in_range n (Some (read c rs)) c.slots
+      (some_word (read c rs) (read_in_range c h.regs rs)) h.slots; memory = h.memory; script = h.script; pairs = h.pairs; marks = h.marks }
   does_in_range (Branches op a b t) k = on_either IsInRange (taken op (read c a) (read c b)) (Goes t c) (Falls c) h h
   does_in_range (Jumps t) k = h
   does_in_range (Calls name args) k = by_script (map (read c) args) c.script h.script where
@@ -212,8 +220,11 @@ module _ (c : Core) (h : IsInRange c) where
     by_script vs [] k = tt
     by_script vs (r ∷ rs) k =
         let is = All-head IsReply r rs k in
-        on_either IsInRange (writes_frame c.entry c.area r.writes) Traps (Falls (record c { regs = put_all caller_saved r.regs c.regs; memory = written c.memory r.writes; script = rs; events = Called name vs ∷ c.events })) tt
-        (record { regs = put_all_in_range caller_saved r.regs c.regs is.regs h.regs; slots = h.slots; memory = written_bytes r.writes c.memory is.writes h.memory; script = All-tail IsReply r rs k; pairs = h.pairs; marks = h.marks })
+        on_either IsInRange (writes_frame c.entry c.area r.writes) Traps
+            (Falls (record c { regs = put_all caller_saved r.regs c.regs; memory = written c.memory r.writes; script = rs; events =
+            Called name vs ∷ c.events })) tt
+        (record { regs = put_all_in_range caller_saved r.regs c.regs is.regs h.regs; slots = h.slots; memory = written_bytes r.writes c.memory is.writes
+            h.memory; script = All-tail IsReply r rs k; pairs = h.pairs; marks = h.marks })
   does_in_range (Returns v) k = tt
   does_in_range Unfit k = tt
 
@@ -261,7 +272,8 @@ part_in_range v (Some x) h n e = some_word (part_value v x) (part_below v x (2 ^
 numbered_in_range : (sp call : Bool) (n : Option ℕ) (os : List Operand) (c : Core) → IsInRange c → IsInRange (numbered sp call n os c)
 numbered_in_range sp call None os c h = h
 numbered_in_range sp call (Some k) os c h =
-    with_pairs c _ h (row_updated c h k (λ o. given sp (defined call (slice_get os o)) (c.pairs k o) c) (λ o. given_in_range c h sp (defined call (slice_get os o)) (c.pairs k o) (h.pairs k o)))
+    with_pairs c _ h (row_updated c h k (λ o. given sp (defined call (slice_get os o)) (c.pairs k o) c)
+        (λ o. given_in_range c h sp (defined call (slice_get os o)) (c.pairs k o) (h.pairs k o)))
 
 with_in_range : (k : Core → Core) → ((c : Core) → IsInRange c → IsInRange (k c)) → (x : Outcome) → OnCore IsInRange x → OnCore IsInRange (with_core k x)
 with_in_range k f (Falls c) h = f c h
@@ -275,12 +287,14 @@ pub item_in_range : (g : Program) (k : ItemKind) (c : Core) → IsInRange c → 
 item_in_range g (Code i n) c h =
     with_in_range (numbered g.sees_pointer (is_call (row_of i)) n i.operands) (numbered_in_range g.sees_pointer (is_call (row_of i)) n i.operands)
     (act (row_of i) c) (act_in_range c h (row_of i) (row_in_range i))
-item_in_range g (Mark v m) c h = record { regs = h.regs; slots = h.slots; memory = h.memory; script = h.script; pairs = h.pairs; marks = λ w. by_test w (is_same w v) (overlaps w v) } where
+item_in_range g (Mark v m) c h = record { regs = h.regs; slots = h.slots; memory = h.memory; script = h.script; pairs = h.pairs; marks =
+    λ w. by_test w (is_same w v) (overlaps w v) } where
   by_test : (w : VarId) (same over : Bool) → MaybeWord (cond same (part_of v (mark_value g m c)) (cond over None (assigned w c.marks)))
   by_test w true over x e = part_in_range v (mark_value g m c) (mark_in_range c h g m) x e
   by_test w false true x e = cc
   by_test w false false x e = h.marks w x e
-item_in_range g (Phi p n) c h = with_pairs c _ h (row_updated c h n (updated 0 (place_value p c) (c.pairs n)) (updated_in_range 0 (place_value p c) (c.pairs n) (place_in_range c h p) (h.pairs n)))
+item_in_range g (Phi p n) c h = with_pairs c _ h (row_updated c h n (updated 0 (place_value p c) (c.pairs n))
+    (updated_in_range 0 (place_value p c) (c.pairs n) (place_in_range c h p) (h.pairs n)))
 
 fetched_in_range : (g : Program) (x : Fetch) (c : Core) → IsInRange c → OnCore IsInRange (do_fetch g x c)
 fetched_in_range g (Here i) c h = item_in_range g i.kind c h
@@ -288,8 +302,10 @@ fetched_in_range g (Silent k n) c h = h
 fetched_in_range g Outside c h = tt
 
 moved_in_range : (enter : ℕ → ℕ) (p : Pos) (x : Outcome) (t : State) → OnCore IsInRange x → moved enter p x ≡ Went t → IsInRange t.core
-moved_in_range enter p (Falls c) t h e = let made : State = record { pos = below p; core = c } in let w : made ≡ t = cc in subst (λ (z : State). IsInRange z.core) w h
-moved_in_range enter p (Goes n c) t h e = let made : State = record { pos = block_start (enter n); core = c } in let w : made ≡ t = cc in subst (λ (z : State). IsInRange z.core) w h
+moved_in_range enter p (Falls c) t h e = let made : State = record { pos = below p; core = c } in let w : made ≡ t = cc in
+    subst (λ (z : State). IsInRange z.core) w h
+moved_in_range enter p (Goes n c) t h e = let made : State = record { pos = block_start (enter n); core = c } in let w : made ≡ t = cc in
+    subst (λ (z : State). IsInRange z.core) w h
 moved_in_range enter p (Gives v) t h e = cc
 moved_in_range enter p Traps t h e = cc
 moved_in_range enter p Asks t h e = cc
@@ -301,7 +317,8 @@ step_in_range g s t h e = moved_in_range g.enter s.pos (do_fetch g (g.fetch s.po
 pub run_in_range : (g : Program) (n : ℕ) (s t : State) → IsInRange s.core → run g n s ≡ Went t → IsInRange t.core
 run_in_range g zero s t h e = let w : s ≡ t = cc in subst (λ (z : State). IsInRange z.core) w h
 run_in_range g (suc n) s t h e = by_step (step g s) refl e (λ u go. run_in_range g n u t (step_in_range g s u h go)) where
-  by_step : (x : Next) → step g s ≡ x → after x (run g n) ≡ Went t → ((u : State) → step g s ≡ Went u → run g n u ≡ Went t → IsInRange t.core) → IsInRange t.core
+  by_step : (x : Next) → step g s ≡ x → after x (run g n) ≡ Went t → ((u : State) → step g s ≡ Went u → run g n u ≡ Went t → IsInRange t.core) →
+      IsInRange t.core
   by_step (Went u) go e ih = ih u go e
   by_step (Returned v) go e ih = cc
   by_step Faulted go e ih = cc

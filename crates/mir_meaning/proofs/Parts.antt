@@ -1,5 +1,6 @@
 -- What the parts of an instruction tell of its runs.
-use Rattle.std.proofs.Common.{◌≡◌, ℕ, ℤ, zero, suc, ◌^◌, List, [], ◌∷◌, Contains, Option, Some, None, Bool, true, false, cond, ◌&&◌, ◌||◌, nat_eq, is_some, eq-eqb, lt-ltb, le-ltb, refl, sym, ap, ◌∙◌, subst, inl, inr, ◌⊎◌, arith}
+use Rattle.std.proofs.Common.{◌≡◌, ℕ, ℤ, zero, suc, ◌^◌, List, [], ◌∷◌, Contains, Option, Some, None, Bool, true, false, cond, ◌&&◌, ◌||◌, nat_eq, is_some}
+use Rattle.std.proofs.Common.{eq-eqb, lt-ltb, le-ltb, refl, sym, ap, ◌∙◌, subst, inl, inr, ◌⊎◌, arith}
 use Rattle.std.specs.List.{list_any}
 use Rattle.std.proofs.lemmas.Bool.{cases_eq, cases_lt, eqb-true}
 use Rattle.std.proofs.lemmas.Map.Made.{Contains-tail}
@@ -9,16 +10,19 @@ use Rattle.rv64_instr.specs.declared.place.Place.{Place}
 use Rattle.rv64_instr.specs.declared.place.Place.TheVariants.{Register, Slot, Const}
 use Rattle.rv64_instr.specs.Instruction.{Instruction}
 use Rattle.rv64_instr.specs.Arithmetic.{word, signed, load_width, extended}
-use Rattle.rv64_instr.specs.Row.{Row, Fixes, Moves, Sets, Addresses, Loads, Stores, LoadsSlot, StoresSlot, Branches, Jumps, Calls, Returns, Unfit, row_of, implicit_uses}
+use Rattle.rv64_instr.specs.Row.{Row, Fixes, Moves, Sets, Addresses, Loads, Stores, LoadsSlot, StoresSlot, Branches, Jumps, Calls, Returns, Unfit, row_of}
+use Rattle.rv64_instr.specs.Row.{implicit_uses}
 use Rattle.rv64_instr.specs.declared.decoded.Input.TheVariants.{Content, Number}
 use Rattle.rv64_instr.specs.declared.decoded.Base.TheVariants.{PointedBy, ObjectAt}
 use Rattle.rv64_instr.specs.Access.{reads, sets}
-use Rattle.rv64_instr.specs.Parts.{place_set, set_by, moved_by, constant_of, is_pure, is_call as calls, uses_of, defines_of, first_use, second_use, is_register, has_implicit_uses, is_implicit_use, names_slot, slot_read, is_call}
+use Rattle.rv64_instr.specs.Parts.{place_set, set_by, moved_by, constant_of, is_pure, is_call as calls, uses_of, defines_of, first_use, second_use}
+use Rattle.rv64_instr.specs.Parts.{is_register, has_implicit_uses, is_implicit_use, names_slot, slot_read, is_call}
 use Rattle.mir_func.specs.declared.item.ItemKind.{ItemKind}
 use Rattle.mir_func.specs.declared.item.ItemKind.TheVariants.{Code, Mark, Phi}
 use Rattle.mir_meaning.specs.Live.{KindDefines}
 use Rattle.mir_meaning.specs.State.{Core, content, updated, spelled}
-use Rattle.mir_meaning.specs.Step.{Outcome, Falls, Goes, Gives, Traps, Asks, Breaks, with_core, numbered, do_item, read, or_zero, address_at, is_fault, set_register, slot_loaded, does, are_written, act}
+use Rattle.mir_meaning.specs.Step.{Outcome, Falls, Goes, Gives, Traps, Asks, Breaks, with_core, numbered, do_item, read, or_zero, address_at, is_fault}
+use Rattle.mir_meaning.specs.Step.{set_register, slot_loaded, does, are_written, act}
 use Rattle.mir_func.specs.Graph.{Program}
 use Rattle.mir_meaning.specs.Effects.{held_in, OnCore, EndAlike, SameWorld, FallsInto, AreHeldAlike, EffectsHold}
 use Rattle.mir_meaning.proofs.Places.{contains_head, contains_tail, put_same, updated_same}
@@ -77,7 +81,8 @@ keeps i x c e = act_keeps x c (row_of i) (λ k. is_not e (row_defines (row_of i)
 implicit_any : (q : ℕ) (os : List Operand) → Contains (implicit_uses os) q → list_any (is_implicit_use q) os ≡ true
 implicit_any q [] k = absurd (omega (arith, k.1))
 implicit_any q (ImplicitUse r ∷ os) k = by_test (λ h. or_right (nat_eq r q) (list_any (is_implicit_use q) os) (implicit_any q os h)) (nat_eq r 2) k where
-  by_test : (Contains (implicit_uses os) q → (nat_eq r q || list_any (is_implicit_use q) os) ≡ true) → (z : Bool) → Contains (cond z (implicit_uses os) (r ∷ implicit_uses os)) q → (nat_eq r q || list_any (is_implicit_use q) os) ≡ true
+  by_test : (Contains (implicit_uses os) q → (nat_eq r q || list_any (is_implicit_use q) os) ≡ true) → (z : Bool) →
+      Contains (cond z (implicit_uses os) (r ∷ implicit_uses os)) q → (nat_eq r q || list_any (is_implicit_use q) os) ≡ true
   by_test later true k = later k
   by_test later false k =
       elim (cases_eq r q) as (λ _. (nat_eq r q || list_any (is_implicit_use q) os) ≡ true) [
@@ -101,7 +106,8 @@ only_one r q k = let h = in_any q (r ∷ []) k in by_test (nat_eq q r) h where
   by_test false e = e
 
 -- the registers that a row reads are those of its operands
-register_used : (os : List Operand) (r : Row) (q : ℕ) → AreImplicit os r → Contains (reads r) q → (is_register q (first_use r) || is_register q (second_use r) || (has_implicit_uses r && list_any (is_implicit_use q) os)) ≡ true
+register_used : (os : List Operand) (r : Row) (q : ℕ) → AreImplicit os r → Contains (reads r) q →
+    (is_register q (first_use r) || is_register q (second_use r) || (has_implicit_uses r && list_any (is_implicit_use q) os)) ≡ true
 register_used os (Moves rd rs) q a k = rw (only_one rs q k) refl
 register_used os (Sets rd op a (Content b)) q h k =
     elim (cases_eq a q) as (λ _. (nat_eq q a || nat_eq q b || false) ≡ true) [
@@ -139,10 +145,13 @@ row_uses i (Slot n) k = by_row (row_of i) k where
   by_row _ k = absurd k
 row_uses i (Const z) k = absurd k
 
-alike : (i : Instruction) (c d : Core) → SameWorld c d → ((x : Place) → uses_of i x ≡ true → held_in x c ≡ held_in x d) → EndAlike (AreHeldAlike i c d) (act (row_of i) c) (act (row_of i) d)
-alike i c d w u = alike_weaker (Agreeing (row_of i) c d) (AreHeldAlike i c d) weaker (act (row_of i) c) (act (row_of i) d) (act_alike (row_of i) c d w (λ x k. u x (row_uses i x k))) where
+alike : (i : Instruction) (c d : Core) → SameWorld c d → ((x : Place) → uses_of i x ≡ true → held_in x c ≡ held_in x d) →
+    EndAlike (AreHeldAlike i c d) (act (row_of i) c) (act (row_of i) d)
+alike i c d w u = alike_weaker (Agreeing (row_of i) c d) (AreHeldAlike i c d) weaker (act (row_of i) c) (act (row_of i) d)
+    (act_alike (row_of i) c d w (λ x k. u x (row_uses i x k))) where
   weaker : (c' d' : Core) → Agreeing (row_of i) c d c' d' → AreHeldAlike i c d c' d'
-  weaker c' d' h = (h.0, λ x k. h.1 x (elim k as (λ _. RowDefines (row_of i) x ⊎ (held_in x c ≡ held_in x d)) [ inl e ↦ inl (defines_row (row_of i) x e) | inr e ↦ inr e ]))
+  weaker c' d' h = (h.0, λ x k. h.1 x (elim k as (λ _. RowDefines (row_of i) x ⊎ (held_in x c ≡ held_in x d)) [ inl e ↦ inl (defines_row (row_of i) x e) |
+      inr e ↦ inr e ]))
 
 -- ---- what is set, moved and fixed
 
@@ -197,7 +206,8 @@ set_holds (suc r) v to c e =
     let k : Register (suc r) ≡ to = cc in
     subst (λ (x : Place). held_in x (set_register (suc r) v c) ≡ Some v) k (put_same (suc r) v c.regs (λ z. cc))
 
-row_moves : (r : Row) (from to : Place) (c : Core) → moved_by r ≡ Some from → set_by r ≡ Some to → are_written c (reads r) ≡ true → OnCore (λ d. held_in to d ≡ held_in from c) (does r c)
+row_moves : (r : Row) (from to : Place) (c : Core) → moved_by r ≡ Some from → set_by r ≡ Some to → are_written c (reads r) ≡ true →
+    OnCore (λ d. held_in to d ≡ held_in from c) (does r c)
 unfolding does
 row_moves (Moves zero rs) from to c m s w = cc
 row_moves (Moves (suc rd) rs) from to c m s w =
@@ -213,7 +223,8 @@ row_moves (StoresSlot rs n) from to c m s w =
     let f : Register rs ≡ from = cc in
     let t : Slot n ≡ to = cc in
     let d : Core = record c { slots = updated n (Some (read c rs)) c.slots } in
-    subst (λ (x : Place). held_in to d ≡ held_in x c) f (subst (λ (x : Place). held_in x d ≡ content c.regs rs) t (updated_same n (Some (read c rs)) c.slots ∙ first_held c rs w))
+    subst (λ (x : Place). held_in to d ≡ held_in x c) f (subst (λ (x : Place). held_in x d ≡ content c.regs rs) t
+        (updated_same n (Some (read c rs)) c.slots ∙ first_held c rs w))
 row_moves (Fixes rd n) from to c m s w = cc
 row_moves (Sets rd op a b) from to c m s w = cc
 row_moves (Addresses rd n o) from to c m s w = cc
@@ -225,7 +236,8 @@ row_moves (Calls name args) from to c m s w = cc
 row_moves (Returns v) from to c m s w = cc
 row_moves Unfit from to c m s w = cc
 
-moves : (i : Instruction) (from to : Place) (c : Core) → moved_by (row_of i) ≡ Some from → set_by (row_of i) ≡ Some to → OnCore (λ d. held_in to d ≡ held_in from c) (act (row_of i) c)
+moves : (i : Instruction) (from to : Place) (c : Core) → moved_by (row_of i) ≡ Some from → set_by (row_of i) ≡ Some to →
+    OnCore (λ d. held_in to d ≡ held_in from c) (act (row_of i) c)
 moves i from to c m s = acts (OnCore (λ d. held_in to d ≡ held_in from c)) tt (row_of i) c (λ w. row_moves (row_of i) from to c m s w)
 
 -- 64 bits as a signed number, and back
@@ -236,7 +248,8 @@ word_signed n lt =
       | inr h ↦ rw (le-ltb n (2 ^ 63) h) (omega (arith, h, lt))
     ]
 
-row_fixes : (r : Row) (z : ℤ) (to : Place) (c : Core) → RowInRange r → constant_of r ≡ Some z → set_by r ≡ Some to → OnCore (λ d. held_in to d ≡ Some (word z)) (does r c)
+row_fixes : (r : Row) (z : ℤ) (to : Place) (c : Core) → RowInRange r → constant_of r ≡ Some z → set_by r ≡ Some to →
+    OnCore (λ d. held_in to d ≡ Some (word z)) (does r c)
 unfolding does
 row_fixes (Fixes rd n) z to c k e s =
     let f : signed n ≡ z = cc in
@@ -254,7 +267,8 @@ row_fixes (Calls name args) z to c k e s = cc
 row_fixes (Returns v) z to c k e s = cc
 row_fixes Unfit z to c k e s = cc
 
-fixes : (i : Instruction) (z : ℤ) (to : Place) (c : Core) → constant_of (row_of i) ≡ Some z → set_by (row_of i) ≡ Some to → OnCore (λ d. held_in to d ≡ Some (word z)) (act (row_of i) c)
+fixes : (i : Instruction) (z : ℤ) (to : Place) (c : Core) → constant_of (row_of i) ≡ Some z → set_by (row_of i) ≡ Some to →
+    OnCore (λ d. held_in to d ≡ Some (word z)) (act (row_of i) c)
 fixes i z to c e s = acts (OnCore (λ d. held_in to d ≡ Some (word z))) tt (row_of i) c (λ w. row_fixes (row_of i) z to c (row_in_range i) e s)
 
 -- ---- pure code
@@ -275,7 +289,8 @@ row_pure (Addresses rd n o) c e = record { entry = refl; area = refl; objects = 
 row_pure (Loads rd op b o) c e =
     let a = address_at c b o in
     let d : Core = set_register rd (extended op (spelled c.memory a (load_width op))) c in
-    falls_either (SameWorld c) (is_fault b c a (load_width op)) Traps (Falls d) tt (record { entry = refl; area = refl; objects = refl; memory = refl; script = refl; events = refl })
+    falls_either (SameWorld c) (is_fault b c a (load_width op)) Traps (Falls d) tt (record { entry = refl; area = refl; objects = refl; memory = refl;
+        script = refl; events = refl })
 row_pure (LoadsSlot rd n) c e = by_slot (c.slots n) where
   by_slot : (x : Option ℕ) → FallsInto (SameWorld c) (slot_loaded rd c x)
   by_slot None = tt
@@ -296,7 +311,8 @@ effects_hold = record { defines = keeps; uses = alike; sets = sets_one; moves = 
 
 -- ---- items
 
-keeps_with : (x : Place) (c : Core) (k : Core → Core) → ((d : Core) → held_in x (k d) ≡ held_in x d) → (o : Outcome) → OnCore (Keeps x c) o → OnCore (Keeps x c) (with_core k o)
+keeps_with : (x : Place) (c : Core) (k : Core → Core) → ((d : Core) → held_in x (k d) ≡ held_in x d) → (o : Outcome) → OnCore (Keeps x c) o →
+    OnCore (Keeps x c) (with_core k o)
 keeps_with x c k f (Falls d) h = f d ∙ h
 keeps_with x c k f (Goes n d) h = f d ∙ h
 keeps_with x c k f (Gives v) h = tt
@@ -314,7 +330,8 @@ numbers_keep (Const z) sp call n os d = refl
 -- what an item doesn't define, stays: debug items define no place
 pub item_keeps : (g : Program) (k : ItemKind) (x : Place) (c : Core) → (KindDefines k x → ⊥) → OnCore (Keeps x c) (do_item g k c)
 item_keeps g (Code i n) x c ne =
-    keeps_with x c (numbered g.sees_pointer (is_call (row_of i)) n i.operands) (λ d. numbers_keep x g.sees_pointer (is_call (row_of i)) n i.operands d) (act (row_of i) c) (act_keeps x c (row_of i) (λ k. ne (row_defines (row_of i) x k)))
+    keeps_with x c (numbered g.sees_pointer (is_call (row_of i)) n i.operands) (λ d. numbers_keep x g.sees_pointer (is_call (row_of i)) n i.operands d)
+        (act (row_of i) c) (act_keeps x c (row_of i) (λ k. ne (row_defines (row_of i) x k)))
 item_keeps g (Mark v m) (Register r) c ne = refl
 item_keeps g (Mark v m) (Slot n) c ne = refl
 item_keeps g (Mark v m) (Const z) c ne = refl

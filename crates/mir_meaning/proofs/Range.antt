@@ -1,5 +1,6 @@
 -- Registers, slots and values stay below 2^64, and memory keeps bytes.
-use Rattle.std.proofs.Common.{◌≡◌, ℕ, ℤ, pos, negsuc, suc, ◌+◌, ◌-◌, ◌*◌, ◌/◌, ◌%◌, ◌^◌, ◌<◌, Bool, true, false, nat_lt, int_lt, refl, ◌∙◌, inl, inr, w8, w16, w32, lt_of_le_of_lt, lt-ltb, le-ltb, div-le_self, arith}
+use Rattle.std.proofs.Common.{◌≡◌, ℕ, ℤ, pos, negsuc, suc, ◌+◌, ◌-◌, ◌*◌, ◌/◌, ◌%◌, ◌^◌, ◌<◌, Bool, true, false, nat_lt, int_lt, refl, ◌∙◌, inl, inr, w8, w16}
+use Rattle.std.proofs.Common.{w32, lt_of_le_of_lt, lt-ltb, le-ltb, div-le_self, arith}
 use Rattle.std.specs.Int.{cast_signed, int_shr, from_bool}
 use Rattle.std.proofs.lemmas.Bool.{cases_lt}
 use Rattle.std.proofs.lemmas.Nat.{or_lt, xor_lt, and_le_l}

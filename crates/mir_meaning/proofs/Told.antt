@@ -12,7 +12,8 @@ use Rattle.mir_func.specs.declared.item.ItemKind.{ItemKind}
 use Rattle.mir_func.specs.declared.item.ItemKind.TheVariants.{Code, Mark, Phi}
 use Rattle.mir_meaning.specs.State.{State, Core, updated, assigned}
 use Rattle.mir_func.specs.Variables.{is_same, overlaps}
-use Rattle.mir_meaning.specs.Step.{Went, Outcome, Falls, Goes, Gives, Traps, Asks, Breaks, moved, with_core, act, seen, defined, given, numbered, place_value, pair_value, mark_value, part_of, do_item, do_fetch, step}
+use Rattle.mir_meaning.specs.Step.{Went, Outcome, Falls, Goes, Gives, Traps, Asks, Breaks, moved, with_core, act, seen, defined, given, numbered, place_value}
+use Rattle.mir_meaning.specs.Step.{pair_value, mark_value, part_of, do_item, do_fetch, step}
 use Rattle.rv64_instr.specs.Parts.{is_call}
 use Rattle.mir_func.specs.Graph.{Program, Fetch, Here, Silent, Outside}
 use Rattle.mir_meaning.specs.Align.{Agrees}
@@ -42,7 +43,8 @@ same_parts p m c d e = (ap (λ (z : Core). z.pairs) (sym e), ap (λ (z : Core). 
 
 -- code of one row: the rest alike, pairs and marks untouched
 act_less : (r : Row) (c d : Core) → TellsLess c d → EndAlike TellsLess (act r c) (act r d)
-act_less r c d h = subst (EndAlike TellsLess (act r c)) (sym (act_apart d.pairs d.marks r c) ∙ ap (act r) h.same) (by_outcome (act r c) (act_apart c.pairs c.marks r c)) where
+act_less r c d h = subst (EndAlike TellsLess (act r c)) (sym (act_apart d.pairs d.marks r c) ∙ ap (act r) h.same)
+    (by_outcome (act r c) (act_apart c.pairs c.marks r c)) where
   by_core : (e : Core) → told_by c.pairs c.marks e ≡ e → TellsLess e (told_by d.pairs d.marks e)
   by_core e k = record {
     same = refl;
@@ -78,13 +80,16 @@ module _ (g h : Program) (less : SeesLess g h) where
   given_less (Some r) a b c d t k = seen_less r c d t
 
   -- other pairs or marks
-  pairs_less : (c d : Core) (p q : ℕ → ℕ → Option ℕ) → TellsLess c d → ((k o : ℕ) → Below (p k o) (q k o)) → TellsLess (record c { pairs = p }) (record d { pairs = q })
+  pairs_less : (c d : Core) (p q : ℕ → ℕ → Option ℕ) → TellsLess c d → ((k o : ℕ) → Below (p k o) (q k o)) →
+      TellsLess (record c { pairs = p }) (record d { pairs = q })
   pairs_less c d p q t k = record { same = ap (λ (z : Core). record z { pairs = q }) t.same; pairs = k; marks = t.marks }
 
-  marks_less : (c d : Core) (p q : List (VarId × Option ℕ)) → TellsLess c d → ((v : VarId) → Below (assigned v p) (assigned v q)) → TellsLess (record c { marks = p }) (record d { marks = q })
+  marks_less : (c d : Core) (p q : List (VarId × Option ℕ)) → TellsLess c d → ((v : VarId) → Below (assigned v p) (assigned v q)) →
+      TellsLess (record c { marks = p }) (record d { marks = q })
   marks_less c d p q t k = record { same = ap (λ (z : Core). record z { marks = q }) t.same; pairs = t.pairs; marks = k }
 
-  updated_less : (k : ℕ) (a b : ℕ → Option ℕ) (p q : ℕ → ℕ → Option ℕ) → ((o : ℕ) → Below (a o) (b o)) → ((m o : ℕ) → Below (p m o) (q m o)) → (m o : ℕ) → Below (updated k a p m o) (updated k b q m o)
+  updated_less : (k : ℕ) (a b : ℕ → Option ℕ) (p q : ℕ → ℕ → Option ℕ) → ((o : ℕ) → Below (a o) (b o)) → ((m o : ℕ) → Below (p m o) (q m o)) → (m o : ℕ) →
+      Below (updated k a p m o) (updated k b q m o)
   updated_less k a b p q x y m o = by_test (nat_eq m k) where
     by_test : (z : Bool) → Below (cond z a (p m) o) (cond z b (q m) o)
     by_test true = x o
@@ -96,17 +101,20 @@ module _ (g h : Program) (less : SeesLess g h) where
     by_test true = x
     by_test false = y o
 
-  mark_less : (v : VarId) (a b : Option ℕ) (p q : List (VarId × Option ℕ)) → Below a b → ((w : VarId) → Below (assigned w p) (assigned w q)) → (w : VarId) → Below (assigned w ((v, a) ∷ p)) (assigned w ((v, b) ∷ q))
+  mark_less : (v : VarId) (a b : Option ℕ) (p q : List (VarId × Option ℕ)) → Below a b → ((w : VarId) → Below (assigned w p) (assigned w q)) → (w : VarId) →
+      Below (assigned w ((v, a) ∷ p)) (assigned w ((v, b) ∷ q))
   mark_less v a b p q x y w = by_test (is_same w v) (overlaps w v) where
     by_test : (same over : Bool) → Below (cond same a (cond over None (assigned w p))) (cond same b (cond over None (assigned w q)))
     by_test true over n e = x n e
     by_test false true n e = cc
     by_test false false n e = y w n e
 
-  numbered_less : (call : Bool) (n : Option ℕ) (os : List Operand) (c d : Core) → TellsLess c d → TellsLess (numbered g.sees_pointer call n os c) (numbered h.sees_pointer call n os d)
+  numbered_less : (call : Bool) (n : Option ℕ) (os : List Operand) (c d : Core) → TellsLess c d → TellsLess (numbered g.sees_pointer call n os c)
+      (numbered h.sees_pointer call n os d)
   numbered_less call None os c d t = t
   numbered_less call (Some k) os c d t =
-      pairs_less c d _ _ t (updated_less k (λ o. given g.sees_pointer (defined call (slice_get os o)) (c.pairs k o) c) (λ o. given h.sees_pointer (defined call (slice_get os o)) (d.pairs k o) d) c.pairs d.pairs
+      pairs_less c d _ _ t (updated_less k (λ o. given g.sees_pointer (defined call (slice_get os o)) (c.pairs k o) c)
+          (λ o. given h.sees_pointer (defined call (slice_get os o)) (d.pairs k o) d) c.pairs d.pairs
       (λ o. given_less (defined call (slice_get os o)) (c.pairs k o) (d.pairs k o) c d t (t.pairs k o)) t.pairs)
 
   place_less : (p : Option Place) (c d : Core) → TellsLess c d → Below (place_value p c) (place_value p d)
@@ -129,7 +137,8 @@ module _ (g h : Program) (less : SeesLess g h) where
   part_less w a None k v e = cc
   part_less w a (Some x) k v e = ap (part_of w) (k x refl) ∙ e
 
-  with_less : (j k : Core → Core) → ((c d : Core) → TellsLess c d → TellsLess (j c) (k d)) → (x y : Outcome) → EndAlike TellsLess x y → EndAlike TellsLess (with_core j x) (with_core k y)
+  with_less : (j k : Core → Core) → ((c d : Core) → TellsLess c d → TellsLess (j c) (k d)) → (x y : Outcome) → EndAlike TellsLess x y →
+      EndAlike TellsLess (with_core j x) (with_core k y)
   with_less j k f x y e = Rattle.mir_meaning.proofs.Outcomes.alike_with TellsLess TellsLess j k f x y e
 
   pub item_less : (k : ItemKind) (c d : Core) → TellsLess c d → EndAlike TellsLess (do_item g k c) (do_item h k d)
@@ -159,7 +168,8 @@ module _ (g h : Program) (less : SeesLess g h) where
 
     pub goes_beside : (t u t' : State) → Beside t u → step h t ≡ Went t' → (u' : State) × (step g u ≡ Went u') × Beside t' u'
     goes_beside t u t' b go =
-        let z = alike_went TellsLess g.enter u.pos (do_fetch g (g.fetch u.pos) u.core) (do_fetch h (g.fetch u.pos) t.core) (fetch_less (g.fetch u.pos) u.core t.core b.tells) t' (sym (step_from t u b.pos) ∙ go) in
+        let z = alike_went TellsLess g.enter u.pos (do_fetch g (g.fetch u.pos) u.core) (do_fetch h (g.fetch u.pos) t.core)
+            (fetch_less (g.fetch u.pos) u.core t.core b.tells) t' (sym (step_from t u b.pos) ∙ go) in
         (z.0, z.1, record { pos = z.2; tells = z.3 })
 
     pub agrees_beside : (t u : State) → Beside t u → Agrees g h t u

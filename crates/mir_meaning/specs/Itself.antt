@@ -7,4 +7,5 @@ use Rattle.mir_meaning.specs.Follow.{IsRead, Follows, HasWholeEnds}
 
 -- a function as it is read follows itself, with whole ends
 abbrev pub SourceFollowsItself : Type 0
-SourceFollowsItself = (objects : List Object) (blocks : List Block) (resolve : OperandPair → Option OperandPair) → IsRead blocks → Follows objects blocks blocks resolve resolve × HasWholeEnds objects blocks blocks resolve resolve
+SourceFollowsItself = (objects : List Object) (blocks : List Block) (resolve : OperandPair → Option OperandPair) → IsRead blocks →
+    Follows objects blocks blocks resolve resolve × HasWholeEnds objects blocks blocks resolve resolve
