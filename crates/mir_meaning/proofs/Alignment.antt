@@ -4,7 +4,8 @@ use Rattle.mir_func.specs.declared.position.Pos.{Pos}
 use Rattle.mir_meaning.specs.State.{State}
 use Rattle.mir_meaning.specs.Step.{Went, Faulted, step, run}
 use Rattle.mir_func.specs.Graph.{Program}
-use Rattle.mir_meaning.specs.Align.{Arrives, here, onward, ArrivesLater, Since, Start, Same, After, Aligns, Fails, fails_here, fails_on, FailsLater, FailsBefore}
+use Rattle.mir_meaning.specs.Align.{Arrives, here, onward, ArrivesLater, Since, Start, Same, After, Aligns, Fails, fails_here, fails_on, FailsLater}
+use Rattle.mir_meaning.specs.Align.{FailsBefore}
 use Rattle.mir_meaning.proofs.Runs.{run_steps}
 
 -- a program's step has one result
@@ -54,7 +55,8 @@ module _ (src : Program) (Stops : Pos → Type 0) (p : Pos) where
     arrives_not_fails (here {s = s} e) q (fails_here {s = s'} ne go) = ne (subst Stops (sym (ap (λ (x : State). x.pos) (sym q) ∙ e)) stops)
     arrives_not_fails (here {s = s} e) q (fails_on {s = s'} ne go rest) = ne (subst Stops (sym (ap (λ (x : State). x.pos) (sym q) ∙ e)) stops)
     arrives_not_fails (onward {s = s} {u = u} ne go rest) q (fails_here {s = s'} ne' go') = let bad : Went u ≡ Faulted = sym go ∙ ap (step src) q ∙ go' in cc
-    arrives_not_fails (onward {s = s} {u = u} ne go rest) q (fails_on {s = s'} {u = u'} ne' go' more) = arrives_not_fails rest (went_once src s u u' go (ap (step src) q ∙ go')) more
+    arrives_not_fails (onward {s = s} {u = u} ne go rest) q (fails_on {s = s'} {u = u'} ne' go' more) =
+        arrives_not_fails rest (went_once src s u u' go (ap (step src) q ∙ go')) more
 
     later_not_fails : (s t : State) → ArrivesLater src Stops p s t → FailsLater src Stops s → ⊥
     later_not_fails s t (u, go, rest) (inl f) = let bad : Went u ≡ Faulted = sym go ∙ f in cc

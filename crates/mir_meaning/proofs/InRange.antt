@@ -1,39 +1,47 @@
 -- A run keeps its registers, slots and values below 2^64, and bytes in memory.
-use Rattle.std.proofs.Common.{◌≡◌, ℕ, zero, suc, ◌+◌, ◌*◌, ◌/◌, ◌%◌, ◌^◌, ◌<◌, List, [], ◌∷◌, map, All, slice_get, Option, Some, None, Bool, true, false, cond, nat_eq, refl, sym, ap, ◌∙◌, subst, inl, inr, pow-suc, arith}
+use Rattle.std.proofs.Common.{◌≡◌, ℕ, zero, suc, ◌+◌, ◌*◌, ◌/◌, ◌%◌, ◌^◌, ◌<◌, List, [], ◌∷◌, map, All, slice_get, Option, Some, None, Bool, true, false}
+use Rattle.std.proofs.Common.{cond, nat_eq, refl, sym, ap, ◌∙◌, subst, inl, inr, pow-suc, arith}
 use Rattle.std.proofs.lemmas.Bool.{cases_lt}
 use Rattle.std.proofs.lemmas.List.Elements.{All-head, All-tail}
 use Rattle.rv64_instr.specs.declared.op.Op.{Op}
+use Rattle.rv64_instr.specs.declared.op.Op.TheVariants.{Registers, Immediate, Lui, Branch, Load, Store, Copy, PseudoBr, PseudoCall, PseudoRet}
+use Rattle.rv64_instr.specs.declared.op.ImmediateOp.{ImmediateOp}
 use Rattle.rv64_instr.specs.declared.op.ImmediateOp.TheVariants.{Addi}
-use Rattle.rv64_instr.specs.declared.op.LoadOp.TheVariants.{Lb, Lbu, Lh, Lhu, Lw, Lwu}
-use Rattle.rv64_instr.specs.declared.op.StoreOp.TheVariants.{Sb, Sh, Sw}
-use Rattle.rv64_instr.specs.declared.form.Form.{Form}
-use Rattle.rv64_instr.specs.declared.form.Form.TheVariants.{Registers, Immediate, Upper, Load, Store, Branch, Move, Jump, Call, Return}
+use Rattle.rv64_instr.specs.declared.op.LoadOp.{LoadOp}
+use Rattle.rv64_instr.specs.declared.op.LoadOp.TheVariants.{Lb, Lh, Lw, Ld, Lbu, Lhu, Lwu}
 use Rattle.rv64_instr.specs.declared.operand.Operand.{Operand}
-use Rattle.rv64_instr.specs.declared.operand.Operand.TheVariants.{Def, Use, Imm, Slot as SlotOperand, Block, Symbol}
+use Rattle.rv64_instr.specs.declared.operand.Operand.TheVariants.{Def, Use, Imm, Slot as SlotOperand, Object, Block, Symbol}
 use Rattle.rv64_instr.specs.declared.place.Place.{Place}
 use Rattle.rv64_instr.specs.declared.place.Place.TheVariants.{Register, Slot, Const}
 use Rattle.rv64_instr.specs.Instruction.{Instruction}
-use Rattle.rv64_instr.specs.Form.{form_of}
-use Rattle.rv64_instr.specs.Arithmetic.{word, computed, extended, width_of, taken}
-use Rattle.rv64_instr.specs.Row.{Row, Fixes, Moves, Sets, Loads, Stores, LoadsSlot, StoresSlot, Branches, Jumps, Calls, Returns, Unfit, row_of, row_by, move_row, immediate_row}
+use Rattle.rv64_instr.specs.Arithmetic.{word, computed, extended, load_width, store_width, taken}
+use Rattle.rv64_instr.specs.Row.{Row, Fixes, Moves, Sets, Addresses, Loads, Stores, LoadsSlot, StoresSlot, Branches, Jumps, Calls, Returns, Unfit, row_of}
+use Rattle.rv64_instr.specs.Row.{row_by, move_row, immediate_row}
 use Rattle.rv64_instr.specs.declared.decoded.Input.{Input}
 use Rattle.rv64_instr.specs.declared.decoded.Input.TheVariants.{Content, Number}
+use Rattle.rv64_instr.specs.declared.decoded.Base.TheVariants.{ObjectAt}
 use Rattle.rv64_instr.specs.Access.{caller_saved, reads}
+use Rattle.mir_func.specs.declared.entry.OperandPair.{OperandPair}
+use Rattle.mir_func.specs.declared.object.Object.{Object as StackObject}
 use Rattle.mir_func.specs.declared.position.Pos.{Pos}
 use Rattle.mir_func.specs.declared.variable.VarId.{VarId}
 use Rattle.mir_func.specs.declared.variable.MarkValue.{MarkValue}
 use Rattle.mir_func.specs.declared.variable.MarkValue.TheVariants.{Nothing, Constant, At, Pair}
 use Rattle.mir_func.specs.declared.item.ItemKind.{ItemKind}
 use Rattle.mir_func.specs.declared.item.ItemKind.TheVariants.{Code, Mark, Phi}
-use Rattle.mir_meaning.specs.State.{Called, Reply, Core, State, updated, content, put, put_all, spelled, low_bytes, stored, written, touches_frame, writes_frame, assigned, IsReply, IsInRange}
-use Rattle.mir_func.specs.Variables.{is_same}
-use Rattle.mir_meaning.specs.Step.{Next, Went, Returned, Faulted, Waits, Lost, Outcome, Falls, Goes, Gives, Traps, Asks, Breaks, or_zero, read, input_value, set_register, answered, slot_loaded, saved, does, are_written, act, seen, defined, given, numbered, with_core, place_value, pair_value, mark_value, do_item, do_fetch, moved, step, after, run}
+use Rattle.mir_meaning.specs.State.{Called, Reply, Core, State, updated, content, put, put_all, spelled, low_bytes, stored, written, writes_frame, assigned}
+use Rattle.mir_meaning.specs.State.{IsReply, IsInRange}
+use Rattle.mir_func.specs.Variables.{is_same, overlaps, part_value}
+use Rattle.mir_meaning.specs.Step.{Next, Went, Returned, Faulted, Waits, Lost, Outcome, Falls, Goes, Gives, Traps, Asks, Breaks, or_zero, read, input_value}
+use Rattle.mir_meaning.specs.Step.{base_value, address_at, is_fault, part_of, set_register, answered, slot_loaded, saved, does, are_written, act, seen}
+use Rattle.mir_meaning.specs.Step.{defined, given, numbered, with_core, place_value, pair_value, mark_value, do_item, do_fetch, moved, step, after, run}
 use Rattle.rv64_instr.specs.Parts.{is_call}
 use Rattle.mir_func.specs.Graph.{Program, Fetch, Here, Silent, Outside, below, block_start}
 use Rattle.mir_meaning.specs.Follow.{IsStart}
 use Rattle.mir_meaning.specs.Effects.{OnCore}
 use Rattle.mir_meaning.proofs.Outcomes.{on_either}
-use Rattle.mir_meaning.proofs.Range.{IsWord, word_in_range, extend32_in_range, computed_in_range, extended_in_range}
+use Rattle.mir_meaning.proofs.Assignments.{part_below}
+use Rattle.mir_meaning.proofs.Range.{IsWord, reduced, word_in_range, extend32_in_range, computed_in_range, extended_in_range}
 
 -- the numbers of a row are below 2^64
 abbrev pub InputInRange : Input → Type 0
@@ -43,11 +51,12 @@ InputInRange (Number n) = IsWord n
 abbrev pub RowInRange : Row → Type 0
 RowInRange (Fixes rd n) = IsWord n
 RowInRange (Sets rd op a b) = InputInRange b
+RowInRange (Addresses rd n offset) = IsWord offset
 RowInRange (Loads rd op base offset) = IsWord offset
 RowInRange (Stores op rs base offset) = IsWord offset
 RowInRange _ = Unit {0}
 
-immediate_in_range : (op : Op) (rd a n : ℕ) → IsWord n → RowInRange (immediate_row op rd a n)
+immediate_in_range : (op : ImmediateOp) (rd a n : ℕ) → IsWord n → RowInRange (immediate_row op rd a n)
 immediate_in_range Addi rd zero n h = h
 immediate_in_range Addi rd (suc r) zero h = tt
 immediate_in_range Addi rd (suc r) (suc n) h = h
@@ -57,24 +66,27 @@ move_in_range : (rd rs : ℕ) → RowInRange (move_row rd rs)
 move_in_range rd zero = omega arith
 move_in_range rd (suc r) = tt
 
-by_form : (f : Form) (op : Op) (os : List Operand) → RowInRange (row_by f op os)
-by_form Registers op (Def rd ∷ Use a ∷ Use b ∷ rest) = tt
-by_form (Immediate low high) op (Def rd ∷ Use a ∷ Imm i ∷ rest) = immediate_in_range op rd a (word i) (word_in_range i)
-by_form Upper op (Def rd ∷ Imm i ∷ rest) = extend32_in_range _
-by_form (Load w) op (Def rd ∷ Use base ∷ Imm i ∷ rest) = word_in_range i
-by_form (Load w) op (Def rd ∷ SlotOperand n ∷ rest) = tt
-by_form (Store w) op (Use rs ∷ Use base ∷ Imm i ∷ rest) = word_in_range i
-by_form (Store w) op (Use rs ∷ SlotOperand n ∷ rest) = tt
-by_form Branch op (Use a ∷ Use b ∷ Block target ∷ rest) = tt
-by_form Move op (Def rd ∷ Use rs ∷ rest) = move_in_range rd rs
-by_form Jump op (Block target ∷ rest) = tt
-by_form Call op (Symbol name ∷ rest) = tt
-by_form Return op rest = tt
-by_form _ op _ = tt
+by_op : (op : Op) (operands : List Operand) → RowInRange (row_by op operands)
+by_op (Registers op) (Def rd ∷ Use a ∷ Use b ∷ rest) = tt
+by_op (Immediate op) (Def rd ∷ Use a ∷ Imm i ∷ rest) = immediate_in_range op rd a (word i) (word_in_range i)
+by_op (Immediate op) (Def rd ∷ Object n ∷ Imm i ∷ rest) = word_in_range i
+by_op Lui (Def rd ∷ Imm i ∷ rest) = extend32_in_range _
+by_op (Branch op) (Use a ∷ Use b ∷ Block target ∷ rest) = tt
+by_op (Load op) (Def rd ∷ Use base ∷ Imm i ∷ rest) = word_in_range i
+by_op (Load op) (Def rd ∷ SlotOperand n ∷ rest) = tt
+by_op (Load op) (Def rd ∷ Object n ∷ Imm i ∷ rest) = word_in_range i
+by_op (Store op) (Use rs ∷ Use base ∷ Imm i ∷ rest) = word_in_range i
+by_op (Store op) (Use rs ∷ SlotOperand n ∷ rest) = tt
+by_op (Store op) (Use rs ∷ Object n ∷ Imm i ∷ rest) = word_in_range i
+by_op Copy (Def rd ∷ Use rs ∷ rest) = move_in_range rd rs
+by_op PseudoBr (Block target ∷ rest) = tt
+by_op PseudoCall (Symbol name ∷ rest) = tt
+by_op PseudoRet rest = tt
+by_op _ _ = tt
 
 -- whatever the instruction
 pub row_in_range : (i : Instruction) → RowInRange (row_of i)
-row_in_range i = by_form (form_of i.op) i.op i.operands
+row_in_range i = by_op i.op i.operands
 
 -- registers, memory and tables of values
 abbrev RegsInRange : (ℕ → Option ℕ) → Type 0
@@ -115,7 +127,8 @@ put_in_range (suc r) v regs h hs = by_register where
 put_all_in_range : (rs vs : List ℕ) (regs : ℕ → Option ℕ) → All IsWord vs → RegsInRange regs → RegsInRange (put_all rs vs regs)
 put_all_in_range [] vs regs h hs = hs
 put_all_in_range (r ∷ rs) [] regs h hs = put_all_in_range rs [] (put r 0 regs) h (put_in_range r 0 regs (omega arith) hs)
-put_all_in_range (r ∷ rs) (v ∷ vs) regs h hs = put_all_in_range rs vs (put r v regs) (All-tail IsWord v vs h) (put_in_range r v regs (All-head IsWord v vs h) hs)
+put_all_in_range (r ∷ rs) (v ∷ vs) regs h hs = put_all_in_range rs vs (put r v regs) (All-tail IsWord v vs h)
+    (put_in_range r v regs (All-head IsWord v vs h) hs)
 
 -- bytes spell a number below the power
 pub spelled_below : (m : ℕ → ℕ) → ((a : ℕ) → m a < 256) → (n a : ℕ) → spelled m a n < 256 ^ n
@@ -126,7 +139,7 @@ spelled_below m h (suc n) a =
     let e : 256 ^ suc n ≡ 256 ^ n * 256 = pow-suc 256 n in
     rw e (omega (arith, x, y))
 
-spelled_in_range : (m : ℕ → ℕ) → HasBytes m → (op : Op) (a : ℕ) → IsWord (spelled m a (width_of op))
+spelled_in_range : (m : ℕ → ℕ) → HasBytes m → (op : LoadOp) (a : ℕ) → IsWord (spelled m a (load_width op))
 spelled_in_range m h op a = by_op op where
   one : IsWord (spelled m a 1)
   one = let k = spelled_below m h 1 a in omega (arith, k)
@@ -137,17 +150,14 @@ spelled_in_range m h op a = by_op op where
   four : IsWord (spelled m a 4)
   four = let k = spelled_below m h 4 a in omega (arith, k)
 
-  by_op : (op : Op) → IsWord (spelled m a (width_of op))
+  by_op : (op : LoadOp) → IsWord (spelled m a (load_width op))
   by_op Lb = one
   by_op Lbu = one
   by_op Lh = two
   by_op Lhu = two
   by_op Lw = four
   by_op Lwu = four
-  by_op Sb = one
-  by_op Sh = two
-  by_op Sw = four
-  by_op _ = spelled_below m h 8 a
+  by_op Ld = spelled_below m h 8 a
 
 bytes_updated : (k b : ℕ) (m : ℕ → ℕ) → b < 256 → HasBytes m → HasBytes (updated k b m)
 bytes_updated k b m h hs a = by_test (nat_eq a k) where
@@ -184,21 +194,25 @@ module _ (c : Core) (h : IsInRange c) where
   unfolding does
   does_in_range (Fixes rd n) k = set_in_range c rd n h k
   does_in_range (Moves rd rs) k = set_in_range c rd (read c rs) h (read_in_range c h.regs rs)
-  does_in_range (Sets rd op a b) k = set_in_range c rd (computed op (read c a) (input_value c b)) h (computed_in_range op (read c a) (input_value c b) (read_in_range c h.regs a) (input_in_range b k))
+  does_in_range (Sets rd op a b) k = set_in_range c rd (computed op (read c a) (input_value c b)) h (computed_in_range op (read c a) (input_value c b)
+      (read_in_range c h.regs a) (input_in_range b k))
+  does_in_range (Addresses rd n o) k = set_in_range c rd (address_at c (ObjectAt n) o) h (reduced (base_value c (ObjectAt n) + o))
   does_in_range (Loads rd op b o) k =
-      let a = (read c b + o) % 2 ^ 64 in
-      let v = extended op (spelled c.memory a (width_of op)) in
-      on_either IsInRange (touches_frame c.entry a (width_of op)) Traps (Falls (set_register rd v c)) tt
-      (set_in_range c rd v h (extended_in_range op (spelled c.memory a (width_of op)) (spelled_in_range c.memory h.memory op a)))
+      let a = address_at c b o in
+      let n = spelled c.memory a (load_width op) in
+      on_either IsInRange (is_fault b c a (load_width op)) Traps (Falls (set_register rd (extended op n) c)) tt
+      (set_in_range c rd (extended op n) h (extended_in_range op n (spelled_in_range c.memory h.memory op a)))
   does_in_range (Stores op rs b o) k =
-      let a = (read c b + o) % 2 ^ 64 in
-      on_either IsInRange (touches_frame c.entry a (width_of op)) Traps (Falls (saved a (low_bytes (width_of op) (read c rs)) c)) tt
-      (record { regs = h.regs; slots = h.slots; memory = stored_bytes (width_of op) (read c rs) a c.memory h.memory; script = h.script; pairs = h.pairs; marks = h.marks })
+      let a = address_at c b o in
+      let w = store_width op in
+      on_either IsInRange (is_fault b c a w) Traps (Falls (saved a (low_bytes w (read c rs)) c)) tt
+      (record { regs = h.regs; slots = h.slots; memory = stored_bytes w (read c rs) a c.memory h.memory; script = h.script; pairs = h.pairs; marks = h.marks })
   does_in_range (LoadsSlot rd n) k = by_slot (c.slots n) (h.slots n) where
     by_slot : (x : Option ℕ) → MaybeWord x → OnCore IsInRange (slot_loaded rd c x)
     by_slot None k = tt
     by_slot (Some v) k = set_in_range c rd v h (k v refl)
-  does_in_range (StoresSlot rs n) k = record { regs = h.regs; slots = updated_in_range n (Some (read c rs)) c.slots (some_word (read c rs) (read_in_range c h.regs rs)) h.slots; memory = h.memory; script = h.script; pairs = h.pairs; marks = h.marks }
+  does_in_range (StoresSlot rs n) k = record { regs = h.regs; slots = updated_in_range n (Some (read c rs)) c.slots
+      (some_word (read c rs) (read_in_range c h.regs rs)) h.slots; memory = h.memory; script = h.script; pairs = h.pairs; marks = h.marks }
   does_in_range (Branches op a b t) k = on_either IsInRange (taken op (read c a) (read c b)) (Goes t c) (Falls c) h h
   does_in_range (Jumps t) k = h
   does_in_range (Calls name args) k = by_script (map (read c) args) c.script h.script where
@@ -206,8 +220,11 @@ module _ (c : Core) (h : IsInRange c) where
     by_script vs [] k = tt
     by_script vs (r ∷ rs) k =
         let is = All-head IsReply r rs k in
-        on_either IsInRange (writes_frame c.entry r.writes) Traps (Falls (record c { regs = put_all caller_saved r.regs c.regs; memory = written c.memory r.writes; script = rs; events = Called name vs ∷ c.events })) tt
-        (record { regs = put_all_in_range caller_saved r.regs c.regs is.regs h.regs; slots = h.slots; memory = written_bytes r.writes c.memory is.writes h.memory; script = All-tail IsReply r rs k; pairs = h.pairs; marks = h.marks })
+        on_either IsInRange (writes_frame c.entry c.area r.writes) Traps
+            (Falls (record c { regs = put_all caller_saved r.regs c.regs; memory = written c.memory r.writes; script = rs; events =
+            Called name vs ∷ c.events })) tt
+        (record { regs = put_all_in_range caller_saved r.regs c.regs is.regs h.regs; slots = h.slots; memory = written_bytes r.writes c.memory is.writes
+            h.memory; script = All-tail IsReply r rs k; pairs = h.pairs; marks = h.marks })
   does_in_range (Returns v) k = tt
   does_in_range Unfit k = tt
 
@@ -232,15 +249,15 @@ module _ (c : Core) (h : IsInRange c) where
   place_in_range (Some (Slot n)) v e = h.slots n v e
   place_in_range (Some (Const z)) v e = some_word (word z) (word_in_range z) v e
 
-  pair_in_range : (q : Option (ℕ × ℕ)) → MaybeWord (pair_value q c)
+  pair_in_range : (q : Option OperandPair) → MaybeWord (pair_value q c)
   pair_in_range None v e = cc
-  pair_in_range (Some q) v e = h.pairs q.0 q.1 v e
+  pair_in_range (Some q) v e = h.pairs q.number q.operand v e
 
   mark_in_range : (g : Program) (m : MarkValue) → MaybeWord (mark_value g m c)
   mark_in_range g Nothing v e = cc
   mark_in_range g (Constant z) v e = some_word (word z) (word_in_range z) v e
   mark_in_range g (At r) v e = seen_in_range g.sees_pointer r v e
-  mark_in_range g (Pair k o) v e = pair_in_range (g.resolve k o) v e
+  mark_in_range g (Pair q) v e = pair_in_range (g.resolve q) v e
 
   row_updated : (k : ℕ) (x : ℕ → Option ℕ) → ((o : ℕ) → MaybeWord (x o)) → (n o : ℕ) → MaybeWord (updated k x c.pairs n o)
   row_updated k x hx n o = by_test (nat_eq n k) where
@@ -248,10 +265,15 @@ module _ (c : Core) (h : IsInRange c) where
     by_test true = hx o
     by_test false = h.pairs n o
 
+part_in_range : (v : VarId) (x : Option ℕ) → MaybeWord x → MaybeWord (part_of v x)
+part_in_range v None h n e = cc
+part_in_range v (Some x) h n e = some_word (part_value v x) (part_below v x (2 ^ 64) (h x refl)) n e
+
 numbered_in_range : (sp call : Bool) (n : Option ℕ) (os : List Operand) (c : Core) → IsInRange c → IsInRange (numbered sp call n os c)
 numbered_in_range sp call None os c h = h
 numbered_in_range sp call (Some k) os c h =
-    with_pairs c _ h (row_updated c h k (λ o. given sp (defined call (slice_get os o)) (c.pairs k o) c) (λ o. given_in_range c h sp (defined call (slice_get os o)) (c.pairs k o) (h.pairs k o)))
+    with_pairs c _ h (row_updated c h k (λ o. given sp (defined call (slice_get os o)) (c.pairs k o) c)
+        (λ o. given_in_range c h sp (defined call (slice_get os o)) (c.pairs k o) (h.pairs k o)))
 
 with_in_range : (k : Core → Core) → ((c : Core) → IsInRange c → IsInRange (k c)) → (x : Outcome) → OnCore IsInRange x → OnCore IsInRange (with_core k x)
 with_in_range k f (Falls c) h = f c h
@@ -265,11 +287,14 @@ pub item_in_range : (g : Program) (k : ItemKind) (c : Core) → IsInRange c → 
 item_in_range g (Code i n) c h =
     with_in_range (numbered g.sees_pointer (is_call (row_of i)) n i.operands) (numbered_in_range g.sees_pointer (is_call (row_of i)) n i.operands)
     (act (row_of i) c) (act_in_range c h (row_of i) (row_in_range i))
-item_in_range g (Mark v m) c h = record { regs = h.regs; slots = h.slots; memory = h.memory; script = h.script; pairs = h.pairs; marks = λ w. by_test w (is_same w v) } where
-  by_test : (w : VarId) (z : Bool) → MaybeWord (cond z (mark_value g m c) (assigned w c.marks))
-  by_test w true = mark_in_range c h g m
-  by_test w false = h.marks w
-item_in_range g (Phi p n) c h = with_pairs c _ h (row_updated c h n (updated 0 (place_value p c) (c.pairs n)) (updated_in_range 0 (place_value p c) (c.pairs n) (place_in_range c h p) (h.pairs n)))
+item_in_range g (Mark v m) c h = record { regs = h.regs; slots = h.slots; memory = h.memory; script = h.script; pairs = h.pairs; marks =
+    λ w. by_test w (is_same w v) (overlaps w v) } where
+  by_test : (w : VarId) (same over : Bool) → MaybeWord (cond same (part_of v (mark_value g m c)) (cond over None (assigned w c.marks)))
+  by_test w true over x e = part_in_range v (mark_value g m c) (mark_in_range c h g m) x e
+  by_test w false true x e = cc
+  by_test w false false x e = h.marks w x e
+item_in_range g (Phi p n) c h = with_pairs c _ h (row_updated c h n (updated 0 (place_value p c) (c.pairs n))
+    (updated_in_range 0 (place_value p c) (c.pairs n) (place_in_range c h p) (h.pairs n)))
 
 fetched_in_range : (g : Program) (x : Fetch) (c : Core) → IsInRange c → OnCore IsInRange (do_fetch g x c)
 fetched_in_range g (Here i) c h = item_in_range g i.kind c h
@@ -277,8 +302,10 @@ fetched_in_range g (Silent k n) c h = h
 fetched_in_range g Outside c h = tt
 
 moved_in_range : (enter : ℕ → ℕ) (p : Pos) (x : Outcome) (t : State) → OnCore IsInRange x → moved enter p x ≡ Went t → IsInRange t.core
-moved_in_range enter p (Falls c) t h e = let made : State = record { pos = below p; core = c } in let w : made ≡ t = cc in subst (λ (z : State). IsInRange z.core) w h
-moved_in_range enter p (Goes n c) t h e = let made : State = record { pos = block_start (enter n); core = c } in let w : made ≡ t = cc in subst (λ (z : State). IsInRange z.core) w h
+moved_in_range enter p (Falls c) t h e = let made : State = record { pos = below p; core = c } in let w : made ≡ t = cc in
+    subst (λ (z : State). IsInRange z.core) w h
+moved_in_range enter p (Goes n c) t h e = let made : State = record { pos = block_start (enter n); core = c } in let w : made ≡ t = cc in
+    subst (λ (z : State). IsInRange z.core) w h
 moved_in_range enter p (Gives v) t h e = cc
 moved_in_range enter p Traps t h e = cc
 moved_in_range enter p Asks t h e = cc
@@ -290,7 +317,8 @@ step_in_range g s t h e = moved_in_range g.enter s.pos (do_fetch g (g.fetch s.po
 pub run_in_range : (g : Program) (n : ℕ) (s t : State) → IsInRange s.core → run g n s ≡ Went t → IsInRange t.core
 run_in_range g zero s t h e = let w : s ≡ t = cc in subst (λ (z : State). IsInRange z.core) w h
 run_in_range g (suc n) s t h e = by_step (step g s) refl e (λ u go. run_in_range g n u t (step_in_range g s u h go)) where
-  by_step : (x : Next) → step g s ≡ x → after x (run g n) ≡ Went t → ((u : State) → step g s ≡ Went u → run g n u ≡ Went t → IsInRange t.core) → IsInRange t.core
+  by_step : (x : Next) → step g s ≡ x → after x (run g n) ≡ Went t → ((u : State) → step g s ≡ Went u → run g n u ≡ Went t → IsInRange t.core) →
+      IsInRange t.core
   by_step (Went u) go e ih = ih u go e
   by_step (Returned v) go e ih = cc
   by_step Faulted go e ih = cc
@@ -298,8 +326,8 @@ run_in_range g (suc n) s t h e = by_step (step g s) refl e (λ u go. run_in_rang
   by_step Lost go e ih = cc
 
 -- a start is in range
-pub start_in_range : (first : ℕ) (s : State) → IsStart first s → IsInRange s.core
-start_in_range first s st = record {
+pub start_in_range : (stack : List StackObject) (first : ℕ) (s : State) → IsStart stack first s → IsInRange s.core
+start_in_range stack first s st = record {
   regs = λ r v e. elim (cases_lt r 32) as (λ z. IsWord v) [
     | inl lt ↦ (let k = st.regs r lt in let w : Some k.0 ≡ Some v = sym k.1 ∙ e in let x : k.0 ≡ v = cc in subst IsWord x k.2)
     | inr ge ↦ (let bad : None ≡ Some v = sym (st.virtual r ge) ∙ e in cc)

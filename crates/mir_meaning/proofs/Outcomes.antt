@@ -33,7 +33,8 @@ alike_weaker R S f Breaks Breaks h = tt
 alike_weaker R S f _ _ h = absurd h
 
 -- both cores changed afterwards
-pub alike_with : (R S : Core → Core → Type 0) (j k : Core → Core) → ((c d : Core) → R c d → S (j c) (k d)) → (x y : Outcome) → EndAlike R x y → EndAlike S (with_core j x) (with_core k y)
+pub alike_with : (R S : Core → Core → Type 0) (j k : Core → Core) → ((c d : Core) → R c d → S (j c) (k d)) → (x y : Outcome) → EndAlike R x y →
+    EndAlike S (with_core j x) (with_core k y)
 alike_with R S j k f (Falls c) (Falls d) h = f c d h
 alike_with R S j k f (Goes m c) (Goes n d) h = (h.0, f c d h.1)
 alike_with R S j k f (Gives v) (Gives w) h = h
@@ -52,7 +53,8 @@ alike_refl R f Breaks = tt
 
 -- one step of each, from the same position
 module _ (R : Core → Core → Type 0) (enter : ℕ → ℕ) (p : Pos) where
-  pub alike_went : (x y : Outcome) → EndAlike R x y → (t : State) → moved enter p y ≡ Went t → (s : State) × (moved enter p x ≡ Went s) × (t.pos ≡ s.pos) × R s.core t.core
+  pub alike_went : (x y : Outcome) → EndAlike R x y → (t : State) → moved enter p y ≡ Went t → (s : State) × (moved enter p x ≡ Went s) × (t.pos ≡ s.pos) × R
+      s.core t.core
   alike_went (Falls c) (Falls d) h t e =
       let made : State = record { pos = below p; core = d } in
       let w : made ≡ t = cc in
@@ -60,7 +62,8 @@ module _ (R : Core → Core → Type 0) (enter : ℕ → ℕ) (p : Pos) where
   alike_went (Goes m c) (Goes n d) h t e =
       let made : State = record { pos = block_start (enter n); core = d } in
       let w : made ≡ t = cc in
-      (record { pos = block_start (enter m); core = c }, refl, ap (λ (z : State). z.pos) (sym w) ∙ ap (λ (k : ℕ). block_start (enter k)) (sym h.0), subst (λ (z : State). R c z.core) w h.1)
+      (record { pos = block_start (enter m); core = c }, refl, ap (λ (z : State). z.pos) (sym w) ∙ ap (λ (k : ℕ). block_start (enter k)) (sym h.0),
+          subst (λ (z : State). R c z.core) w h.1)
   alike_went (Gives v) (Gives w) h t e = cc
   alike_went Traps Traps h t e = cc
   alike_went Asks Asks h t e = cc

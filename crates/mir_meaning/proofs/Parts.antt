@@ -1,23 +1,28 @@
 -- What the parts of an instruction tell of its runs.
-use Rattle.std.proofs.Common.{◌≡◌, ℕ, ℤ, zero, suc, ◌+◌, ◌%◌, ◌^◌, List, [], ◌∷◌, Contains, Option, Some, None, Bool, true, false, cond, ◌&&◌, ◌||◌, nat_eq, is_some, eq-eqb, lt-ltb, le-ltb, refl, sym, ap, ◌∙◌, subst, inl, inr, ◌⊎◌, arith}
+use Rattle.std.proofs.Common.{◌≡◌, ℕ, ℤ, zero, suc, ◌^◌, List, [], ◌∷◌, Contains, Option, Some, None, Bool, true, false, cond, ◌&&◌, ◌||◌, nat_eq, is_some}
+use Rattle.std.proofs.Common.{eq-eqb, lt-ltb, le-ltb, refl, sym, ap, ◌∙◌, subst, inl, inr, ◌⊎◌, arith}
 use Rattle.std.specs.List.{list_any}
 use Rattle.std.proofs.lemmas.Bool.{cases_eq, cases_lt, eqb-true}
 use Rattle.std.proofs.lemmas.Map.Made.{Contains-tail}
 use Rattle.rv64_instr.specs.declared.operand.Operand.{Operand}
-use Rattle.rv64_instr.specs.declared.operand.Operand.TheVariants.{Def, Use, ImplicitDef, ImplicitUse, Imm, Slot as SlotOperand, Block, Symbol, Mask}
+use Rattle.rv64_instr.specs.declared.operand.Operand.TheVariants.{Def, Use, ImplicitDef, ImplicitUse, Imm, Slot as SlotOperand, Object, Block, Symbol, Mask}
 use Rattle.rv64_instr.specs.declared.place.Place.{Place}
 use Rattle.rv64_instr.specs.declared.place.Place.TheVariants.{Register, Slot, Const}
 use Rattle.rv64_instr.specs.Instruction.{Instruction}
-use Rattle.rv64_instr.specs.Arithmetic.{word, signed, width_of, extended}
-use Rattle.rv64_instr.specs.Row.{Row, Fixes, Moves, Sets, Loads, Stores, LoadsSlot, StoresSlot, Branches, Jumps, Calls, Returns, Unfit, row_of, implicit_uses}
+use Rattle.rv64_instr.specs.Arithmetic.{word, signed, load_width, extended}
+use Rattle.rv64_instr.specs.Row.{Row, Fixes, Moves, Sets, Addresses, Loads, Stores, LoadsSlot, StoresSlot, Branches, Jumps, Calls, Returns, Unfit, row_of}
+use Rattle.rv64_instr.specs.Row.{implicit_uses}
 use Rattle.rv64_instr.specs.declared.decoded.Input.TheVariants.{Content, Number}
+use Rattle.rv64_instr.specs.declared.decoded.Base.TheVariants.{PointedBy, ObjectAt}
 use Rattle.rv64_instr.specs.Access.{reads, sets}
-use Rattle.rv64_instr.specs.Parts.{place_set, set_by, moved_by, constant_of, is_pure, is_call as calls, uses_of, defines_of, first_use, second_use, is_register, has_implicit_uses, is_implicit_use, names_slot, slot_read, is_call}
+use Rattle.rv64_instr.specs.Parts.{place_set, set_by, moved_by, constant_of, is_pure, is_call as calls, uses_of, defines_of, first_use, second_use}
+use Rattle.rv64_instr.specs.Parts.{is_register, has_implicit_uses, is_implicit_use, names_slot, slot_read, is_call}
 use Rattle.mir_func.specs.declared.item.ItemKind.{ItemKind}
 use Rattle.mir_func.specs.declared.item.ItemKind.TheVariants.{Code, Mark, Phi}
 use Rattle.mir_meaning.specs.Live.{KindDefines}
-use Rattle.mir_meaning.specs.State.{Core, content, updated, spelled, touches_frame}
-use Rattle.mir_meaning.specs.Step.{Outcome, Falls, Goes, Gives, Traps, Asks, Breaks, with_core, numbered, do_item, read, or_zero, set_register, slot_loaded, does, are_written, act}
+use Rattle.mir_meaning.specs.State.{Core, content, updated, spelled}
+use Rattle.mir_meaning.specs.Step.{Outcome, Falls, Goes, Gives, Traps, Asks, Breaks, with_core, numbered, do_item, read, or_zero, address_at, is_fault}
+use Rattle.mir_meaning.specs.Step.{set_register, slot_loaded, does, are_written, act}
 use Rattle.mir_func.specs.Graph.{Program}
 use Rattle.mir_meaning.specs.Effects.{held_in, OnCore, EndAlike, SameWorld, FallsInto, AreHeldAlike, EffectsHold}
 use Rattle.mir_meaning.proofs.Places.{contains_head, contains_tail, put_same, updated_same}
@@ -76,7 +81,8 @@ keeps i x c e = act_keeps x c (row_of i) (λ k. is_not e (row_defines (row_of i)
 implicit_any : (q : ℕ) (os : List Operand) → Contains (implicit_uses os) q → list_any (is_implicit_use q) os ≡ true
 implicit_any q [] k = absurd (omega (arith, k.1))
 implicit_any q (ImplicitUse r ∷ os) k = by_test (λ h. or_right (nat_eq r q) (list_any (is_implicit_use q) os) (implicit_any q os h)) (nat_eq r 2) k where
-  by_test : (Contains (implicit_uses os) q → (nat_eq r q || list_any (is_implicit_use q) os) ≡ true) → (z : Bool) → Contains (cond z (implicit_uses os) (r ∷ implicit_uses os)) q → (nat_eq r q || list_any (is_implicit_use q) os) ≡ true
+  by_test : (Contains (implicit_uses os) q → (nat_eq r q || list_any (is_implicit_use q) os) ≡ true) → (z : Bool) →
+      Contains (cond z (implicit_uses os) (r ∷ implicit_uses os)) q → (nat_eq r q || list_any (is_implicit_use q) os) ≡ true
   by_test later true k = later k
   by_test later false k =
       elim (cases_eq r q) as (λ _. (nat_eq r q || list_any (is_implicit_use q) os) ≡ true) [
@@ -88,6 +94,7 @@ implicit_any q (Use r ∷ os) k = implicit_any q os k
 implicit_any q (ImplicitDef r ∷ os) k = implicit_any q os k
 implicit_any q (Imm z ∷ os) k = implicit_any q os k
 implicit_any q (SlotOperand n ∷ os) k = implicit_any q os k
+implicit_any q (Object n ∷ os) k = implicit_any q os k
 implicit_any q (Block n ∷ os) k = implicit_any q os k
 implicit_any q (Symbol n ∷ os) k = implicit_any q os k
 implicit_any q (Mask ∷ os) k = implicit_any q os k
@@ -99,7 +106,8 @@ only_one r q k = let h = in_any q (r ∷ []) k in by_test (nat_eq q r) h where
   by_test false e = e
 
 -- the registers that a row reads are those of its operands
-register_used : (os : List Operand) (r : Row) (q : ℕ) → AreImplicit os r → Contains (reads r) q → (is_register q (first_use r) || is_register q (second_use r) || (has_implicit_uses r && list_any (is_implicit_use q) os)) ≡ true
+register_used : (os : List Operand) (r : Row) (q : ℕ) → AreImplicit os r → Contains (reads r) q →
+    (is_register q (first_use r) || is_register q (second_use r) || (has_implicit_uses r && list_any (is_implicit_use q) os)) ≡ true
 register_used os (Moves rd rs) q a k = rw (only_one rs q k) refl
 register_used os (Sets rd op a (Content b)) q h k =
     elim (cases_eq a q) as (λ _. (nat_eq q a || nat_eq q b || false) ≡ true) [
@@ -107,8 +115,10 @@ register_used os (Sets rd op a (Content b)) q h k =
       | inr ne ↦ rw (only_one b q (Contains-tail a (b ∷ []) q ne k)) (or_left (nat_eq q a || true) false (or_right (nat_eq q a) true refl))
     ]
 register_used os (Sets rd op a (Number n)) q h k = rw (only_one a q k) refl
-register_used os (Loads rd op b o) q h k = rw (only_one b q k) refl
-register_used os (Stores op rs b o) q h k =
+register_used os (Loads rd op (PointedBy b) o) q h k = rw (only_one b q k) refl
+register_used os (Loads rd op (ObjectAt n) o) q h k = absurd (omega (arith, k.1))
+register_used os (Stores op rs (ObjectAt n) o) q h k = rw (only_one rs q k) refl
+register_used os (Stores op rs (PointedBy b) o) q h k =
     elim (cases_eq rs q) as (λ _. (nat_eq q rs || nat_eq q b || false) ≡ true) [
       | inl e ↦ rw (eq-eqb q rs (sym e)) refl
       | inr ne ↦ rw (only_one b q (Contains-tail rs (b ∷ []) q ne k)) (or_left (nat_eq q rs || true) false (or_right (nat_eq q rs) true refl))
@@ -122,6 +132,7 @@ register_used os (Branches op a b t) q h k =
 register_used os (Calls name args) q h k = implicit_any q os (subst (λ (qs : List ℕ). Contains qs q) h k)
 register_used os (Returns results) q h k = implicit_any q os (subst (λ (qs : List ℕ). Contains qs q) h k)
 register_used os (Fixes rd n) q h k = absurd (omega (arith, k.1))
+register_used os (Addresses rd n o) q h k = absurd (omega (arith, k.1))
 register_used os (LoadsSlot rd n) q h k = absurd (omega (arith, k.1))
 register_used os (Jumps t) q h k = absurd (omega (arith, k.1))
 register_used os Unfit q h k = absurd (omega (arith, k.1))
@@ -134,10 +145,13 @@ row_uses i (Slot n) k = by_row (row_of i) k where
   by_row _ k = absurd k
 row_uses i (Const z) k = absurd k
 
-alike : (i : Instruction) (c d : Core) → SameWorld c d → ((x : Place) → uses_of i x ≡ true → held_in x c ≡ held_in x d) → EndAlike (AreHeldAlike i c d) (act (row_of i) c) (act (row_of i) d)
-alike i c d w u = alike_weaker (Agreeing (row_of i) c d) (AreHeldAlike i c d) weaker (act (row_of i) c) (act (row_of i) d) (act_alike (row_of i) c d w (λ x k. u x (row_uses i x k))) where
+alike : (i : Instruction) (c d : Core) → SameWorld c d → ((x : Place) → uses_of i x ≡ true → held_in x c ≡ held_in x d) →
+    EndAlike (AreHeldAlike i c d) (act (row_of i) c) (act (row_of i) d)
+alike i c d w u = alike_weaker (Agreeing (row_of i) c d) (AreHeldAlike i c d) weaker (act (row_of i) c) (act (row_of i) d)
+    (act_alike (row_of i) c d w (λ x k. u x (row_uses i x k))) where
   weaker : (c' d' : Core) → Agreeing (row_of i) c d c' d' → AreHeldAlike i c d c' d'
-  weaker c' d' h = (h.0, λ x k. h.1 x (elim k as (λ _. RowDefines (row_of i) x ⊎ (held_in x c ≡ held_in x d)) [ inl e ↦ inl (defines_row (row_of i) x e) | inr e ↦ inr e ]))
+  weaker c' d' h = (h.0, λ x k. h.1 x (elim k as (λ _. RowDefines (row_of i) x ⊎ (held_in x c ≡ held_in x d)) [ inl e ↦ inl (defines_row (row_of i) x e) |
+      inr e ↦ inr e ]))
 
 -- ---- what is set, moved and fixed
 
@@ -150,6 +164,7 @@ one_set : (r : Row) (x : Place) → calls r ≡ false → RowDefines r x → (x 
 one_set (Fixes rd n) (Register q) e k = by_register rd q k
 one_set (Moves rd rs) (Register q) e k = by_register rd q k
 one_set (Sets rd op a b) (Register q) e k = by_register rd q k
+one_set (Addresses rd n o) (Register q) e k = by_register rd q k
 one_set (Loads rd op b o) (Register q) e k = by_register rd q k
 one_set (LoadsSlot rd n) (Register q) e k = by_register rd q k
 one_set (StoresSlot rs n) (Slot m) e k = inr (ap (λ (z : ℕ). Some (Slot z)) k)
@@ -191,7 +206,8 @@ set_holds (suc r) v to c e =
     let k : Register (suc r) ≡ to = cc in
     subst (λ (x : Place). held_in x (set_register (suc r) v c) ≡ Some v) k (put_same (suc r) v c.regs (λ z. cc))
 
-row_moves : (r : Row) (from to : Place) (c : Core) → moved_by r ≡ Some from → set_by r ≡ Some to → are_written c (reads r) ≡ true → OnCore (λ d. held_in to d ≡ held_in from c) (does r c)
+row_moves : (r : Row) (from to : Place) (c : Core) → moved_by r ≡ Some from → set_by r ≡ Some to → are_written c (reads r) ≡ true →
+    OnCore (λ d. held_in to d ≡ held_in from c) (does r c)
 unfolding does
 row_moves (Moves zero rs) from to c m s w = cc
 row_moves (Moves (suc rd) rs) from to c m s w =
@@ -207,9 +223,11 @@ row_moves (StoresSlot rs n) from to c m s w =
     let f : Register rs ≡ from = cc in
     let t : Slot n ≡ to = cc in
     let d : Core = record c { slots = updated n (Some (read c rs)) c.slots } in
-    subst (λ (x : Place). held_in to d ≡ held_in x c) f (subst (λ (x : Place). held_in x d ≡ content c.regs rs) t (updated_same n (Some (read c rs)) c.slots ∙ first_held c rs w))
+    subst (λ (x : Place). held_in to d ≡ held_in x c) f (subst (λ (x : Place). held_in x d ≡ content c.regs rs) t
+        (updated_same n (Some (read c rs)) c.slots ∙ first_held c rs w))
 row_moves (Fixes rd n) from to c m s w = cc
 row_moves (Sets rd op a b) from to c m s w = cc
+row_moves (Addresses rd n o) from to c m s w = cc
 row_moves (Loads rd op b o) from to c m s w = cc
 row_moves (Stores op rs b o) from to c m s w = cc
 row_moves (Branches op a b t) from to c m s w = cc
@@ -218,7 +236,8 @@ row_moves (Calls name args) from to c m s w = cc
 row_moves (Returns v) from to c m s w = cc
 row_moves Unfit from to c m s w = cc
 
-moves : (i : Instruction) (from to : Place) (c : Core) → moved_by (row_of i) ≡ Some from → set_by (row_of i) ≡ Some to → OnCore (λ d. held_in to d ≡ held_in from c) (act (row_of i) c)
+moves : (i : Instruction) (from to : Place) (c : Core) → moved_by (row_of i) ≡ Some from → set_by (row_of i) ≡ Some to →
+    OnCore (λ d. held_in to d ≡ held_in from c) (act (row_of i) c)
 moves i from to c m s = acts (OnCore (λ d. held_in to d ≡ held_in from c)) tt (row_of i) c (λ w. row_moves (row_of i) from to c m s w)
 
 -- 64 bits as a signed number, and back
@@ -229,7 +248,8 @@ word_signed n lt =
       | inr h ↦ rw (le-ltb n (2 ^ 63) h) (omega (arith, h, lt))
     ]
 
-row_fixes : (r : Row) (z : ℤ) (to : Place) (c : Core) → RowInRange r → constant_of r ≡ Some z → set_by r ≡ Some to → OnCore (λ d. held_in to d ≡ Some (word z)) (does r c)
+row_fixes : (r : Row) (z : ℤ) (to : Place) (c : Core) → RowInRange r → constant_of r ≡ Some z → set_by r ≡ Some to →
+    OnCore (λ d. held_in to d ≡ Some (word z)) (does r c)
 unfolding does
 row_fixes (Fixes rd n) z to c k e s =
     let f : signed n ≡ z = cc in
@@ -238,6 +258,7 @@ row_fixes (Moves rd rs) z to c k e s = cc
 row_fixes (LoadsSlot rd n) z to c k e s = cc
 row_fixes (StoresSlot rs n) z to c k e s = cc
 row_fixes (Sets rd op a b) z to c k e s = cc
+row_fixes (Addresses rd n o) z to c k e s = cc
 row_fixes (Loads rd op b o) z to c k e s = cc
 row_fixes (Stores op rs b o) z to c k e s = cc
 row_fixes (Branches op a b t) z to c k e s = cc
@@ -246,13 +267,14 @@ row_fixes (Calls name args) z to c k e s = cc
 row_fixes (Returns v) z to c k e s = cc
 row_fixes Unfit z to c k e s = cc
 
-fixes : (i : Instruction) (z : ℤ) (to : Place) (c : Core) → constant_of (row_of i) ≡ Some z → set_by (row_of i) ≡ Some to → OnCore (λ d. held_in to d ≡ Some (word z)) (act (row_of i) c)
+fixes : (i : Instruction) (z : ℤ) (to : Place) (c : Core) → constant_of (row_of i) ≡ Some z → set_by (row_of i) ≡ Some to →
+    OnCore (λ d. held_in to d ≡ Some (word z)) (act (row_of i) c)
 fixes i z to c e s = acts (OnCore (λ d. held_in to d ≡ Some (word z))) tt (row_of i) c (λ w. row_fixes (row_of i) z to c (row_in_range i) e s)
 
 -- ---- pure code
 
 same_world : (c : Core) → SameWorld c c
-same_world c = record { entry = refl; memory = refl; script = refl; events = refl }
+same_world c = record { entry = refl; area = refl; objects = refl; memory = refl; script = refl; events = refl }
 
 falls_either : (P : Core → Type 0) (b : Bool) (x y : Outcome) → FallsInto P x → FallsInto P y → FallsInto P (cond b x y)
 falls_either P true x y h k = h
@@ -260,18 +282,20 @@ falls_either P false x y h k = k
 
 row_pure : (r : Row) (c : Core) → is_pure r ≡ true → FallsInto (SameWorld c) (does r c)
 unfolding does
-row_pure (Fixes rd n) c e = record { entry = refl; memory = refl; script = refl; events = refl }
-row_pure (Moves rd rs) c e = record { entry = refl; memory = refl; script = refl; events = refl }
-row_pure (Sets rd op a b) c e = record { entry = refl; memory = refl; script = refl; events = refl }
+row_pure (Fixes rd n) c e = record { entry = refl; area = refl; objects = refl; memory = refl; script = refl; events = refl }
+row_pure (Moves rd rs) c e = record { entry = refl; area = refl; objects = refl; memory = refl; script = refl; events = refl }
+row_pure (Sets rd op a b) c e = record { entry = refl; area = refl; objects = refl; memory = refl; script = refl; events = refl }
+row_pure (Addresses rd n o) c e = record { entry = refl; area = refl; objects = refl; memory = refl; script = refl; events = refl }
 row_pure (Loads rd op b o) c e =
-    let a = (read c b + o) % 2 ^ 64 in
-    let d : Core = set_register rd (extended op (spelled c.memory a (width_of op))) c in
-    falls_either (SameWorld c) (touches_frame c.entry a (width_of op)) Traps (Falls d) tt (record { entry = refl; memory = refl; script = refl; events = refl })
+    let a = address_at c b o in
+    let d : Core = set_register rd (extended op (spelled c.memory a (load_width op))) c in
+    falls_either (SameWorld c) (is_fault b c a (load_width op)) Traps (Falls d) tt (record { entry = refl; area = refl; objects = refl; memory = refl;
+        script = refl; events = refl })
 row_pure (LoadsSlot rd n) c e = by_slot (c.slots n) where
   by_slot : (x : Option ℕ) → FallsInto (SameWorld c) (slot_loaded rd c x)
   by_slot None = tt
-  by_slot (Some v) = record { entry = refl; memory = refl; script = refl; events = refl }
-row_pure (StoresSlot rs n) c e = record { entry = refl; memory = refl; script = refl; events = refl }
+  by_slot (Some v) = record { entry = refl; area = refl; objects = refl; memory = refl; script = refl; events = refl }
+row_pure (StoresSlot rs n) c e = record { entry = refl; area = refl; objects = refl; memory = refl; script = refl; events = refl }
 row_pure Unfit c e = tt
 row_pure (Stores op rs b o) c e = cc
 row_pure (Branches op a b t) c e = cc
@@ -287,7 +311,8 @@ effects_hold = record { defines = keeps; uses = alike; sets = sets_one; moves = 
 
 -- ---- items
 
-keeps_with : (x : Place) (c : Core) (k : Core → Core) → ((d : Core) → held_in x (k d) ≡ held_in x d) → (o : Outcome) → OnCore (Keeps x c) o → OnCore (Keeps x c) (with_core k o)
+keeps_with : (x : Place) (c : Core) (k : Core → Core) → ((d : Core) → held_in x (k d) ≡ held_in x d) → (o : Outcome) → OnCore (Keeps x c) o →
+    OnCore (Keeps x c) (with_core k o)
 keeps_with x c k f (Falls d) h = f d ∙ h
 keeps_with x c k f (Goes n d) h = f d ∙ h
 keeps_with x c k f (Gives v) h = tt
@@ -305,7 +330,8 @@ numbers_keep (Const z) sp call n os d = refl
 -- what an item doesn't define, stays: debug items define no place
 pub item_keeps : (g : Program) (k : ItemKind) (x : Place) (c : Core) → (KindDefines k x → ⊥) → OnCore (Keeps x c) (do_item g k c)
 item_keeps g (Code i n) x c ne =
-    keeps_with x c (numbered g.sees_pointer (is_call (row_of i)) n i.operands) (λ d. numbers_keep x g.sees_pointer (is_call (row_of i)) n i.operands d) (act (row_of i) c) (act_keeps x c (row_of i) (λ k. ne (row_defines (row_of i) x k)))
+    keeps_with x c (numbered g.sees_pointer (is_call (row_of i)) n i.operands) (λ d. numbers_keep x g.sees_pointer (is_call (row_of i)) n i.operands d)
+        (act (row_of i) c) (act_keeps x c (row_of i) (λ k. ne (row_defines (row_of i) x k)))
 item_keeps g (Mark v m) (Register r) c ne = refl
 item_keeps g (Mark v m) (Slot n) c ne = refl
 item_keeps g (Mark v m) (Const z) c ne = refl

@@ -1,10 +1,12 @@
 -- Registers, slots and values stay below 2^64, and memory keeps bytes.
-use Rattle.std.proofs.Common.{◌≡◌, ℕ, ℤ, pos, negsuc, suc, ◌+◌, ◌-◌, ◌*◌, ◌/◌, ◌%◌, ◌^◌, ◌<◌, Bool, true, false, nat_lt, int_lt, refl, ◌∙◌, inl, inr, w8, w16, w32, lt_of_le_of_lt, lt-ltb, le-ltb, div-le_self, arith}
+use Rattle.std.proofs.Common.{◌≡◌, ℕ, ℤ, pos, negsuc, suc, ◌+◌, ◌-◌, ◌*◌, ◌/◌, ◌%◌, ◌^◌, ◌<◌, Bool, true, false, nat_lt, int_lt, refl, ◌∙◌, inl, inr, w8, w16}
+use Rattle.std.proofs.Common.{w32, lt_of_le_of_lt, lt-ltb, le-ltb, div-le_self, arith}
 use Rattle.std.specs.Int.{cast_signed, int_shr, from_bool}
 use Rattle.std.proofs.lemmas.Bool.{cases_lt}
 use Rattle.std.proofs.lemmas.Nat.{or_lt, xor_lt, and_le_l}
-use Rattle.rv64_instr.specs.declared.op.Op.{Op}
-use Rattle.rv64_instr.specs.declared.op.LoadOp.TheVariants.{Lb, Lh, Lw}
+use Rattle.rv64_instr.specs.declared.op.RegisterOp.{RegisterOp}
+use Rattle.rv64_instr.specs.declared.op.LoadOp.{LoadOp}
+use Rattle.rv64_instr.specs.declared.op.LoadOp.TheVariants.{Lb, Lh, Lw, Ld, Lbu, Lhu, Lwu}
 use Rattle.rv64_instr.specs.declared.op.RegisterOp.TheVariants.{Add, Sub, Sll, Slt, Sltu, Xor, Srl, Sra, Or, And, Addw, Subw, Sllw, Srlw, Sraw}
 use Rattle.rv64_instr.specs.Arithmetic.{word, unsigned, signed, extend32, computed, extended}
 
@@ -12,7 +14,7 @@ use Rattle.rv64_instr.specs.Arithmetic.{word, unsigned, signed, extend32, comput
 abbrev pub IsWord : ℕ → Type 0
 IsWord n = n < 2 ^ 64
 
-reduced : (n : ℕ) → n % 2 ^ 64 < 2 ^ 64
+pub reduced : (n : ℕ) → n % 2 ^ 64 < 2 ^ 64
 reduced n = omega arith
 
 pub word_in_range : (z : ℤ) → IsWord (word z)
@@ -73,7 +75,7 @@ truth false = omega arith
 pub extend32_in_range : (n : ℕ) → IsWord (extend32 n)
 extend32_in_range n = signed_32 (n % 2 ^ 32)
 
-pub computed_in_range : (op : Op) (a b : ℕ) → IsWord a → IsWord b → IsWord (computed op a b)
+pub computed_in_range : (op : RegisterOp) (a b : ℕ) → IsWord a → IsWord b → IsWord (computed op a b)
 unfolding computed
 computed_in_range Add a b x y = reduced (a + b)
 computed_in_range Sub a b x y = reduced (a + (2 ^ 64 - b))
@@ -90,11 +92,13 @@ computed_in_range Subw a b x y = extend32_in_range (a + (2 ^ 64 - b))
 computed_in_range Sllw a b x y = extend32_in_range (a * 2 ^ (b % 32))
 computed_in_range Srlw a b x y = extend32_in_range ((a % 2 ^ 32) / 2 ^ (b % 32))
 computed_in_range Sraw a b x y = shifted (cast_signed w32 (a % 2 ^ 32)) (b % 32) (signed_32_64 (a % 2 ^ 32) (omega arith))
-computed_in_range _ a b x y = omega arith
 
-pub extended_in_range : (op : Op) (n : ℕ) → IsWord n → IsWord (extended op n)
+pub extended_in_range : (op : LoadOp) (n : ℕ) → IsWord n → IsWord (extended op n)
 unfolding extended
 extended_in_range Lb n h = signed_8 n
 extended_in_range Lh n h = signed_16 n
 extended_in_range Lw n h = signed_32 n
-extended_in_range _ n h = h
+extended_in_range Ld n h = h
+extended_in_range Lbu n h = h
+extended_in_range Lhu n h = h
+extended_in_range Lwu n h = h

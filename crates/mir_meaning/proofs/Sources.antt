@@ -6,7 +6,9 @@ use Rattle.mir_func.specs.declared.item.Item.{Item}
 use Rattle.mir_meaning.specs.State.{State}
 use Rattle.mir_meaning.specs.Step.{Went, Outcome, Falls, Goes, Gives, Traps, Asks, Breaks, moved, do_item, do_fetch, step}
 use Rattle.mir_func.specs.Graph.{Program, Fetch, Here, Silent, Outside}
-use Rattle.mir_meaning.specs.Align.{position_of, is_code, Station, Count, ByItems, ByEnds, ByWords, moves_on, waits_at, station_of, item_station, end_station, fetch_station, station_at, IsOrigin, Arrives, here, onward, Since, Aligns, First, AnyOrigin, Along, begin, other, met, Agrees, RunsAlong}
+use Rattle.mir_meaning.specs.Align.{position_of, is_code, Station, Count, ByItems, ByEnds, ByWords, moves_on, waits_at, station_of, item_station, end_station}
+use Rattle.mir_meaning.specs.Align.{fetch_station, station_at, IsOrigin, Arrives, here, onward, Since, Aligns, First, AnyOrigin, Along, begin, other, met}
+use Rattle.mir_meaning.specs.Align.{Agrees, RunsAlong}
 use Rattle.mir_meaning.specs.Follow.{IsWithin, IsSource}
 use Rattle.mir_meaning.proofs.Alignment.{aligns_once}
 use Rattle.mir_meaning.proofs.Edges.{falls_below, goes_to_start}
@@ -45,7 +47,8 @@ module _ (f : Program) (own : IsSource f) where
           let o = own.items p j k in
           let w : station_of c j ≡ i = cc in
           let at : p ≡ i.pos = sym (ap position_of o) ∙ ap (λ (z : Station). z.pos) w in
-          record { at = subst (λ (q : Pos). stations q ≡ Some i) at e; here = λ h. at; moves = ap (λ (z : Station). z.waits) (sym w) ∙ ap (waits_at (moves_on c j.kind)) o }
+          record { at = subst (λ (q : Pos). stations q ≡ Some i) at e; here = λ h. at; moves = ap (λ (z : Station). z.waits) (sym w) ∙
+              ap (waits_at (moves_on c j.kind)) o }
       by_code false j cj k h = cc
 
       by_end : (d : Count) (k n : ℕ) → c ≡ d → f.fetch p ≡ Silent k n → end_station d (record { block = p.block; item = k }) ≡ Some i → Own p i
@@ -54,7 +57,9 @@ module _ (f : Program) (own : IsSource f) where
           let made : Station = record { pos = q; waits = false } in
           let w : made ≡ i = cc in
           let at : stations q ≡ Some made = ap (fetch_station c p.block) (own.ends p k n fe) ∙ ap (λ (z : Count). end_station z q) cd in
-          record { at = subst (λ (z : Station). stations z.pos ≡ Some z) w at; here = λ h. (let e = h k n fe in λ x. record { block = p.block; item = e x }) ∙ ap (λ (z : Station). z.pos) w; moves = ap (λ (z : Station). z.waits) (sym w) }
+          record { at = subst (λ (z : Station). stations z.pos ≡ Some z) w at; here =
+              λ h. (let e = h k n fe in λ x. record { block = p.block; item = e x }) ∙ ap (λ (z : Station). z.pos) w; moves =
+              ap (λ (z : Station). z.waits) (sym w) }
       by_end ByItems k n cd fe h = cc
       by_end ByWords k n cd fe h = cc
 
@@ -77,7 +82,8 @@ module _ (f : Program) (own : IsSource f) where
         pub agrees : (t u : State) → B t u → Agrees src f t u
 
       -- Stops stops at origins alone, and at the one that is looked for
-      module _ (steps : InStep) (Stops : Pos → Pos → Type 0) (stops : (p : Pos) → IsOrigin stations p → Stops p p) (only : (p q : Pos) → IsOrigin stations p → Stops p q → IsOrigin stations q) (s0 f0 : State) (starts : B f0 s0) (within : IsWithin f f0.pos) where
+      module _ (steps : InStep) (Stops : Pos → Pos → Type 0) (stops : (p : Pos) → IsOrigin stations p → Stops p p) (only : (p q : Pos) →
+          IsOrigin stations p → Stops p q → IsOrigin stations q) (s0 f0 : State) (starts : B f0 s0) (within : IsWithin f f0.pos) where
         -- the source is at u, and what it comes to from there comes next for the alignment
         record Beside (t s : State) (m : Since) : Type 0 where
           u : State
@@ -96,7 +102,8 @@ module _ (f : Program) (own : IsSource f) where
         beside (other {t = t} {s = s} {t' = t'} {m = m} along none go) =
             let b = beside along in
             let v = steps.goes t b.u t' b.both go in
-            let far : (p : Pos) → IsOrigin stations p → Stops p b.u.pos → ⊥ = λ p o h. no_origin b.u.pos (ap stations (sym (steps.pos t b.u b.both)) ∙ none) (only p b.u.pos o h) in
+            let far : (p : Pos) → IsOrigin stations p → Stops p b.u.pos → ⊥ = λ p o h. no_origin b.u.pos (ap stations (sym (steps.pos t b.u b.both)) ∙ none)
+                (only p b.u.pos o h) in
             record { u = v.0; both = v.2; inside = step_within t t' go; next = λ p o x a. b.next p o x (onward (far p o) v.1 a) }
         beside (met {t = t} {s = s} {s' = s'} {t' = t'} {m = m} i along e al go) =
             let b = beside along in
@@ -125,7 +132,8 @@ itself src own c = record {
   agrees = λ t u e. subst (λ (z : State). Agrees src src t z) e (record { events = refl; told = λ v x h. h; returns = λ r h. h; faults = λ h. h });
 }
 
-pub source_runs_along : (src : Program) → IsSource src → (c : Count) (s0 : State) → IsWithin src s0.pos → RunsAlong src src (station_at c src) (AnyOrigin (station_at c src)) s0 s0
+pub source_runs_along : (src : Program) → IsSource src → (c : Count) (s0 : State) → IsWithin src s0.pos →
+    RunsAlong src src (station_at c src) (AnyOrigin (station_at c src)) s0 s0
 source_runs_along src own c s0 w = in_step_any src own c src (λ t u. t ≡ u) (itself src own c) s0 s0 refl w
 
 pub source_runs_along_first : (src : Program) → IsSource src → (c : Count) (s0 : State) → IsWithin src s0.pos → RunsAlong src src (station_at c src) First s0 s0

@@ -4,14 +4,16 @@ use Rattle.rv64_instr.specs.declared.operand.Operand.{Operand}
 use Rattle.rv64_instr.specs.declared.place.Place.{Place}
 use Rattle.rv64_instr.specs.declared.place.Place.TheVariants.{Register, Slot, Const}
 use Rattle.rv64_instr.specs.Row.{Row, row_of}
+use Rattle.mir_func.specs.declared.entry.OperandPair.{OperandPair}
 use Rattle.mir_func.specs.declared.variable.VarId.{VarId}
 use Rattle.mir_func.specs.declared.variable.MarkValue.{MarkValue}
 use Rattle.mir_func.specs.declared.variable.MarkValue.TheVariants.{Nothing, Constant, At, Pair}
 use Rattle.mir_func.specs.declared.item.ItemKind.{ItemKind}
 use Rattle.mir_func.specs.declared.item.ItemKind.TheVariants.{Code, Mark, Phi}
 use Rattle.mir_meaning.specs.State.{State, Core, updated, assigned}
-use Rattle.mir_func.specs.Variables.{is_same}
-use Rattle.mir_meaning.specs.Step.{Went, Outcome, Falls, Goes, Gives, Traps, Asks, Breaks, moved, with_core, act, seen, defined, given, numbered, place_value, pair_value, mark_value, do_item, do_fetch, step}
+use Rattle.mir_func.specs.Variables.{is_same, overlaps}
+use Rattle.mir_meaning.specs.Step.{Went, Outcome, Falls, Goes, Gives, Traps, Asks, Breaks, moved, with_core, act, seen, defined, given, numbered, place_value}
+use Rattle.mir_meaning.specs.Step.{pair_value, mark_value, part_of, do_item, do_fetch, step}
 use Rattle.rv64_instr.specs.Parts.{is_call}
 use Rattle.mir_func.specs.Graph.{Program, Fetch, Here, Silent, Outside}
 use Rattle.mir_meaning.specs.Align.{Agrees}
@@ -41,7 +43,8 @@ same_parts p m c d e = (ap (λ (z : Core). z.pairs) (sym e), ap (λ (z : Core). 
 
 -- code of one row: the rest alike, pairs and marks untouched
 act_less : (r : Row) (c d : Core) → TellsLess c d → EndAlike TellsLess (act r c) (act r d)
-act_less r c d h = subst (EndAlike TellsLess (act r c)) (sym (act_apart d.pairs d.marks r c) ∙ ap (act r) h.same) (by_outcome (act r c) (act_apart c.pairs c.marks r c)) where
+act_less r c d h = subst (EndAlike TellsLess (act r c)) (sym (act_apart d.pairs d.marks r c) ∙ ap (act r) h.same)
+    (by_outcome (act r c) (act_apart c.pairs c.marks r c)) where
   by_core : (e : Core) → told_by c.pairs c.marks e ≡ e → TellsLess e (told_by d.pairs d.marks e)
   by_core e k = record {
     same = refl;
@@ -60,7 +63,7 @@ act_less r c d h = subst (EndAlike TellsLess (act r c)) (sym (act_apart d.pairs 
 -- h's marks and numbers see no more than g's, and its pairs resolve alike
 pub record SeesLess (g h : Program) : Type 0 where
   pub sees : (r : ℕ) (c : Core) → Below (seen g.sees_pointer r c) (seen h.sees_pointer r c)
-  pub resolve : (k o : ℕ) → h.resolve k o ≡ g.resolve k o
+  pub resolve : (q : OperandPair) → h.resolve q ≡ g.resolve q
 
 seen_same : (sp : Bool) (r : ℕ) (c d : Core) → TellsLess c d → seen sp r d ≡ seen sp r c
 seen_same sp r c d h = ap (seen sp r) (sym h.same) ∙ by_sight sp where
@@ -77,13 +80,16 @@ module _ (g h : Program) (less : SeesLess g h) where
   given_less (Some r) a b c d t k = seen_less r c d t
 
   -- other pairs or marks
-  pairs_less : (c d : Core) (p q : ℕ → ℕ → Option ℕ) → TellsLess c d → ((k o : ℕ) → Below (p k o) (q k o)) → TellsLess (record c { pairs = p }) (record d { pairs = q })
+  pairs_less : (c d : Core) (p q : ℕ → ℕ → Option ℕ) → TellsLess c d → ((k o : ℕ) → Below (p k o) (q k o)) →
+      TellsLess (record c { pairs = p }) (record d { pairs = q })
   pairs_less c d p q t k = record { same = ap (λ (z : Core). record z { pairs = q }) t.same; pairs = k; marks = t.marks }
 
-  marks_less : (c d : Core) (p q : List (VarId × Option ℕ)) → TellsLess c d → ((v : VarId) → Below (assigned v p) (assigned v q)) → TellsLess (record c { marks = p }) (record d { marks = q })
+  marks_less : (c d : Core) (p q : List (VarId × Option ℕ)) → TellsLess c d → ((v : VarId) → Below (assigned v p) (assigned v q)) →
+      TellsLess (record c { marks = p }) (record d { marks = q })
   marks_less c d p q t k = record { same = ap (λ (z : Core). record z { marks = q }) t.same; pairs = t.pairs; marks = k }
 
-  updated_less : (k : ℕ) (a b : ℕ → Option ℕ) (p q : ℕ → ℕ → Option ℕ) → ((o : ℕ) → Below (a o) (b o)) → ((m o : ℕ) → Below (p m o) (q m o)) → (m o : ℕ) → Below (updated k a p m o) (updated k b q m o)
+  updated_less : (k : ℕ) (a b : ℕ → Option ℕ) (p q : ℕ → ℕ → Option ℕ) → ((o : ℕ) → Below (a o) (b o)) → ((m o : ℕ) → Below (p m o) (q m o)) → (m o : ℕ) →
+      Below (updated k a p m o) (updated k b q m o)
   updated_less k a b p q x y m o = by_test (nat_eq m k) where
     by_test : (z : Bool) → Below (cond z a (p m) o) (cond z b (q m) o)
     by_test true = x o
@@ -95,16 +101,20 @@ module _ (g h : Program) (less : SeesLess g h) where
     by_test true = x
     by_test false = y o
 
-  mark_less : (v : VarId) (a b : Option ℕ) (p q : List (VarId × Option ℕ)) → Below a b → ((w : VarId) → Below (assigned w p) (assigned w q)) → (w : VarId) → Below (assigned w ((v, a) ∷ p)) (assigned w ((v, b) ∷ q))
-  mark_less v a b p q x y w = by_test (is_same w v) where
-    by_test : (z : Bool) → Below (cond z a (assigned w p)) (cond z b (assigned w q))
-    by_test true = x
-    by_test false = y w
+  mark_less : (v : VarId) (a b : Option ℕ) (p q : List (VarId × Option ℕ)) → Below a b → ((w : VarId) → Below (assigned w p) (assigned w q)) → (w : VarId) →
+      Below (assigned w ((v, a) ∷ p)) (assigned w ((v, b) ∷ q))
+  mark_less v a b p q x y w = by_test (is_same w v) (overlaps w v) where
+    by_test : (same over : Bool) → Below (cond same a (cond over None (assigned w p))) (cond same b (cond over None (assigned w q)))
+    by_test true over n e = x n e
+    by_test false true n e = cc
+    by_test false false n e = y w n e
 
-  numbered_less : (call : Bool) (n : Option ℕ) (os : List Operand) (c d : Core) → TellsLess c d → TellsLess (numbered g.sees_pointer call n os c) (numbered h.sees_pointer call n os d)
+  numbered_less : (call : Bool) (n : Option ℕ) (os : List Operand) (c d : Core) → TellsLess c d → TellsLess (numbered g.sees_pointer call n os c)
+      (numbered h.sees_pointer call n os d)
   numbered_less call None os c d t = t
   numbered_less call (Some k) os c d t =
-      pairs_less c d _ _ t (updated_less k (λ o. given g.sees_pointer (defined call (slice_get os o)) (c.pairs k o) c) (λ o. given h.sees_pointer (defined call (slice_get os o)) (d.pairs k o) d) c.pairs d.pairs
+      pairs_less c d _ _ t (updated_less k (λ o. given g.sees_pointer (defined call (slice_get os o)) (c.pairs k o) c)
+          (λ o. given h.sees_pointer (defined call (slice_get os o)) (d.pairs k o) d) c.pairs d.pairs
       (λ o. given_less (defined call (slice_get os o)) (c.pairs k o) (d.pairs k o) c d t (t.pairs k o)) t.pairs)
 
   place_less : (p : Option Place) (c d : Core) → TellsLess c d → Below (place_value p c) (place_value p d)
@@ -113,24 +123,31 @@ module _ (g h : Program) (less : SeesLess g h) where
   place_less (Some (Slot n)) c d t v e = ap (λ (z : Core). z.slots n) t.same ∙ e
   place_less (Some (Const z)) c d t v e = e
 
-  pair_less : (q : Option (ℕ × ℕ)) (c d : Core) → TellsLess c d → Below (pair_value q c) (pair_value q d)
+  pair_less : (q : Option OperandPair) (c d : Core) → TellsLess c d → Below (pair_value q c) (pair_value q d)
   pair_less None c d t v e = cc
-  pair_less (Some q) c d t v e = t.pairs q.0 q.1 v e
+  pair_less (Some q) c d t v e = t.pairs q.number q.operand v e
 
   value_less : (m : MarkValue) (c d : Core) → TellsLess c d → Below (mark_value g m c) (mark_value h m d)
   value_less Nothing c d t v e = cc
   value_less (Constant z) c d t v e = e
   value_less (At r) c d t v e = seen_less r c d t v e
-  value_less (Pair k o) c d t v e = pair_less (g.resolve k o) c d t v (ap (λ (q : Option (ℕ × ℕ)). pair_value q d) (sym (less.resolve k o)) ∙ e)
+  value_less (Pair q) c d t v e = pair_less (g.resolve q) c d t v (ap (λ (r : Option OperandPair). pair_value r d) (sym (less.resolve q)) ∙ e)
 
-  with_less : (j k : Core → Core) → ((c d : Core) → TellsLess c d → TellsLess (j c) (k d)) → (x y : Outcome) → EndAlike TellsLess x y → EndAlike TellsLess (with_core j x) (with_core k y)
+  part_less : (w : VarId) (a b : Option ℕ) → Below a b → Below (part_of w a) (part_of w b)
+  part_less w a None k v e = cc
+  part_less w a (Some x) k v e = ap (part_of w) (k x refl) ∙ e
+
+  with_less : (j k : Core → Core) → ((c d : Core) → TellsLess c d → TellsLess (j c) (k d)) → (x y : Outcome) → EndAlike TellsLess x y →
+      EndAlike TellsLess (with_core j x) (with_core k y)
   with_less j k f x y e = Rattle.mir_meaning.proofs.Outcomes.alike_with TellsLess TellsLess j k f x y e
 
   pub item_less : (k : ItemKind) (c d : Core) → TellsLess c d → EndAlike TellsLess (do_item g k c) (do_item h k d)
   item_less (Code i n) c d t =
       with_less (numbered g.sees_pointer (is_call (row_of i)) n i.operands) (numbered h.sees_pointer (is_call (row_of i)) n i.operands)
       (λ c' d' t'. numbered_less (is_call (row_of i)) n i.operands c' d' t') (act (row_of i) c) (act (row_of i) d) (act_less (row_of i) c d t)
-  item_less (Mark v m) c d t = marks_less c d _ _ t (mark_less v (mark_value g m c) (mark_value h m d) c.marks d.marks (value_less m c d t) t.marks)
+  item_less (Mark v m) c d t = marks_less c d _ _ t
+      (mark_less v (part_of v (mark_value g m c)) (part_of v (mark_value h m d)) c.marks d.marks
+      (part_less v (mark_value g m c) (mark_value h m d) (value_less m c d t)) t.marks)
   item_less (Phi p n) c d t =
       pairs_less c d _ _ t (updated_less n (updated 0 (place_value p c) (c.pairs n)) (updated 0 (place_value p d) (d.pairs n)) c.pairs d.pairs
       (entry_less 0 (place_value p c) (place_value p d) (c.pairs n) (d.pairs n) (place_less p c d t) (t.pairs n)) t.pairs)
@@ -151,7 +168,8 @@ module _ (g h : Program) (less : SeesLess g h) where
 
     pub goes_beside : (t u t' : State) → Beside t u → step h t ≡ Went t' → (u' : State) × (step g u ≡ Went u') × Beside t' u'
     goes_beside t u t' b go =
-        let z = alike_went TellsLess g.enter u.pos (do_fetch g (g.fetch u.pos) u.core) (do_fetch h (g.fetch u.pos) t.core) (fetch_less (g.fetch u.pos) u.core t.core b.tells) t' (sym (step_from t u b.pos) ∙ go) in
+        let z = alike_went TellsLess g.enter u.pos (do_fetch g (g.fetch u.pos) u.core) (do_fetch h (g.fetch u.pos) t.core)
+            (fetch_less (g.fetch u.pos) u.core t.core b.tells) t' (sym (step_from t u b.pos) ∙ go) in
         (z.0, z.1, record { pos = z.2; tells = z.3 })
 
     pub agrees_beside : (t u : State) → Beside t u → Agrees g h t u

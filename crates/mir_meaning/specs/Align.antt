@@ -117,8 +117,10 @@ AnyOrigin stations p q = IsOrigin stations q
 -- f's run from f0 beside the source's from s0 is at t; the source was aligned last at s, and the next alignment counts so
 pub data Along (src f : Program) (stations : Pos → Option Station) (Stops : Pos → Pos → Type 0) (s0 f0 : State) : State → State → Since → Type 0 where
   begin : Along src f stations Stops s0 f0 f0 s0 Start
-  other : {t s t' : State} {m : Since} → Along src f stations Stops s0 f0 t s m → stations t.pos ≡ None → step f t ≡ Went t' → Along src f stations Stops s0 f0 t' s m
-  met : {t s s' t' : State} {m : Since} (i : Station) → Along src f stations Stops s0 f0 t s m → stations t.pos ≡ Some i → Aligns src (Stops i.pos) i.pos m s s' → step f t ≡ Went t' → Along src f stations Stops s0 f0 t' s' (since_of i.waits)
+  other : {t s t' : State} {m : Since} → Along src f stations Stops s0 f0 t s m → stations t.pos ≡ None → step f t ≡ Went t' →
+      Along src f stations Stops s0 f0 t' s m
+  met : {t s s' t' : State} {m : Since} (i : Station) → Along src f stations Stops s0 f0 t s m → stations t.pos ≡ Some i →
+      Aligns src (Stops i.pos) i.pos m s s' → step f t ≡ Went t' → Along src f stations Stops s0 f0 t' s' (since_of i.waits)
 
 -- the run stops on a frame fault, and up to there it stands at no position that stops it
 pub data Fails (src : Program) (Stops : Pos → Type 0) : State → Type 0 where

@@ -56,11 +56,14 @@ pub record EffectsHold : Type 0 where
   -- what it doesn't define stays
   pub defines : (i : Instruction) (x : Place) (c : Core) → defines_of (row_of i) x ≡ false → OnCore (λ d. held_in x d ≡ held_in x c) (act (row_of i) c)
   -- from cores that agree on what it uses it does the same
-  pub uses : (i : Instruction) (c d : Core) → SameWorld c d → ((x : Place) → uses_of i x ≡ true → held_in x c ≡ held_in x d) → EndAlike (AreHeldAlike i c d) (act (row_of i) c) (act (row_of i) d)
+  pub uses : (i : Instruction) (c d : Core) → SameWorld c d → ((x : Place) → uses_of i x ≡ true → held_in x c ≡ held_in x d) →
+      EndAlike (AreHeldAlike i c d) (act (row_of i) c) (act (row_of i) d)
   -- but for calls and for x0, what it defines is the one place that it sets
   pub sets : (i : Instruction) (x : Place) → is_call (row_of i) ≡ false → defines_of (row_of i) x ≡ true → (x ≡ Register 0) ⊎ (set_by (row_of i) ≡ Some x)
   -- that place gets the content of the place that it moves, or the number that it fixes
-  pub moves : (i : Instruction) (from to : Place) (c : Core) → moved_by (row_of i) ≡ Some from → set_by (row_of i) ≡ Some to → OnCore (λ d. held_in to d ≡ held_in from c) (act (row_of i) c)
-  pub fixes : (i : Instruction) (z : ℤ) (to : Place) (c : Core) → constant_of (row_of i) ≡ Some z → set_by (row_of i) ≡ Some to → OnCore (λ d. held_in to d ≡ Some (word z)) (act (row_of i) c)
+  pub moves : (i : Instruction) (from to : Place) (c : Core) → moved_by (row_of i) ≡ Some from → set_by (row_of i) ≡ Some to →
+      OnCore (λ d. held_in to d ≡ held_in from c) (act (row_of i) c)
+  pub fixes : (i : Instruction) (z : ℤ) (to : Place) (c : Core) → constant_of (row_of i) ≡ Some z → set_by (row_of i) ≡ Some to →
+      OnCore (λ d. held_in to d ≡ Some (word z)) (act (row_of i) c)
   -- pure code leaves memory and events alone, and falls through
   pub pure : (i : Instruction) (c : Core) → is_pure (row_of i) ≡ true → FallsInto (SameWorld c) (act (row_of i) c)

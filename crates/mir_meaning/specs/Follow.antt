@@ -128,7 +128,8 @@ pub record Shape (src f : List Block) (srcp fp : Program) : Type 0 where
   pub among : Among f src
   pub first : first_of f ≡ first_of src
   -- where some path of the source leads back to its first block, a branch of f goes there
-  pub back : (q : Pos) → Leads srcp (block_start (first_of src)) q → Edge srcp q (block_start (first_of src)) → (p : Pos) × (i : Item) × (fp.fetch p ≡ Here i) × OnRow (GoesTo (first_of src)) i.kind
+  pub back : (q : Pos) → Leads srcp (block_start (first_of src)) q → Edge srcp q (block_start (first_of src)) →
+      (p : Pos) × (i : Item) × (fp.fetch p ≡ Here i) × OnRow (GoesTo (first_of src)) i.kind
   pub order : All (λ b. InOrder b.id 0 b.items) f
   pub items : All (λ b. All (λ i. KindFits srcp i.kind b.silent i.origin) b.items) f
   -- with a slot store at a block's end goes other code: so a cycle of jumps alone stores in no slot

@@ -24,7 +24,8 @@ use Rattle.mir_func.specs.declared.item.ItemKind.{ItemKind}
 use Rattle.mir_func.specs.declared.item.ItemKind.TheVariants.{Code, Mark, Phi}
 use Rattle.mir_func.specs.Variables.{part_value}
 use Rattle.mir_func.specs.Graph.{Fetch, Here, Silent, Outside, Program, below, block_start}
-use Rattle.mir_meaning.specs.State.{Called, Wrote, Reply, Core, State, updated, content, put, put_all, spelled, low_bytes, stored, written, touches_frame, writes_frame}
+use Rattle.mir_meaning.specs.State.{Called, Wrote, Reply, Core, State, updated, content, put, put_all, spelled, low_bytes, stored, written, touches_frame}
+use Rattle.mir_meaning.specs.State.{writes_frame}
 
 -- what an item does to the core
 pub data Outcome : Type 0 where
