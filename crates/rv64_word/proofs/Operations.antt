@@ -1,10 +1,15 @@
 -- The operation whose opcode, funct3 and funct7 a word has.
 use Rattle.std.proofs.Common.{◌≡◌, ℕ, ◌/◌, ◌%◌, Some, refl}
+use Rattle.rv64_instr.specs.declared.op.RegisterOp.TheVariants.{Add, Sub, Sll, Slt, Sltu, Xor, Srl, Sra, Or, And, Addw, Subw, Sllw, Srlw, Sraw}
+use Rattle.rv64_instr.specs.declared.op.ImmediateOp.TheVariants.{Addi, Slti, Sltiu, Xori, Ori, Andi, Slli, Srli, Srai, Addiw, Slliw, Srliw, Sraiw}
+use Rattle.rv64_instr.specs.declared.op.BranchOp.TheVariants.{Beq, Bne, Blt, Bge, Bltu, Bgeu}
+use Rattle.rv64_instr.specs.declared.op.LoadOp.TheVariants.{Lb, Lh, Lw, Ld, Lbu, Lhu, Lwu}
+use Rattle.rv64_instr.specs.declared.op.StoreOp.TheVariants.{Sb, Sh, Sw, Sd}
 use Rattle.rv64_word.specs.declared.format.Format.{Format}
 use Rattle.rv64_word.specs.declared.format.Format.TheVariants.{Register, Immediate, Shift, WordShift, Store, Branch}
 use Rattle.rv64_word.specs.declared.word_op.Encoding.{Encoding}
 use Rattle.rv64_word.specs.declared.word_op.WordOp.{WordOp}
-use Rattle.rv64_word.specs.declared.word_op.WordOp.TheVariants.{Lui, Jal, Jalr, Beq, Bne, Blt, Bge, Bltu, Bgeu, Lb, Lh, Lw, Ld, Lbu, Lhu, Lwu, Sb, Sh, Sw, Sd, Addi, Slti, Sltiu, Xori, Ori, Andi, Slli, Srli, Srai, Add, Sub, Sll, Slt, Sltu, Xor, Srl, Sra, Or, And, Addiw, Slliw, Srliw, Sraiw, Addw, Subw, Sllw, Srlw, Sraw}
+use Rattle.rv64_word.specs.declared.word_op.WordOp.TheVariants as op
 use Rattle.rv64_word.specs.Operation.{encoding_of}
 use Rattle.rv64_word.specs.Listing.{operation_of}
 
@@ -20,51 +25,51 @@ Matches _ e funct3 funct7 = Unit {0}
 
 pub listed : (op : WordOp) (funct3 funct7 : ℕ) → Matches (encoding_of op).format (encoding_of op) funct3 funct7 → operation_of ((encoding_of op).opcode % 128) funct3 funct7 ≡ Some op
 unfolding operation_of
-listed Lui funct3 funct7 h = refl
-listed Jal funct3 funct7 h = refl
-listed Jalr funct3 funct7 h = rw h refl
-listed Beq funct3 funct7 h = rw h refl
-listed Bne funct3 funct7 h = rw h refl
-listed Blt funct3 funct7 h = rw h refl
-listed Bge funct3 funct7 h = rw h refl
-listed Bltu funct3 funct7 h = rw h refl
-listed Bgeu funct3 funct7 h = rw h refl
-listed Lb funct3 funct7 h = rw h refl
-listed Lh funct3 funct7 h = rw h refl
-listed Lw funct3 funct7 h = rw h refl
-listed Ld funct3 funct7 h = rw h refl
-listed Lbu funct3 funct7 h = rw h refl
-listed Lhu funct3 funct7 h = rw h refl
-listed Lwu funct3 funct7 h = rw h refl
-listed Sb funct3 funct7 h = rw h refl
-listed Sh funct3 funct7 h = rw h refl
-listed Sw funct3 funct7 h = rw h refl
-listed Sd funct3 funct7 h = rw h refl
-listed Addi funct3 funct7 h = rw h refl
-listed Slti funct3 funct7 h = rw h refl
-listed Sltiu funct3 funct7 h = rw h refl
-listed Xori funct3 funct7 h = rw h refl
-listed Ori funct3 funct7 h = rw h refl
-listed Andi funct3 funct7 h = rw h refl
-listed Slli funct3 funct7 (a, b) = rw (a, b) refl
-listed Srli funct3 funct7 (a, b) = rw (a, b) refl
-listed Srai funct3 funct7 (a, b) = rw (a, b) refl
-listed Add funct3 funct7 (a, b) = rw (a, b) refl
-listed Sub funct3 funct7 (a, b) = rw (a, b) refl
-listed Sll funct3 funct7 (a, b) = rw (a, b) refl
-listed Slt funct3 funct7 (a, b) = rw (a, b) refl
-listed Sltu funct3 funct7 (a, b) = rw (a, b) refl
-listed Xor funct3 funct7 (a, b) = rw (a, b) refl
-listed Srl funct3 funct7 (a, b) = rw (a, b) refl
-listed Sra funct3 funct7 (a, b) = rw (a, b) refl
-listed Or funct3 funct7 (a, b) = rw (a, b) refl
-listed And funct3 funct7 (a, b) = rw (a, b) refl
-listed Addiw funct3 funct7 h = rw h refl
-listed Slliw funct3 funct7 (a, b) = rw (a, b) refl
-listed Srliw funct3 funct7 (a, b) = rw (a, b) refl
-listed Sraiw funct3 funct7 (a, b) = rw (a, b) refl
-listed Addw funct3 funct7 (a, b) = rw (a, b) refl
-listed Subw funct3 funct7 (a, b) = rw (a, b) refl
-listed Sllw funct3 funct7 (a, b) = rw (a, b) refl
-listed Srlw funct3 funct7 (a, b) = rw (a, b) refl
-listed Sraw funct3 funct7 (a, b) = rw (a, b) refl
+listed op.Lui funct3 funct7 h = refl
+listed op.Jal funct3 funct7 h = refl
+listed op.Jalr funct3 funct7 h = rw h refl
+listed (op.Branch Beq) funct3 funct7 h = rw h refl
+listed (op.Branch Bne) funct3 funct7 h = rw h refl
+listed (op.Branch Blt) funct3 funct7 h = rw h refl
+listed (op.Branch Bge) funct3 funct7 h = rw h refl
+listed (op.Branch Bltu) funct3 funct7 h = rw h refl
+listed (op.Branch Bgeu) funct3 funct7 h = rw h refl
+listed (op.Load Lb) funct3 funct7 h = rw h refl
+listed (op.Load Lh) funct3 funct7 h = rw h refl
+listed (op.Load Lw) funct3 funct7 h = rw h refl
+listed (op.Load Ld) funct3 funct7 h = rw h refl
+listed (op.Load Lbu) funct3 funct7 h = rw h refl
+listed (op.Load Lhu) funct3 funct7 h = rw h refl
+listed (op.Load Lwu) funct3 funct7 h = rw h refl
+listed (op.Store Sb) funct3 funct7 h = rw h refl
+listed (op.Store Sh) funct3 funct7 h = rw h refl
+listed (op.Store Sw) funct3 funct7 h = rw h refl
+listed (op.Store Sd) funct3 funct7 h = rw h refl
+listed (op.Immediate Addi) funct3 funct7 h = rw h refl
+listed (op.Immediate Slti) funct3 funct7 h = rw h refl
+listed (op.Immediate Sltiu) funct3 funct7 h = rw h refl
+listed (op.Immediate Xori) funct3 funct7 h = rw h refl
+listed (op.Immediate Ori) funct3 funct7 h = rw h refl
+listed (op.Immediate Andi) funct3 funct7 h = rw h refl
+listed (op.Immediate Slli) funct3 funct7 (a, b) = rw (a, b) refl
+listed (op.Immediate Srli) funct3 funct7 (a, b) = rw (a, b) refl
+listed (op.Immediate Srai) funct3 funct7 (a, b) = rw (a, b) refl
+listed (op.Registers Add) funct3 funct7 (a, b) = rw (a, b) refl
+listed (op.Registers Sub) funct3 funct7 (a, b) = rw (a, b) refl
+listed (op.Registers Sll) funct3 funct7 (a, b) = rw (a, b) refl
+listed (op.Registers Slt) funct3 funct7 (a, b) = rw (a, b) refl
+listed (op.Registers Sltu) funct3 funct7 (a, b) = rw (a, b) refl
+listed (op.Registers Xor) funct3 funct7 (a, b) = rw (a, b) refl
+listed (op.Registers Srl) funct3 funct7 (a, b) = rw (a, b) refl
+listed (op.Registers Sra) funct3 funct7 (a, b) = rw (a, b) refl
+listed (op.Registers Or) funct3 funct7 (a, b) = rw (a, b) refl
+listed (op.Registers And) funct3 funct7 (a, b) = rw (a, b) refl
+listed (op.Immediate Addiw) funct3 funct7 h = rw h refl
+listed (op.Immediate Slliw) funct3 funct7 (a, b) = rw (a, b) refl
+listed (op.Immediate Srliw) funct3 funct7 (a, b) = rw (a, b) refl
+listed (op.Immediate Sraiw) funct3 funct7 (a, b) = rw (a, b) refl
+listed (op.Registers Addw) funct3 funct7 (a, b) = rw (a, b) refl
+listed (op.Registers Subw) funct3 funct7 (a, b) = rw (a, b) refl
+listed (op.Registers Sllw) funct3 funct7 (a, b) = rw (a, b) refl
+listed (op.Registers Srlw) funct3 funct7 (a, b) = rw (a, b) refl
+listed (op.Registers Sraw) funct3 funct7 (a, b) = rw (a, b) refl

@@ -1,24 +1,25 @@
 -- The word of an instruction does what the instruction does.
-use Rattle.std.proofs.Common.{◌≡◌, ℕ, zero, suc, ℤ, pos, Bool, true, false, cond, List, ◌∷◌, Option, Some, None, refl, sym, ◌∙◌, subst}
+use Rattle.std.proofs.Common.{◌≡◌, ◌+◌, ◌-◌, ◌<◌, ◌≤◌, ◌⊎◌, inl, inr, ◌%◌, ◌^◌, ℕ, zero, suc, ℤ, pos, negsuc, ◌+ℤ◌, Bool, true, false, cond, List, ◌∷◌, Option, Some, None, refl, sym, ap, ◌∙◌, subst, arith}
 use Rattle.std.specs.Prelude.{IfSome, IsTrue, option_and_then}
-use Rattle.std.specs.Option.{option_map}
+use Rattle.std.proofs.lemmas.Bool.{cases_lt}
+use Rattle.std.proofs.lemmas.Int.{ints}
 use Rattle.rv64_instr.specs.Instruction.{Instruction}
 use Rattle.rv64_instr.specs.declared.op.Op.{Op}
-use Rattle.rv64_instr.specs.declared.op.Op.TheVariants as op
-use Rattle.rv64_instr.specs.declared.form.Form.{Form}
-use Rattle.rv64_instr.specs.declared.form.Form.TheVariants.{Registers, Immediate, Upper, Load, Store, Branch, Move, Jump, Call, Return}
+use Rattle.rv64_instr.specs.declared.op.Op.TheVariants.{Registers, Immediate, Lui, Branch, Load, Store, Copy, PseudoBr, PseudoCall, PseudoRet}
+use Rattle.rv64_instr.specs.declared.op.ImmediateOp.{ImmediateOp}
+use Rattle.rv64_instr.specs.declared.op.ImmediateOp.TheVariants.{Addi}
+use Rattle.rv64_instr.specs.declared.op.LoadOp.{LoadOp}
+use Rattle.rv64_instr.specs.declared.op.StoreOp.{StoreOp}
 use Rattle.rv64_instr.specs.declared.operand.Operand.{Operand}
-use Rattle.rv64_instr.specs.declared.operand.Operand.TheVariants.{Def, Use, Imm, Slot, Block}
+use Rattle.rv64_instr.specs.declared.operand.Operand.TheVariants.{Def, Use, Imm, Slot, Object, Block}
+use Rattle.rv64_instr.specs.declared.decoded.Base.TheVariants.{PointedBy}
 use Rattle.rv64_instr.specs.Arithmetic.{word}
-use Rattle.rv64_instr.specs.Form.{form_of}
-use Rattle.rv64_instr.specs.Row.{row_of, row_by, immediate_row, move_row}
+use Rattle.rv64_instr.specs.Row.{Row, Loads, Stores, row_of, row_by, add_row, immediate_row, move_row, number_row, load_row, store_row}
 use Rattle.rv64_word.specs.declared.machine_op.MachineOp.{MachineOp}
-use Rattle.rv64_word.specs.declared.word_op.WordOp.{WordOp}
-use Rattle.rv64_word.specs.declared.word_op.WordOp.TheVariants.{Addi}
+use Rattle.rv64_word.specs.declared.word_op.WordOp.TheVariants as op
 use Rattle.rv64_word.specs.MachineOp.{is_encodable}
-use Rattle.rv64_word.specs.MachineRow.{MachineRow, Does, machine_row, row_as, row_in, placed, at_offset}
-use Rattle.rv64_word.specs.Lowering.{fields_of, in_range, lowered, machine_op}
-use Rattle.rv64_word.specs.WordOp.{word_op_of}
+use Rattle.rv64_word.specs.MachineRow.{MachineRow, Does, machine_row, placed, at_offset, from_object}
+use Rattle.rv64_word.specs.Lowering.{fields_of, immediate_fields, load_fields, store_fields, in_range, lowered, machine_op}
 
 apart : (m : MachineOp) → None ≡ Some m → ⊥
 apart m e = let f : ⊥ = cc in f
@@ -41,117 +42,89 @@ fits_at m false e = tt
 in_range_fits : (m : MachineOp) → IfSome (in_range m) (λ x. IsTrue (is_encodable x))
 in_range_fits m = fits_at m (is_encodable m) refl
 
--- a word of the operation has the row by the form and the opcode
-abbrev RowsAs : Form → Op → WordOp → Type 0
-RowsAs f o w = (address : ℕ) (m : MachineOp) → row_as w address m ≡ Does (row_in f o address m)
+placed_add : (rd a n target object : ℕ) → placed target object (add_row rd a n) ≡ Does (add_row rd a n)
+placed_add rd zero n target object = refl
+placed_add rd (suc a) zero target object = refl
+placed_add rd (suc a) (suc n) target object = refl
 
--- an opcode whose word's row is by the same form and opcode
-abbrev Regular : Form → Op → Type 0
-Regular Move o = Unit {0}
-Regular Jump o = Unit {0}
-Regular Call o = Unit {0}
-Regular Return o = Unit {0}
-Regular f o = IfSome (word_op_of o) (RowsAs f o)
+-- an operation with a number and registers stays as it is
+placed_immediate : (o : ImmediateOp) (rd a n target object : ℕ) → placed target object (immediate_row o rd a n) ≡ Does (immediate_row o rd a n)
+placed_immediate Addi rd a n target object = placed_add rd a n target object
+placed_immediate o rd a n target object = refl
 
-regular : (o : Op) → Regular (form_of o) o
-regular op.Lui = λ address m. refl
-regular op.Beq = λ address m. refl
-regular op.Bne = λ address m. refl
-regular op.Blt = λ address m. refl
-regular op.Bge = λ address m. refl
-regular op.Bltu = λ address m. refl
-regular op.Bgeu = λ address m. refl
-regular op.Lb = λ address m. refl
-regular op.Lh = λ address m. refl
-regular op.Lw = λ address m. refl
-regular op.Ld = λ address m. refl
-regular op.Lbu = λ address m. refl
-regular op.Lhu = λ address m. refl
-regular op.Lwu = λ address m. refl
-regular op.Sb = λ address m. refl
-regular op.Sh = λ address m. refl
-regular op.Sw = λ address m. refl
-regular op.Sd = λ address m. refl
-regular op.Addi = λ address m. refl
-regular op.Slti = λ address m. refl
-regular op.Sltiu = λ address m. refl
-regular op.Xori = λ address m. refl
-regular op.Ori = λ address m. refl
-regular op.Andi = λ address m. refl
-regular op.Slli = λ address m. refl
-regular op.Srli = λ address m. refl
-regular op.Srai = λ address m. refl
-regular op.Add = λ address m. refl
-regular op.Sub = λ address m. refl
-regular op.Sll = λ address m. refl
-regular op.Slt = λ address m. refl
-regular op.Sltu = λ address m. refl
-regular op.Xor = λ address m. refl
-regular op.Srl = λ address m. refl
-regular op.Sra = λ address m. refl
-regular op.Or = λ address m. refl
-regular op.And = λ address m. refl
-regular op.Addiw = λ address m. refl
-regular op.Slliw = λ address m. refl
-regular op.Srliw = λ address m. refl
-regular op.Sraiw = λ address m. refl
-regular op.Addw = λ address m. refl
-regular op.Subw = λ address m. refl
-regular op.Sllw = λ address m. refl
-regular op.Srlw = λ address m. refl
-regular op.Sraw = λ address m. refl
-regular op.Copy = tt
-regular op.PseudoBr = tt
-regular op.PseudoCall = tt
-regular op.PseudoRet = tt
+copied : (rd rs address target object : ℕ) → machine_row address (machine_op (op.Immediate Addi) rd rs 0 (pos 0)) ≡ placed target object (move_row rd rs)
+copied rd zero address target object = refl
+copied rd (suc rs) address target object = refl
 
-placed_immediate : (o : Op) (rd a n target : ℕ) → placed target (immediate_row o rd a n) ≡ Does (immediate_row o rd a n)
-placed_immediate op.Addi rd zero n target = refl
-placed_immediate op.Addi rd (suc a) zero target = refl
-placed_immediate o rd a n target = refl
+-- an object's offset less a number, above zero or below
+less : (object n : ℕ) → (object < suc n) ⊎ (suc n ≤ object) → word (pos object +ℤ negsuc n) ≡ from_object object (word (negsuc n))
+less object n (inl h) =
+    let e : pos object +ℤ negsuc n ≡ negsuc (n - object) = omega (arith, ints) in
+    rw e (omega arith)
+less object n (inr h) =
+    let e : pos object +ℤ negsuc n ≡ pos (object - suc n) = omega (arith, ints) in
+    rw e (omega arith)
 
-copied : (rd rs address target : ℕ) → machine_row address (machine_op Addi rd rs 0 (pos 0)) ≡ placed target (move_row rd rs)
-copied rd zero address target = refl
-copied rd (suc rs) address target = refl
+-- an object's offset and a number are one number modulo 2^64
+from_both : (object : ℕ) (i : ℤ) → word (pos object +ℤ i) ≡ from_object object (word i)
+from_both object (pos n) = omega arith
+from_both object (negsuc n) = less object n (cases_lt object (suc n))
 
 at_same : (address : ℕ) (row : MachineRow) (m n : MachineOp) → Some m ≡ Some n → machine_row address m ≡ row → machine_row address n ≡ row
 at_same address row m n e h = subst (λ (x : MachineOp). machine_row address x ≡ row) (same m n e) h
 
-by_word : (f : Form) (o : Op) (w : Option WordOp) → IfSome w (RowsAs f o) → (make : WordOp → MachineOp) (address : ℕ) (row : MachineRow) → ((w : WordOp) → RowsAs f o w → machine_row address (make w) ≡ row) → (m : MachineOp) → option_map make w ≡ Some m → machine_row address m ≡ row
-by_word f o None h make address row k m e = absurd (apart m e)
-by_word f o (Some w) h make address row k m e = at_same address row (make w) m e (k w h)
+-- what the fields are of does what the row does
+abbrev Acts : Option MachineOp → ℤ → (object address : ℕ) → Row → Type 0
+Acts found offset object address row = (m : MachineOp) → found ≡ Some m → machine_row address m ≡ placed (at_offset address offset) object row
 
-by_form : (f : Form) (o : Op) → Regular f o → (operands : List Operand) (offset : ℤ) (address : ℕ) (m : MachineOp) → fields_of f o operands offset ≡ Some m → machine_row address m ≡ placed (at_offset address offset) (row_by f o operands)
-by_form Registers o h (Def rd ∷ Use a ∷ Use b ∷ rest) offset address m e = by_word Registers o (word_op_of o) h (λ w. machine_op w rd a b (pos 0)) address _ (λ w r. r address (machine_op w rd a b (pos 0))) m e
-by_form (Immediate low high) o h (Def rd ∷ Use a ∷ Imm i ∷ rest) offset address m e = by_word (Immediate low high) o (word_op_of o) h (λ w. machine_op w rd a 0 i) address _ (λ w r. r address (machine_op w rd a 0 i) ∙ sym (placed_immediate o rd a (word i) (at_offset address offset))) m e
-by_form Upper o h (Def rd ∷ Imm i ∷ rest) offset address m e = by_word Upper o (word_op_of o) h (λ w. machine_op w rd 0 0 i) address _ (λ w r. r address (machine_op w rd 0 0 i)) m e
-by_form (Load w) o h (Def rd ∷ Use base ∷ Imm i ∷ rest) offset address m e = by_word (Load w) o (word_op_of o) h (λ w. machine_op w rd base 0 i) address _ (λ w r. r address (machine_op w rd base 0 i)) m e
-by_form (Load w) o h (Def rd ∷ Slot n ∷ rest) offset address m e = at_same address _ _ m e refl
-by_form (Store w) o h (Use rs ∷ Use base ∷ Imm i ∷ rest) offset address m e = by_word (Store w) o (word_op_of o) h (λ w. machine_op w 0 base rs i) address _ (λ w r. r address (machine_op w 0 base rs i)) m e
-by_form (Store w) o h (Use rs ∷ Slot n ∷ rest) offset address m e = at_same address _ _ m e refl
-by_form Branch o h (Use a ∷ Use b ∷ Block n ∷ rest) offset address m e = by_word Branch o (word_op_of o) h (λ w. machine_op w 0 a b offset) address _ (λ w r. r address (machine_op w 0 a b offset)) m e
-by_form Move o h (Def rd ∷ Use rs ∷ rest) offset address m e = at_same address _ _ m e (copied rd rs address (at_offset address offset))
-by_form Jump o h (Block n ∷ rest) offset address m e = at_same address _ _ m e refl
-by_form Return o h rest offset address m e = at_same address _ _ m e refl
-by_form f o h operands offset address m e = absurd (apart m e)
+immediate_acts : (o : ImmediateOp) (operands : List Operand) (offset : ℤ) (object address : ℕ) → Acts (immediate_fields o operands object) offset object address (number_row o operands)
+immediate_acts o (Def rd ∷ Use a ∷ Imm i ∷ rest) offset object address m e =
+    at_same address _ _ m e (sym (placed_immediate o rd a (word i) (at_offset address offset) object))
+immediate_acts o (Def rd ∷ Object n ∷ Imm i ∷ rest) offset object address m e =
+    at_same address _ _ m e (ap (λ k. Does (add_row rd 2 k)) (from_both object i))
+immediate_acts o operands offset object address m e = absurd (apart m e)
 
-row_kept : (o : Op) (operands : List Operand) (offset : ℤ) (m : MachineOp) → fields_of (form_of o) o operands offset ≡ Some m → (address : ℕ) → machine_row address m ≡ placed (at_offset address offset) (row_by (form_of o) o operands)
-row_kept o operands offset m e address = by_form (form_of o) o (regular o) operands offset address m e
+load_acts : (o : LoadOp) (operands : List Operand) (offset : ℤ) (object address : ℕ) → Acts (load_fields o operands object) offset object address (load_row o operands)
+load_acts o (Def rd ∷ Use base ∷ Imm i ∷ rest) offset object address m e = at_same address _ _ m e refl
+load_acts o (Def rd ∷ Slot n ∷ rest) offset object address m e = at_same address _ _ m e refl
+load_acts o (Def rd ∷ Object n ∷ Imm i ∷ rest) offset object address m e =
+    at_same address _ _ m e (ap (λ k. Does (Loads rd o (PointedBy 2) k)) (from_both object i))
+load_acts o operands offset object address m e = absurd (apart m e)
+
+store_acts : (o : StoreOp) (operands : List Operand) (offset : ℤ) (object address : ℕ) → Acts (store_fields o operands object) offset object address (store_row o operands)
+store_acts o (Use rs ∷ Use base ∷ Imm i ∷ rest) offset object address m e = at_same address _ _ m e refl
+store_acts o (Use rs ∷ Slot n ∷ rest) offset object address m e = at_same address _ _ m e refl
+store_acts o (Use rs ∷ Object n ∷ Imm i ∷ rest) offset object address m e =
+    at_same address _ _ m e (ap (λ k. Does (Stores o rs (PointedBy 2) k)) (from_both object i))
+store_acts o operands offset object address m e = absurd (apart m e)
+
+fields_act : (o : Op) (operands : List Operand) (offset : ℤ) (object address : ℕ) → Acts (fields_of o operands offset object) offset object address (row_by o operands)
+fields_act (Registers o) (Def rd ∷ Use a ∷ Use b ∷ rest) offset object address m e = at_same address _ _ m e refl
+fields_act (Immediate o) operands offset object address m e = immediate_acts o operands offset object address m e
+fields_act Lui (Def rd ∷ Imm i ∷ rest) offset object address m e = at_same address _ _ m e refl
+fields_act (Branch o) (Use a ∷ Use b ∷ Block n ∷ rest) offset object address m e = at_same address _ _ m e refl
+fields_act (Load o) operands offset object address m e = load_acts o operands offset object address m e
+fields_act (Store o) operands offset object address m e = store_acts o operands offset object address m e
+fields_act Copy (Def rd ∷ Use rs ∷ rest) offset object address m e =
+    at_same address _ _ m e (copied rd rs address (at_offset address offset) object)
+fields_act PseudoBr (Block n ∷ rest) offset object address m e = at_same address _ _ m e refl
+fields_act PseudoRet rest offset object address m e = at_same address _ _ m e refl
+fields_act o operands offset object address m e = absurd (apart m e)
 
 fits_by : (o : Option MachineOp) → IfSome (option_and_then in_range o) (λ m. IsTrue (is_encodable m))
 fits_by None = tt
 fits_by (Some m) = in_range_fits m
 
-pub lowered_fits : (offset : ℤ) (i : Instruction) → IfSome (lowered offset i) (λ m. IsTrue (is_encodable m))
-lowered_fits offset i = fits_by (fields_of (form_of i.op) i.op i.operands offset)
+pub lowered_fits : (offset : ℤ) (object : ℕ) (i : Instruction) → IfSome (lowered offset object i) (λ m. IsTrue (is_encodable m))
+lowered_fits offset object i = fits_by (fields_of i.op i.operands offset object)
 
 -- the word does at any address what the instruction does
-abbrev pub ActsAs : ℤ → Instruction → MachineOp → Type 0
-ActsAs offset i m = (address : ℕ) → machine_row address m ≡ placed (at_offset address offset) (row_of i)
+abbrev pub ActsAs : ℤ → (object : ℕ) → Instruction → MachineOp → Type 0
+ActsAs offset object i m = (address : ℕ) → machine_row address m ≡ placed (at_offset address offset) object (row_of i)
 
-acts_by : (offset : ℤ) (i : Instruction) (o : Option MachineOp) → fields_of (form_of i.op) i.op i.operands offset ≡ o → IfSome (option_and_then in_range o) (ActsAs offset i)
-acts_by offset i None e = tt
-acts_by offset i (Some m) e = kept (ActsAs offset i) m (row_kept i.op i.operands offset m e)
+acts_by : (offset : ℤ) (object : ℕ) (i : Instruction) (o : Option MachineOp) → fields_of i.op i.operands offset object ≡ o → IfSome (option_and_then in_range o) (ActsAs offset object i)
+acts_by offset object i None e = tt
+acts_by offset object i (Some m) e = kept (ActsAs offset object i) m (λ address. fields_act i.op i.operands offset object address m e)
 
-pub lowered_acts : (offset : ℤ) (i : Instruction) → IfSome (lowered offset i) (ActsAs offset i)
-lowered_acts offset i = acts_by offset i (fields_of (form_of i.op) i.op i.operands offset) refl
+pub lowered_acts : (offset : ℤ) (object : ℕ) (i : Instruction) → IfSome (lowered offset object i) (ActsAs offset object i)
+lowered_acts offset object i = acts_by offset object i (fields_of i.op i.operands offset object) refl

@@ -55,8 +55,11 @@ sign_extended bits n = if nat_lt n (2 ^ (bits - 1)) then pos n else (pos n -ℤ 
 
 -- the immediate that its bits in a word stand for: signed, but in shifts and in LUI
 abbrev pub number_of : Format → ℕ → ℤ
+number_of Register n = pos n
 number_of Immediate n = sign_extended 12 n
+number_of Shift n = pos n
+number_of WordShift n = pos n
 number_of Store n = sign_extended 12 n
 number_of Branch n = sign_extended 13 n
+number_of Upper n = pos n
 number_of Jump n = sign_extended 21 n
-number_of _ n = pos n

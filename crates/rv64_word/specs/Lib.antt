@@ -3,6 +3,5 @@ pub mod Operation
 pub mod MachineOp
 pub mod Decoded
 pub mod Listing
-pub mod WordOp
 pub mod MachineRow
 pub mod Lowering

@@ -1,10 +1,21 @@
 -- The operations by opcode, funct3 and funct7 (RISC-V Unprivileged ISA, "RV32/64G Instruction Set Listings").
 use Rattle.std.specs.Prelude.{ℕ, ◌/◌, Option, Some, None, if◌then◌else◌, ◌==◌}
+use Rattle.std.specs.Option.{option_map}
+use Rattle.rv64_instr.specs.declared.op.RegisterOp.{RegisterOp}
+use Rattle.rv64_instr.specs.declared.op.RegisterOp.TheVariants.{Add, Sub, Sll, Slt, Sltu, Xor, Srl, Sra, Or, And, Addw, Subw, Sllw, Srlw, Sraw}
+use Rattle.rv64_instr.specs.declared.op.ImmediateOp.{ImmediateOp}
+use Rattle.rv64_instr.specs.declared.op.ImmediateOp.TheVariants.{Addi, Slti, Sltiu, Xori, Ori, Andi, Slli, Srli, Srai, Addiw, Slliw, Srliw, Sraiw}
+use Rattle.rv64_instr.specs.declared.op.BranchOp.{BranchOp}
+use Rattle.rv64_instr.specs.declared.op.BranchOp.TheVariants.{Beq, Bne, Blt, Bge, Bltu, Bgeu}
+use Rattle.rv64_instr.specs.declared.op.LoadOp.{LoadOp}
+use Rattle.rv64_instr.specs.declared.op.LoadOp.TheVariants.{Lb, Lh, Lw, Ld, Lbu, Lhu, Lwu}
+use Rattle.rv64_instr.specs.declared.op.StoreOp.{StoreOp}
+use Rattle.rv64_instr.specs.declared.op.StoreOp.TheVariants.{Sb, Sh, Sw, Sd}
 use Rattle.rv64_word.specs.declared.word_op.WordOp.{WordOp}
-use Rattle.rv64_word.specs.declared.word_op.WordOp.TheVariants.{Lui, Jal, Jalr, Beq, Bne, Blt, Bge, Bltu, Bgeu, Lb, Lh, Lw, Ld, Lbu, Lhu, Lwu, Sb, Sh, Sw, Sd, Addi, Slti, Sltiu, Xori, Ori, Andi, Slli, Srli, Srai, Add, Sub, Sll, Slt, Sltu, Xor, Srl, Sra, Or, And, Addiw, Slliw, Srliw, Sraiw, Addw, Subw, Sllw, Srlw, Sraw}
+use Rattle.rv64_word.specs.declared.word_op.WordOp.TheVariants as op
 
 -- conditional branches
-abbrev pub branch_of : (funct3 : ℕ) → Option WordOp
+abbrev pub branch_of : (funct3 : ℕ) → Option BranchOp
 branch_of funct3 =
     if funct3 == 0 then Some Beq else (
     if funct3 == 1 then Some Bne else (
@@ -15,7 +26,7 @@ branch_of funct3 =
     None))))))
 
 -- loads
-abbrev pub load_of : (funct3 : ℕ) → Option WordOp
+abbrev pub load_of : (funct3 : ℕ) → Option LoadOp
 load_of funct3 =
     if funct3 == 0 then Some Lb else (
     if funct3 == 1 then Some Lh else (
@@ -27,7 +38,7 @@ load_of funct3 =
     None)))))))
 
 -- stores
-abbrev pub store_of : (funct3 : ℕ) → Option WordOp
+abbrev pub store_of : (funct3 : ℕ) → Option StoreOp
 store_of funct3 =
     if funct3 == 0 then Some Sb else (
     if funct3 == 1 then Some Sh else (
@@ -36,7 +47,7 @@ store_of funct3 =
     None))))
 
 -- operations with an immediate; a shift has six bits of it, and the upper six of funct7
-abbrev pub immediate_of : (funct3 funct7 : ℕ) → Option WordOp
+abbrev pub immediate_of : (funct3 funct7 : ℕ) → Option ImmediateOp
 immediate_of funct3 funct7 =
     if funct3 == 0 then Some Addi else (
     if funct3 == 1 then (if (funct7 / 2) == 0 then Some Slli else None) else (
@@ -49,7 +60,7 @@ immediate_of funct3 funct7 =
     None))))))))
 
 -- operations on registers
-abbrev pub register_of : (funct3 funct7 : ℕ) → Option WordOp
+abbrev pub register_of : (funct3 funct7 : ℕ) → Option RegisterOp
 register_of funct3 funct7 =
     if funct3 == 0 then (if funct7 == 0 then Some Add else (if funct7 == 32 then Some Sub else None)) else (
     if funct3 == 1 then (if funct7 == 0 then Some Sll else None) else (
@@ -62,7 +73,7 @@ register_of funct3 funct7 =
     None))))))))
 
 -- operations of words with an immediate
-abbrev pub word_immediate_of : (funct3 funct7 : ℕ) → Option WordOp
+abbrev pub word_immediate_of : (funct3 funct7 : ℕ) → Option ImmediateOp
 word_immediate_of funct3 funct7 =
     if funct3 == 0 then Some Addiw else (
     if funct3 == 1 then (if funct7 == 0 then Some Slliw else None) else (
@@ -70,7 +81,7 @@ word_immediate_of funct3 funct7 =
     None)))
 
 -- operations of words on registers
-abbrev pub word_register_of : (funct3 funct7 : ℕ) → Option WordOp
+abbrev pub word_register_of : (funct3 funct7 : ℕ) → Option RegisterOp
 word_register_of funct3 funct7 =
     if funct3 == 0 then (if funct7 == 0 then Some Addw else (if funct7 == 32 then Some Subw else None)) else (
     if funct3 == 1 then (if funct7 == 0 then Some Sllw else None) else (
@@ -80,14 +91,14 @@ word_register_of funct3 funct7 =
 -- the operation of an opcode, a funct3 and a funct7, as far as the opcode has them
 unfoldable pub operation_of : (opcode funct3 funct7 : ℕ) → Option WordOp
 operation_of opcode funct3 funct7 =
-    if opcode == 0x37 then Some Lui else (
-    if opcode == 0x6f then Some Jal else (
-    if opcode == 0x67 then (if funct3 == 0 then Some Jalr else None) else (
-    if opcode == 0x63 then branch_of funct3 else (
-    if opcode == 0x03 then load_of funct3 else (
-    if opcode == 0x23 then store_of funct3 else (
-    if opcode == 0x13 then immediate_of funct3 funct7 else (
-    if opcode == 0x33 then register_of funct3 funct7 else (
-    if opcode == 0x1b then word_immediate_of funct3 funct7 else (
-    if opcode == 0x3b then word_register_of funct3 funct7 else (
+    if opcode == 0x37 then Some op.Lui else (
+    if opcode == 0x6f then Some op.Jal else (
+    if opcode == 0x67 then (if funct3 == 0 then Some op.Jalr else None) else (
+    if opcode == 0x63 then option_map (λ o. op.Branch o) (branch_of funct3) else (
+    if opcode == 0x03 then option_map (λ o. op.Load o) (load_of funct3) else (
+    if opcode == 0x23 then option_map (λ o. op.Store o) (store_of funct3) else (
+    if opcode == 0x13 then option_map (λ o. op.Immediate o) (immediate_of funct3 funct7) else (
+    if opcode == 0x33 then option_map (λ o. op.Registers o) (register_of funct3 funct7) else (
+    if opcode == 0x1b then option_map (λ o. op.Immediate o) (word_immediate_of funct3 funct7) else (
+    if opcode == 0x3b then option_map (λ o. op.Registers o) (word_register_of funct3 funct7) else (
     None))))))))))

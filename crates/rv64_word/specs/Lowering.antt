@@ -1,43 +1,89 @@
 -- The machine operation of an instruction that has one word.
-use Rattle.std.specs.Prelude.{ℕ, ℤ, pos, List, ◌∷◌, Option, Some, None, if◌then◌else◌, option_and_then}
-use Rattle.std.specs.Option.{option_map}
+use Rattle.std.specs.Prelude.{ℕ, ℤ, pos, ◌+ℤ◌, List, ◌∷◌, Option, Some, None, if◌then◌else◌, option_and_then}
 use Rattle.rv64_instr.specs.declared.op.Op.{Op}
-use Rattle.rv64_instr.specs.declared.form.Form.{Form}
-use Rattle.rv64_instr.specs.declared.form.Form.TheVariants.{Registers, Immediate, Upper, Load, Store, Branch, Move, Jump, Return}
+use Rattle.rv64_instr.specs.declared.op.Op.TheVariants as source
+use Rattle.rv64_instr.specs.declared.op.RegisterOp.{RegisterOp}
+use Rattle.rv64_instr.specs.declared.op.ImmediateOp.{ImmediateOp}
+use Rattle.rv64_instr.specs.declared.op.ImmediateOp.TheVariants.{Addi}
+use Rattle.rv64_instr.specs.declared.op.BranchOp.{BranchOp}
+use Rattle.rv64_instr.specs.declared.op.LoadOp.{LoadOp}
+use Rattle.rv64_instr.specs.declared.op.LoadOp.TheVariants.{Ld}
+use Rattle.rv64_instr.specs.declared.op.StoreOp.{StoreOp}
+use Rattle.rv64_instr.specs.declared.op.StoreOp.TheVariants.{Sd}
 use Rattle.rv64_instr.specs.declared.operand.Operand.{Operand}
-use Rattle.rv64_instr.specs.declared.operand.Operand.TheVariants.{Def, Use, Imm, Slot, Block}
+use Rattle.rv64_instr.specs.declared.operand.Operand.TheVariants.{Def, Use, Imm, Slot, Object, Block}
 use Rattle.rv64_instr.specs.Instruction.{Instruction}
-use Rattle.rv64_instr.specs.Form.{form_of}
 use Rattle.rv64_word.specs.declared.machine_op.MachineOp.{MachineOp}
 use Rattle.rv64_word.specs.declared.word_op.WordOp.{WordOp}
-use Rattle.rv64_word.specs.declared.word_op.WordOp.TheVariants.{Addi, Ld, Sd, Jal, Jalr}
+use Rattle.rv64_word.specs.declared.word_op.WordOp.TheVariants.{Registers, Immediate, Lui, Branch, Load, Store, Jal, Jalr}
 use Rattle.rv64_word.specs.MachineOp.{is_encodable}
-use Rattle.rv64_word.specs.WordOp.{word_op_of}
 
 abbrev pub machine_op : WordOp → (rd rs1 rs2 : ℕ) → ℤ → MachineOp
 machine_op op rd rs1 rs2 imm = record { op = op; rd = rd; rs1 = rs1; rs2 = rs2; imm = imm }
 
--- the fields of operands in a form, where the target has an offset, and a frame slot's number is its offset from x2. A call
--- has two words, and so none
-abbrev pub fields_of : Form → Op → List Operand → (offset : ℤ) → Option MachineOp
-fields_of Registers op (Def rd ∷ Use a ∷ Use b ∷ rest) offset = option_map (λ o. machine_op o rd a b (pos 0)) (word_op_of op)
-fields_of (Immediate low high) op (Def rd ∷ Use a ∷ Imm i ∷ rest) offset = option_map (λ o. machine_op o rd a 0 i) (word_op_of op)
-fields_of Upper op (Def rd ∷ Imm i ∷ rest) offset = option_map (λ o. machine_op o rd 0 0 i) (word_op_of op)
-fields_of (Load w) op (Def rd ∷ Use base ∷ Imm i ∷ rest) offset = option_map (λ o. machine_op o rd base 0 i) (word_op_of op)
-fields_of (Load w) op (Def rd ∷ Slot n ∷ rest) offset = Some (machine_op Ld rd 2 0 (pos n))
-fields_of (Store w) op (Use rs ∷ Use base ∷ Imm i ∷ rest) offset = option_map (λ o. machine_op o 0 base rs i) (word_op_of op)
-fields_of (Store w) op (Use rs ∷ Slot n ∷ rest) offset = Some (machine_op Sd 0 2 rs (pos n))
-fields_of Branch op (Use a ∷ Use b ∷ Block n ∷ rest) offset = option_map (λ o. machine_op o 0 a b offset) (word_op_of op)
-fields_of Move op (Def rd ∷ Use rs ∷ rest) offset = Some (machine_op Addi rd rs 0 (pos 0))
-fields_of Jump op (Block n ∷ rest) offset = Some (machine_op Jal 0 0 0 offset)
-fields_of Return op rest offset = Some (machine_op Jalr 0 1 0 (pos 0))
-fields_of _ op _ offset = None
+abbrev pub register_fields : RegisterOp → List Operand → Option MachineOp
+register_fields op (Def rd ∷ Use a ∷ Use b ∷ rest) = Some (machine_op (Registers op) rd a b (pos 0))
+register_fields op _ = None
+
+-- the address of a stack object plus a number is x2's content plus the object's offset from it and the number
+abbrev pub immediate_fields : ImmediateOp → List Operand → (object : ℕ) → Option MachineOp
+immediate_fields op (Def rd ∷ Use a ∷ Imm i ∷ rest) object = Some (machine_op (Immediate op) rd a 0 i)
+immediate_fields op (Def rd ∷ Object n ∷ Imm i ∷ rest) object = Some (machine_op (Immediate Addi) rd 2 0 (pos object +ℤ i))
+immediate_fields op _ object = None
+
+abbrev pub upper_fields : List Operand → Option MachineOp
+upper_fields (Def rd ∷ Imm i ∷ rest) = Some (machine_op Lui rd 0 0 i)
+upper_fields _ = None
+
+abbrev pub branch_fields : BranchOp → List Operand → (offset : ℤ) → Option MachineOp
+branch_fields op (Use a ∷ Use b ∷ Block n ∷ rest) offset = Some (machine_op (Branch op) 0 a b offset)
+branch_fields op _ offset = None
+
+-- a frame slot's number is its offset from x2
+abbrev pub load_fields : LoadOp → List Operand → (object : ℕ) → Option MachineOp
+load_fields op (Def rd ∷ Use base ∷ Imm i ∷ rest) object = Some (machine_op (Load op) rd base 0 i)
+load_fields op (Def rd ∷ Slot n ∷ rest) object = Some (machine_op (Load Ld) rd 2 0 (pos n))
+load_fields op (Def rd ∷ Object n ∷ Imm i ∷ rest) object = Some (machine_op (Load op) rd 2 0 (pos object +ℤ i))
+load_fields op _ object = None
+
+abbrev pub store_fields : StoreOp → List Operand → (object : ℕ) → Option MachineOp
+store_fields op (Use rs ∷ Use base ∷ Imm i ∷ rest) object = Some (machine_op (Store op) 0 base rs i)
+store_fields op (Use rs ∷ Slot n ∷ rest) object = Some (machine_op (Store Sd) 0 2 rs (pos n))
+store_fields op (Use rs ∷ Object n ∷ Imm i ∷ rest) object = Some (machine_op (Store op) 0 2 rs (pos object +ℤ i))
+store_fields op _ object = None
+
+-- a copy is `ADDI rd, rs, 0`
+abbrev pub copy_fields : List Operand → Option MachineOp
+copy_fields (Def rd ∷ Use rs ∷ rest) = Some (machine_op (Immediate Addi) rd rs 0 (pos 0))
+copy_fields _ = None
+
+-- a jump is `JAL x0, offset`
+abbrev pub jump_fields : List Operand → (offset : ℤ) → Option MachineOp
+jump_fields (Block n ∷ rest) offset = Some (machine_op Jal 0 0 0 offset)
+jump_fields _ offset = None
+
+-- a return is `JALR x0, 0(x1)`
+abbrev pub return_op : MachineOp
+return_op = machine_op Jalr 0 1 0 (pos 0)
+
+-- the machine operation of an opcode's operands, its fields in range or not. A call has two words, and so none
+abbrev pub fields_of : Op → List Operand → (offset : ℤ) (object : ℕ) → Option MachineOp
+fields_of (source.Registers op) operands offset object = register_fields op operands
+fields_of (source.Immediate op) operands offset object = immediate_fields op operands object
+fields_of source.Lui operands offset object = upper_fields operands
+fields_of (source.Branch op) operands offset object = branch_fields op operands offset
+fields_of (source.Load op) operands offset object = load_fields op operands object
+fields_of (source.Store op) operands offset object = store_fields op operands object
+fields_of source.Copy operands offset object = copy_fields operands
+fields_of source.PseudoBr operands offset object = jump_fields operands offset
+fields_of source.PseudoCall operands offset object = None
+fields_of source.PseudoRet operands offset object = Some return_op
 
 -- the operation if its fields are in range
 abbrev pub in_range : MachineOp → Option MachineOp
 in_range m = if is_encodable m then Some m else None
 
--- the machine operation of an instruction whose target has an offset from its own address: none for a call, and where a
--- register, a slot's offset or the target's offset is out of range
-abbrev pub lowered : (offset : ℤ) → Instruction → Option MachineOp
-lowered offset i = option_and_then in_range (fields_of (form_of i.op) i.op i.operands offset)
+-- the machine operation of an instruction whose target has an offset from its own address, and whose stack object one from
+-- x2: none for a call, and where a register or a number is out of the range of the word's format
+abbrev pub lowered : (offset : ℤ) (object : ℕ) → Instruction → Option MachineOp
+lowered offset object i = option_and_then in_range (fields_of i.op i.operands offset object)

@@ -1,20 +1,22 @@
 -- What a word does, by the rows of instructions.
-use Rattle.std.specs.Prelude.{ℕ, zero, suc, ◌+◌, ◌%◌, ◌^◌, ℤ, pos, ◌*ℤ◌, Option, Some, None}
-use Rattle.rv64_instr.specs.declared.op.Op.{Op}
-use Rattle.rv64_instr.specs.declared.op.Op.TheVariants as op
-use Rattle.rv64_instr.specs.declared.form.Form.{Form}
-use Rattle.rv64_instr.specs.declared.form.Form.TheVariants as form
+use Rattle.std.specs.Prelude.{ℕ, zero, suc, ◌+◌, ◌%◌, ◌^◌, ℤ, pos, ◌*ℤ◌}
+use Rattle.rv64_instr.specs.declared.op.LoadOp.{LoadOp}
+use Rattle.rv64_instr.specs.declared.op.LoadOp.TheVariants.{Ld}
+use Rattle.rv64_instr.specs.declared.op.StoreOp.{StoreOp}
+use Rattle.rv64_instr.specs.declared.op.StoreOp.TheVariants.{Sd}
+use Rattle.rv64_instr.specs.declared.decoded.Input.TheVariants.{Content}
+use Rattle.rv64_instr.specs.declared.decoded.Base.{Base}
+use Rattle.rv64_instr.specs.declared.decoded.Base.TheVariants.{PointedBy, ObjectAt}
 use Rattle.rv64_instr.specs.Arithmetic.{word, extend32}
-use Rattle.rv64_instr.specs.Form.{form_of}
-use Rattle.rv64_instr.specs.Row.{Content, Row, Fixes, Sets, Loads, Stores, LoadsSlot, StoresSlot, Branches, Jumps, Returns, Unfit, immediate_row}
+use Rattle.rv64_instr.specs.Row as row
+use Rattle.rv64_instr.specs.Row.{Row, Fixes, Moves, Sets, Addresses, Loads, Stores, LoadsSlot, StoresSlot, Branches, Jumps, Calls, Returns, Unfit}
 use Rattle.rv64_word.specs.declared.machine_op.MachineOp.{MachineOp}
 use Rattle.rv64_word.specs.declared.word_op.WordOp.{WordOp}
-use Rattle.rv64_word.specs.declared.word_op.WordOp.TheVariants.{Jal, Jalr}
-use Rattle.rv64_word.specs.WordOp.{op_of}
+use Rattle.rv64_word.specs.declared.word_op.WordOp.TheVariants.{Registers, Immediate, Lui, Branch, Load, Store, Jal, Jalr}
 
 -- what a word does. The targets are addresses
 pub data MachineRow : Type 0 where
-  -- what the row of an instruction does, which is neither of a slot nor a call or a return
+  -- what the row of an instruction does, which names no slot and no stack object, and is neither a call nor a return
   Does : Row → MachineRow
   -- sets rd to the address of the next word, and goes to the target
   Links : (rd target : ℕ) → MachineRow
@@ -31,37 +33,46 @@ abbrev pub link_row : (rd target : ℕ) → MachineRow
 link_row zero target = Does (Jumps target)
 link_row (suc rd) target = Links (suc rd) target
 
--- the row of a word whose operation is an opcode's
-abbrev pub row_in : Form → Op → (address : ℕ) → MachineOp → Row
-row_in form.Registers op address m = Sets m.rd op m.rs1 (Content m.rs2)
-row_in (form.Immediate low high) op address m = immediate_row op m.rd m.rs1 (word m.imm)
-row_in form.Upper op address m = Fixes m.rd (extend32 (word (m.imm *ℤ pos 4096)))
-row_in (form.Load w) op address m = Loads m.rd op m.rs1 (word m.imm)
-row_in (form.Store w) op address m = Stores op m.rs2 m.rs1 (word m.imm)
-row_in form.Branch op address m = Branches op m.rs1 m.rs2 (at_offset address m.imm)
-row_in _ op address m = Unfit
-
--- the row of a word of an operation with an opcode's name
-abbrev pub row_named : Option Op → (address : ℕ) → MachineOp → Row
-row_named (Some op) address m = row_in (form_of op) op address m
-row_named None address m = Unfit
-
 -- the row of a word of an operation
 abbrev pub row_as : WordOp → (address : ℕ) → MachineOp → MachineRow
+row_as (Registers op) address m = Does (Sets m.rd op m.rs1 (Content m.rs2))
+row_as (Immediate op) address m = Does (row.immediate_row op m.rd m.rs1 (word m.imm))
+row_as Lui address m = Does (Fixes m.rd (extend32 (word (m.imm *ℤ pos 4096))))
+row_as (Branch op) address m = Does (Branches op m.rs1 m.rs2 (at_offset address m.imm))
+row_as (Load op) address m = Does (Loads m.rd op (PointedBy m.rs1) (word m.imm))
+row_as (Store op) address m = Does (Stores op m.rs2 (PointedBy m.rs1) (word m.imm))
 row_as Jal address m = link_row m.rd (at_offset address m.imm)
 row_as Jalr address m = LinksTo m.rd m.rs1 (word m.imm)
-row_as operation address m = Does (row_named (op_of operation) address m)
 
 -- the row of a word at an address
 abbrev pub machine_row : (address : ℕ) → MachineOp → MachineRow
 machine_row address m = row_as m.op address m
 
--- the row of an instruction in memory, where its target has an address, and a frame slot's number is its offset from x2.
--- A return goes to x1's content
-abbrev pub placed : (target : ℕ) → Row → MachineRow
-placed target (LoadsSlot rd n) = Does (Loads rd op.Ld 2 (word (pos n)))
-placed target (StoresSlot rs n) = Does (Stores op.Sd rs 2 (word (pos n)))
-placed target (Branches o a b block) = Does (Branches o a b target)
-placed target (Jumps block) = Does (Jumps target)
-placed target (Returns results) = LinksTo 0 1 0
-placed target row = Does row
+-- an offset from a stack object as one from x2, where the object has an offset from x2, modulo 2^64
+abbrev pub from_object : (object offset : ℕ) → ℕ
+from_object object offset = (object + offset) % 2 ^ 64
+
+abbrev pub placed_load : (object rd : ℕ) → LoadOp → Base → (offset : ℕ) → Row
+placed_load object rd op (PointedBy r) offset = Loads rd op (PointedBy r) offset
+placed_load object rd op (ObjectAt n) offset = Loads rd op (PointedBy 2) (from_object object offset)
+
+abbrev pub placed_store : (object : ℕ) → StoreOp → (rs : ℕ) → Base → (offset : ℕ) → Row
+placed_store object op rs (PointedBy r) offset = Stores op rs (PointedBy r) offset
+placed_store object op rs (ObjectAt n) offset = Stores op rs (PointedBy 2) (from_object object offset)
+
+-- the row of an instruction in memory: its target has an address, its stack object an offset from x2, and a frame slot's
+-- number is its offset from x2. A return goes to x1's content. A call, which has two words, has none of its own
+abbrev pub placed : (target object : ℕ) → Row → MachineRow
+placed target object (Fixes rd n) = Does (Fixes rd n)
+placed target object (Moves rd rs) = Does (Moves rd rs)
+placed target object (Sets rd op a b) = Does (Sets rd op a b)
+placed target object (Addresses rd n offset) = Does (row.add_row rd 2 (from_object object offset))
+placed target object (Loads rd op base offset) = Does (placed_load object rd op base offset)
+placed target object (Stores op rs base offset) = Does (placed_store object op rs base offset)
+placed target object (LoadsSlot rd n) = Does (Loads rd Ld (PointedBy 2) (word (pos n)))
+placed target object (StoresSlot rs n) = Does (Stores Sd rs (PointedBy 2) (word (pos n)))
+placed target object (Branches op a b block) = Does (Branches op a b target)
+placed target object (Jumps block) = Does (Jumps target)
+placed target object (Calls name args) = Does (Calls name args)
+placed target object (Returns results) = LinksTo 0 1 0
+placed target object Unfit = Does Unfit

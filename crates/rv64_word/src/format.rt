@@ -1,3 +1,5 @@
+//! The formats of words: which bits of a word stand for which bits of a field.
+
 ghost use Rattle.std.specs.Prelude.{◌≡◌, ◌+◌, ◌<◌, ◌≤◌, ◌^◌, ◌*◌, ◌%◌};
 ghost use Rattle.rv64_word.specs.Format.{slices_of, bits_of, same_field, shown, number_of, sign_extended};
 
@@ -171,7 +173,7 @@ impl Format {
             Format::Immediate | Format::Store => sign_extend(12, bits),
             Format::Branch => sign_extend(13, bits),
             Format::Jump => sign_extend(21, bits),
-            _ => i64::from(bits),
+            Format::Register | Format::Shift | Format::WordShift | Format::Upper => i64::from(bits),
         }
     }
 }

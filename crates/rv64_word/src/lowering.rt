@@ -1,35 +1,59 @@
-ghost use Rattle.std.specs.Prelude.{◌≡◌, ℕ, IsTrue, IfSome};
-ghost use Rattle.rv64_instr.specs.Form.{form_of};
+//! The machine operations of instructions.
+
+ghost use Rattle.std.specs.Prelude.{◌≡◌, ℕ, Some, IsTrue, IfSome};
+ghost use Rattle.rv64_instr.specs.Form.{
+  has_form,
+  fits_registers,
+  fits_immediate,
+  fits_upper,
+  fits_branch,
+  fits_load,
+  fits_store,
+  fits_copy,
+  fits_jump,
+};
 ghost use Rattle.rv64_instr.specs.Row.{row_of};
 ghost use Rattle.rv64_word.specs.MachineOp.{is_encodable};
 ghost use Rattle.rv64_word.specs.MachineRow.{machine_row, placed, at_offset};
-ghost use Rattle.rv64_word.specs.Lowering.{lowered, fields_of, in_range, machine_op};
+ghost use Rattle.rv64_word.specs.Lowering.{
+  lowered,
+  fields_of,
+  register_fields,
+  immediate_fields,
+  upper_fields,
+  branch_fields,
+  load_fields,
+  store_fields,
+  copy_fields,
+  jump_fields,
+  in_range,
+  machine_op,
+};
 
 use crate::machine_op::MachineOp;
 use crate::word_op::WordOp;
-use rv64_instr::form::{Form, Width, form_of};
 use rv64_instr::instr::Instr;
-use rv64_instr::op::Op;
+use rv64_instr::op::{BranchOp, ImmediateOp, LoadOp, Op, RegisterOp, StoreOp};
 use rv64_instr::operand::Operand;
 
 /// The machine operation of an instruction that has one word. `offset` is that of a branch's target from the
-/// instruction's own address in bytes, and unused elsewhere. A frame slot's number is its offset from x2 in bytes. `None`
-/// for a call, which has two words, and where a register is virtual, or an offset doesn't fit its format. It takes no
-/// memory.
-pub fn lower(i: &Instr, offset: i64) -> Option<MachineOp>
-    ensures value { result ≡ lowered offset i.now }
+/// instruction's own address in bytes, and `object` that of the stack object that it names from x2 in bytes; each is
+/// unused elsewhere. A frame slot's number is its offset from x2 in bytes. `None` for a call, which has two words, and
+/// where a register is virtual, or an offset doesn't fit its format. It takes no memory.
+pub fn lower(i: &Instr, offset: i64, object: u32) -> Option<MachineOp>
+    ensures value { result ≡ lowered offset object i.now }
     ensures encodable { IfSome result (λ m. IsTrue (is_encodable m)) }
-    // The word does at any address what the instruction does, with its target at the offset.
+    // The word does at any address what the instruction does, with its target and its stack object at their offsets.
     ensures row { IfSome result
-        (λ m. (address : ℕ) → machine_row address m ≡ placed (at_offset address offset) (row_of i.now)) }
+        (λ m. (address : ℕ) → machine_row address m ≡ placed (at_offset address offset) object (row_of i.now)) }
 {
-    in_fields(i, offset)
+    in_fields(i, offset, object)
 }
 
-fn in_fields(i: &Instr, offset: i64) -> Option<MachineOp>
-    ensures { result ≡ lowered offset i.now }
+fn in_fields(i: &Instr, offset: i64, object: u32) -> Option<MachineOp>
+    ensures { result ≡ lowered offset object i.now }
 {
-    in_range(fields(i.op, i.operands.as_slice(), offset)?)
+    in_range(fields(i.op, i.operands.as_slice(), offset, object)?)
 }
 
 /// The operation if its fields are in range.
@@ -39,20 +63,21 @@ fn in_range(m: MachineOp) -> Option<MachineOp>
     if m.is_encodable() { Some(m) } else { None }
 }
 
-fn fields(op: Op, operands: &[Operand], offset: i64) -> Option<MachineOp>
-    ensures { result ≡ fields_of (form_of op) op operands.now offset }
+fn fields(op: Op, operands: &[Operand], offset: i64, object: u32) -> Option<MachineOp>
+    requires { IsTrue (has_form op operands.now) }
+    ensures { result ≡ fields_of op operands.now offset object }
 {
-    match form_of(op) {
-        Form::Registers => of_registers(op, operands, offset),
-        Form::Immediate(low, high) => of_immediate(op, low, high, operands, offset),
-        Form::Upper => of_upper(op, operands, offset),
-        Form::Load(width) => of_load(op, width, operands, offset),
-        Form::Store(width) => of_store(op, width, operands, offset),
-        Form::Branch => of_branch(op, operands, offset),
-        Form::Move => of_move(op, operands, offset),
-        Form::Jump => of_jump(op, operands, offset),
-        Form::Call => None,
-        Form::Return => Some(machine_op(WordOp::Jalr, 0, 1, 0, 0)),
+    match op {
+        Op::Registers(op) => Some(of_registers(op, operands)),
+        Op::Immediate(op) => Some(of_immediate(op, operands, object)),
+        Op::Lui => Some(of_upper(operands)),
+        Op::Branch(op) => Some(of_branch(op, operands, offset)),
+        Op::Load(op) => Some(of_load(op, operands, object)),
+        Op::Store(op) => Some(of_store(op, operands, object)),
+        Op::Copy => Some(of_copy(operands)),
+        Op::PseudoBr => Some(of_jump(operands, offset)),
+        Op::PseudoCall => None,
+        Op::PseudoRet => Some(machine_op(WordOp::Jalr, 0, 1, 0, 0)),
     }
 }
 
@@ -68,95 +93,140 @@ fn machine_op(op: WordOp, rd: u32, rs1: u32, rs2: u32, imm: i64) -> MachineOp
     }
 }
 
-fn of_registers(op: Op, operands: &[Operand], offset: i64) -> Option<MachineOp>
-    ensures { result ≡ fields_of Form.Registers op operands.now offset }
+fn of_registers(op: RegisterOp, operands: &[Operand]) -> MachineOp
+    requires { IsTrue (fits_registers operands.now) }
+    ensures { Some result ≡ register_fields op operands.now }
 {
     match operands {
         [Operand::Def(rd), Operand::Use(a), Operand::Use(b), ..] => {
-            Some(machine_op(WordOp::of(op)?, rd.number(), a.number(), b.number(), 0))
+            machine_op(
+                WordOp::Registers(op),
+                rd.number(),
+                a.number(),
+                b.number(),
+                0,
+            )
         }
-        _ => None,
+        _ => unreachable!(),
     }
 }
 
-fn of_immediate(op: Op, low: i64, high: i64, operands: &[Operand], offset: i64) -> Option<MachineOp>
-    ensures { result ≡ fields_of (Form.Immediate low high) op operands.now offset }
+fn of_immediate(op: ImmediateOp, operands: &[Operand], object: u32) -> MachineOp
+    requires { IsTrue (fits_immediate op operands.now) }
+    ensures { Some result ≡ immediate_fields op operands.now object }
 {
     match operands {
         [Operand::Def(rd), Operand::Use(a), Operand::Imm(i), ..] => {
-            Some(machine_op(WordOp::of(op)?, rd.number(), a.number(), 0, *i))
+            machine_op(WordOp::Immediate(op), rd.number(), a.number(), 0, *i)
         }
-        _ => None,
+        [Operand::Def(rd), Operand::Object(_), Operand::Imm(i), ..] => {
+            machine_op(
+                WordOp::Immediate(ImmediateOp::Addi),
+                rd.number(),
+                2,
+                0,
+                i64::from(object) + *i,
+            )
+        }
+        _ => unreachable!(),
     }
 }
 
-fn of_upper(op: Op, operands: &[Operand], offset: i64) -> Option<MachineOp>
-    ensures { result ≡ fields_of Form.Upper op operands.now offset }
+fn of_upper(operands: &[Operand]) -> MachineOp
+    requires { IsTrue (fits_upper operands.now) }
+    ensures { Some result ≡ upper_fields operands.now }
 {
     match operands {
-        [Operand::Def(rd), Operand::Imm(i), ..] => {
-            Some(machine_op(WordOp::of(op)?, rd.number(), 0, 0, *i))
-        }
-        _ => None,
+        [Operand::Def(rd), Operand::Imm(i), ..] => machine_op(WordOp::Lui, rd.number(), 0, 0, *i),
+        _ => unreachable!(),
     }
 }
 
-fn of_load(op: Op, width: Width, operands: &[Operand], offset: i64) -> Option<MachineOp>
-    ensures { result ≡ fields_of (Form.Load width) op operands.now offset }
-{
-    match operands {
-        [Operand::Def(rd), Operand::Use(base), Operand::Imm(i), ..] => {
-            Some(machine_op(WordOp::of(op)?, rd.number(), base.number(), 0, *i))
-        }
-        [Operand::Def(rd), Operand::Slot(n), ..] => {
-            Some(machine_op(WordOp::Ld, rd.number(), 2, 0, i64::from(*n)))
-        }
-        _ => None,
-    }
-}
-
-fn of_store(op: Op, width: Width, operands: &[Operand], offset: i64) -> Option<MachineOp>
-    ensures { result ≡ fields_of (Form.Store width) op operands.now offset }
-{
-    match operands {
-        [Operand::Use(rs), Operand::Use(base), Operand::Imm(i), ..] => {
-            Some(machine_op(WordOp::of(op)?, 0, base.number(), rs.number(), *i))
-        }
-        [Operand::Use(rs), Operand::Slot(n), ..] => {
-            Some(machine_op(WordOp::Sd, 0, 2, rs.number(), i64::from(*n)))
-        }
-        _ => None,
-    }
-}
-
-fn of_branch(op: Op, operands: &[Operand], offset: i64) -> Option<MachineOp>
-    ensures { result ≡ fields_of Form.Branch op operands.now offset }
+fn of_branch(op: BranchOp, operands: &[Operand], offset: i64) -> MachineOp
+    requires { IsTrue (fits_branch operands.now) }
+    ensures { Some result ≡ branch_fields op operands.now offset }
 {
     match operands {
         [Operand::Use(a), Operand::Use(b), Operand::Block(_), ..] => {
-            Some(machine_op(WordOp::of(op)?, 0, a.number(), b.number(), offset))
+            machine_op(WordOp::Branch(op), 0, a.number(), b.number(), offset)
         }
-        _ => None,
+        _ => unreachable!(),
     }
 }
 
-fn of_move(op: Op, operands: &[Operand], offset: i64) -> Option<MachineOp>
-    ensures { result ≡ fields_of Form.Move op operands.now offset }
+fn of_load(op: LoadOp, operands: &[Operand], object: u32) -> MachineOp
+    requires { IsTrue (fits_load op operands.now) }
+    ensures { Some result ≡ load_fields op operands.now object }
+{
+    match operands {
+        [Operand::Def(rd), Operand::Use(base), Operand::Imm(i), ..] => {
+            machine_op(WordOp::Load(op), rd.number(), base.number(), 0, *i)
+        }
+        [Operand::Def(rd), Operand::Slot(n), ..] => {
+            machine_op(
+                WordOp::Load(LoadOp::Ld),
+                rd.number(),
+                2,
+                0,
+                i64::from(n.number()),
+            )
+        }
+        [Operand::Def(rd), Operand::Object(_), Operand::Imm(i), ..] => {
+            machine_op(WordOp::Load(op), rd.number(), 2, 0, i64::from(object) + *i)
+        }
+        _ => unreachable!(),
+    }
+}
+
+fn of_store(op: StoreOp, operands: &[Operand], object: u32) -> MachineOp
+    requires { IsTrue (fits_store op operands.now) }
+    ensures { Some result ≡ store_fields op operands.now object }
+{
+    match operands {
+        [Operand::Use(rs), Operand::Use(base), Operand::Imm(i), ..] => {
+            machine_op(WordOp::Store(op), 0, base.number(), rs.number(), *i)
+        }
+        [Operand::Use(rs), Operand::Slot(n), ..] => {
+            machine_op(
+                WordOp::Store(StoreOp::Sd),
+                0,
+                2,
+                rs.number(),
+                i64::from(n.number()),
+            )
+        }
+        [Operand::Use(rs), Operand::Object(_), Operand::Imm(i), ..] => {
+            machine_op(WordOp::Store(op), 0, 2, rs.number(), i64::from(object) + *i)
+        }
+        _ => unreachable!(),
+    }
+}
+
+fn of_copy(operands: &[Operand]) -> MachineOp
+    requires { IsTrue (fits_copy operands.now) }
+    ensures { Some result ≡ copy_fields operands.now }
 {
     match operands {
         [Operand::Def(rd), Operand::Use(rs), ..] => {
-            Some(machine_op(WordOp::Addi, rd.number(), rs.number(), 0, 0))
+            machine_op(
+                WordOp::Immediate(ImmediateOp::Addi),
+                rd.number(),
+                rs.number(),
+                0,
+                0,
+            )
         }
-        _ => None,
+        _ => unreachable!(),
     }
 }
 
-fn of_jump(op: Op, operands: &[Operand], offset: i64) -> Option<MachineOp>
-    ensures { result ≡ fields_of Form.Jump op operands.now offset }
+fn of_jump(operands: &[Operand], offset: i64) -> MachineOp
+    requires { IsTrue (fits_jump operands.now) }
+    ensures { Some result ≡ jump_fields operands.now offset }
 {
     match operands {
-        [Operand::Block(_), ..] => { Some(machine_op(WordOp::Jal, 0, 0, 0, offset)) }
-        _ => None,
+        [Operand::Block(_), ..] => machine_op(WordOp::Jal, 0, 0, 0, offset),
+        _ => unreachable!(),
     }
 }
 

@@ -1,3 +1,5 @@
+//! Machine operations, and their words both ways.
+
 ghost use Rattle.std.specs.Prelude.{◌≡◌, Some, IsTrue, IfSome, ◌&&◌, nat_eq};
 ghost use Rattle.rv64_instr.specs.Form.{is_within};
 ghost use Rattle.rv64_word.specs.Decoded.{decoded};
