@@ -1,29 +1,30 @@
 -- Entries by their sources.
-use Rattle.std.proofs.Common.{◌≡◌, ℕ, List, [], ◌∷◌, ◌++◌, Option, Some, None, Bool, true, false, cond, refl, sym, ap, ◌∙◌, inl, inr}
+use Rattle.std.proofs.Common.{◌≡◌, List, [], ◌∷◌, ◌++◌, Option, Some, None, Bool, true, false, cond, refl, sym, ap, ◌∙◌, inl, inr}
 use Rattle.std.specs.Prelude.{nat_eq, is_some}
 use Rattle.std.proofs.lemmas.Bool.{cases_Bool, and_parts, and_from, eqb-true, eq-eqb}
+use Rattle.mir_func.specs.declared.entry.OperandPair.{OperandPair}
 use Rattle.mir_func.specs.declared.entry.Entry.{Entry}
 use Rattle.mir_func.specs.Resolve.{is_pair, entry_of}
 
-pub is_pair-true : (p q : ℕ × ℕ) → is_pair p q ≡ true → p ≡ q
+pub is_pair-true : (p q : OperandPair) → is_pair p q ≡ true → p ≡ q
 is_pair-true p q h =
-    let both = and_parts (nat_eq p.0 q.0) (nat_eq p.1 q.1) h in
-    let x : p.0 ≡ q.0 = eqb-true _ _ both.0 in
-    let y : p.1 ≡ q.1 = eqb-true _ _ both.1 in
-    λ i. (x i, y i)
+    let both = and_parts (nat_eq p.number q.number) (nat_eq p.operand q.operand) h in
+    let x : p.number ≡ q.number = eqb-true _ _ both.0 in
+    let y : p.operand ≡ q.operand = eqb-true _ _ both.1 in
+    λ i. record { number = x i; operand = y i }
 
-pub is_pair-same : (p : ℕ × ℕ) → is_pair p p ≡ true
-is_pair-same p = and_from _ _ (eq-eqb p.0 p.0 refl) (eq-eqb p.1 p.1 refl)
+pub is_pair-same : (p : OperandPair) → is_pair p p ≡ true
+is_pair-same p = and_from _ _ (eq-eqb p.number p.number refl) (eq-eqb p.operand p.operand refl)
 
 -- what a pair's entry is, where an entry with another source stands before
-pub entry_of-later : (x : Entry) (xs : List Entry) (q : ℕ × ℕ) → is_pair x.src q ≡ false → entry_of (x ∷ xs) q ≡ entry_of xs q
+pub entry_of-later : (x : Entry) (xs : List Entry) (q : OperandPair) → is_pair x.src q ≡ false → entry_of (x ∷ xs) q ≡ entry_of xs q
 entry_of-later x xs q h = ap (λ (b : Bool). cond b (Some x) (entry_of xs q)) h
 
-pub entry_of-first : (x : Entry) (xs : List Entry) (q : ℕ × ℕ) → is_pair x.src q ≡ true → entry_of (x ∷ xs) q ≡ Some x
+pub entry_of-first : (x : Entry) (xs : List Entry) (q : OperandPair) → is_pair x.src q ≡ true → entry_of (x ∷ xs) q ≡ Some x
 entry_of-first x xs q h = ap (λ (b : Bool). cond b (Some x) (entry_of xs q)) h
 
 -- an entry whose source is new
-pub entry_of-push : (xs : List Entry) (e : Entry) (q : ℕ × ℕ) → entry_of xs e.src ≡ None → entry_of (xs ++ e ∷ []) q ≡ cond (is_pair e.src q) (Some e) (entry_of xs q)
+pub entry_of-push : (xs : List Entry) (e : Entry) (q : OperandPair) → entry_of xs e.src ≡ None → entry_of (xs ++ e ∷ []) q ≡ cond (is_pair e.src q) (Some e) (entry_of xs q)
 entry_of-push [] e q h = refl
 entry_of-push (x ∷ xs) e q h =
     elim (cases_Bool (is_pair x.src e.src)) [
@@ -35,7 +36,7 @@ entry_of-push (x ∷ xs) e q h =
             | inl t ↦ (elim (cases_Bool (is_pair e.src q)) [
               | inl u ↦
                   let same : x.src ≡ e.src = is_pair-true x.src q t ∙ sym (is_pair-true e.src q u) in
-                  let no : true ≡ false = sym (is_pair-same e.src) ∙ ap (λ (p : ℕ × ℕ). is_pair p e.src) (sym same) ∙ f in cc
+                  let no : true ≡ false = sym (is_pair-same e.src) ∙ ap (λ (p : OperandPair). is_pair p e.src) (sym same) ∙ f in cc
               | inr u ↦ entry_of-first x (xs ++ e ∷ []) q t ∙ sym (entry_of-first x xs q t) ∙ sym (ap (λ (b : Bool). cond b (Some e) (entry_of (x ∷ xs) q)) u)
             ])
             | inr g ↦ entry_of-later x (xs ++ e ∷ []) q g ∙ known ∙ sym (ap (λ (o : Option Entry). cond (is_pair e.src q) (Some e) o) (entry_of-later x xs q g))
@@ -43,7 +44,7 @@ entry_of-push (x ∷ xs) e q h =
     ]
 
 -- an index with one more entry
-pub indexed-push : (xs ys : List Entry) (e : Entry) (m n : ℕ × ℕ → Option Entry) → ((q : ℕ × ℕ) → m q ≡ entry_of xs q) → is_some (m e.src) ≡ false → ((q : ℕ × ℕ) → n q ≡ cond (is_pair e.src q) (Some e) (m q)) → ys ≡ xs ++ e ∷ [] → (q : ℕ × ℕ) → n q ≡ entry_of ys q
+pub indexed-push : (xs ys : List Entry) (e : Entry) (m n : OperandPair → Option Entry) → ((q : OperandPair) → m q ≡ entry_of xs q) → is_some (m e.src) ≡ false → ((q : OperandPair) → n q ≡ cond (is_pair e.src q) (Some e) (m q)) → ys ≡ xs ++ e ∷ [] → (q : OperandPair) → n q ≡ entry_of ys q
 indexed-push xs ys e m n known absent put more q =
     let new : entry_of xs e.src ≡ None = is_some-false (entry_of xs e.src) (ap is_some (sym (known e.src)) ∙ absent) in
     put q ∙ ap (λ (o : Option Entry). cond (is_pair e.src q) (Some e) o) (known q) ∙ sym (entry_of-push xs e q new) ∙ ap (λ (zs : List Entry). entry_of zs q) (sym more)

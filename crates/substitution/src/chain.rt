@@ -1,3 +1,5 @@
+//! The law of chains.
+
 ghost use Rattle.substitution.specs.Chain.{ResolveIsEnd};
 
 /// What a pair resolves to is the end of its chain: `Substitutions::resolve` answers a pair exactly where the

@@ -1,8 +1,11 @@
-ghost use Rattle.std.specs.Prelude.{◌≡◌, [], IfOk, OnOk, OnErr};
-ghost use Rattle.mir_func.specs.Resolve.{resolve};
-ghost use Rattle.substitution.specs.Added.{added};
+//! Substitutions, with an index from source to entry.
 
-use mir_func::entry::Entry;
+ghost use Rattle.std.specs.Prelude.{◌≡◌, [], IfOk, OnOk, OnErr};
+ghost use Rattle.mir_func.specs.Resolve.{entry_of, resolve};
+ghost use Rattle.substitution.specs.Added.{added};
+ghost use Rattle.substitution.specs.Index.{key_of};
+
+use mir_func::entry::{Entry, OperandPair};
 use std::alloc::{AllocError, Global};
 use std::collections::HashMap;
 use std::marker::Model;
@@ -53,13 +56,21 @@ impl Substitutions {
         ensures ok { OnOk result (self.new ≡ added self.old e) }
         ensures err { OnErr result (self.new ≡ self.old) }
     {
-        if self.index.contains_key(&e.src) {
+        let source = key(&e.src);
+        if self.index.contains_key(&source) {
             return Ok(());
         }
         self.entries.reserve(1)?;
-        self.index.insert(e.src, e)?;
+        self.index.insert(source, e)?;
         self.entries.push(e)?;
         Ok(())
+    }
+
+    /// The entry of a pair.
+    fn entry(&self, pair: &OperandPair) -> Option<Entry>
+        ensures { result ≡ entry_of self.now pair.now }
+    {
+        self.index.get(&key(pair)).copied()
     }
 
     /// The same entries in the same order.
@@ -72,33 +83,54 @@ impl Substitutions {
         })
     }
 
-    /// The pair whose value a debug instruction number and an operand's index stand for: the end of their chain.
-    /// There is none exactly where the chain comes round, or meets an entry for a part of a register.
-    pub fn resolve(&self, pair: (u32, u32)) -> Option<(u32, u32)>
-        ensures { result ≡ resolve self.now pair.0 pair.1 }
+    /// The pair whose value a pair stands for: the end of its chain. There is none exactly where the chain comes
+    /// round, or meets an entry for a part of a register.
+    pub fn resolve(&self, pair: OperandPair) -> Option<OperandPair>
+        ensures { result ≡ resolve self.now pair }
     {
         let mut at = pair;
         for _ in 0..self.entries.len() {
-            match self.index.get(&at) {
-                None => return Some(at),
-                Some(e) if e.subreg != 0 => return None,
-                Some(e) => at = e.dst,
+            let Some(e) = self.entry(&at) else {
+                return Some(at);
+            };
+            if e.subreg != 0 {
+                return None;
             }
+            at = e.dst;
         }
-        match self.index.get(&at) {
+        match self.entry(&at) {
             None => Some(at),
             Some(_) => None,
         }
     }
 }
 
+/// What the index finds a pair's entry by.
+fn key(pair: &OperandPair) -> (u32, u32)
+    ensures { result ≡ key_of pair.now }
+{
+    (pair.number.number(), pair.operand.number())
+}
+
 #[cfg(test)]
 mod tests {
     use super::*;
+    use numbers::code::{DebugNumber, OperandIndex};
     use std::test::Fail;
 
+    fn pair(number: u32, operand: u32) -> OperandPair {
+        OperandPair {
+            number: DebugNumber(number),
+            operand: OperandIndex(operand),
+        }
+    }
+
     fn entry(src: (u32, u32), dst: (u32, u32), subreg: u32) -> Entry {
-        Entry { src, dst, subreg }
+        Entry {
+            src: pair(src.0, src.1),
+            dst: pair(dst.0, dst.1),
+            subreg,
+        }
     }
 
     #[test]
@@ -117,22 +149,22 @@ mod tests {
         subs.add(entry((1, 0), (9, 9), 0))?;
         let copied = subs.copy()?;
         assert_eq!(rt; copied.entries().len(), 6);
-        for (pair, want) in [
-            ((1, 0), Some((4, 0))),
-            ((5, 0), None),
-            ((7, 0), None),
-            ((8, 1), Some((8, 1))),
-            ((1, 1), Some((1, 1))),
+        for (asked, want) in [
+            (pair(1, 0), Some(pair(4, 0))),
+            (pair(5, 0), None),
+            (pair(7, 0), None),
+            (pair(8, 1), Some(pair(8, 1))),
+            (pair(1, 1), Some(pair(1, 1))),
         ] {
-            assert_eq!(rt; subs.resolve(pair), want, "at {pair:?}");
-            assert_eq!(rt; copied.resolve(pair), want, "in the copy, at {pair:?}");
+            assert_eq!(rt; subs.resolve(asked), want, "at {asked:?}");
+            assert_eq!(rt; copied.resolve(asked), want, "in the copy, at {asked:?}");
         }
         Ok(())
     }
 
     #[test]
     fn follows_long_chains(rt: HostRuntime) -> Result<(), Fail> {
-        for (last, want) in [(10_001, Some((10_001, 0))), (1, None)] {
+        for (last, want) in [(10_001, Some(pair(10_001, 0))), (1, None)] {
             let mut subs = Substitutions::new(rt.alloc());
             for k in 1..10_000u32 {
                 subs.add(entry((k, 0), (k + 1, 0), 0))?;
@@ -140,7 +172,7 @@ mod tests {
             subs.add(entry((10_000, 0), (last, 0), 0))?;
             assert_eq!(rt; subs.entries().len(), 10_000);
             assert_eq!(rt;
-                subs.resolve((1, 0)),
+                subs.resolve(pair(1, 0)),
                 want,
                 "where the last one leads to {last}"
             );

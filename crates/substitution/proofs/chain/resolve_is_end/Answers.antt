@@ -2,4 +2,4 @@ use Rattle.substitution.proofs.Chains.{resolve_ends, ends_resolve}
 use Rattle.substitution.proofs.chain.resolve_is_end.Goals as goal
 
 pub returns : goal.returns
-returns c = λ subs k o r. (resolve_ends subs k o r, ends_resolve subs k o r)
+returns c = λ subs q r. (resolve_ends subs q r, ends_resolve subs q r)

@@ -4,4 +4,4 @@ use Rattle.substitution.proofs.substitutions.Substitutions.resolve.Given as goal
 
 abbrev pub invariant-loop : goal.invariant-loop
 invariant-loop l =
-    chain_end l.self-inside.entries.items (l.end - l.counter) l.at ≡ resolve l.self-inside.entries.items l.fn.pair.0 l.fn.pair.1
+    chain_end l.self (l.end - l.counter) l.at ≡ resolve l.self l.fn.pair
