@@ -1,4 +1,4 @@
-use Rattle.std.proofs.Common.{◌≡◌, sym, ap, ◌∙◌, arith, Some, None}
+use Rattle.std.proofs.Common.{◌≡◌, sym, ap, arith, Some, None}
 use Rattle.dwarf_base.specs.Leb.{unsigned_value}
 use Rattle.dwarf_base.proofs.FrontLemmas.{unsigned_byte, unsigned_bytes}
 use Rattle.dwarf_base.proofs.front.+unsigned_front.Goals as goal
