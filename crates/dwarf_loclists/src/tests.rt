@@ -1,3 +1,5 @@
+//! Sections written by hand from the standard.
+
 ghost use Rattle.std.specs.Prelude.{IsTrue, All};
 ghost use Rattle.dwarf_loclists.specs.Ranges.{IsListed, Ascend, ArePlaces};
 

@@ -1,5 +1,5 @@
 use Rattle.dwarf_loclists.proofs.Places.{found, only}
-use Rattle.dwarf_loclists.proofs.reading.one_place.Goals as goal
+use Rattle.dwarf_loclists.proofs.reading.one_location.Goals as goal
 
 pub returns-clause-found : goal.returns-clause-found
 returns-clause-found c = found
