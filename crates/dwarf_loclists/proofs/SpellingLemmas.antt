@@ -61,7 +61,7 @@ assembled lists none first second third n count empty size counted headed offset
     let after : n ≡ 8 + 4 * length lists + length (bodies lists) = omega (arith, length-spelling lists) in
     listed
     ∙ ap (λ ys. ys ++ bodies lists) (offset ∙ ap (λ ys. ys ++ offsets_from (4 * length lists) lists)
-      (headed ∙ ap (λ ys. ys ++ header n count) empty ∙ ap (λ m. header m count) after ∙ ap (header (8 + 4 * length lists + length (bodies lists))) counted))
+    (headed ∙ ap (λ ys. ys ++ header n count) empty ∙ ap (λ m. header m count) after ∙ ap (header (8 + 4 * length lists + length (bodies lists))) counted))
 
 pub same_bytes : {E : Type 0} (r : Result (List ℕ) E) (x y : List ℕ) → IfOk r (λ bytes. bytes ≡ x) → x ≡ y → IfOk r (λ bytes. bytes ≡ y)
 same_bytes (Ok bytes) x y is same = is ∙ same

@@ -1,7 +1,10 @@
 //! What location lists say: in which ranges of addresses a variable is found where.
 
+ghost use Rattle.std.specs.Prelude.{◌≡◌, ◌↔◌, IsTrue, IfOk};
+
 use lists::List;
 use rv64_instr::place::Place;
+use std::alloc::AllocError;
 
 /// A part of a variable, and the place that has it. The low-order bytes of a register or a constant are taken.
 #[derive(Clone, Copy, Debug, PartialEq, Eq)]
@@ -24,6 +27,30 @@ pub enum Location {
     Whole(Place),
     /// Some parts of it, at least one. The other bytes are nowhere.
     Parts(Parts),
+}
+
+impl Location {
+    /// Whether both are one location. It takes no memory.
+    pub fn equals(&self, other: &Location) -> bool
+        ensures { IsTrue result ↔ (self.now ≡ other.now) }
+    {
+        match (self, other) {
+            (Location::Whole(place), Location::Whole(same)) => place == same,
+            (Location::Parts(parts), Location::Parts(same)) => parts.as_slice() == same.as_slice(),
+            (Location::Whole(_), Location::Parts(_)) | (Location::Parts(_), Location::Whole(_)) =>
+                false,
+        }
+    }
+
+    /// The same location once more.
+    pub fn copy(&self) -> Result<Location, AllocError>
+        ensures { IfOk result (λ copied. copied ≡ self.now) }
+    {
+        match self {
+            Location::Whole(place) => Ok(Location::Whole(*place)),
+            Location::Parts(parts) => Ok(Location::Parts(parts.copy()?)),
+        }
+    }
 }
 
 /// From one address to another, in bytes from the base address, a variable is at a location.

@@ -25,9 +25,9 @@ returns-clause-bytes c =
     let after : (c.unwrap-size.result - 4) + 4 ≡ length (spelling c.args.lists.now) = omega (arith, length-spelling c.args.lists.now) in
     c.from.ensures
     ∙ assembled c.args.lists.now c.in_ok-section.section.items c.push_header.new.out.items c.push_offsets.new.out.items c.push_lists.new.out.items
-      (c.unwrap-size.result - 4) c.len.result c.in_ok-section.ensures.items after c.len.ensures c.in_ok-push_header.ensures
-      (c.in_ok-push_offsets.ensures ∙ ap (λ ls. c.push_header.new.out.items ++ offsets_from (4 * length ls) ls) c.as_slice.ensures)
-      (c.in_ok-push_lists.ensures.bytes ∙ ap (λ ls. c.push_offsets.new.out.items ++ bodies ls) c.as_slice-2.ensures)
+    (c.unwrap-size.result - 4) c.len.result c.in_ok-section.ensures.items after c.len.ensures c.in_ok-push_header.ensures
+    (c.in_ok-push_offsets.ensures ∙ ap (λ ls. c.push_header.new.out.items ++ offsets_from (4 * length ls) ls) c.as_slice.ensures)
+    (c.in_ok-push_lists.ensures.bytes ∙ ap (λ ls. c.push_offsets.new.out.items ++ bodies ls) c.as_slice-2.ensures)
 
 pub returns-clause-section : goal.returns-clause-section
 returns-clause-section c =
