@@ -1,5 +1,5 @@
-pub mod LebLemmas
-pub mod LebLaws
+pub mod PiecesLemmas
 pub mod SpellingLemmas
+pub mod OneLocation
 pub mod OneReading
 pub mod Places

@@ -6,13 +6,11 @@ use Rattle.std.proofs.Common.{◌≡◌, ℕ, ◌+◌, ◌*◌, ◌^◌, ◌<◌
 use Rattle.std.proofs.lemmas.Int.{ints}
 use Rattle.std.proofs.lemmas.Nat.{from_le_bytes-to_le_bytes_4}
 use Rattle.std.proofs.lemmas.List.Elements.{recursion_from_All}
-use Rattle.rv64_instr.specs.declared.place.Place.{Place}
-use Rattle.rv64_instr.specs.declared.place.Place.TheVariants.{Register, Slot, Const}
 use Rattle.dwarf_loclists.specs.declared.range.Range.{Range}
-use Rattle.dwarf_loclists.specs.Leb.{uleb_of, sleb_of, unsigned_value, signed_value}
-use Rattle.dwarf_loclists.specs.Ranges.{IsListed, ArePlaces}
+use Rattle.dwarf_base.specs.Leb.{uleb_of}
+use Rattle.dwarf_loclists.specs.Ranges.{IsLocated, ArePlaces}
 use Rattle.dwarf_loclists.specs.Spelling.{expression, entry, list_spelling, bodies, offsets_from, header, spelling}
-use Rattle.dwarf_loclists.proofs.LebLaws.{no_prefix, uleb_law, sleb_law}
+use Rattle.dwarf_loclists.proofs.OneLocation.{uleb_one, heads_one, tails_one, expression_one}
 use Rattle.dwarf_loclists.proofs.SpellingLemmas.{length-offsets_from}
 
 -- the two parts of a list, cut at one length
@@ -25,59 +23,16 @@ cut (m ∷ a) (n ∷ b) x y same e =
     let found = cut a b x y (omega arith) rest in
     (let heads : m ≡ n = cc in let tails = found.0 in cc, found.1)
 
--- an unsigned number can be told from what follows it
-uleb_one : (m n : ℕ) (x y : List ℕ) → uleb_of m ++ x ≡ uleb_of n ++ y → (m ≡ n) × (x ≡ y)
-uleb_one m n x y e =
-    let found = no_prefix (uleb_of m) (uleb_of n) x y (uleb_law m).0 (uleb_law n).0 e in
-    (sym (uleb_law m).1 ∙ ap unsigned_value found.0 ∙ (uleb_law n).1, found.1)
-
--- so can a signed one
-sleb_one : (v w : ℤ) (x y : List ℕ) → sleb_of v ++ x ≡ sleb_of w ++ y → (v ≡ w) × (x ≡ y)
-sleb_one v w x y e =
-    let found = no_prefix (sleb_of v) (sleb_of w) x y (sleb_law v).0 (sleb_law w).0 e in
-    (sym (sleb_law v).1 ∙ ap signed_value found.0 ∙ (sleb_law w).1, found.1)
-
-heads_one : (m n : ℕ) (a b : List ℕ) → m ∷ a ≡ n ∷ b → m ≡ n
-heads_one m n a b e = cc
-
-tails_one : (m n : ℕ) (a b : List ℕ) → m ∷ a ≡ n ∷ b → a ≡ b
-tails_one m n a b e = cc
-
--- a place can be told from its expression
-expression_one : (p q : Place) → IsListed p → IsListed q → expression p ≡ expression q → p ≡ q
-expression_one (Register r) (Register s) ok_p ok_q e =
-    let heads : 80 + r ≡ 80 + s = cc in
-    let same : r ≡ s = omega arith in
-    ap Register same
-expression_one (Register r) (Slot o) ok_p ok_q e =
-    let heads : 80 + r ≡ 114 = cc in absurd (omega (arith, ok_p.1))
-expression_one (Register r) (Const c) ok_p ok_q e =
-    let heads : 80 + r ≡ 17 = cc in absurd (omega arith)
-expression_one (Slot o) (Register r) ok_p ok_q e =
-    let heads : 114 ≡ 80 + r = cc in absurd (omega (arith, ok_q.1))
-expression_one (Slot o) (Slot n) ok_p ok_q e =
-    let tails : sleb_of (pos o) ≡ sleb_of (pos n) = cc in
-    let found = sleb_one (pos o) (pos n) [] [] (ap (λ ys. ys ++ []) tails) in
-    let same : o ≡ n = omega (arith, ints, found.0) in
-    ap Slot same
-expression_one (Slot o) (Const c) ok_p ok_q e = absurd (omega (arith, heads_one 114 17 _ _ e))
-expression_one (Const c) (Register r) ok_p ok_q e =
-    let heads : 17 ≡ 80 + r = cc in absurd (omega arith)
-expression_one (Const c) (Slot o) ok_p ok_q e = absurd (omega (arith, heads_one 17 114 _ _ e))
-expression_one (Const c) (Const d) ok_p ok_q e =
-    let tails : sleb_of c ++ 159 ∷ [] ≡ sleb_of d ++ 159 ∷ [] = cc in
-    ap Const (sleb_one c d (159 ∷ []) (159 ∷ []) tails).0
-
--- a range whose place is listed
+-- a range whose location is listed
 abbrev pub Entered : Range → Type 0
-Entered r = IsListed r.place
+Entered r = IsLocated r.location
 
 entry-append : (r : Range) (x : List ℕ)
-    → entry r ++ x ≡ 4 ∷ (uleb_of r.lo ++ (uleb_of r.hi ++ (uleb_of (length (expression r.place)) ++ (expression r.place ++ x))))
+    → entry r ++ x ≡ 4 ∷ (uleb_of r.lo ++ (uleb_of r.hi ++ (uleb_of (length (expression r.location)) ++ (expression r.location ++ x))))
 entry-append r x = simp append_assoc
 
-same_range : (r s : Range) → r.lo ≡ s.lo → r.hi ≡ s.hi → r.place ≡ s.place → r ≡ s
-same_range r s lo hi place = λ i. record { lo = lo i; hi = hi i; place = place i }
+same_range : (r s : Range) → r.lo ≡ s.lo → r.hi ≡ s.hi → r.location ≡ s.location → r ≡ s
+same_range r s lo hi location = λ i. record { lo = lo i; hi = hi i; location = location i }
 
 -- an entry can be told from what follows it
 entry_one : (r s : Range) (x y : List ℕ) → Entered r → Entered s → entry r ++ x ≡ entry s ++ y → (r ≡ s) × (x ≡ y)
@@ -85,10 +40,10 @@ entry_one r s x y ok_r ok_s e =
     let flat = tails_one 4 4 _ _ (sym (entry-append r x) ∙ e ∙ entry-append s y) in
     let lo = uleb_one r.lo s.lo _ _ flat in
     let hi = uleb_one r.hi s.hi _ _ lo.1 in
-    let len = uleb_one (length (expression r.place)) (length (expression s.place)) _ _ hi.1 in
-    let place = cut (expression r.place) (expression s.place) x y len.0 len.1 in
-    let same = expression_one r.place s.place ok_r ok_s place.0 in
-    (same_range r s lo.0 hi.0 same, place.1)
+    let len = uleb_one (length (expression r.location)) (length (expression s.location)) _ _ hi.1 in
+    let location = cut (expression r.location) (expression s.location) x y len.0 len.1 in
+    let same = expression_one r.location s.location ok_r ok_s location.0 in
+    (same_range r s lo.0 hi.0 same, location.1)
 
 spliced : (first rest end x : List ℕ) → ((first ++ rest) ++ end) ++ x ≡ first ++ ((rest ++ end) ++ x)
 spliced first rest end x = simp append_assoc

@@ -1,19 +1,19 @@
--- The place at an address is that of the one range that has it.
+-- The location at an address is that of the one range that has it.
 use Rattle.std.specs.Prelude.{Some, Contains}
 use Rattle.std.proofs.Common.{◌≡◌, ℕ, zero, suc, ◌<◌, ◌≤◌, List, [], ◌∷◌, length, arith, ap, sym, ◌∙◌, refl, inl, inr}
 use Rattle.std.proofs.lemmas.Bool.{cases_lt}
 use Rattle.std.proofs.lemmas.Bool.Decides.{nat_tests}
-use Rattle.rv64_instr.specs.declared.place.Place.{Place}
+use Rattle.dwarf_loclists.specs.declared.range.Location.{Location}
 use Rattle.dwarf_loclists.specs.declared.range.Range.{Range}
-use Rattle.dwarf_loclists.specs.Ranges.{Ascend, place_in}
+use Rattle.dwarf_loclists.specs.Ranges.{Ascend, location_in}
 
-hit : (r : Range) (rest : List Range) (address : ℕ) → r.lo ≤ address → address < r.hi → place_in (r ∷ rest) address ≡ Some r.place
+hit : (r : Range) (rest : List Range) (address : ℕ) → r.lo ≤ address → address < r.hi → location_in (r ∷ rest) address ≡ Some r.location
 hit r rest address from below = grind (arith, nat_tests)
 
-before : (r : Range) (rest : List Range) (address : ℕ) → address < r.lo → place_in (r ∷ rest) address ≡ place_in rest address
+before : (r : Range) (rest : List Range) (address : ℕ) → address < r.lo → location_in (r ∷ rest) address ≡ location_in rest address
 before r rest address below = grind (arith, nat_tests)
 
-after : (r : Range) (rest : List Range) (address : ℕ) → r.hi ≤ address → place_in (r ∷ rest) address ≡ place_in rest address
+after : (r : Range) (rest : List Range) (address : ℕ) → r.hi ≤ address → location_in (r ∷ rest) address ≡ location_in rest address
 after r rest address above = grind (arith, nat_tests)
 
 -- a later range begins where an earlier one ends, or after
@@ -33,18 +33,18 @@ rest_ascends s [] ascend = tt
 rest_ascends s (t ∷ rest) ascend = ascend.3
 
 pub found : (ranges : List Range) (r : Range) (address : ℕ) → Ascend ranges → Contains ranges r → r.lo ≤ address → address < r.hi
-    → place_in ranges address ≡ Some r.place
+    → location_in ranges address ≡ Some r.location
 found [] r address ascend (k, inside, at) from below = absurd (omega arith)
 found (s ∷ rest) r address ascend (zero, inside, at) from below =
     hit s rest address (omega (arith, ap (λ (x : Range). x.lo) at)) (omega (arith, ap (λ (x : Range). x.hi) at))
-    ∙ ap (λ (x : Range). Some x.place) at
+    ∙ ap (λ (x : Range). Some x.location) at
 found (s ∷ rest) r address ascend (suc k, inside, at) from below =
     let more : k < length rest = omega arith in
     after s rest address (omega (arith, later s rest r ascend (k, more, at)))
     ∙ found rest r address (rest_ascends s rest ascend) (k, more, at) from below
 
-pub only : (ranges : List Range) (address : ℕ) (p : Place) → place_in ranges address ≡ Some p
-    → (r : Range) × Contains ranges r × (r.lo ≤ address) × (address < r.hi) × (p ≡ r.place)
+pub only : (ranges : List Range) (address : ℕ) (p : Location) → location_in ranges address ≡ Some p
+    → (r : Range) × Contains ranges r × (r.lo ≤ address) × (address < r.hi) × (p ≡ r.location)
 only [] address p e = absurd cc
 only (s ∷ rest) address p e =
     elim (cases_lt address s.lo) [
@@ -52,12 +52,12 @@ only (s ∷ rest) address p e =
       | inr from ↦
           elim (cases_lt address s.hi) [
             | inl inside ↦
-                let same : Some p ≡ Some s.place = sym e ∙ hit s rest address from inside in
+                let same : Some p ≡ Some s.location = sym e ∙ hit s rest address from inside in
                 (s, (0, omega arith, refl), from, inside, cc)
             | inr above ↦ further (only rest address p (sym (after s rest address above) ∙ e))
           ]
     ]
   where
-    further : ((r : Range) × Contains rest r × (r.lo ≤ address) × (address < r.hi) × (p ≡ r.place))
-        → (r : Range) × Contains (s ∷ rest) r × (r.lo ≤ address) × (address < r.hi) × (p ≡ r.place)
+    further : ((r : Range) × Contains rest r × (r.lo ≤ address) × (address < r.hi) × (p ≡ r.location))
+        → (r : Range) × Contains (s ∷ rest) r × (r.lo ≤ address) × (address < r.hi) × (p ≡ r.location)
     further (r, (k, inside, at), from, below, is) = (r, (suc k, omega arith, at), from, below, is)

@@ -1,13 +1,13 @@
 -- How long a section is, and how long a front of it.
 use Rattle.std.proofs.Common.{◌≡◌, ℕ, ◌+◌, ◌*◌, ◌^◌, ◌≤◌, ◌<◌, List, [], ◌∷◌, ◌++◌, length, take, drop, get_or, arith, ap, sym, ◌∙◌, refl, length-append, append-nil}
-use Rattle.std.specs.Prelude.{Result, Ok, Err, IfOk, All}
+use Rattle.std.specs.Prelude.{Result, Ok, Err, IfOk, All, sum_by}
 use Rattle.std.specs.List.{flat_map}
 use Rattle.std.proofs.lemmas.List.{take-append-drop, take_all, drop_all}
 use Rattle.std.proofs.lemmas.List.Folds.{length-flat_map-take}
 use Rattle.std.proofs.lemmas.List.Concat.{flat_map-append}
 use Rattle.std.proofs.lemmas.List.Elements.{All-get_or}
 use Rattle.dwarf_loclists.specs.declared.range.Range.{Range}
-use Rattle.dwarf_loclists.specs.Ranges.{Ascend, ArePlaces}
+use Rattle.dwarf_loclists.specs.Ranges.{Ascend, ArePlaces, Are64Bit, places_of}
 use Rattle.dwarf_loclists.specs.Reading.{IsSection}
 use Rattle.dwarf_loclists.specs.Spelling.{bodies, list_spelling, offsets_from, header, spelling}
 
@@ -47,38 +47,40 @@ counted_all lists items i size same end within counted =
     let within' : i ≤ length lists = rw same at within in
     omega (arith, length-spelling lists, ap (λ ys. length (bodies ys)) (take_all i lists end'))
 
--- the header, the offsets and the lists, as they were written one after the other
-pub written : (lists items : List (List Range)) (i : ℕ) (offsets lists_bytes out : List ℕ) → items ≡ lists → length items ≤ i
-    → offsets ++ offsets_from (4 * length lists + length lists_bytes) (drop i lists) ≡ offsets_from (4 * length lists) lists
-    → lists_bytes ≡ bodies (take i lists)
-    → out ≡ (header (8 + 4 * length lists + length lists_bytes) (length lists) ++ offsets) ++ lists_bytes
-    → out ≡ spelling lists
+-- one of the items after a front gives no more than what is left
+pub next_le : {X : Type 0} (f : X → List ℕ) (xs : List X) (i : ℕ) (x : X) → i < length xs → x ≡ get_or xs i x
+    → length (flat_map f (take i xs)) + length (f x) ≤ length (flat_map f xs)
+next_le f xs i x inside at =
+    omega (arith, length-flat_map-take f xs i x inside, front_le f xs (i + 1), ap (λ y. length (f y)) at)
+
+-- the header, the offsets and the lists, as they are written one after the other
+pub assembled : (lists : List (List Range)) (none first second third : List ℕ) (n count : ℕ) → none ≡ [] → n + 4 ≡ length (spelling lists) → count ≡ length lists
+    → first ≡ none ++ header n count → second ≡ first ++ offsets_from (4 * length lists) lists → third ≡ second ++ bodies lists → third ≡ spelling lists
 unfolding spelling
-written lists items i offsets lists_bytes out same end offsets_are bodies_are out_is =
-    let end' : length lists ≤ i = rw same at end in
-    let all_bodies : lists_bytes ≡ bodies lists = bodies_are ∙ ap bodies (take_all i lists end') in
-    let no_more : offsets_from (4 * length lists + length lists_bytes) (drop i lists) ≡ [] =
-    ap (offsets_from (4 * length lists + length lists_bytes)) (drop_all i lists end') in
-    let all_offsets : offsets ≡ offsets_from (4 * length lists) lists =
-    sym (append-nil offsets) ∙ ap (λ ys. offsets ++ ys) (sym no_more) ∙ offsets_are in
-    out_is
-    ∙ ap (λ ys. (header (8 + 4 * length lists + length ys) (length lists) ++ offsets) ++ ys) all_bodies
-    ∙ ap (λ ys. (header (8 + 4 * length lists + length (bodies lists)) (length lists) ++ ys) ++ bodies lists) all_offsets
+assembled lists none first second third n count empty size counted headed offset listed =
+    let after : n ≡ 8 + 4 * length lists + length (bodies lists) = omega (arith, length-spelling lists) in
+    listed
+    ∙ ap (λ ys. ys ++ bodies lists) (offset ∙ ap (λ ys. ys ++ offsets_from (4 * length lists) lists)
+    (headed ∙ ap (λ ys. ys ++ header n count) empty ∙ ap (λ m. header m count) after ∙ ap (header (8 + 4 * length lists + length (bodies lists))) counted))
 
 pub same_bytes : {E : Type 0} (r : Result (List ℕ) E) (x y : List ℕ) → IfOk r (λ bytes. bytes ≡ x) → x ≡ y → IfOk r (λ bytes. bytes ≡ y)
 same_bytes (Ok bytes) x y is same = is ∙ same
 same_bytes (Err e) x y is same = tt
 
 pub is_section : {E : Type 0} (r : Result (List ℕ) E) (lists : List (List Range)) → IfOk r (λ bytes. bytes ≡ spelling lists) → length (spelling lists) < 2 ^ 31
-    → All Ascend lists → All ArePlaces lists → IfOk r (λ bytes. IsSection bytes lists)
-is_section (Ok bytes) lists is size ascend places = record { spelled = is; size = rw is size; ascend = ascend; places = places }
-is_section (Err e) lists is size ascend places = tt
+    → All Ascend lists → All ArePlaces lists → All Are64Bit lists → IfOk r (λ bytes. IsSection bytes lists)
+is_section (Ok bytes) lists is size ascend places wide = record { spelled = is; size = rw is (omega arith); ascend = ascend; places = places; wide = wide }
+is_section (Err e) lists is size ascend places wide = tt
 
--- one of several lists of at most n ranges
+-- how many places a list names
+abbrev pub places_in : List Range → ℕ
+places_in ranges = sum_by (λ (r : Range). places_of r.location) ranges
+
+-- one of several lists of at most n places
 pub short_one : (lists items : List (List Range)) (i : ℕ) (one ranges : List Range) (n : ℕ) → items ≡ lists → i < length items → one ≡ get_or items i one → ranges ≡ one
-    → All (λ (rs : List Range). length rs ≤ n) lists → length ranges ≤ n
+    → All (λ (rs : List Range). places_in rs ≤ n) lists → places_in ranges ≤ n
 short_one lists items i one ranges n same inside at is all =
     let within : i < length lists = rw same at inside in
-    let listed : length (get_or lists i one) ≤ n = All-get_or (λ (rs : List Range). length rs ≤ n) lists i one within all in
+    let listed : places_in (get_or lists i one) ≤ n = All-get_or (λ (rs : List Range). places_in rs ≤ n) lists i one within all in
     let at' : one ≡ get_or lists i one = rw same at at in
-    omega (arith, ap length is, ap length at')
+    omega (arith, ap places_in is, ap places_in at')

@@ -1,4 +1,4 @@
-pub mod Leb
+pub mod Standard
 pub mod Ranges
 pub mod Spelling
 pub mod Reading

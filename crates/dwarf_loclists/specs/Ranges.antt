@@ -1,8 +1,12 @@
 -- What location lists say, apart from their bytes.
-use Rattle.std.specs.Prelude.{◌≡◌, ◌≢◌, ℕ, ◌%◌, ◌<◌, ◌≤◌, List, [], ◌∷◌, Option, Some, None, nat_le, nat_lt, ◌&&◌, if◌then◌else◌}
-use Rattle.std.specs.Prelude.{All}
+use Rattle.std.specs.Prelude.{◌≡◌, ◌≢◌, ℕ, ◌+◌, ◌%◌, ◌^◌, ◌<◌, ◌≤◌, List, [], ◌∷◌, Option, Some, None, nat_le, nat_lt, ◌&&◌, if◌then◌else◌}
+use Rattle.std.specs.Prelude.{All, FitsSigned, slice_get, length}
+use Rattle.std.specs.Int.{w64}
 use Rattle.rv64_instr.specs.declared.place.Place.{Place}
 use Rattle.rv64_instr.specs.declared.place.Place.TheVariants.{Register, Slot, Const}
+use Rattle.dwarf_loclists.specs.declared.range.Part.{Part}
+use Rattle.dwarf_loclists.specs.declared.range.Location.{Location}
+use Rattle.dwarf_loclists.specs.declared.range.Location.TheVariants.{Whole, Parts}
 use Rattle.dwarf_loclists.specs.declared.range.Range.{Range}
 
 -- where a value can be listed: x1 to x31 but the stack pointer, a doubleword of the frame, or a constant
@@ -11,16 +15,66 @@ IsListed (Register r) = (1 ≤ r) × (r ≤ 31) × (r ≢ 2)
 IsListed (Slot offset) = (offset % 8 ≡ 0) × (offset ≤ 2024)
 IsListed (Const c) = Unit {0}
 
-abbrev pub ArePlaces : List Range → Type 0
-ArePlaces ranges = All (λ r. IsListed r.place) ranges
+-- a piece of a variable, whose bytes up to this one are told: it begins there or later, and has 1 to 8 bytes at a place
+abbrev pub IsPiece : (from : ℕ) → Part → Type 0
+IsPiece from p = (from ≤ p.offset) × (1 ≤ p.length) × (p.length ≤ 8) × (p.offset + p.length < 2 ^ 32) × IsListed p.place
 
--- a range is not empty, and ends where the next begins or before; two that touch are not at one place
+-- pieces, each from where the one before ends
+abbrev pub ArePieces : (from : ℕ) → List Part → Type 0
+ArePieces from [] = Unit {0}
+ArePieces from (p ∷ rest) = IsPiece from p × ArePieces (p.offset + p.length) rest
+
+-- where a variable can be listed: at a place, or in one piece or more
+abbrev pub IsLocated : Location → Type 0
+IsLocated (Whole p) = IsListed p
+IsLocated (Parts []) = ⊥
+IsLocated (Parts (p ∷ rest)) = ArePieces 0 (p ∷ rest)
+
+abbrev pub ArePlaces : List Range → Type 0
+ArePlaces ranges = All (λ r. IsLocated r.location) ranges
+
+-- a constant has 64 bits
+abbrev pub HasWord : Place → Type 0
+HasWord (Register r) = Unit {0}
+HasWord (Slot offset) = Unit {0}
+HasWord (Const c) = FitsSigned w64 c
+
+abbrev pub HasWords : Location → Type 0
+HasWords (Whole p) = HasWord p
+HasWords (Parts parts) = All (λ p. HasWord p.place) parts
+
+-- addresses and constants have 64 bits
+abbrev pub Are64Bit : List Range → Type 0
+Are64Bit ranges = All (λ r. (r.lo < 2 ^ 64) × (r.hi < 2 ^ 64) × HasWords r.location) ranges
+
+-- how many places a location names
+abbrev pub places_of : Location → ℕ
+places_of (Whole p) = 1
+places_of (Parts parts) = length parts
+
+-- a range is not empty, and ends where the next begins or before; two that touch are not at one location
 abbrev pub Ascend : List Range → Type 0
 Ascend [] = Unit {0}
 Ascend (r ∷ []) = r.lo < r.hi
-Ascend (r ∷ s ∷ rest) = (r.lo < r.hi) × (r.hi ≤ s.lo) × (r.hi ≡ s.lo → r.place ≢ s.place) × Ascend (s ∷ rest)
+Ascend (r ∷ s ∷ rest) = (r.lo < r.hi) × (r.hi ≤ s.lo) × (r.hi ≡ s.lo → r.location ≢ s.location) × Ascend (s ∷ rest)
 
--- the place at an address: that of the range that has it, its first address included and its end not. Of ranges that ascend at most one has it
+-- the location at an address: that of the range that has it, its first address included and its end not. Of ranges that ascend at most one has it
+abbrev pub location_in : List Range → ℕ → Option Location
+location_in [] address = None
+location_in (r ∷ rest) address = if nat_le r.lo address && nat_lt address r.hi then Some r.location else location_in rest address
+
+-- the place of a whole variable, and none of one in pieces
+abbrev pub whole_place : Option Location → Option Place
+whole_place None = None
+whole_place (Some (Whole p)) = Some p
+whole_place (Some (Parts parts)) = None
+
+-- the n-th piece, from 0, and none of a whole variable
+abbrev pub nth_piece : Option Location → ℕ → Option Part
+nth_piece None n = None
+nth_piece (Some (Whole p)) n = None
+nth_piece (Some (Parts parts)) n = slice_get parts n
+
+-- the place of the whole variable at an address
 abbrev pub place_in : List Range → ℕ → Option Place
-place_in [] address = None
-place_in (r ∷ rest) address = if nat_le r.lo address && nat_lt address r.hi then Some r.place else place_in rest address
+place_in ranges address = whole_place (location_in ranges address)

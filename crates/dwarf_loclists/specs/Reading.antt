@@ -1,21 +1,37 @@
 -- What a section says: the grammar of a section is that some lists have it as their spelling.
-use Rattle.std.specs.Prelude.{◌≡◌, ℕ, ◌^◌, ◌<◌, List, length, All, Option, Some, slice_get}
+use Rattle.std.specs.Prelude.{◌≡◌, ℕ, ◌+◌, ◌<◌, List, length, All, Option, Some, slice_get}
 use Rattle.rv64_instr.specs.declared.place.Place.{Place}
+use Rattle.dwarf_base.specs.Standard.{LENGTH_LIMIT}
+use Rattle.dwarf_loclists.specs.declared.range.Part.{Part}
+use Rattle.dwarf_loclists.specs.declared.range.Location.{Location}
 use Rattle.dwarf_loclists.specs.declared.range.Range.{Range}
-use Rattle.dwarf_loclists.specs.Ranges.{ArePlaces, Ascend, place_in}
+use Rattle.dwarf_loclists.specs.Ranges.{ArePlaces, Are64Bit, Ascend, location_in, whole_place, nth_piece}
 use Rattle.dwarf_loclists.specs.Spelling.{spelling}
 
--- the bytes are the section of these lists
+-- the bytes are the section of these lists. Its length is one of the 32-bit format
 pub record IsSection (bytes : List ℕ) (lists : List (List Range)) : Type 0 where
   pub spelled : bytes ≡ spelling lists
-  pub size : length bytes < 2 ^ 31
+  pub size : length bytes < 4 + LENGTH_LIMIT
   pub ascend : All Ascend lists
   pub places : All ArePlaces lists
+  pub wide : All Are64Bit lists
 
--- the place that list k of a section gives at an address: none where no entry's range has it
-pub record PlaceAt (bytes : List ℕ) (k address : ℕ) (place : Option Place) : Type 0 where
+-- the location that list k of a section gives at an address: none where no entry's range has it
+pub record LocationAt (bytes : List ℕ) (k address : ℕ) (location : Option Location) : Type 0 where
   pub lists : List (List Range)
   pub ranges : List Range
   pub section : IsSection bytes lists
   pub list : slice_get lists k ≡ Some ranges
-  pub found : place ≡ place_in ranges address
+  pub found : location ≡ location_in ranges address
+
+-- the place that list k gives for the whole variable at an address
+pub record PlaceAt (bytes : List ℕ) (k address : ℕ) (place : Option Place) : Type 0 where
+  pub location : Option Location
+  pub located : LocationAt bytes k address location
+  pub whole : place ≡ whole_place location
+
+-- the n-th piece that list k gives at an address, from 0
+pub record PieceAt (bytes : List ℕ) (k address n : ℕ) (piece : Option Part) : Type 0 where
+  pub location : Option Location
+  pub located : LocationAt bytes k address location
+  pub nth : piece ≡ nth_piece location n

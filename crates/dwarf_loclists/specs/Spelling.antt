@@ -1,25 +1,47 @@
 -- The one spelling of location lists: the section .debug_loclists (DWARF 5 section 7.29).
-use Rattle.std.specs.Prelude.{ℕ, pos, ◌+◌, ◌*◌, List, [], ◌∷◌, ◌++◌, length}
+use Rattle.std.specs.Prelude.{ℕ, pos, ◌+◌, ◌-◌, ◌*◌, List, [], ◌∷◌, ◌++◌, length, nat_lt, if◌then◌else◌}
 use Rattle.std.specs.List.{flat_map}
 use Rattle.std.specs.Int.{w16, w32, to_le_bytes}
 use Rattle.rv64_instr.specs.declared.place.Place.{Place}
 use Rattle.rv64_instr.specs.declared.place.Place.TheVariants.{Register, Slot, Const}
+use Rattle.dwarf_base.specs.Leb.{uleb_of, sleb_of}
+use Rattle.dwarf_base.specs.Standard.{VERSION, ADDRESS_SIZE, SEGMENT_SELECTOR_SIZE}
+use Rattle.dwarf_loclists.specs.declared.range.Part.{Part}
+use Rattle.dwarf_loclists.specs.declared.range.Location.{Location}
+use Rattle.dwarf_loclists.specs.declared.range.Location.TheVariants.{Whole, Parts}
 use Rattle.dwarf_loclists.specs.declared.range.Range.{Range}
-use Rattle.dwarf_loclists.specs.declared.constants.TheConstants.{VERSION, ADDRESS_SIZE, SEGMENT_SELECTOR_SIZE, DW_LLE_end_of_list, DW_LLE_offset_pair, DW_OP_reg0, DW_OP_breg2, DW_OP_consts, DW_OP_stack_value}
-use Rattle.dwarf_loclists.specs.Leb.{uleb_of, sleb_of}
+use Rattle.dwarf_loclists.specs.Standard.{DW_LLE_end_of_list, DW_LLE_offset_pair, DW_OP_reg0, DW_OP_breg2, DW_OP_consts, DW_OP_piece, DW_OP_stack_value}
 
--- the expression of a place (section 2.6.1): a register, memory at an offset from x2, or a value. xN has the number N (RISC-V ELF
+-- a simple location description (section 2.6.1.1): a register, memory at an offset from x2, or a value. xN has the number N (RISC-V ELF
 -- psABI, "DWARF Register Numbers")
-abbrev pub expression : Place → List ℕ
-expression (Register r) = (DW_OP_reg0 + r) ∷ []
-expression (Slot offset) = DW_OP_breg2 ∷ sleb_of (pos offset)
-expression (Const c) = DW_OP_consts ∷ sleb_of c ++ DW_OP_stack_value ∷ []
+abbrev pub simple_location : Place → List ℕ
+simple_location (Register r) = (DW_OP_reg0 + r) ∷ []
+simple_location (Slot offset) = DW_OP_breg2 ∷ sleb_of (pos offset)
+simple_location (Const c) = DW_OP_consts ∷ sleb_of c ++ DW_OP_stack_value ∷ []
+
+-- the bytes that are nowhere before a piece: an empty piece, if there are any (section 2.6.1.2)
+abbrev pub gap : (from offset : ℕ) → List ℕ
+gap from offset = if nat_lt from offset then DW_OP_piece ∷ uleb_of (offset - from) else []
+
+-- a piece, and the gap before it
+abbrev pub piece : (from : ℕ) → Part → List ℕ
+piece from p = gap from p.offset ++ (simple_location p.place ++ DW_OP_piece ∷ uleb_of p.length)
+
+-- a composite location description: its pieces, in the order of the variable's bytes (section 2.6.1.2)
+abbrev pub composite_location : (from : ℕ) → List Part → List ℕ
+composite_location from [] = []
+composite_location from (p ∷ rest) = piece from p ++ composite_location (p.offset + p.length) rest
+
+-- the expression of a location
+abbrev pub expression : Location → List ℕ
+expression (Whole p) = simple_location p
+expression (Parts parts) = composite_location 0 parts
 
 -- an entry (section 2.6.2): the two ends of the range, the second exclusive, and a counted expression
 abbrev pub entry : Range → List ℕ
 entry r =
-    let place = expression r.place in
-    DW_LLE_offset_pair ∷ uleb_of r.lo ++ uleb_of r.hi ++ uleb_of (length place) ++ place
+    let location = expression r.location in
+    DW_LLE_offset_pair ∷ uleb_of r.lo ++ uleb_of r.hi ++ uleb_of (length location) ++ location
 
 -- a list: its entries, and the end
 abbrev pub list_spelling : List Range → List ℕ

@@ -1,11 +1,7 @@
-//! The constants of DWARF 5 that a section of location lists has, those with a name in the standard under that name.
+//! The constants of DWARF 5 that a section of location lists has beside those of all sections.
 
-/// The version of the section (section 7.29).
-pub const VERSION: u16 = 5;
-/// The size of an address in bytes (section 7.29).
-pub const ADDRESS_SIZE: u8 = 8;
-/// The size of a segment selector: there are none (section 7.29).
-pub const SEGMENT_SELECTOR_SIZE: u8 = 0;
+ghost use Rattle.std.specs.Prelude.{◌≡◌};
+ghost use Rattle.dwarf_loclists.specs.Standard;
 
 /// The entry that ends a list (sections 2.6.2 and 7.7.3).
 pub const DW_LLE_end_of_list: u8 = 0x00;
@@ -19,5 +15,19 @@ pub const DW_OP_consts: u8 = 0x11;
 pub const DW_OP_reg0: u8 = 0x50;
 /// The address is that in register 2, RISC-V's stack pointer, plus a signed LEB128 number (sections 2.5.1.2 and 7.7.1).
 pub const DW_OP_breg2: u8 = 0x72;
+/// So many bytes of the variable are where the operations before it say, or nowhere if there are none (sections 2.6.1.2
+/// and 7.7.1).
+pub const DW_OP_piece: u8 = 0x93;
 /// The value is what is on the stack, and has no address (sections 2.6.1.1.4 and 7.7.1).
 pub const DW_OP_stack_value: u8 = 0x9f;
+
+/// The constants are the standard's numbers.
+pub fn standard_numbers()
+    ensures end_of_list { DW_LLE_end_of_list ≡ Standard.DW_LLE_end_of_list }
+    ensures offset_pair { DW_LLE_offset_pair ≡ Standard.DW_LLE_offset_pair }
+    ensures consts { DW_OP_consts ≡ Standard.DW_OP_consts }
+    ensures reg0 { DW_OP_reg0 ≡ Standard.DW_OP_reg0 }
+    ensures breg2 { DW_OP_breg2 ≡ Standard.DW_OP_breg2 }
+    ensures piece { DW_OP_piece ≡ Standard.DW_OP_piece }
+    ensures stack_value { DW_OP_stack_value ≡ Standard.DW_OP_stack_value }
+{}

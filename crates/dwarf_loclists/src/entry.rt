@@ -1,73 +1,37 @@
-//! An entry of a location list, and the expression in it.
+//! An entry of a location list: how many bytes it has, and the bytes.
 
-ghost use Rattle.std.specs.Prelude.{◌≡◌, ◌+◌, ◌<◌, ◌≤◌, ◌++◌, length, OnOk};
-ghost use Rattle.dwarf_loclists.specs.Ranges.{IsListed};
-ghost use Rattle.dwarf_loclists.specs.Spelling.{expression, entry};
+ghost use Rattle.std.specs.Prelude.{◌≡◌, ◌+◌, ◌*◌, ◌^◌, ◌<◌, ◌≤◌, ◌++◌, length, OnOk};
+ghost use Rattle.dwarf_loclists.specs.Ranges.{IsLocated, HasWords, places_of};
+ghost use Rattle.dwarf_loclists.specs.Spelling.{entry};
 
 use crate::constants::*;
-use crate::leb::{Leb, sleb, uleb};
+use crate::location::{location_len, push_leb, push_location};
 use crate::range::Range;
-use rv64_instr::place::Place;
+use dwarf_base::leb::uleb;
 use std::alloc::AllocError;
-
-/// How many bytes the expression of a place has.
-fn expression_len(place: Place) -> usize
-    requires { IsListed place }
-    ensures exact { result ≡ length (expression place) }
-    ensures within { result ≤ 12 }
-{
-    match place {
-        Place::Register(_) => 1,
-        Place::Slot(offset) => 1 + sleb(offset as i64).len(),
-        Place::Const(c) => 2 + sleb(c).len(),
-    }
-}
-
-/// Appends the expression of a place.
-fn push_expression(out: &mut Vec<u8>, place: Place) -> Result<(), AllocError>
-    requires { IsListed place }
-    ensures { OnOk result (out.new.items ≡ out.old.items ++ expression place) }
-{
-    match place {
-        Place::Register(register) => out.push(DW_OP_reg0 + register.number() as u8)?,
-        Place::Slot(offset) => {
-            out.push(DW_OP_breg2)?;
-            push_leb(out, &sleb(offset as i64))?;
-        }
-        Place::Const(c) => {
-            out.push(DW_OP_consts)?;
-            push_leb(out, &sleb(c))?;
-            out.push(DW_OP_stack_value)?;
-        }
-    }
-    Ok(())
-}
 
 /// How many bytes an entry has.
 pub fn entry_len(range: &Range) -> usize
-    requires { IsListed range.now.place }
+    requires { IsLocated range.now.location }
     ensures exact { result ≡ length (entry range.now) }
-    ensures within { result ≤ 43 }
+    ensures within { result ≤ 65 * places_of range.now.location }
+    ensures small { result < 2 ^ 39 }
 {
-    let place = expression_len(range.place);
-    1 + uleb(range.lo).len() + uleb(range.hi).len() + uleb(place as u64).len() + place
+    let location = location_len(&range.location);
+    1 + uleb(range.lo).len() + uleb(range.hi).len() + uleb(location as u64).len() + location
 }
 
-/// Appends an entry: its range, whose end is exclusive, and its place.
+/// Appends an entry: its range, whose end is exclusive, and its location.
 pub fn push_entry(out: &mut Vec<u8>, range: &Range) -> Result<(), AllocError>
-    requires { IsListed range.now.place }
-    ensures { OnOk result (out.new.items ≡ out.old.items ++ entry range.now) }
+    requires { IsLocated range.now.location }
+    ensures bytes { OnOk result (out.new.items ≡ out.old.items ++ entry range.now) }
+    ensures low { OnOk result (range.now.lo < 2 ^ 64) }
+    ensures high { OnOk result (range.now.hi < 2 ^ 64) }
+    ensures wide { OnOk result (HasWords range.now.location) }
 {
     out.push(DW_LLE_offset_pair)?;
     push_leb(out, &uleb(range.lo))?;
     push_leb(out, &uleb(range.hi))?;
-    push_leb(out, &uleb(expression_len(range.place) as u64))?;
-    push_expression(out, range.place)
-}
-
-/// Appends a LEB128 number.
-fn push_leb(out: &mut Vec<u8>, number: &Leb) -> Result<(), AllocError>
-    ensures { OnOk result (out.new.items ≡ out.old.items ++ number.now) }
-{
-    out.extend_from_slice(number.as_slice())
+    push_leb(out, &uleb(location_len(&range.location) as u64))?;
+    push_location(out, &range.location)
 }

@@ -1,13 +1,14 @@
-ghost use Rattle.std.specs.Prelude.{IsTrue, All};
-ghost use Rattle.dwarf_loclists.specs.Ranges.{IsListed, Ascend, ArePlaces};
+//! Sections written by hand from the standard.
 
-use crate::leb::{sleb, uleb};
-use crate::range::{Range, RangeLists};
+ghost use Rattle.std.specs.Prelude.{IsTrue, All, ℕ};
+ghost use Rattle.dwarf_loclists.specs.Ranges.{IsListed, ArePieces, IsLocated, Ascend, ArePlaces};
+
+use crate::range::{Location, Part, Range, RangeLists};
 use crate::section::{lists_size, write_lists};
 use lists::List;
 use rv64_instr::place::Place;
 use rv64_instr::reg::physical;
-use std::alloc::Global;
+use std::alloc::{AllocError, Global};
 use std::test::Fail;
 
 /// Whether a place can be listed.
@@ -24,6 +25,33 @@ fn is_listed(place: Place) -> bool
     }
 }
 
+/// Whether parts can be pieces after so many bytes.
+fn are_pieces(from: u32, parts: &[Part]) -> bool
+    ensures { IsTrue result → ArePieces from parts.now }
+{
+    match parts {
+        [] => true,
+        [p, ..] => {
+            from <= p.offset
+                && 1 <= p.length
+                && p.length <= 8
+                && p.offset <= u32::MAX - 8
+                && is_listed(p.place)
+                && are_pieces(p.offset + p.length, &parts[1..])
+        }
+    }
+}
+
+/// Whether a location can be listed.
+fn is_located(location: &Location) -> bool
+    ensures { IsTrue result → IsLocated location.now }
+{
+    match location {
+        Location::Whole(place) => is_listed(*place),
+        Location::Parts(parts) => !parts.is_empty() && are_pieces(0, parts.as_slice()),
+    }
+}
+
 /// Whether ranges ascend.
 fn ascend(ranges: &[Range]) -> bool
     ensures { IsTrue result → Ascend ranges.now }
@@ -31,16 +59,19 @@ fn ascend(ranges: &[Range]) -> bool
     match ranges {
         [] => true,
         [r] => r.lo < r.hi,
-        [r, s, ..] => r.lo < r.hi && r.hi <= s.lo && r.place != s.place && ascend(&ranges[1..]),
+        [r, s, ..] => r.lo < r.hi
+            && r.hi <= s.lo
+            && !r.location.equals(&s.location)
+            && ascend(&ranges[1..]),
     }
 }
 
-/// Whether all places can be listed.
+/// Whether all locations can be listed.
 fn are_places(ranges: &[Range]) -> bool
     ensures { IsTrue result → ArePlaces ranges.now }
 {
     for range in ranges {
-        if !is_listed(range.place) {
+        if !is_located(&range.location) {
             return false;
         }
     }
@@ -60,13 +91,39 @@ fn can_be_written(lists: &RangeLists) -> bool
     true
 }
 
+/// A place of a whole variable, or pieces of one.
+#[derive(Clone, Copy)]
+enum Row<'a> {
+    Whole(Place),
+    Parts(&'a [(u32, u32, Place)]),
+}
+
+/// The location of a row.
+fn location(alloc: Global, row: Row) -> Result<Location, AllocError> {
+    match row {
+        Row::Whole(place) => Ok(Location::Whole(place)),
+        Row::Parts(rows) => {
+            let mut parts = List::new(alloc);
+            for (offset, length, place) in rows.iter().copied() {
+                parts.push(Part {
+                    offset,
+                    length,
+                    place,
+                })?;
+            }
+            Ok(Location::Parts(parts))
+        }
+    }
+}
+
 /// The section of lists of ranges, and that its size is as told.
-fn section(alloc: Global, table: &[&[(u64, u64, Place)]]) -> Result<List<u8>, Fail> {
+fn section(alloc: Global, table: &[&[(u64, u64, Row)]]) -> Result<List<u8>, Fail> {
     let mut lists = List::new(alloc);
     for row in table {
         let mut ranges = List::new(alloc);
-        for (lo, hi, place) in row.iter().copied() {
-            ranges.push(Range { lo, hi, place })?;
+        for (lo, hi, row) in row.iter().copied() {
+            let location = location(alloc, row)?;
+            ranges.push(Range { lo, hi, location })?;
         }
         lists.push(ranges)?;
     }
@@ -82,42 +139,19 @@ fn section(alloc: Global, table: &[&[(u64, u64, Place)]]) -> Result<List<u8>, Fa
     }
 }
 
-#[test]
-fn unsigned_numbers(rt: HostRuntime) {
-    // The examples of DWARF 5 section 7.6, and the largest number
-    assert_eq!(rt; uleb(2).as_slice(), [2].as_slice());
-    assert_eq!(rt; uleb(127).as_slice(), [127].as_slice());
-    assert_eq!(rt; uleb(128).as_slice(), [0x80, 1].as_slice());
-    assert_eq!(rt; uleb(129).as_slice(), [0x81, 1].as_slice());
-    assert_eq!(rt; uleb(12857).as_slice(), [0xb9, 0x64].as_slice());
-    let most = [0xff, 0xff, 0xff, 0xff, 0xff, 0xff, 0xff, 0xff, 0xff, 1];
-    assert_eq!(rt; uleb(u64::MAX).as_slice(), most.as_slice());
-}
-
-#[test]
-fn signed_numbers(rt: HostRuntime) {
-    // The examples of DWARF 5 section 7.6, and the extremes
-    assert_eq!(rt; sleb(2).as_slice(), [2].as_slice());
-    assert_eq!(rt; sleb(-2).as_slice(), [0x7e].as_slice());
-    assert_eq!(rt; sleb(127).as_slice(), [0xff, 0].as_slice());
-    assert_eq!(rt; sleb(-127).as_slice(), [0x81, 0x7f].as_slice());
-    assert_eq!(rt; sleb(128).as_slice(), [0x80, 1].as_slice());
-    assert_eq!(rt; sleb(-128).as_slice(), [0x80, 0x7f].as_slice());
-    assert_eq!(rt; sleb(129).as_slice(), [0x81, 1].as_slice());
-    assert_eq!(rt; sleb(-129).as_slice(), [0xff, 0x7e].as_slice());
-    let most = [0xff, 0xff, 0xff, 0xff, 0xff, 0xff, 0xff, 0xff, 0xff, 0];
-    assert_eq!(rt; sleb(i64::MAX).as_slice(), most.as_slice());
-    let least = [0x80, 0x80, 0x80, 0x80, 0x80, 0x80, 0x80, 0x80, 0x80, 0x7f];
-    assert_eq!(rt; sleb(i64::MIN).as_slice(), least.as_slice());
+/// The register xN.
+fn x(n: u32) -> Result<Place, Fail> {
+    Ok(Place::Register(physical(n).ok_or("a register")?))
 }
 
 /// Written by hand from DWARF 5 section 7.29.
 #[test]
 fn sections(rt: HostRuntime) -> Result<(), Fail> {
     let alloc = rt.alloc();
-    let x10 = Place::Register(physical(10).ok_or("a register")?);
-    let x11 = Place::Register(physical(11).ok_or("a register")?);
-    let x12 = Place::Register(physical(12).ok_or("a register")?);
+    let x10 = Row::Whole(x(10)?);
+    let x11 = Row::Whole(x(11)?);
+    let x12 = Row::Whole(x(12)?);
+    let slot = |offset: u32| Row::Whole(Place::Slot(offset));
 
     let none = section(alloc, &[])?;
     assert_eq!(rt;
@@ -143,7 +177,7 @@ fn sections(rt: HostRuntime) -> Result<(), Fail> {
     ];
     assert_eq!(rt; two_lists.as_slice(), want.as_slice());
 
-    let constant = section(alloc, &[&[(0, 4, Place::Const(7))]])?;
+    let constant = section(alloc, &[&[(0, 4, Row::Whole(Place::Const(7)))]])?;
     let want = [
         0x14, 0, 0, 0, 5, 0, 8, 0, 1, 0, 0, 0, 4, 0, 0, 0, 4, 0, 4, 3, 0x11, 7, 0x9f, 0,
     ];
@@ -151,16 +185,48 @@ fn sections(rt: HostRuntime) -> Result<(), Fail> {
 
     let slots = section(
         alloc,
-        &[&[
-            (8, 20, x10),
-            (20, 24, Place::Slot(0)),
-            (200, 300, Place::Slot(2024)),
-        ]],
+        &[&[(8, 20, x10), (20, 24, slot(0)), (200, 300, slot(2024))]],
     )?;
     let want = [
         0x21, 0, 0, 0, 5, 0, 8, 0, 1, 0, 0, 0, 4, 0, 0, 0, 4, 8, 20, 1, 0x5a, 4, 20, 24, 2, 0x72,
         0, 4, 0xc8, 1, 0xac, 2, 3, 0x72, 0xe8, 0x0f, 0,
     ];
     assert_eq!(rt; slots.as_slice(), want.as_slice());
+    Ok(())
+}
+
+/// Composite locations by hand from DWARF 5 section 2.6.1.2: the bytes of a section's one list.
+#[test]
+fn pieces(rt: HostRuntime) -> Result<(), Fail> {
+    let alloc = rt.alloc();
+    let (x10, x11) = (x(10)?, x(11)?);
+
+    // Two halves, then one beside a constant's
+    let halves = section(
+        alloc,
+        &[&[
+            (0, 4, Row::Parts(&[(0, 4, x10), (4, 4, x11)])),
+            (4, 8, Row::Parts(&[(0, 4, x10)])),
+        ]],
+    )?;
+    let want = [
+        0x1e, 0, 0, 0, 5, 0, 8, 0, 1, 0, 0, 0, 4, 0, 0, 0, 4, 0, 4, 6, 0x5a, 0x93, 4, 0x5b, 0x93,
+        4, 4, 4, 8, 3, 0x5a, 0x93, 4, 0,
+    ];
+    assert_eq!(rt; halves.as_slice(), want.as_slice());
+
+    // The upper half alone, behind a gap
+    let upper = section(alloc, &[&[(0, 4, Row::Parts(&[(4, 4, x10)]))]])?;
+    let want = [
+        0x16, 0, 0, 0, 5, 0, 8, 0, 1, 0, 0, 0, 4, 0, 0, 0, 4, 0, 4, 5, 0x93, 4, 0x5a, 0x93, 4, 0,
+    ];
+    assert_eq!(rt; upper.as_slice(), want.as_slice());
+
+    // Two bytes that are nowhere, and then four
+    let behind = section(alloc, &[&[(0, 4, Row::Parts(&[(2, 4, x11)]))]])?;
+    let want = [
+        0x16, 0, 0, 0, 5, 0, 8, 0, 1, 0, 0, 0, 4, 0, 0, 0, 4, 0, 4, 5, 0x93, 2, 0x5b, 0x93, 4, 0,
+    ];
+    assert_eq!(rt; behind.as_slice(), want.as_slice());
     Ok(())
 }

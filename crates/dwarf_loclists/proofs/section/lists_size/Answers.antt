@@ -3,7 +3,7 @@ use Rattle.std.proofs.Common.{refl, arith, rules, ◌≡◌, ◌<◌, ◌≤◌,
 use Rattle.std.proofs.lemmas.Grind.{common_steps}
 use Rattle.dwarf_loclists.specs.declared.range.Range.{Range}
 use Rattle.dwarf_loclists.specs.Spelling.{spelling, list_spelling}
-use Rattle.dwarf_loclists.proofs.SpellingLemmas.{counted_more, counted_all, short_one}
+use Rattle.dwarf_loclists.proofs.SpellingLemmas.{counted_more, counted_all, short_one, places_in}
 use Rattle.dwarf_loclists.proofs.section.lists_size.Goals as goal
 
 pub returns-in_err-size-clause-none : goal.returns-in_err-size-clause-none
@@ -27,7 +27,7 @@ loop-list-preserved c = record {
   counted = grind (arith, common_steps);
   small = grind (arith, common_steps);
   grown = λ n all.
-      let short : length c.as_slice.result.now ≤ n =
+      let short : places_in c.as_slice.result.now ≤ n =
       short_one c.args.lists.now c.as_slice-list-items.result.now c.loop-list.list-index c.list-item.result c.as_slice.result.now n c.as_slice-list-items.ensures c.loop-list-test.true c.list-item.is c.as_slice.ensures all in
       let before = c.loop-list.invariant.grown n all in
       omega (arith, c.in_ok-size.ensures.grown);
@@ -35,10 +35,10 @@ loop-list-preserved c = record {
 
 pub returns-in_err-size-clause-few : goal.returns-in_err-size-clause-few
 returns-in_err-size-clause-few c = λ n all fits.
-    let short : length c.as_slice.result.now ≤ n =
+    let short : places_in c.as_slice.result.now ≤ n =
     short_one c.args.lists.now c.as_slice-list-items.result.now c.loop-list.list-index c.list-item.result c.as_slice.result.now n c.as_slice-list-items.ensures c.loop-list-test.true c.list-item.is c.as_slice.ensures all in
     let before = c.loop-list.invariant.grown n all in
     let inside : c.loop-list.list-index + 1 ≤ length c.args.lists.now = omega (arith, ap length c.as_slice-list-items.ensures, c.loop-list-test.true) in
-    let rows : (c.loop-list.list-index + 1) * (5 + 43 * n) ≤ length c.args.lists.now * (5 + 43 * n) = mul-le-mul_right (5 + 43 * n) inside in
-    let room : c.loop-list.size + 5 + 43 * length c.as_slice.result.now < 2 ^ 31 = omega arith in
+    let rows : (c.loop-list.list-index + 1) * (5 + 65 * n) ≤ length c.args.lists.now * (5 + 65 * n) = mul-le-mul_right (5 + 65 * n) inside in
+    let room : c.loop-list.size + 5 + 65 * places_in c.as_slice.result.now < 2 ^ 31 = omega arith in
     absurd (cc (c.in_err-size.ensures.few room))

@@ -1,7 +1,11 @@
 use Rattle.std.proofs.Common.{◌≡◌, ◌++◌, take}
 use Rattle.std.specs.List.{flat_map}
+use Rattle.dwarf_loclists.specs.Ranges.{Are64Bit}
 use Rattle.dwarf_loclists.specs.Spelling.{entry}
 use Rattle.dwarf_loclists.proofs.section.push_list.Given as goal
 
 abbrev pub invariant-loop-range : goal.invariant-loop-range
-invariant-loop-range l = l.out.items ≡ l.fn.out.items ++ flat_map entry (take l.range-index l.ranges)
+invariant-loop-range l = record {
+  written : l.out.items ≡ l.fn.out.items ++ flat_map entry (take l.range-index l.ranges);
+  wide : Are64Bit (take l.range-index l.ranges);
+}

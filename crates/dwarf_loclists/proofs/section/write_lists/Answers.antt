@@ -1,25 +1,41 @@
-use Rattle.std.proofs.Common.{refl, arith, ◌≡◌, ◌+◌, ◌*◌, ◌++◌, ap, length}
-use Rattle.dwarf_loclists.specs.Spelling.{spelling, list_spelling, header}
-use Rattle.dwarf_loclists.proofs.SpellingLemmas.{front_le, length-spelling, written, same_bytes, is_section}
+use Rattle.std.specs.Prelude.{Option, IfSome, All, ◌-◌}
+use Rattle.std.proofs.Common.{ℕ, List, refl, sym, subst, arith, ◌≡◌, ◌+◌, ◌*◌, ◌++◌, ◌∙◌, ap, length}
+use Rattle.dwarf_loclists.specs.declared.range.Range.{Range}
+use Rattle.dwarf_loclists.specs.Ranges.{Are64Bit}
+use Rattle.dwarf_loclists.specs.Spelling.{spelling, offsets_from, bodies}
+use Rattle.dwarf_loclists.proofs.SpellingLemmas.{length-spelling, assembled, is_section}
 use Rattle.dwarf_loclists.proofs.section.write_lists.Goals as goal
 
-pub overflow_mul-table : goal.overflow_mul-table
-overflow_mul-table c = omega (arith, length-spelling c.args.lists.now)
+pub overflow_sub-size : goal.overflow_sub-size
+overflow_sub-size c =
+    let size : c.unwrap-size.result ≡ length (spelling c.args.lists.now) =
+    subst (λ (r : Option ℕ). IfSome r (λ s. s ≡ length (spelling c.args.lists.now))) c.unwrap-size.ensures c.lists_size.ensures.size in
+    omega (arith, length-spelling c.args.lists.now)
 
-pub overflow_cast-offset : goal.overflow_cast-offset
-overflow_cast-offset c =
-    omega (arith, length-spelling c.args.lists.now, front_le list_spelling c.args.lists.now c.loop-list.list-index, ap length c.loop-list.invariant.bodies)
+pub overflow_cast-len : goal.overflow_cast-len
+overflow_cast-len c = omega (arith, length-spelling c.args.lists.now, c.requires.size)
 
-pub assembled-requires : goal.assembled-requires
-assembled-requires c =
-    omega (arith, length-spelling c.args.lists.now, front_le list_spelling c.args.lists.now c.loop-list.list-index, ap length c.loop-list.invariant.bodies)
+pub push_offsets-requires-clause-size : goal.push_offsets-requires-clause-size
+push_offsets-requires-clause-size c = rw c.as_slice.ensures (omega (arith, length-spelling c.args.lists.now, c.requires.size))
 
 pub returns-clause-bytes : goal.returns-clause-bytes
 returns-clause-bytes c =
-    let whole : (header (8 + 4 * c.len-2.result + length c.deref-2.result.now) c.len-2.result ++ c.deref.result.now) ++ c.deref-2.result.now ≡ spelling c.args.lists.now =
-    rw (c.len-2.ensures, c.deref.ensures.value, c.deref-2.ensures.value)
-    (written _ _ _ _ _ _ c.as_slice-list-items.ensures c.loop-list-test.false c.loop-list.invariant.offsets c.loop-list.invariant.bodies refl) in
-    same_bytes c.assembled.result _ _ c.assembled.ensures whole
+    let size : c.unwrap-size.result ≡ length (spelling c.args.lists.now) =
+    subst (λ (r : Option ℕ). IfSome r (λ s. s ≡ length (spelling c.args.lists.now))) c.unwrap-size.ensures c.lists_size.ensures.size in
+    let after : (c.unwrap-size.result - 4) + 4 ≡ length (spelling c.args.lists.now) = omega (arith, length-spelling c.args.lists.now) in
+    c.from.ensures
+    ∙ assembled c.args.lists.now c.in_ok-section.section.items c.push_header.new.out.items c.push_offsets.new.out.items c.push_lists.new.out.items
+    (c.unwrap-size.result - 4) c.len.result c.in_ok-section.ensures.items after c.len.ensures c.in_ok-push_header.ensures
+    (c.in_ok-push_offsets.ensures ∙ ap (λ ls. c.push_header.new.out.items ++ offsets_from (4 * length ls) ls) c.as_slice.ensures)
+    (c.in_ok-push_lists.ensures.bytes ∙ ap (λ ls. c.push_offsets.new.out.items ++ bodies ls) c.as_slice-2.ensures)
 
 pub returns-clause-section : goal.returns-clause-section
-returns-clause-section c = is_section c.assembled.result c.args.lists.now (returns-clause-bytes c) c.requires.size c.requires.ascend c.requires.places
+returns-clause-section c =
+    let wide = subst (λ (ls : List (List Range)). All Are64Bit ls) c.as_slice-2.ensures c.in_ok-push_lists.ensures.wide in
+    record {
+      spelled = returns-clause-bytes c;
+      size = rw (returns-clause-bytes c) (omega (arith, c.requires.size));
+      ascend = c.requires.ascend;
+      places = c.requires.places;
+      wide = wide;
+    }
