@@ -14,7 +14,7 @@ use Rattle.mir_meaning.proofs.Outcomes.{step_item, step_end}
 use Rattle.simulation.proofs.Refinement.{since_not_start}
 use Rattle.simulation.proofs.Stations.{code_station, debug_station, end_is_station, code_is_some, code_is, debug_is_none, IsStationOf, of_item, of_end, station_is_of, no_end_stations, not_past_items}
 use Rattle.simulation.proofs.Stops.{aligns_reaches}
-use Rattle.simulation.proofs.Joined.{Addition, AtHome, FaultAt, IsFree, IsReady, Joins, JoinsAt, Now, Owed, at_home, dynamic_at, home_at, in_body, join_after, join_ahead, join_behind, join_code, join_free, join_opened, may_begun, moves_to, ready, shown, stands_begun}
+use Rattle.simulation.proofs.Joined.{Addition, AtHome, FaultAt, IsFree, IsReady, Joins, JoinsAt, Now, Owed, at_home, dynamic_at, home_at, in_body, join_after, join_ahead, join_behind, join_code, join_free, join_opened, may_begun, moves_to, ready, shown, stands_begun, static_at}
 
 module _ (addition : Addition) where
   open addition use {ct, src, f, g, s0, g0, rf, rg, Stops, X, Reach, Stage, standing, body, S, Q, ip, follows}
@@ -57,7 +57,7 @@ module _ (addition : Addition) where
       let fe = ip.onward r.v.pos t.pos j n (home_at addition t s m r Level lv tt) ef eg e in
       let none_f : fs r.v.pos ≡ None = end_is_station ct f r.v.pos j n fe ∙ no_end_stations ct _ _ (sym (end_is_station ct g t.pos j n e) ∙ none) in
       let t1 : State = record { pos = start_g n; core = t.core } in
-      let made : Now addition t1 s m = in_body addition t1 s m n r.v.core r.sf r.mf refl (other r.along none_f (end_f r.v j n fe)) r.reach r.reach_f (ip.ends r.k r.v.pos.block n r.v.core t.core lv (dynamic_at addition t s m r [] [] ef eg)) (subst (λ (z : Standing). Joins addition z r.mf r.sf m s) lv r.joins) in
+      let made : Now addition t1 s m = in_body addition t1 s m n r.v.core r.sf r.mf refl (other r.along none_f (end_f r.v j n fe)) r.reach r.reach_f (ip.ends r.k r.v.pos j n r.v.core t.core lv ef fe (static_at addition t s m r [] [] ef eg) (dynamic_at addition t s m r [] [] ef eg)) (subst (λ (z : Standing). Joins addition z r.mf r.sf m s) lv r.joins) in
       subst (λ (z : State). Now addition z s m) (went_once g t t1 t' (step_end g t j n e) go) made
 
   -- past the end of the block at the start, to f's first block
@@ -400,7 +400,7 @@ module _ (addition : Addition) where
         | inl z ↦
             let rs = aligns_reaches src Reach ip.more.on O p r.mf r.sf z.0 r.reach_f z.1 in
             let at = aligns_at src O p r.mf r.sf z.0 z.1 in
-            let made : Now addition t1 z.0 After = in_body addition t1 z.0 After n r.v.core z.0 After refl (met end r.along se z.1 (end_f r.v k n ff)) rs rs (ip.ends r.k b n r.v.core t.core lv (dynamic_at addition t s m r [] [] ef eg))
+            let made : Now addition t1 z.0 After = in_body addition t1 z.0 After n r.v.core z.0 After refl (met end r.along se z.1 (end_f r.v k n ff)) rs rs (ip.ends r.k r.v.pos k n r.v.core t.core lv ef ff (static_at addition t s m r [] [] ef eg) (dynamic_at addition t s m r [] [] ef eg))
             (join_after addition z.0 rs (λ u go2 h. ip.end_stands r.v.pos k n ce ff z.0 u at go2 h) After (λ e. cc)) in
             inl (subst (Met t s m) is (record {
               to = z.0;

@@ -76,6 +76,11 @@ module _ (change : Change) where
     dooms = dooms;
   }
 
+  pub static_at : (last0 : Option Pos) (t u : State) (r : Beside last0 t u) (xs ys : List Item) → rf r.v.pos ≡ xs → rg t.pos ≡ ys →
+      S r.v.pos.block xs ys
+  static_at last0 t u r xs ys ef eg =
+      subst (λ (z : List Item). S r.v.pos.block z ys) ef (subst (λ (z : List Item). S r.v.pos.block (rf r.v.pos) z) eg r.static)
+
   pub dynamic_at : (last0 : Option Pos) (t u : State) (r : Beside last0 t u) (xs ys : List Item) → rf r.v.pos ≡ xs → rg t.pos ≡ ys → Q r.v.pos.block xs ys r.v.core t.core
   dynamic_at last0 t u r xs ys ef eg = subst (λ (z : List Item). Q r.v.pos.block z ys r.v.core t.core) ef (subst (λ (z : List Item). Q r.v.pos.block (rf r.v.pos) z r.v.core t.core) eg r.dynamic)
 

@@ -15,7 +15,7 @@ use Rattle.mir_meaning.proofs.Outcomes.{step_item, step_end}
 use Rattle.simulation.proofs.Refinement.{still_follows}
 use Rattle.simulation.proofs.Order.{done_next, rank_high, rank_low, rank_next, same_pos, done_more, waits_after, done_past, done_self, waits_where, IsNoLater, no_later, from_less, until_more, until_here, until_next, from_next}
 use Rattle.simulation.proofs.Between.{Change, ComesNext}
-use Rattle.simulation.proofs.Beside.{Beside, at_start, dynamic_at, IsReady, ready}
+use Rattle.simulation.proofs.Beside.{Beside, at_start, dynamic_at, static_at, IsReady, ready}
 use Rattle.simulation.proofs.Stations.{not_code, code_station, debug_station, end_is_station, code_is_some, code_is, debug_is_none, IsStationOf, of_item, of_end, station_is_of, no_end_stations, not_by_ends, not_past_items, falls_stays}
 
 module _ (change : Change) where
@@ -96,7 +96,7 @@ module _ (change : Change) where
       let go_f : step f r.v ≡ Went (record { pos = block_start n; core = r.v.core }) = step_end f r.v k n onward.0 ∙ ap (λ (z : ℕ). Went (record { pos = block_start z; core = r.v.core })) (ip.enter_f n) in
       let no_end = sym (end_is_station ct g t.pos k n fe) ∙ none in
       let none_f : fs r.v.pos ≡ None = end_is_station ct f r.v.pos k n onward.0 ∙ no_end_stations ct _ _ no_end in
-      let made = at_start change last0 r.last u n r.v.core t.core (ip.ends b n r.v.core t.core (dynamic_at change last0 t u r [] [] ef eg)) (λ q h. until_next place b n r.n q onward.1 (r.known q h))
+      let made = at_start change last0 r.last u n r.v.core t.core (ip.ends r.v.pos k n r.v.core t.core ef onward.0 (static_at change last0 t u r [] [] ef eg) (dynamic_at change last0 t u r [] [] ef eg)) (λ q h. until_next place b n r.n q onward.1 (r.known q h))
       (λ p next w j. r.walks p (from_next place b n r.n p onward.1 next.0, subst (IsNoLater b p) (sym eg) tt, λ q k' n' ce qb fq. not_by_ends ct _ no_end ce) w (on none_f go_f j))
       (λ p next d. r.dooms p (from_next place b n r.n p onward.1 next.0, subst (IsNoLater b p) (sym eg) tt, λ q k' n' ce qb fq. not_by_ends ct _ no_end ce) (later none_f go_f d)) in
       subst (λ (z : State). Beside change last0 z u) (went_once g t _ t' go st) made
@@ -206,7 +206,7 @@ module _ (change : Change) where
       let go : step g t ≡ Went t1 = step_end g t k n fe ∙ ap (λ (z : ℕ). Went (record { pos = block_start z; core = t.core })) (ip.enter_g n) in
       let go_f : step f r.v ≡ Went v1 = step_end f r.v k n onward.0 ∙ ap (λ (z : ℕ). Went (record { pos = block_start z; core = r.v.core })) (ip.enter_f n) in
       let shows = ip.shows b (rf r.v.pos) (rg t.pos) r.v.core t.core r.dynamic in
-      let next : Beside change None t1 v1 = at_start change None None v1 n r.v.core t.core (ip.ends b n r.v.core t.core (dynamic_at change last0 t u r [] [] ef eg)) (λ q h. cc) (λ q ok w j. j) (λ p next d. d) in
+      let next : Beside change None t1 v1 = at_start change None None v1 n r.v.core t.core (ip.ends r.v.pos k n r.v.core t.core ef onward.0 (static_at change last0 t u r [] [] ef eg) (dynamic_at change last0 t u r [] [] ef eg)) (λ q h. cc) (λ q ok w j. j) (λ p next d. d) in
       let made : Meets f g fs (Beside change) t r.v end = record {
         station = end;
         stands = end_is_station ct f r.v.pos k n onward.0 ∙ ap (λ (z : Count). end_station z p) ce;

@@ -181,6 +181,10 @@ module _ (addition : Addition) where
   pub dynamic_at : (t s : State) (m : Since) (r : Now t s m) (xs ys : List Item) → rf r.v.pos ≡ xs → rg t.pos ≡ ys → Q r.k r.v.pos.block xs ys r.v.core t.core
   dynamic_at t s m r xs ys ef eg = subst (λ (z : List Item). Q r.k r.v.pos.block z ys r.v.core t.core) ef (subst (λ (z : List Item). Q r.k r.v.pos.block (rf r.v.pos) z r.v.core t.core) eg r.dynamic)
 
+  pub static_at : (t s : State) (m : Since) (r : Now t s m) (xs ys : List Item) → rf r.v.pos ≡ xs → rg t.pos ≡ ys → S r.k r.v.pos.block xs ys
+  static_at t s m r xs ys ef eg =
+      subst (λ (z : List Item). S r.k r.v.pos.block z ys) ef (subst (λ (z : List Item). S r.k r.v.pos.block (rf r.v.pos) z) eg r.static)
+
   pub shown : (t s : State) (m : Since) (r : Now t s m) → ShowsSame r.v.core t.core
   shown t s m r = ip.shows r.k r.v.pos.block (rf r.v.pos) (rg t.pos) r.v.core t.core r.dynamic
 

@@ -114,7 +114,9 @@ module _ (ct : Count) (src f g : Program) (s0 g0 : State) (rf rg : Pos → List 
     -- where ends are stations, g has f's blocks
     pub same_blocks : ct ≡ ByEnds → (n : ℕ) → g.enter n ≡ n
     pub end_stands : (p : Pos) (k n : ℕ) → ct ≡ ByEnds → f.fetch p ≡ Silent k n → (s u : State) → s.pos ≡ record { block = p.block; item = k } → step src s ≡ Went u → X u.pos → IsOrigin (station_at ct f) u.pos
-    pub ends : (k : Stage) (b n : ℕ) (c d : Core) → standing k ≡ Level → Q k b [] [] c d → Q body n (rf (block_start n)) (rg (start_in_g n)) c d
+    -- over the end of a block of f that falls into block n
+    pub ends : (k : Stage) (p : Pos) (j n : ℕ) (c d : Core) → standing k ≡ Level → rf p ≡ [] → f.fetch p ≡ Silent j n → S k p.block [] [] →
+        Q k p.block [] [] c d → Q body n (rf (block_start n)) (rg (start_in_g n)) c d
     pub shows : (k : Stage) (b : ℕ) (xs ys : List Item) (c d : Core) → Q k b xs ys c d → ShowsSame c d
 
   -- where the runs begin: g before its added code, or level with f at the start of a block

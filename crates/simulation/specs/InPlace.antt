@@ -103,7 +103,9 @@ module _ (ct : Count) (src f g : Program) (s0 : State) (rf rg : Pos → List Ite
     pub origins : (p : Pos) → IsOrigin (station_at ct g) p → IsOrigin (station_at ct f) p
     -- where both blocks end, f's end is g's, and the next block is further down
     pub onward : (p q : Pos) (k n : ℕ) → p.block ≡ q.block → rf p ≡ [] → rg q ≡ [] → g.fetch q ≡ Silent k n → (f.fetch p ≡ Silent k n) × (place p.block < place n)
-    pub ends : (b n : ℕ) (c d : Core) → Q b [] [] c d → Q n (rf (block_start n)) (rg (block_start n)) c d
+    -- over the end of a block of f that falls into block n
+    pub ends : (p : Pos) (j n : ℕ) (c d : Core) → rf p ≡ [] → f.fetch p ≡ Silent j n → S p.block [] [] →
+        Q p.block [] [] c d → Q n (rf (block_start n)) (rg (block_start n)) c d
     pub shows : (b : ℕ) (xs ys : List Item) (c d : Core) → Q b xs ys c d → ShowsSame c d
 
 -- what is changed in place follows what it followed
