@@ -8,7 +8,7 @@ use Rattle.mir_meaning.specs.Step.{Went, Returned, Faulted, Lost, Outcome, Falls
 use Rattle.mir_func.specs.Graph.{Fetch, Here, Silent, Outside, below, block_start}
 use Rattle.mir_meaning.specs.Align.{position_of, is_code, Station, Count, station_of, end_station, station_at, IsOrigin, here, Since, Start, Same, After, since_of, Aligns, AnyOrigin, Along, begin, other, met, Agrees, RunsAlong}
 use Rattle.simulation.specs.InPlace.{IsPastItems, since_item, ShowsSame}
-use Rattle.simulation.specs.Added.{Standing, Opening, Level, Ahead, Owing, MayCome, Does, MayStand, DoAlike, MayOpen, View, ended, both, before, opening, entering, behind, passed, added, paired, Begins, opens, level, AddedFollows}
+use Rattle.simulation.specs.Added.{Standing, Opening, Level, Ahead, Owing, MayCome, Does, MayStand, DoAlike, MayOpen, LeadsIn, View, ended, both, before, opening, entering, behind, passed, added, paired, Begins, opens, level, AddedFollows}
 use Rattle.mir_meaning.proofs.Alignment.{went_once, aligns_at, aligns_once, aligns_not_fails}
 use Rattle.mir_meaning.proofs.Outcomes.{step_item, step_end}
 use Rattle.simulation.proofs.Refinement.{since_not_start}
@@ -43,6 +43,9 @@ module _ (addition : Addition) where
   abbrev Opens : Standing → Type 0
   Opens st = MayOpen ct src f g s0 g0 rf rg Stops X Reach Stage standing body S Q st
 
+  abbrev IsEntry : Type 0
+  IsEntry = LeadsIn ct src f g s0 g0 rf rg Stops X Reach Stage standing body S Q
+
   abbrev AlongF : State → State → Since → Type 0
   AlongF v s m = Along src f fs (AnyOrigin fs) s0 s0 v s m
 
@@ -62,14 +65,14 @@ module _ (addition : Addition) where
 
   -- past the end of the block at the start, to f's first block
   enters : (t s : State) (m : Since) (r : Now addition t s m) (xs : List Item) → standing r.k ≡ Opening → rf r.v.pos ≡ xs → rg t.pos ≡ [] → S body r.v.pos.block xs (rg (start_g r.v.pos.block)) → ((c d : Core) → Q r.k r.v.pos.block xs [] c d → Q body r.v.pos.block xs (rg (start_g r.v.pos.block)) c d) →
-      IsFree addition → (x : Fetch) → g.fetch t.pos ≡ x → IsPastItems x → (t' : State) → step g t ≡ Went t' → Now addition t' s m
-  enters t s m r xs op ef eg st q free (Here i) e h t' go = absurd h
-  enters t s m r xs op ef eg st q free Outside e h t' go = let bad : Lost ≡ Went t' = sym (ap (λ (z : Fetch). moved g.enter t.pos (do_fetch g z t.core)) e) ∙ go in cc
-  enters t s m r xs op ef eg st q free (Silent j n) e h t' go =
+      IsFree addition → IsEntry → (x : Fetch) → g.fetch t.pos ≡ x → IsPastItems x → (t' : State) → step g t ≡ Went t' → Now addition t' s m
+  enters t s m r xs op ef eg st q free into (Here i) e h t' go = absurd h
+  enters t s m r xs op ef eg st q free into Outside e h t' go = let bad : Lost ≡ Went t' = sym (ap (λ (z : Fetch). moved g.enter t.pos (do_fetch g z t.core)) e) ∙ go in cc
+  enters t s m r xs op ef eg st q free into (Silent j n) e h t' go =
       let b = r.v.pos.block in
       let home : t.pos.block ≡ g0.pos.block = subst (λ (z : Standing). AtHome addition z t.pos.block b) op r.home in
       let ow = subst (λ (z : Standing). Owed addition z r.v r.mf r.sf m s) op r.owed in
-      let nb : n ≡ b = ip.entry t.pos j n home eg e ∙ ap (λ (z : State). z.pos.block) (sym ow.0) in
+      let nb : n ≡ b = into t.pos j n home eg e ∙ ap (λ (z : State). z.pos.block) (sym ow.0) in
       let t1 : State = record { pos = start_g b; core = t.core } in
       let at : step g t ≡ Went t1 = step_end g t j n e ∙ ap (λ (z : ℕ). Went (record { pos = start_g z; core = t.core })) nb in
       let r0 : Reach s0.pos = subst (λ (z : State). Reach z.pos) ow.2 r.reach_f in
@@ -103,7 +106,7 @@ module _ (addition : Addition) where
   between_at t s m r xs ys ef eg (before {y = y} {ys = ts} n cx cy o j ak s1 h) rd none t' go = absurd (code_is_some ct g t.pos y none (ip.laid_g.cons t.pos y ts eg).0 cy)
   between_at t s m r xs ys ef eg (opening {y = y} {ys = ts} ak cy o j op s1 h) rd none t' go = absurd (code_is_some ct g t.pos y none (ip.laid_g.cons t.pos y ts eg).0 cy)
   between_at t s m r xs ys ef eg (behind {y = y} {ys = ts} ak cy o j af s1 h) rd none t' go = absurd (code_is_some ct g t.pos y none (ip.laid_g.cons t.pos y ts eg).0 cy)
-  between_at t s m r xs ys ef eg (entering op ne st q free) rd none t' go = enters t s m r xs op ef eg st q free (g.fetch t.pos) refl (ip.laid_g.nil t.pos eg).0 t' go
+  between_at t s m r xs ys ef eg (entering op ne st q free into) rd none t' go = enters t s m r xs op ef eg st q free into (g.fetch t.pos) refl (ip.laid_g.nil t.pos eg).0 t' go
   between_at t s m r xs ys ef eg (passed q c s1 h) rd none t' go = absurd rd
   between_at t s m r xs ys ef eg (added {y = y} {ys = ts} q cy s1 h) rd none t' go =
       let b = r.v.pos.block in
@@ -415,7 +418,7 @@ module _ (addition : Addition) where
   meets_at_view t s m r xs ys ef eg (passed q c s1 h) rd i e = absurd rd
   meets_at_view t s m r xs ys ef eg (added {y = y} {ys = ts} q cy s1 h) rd i e = absurd (debug_is_none ct g t.pos y i e (ip.laid_g.cons t.pos y ts eg).0 cy)
   meets_at_view t s m r xs ys ef eg (paired {x = x} {y = y} {xs = rest} {ys = ts} q cx cy s1 h) rd i e = absurd (debug_is_none ct g t.pos y i e (ip.laid_g.cons t.pos y ts eg).0 cy)
-  meets_at_view t s m r xs ys ef eg (entering op ne st q free) rd i e = absurd (by_station (station_is_of ct g t.pos i e)) where
+  meets_at_view t s m r xs ys ef eg (entering op ne st q free into) rd i e = absurd (by_station (station_is_of ct g t.pos i e)) where
     by_station : IsStationOf ct g t.pos i → ⊥
     by_station (of_item x fx cx ix) = not_past_items (g.fetch t.pos) x (ip.laid_g.nil t.pos eg).0 fx
     by_station (of_end k n fe ce ie) = ne ce

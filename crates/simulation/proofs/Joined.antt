@@ -242,7 +242,7 @@ module _ (addition : Addition) where
   catches n t s m r xs ys ef eg (both a b c d e h i j) le = record { at = r; xs = xs; ys = ys; is_f = ef; is_g = eg; view = both a b c d e h i j; ready = tt }
   catches n t s m r xs ys ef eg (before a b c d e h i j) le = record { at = r; xs = xs; ys = ys; is_f = ef; is_g = eg; view = before a b c d e h i j; ready = tt }
   catches n t s m r xs ys ef eg (opening a b c d e h i) le = record { at = r; xs = xs; ys = ys; is_f = ef; is_g = eg; view = opening a b c d e h i; ready = tt }
-  catches n t s m r xs ys ef eg (entering a b c d e) le = record { at = r; xs = xs; ys = ys; is_f = ef; is_g = eg; view = entering a b c d e; ready = tt }
+  catches n t s m r xs ys ef eg (entering a b c d e h) le = record { at = r; xs = xs; ys = ys; is_f = ef; is_g = eg; view = entering a b c d e h; ready = tt }
   catches n t s m r xs ys ef eg (behind a b c d e h i) le = record { at = r; xs = xs; ys = ys; is_f = ef; is_g = eg; view = behind a b c d e h i; ready = tt }
   catches n t s m r xs ys ef eg (added a b c d) le = record { at = r; xs = xs; ys = ys; is_f = ef; is_g = eg; view = added a b c d; ready = tt }
   catches n t s m r xs ys ef eg (paired a b c d e) le = record { at = r; xs = xs; ys = ys; is_f = ef; is_g = eg; view = paired a b c d e; ready = tt }

@@ -80,6 +80,10 @@ module _ (ct : Count) (src f g : Program) (s0 g0 : State) (rf rg : Pos → List 
   MayOpen Level = g0.pos.block ≡ g.enter s0.pos.block
   MayOpen _ = ⊥
 
+  -- the block at which g starts, of added code alone, falls into f's first block
+  abbrev pub LeadsIn : Type 0
+  LeadsIn = (q : Pos) (j n : ℕ) → q.block ≡ g0.pos.block → rg q ≡ [] → g.fetch q ≡ Silent j n → n ≡ s0.pos.block
+
   -- how the rests of a block begin: with code of both; with code of g before f's, which may trap where f's does; with code
   -- of g at the start, and the end of a block of such code; with code of g after what f had; with debug items
   pub data View (b : ℕ) : Stage → List Item → List Item → Type 0 where
@@ -92,7 +96,7 @@ module _ (ct : Count) (src f g : Program) (s0 g0 : State) (rf rg : Pos → List 
     opening : {k k' : Stage} {y : Item} {xs ys : List Item} → standing k ≡ Opening → is_code y.kind ≡ true → position_of y.origin ≡ s0.pos → since_item ct y ≡ Same → MayOpen (standing k') → S k' b xs ys →
         ((c d : Core) → Q k b xs (y ∷ ys) c d → Does g y d (λ e. Q k' b xs ys c e)) → View b k xs (y ∷ ys)
     entering : {k : Stage} {xs : List Item} → standing k ≡ Opening → (ct ≡ ByEnds → ⊥) → S body b xs (rg (start_in_g b)) → ((c d : Core) → Q k b xs [] c d → Q body b xs (rg (start_in_g b)) c d) →
-        ((p : Pos) → IsOrigin (station_at ct f) p → Stops p s0.pos → IsOrigin (station_at ct f) s0.pos) → View b k xs []
+        ((p : Pos) → IsOrigin (station_at ct f) p → Stops p s0.pos → IsOrigin (station_at ct f) s0.pos) → LeadsIn → View b k xs []
     behind : {k k' : Stage} {p : Pos} {y : Item} {xs ys : List Item} → standing k ≡ Owing p → is_code y.kind ≡ true → position_of y.origin ≡ below p → since_item ct y ≡ Same → standing k' ≡ Level → S k' b xs ys →
         ((c d : Core) → Q k b xs (y ∷ ys) c d → Does g y d (λ e. Q k' b xs ys c e)) → View b k xs (y ∷ ys)
     passed : {k : Stage} {x : Item} {xs ys : List Item} → IsQuiet (standing k) → is_code x.kind ≡ false → S k b xs ys → ((c d : Core) → Q k b (x ∷ xs) ys c d → Does f x c (λ e. Q k b xs ys e d)) → View b k (x ∷ xs) ys
@@ -109,8 +113,6 @@ module _ (ct : Count) (src f g : Program) (s0 g0 : State) (rf rg : Pos → List 
     pub view : (k : Stage) (b : ℕ) (xs ys : List Item) → S k b xs ys → View b k xs ys
     pub starts : (n : ℕ) → S body n (rf (block_start n)) (rg (start_in_g n))
     pub onward : (p q : Pos) (k n : ℕ) → q.block ≡ g.enter p.block → rf p ≡ [] → rg q ≡ [] → g.fetch q ≡ Silent k n → f.fetch p ≡ Silent k n
-    -- the block of code at the start leads to f's first block
-    pub entry : (q : Pos) (k n : ℕ) → q.block ≡ g0.pos.block → rg q ≡ [] → g.fetch q ≡ Silent k n → n ≡ s0.pos.block
     -- where ends are stations, g has f's blocks
     pub same_blocks : ct ≡ ByEnds → (n : ℕ) → g.enter n ≡ n
     pub end_stands : (p : Pos) (k n : ℕ) → ct ≡ ByEnds → f.fetch p ≡ Silent k n → (s u : State) → s.pos ≡ record { block = p.block; item = k } → step src s ≡ Went u → X u.pos → IsOrigin (station_at ct f) u.pos
