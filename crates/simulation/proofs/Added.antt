@@ -60,7 +60,7 @@ module _ (addition : Addition) where
       let fe = ip.onward r.v.pos t.pos j n (home_at addition t s m r Level lv tt) ef eg e in
       let none_f : fs r.v.pos ≡ None = end_is_station ct f r.v.pos j n fe ∙ no_end_stations ct _ _ (sym (end_is_station ct g t.pos j n e) ∙ none) in
       let t1 : State = record { pos = start_g n; core = t.core } in
-      let made : Now addition t1 s m = in_body addition t1 s m n r.v.core r.sf r.mf refl (other r.along none_f (end_f r.v j n fe)) r.reach r.reach_f (ip.ends r.k r.v.pos j n r.v.core t.core lv ef fe (static_at addition t s m r [] [] ef eg) (dynamic_at addition t s m r [] [] ef eg)) (subst (λ (z : Standing). Joins addition z r.mf r.sf m s) lv r.joins) in
+      let made : Now addition t1 s m = in_body addition t1 s m r.v n r.v.core r.sf r.mf (end_f r.v j n fe) refl (other r.along none_f (end_f r.v j n fe)) r.reach r.reach_f (ip.ends r.k r.v.pos j n r.v.core t.core lv ef fe (static_at addition t s m r [] [] ef eg) (dynamic_at addition t s m r [] [] ef eg)) (subst (λ (z : Standing). Joins addition z r.mf r.sf m s) lv r.joins) in
       subst (λ (z : State). Now addition z s m) (went_once g t t1 t' (step_end g t j n e) go) made
 
   -- past the end of the block at the start, to f's first block
@@ -208,7 +208,7 @@ module _ (addition : Addition) where
       let rs = aligns_reaches src Reach ip.more.on O (position_of x.origin) r.mf r.sf s' r.reach_f al in
       let go_f : step f r.v ≡ Went (record { pos = block_start n; core = e }) = step_item f r.v x (Goes n e) fe.0 fa ∙ ap (λ (z : ℕ). Went (record { pos = block_start z; core = e })) (ip.enter_f n) in
       let join = subst (λ (z : Standing). Joins addition z (since_item ct x) s' (since_item ct x) s') q.2 (join_code addition (standing k') x (since_item ct x) s' rs (since_not_start (station_of ct x).waits) refl at st) in
-      let made : Now addition t1 s' (since_item ct y) = in_body addition t1 s' (since_item ct y) n e s' (since_item ct x) refl (met (station_of ct x) r.along (code_station ct f r.v.pos x fe.0 cx) al go_f) rs rs q.3 (subst (λ (z : Since). Joins addition Level (since_item ct x) s' z s') j join) in
+      let made : Now addition t1 s' (since_item ct y) = in_body addition t1 s' (since_item ct y) r.v n e s' (since_item ct x) go_f refl (met (station_of ct x) r.along (code_station ct f r.v.pos x fe.0 cx) al go_f) rs rs q.3 (subst (λ (z : Since). Joins addition Level (since_item ct x) s' z s') j join) in
       subst (λ (z : State). Now addition z s' (since_item ct y)) is made
   goes_on t s m r k' x y xs ys ef eg home cx j st s1 s' al ag (Gives v) (Gives w) fa q t' go = cc
   goes_on t s m r k' x y xs ys ef eg home cx j st s1 s' al ag Traps Traps fa q t' go = cc
@@ -403,7 +403,7 @@ module _ (addition : Addition) where
         | inl z ↦
             let rs = aligns_reaches src Reach ip.more.on O p r.mf r.sf z.0 r.reach_f z.1 in
             let at = aligns_at src O p r.mf r.sf z.0 z.1 in
-            let made : Now addition t1 z.0 After = in_body addition t1 z.0 After n r.v.core z.0 After refl (met end r.along se z.1 (end_f r.v k n ff)) rs rs (ip.ends r.k r.v.pos k n r.v.core t.core lv ef ff (static_at addition t s m r [] [] ef eg) (dynamic_at addition t s m r [] [] ef eg))
+            let made : Now addition t1 z.0 After = in_body addition t1 z.0 After r.v n r.v.core z.0 After (end_f r.v k n ff) refl (met end r.along se z.1 (end_f r.v k n ff)) rs rs (ip.ends r.k r.v.pos k n r.v.core t.core lv ef ff (static_at addition t s m r [] [] ef eg) (dynamic_at addition t s m r [] [] ef eg))
             (join_after addition z.0 rs (λ u go2 h. ip.end_stands r.v.pos k n ce ff z.0 u at go2 h) After (λ e. cc)) in
             inl (subst (Met t s m) is (record {
               to = z.0;

@@ -9,6 +9,7 @@ use Rattle.mir_meaning.specs.Align.{position_of, is_code, Station, Count, statio
 use Rattle.simulation.specs.InPlace.{since_item, ShowsSame}
 use Rattle.simulation.specs.Added.{Standing, Opening, Level, Ahead, Owing, MayCome, IsPlain, MayStand, DoAlike, IsQuiet, MayOpen, View, ended, both, before, opening, entering, behind, passed, added, paired, Adds}
 use Rattle.mir_meaning.proofs.Alignment.{aligns_at, aligns_once, aligns_not_fails}
+use Rattle.mir_meaning.proofs.Edges.{step_edge}
 use Rattle.mir_meaning.proofs.Outcomes.{step_item}
 use Rattle.simulation.proofs.Stations.{debug_station}
 use Rattle.simulation.proofs.Stops.{later_more, fails_later_more, arrives_free, fails_free, aligns_waiting, fails_waiting, aligns_below, fails_below}
@@ -195,9 +196,9 @@ module _ (addition : Addition) where
   pub moves_to : (t s : State) (m : Since) (r : Now t s m) → IsQuiet (standing r.k) → (t' w : State) → AlongF w r.sf r.mf → AtHome (standing r.k) t'.pos.block w.pos.block → S r.k w.pos.block (rf w.pos) (rg t'.pos) → Q r.k w.pos.block (rf w.pos) (rg t'.pos) w.core t'.core → Now t' s m
   moves_to t s m r q t' w al home st dy = record { v = w; sf = r.sf; mf = r.mf; k = r.k; along = al; home = home; reach = r.reach; reach_f = r.reach_f; static = st; dynamic = dy; joins = r.joins; owed = owed_quiet (standing r.k) r.v w r.mf r.sf m s q r.owed }
 
-  -- level in the body, in the block n
-  pub in_body : (t1 s : State) (m : Since) (n : ℕ) (c : Core) (sf : State) (mf : Since) → t1.pos ≡ start_g n → AlongF (record { pos = block_start n; core = c }) sf mf → Reach s.pos → Reach sf.pos → Q body n (rf (block_start n)) (rg (start_g n)) c t1.core → Joins Level mf sf m s → Now t1 s m
-  in_body t1 s m n c sf mf at al r rf' q joins = record {
+  -- level in the body, in the block n, to which f has gone from u
+  pub in_body : (t1 s : State) (m : Since) (u : State) (n : ℕ) (c : Core) (sf : State) (mf : Since) → step f u ≡ Went (record { pos = block_start n; core = c }) → t1.pos ≡ start_g n → AlongF (record { pos = block_start n; core = c }) sf mf → Reach s.pos → Reach sf.pos → Q body n (rf (block_start n)) (rg (start_g n)) c t1.core → Joins Level mf sf m s → Now t1 s m
+  in_body t1 s m u n c sf mf go at al r rf' q joins = record {
     v = record { pos = block_start n; core = c };
     sf = sf;
     mf = mf;
@@ -206,7 +207,7 @@ module _ (addition : Addition) where
     home = subst (λ (z : Standing). AtHome z t1.pos.block n) (sym ip.is_body) (ap (λ (z : Pos). z.block) at);
     reach = r;
     reach_f = rf';
-    static = subst (λ (z : Pos). S body n (rf (block_start n)) (rg z)) (sym at) (ip.starts n);
+    static = subst (λ (z : Pos). S body n (rf (block_start n)) (rg z)) (sym at) (ip.starts u.pos n (step_edge f u (record { pos = block_start n; core = c }) go));
     dynamic = subst (λ (z : Pos). Q body n (rf (block_start n)) (rg z) c t1.core) (sym at) q;
     joins = subst (λ (z : Standing). Joins z mf sf m s) (sym ip.is_body) joins;
     owed = subst (λ (z : Standing). Owed z (record { pos = block_start n; core = c }) mf sf m s) (sym ip.is_body) tt;

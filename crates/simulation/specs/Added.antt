@@ -4,7 +4,7 @@ use Rattle.mir_func.specs.declared.position.Pos.{Pos}
 use Rattle.mir_func.specs.declared.item.Item.{Item}
 use Rattle.mir_meaning.specs.State.{Core, State}
 use Rattle.mir_meaning.specs.Step.{Outcome, Falls, Goes, Gives, Traps, Asks, Breaks, Went, Faulted, do_item, step}
-use Rattle.mir_func.specs.Graph.{Silent, Program, below, block_start}
+use Rattle.mir_func.specs.Graph.{Silent, Program, Edge, below, block_start}
 use Rattle.mir_meaning.specs.Align.{position_of, is_code, Station, Count, ByEnds, station_at, IsOrigin, Since, Same, After, AnyOrigin, RunsAlong}
 use Rattle.simulation.specs.InPlace.{Laid, since_item, ShowsSame}
 
@@ -111,7 +111,8 @@ module _ (ct : Count) (src f g : Program) (s0 g0 : State) (rf rg : Pos → List 
     pub enter_f : (n : ℕ) → f.enter n ≡ n
     pub is_body : standing body ≡ Level
     pub view : (k : Stage) (b : ℕ) (xs ys : List Item) → S k b xs ys → View b k xs ys
-    pub starts : (n : ℕ) → S body n (rf (block_start n)) (rg (start_in_g n))
+    -- at the start of a block to which f goes
+    pub starts : (p : Pos) (n : ℕ) → Edge f p (block_start n) → S body n (rf (block_start n)) (rg (start_in_g n))
     pub onward : (p q : Pos) (k n : ℕ) → q.block ≡ g.enter p.block → rf p ≡ [] → rg q ≡ [] → g.fetch q ≡ Silent k n → f.fetch p ≡ Silent k n
     -- where ends are stations, g has f's blocks
     pub same_blocks : ct ≡ ByEnds → (n : ℕ) → g.enter n ≡ n
