@@ -107,21 +107,21 @@ module _ (addition : Addition) where
   between_at t s m r xs ys ef eg (opening {y = y} {ys = ts} ak cy o j op s1 h) rd none t' go = absurd (code_is_some ct g t.pos y none (ip.laid_g.cons t.pos y ts eg).0 cy)
   between_at t s m r xs ys ef eg (behind {y = y} {ys = ts} ak cy o j af s1 h) rd none t' go = absurd (code_is_some ct g t.pos y none (ip.laid_g.cons t.pos y ts eg).0 cy)
   between_at t s m r xs ys ef eg (entering op ne st q free into) rd none t' go = enters t s m r xs op ef eg st q free into (g.fetch t.pos) refl (ip.laid_g.nil t.pos eg).0 t' go
-  between_at t s m r xs ys ef eg (passed q c s1 h) rd none t' go = absurd rd
-  between_at t s m r xs ys ef eg (added {y = y} {ys = ts} q cy s1 h) rd none t' go =
+  between_at t s m r xs ys ef eg (passed q same c s1 h) rd none t' go = absurd rd
+  between_at t s m r xs ys ef eg (added {k' = k'} {y = y} {ys = ts} q same cy s1 h) rd none t' go =
       let b = r.v.pos.block in
       let ge = ip.laid_g.cons t.pos y ts eg in
       let d = h r.v.core t.core (dynamic_at addition t s m r xs ys ef eg) in
       let t1 : State = record { pos = below t.pos; core = d.0 } in
-      let made = moves_to addition t s m r q t1 r.v r.along r.home (rw ge.1 (subst (λ (z : List Item). S r.k b z ts) (sym ef) s1)) (rw ge.1 (subst (λ (z : List Item). Q r.k b z ts r.v.core d.0) (sym ef) d.2)) in
+      let made = moves_to addition t s m r k' q same t1 r.v r.along r.home (rw ge.1 (subst (λ (z : List Item). S k' b z ts) (sym ef) s1)) (rw ge.1 (subst (λ (z : List Item). Q k' b z ts r.v.core d.0) (sym ef) d.2)) in
       subst (λ (z : State). Now addition z s m) (went_once g t t1 t' (step_item g t y (Falls d.0) ge.0 d.1) go) made
-  between_at t s m r xs ys ef eg (paired {x = x} {y = y} {xs = rest} {ys = ts} q cx cy s1 h) rd none t' go =
+  between_at t s m r xs ys ef eg (paired {k' = k'} {x = x} {y = y} {xs = rest} {ys = ts} q same cx cy s1 h) rd none t' go =
       let fe = ip.laid_f.cons r.v.pos x rest ef in
       let ge = ip.laid_g.cons t.pos y ts eg in
       let d = h r.v.core t.core (dynamic_at addition t s m r xs ys ef eg) in
       let t1 : State = record { pos = below t.pos; core = d.1 } in
       let v1 : State = record { pos = below r.v.pos; core = d.0 } in
-      let made = moves_to addition t s m r q t1 v1 (other r.along (debug_station ct f r.v.pos x fe.0 cx) (step_item f r.v x (Falls d.0) fe.0 d.2)) r.home (rw (fe.1, ge.1) s1) (rw (fe.1, ge.1) d.4) in
+      let made = moves_to addition t s m r k' q same t1 v1 (other r.along (debug_station ct f r.v.pos x fe.0 cx) (step_item f r.v x (Falls d.0) fe.0 d.2)) r.home (rw (fe.1, ge.1) s1) (rw (fe.1, ge.1) d.4) in
       subst (λ (z : State). Now addition z s m) (went_once g t t1 t' (step_item g t y (Falls d.1) ge.0 d.3) go) made
 
   -- g at a station, aligned at a state of the source, and what holds after it
@@ -415,9 +415,9 @@ module _ (addition : Addition) where
 
   meets_at_view : (t s : State) (m : Since) (r : Now addition t s m) (xs ys : List Item) → rf r.v.pos ≡ xs → rg t.pos ≡ ys → (w : Seen r.v.pos.block r.k xs ys) → IsReady addition w → (i : Station) → gs t.pos ≡ Some i → Met t s m i ⊎ FaultAt addition i.pos m s
   meets_at_view t s m r xs ys ef eg (ended lv) rd i e = meets_end t s m r lv ef eg i (station_is_of ct g t.pos i e)
-  meets_at_view t s m r xs ys ef eg (passed q c s1 h) rd i e = absurd rd
-  meets_at_view t s m r xs ys ef eg (added {y = y} {ys = ts} q cy s1 h) rd i e = absurd (debug_is_none ct g t.pos y i e (ip.laid_g.cons t.pos y ts eg).0 cy)
-  meets_at_view t s m r xs ys ef eg (paired {x = x} {y = y} {xs = rest} {ys = ts} q cx cy s1 h) rd i e = absurd (debug_is_none ct g t.pos y i e (ip.laid_g.cons t.pos y ts eg).0 cy)
+  meets_at_view t s m r xs ys ef eg (passed q same c s1 h) rd i e = absurd rd
+  meets_at_view t s m r xs ys ef eg (added {y = y} {ys = ts} q same cy s1 h) rd i e = absurd (debug_is_none ct g t.pos y i e (ip.laid_g.cons t.pos y ts eg).0 cy)
+  meets_at_view t s m r xs ys ef eg (paired {x = x} {y = y} {xs = rest} {ys = ts} q same cx cy s1 h) rd i e = absurd (debug_is_none ct g t.pos y i e (ip.laid_g.cons t.pos y ts eg).0 cy)
   meets_at_view t s m r xs ys ef eg (entering op ne st q free into) rd i e = absurd (by_station (station_is_of ct g t.pos i e)) where
     by_station : IsStationOf ct g t.pos i → ⊥
     by_station (of_item x fx cx ix) = not_past_items (g.fetch t.pos) x (ip.laid_g.nil t.pos eg).0 fx

@@ -99,10 +99,15 @@ module _ (ct : Count) (src f g : Program) (s0 g0 : State) (rf rg : Pos → List 
         ((p : Pos) → IsOrigin (station_at ct f) p → Stops p s0.pos → IsOrigin (station_at ct f) s0.pos) → LeadsIn → View b k xs []
     behind : {k k' : Stage} {p : Pos} {y : Item} {xs ys : List Item} → standing k ≡ Owing p → is_code y.kind ≡ true → position_of y.origin ≡ below p → since_item ct y ≡ Same → standing k' ≡ Level → S k' b xs ys →
         ((c d : Core) → Q k b xs (y ∷ ys) c d → Does g y d (λ e. Q k' b xs ys c e)) → View b k xs (y ∷ ys)
-    passed : {k : Stage} {x : Item} {xs ys : List Item} → IsQuiet (standing k) → is_code x.kind ≡ false → S k b xs ys → ((c d : Core) → Q k b (x ∷ xs) ys c d → Does f x c (λ e. Q k b xs ys e d)) → View b k (x ∷ xs) ys
-    added : {k : Stage} {y : Item} {xs ys : List Item} → IsQuiet (standing k) → is_code y.kind ≡ false → S k b xs ys → ((c d : Core) → Q k b xs (y ∷ ys) c d → Does g y d (λ e. Q k b xs ys c e)) → View b k xs (y ∷ ys)
-    paired : {k : Stage} {x y : Item} {xs ys : List Item} → IsQuiet (standing k) → is_code x.kind ≡ false → is_code y.kind ≡ false → S k b xs ys →
-        ((c d : Core) → Q k b (x ∷ xs) (y ∷ ys) c d → (e e' : Core) × (do_item f x.kind c ≡ Falls e) × (do_item g y.kind d ≡ Falls e') × Q k b xs ys e e') → View b k (x ∷ xs) (y ∷ ys)
+    passed : {k k' : Stage} {x : Item} {xs ys : List Item} → IsQuiet (standing k) → standing k' ≡ standing k → is_code x.kind ≡ false →
+        S k' b xs ys → ((c d : Core) → Q k b (x ∷ xs) ys c d → Does f x c (λ e. Q k' b xs ys e d)) → View b k (x ∷ xs) ys
+    added : {k k' : Stage} {y : Item} {xs ys : List Item} → IsQuiet (standing k) → standing k' ≡ standing k → is_code y.kind ≡ false →
+        S k' b xs ys → ((c d : Core) → Q k b xs (y ∷ ys) c d → Does g y d (λ e. Q k' b xs ys c e)) → View b k xs (y ∷ ys)
+    paired : {k k' : Stage} {x y : Item} {xs ys : List Item} → IsQuiet (standing k) → standing k' ≡ standing k →
+        is_code x.kind ≡ false → is_code y.kind ≡ false → S k' b xs ys →
+        ((c d : Core) → Q k b (x ∷ xs) (y ∷ ys) c d →
+        (e e' : Core) × (do_item f x.kind c ≡ Falls e) × (do_item g y.kind d ≡ Falls e') × Q k' b xs ys e e') →
+        View b k (x ∷ xs) (y ∷ ys)
 
   pub record Adds : Type 0 where
     pub more : StopsMore src (station_at ct f) (station_at ct g) Stops X Reach s0.pos
