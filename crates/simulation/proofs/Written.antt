@@ -1,25 +1,29 @@
 -- A register that is written stays so along a run; so a source doesn't fault where it returns physical registers.
-use Rattle.std.proofs.Common.{◌≡◌, ℕ, zero, suc, ◌%◌, ◌+◌, ◌^◌, ◌<◌, List, [], ◌∷◌, map, All, Option, Some, None, Bool, true, false, cond, nat_eq, nat_le, is_some, ◌&&◌, refl, sym, ap, ◌∙◌, subst, inl, inr, arith}
+use Rattle.std.proofs.Common.{◌≡◌, ℕ, zero, suc, ◌%◌, ◌+◌, ◌^◌, ◌<◌, List, [], ◌∷◌, map, All, Option, Some, None, Bool, true, false, cond, nat_eq, nat_le}
+use Rattle.std.proofs.Common.{is_some, ◌&&◌, refl, sym, ap, ◌∙◌, subst, inl, inr, arith}
 use Rattle.std.specs.List.{list_all}
 use Rattle.std.proofs.lemmas.Bool.{cases_eq, and_parts, leb-true}
 use Rattle.std.proofs.lemmas.List.Elements.{All-cons, All-head, All-tail, All-nil}
 use Rattle.rv64_instr.specs.declared.op.Op.{Op}
 use Rattle.rv64_instr.specs.declared.op.Op.TheVariants.{Addi}
 use Rattle.rv64_instr.specs.declared.form.Form.{Form}
-use Rattle.rv64_instr.specs.declared.form.Form.TheVariants.{Registers, Immediate, Upper, Load, Store as StoreForm, Branch as BranchForm, Move, Jump, Call as CallForm, Return as ReturnForm}
+use Rattle.rv64_instr.specs.declared.form.Form.TheVariants.{Registers, Immediate, Upper, Load, Store as StoreForm, Branch as BranchForm, Move, Jump}
+use Rattle.rv64_instr.specs.declared.form.Form.TheVariants.{Call as CallForm, Return as ReturnForm}
 use Rattle.rv64_instr.specs.declared.operand.Operand.{Operand}
 use Rattle.rv64_instr.specs.declared.operand.Operand.TheVariants.{Def, Use, ImplicitUse, Imm, Slot as SlotOperand, Block, Symbol}
 use Rattle.rv64_instr.specs.Instruction.{Instruction}
 use Rattle.rv64_instr.specs.Form.{form_of, is_result, fits, has_form}
 use Rattle.rv64_instr.specs.Arithmetic.{word, computed, taken, width_of, extended}
-use Rattle.rv64_instr.specs.Row.{Row, Fixes, Moves, Sets, Loads, Stores, LoadsSlot, StoresSlot, Branches, Jumps, Calls, Returns, Unfit, row_of, row_by, implicit_uses, move_row, immediate_row}
+use Rattle.rv64_instr.specs.Row.{Row, Fixes, Moves, Sets, Loads, Stores, LoadsSlot, StoresSlot, Branches, Jumps, Calls, Returns, Unfit, row_of, row_by}
+use Rattle.rv64_instr.specs.Row.{implicit_uses, move_row, immediate_row}
 use Rattle.rv64_instr.specs.Access.{caller_saved, reads}
 use Rattle.mir_func.specs.declared.position.Pos.{Pos}
 use Rattle.mir_func.specs.declared.item.Item.{Item}
 use Rattle.mir_func.specs.declared.item.ItemKind.{ItemKind}
 use Rattle.mir_func.specs.declared.item.ItemKind.TheVariants.{Code, Mark, Phi}
 use Rattle.mir_meaning.specs.State.{Called, Reply, Core, State, content, put, put_all, spelled, low_bytes, written, touches_frame, writes_frame}
-use Rattle.mir_meaning.specs.Step.{Went, Faulted, Outcome, Falls, Goes, Gives, Traps, Asks, Breaks, moved, read, input_value, set_register, answered, slot_loaded, saved, does, are_written, act, with_core, is_call, numbered, do_item, do_fetch, step}
+use Rattle.mir_meaning.specs.Step.{Went, Faulted, Outcome, Falls, Goes, Gives, Traps, Asks, Breaks, moved, read, input_value, set_register, answered}
+use Rattle.mir_meaning.specs.Step.{slot_loaded, saved, does, are_written, act, with_core, is_call, numbered, do_item, do_fetch, step}
 use Rattle.mir_func.specs.Graph.{Program, Fetch, Here, Silent, Outside}
 use Rattle.mir_meaning.specs.Align.{Arrives, here, onward}
 use Rattle.mir_meaning.specs.Follow.{class_of, Return, IsStart, OnRow}
@@ -72,7 +76,13 @@ does_written (Calls name args) c = by_script (map (read c) args) c.script where
   by_script : (vs : List ℕ) (rs : List Reply) → OnCore (StaysWritten c) (answered name vs c rs)
   by_script vs [] = tt
   by_script vs (q ∷ rs) =
-      on_either (StaysWritten c) (writes_frame c.entry q.writes) Traps (Falls (record c { regs = put_all caller_saved q.regs c.regs; memory = written c.memory q.writes; script = rs; events = Called name vs ∷ c.events })) tt
+      on_either (StaysWritten c) (writes_frame c.entry q.writes) Traps
+      (Falls (record c {
+        regs = put_all caller_saved q.regs c.regs;
+        memory = written c.memory q.writes;
+        script = rs;
+        events = Called name vs ∷ c.events;
+      })) tt
       (λ r v e. put_all_written caller_saved q.regs r v c.regs e)
 does_written (Returns v) c = tt
 does_written Unfit c = tt
@@ -83,7 +93,8 @@ act_written r c = on_either (StaysWritten c) (are_written c (reads r)) (does r c
 
 item_written : (g : Program) (k : ItemKind) (c : Core) → OnCore (StaysWritten c) (do_item g k c)
 item_written g (Code i n) c = by_outcome (act (row_of i) c) n (act_written (row_of i) c) where
-  by_outcome : (o : Outcome) (n : Option ℕ) → OnCore (StaysWritten c) o → OnCore (StaysWritten c) (with_core (numbered g.sees_pointer (is_call (row_of i)) n i.operands) o)
+  by_outcome : (o : Outcome) (n : Option ℕ) → OnCore (StaysWritten c) o →
+      OnCore (StaysWritten c) (with_core (numbered g.sees_pointer (is_call (row_of i)) n i.operands) o)
   by_outcome (Falls d) None h = h
   by_outcome (Falls d) (Some k) h = h
   by_outcome (Goes t d) None h = h
@@ -129,16 +140,17 @@ HasPhysicalResults _ = ⊥
 -- as the form of returns has it
 results_are_physical : (os : List Operand) → list_all is_result os ≡ true → All (λ r. r < 32) (implicit_uses os)
 results_are_physical [] e = All-nil (λ r. r < 32)
-results_are_physical (ImplicitUse r ∷ rest) e = by_test (results_are_physical rest (and_parts (is_result (ImplicitUse r)) (list_all is_result rest) e).1) (nat_eq r 2) where
-  low : r < 32
-  low =
-      let is = (and_parts (is_result (ImplicitUse r)) (list_all is_result rest) e).0 in
-      let k = leb-true r 17 (and_parts (nat_le 10 r) (nat_le r 17) is).1 in
-      omega (arith, k)
+results_are_physical (ImplicitUse r ∷ rest) e = by_test (results_are_physical rest (and_parts (is_result (ImplicitUse r)) (list_all is_result rest) e).1)
+    (nat_eq r 2) where
+      low : r < 32
+      low =
+          let is = (and_parts (is_result (ImplicitUse r)) (list_all is_result rest) e).0 in
+          let k = leb-true r 17 (and_parts (nat_le 10 r) (nat_le r 17) is).1 in
+          omega (arith, k)
 
-  by_test : All (λ r. r < 32) (implicit_uses rest) → (b : Bool) → All (λ r. r < 32) (cond b (implicit_uses rest) (r ∷ implicit_uses rest))
-  by_test more true = more
-  by_test more false = All-cons (λ r. r < 32) r (implicit_uses rest) low more
+      by_test : All (λ r. r < 32) (implicit_uses rest) → (b : Bool) → All (λ r. r < 32) (cond b (implicit_uses rest) (r ∷ implicit_uses rest))
+      by_test more true = more
+      by_test more false = All-cons (λ r. r < 32) r (implicit_uses rest) low more
 results_are_physical (_ ∷ rest) e = cc
 
 row_physical : (f : Form) (op : Op) (os : List Operand) → fits f os ≡ true → class_of (row_by f op os) ≡ Return → HasPhysicalResults (row_by f op os)
@@ -168,7 +180,8 @@ row_physical _ op _ e c = cc
 pub has_physical_results : (i : Instruction) → has_form i.op i.operands ≡ true → class_of (row_of i) ≡ Return → HasPhysicalResults (row_of i)
 has_physical_results i e c = row_physical (form_of i.op) i.op i.operands e c
 
-row_returns : (g : Program) (k : ItemKind) (c : Core) → ((r : ℕ) → r < 32 → (v : ℕ) × (content c.regs r ≡ Some v)) → OnRow HasPhysicalResults k → do_item g k c ≡ Traps → ⊥
+row_returns : (g : Program) (k : ItemKind) (c : Core) → ((r : ℕ) → r < 32 → (v : ℕ) × (content c.regs r ≡ Some v)) → OnRow HasPhysicalResults k →
+    do_item g k c ≡ Traps → ⊥
 unfolding act does
 row_returns g (Code i n) c has low e = by_row (row_of i) low e where
   by_row : (r : Row) → HasPhysicalResults r → with_core (numbered g.sees_pointer (is_call (row_of i)) n i.operands) (act r c) ≡ Traps → ⊥
@@ -192,10 +205,12 @@ row_returns g (Mark v m) c has low e = low
 row_returns g (Phi p n) c has low e = low
 
 -- so from a start, the source doesn't fault where it has a return
-pub returns_never_fault : (src : Program) (first : ℕ) (s0 : State) → IsStart first s0 → (p : Pos) (i : Item) → src.fetch p ≡ Here i → OnRow HasPhysicalResults i.kind → FaultsAt src s0 p → ⊥
+pub returns_never_fault : (src : Program) (first : ℕ) (s0 : State) → IsStart first s0 → (p : Pos) (i : Item) → src.fetch p ≡ Here i →
+    OnRow HasPhysicalResults i.kind → FaultsAt src s0 p → ⊥
 returns_never_fault src first s0 start p i fi low (s, comes, st) =
     row_returns src i.kind s.core (λ r lt. let k = start.regs r lt in run_written src (λ q. ⊥) p comes r k.0 k.1) low
-    (by_outcome (do_item src i.kind s.core) (sym (step_item src s i (do_item src i.kind s.core) (ap src.fetch (arrives_at src (λ q. ⊥) p comes) ∙ fi) refl) ∙ st)) where
+    (by_outcome (do_item src i.kind s.core)
+    (sym (step_item src s i (do_item src i.kind s.core) (ap src.fetch (arrives_at src (λ q. ⊥) p comes) ∙ fi) refl) ∙ st)) where
       by_outcome : (o : Outcome) → moved src.enter s.pos o ≡ Faulted → o ≡ Traps
       by_outcome Traps e = refl
       by_outcome (Falls c) e = cc
