@@ -46,14 +46,7 @@ added_silent (LoadsSlot rd n) k silent may lt d = by_slot (d.slots n) where
   by_slot None = tt
   by_slot (Some v) = (refl, refl)
 added_silent (Jumps t) k silent may lt d = absurd (omega (arith, may, lt))
-added_silent (Moves rd rs) k silent may lt d = absurd may
-added_silent (Sets rd op a b) k silent may lt d = absurd may
-added_silent (Loads rd op b o) k silent may lt d = absurd may
-added_silent (Stores op rs b o) k silent may lt d = absurd may
-added_silent (Branches op a b t) k silent may lt d = absurd may
-added_silent (Calls name args) k silent may lt d = absurd may
-added_silent (Returns v) k silent may lt d = absurd may
-added_silent Unfit k silent may lt d = absurd may
+added_silent _ k silent may lt d = absurd may
 
 act_silent : (r : Row) (k silent : ℕ) → MayAdd r k silent → k < silent → (d : Core) → IsSilent d (act r d)
 unfolding act
@@ -80,24 +73,19 @@ give_either P false x y a b = b
 
 does_give : (r : Row) (d : Core) → MayGive (class_of r ≡ Return) (does r d)
 unfolding does
-does_give (Fixes rd n) d = tt
-does_give (Moves rd rs) d = tt
-does_give (Sets rd op a b) d = tt
-does_give (Loads rd op b o) d = give_either (class_of (Loads rd op b o) ≡ Return) (touches_frame d.entry ((read d b + o) % 2 ^ 64) (width_of op)) _ _ tt tt
-does_give (Stores op rs b o) d = give_either (class_of (Stores op rs b o) ≡ Return) (touches_frame d.entry ((read d b + o) % 2 ^ 64) (width_of op)) _ _ tt tt
+does_give (Loads rd op b o) d = search (give_either)
+does_give (Stores op rs b o) d = search (give_either)
 does_give (LoadsSlot rd n) d = by_slot (d.slots n) where
   by_slot : (x : Option ℕ) → MayGive (class_of (LoadsSlot rd n) ≡ Return) (slot_loaded rd d x)
   by_slot None = tt
   by_slot (Some v) = tt
-does_give (StoresSlot rs n) d = tt
-does_give (Branches op a b t) d = give_either (class_of (Branches op a b t) ≡ Return) (taken op (read d a) (read d b)) _ _ tt tt
-does_give (Jumps t) d = tt
+does_give (Branches op a b t) d = search (give_either)
 does_give (Calls name args) d = by_script (map (read d) args) d.script where
   by_script : (vs : List ℕ) (rs : List Reply) → MayGive (class_of (Calls name args) ≡ Return) (answered name vs d rs)
   by_script vs [] = tt
   by_script vs (q ∷ rs) = give_either (class_of (Calls name args) ≡ Return) (writes_frame d.entry q.writes) _ _ tt tt
 does_give (Returns v) d = refl
-does_give Unfit d = tt
+does_give _ d = tt
 
 act_gives : (r : Row) (d : Core) → MayGive (class_of r ≡ Return) (act r d)
 unfolding act

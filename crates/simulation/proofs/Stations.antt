@@ -74,17 +74,7 @@ pub falls_no_jump : (g : Program) (k : ItemKind) (c d : Core) → do_item g k c 
 falls_no_jump g (Code i n) c d e = by_row (row_of i) e where
   by_row : (r : Row) → with_core (numbered g.sees_pointer (is_call (row_of i)) n i.operands) (act r c) ≡ Falls d → is_jump_row r ≡ false
   by_row (Jumps t) h = unfold act in unfold does in cc
-  by_row (Fixes rd m) h = refl
-  by_row (Moves rd rs) h = refl
-  by_row (Sets rd op a b) h = refl
-  by_row (Loads rd op b o) h = refl
-  by_row (Stores op rs b o) h = refl
-  by_row (LoadsSlot rd m) h = refl
-  by_row (StoresSlot rs m) h = refl
-  by_row (Branches op a b t) h = refl
-  by_row (Calls name args) h = refl
-  by_row (Returns v) h = refl
-  by_row Unfit h = refl
+  by_row _ h = refl
 falls_no_jump g (Mark v m) c d e = refl
 falls_no_jump g (Phi p m) c d e = refl
 

@@ -98,17 +98,7 @@ module _ (g : Program) where
   jump_act : (r : Row) → is_jump_row r ≡ true → (n : ℕ) × ((d : Core) → act r d ≡ Goes n d)
   unfolding act does
   jump_act (Jumps n) e = (n, λ d. refl)
-  jump_act (Fixes rd m) e = cc
-  jump_act (Moves rd rs) e = cc
-  jump_act (Sets rd op a b) e = cc
-  jump_act (Loads rd op b o) e = cc
-  jump_act (Stores op rs b o) e = cc
-  jump_act (LoadsSlot rd m) e = cc
-  jump_act (StoresSlot rs m) e = cc
-  jump_act (Branches op a b t) e = cc
-  jump_act (Calls name args) e = cc
-  jump_act (Returns v) e = cc
-  jump_act Unfit e = cc
+  jump_act _ e = cc
 
   -- a jump changes no place, and always goes to the start of one block
   pub record JumpsTo (k : ItemKind) : Type 0 where
@@ -220,17 +210,7 @@ module _ (g : Program) where
         let d = numbered g.sees_pointer (is_call (row_of i)) n i.operands c in
         let st1 : moved g.enter p (Goes t d) ≡ Went u = unfold act in unfold does in st in
         k ∙ sym (goes_to_start g.enter p t d u st1)
-    by_row (Fixes rd m) e k st = cc
-    by_row (Moves rd rs) e k st = cc
-    by_row (Sets rd op a b) e k st = cc
-    by_row (Loads rd op b o) e k st = cc
-    by_row (Stores op rs b o) e k st = cc
-    by_row (LoadsSlot rd m) e k st = cc
-    by_row (StoresSlot rs m) e k st = cc
-    by_row (Branches op a b t) e k st = cc
-    by_row (Calls name args) e k st = cc
-    by_row (Returns v) e k st = cc
-    by_row Unfit e k st = cc
+    by_row _ e k st = cc
 
   module _ (Inner : Pos → Type 0) (facts : HasPlainTurns g Inner) (t u v : State) (x : Item) (i : Station) (ft : g.fetch t.pos ≡ Here x) (jx : IsAddedJump x)
       (st : step g t ≡ Went u) (w : Passes u v) (sv : gs v.pos ≡ Some i) (at : i.pos ≡ position_of x.origin) where

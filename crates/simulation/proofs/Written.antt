@@ -28,6 +28,7 @@ use Rattle.mir_func.specs.Graph.{Program, Fetch, Here, Silent, Outside}
 use Rattle.mir_meaning.specs.Align.{Arrives, here, onward}
 use Rattle.mir_meaning.specs.Follow.{class_of, Return, IsStart, OnRow}
 use Rattle.simulation.specs.Refinement.{FaultsAt}
+use Rattle.simulation.proofs.Outcomes.{faults_traps}
 use Rattle.mir_meaning.specs.Effects.{OnCore}
 use Rattle.mir_meaning.proofs.Outcomes.{on_either, step_item}
 use Rattle.mir_meaning.proofs.Places.{put_same, put_other}
@@ -53,37 +54,27 @@ put_all_written (q ∷ rs) (x ∷ vs) r v regs e = let k = put_written q x r v r
 set_written : (rd x : ℕ) (c : Core) → StaysWritten c (set_register rd x c)
 set_written rd x c r v e = put_written rd x r v c.regs e
 
+same_written : (c : Core) → StaysWritten c c
+same_written c r v e = (v, e)
+
 does_written : (r : Row) (c : Core) → OnCore (StaysWritten c) (does r c)
 unfolding does
-does_written (Fixes rd n) c = set_written rd n c
-does_written (Moves rd rs) c = set_written rd (read c rs) c
-does_written (Sets rd op a b) c = set_written rd (computed op (read c a) (input_value c b)) c
-does_written (Loads rd op b o) c =
-    let a = (read c b + o) % 2 ^ 64 in
-    let x = extended op (spelled c.memory a (width_of op)) in
-    on_either (StaysWritten c) (touches_frame c.entry a (width_of op)) Traps (Falls (set_register rd x c)) tt (set_written rd x c)
-does_written (Stores op rs b o) c =
-    let a = (read c b + o) % 2 ^ 64 in
-    on_either (StaysWritten c) (touches_frame c.entry a (width_of op)) Traps (Falls (saved a (low_bytes (width_of op) (read c rs)) c)) tt (λ r v e. (v, e))
+does_written (Fixes rd n) c = set_written rd _ c
+does_written (Moves rd rs) c = set_written rd _ c
+does_written (Sets rd op a b) c = set_written rd _ c
+does_written (Loads rd op b o) c = search (on_either, set_written)
+does_written (Stores op rs b o) c = search (on_either, same_written)
 does_written (LoadsSlot rd n) c = by_slot (c.slots n) where
   by_slot : (x : Option ℕ) → OnCore (StaysWritten c) (slot_loaded rd c x)
   by_slot None = tt
   by_slot (Some x) = set_written rd x c
 does_written (StoresSlot rs n) c = λ r v e. (v, e)
-does_written (Branches op a b t) c = on_either (StaysWritten c) (taken op (read c a) (read c b)) (Goes t c) (Falls c) (λ r v e. (v, e)) (λ r v e. (v, e))
+does_written (Branches op a b t) c = search (on_either, same_written)
 does_written (Jumps t) c = λ r v e. (v, e)
 does_written (Calls name args) c = by_script (map (read c) args) c.script where
   by_script : (vs : List ℕ) (rs : List Reply) → OnCore (StaysWritten c) (answered name vs c rs)
   by_script vs [] = tt
-  by_script vs (q ∷ rs) =
-      on_either (StaysWritten c) (writes_frame c.entry q.writes) Traps
-      (Falls (record c {
-        regs = put_all caller_saved q.regs c.regs;
-        memory = written c.memory q.writes;
-        script = rs;
-        events = Called name vs ∷ c.events;
-      })) tt
-      (λ r v e. put_all_written caller_saved q.regs r v c.regs e)
+  by_script vs (q ∷ rs) = on_either (StaysWritten c) (writes_frame c.entry q.writes) _ _ tt (λ r v e. put_all_written caller_saved q.regs r v c.regs e)
 does_written (Returns v) c = tt
 does_written Unfit c = tt
 
@@ -209,12 +200,5 @@ pub returns_never_fault : (src : Program) (first : ℕ) (s0 : State) → IsStart
     OnRow HasPhysicalResults i.kind → FaultsAt src s0 p → ⊥
 returns_never_fault src first s0 start p i fi low (s, comes, st) =
     row_returns src i.kind s.core (λ r lt. let k = start.regs r lt in run_written src (λ q. ⊥) p comes r k.0 k.1) low
-    (by_outcome (do_item src i.kind s.core)
-    (sym (step_item src s i (do_item src i.kind s.core) (ap src.fetch (arrives_at src (λ q. ⊥) p comes) ∙ fi) refl) ∙ st)) where
-      by_outcome : (o : Outcome) → moved src.enter s.pos o ≡ Faulted → o ≡ Traps
-      by_outcome Traps e = refl
-      by_outcome (Falls c) e = cc
-      by_outcome (Goes n c) e = cc
-      by_outcome (Gives v) e = cc
-      by_outcome Asks e = cc
-      by_outcome Breaks e = cc
+    (faults_traps src.enter s.pos (do_item src i.kind s.core)
+    (sym (step_item src s i (do_item src i.kind s.core) (ap src.fetch (arrives_at src (λ q. ⊥) p comes) ∙ fi) refl) ∙ st))
