@@ -16,11 +16,11 @@ use Rattle.mir_meaning.proofs.Outcomes.{step_item, step_end}
 use Rattle.simulation.proofs.Refinement.{since_not_start}
 use Rattle.simulation.proofs.Stations.{code_station, debug_station, end_is_station, code_is_some, code_is, debug_is_none, IsStationOf, of_item, of_end}
 use Rattle.simulation.proofs.Stations.{station_is_of, no_end_stations, not_past_items}
-use Rattle.simulation.proofs.Outcomes.{both_return, both_fault}
+use Rattle.simulation.proofs.Outcomes.{both_return, both_fault, alike_gives, alike_traps}
 use Rattle.simulation.proofs.Stops.{aligns_reaches}
 use Rattle.simulation.proofs.Joined.{Addition, AtHome, FaultAt, IsReady, Joins, JoinsAt, Now, Owed, at_home, dynamic_at, home_at, in_block, join_after}
-use Rattle.simulation.proofs.Joined.{join_ahead, join_behind, join_code, join_free, join_opened, may_begun, moves_to, ready, shown, stands_begun, static_at, fs}
-use Rattle.simulation.proofs.Joined.{gs, O, Seen, Stands}
+use Rattle.simulation.proofs.Joined.{join_ahead, join_behind, join_code, join_free, join_opened, may_begun, moves_to, past_g, ready, shown, stands_begun}
+use Rattle.simulation.proofs.Joined.{static_at, fs, gs, O, Seen, Stands}
 
 module _ (addition : Addition) where
   open addition use {count, src, sides, relation, facts, follows}
@@ -128,16 +128,6 @@ module _ (addition : Addition) where
     agrees : Agrees src g t to
     goes : (t' : State) → step g t ≡ Went t' → Now addition t' to (since_of i.waits)
 
-  -- where g's outcome is a return or a trap, so is f's
-  gives_too : (b : ℕ) (xs ys : List Item) (m : Since) (k : Stage) (x : Outcome) (v : List ℕ) →
-      DoAlike count src sides relation b xs ys m k x (Gives v) → x ≡ Gives v
-  gives_too b xs ys m k (Gives w) v h = ap Gives h
-  gives_too b xs ys m k _ v h = absurd h
-
-  traps_too : (b : ℕ) (xs ys : List Item) (m : Since) (k : Stage) (x : Outcome) → DoAlike count src sides relation b xs ys m k x Traps → x ≡ Traps
-  traps_too b xs ys m k Traps h = refl
-  traps_too b xs ys m k _ h = absurd h
-
   -- where g goes on, only what it shows is owed
   agrees_going : (t t1 s : State) → step g t ≡ Went t1 → ShowsSame s.core t.core → Agrees src g t s
   agrees_going t t1 s go sh = record {
@@ -209,11 +199,11 @@ module _ (addition : Addition) where
       let rs = aligns_reaches src Reach facts.more.on (O addition) (position_of x.origin) r.mf r.sf s' r.reach_f al in
       let go_f : step f r.v ≡ Went (record { pos = block_start n; core = e }) = step_item f r.v x (Goes n e) fe.0 fa ∙
       ap (λ (z : ℕ). Went (record { pos = block_start z; core = e })) (facts.enter_f n) in
-      let join = subst (λ (z : Standing). Joins addition z (since_item count x) s' (since_item count x) s') q.2
+      let join = subst (λ (z : Standing). Joins addition z (since_item count x) s' (since_item count x) s') q.1.1
       (join_code addition (standing k') x (since_item count x) s' rs (since_not_start (station_of count x).waits) refl at st) in
       let made : Now addition t1 s' (since_item count y) =
       in_block addition t1 s' (since_item count y) r.v n e s' (since_item count x) go_f refl
-      (met (station_of count x) r.along (code_station count f r.v.pos x fe.0 cx) al go_f) rs rs q.3
+      (met (station_of count x) r.along (code_station count f r.v.pos x fe.0 cx) al go_f) rs rs q.1.2
       (subst (λ (z : Since). Joins addition Level (since_item count x) s' z s') j join) in
       subst (λ (z : State). Now addition z s' (since_item count y)) is made
   goes_on t s m r k' x y xs ys ef eg home cx j st s1 s' al ag (Gives v) (Gives w) fa q t' go = cc
@@ -237,7 +227,6 @@ module _ (addition : Addition) where
       let op : O addition p = record { place = r.v.pos; station = station_of count x; stands = sx; from = refl } in
       let a = do_item f x.kind r.v.core in
       let c = do_item g y.kind t.core in
-      let m1 = since_item count x in
       let go_f = step_item f r.v x a fe.0 refl in
       let go = step_item g t y c ge.0 refl in
       let home = home_at addition t s m r (standing r.k) refl (may_begun addition (standing r.k) p may) in
@@ -250,11 +239,8 @@ module _ (addition : Addition) where
               agrees = record {
                 events = sh.events;
                 told = sh.told;
-                returns = λ rs h. z.2.returns rs
-                    (both_return f g r.v t a c go_f go
-                    (λ v e. gives_too b xs ys m1 k' a v (subst (DoAlike count src sides relation b xs ys m1 k' a) e al)) rs h);
-                faults = λ h. z.2.faults
-                    (both_fault f g r.v t a c go_f go (λ e. traps_too b xs ys m1 k' a (subst (DoAlike count src sides relation b xs ys m1 k' a) e al)) h);
+                returns = λ rs h. z.2.returns rs (both_return f g r.v t a c go_f go (alike_gives _ _ a c al) rs h);
+                faults = λ h. z.2.faults (both_fault f g r.v t a c go_f go (alike_traps _ _ a c al) h);
               };
               goes = λ t' h. goes_on t s m r k' x y xs ys ef eg home cx j st s1 z.0 z.1 z.2 a c refl al t' (sym go ∙ h);
             })
@@ -297,20 +283,12 @@ module _ (addition : Addition) where
               | inl d ↦
                   let t1 : State = record { pos = below t.pos; core = d.0 } in
                   let go = step_item g t y (Falls d.0) ge.0 d.1 in
-                  let made : Now addition t1 z.0 Same = record {
-                    v = r.v;
-                    sf = r.sf;
-                    mf = r.mf;
-                    k = k';
-                    along = r.along;
-                    home = subst (λ (q : Standing). AtHome addition q t1.pos.block b) (sym ak) home;
-                    reach = aligns_reaches src Reach facts.more.on (O addition) p r.mf r.sf z.0 r.reach_f z.1;
-                    reach_f = r.reach_f;
-                    static = rw ge.1 (subst (λ (q : List Item). Rests k' b q ys) (sym ef) s1);
-                    dynamic = rw ge.1 (subst (λ (q : List Item). Cores k' b q ys r.v.core d.0) (sym ef) d.2);
-                    joins = subst (λ (q : Standing). Joins addition q r.mf r.sf Same z.0) (sym ak) (join_ahead addition p r.mf r.sf z.0 z.1);
-                    owed = subst (λ (q : Standing). Owed addition q r.v r.mf r.sf Same z.0) (sym ak) tt;
-                  } in
+                  let made : Now addition t1 z.0 Same =
+                  past_g addition t s m r k' y (x ∷ xs) ys ef eg d.0 s1 d.2 z.0 Same
+                  (subst (λ (q : Standing). AtHome addition q t1.pos.block b) (sym ak) home)
+                  (aligns_reaches src Reach facts.more.on (O addition) p r.mf r.sf z.0 r.reach_f z.1)
+                  (subst (λ (q : Standing). Joins addition q r.mf r.sf Same z.0) (sym ak) (join_ahead addition p r.mf r.sf z.0 z.1))
+                  (subst (λ (q : Standing). Owed addition q r.v r.mf r.sf Same z.0) (sym ak) tt) in
                   record {
                     to = z.0;
                     aligns = al;
@@ -339,21 +317,12 @@ module _ (addition : Addition) where
         | inl k ↦ subst (λ (z : Since). Aligns src (Stops p) p z s0 s0) (sym k) (here at)
         | inr k ↦ subst (λ (z : Since). Aligns src (Stops p) p z s0 s0) (sym k) (inl (at, refl))
       ] in
-      let made : Now addition t1 s0 Same = record {
-        v = r.v;
-        sf = r.sf;
-        mf = r.mf;
-        k = k';
-        along = r.along;
-        home = home_open (standing k') t.pos.block b may home (ap (λ (z : State). z.pos.block) ow.0);
-        reach = r0;
-        reach_f = r.reach_f;
-        static = rw ge.1 (subst (λ (z : List Item). Rests k' b z ys) (sym ef) s1);
-        dynamic = rw ge.1 (subst (λ (z : List Item). Cores k' b z ys r.v.core d.0) (sym ef) d.2);
-        joins = subst (λ (z : Since). Joins addition (standing k') z r.sf Same s0) (sym ow.1)
-            (subst (λ (z : State). Joins addition (standing k') Start z Same s0) (sym ow.2) (join_open (standing k') may r0));
-        owed = owed_open (standing k') may r.v r.mf r.sf ow.0 ow.1 ow.2;
-      } in
+      let made : Now addition t1 s0 Same =
+      past_g addition t s m r k' y xs ys ef eg d.0 s1 d.2 s0 Same
+      (home_open (standing k') t.pos.block b may home (ap (λ (z : State). z.pos.block) ow.0)) r0
+      (subst (λ (z : Since). Joins addition (standing k') z r.sf Same s0) (sym ow.1)
+      (subst (λ (z : State). Joins addition (standing k') Start z Same s0) (sym ow.2) (join_open (standing k') may r0)))
+      (owed_open (standing k') may r.v r.mf r.sf ow.0 ow.1 ow.2) in
       record {
         to = s0;
         aligns = subst (λ (z : State). Aligns src (Stops p) p m z s0) (sym ow.3) al;
@@ -397,21 +366,12 @@ module _ (addition : Addition) where
         | inr z ↦ inr (subst (λ (n : Since). FaultAt addition (position_of y.origin) n s) (sym ow.3) (inl z))
         | inl u ↦
             let go_s : step src r.sf ≡ Went u.0 = ap (step src) ow.1 ∙ u.1 in
-            let made : Now addition t1 u.0 Same = record {
-              v = r.v;
-              sf = r.sf;
-              mf = r.mf;
-              k = k';
-              along = r.along;
-              home = subst (λ (w : Standing). AtHome addition w t1.pos.block b) (sym af) home;
-              reach = facts.more.on s u.0 r.reach u.1;
-              reach_f = r.reach_f;
-              static = rw ge.1 (subst (λ (q : List Item). Rests k' b q ys) (sym ef) s1);
-              dynamic = rw ge.1 (subst (λ (q : List Item). Cores k' b q ys r.v.core d.0) (sym ef) d.2);
-              joins = subst (λ (w : Standing). Joins addition w r.mf r.sf Same u.0) (sym af)
-                  (subst (λ (k : Since). Joins addition Level k r.sf Same u.0) (sym ow.2) (join_behind addition r.sf u.0 r.reach_f go_s));
-              owed = subst (λ (w : Standing). Owed addition w r.v r.mf r.sf Same u.0) (sym af) tt;
-            } in
+            let made : Now addition t1 u.0 Same =
+            past_g addition t s m r k' y xs ys ef eg d.0 s1 d.2 u.0 Same
+            (subst (λ (w : Standing). AtHome addition w t1.pos.block b) (sym af) home) (facts.more.on s u.0 r.reach u.1)
+            (subst (λ (w : Standing). Joins addition w r.mf r.sf Same u.0) (sym af)
+            (subst (λ (k : Since). Joins addition Level k r.sf Same u.0) (sym ow.2) (join_behind addition r.sf u.0 r.reach_f go_s)))
+            (subst (λ (w : Standing). Owed addition w r.v r.mf r.sf Same u.0) (sym af) tt) in
             inl (record {
               to = u.0;
               aligns = subst (λ (k : Since). Aligns src (Stops (position_of y.origin)) (position_of y.origin) k s u.0) (sym ow.3)

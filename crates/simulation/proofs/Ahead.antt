@@ -1,9 +1,8 @@
 -- What a pass gives for code that it takes out though it may trap: a function's shape lets g idle where the source stops.
-use Rattle.std.proofs.Common.{◌≡◌, ℕ, ◌+◌, ◌*◌, ◌%◌, ◌^◌, ◌<◌, ◌≤◌, List, [], ◌∷◌, map, All, Option, Some, None, Bool, true, false, cond, refl, sym, ap, ◌∙◌}
-use Rattle.std.proofs.Common.{subst, inl, inr, ◌⊎◌, arith}
+use Rattle.std.proofs.Common.{◌≡◌, ℕ, ◌*◌, ◌<◌, ◌≤◌, List, [], ◌∷◌, map, All, Option, Some, None, Bool, true, false, cond, refl, sym, ap, ◌∙◌, subst, inl, inr}
+use Rattle.std.proofs.Common.{◌⊎◌, arith}
 use Rattle.std.proofs.lemmas.List.Elements.{All-cons, All-head, All-tail, All-nil}
-use Rattle.rv64_instr.specs.Arithmetic.{taken, width_of}
-use Rattle.rv64_instr.specs.Row.{Row, Fixes, Moves, Sets, Loads, Stores, LoadsSlot, StoresSlot, Branches, Jumps, Calls, Returns, Unfit, row_of}
+use Rattle.rv64_instr.specs.Row.{Row, Fixes, Loads, Stores, LoadsSlot, StoresSlot, Branches, Jumps, Calls, Returns, row_of}
 use Rattle.rv64_instr.specs.Access.{reads}
 use Rattle.mir_func.specs.declared.position.Pos.{Pos}
 use Rattle.mir_func.specs.declared.position.Origin.{Origin}
@@ -13,7 +12,7 @@ use Rattle.mir_func.specs.declared.variable.MarkValue.TheVariants.{Nothing, Cons
 use Rattle.mir_func.specs.declared.item.Item.{Item}
 use Rattle.mir_func.specs.declared.item.ItemKind.{ItemKind}
 use Rattle.mir_func.specs.declared.item.ItemKind.TheVariants.{Code, Mark, Phi}
-use Rattle.mir_meaning.specs.State.{Reply, Core, State, is_same, assigned, touches_frame, writes_frame}
+use Rattle.mir_meaning.specs.State.{Reply, Core, State, is_same, assigned, writes_frame}
 use Rattle.mir_meaning.specs.Step.{Outcome, Falls, Goes, Gives, Traps, Asks, Breaks, read, answered, slot_loaded, does, are_written, act, with_core, is_call}
 use Rattle.mir_meaning.specs.Step.{numbered, do_item}
 use Rattle.mir_func.specs.Graph.{Program, Fetch, Here, Silent, Outside}

@@ -17,7 +17,7 @@ use Rattle.mir_meaning.proofs.Outcomes.{step_item, step_end}
 use Rattle.simulation.proofs.Refinement.{still_follows}
 use Rattle.simulation.proofs.Order.{done_next, rank_high, rank_low, rank_next, same_pos, done_more, waits_after, done_past, done_self, waits_where, IsNoLater}
 use Rattle.simulation.proofs.Order.{no_later, from_less, until_more, until_here, until_next, from_next}
-use Rattle.simulation.proofs.Outcomes.{both_return, both_fault}
+use Rattle.simulation.proofs.Outcomes.{both_return, both_fault, alike_gives, alike_traps}
 use Rattle.simulation.proofs.Between.{Change, fs, gs, Seen, IsNext}
 use Rattle.simulation.proofs.Beside.{Beside, at_start, dynamic_at, static_at, IsReady, ready}
 use Rattle.simulation.proofs.Stations.{not_code, code_station, debug_station, end_is_station, code_is_some, code_is, debug_is_none, IsStationOf, of_item}
@@ -146,16 +146,6 @@ module _ (change : Change) where
         | inr d ↦ inr d
       ]
 
-  -- where g's outcome is a return or a trap, so is f's
-  gives_too : (b : ℕ) (xs ys : List Item) (m : Since) (k : Stage) (x : Outcome) (v : List ℕ) →
-      DoAlike count src sides relation b xs ys m k x (Gives v) → x ≡ Gives v
-  gives_too b xs ys m k (Gives w) v h = ap Gives h
-  gives_too b xs ys m k _ v h = absurd h
-
-  traps_too : (b : ℕ) (xs ys : List Item) (m : Since) (k : Stage) (x : Outcome) → DoAlike count src sides relation b xs ys m k x Traps → x ≡ Traps
-  traps_too b xs ys m k Traps h = refl
-  traps_too b xs ys m k _ h = absurd h
-
   -- beside each other again after code of both; nothing lies between
   goes_on : (last0 : Option Pos) (t u : State) (r : Beside change last0 t u) (k' : Stage) (x y : Item) (xs ys : List Item) → rest_f r.v.pos ≡ x ∷ xs →
       rest_g t.pos ≡ y ∷ ys → x.origin ≡ y.origin → since_item count x ≡ since_item count y → Rests k' r.v.pos.block xs ys →
@@ -202,8 +192,8 @@ module _ (change : Change) where
       let w1 : State = record { pos = block_start n; core = e } in
       let went : Went t1 ≡ Went t' = ap (λ (z : ℕ). Went (record { pos = block_start z; core = e' })) (al.0 ∙ sym (facts.enter_g k)) ∙ st in
       let is : t1 ≡ t' = cc in
-      let after : since_item count y ≡ After = sym sy ∙ al.1 in
-      let made : Beside change None t1 w1 = at_start change None None w1 n e e' al.2 (λ p h. cc) (λ p next w j. j) (λ p next d. d) in (
+      let after : since_item count y ≡ After = sym sy ∙ al.1.0 in
+      let made : Beside change None t1 w1 = at_start change None None w1 n e e' al.1.1 (λ p h. cc) (λ p next w j. j) (λ p next d. d) in (
         w1,
         ap (λ (z : ℕ). Went (record { pos = block_start z; core = e })) (facts.enter_f n),
         subst (λ (z : State). Beside change (waiting (since_item count y) (position_of y.origin)) z w1) is
@@ -267,7 +257,6 @@ module _ (change : Change) where
       let ge = facts.laid_g.cons t.pos y ys eg in
       let a = do_item f x.kind r.v.core in
       let c = do_item g y.kind t.core in
-      let m = since_item count x in
       let go_f = step_item f r.v x a fe.0 refl in
       let go = step_item g t y c ge.0 refl in
       let shows = facts.shows r.stage b (rest_f r.v.pos) (rest_g t.pos) r.v.core t.core r.dynamic in
@@ -288,8 +277,8 @@ module _ (change : Change) where
         since = since;
         events = shows.events;
         told = shows.told;
-        returns = both_return f g r.v t a c go_f go (λ v e. gives_too b xs ys m k' a v (subst (DoAlike count src sides relation b xs ys m k' a) e al));
-        faults = both_fault f g r.v t a c go_f go (λ e. traps_too b xs ys m k' a (subst (DoAlike count src sides relation b xs ys m k' a) e al));
+        returns = both_return f g r.v t a c go_f go (alike_gives _ _ a c al);
+        faults = both_fault f g r.v t a c go_f go (alike_traps _ _ a c al);
         goes = λ t' h. let z = goes_on last0 t u r k' x y xs ys ef eg o since s a c (λ d e. falls_stays count g y.kind t.core d e) al t' (sym go ∙ h) in
             inl (z.0, go_f ∙ z.1, z.2);
       } in

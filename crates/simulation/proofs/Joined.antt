@@ -208,6 +208,28 @@ module _ (addition : Addition) where
     owed = subst (λ (z : Standing). Owed z w r.mf r.sf m s) (sym same) (owed_quiet (standing r.k) r.v w r.mf r.sf m s q r.owed);
   }
 
+  -- g past an item of its own, with the source then aligned at s'
+  pub past_g : (t s : State) (m : Since) (r : Now t s m) (k' : Stage) (y : Item) (xs ys : List Item) → rest_f r.v.pos ≡ xs → rest_g t.pos ≡ y ∷ ys →
+      (e : Core) → Rests k' r.v.pos.block xs ys → Cores k' r.v.pos.block xs ys r.v.core e → (s' : State) (m' : Since) →
+      AtHome (standing k') t.pos.block r.v.pos.block → Reach s'.pos → Joins (standing k') r.mf r.sf m' s' → Owed (standing k') r.v r.mf r.sf m' s' →
+      Now (record { pos = below t.pos; core = e }) s' m'
+  past_g t s m r k' y xs ys ef eg e st dy s' m' home reach joins owed =
+      let tail = (facts.laid_g.cons t.pos y ys eg).1 in
+      record {
+        v = r.v;
+        sf = r.sf;
+        mf = r.mf;
+        k = k';
+        along = r.along;
+        home = home;
+        reach = reach;
+        reach_f = r.reach_f;
+        static = rw (ef, tail) st;
+        dynamic = rw (ef, tail) dy;
+        joins = joins;
+        owed = owed;
+      }
+
   -- level at the start of block n, to which f has gone from u
   pub in_block : (t1 s : State) (m : Since) (u : State) (n : ℕ) (c : Core) (sf : State) (mf : Since) →
       step f u ≡ Went (record { pos = block_start n; core = c }) → t1.pos ≡ block_start (g.enter n) → AlongF (record { pos = block_start n; core = c }) sf mf →
