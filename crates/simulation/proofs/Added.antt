@@ -212,6 +212,32 @@ module _ (addition : Addition) where
   goes_on t s m r k' x y xs ys ef eg home cx j st s1 s' al ag Breaks Breaks fa q t' go = cc
   goes_on t s m r k' x y xs ys ef eg home cx j st s1 s' al ag _ _ fa q t' go = absurd q
 
+  -- f at a station, where what f has may come: there the source is aligned with f and with g
+  record MeetsF (t s : State) (m : Since) (r : Now addition t s m) (p : Pos) : Type 0 where
+    to : State
+    aligns_f : Aligns src (O addition) p r.mf r.sf to
+    agrees_f : Agrees src f r.v to
+    aligns : Aligns src (Stops p) p m s to
+    shows : ShowsSame to.core t.core
+    reach : Reach to.pos
+
+  meets_f : (t s : State) (m : Since) (r : Now addition t s m) (i : Station) → fs addition r.v.pos ≡ Some i → MayCome (standing r.k) i.pos →
+      MeetsF t s m r i.pos ⊎ FaultAt addition i.pos m s
+  meets_f t s m r i e may =
+      let o : O addition i.pos = record { place = r.v.pos; station = i; stands = e; from = refl } in
+      elim (follows r.v r.sf r.mf i r.along e) as (λ _. MeetsF t s m r i.pos ⊎ FaultAt addition i.pos m s) [
+        | inl z ↦
+            inl (record {
+              to = z.0;
+              aligns_f = z.1;
+              agrees_f = z.2;
+              aligns = (r.joins i.pos may o).next z.0 z.1;
+              shows = shows_as r.v t z.0 (shown addition t s m r) z.2;
+              reach = aligns_reaches src Reach facts.more.on (O addition) i.pos r.mf r.sf z.0 r.reach_f z.1;
+            })
+        | inr z ↦ inr ((r.joins i.pos may o).fails z)
+      ]
+
   -- code of both
   meets_both : (t s : State) (m : Since) (r : Now addition t s m) (k' : Stage) (x y : Item) (xs ys : List Item) → rest_f r.v.pos ≡ x ∷ xs →
       rest_g t.pos ≡ y ∷ ys → MayCome (standing r.k) (position_of x.origin) → is_code x.kind ≡ true → x.origin ≡ y.origin →
@@ -220,31 +246,28 @@ module _ (addition : Addition) where
       Met t s m (station_of count y) ⊎ FaultAt addition (position_of y.origin) m s
   meets_both t s m r k' x y xs ys ef eg may cx o j st s1 al =
       let b = r.v.pos.block in
-      let p = position_of x.origin in
       let fe = facts.laid_f.cons r.v.pos x xs ef in
       let ge = facts.laid_g.cons t.pos y ys eg in
       let sx = code_station count f r.v.pos x fe.0 cx in
-      let op : O addition p = record { place = r.v.pos; station = station_of count x; stands = sx; from = refl } in
       let a = do_item f x.kind r.v.core in
       let c = do_item g y.kind t.core in
       let go_f = step_item f r.v x a fe.0 refl in
       let go = step_item g t y c ge.0 refl in
-      let home = home_at addition t s m r (standing r.k) refl (may_begun addition (standing r.k) p may) in
-      elim (follows r.v r.sf r.mf (station_of count x) r.along sx) as (λ z. Met t s m (station_of count y) ⊎ FaultAt addition (position_of y.origin) m s) [
+      let home = home_at addition t s m r (standing r.k) refl (may_begun addition (standing r.k) (position_of x.origin) may) in
+      elim (meets_f t s m r (station_of count x) sx may) as (λ z. Met t s m (station_of count y) ⊎ FaultAt addition (position_of y.origin) m s) [
         | inl z ↦
-            let sh = shows_as r.v t z.0 (shown addition t s m r) z.2 in
             inl (record {
-              to = z.0;
-              aligns = subst (λ (q : Pos). Aligns src (Stops q) q m s z.0) (ap position_of o) ((r.joins p may op).next z.0 z.1);
+              to = z.to;
+              aligns = subst (λ (q : Pos). Aligns src (Stops q) q m s z.to) (ap position_of o) z.aligns;
               agrees = record {
-                events = sh.events;
-                told = sh.told;
-                returns = λ rs h. z.2.returns rs (both_return f g r.v t a c go_f go (alike_gives _ _ a c al) rs h);
-                faults = λ h. z.2.faults (both_fault f g r.v t a c go_f go (alike_traps _ _ a c al) h);
+                events = z.shows.events;
+                told = z.shows.told;
+                returns = λ rs h. z.agrees_f.returns rs (both_return f g r.v t a c go_f go (alike_gives _ _ a c al) rs h);
+                faults = λ h. z.agrees_f.faults (both_fault f g r.v t a c go_f go (alike_traps _ _ a c al) h);
               };
-              goes = λ t' h. goes_on t s m r k' x y xs ys ef eg home cx j st s1 z.0 z.1 z.2 a c refl al t' (sym go ∙ h);
+              goes = λ t' h. goes_on t s m r k' x y xs ys ef eg home cx j st s1 z.to z.aligns_f z.agrees_f a c refl al t' (sym go ∙ h);
             })
-        | inr z ↦ inr (subst (λ (q : Pos). FaultAt addition q m s) (ap position_of o) ((r.joins p may op).fails z))
+        | inr z ↦ inr (subst (λ (q : Pos). FaultAt addition q m s) (ap position_of o) z)
       ]
 
   -- code of g before f's
@@ -259,42 +282,39 @@ module _ (addition : Addition) where
       let fe = facts.laid_f.cons r.v.pos x xs ef in
       let ge = facts.laid_g.cons t.pos y ys eg in
       let sx = code_station count f r.v.pos x fe.0 cx in
-      let op : O addition p = record { place = r.v.pos; station = station_of count x; stands = sx; from = refl } in
       let home = home_at addition t s m r (standing r.k) refl (may_begun addition (standing r.k) p may) in
-      elim (follows r.v r.sf r.mf (station_of count x) r.along sx) as (λ z. Met t s m (station_of count y) ⊎ FaultAt addition (position_of y.origin) m s) [
-        | inr z ↦ inr (subst (λ (q : Pos). FaultAt addition q m s) (sym o) ((r.joins p may op).fails z))
+      elim (meets_f t s m r (station_of count x) sx may) as (λ z. Met t s m (station_of count y) ⊎ FaultAt addition (position_of y.origin) m s) [
+        | inr z ↦ inr (subst (λ (q : Pos). FaultAt addition q m s) (sym o) z)
         | inl z ↦
-            let al = subst (λ (q : Pos). Aligns src (Stops q) q m s z.0) (sym o) ((r.joins p may op).next z.0 z.1) in
-            let sh = shows_as r.v t z.0 (shown addition t s m r) z.2 in
+            let al = subst (λ (q : Pos). Aligns src (Stops q) q m s z.to) (sym o) z.aligns in
             inl (elim does as (λ _. Met t s m (station_of count y)) [
               | inr tr ↦
                   let go = step_item g t y Traps ge.0 tr.0 in
                   record {
-                    to = z.0;
+                    to = z.to;
                     aligns = al;
                     agrees = record {
-                      events = sh.events;
-                      told = sh.told;
+                      events = z.shows.events;
+                      told = z.shows.told;
                       returns = λ rs h. (let bad : Faulted ≡ Returned rs = sym go ∙ h in cc);
-                      faults = λ h. z.2.faults (step_item f r.v x Traps fe.0 tr.1);
+                      faults = λ h. z.agrees_f.faults (step_item f r.v x Traps fe.0 tr.1);
                     };
                     goes = λ t' h. (let bad : Faulted ≡ Went t' = sym go ∙ h in cc);
                   }
               | inl d ↦
                   let t1 : State = record { pos = below t.pos; core = d.0 } in
                   let go = step_item g t y (Falls d.0) ge.0 d.1 in
-                  let made : Now addition t1 z.0 Same =
-                  past_g addition t s m r k' y (x ∷ xs) ys ef eg d.0 s1 d.2 z.0 Same
-                  (subst (λ (q : Standing). AtHome addition q t1.pos.block b) (sym ak) home)
-                  (aligns_reaches src Reach facts.more.on (O addition) p r.mf r.sf z.0 r.reach_f z.1)
-                  (subst (λ (q : Standing). Joins addition q r.mf r.sf Same z.0) (sym ak) (join_ahead addition p r.mf r.sf z.0 z.1))
-                  (subst (λ (q : Standing). Owed addition q r.v r.mf r.sf Same z.0) (sym ak) tt) in
+                  let made : Now addition t1 z.to Same =
+                  past_g addition t s m r k' y (x ∷ xs) ys ef eg d.0 s1 d.2 z.to Same
+                  (subst (λ (q : Standing). AtHome addition q t1.pos.block b) (sym ak) home) z.reach
+                  (subst (λ (q : Standing). Joins addition q r.mf r.sf Same z.to) (sym ak) (join_ahead addition p r.mf r.sf z.to z.aligns_f))
+                  (subst (λ (q : Standing). Owed addition q r.v r.mf r.sf Same z.to) (sym ak) tt) in
                   record {
-                    to = z.0;
+                    to = z.to;
                     aligns = al;
-                    agrees = agrees_going t t1 z.0 go sh;
-                    goes = λ t' h. subst (λ (q : State). Now addition q z.0 (since_item count y)) (went_once g t t1 t' go h)
-                        (subst (λ (q : Since). Now addition t1 z.0 q) (sym j) made);
+                    agrees = agrees_going t t1 z.to go z.shows;
+                    goes = λ t' h. subst (λ (q : State). Now addition q z.to (since_item count y)) (went_once g t t1 t' go h)
+                        (subst (λ (q : Since). Now addition t1 z.to q) (sym j) made);
                   }
             ])
       ]
@@ -397,23 +417,21 @@ module _ (addition : Addition) where
       let end : Station = record { pos = p; waits = false } in
       let is : end ≡ i = sym (ie ∙ ap (λ (z : ℕ). record { pos = record { block = z; item = k }; waits = false }) (home ∙ facts.same_blocks ce b)) in
       let se : fs addition r.v.pos ≡ Some end = end_is_station count f r.v.pos k n ff ∙ ap (λ (z : Count). end_station z p) ce in
-      let op : O addition p = record { place = r.v.pos; station = end; stands = se; from = refl } in
       let t1 : State = record { pos = block_start (g.enter n); core = t.core } in
       let go = step_end g t k n fe in
-      elim (follows r.v r.sf r.mf end r.along se) as (λ z. Met t s m i ⊎ FaultAt addition i.pos m s) [
-        | inr z ↦ inr (subst (λ (q : Station). FaultAt addition q.pos m s) is ((r.joins p (subst (λ (q : Standing). MayCome q p) (sym lv) tt) op).fails z))
+      elim (meets_f t s m r end se (subst (λ (q : Standing). MayCome q p) (sym lv) tt)) as (λ z. Met t s m i ⊎ FaultAt addition i.pos m s) [
+        | inr z ↦ inr (subst (λ (q : Station). FaultAt addition q.pos m s) is z)
         | inl z ↦
-            let rs = aligns_reaches src Reach facts.more.on (O addition) p r.mf r.sf z.0 r.reach_f z.1 in
-            let at = aligns_at src (O addition) p r.mf r.sf z.0 z.1 in
-            let made : Now addition t1 z.0 After = in_block addition t1 z.0 After r.v n r.v.core z.0 After (end_f r.v k n ff) refl
-            (met end r.along se z.1 (end_f r.v k n ff)) rs rs
+            let at = aligns_at src (O addition) p r.mf r.sf z.to z.aligns_f in
+            let made : Now addition t1 z.to After = in_block addition t1 z.to After r.v n r.v.core z.to After (end_f r.v k n ff) refl
+            (met end r.along se z.aligns_f (end_f r.v k n ff)) z.reach z.reach
             (facts.ends r.k r.v.pos k n r.v.core t.core lv ef ff (static_at addition t s m r [] [] ef eg) (dynamic_at addition t s m r [] [] ef eg))
-            (join_after addition z.0 rs (λ u go2 h. facts.end_stands r.v.pos k n ce ff z.0 u at go2 h) After (λ e. cc)) in
+            (join_after addition z.to z.reach (λ u go2 h. facts.end_stands r.v.pos k n ce ff z.to u at go2 h) After (λ e. cc)) in
             inl (subst (Met t s m) is (record {
-              to = z.0;
-              aligns = (r.joins p (subst (λ (q : Standing). MayCome q p) (sym lv) tt) op).next z.0 z.1;
-              agrees = agrees_going t t1 z.0 go (shows_as r.v t z.0 (shown addition t s m r) z.2);
-              goes = λ t' h. subst (λ (q : State). Now addition q z.0 After) (went_once g t t1 t' go h) made;
+              to = z.to;
+              aligns = z.aligns;
+              agrees = agrees_going t t1 z.to go z.shows;
+              goes = λ t' h. subst (λ (q : State). Now addition q z.to After) (went_once g t t1 t' go h) made;
             }))
       ]
 
