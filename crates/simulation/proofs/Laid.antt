@@ -1,7 +1,7 @@
 -- A function's blocks are laid out: what stands from each position to its block's end.
-use Rattle.std.proofs.Common.{◌≡◌, ℕ, zero, suc, ◌+◌, ◌*◌, ◌<◌, ◌≤◌, List, [], ◌∷◌, drop, All, Contains, slice_get, slice_index_or, Option, Some, Bool, true}
-use Rattle.std.proofs.Common.{false, cond, nat_eq, ne_eqb, refl, sym, ap, ◌∙◌, subst, arith}
+use Rattle.std.proofs.Common.{◌≡◌, ℕ, zero, suc, ◌+◌, ◌*◌, ◌<◌, ◌≤◌, List, [], ◌∷◌, drop, All, Contains, slice_get, slice_index_or, Option, Some, Bool, true, false, cond, nat_eq, ne_eqb, refl, sym, ap, ◌∙◌, subst, arith}
 use Rattle.std.proofs.lemmas.List.Elements.{All-contains}
+use Rattle.mir_func.specs.declared.entry.OperandPair.{OperandPair}
 use Rattle.mir_func.specs.declared.position.Pos.{Pos}
 use Rattle.mir_func.specs.declared.position.Origin.{Origin}
 use Rattle.mir_func.specs.declared.position.Origin.TheVariants.{Kept, Before}
@@ -48,14 +48,14 @@ nil_in [] n e = (tt, refl)
 nil_in (b ∷ bs) n e = let k : n + 1 ≡ suc n = omega arith in
     (subst (λ (z : List Item). IsPastItems (front z b.silent bs)) (sym e) (end_is_past b.silent bs), ap (λ (m : ℕ). drop m b.items) k ∙ drop_none b.items n e)
 
-pub laid_out : (sp : Bool) (blocks : List Block) (resolve : ℕ → ℕ → Option (ℕ × ℕ)) → Laid (program_of sp blocks resolve) (rest_of blocks)
+pub laid_out : (sp : Bool) (blocks : List Block) (resolve : OperandPair → Option OperandPair) → Laid (program_of sp blocks resolve) (rest_of blocks)
 laid_out sp blocks resolve = record {
   cons = λ p x xs e. cons_in (from_block blocks p.block) p.item x xs e;
   nil = λ p e. nil_in (from_block blocks p.block) p.item e;
 }
 
 -- with a frame, a position's block is its index
-pub laid_out_framed : (blocks : List Block) (resolve : ℕ → ℕ → Option (ℕ × ℕ)) →
+pub laid_out_framed : (blocks : List Block) (resolve : OperandPair → Option OperandPair) →
     Laid (framed_program blocks resolve) (λ p. rest_in (drop p.block blocks) p.item)
 laid_out_framed blocks resolve = record { cons = λ p x xs e. cons_in (drop p.block blocks) p.item x xs e; nil = λ p e. nil_in (drop p.block blocks) p.item e }
 
@@ -88,7 +88,7 @@ origin_next : (b : Block) (o : Origin) → OriginIn b o → next_rank o ≤ 2 * 
 origin_next b (Kept p) h = let k = h.1 in omega (arith, k)
 origin_next b (Before p) h = let k = h.1 in omega (arith, k)
 
-module _ (sp : Bool) (blocks : List Block) (resolve : ℕ → ℕ → Option (ℕ × ℕ)) where
+module _ (sp : Bool) (blocks : List Block) (resolve : OperandPair → Option OperandPair) where
   abbrev g : Program
   g = program_of sp blocks resolve
 
@@ -172,7 +172,7 @@ index_next (a ∷ cs) h m b c rest e = by_test (nat_eq a.id m) refl e (next_bloc
             by_head false t e later = let k = later e in rw t (omega (arith, k))
 
 -- where block numbers differ, a block falls into one further down in the text
-pub falls_down : (sp : Bool) (blocks : List Block) (resolve : ℕ → ℕ → Option (ℕ × ℕ)) → AreApart (ids_of blocks) → (p : Pos) (k n : ℕ) →
+pub falls_down : (sp : Bool) (blocks : List Block) (resolve : OperandPair → Option OperandPair) → AreApart (ids_of blocks) → (p : Pos) (k n : ℕ) →
     (program_of sp blocks resolve).fetch p ≡ Silent k n → index_of blocks p.block < index_of blocks n
 falls_down sp blocks resolve apart p k n e = let s = end_in sp blocks resolve p k n e in by_rest s.0.block s.0.rest s.0.found s.2 where
   by_rest : (b : Block) (rest : List Block) → from_block blocks p.block ≡ b ∷ rest → end_of b.silent rest ≡ Silent k n →

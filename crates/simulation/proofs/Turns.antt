@@ -8,10 +8,11 @@ use Rattle.mir_func.specs.declared.item.Item.{Item}
 use Rattle.mir_func.specs.declared.item.ItemKind.{ItemKind}
 use Rattle.mir_func.specs.declared.item.ItemKind.TheVariants.{Code, Mark, Phi}
 use Rattle.mir_meaning.specs.State.{State, Core, updated}
-use Rattle.mir_meaning.specs.Step.{Went, Outcome, Falls, Goes, moved, act, does, with_core, numbered, is_call, mark_value, place_value, do_item, do_fetch, step}
+use Rattle.mir_meaning.specs.Step.{Went, Outcome, Falls, Goes, moved, act, does, with_core, numbered, mark_value, place_value, do_item, do_fetch, step}
+use Rattle.rv64_instr.specs.Parts.{is_call, IsSlotStore}
 use Rattle.mir_func.specs.Graph.{Program, Fetch, Here, Silent, Outside, below, block_start, Edge, FetchEdge, KindEdge, RowEdge, Leads, stay, go as by_edge}
 use Rattle.mir_meaning.specs.Align.{position_of, is_code, is_jump, is_jump_row, Station, ByItems, station_of, item_station, fetch_station, station_at}
-use Rattle.mir_meaning.specs.Follow.{OnRow, IsSlotSave}
+use Rattle.mir_meaning.specs.Follow.{OnRow}
 use Rattle.simulation.specs.Words.{SameCode, IsAddedJump, HasPlainTurns}
 use Rattle.mir_meaning.proofs.Edges.{falls_below, goes_to_start}
 use Rattle.simulation.proofs.Order.{same_pos}
@@ -186,11 +187,11 @@ module _ (g : Program) where
   quiet_passes still h = h
   quiet_passes (on {t = a} {u = n} ne st q) h = quiet_passes q (quiet_next a.pos n.pos (g.fetch a.pos) ne h (quiet_step a n ne st).1)
 
-  save_below : (k : ItemKind) → OnRow IsSlotSave k → (p q : Pos) → KindEdge g.enter k p q → q ≡ below p
+  save_below : (k : ItemKind) → OnRow IsSlotStore k → (p q : Pos) → KindEdge g.enter k p q → q ≡ below p
   save_below (Mark v m) s p q e = absurd s
   save_below (Phi r n) s p q e = absurd s
   save_below (Code c n) s p q e = by_row (row_of c) s e where
-    by_row : (r : Row) → IsSlotSave r → RowEdge g.enter r p q → q ≡ below p
+    by_row : (r : Row) → IsSlotStore r → RowEdge g.enter r p q → q ≡ below p
     by_row (StoresSlot rs n) s e = e
     by_row _ s e = absurd s
 

@@ -5,9 +5,9 @@ use Rattle.mir_func.specs.declared.item.Item.{Item}
 use Rattle.mir_meaning.specs.State.{Core, State}
 use Rattle.mir_meaning.specs.Step.{Went, step}
 use Rattle.mir_func.specs.Graph.{Here, Program, Leads}
-use Rattle.mir_meaning.specs.Align.{position_of, is_code, is_jump, waits_at, Station, ByItems, ByWords, station_at, Since, Aligns, First, Along, FailsBefore}
-use Rattle.mir_meaning.specs.Align.{Agrees, RunsAlong}
-use Rattle.mir_meaning.specs.Follow.{OnRow, IsSlotSave}
+use Rattle.mir_meaning.specs.Align.{position_of, is_code, is_jump, waits_at, Station, ByItems, ByWords, station_at, Since, Aligns, First, Along, FailsBefore, Agrees, RunsAlong}
+use Rattle.mir_meaning.specs.Follow.{OnRow}
+use Rattle.rv64_instr.specs.Parts.{IsSlotStore}
 
 -- the same core but for marks and pairs
 pub record SameCode (c d : Core) : Type 0 where
@@ -55,9 +55,9 @@ pub record HasPlainTurns (g : Program) (Inner : Pos → Type 0) : Type 0 where
       ((position_of i.origin).block ≡ (position_of j.origin).block) × ((position_of i.origin).item ≤ (position_of j.origin).item)
   -- in an added jump's block, slot stores and jumps alone stand at its position
   pub silent : (p q : Pos) (i j : Item) → q.block ≡ p.block → g.fetch p ≡ Here i → IsAddedJump i → g.fetch q ≡ Here j → is_code j.kind ≡ true →
-      position_of j.origin ≡ position_of i.origin → OnRow IsSlotSave j.kind ⊎ (is_jump j.kind ≡ true)
+      position_of j.origin ≡ position_of i.origin → OnRow IsSlotStore j.kind ⊎ (is_jump j.kind ≡ true)
   -- and with such a store goes code at another position, before it in its block or after it
-  pub stores : (p q : Pos) (i j : Item) → q.block ≡ p.block → g.fetch p ≡ Here i → IsAddedJump i → g.fetch q ≡ Here j → OnRow IsSlotSave j.kind →
+  pub stores : (p q : Pos) (i j : Item) → q.block ≡ p.block → g.fetch p ≡ Here i → IsAddedJump i → g.fetch q ≡ Here j → OnRow IsSlotStore j.kind →
       position_of j.origin ≡ position_of i.origin →
       (r : Pos) × (k : Item) × (g.fetch r ≡ Here k) × (is_code k.kind ≡ true) × (position_of k.origin ≡ position_of i.origin → ⊥) ×
       (((r.block ≡ q.block) × (r.item < q.item)) ⊎ Leads g q r)
