@@ -10,6 +10,7 @@ use Rattle.mir_meaning.specs.State.{State, Core, Reply, Called, spelled, put_all
 use Rattle.mir_meaning.specs.Step.{Went, Outcome, Falls, Goes, Gives, Traps, Asks, Breaks, moved, read, address_at, is_fault, part_of, set_register, saved}
 use Rattle.mir_meaning.specs.Step.{answered, slot_loaded, does, act, are_written, numbered, with_core, mark_value, place_value, do_item, do_fetch, step}
 use Rattle.rv64_instr.specs.Parts.{is_call}
+use Rattle.mir_meaning.proofs.Outcomes.{after_reply}
 use Rattle.mir_func.specs.Graph.{Program, Fetch, Here, Silent, Outside, below, block_start, Edge, FetchEdge, KindEdge, RowEdge, Leads, stay, go}
 
 -- where an outcome leads, an edge of the row leads too
@@ -47,9 +48,7 @@ module _ (enter : ℕ → ℕ) (p : Pos) where
   does_allows (Calls name args) c = by_script (map (read c) args) c.script where
     by_script : (vs : List ℕ) (rs : List Reply) → Allows enter (Calls name args) p (answered name vs c rs)
     by_script vs [] = tt
-    by_script vs (r ∷ rs) = either (Calls name args) (writes_frame c.entry c.area r.writes) Traps
-        (Falls (record c { regs = put_all caller_saved r.regs c.regs; memory = written c.memory r.writes; script = rs; events = Called name vs ∷ c.events }))
-        tt refl
+    by_script vs (r ∷ rs) = either (Calls name args) (writes_frame c.entry c.area r.writes) Traps (Falls (after_reply name vs c r rs)) tt refl
   does_allows (Returns v) c = tt
   does_allows Unfit c = tt
 

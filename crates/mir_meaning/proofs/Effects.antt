@@ -19,7 +19,7 @@ use Rattle.mir_meaning.specs.Step.{Outcome, Falls, Goes, Traps, or_zero, read, i
 use Rattle.mir_meaning.specs.Step.{slot_loaded, loaded, saved, put_in_memory, does, are_written, act, with_core}
 use Rattle.mir_meaning.specs.Effects.{held_in, OnCore, EndAlike, SameWorld}
 use Rattle.mir_meaning.proofs.Places.{put_other, put_all_other, updated_same, updated_other, contains_head, contains_tail}
-use Rattle.mir_meaning.proofs.Outcomes.{on_either, alike_either}
+use Rattle.mir_meaning.proofs.Outcomes.{after_reply, on_either, alike_either}
 
 -- code neither reads nor sets pairs and marks
 abbrev pub told_by : (ℕ → ℕ → Option ℕ) → List (VarId × Option ℕ) → Core → Core
@@ -118,17 +118,15 @@ module _ (x : Place) (c : Core) where
   does_keeps (Branches op a b t) ne = on_either (Keeps x c) (taken op (read c a) (read c b)) (Goes t c) (Falls c) refl refl
   does_keeps (Jumps t) ne = refl
   does_keeps (Calls name args) ne = by_script (map (read c) args) c.script where
-    by_place : (y : Place) (vs : List ℕ) (r : Reply) (rs : List Reply) → (RowDefines (Calls name args) y → ⊥) →
-        Keeps y c (record c { regs = put_all caller_saved r.regs c.regs; memory = written c.memory r.writes; script = rs; events = Called name vs ∷ c.events })
+    by_place : (y : Place) (vs : List ℕ) (r : Reply) (rs : List Reply) → (RowDefines (Calls name args) y → ⊥) → Keeps y c (after_reply name vs c r rs)
     by_place (Register q) vs r rs ne = put_all_other caller_saved r.regs q c.regs ne
     by_place (Slot n) vs r rs ne = refl
     by_place (Const z) vs r rs ne = refl
 
     by_script : (vs : List ℕ) (rs : List Reply) → OnCore (Keeps x c) (answered name vs c rs)
     by_script vs [] = tt
-    by_script vs (r ∷ rs) = on_either (Keeps x c) (writes_frame c.entry c.area r.writes) Traps
-        (Falls (record c { regs = put_all caller_saved r.regs c.regs; memory = written c.memory r.writes; script = rs; events = Called name vs ∷ c.events }))
-        tt (by_place x vs r rs ne)
+    by_script vs (r ∷ rs) = on_either (Keeps x c) (writes_frame c.entry c.area r.writes) Traps (Falls (after_reply name vs c r rs)) tt
+        (by_place x vs r rs ne)
   does_keeps (Returns v) ne = tt
   does_keeps Unfit ne = tt
 
@@ -215,8 +213,8 @@ module _ (c : Core) (regs slots : ℕ → Option ℕ) (pairs : ℕ → ℕ → O
       (alike_either (Agreeing r c d) (is_fault b c a (load_width op)) Traps (Falls (set_register rd v c)) Traps (Falls (set_register rd v d)) tt
       (set_alike r rd v v (λ q e. one_is rd q e) (λ q k. is_one rd q k) (λ n k. k) refl))
 
-  stored_alike : (op : StoreOp) (rs : ℕ) (b : Base) (o a v : ℕ) → EndAlike (Agreeing (Stores op rs b o) c d) (put_in_memory op b a v c)
-      (put_in_memory op b a v d)
+  stored_alike : (op : StoreOp) (rs : ℕ) (b : Base) (o a v : ℕ) →
+      EndAlike (Agreeing (Stores op rs b o) c d) (put_in_memory op b a v c) (put_in_memory op b a v d)
   stored_alike op rs b o a v =
       let r = Stores op rs b o in
       let bytes = low_bytes (store_width op) v in
@@ -309,12 +307,11 @@ module _ (c : Core) (regs slots : ℕ → Option ℕ) (pairs : ℕ → ℕ → O
     none (Register q) k = none_in q k
     none (Slot n) k = k
     none (Const z) k = k
-  does_alike (Calls name args) u = subst (λ (vs : List ℕ). EndAlike (Agreeing (Calls name args) c d) (answered name (map (read c) args) c c.script)
-      (answered name vs d c.script)) (map_alike (Calls name args) u args (λ q k. k)) (by_script (map (read c) args) c.script) where
+  does_alike (Calls name args) u =
+      subst (λ (vs : List ℕ). EndAlike (Agreeing (Calls name args) c d) (answered name (map (read c) args) c c.script) (answered name vs d c.script))
+      (map_alike (Calls name args) u args (λ q k. k)) (by_script (map (read c) args) c.script) where
     by_place : (x : Place) (vs : List ℕ) (r : Reply) (rs : List Reply) → RowDefines (Calls name args) x ⊎ (held_in x c ≡ held_in x d) →
-        held_in x (record c { regs = put_all caller_saved r.regs c.regs; memory = written c.memory r.writes; script = rs; events =
-        Called name vs ∷ c.events }) ≡ held_in x (record d { regs = put_all caller_saved r.regs regs; memory = written c.memory r.writes; script = rs;
-        events = Called name vs ∷ c.events })
+        held_in x (after_reply name vs c r rs) ≡ held_in x (after_reply name vs d r rs)
     by_place (Register q) vs r rs h = agree_all caller_saved r.regs q c.regs regs
         (λ out. elim h as (λ _. content c.regs q ≡ content regs q) [ inl k ↦ absurd (out k) | inr k ↦ k ])
     by_place (Slot n) vs r rs h = elim h as (λ _. c.slots n ≡ slots n) [ inl k ↦ absurd k | inr k ↦ k ]
@@ -336,8 +333,10 @@ module _ (c : Core) (regs slots : ℕ → Option ℕ) (pairs : ℕ → ℕ → O
 pub act_alike : (r : Row) (c d : Core) → SameWorld c d → ((x : Place) → RowUses r x → held_in x c ≡ held_in x d) → EndAlike (Agreeing r c d) (act r c) (act r d)
 act_alike r c d w u =
     let made : Core = other_places d.regs d.slots d.pairs d.marks c in
-    let e : made ≡ d = λ i. record { entry = w.entry i; area = w.area i; objects = w.objects i; regs = d.regs; slots = d.slots; memory = w.memory i; script =
-        w.script i; events = w.events i; pairs = d.pairs; marks = d.marks } in
+    let e : made ≡ d = λ i. record {
+          entry = w.entry i; area = w.area i; objects = w.objects i; regs = d.regs; slots = d.slots; memory = w.memory i; script = w.script i;
+          events = w.events i; pairs = d.pairs; marks = d.marks
+        } in
     subst (λ (z : Core). EndAlike (Agreeing r c z) (act r c) (act r z)) e (act_other c d.regs d.slots d.pairs d.marks r (λ x k. at x (u x k))) where
       at : (x : Place) → held_in x c ≡ held_in x d → held_in x c ≡ held_in x (other_places d.regs d.slots d.pairs d.marks c)
       at (Register r) e = e

@@ -39,7 +39,7 @@ use Rattle.rv64_instr.specs.Parts.{is_call}
 use Rattle.mir_func.specs.Graph.{Program, Fetch, Here, Silent, Outside, below, block_start}
 use Rattle.mir_meaning.specs.Follow.{IsStart}
 use Rattle.mir_meaning.specs.Effects.{OnCore}
-use Rattle.mir_meaning.proofs.Outcomes.{on_either}
+use Rattle.mir_meaning.proofs.Outcomes.{after_reply, on_either}
 use Rattle.mir_meaning.proofs.Assignments.{part_below}
 use Rattle.mir_meaning.proofs.Range.{IsWord, reduced, word_in_range, extend32_in_range, computed_in_range, extended_in_range}
 
@@ -220,11 +220,9 @@ module _ (c : Core) (h : IsInRange c) where
     by_script vs [] k = tt
     by_script vs (r ∷ rs) k =
         let is = All-head IsReply r rs k in
-        on_either IsInRange (writes_frame c.entry c.area r.writes) Traps
-            (Falls (record c { regs = put_all caller_saved r.regs c.regs; memory = written c.memory r.writes; script = rs; events =
-            Called name vs ∷ c.events })) tt
-        (record { regs = put_all_in_range caller_saved r.regs c.regs is.regs h.regs; slots = h.slots; memory = written_bytes r.writes c.memory is.writes
-            h.memory; script = All-tail IsReply r rs k; pairs = h.pairs; marks = h.marks })
+        on_either IsInRange (writes_frame c.entry c.area r.writes) Traps (Falls (after_reply name vs c r rs)) tt
+        (record { regs = put_all_in_range caller_saved r.regs c.regs is.regs h.regs; slots = h.slots;
+            memory = written_bytes r.writes c.memory is.writes h.memory; script = All-tail IsReply r rs k; pairs = h.pairs; marks = h.marks })
   does_in_range (Returns v) k = tt
   does_in_range Unfit k = tt
 

@@ -1,11 +1,17 @@
 -- What an item does, in two runs side by side.
-use Rattle.std.proofs.Common.{◌≡◌, ℕ, List, Bool, true, false, cond, refl, sym, ap, ◌∙◌, subst}
+use Rattle.std.proofs.Common.{◌≡◌, ℕ, List, ◌∷◌, Bool, true, false, cond, refl, sym, ap, ◌∙◌, subst}
 use Rattle.mir_func.specs.declared.position.Pos.{Pos}
 use Rattle.mir_func.specs.declared.item.Item.{Item}
-use Rattle.mir_meaning.specs.State.{State, Core}
+use Rattle.rv64_instr.specs.Access.{caller_saved}
+use Rattle.mir_meaning.specs.State.{State, Core, Reply, Called, put_all, written}
 use Rattle.mir_meaning.specs.Step.{Went, Returned, Faulted, Outcome, Falls, Goes, Gives, Traps, Asks, Breaks, moved, with_core, do_item, do_fetch, step}
 use Rattle.mir_func.specs.Graph.{Program, Fetch, Here, Silent, below, block_start}
 use Rattle.mir_meaning.specs.Effects.{OnCore, EndAlike}
+
+-- the core after a call that is answered
+abbrev pub after_reply : (name args : List ℕ) → Core → Reply → (rest : List Reply) → Core
+after_reply name args c r rest =
+    record c { regs = put_all caller_saved r.regs c.regs; memory = written c.memory r.writes; script = rest; events = Called name args ∷ c.events }
 
 pub on_either : (P : Core → Type 0) (b : Bool) (x y : Outcome) → OnCore P x → OnCore P y → OnCore P (cond b x y)
 on_either P true x y a b = a
