@@ -3,6 +3,7 @@ use Rattle.std.proofs.Common.{◌≡◌, ℕ, ◌*◌, ◌<◌, ◌≤◌, List,
 use Rattle.std.proofs.lemmas.List.Elements.{All-cons, All-head, All-tail, All-nil}
 use Rattle.rv64_instr.specs.Row.{Row, Fixes, Loads, Stores, LoadsSlot, StoresSlot, Branches, Jumps, Calls, Returns, row_of}
 use Rattle.rv64_instr.specs.Access.{reads}
+use Rattle.mir_func.specs.declared.object.Object as stack_object
 use Rattle.mir_func.specs.declared.position.Pos.{Pos}
 use Rattle.mir_func.specs.declared.position.Origin.{Origin}
 use Rattle.mir_func.specs.declared.position.Origin.TheVariants.{Kept, Before}
@@ -12,7 +13,7 @@ use Rattle.mir_func.specs.declared.item.Item.{Item}
 use Rattle.mir_func.specs.declared.item.ItemKind.{ItemKind}
 use Rattle.mir_func.specs.declared.item.ItemKind.TheVariants.{Code, Mark, Phi}
 use Rattle.mir_meaning.specs.State.{Reply, Core, State, assigned, writes_frame}
-use Rattle.mir_func.specs.Variables.{is_same}
+use Rattle.mir_func.specs.Variables.{is_same, overlaps}
 use Rattle.mir_meaning.specs.Step.{Outcome, Falls, Goes, Gives, Traps, Asks, Breaks, read, answered, slot_loaded, does, are_written, act, with_core, numbered, do_item}
 use Rattle.rv64_instr.specs.Parts.{is_call}
 use Rattle.mir_func.specs.Graph.{Program, Fetch, Here, Silent, Outside}
@@ -82,7 +83,7 @@ does_give (Branches op a b t) d = search (give_either)
 does_give (Calls name args) d = by_script (map (read d) args) d.script where
   by_script : (vs : List ℕ) (rs : List Reply) → MayGive (class_of (Calls name args) ≡ Return) (answered name vs d rs)
   by_script vs [] = tt
-  by_script vs (q ∷ rs) = give_either (class_of (Calls name args) ≡ Return) (writes_frame d.entry q.writes) _ _ tt tt
+  by_script vs (q ∷ rs) = give_either (class_of (Calls name args) ≡ Return) (writes_frame d.entry d.area q.writes) _ _ tt tt
 does_give (Returns v) d = refl
 does_give _ d = tt
 
@@ -99,9 +100,11 @@ gives_of P j Asks v h e = cc
 gives_of P j Breaks v h e = cc
 
 -- a mark that assigns nothing tells no more
-tells_nothing : (v w : VarId) (x : ℕ) (ms : List (VarId × Option ℕ)) (b : Bool) → cond b None (assigned w ms) ≡ Some x → assigned w ms ≡ Some x
-tells_nothing v w x ms true e = cc
-tells_nothing v w x ms false e = e
+tells_nothing : (v w : VarId) (x : ℕ) (ms : List (VarId × Option ℕ)) (same over : Bool) →
+    cond same None (cond over None (assigned w ms)) ≡ Some x → assigned w ms ≡ Some x
+tells_nothing v w x ms true over e = cc
+tells_nothing v w x ms false true e = cc
+tells_nothing v w x ms false false e = e
 
 module _ (count : Count) (src g : Program) (s0 : State) (p : Pos) (silent : ℕ) (inner : p.item < silent) where
   -- what is added before p shows no more
@@ -109,10 +112,10 @@ module _ (count : Count) (src g : Program) (s0 : State) (p : Pos) (silent : ℕ)
       ShowsNoMore m d (do_item g k d)
   added_shows q (Code c n) at fits mark m d = code_shows g.sees_pointer (is_call (row_of c)) c.operands m d (act (row_of c) d) n
       (act_silent (row_of c) q.item silent fits (omega (arith, at, inner)) d)
-  added_shows q (Mark v Nothing) at fits mark m d = record { events = refl; told = λ w x k. tells_nothing v w x d.marks (is_same w v) k }
+  added_shows q (Mark v Nothing) at fits mark m d = record { events = refl; told = λ w x k. tells_nothing v w x d.marks (is_same w v) (overlaps w v) k }
   added_shows q (Mark v (Constant c)) at fits mark m d = absurd mark
   added_shows q (Mark v (At r)) at fits mark m d = absurd mark
-  added_shows q (Mark v (Pair k o)) at fits mark m d = absurd mark
+  added_shows q (Mark v (Pair o)) at fits mark m d = absurd mark
   added_shows q (Phi l n) at fits mark m d = record { events = refl; told = λ w x k. k }
 
   module _ (ends : (e : Pos) (k n : ℕ) → e.block ≡ p.block → g.fetch e ≡ Silent k n → p.item < k)
@@ -165,11 +168,11 @@ module _ (count : Count) (src g : Program) (s0 : State) (p : Pos) (silent : ℕ)
 
 -- from a start, where the source's returns have physical results, g may idle where the source stops: what it has ahead fits
 -- the source, stands in order from p on, and p isn't its block's end
-pub idles_ahead : (count : Count) (src g : Program) (first : ℕ) (s0 : State) → IsStart first s0 →
+pub idles_ahead : (count : Count) (src g : Program) (stack : List stack_object.Object) (first : ℕ) (s0 : State) → IsStart stack first s0 →
     ((q : Pos) (i : Item) → src.fetch q ≡ Here i → ItemHasClass (Returns []) i.kind → OnRow HasPhysicalResults i.kind) →
     (p : Pos) (silent : ℕ) → p.item < silent → ((e : Pos) (k n : ℕ) → e.block ≡ p.block → g.fetch e ≡ Silent k n → k ≡ silent) →
     (ys : List Item) (n : ℕ) → InOrder p.block n ys → 2 * p.item ≤ n → All (λ y. KindFits src y.kind silent y.origin) ys →
     All (λ y. MarkFits y.kind y.origin) ys → FaultsAt src s0 p → All (IsIdleAt count g p) ys
-idles_ahead count src g first s0 start physical p silent inner ends ys n ord le fits marks fa =
+idles_ahead count src g stack first s0 start physical p silent inner ends ys n ord le fits marks fa =
     idle_items count src g s0 p silent inner (λ e k m eb fe. let h = ends e k m eb fe in omega (arith, inner, h))
-    (λ i fi c. returns_never_fault src first s0 start p i fi (physical p i fi c) fa) ys n ord le fits marks
+    (λ i fi c. returns_never_fault src stack first s0 start p i fi (physical p i fi c) fa) ys n ord le fits marks

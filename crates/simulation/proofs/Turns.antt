@@ -8,7 +8,7 @@ use Rattle.mir_func.specs.declared.item.Item.{Item}
 use Rattle.mir_func.specs.declared.item.ItemKind.{ItemKind}
 use Rattle.mir_func.specs.declared.item.ItemKind.TheVariants.{Code, Mark, Phi}
 use Rattle.mir_meaning.specs.State.{State, Core, updated}
-use Rattle.mir_meaning.specs.Step.{Went, Outcome, Falls, Goes, moved, act, does, with_core, numbered, mark_value, place_value, do_item, do_fetch, step}
+use Rattle.mir_meaning.specs.Step.{part_of, Went, Outcome, Falls, Goes, moved, act, does, with_core, numbered, mark_value, place_value, do_item, do_fetch, step}
 use Rattle.rv64_instr.specs.Parts.{is_call, IsSlotStore}
 use Rattle.mir_func.specs.Graph.{Program, Fetch, Here, Silent, Outside, below, block_start, Edge, FetchEdge, KindEdge, RowEdge, Leads, stay, go as by_edge}
 use Rattle.mir_meaning.specs.Align.{position_of, is_code, is_jump, is_jump_row, Station, ByItems, station_of, item_station, fetch_station, station_at}
@@ -19,11 +19,13 @@ use Rattle.simulation.proofs.Order.{same_pos}
 use Rattle.simulation.proofs.Stations.{code_station, IsStationOf, of_item, of_end, station_is_of}
 
 pub same_code : (c : Core) → SameCode c c
-same_code c = record { entry = refl; regs = refl; slots = refl; memory = refl; script = refl; events = refl }
+same_code c = record { entry = refl; area = refl; objects = refl; regs = refl; slots = refl; memory = refl; script = refl; events = refl }
 
 pub code_trans : (c d e : Core) → SameCode c d → SameCode d e → SameCode c e
 code_trans c d e a b = record {
   entry = a.entry ∙ b.entry;
+  area = a.area ∙ b.area;
+  objects = a.objects ∙ b.objects;
   regs = a.regs ∙ b.regs;
   slots = a.slots ∙ b.slots;
   memory = a.memory ∙ b.memory;
@@ -33,7 +35,7 @@ code_trans c d e a b = record {
 
 numbered_code : (sp call : Bool) (k : Option ℕ) (os : List Operand) (c : Core) → SameCode (numbered sp call k os c) c
 numbered_code sp call None os c = same_code c
-numbered_code sp call (Some k) os c = record { entry = refl; regs = refl; slots = refl; memory = refl; script = refl; events = refl }
+numbered_code sp call (Some k) os c = record { entry = refl; area = refl; objects = refl; regs = refl; slots = refl; memory = refl; script = refl; events = refl }
 
 module _ (g : Program) where
   abbrev gs : Pos → Option Station
@@ -55,10 +57,10 @@ module _ (g : Program) where
   kind_code : (k : ItemKind) (i : Item) → item_station ByItems (is_code k) i ≡ None → (p : Pos) (c : Core) (t : State) →
       moved g.enter p (do_item g k c) ≡ Went t → SameCode t.core c × (t.pos ≡ below p)
   kind_code (Code j n) i e p c t go = cc
-  kind_code (Mark v m) i e p c t go = fall_code p c (record c { marks = (v, mark_value g m c) ∷ c.marks }) t
-      (record { entry = refl; regs = refl; slots = refl; memory = refl; script = refl; events = refl }) go
+  kind_code (Mark v m) i e p c t go = fall_code p c (record c { marks = (v, part_of v (mark_value g m c)) ∷ c.marks }) t
+      (record { entry = refl; area = refl; objects = refl; regs = refl; slots = refl; memory = refl; script = refl; events = refl }) go
   kind_code (Phi q n) i e p c t go = fall_code p c (record c { pairs = updated n (updated 0 (place_value q c) (c.pairs n)) c.pairs }) t
-      (record { entry = refl; regs = refl; slots = refl; memory = refl; script = refl; events = refl }) go
+      (record { entry = refl; area = refl; objects = refl; regs = refl; slots = refl; memory = refl; script = refl; events = refl }) go
 
   fetch_code : (x : Fetch) (b : ℕ) → fetch_station ByItems b x ≡ None → (p : Pos) (c : Core) (t : State) → moved g.enter p (do_fetch g x c) ≡ Went t →
       SameCode t.core c × (t.pos ≡ next_from p x)

@@ -4,16 +4,17 @@ use Rattle.std.specs.List.{list_all}
 use Rattle.std.proofs.lemmas.Bool.{cases_eq, and_parts, leb-true}
 use Rattle.std.proofs.lemmas.List.Elements.{All-cons, All-head, All-tail, All-nil}
 use Rattle.rv64_instr.specs.declared.op.Op.{Op}
+use Rattle.rv64_instr.specs.declared.op.Op.TheVariants.{Registers, Immediate, Lui, Branch as BranchOn, Load, Store as StoreOf, Copy, PseudoBr, PseudoCall, PseudoRet}
+use Rattle.rv64_instr.specs.declared.op.ImmediateOp.{ImmediateOp}
 use Rattle.rv64_instr.specs.declared.op.ImmediateOp.TheVariants.{Addi}
-use Rattle.rv64_instr.specs.declared.form.Form.{Form}
-use Rattle.rv64_instr.specs.declared.form.Form.TheVariants.{Registers, Immediate, Upper, Load, Store as StoreForm, Branch as BranchForm, Move, Jump, Call as CallForm, Return as ReturnForm}
 use Rattle.rv64_instr.specs.declared.operand.Operand.{Operand}
-use Rattle.rv64_instr.specs.declared.operand.Operand.TheVariants.{Def, Use, ImplicitUse, Imm, Slot as SlotOperand, Block, Symbol}
+use Rattle.rv64_instr.specs.declared.operand.Operand.TheVariants.{Def, Use, ImplicitUse, Imm, Slot as SlotOperand, Object, Block, Symbol}
 use Rattle.rv64_instr.specs.Instruction.{Instruction}
-use Rattle.rv64_instr.specs.Form.{form_of, is_result, fits, has_form}
+use Rattle.rv64_instr.specs.Form.{is_result, has_form}
 use Rattle.rv64_instr.specs.Arithmetic.{word}
-use Rattle.rv64_instr.specs.Row.{Row, Fixes, Moves, Sets, Loads, Stores, LoadsSlot, StoresSlot, Branches, Jumps, Calls, Returns, Unfit, row_of, row_by, implicit_uses, move_row, immediate_row}
+use Rattle.rv64_instr.specs.Row.{Row, Fixes, Moves, Sets, Addresses, Loads, Stores, LoadsSlot, StoresSlot, Branches, Jumps, Calls, Returns, Unfit, row_of, row_by, implicit_uses, move_row, immediate_row}
 use Rattle.rv64_instr.specs.Access.{caller_saved, reads}
+use Rattle.mir_func.specs.declared.object.Object as stack_object
 use Rattle.mir_func.specs.declared.position.Pos.{Pos}
 use Rattle.mir_func.specs.declared.item.Item.{Item}
 use Rattle.mir_func.specs.declared.item.ItemKind.{ItemKind}
@@ -59,6 +60,7 @@ unfolding does
 does_written (Fixes rd n) c = set_written rd _ c
 does_written (Moves rd rs) c = set_written rd _ c
 does_written (Sets rd op a b) c = set_written rd _ c
+does_written (Addresses rd n o) c = set_written rd _ c
 does_written (Loads rd op b o) c = search (on_either, set_written)
 does_written (Stores op rs b o) c = search (on_either, same_written)
 does_written (LoadsSlot rd n) c = by_slot (c.slots n) where
@@ -71,7 +73,7 @@ does_written (Jumps t) c = λ r v e. (v, e)
 does_written (Calls name args) c = by_script (map (read c) args) c.script where
   by_script : (vs : List ℕ) (rs : List Reply) → OnCore (StaysWritten c) (answered name vs c rs)
   by_script vs [] = tt
-  by_script vs (q ∷ rs) = on_either (StaysWritten c) (writes_frame c.entry q.writes) _ _ tt (λ r v e. put_all_written caller_saved q.regs r v c.regs e)
+  by_script vs (q ∷ rs) = on_either (StaysWritten c) (writes_frame c.entry c.area q.writes) _ _ tt (λ r v e. put_all_written caller_saved q.regs r v c.regs e)
 does_written (Returns v) c = tt
 does_written Unfit c = tt
 
@@ -141,32 +143,37 @@ results_are_physical (ImplicitUse r ∷ rest) e = by_test (results_are_physical 
       by_test more false = All-cons (λ r. r < 32) r (implicit_uses rest) low more
 results_are_physical (_ ∷ rest) e = cc
 
-row_physical : (f : Form) (op : Op) (os : List Operand) → fits f os ≡ true → class_of (row_by f op os) ≡ Return → HasPhysicalResults (row_by f op os)
-row_physical ReturnForm op os e c = results_are_physical os e
-row_physical Registers op (Def rd ∷ Use a ∷ Use b ∷ rest) e c = cc
-row_physical (Immediate low high) op (Def rd ∷ Use a ∷ Imm i ∷ rest) e c = by_immediate op a (word i) c where
-  by_immediate : (op : Op) (a n : ℕ) → class_of (immediate_row op rd a n) ≡ Return → HasPhysicalResults (immediate_row op rd a n)
-  by_immediate Addi zero n h = cc
-  by_immediate Addi (suc r) zero h = cc
-  by_immediate Addi (suc r) (suc n) h = cc
-  by_immediate _ a n h = cc
-row_physical Upper op (Def rd ∷ Imm i ∷ rest) e c = cc
-row_physical (Load w) op (Def rd ∷ Use base ∷ Imm i ∷ rest) e c = cc
-row_physical (Load w) op (Def rd ∷ SlotOperand n ∷ rest) e c = cc
-row_physical (StoreForm w) op (Use rs ∷ Use base ∷ Imm i ∷ rest) e c = cc
-row_physical (StoreForm w) op (Use rs ∷ SlotOperand n ∷ rest) e c = cc
-row_physical BranchForm op (Use a ∷ Use b ∷ Block target ∷ rest) e c = cc
-row_physical Move op (Def rd ∷ Use rs ∷ rest) e c = by_source rs c where
-  by_source : (rs : ℕ) → class_of (move_row rd rs) ≡ Return → HasPhysicalResults (move_row rd rs)
-  by_source zero h = cc
-  by_source (suc r) h = cc
-row_physical Jump op (Block target ∷ rest) e c = cc
-row_physical CallForm op (Symbol name ∷ rest) e c = cc
-row_physical _ op _ e c = cc
+immediate_goes_on : (op : ImmediateOp) (rd a n : ℕ) → class_of (immediate_row op rd a n) ≡ Return → ⊥
+immediate_goes_on Addi rd zero n h = cc
+immediate_goes_on Addi rd (suc r) zero h = cc
+immediate_goes_on Addi rd (suc r) (suc n) h = cc
+immediate_goes_on _ rd a n h = cc
+
+copy_goes_on : (rd rs : ℕ) → class_of (move_row rd rs) ≡ Return → ⊥
+copy_goes_on rd zero h = cc
+copy_goes_on rd (suc r) h = cc
+
+row_physical : (op : Op) (os : List Operand) → has_form op os ≡ true → class_of (row_by op os) ≡ Return → HasPhysicalResults (row_by op os)
+row_physical PseudoRet os e c = results_are_physical os e
+row_physical (Registers op) (Def rd ∷ Use a ∷ Use b ∷ rest) e c = cc
+row_physical (Immediate op) (Def rd ∷ Use a ∷ Imm i ∷ rest) e c = absurd (immediate_goes_on op rd a (word i) c)
+row_physical (Immediate op) (Def rd ∷ Object n ∷ Imm i ∷ rest) e c = cc
+row_physical Lui (Def rd ∷ Imm i ∷ rest) e c = cc
+row_physical (Load op) (Def rd ∷ Use base ∷ Imm i ∷ rest) e c = cc
+row_physical (Load op) (Def rd ∷ SlotOperand n ∷ rest) e c = cc
+row_physical (Load op) (Def rd ∷ Object n ∷ Imm i ∷ rest) e c = cc
+row_physical (StoreOf op) (Use rs ∷ Use base ∷ Imm i ∷ rest) e c = cc
+row_physical (StoreOf op) (Use rs ∷ SlotOperand n ∷ rest) e c = cc
+row_physical (StoreOf op) (Use rs ∷ Object n ∷ Imm i ∷ rest) e c = cc
+row_physical (BranchOn op) (Use a ∷ Use b ∷ Block target ∷ rest) e c = cc
+row_physical Copy (Def rd ∷ Use rs ∷ rest) e c = absurd (copy_goes_on rd rs c)
+row_physical PseudoBr (Block target ∷ rest) e c = cc
+row_physical PseudoCall (Symbol name ∷ rest) e c = cc
+row_physical _ _ e c = cc
 
 -- so an instruction in its form that returns gives physical registers
 pub has_physical_results : (i : Instruction) → has_form i.op i.operands ≡ true → class_of (row_of i) ≡ Return → HasPhysicalResults (row_of i)
-has_physical_results i e c = row_physical (form_of i.op) i.op i.operands e c
+has_physical_results i e c = row_physical i.op i.operands e c
 
 row_returns : (g : Program) (k : ItemKind) (c : Core) → ((r : ℕ) → r < 32 → (v : ℕ) × (content c.regs r ≡ Some v)) → OnRow HasPhysicalResults k →
     do_item g k c ≡ Traps → ⊥
@@ -181,6 +188,7 @@ row_returns g (Code i n) c has low e = by_row (row_of i) low e where
   by_row (Fixes rd n) low e = absurd low
   by_row (Moves rd rs) low e = absurd low
   by_row (Sets rd op a b) low e = absurd low
+  by_row (Addresses rd n o) low e = absurd low
   by_row (Loads rd op b o) low e = absurd low
   by_row (Stores op rs b o) low e = absurd low
   by_row (LoadsSlot rd n) low e = absurd low
@@ -193,9 +201,9 @@ row_returns g (Mark v m) c has low e = low
 row_returns g (Phi p n) c has low e = low
 
 -- so from a start, the source doesn't fault where it has a return
-pub returns_never_fault : (src : Program) (first : ℕ) (s0 : State) → IsStart first s0 → (p : Pos) (i : Item) → src.fetch p ≡ Here i →
+pub returns_never_fault : (src : Program) (stack : List stack_object.Object) (first : ℕ) (s0 : State) → IsStart stack first s0 → (p : Pos) (i : Item) → src.fetch p ≡ Here i →
     OnRow HasPhysicalResults i.kind → FaultsAt src s0 p → ⊥
-returns_never_fault src first s0 start p i fi low (s, comes, st) =
+returns_never_fault src stack first s0 start p i fi low (s, comes, st) =
     row_returns src i.kind s.core (λ r lt. let k = start.regs r lt in run_written src (λ q. ⊥) p comes r k.0 k.1) low
     (faults_traps src.enter s.pos (do_item src i.kind s.core)
     (sym (step_item src s i (do_item src i.kind s.core) (ap src.fetch (arrives_at src (λ q. ⊥) p comes) ∙ fi) refl) ∙ st))

@@ -12,6 +12,8 @@ use Rattle.rv64_instr.specs.Parts.{IsSlotStore}
 -- the same core but for marks and pairs
 pub record SameCode (c d : Core) : Type 0 where
   pub entry : c.entry ≡ d.entry
+  pub area : c.area ≡ d.area
+  pub objects : c.objects ≡ d.objects
   pub regs : c.regs ≡ d.regs
   pub slots : c.slots ≡ d.slots
   pub memory : c.memory ≡ d.memory
