@@ -126,7 +126,7 @@ module _ {A : Type 0} where
   one_assigned v w [] a b o s e f = cc
   one_assigned v w (m ∷ ms) a b o s e f =
       by_first (is_same v m.0) (overlaps v m.0) refl refl e (λ e'. by_second (is_same w m.0) (overlaps w m.0) refl refl f
-          (λ f'. one_assigned v w ms a b o s e' f')) where
+      (λ f'. one_assigned v w ms a b o s e' f')) where
         -- w's assignment after a mark of v itself, and v's where w is marked
         hidden : v ≡ m.0 → ⊥
         hidden k =

@@ -5,8 +5,8 @@ use Rattle.mir_func.specs.declared.item.ItemKind.{ItemKind}
 use Rattle.mir_func.specs.declared.item.ItemKind.TheVariants.{Code, Mark, Phi}
 use Rattle.rv64_instr.specs.Row.{Row, Fixes, Moves, Sets, Addresses, Loads, Stores, LoadsSlot, StoresSlot, Branches, Jumps, Calls, Returns, Unfit, row_of}
 use Rattle.rv64_instr.specs.Arithmetic.{taken, load_width, store_width, extended}
-use Rattle.rv64_instr.specs.Access.{reads, caller_saved}
-use Rattle.mir_meaning.specs.State.{State, Core, Reply, Called, spelled, put_all, written, low_bytes, writes_frame, updated}
+use Rattle.rv64_instr.specs.Access.{reads}
+use Rattle.mir_meaning.specs.State.{State, Core, Reply, spelled, low_bytes, writes_frame, updated}
 use Rattle.mir_meaning.specs.Step.{Went, Outcome, Falls, Goes, Gives, Traps, Asks, Breaks, moved, read, address_at, is_fault, part_of, set_register, saved}
 use Rattle.mir_meaning.specs.Step.{answered, slot_loaded, does, act, are_written, numbered, with_core, mark_value, place_value, do_item, do_fetch, step}
 use Rattle.rv64_instr.specs.Parts.{is_call}

@@ -14,7 +14,7 @@ use Rattle.rv64_instr.specs.declared.decoded.Base.{Base}
 use Rattle.rv64_instr.specs.declared.decoded.Base.TheVariants.{PointedBy, ObjectAt}
 use Rattle.rv64_instr.specs.Access.{caller_saved, base_reads, reads, sets}
 use Rattle.mir_func.specs.declared.variable.VarId.{VarId}
-use Rattle.mir_meaning.specs.State.{Called, Reply, Core, content, updated, put, put_all, spelled, low_bytes, written, writes_frame}
+use Rattle.mir_meaning.specs.State.{Reply, Core, content, updated, put, put_all, spelled, low_bytes, writes_frame}
 use Rattle.mir_meaning.specs.Step.{Outcome, Falls, Goes, Traps, or_zero, read, input_value, base_value, address_at, is_fault, set_register, answered}
 use Rattle.mir_meaning.specs.Step.{slot_loaded, loaded, saved, put_in_memory, does, are_written, act, with_core}
 use Rattle.mir_meaning.specs.Effects.{held_in, OnCore, EndAlike, SameWorld}
@@ -251,7 +251,7 @@ module _ (c : Core) (regs slots : ℕ → Option ℕ) (pairs : ℕ → ℕ → O
       let ea = read_alike r u a (contains_head a (b ∷ [])) in
       let eb = read_alike r u b (contains_tail a b (b ∷ []) (contains_head b [])) in
       set_alike r rd (computed op (read c a) (read c b)) (computed op (read d a) (read d b)) (λ q e. one_is rd q e) (λ q k. is_one rd q k) (λ m k. k)
-          (λ i. computed op (ea i) (eb i))
+      (λ i. computed op (ea i) (eb i))
   does_alike (Sets rd op a (Number n)) u =
       let r = Sets rd op a (Number n) in
       let ea = read_alike r u a (contains_head a []) in
@@ -271,9 +271,9 @@ module _ (c : Core) (regs slots : ℕ → Option ℕ) (pairs : ℕ → ℕ → O
       subst (λ (z : ℕ). Goal (read d rs) z) eb (subst (λ (v : ℕ). Goal v (base_value c b)) e (stored_alike op rs b o (address_at c b o) (read c rs)))
   does_alike (LoadsSlot rd n) u = subst (λ (z : Option ℕ). EndAlike (Agreeing (LoadsSlot rd n) c d) (slot_loaded rd c (c.slots n)) (slot_loaded rd d z))
       (u (Slot n) refl) (by_slot (c.slots n)) where
-    by_slot : (x : Option ℕ) → EndAlike (Agreeing (LoadsSlot rd n) c d) (slot_loaded rd c x) (slot_loaded rd d x)
-    by_slot None = tt
-    by_slot (Some v) = set_alike (LoadsSlot rd n) rd v v (λ q e. one_is rd q e) (λ q k. is_one rd q k) (λ m k. k) refl
+        by_slot : (x : Option ℕ) → EndAlike (Agreeing (LoadsSlot rd n) c d) (slot_loaded rd c x) (slot_loaded rd d x)
+        by_slot None = tt
+        by_slot (Some v) = set_alike (LoadsSlot rd n) rd v v (λ q e. one_is rd q e) (λ q k. is_one rd q k) (λ m k. k) refl
   does_alike (StoresSlot rs n) u = (record { entry = refl; area = refl; objects = refl; memory = refl; script = refl; events = refl }, by_place) where
     e : read c rs ≡ read d rs
     e = read_alike (StoresSlot rs n) u rs (contains_head rs [])
@@ -295,7 +295,7 @@ module _ (c : Core) (regs slots : ℕ → Option ℕ) (pairs : ℕ → ℕ → O
       let e : taken op (read c a) (read c b) ≡ taken op (read d a) (read d b) = λ i. taken op (ea i) (eb i) in
       let st = stay_alike r (no_places r refl) in
       subst (λ (z : Bool). EndAlike (Agreeing r c d) (cond (taken op (read c a) (read c b)) (Goes t c) (Falls c)) (cond z (Goes t d) (Falls d))) e
-          (alike_either (Agreeing r c d) (taken op (read c a) (read c b)) (Goes t c) (Falls c) (Goes t d) (Falls d) (refl, st) st) where
+      (alike_either (Agreeing r c d) (taken op (read c a) (read c b)) (Goes t c) (Falls c) (Goes t d) (Falls d) (refl, st) st) where
         no_places : (r : Row) → r ≡ Branches op a b t → (x : Place) → RowDefines r x → ⊥
         no_places r is x k = none x (subst (λ (z : Row). RowDefines z x) is k) where
           none : (x : Place) → RowDefines (Branches op a b t) x → ⊥
@@ -310,17 +310,17 @@ module _ (c : Core) (regs slots : ℕ → Option ℕ) (pairs : ℕ → ℕ → O
   does_alike (Calls name args) u =
       subst (λ (vs : List ℕ). EndAlike (Agreeing (Calls name args) c d) (answered name (map (read c) args) c c.script) (answered name vs d c.script))
       (map_alike (Calls name args) u args (λ q k. k)) (by_script (map (read c) args) c.script) where
-    by_place : (x : Place) (vs : List ℕ) (r : Reply) (rs : List Reply) → RowDefines (Calls name args) x ⊎ (held_in x c ≡ held_in x d) →
-        held_in x (after_reply name vs c r rs) ≡ held_in x (after_reply name vs d r rs)
-    by_place (Register q) vs r rs h = agree_all caller_saved r.regs q c.regs regs
-        (λ out. elim h as (λ _. content c.regs q ≡ content regs q) [ inl k ↦ absurd (out k) | inr k ↦ k ])
-    by_place (Slot n) vs r rs h = elim h as (λ _. c.slots n ≡ slots n) [ inl k ↦ absurd k | inr k ↦ k ]
-    by_place (Const z) vs r rs h = refl
+        by_place : (x : Place) (vs : List ℕ) (r : Reply) (rs : List Reply) → RowDefines (Calls name args) x ⊎ (held_in x c ≡ held_in x d) →
+            held_in x (after_reply name vs c r rs) ≡ held_in x (after_reply name vs d r rs)
+        by_place (Register q) vs r rs h = agree_all caller_saved r.regs q c.regs regs
+            (λ out. elim h as (λ _. content c.regs q ≡ content regs q) [ inl k ↦ absurd (out k) | inr k ↦ k ])
+        by_place (Slot n) vs r rs h = elim h as (λ _. c.slots n ≡ slots n) [ inl k ↦ absurd k | inr k ↦ k ]
+        by_place (Const z) vs r rs h = refl
 
-    by_script : (vs : List ℕ) (rs : List Reply) → EndAlike (Agreeing (Calls name args) c d) (answered name vs c rs) (answered name vs d rs)
-    by_script vs [] = tt
-    by_script vs (r ∷ rs) = alike_either (Agreeing (Calls name args) c d) (writes_frame c.entry c.area r.writes) Traps _ Traps _ tt
-        (record { entry = refl; area = refl; objects = refl; memory = refl; script = refl; events = refl }, λ x h. by_place x vs r rs h)
+        by_script : (vs : List ℕ) (rs : List Reply) → EndAlike (Agreeing (Calls name args) c d) (answered name vs c rs) (answered name vs d rs)
+        by_script vs [] = tt
+        by_script vs (r ∷ rs) = alike_either (Agreeing (Calls name args) c d) (writes_frame c.entry c.area r.writes) Traps _ Traps _ tt
+            (record { entry = refl; area = refl; objects = refl; memory = refl; script = refl; events = refl }, λ x h. by_place x vs r rs h)
   does_alike (Returns v) u = map_alike (Returns v) u v (λ q k. k)
   does_alike Unfit u = tt
 
@@ -334,9 +334,17 @@ pub act_alike : (r : Row) (c d : Core) → SameWorld c d → ((x : Place) → Ro
 act_alike r c d w u =
     let made : Core = other_places d.regs d.slots d.pairs d.marks c in
     let e : made ≡ d = λ i. record {
-          entry = w.entry i; area = w.area i; objects = w.objects i; regs = d.regs; slots = d.slots; memory = w.memory i; script = w.script i;
-          events = w.events i; pairs = d.pairs; marks = d.marks
-        } in
+      entry = w.entry i;
+      area = w.area i;
+      objects = w.objects i;
+      regs = d.regs;
+      slots = d.slots;
+      memory = w.memory i;
+      script = w.script i;
+      events = w.events i;
+      pairs = d.pairs;
+      marks = d.marks;
+    } in
     subst (λ (z : Core). EndAlike (Agreeing r c z) (act r c) (act r z)) e (act_other c d.regs d.slots d.pairs d.marks r (λ x k. at x (u x k))) where
       at : (x : Place) → held_in x c ≡ held_in x d → held_in x c ≡ held_in x (other_places d.regs d.slots d.pairs d.marks c)
       at (Register r) e = e

@@ -29,7 +29,7 @@ use Rattle.mir_func.specs.declared.variable.MarkValue.{MarkValue}
 use Rattle.mir_func.specs.declared.variable.MarkValue.TheVariants.{Nothing, Constant, At, Pair}
 use Rattle.mir_func.specs.declared.item.ItemKind.{ItemKind}
 use Rattle.mir_func.specs.declared.item.ItemKind.TheVariants.{Code, Mark, Phi}
-use Rattle.mir_meaning.specs.State.{Called, Reply, Core, State, updated, content, put, put_all, spelled, low_bytes, stored, written, writes_frame, assigned}
+use Rattle.mir_meaning.specs.State.{Reply, Core, State, updated, content, put, put_all, spelled, low_bytes, stored, written, writes_frame, assigned}
 use Rattle.mir_meaning.specs.State.{IsReply, IsInRange}
 use Rattle.mir_func.specs.Variables.{is_same, overlaps, part_value}
 use Rattle.mir_meaning.specs.Step.{Next, Went, Returned, Faulted, Waits, Lost, Outcome, Falls, Goes, Gives, Traps, Asks, Breaks, or_zero, read, input_value}
@@ -211,8 +211,15 @@ module _ (c : Core) (h : IsInRange c) where
     by_slot : (x : Option ℕ) → MaybeWord x → OnCore IsInRange (slot_loaded rd c x)
     by_slot None k = tt
     by_slot (Some v) k = set_in_range c rd v h (k v refl)
-  does_in_range (StoresSlot rs n) k = record { regs = h.regs; slots = updated_in_range n (Some (read c rs)) c.slots
-      (some_word (read c rs) (read_in_range c h.regs rs)) h.slots; memory = h.memory; script = h.script; pairs = h.pairs; marks = h.marks }
+  does_in_range (StoresSlot rs n) k = record {
+    regs = h.regs;
+    slots = updated_in_range n (Some (read c rs)) c.slots
+        (some_word (read c rs) (read_in_range c h.regs rs)) h.slots;
+    memory = h.memory;
+    script = h.script;
+    pairs = h.pairs;
+    marks = h.marks;
+  }
   does_in_range (Branches op a b t) k = on_either IsInRange (taken op (read c a) (read c b)) (Goes t c) (Falls c) h h
   does_in_range (Jumps t) k = h
   does_in_range (Calls name args) k = by_script (map (read c) args) c.script h.script where
@@ -221,8 +228,14 @@ module _ (c : Core) (h : IsInRange c) where
     by_script vs (r ∷ rs) k =
         let is = All-head IsReply r rs k in
         on_either IsInRange (writes_frame c.entry c.area r.writes) Traps (Falls (after_reply name vs c r rs)) tt
-        (record { regs = put_all_in_range caller_saved r.regs c.regs is.regs h.regs; slots = h.slots;
-            memory = written_bytes r.writes c.memory is.writes h.memory; script = All-tail IsReply r rs k; pairs = h.pairs; marks = h.marks })
+        (record {
+          regs = put_all_in_range caller_saved r.regs c.regs is.regs h.regs;
+          slots = h.slots;
+          memory = written_bytes r.writes c.memory is.writes h.memory;
+          script = All-tail IsReply r rs k;
+          pairs = h.pairs;
+          marks = h.marks;
+        })
   does_in_range (Returns v) k = tt
   does_in_range Unfit k = tt
 
@@ -271,7 +284,7 @@ numbered_in_range : (sp call : Bool) (n : Option ℕ) (os : List Operand) (c : C
 numbered_in_range sp call None os c h = h
 numbered_in_range sp call (Some k) os c h =
     with_pairs c _ h (row_updated c h k (λ o. given sp (defined call (slice_get os o)) (c.pairs k o) c)
-        (λ o. given_in_range c h sp (defined call (slice_get os o)) (c.pairs k o) (h.pairs k o)))
+    (λ o. given_in_range c h sp (defined call (slice_get os o)) (c.pairs k o) (h.pairs k o)))
 
 with_in_range : (k : Core → Core) → ((c : Core) → IsInRange c → IsInRange (k c)) → (x : Outcome) → OnCore IsInRange x → OnCore IsInRange (with_core k x)
 with_in_range k f (Falls c) h = f c h
@@ -285,8 +298,15 @@ pub item_in_range : (g : Program) (k : ItemKind) (c : Core) → IsInRange c → 
 item_in_range g (Code i n) c h =
     with_in_range (numbered g.sees_pointer (is_call (row_of i)) n i.operands) (numbered_in_range g.sees_pointer (is_call (row_of i)) n i.operands)
     (act (row_of i) c) (act_in_range c h (row_of i) (row_in_range i))
-item_in_range g (Mark v m) c h = record { regs = h.regs; slots = h.slots; memory = h.memory; script = h.script; pairs = h.pairs; marks =
-    λ w. by_test w (is_same w v) (overlaps w v) } where
+item_in_range g (Mark v m) c h = record {
+  regs = h.regs;
+  slots = h.slots;
+  memory = h.memory;
+  script = h.script;
+  pairs = h.pairs;
+  marks =
+      λ w. by_test w (is_same w v) (overlaps w v);
+} where
   by_test : (w : VarId) (same over : Bool) → MaybeWord (cond same (part_of v (mark_value g m c)) (cond over None (assigned w c.marks)))
   by_test w true over x e = part_in_range v (mark_value g m c) (mark_in_range c h g m) x e
   by_test w false true x e = cc

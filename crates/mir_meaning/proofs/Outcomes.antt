@@ -59,17 +59,20 @@ alike_refl R f Breaks = tt
 
 -- one step of each, from the same position
 module _ (R : Core → Core → Type 0) (enter : ℕ → ℕ) (p : Pos) where
-  pub alike_went : (x y : Outcome) → EndAlike R x y → (t : State) → moved enter p y ≡ Went t → (s : State) × (moved enter p x ≡ Went s) × (t.pos ≡ s.pos) × R
-      s.core t.core
+  pub alike_went : (x y : Outcome) → EndAlike R x y → (t : State) → moved enter p y ≡ Went t →
+      (s : State) × (moved enter p x ≡ Went s) × (t.pos ≡ s.pos) × R s.core t.core
   alike_went (Falls c) (Falls d) h t e =
       let made : State = record { pos = below p; core = d } in
       let w : made ≡ t = cc in
       (record { pos = below p; core = c }, refl, ap (λ (z : State). z.pos) (sym w), subst (λ (z : State). R c z.core) w h)
   alike_went (Goes m c) (Goes n d) h t e =
       let made : State = record { pos = block_start (enter n); core = d } in
-      let w : made ≡ t = cc in
-      (record { pos = block_start (enter m); core = c }, refl, ap (λ (z : State). z.pos) (sym w) ∙ ap (λ (k : ℕ). block_start (enter k)) (sym h.0),
-          subst (λ (z : State). R c z.core) w h.1)
+      let w : made ≡ t = cc in (
+        record { pos = block_start (enter m); core = c },
+        refl,
+        ap (λ (z : State). z.pos) (sym w) ∙ ap (λ (k : ℕ). block_start (enter k)) (sym h.0),
+        subst (λ (z : State). R c z.core) w h.1,
+      )
   alike_went (Gives v) (Gives w) h t e = cc
   alike_went Traps Traps h t e = cc
   alike_went Asks Asks h t e = cc

@@ -149,9 +149,14 @@ alike : (i : Instruction) (c d : Core) → SameWorld c d → ((x : Place) → us
     EndAlike (AreHeldAlike i c d) (act (row_of i) c) (act (row_of i) d)
 alike i c d w u = alike_weaker (Agreeing (row_of i) c d) (AreHeldAlike i c d) weaker (act (row_of i) c) (act (row_of i) d)
     (act_alike (row_of i) c d w (λ x k. u x (row_uses i x k))) where
-  weaker : (c' d' : Core) → Agreeing (row_of i) c d c' d' → AreHeldAlike i c d c' d'
-  weaker c' d' h = (h.0, λ x k. h.1 x (elim k as (λ _. RowDefines (row_of i) x ⊎ (held_in x c ≡ held_in x d)) [ inl e ↦ inl (defines_row (row_of i) x e) |
-      inr e ↦ inr e ]))
+      weaker : (c' d' : Core) → Agreeing (row_of i) c d c' d' → AreHeldAlike i c d c' d'
+      weaker c' d' h = (
+        h.0,
+        λ x k. h.1 x (elim k as (λ _. RowDefines (row_of i) x ⊎ (held_in x c ≡ held_in x d)) [
+          | inl e ↦ inl (defines_row (row_of i) x e)
+          | inr e ↦ inr e
+        ]),
+      )
 
 -- ---- what is set, moved and fixed
 
@@ -224,7 +229,7 @@ row_moves (StoresSlot rs n) from to c m s w =
     let t : Slot n ≡ to = cc in
     let d : Core = record c { slots = updated n (Some (read c rs)) c.slots } in
     subst (λ (x : Place). held_in to d ≡ held_in x c) f (subst (λ (x : Place). held_in x d ≡ content c.regs rs) t
-        (updated_same n (Some (read c rs)) c.slots ∙ first_held c rs w))
+    (updated_same n (Some (read c rs)) c.slots ∙ first_held c rs w))
 row_moves (Fixes rd n) from to c m s w = cc
 row_moves (Sets rd op a b) from to c m s w = cc
 row_moves (Addresses rd n o) from to c m s w = cc
@@ -289,8 +294,14 @@ row_pure (Addresses rd n o) c e = record { entry = refl; area = refl; objects = 
 row_pure (Loads rd op b o) c e =
     let a = address_at c b o in
     let d : Core = set_register rd (extended op (spelled c.memory a (load_width op))) c in
-    falls_either (SameWorld c) (is_fault b c a (load_width op)) Traps (Falls d) tt (record { entry = refl; area = refl; objects = refl; memory = refl;
-        script = refl; events = refl })
+    falls_either (SameWorld c) (is_fault b c a (load_width op)) Traps (Falls d) tt (record {
+      entry = refl;
+      area = refl;
+      objects = refl;
+      memory = refl;
+      script = refl;
+      events = refl;
+    })
 row_pure (LoadsSlot rd n) c e = by_slot (c.slots n) where
   by_slot : (x : Option ℕ) → FallsInto (SameWorld c) (slot_loaded rd c x)
   by_slot None = tt
@@ -331,7 +342,7 @@ numbers_keep (Const z) sp call n os d = refl
 pub item_keeps : (g : Program) (k : ItemKind) (x : Place) (c : Core) → (KindDefines k x → ⊥) → OnCore (Keeps x c) (do_item g k c)
 item_keeps g (Code i n) x c ne =
     keeps_with x c (numbered g.sees_pointer (is_call (row_of i)) n i.operands) (λ d. numbers_keep x g.sees_pointer (is_call (row_of i)) n i.operands d)
-        (act (row_of i) c) (act_keeps x c (row_of i) (λ k. ne (row_defines (row_of i) x k)))
+    (act (row_of i) c) (act_keeps x c (row_of i) (λ k. ne (row_defines (row_of i) x k)))
 item_keeps g (Mark v m) (Register r) c ne = refl
 item_keeps g (Mark v m) (Slot n) c ne = refl
 item_keeps g (Mark v m) (Const z) c ne = refl

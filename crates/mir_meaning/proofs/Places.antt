@@ -42,7 +42,7 @@ stored_other [] m a x ne = refl
 stored_other (b ∷ bs) m a x ne =
     let first : x ≡ a % 2 ^ 64 → ⊥ = λ e. ne 0 (omega arith) (let z : a + 0 ≡ a = omega arith in rw z e) in
     stored_other bs (updated (a % 2 ^ 64) b m) (a + 1) x (λ j lt e. ne (suc j) (omega (arith, lt)) (let z : a + suc j ≡ (a + 1) + j = omega arith in
-        rw z e)) ∙ updated_other (a % 2 ^ 64) x b m first
+    rw z e)) ∙ updated_other (a % 2 ^ 64) x b m first
 
 pub written_other : (ws : List (ℕ × ℕ)) (m : ℕ → ℕ) (x : ℕ) → ((w : ℕ × ℕ) → Contains ws w → x ≡ w.0 → ⊥) → written m ws x ≡ m x
 written_other [] m x ne = refl
@@ -53,8 +53,8 @@ written_other (w ∷ ws) m x ne =
 pub pair_same : (k o : ℕ) (v : Option ℕ) (pairs : ℕ → ℕ → Option ℕ) → updated k (updated o v (pairs k)) pairs k o ≡ v
 pair_same k o v pairs = rw (updated_same k (updated o v (pairs k)) pairs) (updated_same o v (pairs k))
 
-pub pair_other : (k o k' o' : ℕ) (v : Option ℕ) (pairs : ℕ → ℕ → Option ℕ) → ((k' ≡ k) × (o' ≡ o) → ⊥) → updated k (updated o v (pairs k)) pairs k'
-    o' ≡ pairs k' o'
+pub pair_other : (k o k' o' : ℕ) (v : Option ℕ) (pairs : ℕ → ℕ → Option ℕ) → ((k' ≡ k) × (o' ≡ o) → ⊥) →
+    updated k (updated o v (pairs k)) pairs k' o' ≡ pairs k' o'
 pair_other k o k' o' v pairs ne =
     elim (cases_eq k' k) as (λ z. updated k (updated o v (pairs k)) pairs k' o' ≡ pairs k' o') [
       | inl e ↦ rw e (ap (λ (f : ℕ → Option ℕ). f o') (updated_same k (updated o v (pairs k)) pairs) ∙ updated_other o o' v (pairs k) (λ h. ne (e, h)))

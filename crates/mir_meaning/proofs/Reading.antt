@@ -51,8 +51,11 @@ number_at (a ∷ cs) b (suc k) lt e = number_at cs b k (omega (arith, lt)) e
 
 found : (bs : List Block) → AreApart (ids_of bs) → (b : Block) → Contains bs b → FoundAt bs b
 found [] h b (k, lt, e) = absurd (omega (arith, lt))
-found (a ∷ cs) h b (zero, lt, e) = record { rest = cs; at = (let t : nat_eq a.id b.id ≡ true = eq-eqb a.id b.id (ap (λ (x : Block). x.id) e) in
-    ap (λ (z : Bool). cond z (a ∷ cs) (from_block cs b.id)) t) ∙ (λ i. e i ∷ cs) }
+found (a ∷ cs) h b (zero, lt, e) = record {
+  rest = cs;
+  at = (let t : nat_eq a.id b.id ≡ true = eq-eqb a.id b.id (ap (λ (x : Block). x.id) e) in
+      ap (λ (z : Bool). cond z (a ∷ cs) (from_block cs b.id)) t) ∙ (λ i. e i ∷ cs);
+}
 found (a ∷ cs) h b (suc k, lt, e) =
     let ne : a.id ≡ b.id → ⊥ = λ eq. (let z : zero ≡ suc k = h zero (suc k) b.id (ap Some eq) (number_at cs b k (omega (arith, lt)) e) in omega (arith, z)) in
     let more = found cs (apart_tail a.id (ids_of cs) h) b (k, omega (arith, lt), e) in
@@ -108,6 +111,10 @@ next_block (a ∷ cs) n b c rest e = by_test (nat_eq a.id n) (next_block cs n b 
   by_test true later e = let tail : cs ≡ c ∷ rest = cc in (0, ap (λ (z : List Block). slice_get (ids_of z) 0) tail)
   by_test false later e = let h = later e in (suc h.0, h.1)
 
+-- each item of the block is its own origin
+abbrev OwnItems : Block → Type 0
+OwnItems b = (k : ℕ) (i : Item) → slice_get b.items k ≡ Some i → i.origin ≡ Kept (record { block = b.id; item = k })
+
 among_self : (bs : List Block) → Among bs bs
 among_self [] = none
 among_self (b ∷ bs) = same refl refl (among_self bs)
@@ -119,11 +126,11 @@ in_order b k (x ∷ xs) own =
     let z : k + 0 ≡ k = omega arith in
     let e : x.origin ≡ Kept (record { block = b; item = k }) = own 0 x refl ∙ ap (λ (n : ℕ). Kept (record { block = b; item = n })) z in
     let w : (k + 1) * 2 ≡ 2 * k + 2 = omega arith in
-    let rest = in_order b (k + 1) xs (λ j i h. own (suc j) i h ∙ ap (λ (n : ℕ). Kept (record { block = b; item = n })) (let s : k + suc j ≡ (k + 1) + j =
-        omega arith in s)) in
+    let same_index : (j : ℕ) → k + suc j ≡ (k + 1) + j = λ j. omega arith in
+    let rest = in_order b (k + 1) xs (λ j i h. own (suc j) i h ∙ ap (λ (n : ℕ). Kept (record { block = b; item = n })) (same_index j)) in
     let two : 2 * (k + 1) ≡ 2 * k + 2 = omega arith in
     subst (λ (o : Origin). ((Rattle.mir_meaning.specs.Align.position_of o).block ≡ b) × (2 * k ≤ rank o) × InOrder b (next_rank o) xs) (sym e)
-        (refl, omega arith, subst (λ (n : ℕ). InOrder b n xs) two rest)
+    (refl, omega arith, subst (λ (n : ℕ). InOrder b n xs) two rest)
 
 end_alike : (k : ItemKind) → OnRow IsEnd k → KindsEndAlike k k
 end_alike (Mark v m) h = absurd h
@@ -177,8 +184,14 @@ module _ (blocks : List Block) (read : IsRead blocks) where
     stands_in p [] e = inl refl
     stands_in p (b ∷ rest) e =
         let f = found_in blocks p.block b rest e in
-        inr (record { block = b; rest = rest; found = e; member = f.0; id = f.1; silent = All-contains (λ (c : Block). c.silent ≡ length c.items) blocks b
-            read.silent f.0 })
+        inr (record {
+          block = b;
+          rest = rest;
+          found = e;
+          member = f.0;
+          id = f.1;
+          silent = All-contains (λ (c : Block). c.silent ≡ length c.items) blocks b read.silent f.0;
+        })
 
     stands : (p : Pos) → (program.fetch p ≡ Outside) ⊎ Stands p
     stands p = elim (stands_in p (from_block blocks p.block) refl) as (λ z. (program.fetch p ≡ Outside) ⊎ Stands p) [ inl e ↦ inl e | inr s ↦ inr s ]
@@ -196,10 +209,10 @@ module _ (blocks : List Block) (read : IsRead blocks) where
         (s : Stands p) × (length s.block.items ≤ p.item) × (k ≡ length s.block.items) × (end_of s.block.silent s.rest ≡ Silent k n)
     end_at p k n e = elim (stands p) as (λ z. (s : Stands p) × (length s.block.items ≤ p.item) × (k ≡ length s.block.items) × (end_of s.block.silent
         s.rest ≡ Silent k n)) [
-      | inl o ↦ (let bad : Outside ≡ Silent k n = sym o ∙ e in cc)
-      | inr s ↦ (let h = front_end s.block.items p.item s.block.silent s.rest k n (sym (fetch_at p s p.item) ∙ e) in
-          (s, h.0, sym (end_index s.block.silent s.rest k n h.1) ∙ s.silent, h.1))
-    ]
+          | inl o ↦ (let bad : Outside ≡ Silent k n = sym o ∙ e in cc)
+          | inr s ↦ (let h = front_end s.block.items p.item s.block.silent s.rest k n (sym (fetch_at p s p.item) ∙ e) in
+              (s, h.0, sym (end_index s.block.silent s.rest k n h.1) ∙ s.silent, h.1))
+        ]
 
     same_block : (p : Pos) (s t : Stands p) → s.block ≡ t.block
     same_block p s t = let e : s.block ∷ s.rest ≡ t.block ∷ t.rest = sym s.found ∙ t.found in cc
@@ -208,8 +221,7 @@ module _ (blocks : List Block) (read : IsRead blocks) where
     is_source = record {
       items = λ p i e.
           let h = here_at p i e in
-          All-contains (λ (b : Block). (k : ℕ) (j : Item) → slice_get b.items k ≡ Some j → j.origin ≡ Kept (record { block = b.id; item = k })) blocks
-              h.0.block read.items h.0.member p.item i h.1
+          All-contains OwnItems blocks h.0.block read.items h.0.member p.item i h.1
           ∙ ap (λ (n : ℕ). Kept (record { block = n; item = p.item })) h.0.id;
       ends = λ p k n e.
           let h = end_at p k n e in
@@ -239,8 +251,8 @@ module _ (blocks : List Block) (read : IsRead blocks) where
           by_first [] i m ap' e f = cc
           by_first (b ∷ bs) i m ap' e f = let z : suc i ≡ zero = ap' (suc i) zero m e (ap Some (sym f)) in omega (arith, z)
 
-          by_rest : (rest : List Block) → (end_at true resolve q k n e).0.rest ≡ rest → end_of (end_at true resolve q k n e).0.block.silent rest ≡ Silent k
-              n → ⊥
+          by_rest : (rest : List Block) → (end_at true resolve q k n e).0.rest ≡ rest →
+              end_of (end_at true resolve q k n e).0.block.silent rest ≡ Silent k n → ⊥
           by_rest [] r h = cc
           by_rest (c ∷ cs) r h =
               let cn : c.id ≡ n = cc in
@@ -262,17 +274,15 @@ module _ (blocks : List Block) (read : IsRead blocks) where
     kept_fits (Phi x n) p = tt
 
     item_kept : (b : Block) → Contains blocks b → (i : Item) → (c : Contains b.items i) → i.origin ≡ Kept (record { block = b.id; item = c.0 })
-    item_kept b m i (k, lt, e) = All-contains (λ (b : Block). (k : ℕ) (j : Item) → slice_get b.items k ≡ Some j →
-        j.origin ≡ Kept (record { block = b.id; item = k })) blocks b read.items m k i (index_of b.items k i lt e)
+    item_kept b m i (k, lt, e) = All-contains OwnItems blocks b read.items m k i (index_of b.items k i lt e)
 
     item_fits : (b : Block) → Contains blocks b → (i : Item) → Contains b.items i → KindFits src i.kind b.silent i.origin
     item_fits b m i (k, lt, e) =
         let g = index_of b.items k i lt e in
-        let o = All-contains (λ (b : Block). (k : ℕ) (j : Item) → slice_get b.items k ≡ Some j → j.origin ≡ Kept (record { block = b.id; item = k })) blocks
-            b read.items m k i g in
+        let o = All-contains OwnItems blocks b read.items m k i g in
         let f = found blocks read.apart b m in
         let at : src.fetch (record { block = b.id; item = k }) ≡ Here i = ap (λ (x : List Block). fetch_in x k) f.at ∙
-            item_front b.items k b.silent f.rest i g in
+        item_front b.items k b.silent f.rest i g in
         subst (KindFits src i.kind b.silent) (sym o) (kind_fits i i.kind refl (record { block = b.id; item = k }) b.silent at)
 
     shape : Shape blocks blocks src fp
@@ -280,18 +290,17 @@ module _ (blocks : List Block) (read : IsRead blocks) where
       among = among_self blocks;
       first = refl;
       back = λ q reach e. by_edge q (src.fetch q) refl e;
-      order = All-weaker (λ (b : Block). (k : ℕ) (j : Item) → slice_get b.items k ≡ Some j → j.origin ≡ Kept (record { block = b.id; item = k }))
-          (λ (b : Block). InOrder b.id 0 b.items)
+      order = All-weaker OwnItems (λ (b : Block). InOrder b.id 0 b.items)
           (λ b own. in_order b.id 0 b.items (λ j i h. own j i h ∙ ap (λ (n : ℕ). Kept (record { block = b.id; item = n })) (let z : j ≡ 0 + j =
-              omega arith in z))) blocks read.items;
+          omega arith in z))) blocks read.items;
       items = All-weaker (Contains blocks) (λ (b : Block). All (λ i. KindFits src i.kind b.silent i.origin) b.items)
           (λ b m. All-weaker (Contains b.items) (λ (i : Item). KindFits src i.kind b.silent i.origin) (item_fits b m) b.items (All-contains_itself b.items))
-              blocks (All-contains_itself blocks);
-      stores = λ b m p i pb f s o. (let bad : Kept p ≡ Before (record { block = b.id; item = b.silent }) = sym ((is_source false resolve).items p i f) ∙ o in
-          cc);
+          blocks (All-contains_itself blocks);
+      stores = λ b m p i pb f s o. (let bad : Kept p ≡ Before (record { block = b.id; item = b.silent }) =
+          sym ((is_source false resolve).items p i f) ∙ o in cc);
       marks = All-weaker (Contains blocks) (λ (b : Block). All (λ i. MarkFits i.kind i.origin) b.items)
           (λ b m. All-weaker (Contains b.items) (λ (i : Item). MarkFits i.kind i.origin) (λ i c. subst (MarkFits i.kind) (sym (item_kept b m i c))
-              (kept_fits i.kind _)) b.items (All-contains_itself b.items)) blocks (All-contains_itself blocks);
+          (kept_fits i.kind _)) b.items (All-contains_itself b.items)) blocks (All-contains_itself blocks);
     } where
       by_edge : (q : Pos) (x : Fetch) → src.fetch q ≡ x → FetchEdge (λ n. n) x q (block_start (first_of blocks)) →
           (p : Pos) × (i : Item) × (fp.fetch p ≡ Here i) × OnRow (GoesTo (first_of blocks)) i.kind

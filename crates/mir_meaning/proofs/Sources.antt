@@ -47,8 +47,12 @@ module _ (f : Program) (own : IsSource f) where
           let o = own.items p j k in
           let w : station_of c j ≡ i = cc in
           let at : p ≡ i.pos = sym (ap position_of o) ∙ ap (λ (z : Station). z.pos) w in
-          record { at = subst (λ (q : Pos). stations q ≡ Some i) at e; here = λ h. at; moves = ap (λ (z : Station). z.waits) (sym w) ∙
-              ap (waits_at (moves_on c j.kind)) o }
+          record {
+            at = subst (λ (q : Pos). stations q ≡ Some i) at e;
+            here = λ h. at;
+            moves = ap (λ (z : Station). z.waits) (sym w) ∙
+                ap (waits_at (moves_on c j.kind)) o;
+          }
       by_code false j cj k h = cc
 
       by_end : (d : Count) (k n : ℕ) → c ≡ d → f.fetch p ≡ Silent k n → end_station d (record { block = p.block; item = k }) ≡ Some i → Own p i
@@ -57,9 +61,13 @@ module _ (f : Program) (own : IsSource f) where
           let made : Station = record { pos = q; waits = false } in
           let w : made ≡ i = cc in
           let at : stations q ≡ Some made = ap (fetch_station c p.block) (own.ends p k n fe) ∙ ap (λ (z : Count). end_station z q) cd in
-          record { at = subst (λ (z : Station). stations z.pos ≡ Some z) w at; here =
-              λ h. (let e = h k n fe in λ x. record { block = p.block; item = e x }) ∙ ap (λ (z : Station). z.pos) w; moves =
-              ap (λ (z : Station). z.waits) (sym w) }
+          record {
+            at = subst (λ (z : Station). stations z.pos ≡ Some z) w at;
+            here =
+                λ h. (let e = h k n fe in λ x. record { block = p.block; item = e x }) ∙ ap (λ (z : Station). z.pos) w;
+            moves =
+                ap (λ (z : Station). z.waits) (sym w);
+          }
       by_end ByItems k n cd fe h = cc
       by_end ByWords k n cd fe h = cc
 
@@ -102,8 +110,8 @@ module _ (f : Program) (own : IsSource f) where
         beside (other {t = t} {s = s} {t' = t'} {m = m} along none go) =
             let b = beside along in
             let v = steps.goes t b.u t' b.both go in
-            let far : (p : Pos) → IsOrigin stations p → Stops p b.u.pos → ⊥ = λ p o h. no_origin b.u.pos (ap stations (sym (steps.pos t b.u b.both)) ∙ none)
-                (only p b.u.pos o h) in
+            let far : (p : Pos) → IsOrigin stations p → Stops p b.u.pos → ⊥ =
+            λ p o h. no_origin b.u.pos (ap stations (sym (steps.pos t b.u b.both)) ∙ none) (only p b.u.pos o h) in
             record { u = v.0; both = v.2; inside = step_within t t' go; next = λ p o x a. b.next p o x (onward (far p o) v.1 a) }
         beside (met {t = t} {s = s} {s' = s'} {t' = t'} {m = m} i along e al go) =
             let b = beside along in

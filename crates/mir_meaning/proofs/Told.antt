@@ -45,20 +45,20 @@ same_parts p m c d e = (ap (λ (z : Core). z.pairs) (sym e), ap (λ (z : Core). 
 act_less : (r : Row) (c d : Core) → TellsLess c d → EndAlike TellsLess (act r c) (act r d)
 act_less r c d h = subst (EndAlike TellsLess (act r c)) (sym (act_apart d.pairs d.marks r c) ∙ ap (act r) h.same)
     (by_outcome (act r c) (act_apart c.pairs c.marks r c)) where
-  by_core : (e : Core) → told_by c.pairs c.marks e ≡ e → TellsLess e (told_by d.pairs d.marks e)
-  by_core e k = record {
-    same = refl;
-    pairs = λ n o v p. subst (λ (z : Core). z.pairs n o ≡ Some v) k (h.pairs n o v p);
-    marks = λ x v p. subst (λ (z : Core). assigned x z.marks ≡ Some v) k (h.marks x v p);
-  }
+      by_core : (e : Core) → told_by c.pairs c.marks e ≡ e → TellsLess e (told_by d.pairs d.marks e)
+      by_core e k = record {
+        same = refl;
+        pairs = λ n o v p. subst (λ (z : Core). z.pairs n o ≡ Some v) k (h.pairs n o v p);
+        marks = λ x v p. subst (λ (z : Core). assigned x z.marks ≡ Some v) k (h.marks x v p);
+      }
 
-  by_outcome : (x : Outcome) → x ≡ with_core (told_by c.pairs c.marks) x → EndAlike TellsLess x (with_core (told_by d.pairs d.marks) x)
-  by_outcome (Falls e) k = let k' : e ≡ told_by c.pairs c.marks e = cc in by_core e (sym k')
-  by_outcome (Goes n e) k = let k' : e ≡ told_by c.pairs c.marks e = cc in (refl, by_core e (sym k'))
-  by_outcome (Gives v) k = refl
-  by_outcome Traps k = tt
-  by_outcome Asks k = tt
-  by_outcome Breaks k = tt
+      by_outcome : (x : Outcome) → x ≡ with_core (told_by c.pairs c.marks) x → EndAlike TellsLess x (with_core (told_by d.pairs d.marks) x)
+      by_outcome (Falls e) k = let k' : e ≡ told_by c.pairs c.marks e = cc in by_core e (sym k')
+      by_outcome (Goes n e) k = let k' : e ≡ told_by c.pairs c.marks e = cc in (refl, by_core e (sym k'))
+      by_outcome (Gives v) k = refl
+      by_outcome Traps k = tt
+      by_outcome Asks k = tt
+      by_outcome Breaks k = tt
 
 -- h's marks and numbers see no more than g's, and its pairs resolve alike
 pub record SeesLess (g h : Program) : Type 0 where
@@ -114,7 +114,7 @@ module _ (g h : Program) (less : SeesLess g h) where
   numbered_less call None os c d t = t
   numbered_less call (Some k) os c d t =
       pairs_less c d _ _ t (updated_less k (λ o. given g.sees_pointer (defined call (slice_get os o)) (c.pairs k o) c)
-          (λ o. given h.sees_pointer (defined call (slice_get os o)) (d.pairs k o) d) c.pairs d.pairs
+      (λ o. given h.sees_pointer (defined call (slice_get os o)) (d.pairs k o) d) c.pairs d.pairs
       (λ o. given_less (defined call (slice_get os o)) (c.pairs k o) (d.pairs k o) c d t (t.pairs k o)) t.pairs)
 
   place_less : (p : Option Place) (c d : Core) → TellsLess c d → Below (place_value p c) (place_value p d)
@@ -169,7 +169,7 @@ module _ (g h : Program) (less : SeesLess g h) where
     pub goes_beside : (t u t' : State) → Beside t u → step h t ≡ Went t' → (u' : State) × (step g u ≡ Went u') × Beside t' u'
     goes_beside t u t' b go =
         let z = alike_went TellsLess g.enter u.pos (do_fetch g (g.fetch u.pos) u.core) (do_fetch h (g.fetch u.pos) t.core)
-            (fetch_less (g.fetch u.pos) u.core t.core b.tells) t' (sym (step_from t u b.pos) ∙ go) in
+        (fetch_less (g.fetch u.pos) u.core t.core b.tells) t' (sym (step_from t u b.pos) ∙ go) in
         (z.0, z.1, record { pos = z.2; tells = z.3 })
 
     pub agrees_beside : (t u : State) → Beside t u → Agrees g h t u
