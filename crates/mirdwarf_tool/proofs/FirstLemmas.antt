@@ -18,7 +18,7 @@ use Rattle.first_form.specs.declared.line.Line.{Line}
 use Rattle.first_form.specs.declared.line.Statement.{Statement}
 use Rattle.first_form.specs.declared.line.Statement.TheVariants.{AddImmediate, Add, Value, Reference, Return}
 use Rattle.first_form.specs.FirstForm.{is_allowed, is_target, is_source, is_immediate, is_small_or_none, kind_of, items_from, item_of}
-use Rattle.mirdwarf_tool.specs.Code.{IsPlain, IsPlainKind, IsPlainRow, DefinesFirst}
+use Rattle.block_lists.specs.Code.{IsPlain, IsPlainKind, IsPlainRow, DefinesFirst}
 
 pub both_left : (a b : Bool) → (a && b) ≡ true → a ≡ true
 both_left true b e = refl

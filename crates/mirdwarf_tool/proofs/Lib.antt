@@ -1,17 +1,8 @@
-pub mod OneOutput
-pub mod HexLemmas
-pub mod LineLemmas
-pub mod RangesLemmas
-pub mod PlacesLemmas
 pub mod FirstLemmas
 pub mod StraightLemmas
 pub mod PrintableLemmas
 pub mod RunLemmas
-pub mod TrackingLemmas
-pub mod WalkLemmas
 pub mod VariablesLemmas
-pub mod FirstPlaceLemmas
-pub mod MarkedLemmas
 pub mod ListingLemmas
 pub mod PromiseLemmas
 pub mod ShownLemmas

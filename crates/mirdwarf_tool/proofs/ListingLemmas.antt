@@ -3,7 +3,7 @@ use Rattle.std.specs.List.{flat_map}
 use Rattle.std.proofs.Common.{◌≡◌, ℕ, List, [], ◌++◌, append_assoc, append-nil}
 use Rattle.mir_func.specs.declared.variable.VarId.{VarId}
 use Rattle.mir_func.specs.declared.block.Block.{Block}
-use Rattle.mirdwarf_tool.specs.Output.{function_line, function_text, variable_line, block_line, item_line}
+use Rattle.output_text.specs.Output.{function_line, function_text, variable_line, block_line, item_line}
 use Rattle.mirdwarf_tool.specs.Listing.{listed_variables, listed_items, listing_of}
 
 parts : (a b c d : List ℕ) → a ++ b ++ [] ++ [] ++ ((c ++ d) ++ []) ≡ a ++ b ++ c ++ d

@@ -17,8 +17,8 @@ use Rattle.first_form.specs.declared.line.Line.{Line}
 use Rattle.first_form.specs.declared.line.Statement.{Statement}
 use Rattle.first_form.specs.declared.line.Statement.TheVariants.{AddImmediate, Add, Value, Reference, Return}
 use Rattle.first_form.specs.FirstForm.{is_allowed, is_target, is_source, is_result, is_variable, is_small, is_small_or_none, is_immediate, kind_of, loc_of, item_of, items_from}
-use Rattle.mirdwarf_tool.specs.Code.{word_bytes, operation_of, code_bytes, code_of}
-use Rattle.mirdwarf_tool.specs.Shown.{IsPrintableLine, not_inlined}
+use Rattle.block_lists.specs.Code.{word_bytes, operation_of, code_bytes, code_of}
+use Rattle.output_text.specs.Shown.{IsPrintableLine, not_inlined}
 use Rattle.mirdwarf_tool.specs.Listing.{start_of, item_listed, listed_items}
 use Rattle.mirdwarf_tool.proofs.FirstLemmas.{both_left, both_right}
 

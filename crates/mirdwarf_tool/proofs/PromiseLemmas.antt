@@ -18,14 +18,14 @@ use Rattle.dwarf_loclists.proofs.SpellingLemmas.{length-spelling}
 use Rattle.dwarf_loclists.proofs.OneReading.{entered, spelling_one}
 use Rattle.code_layout.specs.Straight.{Holds, GiveHeldAt, GiveHeld}
 use Rattle.code_layout.specs.Exact.{IsFirst, GiveFirstIf, GiveFirst}
-use Rattle.mirdwarf_tool.specs.Output.{ListedVariable, Output}
+use Rattle.output_text.specs.Output.{ListedVariable, Output}
 use Rattle.mirdwarf_tool.specs.Listing.{variable_name, listed_variables, listing_of, output_with}
-use Rattle.mirdwarf_tool.specs.Variables.{variables_of}
-use Rattle.mirdwarf_tool.specs.Walk.{unchanged, IsFirstPlace, FirstPlaces}
-use Rattle.mirdwarf_tool.specs.Lists.{AreLists}
+use Rattle.block_lists.specs.Variables.{variables_of}
+use Rattle.block_lists.specs.Walk.{unchanged, IsFirstPlace, FirstPlaces}
+use Rattle.block_lists.specs.Lists.{AreLists}
 use Rattle.mirdwarf_tool.specs.Promise.{Gives}
-use Rattle.mirdwarf_tool.proofs.FirstPlaceLemmas.{walk_at_code, walk_at_mark, same_first, one_walk}
-use Rattle.mirdwarf_tool.proofs.MarkedLemmas.{IsUnmarked, unmarked, numbered, not_in, still_none}
+use Rattle.block_lists.proofs.FirstPlaceLemmas.{walk_at_code, walk_at_mark, same_first, one_walk}
+use Rattle.block_lists.proofs.MarkedLemmas.{IsUnmarked, unmarked, numbered, not_in, still_none}
 
 -- ---- a variable along a walk
 

@@ -12,7 +12,7 @@ use Rattle.mirdwarf_tool.specs.declared.fault.Fault.{Fault}
 use Rattle.mirdwarf_tool.specs.declared.fault.Fault.TheVariants.{Usage, Read, TooLong, NotBuilt, Write, Memory}
 use Rattle.mirdwarf_tool.specs.declared.status.Status.TheVariants as status
 use Rattle.mirdwarf_tool.specs.Fault.{reading_fault, status_of, line_of}
-use Rattle.mirdwarf_tool.specs.Shown.{not_inlined}
+use Rattle.output_text.specs.Shown.{not_inlined}
 use Rattle.mirdwarf_tool.specs.Promise.{unsubstituted}
 use Rattle.mirdwarf_tool.specs.Run.{Finishes, one, HasWritten, KeepsHeadline, WroteExactly, Explains, IsTooLong, IsNotBuilt, ReadingEnds, MayBeInForm, IsInForm}
 

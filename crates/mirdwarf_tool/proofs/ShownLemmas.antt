@@ -30,16 +30,16 @@ use Rattle.code_layout.specs.Straight as straight
 use Rattle.code_layout.specs.Exact.{GiveFirst, address_at, IsPointOf}
 use Rattle.code_layout.proofs.Straight.{straight_code_meets_the_headline}
 use Rattle.code_layout.proofs.Exact.{straight_lists_are_exact}
-use Rattle.mirdwarf_tool.specs.Code.{code_of}
-use Rattle.mirdwarf_tool.specs.Output.{ItemLine, ListedBlock, ListedFunction, Output, spelling}
-use Rattle.mirdwarf_tool.specs.Shown.{IsPrintableFunction, Shows, OfShown, not_inlined}
+use Rattle.block_lists.specs.Code.{code_of}
+use Rattle.output_text.specs.Output.{ItemLine, ListedBlock, ListedFunction, Output, spelling}
+use Rattle.output_text.specs.Shown.{IsPrintableFunction, Shows, OfShown, not_inlined}
 use Rattle.mirdwarf_tool.specs.Listing.{start_of, item_listed, listed_items, listing_of, output_with, output_of, compiled_text, block_image}
-use Rattle.mirdwarf_tool.specs.Variables.{variables_of}
-use Rattle.mirdwarf_tool.specs.Walk.{unchanged}
-use Rattle.mirdwarf_tool.specs.Lists.{AreLists}
+use Rattle.block_lists.specs.Variables.{variables_of}
+use Rattle.block_lists.specs.Walk.{unchanged}
+use Rattle.block_lists.specs.Lists.{AreLists}
 use Rattle.mirdwarf_tool.specs.Promise.{code_line, blocks_of, lines_of, raised_by, raised, item_shown, block_shown, image_of, Gives, SourceFunction, unsubstituted, OfEach, past_item, LinesLie, IsLaidOut, AreLaidOut, MeetsHeadline, Promises, IsListedAt, IsExactFor, IsExact, ListsSource, ListsSources}
 use Rattle.mirdwarf_tool.specs.Compiled.{IsFirstForm, CompilesBlock, Compiles}
-use Rattle.mirdwarf_tool.proofs.OneOutput.{one_reading}
+use Rattle.output_text.proofs.OneOutput.{one_reading}
 use Rattle.mirdwarf_tool.proofs.PromiseLemmas.{held_from, gives_first}
 
 -- ---- the image

@@ -29,7 +29,7 @@ use Rattle.first_form.specs.FirstForm.{is_allowed, is_target, is_source, is_resu
 use Rattle.code_layout.specs.MachineStep.{return_word}
 use Rattle.code_layout.specs.Straight.{IsStraight, IsStraightImage, IsWordOf, returns, goes_on, marks}
 use Rattle.code_layout.specs.Straight as straight
-use Rattle.mirdwarf_tool.specs.Code.{code_bytes, code_of, operation_of, word_bytes}
+use Rattle.block_lists.specs.Code.{code_bytes, code_of, operation_of, word_bytes}
 use Rattle.mirdwarf_tool.specs.Listing.{block_image}
 use Rattle.mirdwarf_tool.proofs.FirstLemmas.{both_left, both_right, source_below, plain_kind}
 

@@ -13,11 +13,11 @@ use Rattle.mir_func.specs.Function.{Function}
 use Rattle.mir_printer.specs.Printable.{IsNumber}
 use Rattle.first_form.specs.FirstForm.{AreFirst, Stands, function_of, is_allowed, is_source, is_small, is_variable, variable_of, kind_of, items_from}
 use Rattle.mirdwarf_tool.specs.Compiled.{IsFirstForm}
-use Rattle.mirdwarf_tool.specs.Code.{code_of}
-use Rattle.mirdwarf_tool.specs.Output.{ListedVariable, ListedBlock}
-use Rattle.mirdwarf_tool.specs.Shown.{IsPrintableLine, IsPrintableVariable, IsPrintableEntry, IsPrintableBlock, IsPrintableFunction, not_inlined}
+use Rattle.block_lists.specs.Code.{code_of}
+use Rattle.output_text.specs.Output.{ListedVariable, ListedBlock}
+use Rattle.output_text.specs.Shown.{IsPrintableLine, IsPrintableVariable, IsPrintableEntry, IsPrintableBlock, IsPrintableFunction, not_inlined}
 use Rattle.mirdwarf_tool.specs.Listing.{variable_name, listed_variables, listed_items, listing_of}
-use Rattle.mirdwarf_tool.specs.Variables.{with_variable, with_mark, variables_of}
+use Rattle.block_lists.specs.Variables.{with_variable, with_mark, variables_of}
 use Rattle.mirdwarf_tool.proofs.FirstLemmas.{both_left, both_right, plain_items, length-items_from}
 use Rattle.mirdwarf_tool.proofs.PrintableLemmas.{lines_printable, code_few}
 use Rattle.mirdwarf_tool.proofs.StraightLemmas.{straight_image}

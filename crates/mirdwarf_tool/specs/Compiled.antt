@@ -6,11 +6,11 @@ use Rattle.dwarf_loclists.specs.declared.range.Range.{Range}
 use Rattle.dwarf_loclists.specs.Spelling as loclists
 use Rattle.dwarf_loclists.specs.Reading.{IsSection}
 use Rattle.code_layout.specs.Straight.{IsStraightImage}
-use Rattle.mirdwarf_tool.specs.Code.{code_of, IsPlain}
-use Rattle.mirdwarf_tool.specs.Variables.{variables_of}
+use Rattle.block_lists.specs.Code.{code_of, IsPlain}
+use Rattle.block_lists.specs.Variables.{variables_of}
 use Rattle.mirdwarf_tool.specs.Listing.{listing_of, compiled_text, block_image}
-use Rattle.mirdwarf_tool.specs.Shown.{IsPrintableFunction, OfShown, not_inlined}
-use Rattle.mirdwarf_tool.specs.Lists.{AreLists}
+use Rattle.output_text.specs.Shown.{IsPrintableFunction, OfShown, not_inlined}
+use Rattle.block_lists.specs.Lists.{AreLists}
 use Rattle.mirdwarf_tool.specs.Promise.{unsubstituted, AreLaidOut, Promises, IsExact, ListsSources}
 
 -- a function of one block of at most 8,192 plain items, which run straight to a return, with at most two variables, whose listing

@@ -1,16 +1,7 @@
 pub mod Status
 pub mod Fault
 pub mod Command
-pub mod Hex
-pub mod Code
-pub mod Variables
-pub mod Output
-pub mod Shown
 pub mod Listing
-pub mod Ranges
-pub mod Walk
-pub mod Lists
 pub mod Promise
 pub mod Compiled
 pub mod Run
-pub mod Tracking

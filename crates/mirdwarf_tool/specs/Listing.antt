@@ -8,9 +8,9 @@ use Rattle.dwarf_loclists.specs.declared.range.Range.{Range}
 use Rattle.dwarf_loclists.specs.Spelling as loclists
 use Rattle.code_layout.specs.Image.{Image}
 use Rattle.code_layout.specs.Straight as straight
-use Rattle.mirdwarf_tool.specs.Code.{code_of}
-use Rattle.mirdwarf_tool.specs.Output.{ItemLine, ListedVariable, ListedFunction, Output, spelling}
-use Rattle.mirdwarf_tool.specs.Variables.{variables_of}
+use Rattle.block_lists.specs.Code.{code_of}
+use Rattle.output_text.specs.Output.{ItemLine, ListedVariable, ListedFunction, Output, spelling}
+use Rattle.block_lists.specs.Variables.{variables_of}
 
 -- the names of the two variables of the fixed metadata, by their nodes
 abbrev pub variable_name : ℕ → List ℕ

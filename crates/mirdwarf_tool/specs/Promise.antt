@@ -24,7 +24,7 @@ use Rattle.dwarf_loclists.specs.Reading.{PlaceAt}
 use Rattle.code_layout.specs.Image.{CodeLine, Image}
 use Rattle.code_layout.specs.Headline.{Headline}
 use Rattle.code_layout.specs.Exact.{AreExact}
-use Rattle.mirdwarf_tool.specs.Output.{ItemLine, ListedVariable, ListedBlock, ListedFunction, Output}
+use Rattle.output_text.specs.Output.{ItemLine, ListedVariable, ListedBlock, ListedFunction, Output}
 use Rattle.mirdwarf_tool.specs.Listing.{start_of}
 
 -- a line with an address and an instruction, as the machine's image has it

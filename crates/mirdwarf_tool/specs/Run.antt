@@ -8,7 +8,7 @@ use Rattle.mirdwarf_tool.specs.declared.driver.TheConstants.{LIMIT}
 use Rattle.mirdwarf_tool.specs.declared.fault.Fault.{Fault}
 use Rattle.mirdwarf_tool.specs.declared.fault.Fault.TheVariants.{Usage, Read, TooLong, NotBuilt, Write, Memory}
 use Rattle.mirdwarf_tool.specs.Command.{IsCommand}
-use Rattle.mirdwarf_tool.specs.Shown.{OfShown, not_inlined}
+use Rattle.output_text.specs.Shown.{OfShown, not_inlined}
 use Rattle.mirdwarf_tool.specs.Promise.{SourceFunction, unsubstituted, AreLaidOut, Promises, IsExact, ListsSources}
 use Rattle.mirdwarf_tool.specs.Compiled.{Compiles}
 

@@ -1,19 +1,19 @@
 ghost use Rattle.std.specs.Prelude.{◌≡◌, ◌++◌, ◌^◌, ◌<◌, ◌≤◌, [], codes, length, All, IfOk};
-ghost use Rattle.mirdwarf_tool.specs.Code.{IsPlain};
+ghost use Rattle.block_lists.specs.Code.{IsPlain};
 ghost use Rattle.mirdwarf_tool.specs.Compiled.{IsFirstForm, Compiles, CompilesBlock};
-ghost use Rattle.mirdwarf_tool.specs.Variables.{variables_of};
-ghost use Rattle.mirdwarf_tool.specs.Output as output;
+ghost use Rattle.block_lists.specs.Variables.{variables_of};
+ghost use Rattle.output_text.specs.Output as output;
 ghost use Rattle.mirdwarf_tool.specs.Listing.{output_with, block_image};
 ghost use Rattle.dwarf_loclists.specs.Ranges.{Ascend, ArePlaces};
 ghost use Rattle.dwarf_loclists.specs.Spelling.{spelling};
 ghost use Rattle.dwarf_loclists.specs.Reading.{IsSection};
 ghost use Rattle.code_layout.specs.Straight.{IsStraightImage};
 
-use crate::code::machine_code;
+use block_lists::code::machine_code;
 use crate::listing::push_listing;
-use crate::lists_of::lists;
-use crate::section::push_section;
-use crate::variables::variables;
+use block_lists::lists_of::lists;
+use output_text::section::push_section;
+use block_lists::variables::variables;
 use dwarf_loclists::range::RangeLists;
 use dwarf_loclists::section::{Bytes, lists_size, write_lists};
 use mir_func::block::Block;

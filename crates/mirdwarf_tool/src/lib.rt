@@ -8,18 +8,9 @@
 //! nothing stands on the output before every byte of it is there.
 #![tactic(auto)]
 
-mod code;
 mod command;
 mod compile;
 pub mod driver;
 pub mod fault;
-mod hex;
 mod listing;
-mod lists_of;
-mod ranges;
-pub mod reading;
-mod section;
 pub mod status;
-mod token;
-mod tracker;
-mod variables;

@@ -1,11 +1,11 @@
 ghost use Rattle.std.specs.Prelude.{◌≡◌, ◌++◌, ◌+◌, ◌*◌, ◌^◌, ◌<◌, ◌≤◌, length, OnOk};
 ghost use Rattle.std.specs.Fmt.{decimal};
 ghost use Rattle.std.specs.List.{flat_map};
-ghost use Rattle.mirdwarf_tool.specs.Output.{name_text, name_byte, function_line, function_text, variable_line, inlined_text, origin_text, position_text, start_text, block_line, item_line};
+ghost use Rattle.output_text.specs.Output.{name_text, name_byte, function_line, function_text, variable_line, inlined_text, origin_text, position_text, start_text, block_line, item_line};
 ghost use Rattle.mirdwarf_tool.specs.Listing.{variable_name, listed_variables, start_of, item_listed, listed_items, listing_of};
 
-use crate::code::is_code;
-use crate::hex::push_address;
+use block_lists::code::is_code;
+use output_text::hex::push_address;
 use mir_func::block::Block;
 use mir_func::item::Item;
 use mir_func::position::{Origin, Pos};

@@ -5,9 +5,9 @@ use Rattle.mir_func.specs.declared.variable.VarId.{VarId}
 use Rattle.dwarf_loclists.specs.declared.range.Range.{Range}
 use Rattle.dwarf_loclists.specs.Reading.{IsSection}
 use Rattle.dwarf_loclists.specs.Spelling.{spelling}
-use Rattle.mirdwarf_tool.specs.Code.{code_of}
-use Rattle.mirdwarf_tool.specs.Variables.{variables_of}
-use Rattle.mirdwarf_tool.specs.Lists.{AreLists, IsListFor}
+use Rattle.block_lists.specs.Code.{code_of}
+use Rattle.block_lists.specs.Variables.{variables_of}
+use Rattle.block_lists.specs.Lists.{AreLists, IsListFor}
 use Rattle.mirdwarf_tool.proofs.ShownLemmas.{written_as}
 use Rattle.mirdwarf_tool.proofs.compile.compile_block.Goals as goal
 

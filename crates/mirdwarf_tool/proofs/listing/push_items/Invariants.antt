@@ -1,6 +1,6 @@
 use Rattle.std.proofs.Common.{◌≡◌, ◌≤◌, ◌*◌, ◌++◌, drop}
 use Rattle.std.specs.List.{flat_map}
-use Rattle.mirdwarf_tool.specs.Output.{item_line}
+use Rattle.output_text.specs.Output.{item_line}
 use Rattle.mirdwarf_tool.specs.Listing.{listed_items}
 use Rattle.mirdwarf_tool.proofs.listing.push_items.Given as goal
 

@@ -2,7 +2,7 @@ use Rattle.std.proofs.Common.{◌++◌, List, ap, ◌∙◌, sym}
 use Rattle.std.specs.List.{flat_map}
 use Rattle.mir_func.specs.declared.item.Item.{Item}
 use Rattle.mir_printer.proofs.Appends.{joined, ended}
-use Rattle.mirdwarf_tool.specs.Output.{function_line, function_text, variable_line, block_line, item_line}
+use Rattle.output_text.specs.Output.{function_line, function_text, variable_line, block_line, item_line}
 use Rattle.mirdwarf_tool.specs.Listing.{listed_variables, listed_items, listing_of}
 use Rattle.mirdwarf_tool.proofs.ListingLemmas.{listing_parts}
 use Rattle.mirdwarf_tool.proofs.listing.push_listing.Goals as goal

@@ -1,5 +1,5 @@
 use Rattle.std.proofs.Common.{◌≡◌, ◌++◌, take}
-use Rattle.mirdwarf_tool.specs.Output.{name_text}
+use Rattle.output_text.specs.Output.{name_text}
 use Rattle.mirdwarf_tool.proofs.listing.push_name.Given as goal
 
 abbrev pub invariant-loop-b : goal.invariant-loop-b
