@@ -12,7 +12,7 @@ use Rattle.std.proofs.lemmas.Map.Made.{IsDistinct-from_count, distinct_count-fro
 use Rattle.std.proofs.lemmas.Map.Views.{btree_set_len-from_list}
 use Rattle.mir_func.specs.Sound.{AreApart}
 
-same : (a b : ℕ) → Decides (eq_by_cmp nat_cmp a b) (a ≡ b)
+pub same : (a b : ℕ) → Decides (eq_by_cmp nat_cmp a b) (a ≡ b)
 same a b =
     let r : MatchOrdering (nat_cmp a b) (a < b) (a ≡ b) (b < a) = ranked a b (nat_cmp a b) refl in
     (grind (arith, nat_tests), grind (arith, nat_tests))
