@@ -14,13 +14,16 @@ module _ (test : List ℕ → Bool) (line : List ℕ) (quoted : Bool) (at : ℕ)
   here = take (length line - at) (drop at line)
 
   at_place : (found : Bool) → at < length line → is_outside test quoted here ≡ found
-      → from_first test quoted (drop at line) ≡ cond found (get_or line at 0 ∷ drop (at + 1) line) (from_first test (quoted_behind quoted (get_or line at 0)) (drop (at + 1) line))
+      → from_first test quoted (drop at line) ≡ cond found (get_or line at 0 ∷ drop (at + 1) line)
+      (from_first test (quoted_behind quoted (get_or line at 0)) (drop (at + 1) line))
   at_place found lt is =
       let front = drop_more line at 0 lt in
-      ap (from_first test quoted) front ∙ at_front test quoted (get_or line at 0) (drop (at + 1) line) found (ap (λ (r : List ℕ). is_outside test quoted r) (sym (take_rest line at ∙ front)) ∙ is)
+      ap (from_first test quoted) front ∙ at_front test quoted (get_or line at 0) (drop (at + 1) line) found
+      (ap (λ (r : List ℕ). is_outside test quoted r) (sym (take_rest line at ∙ front)) ∙ is)
 
   -- it stands at the place
-  pub found_here : at < length line → is_outside test quoted here ≡ true → from_first test quoted (drop at line) ≡ from_first test false line → here ≡ from_first test false line
+  pub found_here : at < length line → is_outside test quoted here ≡ true → from_first test quoted (drop at line) ≡ from_first test false line →
+      here ≡ from_first test false line
   found_here lt is read = take_rest line at ∙ drop_more line at 0 lt ∙ sym (at_place true lt is) ∙ read
 
   -- it doesn't stand at the place
@@ -29,7 +32,8 @@ module _ (test : List ℕ → Bool) (line : List ℕ) (quoted : Bool) (at : ℕ)
   goes_on lt is read = sym (at_place false lt is) ∙ read
 
   -- it stands nowhere
-  pub nowhere : length line ≤ at → from_first test quoted (drop at line) ≡ from_first test false line → take (length line - length line) (drop (length line) line) ≡ from_first test false line
+  pub nowhere : length line ≤ at → from_first test quoted (drop at line) ≡ from_first test false line →
+      take (length line - length line) (drop (length line) line) ≡ from_first test false line
   unfolding from_first
   nowhere all read =
       take_rest line (length line) ∙ drop_all (length line) line (omega arith) ∙ ap (from_first test quoted) (sym (drop_all at line all)) ∙ read

@@ -1,5 +1,6 @@
 -- The metadata of lines grows line by line.
-use Rattle.std.proofs.Common.{Ordering, Less, Equal, Greater, ◌≡◌, ℕ, ◌+◌, ◌<◌, Bool, true, false, cond, List, [], ◌∷◌, ◌++◌, length, get_or, take, Option, Some, None, refl, sym, ap, ◌∙◌}
+use Rattle.std.proofs.Common.{Ordering, Less, Equal, Greater, ◌≡◌, ℕ, ◌+◌, ◌<◌, Bool, true, false, cond, List, [], ◌∷◌, ◌++◌, length, get_or, take, Option}
+use Rattle.std.proofs.Common.{Some, None, refl, sym, ap, ◌∙◌}
 use Rattle.std.specs.Prelude.{is_some}
 use Rattle.std.specs.List.{cons_option}
 use Rattle.std.proofs.lemmas.List.{append-nil, take_more}
@@ -7,7 +8,8 @@ use Rattle.std.proofs.lemmas.List.Elements.{filter_map-append}
 use Rattle.std.specs.Ordering.{nat_cmp, is_eq, eq_by_cmp}
 use Rattle.std.specs.Cmp.{IsTotalOrder, nat_cmp_total}
 use Rattle.std.specs.Cmp.Lexicographic.{slice_cmp, nat_list_cmp_total}
-use Rattle.std.specs.FinMap.{FinMap, IsAntisymmetric, nat_cmp-IsAntisymmetric, slice_cmp-IsAntisymmetric, from_entries, insert, find, get-from_entries, same_map, from_entries_push}
+use Rattle.std.specs.FinMap.{FinMap, IsAntisymmetric, nat_cmp-IsAntisymmetric, slice_cmp-IsAntisymmetric, from_entries, insert, find, get-from_entries}
+use Rattle.std.specs.FinMap.{same_map, from_entries_push}
 use Rattle.mir_lexer.specs.declared.line.Line.{Line}
 use Rattle.meta_reader.specs.declared.node.Node.{Node}
 use Rattle.meta_reader.specs.Line.{behind_spaces, node_of_line}
@@ -24,7 +26,8 @@ first_there-none : {X : Type 0} (found : Option X) → first_there found None �
 first_there-none None = refl
 first_there-none (Some x) = refl
 
-first_there-cond : {X : Type 0} (b : Bool) (x : X) (found other : Option X) → first_there (cond b (Some x) found) other ≡ cond b (Some x) (first_there found other)
+first_there-cond : {X : Type 0} (b : Bool) (x : X) (found other : Option X) →
+    first_there (cond b (Some x) found) other ≡ cond b (Some x) (first_there found other)
 first_there-cond true x found other = refl
 first_there-cond false x found other = refl
 
@@ -41,7 +44,8 @@ ties Greater e = absurd cc
 module _ {K X : Type 0} {R : K → K → Ordering} (o : IsTotalOrder R) (same : IsAntisymmetric R) where
   find-one_more : (es : List (K × X)) (k : K) (v : X) (q : K) → find R q (es ++ (k, v) ∷ []) ≡ first_there (find R q es) (cond (eq_by_cmp R q k) (Some v) None)
   find-one_more [] k v q = refl
-  find-one_more (e ∷ es) k v q = ap (cond (eq_by_cmp R q e.0) (Some e.1)) (find-one_more es k v q) ∙ sym (first_there-cond (eq_by_cmp R q e.0) e.1 (find R q es) (cond (eq_by_cmp R q k) (Some v) None))
+  find-one_more (e ∷ es) k v q = ap (cond (eq_by_cmp R q e.0) (Some e.1)) (find-one_more es k v q)
+      ∙ sym (first_there-cond (eq_by_cmp R q e.0) e.1 (find R q es) (cond (eq_by_cmp R q k) (Some v) None))
 
   -- an entry whose key stood before changes nothing
   no_change : (es : List (K × X)) (k : K) (v w : X) → find R k es ≡ Some w → (q : K) → find R q (es ++ (k, v) ∷ []) ≡ find R q es
@@ -51,8 +55,10 @@ module _ {K X : Type 0} {R : K → K → Ordering} (o : IsTotalOrder R) (same : 
       by_key false e = first_there-none (find R q es)
       by_key true e = let found : find R q es ≡ Some w = ap (λ (x : K). find R x es) (same q k (ties (R q k) e)) ∙ there in rw found refl
 
-  one_more : (es : List (K × X)) (k : K) (v : X) (found : Option X) → find R k es ≡ found → from_entries {R = R} (es ++ (k, v) ∷ []) ≡ with_new (from_entries es) k v
-  one_more es k v None none = from_entries_push o same es k v none ∙ ap (λ (b : Bool). cond b (from_entries {R = R} es) (insert (from_entries es) k v)) (sym (ap is_some (get-from_entries o es k ∙ none)))
+  one_more : (es : List (K × X)) (k : K) (v : X) (found : Option X) → find R k es ≡ found →
+      from_entries {R = R} (es ++ (k, v) ∷ []) ≡ with_new (from_entries es) k v
+  one_more es k v None none = from_entries_push o same es k v none
+      ∙ ap (λ (b : Bool). cond b (from_entries {R = R} es) (insert (from_entries es) k v)) (sym (ap is_some (get-from_entries o es k ∙ none)))
   one_more es k v (Some w) there =
       same_map o same _ _ (λ q. get-from_entries o _ q ∙ no_change es k v w there q ∙ sym (get-from_entries o es q))
       ∙ ap (λ (b : Bool). cond b (from_entries {R = R} es) (insert (from_entries es) k v)) (sym (ap is_some (get-from_entries o es k ∙ there)))
@@ -61,7 +67,8 @@ module _ {K X : Type 0} {R : K → K → Ordering} (o : IsTotalOrder R) (same : 
   given_more es None = ap from_entries (append-nil es)
   given_more es (Some e) = one_more es e.0 e.1 (find R e.0 es) refl
 
-both : (m : Maps) (given : Option (ℕ × Node)) (defined : Option (List ℕ × ℕ)) → record { nodes = with_option m.nodes given; subprograms = with_option m.subprograms defined } ≡ with_defined (with_given m given) defined
+both : (m : Maps) (given : Option (ℕ × Node)) (defined : Option (List ℕ × ℕ)) →
+    record { nodes = with_option m.nodes given; subprograms = with_option m.subprograms defined } ≡ with_defined (with_given m given) defined
 both m None None = refl
 both m None (Some d) = refl
 both m (Some g) None = refl
@@ -74,10 +81,16 @@ metadata_of-append ls l =
     let given = node_of_line (behind_spaces l.text) in
     let defined = definition_of_line (behind_spaces l.text) in
     let n : from_entries {R = nat_cmp} (nodes_of (ls ++ l ∷ [])) ≡ with_option (from_entries (nodes_of ls)) given =
-    ap from_entries (filter_map-append (λ (x : Line). node_of_line (behind_spaces x.text)) ls (l ∷ [])) ∙ given_more nat_cmp_total nat_cmp-IsAntisymmetric (nodes_of ls) given in
+    ap from_entries (filter_map-append (λ (x : Line). node_of_line (behind_spaces x.text)) ls (l ∷ []))
+    ∙ given_more nat_cmp_total nat_cmp-IsAntisymmetric (nodes_of ls) given in
     let s : from_entries {R = slice_cmp nat_cmp} (subprograms_of (ls ++ l ∷ [])) ≡ with_option (from_entries (subprograms_of ls)) defined =
-    ap from_entries (filter_map-append (λ (x : Line). definition_of_line (behind_spaces x.text)) ls (l ∷ [])) ∙ given_more nat_list_cmp_total (slice_cmp-IsAntisymmetric nat_cmp-IsAntisymmetric) (subprograms_of ls) defined in
-    let parts : metadata_of (ls ++ l ∷ []) ≡ record { nodes = with_option (metadata_of ls).nodes given; subprograms = with_option (metadata_of ls).subprograms defined } = λ i. record { nodes = n i; subprograms = s i } in
+    ap from_entries (filter_map-append (λ (x : Line). definition_of_line (behind_spaces x.text)) ls (l ∷ []))
+    ∙ given_more nat_list_cmp_total (slice_cmp-IsAntisymmetric nat_cmp-IsAntisymmetric) (subprograms_of ls) defined in
+    let parts : metadata_of (ls ++ l ∷ []) ≡ record {
+      nodes = with_option (metadata_of ls).nodes given;
+      subprograms =
+          with_option (metadata_of ls).subprograms defined;
+    } = λ i. record { nodes = n i; subprograms = s i } in
     parts ∙ both (metadata_of ls) given defined
 
 -- the next line is taken
@@ -85,5 +98,6 @@ pub next_line : (ls items : List Line) (i : ℕ) (l : Line) (m now : Maps) (text
     → m ≡ metadata_of (take i ls) → now ≡ with_line m text → now ≡ metadata_of (take (i + 1) ls)
 next_line ls items i l m now text same lt is spelled before taken =
     let more : take (i + 1) ls ≡ take i ls ++ l ∷ [] =
-    ap (take (i + 1)) (sym same) ∙ take_more items i l lt ∙ ap (λ (x : Line). take i items ++ x ∷ []) (sym is) ∙ ap (λ (r : List Line). take i r ++ l ∷ []) same in
+    ap (take (i + 1)) (sym same) ∙ take_more items i l lt ∙ ap (λ (x : Line). take i items ++ x ∷ []) (sym is)
+    ∙ ap (λ (r : List Line). take i r ++ l ∷ []) same in
     taken ∙ ap (with_line m) spelled ∙ ap (λ (x : Maps). with_line x l.text) before ∙ sym (metadata_of-append (take i ls) l) ∙ ap metadata_of (sym more)

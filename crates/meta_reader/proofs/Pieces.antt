@@ -1,11 +1,13 @@
 -- The pieces of a node are read from left to right.
-use Rattle.std.proofs.Common.{◌≡◌, ℕ, ◌+◌, ◌-◌, ◌<◌, ◌≤◌, Bool, true, false, ◌&&◌, ◌||◌, eqb, cond, List, [], ◌∷◌, ◌++◌, length, get_or, take, drop, Option, Some, None, refl, sym, ap, ◌∙◌, append_assoc, arith}
+use Rattle.std.proofs.Common.{◌≡◌, ℕ, ◌+◌, ◌-◌, ◌<◌, ◌≤◌, Bool, true, false, ◌&&◌, ◌||◌, eqb, cond, List, [], ◌∷◌, ◌++◌, length, get_or, take, drop, Option}
+use Rattle.std.proofs.Common.{Some, None, refl, sym, ap, ◌∙◌, append_assoc, arith}
 use Rattle.std.proofs.lemmas.List.{append-nil, drop_more, drop_all, take_more, take_rest, length-drop, get_or-drop}
 use Rattle.std.proofs.lemmas.Bool.{eqb-true}
 use Rattle.mir_lexer.specs.declared.parts.Token.{Token}
 use Rattle.meta_reader.specs.declared.field.Field.{Field}
 use Rattle.meta_reader.specs.Token.{is_byte}
-use Rattle.meta_reader.specs.Field.{closes, is_end, ended, ends_piece, depth_behind, in_piece, new_piece, pieces, field_of, before_fields, each_field, all_fields, fields_of}
+use Rattle.meta_reader.specs.Field.{closes, is_end, ended, ends_piece, depth_behind, in_piece, new_piece, pieces, field_of, before_fields, each_field}
+use Rattle.meta_reader.specs.Field.{all_fields, fields_of}
 
 -- fields that were read, and those that are still read
 abbrev pub behind : List Field → Option (List Field) → Option (List Field)
@@ -31,7 +33,8 @@ with_front-nil None = refl
 with_front-nil (Some []) = refl
 with_front-nil (Some (p ∷ ps)) = refl
 
-with_front-in_piece : (front : List Token) (t : Token) (read : Option (List (List Token))) → with_front front (in_piece t read) ≡ with_front (front ++ t ∷ []) read
+with_front-in_piece : (front : List Token) (t : Token) (read : Option (List (List Token))) →
+    with_front front (in_piece t read) ≡ with_front (front ++ t ∷ []) read
 with_front-in_piece front t None = refl
 with_front-in_piece front t (Some []) = refl
 with_front-in_piece front t (Some (p ∷ ps)) = ap (λ (x : List Token). Some (x ∷ ps)) (sym (append_assoc front (t ∷ []) p))
@@ -56,7 +59,8 @@ gathered-new_piece done front f (Some []) is = rw (append-nil front, ← is) (ap
 gathered-new_piece done front f (Some (p ∷ ps)) is = rw (append-nil front, ← is) (behind-before_fields done f (each_field (p ∷ ps)))
 
 -- what was read is no field
-no_field : (done : List Field) (front : List Token) (comma last : Bool) (read : Option (List (List Token))) → None ≡ field_of front → gathered done front (piece_end comma last read) ≡ None
+no_field : (done : List Field) (front : List Token) (comma last : Bool) (read : Option (List (List Token))) → None ≡ field_of front →
+    gathered done front (piece_end comma last read) ≡ None
 no_field done front true last None none = refl
 no_field done front true last (Some ps) none = rw (append-nil front, ← none) refl
 no_field done front false true read none = rw (append-nil front, ← none) refl
@@ -68,9 +72,11 @@ last_field : (done : List Field) (front : List Token) (f : Field) (last : Bool) 
 last_field done front f true read is = rw (append-nil front, ← is) refl
 last_field done front f false read is = refl
 
-at_token : (depth : ℕ) (t : Token) (ts : List Token) (ends : Bool) → ends_piece depth t ≡ ends → pieces depth (t ∷ ts) ≡ cond ends (piece_end (is_byte 44 t) (is_end (t ∷ ts)) (pieces 0 ts)) (in_piece t (pieces (depth_behind depth t) ts))
+at_token : (depth : ℕ) (t : Token) (ts : List Token) (ends : Bool) → ends_piece depth t ≡ ends →
+    pieces depth (t ∷ ts) ≡ cond ends (piece_end (is_byte 44 t) (is_end (t ∷ ts)) (pieces 0 ts)) (in_piece t (pieces (depth_behind depth t) ts))
 unfolding pieces
-at_token depth t ts ends is = ap (λ (z : Bool). cond z (piece_end (is_byte 44 t) (is_end (t ∷ ts)) (pieces 0 ts)) (in_piece t (pieces (depth_behind depth t) ts))) is
+at_token depth t ts ends is = ap (λ (z : Bool). cond z (piece_end (is_byte 44 t) (is_end (t ∷ ts)) (pieces 0 ts))
+    (in_piece t (pieces (depth_behind depth t) ts))) is
 
 first_of : (a b : Bool) → (a && b) ≡ true → a ≡ true
 first_of true b e = refl
@@ -89,20 +95,24 @@ module _ (ts : List Token) (done : List Field) (start at depth : ℕ) (d : Token
   here = get_or ts at d
 
   at_place : (ends : Bool) → at < length ts → ends_piece depth here ≡ ends
-      → pieces depth (drop at ts) ≡ cond ends (piece_end (is_byte 44 here) (is_end (here ∷ drop (at + 1) ts)) (pieces 0 (drop (at + 1) ts))) (in_piece here (pieces (depth_behind depth here) (drop (at + 1) ts)))
+      → pieces depth (drop at ts) ≡ cond ends (piece_end (is_byte 44 here) (is_end (here ∷ drop (at + 1) ts)) (pieces 0 (drop (at + 1) ts)))
+      (in_piece here (pieces (depth_behind depth here) (drop (at + 1) ts)))
   at_place ends lt is = ap (pieces depth) (drop_more ts at d lt) ∙ at_token depth here (drop (at + 1) ts) ends is
 
   read_so_far : (ends : Bool) → at < length ts → ends_piece depth here ≡ ends → gathered done front (pieces depth (drop at ts)) ≡ all_fields (pieces 0 ts)
-      → gathered done front (cond ends (piece_end (is_byte 44 here) (is_end (here ∷ drop (at + 1) ts)) (pieces 0 (drop (at + 1) ts))) (in_piece here (pieces (depth_behind depth here) (drop (at + 1) ts)))) ≡ all_fields (pieces 0 ts)
+      → gathered done front (cond ends (piece_end (is_byte 44 here) (is_end (here ∷ drop (at + 1) ts)) (pieces 0 (drop (at + 1) ts)))
+      (in_piece here (pieces (depth_behind depth here) (drop (at + 1) ts)))) ≡ all_fields (pieces 0 ts)
   read_so_far ends lt is read = ap (gathered done front) (sym (at_place ends lt is)) ∙ read
 
   not_end : is_end ts ≡ false → fields_of ts ≡ all_fields (pieces 0 ts)
   not_end more = rw more refl
 
   -- a piece that is no field
-  pub unreadable : is_end ts ≡ false → at < length ts → ends_piece depth here ≡ true → None ≡ field_of front → gathered done front (pieces depth (drop at ts)) ≡ all_fields (pieces 0 ts) → None ≡ fields_of ts
+  pub unreadable : is_end ts ≡ false → at < length ts → ends_piece depth here ≡ true → None ≡ field_of front →
+      gathered done front (pieces depth (drop at ts)) ≡ all_fields (pieces 0 ts) → None ≡ fields_of ts
   unreadable more lt is none read =
-      sym (no_field done front (is_byte 44 here) (is_end (here ∷ drop (at + 1) ts)) (pieces 0 (drop (at + 1) ts)) none) ∙ read_so_far true lt is read ∙ sym (not_end more)
+      sym (no_field done front (is_byte 44 here) (is_end (here ∷ drop (at + 1) ts)) (pieces 0 (drop (at + 1) ts)) none) ∙ read_so_far true lt is read
+      ∙ sym (not_end more)
 
   -- the last piece
   pub closed : (f : Field) → is_end ts ≡ false → at < length ts → ends_piece depth here ≡ true → is_byte 44 here ≡ false → Some f ≡ field_of front
@@ -111,7 +121,8 @@ module _ (ts : List Token) (done : List Field) (start at depth : ℕ) (d : Token
       let rest : take (length ts - at) (drop at ts) ≡ here ∷ drop (at + 1) ts = take_rest ts at ∙ drop_more ts at d lt in
       let last = is_end (here ∷ drop (at + 1) ts) in
       let piece = pieces 0 (drop (at + 1) ts) in
-      ap (ended (done ++ f ∷ [])) rest ∙ sym (last_field done front f last piece field) ∙ ap (λ (z : Bool). gathered done front (piece_end z last piece)) (sym no_comma) ∙ read_so_far true lt is read ∙ sym (not_end more)
+      ap (ended (done ++ f ∷ [])) rest ∙ sym (last_field done front f last piece field)
+      ∙ ap (λ (z : Bool). gathered done front (piece_end z last piece)) (sym no_comma) ∙ read_so_far true lt is read ∙ sym (not_end more)
 
   -- a comma behind a field
   pub next_field : (f : Field) → at < length ts → ends_piece depth here ≡ true → is_byte 44 here ≡ true → Some f ≡ field_of front
@@ -120,7 +131,8 @@ module _ (ts : List Token) (done : List Field) (start at depth : ℕ) (d : Token
   next_field f lt is comma field read =
       let rest = pieces 0 (drop (at + 1) ts) in
       let empty : at + 1 - (at + 1) ≡ 0 = omega arith in
-      rw (empty, no_depth depth here is) (sym (gathered-new_piece done front f rest field) ∙ ap (λ (z : Bool). gathered done front (piece_end z (is_end (here ∷ drop (at + 1) ts)) rest)) (sym comma) ∙ read_so_far true lt is read)
+      rw (empty, no_depth depth here is) (sym (gathered-new_piece done front f rest field)
+      ∙ ap (λ (z : Bool). gathered done front (piece_end z (is_end (here ∷ drop (at + 1) ts)) rest)) (sym comma) ∙ read_so_far true lt is read)
 
   -- a token inside a piece
   pub goes_on : start ≤ at → at < length ts → ends_piece depth here ≡ false → gathered done front (pieces depth (drop at ts)) ≡ all_fields (pieces 0 ts)
@@ -133,7 +145,8 @@ module _ (ts : List Token) (done : List Field) (start at depth : ℕ) (d : Token
       let more : take (at + 1 - start) (drop start ts) ≡ front ++ here ∷ [] =
       ap (λ (n : ℕ). take n (drop start ts)) longer ∙ take_more (drop start ts) (at - start) d within
       ∙ ap (λ (x : Token). front ++ x ∷ []) (get_or-drop start ts (at - start) d ∙ ap (λ (n : ℕ). get_or ts n d) place) in
-      ap (λ (x : List Token). gathered done x rest) more ∙ ap (λ (r : Option (List (List Token))). behind done (all_fields r)) (sym (with_front-in_piece front here rest)) ∙ read_so_far false lt is read
+      ap (λ (x : List Token). gathered done x rest) more ∙ ap (λ (r : Option (List (List Token))). behind done (all_fields r))
+      (sym (with_front-in_piece front here rest)) ∙ read_so_far false lt is read
 
   -- no bracket ends the tokens
   pub never_closed : is_end ts ≡ false → length ts ≤ at → gathered done front (pieces depth (drop at ts)) ≡ all_fields (pieces 0 ts) → None ≡ fields_of ts

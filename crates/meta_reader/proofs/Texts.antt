@@ -12,7 +12,8 @@ unescaped_behind-drop zero (b ∷ bs) = refl
 unescaped_behind-drop (suc skip) (b ∷ bs) = unescaped_behind-drop skip bs
 
 -- an escape is at the front
-pub reads_escape : (text : List ℕ) (byte : ℕ) → 0 < length text → Some byte ≡ escape text → unescaped text ≡ byte ∷ unescaped (take (length text - 3) (drop 3 text))
+pub reads_escape : (text : List ℕ) (byte : ℕ) → 0 < length text → Some byte ≡ escape text →
+    unescaped text ≡ byte ∷ unescaped (take (length text - 3) (drop 3 text))
 unfolding unescaped_behind
 reads_escape [] byte some is = absurd (omega arith)
 reads_escape (b ∷ bs) byte some is = rw (take_rest (b ∷ bs) 3, ← is) (ap (λ (r : List ℕ). byte ∷ r) (unescaped_behind-drop 2 bs))

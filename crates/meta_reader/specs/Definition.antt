@@ -1,6 +1,7 @@
 -- The subprogram of a function: in a line that begins with `define`, the first symbol outside quotes, and behind it the
 -- first `!dbg !N` outside quotes. The line need not have tokens. (LLVM Language Reference Manual, "Functions".)
-use Rattle.std.specs.Prelude.{ℕ, ◌+◌, Bool, false, not, ◌&&◌, ◌==◌, nat_eq, is_some, if◌then◌else◌, position, slice_range, codes, take, drop, List, [], ◌∷◌, Option, Some, None}
+use Rattle.std.specs.Prelude.{ℕ, ◌+◌, Bool, false, not, ◌&&◌, ◌==◌, nat_eq, is_some, if◌then◌else◌, position, slice_range, codes, take, drop, List, [], ◌∷◌}
+use Rattle.std.specs.Prelude.{Option, Some, None}
 use Rattle.std.specs.List.{prefix_len, starts_with}
 use Rattle.std.specs.Char.{is_ascii_digit}
 use Rattle.mir_lexer.specs.Bytes.{is_blank, is_symbol_byte}

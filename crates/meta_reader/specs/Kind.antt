@@ -5,6 +5,8 @@ use Rattle.std.specs.Str.{bytes_eq}
 use Rattle.meta_reader.specs.declared.field.Field.{Field}
 use Rattle.meta_reader.specs.declared.node.Node.{Node}
 use Rattle.meta_reader.specs.declared.node.Node.TheVariants as nodes
+use Rattle.meta_reader.specs.Encoding.{DW_ATE_address, DW_ATE_boolean, DW_ATE_float, DW_ATE_signed, DW_ATE_signed_char, DW_ATE_unsigned, DW_ATE_unsigned_char}
+use Rattle.meta_reader.specs.Encoding.{DW_ATE_UTF}
 use Rattle.meta_reader.specs.Text.{text_value}
 use Rattle.meta_reader.specs.Field.{number_at, node_at, text_at, word_at}
 
@@ -15,20 +17,24 @@ is_scope kind = bytes_eq kind (codes "!DISubprogram") || (bytes_eq kind (codes "
 -- the code of an encoding that a base type may have (DWARF 5, section 7.8)
 unfoldable pub encoding_code : List ℕ → Option ℕ
 encoding_code name =
-    if bytes_eq name (codes "DW_ATE_address") then Some 1
-    else (if bytes_eq name (codes "DW_ATE_boolean") then Some 2
-    else (if bytes_eq name (codes "DW_ATE_float") then Some 4
-    else (if bytes_eq name (codes "DW_ATE_signed") then Some 5
-    else (if bytes_eq name (codes "DW_ATE_signed_char") then Some 6
-    else (if bytes_eq name (codes "DW_ATE_unsigned") then Some 7
-    else (if bytes_eq name (codes "DW_ATE_unsigned_char") then Some 8
-    else (if bytes_eq name (codes "DW_ATE_UTF") then Some 16
+    if bytes_eq name (codes "DW_ATE_address") then Some DW_ATE_address
+    else (if bytes_eq name (codes "DW_ATE_boolean") then Some DW_ATE_boolean
+    else (if bytes_eq name (codes "DW_ATE_float") then Some DW_ATE_float
+    else (if bytes_eq name (codes "DW_ATE_signed") then Some DW_ATE_signed
+    else (if bytes_eq name (codes "DW_ATE_signed_char") then Some DW_ATE_signed_char
+    else (if bytes_eq name (codes "DW_ATE_unsigned") then Some DW_ATE_unsigned
+    else (if bytes_eq name (codes "DW_ATE_unsigned_char") then Some DW_ATE_unsigned_char
+    else (if bytes_eq name (codes "DW_ATE_UTF") then Some DW_ATE_UTF
     else None)))))))
 
--- a base type's size in bytes: its size in bits is a multiple of 8 from 8 to 2,040
+-- the greatest size of a base type in bits: 255 bytes
+abbrev pub MAX_BITS : ℕ
+MAX_BITS = 2040
+
+-- a base type's size in bytes: its size in bits is a multiple of 8 from 8 to the greatest
 abbrev pub size_in_bytes : Option ℕ → Option ℕ
 size_in_bytes None = None
-size_in_bytes (Some bits) = if bits % 8 == 0 && (nat_le 8 bits && nat_le bits 2040) then Some (bits / 8) else None
+size_in_bytes (Some bits) = if bits % 8 == 0 && (nat_le 8 bits && nat_le bits MAX_BITS) then Some (bits / 8) else None
 
 -- a variable, if its fields are readable
 abbrev pub variable_with : Option (List ℕ) → Option (Option ℕ) → Option (Option ℕ) → Option Node
@@ -37,7 +43,8 @@ variable_with _ _ _ = None
 
 -- a place in the source, if its fields are readable and its line is there
 abbrev pub location_with : Option (Option ℕ) → Option (Option ℕ) → Option (Option ℕ) → Option (Option ℕ) → Option Node
-location_with (Some (Some line)) (Some column) (Some scope) (Some inlined_at) = Some (nodes.Location (record { line = line; column = unwrap_or column 0; scope = scope; inlined_at = inlined_at }))
+location_with (Some (Some line)) (Some column) (Some scope) (Some inlined_at) =
+    Some (nodes.Location (record { line = line; column = unwrap_or column 0; scope = scope; inlined_at = inlined_at }))
 location_with _ _ _ _ = None
 
 -- a file, if its fields are readable
@@ -66,7 +73,8 @@ variable_of line fields = variable_with (text_at line (codes "name") fields) (nu
 
 -- the place in the source that fields give
 unfoldable pub location_of : List ℕ → List Field → Option Node
-location_of line fields = location_with (number_at line (codes "line") fields) (number_at line (codes "column") fields) (node_at line (codes "scope") fields) (node_at line (codes "inlinedAt") fields)
+location_of line fields = location_with (number_at line (codes "line") fields) (number_at line (codes "column") fields) (node_at line (codes "scope") fields)
+    (node_at line (codes "inlinedAt") fields)
 
 -- the file that fields give
 unfoldable pub file_of : List ℕ → List Field → Option Node
@@ -74,7 +82,8 @@ file_of line fields = file_with (text_at line (codes "filename") fields) (text_a
 
 -- the base type that fields give
 unfoldable pub base_type_of : List ℕ → List Field → Option Node
-base_type_of line fields = base_type_with (text_at line (codes "name") fields) (and_read (number_at line (codes "size") fields) size_in_bytes) (and_read (word_at line (codes "encoding") fields) encoding_code)
+base_type_of line fields = base_type_with (text_at line (codes "name") fields) (and_read (number_at line (codes "size") fields) size_in_bytes)
+    (and_read (word_at line (codes "encoding") fields) encoding_code)
 
 -- the scope that fields give
 unfoldable pub scope_of : List ℕ → List Field → Option Node

@@ -1,3 +1,4 @@
+pub mod Encoding
 pub mod Number
 pub mod Text
 pub mod Token

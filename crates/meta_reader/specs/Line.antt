@@ -46,7 +46,8 @@ numbered _ _ = None
 
 -- the node with its number that tokens give
 unfoldable pub assigned : List ℕ → List Token → Option (ℕ × Node)
-assigned line (number ∷ equals ∷ ts) = if is_node number && is_byte 61 equals then numbered (node_number (text_of line number)) (described line (behind_distinct line ts)) else None
+assigned line (number ∷ equals ∷ ts) = if is_node number && is_byte 61 equals then numbered (node_number (text_of line number))
+    (described line (behind_distinct line ts)) else None
 assigned line ts = None
 
 -- the node with its number that a line's tokens give, none where the line has no tokens

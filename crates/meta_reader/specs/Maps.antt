@@ -15,7 +15,8 @@ pub record Maps : Type 0 where
 
 -- metadata is stored as the pair of its maps
 abbrev pub maps_code : Coded Node → Coded Maps
-maps_code node = code_by (FinMap nat_cmp Node × FinMap (slice_cmp nat_cmp) ℕ) (coded× (finite.code coded_ℕ node) (finite.code (coded_list coded_ℕ) coded_ℕ)) (λ m. (m.nodes, m.subprograms)) (λ p. record { nodes = p.0; subprograms = p.1 }) (λ _. refl)
+maps_code node = code_by (FinMap nat_cmp Node × FinMap (slice_cmp nat_cmp) ℕ) (coded× (finite.code coded_ℕ node) (finite.code (coded_list coded_ℕ) coded_ℕ))
+    (λ m. (m.nodes, m.subprograms)) (λ p. record { nodes = p.0; subprograms = p.1 }) (λ _. refl)
 
 -- the nodes that entries have, the first at each number
 abbrev pub nodes_in : List (ℕ × Node) → FinMap nat_cmp Node
@@ -28,6 +29,10 @@ by_bytes entries = map (λ e. (e.0.items, e.1)) entries
 -- the subprograms that entries have, the first at each name
 abbrev pub subprograms_in : {Z : Type 0} → List (Vec ℕ Z × ℕ) → FinMap (slice_cmp nat_cmp) ℕ
 subprograms_in entries = finite.from_entries (by_bytes entries)
+
+-- what maps with these entries are seen as
+abbrev pub seen : {Z : Type 0} → List (ℕ × Node) → List (Vec ℕ Z × ℕ) → Maps
+seen nodes subprograms = record { nodes = nodes_in nodes; subprograms = subprograms_in subprograms }
 
 -- no nodes and no functions
 abbrev pub no_metadata : Maps

@@ -7,9 +7,13 @@ abbrev pub value_behind : ℕ → ℕ → List ℕ → ℕ
 value_behind base n [] = n
 value_behind base n (d ∷ ds) = value_behind base (n * base + digit_value d) ds
 
+-- the greatest number that is read: 2^30 - 1
+abbrev pub MAX_NUMBER : ℕ
+MAX_NUMBER = 1073741823
+
 -- a number, if it is within the limit
 abbrev pub within_limit : ℕ → Option ℕ
-within_limit n = if nat_le n 0x3fff_ffff then Some n else None
+within_limit n = if nat_le n MAX_NUMBER then Some n else None
 
 -- the number that digits spell in a base, if it is within the limit
 unfoldable pub spelled : ℕ → List ℕ → Option ℕ

@@ -1,5 +1,6 @@
 -- Texts in quotes. (LLVM Language Reference Manual, "Identifiers": `\xx` is the byte with that hexadecimal code.)
-use Rattle.std.specs.Prelude.{ℕ, zero, suc, ◌+◌, ◌*◌, ◌-◌, Bool, ◌&&◌, ◌==◌, not, if◌then◌else◌, is_some, unwrap_or, length, take, slice_range, List, [], ◌∷◌, Option, Some, None}
+use Rattle.std.specs.Prelude.{ℕ, zero, suc, ◌+◌, ◌*◌, ◌-◌, Bool, ◌&&◌, ◌==◌, not, if◌then◌else◌, is_some, unwrap_or, length, take, slice_range, List, [], ◌∷◌}
+use Rattle.std.specs.Prelude.{Option, Some, None}
 use Rattle.std.specs.List.{prefix_len}
 use Rattle.std.specs.Char.{digit_value, is_ascii_hexdigit}
 

@@ -4,12 +4,24 @@ ghost use Rattle.std.specs.Prelude.{◌≡◌, ◌<◌, ◌≤◌, false, length
 ghost use Rattle.std.specs.List.{prefix_len};
 ghost use Rattle.mir_lexer.specs.Bytes.{is_blank};
 ghost use Rattle.meta_reader.specs.Field.{Spells};
-ghost use Rattle.meta_reader.specs.Definition.{is_outside, is_sought, symbol_len, quoted_behind, from_first, node_digits, node_behind, attachment, name_of, definition_of_line};
+ghost use Rattle.meta_reader.specs.Definition.{
+  is_outside,
+  is_sought,
+  symbol_len,
+  quoted_behind,
+  from_first,
+  node_digits,
+  node_behind,
+  attachment,
+  name_of,
+  definition_of_line,
+};
 
 use crate::number::spelled;
 use crate::text::{inside_quotes, unescaped};
 use lists::List;
 use mir_lexer::bytes::{digits, is_blank, position, symbol_bytes};
+use numbers::metadata::NodeId;
 use rv64_instr::name::Name;
 use std::alloc::{AllocError, Global};
 
@@ -133,7 +145,7 @@ fn name_of(alloc: Global, name: &[u8]) -> Result<Name, AllocError>
 
 /// The function that a line defines, by its name, and the node of its subprogram, if both are there.
 #[tactic(auto, unfolding(crate::specs::Definition::definition_of_line))]
-pub fn definition_of_line(alloc: Global, line: &[u8]) -> Result<Option<(Name, u32)>, AllocError>
+pub fn definition_of_line(alloc: Global, line: &[u8]) -> Result<Option<(Name, NodeId)>, AllocError>
     ensures { IfOk result (λ definition. definition ≡ definition_of_line line.now) }
 {
     if !line.starts_with(b"define") {
@@ -149,5 +161,5 @@ pub fn definition_of_line(alloc: Global, line: &[u8]) -> Result<Option<(Name, u3
     let Some(number) = spelled(10, digits) else {
         return Ok(None);
     };
-    Ok(Some((name_of(alloc, &symbol[1..len])?, number)))
+    Ok(Some((name_of(alloc, &symbol[1..len])?, NodeId(number))))
 }

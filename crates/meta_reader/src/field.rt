@@ -1,13 +1,30 @@
 //! The fields of a node, in its round brackets.
 
 ghost use Rattle.std.specs.Prelude.{◌≡◌, ◌+◌, ◌<◌, ◌≤◌, ◌^◌, IfOk};
-ghost use Rattle.meta_reader.specs.Field.{opens, closes, is_end, ends_piece, depth_behind, ended, field_of, fields_of, one_more, only_value, number_at, node_at, text_at, word_at, Spells};
+ghost use Rattle.meta_reader.specs.Field.{
+  opens,
+  closes,
+  is_end,
+  ends_piece,
+  depth_behind,
+  ended,
+  field_of,
+  fields_of,
+  one_more,
+  only_value,
+  number_at,
+  node_at,
+  text_at,
+  word_at,
+  Spells,
+};
 
 use crate::number::{integer, node_number};
 use crate::text::inside_quotes;
 use crate::token::{is_byte, is_integer, is_node, is_text, is_word, text_of};
 use lists::List;
 use mir_lexer::parts::Token;
+use numbers::metadata::NodeId;
 use std::alloc::{AllocError, Global};
 
 /// A field: the word before its colon, and the token behind it, None where several are there.
@@ -117,8 +134,8 @@ pub fn fields(alloc: Global, tokens: &[Token]) -> Result<Option<Fields>, AllocEr
     Ok(None)
 }
 
-/// What is found where one more value stands behind what was found. There is no answer behind a value, or where the value
-/// is several tokens.
+/// What is found where one more value stands behind what was found. There is no answer behind a value, or where the
+/// value is several tokens.
 fn one_more(found: Option<Token>, value: Option<Token>) -> Option<Option<Token>>
     ensures { result ≡ one_more found value }
 {
@@ -128,8 +145,8 @@ fn one_more(found: Option<Token>, value: Option<Token>) -> Option<Option<Token>>
     }
 }
 
-/// The value of the field with a key, None where no field has it. A key that stands twice, and a value of several tokens,
-/// make a line unreadable: then there is no answer.
+/// The value of the field with a key, None where no field has it. A key that stands twice, and a value of several
+/// tokens, make a line unreadable: then there is no answer.
 fn only_value(line: &[u8], fields: &[Field], key: &[u8]) -> Option<Option<Token>>
     ensures { result ≡ only_value line.now key.now fields.now }
 {
@@ -157,7 +174,7 @@ pub fn number_at(line: &[u8], fields: &[Field], key: &[u8]) -> Option<Option<u32
 }
 
 /// The node of the field with a key, None where it is missing. There is no answer where it makes the line unreadable.
-pub fn node_at(line: &[u8], fields: &[Field], key: &[u8]) -> Option<Option<u32>>
+pub fn node_at(line: &[u8], fields: &[Field], key: &[u8]) -> Option<Option<NodeId>>
     ensures { result ≡ node_at line.now key.now fields.now }
 {
     match only_value(line, fields, key)? {
@@ -179,8 +196,8 @@ pub fn text_at<'a>(line: &'a [u8], fields: &[Field], key: &[u8]) -> Option<&'a [
     }
 }
 
-/// The word of the field with a key, none of whose bytes are there where it is missing. There is no answer where it makes
-/// the line unreadable.
+/// The word of the field with a key, none of whose bytes are there where it is missing. There is no answer where it
+/// makes the line unreadable.
 pub fn word_at<'a>(line: &'a [u8], fields: &[Field], key: &[u8]) -> Option<&'a [u8]>
     ensures { Spells result (word_at line.now key.now fields.now) }
 {

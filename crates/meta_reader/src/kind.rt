@@ -1,8 +1,18 @@
 //! What the fields of a node say, by its kind.
 
 ghost use Rattle.std.specs.Prelude.{◌≡◌, IfOk};
-ghost use Rattle.meta_reader.specs.Kind.{is_scope, encoding_code, size_in_bytes, variable_of, location_of, file_of, base_type_of, scope_of, node_of_kind};
+ghost use Rattle.meta_reader.specs.Kind.{
+  is_scope,
+  size_in_bytes,
+  variable_of,
+  location_of,
+  file_of,
+  base_type_of,
+  scope_of,
+  node_of_kind,
+};
 
+use crate::encoding::encoding_code;
 use crate::field::{Field, node_at, number_at, text_at, word_at};
 use crate::node::{BaseTypeNode, FileNode, LocationNode, Node, VariableNode};
 use crate::text::text_value;
@@ -18,38 +28,15 @@ fn is_scope(kind: &[u8]) -> bool
         || kind == b"!DILexicalBlockFile".as_slice()
 }
 
-/// The code of an encoding (DWARF 5, section 7.8), unless it isn't one of those that a base type may have.
-#[tactic(auto, unfolding(crate::specs::Kind::encoding_code))]
-fn encoding_code(name: &[u8]) -> Option<u8>
-    ensures { result ≡ encoding_code name.now }
-{
-    if name == b"DW_ATE_address".as_slice() {
-        Some(0x01)
-    } else if name == b"DW_ATE_boolean".as_slice() {
-        Some(0x02)
-    } else if name == b"DW_ATE_float".as_slice() {
-        Some(0x04)
-    } else if name == b"DW_ATE_signed".as_slice() {
-        Some(0x05)
-    } else if name == b"DW_ATE_signed_char".as_slice() {
-        Some(0x06)
-    } else if name == b"DW_ATE_unsigned".as_slice() {
-        Some(0x07)
-    } else if name == b"DW_ATE_unsigned_char".as_slice() {
-        Some(0x08)
-    } else if name == b"DW_ATE_UTF".as_slice() {
-        Some(0x10)
-    } else {
-        None
-    }
-}
+/// The greatest size of a base type in bits: 255 bytes.
+const MAX_BITS: u32 = 2040;
 
-/// A base type's size in bytes, where its size in bits is a multiple of 8 from 8 to 2,040.
+/// A base type's size in bytes, where its size in bits is a multiple of 8 from 8 to the greatest.
 fn size_in_bytes(bits: Option<u32>) -> Option<u32>
     ensures { result ≡ size_in_bytes bits }
 {
     match bits {
-        Some(bits) if bits % 8 == 0 && 8 <= bits && bits <= 2040 => Some(bits / 8),
+        Some(bits) if bits % 8 == 0 && 8 <= bits && bits <= MAX_BITS => Some(bits / 8),
         _ => None,
     }
 }

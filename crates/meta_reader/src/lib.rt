@@ -8,6 +8,7 @@
 #![tactic(auto)]
 
 mod definition;
+mod encoding;
 mod field;
 mod kind;
 mod line;

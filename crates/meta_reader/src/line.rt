@@ -2,7 +2,15 @@
 
 ghost use Rattle.std.specs.Prelude.{◌≡◌, ◌≤◌, length, IfOk};
 ghost use Rattle.std.specs.List.{prefix_len};
-ghost use Rattle.meta_reader.specs.Line.{behind_distinct, described, assigned, node_of_line, is_space, is_distinct, behind_spaces};
+ghost use Rattle.meta_reader.specs.Line.{
+  behind_distinct,
+  described,
+  assigned,
+  node_of_line,
+  is_space,
+  is_distinct,
+  behind_spaces,
+};
 
 use crate::field::fields;
 use crate::kind::node_of_kind;
@@ -12,6 +20,7 @@ use crate::token::{is_byte, is_kind, is_node, is_word, text_of};
 use mir_lexer::fault::LexError;
 use mir_lexer::lexer::tokens;
 use mir_lexer::parts::Token;
+use numbers::metadata::NodeId;
 use std::alloc::{AllocError, Global};
 
 /// A line without the spaces at its front.
@@ -66,7 +75,11 @@ fn described(alloc: Global, line: &[u8], tokens: &[Token]) -> Result<Option<Node
 
 /// The node with its number that tokens give, if they are readable.
 #[tactic(auto, unfolding(crate::specs::Line::assigned))]
-fn assigned(alloc: Global, line: &[u8], tokens: &[Token]) -> Result<Option<(u32, Node)>, AllocError>
+fn assigned(
+    alloc: Global,
+    line: &[u8],
+    tokens: &[Token],
+) -> Result<Option<(NodeId, Node)>, AllocError>
     ensures { IfOk result (λ node. node ≡ assigned line.now tokens.now) }
 {
     match tokens {
@@ -85,7 +98,7 @@ fn assigned(alloc: Global, line: &[u8], tokens: &[Token]) -> Result<Option<(u32,
 
 /// The node with its number that a line gives, if it is readable. It begins with `!`.
 #[tactic(auto, unfolding(crate::specs::Line::node_of_line))]
-pub fn node_of_line(alloc: Global, line: &[u8]) -> Result<Option<(u32, Node)>, AllocError>
+pub fn node_of_line(alloc: Global, line: &[u8]) -> Result<Option<(NodeId, Node)>, AllocError>
     ensures { IfOk result (λ node. node ≡ node_of_line line.now) }
 {
     match line {

@@ -8,33 +8,46 @@ use crate::definition::definition_of_line;
 use crate::line::{behind_spaces, node_of_line};
 use crate::node::{BaseTypeNode, FileNode, LocationNode, Node, VariableNode};
 use mir_lexer::line::Lines;
+use numbers::metadata::NodeId;
 use rv64_instr::name::Name;
 use std::alloc::{AllocError, Global};
 use std::collections::BTreeMap;
 use std::marker::Model;
 
-/// The nodes that lines give, by their numbers, and the subprograms of functions, by the functions' names. Of two lines for
-/// one number or one name the first counts.
+/// The nodes that lines give, by their numbers, and the subprograms of functions, by the functions' names. Of two
+/// lines for one number or one name the first counts.
 #[derive(Drop)]
 pub struct Metadata {
-    nodes: BTreeMap<u32, Node>,
-    subprograms: BTreeMap<Vec<u8>, u32>,
+    nodes: BTreeMap<NodeId, Node>,
+    subprograms: BTreeMap<Vec<u8>, NodeId>,
 }
 
 impl Model for Metadata {
     ghost use Rattle.meta_reader.specs.contracts.node.Node as node;
-    ghost use Rattle.meta_reader.specs.Maps.{Maps, maps_code, nodes_in, subprograms_in};
+    ghost use Rattle.meta_reader.specs.Maps.{Maps, maps_code, seen};
 
     ghost Value = { Maps };
 
     ghost coded = { maps_code node.the_row.coded };
 
-    ghost view = { λ a. record { nodes = nodes_in a.nodes.entries; subprograms = subprograms_in a.subprograms.entries } };
+    ghost view = { λ a. seen a.nodes.entries a.subprograms.entries };
 }
 
 impl Metadata {
     ghost use Rattle.meta_reader.specs.Maps.{no_metadata, with_node, with_subprogram};
-    ghost use Rattle.meta_reader.specs.Metadata.{with_given, with_defined, with_line, node_at, variable_at, location_at, file_at, scope_file_at, file_of_scope_at, base_type_at, subprogram_at};
+    ghost use Rattle.meta_reader.specs.Metadata.{
+      with_given,
+      with_defined,
+      with_line,
+      node_at,
+      variable_at,
+      location_at,
+      file_at,
+      scope_file_at,
+      file_of_scope_at,
+      base_type_at,
+      subprogram_at,
+    };
 
     /// No nodes and no functions. It takes no memory.
     fn new(alloc: Global) -> Metadata
@@ -47,7 +60,7 @@ impl Metadata {
     }
 
     /// Keeps a node, unless one of its number is there.
-    fn keep_node(&mut self, number: u32, node: Node) -> Result<(), AllocError>
+    fn keep_node(&mut self, number: NodeId, node: Node) -> Result<(), AllocError>
         ensures { OnOk result (self.new ≡ with_node self.old number node) }
     {
         if !self.nodes.contains_key(&number) {
@@ -57,7 +70,7 @@ impl Metadata {
     }
 
     /// Keeps the subprogram of a function, unless one of its name is there.
-    fn keep_subprogram(&mut self, name: Name, number: u32) -> Result<(), AllocError>
+    fn keep_subprogram(&mut self, name: Name, number: NodeId) -> Result<(), AllocError>
         ensures { OnOk result (self.new ≡ with_subprogram self.old name number) }
     {
         if !self.subprograms.contains_key(name.as_slice()) {
@@ -67,7 +80,7 @@ impl Metadata {
     }
 
     /// Keeps a node, if one is given.
-    fn keep_given(&mut self, given: Option<(u32, Node)>) -> Result<(), AllocError>
+    fn keep_given(&mut self, given: Option<(NodeId, Node)>) -> Result<(), AllocError>
         ensures { OnOk result (self.new ≡ with_given self.old given) }
     {
         match given {
@@ -77,7 +90,7 @@ impl Metadata {
     }
 
     /// Keeps the subprogram of a function, if one is defined.
-    fn keep_defined(&mut self, defined: Option<(Name, u32)>) -> Result<(), AllocError>
+    fn keep_defined(&mut self, defined: Option<(Name, NodeId)>) -> Result<(), AllocError>
         ensures { OnOk result (self.new ≡ with_defined self.old defined) }
     {
         match defined {
@@ -98,14 +111,14 @@ impl Metadata {
     }
 
     /// The node of a number.
-    fn node(&self, number: u32) -> Option<&Node>
+    fn node(&self, number: NodeId) -> Option<&Node>
         ensures { option_copied result ≡ node_at self.now number }
     {
         self.nodes.get(&number)
     }
 
     /// The variable of a node, and None exactly where no readable line gives one. It takes no memory.
-    pub fn variable(&self, number: u32) -> Option<&VariableNode>
+    pub fn variable(&self, number: NodeId) -> Option<&VariableNode>
         ensures { option_copied result ≡ variable_at self.now number }
     {
         match self.node(number)? {
@@ -115,7 +128,7 @@ impl Metadata {
     }
 
     /// The place in the source of a node, and None exactly where no readable line gives one. It takes no memory.
-    pub fn location(&self, number: u32) -> Option<&LocationNode>
+    pub fn location(&self, number: NodeId) -> Option<&LocationNode>
         ensures { option_copied result ≡ location_at self.now number }
     {
         match self.node(number)? {
@@ -125,7 +138,7 @@ impl Metadata {
     }
 
     /// The file of a node.
-    fn file(&self, number: u32) -> Option<&FileNode>
+    fn file(&self, number: NodeId) -> Option<&FileNode>
         ensures { option_copied result ≡ file_at self.now number }
     {
         match self.node(number)? {
@@ -135,7 +148,7 @@ impl Metadata {
     }
 
     /// The node of the file of a scope.
-    fn scope_file(&self, number: u32) -> Option<u32>
+    fn scope_file(&self, number: NodeId) -> Option<NodeId>
         ensures { result ≡ scope_file_at self.now number }
     {
         match self.node(number)? {
@@ -144,16 +157,16 @@ impl Metadata {
         }
     }
 
-    /// The file of a subprogram or a lexical block, and None exactly where no readable line gives such a scope with a file,
-    /// or none gives that file. It takes no memory.
-    pub fn file_of_scope(&self, number: u32) -> Option<&FileNode>
+    /// The file of a subprogram or a lexical block, and None exactly where no readable line gives such a scope with a
+    /// file, or none gives that file. It takes no memory.
+    pub fn file_of_scope(&self, number: NodeId) -> Option<&FileNode>
         ensures { option_copied result ≡ file_of_scope_at self.now number }
     {
         self.file(self.scope_file(number)?)
     }
 
     /// The base type of a node, and None exactly where no readable line gives one. It takes no memory.
-    pub fn base_type(&self, number: u32) -> Option<&BaseTypeNode>
+    pub fn base_type(&self, number: NodeId) -> Option<&BaseTypeNode>
         ensures { option_copied result ≡ base_type_at self.now number }
     {
         match self.node(number)? {
@@ -162,9 +175,9 @@ impl Metadata {
         }
     }
 
-    /// The node of the subprogram of a function, by the function's name, and None exactly where no line that defines that
-    /// function gives one. It takes no memory.
-    pub fn subprogram_of(&self, name: &Name) -> Option<u32>
+    /// The node of the subprogram of a function, by the function's name, and None exactly where no line that defines
+    /// that function gives one. It takes no memory.
+    pub fn subprogram_of(&self, name: &Name) -> Option<NodeId>
         ensures { result ≡ subprogram_at self.now name.now }
     {
         self.subprograms.get(name.as_slice()).copied()

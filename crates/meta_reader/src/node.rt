@@ -1,5 +1,6 @@
 //! Nodes of the metadata that are kept.
 
+use numbers::metadata::NodeId;
 use rv64_instr::name::Name;
 
 /// A local variable or a parameter: `!DILocalVariable`.
@@ -10,7 +11,7 @@ pub struct VariableNode {
     /// Which parameter it is, counted from 1, and 0 for a variable that is none.
     pub arg: u32,
     /// The node of its type.
-    pub base: Option<u32>,
+    pub base: Option<NodeId>,
 }
 
 /// A place in the source: `!DILocation`.
@@ -21,9 +22,9 @@ pub struct LocationNode {
     /// 0 where no column is given.
     pub column: u32,
     /// The node of the scope.
-    pub scope: Option<u32>,
+    pub scope: Option<NodeId>,
     /// The node of the place of the call, in a function that was inlined.
-    pub inlined_at: Option<u32>,
+    pub inlined_at: Option<NodeId>,
 }
 
 /// A source file: `!DIFile`.
@@ -42,7 +43,7 @@ pub struct BaseTypeNode {
     pub name: Name,
     /// The size in bytes, from 1 to 255.
     pub size: u32,
-    /// The encoding's code (DWARF 5, section 7.8).
+    /// The encoding's code (DWARF 5, section 7.8, "Base Type Attribute Encodings").
     pub encoding: u8,
 }
 
@@ -54,5 +55,5 @@ pub enum Node {
     File(FileNode),
     BaseType(BaseTypeNode),
     /// A subprogram or a lexical block, by the node of its file.
-    Scope(Option<u32>),
+    Scope(Option<NodeId>),
 }

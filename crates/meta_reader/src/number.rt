@@ -4,8 +4,10 @@ ghost use Rattle.std.specs.Prelude.{◌≡◌, ◌<◌, ◌≤◌};
 ghost use Rattle.std.specs.Char.{digit_value};
 ghost use Rattle.meta_reader.specs.Number.{spelled, zero_alone, integer_of, node_number};
 
+use numbers::metadata::NodeId;
+
 /// The greatest number that is read.
-const LIMIT: u64 = 0x3fff_ffff;
+const MAX_NUMBER: u64 = 0x3fff_ffff;
 
 /// The value of a digit, where letters go on from 10, and 36 for another byte.
 pub fn digit_value(byte: u8) -> u8
@@ -29,7 +31,7 @@ pub fn spelled(base: u64, digits: &[u8]) -> Option<u32>
     let mut value = 0;
     for byte in digits {
         value = value * base + u64::from(digit_value(*byte));
-        if value > LIMIT {
+        if value > MAX_NUMBER {
             return None;
         }
     }
@@ -58,11 +60,11 @@ pub fn integer(text: &[u8]) -> Option<u32>
 }
 
 /// The number of a node token, unless it is above the limit.
-pub fn node_number(text: &[u8]) -> Option<u32>
+pub fn node_number(text: &[u8]) -> Option<NodeId>
     ensures { result ≡ node_number text.now }
 {
     match text {
-        [_, digits @ ..] => spelled(10, digits),
+        [_, digits @ ..] => Some(NodeId(spelled(10, digits)?)),
         [] => None,
     }
 }

@@ -1,6 +1,7 @@
 use crate::metadata::{Metadata, read_meta};
 use lists::List;
 use mir_lexer::line::{Line, Lines};
+use numbers::metadata::NodeId;
 use std::alloc::{AllocError, Global};
 use std::test::Fail;
 
@@ -22,7 +23,8 @@ const BLOCK: &[&str] = &[
     "  !0 = distinct !DICompileUnit(language: DW_LANG_C11, file: !1, isOptimized: true, runtimeVersion: 0)",
     "  !1 = !DIFile(filename: \"01_sum_calls.c\", directory: \"/corpus\", checksumkind: CSK_MD5, checksum: \"7da5\")",
     "  !2 = !{i32 7, !\"Dwarf Version\", i32 5}",
-    "  !11 = distinct !DISubprogram(name: \"sum_calls\", scope: !1, file: !1, line: 2, type: !12, flags: DIFlagPrototyped | DIFlagAllCallsDescribed, unit: !0, retainedNodes: !15)",
+    "  !11 = distinct !DISubprogram(name: \"sum_calls\", scope: !1, file: !1, line: 2, type: !12, \
+       flags: DIFlagPrototyped | DIFlagAllCallsDescribed, unit: !0, retainedNodes: !15)",
     "  !12 = !DISubroutineType(types: !13)",
     "  !14 = !DIBasicType(name: \"long\", size: 64, encoding: DW_ATE_signed)",
     "  !15 = !{!16, !17}",
@@ -51,6 +53,11 @@ fn read(alloc: Global, texts: &[&str]) -> Result<Metadata, AllocError> {
     read_meta(alloc, &lines)
 }
 
+/// The plain number of a node that is there.
+fn number(node: Option<NodeId>) -> Option<u32> {
+    node.map(|node| node.number())
+}
+
 /// A variable's node, its name, which parameter it is, and its type.
 const VARIABLES: &[(u32, Option<(&str, u32, Option<u32>)>)] = &[
     (16, Some(("n", 1, Some(14)))),
@@ -76,32 +83,35 @@ const SCOPES: &[(u32, Option<(&str, &str)>)] = &[
 fn a_block_of_clang(rt: HostRuntime) -> Result<(), Fail> {
     let metadata = read(rt.alloc(), BLOCK)?;
     for (node, wanted) in VARIABLES {
-        let found = metadata.variable(*node);
+        let found = metadata.variable(NodeId(*node));
         assert_eq!(rt; found.is_some(), wanted.is_some(), "{node}");
         if let (Some(variable), Some((name, arg, base))) = (found, wanted) {
             assert_eq!(rt; variable.name.as_slice(), name.as_bytes(), "{node}");
             assert_eq!(rt; variable.arg, *arg, "{node}");
-            assert_eq!(rt; variable.base, *base, "{node}");
+            assert_eq!(rt; number(variable.base), *base, "{node}");
         }
     }
     for (node, wanted) in SCOPES {
-        let found = metadata.file_of_scope(*node);
+        let found = metadata.file_of_scope(NodeId(*node));
         assert_eq!(rt; found.is_some(), wanted.is_some(), "{node}");
         if let (Some(file), Some((name, dir))) = (found, wanted) {
             assert_eq!(rt; file.name.as_slice(), name.as_bytes(), "{node}");
             assert_eq!(rt; file.dir.as_slice(), dir.as_bytes(), "{node}");
         }
     }
-    let inlined = metadata
-        .location(22)
-        .map(|l| (l.line, l.column, l.scope, l.inlined_at));
+    let inlined = metadata.location(NodeId(22)).map(|l| (
+        l.line,
+        l.column,
+        number(l.scope),
+        number(l.inlined_at),
+    ));
     assert_eq!(rt; inlined, Some((5, 12, Some(20), Some(24))));
-    let base = metadata.base_type(14).map(|b| (b.size, b.encoding));
+    let base = metadata.base_type(NodeId(14)).map(|b| (b.size, b.encoding));
     assert_eq!(rt; base, Some((8, 5)));
     let function = List::from_slice(rt.alloc(), b"sum_calls")?;
-    assert_eq!(rt; metadata.subprogram_of(&function), Some(11));
+    assert_eq!(rt; number(metadata.subprogram_of(&function)), Some(11));
     let declared = List::from_slice(rt.alloc(), b"g")?;
-    assert_eq!(rt; metadata.subprogram_of(&declared), None);
+    assert_eq!(rt; number(metadata.subprogram_of(&declared)), None);
     Ok(())
 }
 
@@ -163,9 +173,12 @@ const LOCATIONS: &[(&str, Option<(u32, u32, Option<u32>, Option<u32>)>)] = &[
 fn locations(rt: HostRuntime) -> Result<(), Fail> {
     for (line, wanted) in LOCATIONS {
         let metadata = read(rt.alloc(), &[*line])?;
-        let found = metadata
-            .location(1)
-            .map(|l| (l.line, l.column, l.scope, l.inlined_at));
+        let found = metadata.location(NodeId(1)).map(|l| (
+            l.line,
+            l.column,
+            number(l.scope),
+            number(l.inlined_at),
+        ));
         assert_eq!(rt; found, *wanted, "{line}");
     }
     Ok(())
@@ -196,12 +209,14 @@ fn base_types(rt: HostRuntime) -> Result<(), Fail> {
     for (fields, wanted) in BASE_TYPES {
         let line = format!(in rt.alloc(); "  !1073741823 = !DIBasicType(name: \"t\", {fields})")?;
         let metadata = read(rt.alloc(), &[line.as_str()])?;
-        let found = metadata.base_type(1073741823).map(|b| (b.size, b.encoding));
+        let found = metadata
+            .base_type(NodeId(1073741823))
+            .map(|b| (b.size, b.encoding));
         assert_eq!(rt; found, *wanted, "{fields}");
     }
     let above = "!1073741824 = !DIBasicType(name: \"t\", size: 8, encoding: DW_ATE_signed)";
     let metadata = read(rt.alloc(), &[above])?;
-    assert!(rt; metadata.base_type(1073741824).is_none());
+    assert!(rt; metadata.base_type(NodeId(1073741824)).is_none());
     Ok(())
 }
 
@@ -225,7 +240,7 @@ fn names(rt: HostRuntime) -> Result<(), Fail> {
     for (fields, wanted) in NAMES {
         let line = format!(in rt.alloc(); "!7 = !DILocalVariable({fields})")?;
         let metadata = read(rt.alloc(), &[line.as_str()])?;
-        let found = metadata.variable(7).map(|v| v.name.as_slice());
+        let found = metadata.variable(NodeId(7)).map(|v| v.name.as_slice());
         assert_eq!(rt; found, wanted.map(|name| name.as_bytes()), "{fields}");
     }
     Ok(())
@@ -254,7 +269,7 @@ fn definitions(rt: HostRuntime) -> Result<(), Fail> {
     let name = List::from_slice(rt.alloc(), b"f")?;
     for (line, wanted) in DEFINITIONS {
         let metadata = read(rt.alloc(), &[*line])?;
-        assert_eq!(rt; metadata.subprogram_of(&name), *wanted, "{line}");
+        assert_eq!(rt; number(metadata.subprogram_of(&name)), *wanted, "{line}");
     }
     Ok(())
 }
@@ -272,9 +287,9 @@ fn the_first_readable_line_counts(rt: HostRuntime) -> Result<(), Fail> {
         "define void @f() !dbg !8 {",
     ];
     let metadata = read(rt.alloc(), &lines)?;
-    assert_eq!(rt; metadata.location(1).map(|l| l.line), Some(3));
-    assert!(rt; metadata.variable(1).is_none());
+    assert_eq!(rt; metadata.location(NodeId(1)).map(|l| l.line), Some(3));
+    assert!(rt; metadata.variable(NodeId(1)).is_none());
     let name = List::from_slice(rt.alloc(), b"f")?;
-    assert_eq!(rt; metadata.subprogram_of(&name), Some(7));
+    assert_eq!(rt; number(metadata.subprogram_of(&name)), Some(7));
     Ok(())
 }

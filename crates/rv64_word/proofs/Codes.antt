@@ -23,7 +23,8 @@ chosen_at P true here later h k = h refl
 chosen_at P false here later h k = k
 
 -- a line of a listing holds where its number is the code
-line : {T : Type 0} (P : T → Type 0) (code number : ℕ) (here later : Option T) → (code ≡ number → IfSome here P) → IfSome later P → IfSome (cond (nat_eq code number) here later) P
+line : {T : Type 0} (P : T → Type 0) (code number : ℕ) (here later : Option T) → (code ≡ number → IfSome here P) → IfSome later P →
+    IfSome (cond (nat_eq code number) here later) P
 line P code number here later h k = chosen_at P (nat_eq code number) here later (λ e. h (eqb-true code number e)) k
 
 -- what holds of each operation of a class holds of the word's operation
@@ -89,7 +90,8 @@ register_codes opcode funct3 funct7 opcode_is =
     (line P funct3 7 _ _ (λ a. line P funct7 0 _ _ (λ b. (opcode_is, (a, b))) (tt))
     (tt))))))))
 
-word_immediate_codes : (opcode funct3 funct7 : ℕ) → opcode ≡ 0x1b → IfSome (word_immediate_of funct3 funct7) (λ o. HasCodes opcode funct3 funct7 (op.Immediate o))
+word_immediate_codes : (opcode funct3 funct7 : ℕ) → opcode ≡ 0x1b →
+    IfSome (word_immediate_of funct3 funct7) (λ o. HasCodes opcode funct3 funct7 (op.Immediate o))
 word_immediate_codes opcode funct3 funct7 opcode_is =
     let P = λ (o : ImmediateOp). HasCodes opcode funct3 funct7 (op.Immediate o) in
     line P funct3 0 _ _ (λ a. (opcode_is, a))

@@ -80,7 +80,8 @@ is_decoded m w fits e =
 abbrev pub IsOf : ℕ → MachineOp → Type 0
 IsOf w m = IsTrue (is_encodable m) × (word_of m ≡ w)
 
-read_back : (w : ℕ) → w < 2 ^ 32 → (o : Option WordOp) → IfSome o (HasCodes (w % 128) (w / 4096 % 8) (w / 33554432)) → IfSome (option_map (λ op. read_as op w) o) (IsOf w)
+read_back : (w : ℕ) → w < 2 ^ 32 → (o : Option WordOp) → IfSome o (HasCodes (w % 128) (w / 4096 % 8) (w / 33554432)) →
+    IfSome (option_map (λ op. read_as op w) o) (IsOf w)
 unfolding word_of
 read_back w low None h = tt
 read_back w low (Some op) h = read_fits (encoding_of op).format op w low h

@@ -23,7 +23,8 @@ Matches Store e funct3 funct7 = funct3 ≡ e.funct3 % 8
 Matches Branch e funct3 funct7 = funct3 ≡ e.funct3 % 8
 Matches _ e funct3 funct7 = Unit {0}
 
-pub listed : (op : WordOp) (funct3 funct7 : ℕ) → Matches (encoding_of op).format (encoding_of op) funct3 funct7 → operation_of ((encoding_of op).opcode % 128) funct3 funct7 ≡ Some op
+pub listed : (op : WordOp) (funct3 funct7 : ℕ) → Matches (encoding_of op).format (encoding_of op) funct3 funct7 →
+    operation_of ((encoding_of op).opcode % 128) funct3 funct7 ≡ Some op
 unfolding operation_of
 listed op.Lui funct3 funct7 h = refl
 listed op.Jal funct3 funct7 h = refl

@@ -1,5 +1,6 @@
 -- What was spelled is read back.
-use Rattle.std.proofs.Common.{◌≡◌, ℕ, ◌+◌, ◌-◌, ◌*◌, ◌/◌, ◌^◌, ◌%◌, ◌<◌, ◌≤◌, suc, ℤ, ◌-ℤ◌, pos, negsuc, true, false, cond, List, [], ◌∷◌, ◌++◌, IsTrue, ltb, leb, refl, sym, ap, ◌∙◌, arith, zero-add}
+use Rattle.std.proofs.Common.{◌≡◌, ℕ, ◌+◌, ◌-◌, ◌*◌, ◌/◌, ◌^◌, ◌%◌, ◌<◌, ◌≤◌, suc, ℤ, ◌-ℤ◌, pos, negsuc, true, false, cond, List, [], ◌∷◌, ◌++◌, IsTrue, ltb}
+use Rattle.std.proofs.Common.{leb, refl, sym, ap, ◌∙◌, arith, zero-add}
 use Rattle.std.specs.Prelude.{fold}
 use Rattle.std.proofs.lemmas.Nat.{pow-add, shr_high, mod_low}
 use Rattle.std.proofs.lemmas.Int.{ints}
@@ -33,17 +34,20 @@ fold_shift v (s ∷ rest) a =
     left ∙ moved_up a b (2 ^ s.width) (2 ^ width_of rest) (fold (joined v) 0 rest) ∙ rw (wide, pow-add, ← right) refl
 
 -- a slice of what was spelled
-pub at_slice : (v : Field → ℕ) (before : ℕ) (s : Slice) (rest : List Slice) → fold (joined v) before (s ∷ rest) / 2 ^ width_of rest % 2 ^ s.width ≡ bits_of s (v s.field)
+pub at_slice : (v : Field → ℕ) (before : ℕ) (s : Slice) (rest : List Slice) →
+    fold (joined v) before (s ∷ rest) / 2 ^ width_of rest % 2 ^ s.width ≡ bits_of s (v s.field)
 at_slice v before s rest =
     let low : fold (joined v) 0 rest < 2 ^ width_of rest = rw zero-add at (fold_below v rest 0 0 (omega arith)) in
-    rw (fold_shift v rest (joined v before s), shr_high (joined v before s) (width_of rest) (fold (joined v) 0 rest) low) (mod_low before s.width (bits_of s (v s.field)) (bits_below s (v s.field)))
+    rw (fold_shift v rest (joined v before s), shr_high (joined v before s) (width_of rest) (fold (joined v) 0 rest) low)
+    (mod_low before s.width (bits_of s (v s.field)) (bits_below s (v s.field)))
 
 -- the bits of a field that slices spell
 abbrev pub collected : List Slice → Field → (Field → ℕ) → ℕ
 collected [] field v = 0
 collected (s ∷ rest) field v = cond (same_field s.field field) (bits_of s (v s.field) * 2 ^ s.low) 0 + collected rest field v
 
-pub shown-fold : (v : Field → ℕ) (slices : List Slice) (before : ℕ) (field : Field) → shown slices field (fold (joined v) before slices) ≡ collected slices field v
+pub shown-fold : (v : Field → ℕ) (slices : List Slice) (before : ℕ) (field : Field) →
+    shown slices field (fold (joined v) before slices) ≡ collected slices field v
 shown-fold v [] before field = refl
 shown-fold v (s ∷ rest) before field = rw (at_slice v before s rest, shown-fold v rest (joined v before s) field) refl
 
@@ -154,7 +158,8 @@ CodesOf _ v w = Unit {0}
 pub spelled_below : (format : Format) (v : Field → ℕ) → spelled (slices_of format) v < 2 ^ 32
 spelled_below format v = rw (width_is format) at (rw zero-add at (fold_below v (slices_of format) 0 0 (omega arith)))
 
-at_place : (v : Field → ℕ) (front : List Slice) (s : Slice) (rest : List Slice) → spelled (front ++ s ∷ rest) v / 2 ^ width_of rest % 2 ^ s.width ≡ bits_of s (v s.field)
+at_place : (v : Field → ℕ) (front : List Slice) (s : Slice) (rest : List Slice) →
+    spelled (front ++ s ∷ rest) v / 2 ^ width_of rest % 2 ^ s.width ≡ bits_of s (v s.field)
 at_place v front s rest = rw (fold-append (joined v) 0 front (s ∷ rest)) (at_slice v (fold (joined v) 0 front) s rest)
 
 -- the parts of a word, for each format
@@ -186,8 +191,10 @@ codes Store v =
     let middle = at_place v (bits Imm 11 5 ∷ bits Rs2 4 0 ∷ bits Rs1 4 0 ∷ []) (bits Funct3 2 0) (bits Imm 4 0 ∷ bits Opcode 6 0 ∷ []) in
     (omega (arith, bottom), omega (arith, middle))
 codes Branch v =
-    let bottom = at_place v (bits Imm 12 12 ∷ bits Imm 10 5 ∷ bits Rs2 4 0 ∷ bits Rs1 4 0 ∷ bits Funct3 2 0 ∷ bits Imm 4 1 ∷ bits Imm 11 11 ∷ []) (bits Opcode 6 0) ([]) in
-    let middle = at_place v (bits Imm 12 12 ∷ bits Imm 10 5 ∷ bits Rs2 4 0 ∷ bits Rs1 4 0 ∷ []) (bits Funct3 2 0) (bits Imm 4 1 ∷ bits Imm 11 11 ∷ bits Opcode 6 0 ∷ []) in
+    let bottom = at_place v (bits Imm 12 12 ∷ bits Imm 10 5 ∷ bits Rs2 4 0 ∷ bits Rs1 4 0 ∷ bits Funct3 2 0 ∷ bits Imm 4 1 ∷ bits Imm 11 11 ∷ [])
+    (bits Opcode 6 0) ([]) in
+    let middle = at_place v (bits Imm 12 12 ∷ bits Imm 10 5 ∷ bits Rs2 4 0 ∷ bits Rs1 4 0 ∷ []) (bits Funct3 2 0)
+    (bits Imm 4 1 ∷ bits Imm 11 11 ∷ bits Opcode 6 0 ∷ []) in
     (omega (arith, bottom), omega (arith, middle))
 codes Upper v =
     let bottom = at_place v (bits Imm 19 0 ∷ bits Rd 4 0 ∷ []) (bits Opcode 6 0) ([]) in

@@ -1,5 +1,6 @@
 -- What slices spell, read from the high end.
-use Rattle.std.proofs.Common.{◌≡◌, ℕ, ◌+◌, ◌*◌, ◌/◌, ◌^◌, ◌%◌, ◌<◌, ◌≤◌, List, [], ◌∷◌, cond, length, take, drop, drop-cons, add-one, get_or, bit_or, refl, ap, ◌∙◌, arith, add-zero}
+use Rattle.std.proofs.Common.{◌≡◌, ℕ, ◌+◌, ◌*◌, ◌/◌, ◌^◌, ◌%◌, ◌<◌, ◌≤◌, List, [], ◌∷◌, cond, length, take, drop, drop-cons, add-one, get_or, bit_or, refl, ap}
+use Rattle.std.proofs.Common.{◌∙◌, arith, add-zero}
 use Rattle.std.specs.Prelude.{fold}
 use Rattle.std.proofs.lemmas.Nat.{pow_pos, pow-add, mod_below, mul-add-lt, shl_whole, or_shifted}
 use Rattle.std.proofs.lemmas.List.Sums.{fold_more, sum_by-cons, sum_by_more, sum_by-take-le, sum_by-drop_more, sum_by-take-drop}
@@ -28,11 +29,15 @@ fold_below value (s ∷ rest) word j h =
     rw e (fold_below value rest (joined value word s) (j + s.width) (joined_below value word j s h))
 
 -- the encoder's step: a shift, and the next slice's bits below
-pub spelled_more : (value : Field → ℕ) (slices : List Slice) (i : ℕ) (d : Slice) (word : ℕ) → width_of slices ≤ 32 → i < length slices → word ≡ spelled (take i slices) value → bit_or ((word * 2 ^ (get_or slices i d).width) % 2 ^ 32) (bits_of (get_or slices i d) (value (get_or slices i d).field)) ≡ spelled (take (i + 1) slices) value
+pub spelled_more : (value : Field → ℕ) (slices : List Slice) (i : ℕ) (d : Slice) (word : ℕ) → width_of slices ≤ 32 → i < length slices →
+    word ≡ spelled (take i slices) value →
+    bit_or ((word * 2 ^ (get_or slices i d).width) % 2 ^ 32) (bits_of (get_or slices i d) (value (get_or slices i d).field))
+    ≡ spelled (take (i + 1) slices) value
 spelled_more value slices i d word short within is =
     let s = get_or slices i d in
     let low : word < 2 ^ (0 + width_of (take i slices)) = rw is (fold_below value (take i slices) 0 0 (omega arith)) in
-    let room : (0 + width_of (take i slices)) + s.width ≤ 32 = omega (arith, sum_by_more (λ (s : Slice). s.width) slices i d within, sum_by-take-le (λ (s : Slice). s.width) slices (i + 1)) in
+    let room : (0 + width_of (take i slices)) + s.width ≤ 32 =
+    omega (arith, sum_by_more (λ (s : Slice). s.width) slices i d within, sum_by-take-le (λ (s : Slice). s.width) slices (i + 1)) in
     let whole = shl_whole word (0 + width_of (take i slices)) s.width 32 low room in
     let apart = or_shifted word s.width (bits_of s (value s.field)) (bits_below s (value s.field)) in
     let more = fold_more (joined value) 0 slices i d within in
@@ -49,10 +54,15 @@ width_is Upper = refl
 width_is Jump = refl
 
 -- the decoder's step: the bits below the slice are those of the slices behind it
-pub shown_more : (slices : List Slice) (i : ℕ) (d : Slice) (field : Field) (word : ℕ) → i < length slices → shown (drop i slices) field word ≡ cond (same_field (get_or slices i d).field field) (word / 2 ^ width_of (drop (i + 1) slices) % 2 ^ (get_or slices i d).width * 2 ^ (get_or slices i d).low) 0 + shown (drop (i + 1) slices) field word
+pub shown_more : (slices : List Slice) (i : ℕ) (d : Slice) (field : Field) (word : ℕ) → i < length slices →
+    shown (drop i slices) field word
+    ≡ cond (same_field (get_or slices i d).field field)
+    (word / 2 ^ width_of (drop (i + 1) slices) % 2 ^ (get_or slices i d).width * 2 ^ (get_or slices i d).low) 0
+    + shown (drop (i + 1) slices) field word
 shown_more slices i d field word within = ap (λ (xs : List Slice). shown xs field word) (drop-cons slices i d within) ∙ rw add-one refl
 
-pub width_more : (slices : List Slice) (i : ℕ) (d : Slice) → i < length slices → width_of (drop i slices) ≡ (get_or slices i d).width + width_of (drop (i + 1) slices)
+pub width_more : (slices : List Slice) (i : ℕ) (d : Slice) → i < length slices →
+    width_of (drop i slices) ≡ (get_or slices i d).width + width_of (drop (i + 1) slices)
 width_more slices i d within = sum_by-drop_more (λ (s : Slice). s.width) slices i d within
 
 tail_width : (s : Slice) (rest : List Slice) (i : ℕ) → width_of (drop (i + 1) (s ∷ rest)) ≤ width_of rest
@@ -65,6 +75,10 @@ rest_below Immediate i = omega (arith, tail_width (bits Imm 11 0) (bits Rs1 4 0 
 rest_below Shift i = omega (arith, tail_width (bits Funct7 6 1) (bits Imm 5 0 ∷ bits Rs1 4 0 ∷ bits Funct3 2 0 ∷ bits Rd 4 0 ∷ bits Opcode 6 0 ∷ []) i)
 rest_below WordShift i = omega (arith, tail_width (bits Funct7 6 0) (bits Imm 4 0 ∷ bits Rs1 4 0 ∷ bits Funct3 2 0 ∷ bits Rd 4 0 ∷ bits Opcode 6 0 ∷ []) i)
 rest_below Store i = omega (arith, tail_width (bits Imm 11 5) (bits Rs2 4 0 ∷ bits Rs1 4 0 ∷ bits Funct3 2 0 ∷ bits Imm 4 0 ∷ bits Opcode 6 0 ∷ []) i)
-rest_below Branch i = omega (arith, tail_width (bits Imm 12 12) (bits Imm 10 5 ∷ bits Rs2 4 0 ∷ bits Rs1 4 0 ∷ bits Funct3 2 0 ∷ bits Imm 4 1 ∷ bits Imm 11 11 ∷ bits Opcode 6 0 ∷ []) i)
+rest_below Branch i = omega (
+  arith,
+  tail_width (bits Imm 12 12)
+      (bits Imm 10 5 ∷ bits Rs2 4 0 ∷ bits Rs1 4 0 ∷ bits Funct3 2 0 ∷ bits Imm 4 1 ∷ bits Imm 11 11 ∷ bits Opcode 6 0 ∷ []) i,
+)
 rest_below Upper i = omega (arith, tail_width (bits Imm 19 0) (bits Rd 4 0 ∷ bits Opcode 6 0 ∷ []) i)
 rest_below Jump i = omega (arith, tail_width (bits Imm 20 20) (bits Imm 10 1 ∷ bits Imm 11 11 ∷ bits Imm 19 12 ∷ bits Rd 4 0 ∷ bits Opcode 6 0 ∷ []) i)

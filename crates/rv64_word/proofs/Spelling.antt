@@ -1,5 +1,6 @@
 -- A word is spelled by the fields that it shows.
-use Rattle.std.proofs.Common.{◌≡◌, ℕ, suc, ◌+◌, ◌-◌, ◌/◌, ◌^◌, ◌%◌, ◌<◌, ◌≤◌, pos, negsuc, Bool, true, false, ◌&&◌, ◌⊎◌, inl, inr, List, [], ◌∷◌, IsTrue, ltb, leb, eq-eqb, refl, ◌∙◌, arith}
+use Rattle.std.proofs.Common.{◌≡◌, ℕ, suc, ◌+◌, ◌-◌, ◌/◌, ◌^◌, ◌%◌, ◌<◌, ◌≤◌, pos, negsuc, Bool, true, false, ◌&&◌, ◌⊎◌, inl, inr, List, [], ◌∷◌, IsTrue, ltb}
+use Rattle.std.proofs.Common.{leb, eq-eqb, refl, ◌∙◌, arith}
 use Rattle.std.proofs.lemmas.Nat.{mod-pow-add}
 use Rattle.std.proofs.lemmas.List.Sums.{sum_by-cons}
 use Rattle.std.proofs.lemmas.Bool.{le-leb, ltb-true, ltb-false}
@@ -37,36 +38,46 @@ spelled_back (s ∷ rest) v w (here, later) =
     fold_shift v rest (joined v 0 s) ∙ rw (first, spelled_back rest v w later, wide, mod-pow-add w s.width (width_of rest)) refl
 
 -- a number with a sign is itself, or its distance below zero
-extended_at : (bits n : ℕ) (b : Bool) → ltb n (2 ^ (bits - 1)) ≡ b → n < 2 ^ bits → ((n < 2 ^ (bits - 1)) × (sign_extended bits n ≡ pos n)) ⊎ ((j : ℕ) × (n + suc j ≡ 2 ^ bits) × (2 ^ (bits - 1) ≤ n) × (sign_extended bits n ≡ negsuc j))
+extended_at : (bits n : ℕ) (b : Bool) → ltb n (2 ^ (bits - 1)) ≡ b → n < 2 ^ bits →
+    ((n < 2 ^ (bits - 1)) × (sign_extended bits n ≡ pos n))
+    ⊎ ((j : ℕ) × (n + suc j ≡ 2 ^ bits) × (2 ^ (bits - 1) ≤ n) × (sign_extended bits n ≡ negsuc j))
 extended_at bits n true e low = inl (ltb-true n (2 ^ (bits - 1)) e, rw e refl)
 extended_at bits n false e low =
     let sum : n + suc (2 ^ bits - suc n) ≡ 2 ^ bits = omega arith in
     inr (2 ^ bits - suc n, sum, ltb-false n (2 ^ (bits - 1)) e, rw e (below_zero n (2 ^ bits) (2 ^ bits - suc n) sum))
 
-extended : (bits n : ℕ) → n < 2 ^ bits → ((n < 2 ^ (bits - 1)) × (sign_extended bits n ≡ pos n)) ⊎ ((j : ℕ) × (n + suc j ≡ 2 ^ bits) × (2 ^ (bits - 1) ≤ n) × (sign_extended bits n ≡ negsuc j))
+extended : (bits n : ℕ) → n < 2 ^ bits →
+    ((n < 2 ^ (bits - 1)) × (sign_extended bits n ≡ pos n))
+    ⊎ ((j : ℕ) × (n + suc j ≡ 2 ^ bits) × (2 ^ (bits - 1) ≤ n) × (sign_extended bits n ≡ negsuc j))
 extended bits n low = extended_at bits n (ltb n (2 ^ (bits - 1))) refl low
 
 extended12 : (n : ℕ) → n < 4096 → (word (sign_extended 12 n) % 4096 ≡ n) × IsTrue (is_within (negsuc 2047) (pos 2047) (sign_extended 12 n))
-extended12 n low = elim (extended 12 n low) as (λ _. (word (sign_extended 12 n) % 4096 ≡ n) × IsTrue (is_within (negsuc 2047) (pos 2047) (sign_extended 12 n))) [
-  | inl k ↦ rw k.1 (omega arith, le-leb n 2047 (omega (arith, k.0)))
-  | inr k ↦ rw k.3 (omega (arith, k.1), and_true _ (le-leb k.0 2047 (omega (arith, k.1, k.2))))
-]
+extended12 n low = elim (extended 12 n low) as (λ _. (word (sign_extended 12 n) % 4096 ≡ n) ×
+    IsTrue (is_within (negsuc 2047) (pos 2047) (sign_extended 12 n))) [
+      | inl k ↦ rw k.1 (omega arith, le-leb n 2047 (omega (arith, k.0)))
+      | inr k ↦ rw k.3 (omega (arith, k.1), and_true _ (le-leb k.0 2047 (omega (arith, k.1, k.2))))
+    ]
 
 extended13 : (n : ℕ) → n < 8192 → n % 2 ≡ 0 → (word (sign_extended 13 n) % 8192 ≡ n) × IsTrue (is_within (negsuc 4095) (pos 4094) (sign_extended 13 n))
-extended13 n low even = elim (extended 13 n low) as (λ _. (word (sign_extended 13 n) % 8192 ≡ n) × IsTrue (is_within (negsuc 4095) (pos 4094) (sign_extended 13 n))) [
-  | inl k ↦ rw k.1 (omega arith, le-leb n 4094 (omega (arith, k.0, even)))
-  | inr k ↦ rw k.3 (omega (arith, k.1), and_true _ (le-leb k.0 4095 (omega (arith, k.1, k.2))))
-]
+extended13 n low even = elim (extended 13 n low) as (λ _. (word (sign_extended 13 n) % 8192 ≡ n) ×
+    IsTrue (is_within (negsuc 4095) (pos 4094) (sign_extended 13 n))) [
+      | inl k ↦ rw k.1 (omega arith, le-leb n 4094 (omega (arith, k.0, even)))
+      | inr k ↦ rw k.3 (omega (arith, k.1), and_true _ (le-leb k.0 4095 (omega (arith, k.1, k.2))))
+    ]
 
-extended21 : (n : ℕ) → n < 2097152 → n % 2 ≡ 0 → (word (sign_extended 21 n) % 2097152 ≡ n) × IsTrue (is_within (negsuc 1048575) (pos 1048574) (sign_extended 21 n))
-extended21 n low even = elim (extended 21 n low) as (λ _. (word (sign_extended 21 n) % 2097152 ≡ n) × IsTrue (is_within (negsuc 1048575) (pos 1048574) (sign_extended 21 n))) [
-  | inl k ↦ rw k.1 (omega arith, le-leb n 1048574 (omega (arith, k.0, even)))
-  | inr k ↦ rw k.3 (omega (arith, k.1), and_true _ (le-leb k.0 1048575 (omega (arith, k.1, k.2))))
-]
+extended21 : (n : ℕ) → n < 2097152 → n % 2 ≡ 0 → (word (sign_extended 21 n) % 2097152 ≡ n) ×
+    IsTrue (is_within (negsuc 1048575) (pos 1048574) (sign_extended 21 n))
+extended21 n low even = elim (extended 21 n low) as (λ _. (word (sign_extended 21 n) % 2097152 ≡ n) ×
+    IsTrue (is_within (negsuc 1048575) (pos 1048574) (sign_extended 21 n))) [
+      | inl k ↦ rw k.1 (omega arith, le-leb n 1048574 (omega (arith, k.0, even)))
+      | inr k ↦ rw k.3 (omega (arith, k.1), and_true _ (le-leb k.0 1048575 (omega (arith, k.1, k.2))))
+    ]
 
 -- the operation with its fields as slices of a format show them
 abbrev pub read_in : Format → WordOp → ℕ → MachineOp
-read_in format op w = record { op = op; rd = shown (slices_of format) Rd w; rs1 = shown (slices_of format) Rs1 w; rs2 = shown (slices_of format) Rs2 w; imm = number_of format (shown (slices_of format) Imm w) }
+read_in format op w =
+    let slices = slices_of format in
+    record { op = op; rd = shown slices Rd w; rs1 = shown slices Rs1 w; rs2 = shown slices Rs2 w; imm = number_of format (shown slices Imm w) }
 
 -- the codes that a word has where it is of a format
 abbrev CodesIn : Format → WordOp → ℕ → Type 0
@@ -86,29 +97,56 @@ read Immediate op w low (o, a) =
     let k : (word (sign_extended 12 n) % 4096 ≡ n) × IsTrue (is_within (negsuc 2047) (pos 2047) (sign_extended 12 n)) = extended12 n (omega arith) in
     ((omega arith, omega arith, refl, k.1), (omega (arith, k.0), (omega arith, (omega (arith, a), (omega arith, (omega (arith, o), tt))))))
 read Shift op w low (o, (a, b)) =
-    let n : ℕ = shown (slices_of Shift) Imm w in
-    ((omega arith, omega arith, refl, both (leb 0 n) (leb n 63) (le-leb 0 n (omega arith)) (le-leb n 63 (omega arith))), (omega (arith, b), (omega arith, (omega arith, (omega (arith, a), (omega arith, (omega (arith, o), tt)))))))
+    let n : ℕ = shown (slices_of Shift) Imm w in (
+      (omega arith, omega arith, refl, both (leb 0 n) (leb n 63) (le-leb 0 n (omega arith)) (le-leb n 63 (omega arith))),
+      (omega (arith, b), (omega arith, (omega arith, (omega (arith, a), (omega arith, (omega (arith, o), tt)))))),
+    )
 read WordShift op w low (o, (a, b)) =
-    let n : ℕ = shown (slices_of WordShift) Imm w in
-    ((omega arith, omega arith, refl, both (leb 0 n) (leb n 31) (le-leb 0 n (omega arith)) (le-leb n 31 (omega arith))), (omega (arith, b), (omega arith, (omega arith, (omega (arith, a), (omega arith, (omega (arith, o), tt)))))))
+    let n : ℕ = shown (slices_of WordShift) Imm w in (
+      (omega arith, omega arith, refl, both (leb 0 n) (leb n 31) (le-leb 0 n (omega arith)) (le-leb n 31 (omega arith))),
+      (omega (arith, b), (omega arith, (omega arith, (omega (arith, a), (omega arith, (omega (arith, o), tt)))))),
+    )
 read Store op w low (o, a) =
     let n : ℕ = shown (slices_of Store) Imm w in
-    let k : (word (sign_extended 12 n) % 4096 ≡ n) × IsTrue (is_within (negsuc 2047) (pos 2047) (sign_extended 12 n)) = extended12 n (omega arith) in
-    ((refl, omega arith, omega arith, k.1), (omega (arith, k.0), (omega arith, (omega arith, (omega (arith, a), (omega (arith, k.0), (omega (arith, o), tt)))))))
+    let k : (word (sign_extended 12 n) % 4096 ≡ n) × IsTrue (is_within (negsuc 2047) (pos 2047) (sign_extended 12 n)) = extended12 n (omega arith) in (
+      (refl, omega arith, omega arith, k.1),
+      (
+        omega (arith, k.0),
+        (omega arith, (omega arith, (omega (arith, a), (omega (arith, k.0), (omega (arith, o), tt))))),
+      ),
+    )
 read Branch op w low (o, a) =
     let n : ℕ = shown (slices_of Branch) Imm w in
-    let k : (word (sign_extended 13 n) % 8192 ≡ n) × IsTrue (is_within (negsuc 4095) (pos 4094) (sign_extended 13 n)) = extended13 n (omega arith) (omega arith) in
-    ((refl, omega arith, omega arith, k.1, eq-eqb _ 0 (omega (arith, k.0))), (omega (arith, k.0), (omega (arith, k.0), (omega arith, (omega arith, (omega (arith, a), (omega (arith, k.0), (omega (arith, k.0), (omega (arith, o), tt)))))))))
+    let k : (word (sign_extended 13 n) % 8192 ≡ n) × IsTrue (is_within (negsuc 4095) (pos 4094) (sign_extended 13 n)) =
+    extended13 n (omega arith) (omega arith) in (
+      (refl, omega arith, omega arith, k.1, eq-eqb _ 0 (omega (arith, k.0))),
+      (
+        omega (arith, k.0),
+        (
+          omega (arith, k.0),
+          (
+            omega arith,
+            (omega arith, (omega (arith, a), (omega (arith, k.0), (omega (arith, k.0), (omega (arith, o), tt))))),
+          ),
+        ),
+      ),
+    )
 read Upper op w low (o, a) =
-    let n : ℕ = shown (slices_of Upper) Imm w in
-    ((omega arith, refl, refl, both (leb 0 n) (leb n 1048575) (le-leb 0 n (omega arith)) (le-leb n 1048575 (omega arith))), (omega arith, (omega arith, (omega (arith, o), tt))))
+    let n : ℕ = shown (slices_of Upper) Imm w in (
+      (omega arith, refl, refl, both (leb 0 n) (leb n 1048575) (le-leb 0 n (omega arith)) (le-leb n 1048575 (omega arith))),
+      (omega arith, (omega arith, (omega (arith, o), tt))),
+    )
 read Jump op w low (o, a) =
     let n : ℕ = shown (slices_of Jump) Imm w in
-    let k : (word (sign_extended 21 n) % 2097152 ≡ n) × IsTrue (is_within (negsuc 1048575) (pos 1048574) (sign_extended 21 n)) = extended21 n (omega arith) (omega arith) in
-    ((omega arith, refl, refl, k.1, eq-eqb _ 0 (omega (arith, k.0))), (omega (arith, k.0), (omega (arith, k.0), (omega (arith, k.0), (omega (arith, k.0), (omega arith, (omega (arith, o), tt)))))))
+    let k : (word (sign_extended 21 n) % 2097152 ≡ n) × IsTrue (is_within (negsuc 1048575) (pos 1048574) (sign_extended 21 n)) =
+    extended21 n (omega arith) (omega arith) in (
+      (omega arith, refl, refl, k.1, eq-eqb _ 0 (omega (arith, k.0))),
+      (omega (arith, k.0), (omega (arith, k.0), (omega (arith, k.0), (omega (arith, k.0), (omega arith, (omega (arith, o), tt)))))),
+    )
 
 -- what a word is read as fits its format, and has the word
-pub read_fits : (format : Format) (op : WordOp) (w : ℕ) → w < 2 ^ 32 → CodesIn format op w → IsTrue (fits format (read_in format op w)) × (spelled (slices_of format) (value_of (read_in format op w)) ≡ w)
+pub read_fits : (format : Format) (op : WordOp) (w : ℕ) → w < 2 ^ 32 → CodesIn format op w →
+    IsTrue (fits format (read_in format op w)) × (spelled (slices_of format) (value_of (read_in format op w)) ≡ w)
 unfolding Read
 read_fits format op w low h =
     let k = read format op w low h in

@@ -1,11 +1,12 @@
 -- The word of an instruction does what the instruction does.
-use Rattle.std.proofs.Common.{◌≡◌, ◌+◌, ◌-◌, ◌<◌, ◌≤◌, ◌⊎◌, inl, inr, ◌%◌, ◌^◌, ℕ, zero, suc, ℤ, pos, negsuc, ◌+ℤ◌, Bool, true, false, cond, List, ◌∷◌, Option, Some, None, refl, sym, ap, ◌∙◌, subst, arith}
+use Rattle.std.proofs.Common.{◌≡◌, ◌-◌, ◌<◌, ◌≤◌, ◌⊎◌, inl, inr, ℕ, zero, suc, ℤ, pos, negsuc, ◌+ℤ◌, Bool, true, false, cond, List, ◌∷◌, Option}
+use Rattle.std.proofs.Common.{Some, None, refl, sym, ap, subst, arith}
 use Rattle.std.specs.Prelude.{IfSome, IsTrue, option_and_then}
 use Rattle.std.proofs.lemmas.Bool.{cases_lt}
 use Rattle.std.proofs.lemmas.Int.{ints}
 use Rattle.rv64_instr.specs.Instruction.{Instruction}
 use Rattle.rv64_instr.specs.declared.op.Op.{Op}
-use Rattle.rv64_instr.specs.declared.op.Op.TheVariants.{Registers, Immediate, Lui, Branch, Load, Store, Copy, PseudoBr, PseudoCall, PseudoRet}
+use Rattle.rv64_instr.specs.declared.op.Op.TheVariants.{Registers, Immediate, Lui, Branch, Load, Store, Copy, PseudoBr, PseudoRet}
 use Rattle.rv64_instr.specs.declared.op.ImmediateOp.{ImmediateOp}
 use Rattle.rv64_instr.specs.declared.op.ImmediateOp.TheVariants.{Addi}
 use Rattle.rv64_instr.specs.declared.op.LoadOp.{LoadOp}
@@ -77,28 +78,32 @@ at_same address row m n e h = subst (λ (x : MachineOp). machine_row address x �
 abbrev Acts : Option MachineOp → ℤ → (object address : ℕ) → Row → Type 0
 Acts found offset object address row = (m : MachineOp) → found ≡ Some m → machine_row address m ≡ placed (at_offset address offset) object row
 
-immediate_acts : (o : ImmediateOp) (operands : List Operand) (offset : ℤ) (object address : ℕ) → Acts (immediate_fields o operands object) offset object address (number_row o operands)
+immediate_acts : (o : ImmediateOp) (operands : List Operand) (offset : ℤ) (object address : ℕ) →
+    Acts (immediate_fields o operands object) offset object address (number_row o operands)
 immediate_acts o (Def rd ∷ Use a ∷ Imm i ∷ rest) offset object address m e =
     at_same address _ _ m e (sym (placed_immediate o rd a (word i) (at_offset address offset) object))
 immediate_acts o (Def rd ∷ Object n ∷ Imm i ∷ rest) offset object address m e =
     at_same address _ _ m e (ap (λ k. Does (add_row rd 2 k)) (from_both object i))
 immediate_acts o operands offset object address m e = absurd (apart m e)
 
-load_acts : (o : LoadOp) (operands : List Operand) (offset : ℤ) (object address : ℕ) → Acts (load_fields o operands object) offset object address (load_row o operands)
+load_acts : (o : LoadOp) (operands : List Operand) (offset : ℤ) (object address : ℕ) →
+    Acts (load_fields o operands object) offset object address (load_row o operands)
 load_acts o (Def rd ∷ Use base ∷ Imm i ∷ rest) offset object address m e = at_same address _ _ m e refl
 load_acts o (Def rd ∷ Slot n ∷ rest) offset object address m e = at_same address _ _ m e refl
 load_acts o (Def rd ∷ Object n ∷ Imm i ∷ rest) offset object address m e =
     at_same address _ _ m e (ap (λ k. Does (Loads rd o (PointedBy 2) k)) (from_both object i))
 load_acts o operands offset object address m e = absurd (apart m e)
 
-store_acts : (o : StoreOp) (operands : List Operand) (offset : ℤ) (object address : ℕ) → Acts (store_fields o operands object) offset object address (store_row o operands)
+store_acts : (o : StoreOp) (operands : List Operand) (offset : ℤ) (object address : ℕ) →
+    Acts (store_fields o operands object) offset object address (store_row o operands)
 store_acts o (Use rs ∷ Use base ∷ Imm i ∷ rest) offset object address m e = at_same address _ _ m e refl
 store_acts o (Use rs ∷ Slot n ∷ rest) offset object address m e = at_same address _ _ m e refl
 store_acts o (Use rs ∷ Object n ∷ Imm i ∷ rest) offset object address m e =
     at_same address _ _ m e (ap (λ k. Does (Stores o rs (PointedBy 2) k)) (from_both object i))
 store_acts o operands offset object address m e = absurd (apart m e)
 
-fields_act : (o : Op) (operands : List Operand) (offset : ℤ) (object address : ℕ) → Acts (fields_of o operands offset object) offset object address (row_by o operands)
+fields_act : (o : Op) (operands : List Operand) (offset : ℤ) (object address : ℕ) →
+    Acts (fields_of o operands offset object) offset object address (row_by o operands)
 fields_act (Registers o) (Def rd ∷ Use a ∷ Use b ∷ rest) offset object address m e = at_same address _ _ m e refl
 fields_act (Immediate o) operands offset object address m e = immediate_acts o operands offset object address m e
 fields_act Lui (Def rd ∷ Imm i ∷ rest) offset object address m e = at_same address _ _ m e refl
@@ -122,7 +127,8 @@ lowered_fits offset object i = fits_by (fields_of i.op i.operands offset object)
 abbrev pub ActsAs : ℤ → (object : ℕ) → Instruction → MachineOp → Type 0
 ActsAs offset object i m = (address : ℕ) → machine_row address m ≡ placed (at_offset address offset) object (row_of i)
 
-acts_by : (offset : ℤ) (object : ℕ) (i : Instruction) (o : Option MachineOp) → fields_of i.op i.operands offset object ≡ o → IfSome (option_and_then in_range o) (ActsAs offset object i)
+acts_by : (offset : ℤ) (object : ℕ) (i : Instruction) (o : Option MachineOp) → fields_of i.op i.operands offset object ≡ o →
+    IfSome (option_and_then in_range o) (ActsAs offset object i)
 acts_by offset object i None e = tt
 acts_by offset object i (Some m) e = kept (ActsAs offset object i) m (λ address. fields_act i.op i.operands offset object address m e)
 

@@ -33,8 +33,8 @@ pub struct Slice {
     pub width: u32,
 }
 
-/// A format of words (RISC-V Unprivileged ISA, RV32I, "Base Instruction Formats" and "Immediate Encoding Variants"), with
-/// the shifts by an immediate apart.
+/// A format of words (RISC-V Unprivileged ISA, RV32I, "Base Instruction Formats" and "Immediate Encoding Variants"),
+/// with the shifts by an immediate apart.
 #[derive(Clone, Copy, Debug, PartialEq, Eq)]
 pub enum Format {
     /// The R format.

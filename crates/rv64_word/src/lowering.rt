@@ -12,9 +12,10 @@ ghost use Rattle.rv64_instr.specs.Form.{
   fits_copy,
   fits_jump,
 };
-ghost use Rattle.rv64_instr.specs.Row.{row_of};
+ghost use Rattle.rv64_instr.specs.Decoded.{Shows};
+ghost use Rattle.rv64_instr.specs.Row.{Row, row_of};
 ghost use Rattle.rv64_word.specs.MachineOp.{is_encodable};
-ghost use Rattle.rv64_word.specs.MachineRow.{machine_row, placed, at_offset};
+ghost use Rattle.rv64_word.specs.MachineRow.{machine_row, placed, at_offset, object_named, base_object};
 ghost use Rattle.rv64_word.specs.Lowering.{
   lowered,
   fields_of,
@@ -32,14 +33,16 @@ ghost use Rattle.rv64_word.specs.Lowering.{
 
 use crate::machine_op::MachineOp;
 use crate::word_op::WordOp;
+use numbers::code::ObjectId;
+use rv64_instr::decoded::{Base, Decoded};
 use rv64_instr::instr::Instr;
 use rv64_instr::op::{BranchOp, ImmediateOp, LoadOp, Op, RegisterOp, StoreOp};
 use rv64_instr::operand::Operand;
 
 /// The machine operation of an instruction that has one word. `offset` is that of a branch's target from the
-/// instruction's own address in bytes, and `object` that of the stack object that it names from x2 in bytes; each is
-/// unused elsewhere. A frame slot's number is its offset from x2 in bytes. `None` for a call, which has two words, and
-/// where a register is virtual, or an offset doesn't fit its format. It takes no memory.
+/// instruction's own address in bytes, and `object` that from x2 in bytes of the stack object that it names, by
+/// `object_named`; each is unused elsewhere. A frame slot's number is its offset from x2 in bytes. `None` for a call,
+/// which has two words, and where a register is virtual, or an offset doesn't fit its format. It takes no memory.
 pub fn lower(i: &Instr, offset: i64, object: u32) -> Option<MachineOp>
     ensures value { result ≡ lowered offset object i.now }
     ensures encodable { IfSome result (λ m. IsTrue (is_encodable m)) }
@@ -48,6 +51,41 @@ pub fn lower(i: &Instr, offset: i64, object: u32) -> Option<MachineOp>
         (λ m. (address : ℕ) → machine_row address m ≡ placed (at_offset address offset) object (row_of i.now)) }
 {
     in_fields(i, offset, object)
+}
+
+/// The stack object that an instruction names, and `None` exactly where it names none. It takes no memory.
+pub fn object_named(i: &Instr) -> Option<ObjectId>
+    ensures { result ≡ object_named (row_of i.now) }
+{
+    object_shown(i.decoded())
+}
+
+fn object_shown(row: Decoded) -> Option<ObjectId>
+    ensures { (r : Row) → Shows row r → result ≡ object_named r }
+{
+    match row {
+        Decoded::Addresses(_, n, _) => Some(n),
+        Decoded::Loads(_, _, base, _) => base_object(base),
+        Decoded::Stores(_, _, base, _) => base_object(base),
+        Decoded::Fixes(_, _)
+        | Decoded::Moves(_, _)
+        | Decoded::Sets(_, _, _, _)
+        | Decoded::LoadsSlot(_, _)
+        | Decoded::StoresSlot(_, _)
+        | Decoded::Branches(_, _, _, _)
+        | Decoded::Jumps(_)
+        | Decoded::Calls
+        | Decoded::Returns => None,
+    }
+}
+
+fn base_object(base: Base) -> Option<ObjectId>
+    ensures { result ≡ base_object base }
+{
+    match base {
+        Base::PointedBy(_) => None,
+        Base::ObjectAt(n) => Some(n),
+    }
 }
 
 fn in_fields(i: &Instr, offset: i64, object: u32) -> Option<MachineOp>
@@ -163,13 +201,8 @@ fn of_load(op: LoadOp, operands: &[Operand], object: u32) -> MachineOp
             machine_op(WordOp::Load(op), rd.number(), base.number(), 0, *i)
         }
         [Operand::Def(rd), Operand::Slot(n), ..] => {
-            machine_op(
-                WordOp::Load(LoadOp::Ld),
-                rd.number(),
-                2,
-                0,
-                i64::from(n.number()),
-            )
+            let at = i64::from(n.number());
+            machine_op(WordOp::Load(LoadOp::Ld), rd.number(), 2, 0, at)
         }
         [Operand::Def(rd), Operand::Object(_), Operand::Imm(i), ..] => {
             machine_op(WordOp::Load(op), rd.number(), 2, 0, i64::from(object) + *i)
@@ -187,13 +220,8 @@ fn of_store(op: StoreOp, operands: &[Operand], object: u32) -> MachineOp
             machine_op(WordOp::Store(op), 0, base.number(), rs.number(), *i)
         }
         [Operand::Use(rs), Operand::Slot(n), ..] => {
-            machine_op(
-                WordOp::Store(StoreOp::Sd),
-                0,
-                2,
-                rs.number(),
-                i64::from(n.number()),
-            )
+            let at = i64::from(n.number());
+            machine_op(WordOp::Store(StoreOp::Sd), 0, 2, rs.number(), at)
         }
         [Operand::Use(rs), Operand::Object(_), Operand::Imm(i), ..] => {
             machine_op(WordOp::Store(op), 0, 2, rs.number(), i64::from(object) + *i)
@@ -208,13 +236,8 @@ fn of_copy(operands: &[Operand]) -> MachineOp
 {
     match operands {
         [Operand::Def(rd), Operand::Use(rs), ..] => {
-            machine_op(
-                WordOp::Immediate(ImmediateOp::Addi),
-                rd.number(),
-                rs.number(),
-                0,
-                0,
-            )
+            let op = WordOp::Immediate(ImmediateOp::Addi);
+            machine_op(op, rd.number(), rs.number(), 0, 0)
         }
         _ => unreachable!(),
     }

@@ -163,16 +163,40 @@ const ROWS: [(Op, [Part; 3], i64, u32, Option<u32>); 23] = [
 #[test]
 fn words_of_instructions(rt: HostRuntime) -> Result<(), Fail> {
     for (op, parts, offset, object, word) in ROWS {
-        let mut operands = Operands::new(rt.alloc());
-        for part in parts {
-            push(&mut operands, part)?;
-        }
-        let instr = Instr::new(op, operands).ok_or("no form")?;
+        let instr = made(&rt, op, parts)?;
         let found = match lower(&instr, offset, object) {
             Some(m) => Some(encode(&m)),
             None => None,
         };
         assert_eq!(rt; found, word, "{op:?} at {offset}");
+    }
+    Ok(())
+}
+
+#[test]
+fn stack_objects_of_instructions(rt: HostRuntime) -> Result<(), Fail> {
+    for (op, parts, named) in [
+        (
+            Op::Immediate(Addi),
+            [Def(11), Object(3), Imm(8)],
+            Some(ObjectId(3)),
+        ),
+        (Op::Immediate(Addi), [Def(11), Use(2), Imm(8)], None),
+        (
+            Op::Load(Lbu),
+            [Def(11), Object(4), Imm(8)],
+            Some(ObjectId(4)),
+        ),
+        (Op::Load(Ld), [Def(11), Slot(5), Imm(0)], None),
+        (
+            Op::Store(Sh),
+            [Use(11), Object(6), Imm(8)],
+            Some(ObjectId(6)),
+        ),
+        (Op::Branch(Beq), [Use(11), Use(0), Block(7)], None),
+    ] {
+        let instr = made(&rt, op, parts)?;
+        assert_eq!(rt; object_named(&instr), named, "{op:?}");
     }
     Ok(())
 }
@@ -185,6 +209,14 @@ fn a_call_has_no_one_word(rt: HostRuntime) -> Result<(), Fail> {
     let call = Instr::new(Op::PseudoCall, operands).ok_or("no form")?;
     assert_eq!(rt; lower(&call, 0, 0), None);
     Ok(())
+}
+
+fn made(rt: &HostRuntime, op: Op, parts: [Part; 3]) -> Result<Instr, Fail> {
+    let mut operands = Operands::new(rt.alloc());
+    for part in parts {
+        push(&mut operands, part)?;
+    }
+    Ok(Instr::new(op, operands).ok_or("no form")?)
 }
 
 fn push(operands: &mut Operands, part: Part) -> Result<(), Fail> {

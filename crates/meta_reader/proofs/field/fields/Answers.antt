@@ -14,11 +14,14 @@ loop-at-init c = record { started = omega arith; shallow = omega arith; read = r
 
 pub returns-in_default : goal.returns-in_default
 unfolding none
-returns-in_default c = unreadable c.args.tokens.now c.loop-at.fields c.loop-at.start c.loop-at.at c.loop-at.depth none (sym c.if-is_end.ensures) c.loop-at-test.true (sym c.if-ends_piece.ensures) c.in_default.ensures c.loop-at.invariant.read
+returns-in_default c = unreadable c.args.tokens.now c.loop-at.fields c.loop-at.start c.loop-at.at c.loop-at.depth none
+    (sym c.if-is_end.ensures) c.loop-at-test.true (sym c.if-ends_piece.ensures) c.in_default.ensures c.loop-at.invariant.read
 
 pub returns-then-not-is_byte : goal.returns-then-not-is_byte
 unfolding none
-returns-then-not-is_byte c = c.ended.ensures ∙ rw c.in_ok-push.ensures.ok (closed c.args.tokens.now c.loop-at.fields c.loop-at.start c.loop-at.at c.loop-at.depth none c.in-Some.field (sym c.if-is_end.ensures) c.loop-at-test.true (sym c.if-ends_piece.ensures) (sym c.if-not-is_byte.ensures) c.in-Some.ensures c.loop-at.invariant.read)
+returns-then-not-is_byte c = c.ended.ensures ∙ rw c.in_ok-push.ensures.ok
+    (closed c.args.tokens.now c.loop-at.fields c.loop-at.start c.loop-at.at c.loop-at.depth none c.in-Some.field (sym c.if-is_end.ensures) c.loop-at-test.true
+    (sym c.if-ends_piece.ensures) (sym c.if-not-is_byte.ensures) c.in-Some.ensures c.loop-at.invariant.read)
 
 pub loop-at-preserved : goal.loop-at-preserved
 unfolding none
@@ -27,14 +30,19 @@ loop-at-preserved c =
       | then-ends_piece+in-Some+in_ok-push+else-not-is_byte w ↦ record {
         started = omega (arith, w.start-is);
         shallow = omega (arith, w.depth-is, c.loop-at.invariant.shallow);
-        read = rw (w.fields-is, w.depth-is, w.start-is, w.in_ok-push.ensures.ok) (next_field c.args.tokens.now c.loop-at.fields c.loop-at.start c.loop-at.at c.loop-at.depth none w.in-Some.field c.loop-at-test.true (sym w.if-ends_piece.ensures) (sym w.if-not-is_byte.ensures) w.in-Some.ensures c.loop-at.invariant.read);
+        read = rw (w.fields-is, w.depth-is, w.start-is, w.in_ok-push.ensures.ok)
+            (next_field c.args.tokens.now c.loop-at.fields c.loop-at.start c.loop-at.at c.loop-at.depth none w.in-Some.field c.loop-at-test.true
+            (sym w.if-ends_piece.ensures) (sym w.if-not-is_byte.ensures) w.in-Some.ensures c.loop-at.invariant.read);
       }
       | else-ends_piece w ↦ record {
         started = omega (arith, w.start-is, c.loop-at.invariant.started);
         shallow = omega (arith, w.depth-is, w.depth_behind-depth.ensures.bound, c.loop-at.invariant.shallow);
-        read = rw (w.fields-is, w.depth-is, w.start-is, w.depth_behind-depth.ensures.value) (goes_on c.args.tokens.now c.loop-at.fields c.loop-at.start c.loop-at.at c.loop-at.depth none c.loop-at.invariant.started c.loop-at-test.true (sym w.if-ends_piece.ensures) c.loop-at.invariant.read);
+        read = rw (w.fields-is, w.depth-is, w.start-is, w.depth_behind-depth.ensures.value)
+            (goes_on c.args.tokens.now c.loop-at.fields c.loop-at.start c.loop-at.at c.loop-at.depth none c.loop-at.invariant.started c.loop-at-test.true
+            (sym w.if-ends_piece.ensures) c.loop-at.invariant.read);
       }
     ]
 
 pub returns : goal.returns
-returns c = never_closed c.args.tokens.now c.loop-at.fields c.loop-at.start c.loop-at.at c.loop-at.depth none (sym c.if-is_end.ensures) c.loop-at-test.false c.loop-at.invariant.read
+returns c = never_closed c.args.tokens.now c.loop-at.fields c.loop-at.start c.loop-at.at c.loop-at.depth none
+    (sym c.if-is_end.ensures) c.loop-at-test.false c.loop-at.invariant.read

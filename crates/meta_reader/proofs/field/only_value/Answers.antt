@@ -13,7 +13,8 @@ pub returns-in_default : goal.returns-in_default
 unfolding none
 returns-in_default c =
     let same = sym (c.if-eq.ensures ∙ ap (λ (t : List ℕ). bytes_eq t c.args.key.now) c.text_of.ensures) in
-    stops c.args.line.now c.args.key.now c.args.fields.now c.loop-field.field-index none c.loop-field.found c.loop-field-test.true c.loop-field.invariant same c.in_default.ensures
+    stops c.args.line.now c.args.key.now c.args.fields.now c.loop-field.field-index none c.loop-field.found c.loop-field-test.true c.loop-field.invariant same
+    c.in_default.ensures
 
 pub returns : goal.returns
 returns c = all_seen c.args.line.now c.args.key.now c.args.fields.now c.loop-field.field-index c.loop-field.found c.loop-field-test.false c.loop-field.invariant

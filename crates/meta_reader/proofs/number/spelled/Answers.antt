@@ -2,8 +2,12 @@ use Rattle.std.proofs.Common.{arith}
 use Rattle.meta_reader.proofs.Numbers.{above, all_read}
 use Rattle.meta_reader.proofs.number.spelled.Goals as goal
 
-pub returns-then-value-gt-LIMIT : goal.returns-then-value-gt-LIMIT
-returns-then-value-gt-LIMIT c = above c.args.base c.loop-byte.value c.digit_value.result c.args.digits.now c.loop-byte.byte-index c.requires.positive c.loop-byte-test.true c.digit_value.ensures.value (omega (arith, c.if-value-gt-LIMIT.true, c.from.ensures)) c.loop-byte.invariant.read
+pub returns-then-value-gt-MAX_NUMBER : goal.returns-then-value-gt-MAX_NUMBER
+returns-then-value-gt-MAX_NUMBER c =
+    above c.args.base c.loop-byte.value c.digit_value.result c.args.digits.now c.loop-byte.byte-index c.requires.positive c.loop-byte-test.true
+    c.digit_value.ensures.value (omega (arith, c.if-value-gt-MAX_NUMBER.true, c.from.ensures)) c.loop-byte.invariant.read
 
 pub returns : goal.returns
-returns c = all_read c.args.base c.loop-byte.value c.args.digits.now c.loop-byte.byte-index c.loop-byte-test.false c.loop-byte.invariant.small c.loop-byte.invariant.read
+returns c =
+    all_read c.args.base c.loop-byte.value c.args.digits.now c.loop-byte.byte-index c.loop-byte-test.false c.loop-byte.invariant.small
+    c.loop-byte.invariant.read

@@ -13,7 +13,8 @@ held entries name = is_some (lookup (is_at (λ (x : Vec ℕ Global). slice_cmp n
 pub returns-in_ok-insert : goal.returns-in_ok-insert
 unfolding held
 returns-in_ok-insert c =
-    subprogram-new c.args.self.now c.self.inside.nodes.entries c.self.inside.subprograms.entries c.insert.new.self.entries c.into_vec.result c.args.name c.args.number c.self.view_is c.into_vec.ensures
+    subprogram-new c.args.self.now c.self.inside.nodes.entries c.self.inside.subprograms.entries c.insert.new.self.entries c.into_vec.result c.args.name
+    c.args.number c.self.view_is c.into_vec.ensures
     (c.if-not-contains_key.ensures ∙ ap (held c.self.inside.subprograms.entries) c.as_slice.ensures) c.in_ok-insert.ensures.entries
 
 pub returns-else-not-contains_key : goal.returns-else-not-contains_key

@@ -9,5 +9,6 @@ use Rattle.meta_reader.proofs.metadata.Metadata.subprogram_of.Goals as goal
 
 pub returns : goal.returns
 returns c =
-    c.copied.ensures ∙ c.get.ensures.value ∙ ap (λ (q : List ℕ). lookup (is_at (λ (k : Vec ℕ Global). slice_cmp nat_cmp q k.items)) c.self.inside.subprograms.entries) c.as_slice.ensures
+    c.copied.ensures ∙ c.get.ensures.value ∙ ap (λ (q : List ℕ). lookup
+    (is_at (λ (k : Vec ℕ Global). slice_cmp nat_cmp q k.items)) c.self.inside.subprograms.entries) c.as_slice.ensures
     ∙ get-subprograms_in c.args.name.now c.self.inside.subprograms.entries ∙ ap (λ (m : Maps). subprogram_at m c.args.name.now) c.self.view_is

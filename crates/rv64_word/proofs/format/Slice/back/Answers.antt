@@ -21,4 +21,5 @@ pub returns-clause-value : goal.returns-clause-value
 returns-clause-value c = moved c.args.bits c.args.self.width c.args.self.low c.requires
 
 pub returns-clause-below : goal.returns-clause-below
-returns-clause-below c = rw (moved c.args.bits c.args.self.width c.args.self.low c.requires) (moved_below c.args.bits c.args.self.width c.args.self.low c.requires)
+returns-clause-below c = rw (moved c.args.bits c.args.self.width c.args.self.low c.requires)
+    (moved_below c.args.bits c.args.self.width c.args.self.low c.requires)
