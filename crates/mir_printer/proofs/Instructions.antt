@@ -1,23 +1,31 @@
 -- The instruction that a text stands for.
-use Rattle.std.proofs.Common.{◌≡◌, ℕ, Bool, true, false, ◌&&◌, ◌||◌, not, nat_le, nat_lt, nat_eq, List, [], ◌∷◌, ◌++◌, Option, Some, None, refl, sym, ap, subst, ◌∙◌, append_assoc}
-use Rattle.std.specs.Prelude.{codes, filter, All}
+use Rattle.std.proofs.Common.{◌≡◌, ℕ, ℤ, pos, Bool, true, false, ◌&&◌, ◌||◌, not, nat_le, nat_lt, nat_eq, List, [], ◌∷◌, ◌++◌, Option, Some, None, refl, sym, ap, subst, ◌∙◌, append_assoc}
+use Rattle.std.specs.Prelude.{codes, filter, map, All}
 use Rattle.std.specs.List.{list_all}
 use Rattle.std.proofs.lemmas.Bool.{and_parts}
 use Rattle.std.proofs.lemmas.List.Elements.{All-head, All-tail}
 use Rattle.rv64_instr.specs.declared.op.Op.{Op}
-use Rattle.rv64_instr.specs.declared.op.Op.TheVariants.{Lui}
+use Rattle.rv64_instr.specs.declared.op.ImmediateOp.{ImmediateOp}
+use Rattle.rv64_instr.specs.declared.op.LoadOp.{LoadOp}
+use Rattle.rv64_instr.specs.declared.op.RegisterOp.TheVariants.{Add}
+use Rattle.rv64_instr.specs.declared.op.ImmediateOp.TheVariants.{Addi}
+use Rattle.rv64_instr.specs.declared.op.BranchOp.TheVariants.{Beq}
+use Rattle.rv64_instr.specs.declared.op.LoadOp.TheVariants.{Lb}
+use Rattle.rv64_instr.specs.declared.op.StoreOp.TheVariants.{Sb}
+use Rattle.rv64_instr.specs.declared.op.StoreOp.{StoreOp}
+use Rattle.rv64_instr.specs.declared.op.Op.TheVariants.{Registers, Immediate, Lui, Branch, Load, Store, Copy, PseudoBr, PseudoCall, PseudoRet}
 use Rattle.rv64_instr.specs.declared.operand.Operand.{Operand}
-use Rattle.rv64_instr.specs.declared.operand.Operand.TheVariants.{Def, Use, Imm, Slot, Block, Symbol, Mask}
-use Rattle.rv64_instr.specs.declared.form.Form.{Form}
-use Rattle.rv64_instr.specs.declared.form.Form.TheVariants.{Registers, Immediate, Upper, Load, Store, Branch, Move, Jump, Call, Return}
+use Rattle.rv64_instr.specs.declared.operand.Operand.TheVariants.{Def, Use, Imm, Slot, Object, Block, Symbol, Mask}
 use Rattle.rv64_instr.specs.Instruction.{Instruction}
-use Rattle.rv64_instr.specs.Form.{form_of, fits, is_within, is_implicit, is_argument, is_result}
+use Rattle.rv64_instr.specs.Arithmetic.{load_width, store_width}
+use Rattle.rv64_instr.specs.Form.{has_form, fits_registers, fits_immediate, fits_upper, fits_branch, fits_load, fits_store, fits_copy, fits_jump, fits_call, is_within, has_12_bits, is_immediate, is_addi, moves_slot, is_implicit, is_argument, is_result}
 use Rattle.rv64_instr.specs.Mnemonic.{mnemonic_of}
 use Rattle.rv64_instr.proofs.Names.{mnemonic_of-injective}
 use Rattle.mir_printer.specs.Spelling.{instruction_text, is_definition, register_text, uses_text}
-use Rattle.mir_printer.specs.Printable.{IsNumber, HasNumbers, IsPrintableInstruction}
+use Rattle.mir_printer.specs.Printable.{IsNumber, HasNumbers, IsPrintableInstruction, as_slot}
 use Rattle.mir_printer.proofs.Cuts.{front_one, Stops, run_one}
 use Rattle.mir_printer.proofs.Operands.{register_one, AllUses, IsTail, uses_one}
+use Rattle.mir_printer.proofs.Stack.{Each, IsNoSlot, OneKind, no_slots, no_objects, IsTold, operands_one, implicit_plain, argument_plain, result_plain, no_slots_of, no_objects_of}
 
 -- ---- opcodes
 
@@ -25,7 +33,11 @@ abbrev is_letter : ℕ → Bool
 is_letter b = (nat_le 65 b && nat_le b 90) || (nat_le 97 b && nat_le b 122)
 
 letters : (op : Op) → list_all is_letter (mnemonic_of op) ≡ true
-letters Lui = refl
+letters (Registers Add) = refl
+letters (Immediate Addi) = refl
+letters (Branch Beq) = refl
+letters (Load Lb) = refl
+letters (Store Sb) = refl
 letters op = refl
 
 opcode_one : (a b : Op) (r s : List ℕ) → Stops is_letter r → Stops is_letter s → mnemonic_of a ++ r ≡ mnemonic_of b ++ s → (a ≡ b) × (r ≡ s)
@@ -33,11 +45,10 @@ opcode_one a b r s stop stops e =
     let found = run_one is_letter (mnemonic_of a) (mnemonic_of b) r s (letters a) (letters b) stop stops e in
     (mnemonic_of-injective a b found.0, found.1)
 
--- ---- the form: a definition at most at the front
+-- ---- the form: a definition at most at the front, and slots alone or objects alone
 
 abbrev NoDefinitions : List Operand → Type 0
-NoDefinitions [] = Unit {0}
-NoDefinitions (o ∷ os) = (is_definition o ≡ false) × NoDefinitions os
+NoDefinitions os = Each (λ o. is_definition o ≡ false) os
 
 abbrev with_target : Option ℕ → List Operand → List Operand
 with_target None uses = uses
@@ -48,6 +59,7 @@ record Parts (operands : List Operand) : Type 0 where
   uses : List Operand
   parts : operands ≡ with_target target uses
   none : NoDefinitions uses
+  kind : OneKind operands
 
 implicit_none : (o : Operand) → is_implicit o ≡ true → is_definition o ≡ false
 implicit_none (Def r) e = absurd cc
@@ -68,23 +80,113 @@ all_none p each (o ∷ os) all = let both = and_parts (p o) (list_all p os) all 
 implicits : (os : List Operand) → list_all is_implicit os ≡ true → NoDefinitions os
 implicits os all = all_none is_implicit implicit_none os all
 
+plain : (os : List Operand) → list_all is_implicit os ≡ true → Each IsNoSlot os
+plain os all = no_slots_of is_implicit implicit_plain os all
+
 behind : (a b : Bool) → (a && b) ≡ true → b ≡ true
 behind a b e = (and_parts a b e).1
 
-parts_of : (f : Form) (os : List Operand) → fits f os ≡ true → Parts os
-parts_of Registers (Def rd ∷ Use a ∷ Use b ∷ rest) e = record { target = Some rd; uses = Use a ∷ Use b ∷ rest; parts = refl; none = (refl, (refl, implicits rest e)) }
-parts_of (Immediate low high) (Def rd ∷ Use a ∷ Imm i ∷ rest) e = record { target = Some rd; uses = Use a ∷ Imm i ∷ rest; parts = refl; none = (refl, (refl, implicits rest (behind (is_within low high i) (list_all is_implicit rest) e))) }
-parts_of Upper (Def rd ∷ Imm i ∷ rest) e = record { target = Some rd; uses = Imm i ∷ rest; parts = refl; none = (refl, implicits rest (behind _ (list_all is_implicit rest) e)) }
-parts_of (Load w) (Def rd ∷ Use a ∷ Imm i ∷ rest) e = record { target = Some rd; uses = Use a ∷ Imm i ∷ rest; parts = refl; none = (refl, (refl, implicits rest (behind _ (list_all is_implicit rest) e))) }
-parts_of (Load w) (Def rd ∷ Slot n ∷ Imm i ∷ rest) e = record { target = Some rd; uses = Slot n ∷ Imm i ∷ rest; parts = refl; none = (refl, (refl, implicits rest (behind _ (list_all is_implicit rest) e))) }
-parts_of (Store w) (Use a ∷ Use b ∷ Imm i ∷ rest) e = record { target = None; uses = Use a ∷ Use b ∷ Imm i ∷ rest; parts = refl; none = (refl, (refl, (refl, implicits rest (behind _ (list_all is_implicit rest) e)))) }
-parts_of (Store w) (Use a ∷ Slot n ∷ Imm i ∷ rest) e = record { target = None; uses = Use a ∷ Slot n ∷ Imm i ∷ rest; parts = refl; none = (refl, (refl, (refl, implicits rest (behind _ (list_all is_implicit rest) e)))) }
-parts_of Branch (Use a ∷ Use b ∷ Block n ∷ rest) e = record { target = None; uses = Use a ∷ Use b ∷ Block n ∷ rest; parts = refl; none = (refl, (refl, (refl, implicits rest e))) }
-parts_of Move (Def rd ∷ Use a ∷ rest) e = record { target = Some rd; uses = Use a ∷ rest; parts = refl; none = (refl, implicits rest e) }
-parts_of Jump (Block n ∷ rest) e = record { target = None; uses = Block n ∷ rest; parts = refl; none = (refl, implicits rest e) }
-parts_of Call (Symbol name ∷ Mask ∷ rest) e = record { target = None; uses = Symbol name ∷ Mask ∷ rest; parts = refl; none = (refl, (refl, all_none is_argument argument_none rest e)) }
-parts_of Return rest e = record { target = None; uses = rest; parts = refl; none = all_none is_result result_none rest e }
-parts_of f os e = absurd cc
+-- `rd = OP` and two operands that are no slots
+sets : (rd : ℕ) (a b : Operand) (rest : List Operand) → is_definition a ≡ false → is_definition b ≡ false → IsNoSlot a → IsNoSlot b → list_all is_implicit rest ≡ true → Parts (Def rd ∷ a ∷ b ∷ rest)
+sets rd a b rest x y u v all = record {
+  target = Some rd;
+  uses = a ∷ b ∷ rest;
+  parts = refl;
+  none = (x, (y, implicits rest all));
+  kind = no_slots (refl, (u, (v, plain rest all)));
+}
+
+-- `OP` and three such operands
+takes : (a b c : Operand) (rest : List Operand) → is_definition a ≡ false → is_definition b ≡ false → is_definition c ≡ false → IsNoSlot a → IsNoSlot b → IsNoSlot c → list_all is_implicit rest ≡ true → Parts (a ∷ b ∷ c ∷ rest)
+takes a b c rest x y z u v w all = record {
+  target = None;
+  uses = a ∷ b ∷ c ∷ rest;
+  parts = refl;
+  none = (x, (y, (z, implicits rest all)));
+  kind = no_slots (u, (v, (w, plain rest all)));
+}
+
+loads_slot : (rd n : ℕ) (i : ℤ) (rest : List Operand) → list_all is_implicit rest ≡ true → Parts (Def rd ∷ Slot n ∷ Imm i ∷ rest)
+loads_slot rd n i rest all = record {
+  target = Some rd;
+  uses = Slot n ∷ Imm i ∷ rest;
+  parts = refl;
+  none = (refl, (refl, implicits rest all));
+  kind = no_objects (ap (λ (os : List Operand). Def rd ∷ Slot n ∷ Imm i ∷ os) (no_objects_of rest all));
+}
+
+stores_slot : (rs n : ℕ) (i : ℤ) (rest : List Operand) → list_all is_implicit rest ≡ true → Parts (Use rs ∷ Slot n ∷ Imm i ∷ rest)
+stores_slot rs n i rest all = record {
+  target = None;
+  uses = Use rs ∷ Slot n ∷ Imm i ∷ rest;
+  parts = refl;
+  none = (refl, (refl, (refl, implicits rest all)));
+  kind = no_objects (ap (λ (os : List Operand). Use rs ∷ Slot n ∷ Imm i ∷ os) (no_objects_of rest all));
+}
+
+registers_parts : (os : List Operand) → fits_registers os ≡ true → Parts os
+registers_parts (Def rd ∷ Use a ∷ Use b ∷ rest) e = sets rd (Use a) (Use b) rest refl refl refl refl e
+registers_parts os e = absurd cc
+
+immediate_parts : (op : ImmediateOp) (os : List Operand) → fits_immediate op os ≡ true → Parts os
+immediate_parts op (Def rd ∷ Use a ∷ Imm i ∷ rest) e = sets rd (Use a) (Imm i) rest refl refl refl refl (behind (is_immediate op i) (list_all is_implicit rest) e)
+immediate_parts op (Def rd ∷ Object n ∷ Imm i ∷ rest) e =
+    sets rd (Object n) (Imm i) rest refl refl refl refl (behind (is_addi op && is_immediate op i) (list_all is_implicit rest) e)
+immediate_parts op os e = absurd cc
+
+upper_parts : (os : List Operand) → fits_upper os ≡ true → Parts os
+upper_parts (Def rd ∷ Imm i ∷ rest) e =
+    let all = behind (is_within (pos 0) (pos 1048575) i) (list_all is_implicit rest) e in
+    record { target = Some rd; uses = Imm i ∷ rest; parts = refl; none = (refl, implicits rest all); kind = no_slots (refl, (refl, plain rest all)) }
+upper_parts os e = absurd cc
+
+branch_parts : (os : List Operand) → fits_branch os ≡ true → Parts os
+branch_parts (Use a ∷ Use b ∷ Block n ∷ rest) e = takes (Use a) (Use b) (Block n) rest refl refl refl refl refl refl e
+branch_parts os e = absurd cc
+
+load_parts : (op : LoadOp) (os : List Operand) → fits_load op os ≡ true → Parts os
+load_parts op (Def rd ∷ Use a ∷ Imm i ∷ rest) e = sets rd (Use a) (Imm i) rest refl refl refl refl (behind (has_12_bits i) (list_all is_implicit rest) e)
+load_parts op (Def rd ∷ Slot n ∷ Imm i ∷ rest) e = loads_slot rd n i rest (behind (moves_slot (load_width op) i) (list_all is_implicit rest) e)
+load_parts op (Def rd ∷ Object n ∷ Imm i ∷ rest) e = sets rd (Object n) (Imm i) rest refl refl refl refl (behind (has_12_bits i) (list_all is_implicit rest) e)
+load_parts op os e = absurd cc
+
+store_parts : (op : StoreOp) (os : List Operand) → fits_store op os ≡ true → Parts os
+store_parts op (Use a ∷ Use b ∷ Imm i ∷ rest) e = takes (Use a) (Use b) (Imm i) rest refl refl refl refl refl refl (behind (has_12_bits i) (list_all is_implicit rest) e)
+store_parts op (Use a ∷ Slot n ∷ Imm i ∷ rest) e = stores_slot a n i rest (behind (moves_slot (store_width op) i) (list_all is_implicit rest) e)
+store_parts op (Use a ∷ Object n ∷ Imm i ∷ rest) e = takes (Use a) (Object n) (Imm i) rest refl refl refl refl refl refl (behind (has_12_bits i) (list_all is_implicit rest) e)
+store_parts op os e = absurd cc
+
+copy_parts : (os : List Operand) → fits_copy os ≡ true → Parts os
+copy_parts (Def rd ∷ Use a ∷ rest) e =
+    record { target = Some rd; uses = Use a ∷ rest; parts = refl; none = (refl, implicits rest e); kind = no_slots (refl, (refl, plain rest e)) }
+copy_parts os e = absurd cc
+
+jump_parts : (os : List Operand) → fits_jump os ≡ true → Parts os
+jump_parts (Block n ∷ rest) e = record { target = None; uses = Block n ∷ rest; parts = refl; none = (refl, implicits rest e); kind = no_slots (refl, plain rest e) }
+jump_parts os e = absurd cc
+
+call_parts : (os : List Operand) → fits_call os ≡ true → Parts os
+call_parts (Symbol name ∷ Mask ∷ rest) e = record {
+  target = None;
+  uses = Symbol name ∷ Mask ∷ rest;
+  parts = refl;
+  none = (refl, (refl, all_none is_argument argument_none rest e));
+  kind = no_slots (refl, (refl, no_slots_of is_argument argument_plain rest e));
+}
+call_parts os e = absurd cc
+
+parts_of : (op : Op) (os : List Operand) → has_form op os ≡ true → Parts os
+parts_of (Registers op) os e = registers_parts os e
+parts_of (Immediate op) os e = immediate_parts op os e
+parts_of Lui os e = upper_parts os e
+parts_of (Branch op) os e = branch_parts os e
+parts_of (Load op) os e = load_parts op os e
+parts_of (Store op) os e = store_parts op os e
+parts_of Copy os e = copy_parts os e
+parts_of PseudoBr os e = jump_parts os e
+parts_of PseudoCall os e = call_parts os e
+parts_of PseudoRet os e =
+    record { target = None; uses = os; parts = refl; none = all_none is_result result_none os e; kind = no_slots (no_slots_of is_result result_plain os e) }
 
 -- ---- the text of an instruction before what follows it
 
@@ -130,7 +232,7 @@ stops_uses [] tail stop = stop
 stops_uses (o ∷ os) tail stop = refl
 
 after_one : (a b : Op) (us vs : List Operand) (r s : List ℕ) → AllUses us → AllUses vs → IsTail r → IsTail s → Stops is_letter r → Stops is_letter s →
-    after_target a us r ≡ after_target b vs s → (a ≡ b) × (us ≡ vs) × (r ≡ s)
+    after_target a us r ≡ after_target b vs s → (a ≡ b) × (map as_slot us ≡ map as_slot vs) × (r ≡ s)
 after_one a b us vs r s all others tail tails stop stops e =
     let op = opcode_one a b (uses_text us ++ r) (uses_text vs ++ s) (stops_uses us r stop) (stops_uses vs s stops) e in
     let rest = uses_one us vs r s all others tail tails op.1 in
@@ -142,7 +244,11 @@ head_is_letter [] = false
 head_is_letter (b ∷ bs) = is_letter b
 
 opcode_head : (op : Op) (r : List ℕ) → head_is_letter (mnemonic_of op ++ r) ≡ true
-opcode_head Lui r = refl
+opcode_head (Registers Add) r = refl
+opcode_head (Immediate Addi) r = refl
+opcode_head (Branch Beq) r = refl
+opcode_head (Load Lb) r = refl
+opcode_head (Store Sb) r = refl
 opcode_head op r = refl
 
 register_head : (p : Bool) (n : ℕ) (r : List ℕ) → nat_lt n 32 ≡ p → head_is_letter (register_text n ++ r) ≡ false
@@ -155,7 +261,7 @@ head_apart op r n s e =
     cc
 
 before_one : (x y : Option ℕ) (a b : Op) (us vs : List Operand) (r s : List ℕ) → HasTarget x → HasTarget y → AllUses us → AllUses vs → IsTail r → IsTail s → Stops is_letter r → Stops is_letter s →
-    before x a us r ≡ before y b vs s → (x ≡ y) × (a ≡ b) × (us ≡ vs) × (r ≡ s)
+    before x a us r ≡ before y b vs s → (x ≡ y) × (a ≡ b) × (map as_slot us ≡ map as_slot vs) × (r ≡ s)
 before_one None None a b us vs r s small other all others tail tails stop stops e = let found = after_one a b us vs r s all others tail tails stop stops e in (refl, found.0, found.1, found.2)
 before_one None (Some n) a b us vs r s small other all others tail tails stop stops e = absurd (head_apart a (uses_text us ++ r) n (codes " = " ++ after_target b vs s) e)
 before_one (Some m) None a b us vs r s small other all others tail tails stop stops e = absurd (head_apart b (uses_text vs ++ s) m (codes " = " ++ after_target a us r) (sym e))
@@ -169,11 +275,24 @@ pub record EndsInstruction (text : List ℕ) : Type 0 where
   pub tail : IsTail text
   pub letter : Stops is_letter text
 
-pub instruction_one : (i j : Instruction) (r s : List ℕ) → IsPrintableInstruction i → IsPrintableInstruction j → EndsInstruction r → EndsInstruction s →
+-- two instructions of one opcode that are one with slots for objects
+same_instruction : (objects : ℕ → Bool) (i j : Instruction) → IsPrintableInstruction objects i → IsPrintableInstruction objects j → OneKind i.operands → OneKind j.operands →
+    i.op ≡ j.op → map as_slot i.operands ≡ map as_slot j.operands → i ≡ j
+same_instruction objects i j is others kind kinds op e =
+    let form : has_form i.op j.operands ≡ true = ap (λ (o : Op). has_form o j.operands) op ∙ others.form in
+    let told : IsTold objects i.op j.operands = λ h. others.stack (ap (λ (o : Op). has_form o (map as_slot j.operands)) (sym op) ∙ h) in
+    let operands : i.operands ≡ j.operands = operands_one objects i.op i.operands j.operands kind kinds is.form form is.stack told e in
+    λ k. record { op = op k; operands = operands k }
+
+slots_of : (target : Option ℕ) (uses : List Operand) → map as_slot (with_target target uses) ≡ with_target target (map as_slot uses)
+slots_of None uses = refl
+slots_of (Some rd) uses = refl
+
+pub instruction_one : (objects : ℕ → Bool) (i j : Instruction) (r s : List ℕ) → IsPrintableInstruction objects i → IsPrintableInstruction objects j → EndsInstruction r → EndsInstruction s →
     instruction_text i ++ r ≡ instruction_text j ++ s → (i ≡ j) × (r ≡ s)
-instruction_one i j r s is others end ends e =
-    let p = parts_of (form_of i.op) i.operands is.form in
-    let q = parts_of (form_of j.op) j.operands others.form in
+instruction_one objects i j r s is others end ends e =
+    let p = parts_of i.op i.operands is.form in
+    let q = parts_of j.op j.operands others.form in
     let all : All HasNumbers (with_target p.target p.uses) = subst (All HasNumbers) p.parts is.numbers in
     let more : All HasNumbers (with_target q.target q.uses) = subst (All HasNumbers) q.parts others.numbers in
     let left : instruction_text i ++ r ≡ before p.target i.op p.uses r =
@@ -182,9 +301,10 @@ instruction_one i j r s is others end ends e =
     ap (λ (os : List Operand). instruction_text (record { op = j.op; operands = os }) ++ s) q.parts ∙ text_before q.target j.op q.uses s q.none in
     let found = before_one p.target q.target i.op j.op p.uses q.uses r s (target_of p.target p.uses all) (target_of q.target q.uses more) (uses_of p.uses p.none (numbers_of p.target p.uses all))
     (uses_of q.uses q.none (numbers_of q.target q.uses more)) end.tail ends.tail end.letter ends.letter (sym left ∙ (e ∙ right)) in
-    let op : i.op ≡ j.op = found.1 in
-    let operands : i.operands ≡ j.operands = p.parts ∙ (ap (λ (t : Option ℕ). with_target t p.uses) found.0 ∙ (ap (λ (us : List Operand). with_target q.target us) found.2 ∙ sym q.parts)) in
-    (λ k. record { op = op k; operands = operands k }, found.3)
+    let slots : map as_slot i.operands ≡ map as_slot j.operands =
+    ap (map as_slot) p.parts ∙ (slots_of p.target p.uses ∙ (ap (λ (t : Option ℕ). with_target t (map as_slot p.uses)) found.0 ∙
+    (ap (λ (us : List Operand). with_target q.target us) found.2 ∙ (sym (slots_of q.target q.uses) ∙ sym (ap (map as_slot) q.parts))))) in
+    (same_instruction objects i j is others p.kind q.kind found.1 slots, found.3)
 
 -- an instruction doesn't begin with a `D`
 abbrev begins_with_d : List ℕ → Bool
@@ -192,7 +312,11 @@ begins_with_d [] = false
 begins_with_d (b ∷ bs) = nat_eq b 68
 
 opcode_begins : (op : Op) (r : List ℕ) → begins_with_d (mnemonic_of op ++ r) ≡ false
-opcode_begins Lui r = refl
+opcode_begins (Registers Add) r = refl
+opcode_begins (Immediate Addi) r = refl
+opcode_begins (Branch Beq) r = refl
+opcode_begins (Load Lb) r = refl
+opcode_begins (Store Sb) r = refl
 opcode_begins op r = refl
 
 register_begins : (p : Bool) (n : ℕ) (r : List ℕ) → nat_lt n 32 ≡ p → begins_with_d (register_text n ++ r) ≡ false
@@ -203,9 +327,9 @@ before_begins : (target : Option ℕ) (op : Op) (uses : List Operand) (tail : Li
 before_begins None op uses tail = opcode_begins op (uses_text uses ++ tail)
 before_begins (Some rd) op uses tail = register_begins (nat_lt rd 32) rd (codes " = " ++ after_target op uses tail) refl
 
-pub instruction_begins : (i : Instruction) (r s : List ℕ) → IsPrintableInstruction i → instruction_text i ++ r ≡ 68 ∷ s → ⊥
-instruction_begins i r s is e =
-    let p = parts_of (form_of i.op) i.operands is.form in
+pub instruction_begins : (objects : ℕ → Bool) (i : Instruction) (r s : List ℕ) → IsPrintableInstruction objects i → instruction_text i ++ r ≡ 68 ∷ s → ⊥
+instruction_begins objects i r s is e =
+    let p = parts_of i.op i.operands is.form in
     let text : instruction_text i ++ r ≡ before p.target i.op p.uses r =
     ap (λ (os : List Operand). instruction_text (record { op = i.op; operands = os }) ++ r) p.parts ∙ text_before p.target i.op p.uses r p.none in
     let both : false ≡ true = sym (before_begins p.target i.op p.uses r) ∙ (ap begins_with_d (sym text) ∙ ap begins_with_d e) in

@@ -1,5 +1,5 @@
 -- The item that a text stands for.
-use Rattle.std.proofs.Common.{◌≡◌, ℕ, ℤ, pos, ◌-◌, ◌<◌, ◌≤◌, Bool, true, false, nat_lt, List, [], ◌∷◌, ◌++◌, Option, Some, None, refl, sym, ap, ◌∙◌, append_assoc, arith}
+use Rattle.std.proofs.Common.{◌≡◌, ℕ, ℤ, pos, ◌-◌, ◌*◌, ◌<◌, ◌≤◌, Bool, true, false, nat_lt, List, [], ◌∷◌, ◌++◌, Option, Some, None, refl, sym, ap, ◌∙◌, append_assoc, arith}
 use Rattle.std.specs.Prelude.{codes, IfSome}
 use Rattle.std.specs.Fmt.{decimal, signed_decimal}
 use Rattle.std.proofs.lemmas.Fmt.{decimal_digit}
@@ -9,14 +9,16 @@ use Rattle.rv64_instr.specs.declared.place.Place.TheVariants.{Register, Slot, Co
 use Rattle.mir_func.specs.declared.location.Loc.{Loc}
 use Rattle.mir_func.specs.declared.location.Loc.TheVariants.{Absent, Node, Inline}
 use Rattle.mir_func.specs.declared.location.InlineLoc.{InlineLoc}
+use Rattle.mir_func.specs.Parts.{Bytes, IsPart}
+use Rattle.mir_func.specs.declared.entry.OperandPair.{OperandPair}
 use Rattle.mir_func.specs.declared.variable.VarId.{VarId}
 use Rattle.mir_func.specs.declared.variable.MarkValue.{MarkValue}
 use Rattle.mir_func.specs.declared.variable.MarkValue.TheVariants.{Nothing, Constant, At, Pair}
 use Rattle.mir_func.specs.declared.item.Item.{Item}
 use Rattle.mir_func.specs.declared.item.ItemKind.{ItemKind}
 use Rattle.mir_func.specs.declared.item.ItemKind.TheVariants.{Code, Mark, Phi}
-use Rattle.mir_printer.specs.Spelling.{register_text, instruction_text, number_text, phi_place_text, mark_text, kind_text, inlined_at_text, location_text, item_text}
-use Rattle.mir_printer.specs.Printable.{IsNumber, IsSigned, IsPrintableInstruction, IsPrintablePlace, IsPrintableValue, IsPrintableLoc, IsPrintableKind, IsPrintable, inlined_at}
+use Rattle.mir_printer.specs.Spelling.{register_text, instruction_text, number_text, phi_place_text, expression_text, pair_expression_text, value_mark_text, mark_text, kind_text, inlined_at_text, location_text, item_text}
+use Rattle.mir_printer.specs.Printable.{IsNumber, IsSigned, IsPrintableInstruction, IsPrintablePlace, IsPrintableValue, IsPrintableLoc, IsPrintableVariable, IsPrintableKind, IsPrintable, Declared, inlined_at}
 use Rattle.mir_printer.proofs.Cuts.{front_one, apart, Stops, is_digit, decimal_head, signed_one, signed_head}
 use Rattle.mir_printer.proofs.Operands.{goes_on, wide, number_one, register_one}
 use Rattle.mir_printer.proofs.Instructions.{EndsInstruction, instruction_one, instruction_begins}
@@ -162,7 +164,7 @@ abbrev value_text : MarkValue → List ℕ
 value_text Nothing = codes "$noreg"
 value_text (Constant c) = signed_decimal c
 value_text (At r) = register_text r
-value_text (Pair k o) = []
+value_text (Pair q) = []
 
 -- a register begins with `$x` or `%`
 not_noreg : (p : Bool) (n : ℕ) (r s : List ℕ) → nat_lt n 32 ≡ p → register_text n ++ r ≡ codes "$noreg" ++ s → ⊥
@@ -183,7 +185,7 @@ not_signed false n i r s is small e =
 
 -- a value that isn't a pair
 abbrev is_value : MarkValue → Bool
-is_value (Pair k o) = false
+is_value (Pair q) = false
 is_value m = true
 
 value_one : (m n : MarkValue) (r s : List ℕ) → is_value m ≡ true → is_value n ≡ true → IsPrintableValue m → IsPrintableValue n → Stops is_digit r → Stops is_digit s →
@@ -244,67 +246,165 @@ place_one (Some (Const c)) (Some (Slot n)) r s is others stop stops e = absurd (
 
 -- ---- marks
 
-abbrev variable_before : ℕ → List ℕ → List ℕ
-variable_before node rest = codes ", $noreg, !" ++ (decimal node ++ (codes ", !DIExpression()" ++ rest))
+-- the offset and the length of a fragment, and the bracket behind them
+abbrev fragment_before : Bytes → List ℕ → List ℕ
+fragment_before b rest = codes "DW_OP_LLVM_fragment, " ++ (decimal (8 * b.offset) ++ (codes ", " ++ (decimal (8 * b.length) ++ (codes ")" ++ rest))))
 
-abbrev pair_before : ℕ → ℕ → ℕ → List ℕ → List ℕ
-pair_before node k o rest = decimal node ++ (codes ", !DIExpression(DW_OP_LLVM_arg, 0), dbg-instr-ref(" ++ (decimal k ++ (codes ", " ++ (decimal o ++ (codes ")" ++ rest)))))
+abbrev expression_before : Option Bytes → List ℕ → List ℕ
+expression_before None rest = codes "!DIExpression()" ++ rest
+expression_before (Some b) rest = codes "!DIExpression(" ++ fragment_before b rest
 
-abbrev mark_before : ℕ → MarkValue → List ℕ → List ℕ
-mark_before node (Pair k o) rest = codes "DBG_INSTR_REF !" ++ pair_before node k o rest
-mark_before node m rest = codes "DBG_VALUE " ++ (value_text m ++ variable_before node rest)
+abbrev pair_expression_before : Option Bytes → List ℕ → List ℕ
+pair_expression_before None rest = codes "!DIExpression(DW_OP_LLVM_arg, 0)" ++ rest
+pair_expression_before (Some b) rest = codes "!DIExpression(DW_OP_LLVM_arg, 0, " ++ fragment_before b rest
 
-value_parts : (a b c d e rest : List ℕ) → (a ++ b ++ c ++ d ++ e) ++ rest ≡ a ++ (b ++ (c ++ (d ++ (e ++ rest))))
-value_parts a b c d e rest = simp append_assoc
+abbrev variable_before : VarId → List ℕ → List ℕ
+variable_before v rest = codes ", $noreg, !" ++ (decimal v.node ++ (codes ", " ++ expression_before v.fragment rest))
 
-pair_parts : (a b c d e f g rest : List ℕ) → (a ++ b ++ c ++ d ++ e ++ f ++ g) ++ rest ≡ a ++ (b ++ (c ++ (d ++ (e ++ (f ++ (g ++ rest))))))
-pair_parts a b c d e f g rest = simp append_assoc
+-- behind the expression of a pair
+abbrev operands_before : OperandPair → List ℕ → List ℕ
+operands_before q rest = codes ", dbg-instr-ref(" ++ (decimal q.number ++ (codes ", " ++ (decimal q.operand ++ (codes ")" ++ rest))))
 
-mark_is : (v : VarId) (m : MarkValue) (rest : List ℕ) → mark_text v m ++ rest ≡ mark_before v.node m rest
-mark_is v Nothing rest = value_parts (codes "DBG_VALUE ") (codes "$noreg") (codes ", $noreg, !") (decimal v.node) (codes ", !DIExpression()") rest
-mark_is v (Constant c) rest = value_parts (codes "DBG_VALUE ") (signed_decimal c) (codes ", $noreg, !") (decimal v.node) (codes ", !DIExpression()") rest
-mark_is v (At n) rest = value_parts (codes "DBG_VALUE ") (register_text n) (codes ", $noreg, !") (decimal v.node) (codes ", !DIExpression()") rest
-mark_is v (Pair k o) rest = pair_parts (codes "DBG_INSTR_REF !") (decimal v.node) (codes ", !DIExpression(DW_OP_LLVM_arg, 0), dbg-instr-ref(") (decimal k) (codes ", ") (decimal o) (codes ")") rest
+abbrev pair_before : VarId → OperandPair → List ℕ → List ℕ
+pair_before v q rest = decimal v.node ++ (codes ", " ++ pair_expression_before v.fragment (operands_before q rest))
 
-pair_one : (u v j k o q : ℕ) (r s : List ℕ) → IsNumber u → IsNumber v → IsNumber j × IsNumber o → IsNumber k × IsNumber q → pair_before u j o r ≡ pair_before v k q s → (u ≡ v) × (Pair j o ≡ Pair k q) × (r ≡ s)
-pair_one u v j k o q r s small other is others e =
-    let node = number_one u v _ _ small other refl refl e in
-    let number = number_one j k _ _ is.0 others.0 refl refl (front_one (codes ", !DIExpression(DW_OP_LLVM_arg, 0), dbg-instr-ref(") _ _ node.1) in
-    let operand = number_one o q (codes ")" ++ r) (codes ")" ++ s) is.1 others.1 refl refl (front_one (codes ", ") _ _ number.1) in
-    (node.0, (let first : j ≡ k = number.0 in let second : o ≡ q = operand.0 in cc), front_one (codes ")") r s operand.1)
+abbrev mark_before : VarId → MarkValue → List ℕ → List ℕ
+mark_before v (Pair q) rest = codes "DBG_INSTR_REF !" ++ pair_before v q rest
+mark_before v m rest = codes "DBG_VALUE " ++ (value_text m ++ variable_before v rest)
 
-variable_one : (u v : ℕ) (r s : List ℕ) → IsNumber u → IsNumber v → variable_before u r ≡ variable_before v s → (u ≡ v) × (r ≡ s)
-variable_one u v r s small other e =
-    let node = number_one u v (codes ", !DIExpression()" ++ r) (codes ", !DIExpression()" ++ s) small other refl refl (front_one (codes ", $noreg, !") _ _ e) in
-    (node.0, front_one (codes ", !DIExpression()") r s node.1)
+closed_parts : (a b c d e f rest : List ℕ) → (a ++ (b ++ c ++ d ++ e) ++ f) ++ rest ≡ a ++ (b ++ (c ++ (d ++ (e ++ (f ++ rest)))))
+closed_parts a b c d e f rest = simp append_assoc
 
-plain_one : (u v : ℕ) (m n : MarkValue) (r s : List ℕ) → is_value m ≡ true → is_value n ≡ true → IsNumber u → IsNumber v → IsPrintableValue m → IsPrintableValue n →
-    codes "DBG_VALUE " ++ (value_text m ++ variable_before u r) ≡ codes "DBG_VALUE " ++ (value_text n ++ variable_before v s) → (u ≡ v) × (m ≡ n) × (r ≡ s)
-plain_one u v m n r s a b small other is others e =
-    let value = value_one m n (variable_before u r) (variable_before v s) a b is others refl refl (front_one (codes "DBG_VALUE ") _ _ e) in
-    let node = variable_one u v r s small other value.1 in
+expression_is : (o : Option Bytes) (rest : List ℕ) → expression_text o ++ rest ≡ expression_before o rest
+expression_is None rest = refl
+expression_is (Some b) rest =
+    closed_parts (codes "!DIExpression(") (codes "DW_OP_LLVM_fragment, ") (decimal (8 * b.offset)) (codes ", ") (decimal (8 * b.length)) (codes ")") rest
+
+pair_expression_is : (o : Option Bytes) (rest : List ℕ) → pair_expression_text o ++ rest ≡ pair_expression_before o rest
+pair_expression_is None rest = refl
+pair_expression_is (Some b) rest =
+    closed_parts (codes "!DIExpression(DW_OP_LLVM_arg, 0, ") (codes "DW_OP_LLVM_fragment, ") (decimal (8 * b.offset)) (codes ", ") (decimal (8 * b.length)) (codes ")") rest
+
+value_parts : (a b c d e f rest : List ℕ) → (a ++ b ++ (c ++ d ++ e ++ f)) ++ rest ≡ a ++ (b ++ (c ++ (d ++ (e ++ (f ++ rest)))))
+value_parts a b c d e f rest = simp append_assoc
+
+pair_parts : (a b c d e f g h i rest : List ℕ) → (a ++ b ++ c ++ d ++ e ++ f ++ g ++ h ++ i) ++ rest ≡ a ++ (b ++ (c ++ (d ++ (e ++ (f ++ (g ++ (h ++ (i ++ rest))))))))
+pair_parts a b c d e f g h i rest = simp append_assoc
+
+value_mark_is : (value : List ℕ) (v : VarId) (rest : List ℕ) → value_mark_text value v ++ rest ≡ codes "DBG_VALUE " ++ (value ++ variable_before v rest)
+value_mark_is value v rest =
+    value_parts (codes "DBG_VALUE ") value (codes ", $noreg, !") (decimal v.node) (codes ", ") (expression_text v.fragment) rest
+    ∙ ap (λ (t : List ℕ). codes "DBG_VALUE " ++ (value ++ (codes ", $noreg, !" ++ (decimal v.node ++ (codes ", " ++ t))))) (expression_is v.fragment rest)
+
+mark_is : (v : VarId) (m : MarkValue) (rest : List ℕ) → mark_text v m ++ rest ≡ mark_before v m rest
+mark_is v Nothing rest = value_mark_is (codes "$noreg") v rest
+mark_is v (Constant c) rest = value_mark_is (signed_decimal c) v rest
+mark_is v (At n) rest = value_mark_is (register_text n) v rest
+mark_is v (Pair q) rest =
+    pair_parts (codes "DBG_INSTR_REF !") (decimal v.node) (codes ", ") (pair_expression_text v.fragment) (codes ", dbg-instr-ref(") (decimal q.number) (codes ", ") (decimal q.operand) (codes ")") rest
+    ∙ ap (λ (t : List ℕ). codes "DBG_INSTR_REF !" ++ (decimal v.node ++ (codes ", " ++ t))) (pair_expression_is v.fragment (operands_before q rest))
+
+-- the bits of so many bytes
+bits_one : (m n : ℕ) (r s : List ℕ) → m ≤ 8192 → n ≤ 8192 → Stops is_digit r → Stops is_digit s → decimal (8 * m) ++ r ≡ decimal (8 * n) ++ s → (m ≡ n) × (r ≡ s)
+bits_one m n r s small other stop stops e =
+    let found = number_one (8 * m) (8 * n) r s (few m small) (few n other) stop stops e in
+    (eighth m n found.0, found.1)
+  where
+    few : (n : ℕ) → n ≤ 8192 → IsNumber (8 * n)
+    few n small = omega arith
+
+    eighth : (m n : ℕ) → 8 * m ≡ 8 * n → m ≡ n
+    eighth m n e = omega arith
+
+ends_within : (b : Bytes) → IsPart b → (b.offset ≤ 8192) × (b.length ≤ 8192)
+ends_within b is = (omega (arith, is.2), omega (arith, is.2))
+
+fragment_one : (a b : Bytes) (r s : List ℕ) → IsPart a → IsPart b → fragment_before a r ≡ fragment_before b s → (a ≡ b) × (r ≡ s)
+fragment_one a b r s is others e =
+    let left = ends_within a is in
+    let right = ends_within b others in
+    let offset = bits_one a.offset b.offset _ _ left.0 right.0 refl refl (front_one (codes "DW_OP_LLVM_fragment, ") _ _ e) in
+    let length = bits_one a.length b.length _ _ left.1 right.1 refl refl (front_one (codes ", ") _ _ offset.1) in
+    (λ k. record { offset = offset.0 k; length = length.0 k }, front_one (codes ")") r s length.1)
+
+some_part : (a b : Bytes) → a ≡ b → Some a ≡ Some b
+some_part a b e = ap (λ (p : Bytes). Some p) e
+
+expression_one : (o p : Option Bytes) (r s : List ℕ) → IfSome o IsPart → IfSome p IsPart → expression_before o r ≡ expression_before p s → (o ≡ p) × (r ≡ s)
+expression_one None None r s is others e = (refl, front_one (codes "!DIExpression()") r s e)
+expression_one None (Some b) r s is others e = absurd (apart 41 68 _ _ refl (front_one (codes "!DIExpression(") _ _ e))
+expression_one (Some a) None r s is others e = absurd (apart 68 41 _ _ refl (front_one (codes "!DIExpression(") _ _ e))
+expression_one (Some a) (Some b) r s is others e =
+    let found = fragment_one a b r s is others (front_one (codes "!DIExpression(") _ _ e) in
+    (some_part a b found.0, found.1)
+
+pair_expression_one : (o p : Option Bytes) (r s : List ℕ) → IfSome o IsPart → IfSome p IsPart → pair_expression_before o r ≡ pair_expression_before p s → (o ≡ p) × (r ≡ s)
+pair_expression_one None None r s is others e = (refl, front_one (codes "!DIExpression(DW_OP_LLVM_arg, 0)") r s e)
+pair_expression_one None (Some b) r s is others e = absurd (apart 41 44 _ _ refl (front_one (codes "!DIExpression(DW_OP_LLVM_arg, 0") _ _ e))
+pair_expression_one (Some a) None r s is others e = absurd (apart 44 41 _ _ refl (front_one (codes "!DIExpression(DW_OP_LLVM_arg, 0") _ _ e))
+pair_expression_one (Some a) (Some b) r s is others e =
+    let found = fragment_one a b r s is others (front_one (codes "!DIExpression(DW_OP_LLVM_arg, 0, ") _ _ e) in
+    (some_part a b found.0, found.1)
+
+-- what the text of a mark says of its variable
+record IsNamed (v w : VarId) : Type 0 where
+  node : v.node ≡ w.node
+  fragment : v.fragment ≡ w.fragment
+
+-- the sizes of what it says
+record HasSizes (v : VarId) : Type 0 where
+  node : IsNumber v.node
+  part : IfSome v.fragment IsPart
+
+operands_one : (p q : OperandPair) (r s : List ℕ) → IsPrintableValue (Pair p) → IsPrintableValue (Pair q) → operands_before p r ≡ operands_before q s → (p ≡ q) × (r ≡ s)
+operands_one p q r s is others e =
+    let number = number_one p.number q.number _ _ is.0 others.0 refl refl (front_one (codes ", dbg-instr-ref(") _ _ e) in
+    let operand = number_one p.operand q.operand (codes ")" ++ r) (codes ")" ++ s) is.1 others.1 refl refl (front_one (codes ", ") _ _ number.1) in
+    (λ k. record { number = number.0 k; operand = operand.0 k }, front_one (codes ")") r s operand.1)
+
+pair_one : (v w : VarId) (p q : OperandPair) (r s : List ℕ) → HasSizes v → HasSizes w → IsPrintableValue (Pair p) → IsPrintableValue (Pair q) → pair_before v p r ≡ pair_before w q s →
+    IsNamed v w × (Pair p ≡ Pair q) × (r ≡ s)
+pair_one v w p q r s small other is others e =
+    let node = number_one v.node w.node _ _ small.node other.node refl refl e in
+    let part = pair_expression_one v.fragment w.fragment _ _ small.part other.part (front_one (codes ", ") _ _ node.1) in
+    let operands = operands_one p q r s is others part.1 in
+    (record { node = node.0; fragment = part.0 }, ap Pair operands.0, operands.1)
+
+variable_one : (v w : VarId) (r s : List ℕ) → HasSizes v → HasSizes w → variable_before v r ≡ variable_before w s → IsNamed v w × (r ≡ s)
+variable_one v w r s small other e =
+    let node = number_one v.node w.node _ _ small.node other.node refl refl (front_one (codes ", $noreg, !") _ _ e) in
+    let part = expression_one v.fragment w.fragment r s small.part other.part (front_one (codes ", ") _ _ node.1) in
+    (record { node = node.0; fragment = part.0 }, part.1)
+
+plain_one : (v w : VarId) (m n : MarkValue) (r s : List ℕ) → is_value m ≡ true → is_value n ≡ true → HasSizes v → HasSizes w → IsPrintableValue m → IsPrintableValue n →
+    codes "DBG_VALUE " ++ (value_text m ++ variable_before v r) ≡ codes "DBG_VALUE " ++ (value_text n ++ variable_before w s) → IsNamed v w × (m ≡ n) × (r ≡ s)
+plain_one v w m n r s a b small other is others e =
+    let value = value_one m n (variable_before v r) (variable_before w s) a b is others refl refl (front_one (codes "DBG_VALUE ") _ _ e) in
+    let node = variable_one v w r s small other value.1 in
     (node.0, value.0, node.1)
 
-mark_one : (u v : ℕ) (m n : MarkValue) (r s : List ℕ) → IsNumber u → IsNumber v → IsPrintableValue m → IsPrintableValue n → mark_before u m r ≡ mark_before v n s → (u ≡ v) × (m ≡ n) × (r ≡ s)
-mark_one u v (Pair j o) (Pair k q) r s small other is others e = pair_one u v j k o q r s small other is others (front_one (codes "DBG_INSTR_REF !") (pair_before u j o r) (pair_before v k q s) e)
-mark_one u v (Pair j o) Nothing r s small other is others e = absurd (apart 73 86 _ _ refl (front_one (codes "DBG_") _ _ e))
-mark_one u v (Pair j o) (Constant c) r s small other is others e = absurd (apart 73 86 _ _ refl (front_one (codes "DBG_") _ _ e))
-mark_one u v (Pair j o) (At n) r s small other is others e = absurd (apart 73 86 _ _ refl (front_one (codes "DBG_") _ _ e))
-mark_one u v Nothing (Pair k q) r s small other is others e = absurd (apart 86 73 _ _ refl (front_one (codes "DBG_") _ _ e))
-mark_one u v (Constant c) (Pair k q) r s small other is others e = absurd (apart 86 73 _ _ refl (front_one (codes "DBG_") _ _ e))
-mark_one u v (At n) (Pair k q) r s small other is others e = absurd (apart 86 73 _ _ refl (front_one (codes "DBG_") _ _ e))
-mark_one u v m n r s small other is others e = plain_one u v m n r s refl refl small other is others e
+mark_one : (v w : VarId) (m n : MarkValue) (r s : List ℕ) → HasSizes v → HasSizes w → IsPrintableValue m → IsPrintableValue n → mark_before v m r ≡ mark_before w n s →
+    IsNamed v w × (m ≡ n) × (r ≡ s)
+mark_one v w (Pair p) (Pair q) r s small other is others e = pair_one v w p q r s small other is others (front_one (codes "DBG_INSTR_REF !") (pair_before v p r) (pair_before w q s) e)
+mark_one v w (Pair p) Nothing r s small other is others e = absurd (apart 73 86 _ _ refl (front_one (codes "DBG_") _ _ e))
+mark_one v w (Pair p) (Constant c) r s small other is others e = absurd (apart 73 86 _ _ refl (front_one (codes "DBG_") _ _ e))
+mark_one v w (Pair p) (At n) r s small other is others e = absurd (apart 73 86 _ _ refl (front_one (codes "DBG_") _ _ e))
+mark_one v w Nothing (Pair q) r s small other is others e = absurd (apart 86 73 _ _ refl (front_one (codes "DBG_") _ _ e))
+mark_one v w (Constant c) (Pair q) r s small other is others e = absurd (apart 86 73 _ _ refl (front_one (codes "DBG_") _ _ e))
+mark_one v w (At n) (Pair q) r s small other is others e = absurd (apart 86 73 _ _ refl (front_one (codes "DBG_") _ _ e))
+mark_one v w m n r s small other is others e = plain_one v w m n r s refl refl small other is others e
 
 -- ---- items
 
 abbrev kind_before : ItemKind → List ℕ → List ℕ → List ℕ
 kind_before (Code i k) behind numbered = instruction_text i ++ numbered
-kind_before (Mark v m) behind numbered = mark_before v.node m behind
+kind_before (Mark v m) behind numbered = mark_before v m behind
 kind_before (Phi p k) behind numbered = codes "DBG_PHI " ++ (phi_place_text p ++ (codes ", " ++ (decimal k ++ behind)))
 
 abbrev code_number : ItemKind → Option ℕ
 code_number (Code i k) = k
-code_number _ = None
+code_number (Mark v m) = None
+code_number (Phi p k) = None
 
 abbrev line_before : ItemKind → Loc → List ℕ → List ℕ
 line_before kind l rest = kind_before kind (location_before l (10 ∷ rest)) (number_before (code_number kind) (location_before l (10 ∷ rest)))
@@ -321,49 +421,52 @@ line_is : (i : Item) (rest : List ℕ) → item_text i ++ 10 ∷ rest ≡ line_b
 line_is i rest =
     append_assoc (kind_text i.kind) (location_text i.loc) (10 ∷ rest) ∙ (ap (λ (t : List ℕ). kind_text i.kind ++ t) (location_is i.loc (10 ∷ rest)) ∙ kind_is i.kind (location_before i.loc (10 ∷ rest)))
 
-variable_same : (v w : VarId) → v.node ≡ w.node → v.inlined_at ≡ w.inlined_at → v ≡ w
-variable_same v w node inlined = λ k. record { node = node k; inlined_at = inlined k }
+variable_same : (v w : VarId) → IsNamed v w → v.inlined_at ≡ w.inlined_at → v ≡ w
+variable_same v w named inlined = λ k. record { node = named.node k; inlined_at = inlined k; fragment = named.fragment k }
+
+sizes_of : (declared : Declared) (l : Loc) (v : VarId) → IsPrintableVariable declared l v → HasSizes v
+sizes_of declared l v is = record { node = is.node; part = is.part }
 
 -- a mark begins with a `D`
-mark_begins : (node : ℕ) (m : MarkValue) (rest : List ℕ) → (t : List ℕ) × (mark_before node m rest ≡ 68 ∷ t)
-mark_begins node (Pair k o) rest = (codes "BG_INSTR_REF !" ++ pair_before node k o rest, refl)
-mark_begins node m rest = (codes "BG_VALUE " ++ (value_text m ++ variable_before node rest), refl)
+mark_begins : (v : VarId) (m : MarkValue) (rest : List ℕ) → (t : List ℕ) × (mark_before v m rest ≡ 68 ∷ t)
+mark_begins v (Pair q) rest = (codes "BG_INSTR_REF !" ++ pair_before v q rest, refl)
+mark_begins v m rest = (codes "BG_VALUE " ++ (value_text m ++ variable_before v rest), refl)
 
-code_apart : (i : Instruction) (r t u : List ℕ) → IsPrintableInstruction i → t ≡ 68 ∷ u → instruction_text i ++ r ≡ t → ⊥
-code_apart i r t u is d e = instruction_begins i r u is (e ∙ d)
+code_apart : (objects : ℕ → Bool) (i : Instruction) (r t u : List ℕ) → IsPrintableInstruction objects i → t ≡ 68 ∷ u → instruction_text i ++ r ≡ t → ⊥
+code_apart objects i r t u is d e = instruction_begins objects i r u is (e ∙ d)
 
-phi_apart : (node : ℕ) (m : MarkValue) (rest s : List ℕ) → mark_before node m rest ≡ codes "DBG_PHI " ++ s → ⊥
-phi_apart node (Pair k o) rest s e = apart 73 80 _ _ refl (front_one (codes "DBG_") _ (codes "PHI " ++ s) e)
-phi_apart node m rest s e = apart 86 80 _ _ refl (front_one (codes "DBG_") _ (codes "PHI " ++ s) e)
+phi_apart : (v : VarId) (m : MarkValue) (rest s : List ℕ) → mark_before v m rest ≡ codes "DBG_PHI " ++ s → ⊥
+phi_apart v (Pair q) rest s e = apart 73 80 _ _ refl (front_one (codes "DBG_") _ (codes "PHI " ++ s) e)
+phi_apart v m rest s e = apart 86 80 _ _ refl (front_one (codes "DBG_") _ (codes "PHI " ++ s) e)
 
-kind_one : (inlined : ℕ → Option ℕ) (x y : ItemKind) (l m : Loc) (r s : List ℕ) → IsPrintableKind inlined l x → IsPrintableKind inlined m y → IsPrintableLoc l → IsPrintableLoc m →
+kind_one : (declared : Declared) (x y : ItemKind) (l m : Loc) (r s : List ℕ) → IsPrintableKind declared l x → IsPrintableKind declared m y → IsPrintableLoc l → IsPrintableLoc m →
     line_before x l r ≡ line_before y m s → (x ≡ y) × (l ≡ m) × (r ≡ s)
-kind_one inlined (Code i j) (Code h k) l m r s is others at ats e =
-    let code = instruction_one i h _ _ is.0 others.0 (number_ends j l r) (number_ends k m s) e in
+kind_one declared (Code i j) (Code h k) l m r s is others at ats e =
+    let code = instruction_one declared.objects i h _ _ is.0 others.0 (number_ends j l r) (number_ends k m s) e in
     let rest = numbers_one j k l m r s is.1 others.1 at ats code.1 in
     ((let first : i ≡ h = code.0 in let number : j ≡ k = rest.0 in cc), rest.1, rest.2)
-kind_one inlined (Mark v a) (Mark w b) l m r s is others at ats e =
-    let mark = mark_one v.node w.node a b _ _ is.0 others.0 is.2 others.2 e in
+kind_one declared (Mark v a) (Mark w b) l m r s is others at ats e =
+    let mark = mark_one v w a b _ _ (sizes_of declared l v is.0) (sizes_of declared m w others.0) is.1 others.1 e in
     let place = location_one l m r s at ats mark.2 in
-    let variable : v ≡ w = variable_same v w mark.0 (is.1 ∙ (ap (inlined_at inlined) place.0 ∙ sym others.1)) in
+    let variable : v ≡ w = variable_same v w mark.0 (is.0.inlined ∙ (ap (inlined_at declared.inlined) place.0 ∙ sym others.0.inlined)) in
     ((let value : a ≡ b = mark.1 in cc), place.0, place.1)
-kind_one inlined (Phi p j) (Phi q k) l m r s is others at ats e =
+kind_one declared (Phi p j) (Phi q k) l m r s is others at ats e =
     let place = place_one p q _ _ is.0 others.0 refl refl (front_one (codes "DBG_PHI ") _ _ e) in
     let number = number_one j k _ _ is.1 others.1 (location_stops l r) (location_stops m s) (front_one (codes ", ") _ _ place.1) in
     let rest = location_one l m r s at ats number.1 in
     ((let first : p ≡ q = place.0 in let second : j ≡ k = number.0 in cc), rest.0, rest.1)
-kind_one inlined (Code i j) (Mark w b) l m r s is others at ats e = absurd (code_apart i _ _ _ is.0 (mark_begins w.node b _).1 e)
-kind_one inlined (Mark v a) (Code h k) l m r s is others at ats e = absurd (code_apart h _ _ _ others.0 (mark_begins v.node a _).1 (sym e))
-kind_one inlined (Code i j) (Phi q k) l m r s is others at ats e = absurd (instruction_begins i _ _ is.0 e)
-kind_one inlined (Phi p j) (Code h k) l m r s is others at ats e = absurd (instruction_begins h _ _ others.0 (sym e))
-kind_one inlined (Mark v a) (Phi q k) l m r s is others at ats e = absurd (phi_apart v.node a _ _ e)
-kind_one inlined (Phi p j) (Mark w b) l m r s is others at ats e = absurd (phi_apart w.node b _ _ (sym e))
+kind_one declared (Code i j) (Mark w b) l m r s is others at ats e = absurd (code_apart declared.objects i _ _ _ is.0 (mark_begins w b _).1 e)
+kind_one declared (Mark v a) (Code h k) l m r s is others at ats e = absurd (code_apart declared.objects h _ _ _ others.0 (mark_begins v a _).1 (sym e))
+kind_one declared (Code i j) (Phi q k) l m r s is others at ats e = absurd (instruction_begins declared.objects i _ _ is.0 e)
+kind_one declared (Phi p j) (Code h k) l m r s is others at ats e = absurd (instruction_begins declared.objects h _ _ others.0 (sym e))
+kind_one declared (Mark v a) (Phi q k) l m r s is others at ats e = absurd (phi_apart v a _ _ e)
+kind_one declared (Phi p j) (Mark w b) l m r s is others at ats e = absurd (phi_apart w b _ _ (sym e))
 
-pub item_line_one : (inlined : ℕ → Option ℕ) (i j : Item) → IsPrintable inlined i → IsPrintable inlined j → (r s : List ℕ) → item_text i ++ 10 ∷ r ≡ item_text j ++ 10 ∷ s → (i.kind ≡ j.kind) × (i.loc ≡ j.loc) × (r ≡ s)
-item_line_one inlined i j is others r s e =
-    kind_one inlined i.kind j.kind i.loc j.loc r s is.kind others.kind is.loc others.loc (sym (line_is i r) ∙ (e ∙ line_is j s))
+pub item_line_one : (declared : Declared) (i j : Item) → IsPrintable declared i → IsPrintable declared j → (r s : List ℕ) → item_text i ++ 10 ∷ r ≡ item_text j ++ 10 ∷ s → (i.kind ≡ j.kind) × (i.loc ≡ j.loc) × (r ≡ s)
+item_line_one declared i j is others r s e =
+    kind_one declared i.kind j.kind i.loc j.loc r s is.kind others.kind is.loc others.loc (sym (line_is i r) ∙ (e ∙ line_is j s))
 
-pub item_text_one : (inlined : ℕ → Option ℕ) (i j : Item) → IsPrintable inlined i → IsPrintable inlined j → item_text i ≡ item_text j → (i.kind ≡ j.kind) × (i.loc ≡ j.loc)
-item_text_one inlined i j is others e =
-    let found = item_line_one inlined i j is others [] [] (ap (λ (t : List ℕ). t ++ 10 ∷ []) e) in
+pub item_text_one : (declared : Declared) (i j : Item) → IsPrintable declared i → IsPrintable declared j → item_text i ≡ item_text j → (i.kind ≡ j.kind) × (i.loc ≡ j.loc)
+item_text_one declared i j is others e =
+    let found = item_line_one declared i j is others [] [] (ap (λ (t : List ℕ). t ++ 10 ∷ []) e) in
     (found.0, found.1)

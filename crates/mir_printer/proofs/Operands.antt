@@ -4,9 +4,9 @@ use Rattle.std.specs.Prelude.{codes, map}
 use Rattle.std.specs.Fmt.{decimal}
 use Rattle.std.proofs.lemmas.Bool.{ltb-false, ne_eqb}
 use Rattle.rv64_instr.specs.declared.operand.Operand.{Operand}
-use Rattle.rv64_instr.specs.declared.operand.Operand.TheVariants.{Def, Use, ImplicitDef, ImplicitUse, Imm, Slot, Block, Symbol, Mask}
+use Rattle.rv64_instr.specs.declared.operand.Operand.TheVariants.{Def, Use, ImplicitDef, ImplicitUse, Imm, Slot, Object, Block, Symbol, Mask}
 use Rattle.mir_printer.specs.Spelling.{comma_separated, is_bare, is_definition, operand_text, register_text, uses_text}
-use Rattle.mir_printer.specs.Printable.{IsNumber, HasNumbers}
+use Rattle.mir_printer.specs.Printable.{IsNumber, HasNumbers, as_slot}
 use Rattle.mir_printer.proofs.Cuts.{front_one, apart, Stops, is_digit, decimal_one, decimal_head, signed_one, signed_head}
 use Rattle.mir_printer.proofs.Symbols.{symbol_one}
 
@@ -44,7 +44,7 @@ register_one m n r s small other stop stops e = register_cases (nat_lt m 32) (na
 -- what the first bytes of an operand's text say of it
 data Lead : Type 0 where
   at_register : Lead
-  at_slot : Lead
+  at_stack : Lead
   at_block : Lead
   at_symbol : Lead
   at_mask : Lead
@@ -53,7 +53,7 @@ data Lead : Type 0 where
 
 abbrev after_percent : List ℕ → Lead
 after_percent [] = at_register
-after_percent (b ∷ bs) = cond (nat_eq b 115) at_slot (cond (nat_eq b 98) at_block at_register)
+after_percent (b ∷ bs) = cond (nat_eq b 115) at_stack (cond (nat_eq b 98) at_block at_register)
 
 abbrev lead : List ℕ → Lead
 lead [] = at_number
@@ -65,7 +65,8 @@ lead_of (Use r) = at_register
 lead_of (ImplicitDef r) = at_implicit
 lead_of (ImplicitUse r) = at_implicit
 lead_of (Imm i) = at_number
-lead_of (Slot n) = at_slot
+lead_of (Slot n) = at_stack
+lead_of (Object n) = at_stack
 lead_of (Block n) = at_block
 lead_of (Symbol name) = at_symbol
 lead_of Mask = at_mask
@@ -92,6 +93,7 @@ lead_is (ImplicitDef n) r is = refl
 lead_is (ImplicitUse n) r is = refl
 lead_is (Imm i) r is = let h = signed_head i r is.1 in ap lead h.2 ∙ number_lead h.0 h.1 h.3 h.4
 lead_is (Slot n) r is = refl
+lead_is (Object n) r is = refl
 lead_is (Block n) r is = refl
 lead_is (Symbol name) r is = refl
 lead_is Mask r is = refl
@@ -108,7 +110,14 @@ implicits : (m n : ℕ) (r s : List ℕ) → operand_text (ImplicitDef m) ++ r �
 implicits m n r s e =
     apart 45 32 (codes "def " ++ (register_text m ++ r)) (register_text n ++ s) refl (front_one (codes "implicit") (codes "-def " ++ (register_text m ++ r)) (codes " " ++ (register_text n ++ s)) e)
 
-pub operand_one : (o p : Operand) (r s : List ℕ) → IsUse o → IsUse p → Follows r → Follows s → operand_text o ++ r ≡ operand_text p ++ s → (o ≡ p) × (r ≡ s)
+stack_one : (m n : ℕ) (r s : List ℕ) → IsNumber m → IsNumber n → Follows r → Follows s → codes "%stack." ++ decimal m ++ r ≡ codes "%stack." ++ decimal n ++ s → (Slot m ≡ Slot n) × (r ≡ s)
+stack_one m n r s small other follow follows e =
+    let tails : decimal m ++ r ≡ decimal n ++ s = cc in
+    let found = number_one m n r s small other follow.digits follows.digits tails in (ap Slot found.0, found.1)
+
+-- a text stands for one operand, but that a slot and an object print alike
+pub operand_one : (o p : Operand) (r s : List ℕ) → IsUse o → IsUse p → Follows r → Follows s →
+    operand_text o ++ r ≡ operand_text p ++ s → (as_slot o ≡ as_slot p) × (r ≡ s)
 operand_one (Use m) (Use n) r s is others follow follows e =
     let found = register_one m n r s is.1 others.1 follow.digits follows.digits e in (ap Use found.0, found.1)
 operand_one (ImplicitDef m) (ImplicitDef n) r s is others follow follows e =
@@ -119,9 +128,10 @@ operand_one (ImplicitUse m) (ImplicitUse n) r s is others follow follows e =
     let found = register_one m n r s is.1 others.1 follow.digits follows.digits tails in (ap ImplicitUse found.0, found.1)
 operand_one (Imm i) (Imm j) r s is others follow follows e =
     let found = signed_one i j r s is.1 others.1 follow.digits follows.digits e in (ap Imm found.0, found.1)
-operand_one (Slot m) (Slot n) r s is others follow follows e =
-    let tails : decimal m ++ r ≡ decimal n ++ s = cc in
-    let found = number_one m n r s is.1 others.1 follow.digits follows.digits tails in (ap Slot found.0, found.1)
+operand_one (Slot m) (Slot n) r s is others follow follows e = stack_one m n r s is.1 others.1 follow follows e
+operand_one (Object m) (Object n) r s is others follow follows e = stack_one m n r s is.1 others.1 follow follows e
+operand_one (Slot m) (Object n) r s is others follow follows e = stack_one m n r s is.1 others.1 follow follows e
+operand_one (Object m) (Slot n) r s is others follow follows e = stack_one m n r s is.1 others.1 follow follows e
 operand_one (Block m) (Block n) r s is others follow follows e =
     let tails : decimal m ++ r ≡ decimal n ++ s = cc in
     let found = number_one m n r s is.1 others.1 follow.digits follows.digits tails in (ap Block found.0, found.1)
@@ -174,6 +184,7 @@ operand_goes_on (ImplicitDef n) r is = refl
 operand_goes_on (ImplicitUse n) r is = refl
 operand_goes_on (Imm i) r is = let h = signed_head i r is.1 in ap (λ (t : List ℕ). goes_on (44 ∷ 32 ∷ t)) h.2 ∙ number_goes_on h.0 h.1 h.3 h.4
 operand_goes_on (Slot n) r is = refl
+operand_goes_on (Object n) r is = refl
 operand_goes_on (Block n) r is = refl
 operand_goes_on (Symbol name) r is = refl
 operand_goes_on Mask r is = refl
@@ -193,7 +204,8 @@ ended o os r s is ends e =
     let both : goes_on s ≡ true = ap goes_on e ∙ operand_goes_on o (rest_text os r) is in
     absurd cc
 
-rest_one : (os ps : List Operand) (r s : List ℕ) → AllUses os → AllUses ps → IsTail r → IsTail s → rest_text os r ≡ rest_text ps s → (os ≡ ps) × (r ≡ s)
+rest_one : (os ps : List Operand) (r s : List ℕ) → AllUses os → AllUses ps → IsTail r → IsTail s → rest_text os r ≡ rest_text ps s →
+    (map as_slot os ≡ map as_slot ps) × (r ≡ s)
 rest_one [] [] r s all others tail tails e = (refl, e)
 rest_one [] (p ∷ ps) r s all others tail tails e = absurd (ended p ps s r others.0 tail.ends e)
 rest_one (o ∷ os) [] r s all others tail tails e = absurd (ended o os r s all.0 tails.ends (sym e))
@@ -201,7 +213,7 @@ rest_one (o ∷ os) (p ∷ ps) r s all others tail tails e =
     let after : operand_text o ++ rest_text os r ≡ operand_text p ++ rest_text ps s = cc in
     let first = operand_one o p (rest_text os r) (rest_text ps s) all.0 others.0 (follows_rest os r tail.follows) (follows_rest ps s tails.follows) after in
     let rest = rest_one os ps r s all.1 others.1 tail tails first.1 in
-    (let head : o ≡ p = first.0 in let more : os ≡ ps = rest.0 in cc, rest.1)
+    (let head : as_slot o ≡ as_slot p = first.0 in let more : map as_slot os ≡ map as_slot ps = rest.0 in cc, rest.1)
 
 no_blank : (t s : List ℕ) → Stops (nat_eq 32) s → s ≡ 32 ∷ t → ⊥
 no_blank t [] stop e = absurd cc
@@ -210,7 +222,8 @@ no_blank t (b ∷ bs) stop e =
     let both : nat_eq 32 b ≡ true = ap (nat_eq 32) same in
     absurd cc
 
-pub uses_one : (os ps : List Operand) (r s : List ℕ) → AllUses os → AllUses ps → IsTail r → IsTail s → uses_text os ++ r ≡ uses_text ps ++ s → (os ≡ ps) × (r ≡ s)
+pub uses_one : (os ps : List Operand) (r s : List ℕ) → AllUses os → AllUses ps → IsTail r → IsTail s → uses_text os ++ r ≡ uses_text ps ++ s →
+    (map as_slot os ≡ map as_slot ps) × (r ≡ s)
 uses_one [] [] r s all others tail tails e = (refl, e)
 uses_one [] (p ∷ ps) r s all others tail tails e = absurd (no_blank (comma_separated (map operand_text (p ∷ ps)) ++ s) r tail.blank e)
 uses_one (o ∷ os) [] r s all others tail tails e = absurd (no_blank (comma_separated (map operand_text (o ∷ os)) ++ r) s tails.blank (sym e))

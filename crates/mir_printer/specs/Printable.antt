@@ -1,7 +1,7 @@
 -- Items whose text tells all of them but their origin.
-use Rattle.std.specs.Prelude.{◌≡◌, ℕ, ℤ, pos, negsuc, ◌<◌, ◌^◌, ◌++◌, ◌∷◌, List, All, Option, Some, None, IsTrue, IfSome}
+use Rattle.std.specs.Prelude.{◌≡◌, ℕ, ℤ, pos, negsuc, ◌<◌, ◌^◌, ◌++◌, ◌∷◌, Bool, true, false, List, All, map, Option, Some, None, IsTrue, IfSome}
 use Rattle.rv64_instr.specs.declared.operand.Operand.{Operand}
-use Rattle.rv64_instr.specs.declared.operand.Operand.TheVariants.{Def, Use, ImplicitDef, ImplicitUse, Imm, Slot as SlotOperand, Block, Symbol, Mask}
+use Rattle.rv64_instr.specs.declared.operand.Operand.TheVariants.{Def, Use, ImplicitDef, ImplicitUse, Imm, Slot as SlotOperand, Object, Block, Symbol, Mask}
 use Rattle.rv64_instr.specs.declared.place.Place.{Place}
 use Rattle.rv64_instr.specs.declared.place.Place.TheVariants.{Register, Slot, Const}
 use Rattle.rv64_instr.specs.Instruction.{Instruction}
@@ -10,6 +10,8 @@ use Rattle.mir_func.specs.declared.location.Loc.{Loc}
 use Rattle.mir_func.specs.declared.location.Loc.TheVariants.{Absent, Node, Inline}
 use Rattle.mir_func.specs.declared.variable.MarkValue.{MarkValue}
 use Rattle.mir_func.specs.declared.variable.MarkValue.TheVariants.{Nothing, Constant, At, Pair}
+use Rattle.mir_func.specs.declared.variable.VarId.{VarId}
+use Rattle.mir_func.specs.Parts.{IsPart}
 use Rattle.mir_func.specs.declared.item.Item.{Item}
 use Rattle.mir_func.specs.declared.item.ItemKind.{ItemKind}
 use Rattle.mir_func.specs.declared.item.ItemKind.TheVariants.{Code, Mark, Phi}
@@ -32,14 +34,43 @@ HasNumbers (ImplicitDef r) = IsNumber r
 HasNumbers (ImplicitUse r) = IsNumber r
 HasNumbers (Imm i) = IsSigned i
 HasNumbers (SlotOperand n) = IsNumber n
+HasNumbers (Object n) = IsNumber n
 HasNumbers (Block n) = IsNumber n
 HasNumbers (Symbol name) = Unit {0}
 HasNumbers Mask = Unit {0}
 
--- an instruction has the form of its opcode
-pub record IsPrintableInstruction (i : Instruction) : Type 0 where
+-- `%stack.N` is a stack object exactly where N is declared as one's number
+abbrev pub IsAsDeclared : (objects : ℕ → Bool) → Operand → Type 0
+IsAsDeclared objects (Def r) = Unit {0}
+IsAsDeclared objects (Use r) = Unit {0}
+IsAsDeclared objects (ImplicitDef r) = Unit {0}
+IsAsDeclared objects (ImplicitUse r) = Unit {0}
+IsAsDeclared objects (Imm i) = Unit {0}
+IsAsDeclared objects (SlotOperand n) = objects n ≡ false
+IsAsDeclared objects (Object n) = objects n ≡ true
+IsAsDeclared objects (Block n) = Unit {0}
+IsAsDeclared objects (Symbol name) = Unit {0}
+IsAsDeclared objects Mask = Unit {0}
+
+-- a frame slot in the place of a stack object
+abbrev pub as_slot : Operand → Operand
+as_slot (Def r) = Def r
+as_slot (Use r) = Use r
+as_slot (ImplicitDef r) = ImplicitDef r
+as_slot (ImplicitUse r) = ImplicitUse r
+as_slot (Imm i) = Imm i
+as_slot (SlotOperand n) = SlotOperand n
+as_slot (Object n) = SlotOperand n
+as_slot (Block n) = Block n
+as_slot (Symbol name) = Symbol name
+as_slot Mask = Mask
+
+-- an instruction has the form of its opcode. A slot and an object print alike, so where it would have its form with a slot
+-- too, what is declared tells which of the two it names
+pub record IsPrintableInstruction (objects : ℕ → Bool) (i : Instruction) : Type 0 where
   pub form : IsTrue (has_form i.op i.operands)
   pub numbers : All HasNumbers i.operands
+  pub stack : IsTrue (has_form i.op (map as_slot i.operands)) → All (IsAsDeclared objects) i.operands
 
 -- the place of a phi: `$x0` is the constant 0, so a phi names no other constant, and no register x0
 abbrev pub IsPrintablePlace : Option Place → Type 0
@@ -52,7 +83,7 @@ abbrev pub IsPrintableValue : MarkValue → Type 0
 IsPrintableValue Nothing = Unit {0}
 IsPrintableValue (Constant c) = IsSigned c
 IsPrintableValue (At r) = IsNumber r
-IsPrintableValue (Pair k o) = IsNumber k × IsNumber o
+IsPrintableValue (Pair q) = IsNumber q.number × IsNumber q.operand
 
 abbrev pub IsPrintableLoc : Loc → Type 0
 IsPrintableLoc Absent = Unit {0}
@@ -65,23 +96,34 @@ inlined_at inlined Absent = None
 inlined_at inlined (Node n) = inlined n
 inlined_at inlined (Inline l) = l.inlined_at
 
+-- what a text counts on: which numbers are declared as a stack object's, and where nodes of locations are inlined
+pub record Declared : Type 0 where
+  pub objects : ℕ → Bool
+  pub inlined : ℕ → Option ℕ
+
 -- a mark's variable is inlined where the mark's location is, since the text of a mark names its node alone (LLVM, "Source
 -- Level Debugging with LLVM": a variable's instance is its node and the `inlinedAt` of the location)
-abbrev pub IsPrintableKind : (inlined : ℕ → Option ℕ) → Loc → ItemKind → Type 0
-IsPrintableKind inlined loc (Code i k) = IsPrintableInstruction i × IfSome k IsNumber
-IsPrintableKind inlined loc (Mark v m) = IsNumber v.node × (v.inlined_at ≡ inlined_at inlined loc) × IsPrintableValue m
-IsPrintableKind inlined loc (Phi p k) = IsPrintablePlace p × IsNumber k
+pub record IsPrintableVariable (declared : Declared) (loc : Loc) (v : VarId) : Type 0 where
+  pub node : IsNumber v.node
+  pub inlined : v.inlined_at ≡ inlined_at declared.inlined loc
+  pub part : IfSome v.fragment IsPart
+
+abbrev pub IsPrintableKind : Declared → Loc → ItemKind → Type 0
+IsPrintableKind declared loc (Code i k) = IsPrintableInstruction declared.objects i × IfSome k IsNumber
+IsPrintableKind declared loc (Mark v m) = IsPrintableVariable declared loc v × IsPrintableValue m
+IsPrintableKind declared loc (Phi p k) = IsPrintablePlace p × IsNumber k
 
 -- an item whose text tells its kind and its location
-pub record IsPrintable (inlined : ℕ → Option ℕ) (i : Item) : Type 0 where
-  pub kind : IsPrintableKind inlined i.loc i.kind
+pub record IsPrintable (declared : Declared) (i : Item) : Type 0 where
+  pub kind : IsPrintableKind declared i.loc i.kind
   pub loc : IsPrintableLoc i.loc
 
 -- The text of an item stands for one kind and one location.
 abbrev pub ItemTextTells : Type 0
-ItemTextTells = (inlined : ℕ → Option ℕ) (i j : Item) → IsPrintable inlined i → IsPrintable inlined j → item_text i ≡ item_text j → (i.kind ≡ j.kind) × (i.loc ≡ j.loc)
+ItemTextTells = (declared : Declared) (i j : Item) → IsPrintable declared i → IsPrintable declared j →
+    item_text i ≡ item_text j → (i.kind ≡ j.kind) × (i.loc ≡ j.loc)
 
 -- So does its line, whatever follows it, and what follows it is told too.
 abbrev pub ItemLineTells : Type 0
-ItemLineTells = (inlined : ℕ → Option ℕ) (i j : Item) → IsPrintable inlined i → IsPrintable inlined j → (rest others : List ℕ) →
+ItemLineTells = (declared : Declared) (i j : Item) → IsPrintable declared i → IsPrintable declared j → (rest others : List ℕ) →
     item_text i ++ 10 ∷ rest ≡ item_text j ++ 10 ∷ others → (i.kind ≡ j.kind) × (i.loc ≡ j.loc) × (rest ≡ others)

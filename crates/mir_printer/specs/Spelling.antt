@@ -1,15 +1,17 @@
 -- The one spelling of an item (LLVM, Machine IR (MIR) Format Reference Manual, "Machine Instructions").
-use Rattle.std.specs.Prelude.{ℕ, ◌+◌, ◌-◌, ◌/◌, ◌%◌, Bool, true, false, cond, ◌&&◌, ◌||◌, not, nat_eq, nat_le, nat_lt, List, [], ◌∷◌, ◌++◌, Option, Some, None, codes, filter, map}
+use Rattle.std.specs.Prelude.{ℕ, ◌+◌, ◌-◌, ◌*◌, ◌/◌, ◌%◌, Bool, true, false, cond, ◌&&◌, ◌||◌, not, nat_eq, nat_le, nat_lt, List, [], ◌∷◌, ◌++◌, Option, Some, None, codes, filter, map}
 use Rattle.std.specs.List.{flat_map, list_all}
 use Rattle.std.specs.Fmt.{decimal, signed_decimal}
 use Rattle.rv64_instr.specs.declared.operand.Operand.{Operand}
-use Rattle.rv64_instr.specs.declared.operand.Operand.TheVariants.{Def, Use, ImplicitDef, ImplicitUse, Imm, Slot as SlotOperand, Block, Symbol, Mask}
+use Rattle.rv64_instr.specs.declared.operand.Operand.TheVariants.{Def, Use, ImplicitDef, ImplicitUse, Imm, Slot as SlotOperand, Object, Block, Symbol, Mask}
 use Rattle.rv64_instr.specs.declared.place.Place.{Place}
 use Rattle.rv64_instr.specs.declared.place.Place.TheVariants.{Register, Slot, Const}
 use Rattle.rv64_instr.specs.Instruction.{Instruction}
 use Rattle.rv64_instr.specs.Mnemonic.{mnemonic_of}
 use Rattle.mir_func.specs.declared.location.Loc.{Loc}
 use Rattle.mir_func.specs.declared.location.Loc.TheVariants.{Absent, Node, Inline}
+use Rattle.mir_func.specs.Parts.{Bytes}
+use Rattle.mir_func.specs.declared.entry.OperandPair.{OperandPair}
 use Rattle.mir_func.specs.declared.variable.VarId.{VarId}
 use Rattle.mir_func.specs.declared.variable.MarkValue.{MarkValue}
 use Rattle.mir_func.specs.declared.variable.MarkValue.TheVariants.{Nothing, Constant, At, Pair}
@@ -55,13 +57,22 @@ operand_text (ImplicitDef r) = codes "implicit-def " ++ register_text r
 operand_text (ImplicitUse r) = codes "implicit " ++ register_text r
 operand_text (Imm i) = signed_decimal i
 operand_text (SlotOperand n) = codes "%stack." ++ decimal n
+operand_text (Object n) = codes "%stack." ++ decimal n
 operand_text (Block n) = codes "%bb." ++ decimal n
 operand_text (Symbol name) = symbol_text name
 operand_text Mask = codes "mask"
 
 abbrev pub is_definition : Operand → Bool
 is_definition (Def r) = true
-is_definition _ = false
+is_definition (Use r) = false
+is_definition (ImplicitDef r) = false
+is_definition (ImplicitUse r) = false
+is_definition (Imm i) = false
+is_definition (SlotOperand n) = false
+is_definition (Object n) = false
+is_definition (Block n) = false
+is_definition (Symbol name) = false
+is_definition Mask = false
 
 -- definitions with commas between them and " = " after them
 abbrev pub definitions_text : List Operand → List ℕ
@@ -87,14 +98,36 @@ phi_place_text (Some (Register r)) = register_text r
 phi_place_text (Some (Slot n)) = codes "%stack." ++ decimal n
 phi_place_text (Some (Const c)) = codes "$x0"
 
-abbrev pub value_mark_text : List ℕ → ℕ → List ℕ
-value_mark_text value node = codes "DBG_VALUE " ++ value ++ codes ", $noreg, !" ++ decimal node ++ codes ", !DIExpression()"
+-- some bytes of a variable: their offset and how many they are, in bits (LLVM Language Reference, `DW_OP_LLVM_fragment`)
+abbrev pub fragment_text : Bytes → List ℕ
+fragment_text b = codes "DW_OP_LLVM_fragment, " ++ decimal (8 * b.offset) ++ codes ", " ++ decimal (8 * b.length)
+
+-- the expression of a `DBG_VALUE`
+abbrev pub expression_text : Option Bytes → List ℕ
+expression_text None = codes "!DIExpression()"
+expression_text (Some b) = codes "!DIExpression(" ++ fragment_text b ++ codes ")"
+
+-- the expression of a `DBG_INSTR_REF`
+abbrev pub pair_expression_text : Option Bytes → List ℕ
+pair_expression_text None = codes "!DIExpression(DW_OP_LLVM_arg, 0)"
+pair_expression_text (Some b) = codes "!DIExpression(DW_OP_LLVM_arg, 0, " ++ fragment_text b ++ codes ")"
+
+-- what follows the value of a `DBG_VALUE`
+abbrev pub variable_text : VarId → List ℕ
+variable_text v = codes ", $noreg, !" ++ decimal v.node ++ codes ", " ++ expression_text v.fragment
+
+abbrev pub value_mark_text : List ℕ → VarId → List ℕ
+value_mark_text value v = codes "DBG_VALUE " ++ value ++ variable_text v
+
+abbrev pub pair_mark_text : VarId → OperandPair → List ℕ
+pair_mark_text v q = codes "DBG_INSTR_REF !" ++ decimal v.node ++ codes ", " ++ pair_expression_text v.fragment ++
+    codes ", dbg-instr-ref(" ++ decimal q.number ++ codes ", " ++ decimal q.operand ++ codes ")"
 
 abbrev pub mark_text : VarId → MarkValue → List ℕ
-mark_text v Nothing = value_mark_text (codes "$noreg") v.node
-mark_text v (Constant c) = value_mark_text (signed_decimal c) v.node
-mark_text v (At r) = value_mark_text (register_text r) v.node
-mark_text v (Pair k o) = codes "DBG_INSTR_REF !" ++ decimal v.node ++ codes ", !DIExpression(DW_OP_LLVM_arg, 0), dbg-instr-ref(" ++ decimal k ++ codes ", " ++ decimal o ++ codes ")"
+mark_text v Nothing = value_mark_text (codes "$noreg") v
+mark_text v (Constant c) = value_mark_text (signed_decimal c) v
+mark_text v (At r) = value_mark_text (register_text r) v
+mark_text v (Pair q) = pair_mark_text v q
 
 abbrev pub kind_text : ItemKind → List ℕ
 kind_text (Code i k) = instruction_text i ++ number_text k

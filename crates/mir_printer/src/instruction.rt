@@ -1,3 +1,5 @@
+//! Instructions.
+
 ghost use Rattle.std.specs.Prelude.{◌≡◌, ◌++◌, filter, not, OnOk, OnErr, IfOk};
 ghost use Rattle.mir_printer.specs.Growth.{GrownFrom};
 ghost use Rattle.mir_printer.specs.Spelling.{definitions_text, instruction_text, is_definition, number_text, uses_text};
@@ -5,6 +7,7 @@ ghost use Rattle.mir_printer.specs.Listed.{selects, selected_texts, listed_text,
 
 use crate::operand::push_operand;
 use crate::text::{Text, push_numbered, push_str};
+use numbers::code::DebugNumber;
 use rv64_instr::instr::Instr;
 use rv64_instr::operand::Operand;
 use std::alloc::AllocError;
@@ -68,16 +71,33 @@ fn push_operands(
 fn is_selected(operand: &Operand, definitions: bool) -> bool
     ensures { result ≡ selects definitions operand.now }
 {
-    matches!(operand, Operand::Def(_)) == definitions
+    is_definition(operand) == definitions
+}
+
+fn is_definition(operand: &Operand) -> bool
+    ensures { result ≡ is_definition operand.now }
+{
+    match operand {
+        Operand::Def(_) => true,
+        Operand::Use(_)
+        | Operand::ImplicitDef(_)
+        | Operand::ImplicitUse(_)
+        | Operand::Imm(_)
+        | Operand::Slot(_)
+        | Operand::Object(_)
+        | Operand::Block(_)
+        | Operand::Symbol(_)
+        | Operand::Mask => false,
+    }
 }
 
 /// Appends the debug instruction number, where there is one.
-pub(crate) fn push_number(text: &mut Text, number: Option<u32>) -> Result<(), AllocError>
-    ensures ok { OnOk result (text.new ≡ text.old ++ number_text number) }
+pub(crate) fn push_number(text: &mut Text, number: &Option<DebugNumber>) -> Result<(), AllocError>
+    ensures ok { OnOk result (text.new ≡ text.old ++ number_text number.now) }
     ensures err { OnErr result (GrownFrom text.old text.new) }
 {
     match number {
         None => Ok(()),
-        Some(k) => push_numbered(text, ", debug-instr-number ", k),
+        Some(k) => push_numbered(text, ", debug-instr-number ", k.number()),
     }
 }

@@ -1,3 +1,5 @@
+//! Items.
+
 ghost use Rattle.std.specs.Prelude.{◌≡◌, ◌++◌, OnOk, OnErr};
 ghost use Rattle.mir_printer.specs.Growth.{GrownFrom};
 ghost use Rattle.mir_printer.specs.Printable.{ItemTextTells, ItemLineTells};
@@ -26,16 +28,17 @@ fn push_kind(text: &mut Text, kind: &ItemKind) -> Result<(), AllocError>
     match kind {
         ItemKind::Code(instr, number) => {
             push_instruction(text, instr)?;
-            push_number(text, *number)
+            push_number(text, number)
         }
-        ItemKind::Mark(variable, value) => push_mark(text, *variable, *value),
-        ItemKind::Phi(place, number) => push_phi(text, place, *number),
+        ItemKind::Mark(variable, value) => push_mark(text, variable, value),
+        ItemKind::Phi(place, number) => push_phi(text, place, number),
     }
 }
 
 /// The text of an item stands for one kind and one location, and so does its line, whatever follows it. The items are
-/// printable: their instruction has the form of its opcode, a phi of `$x0` is one of the constant 0, and a mark's
-/// variable is inlined where its location is.
+/// printable: their instruction has the form of its opcode, a `%stack.N` that could be a slot and an object is an object
+/// where N is declared as one's number, a phi of `$x0` is one of the constant 0, and a mark's variable is inlined where
+/// its location is.
 pub fn one_reading()
     ensures text { ItemTextTells }
     ensures line { ItemLineTells }
@@ -45,12 +48,15 @@ pub fn one_reading()
 mod tests {
     use super::*;
     use crate::text::Text;
+    use mir_func::entry::OperandPair;
     use mir_func::location::{InlineLoc, Loc};
     use mir_func::position::{Origin, Pos};
-    use mir_func::variable::{MarkValue, VarId};
+    use mir_func::variable::{Fragment, MarkValue, VarId};
+    use numbers::code::{BlockId, DebugNumber, ObjectId, OperandIndex, SlotId};
+    use numbers::metadata::NodeId;
     use rv64_instr::instr::Instr;
     use rv64_instr::name::Name;
-    use rv64_instr::op::Op;
+    use rv64_instr::op::{BranchOp, ImmediateOp, LoadOp, Op, StoreOp};
     use rv64_instr::operand::{Operand, Operands};
     use rv64_instr::place::Place;
     use rv64_instr::reg::Reg;
@@ -59,14 +65,23 @@ mod tests {
     use std::test::Fail;
 
     const V: VarId = VarId {
-        node: 4,
+        node: NodeId(4),
         inlined_at: None,
+        fragment: None,
+    };
+
+    const PAIR: OperandPair = OperandPair {
+        number: DebugNumber(1),
+        operand: OperandIndex(0),
     };
 
     fn item(kind: ItemKind, loc: Loc) -> Item {
         Item {
             kind,
-            origin: Origin::Kept(Pos { block: 0, item: 0 }),
+            origin: Origin::Kept(Pos {
+                block: BlockId(0),
+                item: 0,
+            }),
             loc,
         }
     }
@@ -79,7 +94,7 @@ mod tests {
         alloc: Global,
         op: Op,
         operands: &[Operand],
-        number: Option<u32>,
+        number: Option<DebugNumber>,
     ) -> Result<Item, Fail> {
         let mut list = Operands::new(alloc);
         for operand in operands {
@@ -106,29 +121,34 @@ mod tests {
         let alloc = rt.alloc();
         let (x10, x11) = (reg(10)?, reg(11)?);
         let add = [Operand::Def(x10), Operand::Use(x10), Operand::Imm(-1)];
-        let add = code(alloc, Op::Addi, &add, Some(1))?;
+        let add = code(
+            alloc,
+            Op::Immediate(ImmediateOp::Addi),
+            &add,
+            Some(DebugNumber(1)),
+        )?;
         prints(
             &rt,
             alloc,
             &add,
             "$x10 = ADDI $x10, -1, debug-instr-number 1",
         )?;
-        let store = [Operand::Use(x10), Operand::Slot(3), Operand::Imm(0)];
+        let store = [Operand::Use(x10), Operand::Slot(SlotId(3)), Operand::Imm(0)];
         prints(
             &rt,
             alloc,
-            &code(alloc, Op::Sd, &store, None)?,
+            &code(alloc, Op::Store(StoreOp::Sd), &store, None)?,
             "SD $x10, %stack.3, 0",
         )?;
         let branch = [
             Operand::Use(x10),
             Operand::Use(reg(32)?),
-            Operand::Block(2),
+            Operand::Block(BlockId(2)),
             Operand::ImplicitUse(x11),
         ];
-        let branch = code(alloc, Op::Beq, &branch, None)?;
+        let branch = code(alloc, Op::Branch(BranchOp::Beq), &branch, None)?;
         prints(&rt, alloc, &branch, "BEQ $x10, %0, %bb.2, implicit $x11")?;
-        let jump = code(alloc, Op::PseudoBr, &[Operand::Block(7)], None)?;
+        let jump = code(alloc, Op::PseudoBr, &[Operand::Block(BlockId(7))], None)?;
         prints(&rt, alloc, &jump, "PseudoBR %bb.7")?;
         let empty: [Operand; 0] = [];
         prints(
@@ -140,6 +160,33 @@ mod tests {
     }
 
     #[test]
+    fn prints_stack_objects(rt: HostRuntime) -> Result<(), Fail> {
+        let alloc = rt.alloc();
+        let (x10, x11) = (reg(10)?, reg(11)?);
+        let address = [
+            Operand::Def(x11),
+            Operand::Object(ObjectId(0)),
+            Operand::Imm(8),
+        ];
+        let address = code(alloc, Op::Immediate(ImmediateOp::Addi), &address, None)?;
+        prints(&rt, alloc, &address, "$x11 = ADDI %stack.0, 8")?;
+        let load = [
+            Operand::Def(x11),
+            Operand::Object(ObjectId(0)),
+            Operand::Imm(8),
+        ];
+        let load = code(alloc, Op::Load(LoadOp::Ld), &load, None)?;
+        prints(&rt, alloc, &load, "$x11 = LD %stack.0, 8")?;
+        let store = [
+            Operand::Use(x10),
+            Operand::Object(ObjectId(0)),
+            Operand::Imm(8),
+        ];
+        let store = code(alloc, Op::Store(StoreOp::Sd), &store, None)?;
+        prints(&rt, alloc, &store, "SD $x10, %stack.0, 8")
+    }
+
+    #[test]
     fn prints_calls(rt: HostRuntime) -> Result<(), Fail> {
         let alloc = rt.alloc();
         let call = [
@@ -148,7 +195,7 @@ mod tests {
             Operand::ImplicitDef(reg(1)?),
             Operand::ImplicitUse(reg(10)?),
         ];
-        let call = code(alloc, Op::PseudoCall, &call, Some(9))?;
+        let call = code(alloc, Op::PseudoCall, &call, Some(DebugNumber(9)))?;
         let text =
             "PseudoCALL @f.1$_-, mask, implicit-def $x1, implicit $x10, debug-instr-number 9";
         prints(&rt, alloc, &call, text)?;
@@ -181,7 +228,7 @@ mod tests {
                 "DBG_VALUE $x10, $noreg, !4, !DIExpression()",
             ),
             (
-                MarkValue::Pair(1, 0),
+                MarkValue::Pair(PAIR),
                 "DBG_INSTR_REF !4, !DIExpression(DW_OP_LLVM_arg, 0), dbg-instr-ref(1, 0)",
             ),
         ];
@@ -196,16 +243,45 @@ mod tests {
         let phis = [
             (None, "DBG_PHI $noreg, 2"),
             (Some(Place::Register(reg(12)?)), "DBG_PHI $x12, 2"),
-            (Some(Place::Slot(1)), "DBG_PHI %stack.1, 2"),
+            (Some(Place::Slot(SlotId(1))), "DBG_PHI %stack.1, 2"),
             (Some(Place::Const(0)), "DBG_PHI $x0, 2"),
         ];
         for (place, text) in phis {
             prints(
                 &rt,
                 alloc,
-                &item(ItemKind::Phi(place, 2), Loc::Absent),
+                &item(ItemKind::Phi(place, DebugNumber(2)), Loc::Absent),
                 text,
             )?;
+        }
+        Ok(())
+    }
+
+    #[test]
+    fn prints_marks_of_parts(rt: HostRuntime) -> Result<(), Fail> {
+        let alloc = rt.alloc();
+        let marks = [
+            (
+                4,
+                4,
+                MarkValue::At(reg(10)?),
+                "DBG_VALUE $x10, $noreg, !4, !DIExpression(DW_OP_LLVM_fragment, 32, 32)",
+            ),
+            (
+                0,
+                8,
+                MarkValue::Pair(PAIR),
+                "DBG_INSTR_REF !4, !DIExpression(DW_OP_LLVM_arg, 0, DW_OP_LLVM_fragment, 0, 64), dbg-instr-ref(1, 0)",
+            ),
+        ];
+        for (offset, length, value, text) in marks {
+            let part = VarId {
+                node: NodeId(4),
+                inlined_at: None,
+                fragment: Some(Fragment::new(offset, length).ok_or("no part")?),
+            };
+            let mark = item(ItemKind::Mark(part, value), Loc::Absent);
+            prints(&rt, alloc, &mark, text)?;
         }
         Ok(())
     }
@@ -216,17 +292,17 @@ mod tests {
         let inline = InlineLoc {
             line: 3,
             column: 1,
-            scope: 5,
+            scope: NodeId(5),
             inlined_at: None,
         };
         let inlined = InlineLoc {
-            inlined_at: Some(9),
+            inlined_at: Some(NodeId(9)),
             line: 3,
             column: 1,
-            scope: 5,
+            scope: NodeId(5),
         };
         let locations = [
-            (Loc::Node(5), "DBG_PHI $noreg, 2, debug-location !5"),
+            (Loc::Node(NodeId(5)), "DBG_PHI $noreg, 2, debug-location !5"),
             (
                 Loc::Inline(inline),
                 "DBG_PHI $noreg, 2, debug-location !DILocation(line: 3, column: 1, scope: !5)",
@@ -237,7 +313,12 @@ mod tests {
             ),
         ];
         for (loc, text) in locations {
-            prints(&rt, alloc, &item(ItemKind::Phi(None, 2), loc), text)?;
+            prints(
+                &rt,
+                alloc,
+                &item(ItemKind::Phi(None, DebugNumber(2)), loc),
+                text,
+            )?;
         }
         Ok(())
     }

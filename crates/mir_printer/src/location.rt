@@ -1,9 +1,12 @@
+//! Debug locations.
+
 ghost use Rattle.std.specs.Prelude.{◌≡◌, ◌++◌, OnOk, OnErr};
 ghost use Rattle.mir_printer.specs.Growth.{GrownFrom};
 ghost use Rattle.mir_printer.specs.Spelling.{inlined_at_text, location_text};
 
 use crate::text::{Text, push_numbered, push_str};
 use mir_func::location::{InlineLoc, Loc};
+use numbers::metadata::NodeId;
 use std::alloc::AllocError;
 
 /// Appends the debug location that an item carries.
@@ -13,7 +16,7 @@ pub(crate) fn push_location(text: &mut Text, loc: &Loc) -> Result<(), AllocError
 {
     match loc {
         Loc::Absent => Ok(()),
-        Loc::Node(n) => push_numbered(text, ", debug-location !", *n),
+        Loc::Node(n) => push_numbered(text, ", debug-location !", n.number()),
         Loc::Inline(inline) => push_inline(text, inline),
     }
 }
@@ -24,17 +27,17 @@ fn push_inline(text: &mut Text, inline: &InlineLoc) -> Result<(), AllocError>
 {
     push_numbered(text, ", debug-location !DILocation(line: ", inline.line)?;
     push_numbered(text, ", column: ", inline.column)?;
-    push_numbered(text, ", scope: !", inline.scope)?;
-    push_inlined_at(text, inline.inlined_at)?;
+    push_numbered(text, ", scope: !", inline.scope.number())?;
+    push_inlined_at(text, &inline.inlined_at)?;
     push_str(text, ")")
 }
 
-fn push_inlined_at(text: &mut Text, inlined_at: Option<u32>) -> Result<(), AllocError>
-    ensures ok { OnOk result (text.new ≡ text.old ++ inlined_at_text inlined_at) }
+fn push_inlined_at(text: &mut Text, inlined_at: &Option<NodeId>) -> Result<(), AllocError>
+    ensures ok { OnOk result (text.new ≡ text.old ++ inlined_at_text inlined_at.now) }
     ensures err { OnErr result (GrownFrom text.old text.new) }
 {
     match inlined_at {
         None => Ok(()),
-        Some(n) => push_numbered(text, ", inlinedAt: !", n),
+        Some(n) => push_numbered(text, ", inlinedAt: !", n.number()),
     }
 }

@@ -1,3 +1,5 @@
+//! Operands.
+
 ghost use Rattle.std.specs.Prelude.{◌≡◌, ◌++◌, OnOk, OnErr};
 ghost use Rattle.mir_printer.specs.Growth.{GrownFrom};
 ghost use Rattle.mir_printer.specs.Spelling.{operand_text, register_text};
@@ -18,8 +20,9 @@ pub(crate) fn push_operand(text: &mut Text, operand: &Operand) -> Result<(), All
         Operand::ImplicitDef(r) => push_implicit(text, "implicit-def ", *r),
         Operand::ImplicitUse(r) => push_implicit(text, "implicit ", *r),
         Operand::Imm(i) => push_signed(text, *i),
-        Operand::Slot(n) => push_numbered(text, "%stack.", *n),
-        Operand::Block(n) => push_numbered(text, "%bb.", *n),
+        Operand::Slot(n) => push_numbered(text, "%stack.", n.number()),
+        Operand::Object(n) => push_numbered(text, "%stack.", n.number()),
+        Operand::Block(n) => push_numbered(text, "%bb.", n.number()),
         Operand::Symbol(name) => push_symbol(text, name.as_slice()),
         Operand::Mask => push_str(text, "mask"),
     }

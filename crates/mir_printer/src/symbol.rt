@@ -1,3 +1,5 @@
+//! Symbols, and the quotes of names.
+
 ghost use Rattle.std.specs.Prelude.{◌≡◌, ◌++◌, ◌∷◌, [], ◌<◌, ◌/◌, ◌%◌, ◌&&◌, not, OnOk, OnErr};
 ghost use Rattle.std.specs.List.{flat_map, list_all};
 ghost use Rattle.mir_printer.specs.Growth.{GrownFrom};

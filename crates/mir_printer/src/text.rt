@@ -1,3 +1,5 @@
+//! Text that grows at its end.
+
 ghost use Rattle.std.specs.Prelude.{◌≡◌, ◌++◌, OnOk, OnErr};
 ghost use Rattle.std.specs.Fmt.{decimal, signed_decimal};
 ghost use Rattle.mir_printer.specs.Growth.{GrownFrom};

@@ -2,7 +2,7 @@ use Rattle.std.proofs.Common.{◌++◌, codes}
 use Rattle.std.specs.Fmt.{decimal}
 use Rattle.mir_func.specs.declared.location.Loc.TheVariants.{Inline}
 use Rattle.mir_printer.specs.Spelling.{location_text, inlined_at_text}
-use Rattle.mir_printer.proofs.Appends.{joined, ended, labelled_more}
+use Rattle.mir_printer.proofs.Appends.{joined, ended, numbered, labelled_more}
 use Rattle.mir_printer.proofs.location.push_inline.Goals as goal
 
 pub returns-clause-ok : goal.returns-clause-ok
@@ -16,6 +16,6 @@ returns-clause-ok c =
     (joined c.args.text.now c.push_numbered-3.new.text c.push_inlined_at.new.text ((line ++ column) ++ scope) inlined_at
     (joined c.args.text.now c.push_numbered-2.new.text c.push_numbered-3.new.text (line ++ column) scope
     (joined c.args.text.now c.push_numbered.new.text c.push_numbered-2.new.text line column c.in_ok-push_numbered.ensures.ok c.in_ok-push_numbered-2.ensures.ok)
-    c.in_ok-push_numbered-3.ensures.ok)
+    (numbered c.push_numbered-2.new.text c.push_numbered-3.new.text (codes ", scope: !") c.number.result c.args.inline.now.scope c.in_ok-push_numbered-3.ensures.ok c.number.ensures))
     c.in_ok-push_inlined_at.ensures.ok)
     c.push_str.ensures.ok (labelled_more (codes ", debug-location !DILocation(line: ") (decimal c.args.inline.now.line) (codes ", column: ") (decimal c.args.inline.now.column) (codes ", scope: !") (decimal c.args.inline.now.scope) inlined_at (codes ")"))

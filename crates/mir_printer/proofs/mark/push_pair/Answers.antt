@@ -1,18 +1,30 @@
 use Rattle.std.proofs.Common.{◌++◌, codes}
 use Rattle.std.specs.Fmt.{decimal}
-use Rattle.mir_func.specs.declared.variable.MarkValue.TheVariants.{Pair}
-use Rattle.mir_printer.specs.Spelling.{mark_text}
-use Rattle.mir_printer.proofs.Appends.{joined, ended, labelled}
+use Rattle.mir_printer.specs.Spelling.{pair_expression_text, pair_mark_text}
+use Rattle.mir_printer.proofs.Appends.{joined, ended, labelled_pair, numbered}
 use Rattle.mir_printer.proofs.mark.push_pair.Goals as goal
 
 pub returns-clause-ok : goal.returns-clause-ok
 returns-clause-ok c =
-    let variable = codes "DBG_INSTR_REF !" ++ decimal c.args.variable.node in
-    let number = codes ", !DIExpression(DW_OP_LLVM_arg, 0), dbg-instr-ref(" ++ decimal c.args.number in
-    let operand = codes ", " ++ decimal c.args.operand in
-    ended c.push_str.result c.args.text.now c.push_numbered-3.new.text c.push_str.new.text ((variable ++ number) ++ operand) (codes ")")
-    (mark_text c.args.variable (Pair c.args.number c.args.operand))
-    (joined c.args.text.now c.push_numbered-2.new.text c.push_numbered-3.new.text (variable ++ number) operand
-    (joined c.args.text.now c.push_numbered.new.text c.push_numbered-2.new.text variable number c.in_ok-push_numbered.ensures.ok c.in_ok-push_numbered-2.ensures.ok)
-    c.in_ok-push_numbered-3.ensures.ok)
-    c.push_str.ensures.ok (labelled (codes "DBG_INSTR_REF !") (decimal c.args.variable.node) (codes ", !DIExpression(DW_OP_LLVM_arg, 0), dbg-instr-ref(") (decimal c.args.number) (codes ", ") (decimal c.args.operand) (codes ")"))
+    let v = c.args.variable.now in
+    let q = c.args.pair.now in
+    let old = c.args.text.now in
+    let start = codes "DBG_INSTR_REF !" in
+    let reference = codes ", dbg-instr-ref(" in
+    let comma = codes ", " in
+    let node = start ++ decimal v.node in
+    let expression = pair_expression_text v.fragment in
+    let number = reference ++ decimal q.number in
+    let operand = comma ++ decimal q.operand in
+    ended c.push_str-2.result old c.push_numbered-3.new.text c.push_str-2.new.text ((((node ++ comma) ++ expression) ++ number) ++ operand) (codes ")") (pair_mark_text v q)
+    (joined old c.push_numbered-2.new.text c.push_numbered-3.new.text (((node ++ comma) ++ expression) ++ number) operand
+    (joined old c.push_pair_expression.new.text c.push_numbered-2.new.text ((node ++ comma) ++ expression) number
+    (joined old c.push_str.new.text c.push_pair_expression.new.text (node ++ comma) expression
+    (joined old c.push_numbered.new.text c.push_str.new.text node comma
+    (numbered old c.push_numbered.new.text start c.number.result v.node c.in_ok-push_numbered.ensures.ok c.number.ensures)
+    c.in_ok-push_str.ensures.ok)
+    c.in_ok-push_pair_expression.ensures.ok)
+    (numbered c.push_pair_expression.new.text c.push_numbered-2.new.text reference c.number-2.result q.number c.in_ok-push_numbered-2.ensures.ok c.number-2.ensures))
+    (numbered c.push_numbered-2.new.text c.push_numbered-3.new.text comma c.number-3.result q.operand c.in_ok-push_numbered-3.ensures.ok c.number-3.ensures))
+    c.push_str-2.ensures.ok
+    (labelled_pair start (decimal v.node) comma expression reference (decimal q.number) comma (decimal q.operand) (codes ")"))
