@@ -16,13 +16,14 @@ use Rattle.mir_func.specs.declared.item.ItemKind.{ItemKind}
 use Rattle.mir_func.specs.declared.item.ItemKind.TheVariants.{Code, Mark, Phi}
 use Rattle.mir_func.specs.declared.position.Pos.{Pos}
 use Rattle.mir_meaning.specs.State.{Core, State, updated, content, assigned}
-use Rattle.mir_func.specs.Variables.{is_same}
-use Rattle.mir_meaning.specs.Step.{Outcome, Falls, Goes, Gives, Traps, Asks, Breaks, Went, moved, act, seen, defined, given, numbered, with_core, place_value, pair_value, mark_value, do_item, do_fetch, step, or_zero}
+use Rattle.mir_func.specs.Variables.{is_same, overlaps}
+use Rattle.mir_meaning.specs.Step.{Outcome, Falls, Goes, Gives, Traps, Asks, Breaks, Went, moved, act, seen, defined, given, numbered, with_core, place_value, pair_value, mark_value, part_of, do_item, do_fetch, step, or_zero}
 use Rattle.rv64_instr.specs.Parts.{is_call}
 use Rattle.mir_func.specs.Graph.{Fetch, Here, Silent, Outside, Program, below, block_start}
 use Rattle.mir_meaning.specs.Token.{Token, Entry, Made, Fixed, Tokens, register_token, code_tokens, given_token, numbered_tokens, place_token, pair_token, mark_token, after_item, after_fetch, entry_tokens}
+use Rattle.mir_meaning.proofs.Assignments.{same_is}
 use Rattle.path_tokens.specs.Trace.{Trace, begin, onward, Names, NamesAlong, HasRegisters, TokensNameValues}
-use Rattle.path_tokens.proofs.Naming.{Holds, IsOld, IsOlder, Good, AreOld, AgreeBelow, good_agree, extend, extend_agrees, old_later, are_old_later}
+use Rattle.path_tokens.proofs.Naming.{in_part, Holds, IsOld, IsOlder, Good, AreOld, AgreeBelow, good_agree, extend, extend_agrees, old_later, are_old_later}
 use Rattle.path_tokens.proofs.Rows.{GoesOn, AfterCode, code_names}
 
 -- the next naming agrees with the present one on older tokens, and names what stands after the item
@@ -53,29 +54,52 @@ old_place n (Some (Register r)) t o = o.regs r
 old_place n (Some (Slot k)) t o = o.slots k
 old_place n (Some (Const k)) t o = tt
 
-holds_pair : (V : Token → ℕ) (q : Option (ℕ × ℕ)) (t : Tokens) (c : Core) → Good V t c → Holds V (pair_token q t) (pair_value q c)
+holds_pair : (V : Token → ℕ) (q : Option OperandPair) (t : Tokens) (c : Core) → Good V t c → Holds V (pair_token q t) (pair_value q c)
 holds_pair V None t c g = tt
-holds_pair V (Some q) t c g = g.pairs q.0 q.1
+holds_pair V (Some q) t c g = g.pairs q.number q.operand
 
-old_pair : (n : ℕ) (q : Option (ℕ × ℕ)) (t : Tokens) → AreOld n t → IsOld n (pair_token q t)
+old_pair : (n : ℕ) (q : Option OperandPair) (t : Tokens) → AreOld n t → IsOld n (pair_token q t)
 old_pair n None t o = tt
-old_pair n (Some q) t o = o.pairs q.0 q.1
+old_pair n (Some q) t o = o.pairs q.number q.operand
 
 holds_mark : (V : Token → ℕ) (g : Program) (m : MarkValue) (t : Tokens) (c : Core) → register_token t.regs 2 ≡ None → Good V t c → Holds V (mark_token g.resolve m t) (mark_value g m c)
 holds_mark V g Nothing t c pointer good = tt
 holds_mark V g (Constant k) t c pointer good = ap Some (sym (good.numbers (word k)))
 holds_mark V g (At r) t c pointer good = holds_seen V g.sees_pointer r t c pointer (good.regs r)
-holds_mark V g (Pair k o) t c pointer good = holds_pair V (g.resolve k o) t c good
+holds_mark V g (Pair q) t c pointer good = holds_pair V (g.resolve q) t c good
 
 old_mark : (n : ℕ) (resolve : OperandPair → Option OperandPair) (m : MarkValue) (t : Tokens) → AreOld n t → IsOld n (mark_token resolve m t)
 old_mark n resolve Nothing t o = tt
 old_mark n resolve (Constant k) t o = tt
 old_mark n resolve (At r) t o = o.regs r
-old_mark n resolve (Pair k p) t o = old_pair n (resolve k p) t o
+old_mark n resolve (Pair q) t o = old_pair n (resolve q) t o
+
+-- a part gets the low bytes
+holds_part : (V : Token → ℕ) (v : VarId) (x : Option Token) (y : Option ℕ) → Holds V x y → Holds (in_part v V) x (part_of v y)
+holds_part V v None y h = tt
+holds_part V v (Some k) y h = ap (part_of v) h
+
+-- after a mark of v
+holds_marked : (V : Token → ℕ) (v w : VarId) (x : Option Token) (y : Option ℕ) (ts : List (VarId × Option Token)) (cs : List (VarId × Option ℕ)) →
+    Holds V x y → Holds (in_part w V) (assigned w ts) (assigned w cs) → Holds (in_part w V) (assigned w ((v, x) ∷ ts)) (assigned w ((v, part_of v y) ∷ cs))
+holds_marked V v w x y ts cs h older = by_case (is_same w v) (overlaps w v) refl where
+  by_case : (same over : Bool) → is_same w v ≡ same →
+      Holds (in_part w V) (cond same x (cond over None (assigned w ts))) (cond same (part_of v y) (cond over None (assigned w cs)))
+  by_case true over e = subst (λ (u : VarId). Holds (in_part u V) x (part_of v y)) (sym (same_is w v e)) (holds_part V v x y h)
+  by_case false true e = tt
+  by_case false false e = older
+
+old_marked : (n : ℕ) (v w : VarId) (x : Option Token) (ts : List (VarId × Option Token)) → IsOld n x → IsOld n (assigned w ts) →
+    IsOld n (assigned w ((v, x) ∷ ts))
+old_marked n v w x ts h older = by_case (is_same w v) (overlaps w v) where
+  by_case : (same over : Bool) → IsOld n (cond same x (cond over None (assigned w ts)))
+  by_case true over = h
+  by_case false true = tt
+  by_case false false = older
 
 -- a mark
 mark_names : (V : Token → ℕ) (n : ℕ) (g : Program) (v : VarId) (m : MarkValue) (t : Tokens) (c : Core) → AreOld n t → Good V t c →
-    Renamed n V (after_item g.resolve n (Mark v m) t) (record c { marks = (v, mark_value g m c) ∷ c.marks })
+    Renamed n V (after_item g.resolve n (Mark v m) t) (record c { marks = (v, part_of v (mark_value g m c)) ∷ c.marks })
 mark_names V n g v m t c o good = record {
   value = V;
   agrees = λ k old. refl;
@@ -84,19 +108,13 @@ mark_names V n g v m t c o good = record {
     regs = good.regs;
     slots = good.slots;
     pairs = good.pairs;
-    variables = λ w. elim (is_same w v) as (λ b. Holds V (cond b (mark_token g.resolve m t) (assigned w t.marks)) (cond b (mark_value g m c) (assigned w c.marks))) [
-      | true ↦ holds_mark V g m t c o.pointer good
-      | false ↦ good.variables w
-    ];
+    variables = λ w. holds_marked V v w (mark_token g.resolve m t) (mark_value g m c) t.marks c.marks (holds_mark V g m t c o.pointer good) (good.variables w);
   };
   old = record {
     regs = λ r. old_later n _ (o.regs r);
     slots = λ k. old_later n _ (o.slots k);
     pairs = λ k p. old_later n _ (o.pairs k p);
-    variables = λ w. elim (is_same w v) as (λ b. IsOld (suc n) (cond b (mark_token g.resolve m t) (assigned w t.marks))) [
-      | true ↦ old_later n _ (old_mark n g.resolve m t o)
-      | false ↦ old_later n _ (o.variables w)
-    ];
+    variables = λ w. old_later n _ (old_marked n v w (mark_token g.resolve m t) t.marks (old_mark n g.resolve m t o) (o.variables w));
     pointer = o.pointer;
   };
 }
@@ -155,8 +173,8 @@ whole V n t t' c c' o g a =
         regs = a.regs;
         slots = a.slots;
         pairs = λ k p. subst (λ (z : ℕ → ℕ → Option Token). Holds W (z k p) (c'.pairs k p)) (sym a.token_pairs) (subst (λ (z : ℕ → ℕ → Option ℕ). Holds W (t.pairs k p) (z k p)) (sym a.pairs) (h.pairs k p));
-        variables = λ v. subst (λ (z : List (VarId × Option Token)). Holds W (assigned v z) (assigned v c'.marks)) (sym a.token_marks)
-            (subst (λ (z : List (VarId × Option ℕ)). Holds W (assigned v t.marks) (assigned v z)) (sym a.marks) (h.variables v));
+        variables = λ v. subst (λ (z : List (VarId × Option Token)). Holds (in_part v W) (assigned v z) (assigned v c'.marks)) (sym a.token_marks)
+            (subst (λ (z : List (VarId × Option ℕ)). Holds (in_part v W) (assigned v t.marks) (assigned v z)) (sym a.marks) (h.variables v));
       };
       old = record {
         regs = a.old_regs;
@@ -237,7 +255,7 @@ good_names V t c g = record {
   regs = λ r k e. holds_names V _ _ k (g.regs r) e;
   slots = λ n k e. holds_names V _ _ k (g.slots n) e;
   pairs = λ n o k e. holds_names V _ _ k (g.pairs n o) e;
-  variables = λ v k e. holds_names V _ _ k (g.variables v) e;
+  variables = λ v k e. holds_names (in_part v V) _ _ k (g.variables v) e;
 }
 
 -- what is known at the end of a trace

@@ -2,6 +2,7 @@
 use Rattle.std.proofs.Common.{◌≡◌, ℕ, zero, suc, ◌<◌, List, [], ◌∷◌, Option, Some, None, Bool, true, false, cond, refl, sym, ap, ◌∙◌, subst, inl, inr, eqb, arith}
 use Rattle.std.proofs.lemmas.Bool.{eqb-true, eq-eqb, ne_eqb, cases_Bool}
 use Rattle.mir_func.specs.declared.variable.VarId.{VarId}
+use Rattle.mir_func.specs.Variables.{part_value}
 use Rattle.mir_meaning.specs.State.{Core, content, put, put_all, assigned}
 use Rattle.mir_meaning.specs.Step.{or_zero}
 use Rattle.mir_meaning.specs.Token.{Token, Entry, Made, Fixed, Tokens, register_token, put_token, make_all}
@@ -21,13 +22,17 @@ abbrev pub IsOld : ℕ → Option Token → Type 0
 IsOld n None = Unit {0}
 IsOld n (Some k) = IsOlder n k
 
+-- the value of a part: its low bytes of the token's
+abbrev pub in_part : VarId → (Token → ℕ) → Token → ℕ
+in_part v V k = part_value v (V k)
+
 -- what has a token holds its value
 pub record Good (V : Token → ℕ) (t : Tokens) (c : Core) : Type 0 where
   pub numbers : (k : ℕ) → V (Fixed k) ≡ k
   pub regs : (r : ℕ) → Holds V (register_token t.regs r) (content c.regs r)
   pub slots : (n : ℕ) → Holds V (t.slots n) (c.slots n)
   pub pairs : (n o : ℕ) → Holds V (t.pairs n o) (c.pairs n o)
-  pub variables : (v : VarId) → Holds V (assigned v t.marks) (assigned v c.marks)
+  pub variables : (v : VarId) → Holds (in_part v V) (assigned v t.marks) (assigned v c.marks)
 
 -- the tokens were made before place n, and x2 has none
 pub record AreOld (n : ℕ) (t : Tokens) : Type 0 where
@@ -51,7 +56,7 @@ good_agree n V W t c same o g = record {
   regs = λ r. holds_agree n V W same _ _ (o.regs r) (g.regs r);
   slots = λ k. holds_agree n V W same _ _ (o.slots k) (g.slots k);
   pairs = λ k p. holds_agree n V W same _ _ (o.pairs k p) (g.pairs k p);
-  variables = λ v. holds_agree n V W same _ _ (o.variables v) (g.variables v);
+  variables = λ v. holds_agree n (in_part v V) (in_part v W) (λ k old. ap (part_value v) (same k old)) _ _ (o.variables v) (g.variables v);
 }
 
 -- the values of the tokens made at place n: what the registers hold afterwards

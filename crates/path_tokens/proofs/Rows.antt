@@ -1,11 +1,11 @@
 -- What code of each row does to tokens and values.
-use Rattle.std.proofs.Common.{◌≡◌, ℕ, zero, suc, ◌+◌, ◌%◌, ◌^◌, List, [], ◌∷◌, map, Option, Some, None, Bool, true, false, cond, refl, sym, ap, ◌∙◌, subst, eqb, arith}
+use Rattle.std.proofs.Common.{◌≡◌, ℕ, zero, suc, List, [], ◌∷◌, map, Option, Some, None, Bool, true, false, cond, refl, sym, ap, ◌∙◌, subst, eqb, arith}
 use Rattle.std.proofs.lemmas.Bool.{ne_eqb}
-use Rattle.rv64_instr.specs.Arithmetic.{taken, width_of}
-use Rattle.rv64_instr.specs.Row.{Row, Fixes, Moves, Sets, Loads, Stores, LoadsSlot, StoresSlot, Branches, Jumps, Calls, Returns, Unfit}
+use Rattle.rv64_instr.specs.Arithmetic.{taken, load_width, store_width}
+use Rattle.rv64_instr.specs.Row.{Row, Fixes, Moves, Sets, Addresses, Loads, Stores, LoadsSlot, StoresSlot, Branches, Jumps, Calls, Returns, Unfit}
 use Rattle.rv64_instr.specs.Access.{caller_saved, reads}
-use Rattle.mir_meaning.specs.State.{Core, Reply, updated, content, put, put_all, touches_frame, writes_frame}
-use Rattle.mir_meaning.specs.Step.{Outcome, Falls, Goes, Traps, act, does, read, or_zero, set_register, answered, slot_loaded, are_written}
+use Rattle.mir_meaning.specs.State.{Core, Reply, updated, content, put, put_all, writes_frame}
+use Rattle.mir_meaning.specs.Step.{Outcome, Falls, Goes, Traps, act, does, read, or_zero, set_register, answered, slot_loaded, are_written, is_fault, address_at}
 use Rattle.mir_meaning.specs.Token.{Token, Made, Fixed, Tokens, register_token, put_token, make_all, moved_tokens, sets_pointer, code_tokens}
 use Rattle.path_tokens.proofs.Naming.{Holds, IsOld, Good, AreOld, holds_agree, extend, extend_agrees, made_put, made_all, holds_put, holds_made, old_put, old_made_or, old_later}
 
@@ -122,10 +122,14 @@ row_names V n (Fixes rd k) t c c' o g e = subst (λ (z : Core). AfterCode n V t 
 row_names V n (Moves rd rs) t c c' o g e = subst (λ (z : Core). AfterCode n V t (record t { regs = put_token rd (register_token t.regs rs) t.regs }) c z) e
     (put_old V n rd (read c rs) (register_token t.regs rs) t c o g (o.regs rs) (holds_read V _ _ (g.regs rs)))
 row_names V n (Sets rd op a b) t c c' o g e = subst (λ (z : Core). AfterCode n V t (record t { regs = put_token rd (Some (Made n rd)) t.regs }) c z) e (put_new V n rd _ t c o g)
+row_names V n (Addresses rd k offset) t c c' o g e =
+    subst (λ (z : Core). AfterCode n V t (record t { regs = put_token rd (Some (Made n rd)) t.regs }) c z) e (put_new V n rd _ t c o g)
 row_names V n (Loads rd op base offset) t c c' o g e =
-    subst (λ (z : Core). AfterCode n V t (record t { regs = put_token rd (Some (Made n rd)) t.regs }) c z) (unless_traps (touches_frame c.entry ((read c base + offset) % 2 ^ 64) (width_of op)) _ c' e) (put_new V n rd _ t c o g)
+    subst (λ (z : Core). AfterCode n V t (record t { regs = put_token rd (Some (Made n rd)) t.regs }) c z)
+    (unless_traps (is_fault base c (address_at c base offset) (load_width op)) _ c' e) (put_new V n rd _ t c o g)
 row_names V n (Stores op rs base offset) t c c' o g e =
-    subst (λ (z : Core). AfterCode n V t t c z) (unless_traps (touches_frame c.entry ((read c base + offset) % 2 ^ 64) (width_of op)) _ c' e) (same_values V n t c _ o g refl refl refl refl)
+    subst (λ (z : Core). AfterCode n V t t c z) (unless_traps (is_fault base c (address_at c base offset) (store_width op)) _ c' e)
+    (same_values V n t c _ o g refl refl refl refl)
 row_names V n (LoadsSlot rd k) t c c' o g e = filled (c.slots k) refl e where
   filled : (y : Option ℕ) → c.slots k ≡ y → GoesOn (slot_loaded rd c y) c' → AfterCode n V t (record t { regs = put_token rd (t.slots k) t.regs }) c c'
   filled None q e = absurd e
@@ -155,7 +159,7 @@ row_names V n (Calls name args) t c c' o g e = called c.script e where
       let cr = put_all caller_saved y.regs c.regs in
       let W = extend n cr V in
       let new = made_all n caller_saved y.regs t.regs c.regs in
-      subst (λ (z : Core). AfterCode n V t (record t { regs = make_all n caller_saved t.regs }) c z) (unless_traps (writes_frame c.entry y.writes) _ c' e) (record {
+      subst (λ (z : Core). AfterCode n V t (record t { regs = make_all n caller_saved t.regs }) c z) (unless_traps (writes_frame c.entry c.area y.writes) _ c' e) (record {
         regs = holds_made n V t.regs (make_all n caller_saved t.regs) c.regs cr new o.regs g.regs;
         slots = λ k. holds_agree n V W (extend_agrees n cr V) _ _ (o.slots k) (g.slots k);
         old_regs = λ r. old_made_or n r t.regs (make_all n caller_saved t.regs) c.regs cr (new r) (old_later n _ (o.regs r));
