@@ -4,7 +4,8 @@ ghost use Rattle.path_tokens.specs.Parts.{PartsHaveOneToken};
 ghost use Rattle.path_tokens.specs.Pullback.{AgreementPullsBack, SharingPullsBack, TokensPullBack};
 ghost use Rattle.path_tokens.specs.Trace.{RunsTakePaths, TokensNameValues};
 
-/// Along a run there is one value for each token, and whatever has the token holds it: a part of a variable its low bytes.
+/// Along a run there is one value for each token, and whatever has the token holds it, a part of a variable its low
+/// bytes.
 pub fn tokens_name_values()
     ensures { TokensNameValues }
 {}
