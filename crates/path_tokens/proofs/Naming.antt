@@ -1,7 +1,9 @@
 -- One item: whatever has a token afterwards holds the value that the token names.
-use Rattle.std.proofs.Common.{◌≡◌, ℕ, zero, suc, ◌<◌, List, [], ◌∷◌, Option, Some, None, Bool, true, false, cond, refl, sym, ap, ◌∙◌, subst, inl, inr, eqb, arith}
-use Rattle.std.proofs.lemmas.Bool.{eqb-true, eq-eqb, ne_eqb, cases_Bool}
+use Rattle.std.proofs.Common.{◌≡◌, ℕ, zero, suc, ◌<◌, List, [], ◌∷◌, Option, Some, None, Bool, true, false, cond, refl, sym, ap, ◌∙◌, subst}
+use Rattle.std.proofs.Common.{eqb, arith}
+use Rattle.std.proofs.lemmas.Bool.{eqb-true, eq-eqb, ne_eqb}
 use Rattle.mir_func.specs.declared.variable.VarId.{VarId}
+use Rattle.mir_func.specs.Variables.{part_value}
 use Rattle.mir_meaning.specs.State.{Core, content, put, put_all, assigned}
 use Rattle.mir_meaning.specs.Step.{or_zero}
 use Rattle.mir_meaning.specs.Token.{Token, Entry, Made, Fixed, Tokens, register_token, put_token, make_all}
@@ -21,13 +23,17 @@ abbrev pub IsOld : ℕ → Option Token → Type 0
 IsOld n None = Unit {0}
 IsOld n (Some k) = IsOlder n k
 
+-- the value of a part: its low bytes of the token's
+abbrev pub in_part : VarId → (Token → ℕ) → Token → ℕ
+in_part v V k = part_value v (V k)
+
 -- what has a token holds its value
 pub record Good (V : Token → ℕ) (t : Tokens) (c : Core) : Type 0 where
   pub numbers : (k : ℕ) → V (Fixed k) ≡ k
   pub regs : (r : ℕ) → Holds V (register_token t.regs r) (content c.regs r)
   pub slots : (n : ℕ) → Holds V (t.slots n) (c.slots n)
   pub pairs : (n o : ℕ) → Holds V (t.pairs n o) (c.pairs n o)
-  pub variables : (v : VarId) → Holds V (assigned v t.marks) (assigned v c.marks)
+  pub variables : (v : VarId) → Holds (in_part v V) (assigned v t.marks) (assigned v c.marks)
 
 -- the tokens were made before place n, and x2 has none
 pub record AreOld (n : ℕ) (t : Tokens) : Type 0 where
@@ -51,7 +57,7 @@ good_agree n V W t c same o g = record {
   regs = λ r. holds_agree n V W same _ _ (o.regs r) (g.regs r);
   slots = λ k. holds_agree n V W same _ _ (o.slots k) (g.slots k);
   pairs = λ k p. holds_agree n V W same _ _ (o.pairs k p) (g.pairs k p);
-  variables = λ v. holds_agree n V W same _ _ (o.variables v) (g.variables v);
+  variables = λ v. holds_agree n (in_part v V) (in_part v W) (λ k old. ap (part_value v) (same k old)) _ _ (o.variables v) (g.variables v);
 }
 
 -- the values of the tokens made at place n: what the registers hold afterwards
@@ -84,34 +90,37 @@ put_itself : (rd : ℕ) (x : Option Token) (v : ℕ) (tr : ℕ → Option Token)
     (r : ℕ) → P r (register_token (put_token rd x tr) r) (content (put rd v cr) r)
 put_itself zero x v tr cr P all new pointer r = all r
 put_itself (suc rd) x v tr cr P all new pointer zero = all zero
-put_itself (suc rd) x v tr cr P all new pointer (suc r) =
-    elim (cases_Bool (eqb (suc r) (suc rd))) as (λ z. P (suc r) (cond (eqb (suc r) (suc rd)) (cond (eqb rd 1) None x) (tr (suc r))) (cond (eqb (suc r) (suc rd)) (Some v) (cr (suc r)))) [
-      | inl k ↦ subst (λ (z : Bool). P (suc r) (cond z (cond (eqb rd 1) None x) (tr (suc r))) (cond z (Some v) (cr (suc r)))) (sym k)
-          (elim (eqb rd 1) as (λ z. P (suc r) (cond z None x) (Some v)) [ true ↦ pointer (suc r) | false ↦ new (suc r) (eqb-true (suc r) (suc rd) k) ])
-      | inr k ↦ subst (λ (z : Bool). P (suc r) (cond z (cond (eqb rd 1) None x) (tr (suc r))) (cond z (Some v) (cr (suc r)))) (sym k) (all (suc r))
-    ]
+put_itself (suc rd) x v tr cr P all new pointer (suc r) = by_case (eqb (suc r) (suc rd)) (eqb rd 1) refl where
+  by_case : (same at_pointer : Bool) → eqb (suc r) (suc rd) ≡ same →
+      P (suc r) (cond same (cond at_pointer None x) (tr (suc r))) (cond same (Some v) (cr (suc r)))
+  by_case true true e = pointer (suc r)
+  by_case true false e = new (suc r) (eqb-true (suc r) (suc rd) e)
+  by_case false at_pointer e = all (suc r)
 
 pub holds_put : (V : Token → ℕ) (rd : ℕ) (x : Option Token) (v : ℕ) (tr : ℕ → Option Token) (cr : ℕ → Option ℕ) → Holds V x (Some v) →
     ((r : ℕ) → Holds V (register_token tr r) (content cr r)) → (r : ℕ) → Holds V (register_token (put_token rd x tr) r) (content (put rd v cr) r)
 holds_put V rd x v tr cr h all = put_itself rd x v tr cr (λ r y z. Holds V y z) all (λ r e. h) (λ r. tt)
 
-pub old_put : (n rd : ℕ) (x : Option Token) (tr : ℕ → Option Token) → IsOld n x → ((r : ℕ) → IsOld n (register_token tr r)) → (r : ℕ) → IsOld n (register_token (put_token rd x tr) r)
+pub old_put : (n rd : ℕ) (x : Option Token) (tr : ℕ → Option Token) → IsOld n x → ((r : ℕ) → IsOld n (register_token tr r)) → (r : ℕ) →
+    IsOld n (register_token (put_token rd x tr) r)
 old_put n rd x tr h all = put_itself rd x 0 tr (λ r. None) (λ r y z. IsOld n y) all (λ r e. h) (λ r. tt)
 
 pub made_put : (n rd v : ℕ) (tr : ℕ → Option Token) (cr : ℕ → Option ℕ) (r : ℕ) → IsMadeOr n r tr cr (put_token rd (Some (Made n rd)) tr) (put rd v cr)
 made_put n zero v tr cr r = stays refl refl
 made_put n (suc rd) v tr cr zero = stays refl refl
-made_put n (suc rd) v tr cr (suc r) =
-    elim (cases_Bool (eqb (suc r) (suc rd))) as (λ z. IsMadeOr n (suc r) tr cr (put_token (suc rd) (Some (Made n (suc rd))) tr) (put (suc rd) v cr)) [
-      | inl k ↦ elim (cases_Bool (eqb rd 1)) as (λ z. IsMadeOr n (suc r) tr cr (put_token (suc rd) (Some (Made n (suc rd))) tr) (put (suc rd) v cr)) [
-        | inl p ↦ nameless (ap (λ (b : Bool). cond b (cond (eqb rd 1) None (Some (Made n (suc rd)))) (tr (suc r))) k ∙ ap (λ (b : Bool). cond b None (Some (Made n (suc rd)))) p)
-        | inr p ↦ made v (ap (λ (b : Bool). cond b (cond (eqb rd 1) None (Some (Made n (suc rd)))) (tr (suc r))) k ∙ ap (λ (b : Bool). cond b None (Some (Made n (suc rd)))) p ∙ ap (λ (q : ℕ). Some (Made n q)) (sym (eqb-true (suc r) (suc rd) k)))
-            (ap (λ (b : Bool). cond b (Some v) (cr (suc r))) k)
-      ]
-      | inr k ↦ stays (ap (λ (b : Bool). cond b (cond (eqb rd 1) None (Some (Made n (suc rd)))) (tr (suc r))) k) (ap (λ (b : Bool). cond b (Some v) (cr (suc r))) k)
-    ]
+made_put n (suc rd) v tr cr (suc r) = by_case (eqb (suc r) (suc rd)) (eqb rd 1) refl refl where
+  puts : Bool → Bool → Option Token
+  puts same at_pointer = cond same (cond at_pointer None (Some (Made n (suc rd)))) (tr (suc r))
 
-made_then : (n r : ℕ) (tr tr1 tr2 : ℕ → Option Token) (cr cr1 cr2 : ℕ → Option ℕ) → IsMadeOr n r tr cr tr1 cr1 → IsMadeOr n r tr1 cr1 tr2 cr2 → IsMadeOr n r tr cr tr2 cr2
+  by_case : (same at_pointer : Bool) → eqb (suc r) (suc rd) ≡ same → eqb rd 1 ≡ at_pointer →
+      IsMadeOr n (suc r) tr cr (put_token (suc rd) (Some (Made n (suc rd))) tr) (put (suc rd) v cr)
+  by_case true true e f = nameless (λ i. puts (e i) (f i))
+  by_case true false e f =
+      made v ((λ i. puts (e i) (f i)) ∙ ap (λ (q : ℕ). Some (Made n q)) (sym (eqb-true (suc r) (suc rd) e))) (λ i. cond (e i) (Some v) (cr (suc r)))
+  by_case false at_pointer e f = stays (λ i. puts (e i) (f i)) (λ i. cond (e i) (Some v) (cr (suc r)))
+
+made_then : (n r : ℕ) (tr tr1 tr2 : ℕ → Option Token) (cr cr1 cr2 : ℕ → Option ℕ) → IsMadeOr n r tr cr tr1 cr1 → IsMadeOr n r tr1 cr1 tr2 cr2 →
+    IsMadeOr n r tr cr tr2 cr2
 made_then n r tr tr1 tr2 cr cr1 cr2 (stays a b) (stays c d) = stays (c ∙ a) (d ∙ b)
 made_then n r tr tr1 tr2 cr cr1 cr2 (made v a b) (stays c d) = made v (c ∙ a) (d ∙ b)
 made_then n r tr tr1 tr2 cr cr1 cr2 (nameless a) (stays c d) = nameless (c ∙ a)
@@ -125,16 +134,19 @@ made_all n (q ∷ rs) (v ∷ vs) tr cr r = made_then n r _ _ _ _ _ _ (made_put n
 
 -- the registers after an item that makes tokens at place n
 pub holds_made : (n : ℕ) (V : Token → ℕ) (tr tr' : ℕ → Option Token) (cr cr' : ℕ → Option ℕ) → ((r : ℕ) → IsMadeOr n r tr cr tr' cr') →
-    ((r : ℕ) → IsOld n (register_token tr r)) → ((r : ℕ) → Holds V (register_token tr r) (content cr r)) → (r : ℕ) → Holds (extend n cr' V) (register_token tr' r) (content cr' r)
+    ((r : ℕ) → IsOld n (register_token tr r)) → ((r : ℕ) → Holds V (register_token tr r) (content cr r)) → (r : ℕ) →
+    Holds (extend n cr' V) (register_token tr' r) (content cr' r)
 holds_made n V tr tr' cr cr' new old h r =
     elim (new r) as (λ z. Holds (extend n cr' V) (register_token tr' r) (content cr' r)) [
-      | stays a b ↦ subst (λ (z : Option Token). Holds (extend n cr' V) z (content cr' r)) (sym a) (subst (λ (z : Option ℕ). Holds (extend n cr' V) (register_token tr r) z) (sym b)
+      | stays a b ↦ subst (λ (z : Option Token). Holds (extend n cr' V) z (content cr' r)) (sym a)
+          (subst (λ (z : Option ℕ). Holds (extend n cr' V) (register_token tr r) z) (sym b)
           (holds_agree n V (extend n cr' V) (extend_agrees n cr' V) _ _ (old r) (h r)))
       | made v a b ↦ subst (λ (z : Option Token). Holds (extend n cr' V) z (content cr' r)) (sym a) (b ∙ ap Some (sym (extend_made n cr' V r ∙ ap or_zero b)))
       | nameless a ↦ subst (λ (z : Option Token). Holds (extend n cr' V) z (content cr' r)) (sym a) tt
     ]
 
-pub old_made_or : (n r : ℕ) (tr tr' : ℕ → Option Token) (cr cr' : ℕ → Option ℕ) → IsMadeOr n r tr cr tr' cr' → IsOld (suc n) (register_token tr r) → IsOld (suc n) (register_token tr' r)
+pub old_made_or : (n r : ℕ) (tr tr' : ℕ → Option Token) (cr cr' : ℕ → Option ℕ) → IsMadeOr n r tr cr tr' cr' → IsOld (suc n) (register_token tr r) →
+    IsOld (suc n) (register_token tr' r)
 old_made_or n r tr tr' cr cr' (stays a b) o = subst (λ (z : Option Token). IsOld (suc n) z) (sym a) o
 old_made_or n r tr tr' cr cr' (made v a b) o = subst (λ (z : Option Token). IsOld (suc n) z) (sym a) (omega arith)
 old_made_or n r tr tr' cr cr' (nameless a) o = subst (λ (z : Option Token). IsOld (suc n) z) (sym a) tt

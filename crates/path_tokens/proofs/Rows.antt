@@ -1,13 +1,15 @@
 -- What code of each row does to tokens and values.
-use Rattle.std.proofs.Common.{◌≡◌, ℕ, zero, suc, ◌+◌, ◌%◌, ◌^◌, List, [], ◌∷◌, map, Option, Some, None, Bool, true, false, cond, refl, sym, ap, ◌∙◌, subst, eqb, arith}
+use Rattle.std.proofs.Common.{◌≡◌, ℕ, zero, suc, List, [], ◌∷◌, map, Option, Some, None, Bool, true, false, cond, refl, sym, ap, ◌∙◌, subst, eqb, arith}
 use Rattle.std.proofs.lemmas.Bool.{ne_eqb}
-use Rattle.rv64_instr.specs.Arithmetic.{taken, width_of}
-use Rattle.rv64_instr.specs.Row.{Row, Fixes, Moves, Sets, Loads, Stores, LoadsSlot, StoresSlot, Branches, Jumps, Calls, Returns, Unfit}
+use Rattle.rv64_instr.specs.Arithmetic.{taken, load_width, store_width}
+use Rattle.rv64_instr.specs.Row.{Row, Fixes, Moves, Sets, Addresses, Loads, Stores, LoadsSlot, StoresSlot, Branches, Jumps, Calls, Returns, Unfit}
 use Rattle.rv64_instr.specs.Access.{caller_saved, reads}
-use Rattle.mir_meaning.specs.State.{Core, Reply, updated, content, put, put_all, touches_frame, writes_frame}
-use Rattle.mir_meaning.specs.Step.{Outcome, Falls, Goes, Traps, act, does, read, or_zero, set_register, answered, slot_loaded, are_written}
+use Rattle.mir_meaning.specs.State.{Core, Reply, updated, content, put, put_all, writes_frame}
+use Rattle.mir_meaning.specs.Step.{Outcome, Falls, Goes, Traps, act, does, read, or_zero, set_register, answered, slot_loaded, are_written, is_fault}
+use Rattle.mir_meaning.specs.Step.{address_at}
 use Rattle.mir_meaning.specs.Token.{Token, Made, Fixed, Tokens, register_token, put_token, make_all, moved_tokens, sets_pointer, code_tokens}
-use Rattle.path_tokens.proofs.Naming.{Holds, IsOld, Good, AreOld, holds_agree, extend, extend_agrees, made_put, made_all, holds_put, holds_made, old_put, old_made_or, old_later}
+use Rattle.path_tokens.proofs.Naming.{Holds, IsOld, Good, AreOld, holds_agree, extend, extend_agrees, made_put, made_all, holds_put, holds_made}
+use Rattle.path_tokens.proofs.Naming.{old_put, old_made_or, old_later}
 
 -- the core after an outcome that goes on
 abbrev pub GoesOn : Outcome → Core → Type 0
@@ -48,7 +50,8 @@ pointer_all : (n : ℕ) (rs : List ℕ) (tr : ℕ → Option Token) → register
 pointer_all n [] tr e = e
 pointer_all n (r ∷ rs) tr e = pointer_all n rs (put_token r (Some (Made n r)) tr) (pointer_put r (Some (Made n r)) tr e)
 
-holds_updated : (V : Token → ℕ) (k : ℕ) (x : Option Token) (v : ℕ) (ts : ℕ → Option Token) (cs : ℕ → Option ℕ) → Holds V x (Some v) → ((q : ℕ) → Holds V (ts q) (cs q)) →
+holds_updated : (V : Token → ℕ) (k : ℕ) (x : Option Token) (v : ℕ) (ts : ℕ → Option Token) (cs : ℕ → Option ℕ) → Holds V x (Some v) →
+    ((q : ℕ) → Holds V (ts q) (cs q)) →
     (q : ℕ) → Holds V (updated k x ts q) (updated k (Some v) cs q)
 holds_updated V k x v ts cs h all q = elim (eqb q k) as (λ b. Holds V (cond b x (ts q)) (cond b (Some v) (cs q))) [ true ↦ h | false ↦ all q ]
 
@@ -56,11 +59,13 @@ old_updated : (n k : ℕ) (x : Option Token) (ts : ℕ → Option Token) → IsO
 old_updated n k x ts h all q = elim (eqb q k) as (λ b. IsOld n (cond b x (ts q))) [ true ↦ h | false ↦ all q ]
 
 -- nothing changed but memory, events and the script
-same_values : (V : Token → ℕ) (n : ℕ) (t : Tokens) (c c' : Core) → AreOld n t → Good V t c → c'.regs ≡ c.regs → c'.slots ≡ c.slots → c'.pairs ≡ c.pairs → c'.marks ≡ c.marks → AfterCode n V t t c c'
+same_values : (V : Token → ℕ) (n : ℕ) (t : Tokens) (c c' : Core) → AreOld n t → Good V t c → c'.regs ≡ c.regs → c'.slots ≡ c.slots → c'.pairs ≡ c.pairs →
+    c'.marks ≡ c.marks → AfterCode n V t t c c'
 same_values V n t c c' o g er es ep em =
     let W = extend n c'.regs V in
     record {
-      regs = λ r. subst (λ (z : ℕ → Option ℕ). Holds W (register_token t.regs r) (content z r)) (sym er) (holds_agree n V W (extend_agrees n c'.regs V) _ _ (o.regs r) (g.regs r));
+      regs = λ r. subst (λ (z : ℕ → Option ℕ). Holds W (register_token t.regs r) (content z r)) (sym er)
+          (holds_agree n V W (extend_agrees n c'.regs V) _ _ (o.regs r) (g.regs r));
       slots = λ k. subst (λ (z : ℕ → Option ℕ). Holds W (t.slots k) (z k)) (sym es) (holds_agree n V W (extend_agrees n c'.regs V) _ _ (o.slots k) (g.slots k));
       old_regs = λ r. old_later n _ (o.regs r);
       old_slots = λ k. old_later n _ (o.slots k);
@@ -115,17 +120,23 @@ either_way true n c c' e = e
 either_way false n c c' e = e
 
 -- a row moves tokens as it moves values
-pub row_names : (V : Token → ℕ) (n : ℕ) (r : Row) (t : Tokens) (c c' : Core) → AreOld n t → Good V t c → GoesOn (does r c) c' → AfterCode n V t (moved_tokens n r t) c c'
+pub row_names : (V : Token → ℕ) (n : ℕ) (r : Row) (t : Tokens) (c c' : Core) → AreOld n t → Good V t c → GoesOn (does r c) c' →
+    AfterCode n V t (moved_tokens n r t) c c'
 unfolding does moved_tokens
 row_names V n (Fixes rd k) t c c' o g e = subst (λ (z : Core). AfterCode n V t (record t { regs = put_token rd (Some (Fixed k)) t.regs }) c z) e
     (put_old V n rd k (Some (Fixed k)) t c o g tt (ap Some (sym (g.numbers k))))
 row_names V n (Moves rd rs) t c c' o g e = subst (λ (z : Core). AfterCode n V t (record t { regs = put_token rd (register_token t.regs rs) t.regs }) c z) e
     (put_old V n rd (read c rs) (register_token t.regs rs) t c o g (o.regs rs) (holds_read V _ _ (g.regs rs)))
-row_names V n (Sets rd op a b) t c c' o g e = subst (λ (z : Core). AfterCode n V t (record t { regs = put_token rd (Some (Made n rd)) t.regs }) c z) e (put_new V n rd _ t c o g)
+row_names V n (Sets rd op a b) t c c' o g e =
+    subst (λ (z : Core). AfterCode n V t (record t { regs = put_token rd (Some (Made n rd)) t.regs }) c z) e (put_new V n rd _ t c o g)
+row_names V n (Addresses rd k offset) t c c' o g e =
+    subst (λ (z : Core). AfterCode n V t (record t { regs = put_token rd (Some (Made n rd)) t.regs }) c z) e (put_new V n rd _ t c o g)
 row_names V n (Loads rd op base offset) t c c' o g e =
-    subst (λ (z : Core). AfterCode n V t (record t { regs = put_token rd (Some (Made n rd)) t.regs }) c z) (unless_traps (touches_frame c.entry ((read c base + offset) % 2 ^ 64) (width_of op)) _ c' e) (put_new V n rd _ t c o g)
+    subst (λ (z : Core). AfterCode n V t (record t { regs = put_token rd (Some (Made n rd)) t.regs }) c z)
+    (unless_traps (is_fault base c (address_at c base offset) (load_width op)) _ c' e) (put_new V n rd _ t c o g)
 row_names V n (Stores op rs base offset) t c c' o g e =
-    subst (λ (z : Core). AfterCode n V t t c z) (unless_traps (touches_frame c.entry ((read c base + offset) % 2 ^ 64) (width_of op)) _ c' e) (same_values V n t c _ o g refl refl refl refl)
+    subst (λ (z : Core). AfterCode n V t t c z) (unless_traps (is_fault base c (address_at c base offset) (store_width op)) _ c' e)
+    (same_values V n t c _ o g refl refl refl refl)
 row_names V n (LoadsSlot rd k) t c c' o g e = filled (c.slots k) refl e where
   filled : (y : Option ℕ) → c.slots k ≡ y → GoesOn (slot_loaded rd c y) c' → AfterCode n V t (record t { regs = put_token rd (t.slots k) t.regs }) c c'
   filled None q e = absurd e
@@ -136,7 +147,8 @@ row_names V n (StoresSlot rs k) t c c' o g e =
     let same = extend_agrees n c.regs V in
     subst (λ (z : Core). AfterCode n V t (record t { slots = updated k (register_token t.regs rs) t.slots }) c z) e (record {
       regs = λ r. holds_agree n V W same _ _ (o.regs r) (g.regs r);
-      slots = holds_updated W k (register_token t.regs rs) (read c rs) t.slots c.slots (holds_agree n V W same _ _ (o.regs rs) (holds_read V _ _ (g.regs rs))) (λ q. holds_agree n V W same _ _ (o.slots q) (g.slots q));
+      slots = holds_updated W k (register_token t.regs rs) (read c rs) t.slots c.slots (holds_agree n V W same _ _ (o.regs rs) (holds_read V _ _ (g.regs rs)))
+          (λ q. holds_agree n V W same _ _ (o.slots q) (g.slots q));
       old_regs = λ r. old_later n _ (o.regs r);
       old_slots = old_updated (suc n) k (register_token t.regs rs) t.slots (old_later n _ (o.regs rs)) (λ q. old_later n _ (o.slots q));
       pointer = o.pointer;
@@ -155,7 +167,8 @@ row_names V n (Calls name args) t c c' o g e = called c.script e where
       let cr = put_all caller_saved y.regs c.regs in
       let W = extend n cr V in
       let new = made_all n caller_saved y.regs t.regs c.regs in
-      subst (λ (z : Core). AfterCode n V t (record t { regs = make_all n caller_saved t.regs }) c z) (unless_traps (writes_frame c.entry y.writes) _ c' e) (record {
+      subst (λ (z : Core). AfterCode n V t (record t { regs = make_all n caller_saved t.regs }) c z)
+      (unless_traps (writes_frame c.entry c.area y.writes) _ c' e) (record {
         regs = holds_made n V t.regs (make_all n caller_saved t.regs) c.regs cr new o.regs g.regs;
         slots = λ k. holds_agree n V W (extend_agrees n cr V) _ _ (o.slots k) (g.slots k);
         old_regs = λ r. old_made_or n r t.regs (make_all n caller_saved t.regs) c.regs cr (new r) (old_later n _ (o.regs r));
@@ -187,7 +200,8 @@ cleared V n t t' c c' a = record {
   token_marks = a.token_marks;
 }
 
-pub code_names : (V : Token → ℕ) (n : ℕ) (r : Row) (t : Tokens) (c c' : Core) → AreOld n t → Good V t c → GoesOn (act r c) c' → AfterCode n V t (code_tokens n r t) c c'
+pub code_names : (V : Token → ℕ) (n : ℕ) (r : Row) (t : Tokens) (c c' : Core) → AreOld n t → Good V t c → GoesOn (act r c) c' →
+    AfterCode n V t (code_tokens n r t) c c'
 unfolding act
 code_names V n r t c c' o g e =
     let a = row_names V n r t c c' o g (unless_unwritten (are_written c (reads r)) (does r c) c' e) in

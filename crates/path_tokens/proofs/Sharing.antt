@@ -1,54 +1,192 @@
--- Sharing a token, before and after an item.
-use Rattle.std.proofs.Common.{◌≡◌, ℕ, zero, suc, ◌<◌, Option, Some, None, true, false, cond, refl, sym, ap, subst, arith, eqb}
-use Rattle.std.specs.Prelude.{◌↔◌, nat_lt, not, ◌&&◌}
+-- When two things have one token after items: a token that an item makes is none that was there before.
+use Rattle.std.proofs.Common.{◌≡◌, ℕ, zero, suc, ◌<◌, ◌+◌, [], ◌∷◌, Option, Some, None, Bool, true, false, cond, refl, sym, subst, arith, eqb}
+use Rattle.std.specs.Prelude.{◌↔◌, nat_lt, not, ◌&&◌, slice_get}
+use Rattle.std.specs.List.{list_any}
+use Rattle.rv64_instr.specs.declared.place.Place.{Place}
+use Rattle.rv64_instr.specs.declared.place.Place.TheVariants.{Register, Slot, Const}
+use Rattle.rv64_instr.specs.Row.{Row, Fixes, Moves, Sets, Addresses, Loads, LoadsSlot, StoresSlot, Calls, row_of}
+use Rattle.rv64_instr.specs.Access.{caller_saved}
+use Rattle.rv64_instr.specs.Parts.{is_call}
+use Rattle.mir_func.specs.declared.entry.OperandPair.{OperandPair}
 use Rattle.mir_func.specs.declared.position.Pos.{Pos}
+use Rattle.mir_func.specs.declared.variable.MarkValue.{MarkValue}
+use Rattle.mir_func.specs.declared.variable.MarkValue.TheVariants.{Nothing, Constant, At, Pair}
+use Rattle.mir_func.specs.declared.item.ItemKind.{ItemKind}
+use Rattle.mir_func.specs.declared.item.ItemKind.TheVariants.{Code, Mark, Phi}
+use Rattle.mir_func.specs.Variables.{is_same, overlaps}
 use Rattle.mir_func.specs.Graph.{Fetch, Here, Silent, Outside, Program}
-use Rattle.mir_meaning.specs.Token.{Token, Entry, Made, Tokens, entry_tokens, after_item, after_fetch, Path, begin, onward}
-use Rattle.path_tokens.specs.Pullback.{Tracked, InRegister, InSlot, OfPair, OfVariable, OfNumber, token_of, Back, Was, New, Nameless, token_back, back, Share, BacksShare, SharingPullsBack}
+use Rattle.mir_meaning.specs.Step.{defined}
+use Rattle.mir_meaning.specs.Token.{Token, Entry, Made, Tokens, entry_tokens, sets_pointer, after_fetch, Path, begin, onward}
+use Rattle.path_tokens.specs.Pullback.{Tracked, InRegister, InSlot, OfPair, OfVariable, OfNumber, token_of, Back, Was, New, Nameless, token_back}
+use Rattle.path_tokens.specs.Pullback.{put_back, back_register, slot_stored, back_row, given_back, back_place, back_pair, back_value, back}
+use Rattle.path_tokens.specs.Pullback.{back_over, after_items, BacksAgree, AgreementPullsBack, Share, BacksShare, SharingPullsBack}
 use Rattle.path_tokens.proofs.Naming.{IsOld, IsOlder, old_later}
 use Rattle.path_tokens.proofs.Backwards.{tokens_pull_back}
 
+-- ---- a token that an item makes is made at the item's index
+
+abbrev pub IsMadeAt : ℕ → Back → Type 0
+IsMadeAt i (Was x) = Unit {0}
+IsMadeAt i (New j r) = j ≡ i
+IsMadeAt i Nameless = Unit {0}
+
+at_cond : (i : ℕ) (z : Bool) (b c : Back) → IsMadeAt i b → IsMadeAt i c → IsMadeAt i (cond z b c)
+at_cond i true b c h k = h
+at_cond i false b c h k = k
+
+at_put : (i rd : ℕ) (b : Back) (r : ℕ) → IsMadeAt i b → IsMadeAt i (put_back rd b r)
+at_put i rd b zero h = elim rd as (λ z. IsMadeAt i (put_back z b zero)) [ zero ↦ tt | suc k ↦ tt ]
+at_put i zero b (suc r) h = tt
+at_put i (suc rd) b (suc r) h =
+    at_cond i (eqb (suc r) (suc rd)) (cond (eqb rd 1) Nameless b) (Was (InRegister (suc r))) (at_cond i (eqb rd 1) Nameless b tt h) tt
+
+at_register : (i : ℕ) (row : Row) (r : ℕ) → IsMadeAt i (back_register i row r)
+at_register i (Fixes rd c) r = at_put i rd (Was (OfNumber c)) r tt
+at_register i (Moves rd rs) r = at_put i rd (Was (InRegister rs)) r tt
+at_register i (Sets rd op a b) r = at_put i rd (New i rd) r refl
+at_register i (Addresses rd k offset) r = at_put i rd (New i rd) r refl
+at_register i (Loads rd op base offset) r = at_put i rd (New i rd) r refl
+at_register i (LoadsSlot rd k) r = at_put i rd (Was (InSlot k)) r tt
+at_register i (Calls name args) r = at_cond i (list_any (λ q. eqb r q) caller_saved) (New i r) (Was (InRegister r)) refl tt
+at_register i row r = tt
+
+at_stored : (i : ℕ) (row : Row) (k : ℕ) → IsMadeAt i (slot_stored row k)
+at_stored i (StoresSlot rs j) k = at_cond i (eqb k j) (Was (InRegister rs)) (Was (InSlot k)) tt tt
+at_stored i row k = tt
+
+at_row : (i : ℕ) (row : Row) (x : Tracked) → IsMadeAt i (back_row i row x)
+at_row i row (InRegister r) = at_register i row r
+at_row i row (InSlot k) = at_cond i (sets_pointer row) Nameless (slot_stored row k) tt (at_stored i row k)
+at_row i row (OfPair k o) = tt
+at_row i row (OfVariable v) = tt
+at_row i row (OfNumber c) = tt
+
+at_given : (i : ℕ) (row : Row) (d : Option ℕ) (x : Tracked) → IsMadeAt i (given_back i row d x)
+at_given i row None x = tt
+at_given i row (Some rd) x = at_register i row rd
+
+at_place : (i : ℕ) (p : Option Place) → IsMadeAt i (back_place p)
+at_place i None = tt
+at_place i (Some (Register r)) = tt
+at_place i (Some (Slot k)) = tt
+at_place i (Some (Const c)) = tt
+
+at_pair : (i : ℕ) (q : Option OperandPair) → IsMadeAt i (back_pair q)
+at_pair i None = tt
+at_pair i (Some q) = tt
+
+at_value : (i : ℕ) (resolve : OperandPair → Option OperandPair) (m : MarkValue) → IsMadeAt i (back_value resolve m)
+at_value i resolve Nothing = tt
+at_value i resolve (Constant c) = tt
+at_value i resolve (At r) = tt
+at_value i resolve (Pair q) = at_pair i (resolve q)
+
+at_item : (resolve : OperandPair → Option OperandPair) (i : ℕ) (k : ItemKind) (x : Tracked) → IsMadeAt i (back resolve i k x)
+at_item resolve i (Code c None) x = at_row i (row_of c) x
+at_item resolve i (Code c (Some j)) (InRegister r) = at_row i (row_of c) (InRegister r)
+at_item resolve i (Code c (Some j)) (InSlot k) = at_row i (row_of c) (InSlot k)
+at_item resolve i (Code c (Some j)) (OfPair k o) =
+    let d = defined (is_call (row_of c)) (slice_get c.operands o) in
+    at_cond i (eqb k j) (given_back i (row_of c) d (OfPair k o)) (Was (OfPair k o)) (at_given i (row_of c) d (OfPair k o)) tt
+at_item resolve i (Code c (Some j)) (OfVariable v) = tt
+at_item resolve i (Code c (Some j)) (OfNumber m) = tt
+at_item resolve i (Mark v m) (OfVariable w) =
+    at_cond i (is_same w v) (back_value resolve m) (cond (overlaps w v) Nameless (Was (OfVariable w))) (at_value i resolve m)
+    (at_cond i (overlaps w v) Nameless (Was (OfVariable w)) tt tt)
+at_item resolve i (Mark v m) (InRegister r) = tt
+at_item resolve i (Mark v m) (InSlot k) = tt
+at_item resolve i (Mark v m) (OfPair k o) = tt
+at_item resolve i (Mark v m) (OfNumber c) = tt
+at_item resolve i (Phi p j) (OfPair k o) =
+    at_cond i (eqb k j) (cond (eqb o 0) (back_place p) (Was (OfPair k o))) (Was (OfPair k o))
+    (at_cond i (eqb o 0) (back_place p) (Was (OfPair k o)) (at_place i p) tt) tt
+at_item resolve i (Phi p j) (InRegister r) = tt
+at_item resolve i (Phi p j) (InSlot k) = tt
+at_item resolve i (Phi p j) (OfVariable v) = tt
+at_item resolve i (Phi p j) (OfNumber c) = tt
+
+-- ---- the tokens of a path were made on it
+
 entry_is_old : (x : Tracked) → IsOld 0 (token_of x entry_tokens)
 entry_is_old (InRegister zero) = tt
-entry_is_old (InRegister (suc r)) = elim (nat_lt (suc r) 32 && not (eqb (suc r) 2)) as (λ z. IsOld 0 (cond z (Some (Entry (suc r))) None)) [ true ↦ tt | false ↦ tt ]
+entry_is_old (InRegister (suc r)) =
+    elim (nat_lt (suc r) 32 && not (eqb (suc r) 2)) as (λ z. IsOld 0 (cond z (Some (Entry (suc r))) None)) [ true ↦ tt | false ↦ tt ]
 entry_is_old (InSlot n) = tt
 entry_is_old (OfPair k o) = tt
 entry_is_old (OfVariable v) = tt
 entry_is_old (OfNumber c) = tt
 
-back_is_old : (n : ℕ) (t : Tokens) (b : Back) → ((x : Tracked) → IsOld n (token_of x t)) → IsOld (suc n) (token_back n t b)
-back_is_old n t (Was x) old = old_later n (token_of x t) (old x)
-back_is_old n t (New r) old = omega arith
-back_is_old n t Nameless old = tt
+back_is_old : (n : ℕ) (t : Tokens) (b : Back) → IsMadeAt 0 b → ((x : Tracked) → IsOld n (token_of x t)) → IsOld (suc n) (token_back n t b)
+back_is_old n t (Was x) at old = old_later n (token_of x t) (old x)
+back_is_old n t (New i r) at old = omega arith
+back_is_old n t Nameless at old = tt
 
-fetch_is_old : (g : Program) (n : ℕ) (x : Fetch) (t : Tokens) → ((y : Tracked) → IsOld n (token_of y t)) → (y : Tracked) → IsOld (suc n) (token_of y (after_fetch g.resolve n x t))
-fetch_is_old g n (Here i) t old y = subst (λ (z : Option Token). IsOld (suc n) z) (sym (tokens_pull_back g.resolve n i.kind t y)) (back_is_old n t (back g.resolve i.kind y) old)
+fetch_is_old : (g : Program) (n : ℕ) (x : Fetch) (t : Tokens) → ((y : Tracked) → IsOld n (token_of y t)) → (y : Tracked) →
+    IsOld (suc n) (token_of y (after_fetch g.resolve n x t))
+fetch_is_old g n (Here i) t old y =
+    subst (λ (z : Option Token). IsOld (suc n) z) (sym (tokens_pull_back g.resolve n (i ∷ []) t y))
+    (back_is_old n t (back g.resolve 0 i.kind y) (at_item g.resolve 0 i.kind y) old)
 fetch_is_old g n (Silent k m) t old y = old_later n (token_of y t) (old y)
 fetch_is_old g n Outside t old y = old_later n (token_of y t) (old y)
 
--- the tokens of a path were made on it
 pub path_is_old : {g : Program} {start : Pos} {n : ℕ} {p : Pos} {t : Tokens} → Path g start n p t → (x : Tracked) → IsOld n (token_of x t)
 path_is_old begin x = entry_is_old x
 path_is_old {g = g} (onward {n} {p} {q} {t} path edge) x = fetch_is_old g n (g.fetch p) t (path_is_old path) x
 
-not_both : (n q : ℕ) (x : Option Token) (k : Token) → IsOld n x → Some (Made n q) ≡ Some k → x ≡ Some k → ⊥
-not_both n q None k old e f = absurd (cc)
-not_both n q (Some j) k old e f =
-    let same : j ≡ Made n q = cc in
-    let less : n < n = subst (λ (z : Token). IsOlder n z) same old in
-    absurd (omega arith)
+-- ---- one token
+
+not_made : (n i r : ℕ) (x : Option Token) → IsOld n x → x ≡ Some (Made (n + i) r) → ⊥
+not_made n i r None old e = cc
+not_made n i r (Some k) old e =
+    let same : k ≡ Made (n + i) r = cc in
+    let less : n + i < n = subst (λ (z : Token). IsOlder n z) same old in
+    omega arith
+
+one_made : (n i j q r : ℕ) → Some (Made (n + i) q) ≡ Some (Made (n + j) r) → (i ≡ j) × (q ≡ r)
+one_made n i j q r e =
+    let index : n + i ≡ n + j = cc in
+    let register : q ≡ r = cc in
+    (omega (arith, index), register)
+
+same_made : (n i j q r : ℕ) → (i ≡ j) × (q ≡ r) → Some (Made (n + i) q) ≡ Some (Made (n + j) r)
+same_made n i j q r h = λ z. Some (Made (n + h.0 z) (h.1 z))
+
+backs_agree : (n : ℕ) (t : Tokens) (b c : Back) → ((x : Tracked) → IsOld n (token_of x t)) → (token_back n t b ≡ token_back n t c) ↔ BacksAgree t b c
+backs_agree n t (Was x) (Was y) old = (λ e. e, λ e. e)
+backs_agree n t (Was x) (New j r) old = (λ e. not_made n j r (token_of x t) (old x) e, λ e. absurd e)
+backs_agree n t (Was x) Nameless old = (λ e. e, λ e. e)
+backs_agree n t (New i q) (Was y) old = (λ e. not_made n i q (token_of y t) (old y) (sym e), λ e. absurd e)
+backs_agree n t (New i q) (New j r) old = (one_made n i j q r, same_made n i j q r)
+backs_agree n t (New i q) Nameless old = (λ e. cc, λ e. absurd e)
+backs_agree n t Nameless (Was y) old = (λ e. sym e, λ e. sym e)
+backs_agree n t Nameless (New j r) old = (λ e. cc, λ e. absurd e)
+backs_agree n t Nameless Nameless old = (λ e. tt, λ e. refl)
+
+pub agreement_pulls_back : AgreementPullsBack
+agreement_pulls_back g start n p t path items x y =
+    let b = back_over g.resolve 0 items x in
+    let c = back_over g.resolve 0 items y in
+    subst (λ (z : Option Token). (z ≡ token_of y (after_items g.resolve n items t)) ↔ BacksAgree t b c) (sym (tokens_pull_back g.resolve n items t x))
+    (subst (λ (z : Option Token). (token_back n t b ≡ z) ↔ BacksAgree t b c) (sym (tokens_pull_back g.resolve n items t y))
+    (backs_agree n t b c (path_is_old path)))
+
+shared : (a b : Option Token) (k : Token) → a ≡ Some k → b ≡ Some k → a ≡ b
+shared a b k e f = cc
 
 backs_share : (n : ℕ) (t : Tokens) (b c : Back) → ((x : Tracked) → IsOld n (token_of x t)) → Share (token_back n t b) (token_back n t c) ↔ BacksShare t b c
 backs_share n t (Was x) (Was y) old = (λ s. s, λ s. s)
-backs_share n t (New q) (New r) old = (λ (k, e, f). cc, λ e. (Made n q, refl, ap (λ (z : ℕ). Some (Made n z)) (sym e)))
-backs_share n t (New q) (Was y) old = (λ (k, e, f). not_both n q (token_of y t) k (old y) e f, λ e. absurd e)
-backs_share n t (Was x) (New r) old = (λ (k, e, f). not_both n r (token_of x t) k (old x) f e, λ e. absurd e)
-backs_share n t Nameless c old = (λ (k, e, f). absurd (cc), λ e. absurd e)
-backs_share n t (Was x) Nameless old = (λ (k, e, f). absurd (cc), λ e. absurd e)
-backs_share n t (New q) Nameless old = (λ (k, e, f). absurd (cc), λ e. absurd e)
+backs_share n t (Was x) (New j r) old = (λ s. not_made n j r (token_of x t) (old x) (shared _ _ s.0 s.1 s.2), λ e. absurd e)
+backs_share n t (Was x) Nameless old = (λ (k, e, f). cc, λ e. absurd e)
+backs_share n t (New i q) (Was y) old = (λ s. not_made n i q (token_of y t) (old y) (shared _ _ s.0 s.2 s.1), λ e. absurd e)
+backs_share n t (New i q) (New j r) old =
+    (λ s. one_made n i j q r (shared _ _ s.0 s.1 s.2), λ e. (Made (n + i) q, refl, sym (same_made n i j q r e)))
+backs_share n t (New i q) Nameless old = (λ (k, e, f). cc, λ e. absurd e)
+backs_share n t Nameless c old = (λ (k, e, f). cc, λ e. absurd e)
 
 pub sharing_pulls_back : SharingPullsBack
-sharing_pulls_back g start n p t path k x y =
-    subst (λ (z : Option Token). Share z (token_of y (after_item g.resolve n k t)) ↔ BacksShare t (back g.resolve k x) (back g.resolve k y)) (sym (tokens_pull_back g.resolve n k t x))
-    (subst (λ (z : Option Token). Share (token_back n t (back g.resolve k x)) z ↔ BacksShare t (back g.resolve k x) (back g.resolve k y)) (sym (tokens_pull_back g.resolve n k t y))
-    (backs_share n t (back g.resolve k x) (back g.resolve k y) (path_is_old path)))
+sharing_pulls_back g start n p t path items x y =
+    let b = back_over g.resolve 0 items x in
+    let c = back_over g.resolve 0 items y in
+    subst (λ (z : Option Token). Share z (token_of y (after_items g.resolve n items t)) ↔ BacksShare t b c) (sym (tokens_pull_back g.resolve n items t x))
+    (subst (λ (z : Option Token). Share (token_back n t b) z ↔ BacksShare t b c) (sym (tokens_pull_back g.resolve n items t y))
+    (backs_share n t b c (path_is_old path)))

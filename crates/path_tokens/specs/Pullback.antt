@@ -1,26 +1,27 @@
--- What an item's result has as token, by what stood before the item.
-use Rattle.std.specs.Prelude.{◌≡◌, ℕ, zero, suc, Option, Some, None, cond, nat_eq, slice_get, ◌↔◌}
+-- What has as token what stood before some items, and what they made.
+use Rattle.std.specs.Prelude.{◌≡◌, ◌↔◌, ℕ, zero, suc, ◌+◌, List, [], ◌∷◌, Option, Some, None, cond, nat_eq, slice_get}
 use Rattle.std.specs.List.{list_any}
 use Rattle.rv64_instr.specs.declared.place.Place.{Place}
 use Rattle.rv64_instr.specs.declared.place.Place.TheVariants.{Register, Slot, Const}
 use Rattle.rv64_instr.specs.Arithmetic.{word}
-use Rattle.rv64_instr.specs.Row.{Row, Fixes, Moves, Sets, Loads, LoadsSlot, StoresSlot, Calls, row_of}
+use Rattle.rv64_instr.specs.Instruction.{Instruction}
+use Rattle.rv64_instr.specs.Row.{Row, Fixes, Moves, Sets, Addresses, Loads, Stores, LoadsSlot, StoresSlot, Branches, Jumps, Calls, Returns, Unfit, row_of}
 use Rattle.rv64_instr.specs.Access.{caller_saved}
+use Rattle.rv64_instr.specs.Parts.{is_call}
 use Rattle.mir_func.specs.declared.entry.OperandPair.{OperandPair}
 use Rattle.mir_func.specs.declared.position.Pos.{Pos}
 use Rattle.mir_func.specs.declared.variable.VarId.{VarId}
 use Rattle.mir_func.specs.declared.variable.MarkValue.{MarkValue}
 use Rattle.mir_func.specs.declared.variable.MarkValue.TheVariants.{Nothing, Constant, At, Pair}
+use Rattle.mir_func.specs.declared.item.Item.{Item}
 use Rattle.mir_func.specs.declared.item.ItemKind.{ItemKind}
 use Rattle.mir_func.specs.declared.item.ItemKind.TheVariants.{Code, Mark, Phi}
-use Rattle.mir_meaning.specs.State.{assigned}
-use Rattle.mir_func.specs.Variables.{is_same}
-use Rattle.mir_meaning.specs.Step.{defined}
-use Rattle.rv64_instr.specs.Parts.{is_call}
+use Rattle.mir_func.specs.Variables.{is_same, overlaps}
 use Rattle.mir_func.specs.Graph.{Program}
-use Rattle.mir_meaning.specs.Token.{Token, Made, Fixed, Tokens, register_token, sets_pointer, after_item, Path}
+use Rattle.mir_meaning.specs.Step.{defined}
+use Rattle.mir_meaning.specs.Token.{Token, Made, Fixed, Tokens, register_token, variable_token, sets_pointer, after_item, Path}
 
--- what has tokens: a register, a slot, a pair, a variable, and a number, which always has its own
+-- what has tokens: a register, a slot, a pair, a part of a variable, and a number, which always has its own
 pub data Tracked : Type 0 where
   InRegister : (r : ℕ) → Tracked
   InSlot : (n : ℕ) → Tracked
@@ -32,7 +33,7 @@ abbrev pub token_of : Tracked → Tokens → Option Token
 token_of (InRegister r) t = register_token t.regs r
 token_of (InSlot n) t = t.slots n
 token_of (OfPair k o) t = t.pairs k o
-token_of (OfVariable v) t = assigned v t.marks
+token_of (OfVariable v) t = variable_token v t
 token_of (OfNumber c) t = Some (Fixed c)
 
 -- where a token after some items comes from: something had it before them, the item at an index among them made it for a
@@ -70,9 +71,21 @@ back_register i (Calls name args) r = cond (list_any (λ q. nat_eq r q) caller_s
 back_register i (Returns results) r = Was (InRegister r)
 back_register i Unfit r = Was (InRegister r)
 
+-- a slot where it is still found
 abbrev pub slot_stored : Row → (k : ℕ) → Back
 slot_stored (StoresSlot rs n) k = cond (nat_eq k n) (Was (InRegister rs)) (Was (InSlot k))
-slot_stored _ k = Was (InSlot k)
+slot_stored (Fixes rd c) k = Was (InSlot k)
+slot_stored (Moves rd rs) k = Was (InSlot k)
+slot_stored (Sets rd op a b) k = Was (InSlot k)
+slot_stored (Addresses rd n offset) k = Was (InSlot k)
+slot_stored (Loads rd op base offset) k = Was (InSlot k)
+slot_stored (Stores op rs base offset) k = Was (InSlot k)
+slot_stored (LoadsSlot rd n) k = Was (InSlot k)
+slot_stored (Branches op a b target) k = Was (InSlot k)
+slot_stored (Jumps target) k = Was (InSlot k)
+slot_stored (Calls name args) k = Was (InSlot k)
+slot_stored (Returns results) k = Was (InSlot k)
+slot_stored Unfit k = Was (InSlot k)
 
 -- a slot after code of a row: a write of x2 takes every slot's token away
 abbrev pub back_slot : Row → (k : ℕ) → Back
@@ -106,23 +119,34 @@ back_value resolve (Constant c) = Was (OfNumber (word c))
 back_value resolve (At r) = Was (InRegister r)
 back_value resolve (Pair q) = back_pair (resolve q)
 
--- a pair after code with a number
-abbrev pub back_numbered : (index : ℕ) → Instruction → (number k o : ℕ) → Back
-back_numbered i c j k o =
+-- code with a number gives its pairs what its defining operands hold, and does to all else what its row does
+abbrev pub back_numbered : (index : ℕ) → Instruction → (number : ℕ) → Tracked → Back
+back_numbered i c j (OfPair k o) =
     cond (nat_eq k j) (given_back i (row_of c) (defined (is_call (row_of c)) (slice_get c.operands o)) (OfPair k o)) (Was (OfPair k o))
+back_numbered i c j (InRegister r) = back_row i (row_of c) (InRegister r)
+back_numbered i c j (InSlot k) = back_row i (row_of c) (InSlot k)
+back_numbered i c j (OfVariable v) = back_row i (row_of c) (OfVariable v)
+back_numbered i c j (OfNumber m) = back_row i (row_of c) (OfNumber m)
 
 abbrev pub back_code : (index : ℕ) → Instruction → Option ℕ → Tracked → Back
-back_code i c (Some j) (OfPair k o) = back_numbered i c j k o
-back_code i c number x = back_row i (row_of c) x
+back_code i c None x = back_row i (row_of c) x
+back_code i c (Some j) x = back_numbered i c j x
 
 -- a mark gives its part what it asks for, and takes the token of every other part away that overlaps it
 abbrev pub back_mark : (OperandPair → Option OperandPair) → VarId → MarkValue → Tracked → Back
 back_mark resolve v m (OfVariable w) = cond (is_same w v) (back_value resolve m) (cond (overlaps w v) Nameless (Was (OfVariable w)))
-back_mark resolve v m x = Was x
+back_mark resolve v m (InRegister r) = Was (InRegister r)
+back_mark resolve v m (InSlot k) = Was (InSlot k)
+back_mark resolve v m (OfPair k o) = Was (OfPair k o)
+back_mark resolve v m (OfNumber c) = Was (OfNumber c)
 
+-- a phi gives the first pair of its number what its place holds
 abbrev pub back_phi : Option Place → (number : ℕ) → Tracked → Back
 back_phi p j (OfPair k o) = cond (nat_eq k j) (cond (nat_eq o 0) (back_place p) (Was (OfPair k o))) (Was (OfPair k o))
-back_phi p j x = Was x
+back_phi p j (InRegister r) = Was (InRegister r)
+back_phi p j (InSlot k) = Was (InSlot k)
+back_phi p j (OfVariable v) = Was (OfVariable v)
+back_phi p j (OfNumber c) = Was (OfNumber c)
 
 -- what a thing's token is after the item at an index among some, by what stood before it
 abbrev pub back : (OperandPair → Option OperandPair) → (index : ℕ) → ItemKind → Tracked → Back
@@ -158,7 +182,10 @@ BacksAgree t (New i q) (New j r) = (i ≡ j) × (q ≡ r)
 BacksAgree t Nameless Nameless = Unit {0}
 BacksAgree t (Was x) Nameless = token_of x t ≡ None
 BacksAgree t Nameless (Was y) = token_of y t ≡ None
-BacksAgree t _ _ = ⊥
+BacksAgree t (Was x) (New j r) = ⊥
+BacksAgree t (New i q) (Was y) = ⊥
+BacksAgree t (New i q) Nameless = ⊥
+BacksAgree t Nameless (New j r) = ⊥
 
 -- On a path, two things have one token after items, or both have none, exactly where their pull-backs agree before them: a token
 -- that an item made is none that was there.
@@ -175,7 +202,11 @@ Share a b = (k : Token) × (a ≡ Some k) × (b ≡ Some k)
 abbrev pub BacksShare : Tokens → Back → Back → Type 0
 BacksShare t (Was x) (Was y) = Share (token_of x t) (token_of y t)
 BacksShare t (New i q) (New j r) = (i ≡ j) × (q ≡ r)
-BacksShare t _ _ = ⊥
+BacksShare t (Was x) (New j r) = ⊥
+BacksShare t (New i q) (Was y) = ⊥
+BacksShare t Nameless c = ⊥
+BacksShare t (Was x) Nameless = ⊥
+BacksShare t (New i q) Nameless = ⊥
 
 -- On a path, two things share a token after items exactly where their pull-backs do before them.
 abbrev pub SharingPullsBack : Type 0

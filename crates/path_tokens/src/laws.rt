@@ -1,7 +1,11 @@
-ghost use Rattle.path_tokens.specs.Pullback.{SharingPullsBack, TokensPullBack};
+//! The laws of tokens, each the contract of a function that does nothing.
+
+ghost use Rattle.path_tokens.specs.Parts.{PartsHaveOneToken};
+ghost use Rattle.path_tokens.specs.Pullback.{AgreementPullsBack, SharingPullsBack, TokensPullBack};
 ghost use Rattle.path_tokens.specs.Trace.{RunsTakePaths, TokensNameValues};
 
-/// Along a run there is one value for each token, and whatever has the token holds it.
+/// Along a run there is one value for each token, and whatever has the token holds it, a part of a variable its low
+/// bytes.
 pub fn tokens_name_values()
     ensures { TokensNameValues }
 {}
@@ -11,12 +15,22 @@ pub fn runs_take_paths()
     ensures { RunsTakePaths }
 {}
 
-/// What an item's result has as token is told by what stood before the item.
+/// What has which token after items is told by what stood before them.
 pub fn tokens_pull_back()
     ensures { TokensPullBack }
 {}
 
-/// Two things share a token after an item exactly where their pull-backs share one before it.
+/// Two things have one token after items, or both none, exactly where what they pull back to agrees before them.
+pub fn agreement_pulls_back()
+    ensures { AgreementPullsBack }
+{}
+
+/// Two things share a token after items exactly where what they pull back to shares one before them.
 pub fn sharing_pulls_back()
     ensures { SharingPullsBack }
+{}
+
+/// Of two different parts of a variable that overlap, at most one has a token.
+pub fn parts_have_one_token()
+    ensures { PartsHaveOneToken }
 {}
