@@ -11,7 +11,7 @@ use Rattle.std.proofs.lemmas.Map.Keys.{IsStrictlyIncreasing-dedup}
 use Rattle.follow_law.specs.declared.loss.Reason.{Reason}
 use Rattle.follow_law.specs.declared.loss.Loss.{Loss}
 use Rattle.follow_law.specs.Order.{LossComesBefore, IsInOrder}
-use Rattle.follow_law.specs.Debug.{number_lost}
+use Rattle.follow_law.specs.Rule.{number_lost}
 
 get_or_default : (ns : List ℕ) (i d e : ℕ) → i < length ns → get_or ns i d ≡ get_or ns i e
 get_or_default ns i d e lt = let w : Some (get_or ns i d) ≡ Some (get_or ns i e) = sym (slice_get-get_or ns i d lt) ∙ slice_get-get_or ns i e lt in cc

@@ -19,7 +19,7 @@ count_step : (z w : Bool) (n m : ℕ) → n ≤ m → cond z (cond w 1 0 + n) n 
 count_step true w n m h = omega (arith, h)
 count_step false w n m h = omega (arith, h)
 
-count_thin : (p keep : Item → Bool) (xs : List Item) → count_by p (filter keep xs) ≤ count_by p xs
+pub count_thin : (p keep : Item → Bool) (xs : List Item) → count_by p (filter keep xs) ≤ count_by p xs
 count_thin p keep [] = le_refl 0
 count_thin p keep (x ∷ xs) =
     let f : Item → ℕ = λ y. cond (p y) 1 0 in

@@ -5,9 +5,9 @@ ghost use Rattle.rv64_instr.specs.Row.{row_of};
 ghost use Rattle.mir_func.specs.Sound.{IsSound};
 ghost use Rattle.follow_law.specs.declared.loss.Loss.{Loss};
 ghost use Rattle.follow_law.specs.Order.{IsInOrder};
-ghost use Rattle.follow_law.specs.Debug.{number_lost};
-ghost use Rattle.follow_law.specs.Laws.{one_thinned};
-ghost use Rattle.follow_law.specs.Nops.{is_nop_row, is_nop, is_added_save, has_added_saves, nop_number, nop_numbers, numbers_in_items, stays, thinned_blocks, thinned, lost_in, IsThinned, nop_rule};
+ghost use Rattle.follow_law.specs.Rule.{number_lost};
+ghost use Rattle.follow_law.specs.Laws.{one_thinned, same_thinned};
+ghost use Rattle.follow_law.specs.Nops.{is_nop_row, is_nop, is_added_save, has_added_saves, nop_number, nop_numbers, numbers_in_items, stays, thinned_blocks, thinned, lost_in, nop_step};
 ghost use Rattle.std.proofs.Common.{rules};
 
 use crate::loss::{Loss, Losses, Lost, Reason};
@@ -37,9 +37,7 @@ impl Pass for NopPass {
 
     ghost count = { 0 };
 
-    ghost rewrites = { λ s. IsThinned };
-
-    ghost rules = { λ s. nop_rule ∷ [] };
+    ghost steps = { λ s. nop_step ∷ [] };
 
     fn run(
         &mut self,
@@ -51,7 +49,9 @@ impl Pass for NopPass {
         lost_numbers(alloc, numbers, Reason::Removed)
     }
 
-    ghost one_code = { λ s. one_thinned };
+    ghost one_code = { λ s. (one_thinned, tt) };
+
+    ghost same_code = { λ s. (same_thinned, tt) };
 
     ghost grows = { Prim.search rules };
 }

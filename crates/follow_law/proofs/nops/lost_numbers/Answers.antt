@@ -4,7 +4,7 @@ use Rattle.std.proofs.lemmas.List.{take_all}
 use Rattle.std.proofs.lemmas.List.Filters.{dedup_is}
 use Rattle.follow_law.specs.declared.loss.Loss.{Loss}
 use Rattle.follow_law.specs.Order.{IsInOrder}
-use Rattle.follow_law.specs.Debug.{number_lost}
+use Rattle.follow_law.specs.Rule.{number_lost}
 use Rattle.follow_law.proofs.LostNumbers.{sorted_in_order, lost_from, lost_of, still_from, still_of}
 use Rattle.follow_law.proofs.nops.lost_numbers.Goals as goal
 

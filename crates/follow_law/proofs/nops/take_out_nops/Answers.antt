@@ -10,7 +10,7 @@ use Rattle.follow_law.proofs.nops.take_out_nops.Goals as goal
 same_thinned : (f : Function) → has_added_saves f.blocks ≡ true → f ≡ thinned f
 same_thinned f e =
     let b : f.blocks ≡ thinned_blocks (has_added_saves f.blocks) f.blocks = sym (ap (λ (z : Bool). thinned_blocks z f.blocks) e ∙ thins_none f.blocks) in
-    λ i. record { name = f.name; slots = f.slots; blocks = b i }
+    λ i. record f { blocks = b i }
 
 pub returns-then-has_added_saves-clause-code : goal.returns-then-has_added_saves-clause-code
 returns-then-has_added_saves-clause-code c = same_thinned c.args.f.now (ap has_added_saves (ap (λ (g : Function). g.blocks) (sym c.f.view_is) ∙ sym c.as_slice.ensures) ∙ sym c.if-has_added_saves.ensures)
