@@ -8,13 +8,13 @@ use Rattle.mir_meaning.specs.Step.{Went, Returned, Faulted, Lost, Outcome, Falls
 use Rattle.mir_func.specs.Graph.{Fetch, Here, Silent, Outside, below, block_start}
 use Rattle.mir_meaning.specs.Align.{position_of, is_code, Station, Count, station_of, end_station, station_at, IsOrigin, here, Since, Start, Same, After, since_of, Aligns, AnyOrigin, Along, begin, other, met, Agrees, RunsAlong}
 use Rattle.simulation.specs.InPlace.{IsPastItems, since_item, ShowsSame}
-use Rattle.simulation.specs.Added.{Standing, Opening, Level, Ahead, Owing, MayCome, Does, MayStand, DoAlike, MayOpen, View, ended, both, before, opening, entering, behind, passed, added, paired, Begins, opens, level, AddedFollows}
+use Rattle.simulation.specs.Added.{Standing, Opening, Level, Ahead, Owing, MayCome, Does, MayStand, DoAlike, MayOpen, LeadsIn, View, ended, both, before, opening, entering, behind, passed, added, paired, Begins, opens, level, AddedFollows}
 use Rattle.mir_meaning.proofs.Alignment.{went_once, aligns_at, aligns_once, aligns_not_fails}
 use Rattle.mir_meaning.proofs.Outcomes.{step_item, step_end}
 use Rattle.simulation.proofs.Refinement.{since_not_start}
 use Rattle.simulation.proofs.Stations.{code_station, debug_station, end_is_station, code_is_some, code_is, debug_is_none, IsStationOf, of_item, of_end, station_is_of, no_end_stations, not_past_items}
 use Rattle.simulation.proofs.Stops.{aligns_reaches}
-use Rattle.simulation.proofs.Joined.{Addition, AtHome, FaultAt, IsFree, IsReady, Joins, JoinsAt, Now, Owed, at_home, dynamic_at, home_at, in_body, join_after, join_ahead, join_behind, join_code, join_free, join_opened, may_begun, moves_to, ready, shown, stands_begun}
+use Rattle.simulation.proofs.Joined.{Addition, AtHome, FaultAt, IsFree, IsReady, Joins, JoinsAt, Now, Owed, at_home, dynamic_at, home_at, in_body, join_after, join_ahead, join_behind, join_code, join_free, join_opened, may_begun, moves_to, ready, shown, stands_begun, static_at}
 
 module _ (addition : Addition) where
   open addition use {ct, src, f, g, s0, g0, rf, rg, Stops, X, Reach, Stage, standing, body, S, Q, ip, follows}
@@ -43,6 +43,9 @@ module _ (addition : Addition) where
   abbrev Opens : Standing → Type 0
   Opens st = MayOpen ct src f g s0 g0 rf rg Stops X Reach Stage standing body S Q st
 
+  abbrev IsEntry : Type 0
+  IsEntry = LeadsIn ct src f g s0 g0 rf rg Stops X Reach Stage standing body S Q
+
   abbrev AlongF : State → State → Since → Type 0
   AlongF v s m = Along src f fs (AnyOrigin fs) s0 s0 v s m
 
@@ -57,19 +60,19 @@ module _ (addition : Addition) where
       let fe = ip.onward r.v.pos t.pos j n (home_at addition t s m r Level lv tt) ef eg e in
       let none_f : fs r.v.pos ≡ None = end_is_station ct f r.v.pos j n fe ∙ no_end_stations ct _ _ (sym (end_is_station ct g t.pos j n e) ∙ none) in
       let t1 : State = record { pos = start_g n; core = t.core } in
-      let made : Now addition t1 s m = in_body addition t1 s m n r.v.core r.sf r.mf refl (other r.along none_f (end_f r.v j n fe)) r.reach r.reach_f (ip.ends r.k r.v.pos.block n r.v.core t.core lv (dynamic_at addition t s m r [] [] ef eg)) (subst (λ (z : Standing). Joins addition z r.mf r.sf m s) lv r.joins) in
+      let made : Now addition t1 s m = in_body addition t1 s m r.v n r.v.core r.sf r.mf (end_f r.v j n fe) refl (other r.along none_f (end_f r.v j n fe)) r.reach r.reach_f (ip.ends r.k r.v.pos j n r.v.core t.core lv ef fe (static_at addition t s m r [] [] ef eg) (dynamic_at addition t s m r [] [] ef eg)) (subst (λ (z : Standing). Joins addition z r.mf r.sf m s) lv r.joins) in
       subst (λ (z : State). Now addition z s m) (went_once g t t1 t' (step_end g t j n e) go) made
 
   -- past the end of the block at the start, to f's first block
   enters : (t s : State) (m : Since) (r : Now addition t s m) (xs : List Item) → standing r.k ≡ Opening → rf r.v.pos ≡ xs → rg t.pos ≡ [] → S body r.v.pos.block xs (rg (start_g r.v.pos.block)) → ((c d : Core) → Q r.k r.v.pos.block xs [] c d → Q body r.v.pos.block xs (rg (start_g r.v.pos.block)) c d) →
-      IsFree addition → (x : Fetch) → g.fetch t.pos ≡ x → IsPastItems x → (t' : State) → step g t ≡ Went t' → Now addition t' s m
-  enters t s m r xs op ef eg st q free (Here i) e h t' go = absurd h
-  enters t s m r xs op ef eg st q free Outside e h t' go = let bad : Lost ≡ Went t' = sym (ap (λ (z : Fetch). moved g.enter t.pos (do_fetch g z t.core)) e) ∙ go in cc
-  enters t s m r xs op ef eg st q free (Silent j n) e h t' go =
+      IsFree addition → IsEntry → (x : Fetch) → g.fetch t.pos ≡ x → IsPastItems x → (t' : State) → step g t ≡ Went t' → Now addition t' s m
+  enters t s m r xs op ef eg st q free into (Here i) e h t' go = absurd h
+  enters t s m r xs op ef eg st q free into Outside e h t' go = let bad : Lost ≡ Went t' = sym (ap (λ (z : Fetch). moved g.enter t.pos (do_fetch g z t.core)) e) ∙ go in cc
+  enters t s m r xs op ef eg st q free into (Silent j n) e h t' go =
       let b = r.v.pos.block in
       let home : t.pos.block ≡ g0.pos.block = subst (λ (z : Standing). AtHome addition z t.pos.block b) op r.home in
       let ow = subst (λ (z : Standing). Owed addition z r.v r.mf r.sf m s) op r.owed in
-      let nb : n ≡ b = ip.entry t.pos j n home eg e ∙ ap (λ (z : State). z.pos.block) (sym ow.0) in
+      let nb : n ≡ b = into t.pos j n home eg e ∙ ap (λ (z : State). z.pos.block) (sym ow.0) in
       let t1 : State = record { pos = start_g b; core = t.core } in
       let at : step g t ≡ Went t1 = step_end g t j n e ∙ ap (λ (z : ℕ). Went (record { pos = start_g z; core = t.core })) nb in
       let r0 : Reach s0.pos = subst (λ (z : State). Reach z.pos) ow.2 r.reach_f in
@@ -103,22 +106,22 @@ module _ (addition : Addition) where
   between_at t s m r xs ys ef eg (before {y = y} {ys = ts} n cx cy o j ak s1 h) rd none t' go = absurd (code_is_some ct g t.pos y none (ip.laid_g.cons t.pos y ts eg).0 cy)
   between_at t s m r xs ys ef eg (opening {y = y} {ys = ts} ak cy o j op s1 h) rd none t' go = absurd (code_is_some ct g t.pos y none (ip.laid_g.cons t.pos y ts eg).0 cy)
   between_at t s m r xs ys ef eg (behind {y = y} {ys = ts} ak cy o j af s1 h) rd none t' go = absurd (code_is_some ct g t.pos y none (ip.laid_g.cons t.pos y ts eg).0 cy)
-  between_at t s m r xs ys ef eg (entering op ne st q free) rd none t' go = enters t s m r xs op ef eg st q free (g.fetch t.pos) refl (ip.laid_g.nil t.pos eg).0 t' go
-  between_at t s m r xs ys ef eg (passed q c s1 h) rd none t' go = absurd rd
-  between_at t s m r xs ys ef eg (added {y = y} {ys = ts} q cy s1 h) rd none t' go =
+  between_at t s m r xs ys ef eg (entering op ne st q free into) rd none t' go = enters t s m r xs op ef eg st q free into (g.fetch t.pos) refl (ip.laid_g.nil t.pos eg).0 t' go
+  between_at t s m r xs ys ef eg (passed q same c s1 h) rd none t' go = absurd rd
+  between_at t s m r xs ys ef eg (added {k' = k'} {y = y} {ys = ts} q same cy s1 h) rd none t' go =
       let b = r.v.pos.block in
       let ge = ip.laid_g.cons t.pos y ts eg in
       let d = h r.v.core t.core (dynamic_at addition t s m r xs ys ef eg) in
       let t1 : State = record { pos = below t.pos; core = d.0 } in
-      let made = moves_to addition t s m r q t1 r.v r.along r.home (rw ge.1 (subst (λ (z : List Item). S r.k b z ts) (sym ef) s1)) (rw ge.1 (subst (λ (z : List Item). Q r.k b z ts r.v.core d.0) (sym ef) d.2)) in
+      let made = moves_to addition t s m r k' q same t1 r.v r.along r.home (rw ge.1 (subst (λ (z : List Item). S k' b z ts) (sym ef) s1)) (rw ge.1 (subst (λ (z : List Item). Q k' b z ts r.v.core d.0) (sym ef) d.2)) in
       subst (λ (z : State). Now addition z s m) (went_once g t t1 t' (step_item g t y (Falls d.0) ge.0 d.1) go) made
-  between_at t s m r xs ys ef eg (paired {x = x} {y = y} {xs = rest} {ys = ts} q cx cy s1 h) rd none t' go =
+  between_at t s m r xs ys ef eg (paired {k' = k'} {x = x} {y = y} {xs = rest} {ys = ts} q same cx cy s1 h) rd none t' go =
       let fe = ip.laid_f.cons r.v.pos x rest ef in
       let ge = ip.laid_g.cons t.pos y ts eg in
       let d = h r.v.core t.core (dynamic_at addition t s m r xs ys ef eg) in
       let t1 : State = record { pos = below t.pos; core = d.1 } in
       let v1 : State = record { pos = below r.v.pos; core = d.0 } in
-      let made = moves_to addition t s m r q t1 v1 (other r.along (debug_station ct f r.v.pos x fe.0 cx) (step_item f r.v x (Falls d.0) fe.0 d.2)) r.home (rw (fe.1, ge.1) s1) (rw (fe.1, ge.1) d.4) in
+      let made = moves_to addition t s m r k' q same t1 v1 (other r.along (debug_station ct f r.v.pos x fe.0 cx) (step_item f r.v x (Falls d.0) fe.0 d.2)) r.home (rw (fe.1, ge.1) s1) (rw (fe.1, ge.1) d.4) in
       subst (λ (z : State). Now addition z s m) (went_once g t t1 t' (step_item g t y (Falls d.1) ge.0 d.3) go) made
 
   -- g at a station, aligned at a state of the source, and what holds after it
@@ -205,7 +208,7 @@ module _ (addition : Addition) where
       let rs = aligns_reaches src Reach ip.more.on O (position_of x.origin) r.mf r.sf s' r.reach_f al in
       let go_f : step f r.v ≡ Went (record { pos = block_start n; core = e }) = step_item f r.v x (Goes n e) fe.0 fa ∙ ap (λ (z : ℕ). Went (record { pos = block_start z; core = e })) (ip.enter_f n) in
       let join = subst (λ (z : Standing). Joins addition z (since_item ct x) s' (since_item ct x) s') q.2 (join_code addition (standing k') x (since_item ct x) s' rs (since_not_start (station_of ct x).waits) refl at st) in
-      let made : Now addition t1 s' (since_item ct y) = in_body addition t1 s' (since_item ct y) n e s' (since_item ct x) refl (met (station_of ct x) r.along (code_station ct f r.v.pos x fe.0 cx) al go_f) rs rs q.3 (subst (λ (z : Since). Joins addition Level (since_item ct x) s' z s') j join) in
+      let made : Now addition t1 s' (since_item ct y) = in_body addition t1 s' (since_item ct y) r.v n e s' (since_item ct x) go_f refl (met (station_of ct x) r.along (code_station ct f r.v.pos x fe.0 cx) al go_f) rs rs q.3 (subst (λ (z : Since). Joins addition Level (since_item ct x) s' z s') j join) in
       subst (λ (z : State). Now addition z s' (since_item ct y)) is made
   goes_on t s m r k' x y xs ys ef eg home cx j st s1 s' al ag (Gives v) (Gives w) fa q t' go = cc
   goes_on t s m r k' x y xs ys ef eg home cx j st s1 s' al ag Traps Traps fa q t' go = cc
@@ -400,7 +403,7 @@ module _ (addition : Addition) where
         | inl z ↦
             let rs = aligns_reaches src Reach ip.more.on O p r.mf r.sf z.0 r.reach_f z.1 in
             let at = aligns_at src O p r.mf r.sf z.0 z.1 in
-            let made : Now addition t1 z.0 After = in_body addition t1 z.0 After n r.v.core z.0 After refl (met end r.along se z.1 (end_f r.v k n ff)) rs rs (ip.ends r.k b n r.v.core t.core lv (dynamic_at addition t s m r [] [] ef eg))
+            let made : Now addition t1 z.0 After = in_body addition t1 z.0 After r.v n r.v.core z.0 After (end_f r.v k n ff) refl (met end r.along se z.1 (end_f r.v k n ff)) rs rs (ip.ends r.k r.v.pos k n r.v.core t.core lv ef ff (static_at addition t s m r [] [] ef eg) (dynamic_at addition t s m r [] [] ef eg))
             (join_after addition z.0 rs (λ u go2 h. ip.end_stands r.v.pos k n ce ff z.0 u at go2 h) After (λ e. cc)) in
             inl (subst (Met t s m) is (record {
               to = z.0;
@@ -412,10 +415,10 @@ module _ (addition : Addition) where
 
   meets_at_view : (t s : State) (m : Since) (r : Now addition t s m) (xs ys : List Item) → rf r.v.pos ≡ xs → rg t.pos ≡ ys → (w : Seen r.v.pos.block r.k xs ys) → IsReady addition w → (i : Station) → gs t.pos ≡ Some i → Met t s m i ⊎ FaultAt addition i.pos m s
   meets_at_view t s m r xs ys ef eg (ended lv) rd i e = meets_end t s m r lv ef eg i (station_is_of ct g t.pos i e)
-  meets_at_view t s m r xs ys ef eg (passed q c s1 h) rd i e = absurd rd
-  meets_at_view t s m r xs ys ef eg (added {y = y} {ys = ts} q cy s1 h) rd i e = absurd (debug_is_none ct g t.pos y i e (ip.laid_g.cons t.pos y ts eg).0 cy)
-  meets_at_view t s m r xs ys ef eg (paired {x = x} {y = y} {xs = rest} {ys = ts} q cx cy s1 h) rd i e = absurd (debug_is_none ct g t.pos y i e (ip.laid_g.cons t.pos y ts eg).0 cy)
-  meets_at_view t s m r xs ys ef eg (entering op ne st q free) rd i e = absurd (by_station (station_is_of ct g t.pos i e)) where
+  meets_at_view t s m r xs ys ef eg (passed q same c s1 h) rd i e = absurd rd
+  meets_at_view t s m r xs ys ef eg (added {y = y} {ys = ts} q same cy s1 h) rd i e = absurd (debug_is_none ct g t.pos y i e (ip.laid_g.cons t.pos y ts eg).0 cy)
+  meets_at_view t s m r xs ys ef eg (paired {x = x} {y = y} {xs = rest} {ys = ts} q same cx cy s1 h) rd i e = absurd (debug_is_none ct g t.pos y i e (ip.laid_g.cons t.pos y ts eg).0 cy)
+  meets_at_view t s m r xs ys ef eg (entering op ne st q free into) rd i e = absurd (by_station (station_is_of ct g t.pos i e)) where
     by_station : IsStationOf ct g t.pos i → ⊥
     by_station (of_item x fx cx ix) = not_past_items (g.fetch t.pos) x (ip.laid_g.nil t.pos eg).0 fx
     by_station (of_end k n fe ce ie) = ne ce

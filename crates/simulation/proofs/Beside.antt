@@ -19,7 +19,7 @@ use Rattle.simulation.proofs.Idle.{lingers_past, shows_idle}
 use Rattle.simulation.proofs.Stations.{code_station, debug_station, IsStationOf, of_item, of_end, station_is_of, not_past_items}
 
 module _ (change : Change) where
-  open change use {ct, src, f, g, s0, rf, rg, S, Q, place, ip}
+  open change use {ct, src, f, g, s0, rf, rg, Stage, entry, S, Q, place, ip}
 
   abbrev fs : Pos → Option Station
   fs p = station_at ct f p
@@ -27,11 +27,11 @@ module _ (change : Change) where
   abbrev gs : Pos → Option Station
   gs p = station_at ct g p
 
-  abbrev Alike : ℕ → List Item → List Item → Since → Outcome → Outcome → Type 0
-  Alike b xs ys m x y = DoAlike ct src f g s0 rf rg S Q b xs ys m x y
+  abbrev Alike : ℕ → List Item → List Item → Since → Stage → Outcome → Outcome → Type 0
+  Alike b xs ys m k x y = DoAlike ct src f g s0 rf rg Stage entry S Q b xs ys m k x y
 
-  abbrev Seen : ℕ → List Item → List Item → Type 0
-  Seen b xs ys = View ct src f g s0 rf rg S Q b xs ys
+  abbrev Seen : ℕ → Stage → List Item → List Item → Type 0
+  Seen b k xs ys = View ct src f g s0 rf rg Stage entry S Q b k xs ys
 
   abbrev IsNext : (b n : ℕ) → List Item → Pos → Type 0
   IsNext b n ys p = ComesNext ct g place b n ys p
@@ -45,8 +45,9 @@ module _ (change : Change) where
     pub n : ℕ
     pub m : ℕ
     pub block : t.pos.block ≡ v.pos.block
-    pub static : S v.pos.block (rf v.pos) (rg t.pos)
-    pub dynamic : Q v.pos.block (rf v.pos) (rg t.pos) v.core t.core
+    pub stage : Stage
+    pub static : S stage v.pos.block (rf v.pos) (rg t.pos)
+    pub dynamic : Q stage v.pos.block (rf v.pos) (rg t.pos) v.core t.core
     pub order_f : InOrder v.pos.block n (rf v.pos)
     pub order_g : InOrder v.pos.block m (rg t.pos)
     pub known : (q : Pos) → last ≡ Some q → IsUntil place v.pos.block n q
@@ -56,7 +57,7 @@ module _ (change : Change) where
     pub dooms : (p : Pos) → IsNext v.pos.block n (rg t.pos) p → IsDoomed f fs gs p last v → IsDoomed f fs gs p last0 u
 
   -- both at the start of a block
-  pub at_start : (last0 last : Option Pos) (u : State) (b : ℕ) (c d : Core) → Q b (rf (block_start b)) (rg (block_start b)) c d → ((q : Pos) → last ≡ Some q → IsUntil place b 0 q) →
+  pub at_start : (last0 last : Option Pos) (u : State) (b : ℕ) (c d : Core) → Q (entry b) b (rf (block_start b)) (rg (block_start b)) c d → ((q : Pos) → last ≡ Some q → IsUntil place b 0 q) →
       ((p : Pos) → IsNext b 0 (rg (block_start b)) p → (w : State) → Walk f fs gs p last (record { pos = block_start b; core = c }) w → Walk f fs gs p last0 u w) →
       ((p : Pos) → IsNext b 0 (rg (block_start b)) p → IsDoomed f fs gs p last (record { pos = block_start b; core = c }) → IsDoomed f fs gs p last0 u) → Beside last0 (record { pos = block_start b; core = d }) u
   at_start last0 last u b c d q known walks dooms = record {
@@ -65,6 +66,7 @@ module _ (change : Change) where
     n = 0;
     m = 0;
     block = refl;
+    stage = entry b;
     static = ip.starts b;
     dynamic = q;
     order_f = ip.order_f b;
@@ -76,8 +78,13 @@ module _ (change : Change) where
     dooms = dooms;
   }
 
-  pub dynamic_at : (last0 : Option Pos) (t u : State) (r : Beside last0 t u) (xs ys : List Item) → rf r.v.pos ≡ xs → rg t.pos ≡ ys → Q r.v.pos.block xs ys r.v.core t.core
-  dynamic_at last0 t u r xs ys ef eg = subst (λ (z : List Item). Q r.v.pos.block z ys r.v.core t.core) ef (subst (λ (z : List Item). Q r.v.pos.block (rf r.v.pos) z r.v.core t.core) eg r.dynamic)
+  pub static_at : (last0 : Option Pos) (t u : State) (r : Beside last0 t u) (xs ys : List Item) → rf r.v.pos ≡ xs → rg t.pos ≡ ys →
+      S r.stage r.v.pos.block xs ys
+  static_at last0 t u r xs ys ef eg =
+      subst (λ (z : List Item). S r.stage r.v.pos.block z ys) ef (subst (λ (z : List Item). S r.stage r.v.pos.block (rf r.v.pos) z) eg r.static)
+
+  pub dynamic_at : (last0 : Option Pos) (t u : State) (r : Beside last0 t u) (xs ys : List Item) → rf r.v.pos ≡ xs → rg t.pos ≡ ys → Q r.stage r.v.pos.block xs ys r.v.core t.core
+  dynamic_at last0 t u r xs ys ef eg = subst (λ (z : List Item). Q r.stage r.v.pos.block z ys r.v.core t.core) ef (subst (λ (z : List Item). Q r.stage r.v.pos.block (rf r.v.pos) z r.v.core t.core) eg r.dynamic)
 
   -- p is no later than code that stands further on in g's block
   ahead : (k : ℕ) (q p : Pos) (b : ℕ) (i : Item) (ys : List Item) → rg q ≡ ys → IsNoLater b p ys → g.fetch (record { block = q.block; item = q.item + k }) ≡ Here i → is_code i.kind ≡ true → (p.block ≡ b) × (2 * p.item ≤ rank i.origin)
@@ -141,11 +148,11 @@ module _ (change : Change) where
         there_is k (ap (λ (z : Pos). z.item) from) a.0 (let z = a.1 in omega (arith, z))
 
   -- f alone goes past an item
-  goes_f : (last0 : Option Pos) (t u : State) (r : Beside last0 t u) (x : Item) (xs : List Item) (e : Core) (l : Option Pos) → rf r.v.pos ≡ x ∷ xs → S r.v.pos.block xs (rg t.pos) → Q r.v.pos.block xs (rg t.pos) e t.core →
+  goes_f : (last0 : Option Pos) (t u : State) (r : Beside last0 t u) (k' : Stage) (x : Item) (xs : List Item) (e : Core) (l : Option Pos) → rf r.v.pos ≡ x ∷ xs → S k' r.v.pos.block xs (rg t.pos) → Q k' r.v.pos.block xs (rg t.pos) e t.core →
       ((q : Pos) → l ≡ Some q → IsUntil place r.v.pos.block (next_rank x.origin) q) → ((q : Pos) → q.block ≡ r.v.pos.block → IsDone r.n r.last q → IsDone (next_rank x.origin) l q) →
       ((p : Pos) → IsNext r.v.pos.block (next_rank x.origin) (rg t.pos) p → (w : State) → Walk f fs gs p l (record { pos = below r.v.pos; core = e }) w → Walk f fs gs p r.last r.v w) →
       ((p : Pos) → IsNext r.v.pos.block (next_rank x.origin) (rg t.pos) p → IsDoomed f fs gs p l (record { pos = below r.v.pos; core = e }) → IsDoomed f fs gs p r.last r.v) → Beside last0 t u
-  goes_f last0 t u r x xs e l at st dy known done walks dooms =
+  goes_f last0 t u r k' x xs e l at st dy known done walks dooms =
       let b = r.v.pos.block in
       let o = subst (InOrder b r.n) at r.order_f in
       let laid = ip.laid_f.cons r.v.pos x xs at in
@@ -156,6 +163,7 @@ module _ (change : Change) where
         n = next_rank x.origin;
         m = r.m;
         block = r.block;
+        stage = k';
         static = rw laid.1 st;
         dynamic = rw laid.1 dy;
         order_f = rw laid.1 o.2;
@@ -167,24 +175,24 @@ module _ (change : Change) where
         dooms = λ p next d. r.dooms p (from_less place b r.n (next_rank x.origin) p le next.0, next.1, next.2) (dooms p next d);
       }
 
-  passes_debug : (last0 : Option Pos) (t u : State) (r : Beside last0 t u) (x : Item) (xs ys : List Item) → rf r.v.pos ≡ x ∷ xs → rg t.pos ≡ ys → is_code x.kind ≡ false → S r.v.pos.block xs ys → (e : Core) → do_item f x.kind r.v.core ≡ Falls e → Q r.v.pos.block xs ys e t.core → Beside last0 t u
-  passes_debug last0 t u r x xs ys ef eg c s e o q =
+  passes_debug : (last0 : Option Pos) (t u : State) (r : Beside last0 t u) (k' : Stage) (x : Item) (xs ys : List Item) → rf r.v.pos ≡ x ∷ xs → rg t.pos ≡ ys → is_code x.kind ≡ false → S k' r.v.pos.block xs ys → (e : Core) → do_item f x.kind r.v.core ≡ Falls e → Q k' r.v.pos.block xs ys e t.core → Beside last0 t u
+  passes_debug last0 t u r k' x xs ys ef eg c s e o q =
       let b = r.v.pos.block in
       let fx = (ip.laid_f.cons r.v.pos x xs ef).0 in
       let le = rank_next x.origin r.n (subst (InOrder b r.n) ef r.order_f).1 in
       let st = step_item f r.v x (Falls e) fx o in
       let none = debug_station ct f r.v.pos x fx c in
-      goes_f last0 t u r x xs e r.last ef (subst (S b xs) (sym eg) s) (subst (λ (z : List Item). Q b xs z e t.core) (sym eg) q) (λ p k. until_more place b r.n (next_rank x.origin) p le (r.known p k))
+      goes_f last0 t u r k' x xs e r.last ef (subst (S k' b xs) (sym eg) s) (subst (λ (z : List Item). Q k' b xs z e t.core) (sym eg) q) (λ p k. until_more place b r.n (next_rank x.origin) p le (r.known p k))
       (λ p k h. done_more r.n (next_rank x.origin) r.last p le h) (λ p next w j. on none st j) (λ p next d. later none st d)
 
-  passes_code : (last0 : Option Pos) (t u : State) (r : Beside last0 t u) (x : Item) (xs ys : List Item) → rf r.v.pos ≡ x ∷ xs → rg t.pos ≡ ys → is_code x.kind ≡ true → moves_on ct x.kind ≡ false → S r.v.pos.block xs ys → (e : Core) → do_item f x.kind r.v.core ≡ Falls e → Q r.v.pos.block xs ys e t.core → Beside last0 t u
-  passes_code last0 t u r x xs ys ef eg c stays s e o q =
+  passes_code : (last0 : Option Pos) (t u : State) (r : Beside last0 t u) (k' : Stage) (x : Item) (xs ys : List Item) → rf r.v.pos ≡ x ∷ xs → rg t.pos ≡ ys → is_code x.kind ≡ true → moves_on ct x.kind ≡ false → S k' r.v.pos.block xs ys → (e : Core) → do_item f x.kind r.v.core ≡ Falls e → Q k' r.v.pos.block xs ys e t.core → Beside last0 t u
+  passes_code last0 t u r k' x xs ys ef eg c stays s e o q =
       let b = r.v.pos.block in
       let fx = (ip.laid_f.cons r.v.pos x xs ef).0 in
       let ord = subst (InOrder b r.n) ef r.order_f in
       let st = step_item f r.v x (Falls e) fx o in
       let since : since_item ct x ≡ since_of (waits_at false x.origin) = ap (λ (z : Bool). since_of (waits_at z x.origin)) stays in
-      goes_f last0 t u r x xs e (waits_after x.origin) ef (subst (S b xs) (sym eg) s) (subst (λ (z : List Item). Q b xs z e t.core) (sym eg) q)
+      goes_f last0 t u r k' x xs e (waits_after x.origin) ef (subst (S k' b xs) (sym eg) s) (subst (λ (z : List Item). Q k' b xs z e t.core) (sym eg) q)
       (λ p k. let z = waits_where x.origin p k in inl (ap (λ (y : Pos). y.block) z.0 ∙ ord.0, z.1))
       (λ p k h. done_past x.origin r.n r.last p (ord.0 ∙ sym k) ord.1 (λ h'. until_here place b r.n p k (r.known p h')) h)
       (λ p next w j. past (station_of ct x) (code_station ct f r.v.pos x fx c) (may_pass place gs ct b r.n r.last x p ord.0 ord.1 r.known next.0 stays (lacks last0 t u r x p ord.0 ord.1 next)) st
@@ -193,8 +201,8 @@ module _ (change : Change) where
       (subst (λ (z : Since). IsDoomed f fs gs p (waiting z (position_of x.origin)) (record { pos = below r.v.pos; core = e })) (sym since) d))
 
   -- where f's code that is taken out traps, f is stuck on the way to g's next station
-  stuck_here : (last0 : Option Pos) (t u : State) (r : Beside last0 t u) (x : Item) (xs ys : List Item) → rf r.v.pos ≡ x ∷ xs → rg t.pos ≡ ys → is_code x.kind ≡ true → moves_on ct x.kind ≡ false → S r.v.pos.block xs ys → Q r.v.pos.block (x ∷ xs) ys r.v.core t.core → MayTrap ct src f g s0 rf rg S Q x ys → step f r.v ≡ Faulted → {X : Type 0} → X ⊎ IsStuckFrom src f g s0 fs gs last0 t u
-  stuck_here last0 t u r x xs ys ef eg c stay s dy may st = inr (record { on_the_way = stuck }) where
+  stuck_here : (last0 : Option Pos) (t u : State) (r : Beside last0 t u) (k' : Stage) (x : Item) (xs ys : List Item) → rf r.v.pos ≡ x ∷ xs → rg t.pos ≡ ys → is_code x.kind ≡ true → moves_on ct x.kind ≡ false → S k' r.v.pos.block xs ys → Q r.stage r.v.pos.block (x ∷ xs) ys r.v.core t.core → MayTrap ct src f g s0 rf rg Stage entry S Q x ys → step f r.v ≡ Faulted → {X : Type 0} → X ⊎ IsStuckFrom src f g s0 fs gs last0 t u
+  stuck_here last0 t u r k' x xs ys ef eg c stay s dy may st = inr (record { on_the_way = stuck }) where
     b : ℕ
     b = r.v.pos.block
 
@@ -222,7 +230,7 @@ module _ (change : Change) where
     stuck t1 i w si = elim (cases_pos p i.pos) as (λ _. IsStuck src f g s0 fs gs last0 t1 u i) [ inl at ↦ elim may as (λ _. IsStuck src f g s0 fs gs last0 t1 u i) [ inl af ↦ absurd (not_there x.origin refl af i.pos next.0 at) | inr idle ↦ at_p at idle ] | inr ne ↦ elsewhere ne ] where
       next : IsNext r.v.pos.block (next_rank x.origin) (rg t.pos) i.pos
       next =
-          let first = first_from change (length xs + length ys) r.v.pos.block (next_rank x.origin) xs ys (ip.view r.v.pos.block xs ys s) ord.2 (omega arith) in
+          let first = first_from change (length xs + length ys) r.v.pos.block (next_rank x.origin) k' xs ys (ip.view k' r.v.pos.block xs ys s) ord.2 (omega arith) in
           let next0 = next_station change i w si r.v.pos.block (next_rank x.origin) r.m ys r.block eg first ord_g (λ e k l eb fe. ip.within_f r.v.pos e x k l fx fe (sym eb)) in
           subst (λ (z : List Item). IsNext r.v.pos.block (next_rank x.origin) z i.pos) (sym eg) next0
 
@@ -234,7 +242,7 @@ module _ (change : Change) where
           doomed (r.dooms i.pos earlier (faults (station_of ct x) (code_station ct f r.v.pos x fx c) (may_pass place gs ct r.v.pos.block r.n r.last x i.pos ord.0 ord.1 r.known next.0 stay (lacks last0 t u r x i.pos ord.0 ord.1 next)) ne st))
 
       shows : ShowsSame r.v.core t.core
-      shows = ip.shows r.v.pos.block (x ∷ xs) ys r.v.core t.core dy
+      shows = ip.shows r.stage r.v.pos.block (x ∷ xs) ys r.v.core t.core dy
 
       at_p : p ≡ i.pos → (FaultsAt src s0 p → All (IsIdleAt ct g p) ys) → IsStuck src f g s0 fs gs last0 t1 u i
       at_p at idle =
@@ -250,7 +258,7 @@ module _ (change : Change) where
           })
 
   -- f has nothing left to pass before g's next item
-  abbrev pub IsReady : {b : ℕ} {xs ys : List Item} → Seen b xs ys → Type 0
+  abbrev pub IsReady : {b : ℕ} {k : Stage} {xs ys : List Item} → Seen b k xs ys → Type 0
   IsReady (taken c j s h) = ⊥
   IsReady (passed c s h) = ⊥
   IsReady _ = Unit {0}
@@ -261,11 +269,11 @@ module _ (change : Change) where
     pub ys : List Item
     pub is_f : rf at.v.pos ≡ xs
     pub is_g : rg t.pos ≡ ys
-    pub view : Seen at.v.pos.block xs ys
+    pub view : Seen at.v.pos.block at.stage xs ys
     pub ready : IsReady view
 
   -- f goes past all that it may pass; k bounds how much that is
-  catches : (k : ℕ) (last0 : Option Pos) (t u : State) (r : Beside last0 t u) (xs ys : List Item) → rf r.v.pos ≡ xs → rg t.pos ≡ ys → Seen r.v.pos.block xs ys → length xs ≤ k → Ready last0 t u ⊎ IsStuckFrom src f g s0 fs gs last0 t u
+  catches : (k : ℕ) (last0 : Option Pos) (t u : State) (r : Beside last0 t u) (xs ys : List Item) → rf r.v.pos ≡ xs → rg t.pos ≡ ys → Seen r.v.pos.block r.stage xs ys → length xs ≤ k → Ready last0 t u ⊎ IsStuckFrom src f g s0 fs gs last0 t u
   unfolding goes_f passes_code passes_debug
   catches k last0 t u r xs ys ef eg ended le = inl (record { at = r; xs = xs; ys = ys; is_f = ef; is_g = eg; view = ended; ready = tt })
   catches k last0 t u r xs ys ef eg (both cx cy o j s h) le = inl (record { at = r; xs = xs; ys = ys; is_f = ef; is_g = eg; view = both cx cy o j s h; ready = tt })
@@ -273,20 +281,20 @@ module _ (change : Change) where
   catches k last0 t u r xs ys ef eg (paired cx cy s h) le = inl (record { at = r; xs = xs; ys = ys; is_f = ef; is_g = eg; view = paired cx cy s h; ready = tt })
   catches zero last0 t u r xs ys ef eg (taken c j s h) le = absurd (omega (arith, le))
   catches zero last0 t u r xs ys ef eg (passed c s h) le = absurd (omega (arith, le))
-  catches (suc k) last0 t u r xs ys ef eg (passed {x = x} {xs = rest} c s h) le =
+  catches (suc k) last0 t u r xs ys ef eg (passed {k' = k'} {x = x} {xs = rest} c s h) le =
       let d = h r.v.core t.core (dynamic_at last0 t u r xs ys ef eg) in
-      catches k last0 t u (passes_debug last0 t u r x rest ys ef eg c s d.0 d.1 d.2) rest ys (ip.laid_f.cons r.v.pos x rest ef).1 eg (ip.view r.v.pos.block rest ys s) (omega (arith, le))
-  catches (suc k) last0 t u r xs ys ef eg (taken {x = x} {xs = rest} c j s h) le =
-      by_outcome (λ r2 e. catches k last0 t u r2 rest ys e.0 eg (subst (λ (b : ℕ). Seen b rest ys) (sym e.1) (ip.view r.v.pos.block rest ys s)) (omega (arith, le))) (do_item f x.kind r.v.core) refl (h r.v.core t.core (dynamic_at last0 t u r xs ys ef eg)) where
-        by_outcome : ((r2 : Beside last0 t u) → (rf r2.v.pos ≡ rest) × (r2.v.pos.block ≡ r.v.pos.block) → Ready last0 t u ⊎ IsStuckFrom src f g s0 fs gs last0 t u) → (o : Outcome) → do_item f x.kind r.v.core ≡ o → FallsOrTraps (MayTrap ct src f g s0 rf rg S Q x ys) (λ e. Q r.v.pos.block rest ys e t.core) o → Ready last0 t u ⊎ IsStuckFrom src f g s0 fs gs last0 t u
-        by_outcome more (Falls e) is q = more (passes_code last0 t u r x rest ys ef eg c j s e is q) ((ip.laid_f.cons r.v.pos x rest ef).1, refl)
+      catches k last0 t u (passes_debug last0 t u r k' x rest ys ef eg c s d.0 d.1 d.2) rest ys (ip.laid_f.cons r.v.pos x rest ef).1 eg (ip.view k' r.v.pos.block rest ys s) (omega (arith, le))
+  catches (suc k) last0 t u r xs ys ef eg (taken {k' = k'} {x = x} {xs = rest} c j s h) le =
+      by_outcome (λ r2 e. catches k last0 t u r2 rest ys e.0 eg (subst (λ (b : ℕ). Seen b r2.stage rest ys) (sym e.1) (subst (λ (z : Stage). Seen r.v.pos.block z rest ys) (sym e.2) (ip.view k' r.v.pos.block rest ys s))) (omega (arith, le))) (do_item f x.kind r.v.core) refl (h r.v.core t.core (dynamic_at last0 t u r xs ys ef eg)) where
+        by_outcome : ((r2 : Beside last0 t u) → (rf r2.v.pos ≡ rest) × (r2.v.pos.block ≡ r.v.pos.block) × (r2.stage ≡ k') → Ready last0 t u ⊎ IsStuckFrom src f g s0 fs gs last0 t u) → (o : Outcome) → do_item f x.kind r.v.core ≡ o → FallsOrTraps (MayTrap ct src f g s0 rf rg Stage entry S Q x ys) (λ e. Q k' r.v.pos.block rest ys e t.core) o → Ready last0 t u ⊎ IsStuckFrom src f g s0 fs gs last0 t u
+        by_outcome more (Falls e) is q = more (passes_code last0 t u r k' x rest ys ef eg c j s e is q) ((ip.laid_f.cons r.v.pos x rest ef).1, refl, refl)
         by_outcome more Traps is q =
             let fx = (ip.laid_f.cons r.v.pos x rest ef).0 in
-            stuck_here last0 t u r x rest ys ef eg c j s (dynamic_at last0 t u r xs ys ef eg) q (step_item f r.v x Traps fx is)
+            stuck_here last0 t u r k' x rest ys ef eg c j s (dynamic_at last0 t u r xs ys ef eg) q (step_item f r.v x Traps fx is)
         by_outcome more (Goes n d) is q = absurd q
         by_outcome more (Gives n) is q = absurd q
         by_outcome more Asks is q = absurd q
         by_outcome more Breaks is q = absurd q
 
   pub ready : (last0 : Option Pos) (t u : State) → Beside last0 t u → Ready last0 t u ⊎ IsStuckFrom src f g s0 fs gs last0 t u
-  ready last0 t u r = catches (length (rf r.v.pos)) last0 t u r (rf r.v.pos) (rg t.pos) refl refl (ip.view r.v.pos.block (rf r.v.pos) (rg t.pos) r.static) (omega arith)
+  ready last0 t u r = catches (length (rf r.v.pos)) last0 t u r (rf r.v.pos) (rg t.pos) refl refl (ip.view r.stage r.v.pos.block (rf r.v.pos) (rg t.pos) r.static) (omega arith)

@@ -43,38 +43,40 @@ pub record Change : Type 1 where
   pub s0 : State
   pub rf : Pos → List Item
   pub rg : Pos → List Item
-  pub S : ℕ → List Item → List Item → Type 0
-  pub Q : ℕ → List Item → List Item → Core → Core → Type 0
+  pub Stage : Type 0
+  pub entry : ℕ → Stage
+  pub S : Stage → ℕ → List Item → List Item → Type 0
+  pub Q : Stage → ℕ → List Item → List Item → Core → Core → Type 0
   pub place : ℕ → ℕ
-  pub ip : InPlace ct src f g s0 rf rg S Q place
+  pub ip : InPlace ct src f g s0 rf rg Stage entry S Q place
 
 module _ (change : Change) where
-  open change use {ct, src, f, g, s0, rf, rg, S, Q, place, ip}
+  open change use {ct, src, f, g, s0, rf, rg, Stage, entry, S, Q, place, ip}
 
   abbrev gs : Pos → Option Station
   gs p = station_at ct g p
 
-  abbrev Seen : ℕ → List Item → List Item → Type 0
-  Seen b xs ys = View ct src f g s0 rf rg S Q b xs ys
+  abbrev Seen : ℕ → Stage → List Item → List Item → Type 0
+  Seen b k xs ys = View ct src f g s0 rf rg Stage entry S Q b k xs ys
 
   abbrev IsNext : (b n : ℕ) → List Item → Pos → Type 0
   IsNext b n ys p = ComesNext ct g place b n ys p
 
   -- since it is of an origin that f has ahead too
-  pub first_from : (k b n : ℕ) (xs ys : List Item) → Seen b xs ys → InOrder b n xs → length xs + length ys ≤ k → IsFirstFrom n ys
-  first_from k b n xs ys ended ord le = tt
-  first_from k b n xs ys (both {x = x} {y = y} cx cy o j s h) ord le = (λ c. subst (λ (z : Origin). n ≤ rank z) o ord.1, λ c. not_code y c cy)
-  first_from zero b n xs ys (taken c j s h) ord le = absurd (omega (arith, le))
-  first_from zero b n xs ys (passed c s h) ord le = absurd (omega (arith, le))
-  first_from zero b n xs ys (added cy s h) ord le = absurd (omega (arith, le))
-  first_from zero b n xs ys (paired cx cy s h) ord le = absurd (omega (arith, le))
-  first_from (suc k) b n xs ys (taken {x = x} {xs = rest} c j s h) ord le =
-      first_less n (next_rank x.origin) ys (rank_next x.origin n ord.1) (first_from k b (next_rank x.origin) rest ys (ip.view b rest ys s) ord.2 (omega (arith, le)))
-  first_from (suc k) b n xs ys (passed {x = x} {xs = rest} c s h) ord le =
-      first_less n (next_rank x.origin) ys (rank_next x.origin n ord.1) (first_from k b (next_rank x.origin) rest ys (ip.view b rest ys s) ord.2 (omega (arith, le)))
-  first_from (suc k) b n xs ys (added {y = y} {ys = ts} cy s h) ord le = (λ c. not_code y cy c, λ c. first_from k b n xs ts (ip.view b xs ts s) ord (omega (arith, le)))
-  first_from (suc k) b n xs ys (paired {x = x} {y = y} {xs = rest} {ys = ts} cx cy s h) ord le =
-      (λ c. not_code y cy c, λ c. first_less n (next_rank x.origin) ts (rank_next x.origin n ord.1) (first_from k b (next_rank x.origin) rest ts (ip.view b rest ts s) ord.2 (omega (arith, le))))
+  pub first_from : (m b n : ℕ) (k : Stage) (xs ys : List Item) → Seen b k xs ys → InOrder b n xs → length xs + length ys ≤ m → IsFirstFrom n ys
+  first_from m b n k xs ys ended ord le = tt
+  first_from m b n k xs ys (both {x = x} {y = y} cx cy o j s h) ord le = (λ c. subst (λ (z : Origin). n ≤ rank z) o ord.1, λ c. not_code y c cy)
+  first_from zero b n k xs ys (taken c j s h) ord le = absurd (omega (arith, le))
+  first_from zero b n k xs ys (passed c s h) ord le = absurd (omega (arith, le))
+  first_from zero b n k xs ys (added cy s h) ord le = absurd (omega (arith, le))
+  first_from zero b n k xs ys (paired cx cy s h) ord le = absurd (omega (arith, le))
+  first_from (suc m) b n k xs ys (taken {k' = k'} {x = x} {xs = rest} c j s h) ord le =
+      first_less n (next_rank x.origin) ys (rank_next x.origin n ord.1) (first_from m b (next_rank x.origin) k' rest ys (ip.view k' b rest ys s) ord.2 (omega (arith, le)))
+  first_from (suc m) b n k xs ys (passed {k' = k'} {x = x} {xs = rest} c s h) ord le =
+      first_less n (next_rank x.origin) ys (rank_next x.origin n ord.1) (first_from m b (next_rank x.origin) k' rest ys (ip.view k' b rest ys s) ord.2 (omega (arith, le)))
+  first_from (suc m) b n k xs ys (added {k' = k'} {y = y} {ys = ts} cy s h) ord le = (λ c. not_code y cy c, λ c. first_from m b n k' xs ts (ip.view k' b xs ts s) ord (omega (arith, le)))
+  first_from (suc m) b n k xs ys (paired {k' = k'} {x = x} {y = y} {xs = rest} {ys = ts} cx cy s h) ord le =
+      (λ c. not_code y cy c, λ c. first_less n (next_rank x.origin) ts (rank_next x.origin n ord.1) (first_from m b (next_rank x.origin) k' rest ts (ip.view k' b rest ts s) ord.2 (omega (arith, le))))
 
   -- f's block has an end
   end_in_f : (xs : List Item) (p : Pos) → rf p ≡ xs → (q : Pos) × (q.block ≡ p.block) × (rf q ≡ [])

@@ -59,7 +59,7 @@ no_more_gives_not m d Asks v h e = cc
 no_more_gives_not m d Breaks v h e = cc
 
 module _ (change : Change) where
-  open change use {ct, src, f, g, s0, rf, rg, S, Q, place, ip}
+  open change use {ct, src, f, g, s0, rf, rg, place, ip}
 
   abbrev gs : Pos → Option Station
   gs p = station_at ct g p

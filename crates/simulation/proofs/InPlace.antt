@@ -15,11 +15,11 @@ use Rattle.mir_meaning.proofs.Outcomes.{step_item, step_end}
 use Rattle.simulation.proofs.Refinement.{still_follows}
 use Rattle.simulation.proofs.Order.{done_next, rank_high, rank_low, rank_next, same_pos, done_more, waits_after, done_past, done_self, waits_where, IsNoLater, no_later, from_less, until_more, until_here, until_next, from_next}
 use Rattle.simulation.proofs.Between.{Change, ComesNext}
-use Rattle.simulation.proofs.Beside.{Beside, at_start, dynamic_at, IsReady, ready}
+use Rattle.simulation.proofs.Beside.{Beside, at_start, dynamic_at, static_at, IsReady, ready}
 use Rattle.simulation.proofs.Stations.{not_code, code_station, debug_station, end_is_station, code_is_some, code_is, debug_is_none, IsStationOf, of_item, of_end, station_is_of, no_end_stations, not_by_ends, not_past_items, falls_stays}
 
 module _ (change : Change) where
-  open change use {ct, src, f, g, s0, rf, rg, S, Q, place, ip}
+  open change use {ct, src, f, g, s0, rf, rg, Stage, entry, S, Q, place, ip}
 
   abbrev fs : Pos → Option Station
   fs p = station_at ct f p
@@ -27,18 +27,18 @@ module _ (change : Change) where
   abbrev gs : Pos → Option Station
   gs p = station_at ct g p
 
-  abbrev Alike : ℕ → List Item → List Item → Since → Outcome → Outcome → Type 0
-  Alike b xs ys m x y = DoAlike ct src f g s0 rf rg S Q b xs ys m x y
+  abbrev Alike : ℕ → List Item → List Item → Since → Stage → Outcome → Outcome → Type 0
+  Alike b xs ys m k x y = DoAlike ct src f g s0 rf rg Stage entry S Q b xs ys m k x y
 
-  abbrev Seen : ℕ → List Item → List Item → Type 0
-  Seen b xs ys = View ct src f g s0 rf rg S Q b xs ys
+  abbrev Seen : ℕ → Stage → List Item → List Item → Type 0
+  Seen b k xs ys = View ct src f g s0 rf rg Stage entry S Q b k xs ys
 
   abbrev IsNext : (b n : ℕ) → List Item → Pos → Type 0
   IsNext b n ys p = ComesNext ct g place b n ys p
 
   -- a debug item of g alone
-  goes_g : (last0 : Option Pos) (t u : State) (r : Beside change last0 t u) (y : Item) (ys : List Item) → rg t.pos ≡ y ∷ ys → is_code y.kind ≡ false → S r.v.pos.block (rf r.v.pos) ys → (e : Core) → Q r.v.pos.block (rf r.v.pos) ys r.v.core e → Beside change last0 (record { pos = below t.pos; core = e }) u
-  goes_g last0 t u r y ys eg c s e q =
+  goes_g : (last0 : Option Pos) (t u : State) (r : Beside change last0 t u) (k' : Stage) (y : Item) (ys : List Item) → rg t.pos ≡ y ∷ ys → is_code y.kind ≡ false → S k' r.v.pos.block (rf r.v.pos) ys → (e : Core) → Q k' r.v.pos.block (rf r.v.pos) ys r.v.core e → Beside change last0 (record { pos = below t.pos; core = e }) u
+  goes_g last0 t u r k' y ys eg c s e q =
       let b = r.v.pos.block in
       let tail = (ip.laid_g.cons t.pos y ys eg).1 in
       record {
@@ -47,6 +47,7 @@ module _ (change : Change) where
         n = r.n;
         m = next_rank y.origin;
         block = r.block;
+        stage = k';
         static = rw tail s;
         dynamic = rw tail q;
         order_f = r.order_f;
@@ -59,8 +60,8 @@ module _ (change : Change) where
       }
 
   -- a debug item of each
-  goes_both : (last0 : Option Pos) (t u : State) (r : Beside change last0 t u) (x y : Item) (xs ys : List Item) → rf r.v.pos ≡ x ∷ xs → rg t.pos ≡ y ∷ ys → is_code x.kind ≡ false → is_code y.kind ≡ false → S r.v.pos.block xs ys → (e e' : Core) → do_item f x.kind r.v.core ≡ Falls e → Q r.v.pos.block xs ys e e' → Beside change last0 (record { pos = below t.pos; core = e' }) u
-  goes_both last0 t u r x y xs ys ef eg cx cy s e e' o q =
+  goes_both : (last0 : Option Pos) (t u : State) (r : Beside change last0 t u) (k' : Stage) (x y : Item) (xs ys : List Item) → rf r.v.pos ≡ x ∷ xs → rg t.pos ≡ y ∷ ys → is_code x.kind ≡ false → is_code y.kind ≡ false → S k' r.v.pos.block xs ys → (e e' : Core) → do_item f x.kind r.v.core ≡ Falls e → Q k' r.v.pos.block xs ys e e' → Beside change last0 (record { pos = below t.pos; core = e' }) u
+  goes_both last0 t u r k' x y xs ys ef eg cx cy s e e' o q =
       let b = r.v.pos.block in
       let fe = ip.laid_f.cons r.v.pos x xs ef in
       let ge = ip.laid_g.cons t.pos y ys eg in
@@ -74,6 +75,7 @@ module _ (change : Change) where
         n = next_rank x.origin;
         m = next_rank y.origin;
         block = r.block;
+        stage = k';
         static = rw (fe.1, ge.1) s;
         dynamic = rw (fe.1, ge.1) q;
         order_f = rw fe.1 ord.2;
@@ -96,26 +98,26 @@ module _ (change : Change) where
       let go_f : step f r.v ≡ Went (record { pos = block_start n; core = r.v.core }) = step_end f r.v k n onward.0 ∙ ap (λ (z : ℕ). Went (record { pos = block_start z; core = r.v.core })) (ip.enter_f n) in
       let no_end = sym (end_is_station ct g t.pos k n fe) ∙ none in
       let none_f : fs r.v.pos ≡ None = end_is_station ct f r.v.pos k n onward.0 ∙ no_end_stations ct _ _ no_end in
-      let made = at_start change last0 r.last u n r.v.core t.core (ip.ends b n r.v.core t.core (dynamic_at change last0 t u r [] [] ef eg)) (λ q h. until_next place b n r.n q onward.1 (r.known q h))
+      let made = at_start change last0 r.last u n r.v.core t.core (ip.ends r.stage r.v.pos k n r.v.core t.core ef onward.0 (static_at change last0 t u r [] [] ef eg) (dynamic_at change last0 t u r [] [] ef eg)) (λ q h. until_next place b n r.n q onward.1 (r.known q h))
       (λ p next w j. r.walks p (from_next place b n r.n p onward.1 next.0, subst (IsNoLater b p) (sym eg) tt, λ q k' n' ce qb fq. not_by_ends ct _ no_end ce) w (on none_f go_f j))
       (λ p next d. r.dooms p (from_next place b n r.n p onward.1 next.0, subst (IsNoLater b p) (sym eg) tt, λ q k' n' ce qb fq. not_by_ends ct _ no_end ce) (later none_f go_f d)) in
       subst (λ (z : State). Beside change last0 z u) (went_once g t _ t' go st) made
 
-  between_at : (last0 : Option Pos) (t u : State) (r : Beside change last0 t u) (xs ys : List Item) → rf r.v.pos ≡ xs → rg t.pos ≡ ys → (w : Seen r.v.pos.block xs ys) → IsReady change w → gs t.pos ≡ None → (t' : State) → step g t ≡ Went t' → Beside change last0 t' u
+  between_at : (last0 : Option Pos) (t u : State) (r : Beside change last0 t u) (xs ys : List Item) → rf r.v.pos ≡ xs → rg t.pos ≡ ys → (w : Seen r.v.pos.block r.stage xs ys) → IsReady change w → gs t.pos ≡ None → (t' : State) → step g t ≡ Went t' → Beside change last0 t' u
   between_at last0 t u r xs ys ef eg ended rd none t' st = goes_end last0 t u r ef eg (g.fetch t.pos) refl none (ip.laid_g.nil t.pos eg).0 t' st
   between_at last0 t u r xs ys ef eg (both {y = y} {ys = ts} cx cy o j s h) rd none t' st = absurd (code_is_some ct g t.pos y none (ip.laid_g.cons t.pos y ts eg).0 cy)
   between_at last0 t u r xs ys ef eg (taken c j s h) rd none t' st = absurd rd
   between_at last0 t u r xs ys ef eg (passed c s h) rd none t' st = absurd rd
-  between_at last0 t u r xs ys ef eg (added {y = y} {ys = ts} cy s h) rd none t' st =
+  between_at last0 t u r xs ys ef eg (added {k' = k'} {y = y} {ys = ts} cy s h) rd none t' st =
       let b = r.v.pos.block in
       let d = h r.v.core t.core (dynamic_at change last0 t u r xs ys ef eg) in
       let go = step_item g t y (Falls d.0) (ip.laid_g.cons t.pos y ts eg).0 d.1 in
-      let made = goes_g last0 t u r y ts eg cy (subst (λ (z : List Item). S b z ts) (sym ef) s) d.0 (subst (λ (z : List Item). Q b z ts r.v.core d.0) (sym ef) d.2) in
+      let made = goes_g last0 t u r k' y ts eg cy (subst (λ (z : List Item). S k' b z ts) (sym ef) s) d.0 (subst (λ (z : List Item). Q k' b z ts r.v.core d.0) (sym ef) d.2) in
       subst (λ (z : State). Beside change last0 z u) (went_once g t (record { pos = below t.pos; core = d.0 }) t' go st) made
-  between_at last0 t u r xs ys ef eg (paired {x = x} {y = y} {xs = rest} {ys = ts} cx cy s h) rd none t' st =
+  between_at last0 t u r xs ys ef eg (paired {k' = k'} {x = x} {y = y} {xs = rest} {ys = ts} cx cy s h) rd none t' st =
       let d = h r.v.core t.core (dynamic_at change last0 t u r xs ys ef eg) in
       let go = step_item g t y (Falls d.1) (ip.laid_g.cons t.pos y ts eg).0 d.3 in
-      subst (λ (z : State). Beside change last0 z u) (went_once g t (record { pos = below t.pos; core = d.1 }) t' go st) (goes_both last0 t u r x y rest ts ef eg cx cy s d.0 d.1 d.2 d.4)
+      subst (λ (z : State). Beside change last0 z u) (went_once g t (record { pos = below t.pos; core = d.1 }) t' go st) (goes_both last0 t u r k' x y rest ts ef eg cx cy s d.0 d.1 d.2 d.4)
 
   between : (last0 : Option Pos) (t u t' : State) → Beside change last0 t u → gs t.pos ≡ None → step g t ≡ Went t' → Beside change last0 t' u ⊎ IsStuckFrom src f g s0 fs gs last0 t u
   between last0 t u t' r none st =
@@ -124,29 +126,29 @@ module _ (change : Change) where
         | inr d ↦ inr d
       ]
 
-  do_returns : (b : ℕ) (xs ys : List Item) (m : Since) (x y : Outcome) → Alike b xs ys m x y → (p q : Pos) (v : List ℕ) → moved g.enter q y ≡ Returned v → moved f.enter p x ≡ Returned v
-  do_returns b xs ys m (Gives v) (Gives w) e p q z h = ap Returned e ∙ h
-  do_returns b xs ys m (Falls c) (Falls d) e p q z h = cc
-  do_returns b xs ys m (Goes k c) (Goes j d) e p q z h = cc
-  do_returns b xs ys m Traps Traps e p q z h = cc
-  do_returns b xs ys m Asks Asks e p q z h = cc
-  do_returns b xs ys m Breaks Breaks e p q z h = cc
-  do_returns b xs ys m _ _ e p q z h = absurd e
+  do_returns : (b : ℕ) (xs ys : List Item) (m : Since) (k : Stage) (x y : Outcome) → Alike b xs ys m k x y → (p q : Pos) (v : List ℕ) → moved g.enter q y ≡ Returned v → moved f.enter p x ≡ Returned v
+  do_returns b xs ys m k' (Gives v) (Gives w) e p q z h = ap Returned e ∙ h
+  do_returns b xs ys m k' (Falls c) (Falls d) e p q z h = cc
+  do_returns b xs ys m k' (Goes k c) (Goes j d) e p q z h = cc
+  do_returns b xs ys m k' Traps Traps e p q z h = cc
+  do_returns b xs ys m k' Asks Asks e p q z h = cc
+  do_returns b xs ys m k' Breaks Breaks e p q z h = cc
+  do_returns b xs ys m k' _ _ e p q z h = absurd e
 
-  do_faults : (b : ℕ) (xs ys : List Item) (m : Since) (x y : Outcome) → Alike b xs ys m x y → (p q : Pos) → moved g.enter q y ≡ Faulted → moved f.enter p x ≡ Faulted
-  do_faults b xs ys m Traps Traps e p q h = refl
-  do_faults b xs ys m (Gives v) (Gives w) e p q h = cc
-  do_faults b xs ys m (Falls c) (Falls d) e p q h = cc
-  do_faults b xs ys m (Goes k c) (Goes j d) e p q h = cc
-  do_faults b xs ys m Asks Asks e p q h = cc
-  do_faults b xs ys m Breaks Breaks e p q h = cc
-  do_faults b xs ys m _ _ e p q h = absurd e
+  do_faults : (b : ℕ) (xs ys : List Item) (m : Since) (k : Stage) (x y : Outcome) → Alike b xs ys m k x y → (p q : Pos) → moved g.enter q y ≡ Faulted → moved f.enter p x ≡ Faulted
+  do_faults b xs ys m k' Traps Traps e p q h = refl
+  do_faults b xs ys m k' (Gives v) (Gives w) e p q h = cc
+  do_faults b xs ys m k' (Falls c) (Falls d) e p q h = cc
+  do_faults b xs ys m k' (Goes k c) (Goes j d) e p q h = cc
+  do_faults b xs ys m k' Asks Asks e p q h = cc
+  do_faults b xs ys m k' Breaks Breaks e p q h = cc
+  do_faults b xs ys m k' _ _ e p q h = absurd e
 
   -- beside each other again after code of both; nothing lies between
-  goes_on : (last0 : Option Pos) (t u : State) (r : Beside change last0 t u) (x y : Item) (xs ys : List Item) → rf r.v.pos ≡ x ∷ xs → rg t.pos ≡ y ∷ ys → x.origin ≡ y.origin → since_item ct x ≡ since_item ct y → S r.v.pos.block xs ys →
-      (a c : Outcome) → ((d : Core) → c ≡ Falls d → moves_on ct y.kind ≡ false) → Alike r.v.pos.block xs ys (since_item ct x) a c → (t' : State) → moved g.enter t.pos c ≡ Went t' →
+  goes_on : (last0 : Option Pos) (t u : State) (r : Beside change last0 t u) (k' : Stage) (x y : Item) (xs ys : List Item) → rf r.v.pos ≡ x ∷ xs → rg t.pos ≡ y ∷ ys → x.origin ≡ y.origin → since_item ct x ≡ since_item ct y → S k' r.v.pos.block xs ys →
+      (a c : Outcome) → ((d : Core) → c ≡ Falls d → moves_on ct y.kind ≡ false) → Alike r.v.pos.block xs ys (since_item ct x) k' a c → (t' : State) → moved g.enter t.pos c ≡ Went t' →
       (w' : State) × (moved f.enter r.v.pos a ≡ Went w') × Beside change (waiting (since_item ct y) (position_of y.origin)) t' w'
-  goes_on last0 t u r x y xs ys ef eg o sy s (Falls e) (Falls e') stays al t' st =
+  goes_on last0 t u r k' x y xs ys ef eg o sy s (Falls e) (Falls e') stays al t' st =
       let b = r.v.pos.block in
       let fe = ip.laid_f.cons r.v.pos x xs ef in
       let ge = ip.laid_g.cons t.pos y ys eg in
@@ -164,6 +166,7 @@ module _ (change : Change) where
         n = next_rank y.origin;
         m = next_rank y.origin;
         block = r.block;
+        stage = k';
         static = rw (fe.1, ge.1) s;
         dynamic = rw (fe.1, ge.1) al;
         order_f = rw fe.1 (subst (λ (z : Origin). InOrder b (next_rank z) xs) o ord.2);
@@ -175,7 +178,7 @@ module _ (change : Change) where
         dooms = λ p next d. d;
       } in
       (v1, refl, subst (λ (z : State). Beside change (waiting (since_item ct y) (position_of y.origin)) z v1) is (subst (λ (z : Since). Beside change (waiting z (position_of y.origin)) t1 v1) (sym since) made))
-  goes_on last0 t u r x y xs ys ef eg o sy s (Goes n e) (Goes k e') stays al t' st =
+  goes_on last0 t u r k' x y xs ys ef eg o sy s (Goes n e) (Goes k e') stays al t' st =
       let t1 : State = record { pos = block_start n; core = e' } in
       let w1 : State = record { pos = block_start n; core = e } in
       let went : Went t1 ≡ Went t' = ap (λ (z : ℕ). Went (record { pos = block_start z; core = e' })) (al.0 ∙ sym (ip.enter_g k)) ∙ st in
@@ -183,11 +186,11 @@ module _ (change : Change) where
       let after : since_item ct y ≡ After = sym sy ∙ al.1 in
       let made : Beside change None t1 w1 = at_start change None None w1 n e e' al.2 (λ p h. cc) (λ p next w j. j) (λ p next d. d) in
       (w1, ap (λ (z : ℕ). Went (record { pos = block_start z; core = e })) (ip.enter_f n), subst (λ (z : State). Beside change (waiting (since_item ct y) (position_of y.origin)) z w1) is (subst (λ (z : Since). Beside change (waiting z (position_of y.origin)) t1 w1) (sym after) made))
-  goes_on last0 t u r x y xs ys ef eg o sy s (Gives v) (Gives w) stays al t' st = cc
-  goes_on last0 t u r x y xs ys ef eg o sy s Traps Traps stays al t' st = cc
-  goes_on last0 t u r x y xs ys ef eg o sy s Asks Asks stays al t' st = cc
-  goes_on last0 t u r x y xs ys ef eg o sy s Breaks Breaks stays al t' st = cc
-  goes_on last0 t u r x y xs ys ef eg o sy s _ _ stays al t' st = absurd al
+  goes_on last0 t u r k' x y xs ys ef eg o sy s (Gives v) (Gives w) stays al t' st = cc
+  goes_on last0 t u r k' x y xs ys ef eg o sy s Traps Traps stays al t' st = cc
+  goes_on last0 t u r k' x y xs ys ef eg o sy s Asks Asks stays al t' st = cc
+  goes_on last0 t u r k' x y xs ys ef eg o sy s Breaks Breaks stays al t' st = cc
+  goes_on last0 t u r k' x y xs ys ef eg o sy s _ _ stays al t' st = absurd al
 
   abbrev Meeting : Option Pos → State → State → Station → Type 0
   Meeting last0 t u i = (w : State) × Walk f fs gs i.pos last0 u w × Meets f g fs (Beside change) t w i
@@ -205,8 +208,8 @@ module _ (change : Change) where
       let v1 : State = record { pos = block_start n; core = r.v.core } in
       let go : step g t ≡ Went t1 = step_end g t k n fe ∙ ap (λ (z : ℕ). Went (record { pos = block_start z; core = t.core })) (ip.enter_g n) in
       let go_f : step f r.v ≡ Went v1 = step_end f r.v k n onward.0 ∙ ap (λ (z : ℕ). Went (record { pos = block_start z; core = r.v.core })) (ip.enter_f n) in
-      let shows = ip.shows b (rf r.v.pos) (rg t.pos) r.v.core t.core r.dynamic in
-      let next : Beside change None t1 v1 = at_start change None None v1 n r.v.core t.core (ip.ends b n r.v.core t.core (dynamic_at change last0 t u r [] [] ef eg)) (λ q h. cc) (λ q ok w j. j) (λ p next d. d) in
+      let shows = ip.shows r.stage b (rf r.v.pos) (rg t.pos) r.v.core t.core r.dynamic in
+      let next : Beside change None t1 v1 = at_start change None None v1 n r.v.core t.core (ip.ends r.stage r.v.pos k n r.v.core t.core ef onward.0 (static_at change last0 t u r [] [] ef eg) (dynamic_at change last0 t u r [] [] ef eg)) (λ q h. cc) (λ q ok w j. j) (λ p next d. d) in
       let made : Meets f g fs (Beside change) t r.v end = record {
         station = end;
         stands = end_is_station ct f r.v.pos k n onward.0 ∙ ap (λ (z : Count). end_station z p) ce;
@@ -222,9 +225,9 @@ module _ (change : Change) where
       subst (λ (z : Station). Meeting last0 t u z) (sym is) (r.v, r.walks p ok r.v there, made)
 
   -- both at code of one origin
-  meets_code : (last0 : Option Pos) (t u : State) (r : Beside change last0 t u) (x y : Item) (xs ys : List Item) → rf r.v.pos ≡ x ∷ xs → rg t.pos ≡ y ∷ ys → is_code x.kind ≡ true → is_code y.kind ≡ true → x.origin ≡ y.origin → moves_on ct x.kind ≡ moves_on ct y.kind → S r.v.pos.block xs ys →
-      Alike r.v.pos.block xs ys (since_item ct x) (do_item f x.kind r.v.core) (do_item g y.kind t.core) → Meeting last0 t u (station_of ct y)
-  meets_code last0 t u r x y xs ys ef eg cx cy o j s al =
+  meets_code : (last0 : Option Pos) (t u : State) (r : Beside change last0 t u) (k' : Stage) (x y : Item) (xs ys : List Item) → rf r.v.pos ≡ x ∷ xs → rg t.pos ≡ y ∷ ys → is_code x.kind ≡ true → is_code y.kind ≡ true → x.origin ≡ y.origin → moves_on ct x.kind ≡ moves_on ct y.kind → S k' r.v.pos.block xs ys →
+      Alike r.v.pos.block xs ys (since_item ct x) k' (do_item f x.kind r.v.core) (do_item g y.kind t.core) → Meeting last0 t u (station_of ct y)
+  meets_code last0 t u r k' x y xs ys ef eg cx cy o j s al =
       let b = r.v.pos.block in
       let fe = ip.laid_f.cons r.v.pos x xs ef in
       let ge = ip.laid_g.cons t.pos y ys eg in
@@ -232,7 +235,7 @@ module _ (change : Change) where
       let c = do_item g y.kind t.core in
       let go_f = step_item f r.v x a fe.0 refl in
       let go = step_item g t y c ge.0 refl in
-      let shows = ip.shows b (rf r.v.pos) (rg t.pos) r.v.core t.core r.dynamic in
+      let shows = ip.shows r.stage b (rf r.v.pos) (rg t.pos) r.v.core t.core r.dynamic in
       let since : since_item ct x ≡ since_item ct y = ap (λ (z : Bool). since_of (waits_at z x.origin)) j ∙ ap (λ (z : Origin). since_of (waits_at (moves_on ct y.kind) z)) o in
       let ord = subst (InOrder b r.n) ef r.order_f in
       let ord_g = subst (InOrder b r.m) eg r.order_g in
@@ -247,21 +250,21 @@ module _ (change : Change) where
         since = since;
         events = shows.events;
         told = shows.told;
-        returns = λ rs h. go_f ∙ do_returns b xs ys (since_item ct x) a c al r.v.pos t.pos rs (sym go ∙ h);
-        faults = λ h. go_f ∙ do_faults b xs ys (since_item ct x) a c al r.v.pos t.pos (sym go ∙ h);
-        goes = λ t' h. let z = goes_on last0 t u r x y xs ys ef eg o since s a c (λ d e. falls_stays ct g y.kind t.core d e) al t' (sym go ∙ h) in inl (z.0, go_f ∙ z.1, z.2);
+        returns = λ rs h. go_f ∙ do_returns b xs ys (since_item ct x) k' a c al r.v.pos t.pos rs (sym go ∙ h);
+        faults = λ h. go_f ∙ do_faults b xs ys (since_item ct x) k' a c al r.v.pos t.pos (sym go ∙ h);
+        goes = λ t' h. let z = goes_on last0 t u r k' x y xs ys ef eg o since s a c (λ d e. falls_stays ct g y.kind t.core d e) al t' (sym go ∙ h) in inl (z.0, go_f ∙ z.1, z.2);
       } in
       (r.v, r.walks p (inl (ord_g.0, here), ahead_ok, λ q k n ce qb fq. (ord_g.0, ip.within t.pos q y k n ge.0 fq (r.block ∙ sym qb))) r.v there, made)
 
-  meets_at_view : (last0 : Option Pos) (t u : State) (r : Beside change last0 t u) (xs ys : List Item) → rf r.v.pos ≡ xs → rg t.pos ≡ ys → (w : Seen r.v.pos.block xs ys) → IsReady change w → (i : Station) → gs t.pos ≡ Some i → Meeting last0 t u i
+  meets_at_view : (last0 : Option Pos) (t u : State) (r : Beside change last0 t u) (xs ys : List Item) → rf r.v.pos ≡ xs → rg t.pos ≡ ys → (w : Seen r.v.pos.block r.stage xs ys) → IsReady change w → (i : Station) → gs t.pos ≡ Some i → Meeting last0 t u i
   meets_at_view last0 t u r xs ys ef eg ended rd i e = meets_end last0 t u r ef eg i (station_is_of ct g t.pos i e)
   meets_at_view last0 t u r xs ys ef eg (taken c j s h) rd i e = absurd rd
   meets_at_view last0 t u r xs ys ef eg (passed c s h) rd i e = absurd rd
   meets_at_view last0 t u r xs ys ef eg (added {y = y} {ys = ts} cy s h) rd i e = absurd (debug_is_none ct g t.pos y i e (ip.laid_g.cons t.pos y ts eg).0 cy)
   meets_at_view last0 t u r xs ys ef eg (paired {x = x} {y = y} {xs = rest} {ys = ts} cx cy s h) rd i e = absurd (debug_is_none ct g t.pos y i e (ip.laid_g.cons t.pos y ts eg).0 cy)
-  meets_at_view last0 t u r xs ys ef eg (both {x = x} {y = y} {xs = rest} {ys = ts} cx cy o j s h) rd i e =
+  meets_at_view last0 t u r xs ys ef eg (both {k' = k'} {x = x} {y = y} {xs = rest} {ys = ts} cx cy o j s h) rd i e =
       subst (λ (z : Station). Meeting last0 t u z) (code_is ct g t.pos y i e (ip.laid_g.cons t.pos y ts eg).0 cy)
-      (meets_code last0 t u r x y rest ts ef eg cx cy o j s (h r.v.core t.core (dynamic_at change last0 t u r xs ys ef eg)))
+      (meets_code last0 t u r k' x y rest ts ef eg cx cy o j s (h r.v.core t.core (dynamic_at change last0 t u r xs ys ef eg)))
 
   meets : (last0 : Option Pos) (t u : State) (i : Station) → Beside change last0 t u → gs t.pos ≡ Some i → Meeting last0 t u i ⊎ IsStuck src f g s0 fs gs last0 t u i
   meets last0 t u i r e =
@@ -273,13 +276,13 @@ module _ (change : Change) where
   refines : Refines src f g s0 fs gs (Beside change)
   refines = record { origins = ip.origins; between = between; meets = meets }
 
-  pub changed_in_place : s0.pos.item ≡ 0 → Q s0.pos.block (rf s0.pos) (rg s0.pos) s0.core s0.core → RunsAlong src f fs (AnyOrigin fs) s0 s0 → RunsAlong src g gs (AnyOrigin gs) s0 s0
+  pub changed_in_place : s0.pos.item ≡ 0 → Q (entry s0.pos.block) s0.pos.block (rf s0.pos) (rg s0.pos) s0.core s0.core → RunsAlong src f fs (AnyOrigin fs) s0 s0 → RunsAlong src g gs (AnyOrigin gs) s0 s0
   changed_in_place z q follows =
       let at : s0.pos ≡ block_start s0.pos.block = same_pos s0.pos (block_start s0.pos.block) refl z in
-      let q0 = subst (λ (p : Pos). Q s0.pos.block (rf p) (rg p) s0.core s0.core) at q in
+      let q0 = subst (λ (p : Pos). Q (entry s0.pos.block) s0.pos.block (rf p) (rg p) s0.core s0.core) at q in
       let made = at_start change None None (record { pos = block_start s0.pos.block; core = s0.core }) s0.pos.block s0.core s0.core q0 (λ p h. cc) (λ p next w j. j) (λ p next d. d) in
       let is : record { pos = block_start s0.pos.block; core = s0.core } ≡ s0 = λ i. record { pos = sym at i; core = s0.core } in
       still_follows src f g fs gs (Beside change) s0 s0 s0 follows refines (subst (λ (y : State). Beside change None y y) is made)
 
-pub in_place_follows : (S : ℕ → List Item → List Item → Type 0) (Q : ℕ → List Item → List Item → Core → Core → Type 0) → InPlaceFollows S Q
-in_place_follows S Q ct src f g rf rg place s0 ip z q follows = changed_in_place (record { ct = ct; src = src; f = f; g = g; s0 = s0; rf = rf; rg = rg; S = S; Q = Q; place = place; ip = ip }) z q follows
+pub in_place_follows : (Stage : Type 0) (entry : ℕ → Stage) (S : Stage → ℕ → List Item → List Item → Type 0) (Q : Stage → ℕ → List Item → List Item → Core → Core → Type 0) → InPlaceFollows Stage entry S Q
+in_place_follows Stage entry S Q ct src f g rf rg place s0 ip z q follows = changed_in_place (record { ct = ct; src = src; f = f; g = g; s0 = s0; rf = rf; rg = rg; Stage = Stage; entry = entry; S = S; Q = Q; place = place; ip = ip }) z q follows

@@ -9,6 +9,7 @@ use Rattle.mir_meaning.specs.Align.{position_of, is_code, Station, Count, statio
 use Rattle.simulation.specs.InPlace.{since_item, ShowsSame}
 use Rattle.simulation.specs.Added.{Standing, Opening, Level, Ahead, Owing, MayCome, IsPlain, MayStand, DoAlike, IsQuiet, MayOpen, View, ended, both, before, opening, entering, behind, passed, added, paired, Adds}
 use Rattle.mir_meaning.proofs.Alignment.{aligns_at, aligns_once, aligns_not_fails}
+use Rattle.mir_meaning.proofs.Edges.{step_edge}
 use Rattle.mir_meaning.proofs.Outcomes.{step_item}
 use Rattle.simulation.proofs.Stations.{debug_station}
 use Rattle.simulation.proofs.Stops.{later_more, fails_later_more, arrives_free, fails_free, aligns_waiting, fails_waiting, aligns_below, fails_below}
@@ -181,6 +182,10 @@ module _ (addition : Addition) where
   pub dynamic_at : (t s : State) (m : Since) (r : Now t s m) (xs ys : List Item) → rf r.v.pos ≡ xs → rg t.pos ≡ ys → Q r.k r.v.pos.block xs ys r.v.core t.core
   dynamic_at t s m r xs ys ef eg = subst (λ (z : List Item). Q r.k r.v.pos.block z ys r.v.core t.core) ef (subst (λ (z : List Item). Q r.k r.v.pos.block (rf r.v.pos) z r.v.core t.core) eg r.dynamic)
 
+  pub static_at : (t s : State) (m : Since) (r : Now t s m) (xs ys : List Item) → rf r.v.pos ≡ xs → rg t.pos ≡ ys → S r.k r.v.pos.block xs ys
+  static_at t s m r xs ys ef eg =
+      subst (λ (z : List Item). S r.k r.v.pos.block z ys) ef (subst (λ (z : List Item). S r.k r.v.pos.block (rf r.v.pos) z) eg r.static)
+
   pub shown : (t s : State) (m : Since) (r : Now t s m) → ShowsSame r.v.core t.core
   shown t s m r = ip.shows r.k r.v.pos.block (rf r.v.pos) (rg t.pos) r.v.core t.core r.dynamic
 
@@ -188,12 +193,27 @@ module _ (addition : Addition) where
   home_at t s m r st e h = home_of st t.pos.block r.v.pos.block h (subst (λ (z : Standing). AtHome z t.pos.block r.v.pos.block) e r.home)
 
   -- g and f further on, the alignments as they were
-  pub moves_to : (t s : State) (m : Since) (r : Now t s m) → IsQuiet (standing r.k) → (t' w : State) → AlongF w r.sf r.mf → AtHome (standing r.k) t'.pos.block w.pos.block → S r.k w.pos.block (rf w.pos) (rg t'.pos) → Q r.k w.pos.block (rf w.pos) (rg t'.pos) w.core t'.core → Now t' s m
-  moves_to t s m r q t' w al home st dy = record { v = w; sf = r.sf; mf = r.mf; k = r.k; along = al; home = home; reach = r.reach; reach_f = r.reach_f; static = st; dynamic = dy; joins = r.joins; owed = owed_quiet (standing r.k) r.v w r.mf r.sf m s q r.owed }
+  pub moves_to : (t s : State) (m : Since) (r : Now t s m) (k' : Stage) → IsQuiet (standing r.k) → standing k' ≡ standing r.k → (t' w : State) →
+      AlongF w r.sf r.mf → AtHome (standing r.k) t'.pos.block w.pos.block → S k' w.pos.block (rf w.pos) (rg t'.pos) →
+      Q k' w.pos.block (rf w.pos) (rg t'.pos) w.core t'.core → Now t' s m
+  moves_to t s m r k' q same t' w al home st dy = record {
+    v = w;
+    sf = r.sf;
+    mf = r.mf;
+    k = k';
+    along = al;
+    home = subst (λ (z : Standing). AtHome z t'.pos.block w.pos.block) (sym same) home;
+    reach = r.reach;
+    reach_f = r.reach_f;
+    static = st;
+    dynamic = dy;
+    joins = subst (λ (z : Standing). Joins z r.mf r.sf m s) (sym same) r.joins;
+    owed = subst (λ (z : Standing). Owed z w r.mf r.sf m s) (sym same) (owed_quiet (standing r.k) r.v w r.mf r.sf m s q r.owed);
+  }
 
-  -- level in the body, in the block n
-  pub in_body : (t1 s : State) (m : Since) (n : ℕ) (c : Core) (sf : State) (mf : Since) → t1.pos ≡ start_g n → AlongF (record { pos = block_start n; core = c }) sf mf → Reach s.pos → Reach sf.pos → Q body n (rf (block_start n)) (rg (start_g n)) c t1.core → Joins Level mf sf m s → Now t1 s m
-  in_body t1 s m n c sf mf at al r rf' q joins = record {
+  -- level in the body, in the block n, to which f has gone from u
+  pub in_body : (t1 s : State) (m : Since) (u : State) (n : ℕ) (c : Core) (sf : State) (mf : Since) → step f u ≡ Went (record { pos = block_start n; core = c }) → t1.pos ≡ start_g n → AlongF (record { pos = block_start n; core = c }) sf mf → Reach s.pos → Reach sf.pos → Q body n (rf (block_start n)) (rg (start_g n)) c t1.core → Joins Level mf sf m s → Now t1 s m
+  in_body t1 s m u n c sf mf go at al r rf' q joins = record {
     v = record { pos = block_start n; core = c };
     sf = sf;
     mf = mf;
@@ -202,14 +222,14 @@ module _ (addition : Addition) where
     home = subst (λ (z : Standing). AtHome z t1.pos.block n) (sym ip.is_body) (ap (λ (z : Pos). z.block) at);
     reach = r;
     reach_f = rf';
-    static = subst (λ (z : Pos). S body n (rf (block_start n)) (rg z)) (sym at) (ip.starts n);
+    static = subst (λ (z : Pos). S body n (rf (block_start n)) (rg z)) (sym at) (ip.starts u.pos n (step_edge f u (record { pos = block_start n; core = c }) go));
     dynamic = subst (λ (z : Pos). Q body n (rf (block_start n)) (rg z) c t1.core) (sym at) q;
     joins = subst (λ (z : Standing). Joins z mf sf m s) (sym ip.is_body) joins;
     owed = subst (λ (z : Standing). Owed z (record { pos = block_start n; core = c }) mf sf m s) (sym ip.is_body) tt;
   }
 
   abbrev pub IsReady : {b : ℕ} {k : Stage} {xs ys : List Item} → Seen b k xs ys → Type 0
-  IsReady (passed q c s h) = ⊥
+  IsReady (passed q same c s h) = ⊥
   IsReady _ = Unit {0}
 
   pub record Ready (t s : State) (m : Since) : Type 0 where
@@ -222,26 +242,28 @@ module _ (addition : Addition) where
     pub ready : IsReady view
 
   -- f passes a debug item alone
-  passes : (t s : State) (m : Since) (r : Now t s m) (x : Item) (xs ys : List Item) → rf r.v.pos ≡ x ∷ xs → rg t.pos ≡ ys → IsQuiet (standing r.k) → is_code x.kind ≡ false → S r.k r.v.pos.block xs ys → (e : Core) → do_item f x.kind r.v.core ≡ Falls e → Q r.k r.v.pos.block xs ys e t.core → Now t s m
-  passes t s m r x xs ys ef eg q c st e o dy =
+  passes : (t s : State) (m : Since) (r : Now t s m) (k' : Stage) (x : Item) (xs ys : List Item) → rf r.v.pos ≡ x ∷ xs → rg t.pos ≡ ys →
+      IsQuiet (standing r.k) → standing k' ≡ standing r.k → is_code x.kind ≡ false → S k' r.v.pos.block xs ys → (e : Core) →
+      do_item f x.kind r.v.core ≡ Falls e → Q k' r.v.pos.block xs ys e t.core → Now t s m
+  passes t s m r k' x xs ys ef eg q same c st e o dy =
       let fe = ip.laid_f.cons r.v.pos x xs ef in
-      moves_to t s m r q t (record { pos = below r.v.pos; core = e }) (other r.along (debug_station ct f r.v.pos x fe.0 c) (step_item f r.v x (Falls e) fe.0 o)) r.home
-      (rw fe.1 (subst (S r.k r.v.pos.block xs) (sym eg) st)) (rw fe.1 (subst (λ (z : List Item). Q r.k r.v.pos.block xs z e t.core) (sym eg) dy))
+      moves_to t s m r k' q same t (record { pos = below r.v.pos; core = e }) (other r.along (debug_station ct f r.v.pos x fe.0 c) (step_item f r.v x (Falls e) fe.0 o)) r.home
+      (rw fe.1 (subst (S k' r.v.pos.block xs) (sym eg) st)) (rw fe.1 (subst (λ (z : List Item). Q k' r.v.pos.block xs z e t.core) (sym eg) dy))
 
   catches : (n : ℕ) (t s : State) (m : Since) (r : Now t s m) (xs ys : List Item) → rf r.v.pos ≡ xs → rg t.pos ≡ ys → Seen r.v.pos.block r.k xs ys → length xs ≤ n → Ready t s m
   unfolding passes moves_to
-  catches zero t s m r xs ys ef eg (passed q c st h) le = absurd (omega (arith, le))
-  catches (suc n) t s m r xs ys ef eg (passed {x = x} {xs = rest} q c st h) le =
+  catches zero t s m r xs ys ef eg (passed q same c st h) le = absurd (omega (arith, le))
+  catches (suc n) t s m r xs ys ef eg (passed {k' = k'} {x = x} {xs = rest} q same c st h) le =
       let d = h r.v.core t.core (dynamic_at t s m r xs ys ef eg) in
-      catches n t s m (passes t s m r x rest ys ef eg q c st d.0 d.1 d.2) rest ys (ip.laid_f.cons r.v.pos x rest ef).1 eg (ip.view r.k r.v.pos.block rest ys st) (omega (arith, le))
+      catches n t s m (passes t s m r k' x rest ys ef eg q same c st d.0 d.1 d.2) rest ys (ip.laid_f.cons r.v.pos x rest ef).1 eg (ip.view k' r.v.pos.block rest ys st) (omega (arith, le))
   catches n t s m r xs ys ef eg (ended fr) le = record { at = r; xs = xs; ys = ys; is_f = ef; is_g = eg; view = ended fr; ready = tt }
   catches n t s m r xs ys ef eg (both a b c d e h i j) le = record { at = r; xs = xs; ys = ys; is_f = ef; is_g = eg; view = both a b c d e h i j; ready = tt }
   catches n t s m r xs ys ef eg (before a b c d e h i j) le = record { at = r; xs = xs; ys = ys; is_f = ef; is_g = eg; view = before a b c d e h i j; ready = tt }
   catches n t s m r xs ys ef eg (opening a b c d e h i) le = record { at = r; xs = xs; ys = ys; is_f = ef; is_g = eg; view = opening a b c d e h i; ready = tt }
-  catches n t s m r xs ys ef eg (entering a b c d e) le = record { at = r; xs = xs; ys = ys; is_f = ef; is_g = eg; view = entering a b c d e; ready = tt }
+  catches n t s m r xs ys ef eg (entering a b c d e h) le = record { at = r; xs = xs; ys = ys; is_f = ef; is_g = eg; view = entering a b c d e h; ready = tt }
   catches n t s m r xs ys ef eg (behind a b c d e h i) le = record { at = r; xs = xs; ys = ys; is_f = ef; is_g = eg; view = behind a b c d e h i; ready = tt }
-  catches n t s m r xs ys ef eg (added a b c d) le = record { at = r; xs = xs; ys = ys; is_f = ef; is_g = eg; view = added a b c d; ready = tt }
-  catches n t s m r xs ys ef eg (paired a b c d e) le = record { at = r; xs = xs; ys = ys; is_f = ef; is_g = eg; view = paired a b c d e; ready = tt }
+  catches n t s m r xs ys ef eg (added a b c d e) le = record { at = r; xs = xs; ys = ys; is_f = ef; is_g = eg; view = added a b c d e; ready = tt }
+  catches n t s m r xs ys ef eg (paired a b c d e h) le = record { at = r; xs = xs; ys = ys; is_f = ef; is_g = eg; view = paired a b c d e h; ready = tt }
 
   pub ready : (t s : State) (m : Since) → Now t s m → Ready t s m
   ready t s m r = catches (length (rf r.v.pos)) t s m r (rf r.v.pos) (rg t.pos) refl refl (ip.view r.k r.v.pos.block (rf r.v.pos) (rg t.pos) r.static) (omega arith)

@@ -252,7 +252,7 @@ module _ (g : Program) where
               let kj = subst (λ (z : Fetch). FetchEdge g.enter z p q) j.1 k in
               let down : q ≡ below p = elim (cases_Bool (is_code j.0.kind)) as (λ _. q ≡ below p) [
                 | inl cj ↦
-                    elim (facts.silent t.pos p x j.0 ft jx j.1 cj (between_at p j.0 j.1 pb lo hi)) as (λ _. q ≡ below p) [
+                    elim (facts.silent t.pos p x j.0 pb ft jx j.1 cj (between_at p j.0 j.1 pb lo hi)) as (λ _. q ≡ below p) [
                       | inl s ↦ save_below j.0.kind s p q kj
                       | inr jj ↦ absurd (facts.last p t.pos j.0 x j.1 jj ft pb less)
                     ]
@@ -297,8 +297,8 @@ module _ (g : Program) where
     pub comes_back : v.pos ≡ t.pos
     comes_back =
         elim (cases_lt v.pos.item t.pos.item) as (λ _. v.pos ≡ t.pos) [
-          | inl lt ↦ absurd (elim (facts.silent t.pos v.pos x at_end.y ft jx at_end.fetch at_end.code at_end.pos) as (λ _. ⊥) [
-            | inl s ↦ (let z = facts.stores t.pos v.pos x at_end.y ft jx at_end.fetch s at_end.pos in no_store lt z.0 z.1 z.2 z.3 z.4 z.5)
+          | inl lt ↦ absurd (elim (facts.silent t.pos v.pos x at_end.y at_end.block ft jx at_end.fetch at_end.code at_end.pos) as (λ _. ⊥) [
+            | inl s ↦ (let z = facts.stores t.pos v.pos x at_end.y at_end.block ft jx at_end.fetch s at_end.pos in no_store lt z.0 z.1 z.2 z.3 z.4 z.5)
             | inr j ↦ facts.last v.pos t.pos at_end.y x at_end.fetch j ft at_end.block lt
           ])
           | inr ge ↦

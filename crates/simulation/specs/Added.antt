@@ -4,7 +4,7 @@ use Rattle.mir_func.specs.declared.position.Pos.{Pos}
 use Rattle.mir_func.specs.declared.item.Item.{Item}
 use Rattle.mir_meaning.specs.State.{Core, State}
 use Rattle.mir_meaning.specs.Step.{Outcome, Falls, Goes, Gives, Traps, Asks, Breaks, Went, Faulted, do_item, step}
-use Rattle.mir_func.specs.Graph.{Silent, Program, below, block_start}
+use Rattle.mir_func.specs.Graph.{Silent, Program, Edge, below, block_start}
 use Rattle.mir_meaning.specs.Align.{position_of, is_code, Station, Count, ByEnds, station_at, IsOrigin, Since, Same, After, AnyOrigin, RunsAlong}
 use Rattle.simulation.specs.InPlace.{Laid, since_item, ShowsSame}
 
@@ -80,6 +80,10 @@ module _ (ct : Count) (src f g : Program) (s0 g0 : State) (rf rg : Pos → List 
   MayOpen Level = g0.pos.block ≡ g.enter s0.pos.block
   MayOpen _ = ⊥
 
+  -- the block at which g starts, of added code alone, falls into f's first block
+  abbrev pub LeadsIn : Type 0
+  LeadsIn = (q : Pos) (j n : ℕ) → q.block ≡ g0.pos.block → rg q ≡ [] → g.fetch q ≡ Silent j n → n ≡ s0.pos.block
+
   -- how the rests of a block begin: with code of both; with code of g before f's, which may trap where f's does; with code
   -- of g at the start, and the end of a block of such code; with code of g after what f had; with debug items
   pub data View (b : ℕ) : Stage → List Item → List Item → Type 0 where
@@ -92,13 +96,18 @@ module _ (ct : Count) (src f g : Program) (s0 g0 : State) (rf rg : Pos → List 
     opening : {k k' : Stage} {y : Item} {xs ys : List Item} → standing k ≡ Opening → is_code y.kind ≡ true → position_of y.origin ≡ s0.pos → since_item ct y ≡ Same → MayOpen (standing k') → S k' b xs ys →
         ((c d : Core) → Q k b xs (y ∷ ys) c d → Does g y d (λ e. Q k' b xs ys c e)) → View b k xs (y ∷ ys)
     entering : {k : Stage} {xs : List Item} → standing k ≡ Opening → (ct ≡ ByEnds → ⊥) → S body b xs (rg (start_in_g b)) → ((c d : Core) → Q k b xs [] c d → Q body b xs (rg (start_in_g b)) c d) →
-        ((p : Pos) → IsOrigin (station_at ct f) p → Stops p s0.pos → IsOrigin (station_at ct f) s0.pos) → View b k xs []
+        ((p : Pos) → IsOrigin (station_at ct f) p → Stops p s0.pos → IsOrigin (station_at ct f) s0.pos) → LeadsIn → View b k xs []
     behind : {k k' : Stage} {p : Pos} {y : Item} {xs ys : List Item} → standing k ≡ Owing p → is_code y.kind ≡ true → position_of y.origin ≡ below p → since_item ct y ≡ Same → standing k' ≡ Level → S k' b xs ys →
         ((c d : Core) → Q k b xs (y ∷ ys) c d → Does g y d (λ e. Q k' b xs ys c e)) → View b k xs (y ∷ ys)
-    passed : {k : Stage} {x : Item} {xs ys : List Item} → IsQuiet (standing k) → is_code x.kind ≡ false → S k b xs ys → ((c d : Core) → Q k b (x ∷ xs) ys c d → Does f x c (λ e. Q k b xs ys e d)) → View b k (x ∷ xs) ys
-    added : {k : Stage} {y : Item} {xs ys : List Item} → IsQuiet (standing k) → is_code y.kind ≡ false → S k b xs ys → ((c d : Core) → Q k b xs (y ∷ ys) c d → Does g y d (λ e. Q k b xs ys c e)) → View b k xs (y ∷ ys)
-    paired : {k : Stage} {x y : Item} {xs ys : List Item} → IsQuiet (standing k) → is_code x.kind ≡ false → is_code y.kind ≡ false → S k b xs ys →
-        ((c d : Core) → Q k b (x ∷ xs) (y ∷ ys) c d → (e e' : Core) × (do_item f x.kind c ≡ Falls e) × (do_item g y.kind d ≡ Falls e') × Q k b xs ys e e') → View b k (x ∷ xs) (y ∷ ys)
+    passed : {k k' : Stage} {x : Item} {xs ys : List Item} → IsQuiet (standing k) → standing k' ≡ standing k → is_code x.kind ≡ false →
+        S k' b xs ys → ((c d : Core) → Q k b (x ∷ xs) ys c d → Does f x c (λ e. Q k' b xs ys e d)) → View b k (x ∷ xs) ys
+    added : {k k' : Stage} {y : Item} {xs ys : List Item} → IsQuiet (standing k) → standing k' ≡ standing k → is_code y.kind ≡ false →
+        S k' b xs ys → ((c d : Core) → Q k b xs (y ∷ ys) c d → Does g y d (λ e. Q k' b xs ys c e)) → View b k xs (y ∷ ys)
+    paired : {k k' : Stage} {x y : Item} {xs ys : List Item} → IsQuiet (standing k) → standing k' ≡ standing k →
+        is_code x.kind ≡ false → is_code y.kind ≡ false → S k' b xs ys →
+        ((c d : Core) → Q k b (x ∷ xs) (y ∷ ys) c d →
+        (e e' : Core) × (do_item f x.kind c ≡ Falls e) × (do_item g y.kind d ≡ Falls e') × Q k' b xs ys e e') →
+        View b k (x ∷ xs) (y ∷ ys)
 
   pub record Adds : Type 0 where
     pub more : StopsMore src (station_at ct f) (station_at ct g) Stops X Reach s0.pos
@@ -107,14 +116,15 @@ module _ (ct : Count) (src f g : Program) (s0 g0 : State) (rf rg : Pos → List 
     pub enter_f : (n : ℕ) → f.enter n ≡ n
     pub is_body : standing body ≡ Level
     pub view : (k : Stage) (b : ℕ) (xs ys : List Item) → S k b xs ys → View b k xs ys
-    pub starts : (n : ℕ) → S body n (rf (block_start n)) (rg (start_in_g n))
+    -- at the start of a block to which f goes
+    pub starts : (p : Pos) (n : ℕ) → Edge f p (block_start n) → S body n (rf (block_start n)) (rg (start_in_g n))
     pub onward : (p q : Pos) (k n : ℕ) → q.block ≡ g.enter p.block → rf p ≡ [] → rg q ≡ [] → g.fetch q ≡ Silent k n → f.fetch p ≡ Silent k n
-    -- the block of code at the start leads to f's first block
-    pub entry : (q : Pos) (k n : ℕ) → q.block ≡ g0.pos.block → rg q ≡ [] → g.fetch q ≡ Silent k n → n ≡ s0.pos.block
     -- where ends are stations, g has f's blocks
     pub same_blocks : ct ≡ ByEnds → (n : ℕ) → g.enter n ≡ n
     pub end_stands : (p : Pos) (k n : ℕ) → ct ≡ ByEnds → f.fetch p ≡ Silent k n → (s u : State) → s.pos ≡ record { block = p.block; item = k } → step src s ≡ Went u → X u.pos → IsOrigin (station_at ct f) u.pos
-    pub ends : (k : Stage) (b n : ℕ) (c d : Core) → standing k ≡ Level → Q k b [] [] c d → Q body n (rf (block_start n)) (rg (start_in_g n)) c d
+    -- over the end of a block of f that falls into block n
+    pub ends : (k : Stage) (p : Pos) (j n : ℕ) (c d : Core) → standing k ≡ Level → rf p ≡ [] → f.fetch p ≡ Silent j n → S k p.block [] [] →
+        Q k p.block [] [] c d → Q body n (rf (block_start n)) (rg (start_in_g n)) c d
     pub shows : (k : Stage) (b : ℕ) (xs ys : List Item) (c d : Core) → Q k b xs ys c d → ShowsSame c d
 
   -- where the runs begin: g before its added code, or level with f at the start of a block

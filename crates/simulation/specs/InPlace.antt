@@ -54,17 +54,18 @@ pub record IsNoReturn (g : Program) (p : Pos) (y : Item) : Type 0 where
 abbrev pub IsIdleAt : Count → Program → Pos → Item → Type 0
 IsIdleAt ct g p y = (position_of y.origin).item ≤ p.item → ((d : Core) → ShowsNoMore (since_item ct y) d (do_item g y.kind d)) ⊎ IsNoReturn g p y
 
--- S b xs ys relates the rest of f's block b with g's, and Q b xs ys the cores where they stand there
-module _ (ct : Count) (src f g : Program) (s0 : State) (rf rg : Pos → List Item) (S : ℕ → List Item → List Item → Type 0) (Q : ℕ → List Item → List Item → Core → Core → Type 0) where
+-- Stage is what is known of the rests of a block, and entry n the stage at the start of block n. S k b xs ys relates the rest
+-- of f's block b with g's, and Q k b xs ys the cores where they stand there
+module _ (ct : Count) (src f g : Program) (s0 : State) (rf rg : Pos → List Item) (Stage : Type 0) (entry : ℕ → Stage) (S : Stage → ℕ → List Item → List Item → Type 0) (Q : Stage → ℕ → List Item → List Item → Core → Core → Type 0) where
   -- what f's code does and what g's code of one origin does
-  abbrev pub DoAlike : (b : ℕ) → List Item → List Item → Since → Outcome → Outcome → Type 0
-  DoAlike b xs ys m (Falls c) (Falls d) = Q b xs ys c d
-  DoAlike b xs ys m (Goes j c) (Goes k d) = (j ≡ k) × (m ≡ After) × Q j (rf (block_start j)) (rg (block_start j)) c d
-  DoAlike b xs ys m (Gives v) (Gives w) = v ≡ w
-  DoAlike b xs ys m Traps Traps = Unit {0}
-  DoAlike b xs ys m Asks Asks = Unit {0}
-  DoAlike b xs ys m Breaks Breaks = Unit {0}
-  DoAlike b xs ys m _ _ = ⊥
+  abbrev pub DoAlike : (b : ℕ) → List Item → List Item → Since → Stage → Outcome → Outcome → Type 0
+  DoAlike b xs ys m k (Falls c) (Falls d) = Q k b xs ys c d
+  DoAlike b xs ys m k (Goes i c) (Goes j d) = (i ≡ j) × (m ≡ After) × Q (entry i) i (rf (block_start i)) (rg (block_start i)) c d
+  DoAlike b xs ys m k (Gives v) (Gives w) = v ≡ w
+  DoAlike b xs ys m k Traps Traps = Unit {0}
+  DoAlike b xs ys m k Asks Asks = Unit {0}
+  DoAlike b xs ys m k Breaks Breaks = Unit {0}
+  DoAlike b xs ys m k _ _ = ⊥
 
   -- code of f alone may trap where the source moves on after it, and where g idles ahead, if the source stops there
   abbrev pub MayTrap : Item → List Item → Type 0
@@ -72,18 +73,22 @@ module _ (ct : Count) (src f g : Program) (s0 : State) (rf rg : Pos → List Ite
 
   -- how the rests of a block begin: with code of both; with code of f alone; with a debug item of f alone, of g alone, or
   -- of each
-  pub data View (b : ℕ) : List Item → List Item → Type 0 where
-    ended : View b [] []
-    both : {x y : Item} {xs ys : List Item} → is_code x.kind ≡ true → is_code y.kind ≡ true → x.origin ≡ y.origin → moves_on ct x.kind ≡ moves_on ct y.kind → S b xs ys →
-        ((c d : Core) → Q b (x ∷ xs) (y ∷ ys) c d → DoAlike b xs ys (since_item ct x) (do_item f x.kind c) (do_item g y.kind d)) → View b (x ∷ xs) (y ∷ ys)
-    taken : {x : Item} {xs ys : List Item} → is_code x.kind ≡ true → moves_on ct x.kind ≡ false → S b xs ys →
-        ((c d : Core) → Q b (x ∷ xs) ys c d → FallsOrTraps (MayTrap x ys) (λ e. Q b xs ys e d) (do_item f x.kind c)) → View b (x ∷ xs) ys
-    passed : {x : Item} {xs ys : List Item} → is_code x.kind ≡ false → S b xs ys →
-        ((c d : Core) → Q b (x ∷ xs) ys c d → (e : Core) × (do_item f x.kind c ≡ Falls e) × Q b xs ys e d) → View b (x ∷ xs) ys
-    added : {y : Item} {xs ys : List Item} → is_code y.kind ≡ false → S b xs ys →
-        ((c d : Core) → Q b xs (y ∷ ys) c d → (e : Core) × (do_item g y.kind d ≡ Falls e) × Q b xs ys c e) → View b xs (y ∷ ys)
-    paired : {x y : Item} {xs ys : List Item} → is_code x.kind ≡ false → is_code y.kind ≡ false → S b xs ys →
-        ((c d : Core) → Q b (x ∷ xs) (y ∷ ys) c d → (e e' : Core) × (do_item f x.kind c ≡ Falls e) × (do_item g y.kind d ≡ Falls e') × Q b xs ys e e') → View b (x ∷ xs) (y ∷ ys)
+  pub data View (b : ℕ) : Stage → List Item → List Item → Type 0 where
+    ended : {k : Stage} → View b k [] []
+    both : {k k' : Stage} {x y : Item} {xs ys : List Item} → is_code x.kind ≡ true → is_code y.kind ≡ true → x.origin ≡ y.origin →
+        moves_on ct x.kind ≡ moves_on ct y.kind → S k' b xs ys →
+        ((c d : Core) → Q k b (x ∷ xs) (y ∷ ys) c d → DoAlike b xs ys (since_item ct x) k' (do_item f x.kind c) (do_item g y.kind d)) →
+        View b k (x ∷ xs) (y ∷ ys)
+    taken : {k k' : Stage} {x : Item} {xs ys : List Item} → is_code x.kind ≡ true → moves_on ct x.kind ≡ false → S k' b xs ys →
+        ((c d : Core) → Q k b (x ∷ xs) ys c d → FallsOrTraps (MayTrap x ys) (λ e. Q k' b xs ys e d) (do_item f x.kind c)) → View b k (x ∷ xs) ys
+    passed : {k k' : Stage} {x : Item} {xs ys : List Item} → is_code x.kind ≡ false → S k' b xs ys →
+        ((c d : Core) → Q k b (x ∷ xs) ys c d → (e : Core) × (do_item f x.kind c ≡ Falls e) × Q k' b xs ys e d) → View b k (x ∷ xs) ys
+    added : {k k' : Stage} {y : Item} {xs ys : List Item} → is_code y.kind ≡ false → S k' b xs ys →
+        ((c d : Core) → Q k b xs (y ∷ ys) c d → (e : Core) × (do_item g y.kind d ≡ Falls e) × Q k' b xs ys c e) → View b k xs (y ∷ ys)
+    paired : {k k' : Stage} {x y : Item} {xs ys : List Item} → is_code x.kind ≡ false → is_code y.kind ≡ false → S k' b xs ys →
+        ((c d : Core) → Q k b (x ∷ xs) (y ∷ ys) c d →
+        (e e' : Core) × (do_item f x.kind c ≡ Falls e) × (do_item g y.kind d ≡ Falls e') × Q k' b xs ys e e') →
+        View b k (x ∷ xs) (y ∷ ys)
 
   -- place is a block's place in the text
   pub record InPlace (place : ℕ → ℕ) : Type 0 where
@@ -91,8 +96,8 @@ module _ (ct : Count) (src f g : Program) (s0 : State) (rf rg : Pos → List Ite
     pub laid_g : Laid g rg
     pub enter_f : (n : ℕ) → f.enter n ≡ n
     pub enter_g : (n : ℕ) → g.enter n ≡ n
-    pub view : (b : ℕ) (xs ys : List Item) → S b xs ys → View b xs ys
-    pub starts : (n : ℕ) → S n (rf (block_start n)) (rg (block_start n))
+    pub view : (k : Stage) (b : ℕ) (xs ys : List Item) → S k b xs ys → View b k xs ys
+    pub starts : (n : ℕ) → S (entry n) n (rf (block_start n)) (rg (block_start n))
     pub order_f : (n : ℕ) → InOrder n 0 (rf (block_start n))
     pub order_g : (n : ℕ) → InOrder n 0 (rg (block_start n))
     -- items of g come from their own block, and no later than its end; nor do f's
@@ -103,10 +108,14 @@ module _ (ct : Count) (src f g : Program) (s0 : State) (rf rg : Pos → List Ite
     pub origins : (p : Pos) → IsOrigin (station_at ct g) p → IsOrigin (station_at ct f) p
     -- where both blocks end, f's end is g's, and the next block is further down
     pub onward : (p q : Pos) (k n : ℕ) → p.block ≡ q.block → rf p ≡ [] → rg q ≡ [] → g.fetch q ≡ Silent k n → (f.fetch p ≡ Silent k n) × (place p.block < place n)
-    pub ends : (b n : ℕ) (c d : Core) → Q b [] [] c d → Q n (rf (block_start n)) (rg (block_start n)) c d
-    pub shows : (b : ℕ) (xs ys : List Item) (c d : Core) → Q b xs ys c d → ShowsSame c d
+    -- over the end of a block of f that falls into block n
+    pub ends : (k : Stage) (p : Pos) (j n : ℕ) (c d : Core) → rf p ≡ [] → f.fetch p ≡ Silent j n → S k p.block [] [] →
+        Q k p.block [] [] c d → Q (entry n) n (rf (block_start n)) (rg (block_start n)) c d
+    pub shows : (k : Stage) (b : ℕ) (xs ys : List Item) (c d : Core) → Q k b xs ys c d → ShowsSame c d
 
 -- what is changed in place follows what it followed
-abbrev pub InPlaceFollows : (ℕ → List Item → List Item → Type 0) → (ℕ → List Item → List Item → Core → Core → Type 0) → Type 0
-InPlaceFollows S Q = (ct : Count) (src f g : Program) (rf rg : Pos → List Item) (place : ℕ → ℕ) → (s0 : State) → InPlace ct src f g s0 rf rg S Q place → s0.pos.item ≡ 0 → Q s0.pos.block (rf s0.pos) (rg s0.pos) s0.core s0.core →
+abbrev pub InPlaceFollows : (Stage : Type 0) → (ℕ → Stage) → (Stage → ℕ → List Item → List Item → Type 0) → (Stage → ℕ → List Item → List Item → Core → Core → Type 0) → Type 0
+InPlaceFollows Stage entry S Q = (ct : Count) (src f g : Program) (rf rg : Pos → List Item) (place : ℕ → ℕ) (s0 : State) →
+    InPlace ct src f g s0 rf rg Stage entry S Q place → s0.pos.item ≡ 0 →
+    Q (entry s0.pos.block) s0.pos.block (rf s0.pos) (rg s0.pos) s0.core s0.core →
     RunsAlong src f (station_at ct f) (AnyOrigin (station_at ct f)) s0 s0 → RunsAlong src g (station_at ct g) (AnyOrigin (station_at ct g)) s0 s0

@@ -51,10 +51,12 @@ pub record HasPlainTurns (g : Program) (Inner : Pos → Type 0) : Type 0 where
   pub last : (p q : Pos) (i j : Item) → g.fetch p ≡ Here i → is_jump i.kind ≡ true → g.fetch q ≡ Here j → p.block ≡ q.block → p.item < q.item → ⊥
   pub filled : (p q : Pos) (i : Item) → g.fetch p ≡ Here i → q.block ≡ p.block → q.item < p.item → (j : Item) × (g.fetch q ≡ Here j)
   pub order : (p q : Pos) (i j : Item) → g.fetch p ≡ Here i → g.fetch q ≡ Here j → p.block ≡ q.block → p.item ≤ q.item → ((position_of i.origin).block ≡ (position_of j.origin).block) × ((position_of i.origin).item ≤ (position_of j.origin).item)
-  -- at the position of an added jump stand slot stores and jumps alone
-  pub silent : (p q : Pos) (i j : Item) → g.fetch p ≡ Here i → IsAddedJump i → g.fetch q ≡ Here j → is_code j.kind ≡ true → position_of j.origin ≡ position_of i.origin → OnRow IsSlotSave j.kind ⊎ (is_jump j.kind ≡ true)
+  -- in an added jump's block, slot stores and jumps alone stand at its position
+  pub silent : (p q : Pos) (i j : Item) → q.block ≡ p.block → g.fetch p ≡ Here i → IsAddedJump i → g.fetch q ≡ Here j → is_code j.kind ≡ true →
+      position_of j.origin ≡ position_of i.origin → OnRow IsSlotSave j.kind ⊎ (is_jump j.kind ≡ true)
   -- and with such a store goes code at another position, before it in its block or after it
-  pub stores : (p q : Pos) (i j : Item) → g.fetch p ≡ Here i → IsAddedJump i → g.fetch q ≡ Here j → OnRow IsSlotSave j.kind → position_of j.origin ≡ position_of i.origin →
+  pub stores : (p q : Pos) (i j : Item) → q.block ≡ p.block → g.fetch p ≡ Here i → IsAddedJump i → g.fetch q ≡ Here j → OnRow IsSlotSave j.kind →
+      position_of j.origin ≡ position_of i.origin →
       (r : Pos) × (k : Item) × (g.fetch r ≡ Here k) × (is_code k.kind ≡ true) × (position_of k.origin ≡ position_of i.origin → ⊥) × (((r.block ≡ q.block) × (r.item < q.item)) ⊎ Leads g q r)
 
 -- what runs along over items, by the first arrival, runs along over words

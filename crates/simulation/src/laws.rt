@@ -61,15 +61,19 @@ pub fn added_follows<A: CodeAddition>()
 
 /// A change of blocks in place, as a pass that keeps, rewrites and takes out code says it.
 pub trait BlockChange {
+    /// What is known at a place of a block.
+    ghost Stage: { Type 0 };
+    /// The stage at the start of a block.
+    ghost entry: { ℕ → Stage };
     /// How the rest of a block, by its number, was and is now.
-    ghost rests: { ℕ → List Item → List Item → Type 0 };
+    ghost rests: { Stage → ℕ → List Item → List Item → Type 0 };
     /// How the cores of the two runs are related where these rests are ahead.
-    ghost cores: { ℕ → List Item → List Item → Core → Core → Type 0 };
+    ghost cores: { Stage → ℕ → List Item → List Item → Core → Core → Type 0 };
 }
 
 /// What is changed in place follows what it followed, over code items and over blocks' ends.
 pub fn in_place_follows<C: BlockChange>()
-    ensures { InPlaceFollows C.rests C.cores }
+    ensures { InPlaceFollows C.Stage C.entry C.rests C.cores }
 {}
 
 /// Blocks that are bypassed, and ends of blocks written anew.
