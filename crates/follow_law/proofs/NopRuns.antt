@@ -148,13 +148,17 @@ module _ (busy : Bool) (blocks : List Block) (resolve : ℕ → ℕ → Option (
     abbrev rg : Pos → List Item
     rg = rest_of (thinned_blocks busy blocks)
 
-    abbrev S : ℕ → List Item → List Item → Type 0
-    S b xs ys = (ys ≡ filter (stays busy) xs) × All (IsSteady ct) xs
+    -- nothing is known but the rests: there is one stage
+    abbrev S : Unit {0} → ℕ → List Item → List Item → Type 0
+    S k b xs ys = (ys ≡ filter (stays busy) xs) × All (IsSteady ct) xs
 
-    abbrev Q : ℕ → List Item → List Item → Core → Core → Type 0
-    Q b xs ys c d = Kin c d
+    abbrev Q : Unit {0} → ℕ → List Item → List Item → Core → Core → Type 0
+    Q k b xs ys c d = Kin c d
 
-    alike_do : (b : ℕ) (xs ys : List Item) (m : Since) (o p : Outcome) → ((c' : Core) (n : ℕ) → o ≡ Goes n c' → m ≡ After) → EndAlike Kin o p → DoAlike ct src f g s0 rf rg S Q b xs ys m o p
+    abbrev entry : ℕ → Unit {0}
+    entry n = tt
+
+    alike_do : (b : ℕ) (xs ys : List Item) (m : Since) (o p : Outcome) → ((c' : Core) (n : ℕ) → o ≡ Goes n c' → m ≡ After) → EndAlike Kin o p → DoAlike ct src f g s0 rf rg (Unit {0}) entry S Q b xs ys m tt o p
     alike_do b xs ys m (Falls c) (Falls d) go h = h
     alike_do b xs ys m (Goes j c) (Goes k d) go h = (h.0, go c j refl, h.1)
     alike_do b xs ys m (Gives v) (Gives w) go h = h
@@ -169,19 +173,19 @@ module _ (busy : Bool) (blocks : List Block) (resolve : ℕ → ℕ → Option (
     debug_falls (Phi p n) e c d h = (_, _, refl, refl, h)
 
     view_at : (b : ℕ) (x : Item) (xs : List Item) → IsSteady ct x → All (IsSteady ct) xs → (z : Bool) → stays busy x ≡ z →
-        View ct src f g s0 rf rg S Q b (x ∷ xs) (cond z (x ∷ filter (stays busy) xs) (filter (stays busy) xs))
+        View ct src f g s0 rf rg (Unit {0}) entry S Q b tt (x ∷ xs) (cond z (x ∷ filter (stays busy) xs) (filter (stays busy) xs))
     view_at b x xs s rest true k = by_code (is_code x.kind) refl where
-      by_code : (z : Bool) → is_code x.kind ≡ z → View ct src f g s0 rf rg S Q b (x ∷ xs) (x ∷ filter (stays busy) xs)
-      by_code true code = both code code refl refl (refl, rest) (λ c d h. alike_do b xs (filter (stays busy) xs) (since_item ct x) (do_item f x.kind c) (do_item g x.kind d) (λ c' n e. s.moves c c' n e) (item_kin x.kind c d h (s.own k)))
-      by_code false code = paired code code (refl, rest) (λ c d h. debug_falls x.kind code c d (item_kin x.kind c d h (s.own k)))
+      by_code : (z : Bool) → is_code x.kind ≡ z → View ct src f g s0 rf rg (Unit {0}) entry S Q b tt (x ∷ xs) (x ∷ filter (stays busy) xs)
+      by_code true code = both {k' = tt} code code refl refl (refl, rest) (λ c d h. alike_do b xs (filter (stays busy) xs) (since_item ct x) (do_item f x.kind c) (do_item g x.kind d) (λ c' n e. s.moves c c' n e) (item_kin x.kind c d h (s.own k)))
+      by_code false code = paired {k' = tt} code code (refl, rest) (λ c d h. debug_falls x.kind code c d (item_kin x.kind c d h (s.own k)))
     view_at b x xs s rest false k =
         let nop : is_nop x.kind ≡ true = out_is busy (is_nop x.kind) k in
-        taken (nop_is_code x.kind nop) (moves_on_less ct x.kind (no_jump x.kind nop)) (refl, rest) (λ c d h. nop_kin _ x.kind c d nop h (s.gone k))
+        taken {k' = tt} (nop_is_code x.kind nop) (moves_on_less ct x.kind (no_jump x.kind nop)) (refl, rest) (λ c d h. nop_kin _ x.kind c d nop h (s.gone k))
 
-    view : (b : ℕ) (xs ys : List Item) → S b xs ys → View ct src f g s0 rf rg S Q b xs ys
-    view b [] ys (e, steady) = subst (View ct src f g s0 rf rg S Q b []) (sym e) ended
-    view b (x ∷ xs) ys (e, steady) =
-        subst (View ct src f g s0 rf rg S Q b (x ∷ xs)) (sym e) (view_at b x xs (All-head (IsSteady ct) x xs steady) (All-tail (IsSteady ct) x xs steady) (stays busy x) refl)
+    view : (k : Unit {0}) (b : ℕ) (xs ys : List Item) → S k b xs ys → View ct src f g s0 rf rg (Unit {0}) entry S Q b tt xs ys
+    view k b [] ys (e, steady) = subst (View ct src f g s0 rf rg (Unit {0}) entry S Q b tt []) (sym e) ended
+    view k b (x ∷ xs) ys (e, steady) =
+        subst (View ct src f g s0 rf rg (Unit {0}) entry S Q b tt (x ∷ xs)) (sym e) (view_at b x xs (All-head (IsSteady ct) x xs steady) (All-tail (IsSteady ct) x xs steady) (stays busy x) refl)
 
     rest_steady : All (λ (b : Block). All (IsSteady ct) b.items) blocks → (n : ℕ) → All (IsSteady ct) (rf (block_start n))
     rest_steady h n = by_blocks (from_block blocks n) refl where
@@ -206,8 +210,8 @@ module _ (busy : Bool) (blocks : List Block) (resolve : ℕ → ℕ → Option (
         All (λ (b : Block). All (λ (i : Item). OriginIn b i.origin) b.items) blocks → All (λ (b : Block). All (λ (i : Item). OriginIn b i.origin) b.items) (thinned_blocks busy blocks) →
         s0.pos.item ≡ 0 → Kin s0.core s0.core →
         RunsAlong src f (station_at ct f) (AnyOrigin (station_at ct f)) s0 s0 → RunsAlong src g (station_at ct g) (AnyOrigin (station_at ct g)) s0 s0
-    nops_run steady apart ordered ordered' origins origins' first kin runs = in_place_follows S Q ct src f g rf rg (index_of blocks) s0 in_place first kin runs where
-      in_place : InPlace ct src f g s0 rf rg S Q (index_of blocks)
+    nops_run steady apart ordered ordered' origins origins' first kin runs = in_place_follows (Unit {0}) entry S Q ct src f g rf rg (index_of blocks) s0 in_place first kin runs where
+      in_place : InPlace ct src f g s0 rf rg (Unit {0}) entry S Q (index_of blocks)
       in_place = record {
         laid_f = laid_out false blocks resolve;
         laid_g = laid_out false (thinned_blocks busy blocks) resolve;
@@ -223,6 +227,6 @@ module _ (busy : Bool) (blocks : List Block) (resolve : ℕ → ℕ → Option (
         one_end = one_end false (thinned_blocks busy blocks) resolve;
         origins = origin_from;
         onward = λ p q k n same none none' ends. (let there = end_there (stays busy) false blocks resolve p q k n same none ends in (there, falls_down false blocks resolve apart p k n there));
-        ends = λ b n c d h. h;
-        shows = λ b xs ys c d h. record { events = ap (λ (z : Core). z.events) (sym h.0.same); told = h.0.marks };
+        ends = λ k p j n c d at fetch s h. h;
+        shows = λ k b xs ys c d h. record { events = ap (λ (z : Core). z.events) (sym h.0.same); told = h.0.marks };
       }
