@@ -235,7 +235,7 @@ module _ (f : Function) (sound : IsSound f) (subs : List Entry) where
   taken_is at k x stands t = let w : Here t.item ≡ Here x = sym t.stands ∙ stands in cc
 
   -- and it is code that was removed, and no copy
-  removed_at : (at : Pos) (x : Item) → StandsAt f at x → is_code x.kind ≡ true → stays busy x ≡ false → IsRemoved nop_rule change is_code x.origin
+  removed_at : (at : Pos) (x : Item) → StandsAt f at x → is_code x.kind ≡ true → stays busy x ≡ false → IsRemoved nop_rule change x.origin
   removed_at at x stands code out =
       let test : Item → Bool = λ i. is_code i.kind && is_origin i.origin x.origin in
       let same = same_origin x.origin in
@@ -297,5 +297,7 @@ module _ (f : Function) (sound : IsSound f) (subs : List Entry) where
         ordered = ordered;
         caused = λ at l h. subst (HasCause nop_rule change at) (sym h.2) (cause_of at h.0 h.1.item.kind h.1.item.origin h.1.item.loc h.1.stands h.1.out h.1.number);
         left = λ r why h. absurd h;
+        spilled = λ r slot h. absurd h;
+        renamed = λ r now h. absurd h;
       } in
       (thinned f, subs, losses, [], record { sound = sound_thin busy f sound; code = stripped_thinned f; items = kept }, (refl, refl, refl), sym (append-nil losses))

@@ -8,7 +8,7 @@ use Rattle.rv64_instr.specs.declared.place.Place.{Place}
 use Rattle.rv64_instr.specs.declared.place.Place.TheVariants.{Register}
 use Rattle.rv64_instr.specs.Instruction.{Instruction}
 use Rattle.rv64_instr.specs.Row.{row_of}
-use Rattle.rv64_instr.specs.Parts.{is_call, defines_of}
+use Rattle.rv64_instr.specs.Parts.{is_call, has_implicit_uses, defines_of}
 use Rattle.mir_func.specs.declared.position.Pos.{Pos}
 use Rattle.mir_func.specs.declared.position.Origin.{Origin}
 use Rattle.mir_func.specs.declared.position.Origin.TheVariants.{Kept, Before}
@@ -34,21 +34,21 @@ use Rattle.follow_law.specs.Change.{Change}
 use Rattle.follow_law.specs.Order.{reason_rank}
 use Rattle.follow_law.specs.Rule.{Rule, IsCopy, IsJump, number_lost, item, StandsAt, Has, IsNow}
 
--- the operand is the register
-abbrev pub is_of_register : ℕ → Operand → Bool
-is_of_register r (Def s) = nat_eq s r
-is_of_register r (Use s) = nat_eq s r
-is_of_register r (ImplicitDef s) = nat_eq s r
-is_of_register r (ImplicitUse s) = nat_eq s r
-is_of_register r (Imm i) = false
-is_of_register r (OfSlot n) = false
-is_of_register r (OfBlock n) = false
-is_of_register r (Symbol name) = false
-is_of_register r Mask = false
+-- the operand is the register; an implicit one where such operands count
+abbrev pub is_of_register : (counts : Bool) → ℕ → Operand → Bool
+is_of_register counts r (Def s) = nat_eq s r
+is_of_register counts r (Use s) = nat_eq s r
+is_of_register counts r (ImplicitDef s) = counts && nat_eq s r
+is_of_register counts r (ImplicitUse s) = counts && nat_eq s r
+is_of_register counts r (Imm i) = false
+is_of_register counts r (OfSlot n) = false
+is_of_register counts r (OfBlock n) = false
+is_of_register counts r (Symbol name) = false
+is_of_register counts r Mask = false
 
--- code that names the register
+-- code that names the register: by an explicit operand, or by an implicit one of a call or a return
 abbrev pub names : ℕ → ItemKind → Bool
-names r (Code i k) = list_any (is_of_register r) i.operands
+names r (Code i k) = list_any (is_of_register (has_implicit_uses (row_of i)) r) i.operands
 names r (Mark v m) = false
 names r (Phi p k) = false
 
@@ -109,17 +109,25 @@ module _ (rule : Rule) (c : Change) where
   abbrev pub old_start : Pos
   old_start = block_start (first_of c.old.blocks)
 
-  -- code with this origin that passes a test was removed: less of it has the origin after the pass. What is kept stands
-  -- alone at its origin, so none has it any more
-  abbrev pub IsRemoved : (ItemKind → Bool) → Origin → Type 0
-  IsRemoved test o = count_by (λ i. test i.kind && is_origin i.origin o) (items_of c.new.blocks) < count_by (λ i. test i.kind && is_origin i.origin o) (items_of c.old.blocks)
+  -- after the pass less code has this origin, of the code that passes a test
+  abbrev pub IsFewer : (ItemKind → Bool) → Origin → Type 0
+  IsFewer test o = count_by (λ i. test i.kind && is_origin i.origin o) (items_of c.new.blocks) <
+      count_by (λ i. test i.kind && is_origin i.origin o) (items_of c.old.blocks)
+
+  -- code with this origin was removed. What is kept stands alone at its origin, so no code has it any more
+  abbrev pub IsRemoved : Origin → Type 0
+  IsRemoved o = IsFewer is_code o
+
+  -- a definition of the place with this origin was removed
+  abbrev pub LosesDefinition : Place → Origin → Type 0
+  LosesDefinition x o = IsRemoved o × IsFewer (defines x) o
 
   -- code at a position defines the place, and was removed or stays
   abbrev pub IsRemovedDefinition : Place → Pos → Type 0
-  IsRemovedDefinition x p = (i : Item) × StandsAt c.old p i × (defines x i.kind ≡ true) × IsRemoved (defines x) i.origin
+  IsRemovedDefinition x p = (i : Item) × StandsAt c.old p i × (defines x i.kind ≡ true) × LosesDefinition x i.origin
 
   abbrev pub IsKeptDefinition : Place → Pos → Type 0
-  IsKeptDefinition x p = (i : Item) × StandsAt c.old p i × (defines x i.kind ≡ true) × (IsRemoved (defines x) i.origin → ⊥)
+  IsKeptDefinition x p = (i : Item) × StandsAt c.old p i × (defines x i.kind ≡ true) × (LosesDefinition x i.origin → ⊥)
 
   -- code at a position defines the register, or one that gets it and isn't the other register
   abbrev pub IsDefinition : ℕ → Pos → Type 0
@@ -165,7 +173,7 @@ module _ (rule : Rule) (c : Change) where
   pub data HasCause (at : Pos) : Loss → Type 0 where
     -- a number: its code was removed, and is no copy
     code_removed : {i : Instruction} {n : Option ℕ} {o : Origin} {l : Loc} {k : ℕ} → StandsAt c.old at (item (Code i n) o l) → Has rule c at n k →
-        (IsCopy (row_of i) → ⊥) → IsRemoved is_code o → HasCause at (number_lost k Removed)
+        (IsCopy (row_of i) → ⊥) → IsRemoved o → HasCause at (number_lost k Removed)
     -- a mark or a phi of a wrong place; and the phi that is put for a copy, which stands behind it
     place_wrong : {i : Item} {x : Place} {what : Lost} → StandsAt c.old at i → IsLostWith i.kind i.origin what → AsksFor x i.kind →
         IsWrong x at → HasCause at (record { what = what; reason = WrongPlace })

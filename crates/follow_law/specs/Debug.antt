@@ -1,5 +1,5 @@
 -- The third law of passes, the debug rule: marks, phis, numbers and substitutions stay, or their loss is told.
-use Rattle.std.specs.Prelude.{◌≡◌, ◌⊎◌, ℕ, suc, List, [], ◌∷◌, ◌++◌, Option, Some, None, All, Contains}
+use Rattle.std.specs.Prelude.{◌≡◌, ◌⊎◌, ℕ, ◌<◌, ◌≤◌, suc, List, [], ◌∷◌, ◌++◌, Option, Some, None, All, Contains}
 use Rattle.rv64_instr.specs.declared.place.Place.{Place}
 use Rattle.rv64_instr.specs.declared.place.Place.TheVariants.{Register, Slot, Const}
 use Rattle.rv64_instr.specs.Instruction.{Instruction}
@@ -172,7 +172,8 @@ pub record IsFor (c : Change) (losses : List Loss) (e : Entry) : Type 0 where
   pub stands : (q : ℕ × ℕ) × Ends c.new_subs e.dst q × (Contains (numbers_on c.new) q.0 ⊎ ((why : Reason) × Contains losses (number_lost q.0 why)))
 
 -- the debug rule: what the blocks become; substitutions are added behind those that were there, each for a number that is
--- gone; the losses are those that the pass says, each once and in order; and it says none without its cause
+-- gone; the losses are those that the pass says, each once and in order; and it says none without its cause. Registers are
+-- spilled into new slots, and only virtual ones get another register, which is real
 pub record KeepsItems (rule : Rule) (c : Change) (losses : List Loss) : Type 0 where
   pub blocks : BlocksBecome rule c c.old.blocks c.new.blocks
   pub subs : (more : List Entry) × (c.new_subs ≡ c.old_subs ++ more) × rule.substitutes c more × All (IsFor c losses) more
@@ -181,3 +182,5 @@ pub record KeepsItems (rule : Rule) (c : Change) (losses : List Loss) : Type 0 w
   pub ordered : IsInOrder losses
   pub caused : (place : Pos) (loss : Loss) → rule.loses c place loss → HasCause rule c place loss
   pub left : (r : ℕ) (why : Reason) → rule.leaves c r why → IsFirstCause rule c r why
+  pub spilled : (r slot : ℕ) → rule.spills c r slot → Contains c.new.slots slot × (Contains c.old.slots slot → ⊥)
+  pub renamed : (r now : ℕ) → rule.renames c r now → (32 ≤ r) × (now < 32)

@@ -15,9 +15,15 @@ use Rattle.follow_law.specs.Steps.{Step, EachCode}
 use Rattle.follow_law.specs.Nops.{is_added_save, has_added_saves, stays, thinned_blocks, thinned, IsThinned}
 
 -- what holds of the rules for code of both
-pub each_then : (P : CodeRule → Type 0) (steps more : List Step) → EachCode P steps → EachCode P more → EachCode P (steps ++ more)
+each_then : (P : CodeRule → Type 0) (steps more : List Step) → EachCode P steps → EachCode P more → EachCode P (steps ++ more)
 each_then P [] more h k = k
 each_then P (s ∷ steps) more h k = (h.0, each_then P steps more h.1 k)
+
+pub one_then : (steps more : List Step) → EachCode HasOneResult steps → EachCode HasOneResult more → EachCode HasOneResult (steps ++ more)
+one_then = each_then HasOneResult
+
+pub same_then : (steps more : List Step) → EachCode SeesCodeAlone steps → EachCode SeesCodeAlone more → EachCode SeesCodeAlone (steps ++ more)
+same_then = each_then SeesCodeAlone
 
 -- factors are at least 1 with each other
 pub grows_then : (a b : ℕ) → 1 ≤ a → 1 ≤ b → 1 ≤ a * b

@@ -1,5 +1,5 @@
 -- What a pass says of what it does to debug items.
-use Rattle.std.specs.Prelude.{◌≡◌, ◌⊎◌, ℕ, suc, List, Option, Some, None, filter_map}
+use Rattle.std.specs.Prelude.{◌≡◌, ◌⊎◌, ◌↔◌, ℕ, suc, List, Option, Some, None, filter_map, Contains}
 use Rattle.rv64_instr.specs.declared.place.Place.{Place}
 use Rattle.rv64_instr.specs.Row.{Row, Moves, Jumps}
 use Rattle.mir_func.specs.declared.position.Pos.{Pos}
@@ -80,3 +80,7 @@ Has rule c at None k = rule.numbers c at k
 -- a register after the pass: the one that another got, or the same
 abbrev pub IsNow : Rule → Change → (r now : ℕ) → Type 0
 IsNow rule c r now = (r ≡ now) ⊎ rule.renames c r now
+
+-- the losses of numbers for one reason
+abbrev pub AreNumbersLost : List ℕ → Reason → List Loss → Type 0
+AreNumbersLost numbers why losses = (l : Loss) → Contains losses l ↔ ((k : ℕ) × Contains numbers k × (l ≡ number_lost k why))

@@ -1,6 +1,6 @@
+//! Passes in a row: none, and one after another.
 ghost use Rattle.std.specs.Prelude.{◌≡◌, ◌++◌, ◌+◌, ◌*◌, true, false, not, ◌&&◌, ◌||◌, []};
-ghost use Rattle.follow_law.specs.Code.{HasOneResult, SeesCodeAlone};
-ghost use Rattle.follow_law.specs.Laws.{each_then, grows_then};
+ghost use Rattle.follow_law.specs.Laws.{one_then, same_then, grows_then};
 ghost use Rattle.std.proofs.Common.{rules};
 
 use crate::loss::Losses;
@@ -76,9 +76,9 @@ impl<A: Pass, B: Pass> Pass for Then<A, B> {
         Ok(losses)
     }
 
-    ghost one_code = { λ s. each_then HasOneResult (A.steps s.first) (B.steps s.second) (A.one_code s.first) (B.one_code s.second) };
+    ghost one_code = { λ s. one_then (A.steps s.first) (B.steps s.second) (A.one_code s.first) (B.one_code s.second) };
 
-    ghost same_code = { λ s. each_then SeesCodeAlone (A.steps s.first) (B.steps s.second) (A.same_code s.first) (B.same_code s.second) };
+    ghost same_code = { λ s. same_then (A.steps s.first) (B.steps s.second) (A.same_code s.first) (B.same_code s.second) };
 
     ghost grows = { grows_then A.factor B.factor A.grows B.grows };
 }
