@@ -4,7 +4,7 @@ ghost use Rattle.follow_law.specs.Sizes.{greatest, greatest_number, most_numbers
 use crate::compose::{Nothing, Then};
 use crate::loss::{Loss, Losses, Lost, Reason};
 use crate::nops::NopPass;
-use crate::pass::Pass;
+use crate::pass::{debug_items_change_no_code, Pass};
 use lists::List;
 use mir_func::block::{Block, Blocks};
 use mir_func::func::Func;
@@ -103,6 +103,7 @@ fn no_operations_go_and_then_nothing_does(rt: HostRuntime) -> Result<(), Fail> {
     };
     let losses = run_pass(&mut both, rt.alloc(), &mut f, &mut subs)?;
     assert_eq!(rt; left_and_lost(&f, &losses), (1, 1));
+    debug_items_change_no_code(&both);
     Ok(())
 }
 
