@@ -6,75 +6,50 @@ use Rattle.mir_func.specs.declared.item.Item.{Item}
 use Rattle.mir_meaning.specs.State.{State, Core, assigned}
 use Rattle.mir_meaning.specs.Step.{Went, Returned, Faulted, Lost, Outcome, Falls, Goes, Gives, Traps, Asks, Breaks, moved, do_item, do_fetch, step}
 use Rattle.mir_func.specs.Graph.{Fetch, Here, Silent, Outside, below, block_start}
-use Rattle.mir_meaning.specs.Align.{position_of, is_code, Station, Count, station_of, end_station, station_at, IsOrigin, here, Since, Start, Same, After, since_of, Aligns, AnyOrigin, Along, begin, other, met, Agrees, RunsAlong}
-use Rattle.simulation.specs.InPlace.{IsPastItems, since_item, ShowsSame}
-use Rattle.simulation.specs.Added.{Standing, Opening, Level, Ahead, Owing, MayCome, Does, MayStand, DoAlike, MayOpen, LeadsIn, View, ended, both, before, opening, entering, behind, passed, added, paired, Begins, opens, level, AddedFollows}
+use Rattle.mir_meaning.specs.Align.{position_of, is_code, Station, Count, station_of, end_station, IsOrigin, here, Since, Start, Same, After, since_of, Aligns, Along, begin, other, met, Agrees, RunsAlong}
+use Rattle.simulation.specs.Sides.{IsPastItems, since_item, ShowsSame, Does}
+use Rattle.simulation.specs.Added.{Standing, Opening, Level, Ahead, Owing, MayCome, DoAlike, MayOpen, LeadsIn, IsFree, AddedRelation, ended, both, before, opening, entering, behind, passed, added, paired, Begins, opens, level, AddedFollows}
 use Rattle.mir_meaning.proofs.Alignment.{went_once, aligns_at, aligns_once, aligns_not_fails}
 use Rattle.mir_meaning.proofs.Outcomes.{step_item, step_end}
 use Rattle.simulation.proofs.Refinement.{since_not_start}
 use Rattle.simulation.proofs.Stations.{code_station, debug_station, end_is_station, code_is_some, code_is, debug_is_none, IsStationOf, of_item, of_end, station_is_of, no_end_stations, not_past_items}
+use Rattle.simulation.proofs.Outcomes.{both_return, both_fault}
 use Rattle.simulation.proofs.Stops.{aligns_reaches}
-use Rattle.simulation.proofs.Joined.{Addition, AtHome, FaultAt, IsFree, IsReady, Joins, JoinsAt, Now, Owed, at_home, dynamic_at, home_at, in_body, join_after, join_ahead, join_behind, join_code, join_free, join_opened, may_begun, moves_to, ready, shown, stands_begun, static_at}
+use Rattle.simulation.proofs.Joined.{Addition, AtHome, FaultAt, IsReady, Joins, JoinsAt, Now, Owed, at_home, dynamic_at, home_at, in_block, join_after, join_ahead, join_behind, join_code, join_free, join_opened, may_begun, moves_to, ready, shown, stands_begun, static_at, in_block, fs, gs, O, Seen, Stands}
 
 module _ (addition : Addition) where
-  open addition use {ct, src, f, g, s0, g0, rf, rg, Stops, X, Reach, Stage, standing, body, S, Q, ip, follows}
-
-  abbrev fs : Pos → Option Station
-  fs p = station_at ct f p
-
-  abbrev gs : Pos → Option Station
-  gs p = station_at ct g p
-
-  abbrev O : Pos → Type 0
-  O p = IsOrigin fs p
-
-  abbrev start_g : ℕ → Pos
-  start_g n = block_start (g.enter n)
-
-  abbrev Alike : ℕ → List Item → List Item → Since → Stage → Outcome → Outcome → Type 0
-  Alike b xs ys m k x y = DoAlike ct src f g s0 g0 rf rg Stops X Reach Stage standing body S Q b xs ys m k x y
-
-  abbrev Seen : ℕ → Stage → List Item → List Item → Type 0
-  Seen b k xs ys = View ct src f g s0 g0 rf rg Stops X Reach Stage standing body S Q b k xs ys
-
-  abbrev Stands : Standing → Item → Type 0
-  Stands st x = MayStand ct src f g s0 g0 rf rg Stops X Reach Stage standing body S Q st x
-
-  abbrev Opens : Standing → Type 0
-  Opens st = MayOpen ct src f g s0 g0 rf rg Stops X Reach Stage standing body S Q st
-
-  abbrev IsEntry : Type 0
-  IsEntry = LeadsIn ct src f g s0 g0 rf rg Stops X Reach Stage standing body S Q
-
-  abbrev AlongF : State → State → Since → Type 0
-  AlongF v s m = Along src f fs (AnyOrigin fs) s0 s0 v s m
+  open addition use {count, src, sides, relation, facts, follows}
+  open sides use {old.{program as f, rest as rest_f, start as s0}, new.{program as g, rest as rest_g, start as g0}}
+  open relation use {relation.{Stage, entry, Rests, Cores}, standing, Stops, Extra, Reach}
 
   end_f : (v : State) (k n : ℕ) → f.fetch v.pos ≡ Silent k n → step f v ≡ Went (record { pos = block_start n; core = v.core })
-  end_f v k n e = step_end f v k n e ∙ ap (λ (z : ℕ). Went (record { pos = block_start z; core = v.core })) (ip.enter_f n)
+  end_f v k n e = step_end f v k n e ∙ ap (λ (z : ℕ). Went (record { pos = block_start z; core = v.core })) (facts.enter_f n)
 
   -- past the end of a block of f
-  goes_end : (t s : State) (m : Since) (r : Now addition t s m) → standing r.k ≡ Level → rf r.v.pos ≡ [] → rg t.pos ≡ [] → (x : Fetch) → g.fetch t.pos ≡ x → gs t.pos ≡ None → IsPastItems x → (t' : State) → step g t ≡ Went t' → Now addition t' s m
+  goes_end : (t s : State) (m : Since) (r : Now addition t s m) → standing r.k ≡ Level → rest_f r.v.pos ≡ [] → rest_g t.pos ≡ [] → (x : Fetch) → g.fetch t.pos ≡ x → gs addition t.pos ≡ None → IsPastItems x → (t' : State) → step g t ≡ Went t' → Now addition t' s m
   goes_end t s m r lv ef eg (Here i) e none h t' go = absurd h
   goes_end t s m r lv ef eg Outside e none h t' go = let bad : Lost ≡ Went t' = sym (ap (λ (z : Fetch). moved g.enter t.pos (do_fetch g z t.core)) e) ∙ go in cc
   goes_end t s m r lv ef eg (Silent j n) e none h t' go =
-      let fe = ip.onward r.v.pos t.pos j n (home_at addition t s m r Level lv tt) ef eg e in
-      let none_f : fs r.v.pos ≡ None = end_is_station ct f r.v.pos j n fe ∙ no_end_stations ct _ _ (sym (end_is_station ct g t.pos j n e) ∙ none) in
-      let t1 : State = record { pos = start_g n; core = t.core } in
-      let made : Now addition t1 s m = in_body addition t1 s m r.v n r.v.core r.sf r.mf (end_f r.v j n fe) refl (other r.along none_f (end_f r.v j n fe)) r.reach r.reach_f (ip.ends r.k r.v.pos j n r.v.core t.core lv ef fe (static_at addition t s m r [] [] ef eg) (dynamic_at addition t s m r [] [] ef eg)) (subst (λ (z : Standing). Joins addition z r.mf r.sf m s) lv r.joins) in
+      let fe = facts.onward r.v.pos t.pos j n (home_at addition t s m r Level lv tt) ef eg e in
+      let none_f : fs addition r.v.pos ≡ None = end_is_station count f r.v.pos j n fe ∙ no_end_stations count _ _ (sym (end_is_station count g t.pos j n e) ∙ none) in
+      let t1 : State = record { pos = block_start (g.enter n); core = t.core } in
+      let made : Now addition t1 s m = in_block addition t1 s m r.v n r.v.core r.sf r.mf (end_f r.v j n fe) refl (other r.along none_f (end_f r.v j n fe)) r.reach r.reach_f (facts.ends r.k r.v.pos j n r.v.core t.core lv ef fe (static_at addition t s m r [] [] ef eg) (dynamic_at addition t s m r [] [] ef eg)) (subst (λ (z : Standing). Joins addition z r.mf r.sf m s) lv r.joins) in
       subst (λ (z : State). Now addition z s m) (went_once g t t1 t' (step_end g t j n e) go) made
 
   -- past the end of the block at the start, to f's first block
-  enters : (t s : State) (m : Since) (r : Now addition t s m) (xs : List Item) → standing r.k ≡ Opening → rf r.v.pos ≡ xs → rg t.pos ≡ [] → S body r.v.pos.block xs (rg (start_g r.v.pos.block)) → ((c d : Core) → Q r.k r.v.pos.block xs [] c d → Q body r.v.pos.block xs (rg (start_g r.v.pos.block)) c d) →
-      IsFree addition → IsEntry → (x : Fetch) → g.fetch t.pos ≡ x → IsPastItems x → (t' : State) → step g t ≡ Went t' → Now addition t' s m
-  enters t s m r xs op ef eg st q free into (Here i) e h t' go = absurd h
-  enters t s m r xs op ef eg st q free into Outside e h t' go = let bad : Lost ≡ Went t' = sym (ap (λ (z : Fetch). moved g.enter t.pos (do_fetch g z t.core)) e) ∙ go in cc
-  enters t s m r xs op ef eg st q free into (Silent j n) e h t' go =
+  enters : (t s : State) (m : Since) (r : Now addition t s m) (k' : Stage) (xs : List Item) → standing r.k ≡ Opening → standing k' ≡ Level →
+      rest_f r.v.pos ≡ xs → rest_g t.pos ≡ [] → Rests k' r.v.pos.block xs (rest_g (block_start (g.enter r.v.pos.block))) →
+      ((c d : Core) → Cores r.k r.v.pos.block xs [] c d → Cores k' r.v.pos.block xs (rest_g (block_start (g.enter r.v.pos.block))) c d) →
+      IsFree count src sides relation → LeadsIn count src sides relation → (x : Fetch) → g.fetch t.pos ≡ x → IsPastItems x → (t' : State) → step g t ≡ Went t' → Now addition t' s m
+  enters t s m r k' xs op lv ef eg st q free into (Here i) e h t' go = absurd h
+  enters t s m r k' xs op lv ef eg st q free into Outside e h t' go = let bad : Lost ≡ Went t' = sym (ap (λ (z : Fetch). moved g.enter t.pos (do_fetch g z t.core)) e) ∙ go in cc
+  enters t s m r k' xs op lv ef eg st q free into (Silent j n) e h t' go =
       let b = r.v.pos.block in
       let home : t.pos.block ≡ g0.pos.block = subst (λ (z : Standing). AtHome addition z t.pos.block b) op r.home in
       let ow = subst (λ (z : Standing). Owed addition z r.v r.mf r.sf m s) op r.owed in
       let nb : n ≡ b = into t.pos j n home eg e ∙ ap (λ (z : State). z.pos.block) (sym ow.0) in
-      let t1 : State = record { pos = start_g b; core = t.core } in
-      let at : step g t ≡ Went t1 = step_end g t j n e ∙ ap (λ (z : ℕ). Went (record { pos = start_g z; core = t.core })) nb in
+      let t1 : State = record { pos = block_start (g.enter b); core = t.core } in
+      let at : step g t ≡ Went t1 = step_end g t j n e ∙ ap (λ (z : ℕ). Went (record { pos = block_start (g.enter z); core = t.core })) nb in
       let r0 : Reach s0.pos = subst (λ (z : State). Reach z.pos) ow.2 r.reach_f in
       let join0 : Joins addition Level Start s0 m s0 = elim ow.4 as (λ z. Joins addition Level Start s0 m s0) [
         | inl k ↦ subst (λ (z : Since). Joins addition Level Start s0 z s0) (sym k) (join_free addition free r0)
@@ -87,41 +62,41 @@ module _ (addition : Addition) where
         v = r.v;
         sf = r.sf;
         mf = r.mf;
-        k = body;
+        k = k';
         along = r.along;
-        home = subst (λ (z : Standing). AtHome addition z t1.pos.block b) (sym ip.is_body) refl;
+        home = subst (λ (z : Standing). AtHome addition z t1.pos.block b) (sym lv) refl;
         reach = r.reach;
         reach_f = r.reach_f;
-        static = subst (λ (z : List Item). S body b z (rg (start_g b))) (sym ef) st;
-        dynamic = subst (λ (z : List Item). Q body b z (rg (start_g b)) r.v.core t.core) (sym ef) (q r.v.core t.core (dynamic_at addition t s m r xs [] ef eg));
-        joins = subst (λ (z : Standing). Joins addition z r.mf r.sf m s) (sym ip.is_body) join;
-        owed = subst (λ (z : Standing). Owed addition z r.v r.mf r.sf m s) (sym ip.is_body) tt;
+        static = subst (λ (z : List Item). Rests k' b z (rest_g (block_start (g.enter b)))) (sym ef) st;
+        dynamic = subst (λ (z : List Item). Cores k' b z (rest_g (block_start (g.enter b))) r.v.core t.core) (sym ef) (q r.v.core t.core (dynamic_at addition t s m r xs [] ef eg));
+        joins = subst (λ (z : Standing). Joins addition z r.mf r.sf m s) (sym lv) join;
+        owed = subst (λ (z : Standing). Owed addition z r.v r.mf r.sf m s) (sym lv) tt;
       } in
       subst (λ (z : State). Now addition z s m) (went_once g t t1 t' at go) made
 
   -- between stations
-  between_at : (t s : State) (m : Since) (r : Now addition t s m) (xs ys : List Item) → rf r.v.pos ≡ xs → rg t.pos ≡ ys → (w : Seen r.v.pos.block r.k xs ys) → IsReady addition w → gs t.pos ≡ None → (t' : State) → step g t ≡ Went t' → Now addition t' s m
-  between_at t s m r xs ys ef eg (ended lv) rd none t' go = goes_end t s m r lv ef eg (g.fetch t.pos) refl none (ip.laid_g.nil t.pos eg).0 t' go
-  between_at t s m r xs ys ef eg (both {y = y} {ys = ts} n cx cy o j st s1 h) rd none t' go = absurd (code_is_some ct g t.pos y none (ip.laid_g.cons t.pos y ts eg).0 cy)
-  between_at t s m r xs ys ef eg (before {y = y} {ys = ts} n cx cy o j ak s1 h) rd none t' go = absurd (code_is_some ct g t.pos y none (ip.laid_g.cons t.pos y ts eg).0 cy)
-  between_at t s m r xs ys ef eg (opening {y = y} {ys = ts} ak cy o j op s1 h) rd none t' go = absurd (code_is_some ct g t.pos y none (ip.laid_g.cons t.pos y ts eg).0 cy)
-  between_at t s m r xs ys ef eg (behind {y = y} {ys = ts} ak cy o j af s1 h) rd none t' go = absurd (code_is_some ct g t.pos y none (ip.laid_g.cons t.pos y ts eg).0 cy)
-  between_at t s m r xs ys ef eg (entering op ne st q free into) rd none t' go = enters t s m r xs op ef eg st q free into (g.fetch t.pos) refl (ip.laid_g.nil t.pos eg).0 t' go
+  between_at : (t s : State) (m : Since) (r : Now addition t s m) (xs ys : List Item) → rest_f r.v.pos ≡ xs → rest_g t.pos ≡ ys → (w : Seen addition r.v.pos.block r.k xs ys) → IsReady addition w → gs addition t.pos ≡ None → (t' : State) → step g t ≡ Went t' → Now addition t' s m
+  between_at t s m r xs ys ef eg (ended lv) rd none t' go = goes_end t s m r lv ef eg (g.fetch t.pos) refl none (facts.laid_g.nil t.pos eg).0 t' go
+  between_at t s m r xs ys ef eg (both {y = y} {ys = ts} n cx cy o j st s1 h) rd none t' go = absurd (code_is_some count g t.pos y none (facts.laid_g.cons t.pos y ts eg).0 cy)
+  between_at t s m r xs ys ef eg (before {y = y} {ys = ts} n cx cy o j ak s1 h) rd none t' go = absurd (code_is_some count g t.pos y none (facts.laid_g.cons t.pos y ts eg).0 cy)
+  between_at t s m r xs ys ef eg (opening {y = y} {ys = ts} ak cy o j op s1 h) rd none t' go = absurd (code_is_some count g t.pos y none (facts.laid_g.cons t.pos y ts eg).0 cy)
+  between_at t s m r xs ys ef eg (behind {y = y} {ys = ts} ak cy o j af s1 h) rd none t' go = absurd (code_is_some count g t.pos y none (facts.laid_g.cons t.pos y ts eg).0 cy)
+  between_at t s m r xs ys ef eg (entering {k' = k'} op ne lv st q free into) rd none t' go = enters t s m r k' xs op lv ef eg st q free into (g.fetch t.pos) refl (facts.laid_g.nil t.pos eg).0 t' go
   between_at t s m r xs ys ef eg (passed q same c s1 h) rd none t' go = absurd rd
   between_at t s m r xs ys ef eg (added {k' = k'} {y = y} {ys = ts} q same cy s1 h) rd none t' go =
       let b = r.v.pos.block in
-      let ge = ip.laid_g.cons t.pos y ts eg in
+      let ge = facts.laid_g.cons t.pos y ts eg in
       let d = h r.v.core t.core (dynamic_at addition t s m r xs ys ef eg) in
       let t1 : State = record { pos = below t.pos; core = d.0 } in
-      let made = moves_to addition t s m r k' q same t1 r.v r.along r.home (rw ge.1 (subst (λ (z : List Item). S k' b z ts) (sym ef) s1)) (rw ge.1 (subst (λ (z : List Item). Q k' b z ts r.v.core d.0) (sym ef) d.2)) in
+      let made = moves_to addition t s m r k' q same t1 r.v r.along r.home (rw ge.1 (subst (λ (z : List Item). Rests k' b z ts) (sym ef) s1)) (rw ge.1 (subst (λ (z : List Item). Cores k' b z ts r.v.core d.0) (sym ef) d.2)) in
       subst (λ (z : State). Now addition z s m) (went_once g t t1 t' (step_item g t y (Falls d.0) ge.0 d.1) go) made
   between_at t s m r xs ys ef eg (paired {k' = k'} {x = x} {y = y} {xs = rest} {ys = ts} q same cx cy s1 h) rd none t' go =
-      let fe = ip.laid_f.cons r.v.pos x rest ef in
-      let ge = ip.laid_g.cons t.pos y ts eg in
+      let fe = facts.laid_f.cons r.v.pos x rest ef in
+      let ge = facts.laid_g.cons t.pos y ts eg in
       let d = h r.v.core t.core (dynamic_at addition t s m r xs ys ef eg) in
       let t1 : State = record { pos = below t.pos; core = d.1 } in
       let v1 : State = record { pos = below r.v.pos; core = d.0 } in
-      let made = moves_to addition t s m r k' q same t1 v1 (other r.along (debug_station ct f r.v.pos x fe.0 cx) (step_item f r.v x (Falls d.0) fe.0 d.2)) r.home (rw (fe.1, ge.1) s1) (rw (fe.1, ge.1) d.4) in
+      let made = moves_to addition t s m r k' q same t1 v1 (other r.along (debug_station count f r.v.pos x fe.0 cx) (step_item f r.v x (Falls d.0) fe.0 d.2)) r.home (rw (fe.1, ge.1) s1) (rw (fe.1, ge.1) d.4) in
       subst (λ (z : State). Now addition z s m) (went_once g t t1 t' (step_item g t y (Falls d.1) ge.0 d.3) go) made
 
   -- g at a station, aligned at a state of the source, and what holds after it
@@ -131,23 +106,15 @@ module _ (addition : Addition) where
     agrees : Agrees src g t to
     goes : (t' : State) → step g t ≡ Went t' → Now addition t' to (since_of i.waits)
 
-  do_returns : (b : ℕ) (xs ys : List Item) (m : Since) (k : Stage) (x y : Outcome) → Alike b xs ys m k x y → (p q : Pos) (v : List ℕ) → moved g.enter q y ≡ Returned v → moved f.enter p x ≡ Returned v
-  do_returns b xs ys m k (Gives v) (Gives w) e p q z h = ap Returned e ∙ h
-  do_returns b xs ys m k (Falls c) (Falls d) e p q z h = cc
-  do_returns b xs ys m k (Goes i c) (Goes j d) e p q z h = cc
-  do_returns b xs ys m k Traps Traps e p q z h = cc
-  do_returns b xs ys m k Asks Asks e p q z h = cc
-  do_returns b xs ys m k Breaks Breaks e p q z h = cc
-  do_returns b xs ys m k _ _ e p q z h = absurd e
+  -- where g's outcome is a return or a trap, so is f's
+  gives_too : (b : ℕ) (xs ys : List Item) (m : Since) (k : Stage) (x : Outcome) (v : List ℕ) →
+      DoAlike count src sides relation b xs ys m k x (Gives v) → x ≡ Gives v
+  gives_too b xs ys m k (Gives w) v h = ap Gives h
+  gives_too b xs ys m k _ v h = absurd h
 
-  do_faults : (b : ℕ) (xs ys : List Item) (m : Since) (k : Stage) (x y : Outcome) → Alike b xs ys m k x y → (p q : Pos) → moved g.enter q y ≡ Faulted → moved f.enter p x ≡ Faulted
-  do_faults b xs ys m k Traps Traps e p q h = refl
-  do_faults b xs ys m k (Gives v) (Gives w) e p q h = cc
-  do_faults b xs ys m k (Falls c) (Falls d) e p q h = cc
-  do_faults b xs ys m k (Goes i c) (Goes j d) e p q h = cc
-  do_faults b xs ys m k Asks Asks e p q h = cc
-  do_faults b xs ys m k Breaks Breaks e p q h = cc
-  do_faults b xs ys m k _ _ e p q h = absurd e
+  traps_too : (b : ℕ) (xs ys : List Item) (m : Since) (k : Stage) (x : Outcome) → DoAlike count src sides relation b xs ys m k x Traps → x ≡ Traps
+  traps_too b xs ys m k Traps h = refl
+  traps_too b xs ys m k _ h = absurd h
 
   -- where g goes on, only what it shows is owed
   agrees_going : (t t1 s : State) → step g t ≡ Went t1 → ShowsSame s.core t.core → Agrees src g t s
@@ -156,7 +123,7 @@ module _ (addition : Addition) where
   shows_as : (v t s : State) → ShowsSame v.core t.core → Agrees src f v s → ShowsSame s.core t.core
   shows_as v t s sh a = record { events = sh.events ∙ a.events; told = λ x n h. a.told x n (sh.told x n h) }
 
-  owed_after : (st : Standing) (x y : Item) (v : State) (e : Core) (s : State) → Stands st x → since_item ct x ≡ since_item ct y → s.pos ≡ position_of x.origin → do_item f x.kind v.core ≡ Falls e → Agrees src f v s → (w : State) → w.core ≡ e → Owed addition st w (since_item ct x) s (since_item ct y) s
+  owed_after : (st : Standing) (x y : Item) (v : State) (e : Core) (s : State) → Stands addition st x → since_item count x ≡ since_item count y → s.pos ≡ position_of x.origin → do_item f x.kind v.core ≡ Falls e → Agrees src f v s → (w : State) → w.core ≡ e → Owed addition st w (since_item count x) s (since_item count y) s
   owed_after Opening x y v e s st j at fa ag w we = absurd st
   owed_after Level x y v e s st j at fa ag w we = tt
   owed_after (Ahead p) x y v e s st j at fa ag w we = tt
@@ -174,42 +141,42 @@ module _ (addition : Addition) where
       )
 
   -- after code of both
-  goes_on : (t s : State) (m : Since) (r : Now addition t s m) (k' : Stage) (x y : Item) (xs ys : List Item) → rf r.v.pos ≡ x ∷ xs → rg t.pos ≡ y ∷ ys → t.pos.block ≡ g.enter r.v.pos.block → is_code x.kind ≡ true → since_item ct x ≡ since_item ct y → Stands (standing k') x → S k' r.v.pos.block xs ys →
-      (s' : State) → Aligns src O (position_of x.origin) r.mf r.sf s' → Agrees src f r.v s' → (a c : Outcome) → do_item f x.kind r.v.core ≡ a → Alike r.v.pos.block xs ys (since_item ct x) k' a c → (t' : State) → moved g.enter t.pos c ≡ Went t' → Now addition t' s' (since_item ct y)
+  goes_on : (t s : State) (m : Since) (r : Now addition t s m) (k' : Stage) (x y : Item) (xs ys : List Item) → rest_f r.v.pos ≡ x ∷ xs → rest_g t.pos ≡ y ∷ ys → t.pos.block ≡ g.enter r.v.pos.block → is_code x.kind ≡ true → since_item count x ≡ since_item count y → Stands addition (standing k') x → Rests k' r.v.pos.block xs ys →
+      (s' : State) → Aligns src (O addition) (position_of x.origin) r.mf r.sf s' → Agrees src f r.v s' → (a c : Outcome) → do_item f x.kind r.v.core ≡ a → DoAlike count src sides relation r.v.pos.block xs ys (since_item count x) k' a c → (t' : State) → moved g.enter t.pos c ≡ Went t' → Now addition t' s' (since_item count y)
   goes_on t s m r k' x y xs ys ef eg home cx j st s1 s' al ag (Falls e) (Falls e') fa q t' go =
-      let fe = ip.laid_f.cons r.v.pos x xs ef in
-      let ge = ip.laid_g.cons t.pos y ys eg in
+      let fe = facts.laid_f.cons r.v.pos x xs ef in
+      let ge = facts.laid_g.cons t.pos y ys eg in
       let v1 : State = record { pos = below r.v.pos; core = e } in
       let t1 : State = record { pos = below t.pos; core = e' } in
       let is : t1 ≡ t' = cc in
-      let at = aligns_at src O (position_of x.origin) r.mf r.sf s' al in
-      let rs = aligns_reaches src Reach ip.more.on O (position_of x.origin) r.mf r.sf s' r.reach_f al in
-      let made : Now addition t1 s' (since_item ct y) = record {
+      let at = aligns_at src (O addition) (position_of x.origin) r.mf r.sf s' al in
+      let rs = aligns_reaches src Reach facts.more.on (O addition) (position_of x.origin) r.mf r.sf s' r.reach_f al in
+      let made : Now addition t1 s' (since_item count y) = record {
         v = v1;
         sf = s';
-        mf = since_item ct x;
+        mf = since_item count x;
         k = k';
-        along = met (station_of ct x) r.along (code_station ct f r.v.pos x fe.0 cx) al (step_item f r.v x (Falls e) fe.0 fa);
+        along = met (station_of count x) r.along (code_station count f r.v.pos x fe.0 cx) al (step_item f r.v x (Falls e) fe.0 fa);
         home = at_home addition (standing k') t.pos.block r.v.pos.block (stands_begun addition (standing k') x st) home;
         reach = rs;
         reach_f = rs;
         static = rw (fe.1, ge.1) s1;
         dynamic = rw (fe.1, ge.1) q;
-        joins = subst (λ (z : Since). Joins addition (standing k') (since_item ct x) s' z s') j (join_code addition (standing k') x (since_item ct x) s' rs (since_not_start (station_of ct x).waits) refl at st);
+        joins = subst (λ (z : Since). Joins addition (standing k') (since_item count x) s' z s') j (join_code addition (standing k') x (since_item count x) s' rs (since_not_start (station_of count x).waits) refl at st);
         owed = owed_after (standing k') x y r.v e s' st j at fa ag v1 refl;
       } in
-      subst (λ (z : State). Now addition z s' (since_item ct y)) is made
+      subst (λ (z : State). Now addition z s' (since_item count y)) is made
   goes_on t s m r k' x y xs ys ef eg home cx j st s1 s' al ag (Goes n e) (Goes i e') fa q t' go =
-      let fe = ip.laid_f.cons r.v.pos x xs ef in
-      let t1 : State = record { pos = start_g n; core = e' } in
-      let went : Went t1 ≡ Went t' = ap (λ (z : ℕ). Went (record { pos = start_g z; core = e' })) q.0 ∙ go in
+      let fe = facts.laid_f.cons r.v.pos x xs ef in
+      let t1 : State = record { pos = block_start (g.enter n); core = e' } in
+      let went : Went t1 ≡ Went t' = ap (λ (z : ℕ). Went (record { pos = block_start (g.enter z); core = e' })) q.0 ∙ go in
       let is : t1 ≡ t' = cc in
-      let at = aligns_at src O (position_of x.origin) r.mf r.sf s' al in
-      let rs = aligns_reaches src Reach ip.more.on O (position_of x.origin) r.mf r.sf s' r.reach_f al in
-      let go_f : step f r.v ≡ Went (record { pos = block_start n; core = e }) = step_item f r.v x (Goes n e) fe.0 fa ∙ ap (λ (z : ℕ). Went (record { pos = block_start z; core = e })) (ip.enter_f n) in
-      let join = subst (λ (z : Standing). Joins addition z (since_item ct x) s' (since_item ct x) s') q.2 (join_code addition (standing k') x (since_item ct x) s' rs (since_not_start (station_of ct x).waits) refl at st) in
-      let made : Now addition t1 s' (since_item ct y) = in_body addition t1 s' (since_item ct y) r.v n e s' (since_item ct x) go_f refl (met (station_of ct x) r.along (code_station ct f r.v.pos x fe.0 cx) al go_f) rs rs q.3 (subst (λ (z : Since). Joins addition Level (since_item ct x) s' z s') j join) in
-      subst (λ (z : State). Now addition z s' (since_item ct y)) is made
+      let at = aligns_at src (O addition) (position_of x.origin) r.mf r.sf s' al in
+      let rs = aligns_reaches src Reach facts.more.on (O addition) (position_of x.origin) r.mf r.sf s' r.reach_f al in
+      let go_f : step f r.v ≡ Went (record { pos = block_start n; core = e }) = step_item f r.v x (Goes n e) fe.0 fa ∙ ap (λ (z : ℕ). Went (record { pos = block_start z; core = e })) (facts.enter_f n) in
+      let join = subst (λ (z : Standing). Joins addition z (since_item count x) s' (since_item count x) s') q.2 (join_code addition (standing k') x (since_item count x) s' rs (since_not_start (station_of count x).waits) refl at st) in
+      let made : Now addition t1 s' (since_item count y) = in_block addition t1 s' (since_item count y) r.v n e s' (since_item count x) go_f refl (met (station_of count x) r.along (code_station count f r.v.pos x fe.0 cx) al go_f) rs rs q.3 (subst (λ (z : Since). Joins addition Level (since_item count x) s' z s') j join) in
+      subst (λ (z : State). Now addition z s' (since_item count y)) is made
   goes_on t s m r k' x y xs ys ef eg home cx j st s1 s' al ag (Gives v) (Gives w) fa q t' go = cc
   goes_on t s m r k' x y xs ys ef eg home cx j st s1 s' al ag Traps Traps fa q t' go = cc
   goes_on t s m r k' x y xs ys ef eg home cx j st s1 s' al ag Asks Asks fa q t' go = cc
@@ -217,49 +184,55 @@ module _ (addition : Addition) where
   goes_on t s m r k' x y xs ys ef eg home cx j st s1 s' al ag _ _ fa q t' go = absurd q
 
   -- code of both
-  meets_both : (t s : State) (m : Since) (r : Now addition t s m) (k' : Stage) (x y : Item) (xs ys : List Item) → rf r.v.pos ≡ x ∷ xs → rg t.pos ≡ y ∷ ys → MayCome (standing r.k) (position_of x.origin) → is_code x.kind ≡ true → x.origin ≡ y.origin → since_item ct x ≡ since_item ct y → Stands (standing k') x → S k' r.v.pos.block xs ys →
-      Alike r.v.pos.block xs ys (since_item ct x) k' (do_item f x.kind r.v.core) (do_item g y.kind t.core) → Met t s m (station_of ct y) ⊎ FaultAt addition (position_of y.origin) m s
+  meets_both : (t s : State) (m : Since) (r : Now addition t s m) (k' : Stage) (x y : Item) (xs ys : List Item) → rest_f r.v.pos ≡ x ∷ xs → rest_g t.pos ≡ y ∷ ys → MayCome (standing r.k) (position_of x.origin) → is_code x.kind ≡ true → x.origin ≡ y.origin → since_item count x ≡ since_item count y → Stands addition (standing k') x → Rests k' r.v.pos.block xs ys →
+      DoAlike count src sides relation r.v.pos.block xs ys (since_item count x) k' (do_item f x.kind r.v.core) (do_item g y.kind t.core) → Met t s m (station_of count y) ⊎ FaultAt addition (position_of y.origin) m s
   meets_both t s m r k' x y xs ys ef eg may cx o j st s1 al =
       let b = r.v.pos.block in
       let p = position_of x.origin in
-      let fe = ip.laid_f.cons r.v.pos x xs ef in
-      let ge = ip.laid_g.cons t.pos y ys eg in
-      let sx = code_station ct f r.v.pos x fe.0 cx in
-      let op : O p = record { place = r.v.pos; station = station_of ct x; stands = sx; from = refl } in
+      let fe = facts.laid_f.cons r.v.pos x xs ef in
+      let ge = facts.laid_g.cons t.pos y ys eg in
+      let sx = code_station count f r.v.pos x fe.0 cx in
+      let op : O addition p = record { place = r.v.pos; station = station_of count x; stands = sx; from = refl } in
       let a = do_item f x.kind r.v.core in
       let c = do_item g y.kind t.core in
+      let m1 = since_item count x in
       let go_f = step_item f r.v x a fe.0 refl in
       let go = step_item g t y c ge.0 refl in
       let home = home_at addition t s m r (standing r.k) refl (may_begun addition (standing r.k) p may) in
-      elim (follows r.v r.sf r.mf (station_of ct x) r.along sx) as (λ z. Met t s m (station_of ct y) ⊎ FaultAt addition (position_of y.origin) m s) [
+      elim (follows r.v r.sf r.mf (station_of count x) r.along sx) as (λ z. Met t s m (station_of count y) ⊎ FaultAt addition (position_of y.origin) m s) [
         | inl z ↦
             let sh = shows_as r.v t z.0 (shown addition t s m r) z.2 in
             inl (record {
               to = z.0;
               aligns = subst (λ (q : Pos). Aligns src (Stops q) q m s z.0) (ap position_of o) ((r.joins p may op).next z.0 z.1);
-              agrees = record { events = sh.events; told = sh.told; returns = λ rs h. z.2.returns rs (go_f ∙ do_returns b xs ys (since_item ct x) k' a c al r.v.pos t.pos rs (sym go ∙ h)); faults = λ h. z.2.faults (go_f ∙ do_faults b xs ys (since_item ct x) k' a c al r.v.pos t.pos (sym go ∙ h)) };
+              agrees = record {
+                events = sh.events;
+                told = sh.told;
+                returns = λ rs h. z.2.returns rs (both_return f g r.v t a c go_f go (λ v e. gives_too b xs ys m1 k' a v (subst (DoAlike count src sides relation b xs ys m1 k' a) e al)) rs h);
+                faults = λ h. z.2.faults (both_fault f g r.v t a c go_f go (λ e. traps_too b xs ys m1 k' a (subst (DoAlike count src sides relation b xs ys m1 k' a) e al)) h);
+              };
               goes = λ t' h. goes_on t s m r k' x y xs ys ef eg home cx j st s1 z.0 z.1 z.2 a c refl al t' (sym go ∙ h);
             })
         | inr z ↦ inr (subst (λ (q : Pos). FaultAt addition q m s) (ap position_of o) ((r.joins p may op).fails z))
       ]
 
   -- code of g before f's
-  meets_before : (t s : State) (m : Since) (r : Now addition t s m) (k' : Stage) (x y : Item) (xs ys : List Item) → rf r.v.pos ≡ x ∷ xs → rg t.pos ≡ y ∷ ys → MayCome (standing r.k) (position_of x.origin) → is_code x.kind ≡ true → position_of y.origin ≡ position_of x.origin → since_item ct y ≡ Same → standing k' ≡ Ahead (position_of x.origin) → S k' r.v.pos.block (x ∷ xs) ys →
-      Does g y t.core (λ e. Q k' r.v.pos.block (x ∷ xs) ys r.v.core e) ⊎ ((do_item g y.kind t.core ≡ Traps) × (do_item f x.kind r.v.core ≡ Traps)) → Met t s m (station_of ct y) ⊎ FaultAt addition (position_of y.origin) m s
+  meets_before : (t s : State) (m : Since) (r : Now addition t s m) (k' : Stage) (x y : Item) (xs ys : List Item) → rest_f r.v.pos ≡ x ∷ xs → rest_g t.pos ≡ y ∷ ys → MayCome (standing r.k) (position_of x.origin) → is_code x.kind ≡ true → position_of y.origin ≡ position_of x.origin → since_item count y ≡ Same → standing k' ≡ Ahead (position_of x.origin) → Rests k' r.v.pos.block (x ∷ xs) ys →
+      Does g y t.core (λ e. Cores k' r.v.pos.block (x ∷ xs) ys r.v.core e) ⊎ ((do_item g y.kind t.core ≡ Traps) × (do_item f x.kind r.v.core ≡ Traps)) → Met t s m (station_of count y) ⊎ FaultAt addition (position_of y.origin) m s
   meets_before t s m r k' x y xs ys ef eg may cx o j ak s1 does =
       let b = r.v.pos.block in
       let p = position_of x.origin in
-      let fe = ip.laid_f.cons r.v.pos x xs ef in
-      let ge = ip.laid_g.cons t.pos y ys eg in
-      let sx = code_station ct f r.v.pos x fe.0 cx in
-      let op : O p = record { place = r.v.pos; station = station_of ct x; stands = sx; from = refl } in
+      let fe = facts.laid_f.cons r.v.pos x xs ef in
+      let ge = facts.laid_g.cons t.pos y ys eg in
+      let sx = code_station count f r.v.pos x fe.0 cx in
+      let op : O addition p = record { place = r.v.pos; station = station_of count x; stands = sx; from = refl } in
       let home = home_at addition t s m r (standing r.k) refl (may_begun addition (standing r.k) p may) in
-      elim (follows r.v r.sf r.mf (station_of ct x) r.along sx) as (λ z. Met t s m (station_of ct y) ⊎ FaultAt addition (position_of y.origin) m s) [
+      elim (follows r.v r.sf r.mf (station_of count x) r.along sx) as (λ z. Met t s m (station_of count y) ⊎ FaultAt addition (position_of y.origin) m s) [
         | inr z ↦ inr (subst (λ (q : Pos). FaultAt addition q m s) (sym o) ((r.joins p may op).fails z))
         | inl z ↦
             let al = subst (λ (q : Pos). Aligns src (Stops q) q m s z.0) (sym o) ((r.joins p may op).next z.0 z.1) in
             let sh = shows_as r.v t z.0 (shown addition t s m r) z.2 in
-            inl (elim does as (λ _. Met t s m (station_of ct y)) [
+            inl (elim does as (λ _. Met t s m (station_of count y)) [
               | inr tr ↦
                   let go = step_item g t y Traps ge.0 tr.0 in
                   record {
@@ -278,10 +251,10 @@ module _ (addition : Addition) where
                     k = k';
                     along = r.along;
                     home = subst (λ (q : Standing). AtHome addition q t1.pos.block b) (sym ak) home;
-                    reach = aligns_reaches src Reach ip.more.on O p r.mf r.sf z.0 r.reach_f z.1;
+                    reach = aligns_reaches src Reach facts.more.on (O addition) p r.mf r.sf z.0 r.reach_f z.1;
                     reach_f = r.reach_f;
-                    static = rw ge.1 (subst (λ (q : List Item). S k' b q ys) (sym ef) s1);
-                    dynamic = rw ge.1 (subst (λ (q : List Item). Q k' b q ys r.v.core d.0) (sym ef) d.2);
+                    static = rw ge.1 (subst (λ (q : List Item). Rests k' b q ys) (sym ef) s1);
+                    dynamic = rw ge.1 (subst (λ (q : List Item). Cores k' b q ys r.v.core d.0) (sym ef) d.2);
                     joins = subst (λ (q : Standing). Joins addition q r.mf r.sf Same z.0) (sym ak) (join_ahead addition p r.mf r.sf z.0 z.1);
                     owed = subst (λ (q : Standing). Owed addition q r.v r.mf r.sf Same z.0) (sym ak) tt;
                   } in
@@ -289,16 +262,16 @@ module _ (addition : Addition) where
                     to = z.0;
                     aligns = al;
                     agrees = agrees_going t t1 z.0 go sh;
-                    goes = λ t' h. subst (λ (q : State). Now addition q z.0 (since_item ct y)) (went_once g t t1 t' go h) (subst (λ (q : Since). Now addition t1 z.0 q) (sym j) made);
+                    goes = λ t' h. subst (λ (q : State). Now addition q z.0 (since_item count y)) (went_once g t t1 t' go h) (subst (λ (q : Since). Now addition t1 z.0 q) (sym j) made);
                   }
             ])
       ]
 
   -- code of g at the start
-  meets_opening : (t s : State) (m : Since) (r : Now addition t s m) (k' : Stage) (y : Item) (xs ys : List Item) → standing r.k ≡ Opening → rf r.v.pos ≡ xs → rg t.pos ≡ y ∷ ys → position_of y.origin ≡ s0.pos → since_item ct y ≡ Same → Opens (standing k') → S k' r.v.pos.block xs ys → Does g y t.core (λ e. Q k' r.v.pos.block xs ys r.v.core e) → Met t s m (station_of ct y)
+  meets_opening : (t s : State) (m : Since) (r : Now addition t s m) (k' : Stage) (y : Item) (xs ys : List Item) → standing r.k ≡ Opening → rest_f r.v.pos ≡ xs → rest_g t.pos ≡ y ∷ ys → position_of y.origin ≡ s0.pos → since_item count y ≡ Same → MayOpen count src sides relation (standing k') → Rests k' r.v.pos.block xs ys → Does g y t.core (λ e. Cores k' r.v.pos.block xs ys r.v.core e) → Met t s m (station_of count y)
   meets_opening t s m r k' y xs ys op ef eg o j may s1 d =
       let b = r.v.pos.block in
-      let ge = ip.laid_g.cons t.pos y ys eg in
+      let ge = facts.laid_g.cons t.pos y ys eg in
       let go = step_item g t y (Falls d.0) ge.0 d.1 in
       let ow = subst (λ (z : Standing). Owed addition z r.v r.mf r.sf m s) op r.owed in
       let home : t.pos.block ≡ g0.pos.block = subst (λ (z : Standing). AtHome addition z t.pos.block b) op r.home in
@@ -319,8 +292,8 @@ module _ (addition : Addition) where
         home = home_open (standing k') t.pos.block b may home (ap (λ (z : State). z.pos.block) ow.0);
         reach = r0;
         reach_f = r.reach_f;
-        static = rw ge.1 (subst (λ (z : List Item). S k' b z ys) (sym ef) s1);
-        dynamic = rw ge.1 (subst (λ (z : List Item). Q k' b z ys r.v.core d.0) (sym ef) d.2);
+        static = rw ge.1 (subst (λ (z : List Item). Rests k' b z ys) (sym ef) s1);
+        dynamic = rw ge.1 (subst (λ (z : List Item). Cores k' b z ys r.v.core d.0) (sym ef) d.2);
         joins = subst (λ (z : Since). Joins addition (standing k') z r.sf Same s0) (sym ow.1) (subst (λ (z : State). Joins addition (standing k') Start z Same s0) (sym ow.2) (join_open (standing k') may r0));
         owed = owed_open (standing k') may r.v r.mf r.sf ow.0 ow.1 ow.2;
       } in
@@ -328,37 +301,37 @@ module _ (addition : Addition) where
         to = s0;
         aligns = subst (λ (z : State). Aligns src (Stops p) p m z s0) (sym ow.3) al;
         agrees = agrees_going t t1 s0 go (subst (λ (z : State). ShowsSame z.core t.core) ow.0 (shown addition t s m r));
-        goes = λ t' h. subst (λ (z : State). Now addition z s0 (since_item ct y)) (went_once g t t1 t' go h) (subst (λ (z : Since). Now addition t1 s0 z) (sym j) made);
+        goes = λ t' h. subst (λ (z : State). Now addition z s0 (since_item count y)) (went_once g t t1 t' go h) (subst (λ (z : Since). Now addition t1 s0 z) (sym j) made);
       } where
-        home_open : (st : Standing) (a b : ℕ) → Opens st → a ≡ g0.pos.block → b ≡ s0.pos.block → AtHome addition st a b
+        home_open : (st : Standing) (a b : ℕ) → MayOpen count src sides relation st → a ≡ g0.pos.block → b ≡ s0.pos.block → AtHome addition st a b
         home_open Opening a b may h k = h
         home_open Level a b may h k = h ∙ may ∙ ap g.enter (sym k)
         home_open (Ahead p) a b may h k = absurd may
         home_open (Owing p) a b may h k = absurd may
 
-        join_open : (st : Standing) → Opens st → Reach s0.pos → Joins addition st Start s0 Same s0
+        join_open : (st : Standing) → MayOpen count src sides relation st → Reach s0.pos → Joins addition st Start s0 Same s0
         join_open Opening may r0 = λ p n o. absurd n
         join_open Level may r0 = join_opened addition r0
         join_open (Ahead p) may r0 = absurd may
         join_open (Owing p) may r0 = absurd may
 
-        owed_open : (st : Standing) → Opens st → (v : State) (mf : Since) (sf : State) → v ≡ s0 → mf ≡ Start → sf ≡ s0 → Owed addition st v mf sf Same s0
+        owed_open : (st : Standing) → MayOpen count src sides relation st → (v : State) (mf : Since) (sf : State) → v ≡ s0 → mf ≡ Start → sf ≡ s0 → Owed addition st v mf sf Same s0
         owed_open Opening may v mf sf a b c = (a, b, c, refl, inr refl)
         owed_open Level may v mf sf a b c = tt
         owed_open (Ahead p) may v mf sf a b c = absurd may
         owed_open (Owing p) may v mf sf a b c = absurd may
 
   -- code of g that was owed
-  meets_behind : (t s : State) (m : Since) (r : Now addition t s m) (k' : Stage) (p : Pos) (y : Item) (xs ys : List Item) → standing r.k ≡ Owing p → rf r.v.pos ≡ xs → rg t.pos ≡ y ∷ ys → position_of y.origin ≡ below p → since_item ct y ≡ Same → standing k' ≡ Level → S k' r.v.pos.block xs ys → Does g y t.core (λ e. Q k' r.v.pos.block xs ys r.v.core e) → Met t s m (station_of ct y) ⊎ FaultAt addition (position_of y.origin) m s
+  meets_behind : (t s : State) (m : Since) (r : Now addition t s m) (k' : Stage) (p : Pos) (y : Item) (xs ys : List Item) → standing r.k ≡ Owing p → rest_f r.v.pos ≡ xs → rest_g t.pos ≡ y ∷ ys → position_of y.origin ≡ below p → since_item count y ≡ Same → standing k' ≡ Level → Rests k' r.v.pos.block xs ys → Does g y t.core (λ e. Cores k' r.v.pos.block xs ys r.v.core e) → Met t s m (station_of count y) ⊎ FaultAt addition (position_of y.origin) m s
   meets_behind t s m r k' p y xs ys ak ef eg o j af s1 d =
       let b = r.v.pos.block in
-      let ge = ip.laid_g.cons t.pos y ys eg in
+      let ge = facts.laid_g.cons t.pos y ys eg in
       let go = step_item g t y (Falls d.0) ge.0 d.1 in
       let t1 : State = record { pos = below t.pos; core = d.0 } in
       let ow = subst (λ (z : Standing). Owed addition z r.v r.mf r.sf m s) ak r.owed in
       let home = home_at addition t s m r (Owing p) ak tt in
       let sh = shown addition t s m r in
-      elim (ow.4 s ow.0) as (λ z. Met t s m (station_of ct y) ⊎ FaultAt addition (position_of y.origin) m s) [
+      elim (ow.4 s ow.0) as (λ z. Met t s m (station_of count y) ⊎ FaultAt addition (position_of y.origin) m s) [
         | inr z ↦ inr (subst (λ (n : Since). FaultAt addition (position_of y.origin) n s) (sym ow.3) (inl z))
         | inl u ↦
             let go_s : step src r.sf ≡ Went u.0 = ap (step src) ow.1 ∙ u.1 in
@@ -369,10 +342,10 @@ module _ (addition : Addition) where
               k = k';
               along = r.along;
               home = subst (λ (w : Standing). AtHome addition w t1.pos.block b) (sym af) home;
-              reach = ip.more.on s u.0 r.reach u.1;
+              reach = facts.more.on s u.0 r.reach u.1;
               reach_f = r.reach_f;
-              static = rw ge.1 (subst (λ (q : List Item). S k' b q ys) (sym ef) s1);
-              dynamic = rw ge.1 (subst (λ (q : List Item). Q k' b q ys r.v.core d.0) (sym ef) d.2);
+              static = rw ge.1 (subst (λ (q : List Item). Rests k' b q ys) (sym ef) s1);
+              dynamic = rw ge.1 (subst (λ (q : List Item). Cores k' b q ys r.v.core d.0) (sym ef) d.2);
               joins = subst (λ (w : Standing). Joins addition w r.mf r.sf Same u.0) (sym af) (subst (λ (k : Since). Joins addition Level k r.sf Same u.0) (sym ow.2) (join_behind addition r.sf u.0 r.reach_f go_s));
               owed = subst (λ (w : Standing). Owed addition w r.v r.mf r.sf Same u.0) (sym af) tt;
             } in
@@ -380,31 +353,31 @@ module _ (addition : Addition) where
               to = u.0;
               aligns = subst (λ (k : Since). Aligns src (Stops (position_of y.origin)) (position_of y.origin) k s u.0) (sym ow.3) (u.0, u.1, here (u.2 ∙ sym o));
               agrees = agrees_going t t1 u.0 go (record { events = sh.events ∙ ow.5.events ∙ sym u.3; told = λ v n a. subst (λ (l : List (VarId × Option ℕ)). assigned v l ≡ Some n) (sym u.4) (ow.5.told v n (sh.told v n a)) });
-              goes = λ t' h. subst (λ (z : State). Now addition z u.0 (since_item ct y)) (went_once g t t1 t' go h) (subst (λ (z : Since). Now addition t1 u.0 z) (sym j) made);
+              goes = λ t' h. subst (λ (z : State). Now addition z u.0 (since_item count y)) (went_once g t t1 t' go h) (subst (λ (z : Since). Now addition t1 u.0 z) (sym j) made);
             })
       ]
 
   -- a block's end that is a station
-  meets_end : (t s : State) (m : Since) (r : Now addition t s m) → standing r.k ≡ Level → rf r.v.pos ≡ [] → rg t.pos ≡ [] → (i : Station) → IsStationOf ct g t.pos i → Met t s m i ⊎ FaultAt addition i.pos m s
-  meets_end t s m r lv ef eg i (of_item x fx cx ix) = absurd (not_past_items (g.fetch t.pos) x (ip.laid_g.nil t.pos eg).0 fx)
+  meets_end : (t s : State) (m : Since) (r : Now addition t s m) → standing r.k ≡ Level → rest_f r.v.pos ≡ [] → rest_g t.pos ≡ [] → (i : Station) → IsStationOf count g t.pos i → Met t s m i ⊎ FaultAt addition i.pos m s
+  meets_end t s m r lv ef eg i (of_item x fx cx ix) = absurd (not_past_items (g.fetch t.pos) x (facts.laid_g.nil t.pos eg).0 fx)
   meets_end t s m r lv ef eg i (of_end k n fe ce ie) =
       let b = r.v.pos.block in
       let home = home_at addition t s m r Level lv tt in
-      let ff = ip.onward r.v.pos t.pos k n home ef eg fe in
+      let ff = facts.onward r.v.pos t.pos k n home ef eg fe in
       let p : Pos = record { block = b; item = k } in
       let end : Station = record { pos = p; waits = false } in
-      let is : end ≡ i = sym (ie ∙ ap (λ (z : ℕ). record { pos = record { block = z; item = k }; waits = false }) (home ∙ ip.same_blocks ce b)) in
-      let se : fs r.v.pos ≡ Some end = end_is_station ct f r.v.pos k n ff ∙ ap (λ (z : Count). end_station z p) ce in
-      let op : O p = record { place = r.v.pos; station = end; stands = se; from = refl } in
-      let t1 : State = record { pos = start_g n; core = t.core } in
+      let is : end ≡ i = sym (ie ∙ ap (λ (z : ℕ). record { pos = record { block = z; item = k }; waits = false }) (home ∙ facts.same_blocks ce b)) in
+      let se : fs addition r.v.pos ≡ Some end = end_is_station count f r.v.pos k n ff ∙ ap (λ (z : Count). end_station z p) ce in
+      let op : O addition p = record { place = r.v.pos; station = end; stands = se; from = refl } in
+      let t1 : State = record { pos = block_start (g.enter n); core = t.core } in
       let go = step_end g t k n fe in
       elim (follows r.v r.sf r.mf end r.along se) as (λ z. Met t s m i ⊎ FaultAt addition i.pos m s) [
         | inr z ↦ inr (subst (λ (q : Station). FaultAt addition q.pos m s) is ((r.joins p (subst (λ (q : Standing). MayCome q p) (sym lv) tt) op).fails z))
         | inl z ↦
-            let rs = aligns_reaches src Reach ip.more.on O p r.mf r.sf z.0 r.reach_f z.1 in
-            let at = aligns_at src O p r.mf r.sf z.0 z.1 in
-            let made : Now addition t1 z.0 After = in_body addition t1 z.0 After r.v n r.v.core z.0 After (end_f r.v k n ff) refl (met end r.along se z.1 (end_f r.v k n ff)) rs rs (ip.ends r.k r.v.pos k n r.v.core t.core lv ef ff (static_at addition t s m r [] [] ef eg) (dynamic_at addition t s m r [] [] ef eg))
-            (join_after addition z.0 rs (λ u go2 h. ip.end_stands r.v.pos k n ce ff z.0 u at go2 h) After (λ e. cc)) in
+            let rs = aligns_reaches src Reach facts.more.on (O addition) p r.mf r.sf z.0 r.reach_f z.1 in
+            let at = aligns_at src (O addition) p r.mf r.sf z.0 z.1 in
+            let made : Now addition t1 z.0 After = in_block addition t1 z.0 After r.v n r.v.core z.0 After (end_f r.v k n ff) refl (met end r.along se z.1 (end_f r.v k n ff)) rs rs (facts.ends r.k r.v.pos k n r.v.core t.core lv ef ff (static_at addition t s m r [] [] ef eg) (dynamic_at addition t s m r [] [] ef eg))
+            (join_after addition z.0 rs (λ u go2 h. facts.end_stands r.v.pos k n ce ff z.0 u at go2 h) After (λ e. cc)) in
             inl (subst (Met t s m) is (record {
               to = z.0;
               aligns = (r.joins p (subst (λ (q : Standing). MayCome q p) (sym lv) tt) op).next z.0 z.1;
@@ -413,83 +386,79 @@ module _ (addition : Addition) where
             }))
       ]
 
-  meets_at_view : (t s : State) (m : Since) (r : Now addition t s m) (xs ys : List Item) → rf r.v.pos ≡ xs → rg t.pos ≡ ys → (w : Seen r.v.pos.block r.k xs ys) → IsReady addition w → (i : Station) → gs t.pos ≡ Some i → Met t s m i ⊎ FaultAt addition i.pos m s
-  meets_at_view t s m r xs ys ef eg (ended lv) rd i e = meets_end t s m r lv ef eg i (station_is_of ct g t.pos i e)
+  meets_at_view : (t s : State) (m : Since) (r : Now addition t s m) (xs ys : List Item) → rest_f r.v.pos ≡ xs → rest_g t.pos ≡ ys → (w : Seen addition r.v.pos.block r.k xs ys) → IsReady addition w → (i : Station) → gs addition t.pos ≡ Some i → Met t s m i ⊎ FaultAt addition i.pos m s
+  meets_at_view t s m r xs ys ef eg (ended lv) rd i e = meets_end t s m r lv ef eg i (station_is_of count g t.pos i e)
   meets_at_view t s m r xs ys ef eg (passed q same c s1 h) rd i e = absurd rd
-  meets_at_view t s m r xs ys ef eg (added {y = y} {ys = ts} q same cy s1 h) rd i e = absurd (debug_is_none ct g t.pos y i e (ip.laid_g.cons t.pos y ts eg).0 cy)
-  meets_at_view t s m r xs ys ef eg (paired {x = x} {y = y} {xs = rest} {ys = ts} q same cx cy s1 h) rd i e = absurd (debug_is_none ct g t.pos y i e (ip.laid_g.cons t.pos y ts eg).0 cy)
-  meets_at_view t s m r xs ys ef eg (entering op ne st q free into) rd i e = absurd (by_station (station_is_of ct g t.pos i e)) where
-    by_station : IsStationOf ct g t.pos i → ⊥
-    by_station (of_item x fx cx ix) = not_past_items (g.fetch t.pos) x (ip.laid_g.nil t.pos eg).0 fx
+  meets_at_view t s m r xs ys ef eg (added {y = y} {ys = ts} q same cy s1 h) rd i e = absurd (debug_is_none count g t.pos y i e (facts.laid_g.cons t.pos y ts eg).0 cy)
+  meets_at_view t s m r xs ys ef eg (paired {x = x} {y = y} {xs = rest} {ys = ts} q same cx cy s1 h) rd i e = absurd (debug_is_none count g t.pos y i e (facts.laid_g.cons t.pos y ts eg).0 cy)
+  meets_at_view t s m r xs ys ef eg (entering op ne lv st q free into) rd i e = absurd (by_station (station_is_of count g t.pos i e)) where
+    by_station : IsStationOf count g t.pos i → ⊥
+    by_station (of_item x fx cx ix) = not_past_items (g.fetch t.pos) x (facts.laid_g.nil t.pos eg).0 fx
     by_station (of_end k n fe ce ie) = ne ce
   meets_at_view t s m r xs ys ef eg (opening {k' = k'} {y = y} {ys = ts} op cy o j may s1 h) rd i e =
-      subst (λ (z : Station). Met t s m z ⊎ FaultAt addition z.pos m s) (code_is ct g t.pos y i e (ip.laid_g.cons t.pos y ts eg).0 cy)
+      subst (λ (z : Station). Met t s m z ⊎ FaultAt addition z.pos m s) (code_is count g t.pos y i e (facts.laid_g.cons t.pos y ts eg).0 cy)
       (inl (meets_opening t s m r k' y xs ts op ef eg o j may s1 (h r.v.core t.core (dynamic_at addition t s m r xs ys ef eg))))
   meets_at_view t s m r xs ys ef eg (before {k' = k'} {x = x} {y = y} {xs = rest} {ys = ts} may cx cy o j ak s1 h) rd i e =
-      subst (λ (z : Station). Met t s m z ⊎ FaultAt addition z.pos m s) (code_is ct g t.pos y i e (ip.laid_g.cons t.pos y ts eg).0 cy)
+      subst (λ (z : Station). Met t s m z ⊎ FaultAt addition z.pos m s) (code_is count g t.pos y i e (facts.laid_g.cons t.pos y ts eg).0 cy)
       (meets_before t s m r k' x y rest ts ef eg may cx o j ak s1 (h r.v.core t.core (dynamic_at addition t s m r xs ys ef eg)))
   meets_at_view t s m r xs ys ef eg (behind {k' = k'} {p = p} {y = y} {ys = ts} ak cy o j af s1 h) rd i e =
-      subst (λ (z : Station). Met t s m z ⊎ FaultAt addition z.pos m s) (code_is ct g t.pos y i e (ip.laid_g.cons t.pos y ts eg).0 cy)
+      subst (λ (z : Station). Met t s m z ⊎ FaultAt addition z.pos m s) (code_is count g t.pos y i e (facts.laid_g.cons t.pos y ts eg).0 cy)
       (meets_behind t s m r k' p y xs ts ak ef eg o j af s1 (h r.v.core t.core (dynamic_at addition t s m r xs ys ef eg)))
   meets_at_view t s m r xs ys ef eg (both {k' = k'} {x = x} {y = y} {xs = rest} {ys = ts} may cx cy o j st s1 h) rd i e =
-      subst (λ (z : Station). Met t s m z ⊎ FaultAt addition z.pos m s) (code_is ct g t.pos y i e (ip.laid_g.cons t.pos y ts eg).0 cy)
+      subst (λ (z : Station). Met t s m z ⊎ FaultAt addition z.pos m s) (code_is count g t.pos y i e (facts.laid_g.cons t.pos y ts eg).0 cy)
       (meets_both t s m r k' x y rest ts ef eg may cx o j st s1 (h r.v.core t.core (dynamic_at addition t s m r xs ys ef eg)))
 
-  meets : (t s : State) (m : Since) → Now addition t s m → (i : Station) → gs t.pos ≡ Some i → Met t s m i ⊎ FaultAt addition i.pos m s
+  meets : (t s : State) (m : Since) → Now addition t s m → (i : Station) → gs addition t.pos ≡ Some i → Met t s m i ⊎ FaultAt addition i.pos m s
   meets t s m r i e = let c = ready addition t s m r in meets_at_view t s m c.at c.xs c.ys c.is_f c.is_g c.view c.ready i e
 
-  now : {t s : State} {m : Since} → Now addition g0 s0 Start → Along src g gs Stops s0 g0 t s m → Now addition t s m
+  now : {t s : State} {m : Since} → Now addition g0 s0 Start → Along src g (gs addition) Stops s0 g0 t s m → Now addition t s m
   now start begin = start
   now start (other {t = t} {s = s} {t' = t'} {m = m} a none go) =
       let c = ready addition t s m (now start a) in between_at t s m c.at c.xs c.ys c.is_f c.is_g c.view c.ready none t' go
   now start (met {t = t} {s = s} {s' = s'} {t' = t'} {m = m} i a e al go) =
-      let o : IsOrigin gs i.pos = record { place = t.pos; station = i; stands = e; from = refl } in
-      let own = ip.more.own i.pos o in
+      let o : IsOrigin (gs addition) i.pos = record { place = t.pos; station = i; stands = e; from = refl } in
+      let own = facts.more.own i.pos o in
       elim (meets t s m (now start a) i e) as (λ y. Now addition t' s' (since_of i.waits)) [
         | inl y ↦ subst (λ (z : State). Now addition t' z (since_of i.waits)) (aligns_once src (Stops i.pos) i.pos own m s y.to s' y.aligns al) (y.goes t' go)
         | inr y ↦ absurd (aligns_not_fails src (Stops i.pos) i.pos own m s s' al y)
       ]
 
-  runs_along : Now addition g0 s0 Start → RunsAlong src g gs Stops s0 g0
+  runs_along : Now addition g0 s0 Start → RunsAlong src g (gs addition) Stops s0 g0
   runs_along start t s m i a e =
       elim (meets t s m (now start a) i e) as (λ y. ((s' : State) × Aligns src (Stops i.pos) i.pos m s s' × Agrees src g t s') ⊎ FaultAt addition i.pos m s) [
         | inl y ↦ inl (y.to, y.aligns, y.agrees)
         | inr y ↦ inr y
       ]
 
-  start_now : Reach s0.pos → Begins ct src f g s0 g0 rf rg Stops X Reach Stage standing body S Q → Now addition g0 s0 Start
-  start_now r (opens k op st q) = record {
+  start_at : (k : Stage) → AtHome addition (standing k) g0.pos.block s0.pos.block → Reach s0.pos →
+      Rests k s0.pos.block (rest_f s0.pos) (rest_g g0.pos) → Cores k s0.pos.block (rest_f s0.pos) (rest_g g0.pos) s0.core g0.core →
+      Joins addition (standing k) Start s0 Start s0 → Owed addition (standing k) s0 Start s0 Start s0 → Now addition g0 s0 Start
+  start_at k home reach st q joins owed = record {
     v = s0;
     sf = s0;
     mf = Start;
     k = k;
     along = begin;
-    home = subst (λ (z : Standing). AtHome addition z g0.pos.block s0.pos.block) (sym op) refl;
-    reach = r;
-    reach_f = r;
+    home = home;
+    reach = reach;
+    reach_f = reach;
     static = st;
     dynamic = q;
-    joins = subst (λ (z : Standing). Joins addition z Start s0 Start s0) (sym op) (λ p n o. absurd n);
-    owed = subst (λ (z : Standing). Owed addition z s0 Start s0 Start s0) (sym op) (refl, refl, refl, refl, inl refl);
-  }
-  start_now r (level k lv home st q free) = record {
-    v = s0;
-    sf = s0;
-    mf = Start;
-    k = k;
-    along = begin;
-    home = subst (λ (z : Standing). AtHome addition z g0.pos.block s0.pos.block) (sym lv) home;
-    reach = r;
-    reach_f = r;
-    static = st;
-    dynamic = q;
-    joins = subst (λ (z : Standing). Joins addition z Start s0 Start s0) (sym lv) (join_free addition free r);
-    owed = subst (λ (z : Standing). Owed addition z s0 Start s0 Start s0) (sym lv) tt;
+    joins = joins;
+    owed = owed;
   }
 
-  pub added_runs_along : Reach s0.pos → Begins ct src f g s0 g0 rf rg Stops X Reach Stage standing body S Q → RunsAlong src g gs Stops s0 g0
-  added_runs_along r b = runs_along (start_now r b)
+  start_now : Reach s0.pos → Begins count src sides relation → Now addition g0 s0 Start
+  start_now reach (opens k op st q) =
+      start_at k (subst (λ (z : Standing). AtHome addition z g0.pos.block s0.pos.block) (sym op) refl) reach st q
+      (subst (λ (z : Standing). Joins addition z Start s0 Start s0) (sym op) (λ p n o. absurd n))
+      (subst (λ (z : Standing). Owed addition z s0 Start s0 Start s0) (sym op) (refl, refl, refl, refl, inl refl))
+  start_now reach (level k lv home st q free) =
+      start_at k (subst (λ (z : Standing). AtHome addition z g0.pos.block s0.pos.block) (sym lv) home) reach st q
+      (subst (λ (z : Standing). Joins addition z Start s0 Start s0) (sym lv) (join_free addition free reach))
+      (subst (λ (z : Standing). Owed addition z s0 Start s0 Start s0) (sym lv) tt)
 
-pub added_follows : (Stops : Pos → Pos → Type 0) (X Reach : Pos → Type 0) (Stage : Type 0) (standing : Stage → Standing) (body : Stage) (S : Stage → ℕ → List Item → List Item → Type 0) (Q : Stage → ℕ → List Item → List Item → Core → Core → Type 0) → AddedFollows Stops X Reach Stage standing body S Q
-added_follows Stops X Reach Stage standing body S Q ct src f g s0 g0 rf rg ip r b follows =
-    added_runs_along (record { ct = ct; src = src; f = f; g = g; s0 = s0; g0 = g0; rf = rf; rg = rg; Stops = Stops; X = X; Reach = Reach; Stage = Stage; standing = standing; body = body; S = S; Q = Q; ip = ip; follows = follows }) r b
+pub added_follows : (relation : AddedRelation) → AddedFollows relation
+added_follows relation count src sides facts reach b follows =
+    let addition : Addition = record { count = count; src = src; sides = sides; relation = relation; facts = facts; follows = follows } in
+    runs_along addition (start_now addition reach b)

@@ -17,8 +17,9 @@ use Rattle.mir_meaning.specs.Step.{Outcome, Falls, Goes, Gives, Traps, Asks, Bre
 use Rattle.mir_func.specs.Graph.{Program, Fetch, Here, Silent, Outside}
 use Rattle.mir_meaning.specs.Align.{position_of, Count, Since}
 use Rattle.mir_meaning.specs.Follow.{class_of, Return, MayAdd, ItemHasClass, HasClass, KindFits, MarkFits, rank, next_rank, InOrder, IsStart, OnRow}
+use Rattle.simulation.specs.Sides.{since_item}
 use Rattle.simulation.specs.Refinement.{FaultsAt}
-use Rattle.simulation.specs.InPlace.{since_item, ShowsNoMore, IsNoReturn, IsIdleAt}
+use Rattle.simulation.specs.InPlace.{ShowsNoMore, IsNoReturn, IsIdleAt}
 use Rattle.simulation.proofs.Order.{rank_next, same_pos}
 use Rattle.simulation.proofs.Written.{HasPhysicalResults, returns_never_fault}
 

@@ -3,11 +3,11 @@ use Rattle.std.proofs.Common.{◌≡◌, ℕ, zero, suc, ◌≤◌, List, ◌∷
 use Rattle.mir_func.specs.declared.position.Pos.{Pos}
 use Rattle.mir_func.specs.declared.item.Item.{Item}
 use Rattle.mir_meaning.specs.State.{State, Core}
-use Rattle.mir_meaning.specs.Step.{Went, Outcome, Falls, do_item, step}
+use Rattle.mir_meaning.specs.Step.{Went, Falls, do_item, step}
 use Rattle.mir_func.specs.Graph.{Program, below, block_start}
 use Rattle.mir_meaning.specs.Align.{position_of, is_code, Station, Count, station_at, IsOrigin, Since, Start, Same, After, Aligns, AnyOrigin, Along, other, FailsBefore, RunsAlong}
-use Rattle.simulation.specs.InPlace.{since_item, ShowsSame}
-use Rattle.simulation.specs.Added.{Standing, Opening, Level, Ahead, Owing, MayCome, IsPlain, MayStand, DoAlike, IsQuiet, MayOpen, View, ended, both, before, opening, entering, behind, passed, added, paired, Adds}
+use Rattle.simulation.specs.Sides.{Sides, since_item, ShowsSame}
+use Rattle.simulation.specs.Added.{Standing, Opening, Level, Ahead, Owing, MayCome, IsPlain, MayStand, IsQuiet, View, ended, both, before, opening, entering, behind, passed, added, paired, Adds, AddedRelation, IsFree}
 use Rattle.mir_meaning.proofs.Alignment.{aligns_at, aligns_once, aligns_not_fails}
 use Rattle.mir_meaning.proofs.Edges.{step_edge}
 use Rattle.mir_meaning.proofs.Outcomes.{step_item}
@@ -16,53 +16,34 @@ use Rattle.simulation.proofs.Stops.{later_more, fails_later_more, arrives_free, 
 
 -- an addition of code to what follows
 pub record Addition : Type 1 where
-  pub ct : Count
+  pub count : Count
   pub src : Program
-  pub f : Program
-  pub g : Program
-  pub s0 : State
-  pub g0 : State
-  pub rf : Pos → List Item
-  pub rg : Pos → List Item
-  pub Stops : Pos → Pos → Type 0
-  pub X : Pos → Type 0
-  pub Reach : Pos → Type 0
-  pub Stage : Type 0
-  pub standing : Stage → Standing
-  pub body : Stage
-  pub S : Stage → ℕ → List Item → List Item → Type 0
-  pub Q : Stage → ℕ → List Item → List Item → Core → Core → Type 0
-  pub ip : Adds ct src f g s0 g0 rf rg Stops X Reach Stage standing body S Q
-  pub follows : RunsAlong src f (station_at ct f) (AnyOrigin (station_at ct f)) s0 s0
+  pub sides : Sides
+  pub relation : AddedRelation
+  pub facts : Adds count src sides relation
+  pub follows : RunsAlong src sides.old.program (station_at count sides.old.program) (AnyOrigin (station_at count sides.old.program)) sides.old.start sides.old.start
 
 module _ (addition : Addition) where
-  open addition use {ct, src, f, g, s0, g0, rf, rg, Stops, X, Reach, Stage, standing, body, S, Q, ip, follows}
+  open addition use {count, src, sides, relation, facts, follows}
+  open sides use {old.{program as f, rest as rest_f, start as s0}, new.{program as g, rest as rest_g, start as g0}}
+  open relation use {relation.{Stage, entry, Rests, Cores}, standing, Stops, Extra, Reach}
 
-  abbrev fs : Pos → Option Station
-  fs p = station_at ct f p
+  abbrev pub fs : Pos → Option Station
+  fs p = station_at count f p
 
-  abbrev gs : Pos → Option Station
-  gs p = station_at ct g p
+  abbrev pub gs : Pos → Option Station
+  gs p = station_at count g p
 
-  abbrev O : Pos → Type 0
+  abbrev pub O : Pos → Type 0
   O p = IsOrigin fs p
 
-  abbrev start_g : ℕ → Pos
-  start_g n = block_start (g.enter n)
+  abbrev pub Seen : ℕ → Stage → List Item → List Item → Type 0
+  Seen b k xs ys = View count src sides relation b k xs ys
 
-  abbrev Alike : ℕ → List Item → List Item → Since → Stage → Outcome → Outcome → Type 0
-  Alike b xs ys m k x y = DoAlike ct src f g s0 g0 rf rg Stops X Reach Stage standing body S Q b xs ys m k x y
+  abbrev pub Stands : Standing → Item → Type 0
+  Stands st x = MayStand count src sides relation st x
 
-  abbrev Seen : ℕ → Stage → List Item → List Item → Type 0
-  Seen b k xs ys = View ct src f g s0 g0 rf rg Stops X Reach Stage standing body S Q b k xs ys
-
-  abbrev Stands : Standing → Item → Type 0
-  Stands st x = MayStand ct src f g s0 g0 rf rg Stops X Reach Stage standing body S Q st x
-
-  abbrev Opens : Standing → Type 0
-  Opens st = MayOpen ct src f g s0 g0 rf rg Stops X Reach Stage standing body S Q st
-
-  abbrev AlongF : State → State → Since → Type 0
+  abbrev pub AlongF : State → State → Since → Type 0
   AlongF v s m = Along src f fs (AnyOrigin fs) s0 s0 v s m
 
   -- what comes next for f, aligned at sf, comes next for g, aligned at s; and so do faults
@@ -74,15 +55,15 @@ module _ (addition : Addition) where
   Joins st mf sf m s = (p : Pos) → MayCome st p → O p → JoinsAt p mf sf m s
 
   -- after code that both have
-  pub join_after : (s : State) → Reach s.pos → ((u : State) → step src s ≡ Went u → X u.pos → O u.pos) → (m : Since) → (m ≡ Start → ⊥) → Joins Level m s m s
+  pub join_after : (s : State) → Reach s.pos → ((u : State) → step src s ≡ Went u → Extra u.pos → O u.pos) → (m : Since) → (m ≡ Start → ⊥) → Joins Level m s m s
   join_after s r clear Start ns p may op = absurd (ns refl)
   join_after s r clear Same ns p may op = record {
-    next = λ x a. elim a as (λ _. Aligns src (Stops p) p Same s x) [ inl e ↦ inl e | inr e ↦ inr (e.0, later_more src fs gs Stops X Reach s0.pos ip.more p op s x r clear e.1) ];
-    fails = λ z. (z.0, fails_later_more src fs gs Stops X Reach s0.pos ip.more p op s r clear z.1);
+    next = λ x a. elim a as (λ _. Aligns src (Stops p) p Same s x) [ inl e ↦ inl e | inr e ↦ inr (e.0, later_more src fs gs Stops Extra Reach s0.pos facts.more p op s x r clear e.1) ];
+    fails = λ z. (z.0, fails_later_more src fs gs Stops Extra Reach s0.pos facts.more p op s r clear z.1);
   }
-  join_after s r clear After ns p may op = record { next = λ x a. later_more src fs gs Stops X Reach s0.pos ip.more p op s x r clear a; fails = λ z. fails_later_more src fs gs Stops X Reach s0.pos ip.more p op s r clear z }
+  join_after s r clear After ns p may op = record { next = λ x a. later_more src fs gs Stops Extra Reach s0.pos facts.more p op s x r clear a; fails = λ z. fails_later_more src fs gs Stops Extra Reach s0.pos facts.more p op s r clear z }
 
-  pub join_code : (st : Standing) (x : Item) (m : Since) (s : State) → Reach s.pos → (m ≡ Start → ⊥) → since_item ct x ≡ m → s.pos ≡ position_of x.origin → Stands st x → Joins st m s m s
+  pub join_code : (st : Standing) (x : Item) (m : Since) (s : State) → Reach s.pos → (m ≡ Start → ⊥) → since_item count x ≡ m → s.pos ≡ position_of x.origin → Stands st x → Joins st m s m s
   join_code Opening x m s r ns im at st p may op = absurd may
   join_code Level x m s r ns im at st p may op = join_after s r (λ u go h. st s u at go h) m ns p may op
   join_code (Ahead q) x Start s r ns im at st p may op = absurd (ns refl)
@@ -104,17 +85,13 @@ module _ (addition : Addition) where
 
   -- where g has stored what was owed
   pub join_behind : (sf s : State) → Reach sf.pos → step src sf ≡ Went s → Joins Level After sf Same s
-  join_behind sf s r go p may op = record { next = λ x a. aligns_below src fs gs Stops X Reach s0.pos ip.more p op sf s x r go a; fails = λ z. fails_below src fs gs Stops X Reach s0.pos ip.more p op sf s r go z }
+  join_behind sf s r go p may op = record { next = λ x a. aligns_below src fs gs Stops Extra Reach s0.pos facts.more p op sf s x r go a; fails = λ z. fails_below src fs gs Stops Extra Reach s0.pos facts.more p op sf s r go z }
 
   pub join_opened : Reach s0.pos → Joins Level Start s0 Same s0
-  join_opened r p may op = record { next = λ x a. aligns_waiting src fs gs Stops X Reach s0.pos ip.more p op s0 x r a; fails = λ z. fails_waiting src fs gs Stops X Reach s0.pos ip.more p op s0 r z }
+  join_opened r p may op = record { next = λ x a. aligns_waiting src fs gs Stops Extra Reach s0.pos facts.more p op s0 x r a; fails = λ z. fails_waiting src fs gs Stops Extra Reach s0.pos facts.more p op s0 r z }
 
-  -- where nothing stops the source at its start
-  abbrev pub IsFree : Type 0
-  IsFree = (p : Pos) → O p → Stops p s0.pos → O s0.pos
-
-  pub join_free : IsFree → Reach s0.pos → Joins Level Start s0 Start s0
-  join_free free r p may op = record { next = λ x a. arrives_free src fs gs Stops X Reach s0.pos ip.more p op s0 x r (free p op) a; fails = λ z. fails_free src fs gs Stops X Reach s0.pos ip.more p op s0 r (free p op) z }
+  pub join_free : IsFree count src sides relation → Reach s0.pos → Joins Level Start s0 Start s0
+  join_free free r p may op = record { next = λ x a. arrives_free src fs gs Stops Extra Reach s0.pos facts.more p op s0 x r (free p op) a; fails = λ z. fails_free src fs gs Stops Extra Reach s0.pos facts.more p op s0 r (free p op) z }
 
   abbrev pub FaultAt : Pos → Since → State → Type 0
   FaultAt p m s = FailsBefore src (Stops p) p m s
@@ -174,28 +151,27 @@ module _ (addition : Addition) where
     pub home : AtHome (standing k) t.pos.block v.pos.block
     pub reach : Reach s.pos
     pub reach_f : Reach sf.pos
-    pub static : S k v.pos.block (rf v.pos) (rg t.pos)
-    pub dynamic : Q k v.pos.block (rf v.pos) (rg t.pos) v.core t.core
+    pub static : Rests k v.pos.block (rest_f v.pos) (rest_g t.pos)
+    pub dynamic : Cores k v.pos.block (rest_f v.pos) (rest_g t.pos) v.core t.core
     pub joins : Joins (standing k) mf sf m s
     pub owed : Owed (standing k) v mf sf m s
 
-  pub dynamic_at : (t s : State) (m : Since) (r : Now t s m) (xs ys : List Item) → rf r.v.pos ≡ xs → rg t.pos ≡ ys → Q r.k r.v.pos.block xs ys r.v.core t.core
-  dynamic_at t s m r xs ys ef eg = subst (λ (z : List Item). Q r.k r.v.pos.block z ys r.v.core t.core) ef (subst (λ (z : List Item). Q r.k r.v.pos.block (rf r.v.pos) z r.v.core t.core) eg r.dynamic)
+  pub dynamic_at : (t s : State) (m : Since) (r : Now t s m) (xs ys : List Item) → rest_f r.v.pos ≡ xs → rest_g t.pos ≡ ys → Cores r.k r.v.pos.block xs ys r.v.core t.core
+  dynamic_at t s m r xs ys ef eg = rw (sym ef, sym eg) r.dynamic
 
-  pub static_at : (t s : State) (m : Since) (r : Now t s m) (xs ys : List Item) → rf r.v.pos ≡ xs → rg t.pos ≡ ys → S r.k r.v.pos.block xs ys
-  static_at t s m r xs ys ef eg =
-      subst (λ (z : List Item). S r.k r.v.pos.block z ys) ef (subst (λ (z : List Item). S r.k r.v.pos.block (rf r.v.pos) z) eg r.static)
+  pub static_at : (t s : State) (m : Since) (r : Now t s m) (xs ys : List Item) → rest_f r.v.pos ≡ xs → rest_g t.pos ≡ ys → Rests r.k r.v.pos.block xs ys
+  static_at t s m r xs ys ef eg = rw (sym ef, sym eg) r.static
 
   pub shown : (t s : State) (m : Since) (r : Now t s m) → ShowsSame r.v.core t.core
-  shown t s m r = ip.shows r.k r.v.pos.block (rf r.v.pos) (rg t.pos) r.v.core t.core r.dynamic
+  shown t s m r = facts.shows r.k r.v.pos.block (rest_f r.v.pos) (rest_g t.pos) r.v.core t.core r.dynamic
 
   pub home_at : (t s : State) (m : Since) (r : Now t s m) (st : Standing) → standing r.k ≡ st → HasBegun st → t.pos.block ≡ g.enter r.v.pos.block
   home_at t s m r st e h = home_of st t.pos.block r.v.pos.block h (subst (λ (z : Standing). AtHome z t.pos.block r.v.pos.block) e r.home)
 
   -- g and f further on, the alignments as they were
   pub moves_to : (t s : State) (m : Since) (r : Now t s m) (k' : Stage) → IsQuiet (standing r.k) → standing k' ≡ standing r.k → (t' w : State) →
-      AlongF w r.sf r.mf → AtHome (standing r.k) t'.pos.block w.pos.block → S k' w.pos.block (rf w.pos) (rg t'.pos) →
-      Q k' w.pos.block (rf w.pos) (rg t'.pos) w.core t'.core → Now t' s m
+      AlongF w r.sf r.mf → AtHome (standing r.k) t'.pos.block w.pos.block → Rests k' w.pos.block (rest_f w.pos) (rest_g t'.pos) →
+      Cores k' w.pos.block (rest_f w.pos) (rest_g t'.pos) w.core t'.core → Now t' s m
   moves_to t s m r k' q same t' w al home st dy = record {
     v = w;
     sf = r.sf;
@@ -211,22 +187,28 @@ module _ (addition : Addition) where
     owed = subst (λ (z : Standing). Owed z w r.mf r.sf m s) (sym same) (owed_quiet (standing r.k) r.v w r.mf r.sf m s q r.owed);
   }
 
-  -- level in the body, in the block n, to which f has gone from u
-  pub in_body : (t1 s : State) (m : Since) (u : State) (n : ℕ) (c : Core) (sf : State) (mf : Since) → step f u ≡ Went (record { pos = block_start n; core = c }) → t1.pos ≡ start_g n → AlongF (record { pos = block_start n; core = c }) sf mf → Reach s.pos → Reach sf.pos → Q body n (rf (block_start n)) (rg (start_g n)) c t1.core → Joins Level mf sf m s → Now t1 s m
-  in_body t1 s m u n c sf mf go at al r rf' q joins = record {
-    v = record { pos = block_start n; core = c };
-    sf = sf;
-    mf = mf;
-    k = body;
-    along = al;
-    home = subst (λ (z : Standing). AtHome z t1.pos.block n) (sym ip.is_body) (ap (λ (z : Pos). z.block) at);
-    reach = r;
-    reach_f = rf';
-    static = subst (λ (z : Pos). S body n (rf (block_start n)) (rg z)) (sym at) (ip.starts u.pos n (step_edge f u (record { pos = block_start n; core = c }) go));
-    dynamic = subst (λ (z : Pos). Q body n (rf (block_start n)) (rg z) c t1.core) (sym at) q;
-    joins = subst (λ (z : Standing). Joins z mf sf m s) (sym ip.is_body) joins;
-    owed = subst (λ (z : Standing). Owed z (record { pos = block_start n; core = c }) mf sf m s) (sym ip.is_body) tt;
-  }
+  -- level at the start of block n, to which f has gone from u
+  pub in_block : (t1 s : State) (m : Since) (u : State) (n : ℕ) (c : Core) (sf : State) (mf : Since) →
+      step f u ≡ Went (record { pos = block_start n; core = c }) → t1.pos ≡ block_start (g.enter n) → AlongF (record { pos = block_start n; core = c }) sf mf →
+      Reach s.pos → Reach sf.pos → Cores (entry n) n (rest_f (block_start n)) (rest_g (block_start (g.enter n))) c t1.core →
+      Joins Level mf sf m s → Now t1 s m
+  in_block t1 s m u n c sf mf go at al reach reach_f q joins =
+      let v : State = record { pos = block_start n; core = c } in
+      let level = sym (facts.entry_level n) in
+      record {
+        v = v;
+        sf = sf;
+        mf = mf;
+        k = entry n;
+        along = al;
+        home = subst (λ (z : Standing). AtHome z t1.pos.block n) level (ap (λ (z : Pos). z.block) at);
+        reach = reach;
+        reach_f = reach_f;
+        static = subst (λ (z : Pos). Rests (entry n) n (rest_f (block_start n)) (rest_g z)) (sym at) (facts.starts u.pos n (step_edge f u v go));
+        dynamic = subst (λ (z : Pos). Cores (entry n) n (rest_f (block_start n)) (rest_g z) c t1.core) (sym at) q;
+        joins = subst (λ (z : Standing). Joins z mf sf m s) level joins;
+        owed = subst (λ (z : Standing). Owed z v mf sf m s) level tt;
+      }
 
   abbrev pub IsReady : {b : ℕ} {k : Stage} {xs ys : List Item} → Seen b k xs ys → Type 0
   IsReady (passed q same c s h) = ⊥
@@ -236,34 +218,41 @@ module _ (addition : Addition) where
     pub at : Now t s m
     pub xs : List Item
     pub ys : List Item
-    pub is_f : rf at.v.pos ≡ xs
-    pub is_g : rg t.pos ≡ ys
+    pub is_f : rest_f at.v.pos ≡ xs
+    pub is_g : rest_g t.pos ≡ ys
     pub view : Seen at.v.pos.block at.k xs ys
     pub ready : IsReady view
 
   -- f passes a debug item alone
-  passes : (t s : State) (m : Since) (r : Now t s m) (k' : Stage) (x : Item) (xs ys : List Item) → rf r.v.pos ≡ x ∷ xs → rg t.pos ≡ ys →
-      IsQuiet (standing r.k) → standing k' ≡ standing r.k → is_code x.kind ≡ false → S k' r.v.pos.block xs ys → (e : Core) →
-      do_item f x.kind r.v.core ≡ Falls e → Q k' r.v.pos.block xs ys e t.core → Now t s m
+  passes : (t s : State) (m : Since) (r : Now t s m) (k' : Stage) (x : Item) (xs ys : List Item) → rest_f r.v.pos ≡ x ∷ xs → rest_g t.pos ≡ ys →
+      IsQuiet (standing r.k) → standing k' ≡ standing r.k → is_code x.kind ≡ false → Rests k' r.v.pos.block xs ys → (e : Core) →
+      do_item f x.kind r.v.core ≡ Falls e → Cores k' r.v.pos.block xs ys e t.core → Now t s m
   passes t s m r k' x xs ys ef eg q same c st e o dy =
-      let fe = ip.laid_f.cons r.v.pos x xs ef in
-      moves_to t s m r k' q same t (record { pos = below r.v.pos; core = e }) (other r.along (debug_station ct f r.v.pos x fe.0 c) (step_item f r.v x (Falls e) fe.0 o)) r.home
-      (rw fe.1 (subst (S k' r.v.pos.block xs) (sym eg) st)) (rw fe.1 (subst (λ (z : List Item). Q k' r.v.pos.block xs z e t.core) (sym eg) dy))
+      let fe = facts.laid_f.cons r.v.pos x xs ef in
+      moves_to t s m r k' q same t (record { pos = below r.v.pos; core = e }) (other r.along (debug_station count f r.v.pos x fe.0 c) (step_item f r.v x (Falls e) fe.0 o)) r.home
+      (rw fe.1 (subst (Rests k' r.v.pos.block xs) (sym eg) st)) (rw fe.1 (subst (λ (z : List Item). Cores k' r.v.pos.block xs z e t.core) (sym eg) dy))
 
-  catches : (n : ℕ) (t s : State) (m : Since) (r : Now t s m) (xs ys : List Item) → rf r.v.pos ≡ xs → rg t.pos ≡ ys → Seen r.v.pos.block r.k xs ys → length xs ≤ n → Ready t s m
+  stands : (t s : State) (m : Since) (r : Now t s m) (xs ys : List Item) → rest_f r.v.pos ≡ xs → rest_g t.pos ≡ ys →
+      (w : Seen r.v.pos.block r.k xs ys) → IsReady w → Ready t s m
+  stands t s m r xs ys ef eg w rd = record { at = r; xs = xs; ys = ys; is_f = ef; is_g = eg; view = w; ready = rd }
+
+  -- f goes past all that it may pass; n bounds how much that is
+  catches : (n : ℕ) (t s : State) (m : Since) (r : Now t s m) (xs ys : List Item) → rest_f r.v.pos ≡ xs → rest_g t.pos ≡ ys →
+      Seen r.v.pos.block r.k xs ys → length xs ≤ n → Ready t s m
   unfolding passes moves_to
   catches zero t s m r xs ys ef eg (passed q same c st h) le = absurd (omega (arith, le))
   catches (suc n) t s m r xs ys ef eg (passed {k' = k'} {x = x} {xs = rest} q same c st h) le =
       let d = h r.v.core t.core (dynamic_at t s m r xs ys ef eg) in
-      catches n t s m (passes t s m r k' x rest ys ef eg q same c st d.0 d.1 d.2) rest ys (ip.laid_f.cons r.v.pos x rest ef).1 eg (ip.view k' r.v.pos.block rest ys st) (omega (arith, le))
-  catches n t s m r xs ys ef eg (ended fr) le = record { at = r; xs = xs; ys = ys; is_f = ef; is_g = eg; view = ended fr; ready = tt }
-  catches n t s m r xs ys ef eg (both a b c d e h i j) le = record { at = r; xs = xs; ys = ys; is_f = ef; is_g = eg; view = both a b c d e h i j; ready = tt }
-  catches n t s m r xs ys ef eg (before a b c d e h i j) le = record { at = r; xs = xs; ys = ys; is_f = ef; is_g = eg; view = before a b c d e h i j; ready = tt }
-  catches n t s m r xs ys ef eg (opening a b c d e h i) le = record { at = r; xs = xs; ys = ys; is_f = ef; is_g = eg; view = opening a b c d e h i; ready = tt }
-  catches n t s m r xs ys ef eg (entering a b c d e h) le = record { at = r; xs = xs; ys = ys; is_f = ef; is_g = eg; view = entering a b c d e h; ready = tt }
-  catches n t s m r xs ys ef eg (behind a b c d e h i) le = record { at = r; xs = xs; ys = ys; is_f = ef; is_g = eg; view = behind a b c d e h i; ready = tt }
-  catches n t s m r xs ys ef eg (added a b c d e) le = record { at = r; xs = xs; ys = ys; is_f = ef; is_g = eg; view = added a b c d e; ready = tt }
-  catches n t s m r xs ys ef eg (paired a b c d e h) le = record { at = r; xs = xs; ys = ys; is_f = ef; is_g = eg; view = paired a b c d e h; ready = tt }
+      catches n t s m (passes t s m r k' x rest ys ef eg q same c st d.0 d.1 d.2) rest ys (facts.laid_f.cons r.v.pos x rest ef).1 eg
+      (facts.view k' r.v.pos.block rest ys st) (omega (arith, le))
+  catches n t s m r xs ys ef eg (ended a) le = stands t s m r xs ys ef eg (ended a) tt
+  catches n t s m r xs ys ef eg (both a b c d e h i j) le = stands t s m r xs ys ef eg (both a b c d e h i j) tt
+  catches n t s m r xs ys ef eg (before a b c d e h i j) le = stands t s m r xs ys ef eg (before a b c d e h i j) tt
+  catches n t s m r xs ys ef eg (opening a b c d e h i) le = stands t s m r xs ys ef eg (opening a b c d e h i) tt
+  catches n t s m r xs ys ef eg (entering a b c d e h i) le = stands t s m r xs ys ef eg (entering a b c d e h i) tt
+  catches n t s m r xs ys ef eg (behind a b c d e h i) le = stands t s m r xs ys ef eg (behind a b c d e h i) tt
+  catches n t s m r xs ys ef eg (added a b c d e) le = stands t s m r xs ys ef eg (added a b c d e) tt
+  catches n t s m r xs ys ef eg (paired a b c d e h) le = stands t s m r xs ys ef eg (paired a b c d e h) tt
 
   pub ready : (t s : State) (m : Since) → Now t s m → Ready t s m
-  ready t s m r = catches (length (rf r.v.pos)) t s m r (rf r.v.pos) (rg t.pos) refl refl (ip.view r.k r.v.pos.block (rf r.v.pos) (rg t.pos) r.static) (omega arith)
+  ready t s m r = catches (length (rest_f r.v.pos)) t s m r (rest_f r.v.pos) (rest_g t.pos) refl refl (facts.view r.k r.v.pos.block (rest_f r.v.pos) (rest_g t.pos) r.static) (omega arith)

@@ -11,8 +11,8 @@ use Rattle.mir_func.specs.Graph.{Program, Here, Silent, block_start}
 use Rattle.mir_func.specs.Graph.{end_of, front, fetch_in, from_block, index_of, program_of, framed_program}
 use Rattle.mir_meaning.specs.Align.{position_of}
 use Rattle.mir_meaning.specs.Follow.{next_rank, InOrder}
-use Rattle.simulation.specs.InPlace.{IsPastItems, Laid}
 use Rattle.mir_meaning.proofs.Reading.{found_in, front_item, front_end, end_index, within_list, next_block, apart_tail}
+use Rattle.simulation.specs.Sides.{IsPastItems, Laid}
 
 -- the items of the first of the blocks from an index on
 abbrev pub rest_in : List Block → ℕ → List Item

@@ -2,6 +2,7 @@ pub mod Refinement
 pub mod Order
 pub mod Stations
 pub mod Stops
+pub mod Outcomes
 pub mod Between
 pub mod Bypassed
 pub mod Rewired

@@ -7,40 +7,28 @@ use Rattle.mir_func.specs.declared.item.Item.{Item}
 use Rattle.mir_meaning.specs.State.{State, Core}
 use Rattle.mir_meaning.specs.Step.{Went, Returned, Faulted, Lost, Outcome, Falls, Goes, Gives, Traps, Asks, Breaks, moved, do_item, do_fetch, step}
 use Rattle.mir_func.specs.Graph.{Program, Fetch, Here, Silent, Outside, below, block_start}
-use Rattle.mir_meaning.specs.Align.{position_of, is_code, Station, ByItems, ByEnds, moves_on, waits_at, station_of, station_at, Since, After, since_of, AnyOrigin, RunsAlong}
+use Rattle.mir_meaning.specs.Align.{position_of, is_code, Station, ByItems, ByEnds, moves_on, waits_at, station_of, Since, After, since_of, AnyOrigin, RunsAlong}
 use Rattle.mir_func.specs.Graph.{FetchEdge}
 use Rattle.mir_meaning.specs.Follow.{rank, next_rank, InOrder}
+use Rattle.simulation.specs.Sides.{since_item, ShowsSame}
 use Rattle.simulation.specs.Refinement.{waiting, Walk, there, on, IsDoomed, later, Passes, still, pass, Meets}
-use Rattle.simulation.specs.InPlace.{since_item, ShowsSame}
-use Rattle.simulation.specs.Rewired.{Reaches, Leaves, DoAlike, View, both, added, paired, closes, ended, RewiredFollows}
+use Rattle.simulation.specs.Rewired.{RewiredRelation, DoAlike, View, both, added, paired, closes, ended, RewiredFollows}
 use Rattle.mir_meaning.proofs.Alignment.{went_once}
 use Rattle.mir_meaning.proofs.Edges.{step_edge}
 use Rattle.mir_meaning.proofs.Outcomes.{step_item}
 use Rattle.simulation.proofs.Refinement.{IsDoomedFrom, refines_or_doomed, still_follows}
 use Rattle.simulation.proofs.Order.{done_next, rank_next, same_pos, IsDone, done_more, waits_after, done_past, done_self, waits_where, IsUntil, until_more, until_here}
 use Rattle.simulation.proofs.Stations.{not_code, debug_below, code_station, debug_station, end_is_station, code_is_some, code_is, debug_is_none, IsStationOf, of_item, of_end, station_is_of, not_past_items, falls_stays}
-use Rattle.simulation.proofs.Bypassed.{Rewiring, AllDone, ends_f, ends_g, leaves, not_waiting, reaches}
+use Rattle.simulation.proofs.Outcomes.{both_return, both_fault}
+use Rattle.simulation.proofs.Bypassed.{Rewiring, fs, gs, To, AllDone, ends_f, ends_g, leaves, not_waiting, reaches}
 
 module _ (rewiring : Rewiring) where
-  open rewiring use {f, g, rf, rg, place, Has, Stage, entry, S, Q, G, ip}
-
-  abbrev fs : Pos → Option Station
-  fs p = station_at ByEnds f p
-
-  abbrev gs : Pos → Option Station
-  gs p = station_at ByItems g p
-
-  abbrev To : ℕ → Pos → Type 0
-  To e p = Reaches f g rf rg place Has Stage entry S Q G e p
-
-  abbrev From : ℕ → ℕ → List Item → Type 0
-  From e b xs = Leaves f g rf rg place Has Stage entry S Q G e b xs
-
-  abbrev Alike : ℕ → List Item → List Item → Since → Outcome → Outcome → Type 0
-  Alike b xs ys m x y = DoAlike f g rf rg place Has Stage entry S Q G b xs ys m x y
+  open rewiring use {sides, place, relation, facts}
+  open sides use {old.{program as f, rest as rest_f, start as s0}, new.{program as g, rest as rest_g, start as g0}}
+  open relation use {relation.{Stage, entry, Rests, Cores}, Has, Ways}
 
   abbrev Seen : ℕ → Stage → List Item → List Item → Type 0
-  Seen b k xs ys = View f g rf rg place Has Stage entry S Q G b k xs ys
+  Seen b k xs ys = View sides place relation b k xs ys
 
   -- f stands at v beside g at t in one block; it was at u right after the station that both met last
   record Within (last0 : Option Pos) (t u : State) : Type 0 where
@@ -49,14 +37,14 @@ module _ (rewiring : Rewiring) where
     n : ℕ
     block : t.pos.block ≡ v.pos.block
     k : Stage
-    static : S k v.pos.block (rf v.pos) (rg t.pos)
-    dynamic : Q k v.pos.block (rf v.pos) (rg t.pos) v.core t.core
-    order_f : InOrder v.pos.block n (rf v.pos)
+    static : Rests k v.pos.block (rest_f v.pos) (rest_g t.pos)
+    dynamic : Cores k v.pos.block (rest_f v.pos) (rest_g t.pos) v.core t.core
+    order_f : InOrder v.pos.block n (rest_f v.pos)
     known : (q : Pos) → last ≡ Some q → IsUntil place v.pos.block n q
     done : (j : ℕ) (i : Item) → j < t.pos.item → g.fetch (record { block = v.pos.block; item = j }) ≡ Here i → is_code i.kind ≡ true → IsDone n last (position_of i.origin)
     high : (q : Pos) (j l : ℕ) → q.block ≡ v.pos.block → f.fetch q ≡ Silent j l → n ≤ 2 * j
-    walks : (p : Pos) → place v.pos.block ≤ place p.block → (w : State) → Walk f fs gs p last v w → Walk f fs gs p last0 u w
-    dooms : (p : Pos) → place v.pos.block ≤ place p.block → IsDoomed f fs gs p last v → IsDoomed f fs gs p last0 u
+    walks : (p : Pos) → place v.pos.block ≤ place p.block → (w : State) → Walk f (fs rewiring) (gs rewiring) p last v w → Walk f (fs rewiring) (gs rewiring) p last0 u w
+    dooms : (p : Pos) → place v.pos.block ≤ place p.block → IsDoomed f (fs rewiring) (gs rewiring) p last v → IsDoomed f (fs rewiring) (gs rewiring) p last0 u
 
   -- f stands at the start of the block into which g is about to fall
   record AtDoor (last0 : Option Pos) (t u : State) : Type 0 where
@@ -64,30 +52,30 @@ module _ (rewiring : Rewiring) where
     c : Core
     k : ℕ
     has : Has e
-    over : rg t.pos ≡ []
+    over : rest_g t.pos ≡ []
     falls : g.fetch t.pos ≡ Silent k e
-    carried : G e c t.core
-    walks : (p : Pos) (w : State) → Walk f fs gs p None (record { pos = block_start e; core = c }) w → Walk f fs gs p last0 u w
-    dooms : (p : Pos) → IsDoomed f fs gs p None (record { pos = block_start e; core = c }) → IsDoomed f fs gs p last0 u
+    carried : Ways e c t.core
+    walks : (p : Pos) (w : State) → Walk f (fs rewiring) (gs rewiring) p None (record { pos = block_start e; core = c }) w → Walk f (fs rewiring) (gs rewiring) p last0 u w
+    dooms : (p : Pos) → IsDoomed f (fs rewiring) (gs rewiring) p None (record { pos = block_start e; core = c }) → IsDoomed f (fs rewiring) (gs rewiring) p last0 u
 
   abbrev Beside : Option Pos → State → State → Type 0
-  Beside last0 t u = Within last0 t u ⊎ AtDoor last0 t u ⊎ IsDoomedFrom f g fs gs last0 t u
+  Beside last0 t u = Within last0 t u ⊎ AtDoor last0 t u ⊎ IsDoomedFrom f g (fs rewiring) (gs rewiring) last0 t u
 
-  dynamic_at : (last0 : Option Pos) (t u : State) (r : Within last0 t u) (xs ys : List Item) → rf r.v.pos ≡ xs → rg t.pos ≡ ys → Q r.k r.v.pos.block xs ys r.v.core t.core
-  dynamic_at last0 t u r xs ys ef eg = subst (λ (z : List Item). Q r.k r.v.pos.block z ys r.v.core t.core) ef (subst (λ (z : List Item). Q r.k r.v.pos.block (rf r.v.pos) z r.v.core t.core) eg r.dynamic)
+  dynamic_at : (last0 : Option Pos) (t u : State) (r : Within last0 t u) (xs ys : List Item) → rest_f r.v.pos ≡ xs → rest_g t.pos ≡ ys → Cores r.k r.v.pos.block xs ys r.v.core t.core
+  dynamic_at last0 t u r xs ys ef eg = rw (sym ef, sym eg) r.dynamic
 
   -- both at the start of a block that g has
-  at_start : (last0 : Option Pos) (u : State) (e : ℕ) (c d : Core) → Has e → Q (entry e) e (rf (block_start e)) (rg (block_start e)) c d → ((p : Pos) → place e ≤ place p.block → (w : State) → Walk f fs gs p None (record { pos = block_start e; core = c }) w → Walk f fs gs p last0 u w) →
-      ((p : Pos) → place e ≤ place p.block → IsDoomed f fs gs p None (record { pos = block_start e; core = c }) → IsDoomed f fs gs p last0 u) → Within last0 (record { pos = block_start e; core = d }) u
+  at_start : (last0 : Option Pos) (u : State) (e : ℕ) (c d : Core) → Has e → Cores (entry e) e (rest_f (block_start e)) (rest_g (block_start e)) c d → ((p : Pos) → place e ≤ place p.block → (w : State) → Walk f (fs rewiring) (gs rewiring) p None (record { pos = block_start e; core = c }) w → Walk f (fs rewiring) (gs rewiring) p last0 u w) →
+      ((p : Pos) → place e ≤ place p.block → IsDoomed f (fs rewiring) (gs rewiring) p None (record { pos = block_start e; core = c }) → IsDoomed f (fs rewiring) (gs rewiring) p last0 u) → Within last0 (record { pos = block_start e; core = d }) u
   at_start last0 u e c d has q walks dooms = record {
     v = record { pos = block_start e; core = c };
     last = None;
     n = 0;
     block = refl;
     k = entry e;
-    static = ip.starts e has;
+    static = facts.starts e has;
     dynamic = q;
-    order_f = ip.order_f e;
+    order_f = facts.order_f e;
     known = λ p bad. absurd (not_waiting rewiring p bad);
     done = λ j i lt fi ci. absurd (omega (arith, lt));
     high = λ p j l pb fp. omega arith;
@@ -96,18 +84,18 @@ module _ (rewiring : Rewiring) where
   }
 
   -- nothing stands past a block's end
-  nothing_past : (j : ℕ) (q : Pos) (i : Item) → rg q ≡ [] → g.fetch (record { block = q.block; item = q.item + j }) ≡ Here i → ⊥
-  nothing_past zero q i e fi = let z : q.item + 0 ≡ q.item = omega arith in not_past_items (g.fetch q) i (ip.laid_g.nil q e).0 (subst (λ (n : ℕ). g.fetch (record { block = q.block; item = n }) ≡ Here i) z fi)
-  nothing_past (suc j) q i e fi = let z : q.item + suc j ≡ (q.item + 1) + j = omega arith in nothing_past j (below q) i (ip.laid_g.nil q e).1 (subst (λ (n : ℕ). g.fetch (record { block = q.block; item = n }) ≡ Here i) z fi)
+  nothing_past : (j : ℕ) (q : Pos) (i : Item) → rest_g q ≡ [] → g.fetch (record { block = q.block; item = q.item + j }) ≡ Here i → ⊥
+  nothing_past zero q i e fi = let z : q.item + 0 ≡ q.item = omega arith in not_past_items (g.fetch q) i (facts.laid_g.nil q e).0 (subst (λ (n : ℕ). g.fetch (record { block = q.block; item = n }) ≡ Here i) z fi)
+  nothing_past (suc j) q i e fi = let z : q.item + suc j ≡ (q.item + 1) + j = omega arith in nothing_past j (below q) i (facts.laid_g.nil q e).1 (subst (λ (n : ℕ). g.fetch (record { block = q.block; item = n }) ≡ Here i) z fi)
 
   -- where g's block is over, all its code is done
-  all_done : (b n : ℕ) (last : Option Pos) (t : Pos) → t.block ≡ b → rg t ≡ [] → ((j : ℕ) (i : Item) → j < t.item → g.fetch (record { block = b; item = j }) ≡ Here i → is_code i.kind ≡ true → IsDone n last (position_of i.origin)) → AllDone rewiring b n last
+  all_done : (b n : ℕ) (last : Option Pos) (t : Pos) → t.block ≡ b → rest_g t ≡ [] → ((j : ℕ) (i : Item) → j < t.item → g.fetch (record { block = b; item = j }) ≡ Here i → is_code i.kind ≡ true → IsDone n last (position_of i.origin)) → AllDone rewiring b n last
   all_done b n last t tb eg done q o qb = by_station (station_is_of ByItems g o.place o.station o.stands) where
     by_station : IsStationOf ByItems g o.place o.station → IsDone n last q
     by_station (of_end k m fe ce ie) = cc
     by_station (of_item i fi ci si) =
         let from : position_of i.origin ≡ q = ap (λ (z : Station). z.pos) si ∙ o.from in
-        let home : o.place.block ≡ b = sym (ip.home o.place i fi) ∙ ap (λ (z : Pos). z.block) from ∙ qb in
+        let home : o.place.block ≡ b = sym (facts.home o.place i fi) ∙ ap (λ (z : Pos). z.block) from ∙ qb in
         elim (cases_lt o.place.item t.item) as (λ z. IsDone n last q) [
           | inl lt ↦ subst (IsDone n last) from (done o.place.item i lt (subst (λ (z : Pos). g.fetch z ≡ Here i) (same_pos o.place (record { block = b; item = o.place.item }) home refl) fi) ci)
           | inr ge ↦
@@ -124,7 +112,7 @@ module _ (rewiring : Rewiring) where
       ]
 
   -- g goes down between stations
-  goes_down : (t t' : State) → gs t.pos ≡ None → step g t ≡ Went t' → place t.pos.block ≤ place t'.pos.block
+  goes_down : (t t' : State) → gs rewiring t.pos ≡ None → step g t ≡ Went t' → place t.pos.block ≤ place t'.pos.block
   goes_down t t' none go = by_fetch (g.fetch t.pos) refl where
     by_fetch : (x : Fetch) → g.fetch t.pos ≡ x → place t.pos.block ≤ place t'.pos.block
     by_fetch (Here y) e =
@@ -135,30 +123,30 @@ module _ (rewiring : Rewiring) where
               let k : place t'.pos.block ≡ place t.pos.block = ap (λ (z : Pos). place z.block) at in omega (arith, k)
         ]
     by_fetch (Silent k n) e =
-        let lt = ip.onward t.pos k n e in
+        let lt = facts.onward t.pos k n e in
         let z : place t'.pos.block ≡ place n = ap (λ (q : State). place q.pos.block) (went_once g t t' (record { pos = block_start n; core = t.core }) go (ends_g rewiring t k n e)) in
         omega (arith, lt, z)
     by_fetch Outside e = let bad : Lost ≡ Went t' = sym (ap (λ (z : Fetch). moved g.enter t.pos (do_fetch g z t.core)) e) ∙ go in cc
 
-  later_station : {t t1 : State} (i : Station) → Passes g gs t t1 → gs t1.pos ≡ Some i → place t.pos.block ≤ place i.pos.block
+  later_station : {t t1 : State} (i : Station) → Passes g (gs rewiring) t t1 → gs rewiring t1.pos ≡ Some i → place t.pos.block ≤ place i.pos.block
   later_station i (still {t = t}) e = by_station (station_is_of ByItems g t.pos i e) where
     by_station : IsStationOf ByItems g t.pos i → place t.pos.block ≤ place i.pos.block
     by_station (of_item y fy cy iy) =
-        let k : place i.pos.block ≡ place t.pos.block = ap (λ (z : Station). place z.pos.block) (sym iy) ∙ ap place (ip.home t.pos y fy) in omega (arith, k)
+        let k : place i.pos.block ≡ place t.pos.block = ap (λ (z : Station). place z.pos.block) (sym iy) ∙ ap place (facts.home t.pos y fy) in omega (arith, k)
     by_station (of_end k n fe ce ie) = cc
   later_station i (pass {t = t} {u = u} none go rest) e = le_trans (goes_down t u none go) (later_station i rest e)
 
-  past_end : (t t' t1 : State) (i : Station) → gs t.pos ≡ None → step g t ≡ Went t' → Passes g gs t t1 → gs t1.pos ≡ Some i → place t'.pos.block ≤ place i.pos.block
+  past_end : (t t' t1 : State) (i : Station) → gs rewiring t.pos ≡ None → step g t ≡ Went t' → Passes g (gs rewiring) t t1 → gs rewiring t1.pos ≡ Some i → place t'.pos.block ≤ place i.pos.block
   past_end t t' t1 i none go still e = let bad : None ≡ Some i = sym none ∙ e in cc
   past_end t t' t1 i none go (pass {u = u} ne st rest) e = subst (λ (z : State). place z.pos.block ≤ place i.pos.block) (went_once g t u t' st go) (later_station i rest e)
 
   -- between stations
-  between_at : (last0 : Option Pos) (t u : State) (r : Within last0 t u) (xs ys : List Item) → rf r.v.pos ≡ xs → rg t.pos ≡ ys → Seen r.v.pos.block r.k xs ys → gs t.pos ≡ None → (t' : State) → step g t ≡ Went t' → Within last0 t' u ⊎ IsDoomedFrom f g fs gs last0 t u
-  between_at last0 t u r xs ys ef eg (both {y = y} {ys = ts} cx cy o j sh h) none t' go = absurd (code_is_some ByItems g t.pos y none (ip.laid_g.cons t.pos y ts eg).0 cy)
-  between_at last0 t u r xs ys ef eg (closes {y = y} {ys = ts} k n e cy o j sh at has to h) none t' go = absurd (code_is_some ByItems g t.pos y none (ip.laid_g.cons t.pos y ts eg).0 cy)
+  between_at : (last0 : Option Pos) (t u : State) (r : Within last0 t u) (xs ys : List Item) → rest_f r.v.pos ≡ xs → rest_g t.pos ≡ ys → Seen r.v.pos.block r.k xs ys → gs rewiring t.pos ≡ None → (t' : State) → step g t ≡ Went t' → Within last0 t' u ⊎ IsDoomedFrom f g (fs rewiring) (gs rewiring) last0 t u
+  between_at last0 t u r xs ys ef eg (both {y = y} {ys = ts} cx cy o j sh h) none t' go = absurd (code_is_some ByItems g t.pos y none (facts.laid_g.cons t.pos y ts eg).0 cy)
+  between_at last0 t u r xs ys ef eg (closes {y = y} {ys = ts} k n e cy o j sh at has to h) none t' go = absurd (code_is_some ByItems g t.pos y none (facts.laid_g.cons t.pos y ts eg).0 cy)
   between_at last0 t u r xs ys ef eg (added {k' = k'} {y = y} {ys = ts} cy s h) none t' go =
       let b = r.v.pos.block in
-      let ge = ip.laid_g.cons t.pos y ts eg in
+      let ge = facts.laid_g.cons t.pos y ts eg in
       let d = h r.v.core t.core (dynamic_at last0 t u r xs ys ef eg) in
       let t1 : State = record { pos = below t.pos; core = d.0 } in
       let made : Within last0 t1 u = record {
@@ -167,11 +155,11 @@ module _ (rewiring : Rewiring) where
         n = r.n;
         block = r.block;
         k = k';
-        static = rw ge.1 (subst (λ (z : List Item). S k' b z ts) (sym ef) s);
-        dynamic = rw ge.1 (subst (λ (z : List Item). Q k' b z ts r.v.core d.0) (sym ef) d.2);
+        static = rw ge.1 (subst (λ (z : List Item). Rests k' b z ts) (sym ef) s);
+        dynamic = rw ge.1 (subst (λ (z : List Item). Cores k' b z ts r.v.core d.0) (sym ef) d.2);
         order_f = r.order_f;
         known = r.known;
-        done = done_next g ip.home t.pos b r.n r.n r.last r.last y (sym r.block) ge.0 (λ q qb z. z) (λ c. not_code y cy c) r.done;
+        done = done_next g facts.home t.pos b r.n r.n r.last r.last y (sym r.block) ge.0 (λ q qb z. z) (λ c. not_code y cy c) r.done;
         high = r.high;
         walks = r.walks;
         dooms = r.dooms;
@@ -179,8 +167,8 @@ module _ (rewiring : Rewiring) where
       inl (subst (λ (z : State). Within last0 z u) (went_once g t t1 t' (step_item g t y (Falls d.0) ge.0 d.1) go) made)
   between_at last0 t u r xs ys ef eg (paired {k' = k'} {x = x} {y = y} {xs = rest} {ys = ts} cx cy s h) none t' go =
       let b = r.v.pos.block in
-      let fe = ip.laid_f.cons r.v.pos x rest ef in
-      let ge = ip.laid_g.cons t.pos y ts eg in
+      let fe = facts.laid_f.cons r.v.pos x rest ef in
+      let ge = facts.laid_g.cons t.pos y ts eg in
       let ord = subst (InOrder b r.n) ef r.order_f in
       let le = rank_next x.origin r.n ord.1 in
       let d = h r.v.core t.core (dynamic_at last0 t u r xs ys ef eg) in
@@ -197,8 +185,8 @@ module _ (rewiring : Rewiring) where
         dynamic = rw (fe.1, ge.1) d.4;
         order_f = rw fe.1 ord.2;
         known = λ p k. until_more place b r.n (next_rank x.origin) p le (r.known p k);
-        done = done_next g ip.home t.pos b r.n (next_rank x.origin) r.last r.last y (sym r.block) ge.0 (λ q qb z. done_more r.n (next_rank x.origin) r.last q le z) (λ c. not_code y cy c) r.done;
-        high = λ q k l qb fq. ip.within_f r.v.pos q x k l fe.0 fq (sym qb);
+        done = done_next g facts.home t.pos b r.n (next_rank x.origin) r.last r.last y (sym r.block) ge.0 (λ q qb z. done_more r.n (next_rank x.origin) r.last q le z) (λ c. not_code y cy c) r.done;
+        high = λ q k l qb fq. facts.within_f r.v.pos q x k l fe.0 fq (sym qb);
         walks = λ p le2 w j. r.walks p le2 w (on none_f go_f j);
         dooms = λ p le2 w. r.dooms p le2 (later none_f go_f w);
       } in
@@ -206,11 +194,11 @@ module _ (rewiring : Rewiring) where
   between_at last0 t u r xs ys ef eg (ended e has falls rest h) none t' go =
       let b = r.v.pos.block in
       let fl = falls t.pos r.block eg in
-      let lt : place b < place e = subst (λ (z : ℕ). place z < place e) r.block (ip.onward t.pos fl.0 e fl.1) in
+      let lt : place b < place e = subst (λ (z : ℕ). place z < place e) r.block (facts.onward t.pos fl.0 e fl.1) in
       let t1 : State = record { pos = block_start e; core = t.core } in
-      elim (leaves rewiring e b rest r.v.pos r.v.core t.core r.n r.last refl ef (subst (InOrder b r.n) ef r.order_f) r.high (λ q k qb. until_here place b r.n q qb (r.known q k)) (all_done b r.n r.last t.pos r.block eg r.done) (h r.v.core t.core (dynamic_at last0 t u r xs [] ef eg))) as (λ _. Within last0 t' u ⊎ IsDoomedFrom f g fs gs last0 t u) [
+      elim (leaves rewiring e b rest r.v.pos r.v.core t.core r.n r.last refl ef (subst (InOrder b r.n) ef r.order_f) r.high (λ q k qb. until_here place b r.n q qb (r.known q k)) (all_done b r.n r.last t.pos r.block eg r.done) (h r.v.core t.core (dynamic_at last0 t u r xs [] ef eg))) as (λ _. Within last0 t' u ⊎ IsDoomedFrom f g (fs rewiring) (gs rewiring) last0 t u) [
         | inl l ↦
-            let made = at_start last0 u e l.c t.core has (ip.arrives e l.c t.core has l.carried) (λ p le w j. r.walks p (omega (arith, lt, le)) w (l.walks p w (not_until b r.n r.last p e r.known lt le) j)) (λ p le w. r.dooms p (omega (arith, lt, le)) (l.dooms p (not_until b r.n r.last p e r.known lt le) w)) in
+            let made = at_start last0 u e l.c t.core has (facts.arrives e l.c t.core has l.carried) (λ p le w j. r.walks p (omega (arith, lt, le)) w (l.walks p w (not_until b r.n r.last p e r.known lt le) j)) (λ p le w. r.dooms p (omega (arith, lt, le)) (l.dooms p (not_until b r.n r.last p e r.known lt le) w)) in
             inl (subst (λ (z : State). Within last0 z u) (went_once g t t1 t' (ends_g rewiring t fl.0 e fl.1) go) made)
         | inr w ↦ inr (record {
           on_the_way = λ t2 i w2 e2.
@@ -219,51 +207,33 @@ module _ (rewiring : Rewiring) where
         })
       ]
 
-  between : (last0 : Option Pos) (t u t' : State) → Beside last0 t u → gs t.pos ≡ None → step g t ≡ Went t' → Beside last0 t' u ⊎ IsDoomedFrom f g fs gs last0 t u
-  between last0 t u t' (inl r) none st = elim (between_at last0 t u r (rf r.v.pos) (rg t.pos) refl refl (ip.view r.k r.v.pos.block (rf r.v.pos) (rg t.pos) r.static) none t' st) as (λ _. Beside last0 t' u ⊎ IsDoomedFrom f g fs gs last0 t u) [ inl w ↦ inl (inl w) | inr w ↦ inr w ]
+  between : (last0 : Option Pos) (t u t' : State) → Beside last0 t u → gs rewiring t.pos ≡ None → step g t ≡ Went t' → Beside last0 t' u ⊎ IsDoomedFrom f g (fs rewiring) (gs rewiring) last0 t u
+  between last0 t u t' (inl r) none st = elim (between_at last0 t u r (rest_f r.v.pos) (rest_g t.pos) refl refl (facts.view r.k r.v.pos.block (rest_f r.v.pos) (rest_g t.pos) r.static) none t' st) as (λ _. Beside last0 t' u ⊎ IsDoomedFrom f g (fs rewiring) (gs rewiring) last0 t u) [ inl w ↦ inl (inl w) | inr w ↦ inr w ]
   between last0 t u t' (inr (inr w)) none st = inr w
   between last0 t u t' (inr (inl r)) none st =
       let t1 : State = record { pos = block_start r.e; core = t.core } in
-      let made = at_start last0 u r.e r.c t.core r.has (ip.arrives r.e r.c t.core r.has r.carried) (λ p le w j. r.walks p w j) (λ p le w. r.dooms p w) in
+      let made = at_start last0 u r.e r.c t.core r.has (facts.arrives r.e r.c t.core r.has r.carried) (λ p le w j. r.walks p w j) (λ p le w. r.dooms p w) in
       inl (inl (subst (λ (z : State). Within last0 z u) (went_once g t t1 t' (ends_g rewiring t r.k r.e r.falls) st) made))
 
-  do_returns : (b : ℕ) (xs ys : List Item) (m : Since) (x y : Outcome) → Alike b xs ys m x y → (p q : Pos) (v : List ℕ) → moved g.enter q y ≡ Returned v → moved f.enter p x ≡ Returned v
-  do_returns b xs ys m (Gives v) (Gives w) e p q z h = ap Returned e ∙ h
-  do_returns b xs ys m (Falls c) (Falls d) e p q z h = cc
-  do_returns b xs ys m (Goes k c) (Goes j d) e p q z h = cc
-  do_returns b xs ys m (Falls c) (Goes j d) e p q z h = cc
-  do_returns b xs ys m (Goes k c) (Falls d) e p q z h = cc
-  do_returns b xs ys m Traps Traps e p q z h = cc
-  do_returns b xs ys m Traps (Gives w) e p q z h = absurd e
-  do_returns b xs ys m Traps (Falls d) e p q z h = cc
-  do_returns b xs ys m Traps (Goes j d) e p q z h = cc
-  do_returns b xs ys m Traps Asks e p q z h = cc
-  do_returns b xs ys m Traps Breaks e p q z h = cc
-  do_returns b xs ys m Asks Asks e p q z h = cc
-  do_returns b xs ys m Breaks Breaks e p q z h = cc
-  do_returns b xs ys m _ _ e p q z h = absurd e
+  -- where g's outcome is a return or a trap, so is f's
+  gives_too : (b : ℕ) (xs ys : List Item) (m : Since) (x : Outcome) (v : List ℕ) → DoAlike sides place relation b xs ys m x (Gives v) → x ≡ Gives v
+  gives_too b xs ys m (Gives w) v h = ap Gives h
+  gives_too b xs ys m _ v h = absurd h
 
-  do_faults : (b : ℕ) (xs ys : List Item) (m : Since) (x y : Outcome) → Alike b xs ys m x y → (p q : Pos) → moved g.enter q y ≡ Faulted → moved f.enter p x ≡ Faulted
-  do_faults b xs ys m Traps y e p q h = refl
-  do_faults b xs ys m (Gives v) (Gives w) e p q h = cc
-  do_faults b xs ys m (Falls c) (Falls d) e p q h = cc
-  do_faults b xs ys m (Goes k c) (Goes j d) e p q h = cc
-  do_faults b xs ys m (Falls c) (Goes j d) e p q h = cc
-  do_faults b xs ys m (Goes k c) (Falls d) e p q h = cc
-  do_faults b xs ys m Asks Asks e p q h = cc
-  do_faults b xs ys m Breaks Breaks e p q h = cc
-  do_faults b xs ys m _ _ e p q h = absurd e
+  traps_too : (b : ℕ) (xs ys : List Item) (m : Since) (x : Outcome) → DoAlike sides place relation b xs ys m x Traps → x ≡ Traps
+  traps_too b xs ys m Traps h = refl
+  traps_too b xs ys m _ h = absurd h
 
   abbrev Onward : State → Item → Outcome → State → Type 0
   Onward v y a t' = ((w' : State) × (moved f.enter v.pos a ≡ Went w') × Beside (waiting (since_item ByItems y) (position_of y.origin)) t' w') ⊎ ((since_item ByItems y ≡ After) × (moved f.enter v.pos a ≡ Faulted))
 
   -- after code of both
-  goes_on : (last0 : Option Pos) (t u : State) (r : Within last0 t u) (x y : Item) (xs ys : List Item) → rf r.v.pos ≡ x ∷ xs → rg t.pos ≡ y ∷ ys → x.origin ≡ y.origin → since_item ByEnds x ≡ since_item ByItems y → (a c : Outcome) →
-      ((d : Core) → c ≡ Falls d → moves_on ByItems y.kind ≡ false) → ((d : Core) → a ≡ Falls d → moves_on ByEnds x.kind ≡ false) → Alike r.v.pos.block xs ys (since_item ByEnds x) a c → (t' : State) → moved g.enter t.pos c ≡ Went t' → Onward r.v y a t'
+  goes_on : (last0 : Option Pos) (t u : State) (r : Within last0 t u) (x y : Item) (xs ys : List Item) → rest_f r.v.pos ≡ x ∷ xs → rest_g t.pos ≡ y ∷ ys → x.origin ≡ y.origin → since_item ByEnds x ≡ since_item ByItems y → (a c : Outcome) →
+      ((d : Core) → c ≡ Falls d → moves_on ByItems y.kind ≡ false) → ((d : Core) → a ≡ Falls d → moves_on ByEnds x.kind ≡ false) → DoAlike sides place relation r.v.pos.block xs ys (since_item ByEnds x) a c → (t' : State) → moved g.enter t.pos c ≡ Went t' → Onward r.v y a t'
   goes_on last0 t u r x y xs ys ef eg o sy (Falls e) (Falls e') stays stays_f al t' st =
       let b = r.v.pos.block in
-      let fe = ip.laid_f.cons r.v.pos x xs ef in
-      let ge = ip.laid_g.cons t.pos y ys eg in
+      let fe = facts.laid_f.cons r.v.pos x xs ef in
+      let ge = facts.laid_g.cons t.pos y ys eg in
       let ord = subst (InOrder b r.n) ef r.order_f in
       let last = waits_after y.origin in
       let since : since_item ByItems y ≡ since_of (waits_at false y.origin) = ap (λ (z : Bool). since_of (waits_at z y.origin)) (stays e' refl) in
@@ -282,8 +252,8 @@ module _ (rewiring : Rewiring) where
         dynamic = rw (fe.1, ge.1) al.2;
         order_f = rw fe.1 (subst (λ (z : Origin). InOrder b (next_rank z) xs) o ord.2);
         known = λ p k. let z = waits_where y.origin p k in inl (ap (λ (q : Pos). q.block) z.0 ∙ home, z.1);
-        done = done_next g ip.home t.pos b r.n (next_rank y.origin) r.last last y (sym r.block) ge.0 (λ q qb z. done_past y.origin r.n r.last q (home ∙ sym qb) low (λ k. until_here place b r.n q qb (r.known q k)) z) (λ c. done_self y.origin) r.done;
-        high = λ q k m qb fq. subst (λ (z : Origin). next_rank z ≤ 2 * k) o (ip.within_f r.v.pos q x k m fe.0 fq (sym qb));
+        done = done_next g facts.home t.pos b r.n (next_rank y.origin) r.last last y (sym r.block) ge.0 (λ q qb z. done_past y.origin r.n r.last q (home ∙ sym qb) low (λ k. until_here place b r.n q qb (r.known q k)) z) (λ c. done_self y.origin) r.done;
+        high = λ q k m qb fq. subst (λ (z : Origin). next_rank z ≤ 2 * k) o (facts.within_f r.v.pos q x k m fe.0 fq (sym qb));
         walks = λ p ok w j. j;
         dooms = λ p le w. w;
       } in
@@ -291,46 +261,46 @@ module _ (rewiring : Rewiring) where
   goes_on last0 t u r x y xs ys ef eg o sy (Goes n e) (Goes k e') stays stays_f al t' st =
       let t1 : State = record { pos = block_start k; core = e' } in
       let w1 : State = record { pos = block_start n; core = e } in
-      let went : Went t1 ≡ Went t' = ap (λ (z : ℕ). Went (record { pos = block_start z; core = e' })) (sym (ip.enter_g k)) ∙ st in
+      let went : Went t1 ≡ Went t' = ap (λ (z : ℕ). Went (record { pos = block_start z; core = e' })) (sym (facts.enter_g k)) ∙ st in
       let is : t1 ≡ t' = cc in
       let after : since_item ByItems y ≡ After = sym sy ∙ al.0 in
       let l = reaches rewiring k al.2 e e' al.3 in
-      let made = at_start None w1 k l.c e' al.1 (ip.arrives k l.c e' al.1 l.carried) (λ p le w j. l.walks p w tt j) (λ p le w. l.dooms p tt w) in
-      inl (w1, ap (λ (z : ℕ). Went (record { pos = block_start z; core = e })) (ip.enter_f n), inl (subst (λ (z : State). Within (waiting (since_item ByItems y) (position_of y.origin)) z w1) is (subst (λ (z : Since). Within (waiting z (position_of y.origin)) t1 w1) (sym after) made)))
+      let made = at_start None w1 k l.c e' al.1 (facts.arrives k l.c e' al.1 l.carried) (λ p le w j. l.walks p w tt j) (λ p le w. l.dooms p tt w) in
+      inl (w1, ap (λ (z : ℕ). Went (record { pos = block_start z; core = e })) (facts.enter_f n), inl (subst (λ (z : State). Within (waiting (since_item ByItems y) (position_of y.origin)) z w1) is (subst (λ (z : Since). Within (waiting z (position_of y.origin)) t1 w1) (sym after) made)))
   goes_on last0 t u r x y xs ys ef eg o sy (Falls e) (Goes k e') stays stays_f al t' st =
       let b = r.v.pos.block in
-      let fe = ip.laid_f.cons r.v.pos x xs ef in
-      let ge = ip.laid_g.cons t.pos y ys eg in
+      let fe = facts.laid_f.cons r.v.pos x xs ef in
+      let ge = facts.laid_g.cons t.pos y ys eg in
       let ord = subst (InOrder b r.n) ef r.order_f in
       let home : (position_of y.origin).block ≡ b = ap (λ (z : Origin). (position_of z).block) (sym o) ∙ ord.0 in
       let low : r.n ≤ rank y.origin = subst (λ (z : Origin). r.n ≤ rank z) o ord.1 in
       let t1 : State = record { pos = block_start k; core = e' } in
       let w1 : State = record { pos = below r.v.pos; core = e } in
-      let went : Went t1 ≡ Went t' = ap (λ (z : ℕ). Went (record { pos = block_start z; core = e' })) (sym (ip.enter_g k)) ∙ st in
+      let went : Went t1 ≡ Went t' = ap (λ (z : ℕ). Went (record { pos = block_start z; core = e' })) (sym (facts.enter_g k)) ∙ st in
       let is : t1 ≡ t' = cc in
       let after : since_item ByItems y ≡ After = sym sy ∙ al.0 in
       let past_y : since_of (waits_at false y.origin) ≡ After = ap (λ (z : Origin). since_of (waits_at false z)) (sym o) ∙ ap (λ (z : Bool). since_of (waits_at z x.origin)) (sym (stays_f e refl)) ∙ al.0 in
-      let done0 = done_next g ip.home t.pos b r.n (next_rank y.origin) r.last (waits_after y.origin) y (sym r.block) ge.0 (λ q qb z. done_past y.origin r.n r.last q (home ∙ sym qb) low (λ k. until_here place b r.n q qb (r.known q k)) z) (λ c. done_self y.origin) r.done in
+      let done0 = done_next g facts.home t.pos b r.n (next_rank y.origin) r.last (waits_after y.origin) y (sym r.block) ge.0 (λ q qb z. done_past y.origin r.n r.last q (home ∙ sym qb) low (λ k. until_here place b r.n q qb (r.known q k)) z) (λ c. done_self y.origin) r.done in
       let done : AllDone rewiring b (next_rank y.origin) None = subst (λ (z : Since). AllDone rewiring b (next_rank y.origin) (waiting z (position_of y.origin))) past_y (all_done b (next_rank y.origin) (waits_after y.origin) (below t.pos) r.block (ge.1 ∙ al.2) done0) in
-      elim (leaves rewiring k b al.3 (below r.v.pos) e e' (next_rank y.origin) None refl fe.1 (subst (λ (z : Origin). InOrder b (next_rank z) xs) o ord.2) (λ q j m qb fq. subst (λ (z : Origin). next_rank z ≤ 2 * j) o (ip.within_f r.v.pos q x j m fe.0 fq (sym qb))) (λ q bad qb. absurd (not_waiting rewiring q bad)) done al.4)
+      elim (leaves rewiring k b al.3 (below r.v.pos) e e' (next_rank y.origin) None refl fe.1 (subst (λ (z : Origin). InOrder b (next_rank z) xs) o ord.2) (λ q j m qb fq. subst (λ (z : Origin). next_rank z ≤ 2 * j) o (facts.within_f r.v.pos q x j m fe.0 fq (sym qb))) (λ q bad qb. absurd (not_waiting rewiring q bad)) done al.4)
       as (λ _. Onward r.v y (Falls e) t') [
         | inl l ↦
-            let made = at_start None w1 k l.c e' al.1 (ip.arrives k l.c e' al.1 l.carried) (λ p le w j. l.walks p w (not_waiting rewiring p) j) (λ p le w. l.dooms p (not_waiting rewiring p) w) in
+            let made = at_start None w1 k l.c e' al.1 (facts.arrives k l.c e' al.1 l.carried) (λ p le w j. l.walks p w (not_waiting rewiring p) j) (λ p le w. l.dooms p (not_waiting rewiring p) w) in
             inl (w1, refl, inl (subst (λ (z : State). Within (waiting (since_item ByItems y) (position_of y.origin)) z w1) is (subst (λ (z : Since). Within (waiting z (position_of y.origin)) t1 w1) (sym after) made)))
-        | inr w ↦ inl (w1, refl, inr (inr (subst (λ (z : Since). IsDoomedFrom f g fs gs (waiting z (position_of y.origin)) t' w1) (sym after) (record { on_the_way = λ t2 i w2 e2. w i.pos (record { place = t2.pos; station = i; stands = e2; from = refl }) (not_waiting rewiring i.pos) }))))
+        | inr w ↦ inl (w1, refl, inr (inr (subst (λ (z : Since). IsDoomedFrom f g (fs rewiring) (gs rewiring) (waiting z (position_of y.origin)) t' w1) (sym after) (record { on_the_way = λ t2 i w2 e2. w i.pos (record { place = t2.pos; station = i; stands = e2; from = refl }) (not_waiting rewiring i.pos) }))))
       ]
   goes_on last0 t u r x y xs ys ef eg o sy (Goes n e) (Falls e') stays stays_f al t' st =
-      let ge = ip.laid_g.cons t.pos y ys eg in
+      let ge = facts.laid_g.cons t.pos y ys eg in
       let t1 : State = record { pos = below t.pos; core = e' } in
       let w1 : State = record { pos = block_start n; core = e } in
       let is : t1 ≡ t' = cc in
       let after : since_item ByItems y ≡ After = sym sy ∙ al.0 in
       let to = al.2 in
-      let over : rg (below t.pos) ≡ [] = ge.1 ∙ al.1 in
+      let over : rest_g (below t.pos) ≡ [] = ge.1 ∙ al.1 in
       let fl = to.2 (below t.pos) r.block over in
       let l = reaches rewiring to.0 to.3 e e' to.4 in
       let made : AtDoor None t1 w1 = record { e = to.0; c = l.c; k = fl.0; has = to.1; over = over; falls = fl.1; carried = l.carried; walks = λ p w j. l.walks p w tt j; dooms = λ p w. l.dooms p tt w } in
-      inl (w1, ap (λ (z : ℕ). Went (record { pos = block_start z; core = e })) (ip.enter_f n), inr (inl (subst (λ (z : State). AtDoor (waiting (since_item ByItems y) (position_of y.origin)) z w1) is (subst (λ (z : Since). AtDoor (waiting z (position_of y.origin)) t1 w1) (sym after) made))))
+      inl (w1, ap (λ (z : ℕ). Went (record { pos = block_start z; core = e })) (facts.enter_f n), inr (inl (subst (λ (z : State). AtDoor (waiting (since_item ByItems y) (position_of y.origin)) z w1) is (subst (λ (z : Since). AtDoor (waiting z (position_of y.origin)) t1 w1) (sym after) made))))
   goes_on last0 t u r x y xs ys ef eg o sy (Gives v) (Gives w) stays stays_f al t' st = cc
   goes_on last0 t u r x y xs ys ef eg o sy Traps Traps stays stays_f al t' st = cc
   goes_on last0 t u r x y xs ys ef eg o sy Traps (Gives v) stays stays_f al t' st = absurd al
@@ -343,33 +313,34 @@ module _ (rewiring : Rewiring) where
   goes_on last0 t u r x y xs ys ef eg o sy _ _ stays stays_f al t' st = absurd al
 
   abbrev Meeting : Option Pos → State → State → Station → Type 0
-  Meeting last0 t u i = (w : State) × Walk f fs gs i.pos last0 u w × Meets f g fs Beside t w i
+  Meeting last0 t u i = (w : State) × Walk f (fs rewiring) (gs rewiring) i.pos last0 u w × Meets f g (fs rewiring) Beside t w i
 
   abbrev GoesOn : State → State → Item → Type 0
   GoesOn t' v y = ((w' : State) × (step f v ≡ Went w') × Beside (waiting (since_item ByItems y) (position_of y.origin)) t' w') ⊎ ((since_item ByItems y ≡ After) × (step f v ≡ Faulted))
 
-  meets_both : (last0 : Option Pos) (t u : State) (r : Within last0 t u) (x y : Item) (xs ys : List Item) → rf r.v.pos ≡ x ∷ xs → rg t.pos ≡ y ∷ ys → is_code x.kind ≡ true → x.origin ≡ y.origin → since_item ByEnds x ≡ since_item ByItems y → ShowsSame r.v.core t.core →
-      Alike r.v.pos.block xs ys (since_item ByEnds x) (do_item f x.kind r.v.core) (do_item g y.kind t.core) → Meeting last0 t u (station_of ByItems y)
+  meets_both : (last0 : Option Pos) (t u : State) (r : Within last0 t u) (x y : Item) (xs ys : List Item) → rest_f r.v.pos ≡ x ∷ xs → rest_g t.pos ≡ y ∷ ys → is_code x.kind ≡ true → x.origin ≡ y.origin → since_item ByEnds x ≡ since_item ByItems y → ShowsSame r.v.core t.core →
+      DoAlike sides place relation r.v.pos.block xs ys (since_item ByEnds x) (do_item f x.kind r.v.core) (do_item g y.kind t.core) → Meeting last0 t u (station_of ByItems y)
   meets_both last0 t u r x y xs ys ef eg cx o sy sh al =
       let b = r.v.pos.block in
-      let fe = ip.laid_f.cons r.v.pos x xs ef in
-      let ge = ip.laid_g.cons t.pos y ys eg in
+      let fe = facts.laid_f.cons r.v.pos x xs ef in
+      let ge = facts.laid_g.cons t.pos y ys eg in
       let a = do_item f x.kind r.v.core in
       let c = do_item g y.kind t.core in
+      let m = since_item ByEnds x in
       let go_f = step_item f r.v x a fe.0 refl in
       let go = step_item g t y c ge.0 refl in
       let sx = code_station ByEnds f r.v.pos x fe.0 cx in
       let home : (position_of y.origin).block ≡ b = ap (λ (z : Origin). (position_of z).block) (sym o) ∙ (subst (InOrder b r.n) ef r.order_f).0 in
       let near : place b ≤ place (position_of y.origin).block = (let k : place (position_of y.origin).block ≡ place b = ap place home in omega (arith, k)) in
-      let made : Meets f g fs Beside t r.v (station_of ByItems y) = record {
+      let made : Meets f g (fs rewiring) Beside t r.v (station_of ByItems y) = record {
         station = station_of ByEnds x;
         stands = sx;
         pos = ap position_of o;
         since = sy;
         events = sh.events;
         told = sh.told;
-        returns = λ rs h. go_f ∙ do_returns b xs ys (since_item ByEnds x) a c al r.v.pos t.pos rs (sym go ∙ h);
-        faults = λ h. go_f ∙ do_faults b xs ys (since_item ByEnds x) a c al r.v.pos t.pos (sym go ∙ h);
+        returns = both_return f g r.v t a c go_f go (λ v e. gives_too b xs ys m a v (subst (DoAlike sides place relation b xs ys m a) e al));
+        faults = both_fault f g r.v t a c go_f go (λ e. traps_too b xs ys m a (subst (DoAlike sides place relation b xs ys m a) e al));
         goes = λ t' h. elim (goes_on last0 t u r x y xs ys ef eg o sy a c (λ d e. falls_stays ByItems g y.kind t.core d e) (λ d e. falls_stays ByEnds f x.kind r.v.core d e) al t' (sym go ∙ h)) as (λ _. GoesOn t' r.v y) [
           | inl z ↦ inl (z.0, go_f ∙ z.1, z.2)
           | inr z ↦ inr (z.0, go_f ∙ z.1)
@@ -378,19 +349,19 @@ module _ (rewiring : Rewiring) where
       (r.v, r.walks (position_of y.origin) near r.v there, made)
 
   -- at a new jump of g
-  meets_jump : (last0 : Option Pos) (t u : State) (r : Within last0 t u) (y : Item) (ys : List Item) (k n e : ℕ) → rg t.pos ≡ y ∷ ys → position_of y.origin ≡ record { block = r.v.pos.block; item = k } → since_item ByItems y ≡ After → f.fetch r.v.pos ≡ Silent k n → Has e → To e (block_start n) → ShowsSame r.v.core t.core →
-      (d : Core) → do_item g y.kind t.core ≡ Goes e d → G e r.v.core d → Meeting last0 t u (station_of ByItems y)
+  meets_jump : (last0 : Option Pos) (t u : State) (r : Within last0 t u) (y : Item) (ys : List Item) (k n e : ℕ) → rest_g t.pos ≡ y ∷ ys → position_of y.origin ≡ record { block = r.v.pos.block; item = k } → since_item ByItems y ≡ After → f.fetch r.v.pos ≡ Silent k n → Has e → To rewiring e (block_start n) → ShowsSame r.v.core t.core →
+      (d : Core) → do_item g y.kind t.core ≡ Goes e d → Ways e r.v.core d → Meeting last0 t u (station_of ByItems y)
   meets_jump last0 t u r y ys k n e eg o af fx has to sh d goes gg =
       let b = r.v.pos.block in
-      let ge = ip.laid_g.cons t.pos y ys eg in
+      let ge = facts.laid_g.cons t.pos y ys eg in
       let w1 : State = record { pos = block_start n; core = r.v.core } in
       let t1 : State = record { pos = block_start e; core = d } in
       let go_f = ends_f rewiring r.v.pos r.v.core k n fx in
-      let go : step g t ≡ Went t1 = step_item g t y (Goes e d) ge.0 goes ∙ ap (λ (z : ℕ). Went (record { pos = block_start z; core = d })) (ip.enter_g e) in
+      let go : step g t ≡ Went t1 = step_item g t y (Goes e d) ge.0 goes ∙ ap (λ (z : ℕ). Went (record { pos = block_start z; core = d })) (facts.enter_g e) in
       let l = reaches rewiring e to r.v.core d gg in
-      let next : Beside None t1 w1 = inl (at_start None w1 e l.c d has (ip.arrives e l.c d has l.carried) (λ p le w q. l.walks p w tt q) (λ p le w. l.dooms p tt w)) in
+      let next : Beside None t1 w1 = inl (at_start None w1 e l.c d has (facts.arrives e l.c d has l.carried) (λ p le w q. l.walks p w tt q) (λ p le w. l.dooms p tt w)) in
       let near : place b ≤ place (position_of y.origin).block = (let q : place (position_of y.origin).block ≡ place b = ap (λ (z : Pos). place z.block) o in omega (arith, q)) in
-      let made : Meets f g fs Beside t r.v (station_of ByItems y) = record {
+      let made : Meets f g (fs rewiring) Beside t r.v (station_of ByItems y) = record {
         station = record { pos = record { block = b; item = k }; waits = false };
         stands = end_is_station ByEnds f r.v.pos k n fx;
         pos = sym o;
@@ -403,36 +374,42 @@ module _ (rewiring : Rewiring) where
       } in
       (r.v, r.walks (position_of y.origin) near r.v there, made)
 
-  no_end_station : {P : Type 0} (t : State) (i : Station) → rg t.pos ≡ [] → IsStationOf ByItems g t.pos i → P
-  no_end_station t i eg (of_item x fx cx ix) = absurd (not_past_items (g.fetch t.pos) x (ip.laid_g.nil t.pos eg).0 fx)
+  no_end_station : {P : Type 0} (t : State) (i : Station) → rest_g t.pos ≡ [] → IsStationOf ByItems g t.pos i → P
+  no_end_station t i eg (of_item x fx cx ix) = absurd (not_past_items (g.fetch t.pos) x (facts.laid_g.nil t.pos eg).0 fx)
   no_end_station t i eg (of_end k n fe ce ie) = cc
 
-  meets_at_view : (last0 : Option Pos) (t u : State) (r : Within last0 t u) (xs ys : List Item) → rf r.v.pos ≡ xs → rg t.pos ≡ ys → Seen r.v.pos.block r.k xs ys → (i : Station) → gs t.pos ≡ Some i → Meeting last0 t u i ⊎ IsDoomed f fs gs i.pos last0 u
-  meets_at_view last0 t u r xs ys ef eg (added {y = y} {ys = ts} cy s h) i e = absurd (debug_is_none ByItems g t.pos y i e (ip.laid_g.cons t.pos y ts eg).0 cy)
-  meets_at_view last0 t u r xs ys ef eg (paired {x = x} {y = y} {xs = rest} {ys = ts} cx cy s h) i e = absurd (debug_is_none ByItems g t.pos y i e (ip.laid_g.cons t.pos y ts eg).0 cy)
+  meets_at_view : (last0 : Option Pos) (t u : State) (r : Within last0 t u) (xs ys : List Item) → rest_f r.v.pos ≡ xs → rest_g t.pos ≡ ys → Seen r.v.pos.block r.k xs ys → (i : Station) → gs rewiring t.pos ≡ Some i → Meeting last0 t u i ⊎ IsDoomed f (fs rewiring) (gs rewiring) i.pos last0 u
+  meets_at_view last0 t u r xs ys ef eg (added {y = y} {ys = ts} cy s h) i e = absurd (debug_is_none ByItems g t.pos y i e (facts.laid_g.cons t.pos y ts eg).0 cy)
+  meets_at_view last0 t u r xs ys ef eg (paired {x = x} {y = y} {xs = rest} {ys = ts} cx cy s h) i e = absurd (debug_is_none ByItems g t.pos y i e (facts.laid_g.cons t.pos y ts eg).0 cy)
   meets_at_view last0 t u r xs ys ef eg (ended n has falls rest h) i e = no_end_station t i eg (station_is_of ByItems g t.pos i e)
   meets_at_view last0 t u r xs ys ef eg (both {x = x} {y = y} {xs = rest} {ys = ts} cx cy o sy sh h) i e =
       let q = dynamic_at last0 t u r xs ys ef eg in
-      subst (λ (z : Station). Meeting last0 t u z ⊎ IsDoomed f fs gs z.pos last0 u) (code_is ByItems g t.pos y i e (ip.laid_g.cons t.pos y ts eg).0 cy)
+      subst (λ (z : Station). Meeting last0 t u z ⊎ IsDoomed f (fs rewiring) (gs rewiring) z.pos last0 u) (code_is ByItems g t.pos y i e (facts.laid_g.cons t.pos y ts eg).0 cy)
       (inl (meets_both last0 t u r x y rest ts ef eg cx o sy (sh r.v.core t.core q) (h r.v.core t.core q)))
   meets_at_view last0 t u r xs ys ef eg (closes {y = y} {ys = ts} k n to cy o af sh at has way h) i e =
       let q = dynamic_at last0 t u r xs ys ef eg in
       let d = h r.v.core t.core q in
-      subst (λ (z : Station). Meeting last0 t u z ⊎ IsDoomed f fs gs z.pos last0 u) (code_is ByItems g t.pos y i e (ip.laid_g.cons t.pos y ts eg).0 cy)
+      subst (λ (z : Station). Meeting last0 t u z ⊎ IsDoomed f (fs rewiring) (gs rewiring) z.pos last0 u) (code_is ByItems g t.pos y i e (facts.laid_g.cons t.pos y ts eg).0 cy)
       (inl (meets_jump last0 t u r y ts k n to eg o af (at r.v.pos refl ef) has way (sh r.v.core t.core q) d.0 d.1 d.2))
 
-  meets : (last0 : Option Pos) (t u : State) (i : Station) → Beside last0 t u → gs t.pos ≡ Some i → Meeting last0 t u i ⊎ IsDoomed f fs gs i.pos last0 u
-  meets last0 t u i (inl r) e = meets_at_view last0 t u r (rf r.v.pos) (rg t.pos) refl refl (ip.view r.k r.v.pos.block (rf r.v.pos) (rg t.pos) r.static) i e
+  meets : (last0 : Option Pos) (t u : State) (i : Station) → Beside last0 t u → gs rewiring t.pos ≡ Some i → Meeting last0 t u i ⊎ IsDoomed f (fs rewiring) (gs rewiring) i.pos last0 u
+  meets last0 t u i (inl r) e = meets_at_view last0 t u r (rest_f r.v.pos) (rest_g t.pos) refl refl (facts.view r.k r.v.pos.block (rest_f r.v.pos) (rest_g t.pos) r.static) i e
   meets last0 t u i (inr (inr w)) e = inr (w.on_the_way t i still e)
   meets last0 t u i (inr (inl r)) e = no_end_station t i r.over (station_is_of ByItems g t.pos i e)
 
-  pub rewired_runs_along : (src : Program) (s0 : State) (b : ℕ) → s0.pos ≡ block_start b → Has b → Q (entry b) b (rf (block_start b)) (rg (block_start b)) s0.core s0.core → RunsAlong src f fs (AnyOrigin fs) s0 s0 → RunsAlong src g gs (AnyOrigin gs) s0 s0
-  rewired_runs_along src s0 b at has q follows =
+  pub rewired_runs_along : (src : Program) (b : ℕ) → s0.pos ≡ block_start b → g0.pos ≡ block_start b → Has b →
+      Cores (entry b) b (rest_f (block_start b)) (rest_g (block_start b)) s0.core g0.core →
+      RunsAlong src f (fs rewiring) (AnyOrigin (fs rewiring)) s0 s0 → RunsAlong src g (gs rewiring) (AnyOrigin (gs rewiring)) s0 g0
+  rewired_runs_along src b at at_g has q follows =
       let s1 : State = record { pos = block_start b; core = s0.core } in
-      let e : s1 ≡ s0 = λ i. record { pos = sym at i; core = s0.core } in
-      still_follows src f g fs gs Beside s0 s0 s0 follows (refines_or_doomed src f g s0 fs gs Beside ip.origins between meets)
-      (inl (subst (λ (z : State). Within None z z) e (at_start None s1 b s0.core s0.core has q (λ p le w j. j) (λ p le w. w))))
+      let g1 : State = record { pos = block_start b; core = g0.core } in
+      let is : s1 ≡ s0 = λ i. record { pos = sym at i; core = s0.core } in
+      let is_g : g1 ≡ g0 = λ i. record { pos = sym at_g i; core = g0.core } in
+      let made : Within None g1 s1 = at_start None s1 b s0.core g0.core has q (λ p le w j. j) (λ p le w. w) in
+      still_follows src f g (fs rewiring) (gs rewiring) Beside s0 s0 g0 follows
+      (refines_or_doomed src f g s0 (fs rewiring) (gs rewiring) Beside facts.origins between meets)
+      (inl (subst (λ (z : State). Within None z s0) is_g (subst (λ (z : State). Within None g1 z) is made)))
 
-pub rewired_follows : (Has : ℕ → Type 0) (Stage : Type 0) (entry : ℕ → Stage) (S : Stage → ℕ → List Item → List Item → Type 0) (Q : Stage → ℕ → List Item → List Item → Core → Core → Type 0) (G : ℕ → Core → Core → Type 0) → RewiredFollows Has Stage entry S Q G
-rewired_follows Has Stage entry S Q G src f g rf rg place ip s0 b at has q follows =
-    rewired_runs_along (record { f = f; g = g; rf = rf; rg = rg; place = place; Has = Has; Stage = Stage; entry = entry; S = S; Q = Q; G = G; ip = ip }) src s0 b at has q follows
+pub rewired_follows : (relation : RewiredRelation) → RewiredFollows relation
+rewired_follows relation src sides place b facts at at_g has q follows =
+    rewired_runs_along (record { sides = sides; place = place; relation = relation; facts = facts }) src b at at_g has q follows

@@ -10,7 +10,7 @@ use Rattle.mir_meaning.specs.Step.{Falls, does, act, with_core, numbered, is_cal
 use Rattle.mir_func.specs.Graph.{Program, Fetch, Here, Silent, Outside, below}
 use Rattle.mir_func.specs.Graph.{KindEdge}
 use Rattle.mir_meaning.specs.Align.{is_code, is_jump, is_jump_row, Station, Count, ByItems, ByEnds, ByWords, moves_on, station_of, item_station, end_station, fetch_station, station_at}
-use Rattle.simulation.specs.InPlace.{IsPastItems}
+use Rattle.simulation.specs.Sides.{IsPastItems}
 
 module _ (ct : Count) (h : Program) (p : Pos) where
   pub code_station : (x : Item) → h.fetch p ≡ Here x → is_code x.kind ≡ true → station_at ct h p ≡ Some (station_of ct x)
