@@ -16,7 +16,8 @@ use Rattle.mir_func.specs.Graph.{Program, block_start}
 use Rattle.mir_func.specs.Graph.{from_block, index_of, program_of}
 use Rattle.mir_meaning.specs.Align.{is_code, is_jump, is_jump_row, Count, end_station, station_at, IsOrigin, Since, After, AnyOrigin, RunsAlong}
 use Rattle.mir_meaning.specs.Follow.{InOrder}
-use Rattle.simulation.specs.InPlace.{FallsOrTraps, since_item, DoAlike, View, ended, both, taken, paired, InPlace}
+use Rattle.simulation.specs.Sides.{Sides, Relation, since_item}
+use Rattle.simulation.specs.InPlace.{FallsOrTraps, DoAlike, View, ended, both, taken, paired, InPlace}
 use Rattle.mir_meaning.proofs.Effects.{told_by, act_apart}
 use Rattle.mir_meaning.specs.Effects.{EndAlike, OnCore}
 use Rattle.mir_meaning.proofs.Places.{updated_other}
@@ -148,17 +149,18 @@ module _ (busy : Bool) (blocks : List Block) (resolve : ℕ → ℕ → Option (
     abbrev rg : Pos → List Item
     rg = rest_of (thinned_blocks busy blocks)
 
-    -- nothing is known but the rests: there is one stage
-    abbrev S : Unit {0} → ℕ → List Item → List Item → Type 0
-    S k b xs ys = (ys ≡ filter (stays busy) xs) × All (IsSteady ct) xs
+    abbrev sides : Sides
+    sides = record { old = record { program = f; rest = rf; start = s0 }; new = record { program = g; rest = rg; start = s0 } }
 
-    abbrev Q : Unit {0} → ℕ → List Item → List Item → Core → Core → Type 0
-    Q k b xs ys c d = Kin c d
+    abbrev relation : Relation
+    relation = record {
+      Stage = Unit {0};
+      entry = λ n. tt;
+      Rests = λ k b xs ys. (ys ≡ filter (stays busy) xs) × All (IsSteady ct) xs;
+      Cores = λ k b xs ys c d. Kin c d;
+    }
 
-    abbrev entry : ℕ → Unit {0}
-    entry n = tt
-
-    alike_do : (b : ℕ) (xs ys : List Item) (m : Since) (o p : Outcome) → ((c' : Core) (n : ℕ) → o ≡ Goes n c' → m ≡ After) → EndAlike Kin o p → DoAlike ct src f g s0 rf rg (Unit {0}) entry S Q b xs ys m tt o p
+    alike_do : (b : ℕ) (xs ys : List Item) (m : Since) (o p : Outcome) → ((c' : Core) (n : ℕ) → o ≡ Goes n c' → m ≡ After) → EndAlike Kin o p → DoAlike ct src sides relation b xs ys m tt o p
     alike_do b xs ys m (Falls c) (Falls d) go h = h
     alike_do b xs ys m (Goes j c) (Goes k d) go h = (h.0, go c j refl, h.1)
     alike_do b xs ys m (Gives v) (Gives w) go h = h
@@ -173,19 +175,19 @@ module _ (busy : Bool) (blocks : List Block) (resolve : ℕ → ℕ → Option (
     debug_falls (Phi p n) e c d h = (_, _, refl, refl, h)
 
     view_at : (b : ℕ) (x : Item) (xs : List Item) → IsSteady ct x → All (IsSteady ct) xs → (z : Bool) → stays busy x ≡ z →
-        View ct src f g s0 rf rg (Unit {0}) entry S Q b tt (x ∷ xs) (cond z (x ∷ filter (stays busy) xs) (filter (stays busy) xs))
+        View ct src sides relation b tt (x ∷ xs) (cond z (x ∷ filter (stays busy) xs) (filter (stays busy) xs))
     view_at b x xs s rest true k = by_code (is_code x.kind) refl where
-      by_code : (z : Bool) → is_code x.kind ≡ z → View ct src f g s0 rf rg (Unit {0}) entry S Q b tt (x ∷ xs) (x ∷ filter (stays busy) xs)
+      by_code : (z : Bool) → is_code x.kind ≡ z → View ct src sides relation b tt (x ∷ xs) (x ∷ filter (stays busy) xs)
       by_code true code = both {k' = tt} code code refl refl (refl, rest) (λ c d h. alike_do b xs (filter (stays busy) xs) (since_item ct x) (do_item f x.kind c) (do_item g x.kind d) (λ c' n e. s.moves c c' n e) (item_kin x.kind c d h (s.own k)))
       by_code false code = paired {k' = tt} code code (refl, rest) (λ c d h. debug_falls x.kind code c d (item_kin x.kind c d h (s.own k)))
     view_at b x xs s rest false k =
         let nop : is_nop x.kind ≡ true = out_is busy (is_nop x.kind) k in
         taken {k' = tt} (nop_is_code x.kind nop) (moves_on_less ct x.kind (no_jump x.kind nop)) (refl, rest) (λ c d h. nop_kin _ x.kind c d nop h (s.gone k))
 
-    view : (k : Unit {0}) (b : ℕ) (xs ys : List Item) → S k b xs ys → View ct src f g s0 rf rg (Unit {0}) entry S Q b tt xs ys
-    view k b [] ys (e, steady) = subst (View ct src f g s0 rf rg (Unit {0}) entry S Q b tt []) (sym e) ended
+    view : (k : Unit {0}) (b : ℕ) (xs ys : List Item) → relation.Rests k b xs ys → View ct src sides relation b tt xs ys
+    view k b [] ys (e, steady) = subst (View ct src sides relation b tt []) (sym e) ended
     view k b (x ∷ xs) ys (e, steady) =
-        subst (View ct src f g s0 rf rg (Unit {0}) entry S Q b tt (x ∷ xs)) (sym e) (view_at b x xs (All-head (IsSteady ct) x xs steady) (All-tail (IsSteady ct) x xs steady) (stays busy x) refl)
+        subst (View ct src sides relation b tt (x ∷ xs)) (sym e) (view_at b x xs (All-head (IsSteady ct) x xs steady) (All-tail (IsSteady ct) x xs steady) (stays busy x) refl)
 
     rest_steady : All (λ (b : Block). All (IsSteady ct) b.items) blocks → (n : ℕ) → All (IsSteady ct) (rf (block_start n))
     rest_steady h n = by_blocks (from_block blocks n) refl where
@@ -210,8 +212,8 @@ module _ (busy : Bool) (blocks : List Block) (resolve : ℕ → ℕ → Option (
         All (λ (b : Block). All (λ (i : Item). OriginIn b i.origin) b.items) blocks → All (λ (b : Block). All (λ (i : Item). OriginIn b i.origin) b.items) (thinned_blocks busy blocks) →
         s0.pos.item ≡ 0 → Kin s0.core s0.core →
         RunsAlong src f (station_at ct f) (AnyOrigin (station_at ct f)) s0 s0 → RunsAlong src g (station_at ct g) (AnyOrigin (station_at ct g)) s0 s0
-    nops_run steady apart ordered ordered' origins origins' first kin runs = in_place_follows (Unit {0}) entry S Q ct src f g rf rg (index_of blocks) s0 in_place first kin runs where
-      in_place : InPlace ct src f g s0 rf rg (Unit {0}) entry S Q (index_of blocks)
+    nops_run steady apart ordered ordered' origins origins' first kin runs = in_place_follows relation ct src sides (index_of blocks) in_place first refl kin runs where
+      in_place : InPlace ct src sides relation (index_of blocks)
       in_place = record {
         laid_f = laid_out false blocks resolve;
         laid_g = laid_out false (thinned_blocks busy blocks) resolve;
