@@ -14,7 +14,8 @@ use Rattle.follow_law.specs.Steps.{Step, EachCode, KeepsSteps, ChangeNoCode}
 
 -- what steps keep in turn
 pub steps_then : (steps more : List Step) (f : Function) (fs : List Entry) (g : Function) (gs : List Entry) (h : Function) (hs : List Entry) (a b : List Loss) →
-    KeepsSteps steps (record { old = f; old_subs = fs; new = g; new_subs = gs }) a → KeepsSteps more (record { old = g; old_subs = gs; new = h; new_subs = hs }) b →
+    KeepsSteps steps (record { old = f; old_subs = fs; new = g; new_subs = gs }) a →
+    KeepsSteps more (record { old = g; old_subs = gs; new = h; new_subs = hs }) b →
     KeepsSteps (steps ++ more) (record { old = f; old_subs = fs; new = h; new_subs = hs }) (a ++ b)
 steps_then [] more f fs g gs h hs a b (ef, es, ea) y =
     let P : Function → Type 0 = λ x. KeepsSteps more (record { old = x; old_subs = gs; new = h; new_subs = hs }) b in
@@ -25,7 +26,8 @@ steps_then (s ∷ steps) more f fs g gs h hs a b (m, ms, here, later, k, rest, e
     (m, ms, here, later ++ b, k, steps_then steps more m ms g gs h hs later b rest y, ap (λ x. x ++ b) e ∙ append_assoc here later b)
 
 -- debug items change no code: step by step
-alike_after : (steps : List Step) → EachCode SeesCodeAlone steps → (c d : Change) (lost lost' : List Loss) → KeepsSteps steps c lost → KeepsSteps steps d lost' →
+alike_after : (steps : List Step) → EachCode SeesCodeAlone steps → (c d : Change) (lost lost' : List Loss) → KeepsSteps steps c lost →
+    KeepsSteps steps d lost' →
     AreAlike (stripped c.old) (stripped d.old) → AreAlike (stripped c.new) (stripped d.new)
 alike_after [] sees c d lost lost' k k' h =
     let bare : Function → Function = λ f. placeless (stripped f) in
@@ -45,8 +47,10 @@ pub change_no_code : (steps : List Step) → EachCode HasOneResult steps → Eac
 change_no_code steps one sees = record { alike = alike_after steps sees; same = same_after steps one }
 
 -- what both keep, where the one keeps what the other asks for
-pub following_then : (asks keeps asks' keeps' : Bool) (f : Function) (fs : List Entry) (g : Function) (gs : List Entry) (h : Function) (hs : List Entry) → (IsTrue asks' → IsTrue keeps) →
-    KeepsFollowing asks keeps (record { old = f; old_subs = fs; new = g; new_subs = gs }) → KeepsFollowing asks' keeps' (record { old = g; old_subs = gs; new = h; new_subs = hs }) →
+pub following_then : (asks keeps asks' keeps' : Bool) (f : Function) (fs : List Entry) (g : Function) (gs : List Entry) (h : Function) (hs : List Entry) →
+    (IsTrue asks' → IsTrue keeps) →
+    KeepsFollowing asks keeps (record { old = f; old_subs = fs; new = g; new_subs = gs }) →
+    KeepsFollowing asks' keeps' (record { old = g; old_subs = gs; new = h; new_subs = hs }) →
     KeepsFollowing (asks || asks') (keeps && keeps') (record { old = f; old_subs = fs; new = h; new_subs = hs })
 following_then asks keeps asks' keeps' f fs g gs h hs fit x y = record {
   follows = λ src fol ends. y.follows src (x.follows src fol (λ a. ends (or_left asks asks' a))) (λ a. x.ends (fit a) src fol (ends (or_right asks asks' a)));

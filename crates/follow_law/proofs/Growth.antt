@@ -20,7 +20,8 @@ inner : (a m b n x : ℕ) → 1 ≤ a → 1 ≤ b → most a m x + 1024 * n ≤ 
 inner a m b n x ha hb =
     let w : ℕ = x + 1024 * m in
     let wide : w + 1024 * n ≤ x + 1024 * (m * b + n) = let k = le_times m b hb in omega (arith, k) in
-    replaced (a * w) (a * (1024 * n)) (a * (w + 1024 * n)) (a * (x + 1024 * (m * b + n))) (1024 * n) (mul-add a w (1024 * n)) (le_times_left a (1024 * n) ha) (mul-le-mul_left a wide)
+    replaced (a * w) (a * (1024 * n)) (a * (w + 1024 * n)) (a * (x + 1024 * (m * b + n))) (1024 * n) (mul-add a w (1024 * n)) (le_times_left a (1024 * n) ha)
+        (mul-le-mul_left a wide)
 
 -- the items that the other makes of those that the one made
 pub most_then : (a m b n x y : ℕ) → 1 ≤ a → 1 ≤ b → y ≤ most a m x → most b n y ≤ most (a * b) (m * b + n) x

@@ -1,5 +1,6 @@
 -- The run of a function without its no-operations.
-use Rattle.std.proofs.Common.{◌≡◌, ℕ, zero, List, [], ◌∷◌, filter, All, Contains, Option, Some, None, Bool, true, false, cond, not, ◌&&◌, refl, sym, ap, ◌∙◌, subst, inl, inr, ◌⊎◌, slice_get, arith}
+use Rattle.std.proofs.Common.{◌≡◌, ℕ, zero, List, [], ◌∷◌, filter, All, Contains, Option, Some, None, Bool, true, false, cond, not, ◌&&◌, refl, sym, ap, ◌∙◌}
+use Rattle.std.proofs.Common.{subst, inl, inr, ◌⊎◌, slice_get, arith}
 use Rattle.std.proofs.lemmas.Bool.{cases_eq}
 use Rattle.std.proofs.lemmas.List.Elements.{All-head, All-tail, All-contains}
 use Rattle.rv64_instr.specs.declared.operand.Operand.{Operand}
@@ -11,7 +12,8 @@ use Rattle.mir_func.specs.declared.item.ItemKind.{ItemKind}
 use Rattle.mir_func.specs.declared.item.ItemKind.TheVariants.{Code, Mark, Phi}
 use Rattle.mir_func.specs.Sound.{AreApart, ids_of, items_of, number_of, code_number, OriginIn}
 use Rattle.mir_meaning.specs.State.{Core, State, updated}
-use Rattle.mir_meaning.specs.Step.{Outcome, Falls, Goes, Gives, Traps, Asks, Breaks, act, does, with_core, is_call, numbered, given, defined, place_value, do_item}
+use Rattle.mir_meaning.specs.Step.{Outcome, Falls, Goes, Gives, Traps, Asks, Breaks, act, does, with_core, is_call, numbered, given, defined, place_value}
+use Rattle.mir_meaning.specs.Step.{do_item}
 use Rattle.mir_func.specs.Graph.{Program, block_start}
 use Rattle.mir_func.specs.Graph.{from_block, index_of, program_of}
 use Rattle.mir_meaning.specs.Align.{is_code, is_jump, is_jump_row, Count, end_station, station_at, IsOrigin, Since, After, AnyOrigin, RunsAlong}
@@ -95,7 +97,8 @@ module _ (busy : Bool) (blocks : List Block) (resolve : ℕ → ℕ → Option (
   none_after : (n : ℕ) (v : ℕ → Option ℕ) (d : Core) → HasNone d → (IsGone n → ⊥) → (k o : ℕ) → IsGone k → updated n v d.pairs k o ≡ None
   none_after n v d h far k o gone = ap (λ (z : ℕ → Option ℕ). z o) (updated_other n k v d.pairs (λ e. far (subst IsGone e gone))) ∙ h k o gone
 
-  none_numbered : (call : Bool) (n : Option ℕ) (os : List Operand) (d : Core) → HasNone d → ((k : ℕ) → n ≡ Some k → IsGone k → ⊥) → HasNone (numbered false call n os d)
+  none_numbered : (call : Bool) (n : Option ℕ) (os : List Operand) (d : Core) → HasNone d → ((k : ℕ) → n ≡ Some k → IsGone k → ⊥) →
+      HasNone (numbered false call n os d)
   none_numbered call None os d h far = h
   none_numbered call (Some n) os d h far = none_after n _ d h (far n refl)
 
@@ -118,7 +121,8 @@ module _ (busy : Bool) (blocks : List Block) (resolve : ℕ → ℕ → Option (
   item_kin x c d h far = alike_and TellsLess HasNone (do_item f x c) (do_item g x d) (item_less f g sees_same x c d h.0) (none_kept x d h.1 far)
 
   -- a no-operation leaves all but the pairs of its number
-  pub nop_kin : (may : Type 0) (x : ItemKind) (c d : Core) → is_nop x ≡ true → Kin c d → ((k : ℕ) → code_number x ≡ Some k → IsGone k) → FallsOrTraps may (λ e. Kin e d) (do_item f x c)
+  pub nop_kin : (may : Type 0) (x : ItemKind) (c d : Core) → is_nop x ≡ true → Kin c d → ((k : ℕ) → code_number x ≡ Some k → IsGone k) →
+      FallsOrTraps may (λ e. Kin e d) (do_item f x c)
   nop_kin may (Mark v m) c d e h gone = cc
   nop_kin may (Phi p n) c d e h gone = cc
   nop_kin may (Code i n) c d e h gone = by_row (row_of i) e where
@@ -160,7 +164,8 @@ module _ (busy : Bool) (blocks : List Block) (resolve : ℕ → ℕ → Option (
       Cores = λ k b xs ys c d. Kin c d;
     }
 
-    alike_do : (b : ℕ) (xs ys : List Item) (m : Since) (o p : Outcome) → ((c' : Core) (n : ℕ) → o ≡ Goes n c' → m ≡ After) → EndAlike Kin o p → DoAlike ct src sides relation b xs ys m tt o p
+    alike_do : (b : ℕ) (xs ys : List Item) (m : Since) (o p : Outcome) → ((c' : Core) (n : ℕ) → o ≡ Goes n c' → m ≡ After) → EndAlike Kin o p →
+        DoAlike ct src sides relation b xs ys m tt o p
     alike_do b xs ys m (Falls c) (Falls d) go h = h
     alike_do b xs ys m (Goes j c) (Goes k d) go h = (h.0, go c j refl, h.1)
     alike_do b xs ys m (Gives v) (Gives w) go h = h
@@ -169,7 +174,8 @@ module _ (busy : Bool) (blocks : List Block) (resolve : ℕ → ℕ → Option (
     alike_do b xs ys m Breaks Breaks go h = tt
     alike_do b xs ys m _ _ go h = absurd h
 
-    debug_falls : (x : ItemKind) → is_code x ≡ false → (c d : Core) → EndAlike Kin (do_item f x c) (do_item g x d) → (e e' : Core) × (do_item f x c ≡ Falls e) × (do_item g x d ≡ Falls e') × Kin e e'
+    debug_falls : (x : ItemKind) → is_code x ≡ false → (c d : Core) → EndAlike Kin (do_item f x c) (do_item g x d) →
+        (e e' : Core) × (do_item f x c ≡ Falls e) × (do_item g x d ≡ Falls e') × Kin e e'
     debug_falls (Code i n) e c d h = cc
     debug_falls (Mark v m) e c d h = (_, _, refl, refl, h)
     debug_falls (Phi p n) e c d h = (_, _, refl, refl, h)
@@ -178,7 +184,9 @@ module _ (busy : Bool) (blocks : List Block) (resolve : ℕ → ℕ → Option (
         View ct src sides relation b tt (x ∷ xs) (cond z (x ∷ filter (stays busy) xs) (filter (stays busy) xs))
     view_at b x xs s rest true k = by_code (is_code x.kind) refl where
       by_code : (z : Bool) → is_code x.kind ≡ z → View ct src sides relation b tt (x ∷ xs) (x ∷ filter (stays busy) xs)
-      by_code true code = both {k' = tt} code code refl refl (refl, rest) (λ c d h. alike_do b xs (filter (stays busy) xs) (since_item ct x) (do_item f x.kind c) (do_item g x.kind d) (λ c' n e. s.moves c c' n e) (item_kin x.kind c d h (s.own k)))
+      by_code true code = both {k' = tt} code code refl refl (refl, rest)
+          (λ c d h. alike_do b xs (filter (stays busy) xs) (since_item ct x) (do_item f x.kind c) (do_item g x.kind d) (λ c' n e. s.moves c c' n e)
+              (item_kin x.kind c d h (s.own k)))
       by_code false code = paired {k' = tt} code code (refl, rest) (λ c d h. debug_falls x.kind code c d (item_kin x.kind c d h (s.own k)))
     view_at b x xs s rest false k =
         let nop : is_nop x.kind ≡ true = out_is busy (is_nop x.kind) k in
@@ -187,7 +195,8 @@ module _ (busy : Bool) (blocks : List Block) (resolve : ℕ → ℕ → Option (
     view : (k : Unit {0}) (b : ℕ) (xs ys : List Item) → relation.Rests k b xs ys → View ct src sides relation b tt xs ys
     view k b [] ys (e, steady) = subst (View ct src sides relation b tt []) (sym e) ended
     view k b (x ∷ xs) ys (e, steady) =
-        subst (View ct src sides relation b tt (x ∷ xs)) (sym e) (view_at b x xs (All-head (IsSteady ct) x xs steady) (All-tail (IsSteady ct) x xs steady) (stays busy x) refl)
+        subst (View ct src sides relation b tt (x ∷ xs)) (sym e)
+            (view_at b x xs (All-head (IsSteady ct) x xs steady) (All-tail (IsSteady ct) x xs steady) (stays busy x) refl)
 
     rest_steady : All (λ (b : Block). All (IsSteady ct) b.items) blocks → (n : ℕ) → All (IsSteady ct) (rf (block_start n))
     rest_steady h n = by_blocks (from_block blocks n) refl where
@@ -195,7 +204,8 @@ module _ (busy : Bool) (blocks : List Block) (resolve : ℕ → ℕ → Option (
       by_blocks [] e = none where
         none : All (IsSteady ct) []
         none k d lt = absurd (omega (arith, lt))
-      by_blocks (b ∷ bs) e = subst (All (IsSteady ct)) (sym (drop_zero b.items)) (All-contains (λ (b : Block). All (IsSteady ct) b.items) blocks b h (found_in blocks n b bs e).0)
+      by_blocks (b ∷ bs) e = subst (All (IsSteady ct)) (sym (drop_zero b.items))
+          (All-contains (λ (b : Block). All (IsSteady ct) b.items) blocks b h (found_in blocks n b bs e).0)
 
     origin_from : (p : Pos) → IsOrigin (station_at ct g) p → IsOrigin (station_at ct f) p
     origin_from p o = by_station (station_is_of ct g o.place o.station o.stands) where
@@ -205,14 +215,19 @@ module _ (busy : Bool) (blocks : List Block) (resolve : ℕ → ℕ → Option (
           record { place = w.0; station = o.station; stands = code_station ct f w.0 x w.2 code ∙ ap Some st; from = o.from }
       by_station (of_end k n at ends st) =
           let w = end_from (stays busy) false blocks resolve o.place k n at in
-          record { place = w.0; station = o.station; stands = end_is_station ct f w.0 k n w.2 ∙ ap (λ (z : ℕ). end_station ct (record { block = z; item = k })) w.1 ∙ ap (λ (z : Count). end_station z (record { block = o.place.block; item = k })) ends ∙ ap Some (sym st); from = o.from }
+          record { place = w.0; station = o.station;
+              stands = end_is_station ct f w.0 k n w.2 ∙ ap (λ (z : ℕ). end_station ct (record { block = z; item = k })) w.1 ∙
+                  ap (λ (z : Count). end_station z (record { block = o.place.block; item = k })) ends ∙ ap Some (sym st); from = o.from }
 
     -- the function without its no-operations runs along where it did
-    pub nops_run : All (λ (b : Block). All (IsSteady ct) b.items) blocks → AreApart (ids_of blocks) → All (λ (b : Block). InOrder b.id 0 b.items) blocks → All (λ (b : Block). InOrder b.id 0 b.items) (thinned_blocks busy blocks) →
-        All (λ (b : Block). All (λ (i : Item). OriginIn b i.origin) b.items) blocks → All (λ (b : Block). All (λ (i : Item). OriginIn b i.origin) b.items) (thinned_blocks busy blocks) →
+    pub nops_run : All (λ (b : Block). All (IsSteady ct) b.items) blocks → AreApart (ids_of blocks) → All (λ (b : Block). InOrder b.id 0 b.items) blocks →
+        All (λ (b : Block). InOrder b.id 0 b.items) (thinned_blocks busy blocks) →
+        All (λ (b : Block). All (λ (i : Item). OriginIn b i.origin) b.items) blocks →
+        All (λ (b : Block). All (λ (i : Item). OriginIn b i.origin) b.items) (thinned_blocks busy blocks) →
         s0.pos.item ≡ 0 → Kin s0.core s0.core →
         RunsAlong src f (station_at ct f) (AnyOrigin (station_at ct f)) s0 s0 → RunsAlong src g (station_at ct g) (AnyOrigin (station_at ct g)) s0 s0
-    nops_run steady apart ordered ordered' origins origins' first kin runs = in_place_follows relation ct src sides (index_of blocks) in_place first refl kin runs where
+    nops_run steady apart ordered ordered' origins origins' first kin runs =
+        in_place_follows relation ct src sides (index_of blocks) in_place first refl kin runs where
       in_place : InPlace ct src sides relation (index_of blocks)
       in_place = record {
         laid_f = laid_out false blocks resolve;
@@ -225,10 +240,12 @@ module _ (busy : Bool) (blocks : List Block) (resolve : ℕ → ℕ → Option (
         order_g = in_order_at false (thinned_blocks busy blocks) resolve ordered';
         home = from_home false (thinned_blocks busy blocks) resolve origins';
         within = from_within false (thinned_blocks busy blocks) resolve origins';
-        within_f = λ q e x k n at ends same. (let w = end_from (stays busy) false blocks resolve e k n ends in from_before_end false blocks resolve origins q w.0 x k n at w.2 (same ∙ sym w.1));
+        within_f = λ q e x k n at ends same. (let w = end_from (stays busy) false blocks resolve e k n ends in
+            from_before_end false blocks resolve origins q w.0 x k n at w.2 (same ∙ sym w.1));
         one_end = one_end false (thinned_blocks busy blocks) resolve;
         origins = origin_from;
-        onward = λ p q k n same none none' ends. (let there = end_there (stays busy) false blocks resolve p q k n same none ends in (there, falls_down false blocks resolve apart p k n there));
+        onward = λ p q k n same none none' ends.
+            (let there = end_there (stays busy) false blocks resolve p q k n same none ends in (there, falls_down false blocks resolve apart p k n there));
         ends = λ k p j n c d at fetch s h. h;
         shows = λ k b xs ys c d h. record { events = ap (λ (z : Core). z.events) (sym h.0.same); told = h.0.marks };
       }

@@ -1,6 +1,7 @@
 -- The causes of losses: for each reason, when a pass may give it. They are said over the function before the pass and
 -- the one after it.
-use Rattle.std.specs.Prelude.{◌≡◌, ◌⊎◌, ℕ, ◌<◌, ◌≤◌, List, [], ◌∷◌, length, take, filter, count_by, All, Contains, Option, Some, None, Bool, true, false, not, ◌&&◌, nat_eq}
+use Rattle.std.specs.Prelude.{◌≡◌, ◌⊎◌, ℕ, ◌<◌, ◌≤◌, List, [], ◌∷◌, length, take, filter, count_by, All, Contains, Option, Some, None, Bool, true, false, not}
+use Rattle.std.specs.Prelude.{◌&&◌, nat_eq}
 use Rattle.std.specs.List.{list_any}
 use Rattle.rv64_instr.specs.declared.operand.Operand.{Operand}
 use Rattle.rv64_instr.specs.declared.operand.Operand.TheVariants.{Def, Use, ImplicitDef, ImplicitUse, Imm, Slot as OfSlot, Block as OfBlock, Symbol, Mask}
@@ -149,7 +150,8 @@ module _ (rule : Rule) (c : Change) where
     -- the register got another one, and a path leads there from the start without a definition of it
     unset : {r now : ℕ} {at : Pos} → rule.renames c r now → Comes old_program (λ q. q ≡ old_start) (IsDefinition r) at → IsWrong (Register r) at
     -- a path leads there, without a definition of the register, from a definition of another that now is the same
-    overwritten : {r now : ℕ} {at : Pos} → IsNow rule c r now → Comes old_program (IsAfter (IsOtherDefinition r now)) (IsDefinition r) at → IsWrong (Register r) at
+    overwritten : {r now : ℕ} {at : Pos} → IsNow rule c r now → Comes old_program (IsAfter (IsOtherDefinition r now)) (IsDefinition r) at →
+        IsWrong (Register r) at
 
   -- the block could be reached, or not; and it is gone
   abbrev pub IsReached : (block : ℕ) → Type 0

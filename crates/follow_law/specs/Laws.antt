@@ -46,7 +46,8 @@ save_placeless (Code i n) (Before p) = refl
 save_placeless (Mark v m) o = refl
 save_placeless (Phi p n) o = refl
 
-saves_in_placeless : (xs : List Item) → list_any (λ (i : Item). is_added_save i.kind i.origin) (map placeless_item xs) ≡ list_any (λ (i : Item). is_added_save i.kind i.origin) xs
+saves_in_placeless : (xs : List Item) →
+    list_any (λ (i : Item). is_added_save i.kind i.origin) (map placeless_item xs) ≡ list_any (λ (i : Item). is_added_save i.kind i.origin) xs
 saves_in_placeless [] = refl
 saves_in_placeless (x ∷ xs) = let e = save_placeless x.kind x.origin in let es = saves_in_placeless xs in λ i. e i || es i
 
@@ -72,7 +73,8 @@ blocks_placeless busy (b ∷ bs) =
 
 thinned_placeless : (f : Function) → placeless (thinned f) ≡ thinned (placeless f)
 thinned_placeless f =
-    let e = blocks_placeless (has_added_saves f.blocks) f.blocks ∙ ap (λ (z : Bool). thinned_blocks z (map placeless_block f.blocks)) (sym (saves_placeless f.blocks)) in
+    let e = blocks_placeless (has_added_saves f.blocks) f.blocks ∙
+        ap (λ (z : Bool). thinned_blocks z (map placeless_block f.blocks)) (sym (saves_placeless f.blocks)) in
     λ i. record f { blocks = e i }
 
 pub same_thinned : SeesCodeAlone IsThinned
