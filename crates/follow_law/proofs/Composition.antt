@@ -7,20 +7,20 @@ use Rattle.mir_func.specs.declared.entry.Entry.{Entry}
 use Rattle.mir_func.specs.Function.{Function}
 use Rattle.mir_func.specs.Strip.{stripped}
 use Rattle.follow_law.specs.declared.loss.Loss.{Loss}
-use Rattle.follow_law.specs.Change.{Change}
+use Rattle.follow_law.specs.Change.{Change, change}
 use Rattle.follow_law.specs.Following.{KeepsFollowing}
 use Rattle.follow_law.specs.Code.{HasOneResult, SeesCodeAlone, AreAlike, placeless}
 use Rattle.follow_law.specs.Steps.{Step, EachCode, KeepsSteps, ChangeNoCode}
 
 -- what steps keep in turn
 pub steps_then : (steps more : List Step) (f : Function) (fs : List Entry) (g : Function) (gs : List Entry) (h : Function) (hs : List Entry) (a b : List Loss) →
-    KeepsSteps steps (record { old = f; old_subs = fs; new = g; new_subs = gs }) a →
-    KeepsSteps more (record { old = g; old_subs = gs; new = h; new_subs = hs }) b →
-    KeepsSteps (steps ++ more) (record { old = f; old_subs = fs; new = h; new_subs = hs }) (a ++ b)
+    KeepsSteps steps (change f fs g gs) a →
+    KeepsSteps more (change g gs h hs) b →
+    KeepsSteps (steps ++ more) (change f fs h hs) (a ++ b)
 steps_then [] more f fs g gs h hs a b (ef, es, ea) y =
-    let P : Function → Type 0 = λ x. KeepsSteps more (record { old = x; old_subs = gs; new = h; new_subs = hs }) b in
-    let S : List Entry → Type 0 = λ x. KeepsSteps more (record { old = f; old_subs = x; new = h; new_subs = hs }) b in
-    let L : List Loss → Type 0 = λ x. KeepsSteps more (record { old = f; old_subs = fs; new = h; new_subs = hs }) (x ++ b) in
+    let P : Function → Type 0 = λ x. KeepsSteps more (change x gs h hs) b in
+    let S : List Entry → Type 0 = λ x. KeepsSteps more (change f x h hs) b in
+    let L : List Loss → Type 0 = λ x. KeepsSteps more (change f fs h hs) (x ++ b) in
     subst L (sym ea) (subst S es (subst P ef y))
 steps_then (s ∷ steps) more f fs g gs h hs a b (m, ms, here, later, k, rest, e) y =
     (m, ms, here, later ++ b, k, steps_then steps more m ms g gs h hs later b rest y, ap (λ x. x ++ b) e ∙ append_assoc here later b)
@@ -49,9 +49,9 @@ change_no_code steps one sees = record { alike = alike_after steps sees; same = 
 -- what both keep, where the one keeps what the other asks for
 pub following_then : (asks keeps asks' keeps' : Bool) (f : Function) (fs : List Entry) (g : Function) (gs : List Entry) (h : Function) (hs : List Entry) →
     (IsTrue asks' → IsTrue keeps) →
-    KeepsFollowing asks keeps (record { old = f; old_subs = fs; new = g; new_subs = gs }) →
-    KeepsFollowing asks' keeps' (record { old = g; old_subs = gs; new = h; new_subs = hs }) →
-    KeepsFollowing (asks || asks') (keeps && keeps') (record { old = f; old_subs = fs; new = h; new_subs = hs })
+    KeepsFollowing asks keeps (change f fs g gs) →
+    KeepsFollowing asks' keeps' (change g gs h hs) →
+    KeepsFollowing (asks || asks') (keeps && keeps') (change f fs h hs)
 following_then asks keeps asks' keeps' f fs g gs h hs fit x y = record {
   follows = λ src fol ends. y.follows src (x.follows src fol (λ a. ends (or_left asks asks' a))) (λ a. x.ends (fit a) src fol (ends (or_right asks asks' a)));
   ends = λ k src fol ends. let both = and_parts keeps keeps' k in y.ends both.1 src (x.follows src fol (λ a. ends)) (x.ends both.0 src fol ends);

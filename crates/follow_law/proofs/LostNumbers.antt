@@ -26,7 +26,7 @@ module _ (why : Reason) where
       let a : get_or (map lost ns) i d ≡ lost (get_or ns i 0) = get_or-map lost ns i 0 d (omega (arith, lt, long)) in
       let b : get_or (map lost ns) j d ≡ lost (get_or ns j 0) = get_or-map lost ns j 0 d long in
       subst (λ (x : Loss). LossComesBefore x (get_or (map lost ns) j d)) (sym a)
-          (subst (λ (x : Loss). LossComesBefore (lost (get_or ns i 0)) x) (sym b) (inl (AllPairs-from_increasing ns rise i j 0 lt long)))
+      (subst (λ (x : Loss). LossComesBefore (lost (get_or ns i 0)) x) (sym b) (inl (AllPairs-from_increasing ns rise i j 0 lt long)))
 
   pub sorted_in_order : (ns : List ℕ) → IsSorted nat_cmp ns → IsInOrder (map lost (dedup eqb ns))
   sorted_in_order ns sorted = rising_in_order (dedup eqb ns) (IsStrictlyIncreasing-dedup ns sorted)

@@ -64,5 +64,5 @@ module _ (busy : Bool) where
 pub stripped_thinned : (f : Function) → stripped (thinned f) ≡ thinned (stripped f)
 stripped_thinned f =
     let e = blocks_stripped (has_added_saves f.blocks) f.blocks ∙
-        ap (λ (z : Bool). thinned_blocks z (stripped_blocks f.blocks)) (sym (has_saves_stripped f.blocks)) in
+    ap (λ (z : Bool). thinned_blocks z (stripped_blocks f.blocks)) (sym (has_saves_stripped f.blocks)) in
     λ i. record (stripped f) { blocks = e i }

@@ -141,7 +141,7 @@ one_block : (bs : List Block) → AreApart (ids_of bs) → (a b : Block) → Con
 one_block bs apart a b (i, lt, at) (j, lt', at') same =
     let id_at : (n : ℕ) (c : Block) → n < length bs → get_or bs n c ≡ c → slice_get (ids_of bs) n ≡ Some c.id =
     λ n c l e. slice_get-get_or (ids_of bs) n c.id (subst (λ (m : ℕ). n < m) (sym (length-map bs (λ (x : Block). x.id))) l) ∙
-        ap Some (get_or-map (λ (x : Block). x.id) bs n c c.id l ∙ ap (λ (x : Block). x.id) e) in
+    ap Some (get_or-map (λ (x : Block). x.id) bs n c c.id l ∙ ap (λ (x : Block). x.id) e) in
     let e : i ≡ j = apart i j a.id (id_at i a lt at) (id_at j b lt' at' ∙ ap Some (sym same)) in
     let w : Some a ≡ Some b = sym (slice_get-get_or bs i a lt ∙ ap Some at) ∙ ap (slice_get bs) e ∙ slice_get-get_or bs j b lt' ∙ ap Some at' in
     cc
@@ -245,9 +245,10 @@ module _ (f : Function) (sound : IsSound f) (subs : List Entry) where
     by_busy false e h =
         let b = in_flat (λ (c : Block). numbers_in_items c.items) f.blocks k h in
         let w = in_items b.0.items k b.2 in
-        let nop = with_nop w.found.kind k w.number in
-        (record { block = b.0.id; item = w.index },
-            record { item = w.found; stands = stands_in b.0 b.1 w.index w.found w.at; out = (λ i. not (not (e i) && nop.0 i)); number = nop.1 })
+        let nop = with_nop w.found.kind k w.number in (
+          record { block = b.0.id; item = w.index },
+          record { item = w.found; stands = stands_in b.0 b.1 w.index w.found w.at; out = (λ i. not (not (e i) && nop.0 i)); number = nop.1 },
+        )
 
   lost_of_taken : (place : Pos) (k : ℕ) → IsTaken f place k → Contains (lost_in f) k
   lost_of_taken place k t =
@@ -255,7 +256,7 @@ module _ (f : Function) (sound : IsSound f) (subs : List Entry) where
       let idle : busy ≡ false = out_idle busy (is_nop t.item.kind) t.out in
       let number : nop_number t.item.kind ≡ Some k = nop_with busy t.item.kind k t.out t.number in
       subst (λ (z : Bool). Contains (cond z [] (nop_numbers f.blocks)) k) (sym idle)
-          (of_flat (λ (c : Block). numbers_in_items c.items) f.blocks w.0 k w.1 (of_items w.0.items place.item t.item k w.2 number))
+      (of_flat (λ (c : Block). numbers_in_items c.items) f.blocks w.0 k w.1 (of_items w.0.items place.item t.item k w.2 number))
 
   -- what is taken out at a place is what stands there
   taken_is : (at : Pos) (k : ℕ) (x : Item) → StandsAt f at x → (t : IsTaken f at k) → t.item ≡ x
@@ -285,7 +286,7 @@ module _ (f : Function) (sound : IsSound f) (subs : List Entry) where
   becomes at (Mark v m) o l stands false out = let bad : false ≡ true = out_is busy false out in cc
   becomes at (Phi p k) o l stands true stay =
       phi_stays (λ why h. (let e : None ≡ Some h.0 = sym (ap (λ (x : Item). code_number x.kind) (taken_is at h.0 _ stands h.1)) ∙ h.1.number in cc))
-          (place_stays change p)
+      (place_stays change p)
   becomes at (Phi p k) o l stands false out = let bad : false ≡ true = out_is busy false out in cc
   becomes at (Code i None) o l stands true stay = code_unnumbered (λ k h. h)
   becomes at (Code i (Some k)) o l stands true stay =
@@ -337,6 +338,13 @@ module _ (f : Function) (sound : IsSound f) (subs : List Entry) where
         left = λ r why h. absurd h;
         spilled = λ r slot h. absurd h;
         renamed = λ r now h. absurd h;
-      } in
-      (thinned f, subs, losses, [], record { sound = sound_thin busy f sound; code = stripped_thinned f; items = kept }, (refl, refl, refl), sym
-          (append-nil losses))
+      } in (
+        thinned f,
+        subs,
+        losses,
+        [],
+        record { sound = sound_thin busy f sound; code = stripped_thinned f; items = kept },
+        (refl, refl, refl),
+        sym
+            (append-nil losses),
+      )

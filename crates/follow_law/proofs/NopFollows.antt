@@ -29,6 +29,7 @@ use Rattle.mir_meaning.specs.Follow.{IsStart, SameEnd, IsEnd, KindsEndAlike, End
 use Rattle.mir_meaning.proofs.Reading.{found_in, front_item, within_list}
 use Rattle.simulation.proofs.Order.{rank_next}
 use Rattle.mir_meaning.proofs.Told.{tells_itself}
+use Rattle.follow_law.specs.Change.{change}
 use Rattle.follow_law.specs.Following.{KeepsFollowing}
 use Rattle.follow_law.specs.Nops.{is_nop_row, is_nop, is_save_row, is_added_save, has_added_saves, stays, thinned_blocks, thinned}
 use Rattle.follow_law.proofs.Thinning.{thin, item_from, item_to}
@@ -64,8 +65,8 @@ members (b ∷ bs) =
     All-cons (λ (c : Block). All (λ (x : Item). Contains (items_of (b ∷ bs)) x) c.items) b bs
     (All-weaker (Contains b.items) (Contains (items_of (b ∷ bs))) (λ x k. Contains-append_left b.items (items_of bs) x k) b.items (All-contains_itself b.items))
     (All-weaker (λ (c : Block). All (Contains (items_of bs)) c.items) (λ (c : Block). All (Contains (items_of (b ∷ bs))) c.items)
-        (λ c h. All-weaker (Contains (items_of bs)) (Contains (items_of (b ∷ bs))) (λ x k. Contains-append_right b.items (items_of bs) x k) c.items h) bs
-            (members bs))
+    (λ c h. All-weaker (Contains (items_of bs)) (Contains (items_of (b ∷ bs))) (λ x k. Contains-append_right b.items (items_of bs) x k) c.items h) bs
+    (members bs))
 
 -- what isn't a no-operation stays
 pub stays_else : (busy nop : Bool) → nop ≡ false → not (not busy && nop) ≡ true
@@ -144,7 +145,7 @@ at_item P sp blocks resolve all p i e = by_blocks (from_block blocks p.block) re
   by_blocks (b ∷ bs) h e =
       let at = front_item b.items p.item b.silent bs i e in
       subst P (get_or_from_slice_get b.items p.item i i at)
-          (All-contains (λ (b : Block). All P b.items) blocks b all (found_in blocks p.block b bs h).0 p.item i (within_list b.items p.item i at))
+      (All-contains (λ (b : Block). All P b.items) blocks b all (found_in blocks p.block b bs h).0 p.item i (within_list b.items p.item i at))
 
 none_of_either : (x y : Bool) → (x || y) ≡ false → (x ≡ false) × (y ≡ false)
 none_of_either true y e = cc
@@ -160,8 +161,8 @@ no_saves : (blocks : List Block) → has_added_saves blocks ≡ false →
     All (λ (b : Block). All (λ (i : Item). is_added_save i.kind i.origin ≡ false) b.items) blocks
 no_saves blocks e =
     All-weaker (λ (b : Block). list_any (λ (i : Item). is_added_save i.kind i.origin) b.items ≡ false)
-        (λ (b : Block). All (λ (i : Item). is_added_save i.kind i.origin ≡ false) b.items)
-            (λ b h. none_any (λ (i : Item). is_added_save i.kind i.origin) b.items h) blocks
+    (λ (b : Block). All (λ (i : Item). is_added_save i.kind i.origin ≡ false) b.items)
+    (λ b h. none_any (λ (i : Item). is_added_save i.kind i.origin) b.items h) blocks
     (none_any (λ (b : Block). list_any (λ (i : Item). is_added_save i.kind i.origin) b.items) blocks e)
 
 save_is_added : (k : ItemKind) (o : Origin) (p : Pos) → OnRow IsSlotSave k → o ≡ Before p → is_added_save k o ≡ true
@@ -187,7 +188,7 @@ pub each_left : (keep : Item → Bool) (P : Block → Item → Type 0) (Q : Bloc
 each_left keep P Q f bs h =
     All-map (λ (b : Block). All (Q b) b.items) (thin keep) bs
     (All-weaker (λ (b : Block). All (P b) b.items) (λ (b : Block). All (Q (thin keep b)) (filter keep b.items))
-        (λ b k. All-weaker (P b) (Q (thin keep b)) (f b) (filter keep b.items) (All-filter keep (P b) b.items k)) bs h)
+    (λ b k. All-weaker (P b) (Q (thin keep b)) (f b) (filter keep b.items) (All-filter keep (P b) b.items k)) bs h)
 
 pub origin_thin : (keep : Item → Bool) (b : Block) (o : Origin) → OriginIn b o → OriginIn (thin keep b) o
 origin_thin keep b (Kept p) h = h
@@ -211,7 +212,7 @@ module _ (f : Function) (sound : IsSound f) (src : List Block) (srcp : Program) 
     order_new : All (λ (b : Block). InOrder b.id 0 b.items) new
     order_new = All-map (λ (b : Block). InOrder b.id 0 b.items) (thin keep) f.blocks
         (All-weaker (λ (b : Block). InOrder b.id 0 b.items) (λ (b : Block). InOrder b.id 0 (filter keep b.items))
-            (λ b h. order_thin keep b.id 0 b.items h) f.blocks shape.order)
+        (λ b h. order_thin keep b.id 0 b.items h) f.blocks shape.order)
 
     origins_new : All (λ (b : Block). All (λ (i : Item). OriginIn b i.origin) b.items) new
     origins_new = each_left keep (λ b i. OriginIn b i.origin) (λ b i. OriginIn b i.origin) (λ b i h. origin_thin keep b i.origin h) f.blocks sound.origins
@@ -238,8 +239,8 @@ module _ (f : Function) (sound : IsSound f) (src : List Block) (srcp : Program) 
       items = each_left keep (λ b i. KindFits srcp i.kind b.silent i.origin) (λ b i. KindFits srcp i.kind b.silent i.origin) (λ b i h. h) f.blocks shape.items;
       stores = λ b member p i block at save o.
           (let w = item_from keep false f.blocks resolve p i at in
-              let bad : false ≡ true = sym (at_item (λ (i : Item). is_added_save i.kind i.origin ≡ false) false f.blocks resolve
-                  (no_saves f.blocks none_added) w.0 i w.2) ∙ save_is_added i.kind i.origin _ save o in cc);
+          let bad : false ≡ true = sym (at_item (λ (i : Item). is_added_save i.kind i.origin ≡ false) false f.blocks resolve
+          (no_saves f.blocks none_added) w.0 i w.2) ∙ save_is_added i.kind i.origin _ save o in cc);
       marks = each_left keep (λ b i. MarkFits i.kind i.origin) (λ b i. MarkFits i.kind i.origin) (λ b i h. h) f.blocks shape.marks;
     }
 
@@ -248,7 +249,7 @@ module _ (f : Function) (sound : IsSound f) (src : List Block) (srcp : Program) 
         (s : State) → IsStart (first_of src) s → RunsAlong srcp gp (station_at ct gp) (AnyOrigin (station_at ct gp)) s s
     runs_new ct counts runs s start =
         nops_run false f.blocks resolve ct srcp s (steady ct counts) sound.blocks_apart shape.order order_new sound.origins origins_new
-            (ap (λ (p : Pos). p.item) start.pos) (tells_itself s.core, λ k o gone. start.pairs k o) (runs s start)
+        (ap (λ (p : Pos). p.item) start.pos) (tells_itself s.core, λ k o gone. start.pairs k o) (runs s start)
 
     ends_kept : ((p : Pos) (i : Item) → srcp.fetch p ≡ Here i → OnRow IsEnd i.kind → EndIsKept fp p i) → (p : Pos) (i : Item) → srcp.fetch p ≡ Here i →
         OnRow IsEnd i.kind → EndIsKept gp p i
@@ -263,13 +264,14 @@ module _ (f : Function) (sound : IsSound f) (src : List Block) (srcp : Program) 
 
 -- what the pass keeps where it takes out no-operations
 following_new : (f : Function) (subs : List Entry) → IsSound f → has_added_saves f.blocks ≡ false →
-    KeepsFollowing false true (record { old = f; old_subs = subs; new = record { name = f.name; slots = f.slots; blocks = thinned_blocks false f.blocks };
-    new_subs = subs })
+    KeepsFollowing false true (change f subs (record f { blocks = thinned_blocks false f.blocks }) subs)
 following_new f subs sound none_added = record {
   follows = λ src fol ends.
       let srcp : Program = program_of true src.function.blocks (resolve src.subs) in
-      record { shape = shape_new f sound src.function.blocks srcp (resolve subs) none_added fol.shape;
-          runs = runs_new f sound src.function.blocks srcp (resolve subs) none_added fol.shape ByItems (λ k. refl) fol.runs };
+      record {
+        shape = shape_new f sound src.function.blocks srcp (resolve subs) none_added fol.shape;
+        runs = runs_new f sound src.function.blocks srcp (resolve subs) none_added fol.shape ByItems (λ k. refl) fol.runs;
+      };
   ends = λ keeps src fol whole.
       let srcp : Program = program_of true src.function.blocks (resolve src.subs) in
       record {
@@ -280,16 +282,15 @@ following_new f subs sound none_added = record {
       };
 }
 
-following_itself : (f : Function) (subs : List Entry) → KeepsFollowing false true (record { old = f; old_subs = subs; new = f; new_subs = subs })
+following_itself : (f : Function) (subs : List Entry) → KeepsFollowing false true (change f subs f subs)
 following_itself f subs = record { follows = λ src fol ends. fol; ends = λ keeps src fol whole. whole }
 
 pub nops_follow : (f : Function) (subs : List Entry) → IsSound f →
-    KeepsFollowing false true (record { old = f; old_subs = subs; new = thinned f; new_subs = subs })
+    KeepsFollowing false true (change f subs (thinned f) subs)
 nops_follow f subs sound = by_saves (has_added_saves f.blocks) refl where
   by_saves : (z : Bool) → has_added_saves f.blocks ≡ z →
-      KeepsFollowing false true (record { old = f; old_subs = subs; new = record { name = f.name; slots = f.slots; blocks = thinned_blocks z f.blocks };
-      new_subs = subs })
+      KeepsFollowing false true (change f subs (record f { blocks = thinned_blocks z f.blocks }) subs)
   by_saves true e = subst (λ (bs : List Block). KeepsFollowing false true
-      (record { old = f; old_subs = subs; new = record { name = f.name; slots = f.slots; blocks = bs }; new_subs = subs })) (sym (thins_none f.blocks))
-          (following_itself f subs)
+      (change f subs (record f { blocks = bs }) subs)) (sym (thins_none f.blocks))
+      (following_itself f subs)
   by_saves false e = following_new f subs sound e

@@ -186,7 +186,7 @@ module _ (busy : Bool) (blocks : List Block) (resolve : ℕ → ℕ → Option (
       by_code : (z : Bool) → is_code x.kind ≡ z → View ct src sides relation b tt (x ∷ xs) (x ∷ filter (stays busy) xs)
       by_code true code = both {k' = tt} code code refl refl (refl, rest)
           (λ c d h. alike_do b xs (filter (stays busy) xs) (since_item ct x) (do_item f x.kind c) (do_item g x.kind d) (λ c' n e. s.moves c c' n e)
-              (item_kin x.kind c d h (s.own k)))
+          (item_kin x.kind c d h (s.own k)))
       by_code false code = paired {k' = tt} code code (refl, rest) (λ c d h. debug_falls x.kind code c d (item_kin x.kind c d h (s.own k)))
     view_at b x xs s rest false k =
         let nop : is_nop x.kind ≡ true = out_is busy (is_nop x.kind) k in
@@ -196,7 +196,7 @@ module _ (busy : Bool) (blocks : List Block) (resolve : ℕ → ℕ → Option (
     view k b [] ys (e, steady) = subst (View ct src sides relation b tt []) (sym e) ended
     view k b (x ∷ xs) ys (e, steady) =
         subst (View ct src sides relation b tt (x ∷ xs)) (sym e)
-            (view_at b x xs (All-head (IsSteady ct) x xs steady) (All-tail (IsSteady ct) x xs steady) (stays busy x) refl)
+        (view_at b x xs (All-head (IsSteady ct) x xs steady) (All-tail (IsSteady ct) x xs steady) (stays busy x) refl)
 
     rest_steady : All (λ (b : Block). All (IsSteady ct) b.items) blocks → (n : ℕ) → All (IsSteady ct) (rf (block_start n))
     rest_steady h n = by_blocks (from_block blocks n) refl where
@@ -215,9 +215,13 @@ module _ (busy : Bool) (blocks : List Block) (resolve : ℕ → ℕ → Option (
           record { place = w.0; station = o.station; stands = code_station ct f w.0 x w.2 code ∙ ap Some st; from = o.from }
       by_station (of_end k n at ends st) =
           let w = end_from (stays busy) false blocks resolve o.place k n at in
-          record { place = w.0; station = o.station;
-              stands = end_is_station ct f w.0 k n w.2 ∙ ap (λ (z : ℕ). end_station ct (record { block = z; item = k })) w.1 ∙
-                  ap (λ (z : Count). end_station z (record { block = o.place.block; item = k })) ends ∙ ap Some (sym st); from = o.from }
+          record {
+            place = w.0;
+            station = o.station;
+            stands = end_is_station ct f w.0 k n w.2 ∙ ap (λ (z : ℕ). end_station ct (record { block = z; item = k })) w.1 ∙
+                ap (λ (z : Count). end_station z (record { block = o.place.block; item = k })) ends ∙ ap Some (sym st);
+            from = o.from;
+          }
 
     -- the function without its no-operations runs along where it did
     pub nops_run : All (λ (b : Block). All (IsSteady ct) b.items) blocks → AreApart (ids_of blocks) → All (λ (b : Block). InOrder b.id 0 b.items) blocks →
@@ -228,24 +232,24 @@ module _ (busy : Bool) (blocks : List Block) (resolve : ℕ → ℕ → Option (
         RunsAlong src f (station_at ct f) (AnyOrigin (station_at ct f)) s0 s0 → RunsAlong src g (station_at ct g) (AnyOrigin (station_at ct g)) s0 s0
     nops_run steady apart ordered ordered' origins origins' first kin runs =
         in_place_follows relation ct src sides (index_of blocks) in_place first refl kin runs where
-      in_place : InPlace ct src sides relation (index_of blocks)
-      in_place = record {
-        laid_f = laid_out false blocks resolve;
-        laid_g = laid_out false (thinned_blocks busy blocks) resolve;
-        enter_f = λ n. refl;
-        enter_g = λ n. refl;
-        view = view;
-        starts = λ n. (rest_thin (stays busy) false blocks resolve n, rest_steady steady n);
-        order_f = in_order_at false blocks resolve ordered;
-        order_g = in_order_at false (thinned_blocks busy blocks) resolve ordered';
-        home = from_home false (thinned_blocks busy blocks) resolve origins';
-        within = from_within false (thinned_blocks busy blocks) resolve origins';
-        within_f = λ q e x k n at ends same. (let w = end_from (stays busy) false blocks resolve e k n ends in
-            from_before_end false blocks resolve origins q w.0 x k n at w.2 (same ∙ sym w.1));
-        one_end = one_end false (thinned_blocks busy blocks) resolve;
-        origins = origin_from;
-        onward = λ p q k n same none none' ends.
-            (let there = end_there (stays busy) false blocks resolve p q k n same none ends in (there, falls_down false blocks resolve apart p k n there));
-        ends = λ k p j n c d at fetch s h. h;
-        shows = λ k b xs ys c d h. record { events = ap (λ (z : Core). z.events) (sym h.0.same); told = h.0.marks };
-      }
+          in_place : InPlace ct src sides relation (index_of blocks)
+          in_place = record {
+            laid_f = laid_out false blocks resolve;
+            laid_g = laid_out false (thinned_blocks busy blocks) resolve;
+            enter_f = λ n. refl;
+            enter_g = λ n. refl;
+            view = view;
+            starts = λ n. (rest_thin (stays busy) false blocks resolve n, rest_steady steady n);
+            order_f = in_order_at false blocks resolve ordered;
+            order_g = in_order_at false (thinned_blocks busy blocks) resolve ordered';
+            home = from_home false (thinned_blocks busy blocks) resolve origins';
+            within = from_within false (thinned_blocks busy blocks) resolve origins';
+            within_f = λ q e x k n at ends same. (let w = end_from (stays busy) false blocks resolve e k n ends in
+                from_before_end false blocks resolve origins q w.0 x k n at w.2 (same ∙ sym w.1));
+            one_end = one_end false (thinned_blocks busy blocks) resolve;
+            origins = origin_from;
+            onward = λ p q k n same none none' ends.
+                (let there = end_there (stays busy) false blocks resolve p q k n same none ends in (there, falls_down false blocks resolve apart p k n there));
+            ends = λ k p j n c d at fetch s h. h;
+            shows = λ k b xs ys c d h. record { events = ap (λ (z : Core). z.events) (sym h.0.same); told = h.0.marks };
+          }

@@ -9,6 +9,7 @@ use Rattle.mir_func.specs.declared.item.Item.{Item}
 use Rattle.mir_func.specs.Function.{Function}
 use Rattle.mir_func.specs.Sound.{items_of}
 use Rattle.mir_meaning.specs.Align.{is_code}
+use Rattle.follow_law.specs.Change.{change}
 use Rattle.follow_law.specs.Sizes.{greatest, most_numbers, numbers_of, calls, KindIsPhysical, KeepsSizes}
 use Rattle.follow_law.specs.Nops.{stays, thinned_blocks}
 use Rattle.follow_law.proofs.NopFollows.{each_left}
@@ -52,7 +53,7 @@ numbers_thin : (h : Item → List ℕ) (keep : Item → Bool) (xs : List Item) (
 numbers_thin h keep [] ms = le_refl (greatest ms)
 numbers_thin h keep (x ∷ xs) ms =
     subst (λ (ns : List ℕ). greatest (flat_map h (filter keep (x ∷ xs)) ++ ms) ≤ greatest ns) (sym (append_assoc (h x) (flat_map h xs) ms))
-        (by_test (keep x) (numbers_thin h keep xs ms)) where
+    (by_test (keep x) (numbers_thin h keep xs ms)) where
       by_test : (z : Bool) → greatest (flat_map h (filter keep xs) ++ ms) ≤ greatest (flat_map h xs ++ ms) →
           greatest (flat_map h (cond z (x ∷ filter keep xs) (filter keep xs)) ++ ms) ≤ greatest (h x ++ (flat_map h xs ++ ms))
       by_test true k = subst (λ (ns : List ℕ). greatest ns ≤ greatest (h x ++ (flat_map h xs ++ ms)))
@@ -63,8 +64,7 @@ le_more : (n m : ℕ) → n ≤ n + m
 le_more n m = omega arith
 
 pub sizes_thin : (busy : Bool) (f : Function) (subs : List Entry) →
-    KeepsSizes 1 0 (record { old = f; old_subs = subs; new = record { name = f.name; slots = f.slots; blocks = thinned_blocks busy f.blocks };
-    new_subs = subs })
+    KeepsSizes 1 0 (change f subs (record f { blocks = thinned_blocks busy f.blocks }) subs)
 sizes_thin busy f subs =
     let keep : Item → Bool = stays busy in
     let xs : List Item = items_of f.blocks in
@@ -78,6 +78,6 @@ sizes_thin busy f subs =
       physical = λ h. each_left keep (λ b i. KindIsPhysical i.kind) (λ b i. KindIsPhysical i.kind) (λ b i k. k) f.blocks h;
       numbers = le_trans (subst (λ (ys : List Item). greatest (flat_map (λ i. numbers_of i.kind) ys ++ entries) ≤ greatest
           (flat_map (λ i. numbers_of i.kind) xs ++ entries)) (sym e) (numbers_thin (λ i. numbers_of i.kind) keep xs entries))
-              (le_more (greatest (flat_map (λ i. numbers_of i.kind) xs ++ entries)) (most_numbers 1 0 f));
+          (le_more (greatest (flat_map (λ i. numbers_of i.kind) xs ++ entries)) (most_numbers 1 0 f));
       slots = le_more (greatest f.slots) (224 * 0);
     }

@@ -118,7 +118,7 @@ module _ (busy : Bool) where
   last_thin (b ∷ []) h = closes_thin b.items h
   last_thin (b ∷ c ∷ rest) h = last_thin (c ∷ rest) h
 
-  pub sound_thin : (f : Function) → IsSound f → IsSound (record { name = f.name; slots = f.slots; blocks = thinned_blocks busy f.blocks })
+  pub sound_thin : (f : Function) → IsSound f → IsSound (record f { blocks = thinned_blocks busy f.blocks })
   sound_thin f s =
       let new : List Block = thinned_blocks busy f.blocks in
       let ids : ids_of new ≡ ids_of f.blocks = ids_thin keep f.blocks in

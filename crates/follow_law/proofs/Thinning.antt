@@ -92,9 +92,13 @@ module _ (keep : Item → Bool) where
       by_blocks [] h k = cc
       by_blocks (b ∷ bs) h k =
           let t = first_of_front (drop q.item (filter keep b.items)) b.silent (map thin bs) y k in
-          let s = left_from b.items q.item y t.0 t.1 in
-          (record { block = q.block; item = s.0.index }, refl, ap (λ (x : List Block). fetch_in x s.0.index) h ∙
-              ap (λ (x : List Item). front x b.silent bs) s.0.at, s.1)
+          let s = left_from b.items q.item y t.0 t.1 in (
+            record { block = q.block; item = s.0.index },
+            refl,
+            ap (λ (x : List Block). fetch_in x s.0.index) h ∙
+                ap (λ (x : List Item). front x b.silent bs) s.0.at,
+            s.1,
+          )
 
     pub item_to : (p : Pos) (x : Item) → keep x ≡ true → f.fetch p ≡ Here x → (q : Pos) × (q.block ≡ p.block) × (g.fetch q ≡ Here x)
     item_to p x k e = by_blocks (from_block blocks p.block) refl e where
@@ -102,9 +106,12 @@ module _ (keep : Item → Bool) where
       by_blocks [] h e = cc
       by_blocks (b ∷ bs) h e =
           let t = first_of_front (drop p.item b.items) b.silent bs x e in
-          let s = left_to b.items p.item x t.0 k t.1 in
-          (record { block = p.block; item = s.index }, refl, ap (λ (z : List Block). fetch_in z s.index) (from_thin blocks p.block ∙ ap (map thin) h) ∙
-              ap (λ (z : List Item). front z b.silent (map thin bs)) s.at)
+          let s = left_to b.items p.item x t.0 k t.1 in (
+            record { block = p.block; item = s.index },
+            refl,
+            ap (λ (z : List Block). fetch_in z s.index) (from_thin blocks p.block ∙ ap (map thin) h) ∙
+                ap (λ (z : List Item). front z b.silent (map thin bs)) s.at,
+          )
 
     -- a block's end is where it was
     pub end_from : (q : Pos) (k n : ℕ) → g.fetch q ≡ Silent k n → (p : Pos) × (p.block ≡ q.block) × (f.fetch p ≡ Silent k n)
@@ -113,21 +120,24 @@ module _ (keep : Item → Bool) where
           (p : Pos) × (p.block ≡ q.block) × (f.fetch p ≡ Silent k n)
       by_blocks [] h e = cc
       by_blocks (b ∷ bs) h e =
-          let t = none_of_front (drop q.item (filter keep b.items)) b.silent (map thin bs) k n e in
-          (record { block = q.block; item = length b.items }, refl, ap (λ (x : List Block). fetch_in x (length b.items)) h ∙
-              ap (λ (x : List Item). front x b.silent bs) (drop_all b.items) ∙ sym (end_thin b.silent bs) ∙ t.1)
+          let t = none_of_front (drop q.item (filter keep b.items)) b.silent (map thin bs) k n e in (
+            record { block = q.block; item = length b.items },
+            refl,
+            ap (λ (x : List Block). fetch_in x (length b.items)) h ∙
+                ap (λ (x : List Item). front x b.silent bs) (drop_all b.items) ∙ sym (end_thin b.silent bs) ∙ t.1,
+          )
 
     -- past the items of a block f stands where g does
     pub end_there : (p q : Pos) (k n : ℕ) → p.block ≡ q.block → rest_of blocks p ≡ [] → g.fetch q ≡ Silent k n → f.fetch p ≡ Silent k n
     end_there p q k n same none e = by_blocks (from_block blocks q.block) refl
         (ap (λ (bs : List Block). fetch_in bs q.item) (sym (from_thin blocks q.block)) ∙ e) where
-      by_blocks : (bs : List Block) → from_block blocks q.block ≡ bs → fetch_in (map thin bs) q.item ≡ Silent k n → f.fetch p ≡ Silent k n
-      by_blocks [] h e = cc
-      by_blocks (b ∷ bs) h e =
-          let t = none_of_front (drop q.item (filter keep b.items)) b.silent (map thin bs) k n e in
-          let at : from_block blocks p.block ≡ b ∷ bs = ap (from_block blocks) same ∙ h in
-          let r : drop p.item b.items ≡ [] = ap (λ (x : List Block). rest_in x p.item) (sym at) ∙ none in
-          ap (λ (x : List Block). fetch_in x p.item) at ∙ ap (λ (x : List Item). front x b.silent bs) r ∙ sym (end_thin b.silent bs) ∙ t.1
+          by_blocks : (bs : List Block) → from_block blocks q.block ≡ bs → fetch_in (map thin bs) q.item ≡ Silent k n → f.fetch p ≡ Silent k n
+          by_blocks [] h e = cc
+          by_blocks (b ∷ bs) h e =
+              let t = none_of_front (drop q.item (filter keep b.items)) b.silent (map thin bs) k n e in
+              let at : from_block blocks p.block ≡ b ∷ bs = ap (from_block blocks) same ∙ h in
+              let r : drop p.item b.items ≡ [] = ap (λ (x : List Block). rest_in x p.item) (sym at) ∙ none in
+              ap (λ (x : List Block). fetch_in x p.item) at ∙ ap (λ (x : List Item). front x b.silent bs) r ∙ sym (end_thin b.silent bs) ∙ t.1
 
     -- a block starts with what passes of its items
     pub rest_thin : (n : ℕ) → rest_of (map thin blocks) (block_start n) ≡ filter keep (rest_of blocks (block_start n))

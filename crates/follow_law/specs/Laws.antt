@@ -74,7 +74,7 @@ blocks_placeless busy (b ∷ bs) =
 thinned_placeless : (f : Function) → placeless (thinned f) ≡ thinned (placeless f)
 thinned_placeless f =
     let e = blocks_placeless (has_added_saves f.blocks) f.blocks ∙
-        ap (λ (z : Bool). thinned_blocks z (map placeless_block f.blocks)) (sym (saves_placeless f.blocks)) in
+    ap (λ (z : Bool). thinned_blocks z (map placeless_block f.blocks)) (sym (saves_placeless f.blocks)) in
     λ i. record f { blocks = e i }
 
 pub same_thinned : SeesCodeAlone IsThinned

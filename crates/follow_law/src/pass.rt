@@ -61,8 +61,8 @@ pub trait Pass {
     ghost grows: { 1 ≤ factor };
 }
 
-/// Debug items never change code: of two functions whose code is alike, whatever debug items stand in them, a pass makes
-/// two whose code is alike.
+/// Debug items never change code: of two functions whose code is alike, whatever debug items stand in them, a pass
+/// makes two whose code is alike.
 pub fn debug_items_change_no_code<P: Pass>(pass: &P)
     ensures { ChangeNoCode (P.steps pass.now) }
 {}

@@ -4,7 +4,7 @@ ghost use Rattle.follow_law.specs.Sizes.{greatest, greatest_number, most_numbers
 use crate::compose::{Nothing, Then};
 use crate::loss::{Loss, Losses, Lost, Reason};
 use crate::nops::NopPass;
-use crate::pass::{debug_items_change_no_code, Pass};
+use crate::pass::{Pass, debug_items_change_no_code};
 use lists::List;
 use mir_func::block::{Block, Blocks};
 use mir_func::func::Func;

@@ -15,10 +15,10 @@ same_thinned f e =
 pub returns-then-has_added_saves-clause-code : goal.returns-then-has_added_saves-clause-code
 returns-then-has_added_saves-clause-code c =
     same_thinned c.args.f.now (ap has_added_saves (ap (λ (g : Function). g.blocks) (sym c.f.view_is) ∙ sym c.as_slice.ensures) ∙
-        sym c.if-has_added_saves.ensures)
+    sym c.if-has_added_saves.ensures)
 
 pub invariant_of-f : goal.invariant_of-f
 invariant_of-f c =
     let s = subst (λ z. IsSound (record { name = z.name; slots = z.slots; blocks = z.blocks })) (sym c.f-inside.view_is) c.f.invariant in
     subst (λ (bs : List Block). IsSound (record { name = c.f-inside.inside.0.0; slots = c.f-inside.inside.0.1.0; blocks = bs })) (sym c.take_out.ensures)
-        (sound_thin false _ s)
+    (sound_thin false _ s)
