@@ -76,9 +76,9 @@ impl<A: Pass, B: Pass> Pass for Then<A, B> {
         Ok(losses)
     }
 
-    ghost one_code = { λ s. one_then (A.steps s.first) (B.steps s.second) (A.one_code s.first) (B.one_code s.second) };
+    ghost one_code = { λ s. one_then (A.steps s.first) _ (A.one_code s.first) (B.one_code s.second) };
 
-    ghost same_code = { λ s. same_then (A.steps s.first) (B.steps s.second) (A.same_code s.first) (B.same_code s.second) };
+    ghost same_code = { λ s. same_then (A.steps s.first) _ (A.same_code s.first) (B.same_code s.second) };
 
     ghost grows = { grows_then A.factor B.factor A.grows B.grows };
 }
