@@ -263,7 +263,7 @@ module _ (f : Function) (sound : IsSound f) (subs : List Entry) where
   taken_is at k x stands t = let w : Here t.item ≡ Here x = sym t.stands ∙ stands in cc
 
   -- and it is code that was removed, and no copy
-  removed_at : (at : Pos) (x : Item) → StandsAt f at x → is_code x.kind ≡ true → stays busy x ≡ false → IsRemoved nop_rule change x.origin
+  removed_at : (at : Pos) (x : Item) → StandsAt f at x → is_code x.kind ≡ true → stays busy x ≡ false → IsRemoved change x.origin
   removed_at at x stands code out =
       let test : Item → Bool = λ i. is_code i.kind && is_origin i.origin x.origin in
       let same = same_origin x.origin in

@@ -102,7 +102,7 @@ pub data Comes (f : Program) (Begins Stops : Pos → Type 0) : Pos → Type 0 wh
   begins : {q : Pos} → Begins q → Comes f Begins Stops q
   goes_on : {p q : Pos} → Comes f Begins Stops p → (Stops p → ⊥) → Edge f p q → Comes f Begins Stops q
 
-module _ (rule : Rule) (c : Change) where
+module _ (c : Change) where
   -- the function before the pass, as it runs
   abbrev pub old_program : Program
   old_program = program_of false c.old.blocks (resolve c.old_subs)
@@ -123,37 +123,21 @@ module _ (rule : Rule) (c : Change) where
   abbrev pub LosesDefinition : Place → Origin → Type 0
   LosesDefinition x o = IsRemoved o × IsFewer (defines x) o
 
-  -- code at a position defines the place, and was removed or stays
+  -- code at a position defines the place; it was removed; it stays
+  abbrev pub IsDefinition : Place → Pos → Type 0
+  IsDefinition x p = (i : Item) × StandsAt c.old p i × (defines x i.kind ≡ true)
+
   abbrev pub IsRemovedDefinition : Place → Pos → Type 0
   IsRemovedDefinition x p = (i : Item) × StandsAt c.old p i × (defines x i.kind ≡ true) × LosesDefinition x i.origin
 
   abbrev pub IsKeptDefinition : Place → Pos → Type 0
   IsKeptDefinition x p = (i : Item) × StandsAt c.old p i × (defines x i.kind ≡ true) × (LosesDefinition x i.origin → ⊥)
 
-  -- code at a position defines the register, or one that gets it and isn't the other register
-  abbrev pub IsDefinition : ℕ → Pos → Type 0
-  IsDefinition r p = (i : Item) × StandsAt c.old p i × (defines (Register r) i.kind ≡ true)
-
-  abbrev pub IsOtherDefinition : (r now : ℕ) → Pos → Type 0
-  IsOtherDefinition r now p = (s : ℕ) × IsNow rule c s now × IsDefinition s p × (IsDefinition r p → ⊥)
-
   -- right after such a position
   abbrev pub IsAfter : (Pos → Type 0) → Pos → Type 0
   IsAfter P q = (p : Pos) × P p × Edge old_program p q
 
-  -- what a mark or a phi at the position finds in the place isn't what stood there before the pass
-  pub data IsWrong : Place → Pos → Type 0 where
-    -- a path leads there from a removed definition without a kept one
-    removed : {x : Place} {at : Pos} → Comes old_program (IsAfter (IsRemovedDefinition x)) (IsKeptDefinition x) at → IsWrong x at
-    -- no code names the virtual register
-    unnamed : {r : ℕ} {at : Pos} → 32 ≤ r → is_named c.old r ≡ false → IsWrong (Register r) at
-    -- the register got another one, and a path leads there from the start without a definition of it
-    unset : {r now : ℕ} {at : Pos} → rule.renames c r now → Comes old_program (λ q. q ≡ old_start) (IsDefinition r) at → IsWrong (Register r) at
-    -- a path leads there, without a definition of the register, from a definition of another that now is the same
-    overwritten : {r now : ℕ} {at : Pos} → IsNow rule c r now → Comes old_program (IsAfter (IsOtherDefinition r now)) (IsDefinition r) at →
-        IsWrong (Register r) at
-
-  -- the block could be reached, or not; and it is gone
+  -- the block could be reached; and it is gone
   abbrev pub IsReached : (block : ℕ) → Type 0
   IsReached b = Leads old_program old_start (block_start b)
 
@@ -171,27 +155,45 @@ module _ (rule : Rule) (c : Change) where
   abbrev pub HasNewSlot : Type 0
   HasNewSlot = (slot : ℕ) × Contains c.new.slots slot × (Contains c.old.slots slot → ⊥)
 
+module _ (rule : Rule) (c : Change) where
+  -- code at a position defines a register that now is this one, and isn't the other register
+  abbrev pub IsOtherDefinition : (r now : ℕ) → Pos → Type 0
+  IsOtherDefinition r now p = (s : ℕ) × IsNow rule c s now × IsDefinition c (Register s) p × (IsDefinition c (Register r) p → ⊥)
+
+  -- what a mark or a phi at the position finds in the place isn't what it found there before the pass
+  pub data IsWrong : Place → Pos → Type 0 where
+    -- a path leads there from a removed definition without a kept one
+    removed : {x : Place} {at : Pos} → Comes (old_program c) (IsAfter c (IsRemovedDefinition c x)) (IsKeptDefinition c x) at → IsWrong x at
+    -- no code names the virtual register
+    unnamed : {r : ℕ} {at : Pos} → 32 ≤ r → is_named c.old r ≡ false → IsWrong (Register r) at
+    -- the register got another one, and a path leads there from the start without a definition of it
+    unset : {r now : ℕ} {at : Pos} → rule.renames c r now → Comes (old_program c) (λ q. q ≡ old_start c) (IsDefinition c (Register r)) at →
+        IsWrong (Register r) at
+    -- a path leads there, without a definition of the register, from a definition of another that now is the same
+    overwritten : {r now : ℕ} {at : Pos} → IsNow rule c r now →
+        Comes (old_program c) (IsAfter c (IsOtherDefinition r now)) (IsDefinition c (Register r)) at → IsWrong (Register r) at
+
   -- the cause of what is lost of the item at a place
   pub data HasCause (at : Pos) : Loss → Type 0 where
     -- a number: its code was removed, and is no copy
     code_removed : {i : Instruction} {n : Option ℕ} {o : Origin} {l : Loc} {k : ℕ} → StandsAt c.old at (item (Code i n) o l) → Has rule c at n k →
-        (IsCopy (row_of i) → ⊥) → IsRemoved o → HasCause at (number_lost k Removed)
+        (IsCopy (row_of i) → ⊥) → IsRemoved c o → HasCause at (number_lost k Removed)
     -- a mark or a phi of a wrong place; and the phi that is put for a copy, which stands behind it
     place_wrong : {i : Item} {x : Place} {what : Lost} → StandsAt c.old at i → IsLostWith i.kind i.origin what → AsksFor x i.kind →
         IsWrong x at → HasCause at (record { what = what; reason = WrongPlace })
-    salvage_wrong : {i : Instruction} {n : Option ℕ} {o : Origin} {l : Loc} {k : ℕ} {x : Place} → StandsAt c.old at (item (Code i n) o l) → Has rule c at n k →
-        IsCopy (row_of i) → rule.salvages c at x → IsWrong x (below at) → HasCause at (number_lost k WrongPlace)
+    salvage_wrong : {i : Instruction} {n : Option ℕ} {o : Origin} {l : Loc} {k : ℕ} {x : Place} → StandsAt c.old at (item (Code i n) o l) →
+        Has rule c at n k → IsCopy (row_of i) → rule.salvages c at x → IsWrong x (below at) → HasCause at (number_lost k WrongPlace)
     -- a mark or a phi of a scratch register, where some register went to a slot
     taken_as_scratch : {i : Item} {r : ℕ} {what : Lost} → StandsAt c.old at i → IsLostWith i.kind i.origin what → AsksFor (Register r) i.kind →
-        Contains (scratch_of c.old) r → HasNewSlot → HasCause at (record { what = what; reason = Scratch })
+        Contains (scratch_of c.old) r → HasNewSlot c → HasCause at (record { what = what; reason = Scratch })
     -- a mark or a phi of a block that is bypassed
     block_bypassed : {i : Item} {b : Block} {what : Lost} → StandsAt c.old at i → IsLostWith i.kind i.origin what → b.id ≡ at.block →
-        IsBypassed b → HasCause at (record { what = what; reason = Bypassed })
+        IsBypassed c b → HasCause at (record { what = what; reason = Bypassed })
     -- a mark, or any number, of a block that couldn't be reached
     block_unreachable : {i : Item} {what : Lost} → StandsAt c.old at i → IsLostWith i.kind i.origin what →
-        (IsReached at.block → ⊥) → IsGoneBlock at.block → HasCause at (record { what = what; reason = Unreachable })
+        (IsReached c at.block → ⊥) → IsGoneBlock c at.block → HasCause at (record { what = what; reason = Unreachable })
     code_unreachable : {i : Instruction} {o : Origin} {l : Loc} {k : ℕ} → StandsAt c.old at (item (Code i (Some k)) o l) →
-        (IsReached at.block → ⊥) → IsGoneBlock at.block → HasCause at (number_lost k Unreachable)
+        (IsReached c at.block → ⊥) → IsGoneBlock c at.block → HasCause at (number_lost k Unreachable)
 
   -- why a register can't be spilled: fewer than two scratch registers are free; a call names it, or code that was added;
   -- it is live into the first block, to which a branch leads; there are 224 slots, those of lower registers among them
@@ -199,7 +201,8 @@ module _ (rule : Rule) (c : Change) where
   Prevents NoScratch r = length (scratch_of c.old) < 2
   Prevents CallNamed r = (i : Item) × Contains (items_of c.old.blocks) i × (names r i.kind ≡ true) ×
       (OnRow (λ row. is_call row ≡ true) i.kind ⊎ (i.origin ≡ Before (position_of i.origin)))
-  Prevents EntryLoop r = Live old_program (Register r) old_start × (p : Pos) × (i : Item) × StandsAt c.old p i × OnRow (GoesTo old_start.block) i.kind
+  Prevents EntryLoop r = Live (old_program c) (Register r) (old_start c) ×
+      ((p : Pos) × (i : Item) × StandsAt c.old p i × OnRow (GoesTo (first_of c.old.blocks)) i.kind)
   Prevents NoSlot r = (length c.new.slots ≡ 224) × ((s slot : ℕ) → rule.spills c s slot → s < r)
   Prevents Removed r = ⊥
   Prevents WrongPlace r = ⊥
