@@ -1,21 +1,22 @@
 -- How g goes on in a change in place: its steps between stations, and its next station.
-use Rattle.std.proofs.Common.{◌≡◌, ℕ, zero, suc, ◌+◌, ◌*◌, ◌<◌, ◌≤◌, List, [], ◌∷◌, length, Option, Some, None, true, false, refl, sym, ap, ◌∙◌, subst, inl, inr, arith}
+use Rattle.std.proofs.Common.{◌≡◌, ℕ, zero, suc, ◌+◌, ◌*◌, ◌<◌, ◌≤◌, List, [], ◌∷◌, length, Option, Some, None, true, false, refl, sym, ap, ◌∙◌, subst, inl}
+use Rattle.std.proofs.Common.{inr, arith}
 use Rattle.std.proofs.lemmas.Bool.{cases_Bool}
 use Rattle.mir_func.specs.declared.position.Pos.{Pos}
 use Rattle.mir_func.specs.declared.position.Origin.{Origin}
 use Rattle.mir_func.specs.declared.item.Item.{Item}
 use Rattle.mir_meaning.specs.State.{State}
 use Rattle.mir_meaning.specs.Step.{Went, Lost, Goes, moved, do_fetch, step}
-use Rattle.mir_func.specs.Graph.{Program, Fetch, Here, Silent, Outside, below, block_start}
+use Rattle.mir_func.specs.Graph.{Program, Fetch, Here, Silent, Outside, below, block_start, FetchEdge}
 use Rattle.mir_meaning.specs.Align.{position_of, is_code, Station, Count, ByEnds, end_station, station_at}
 use Rattle.mir_meaning.specs.Follow.{rank, next_rank, InOrder}
-use Rattle.mir_func.specs.Graph.{FetchEdge}
 use Rattle.simulation.specs.Sides.{Sides, Relation, IsPastItems}
 use Rattle.simulation.specs.Refinement.{Passes, still, pass}
 use Rattle.simulation.specs.InPlace.{View, ended, both, taken, passed, added, paired, InPlace}
 use Rattle.mir_meaning.proofs.Edges.{step_edge, goes_to_start}
 use Rattle.simulation.proofs.Order.{rank_high, rank_low, rank_next, IsNoLater, no_later, IsFrom}
-use Rattle.simulation.proofs.Stations.{not_code, debug_below, end_is_station, code_is_some, IsStationOf, of_item, of_end, station_is_of, not_by_ends, not_past_items}
+use Rattle.simulation.proofs.Stations.{not_code, debug_below, end_is_station, code_is_some, IsStationOf, of_item, of_end, station_is_of, not_by_ends}
+use Rattle.simulation.proofs.Stations.{not_past_items}
 
 -- the first code ahead in g's block is at a rank or after it
 abbrev pub IsFirstFrom : ℕ → List Item → Type 0
@@ -70,12 +71,18 @@ module _ (change : Change) where
   first_from zero b n k xs ys (added cy s h) ord le = absurd (omega (arith, le))
   first_from zero b n k xs ys (paired cx cy s h) ord le = absurd (omega (arith, le))
   first_from (suc m) b n k xs ys (taken {k' = k'} {x = x} {xs = rest} c j s h) ord le =
-      first_less n (next_rank x.origin) ys (rank_next x.origin n ord.1) (first_from m b (next_rank x.origin) k' rest ys (facts.view k' b rest ys s) ord.2 (omega (arith, le)))
+      first_less n (next_rank x.origin) ys (rank_next x.origin n ord.1)
+      (first_from m b (next_rank x.origin) k' rest ys (facts.view k' b rest ys s) ord.2 (omega (arith, le)))
   first_from (suc m) b n k xs ys (passed {k' = k'} {x = x} {xs = rest} c s h) ord le =
-      first_less n (next_rank x.origin) ys (rank_next x.origin n ord.1) (first_from m b (next_rank x.origin) k' rest ys (facts.view k' b rest ys s) ord.2 (omega (arith, le)))
-  first_from (suc m) b n k xs ys (added {k' = k'} {y = y} {ys = ts} cy s h) ord le = (λ c. not_code y cy c, λ c. first_from m b n k' xs ts (facts.view k' b xs ts s) ord (omega (arith, le)))
-  first_from (suc m) b n k xs ys (paired {k' = k'} {x = x} {y = y} {xs = rest} {ys = ts} cx cy s h) ord le =
-      (λ c. not_code y cy c, λ c. first_less n (next_rank x.origin) ts (rank_next x.origin n ord.1) (first_from m b (next_rank x.origin) k' rest ts (facts.view k' b rest ts s) ord.2 (omega (arith, le))))
+      first_less n (next_rank x.origin) ys (rank_next x.origin n ord.1)
+      (first_from m b (next_rank x.origin) k' rest ys (facts.view k' b rest ys s) ord.2 (omega (arith, le)))
+  first_from (suc m) b n k xs ys (added {k' = k'} {y = y} {ys = ts} cy s h) ord le =
+      (λ c. not_code y cy c, λ c. first_from m b n k' xs ts (facts.view k' b xs ts s) ord (omega (arith, le)))
+  first_from (suc m) b n k xs ys (paired {k' = k'} {x = x} {y = y} {xs = rest} {ys = ts} cx cy s h) ord le = (
+    λ c. not_code y cy c,
+    λ c. first_less n (next_rank x.origin) ts (rank_next x.origin n ord.1)
+        (first_from m b (next_rank x.origin) k' rest ts (facts.view k' b rest ts s) ord.2 (omega (arith, le))),
+  )
 
   -- f's block has an end
   end_in_f : (xs : List Item) (p : Pos) → rest_f p ≡ xs → (q : Pos) × (q.block ≡ p.block) × (rest_f q ≡ [])
@@ -85,7 +92,8 @@ module _ (change : Change) where
   -- g's steps between stations: past a debug item, or a block's end
   pub data IsBetween (t t' : State) : Type 0 where
     down : (y : Item) (ys : List Item) → rest_g t.pos ≡ y ∷ ys → is_code y.kind ≡ false → t'.pos ≡ below t.pos → IsBetween t t'
-    over : (k n : ℕ) → rest_g t.pos ≡ [] → end_station count (record { block = t.pos.block; item = k }) ≡ None → place t.pos.block < place n → t'.pos ≡ block_start n → IsBetween t t'
+    over : (k n : ℕ) → rest_g t.pos ≡ [] → end_station count (record { block = t.pos.block; item = k }) ≡ None → place t.pos.block < place n →
+        t'.pos ≡ block_start n → IsBetween t t'
 
   pub steps_between : (t t' : State) → gs t.pos ≡ None → step g t ≡ Went t' → IsBetween t t'
   steps_between t t' none go = by_rest (rest_g t.pos) refl where
@@ -121,13 +129,19 @@ module _ (change : Change) where
     by_step (over k n eg ne lt at) le = let l : place u.pos.block ≡ place n = ap (λ (z : Pos). place z.block) at in omega (arith, l, lt, le)
 
   -- the next station of g is next after a rank
-  pub next_station : {t t1 : State} (i : Station) → Passes g gs t t1 → gs t1.pos ≡ Some i → (b n m : ℕ) (ys : List Item) → t.pos.block ≡ b → rest_g t.pos ≡ ys → IsFirstFrom n ys → InOrder b m ys → ((e : Pos) (k l : ℕ) → e.block ≡ b → g.fetch e ≡ Silent k l → n ≤ 2 * k) → IsNext b n ys i.pos
+  pub next_station : {t t1 : State} (i : Station) → Passes g gs t t1 → gs t1.pos ≡ Some i → (b n m : ℕ) (ys : List Item) → t.pos.block ≡ b → rest_g t.pos ≡ ys →
+      IsFirstFrom n ys → InOrder b m ys → ((e : Pos) (k l : ℕ) → e.block ≡ b → g.fetch e ≡ Silent k l → n ≤ 2 * k) → IsNext b n ys i.pos
   next_station i (still {t = t}) e b n m ys tb eg ff ord high = by_station (station_is_of count g t.pos i e) ys eg ff ord where
-    at_item : (y : Item) (ts : List Item) → g.fetch t.pos ≡ Here y → is_code y.kind ≡ true → IsFirstFrom n (y ∷ ts) → InOrder b m (y ∷ ts) → IsNext b n (y ∷ ts) (position_of y.origin)
+    at_item : (y : Item) (ts : List Item) → g.fetch t.pos ≡ Here y → is_code y.kind ≡ true → IsFirstFrom n (y ∷ ts) → InOrder b m (y ∷ ts) →
+        IsNext b n (y ∷ ts) (position_of y.origin)
     at_item y ts fy cy ff ord =
         let low = rank_low y.origin in (
           inl (ord.0, (let h = rank_high y.origin in let k = ff.0 cy in omega (arith, h, k))),
-          ((λ z. (ord.0, low)), no_later b (next_rank y.origin) (position_of y.origin) ts ord.0 (rank_next y.origin (2 * (position_of y.origin).item) low) ord.2),
+          (
+            (λ z. (ord.0, low)),
+            no_later b (next_rank y.origin) (position_of y.origin) ts ord.0
+                (rank_next y.origin (2 * (position_of y.origin).item) low) ord.2,
+          ),
           λ q k l ce qb fq. (ord.0, facts.within t.pos q y k l fy fq (tb ∙ sym qb)),
         )
 
@@ -137,10 +151,14 @@ module _ (change : Change) where
         let w : Here z ≡ Here y = sym (facts.laid_g.cons t.pos z ts eg).0 ∙ fy in
         let zy : z ≡ y = cc in
         let cz : is_code z.kind ≡ true = subst (λ (q : Item). is_code q.kind ≡ true) (sym zy) cy in
-        subst (IsNext b n (z ∷ ts)) (ap (λ (q : Item). position_of q.origin) zy ∙ ap (λ (q : Station). q.pos) iy) (at_item z ts (facts.laid_g.cons t.pos z ts eg).0 cz ff ord)
+        subst (IsNext b n (z ∷ ts)) (ap (λ (q : Item). position_of q.origin) zy ∙ ap (λ (q : Station). q.pos) iy)
+        (at_item z ts (facts.laid_g.cons t.pos z ts eg).0 cz ff ord)
     by_station (of_end k l fe ce ie) [] eg ff ord =
-        subst (IsNext b n []) (ap (λ (q : Station). q.pos) (sym ie))
-        (inl (tb, (let h = high t.pos k l tb fe in omega (arith, h))), tt, λ q k' l' ce' qb fq. (tb, (let h = facts.one_end t.pos q k l k' l' fe fq (tb ∙ sym qb) in omega (arith, h))))
+        subst (IsNext b n []) (ap (λ (q : Station). q.pos) (sym ie)) (
+          inl (tb, (let h = high t.pos k l tb fe in omega (arith, h))),
+          tt,
+          λ q k' l' ce' qb fq. (tb, (let h = facts.one_end t.pos q k l k' l' fe fq (tb ∙ sym qb) in omega (arith, h))),
+        )
     by_station (of_end k l fe ce ie) (z ∷ ts) eg ff ord = let bad : Here z ≡ Silent k l = sym (facts.laid_g.cons t.pos z ts eg).0 ∙ fe in cc
   next_station i (pass {t = t} {u = u} none go rest) e b n m [] tb eg ff ord high = by_step (steps_between t u none go) where
     by_step : IsBetween t u → IsNext b n [] i.pos
@@ -150,12 +168,15 @@ module _ (change : Change) where
         let pu : place u.pos.block ≡ place l = ap (λ (z : Pos). place z.block) at in
         let pb : place t.pos.block ≡ place b = ap place tb in
         (inr (omega (arith, le, pu, pb, lt)), tt, λ q k' l' ce qb fq. not_by_ends count _ ne ce)
-  next_station i (pass {t = t} {u = u} none go rest) e b n m (y ∷ ts) tb eg ff ord high = by_step (steps_between t u none go) (λ c at. next_station i rest e b n (next_rank y.origin) ts (ap (λ (z : Pos). z.block) at ∙ tb) (ap rest_g at ∙ (facts.laid_g.cons t.pos y ts eg).1) (ff.1 c) ord.2 high) where
-    by_step : IsBetween t u → (is_code y.kind ≡ false → u.pos ≡ below t.pos → IsNext b n ts i.pos) → IsNext b n (y ∷ ts) i.pos
-    by_step (down z zs eg' c at) ih =
-        let w : z ∷ zs ≡ y ∷ ts = sym eg' ∙ eg in
-        let zy : z ≡ y = cc in
-        let cy = subst (λ (q : Item). is_code q.kind ≡ false) zy c in
-        let r = ih cy at in
-        (r.0, ((λ h. not_code y cy h), r.1), r.2)
-    by_step (over k l eg' ne lt at) ih = let bad : [] ≡ y ∷ ts = sym eg' ∙ eg in cc
+  next_station i (pass {t = t} {u = u} none go rest) e b n m (y ∷ ts) tb eg ff ord high =
+      by_step (steps_between t u none go)
+      (λ c at. next_station i rest e b n (next_rank y.origin) ts (ap (λ (z : Pos). z.block) at ∙ tb) (ap rest_g at ∙ (facts.laid_g.cons t.pos y ts eg).1)
+      (ff.1 c) ord.2 high) where
+        by_step : IsBetween t u → (is_code y.kind ≡ false → u.pos ≡ below t.pos → IsNext b n ts i.pos) → IsNext b n (y ∷ ts) i.pos
+        by_step (down z zs eg' c at) ih =
+            let w : z ∷ zs ≡ y ∷ ts = sym eg' ∙ eg in
+            let zy : z ≡ y = cc in
+            let cy = subst (λ (q : Item). is_code q.kind ≡ false) zy c in
+            let r = ih cy at in
+            (r.0, ((λ h. not_code y cy h), r.1), r.2)
+        by_step (over k l eg' ne lt at) ih = let bad : [] ≡ y ∷ ts = sym eg' ∙ eg in cc

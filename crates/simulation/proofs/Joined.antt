@@ -5,9 +5,11 @@ use Rattle.mir_func.specs.declared.item.Item.{Item}
 use Rattle.mir_meaning.specs.State.{State, Core}
 use Rattle.mir_meaning.specs.Step.{Went, Falls, do_item, step}
 use Rattle.mir_func.specs.Graph.{Program, below, block_start}
-use Rattle.mir_meaning.specs.Align.{position_of, is_code, Station, Count, station_at, IsOrigin, Since, Start, Same, After, Aligns, AnyOrigin, Along, other, FailsBefore, RunsAlong}
+use Rattle.mir_meaning.specs.Align.{position_of, is_code, Station, Count, station_at, IsOrigin, Since, Start, Same, After, Aligns, AnyOrigin, Along, other}
+use Rattle.mir_meaning.specs.Align.{FailsBefore, RunsAlong}
 use Rattle.simulation.specs.Sides.{Sides, since_item, ShowsSame}
-use Rattle.simulation.specs.Added.{Standing, Opening, Level, Ahead, Owing, MayCome, IsPlain, MayStand, IsQuiet, View, ended, both, before, opening, entering, behind, passed, added, paired, Adds, AddedRelation, IsFree}
+use Rattle.simulation.specs.Added.{Standing, Opening, Level, Ahead, Owing, MayCome, IsPlain, MayStand, IsQuiet, View, ended, both, before, opening, entering}
+use Rattle.simulation.specs.Added.{behind, passed, added, paired, Adds, AddedRelation, IsFree}
 use Rattle.mir_meaning.proofs.Alignment.{aligns_at, aligns_once, aligns_not_fails}
 use Rattle.mir_meaning.proofs.Edges.{step_edge}
 use Rattle.mir_meaning.proofs.Outcomes.{step_item}
@@ -21,7 +23,8 @@ pub record Addition : Type 1 where
   pub sides : Sides
   pub relation : AddedRelation
   pub facts : Adds count src sides relation
-  pub follows : RunsAlong src sides.old.program (station_at count sides.old.program) (AnyOrigin (station_at count sides.old.program)) sides.old.start sides.old.start
+  pub follows : RunsAlong src sides.old.program (station_at count sides.old.program)
+      (AnyOrigin (station_at count sides.old.program)) sides.old.start sides.old.start
 
 module _ (addition : Addition) where
   open addition use {count, src, sides, relation, facts, follows}
@@ -58,12 +61,20 @@ module _ (addition : Addition) where
   pub join_after : (s : State) → Reach s.pos → ((u : State) → step src s ≡ Went u → Extra u.pos → O u.pos) → (m : Since) → (m ≡ Start → ⊥) → Joins Level m s m s
   join_after s r clear Start ns p may op = absurd (ns refl)
   join_after s r clear Same ns p may op = record {
-    next = λ x a. elim a as (λ _. Aligns src (Stops p) p Same s x) [ inl e ↦ inl e | inr e ↦ inr (e.0, later_more src fs gs Stops Extra Reach s0.pos facts.more p op s x r clear e.1) ];
+    next = λ x a. elim a as (λ _. Aligns src (Stops p) p Same s x) [
+      | inl e ↦ inl e
+      | inr e ↦
+          inr (e.0, later_more src fs gs Stops Extra Reach s0.pos facts.more p op s x r clear e.1)
+    ];
     fails = λ z. (z.0, fails_later_more src fs gs Stops Extra Reach s0.pos facts.more p op s r clear z.1);
   }
-  join_after s r clear After ns p may op = record { next = λ x a. later_more src fs gs Stops Extra Reach s0.pos facts.more p op s x r clear a; fails = λ z. fails_later_more src fs gs Stops Extra Reach s0.pos facts.more p op s r clear z }
+  join_after s r clear After ns p may op = record {
+    next = λ x a. later_more src fs gs Stops Extra Reach s0.pos facts.more p op s x r clear a;
+    fails = λ z. fails_later_more src fs gs Stops Extra Reach s0.pos facts.more p op s r clear z;
+  }
 
-  pub join_code : (st : Standing) (x : Item) (m : Since) (s : State) → Reach s.pos → (m ≡ Start → ⊥) → since_item count x ≡ m → s.pos ≡ position_of x.origin → Stands st x → Joins st m s m s
+  pub join_code : (st : Standing) (x : Item) (m : Since) (s : State) → Reach s.pos → (m ≡ Start → ⊥) → since_item count x ≡ m → s.pos ≡ position_of x.origin →
+      Stands st x → Joins st m s m s
   join_code Opening x m s r ns im at st p may op = absurd may
   join_code Level x m s r ns im at st p may op = join_after s r (λ u go h. st s u at go h) m ns p may op
   join_code (Ahead q) x Start s r ns im at st p may op = absurd (ns refl)
@@ -85,13 +96,22 @@ module _ (addition : Addition) where
 
   -- where g has stored what was owed
   pub join_behind : (sf s : State) → Reach sf.pos → step src sf ≡ Went s → Joins Level After sf Same s
-  join_behind sf s r go p may op = record { next = λ x a. aligns_below src fs gs Stops Extra Reach s0.pos facts.more p op sf s x r go a; fails = λ z. fails_below src fs gs Stops Extra Reach s0.pos facts.more p op sf s r go z }
+  join_behind sf s r go p may op = record {
+    next = λ x a. aligns_below src fs gs Stops Extra Reach s0.pos facts.more p op sf s x r go a;
+    fails = λ z. fails_below src fs gs Stops Extra Reach s0.pos facts.more p op sf s r go z;
+  }
 
   pub join_opened : Reach s0.pos → Joins Level Start s0 Same s0
-  join_opened r p may op = record { next = λ x a. aligns_waiting src fs gs Stops Extra Reach s0.pos facts.more p op s0 x r a; fails = λ z. fails_waiting src fs gs Stops Extra Reach s0.pos facts.more p op s0 r z }
+  join_opened r p may op = record {
+    next = λ x a. aligns_waiting src fs gs Stops Extra Reach s0.pos facts.more p op s0 x r a;
+    fails = λ z. fails_waiting src fs gs Stops Extra Reach s0.pos facts.more p op s0 r z;
+  }
 
   pub join_free : IsFree count src sides relation → Reach s0.pos → Joins Level Start s0 Start s0
-  join_free free r p may op = record { next = λ x a. arrives_free src fs gs Stops Extra Reach s0.pos facts.more p op s0 x r (free p op) a; fails = λ z. fails_free src fs gs Stops Extra Reach s0.pos facts.more p op s0 r (free p op) z }
+  join_free free r p may op = record {
+    next = λ x a. arrives_free src fs gs Stops Extra Reach s0.pos facts.more p op s0 x r (free p op) a;
+    fails = λ z. fails_free src fs gs Stops Extra Reach s0.pos facts.more p op s0 r (free p op) z;
+  }
 
   abbrev pub FaultAt : Pos → Since → State → Type 0
   FaultAt p m s = FailsBefore src (Stops p) p m s
@@ -156,7 +176,8 @@ module _ (addition : Addition) where
     pub joins : Joins (standing k) mf sf m s
     pub owed : Owed (standing k) v mf sf m s
 
-  pub dynamic_at : (t s : State) (m : Since) (r : Now t s m) (xs ys : List Item) → rest_f r.v.pos ≡ xs → rest_g t.pos ≡ ys → Cores r.k r.v.pos.block xs ys r.v.core t.core
+  pub dynamic_at : (t s : State) (m : Since) (r : Now t s m) (xs ys : List Item) → rest_f r.v.pos ≡ xs → rest_g t.pos ≡ ys →
+      Cores r.k r.v.pos.block xs ys r.v.core t.core
   dynamic_at t s m r xs ys ef eg = rw (sym ef, sym eg) r.dynamic
 
   pub static_at : (t s : State) (m : Since) (r : Now t s m) (xs ys : List Item) → rest_f r.v.pos ≡ xs → rest_g t.pos ≡ ys → Rests r.k r.v.pos.block xs ys
@@ -186,6 +207,28 @@ module _ (addition : Addition) where
     joins = subst (λ (z : Standing). Joins z r.mf r.sf m s) (sym same) r.joins;
     owed = subst (λ (z : Standing). Owed z w r.mf r.sf m s) (sym same) (owed_quiet (standing r.k) r.v w r.mf r.sf m s q r.owed);
   }
+
+  -- g past an item of its own, with the source then aligned at s'
+  pub past_g : (t s : State) (m : Since) (r : Now t s m) (k' : Stage) (y : Item) (xs ys : List Item) → rest_f r.v.pos ≡ xs → rest_g t.pos ≡ y ∷ ys →
+      (e : Core) → Rests k' r.v.pos.block xs ys → Cores k' r.v.pos.block xs ys r.v.core e → (s' : State) (m' : Since) →
+      AtHome (standing k') t.pos.block r.v.pos.block → Reach s'.pos → Joins (standing k') r.mf r.sf m' s' → Owed (standing k') r.v r.mf r.sf m' s' →
+      Now (record { pos = below t.pos; core = e }) s' m'
+  past_g t s m r k' y xs ys ef eg e st dy s' m' home reach joins owed =
+      let tail = (facts.laid_g.cons t.pos y ys eg).1 in
+      record {
+        v = r.v;
+        sf = r.sf;
+        mf = r.mf;
+        k = k';
+        along = r.along;
+        home = home;
+        reach = reach;
+        reach_f = r.reach_f;
+        static = rw (ef, tail) st;
+        dynamic = rw (ef, tail) dy;
+        joins = joins;
+        owed = owed;
+      }
 
   -- level at the start of block n, to which f has gone from u
   pub in_block : (t1 s : State) (m : Since) (u : State) (n : ℕ) (c : Core) (sf : State) (mf : Since) →
@@ -229,7 +272,8 @@ module _ (addition : Addition) where
       do_item f x.kind r.v.core ≡ Falls e → Cores k' r.v.pos.block xs ys e t.core → Now t s m
   passes t s m r k' x xs ys ef eg q same c st e o dy =
       let fe = facts.laid_f.cons r.v.pos x xs ef in
-      moves_to t s m r k' q same t (record { pos = below r.v.pos; core = e }) (other r.along (debug_station count f r.v.pos x fe.0 c) (step_item f r.v x (Falls e) fe.0 o)) r.home
+      moves_to t s m r k' q same t (record { pos = below r.v.pos; core = e })
+      (other r.along (debug_station count f r.v.pos x fe.0 c) (step_item f r.v x (Falls e) fe.0 o)) r.home
       (rw fe.1 (subst (Rests k' r.v.pos.block xs) (sym eg) st)) (rw fe.1 (subst (λ (z : List Item). Cores k' r.v.pos.block xs z e t.core) (sym eg) dy))
 
   stands : (t s : State) (m : Since) (r : Now t s m) (xs ys : List Item) → rest_f r.v.pos ≡ xs → rest_g t.pos ≡ ys →
@@ -255,4 +299,5 @@ module _ (addition : Addition) where
   catches n t s m r xs ys ef eg (paired a b c d e h) le = stands t s m r xs ys ef eg (paired a b c d e h) tt
 
   pub ready : (t s : State) (m : Since) → Now t s m → Ready t s m
-  ready t s m r = catches (length (rest_f r.v.pos)) t s m r (rest_f r.v.pos) (rest_g t.pos) refl refl (facts.view r.k r.v.pos.block (rest_f r.v.pos) (rest_g t.pos) r.static) (omega arith)
+  ready t s m r = catches (length (rest_f r.v.pos)) t s m r (rest_f r.v.pos) (rest_g t.pos) refl refl
+      (facts.view r.k r.v.pos.block (rest_f r.v.pos) (rest_g t.pos) r.static) (omega arith)

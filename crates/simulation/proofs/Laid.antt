@@ -1,5 +1,6 @@
 -- A function's blocks are laid out: what stands from each position to its block's end.
-use Rattle.std.proofs.Common.{◌≡◌, ℕ, zero, suc, ◌+◌, ◌*◌, ◌<◌, ◌≤◌, List, [], ◌∷◌, drop, All, Contains, slice_get, slice_index_or, Option, Some, Bool, true, false, cond, nat_eq, ne_eqb, refl, sym, ap, ◌∙◌, subst, arith}
+use Rattle.std.proofs.Common.{◌≡◌, ℕ, zero, suc, ◌+◌, ◌*◌, ◌<◌, ◌≤◌, List, [], ◌∷◌, drop, All, Contains, slice_get, slice_index_or, Option, Some, Bool, true}
+use Rattle.std.proofs.Common.{false, cond, nat_eq, ne_eqb, refl, sym, ap, ◌∙◌, subst, arith}
 use Rattle.std.proofs.lemmas.List.Elements.{All-contains}
 use Rattle.mir_func.specs.declared.position.Pos.{Pos}
 use Rattle.mir_func.specs.declared.position.Origin.{Origin}
@@ -7,8 +8,7 @@ use Rattle.mir_func.specs.declared.position.Origin.TheVariants.{Kept, Before}
 use Rattle.mir_func.specs.declared.block.Block.{Block}
 use Rattle.mir_func.specs.declared.item.Item.{Item}
 use Rattle.mir_func.specs.Sound.{AreApart, ids_of, OriginIn}
-use Rattle.mir_func.specs.Graph.{Program, Here, Silent, block_start}
-use Rattle.mir_func.specs.Graph.{end_of, front, fetch_in, from_block, index_of, program_of, framed_program}
+use Rattle.mir_func.specs.Graph.{Program, Here, Silent, block_start, end_of, front, fetch_in, from_block, index_of, program_of, framed_program}
 use Rattle.mir_meaning.specs.Align.{position_of}
 use Rattle.mir_meaning.specs.Follow.{next_rank, InOrder}
 use Rattle.mir_meaning.proofs.Reading.{found_in, front_item, front_end, end_index, within_list, next_block, apart_tail}
@@ -40,17 +40,23 @@ end_is_past k (b ∷ bs) = tt
 
 cons_in : (bs : List Block) (n : ℕ) (x : Item) (xs : List Item) → rest_in bs n ≡ x ∷ xs → (fetch_in bs n ≡ Here x) × (rest_in bs (n + 1) ≡ xs)
 cons_in [] n x xs e = cc
-cons_in (b ∷ bs) n x xs e = let k : n + 1 ≡ suc n = omega arith in (ap (λ (z : List Item). front z b.silent bs) e, ap (λ (m : ℕ). drop m b.items) k ∙ drop_one b.items n x xs e)
+cons_in (b ∷ bs) n x xs e = let k : n + 1 ≡ suc n = omega arith in
+    (ap (λ (z : List Item). front z b.silent bs) e, ap (λ (m : ℕ). drop m b.items) k ∙ drop_one b.items n x xs e)
 
 nil_in : (bs : List Block) (n : ℕ) → rest_in bs n ≡ [] → IsPastItems (fetch_in bs n) × (rest_in bs (n + 1) ≡ [])
 nil_in [] n e = (tt, refl)
-nil_in (b ∷ bs) n e = let k : n + 1 ≡ suc n = omega arith in (subst (λ (z : List Item). IsPastItems (front z b.silent bs)) (sym e) (end_is_past b.silent bs), ap (λ (m : ℕ). drop m b.items) k ∙ drop_none b.items n e)
+nil_in (b ∷ bs) n e = let k : n + 1 ≡ suc n = omega arith in
+    (subst (λ (z : List Item). IsPastItems (front z b.silent bs)) (sym e) (end_is_past b.silent bs), ap (λ (m : ℕ). drop m b.items) k ∙ drop_none b.items n e)
 
 pub laid_out : (sp : Bool) (blocks : List Block) (resolve : ℕ → ℕ → Option (ℕ × ℕ)) → Laid (program_of sp blocks resolve) (rest_of blocks)
-laid_out sp blocks resolve = record { cons = λ p x xs e. cons_in (from_block blocks p.block) p.item x xs e; nil = λ p e. nil_in (from_block blocks p.block) p.item e }
+laid_out sp blocks resolve = record {
+  cons = λ p x xs e. cons_in (from_block blocks p.block) p.item x xs e;
+  nil = λ p e. nil_in (from_block blocks p.block) p.item e;
+}
 
 -- with a frame, a position's block is its index
-pub laid_out_framed : (blocks : List Block) (resolve : ℕ → ℕ → Option (ℕ × ℕ)) → Laid (framed_program blocks resolve) (λ p. rest_in (drop p.block blocks) p.item)
+pub laid_out_framed : (blocks : List Block) (resolve : ℕ → ℕ → Option (ℕ × ℕ)) →
+    Laid (framed_program blocks resolve) (λ p. rest_in (drop p.block blocks) p.item)
 laid_out_framed blocks resolve = record { cons = λ p x xs e. cons_in (drop p.block blocks) p.item x xs e; nil = λ p e. nil_in (drop p.block blocks) p.item e }
 
 -- what stands at a position is of the block with its number
@@ -97,7 +103,8 @@ module _ (sp : Bool) (blocks : List Block) (resolve : ℕ → ℕ → Option (�
 
   end_in : (p : Pos) (k n : ℕ) → g.fetch p ≡ Silent k n → (s : IsIn blocks p) × (s.block.silent ≡ k) × (end_of s.block.silent s.rest ≡ Silent k n)
   end_in p k n e = by_blocks (from_block blocks p.block) refl e where
-    by_blocks : (x : List Block) → from_block blocks p.block ≡ x → fetch_in x p.item ≡ Silent k n → (s : IsIn blocks p) × (s.block.silent ≡ k) × (end_of s.block.silent s.rest ≡ Silent k n)
+    by_blocks : (x : List Block) → from_block blocks p.block ≡ x → fetch_in x p.item ≡ Silent k n →
+        (s : IsIn blocks p) × (s.block.silent ≡ k) × (end_of s.block.silent s.rest ≡ Silent k n)
     by_blocks [] f e = cc
     by_blocks (b ∷ rest) f e =
         let h = found_in blocks p.block b rest f in
@@ -114,7 +121,8 @@ module _ (sp : Bool) (blocks : List Block) (resolve : ℕ → ℕ → Option (�
     by_blocks [] e = tt
     by_blocks (b ∷ rest) e =
         let h = found_in blocks n b rest e in
-        subst (InOrder n 0) (sym (drop_zero b.items)) (subst (λ (m : ℕ). InOrder m 0 b.items) h.1 (All-contains (λ (c : Block). InOrder c.id 0 c.items) blocks b ord h.0))
+        subst (InOrder n 0) (sym (drop_zero b.items))
+        (subst (λ (m : ℕ). InOrder m 0 b.items) h.1 (All-contains (λ (c : Block). InOrder c.id 0 c.items) blocks b ord h.0))
 
   -- a block has one end
   pub one_end : (p q : Pos) (k n k' n' : ℕ) → g.fetch p ≡ Silent k n → g.fetch q ≡ Silent k' n' → p.block ≡ q.block → k ≡ k'
@@ -127,7 +135,8 @@ module _ (sp : Bool) (blocks : List Block) (resolve : ℕ → ℕ → Option (�
     origin_at : (p : Pos) (i : Item) (e : g.fetch p ≡ Here i) → OriginIn (item_in p i e).0.block i.origin
     origin_at p i e =
         let s = item_in p i e in
-        All-contains (λ (j : Item). OriginIn s.0.block j.origin) s.0.block.items i (All-contains (λ (b : Block). All (λ (j : Item). OriginIn b j.origin) b.items) blocks s.0.block origins s.0.member) s.1
+        All-contains (λ (j : Item). OriginIn s.0.block j.origin) s.0.block.items i
+        (All-contains (λ (b : Block). All (λ (j : Item). OriginIn b j.origin) b.items) blocks s.0.block origins s.0.member) s.1
 
     -- items come from their own block, and no later than its end
     pub from_home : (p : Pos) (i : Item) → g.fetch p ≡ Here i → (position_of i.origin).block ≡ p.block
@@ -136,27 +145,38 @@ module _ (sp : Bool) (blocks : List Block) (resolve : ℕ → ℕ → Option (�
     pub from_within : (p q : Pos) (i : Item) (k n : ℕ) → g.fetch p ≡ Here i → g.fetch q ≡ Silent k n → p.block ≡ q.block → (position_of i.origin).item ≤ k
     from_within p q i k n e f b =
         let t = end_in q k n f in
-        subst (λ (m : ℕ). (position_of i.origin).item ≤ m) (ap (λ (c : Block). c.silent) (same_block p q b (item_in p i e).0 t.0) ∙ t.1) (origin_within (item_in p i e).0.block i.origin (origin_at p i e))
+        subst (λ (m : ℕ). (position_of i.origin).item ≤ m) (ap (λ (c : Block). c.silent) (same_block p q b (item_in p i e).0 t.0) ∙ t.1)
+        (origin_within (item_in p i e).0.block i.origin (origin_at p i e))
 
     pub from_before_end : (p q : Pos) (i : Item) (k n : ℕ) → g.fetch p ≡ Here i → g.fetch q ≡ Silent k n → p.block ≡ q.block → next_rank i.origin ≤ 2 * k
     from_before_end p q i k n e f b =
         let t = end_in q k n f in
-        subst (λ (m : ℕ). next_rank i.origin ≤ 2 * m) (ap (λ (c : Block). c.silent) (same_block p q b (item_in p i e).0 t.0) ∙ t.1) (origin_next (item_in p i e).0.block i.origin (origin_at p i e))
+        subst (λ (m : ℕ). next_rank i.origin ≤ 2 * m) (ap (λ (c : Block). c.silent) (same_block p q b (item_in p i e).0 t.0) ∙ t.1)
+        (origin_next (item_in p i e).0.block i.origin (origin_at p i e))
 
-index_next : (bs : List Block) → AreApart (ids_of bs) → (m : ℕ) (b c : Block) (rest : List Block) → from_block bs m ≡ b ∷ c ∷ rest → index_of bs m < index_of bs c.id
+index_next : (bs : List Block) → AreApart (ids_of bs) → (m : ℕ) (b c : Block) (rest : List Block) → from_block bs m ≡ b ∷ c ∷ rest →
+    index_of bs m < index_of bs c.id
 index_next [] h m b c rest e = cc
-index_next (a ∷ cs) h m b c rest e = by_test (nat_eq a.id m) refl e (next_block (a ∷ cs) m b c rest e) (index_next cs (apart_tail a.id (ids_of cs) h) m b c rest) where
-  by_test : (z : Bool) → nat_eq a.id m ≡ z → cond z (a ∷ cs) (from_block cs m) ≡ b ∷ c ∷ rest → (i : ℕ) × (slice_get (ids_of (a ∷ cs)) (suc i) ≡ Some c.id) → (from_block cs m ≡ b ∷ c ∷ rest → index_of cs m < index_of cs c.id) → cond (nat_eq a.id m) 0 (suc (index_of cs m)) < cond (nat_eq a.id c.id) 0 (suc (index_of cs c.id))
-  by_test z t e nb later =
-      let ne : a.id ≡ c.id → ⊥ = λ q. (let k : zero ≡ suc nb.0 = h zero (suc nb.0) c.id (ap Some q) nb.1 in omega (arith, k)) in
-      rw (ne_eqb a.id c.id ne) (by_head z t e later) where
-        by_head : (z : Bool) → nat_eq a.id m ≡ z → cond z (a ∷ cs) (from_block cs m) ≡ b ∷ c ∷ rest → (from_block cs m ≡ b ∷ c ∷ rest → index_of cs m < index_of cs c.id) → cond (nat_eq a.id m) 0 (suc (index_of cs m)) < suc (index_of cs c.id)
-        by_head true t e later = rw t (omega arith)
-        by_head false t e later = let k = later e in rw t (omega (arith, k))
+index_next (a ∷ cs) h m b c rest e = by_test (nat_eq a.id m) refl e (next_block (a ∷ cs) m b c rest e)
+    (index_next cs (apart_tail a.id (ids_of cs) h) m b c rest) where
+      by_test : (z : Bool) → nat_eq a.id m ≡ z → cond z (a ∷ cs) (from_block cs m) ≡ b ∷ c ∷ rest →
+          (i : ℕ) × (slice_get (ids_of (a ∷ cs)) (suc i) ≡ Some c.id) →
+          (from_block cs m ≡ b ∷ c ∷ rest → index_of cs m < index_of cs c.id) →
+          cond (nat_eq a.id m) 0 (suc (index_of cs m)) < cond (nat_eq a.id c.id) 0 (suc (index_of cs c.id))
+      by_test z t e nb later =
+          let ne : a.id ≡ c.id → ⊥ = λ q. (let k : zero ≡ suc nb.0 = h zero (suc nb.0) c.id (ap Some q) nb.1 in omega (arith, k)) in
+          rw (ne_eqb a.id c.id ne) (by_head z t e later) where
+            by_head : (z : Bool) → nat_eq a.id m ≡ z → cond z (a ∷ cs) (from_block cs m) ≡ b ∷ c ∷ rest →
+                (from_block cs m ≡ b ∷ c ∷ rest → index_of cs m < index_of cs c.id) → cond (nat_eq a.id m) 0 (suc (index_of cs m)) < suc (index_of cs c.id)
+            by_head true t e later = rw t (omega arith)
+            by_head false t e later = let k = later e in rw t (omega (arith, k))
 
 -- where block numbers differ, a block falls into one further down in the text
-pub falls_down : (sp : Bool) (blocks : List Block) (resolve : ℕ → ℕ → Option (ℕ × ℕ)) → AreApart (ids_of blocks) → (p : Pos) (k n : ℕ) → (program_of sp blocks resolve).fetch p ≡ Silent k n → index_of blocks p.block < index_of blocks n
+pub falls_down : (sp : Bool) (blocks : List Block) (resolve : ℕ → ℕ → Option (ℕ × ℕ)) → AreApart (ids_of blocks) → (p : Pos) (k n : ℕ) →
+    (program_of sp blocks resolve).fetch p ≡ Silent k n → index_of blocks p.block < index_of blocks n
 falls_down sp blocks resolve apart p k n e = let s = end_in sp blocks resolve p k n e in by_rest s.0.block s.0.rest s.0.found s.2 where
-  by_rest : (b : Block) (rest : List Block) → from_block blocks p.block ≡ b ∷ rest → end_of b.silent rest ≡ Silent k n → index_of blocks p.block < index_of blocks n
+  by_rest : (b : Block) (rest : List Block) → from_block blocks p.block ≡ b ∷ rest → end_of b.silent rest ≡ Silent k n →
+      index_of blocks p.block < index_of blocks n
   by_rest b [] f h = cc
-  by_rest b (c ∷ rest) f h = let cn : c.id ≡ n = cc in subst (λ (m : ℕ). index_of blocks p.block < index_of blocks m) cn (index_next blocks apart p.block b c rest f)
+  by_rest b (c ∷ rest) f h = let cn : c.id ≡ n = cc in
+      subst (λ (m : ℕ). index_of blocks p.block < index_of blocks m) cn (index_next blocks apart p.block b c rest f)

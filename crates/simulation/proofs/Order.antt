@@ -28,7 +28,8 @@ same_pos p q x y = λ i. record { block = x i; item = y i }
 pub cases_pos : (p q : Pos) → (p ≡ q) ⊎ (p ≡ q → ⊥)
 cases_pos p q =
     elim (cases_eq p.block q.block) as (λ z. (p ≡ q) ⊎ (p ≡ q → ⊥)) [
-      | inl x ↦ elim (cases_eq p.item q.item) as (λ z. (p ≡ q) ⊎ (p ≡ q → ⊥)) [ inl y ↦ inl (same_pos p q x y) | inr y ↦ inr (λ e. y (ap (λ (r : Pos). r.item) e)) ]
+      | inl x ↦ elim (cases_eq p.item q.item)
+          as (λ z. (p ≡ q) ⊎ (p ≡ q → ⊥)) [ inl y ↦ inl (same_pos p q x y) | inr y ↦ inr (λ e. y (ap (λ (r : Pos). r.item) e)) ]
       | inr x ↦ inr (λ e. x (ap (λ (r : Pos). r.block) e))
     ]
 
@@ -48,7 +49,8 @@ done_more n m last q le (inr h) = inr h
 abbrev pub waits_after : Origin → Option Pos
 waits_after o = waiting (since_of (waits_at false o)) (position_of o)
 
-pub done_past : (o : Origin) (n : ℕ) (last : Option Pos) (q : Pos) → (position_of o).block ≡ q.block → n ≤ rank o → (last ≡ Some q → 2 * q.item ≤ n) → IsDone n last q → IsDone (next_rank o) (waits_after o) q
+pub done_past : (o : Origin) (n : ℕ) (last : Option Pos) (q : Pos) → (position_of o).block ≡ q.block → n ≤ rank o → (last ≡ Some q → 2 * q.item ≤ n) →
+    IsDone n last q → IsDone (next_rank o) (waits_after o) q
 done_past (Kept r) n last q e low known (inl h) = inl (omega (arith, low, h))
 done_past (Kept r) n last q e low known (inr h) = let k = known h in inl (omega (arith, k, low))
 done_past (Before r) n last q e low known (inl h) = inl (omega (arith, low, h))
@@ -68,14 +70,17 @@ waits_where (Kept r) q e = cc
 waits_where (Before r) q e = let k : r ≡ q = cc in (sym k, subst (λ (z : Pos). 2 * z.item ≤ 2 * r.item) k (omega arith))
 
 -- what of g is done once it is past its item y at p
-pub done_next : (g : Program) → ((q : Pos) (i : Item) → g.fetch q ≡ Here i → (position_of i.origin).block ≡ q.block) → (p : Pos) (b n n' : ℕ) (last last' : Option Pos) (y : Item) → b ≡ p.block → g.fetch p ≡ Here y → ((q : Pos) → q.block ≡ b → IsDone n last q → IsDone n' last' q) → (is_code y.kind ≡ true → IsDone n' last' (position_of y.origin)) →
+pub done_next : (g : Program) → ((q : Pos) (i : Item) → g.fetch q ≡ Here i → (position_of i.origin).block ≡ q.block) →
+    (p : Pos) (b n n' : ℕ) (last last' : Option Pos) (y : Item) → b ≡ p.block → g.fetch p ≡ Here y →
+    ((q : Pos) → q.block ≡ b → IsDone n last q → IsDone n' last' q) → (is_code y.kind ≡ true → IsDone n' last' (position_of y.origin)) →
     ((j : ℕ) (i : Item) → j < p.item → g.fetch (record { block = b; item = j }) ≡ Here i → is_code i.kind ≡ true → IsDone n last (position_of i.origin)) →
     (j : ℕ) (i : Item) → j < p.item + 1 → g.fetch (record { block = b; item = j }) ≡ Here i → is_code i.kind ≡ true → IsDone n' last' (position_of i.origin)
 done_next g home p b n n' last last' y bp fy more own done j i lt fi ci =
     elim (cases_lt j p.item) as (λ z. IsDone n' last' (position_of i.origin)) [
       | inl l ↦ more (position_of i.origin) (home _ i fi) (done j i l fi ci)
       | inr ge ↦
-          let w : Here y ≡ Here i = sym fy ∙ subst (λ (z : Pos). g.fetch z ≡ Here i) (same_pos (record { block = b; item = j }) p bp (omega (arith, lt, ge))) fi in
+          let w : Here y ≡ Here i = sym fy ∙ subst (λ (z : Pos). g.fetch z ≡ Here i)
+          (same_pos (record { block = b; item = j }) p bp (omega (arith, lt, ge))) fi in
           let yi : y ≡ i = cc in
           subst (λ (z : Item). IsDone n' last' (position_of z.origin)) yi (own (subst (λ (z : Item). is_code z.kind ≡ true) (sym yi) ci))
     ]
@@ -87,8 +92,11 @@ IsNoLater b p (y ∷ ys) = (is_code y.kind ≡ true → (p.block ≡ b) × (2 * 
 
 pub no_later : (b n : ℕ) (p : Pos) (ys : List Item) → p.block ≡ b → 2 * p.item ≤ n → InOrder b n ys → IsNoLater b p ys
 no_later b n p [] e le o = tt
-no_later b n p (y ∷ ys) e le o =
-    (λ c. (e, let k = o.1 in omega (arith, le, k)), no_later b (next_rank y.origin) p ys e (let k = o.1 in rank_next y.origin (2 * p.item) (omega (arith, le, k))) o.2)
+no_later b n p (y ∷ ys) e le o = (
+  λ c. (e, let k = o.1 in omega (arith, le, k)),
+  no_later b (next_rank y.origin) p ys e
+      (let k = o.1 in rank_next y.origin (2 * p.item) (omega (arith, le, k))) o.2,
+)
 
 module _ (place : ℕ → ℕ) where
   -- p is at a rank of block b or after it, or in a block further down
@@ -121,7 +129,8 @@ module _ (place : ℕ → ℕ) where
   from_next b c n p lt (inr x) = inr (omega (arith, x, lt))
 
   -- code of f that doesn't jump may be passed on the way to p further on, if g has nothing from its position
-  module _ (gs : Pos → Option Station) (ct : Count) (b n : ℕ) (last : Option Pos) (j : Item) (p : Pos) (home : (position_of j.origin).block ≡ b) (low : n ≤ rank j.origin) (known : (q : Pos) → last ≡ Some q → IsUntil b n q) (from : IsFrom b (next_rank j.origin) p) where
+  module _ (gs : Pos → Option Station) (count : Count) (b n : ℕ) (last : Option Pos) (j : Item) (p : Pos) (home : (position_of j.origin).block ≡ b)
+      (low : n ≤ rank j.origin) (known : (q : Pos) → last ≡ Some q → IsUntil b n q) (from : IsFrom b (next_rank j.origin) p) where
     waits_there : (o : Origin) → o ≡ j.origin → p ≡ position_of o → since_of (waits_at false o) ≡ Same
     waits_there (Before q) e at = refl
     waits_there (Kept q) e at =
@@ -154,12 +163,14 @@ module _ (place : ℕ → ℕ) where
               ]
         ]
 
-    pub may_pass : moves_on ct j.kind ≡ false → ((p ≡ position_of j.origin → ⊥) → (last ≡ Some (position_of j.origin) → ⊥) → IsOrigin gs (position_of j.origin) → ⊥) → MayPass gs p last (station_of ct j)
+    pub may_pass : moves_on count j.kind ≡ false →
+        ((p ≡ position_of j.origin → ⊥) → (last ≡ Some (position_of j.origin) → ⊥) → IsOrigin gs (position_of j.origin) → ⊥) →
+        MayPass gs p last (station_of count j)
     may_pass stays lacks =
-        elim (cases_pos p (position_of j.origin)) as (λ z. MayPass gs p last (station_of ct j)) [
+        elim (cases_pos p (position_of j.origin)) as (λ z. MayPass gs p last (station_of count j)) [
           | inl e ↦ early (sym e) (ap (λ (z : Bool). since_of (waits_at z j.origin)) stays ∙ waits_there j.origin refl e)
           | inr ne ↦
-              elim (cases_waiting last (position_of j.origin)) as (λ z. MayPass gs p last (station_of ct j)) [
+              elim (cases_waiting last (position_of j.origin)) as (λ z. MayPass gs p last (station_of count j)) [
                 | inl e ↦ late e (λ h. ne (sym h))
                 | inr far ↦ gone (lacks ne far) (not_waiting ne)
               ]

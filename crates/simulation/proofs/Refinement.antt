@@ -4,8 +4,11 @@ use Rattle.mir_func.specs.declared.position.Pos.{Pos}
 use Rattle.mir_meaning.specs.State.{State}
 use Rattle.mir_meaning.specs.Step.{Went, Faulted, step}
 use Rattle.mir_func.specs.Graph.{Program}
-use Rattle.mir_meaning.specs.Align.{Station, IsOrigin, Arrives, here, onward, ArrivesLater, Since, Start, Same, After, since_of, Aligns, AnyOrigin, Along, begin, other, met, Fails, fails_here, fails_on, FailsLater, FailsBefore, Agrees, RunsAlong}
-use Rattle.simulation.specs.Refinement.{waiting, MayPass, gone, early, late, Walk, there, on, past, IsDoomed, faults, later, later_past, Passes, still, pass, FaultsAt, Lingers, stays, goes_by, waits_by, Halts, IsStuck, doomed, halted, IsStuckFrom, Meets, Refines, RefinementFollows}
+use Rattle.mir_meaning.specs.Align.{Station, IsOrigin, Arrives, here, onward, ArrivesLater, Since, Start, Same, After, since_of, Aligns, AnyOrigin, Along}
+use Rattle.mir_meaning.specs.Align.{begin, other, met, Fails, fails_here, fails_on, FailsLater, FailsBefore, Agrees, RunsAlong}
+use Rattle.simulation.specs.Refinement.{waiting, MayPass, gone, early, late, Walk, there, on, past, IsDoomed, faults, later, later_past, Passes, still, pass}
+use Rattle.simulation.specs.Refinement.{FaultsAt, Lingers, stays, goes_by, waits_by, Halts, IsStuck, doomed, halted, IsStuckFrom, Meets, Refines}
+use Rattle.simulation.specs.Refinement.{RefinementFollows}
 use Rattle.simulation.proofs.Order.{cases_pos}
 use Rattle.mir_meaning.proofs.Alignment.{aligns_at, aligns_once, aligns_fewer, aligns_not_fails, fails_before_fewer}
 
@@ -31,7 +34,8 @@ module _ (src : Program) (A : Pos → Type 0) (p : Pos) where
   aligns_later After s x ns ne a = a
 
   -- past an alignment at another position, which doesn't stop it
-  aligns_past : (q : Pos) → (A q → ⊥) → (q ≡ p → ⊥) → (m : Since) (s t x : State) → (m ≡ Same → s.pos ≡ p → ⊥) → Aligns src A q m s t → ArrivesLater src A p t x → Aligns src A p m s x
+  aligns_past : (q : Pos) → (A q → ⊥) → (q ≡ p → ⊥) → (m : Since) (s t x : State) → (m ≡ Same → s.pos ≡ p → ⊥) → Aligns src A q m s t →
+      ArrivesLater src A p t x → Aligns src A p m s x
   aligns_past q ne d Start s t x far a st = arrives_past q ne a st
   aligns_past q ne d Same s t x far (inl a) st = inr (λ e. d (sym a.0 ∙ e), subst (λ (y : State). ArrivesLater src A p y x) (sym a.1) st)
   aligns_past q ne d Same s t x far (inr a) st = inr (far refl, later_past_position q ne s t x a.1 st)
@@ -47,7 +51,8 @@ module _ (src : Program) (A : Pos → Type 0) (q : Pos) (ne : A q → ⊥) where
   later_fails_past : (s t : State) → ArrivesLater src A q s t → FailsLater src A t → FailsLater src A s
   later_fails_past s t (u, go, rest) f = inr (u, go, fails_past rest f)
 
-  before_past : (p : Pos) → (q ≡ p → ⊥) → (m : Since) (s t : State) → (m ≡ Same → s.pos ≡ p → ⊥) → Aligns src A q m s t → FailsLater src A t → FailsBefore src A p m s
+  before_past : (p : Pos) → (q ≡ p → ⊥) → (m : Since) (s t : State) → (m ≡ Same → s.pos ≡ p → ⊥) → Aligns src A q m s t → FailsLater src A t →
+      FailsBefore src A p m s
   before_past p d Start s t far a f = fails_past a f
   before_past p d Same s t far (inl a) f = (far refl, subst (FailsLater src A) (sym a.1) f)
   before_past p d Same s t far (inr a) f = (far refl, later_fails_past s t a.1 f)
@@ -68,7 +73,8 @@ module _ (src : Program) (gs : Pos → Option Station) (p : Pos) (gp : IsOrigin 
   abbrev O : Pos → Type 0
   O q = IsOrigin gs q
 
-  passes : (j : Station) (last : Option Pos) → MayPass gs p last j → (m : Since) (s s' x : State) → last ≡ waiting m s.pos → Aligns src O j.pos m s s' → Aligns src O p (since_of j.waits) s' x → Aligns src O p m s x
+  passes : (j : Station) (last : Option Pos) → MayPass gs p last j → (m : Since) (s s' x : State) → last ≡ waiting m s.pos → Aligns src O j.pos m s s' →
+      Aligns src O p (since_of j.waits) s' x → Aligns src O p m s x
   passes j last (gone none far) m s s' x known a b =
       let d : j.pos ≡ p → ⊥ = λ e. none (subst O (sym e) gp) in
       let at = aligns_at src O j.pos m s s' a in
@@ -90,10 +96,12 @@ module _ (src : Program) (gs : Pos → Option Station) (p : Pos) (gp : IsOrigin 
   passes j last (late e d) After s s' x known a b = let bad : None ≡ Some j.pos = sym known ∙ e in cc
 
   -- and so do faults
-  passes_fails : (j : Station) (last : Option Pos) → MayPass gs p last j → (m : Since) (s s' : State) → last ≡ waiting m s.pos → Aligns src O j.pos m s s' → FailsBefore src O p (since_of j.waits) s' → FailsBefore src O p m s
+  passes_fails : (j : Station) (last : Option Pos) → MayPass gs p last j → (m : Since) (s s' : State) → last ≡ waiting m s.pos → Aligns src O j.pos m s s' →
+      FailsBefore src O p (since_of j.waits) s' → FailsBefore src O p m s
   passes_fails j last (gone none far) m s s' known a f =
       let d : j.pos ≡ p → ⊥ = λ e. none (subst O (sym e) gp) in
-      before_past src O j.pos none p d m s s' (λ e h. far (known ∙ ap (λ (n : Since). waiting n s.pos) e ∙ ap Some h)) a (fails_later_of src O p (since_of j.waits) s' (since_not_start j.waits) f)
+      before_past src O j.pos none p d m s s' (λ e h. far (known ∙ ap (λ (n : Since). waiting n s.pos) e ∙ ap Some h)) a
+      (fails_later_of src O p (since_of j.waits) s' (since_not_start j.waits) f)
   passes_fails j last (early e same) m s s' known a f =
       let f' = subst (λ (n : Since). FailsBefore src O p n s') same f in
       absurd (f'.0 (aligns_at src O j.pos m s s' a ∙ e))
@@ -106,7 +114,8 @@ module _ (src : Program) (gs : Pos → Option Station) (p : Pos) (gp : IsOrigin 
   passes_fails j last (late e d) After s s' known a f = let bad : None ≡ Some j.pos = sym known ∙ e in cc
 
   -- a fault before such a station is one before p
-  fails_there : (j : Station) (last : Option Pos) → MayPass gs p last j → (m : Since) (s : State) → last ≡ waiting m s.pos → FailsBefore src O j.pos m s → FailsBefore src O p m s
+  fails_there : (j : Station) (last : Option Pos) → MayPass gs p last j → (m : Since) (s : State) → last ≡ waiting m s.pos → FailsBefore src O j.pos m s →
+      FailsBefore src O p m s
   fails_there j last may Start s known f = f
   fails_there j last may After s known f = f
   fails_there j last (gone none far) Same s known f = (λ h. far (known ∙ ap Some h), f.1)
@@ -132,12 +141,15 @@ module _ (src : Program) where
   comes_aligned A p Same s t (inr (ne, (u, go, rest))) = onward (λ b. b) go (comes_on rest (here refl))
   comes_aligned A p After s t (u, go, rest) = onward (λ b. b) go (comes_on rest (here refl))
 
-  comes_along : (f : Program) (fs : Pos → Option Station) (Stops : Pos → Pos → Type 0) (s0 f0 : State) {t s : State} {m : Since} → Along src f fs Stops s0 f0 t s m → Arrives src (λ q. ⊥) s.pos s0 s
+  comes_along : (f : Program) (fs : Pos → Option Station) (Stops : Pos → Pos → Type 0) (s0 f0 : State) {t s : State} {m : Since} →
+      Along src f fs Stops s0 f0 t s m → Arrives src (λ q. ⊥) s.pos s0 s
   comes_along f fs Stops s0 f0 begin = here refl
   comes_along f fs Stops s0 f0 (other a e go) = comes_along f fs Stops s0 f0 a
-  comes_along f fs Stops s0 f0 (met {s = s} {s' = s'} {m = m} i a e al go) = comes_on (comes_along f fs Stops s0 f0 a) (comes_aligned (Stops i.pos) i.pos m s s' al)
+  comes_along f fs Stops s0 f0 (met {s = s} {s' = s'} {m = m} i a e al go) =
+      comes_on (comes_along f fs Stops s0 f0 a) (comes_aligned (Stops i.pos) i.pos m s s' al)
 
-module _ (src f g : Program) (fs gs : Pos → Option Station) (R : Option Pos → State → State → Type 0) (s0 f0 g0 : State) (follows : RunsAlong src f fs (AnyOrigin fs) s0 f0) (refines : Refines src f g s0 fs gs R) where
+module _ (src f g : Program) (fs gs : Pos → Option Station) (R : Option Pos → State → State → Type 0) (s0 f0 g0 : State)
+    (follows : RunsAlong src f fs (AnyOrigin fs) s0 f0) (refines : Refines src f g s0 fs gs R) where
   abbrev AlongF : State → State → Since → Type 0
   AlongF u s m = Along src f fs (AnyOrigin fs) s0 f0 u s m
 
@@ -169,10 +181,12 @@ module _ (src f g : Program) (fs gs : Pos → Option Station) (R : Option Pos �
       bad : FailsBefore src (IsOrigin gs) p m s → Fault
 
     abbrev At : State → State → Since → Option Pos → Type 0
-    At u s m last = AlongF u s m × (last ≡ waiting m s.pos) × ((x : State) → Aligns src (IsOrigin gs) p m s x → Aligns src (IsOrigin gs) p mg sg x) × (FailsBefore src (IsOrigin gs) p m s → Fault)
+    At u s m last = AlongF u s m × (last ≡ waiting m s.pos) × ((x : State) → Aligns src (IsOrigin gs) p m s x → Aligns src (IsOrigin gs) p mg sg x) ×
+        (FailsBefore src (IsOrigin gs) p m s → Fault)
 
     -- past a station
-    beyond : (u v : State) (m : Since) (s : State) (last : Option Pos) (j : Station) → At u s m last → fs u.pos ≡ Some j → MayPass gs p last j → step f u ≡ Went v → ((s' : State) × At v s' (since_of j.waits) (waiting (since_of j.waits) j.pos)) ⊎ Fault
+    beyond : (u v : State) (m : Since) (s : State) (last : Option Pos) (j : Station) → At u s m last → fs u.pos ≡ Some j → MayPass gs p last j →
+        step f u ≡ Went v → ((s' : State) × At v s' (since_of j.waits) (waiting (since_of j.waits) j.pos)) ⊎ Fault
     beyond u v m s last j (a, known, next, bad) e may st =
         elim (follows u s m j a e) as (λ z. ((s' : State) × At v s' (since_of j.waits) (waiting (since_of j.waits) j.pos)) ⊎ Fault) [
           | inl z ↦
@@ -204,7 +218,8 @@ module _ (src f g : Program) (fs gs : Pos → Option Station) (R : Option Pos �
         elim (follows u s m j a e) as (λ z. Fault) [
           | inl z ↦
               let al = fewer j.pos m s z.0 z.1 in
-              bad (passes_fails src gs p gp j last may m s z.0 known al (fault_at src gs p gp j z.0 (aligns_at src (IsOrigin gs) j.pos m s z.0 al) ne (z.2.faults st)))
+              bad (passes_fails src gs p gp j last may m s z.0 known al
+              (fault_at src gs p gp j z.0 (aligns_at src (IsOrigin gs) j.pos m s z.0 al) ne (z.2.faults st)))
           | inr z ↦ bad (fails_there src gs p gp j last may m s known (fewer_fails j.pos m s z))
         ]
     fails_doomed (later e st rest) m s (a, known, next, bad) = fails_doomed rest m s (other a e st, known, next, bad)
@@ -233,7 +248,12 @@ module _ (src f g : Program) (fs gs : Pos → Option Station) (R : Option Pos �
               inl (record {
                 to = y.0;
                 aligns = r.next y.0 al;
-                agrees = record { events = k.events ∙ y.2.events; told = λ v x h. y.2.told v x (k.told v x h); returns = λ rs h. y.2.returns rs (k.returns rs h); faults = λ h. y.2.faults (k.faults h) };
+                agrees = record {
+                  events = k.events ∙ y.2.events;
+                  told = λ v x h. y.2.told v x (k.told v x h);
+                  returns = λ rs h. y.2.returns rs (k.returns rs h);
+                  faults = λ h. y.2.faults (k.faults h);
+                };
                 goes = λ t' h. elim (k.goes t' h) as (λ _. Goes t' y.0 i) [
                   | inl w' ↦ inl (w'.0, subst (λ (n : Since). AlongF w'.0 y.0 n) k.since (met k.station r.along k.stands y.1 w'.1), w'.2)
                   | inr z ↦ inr (y.2.faults z.1, inl z.0)
@@ -250,7 +270,13 @@ module _ (src f g : Program) (fs gs : Pos → Option Station) (R : Option Pos �
           | inr y ↦ inr (r.bad (subst (λ (q : Pos). FailsBefore src (IsOrigin gs) q r.m r.s) (k.pos ∙ ip) (fewer_fails k.station.pos r.m r.s y)))
         ] where
           meets_halted : (s : State) → Aligns src (IsOrigin fs) k.station.pos r.m r.s s → Agrees src f w s → Met t i
-          meets_halted s al ag = record { to = s; aligns = r.next s (subst (λ (q : Pos). Aligns src (IsOrigin gs) q r.m r.s s) (k.pos ∙ ip) (fewer k.station.pos r.m r.s s al)); agrees = agree t i stays e refl; goes = λ t' go. inr (stopped, by_since t' go i.waits refl) } where
+          meets_halted s al ag = record {
+            to = s;
+            aligns = r.next s
+                (subst (λ (q : Pos). Aligns src (IsOrigin gs) q r.m r.s s) (k.pos ∙ ip) (fewer k.station.pos r.m r.s s al));
+            agrees = agree t i stays e refl;
+            goes = λ t' go. inr (stopped, by_since t' go i.waits refl);
+          } where
             at : s.pos ≡ i.pos
             at = aligns_at src (IsOrigin fs) k.station.pos r.m r.s s al ∙ k.pos
 
@@ -258,10 +284,20 @@ module _ (src f g : Program) (fs gs : Pos → Option Station) (R : Option Pos �
             stopped = ag.faults k.faults
 
             faulted : FaultsAt src s0 i.pos
-            faulted = (s, subst (λ (q : Pos). Arrives src (λ z. ⊥) q s0 s) at (comes_on src (comes_along src f fs (AnyOrigin fs) s0 f0 r.along) (comes_aligned src (IsOrigin fs) k.station.pos r.m r.s s al)), stopped)
+            faulted = (
+              s,
+              subst (λ (q : Pos). Arrives src (λ z. ⊥) q s0 s) at
+                  (comes_on src (comes_along src f fs (AnyOrigin fs) s0 f0 r.along) (comes_aligned src (IsOrigin fs) k.station.pos r.m r.s s al)),
+              stopped,
+            )
 
             agree : (t1 : State) (j : Station) → Lingers g gs i.pos t t1 → gs t1.pos ≡ Some j → j.pos ≡ i.pos → Agrees src g t1 s
-            agree t1 j l e jp = let d = k.idles faulted t1 j l e jp in record { events = d.events ∙ ag.events; told = λ v x h. ag.told v x (d.told v x h); returns = λ rs h. absurd (d.returns rs h); faults = λ h. stopped }
+            agree t1 j l e jp = let d = k.idles faulted t1 j l e jp in record {
+              events = d.events ∙ ag.events;
+              told = λ v x h. ag.told v x (d.told v x h);
+              returns = λ rs h. absurd (d.returns rs h);
+              faults = λ h. stopped;
+            }
 
             by_since : (t' : State) → step g t ≡ Went t' → (b : Bool) → i.waits ≡ b → (since_of b ≡ After) ⊎ ((since_of b ≡ Same) × IsIdle t' s)
             by_since t' go false w = inl refl
@@ -271,7 +307,8 @@ module _ (src f g : Program) (fs gs : Pos → Option Station) (R : Option Pos �
     start_at : (u : State) (last : Option Pos) → AlongF u sg mg → last ≡ waiting mg sg.pos → At u sg mg last
     start_at u last a known = (a, known, λ x c. c, λ b. b)
 
-    stuck : (last : Option Pos) (t u : State) (i : Station) → i.pos ≡ p → gs t.pos ≡ Some i → At u sg mg last → IsStuck src f g s0 fs gs last t u i → Met t i ⊎ Fault
+    stuck : (last : Option Pos) (t u : State) (i : Station) → i.pos ≡ p → gs t.pos ≡ Some i → At u sg mg last → IsStuck src f g s0 fs gs last t u i → Met t i ⊎
+        Fault
     stuck last t u i ip e at (doomed d) = inr (fails_doomed (subst (λ (q : Pos). IsDoomed f fs gs q last u) ip d) mg sg at)
     stuck last t u i ip e at (halted w walk k) =
         elim (walks (subst (λ (q : Pos). Walk f fs gs q last u w) ip walk) mg sg at) as (λ z. Met t i ⊎ Fault) [
@@ -279,7 +316,8 @@ module _ (src f g : Program) (fs gs : Pos → Option Station) (R : Option Pos �
           | inr z ↦ inr z
         ]
 
-    meet : (last : Option Pos) (t u : State) (i : Station) → i.pos ≡ p → R last t u → gs t.pos ≡ Some i → AlongF u sg mg → last ≡ waiting mg sg.pos → Met t i ⊎ Fault
+    meet : (last : Option Pos) (t u : State) (i : Station) → i.pos ≡ p → R last t u → gs t.pos ≡ Some i → AlongF u sg mg → last ≡ waiting mg sg.pos → Met t i ⊎
+        Fault
     meet last t u i ip r e a known =
         elim (refines.meets last t u i r e) as (λ z. Met t i ⊎ Fault) [
           | inl d ↦
@@ -302,15 +340,18 @@ module _ (src f g : Program) (fs gs : Pos → Option Station) (R : Option Pos �
     origin_of : (t : State) (i : Station) → gs t.pos ≡ Some i → IsOrigin gs i.pos
     origin_of t i e = record { place = t.pos; station = i; stands = e; from = refl }
 
-    tied_meets : (t s : State) (m : Since) (i : Station) (e : gs t.pos ≡ Some i) → Tied t s m → Met i.pos (origin_of t i e) m s t i ⊎ FailsBefore src (IsOrigin gs) i.pos m s
+    tied_meets : (t s : State) (m : Since) (i : Station) (e : gs t.pos ≡ Some i) → Tied t s m → Met i.pos (origin_of t i e) m s t i ⊎
+        FailsBefore src (IsOrigin gs) i.pos m s
     tied_meets t s m i e z =
         elim z.related as (λ _. Met i.pos (origin_of t i e) m s t i ⊎ FailsBefore src (IsOrigin gs) i.pos m s) [
           | inl r ↦ meet i.pos (origin_of t i e) m s z.last t z.u i refl r e z.along z.known
-          | inr d ↦ stuck i.pos (origin_of t i e) m s z.last t z.u i refl e (start_at i.pos (origin_of t i e) m s z.u z.last z.along z.known) (d.on_the_way t i still e)
+          | inr d ↦ stuck i.pos (origin_of t i e) m s z.last t z.u i refl e (start_at i.pos (origin_of t i e) m s z.u z.last z.along z.known)
+              (d.on_the_way t i still e)
         ]
 
     -- where the source is over, g's next station is at its position, and owes what it did, or the fault comes before it
-    over_meets : (t s : State) (m : Since) (i : Station) → gs t.pos ≡ Some i → Over t s m → ((m ≡ Same) × (s.pos ≡ i.pos) × IsIdle t s) ⊎ FailsBefore src (IsOrigin gs) i.pos m s
+    over_meets : (t s : State) (m : Since) (i : Station) → gs t.pos ≡ Some i → Over t s m → ((m ≡ Same) × (s.pos ≡ i.pos) × IsIdle t s) ⊎
+        FailsBefore src (IsOrigin gs) i.pos m s
     over_meets t s m i e (st, inl af) = inr (subst (λ (n : Since). FailsBefore src (IsOrigin gs) i.pos n s) (sym af) (inl st))
     over_meets t s m i e (st, inr z) =
         elim (cases_pos s.pos i.pos) as (λ _. ((m ≡ Same) × (s.pos ≡ i.pos) × IsIdle t s) ⊎ FailsBefore src (IsOrigin gs) i.pos m s) [
@@ -319,7 +360,8 @@ module _ (src f g : Program) (fs gs : Pos → Option Station) (R : Option Pos �
         ]
 
     -- g goes on past a station of the source's position
-    over_past : (t s s' t' : State) (i : Station) → gs t.pos ≡ Some i → step src s ≡ Faulted → s.pos ≡ i.pos → IsIdle t s → s ≡ s' → step g t ≡ Went t' → Over t' s' (since_of i.waits)
+    over_past : (t s s' t' : State) (i : Station) → gs t.pos ≡ Some i → step src s ≡ Faulted → s.pos ≡ i.pos → IsIdle t s → s ≡ s' → step g t ≡ Went t' →
+        Over t' s' (since_of i.waits)
     over_past t s s' t' i e st at idle same go = subst (λ (y : State). Over t' y (since_of i.waits)) same (st, by_since i.waits refl) where
       by_since : (b : Bool) → i.waits ≡ b → (since_of b ≡ After) ⊎ ((since_of b ≡ Same) × IsIdle t' s)
       by_since false w = inl refl
@@ -342,7 +384,11 @@ module _ (src f g : Program) (fs gs : Pos → Option Station) (R : Option Pos �
               | inr d ↦ inr (record { on_the_way = λ t1 i w h. d.on_the_way t1 i (pass e st w) h })
             ];
           })
-          | inr z ↦ inr (z.0, elim z.1 as (λ _. (m ≡ After) ⊎ ((m ≡ Same) × IsIdle t' s)) [ inl w ↦ inl w | inr w ↦ inr (w.0, λ t1 j l ej jp. w.1 t1 j (goes_by e st l) ej jp) ])
+          | inr z ↦ inr (
+            z.0,
+            elim z.1
+                as (λ _. (m ≡ After) ⊎ ((m ≡ Same) × IsIdle t' s)) [ inl w ↦ inl w | inr w ↦ inr (w.0, λ t1 j l ej jp. w.1 t1 j (goes_by e st l) ej jp) ],
+          )
         ]
     tied (met {t = t} {s = s} {s' = s'} {t' = t'} {m = m} i a e al st) =
         let o = origin_of t i e in
@@ -353,14 +399,21 @@ module _ (src f g : Program) (fs gs : Pos → Option Station) (R : Option Pos �
                 | inl y ↦
                     let same = aligns_once src (IsOrigin gs) i.pos o m s y.to s' y.aligns al in
                     elim (y.goes t' st) as (λ _. Tied t' s' since ⊎ Over t' s' since) [
-                      | inl w ↦ inl (record { last = waiting since i.pos; u = w.0; along = subst (λ (x : State). AlongF w.0 x since) same w.1; known = ap (waiting since) (sym (aligns_at src (IsOrigin gs) i.pos m s s' al)); related = inl w.2 })
+                      | inl w ↦ inl (record {
+                        last = waiting since i.pos;
+                        u = w.0;
+                        along = subst (λ (x : State). AlongF w.0 x since) same w.1;
+                        known = ap (waiting since) (sym (aligns_at src (IsOrigin gs) i.pos m s s' al));
+                        related = inl w.2;
+                      })
                       | inr w ↦ inr (subst (λ (x : State). Over t' x since) same w)
                     ]
                 | inr y ↦ absurd (aligns_not_fails src (IsOrigin gs) i.pos o m s s' al y)
               ]
           | inr z ↦
               elim (over_meets t s m i e z) as (λ y. Tied t' s' since ⊎ Over t' s' since) [
-                | inl y ↦ inr (over_past t s s' t' i e z.0 y.1 y.2 (stays_at src (IsOrigin gs) i.pos s s' y.1 (subst (λ (n : Since). Aligns src (IsOrigin gs) i.pos n s s') y.0 al)) st)
+                | inl y ↦ inr (over_past t s s' t' i e z.0 y.1 y.2
+                    (stays_at src (IsOrigin gs) i.pos s s' y.1 (subst (λ (n : Since). Aligns src (IsOrigin gs) i.pos n s s') y.0 al)) st)
                 | inr y ↦ absurd (aligns_not_fails src (IsOrigin gs) i.pos o m s s' al y)
               ]
         ]
@@ -369,12 +422,14 @@ module _ (src f g : Program) (fs gs : Pos → Option Station) (R : Option Pos �
     still_follows t s m i a e =
         elim (tied a) as (λ z. ((s' : State) × Aligns src (IsOrigin gs) i.pos m s s' × Agrees src g t s') ⊎ FailsBefore src (IsOrigin gs) i.pos m s) [
           | inl z ↦
-              elim (tied_meets t s m i e z) as (λ y. ((s' : State) × Aligns src (IsOrigin gs) i.pos m s s' × Agrees src g t s') ⊎ FailsBefore src (IsOrigin gs) i.pos m s) [
+              elim (tied_meets t s m i e z)
+              as (λ y. ((s' : State) × Aligns src (IsOrigin gs) i.pos m s s' × Agrees src g t s') ⊎ FailsBefore src (IsOrigin gs) i.pos m s) [
                 | inl y ↦ inl (y.to, y.aligns, y.agrees)
                 | inr y ↦ inr y
               ]
           | inr z ↦
-              elim (over_meets t s m i e z) as (λ y. ((s' : State) × Aligns src (IsOrigin gs) i.pos m s s' × Agrees src g t s') ⊎ FailsBefore src (IsOrigin gs) i.pos m s) [
+              elim (over_meets t s m i e z)
+              as (λ y. ((s' : State) × Aligns src (IsOrigin gs) i.pos m s s' × Agrees src g t s') ⊎ FailsBefore src (IsOrigin gs) i.pos m s) [
                 | inl y ↦ inl (s, subst (λ (n : Since). Aligns src (IsOrigin gs) i.pos n s s) (sym y.0) (inl (y.1, refl)), y.2 t i stays e (sym y.1))
                 | inr y ↦ inr y
               ]
@@ -385,9 +440,11 @@ pub record IsDoomedFrom (f g : Program) (fs gs : Pos → Option Station) (last :
   pub on_the_way : (t1 : State) (i : Station) → Passes g gs t t1 → gs t1.pos ≡ Some i → IsDoomed f fs gs i.pos last u
 
 -- it is enough that f is doomed where it stops
-module _ (src f g : Program) (s0 : State) (fs gs : Pos → Option Station) (R : Option Pos → State → State → Type 0) (origins : (p : Pos) → IsOrigin gs p → IsOrigin fs p)
+module _ (src f g : Program) (s0 : State) (fs gs : Pos → Option Station) (R : Option Pos → State → State → Type 0)
+    (origins : (p : Pos) → IsOrigin gs p → IsOrigin fs p)
     (between : (last : Option Pos) (t u t' : State) → R last t u → gs t.pos ≡ None → step g t ≡ Went t' → R last t' u ⊎ IsDoomedFrom f g fs gs last t u)
-    (meets : (last : Option Pos) (t u : State) (i : Station) → R last t u → gs t.pos ≡ Some i → ((w : State) × Walk f fs gs i.pos last u w × Meets f g fs R t w i) ⊎ IsDoomed f fs gs i.pos last u) where
+    (meets : (last : Option Pos) (t u : State) (i : Station) → R last t u → gs t.pos ≡ Some i →
+    ((w : State) × Walk f fs gs i.pos last u w × Meets f g fs R t w i) ⊎ IsDoomed f fs gs i.pos last u) where
   pub refines_or_doomed : Refines src f g s0 fs gs R
   refines_or_doomed = record {
     origins = origins;
@@ -395,10 +452,11 @@ module _ (src f g : Program) (s0 : State) (fs gs : Pos → Option Station) (R : 
       | inl y ↦ inl y
       | inr d ↦ inr (record { on_the_way = λ t1 i w h. doomed (d.on_the_way t1 i w h) })
     ];
-    meets = λ last t u i r e. elim (meets last t u i r e) as (λ _. ((w : State) × Walk f fs gs i.pos last u w × Meets f g fs R t w i) ⊎ IsStuck src f g s0 fs gs last t u i) [
-      | inl y ↦ inl y
-      | inr d ↦ inr (doomed d)
-    ];
+    meets = λ last t u i r e. elim (meets last t u i r e)
+        as (λ _. ((w : State) × Walk f fs gs i.pos last u w × Meets f g fs R t w i) ⊎ IsStuck src f g s0 fs gs last t u i) [
+          | inl y ↦ inl y
+          | inr d ↦ inr (doomed d)
+        ];
   }
 
 pub refinement_follows : (R : Option Pos → State → State → Type 0) → RefinementFollows R

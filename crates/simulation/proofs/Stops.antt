@@ -3,11 +3,11 @@ use Rattle.std.proofs.Common.{◌≡◌, Option, refl, sym, ◌∙◌, subst, in
 use Rattle.mir_func.specs.declared.position.Pos.{Pos}
 use Rattle.mir_meaning.specs.State.{State}
 use Rattle.mir_meaning.specs.Step.{Went, Faulted, step}
-use Rattle.mir_func.specs.Graph.{Program, Here, block_start}
-use Rattle.mir_meaning.specs.Align.{Station, IsOrigin, Arrives, here, onward, ArrivesLater, Since, Start, Same, After, Aligns, Fails, fails_here, fails_on, FailsLater, FailsBefore}
+use Rattle.mir_func.specs.Graph.{Program, Here, block_start, Edge, Leads}
+use Rattle.mir_meaning.specs.Align.{Station, IsOrigin, Arrives, here, onward, ArrivesLater, Since, Start, Same, After, Aligns, Fails, fails_here, fails_on}
+use Rattle.mir_meaning.specs.Align.{FailsLater, FailsBefore}
 use Rattle.mir_func.specs.declared.block.Block.{Block}
 use Rattle.mir_func.specs.declared.item.Item.{Item}
-use Rattle.mir_func.specs.Graph.{Edge, Leads}
 use Rattle.mir_meaning.specs.Follow.{first_of, OnRow, GoesTo, Shape}
 use Rattle.simulation.specs.Added.{IsNeverBack, StopsMore}
 use Rattle.mir_meaning.proofs.Alignment.{arrives_once, went_once}
@@ -26,7 +26,8 @@ module _ (src : Program) (Reach : Pos → Type 0) (on : (s u : State) → Reach 
   aligns_reaches Same s t r (inr (ne, (u, go, rest))) = arrives_reaches (on s u r go) rest
   aligns_reaches After s t r (u, go, rest) = arrives_reaches (on s u r go) rest
 
-module _ (src : Program) (fs gs : Pos → Option Station) (Stops : Pos → Pos → Type 0) (X Reach : Pos → Type 0) (home : Pos) (more : StopsMore src fs gs Stops X Reach home) (p : Pos) (op : IsOrigin fs p) where
+module _ (src : Program) (fs gs : Pos → Option Station) (Stops : Pos → Pos → Type 0) (X Reach : Pos → Type 0) (home : Pos)
+    (more : StopsMore src fs gs Stops X Reach home) (p : Pos) (op : IsOrigin fs p) where
   abbrev O : Pos → Type 0
   O q = IsOrigin fs q
 
@@ -36,7 +37,8 @@ module _ (src : Program) (fs gs : Pos → Option Station) (Stops : Pos → Pos �
 
   step_clear : (s u : State) → Reach s.pos → (O s.pos → ⊥) → step src s ≡ Went u → IsClear u
   step_clear s u r ne go = (
-    λ x. let b = more.below u.pos x in absurd (ne (subst O (sym (step_from_before src s u u.pos.block b.0 go (λ i. record { block = u.pos.block; item = b.1 i }))) b.2)),
+    λ x. let b = more.below u.pos x in
+        absurd (ne (subst O (sym (step_from_before src s u u.pos.block b.0 go (λ i. record { block = u.pos.block; item = b.1 i }))) b.2)),
     λ never e. never s u r go e,
   )
 
@@ -54,7 +56,8 @@ module _ (src : Program) (fs gs : Pos → Option Station) (Stops : Pos → Pos �
   fails_more clear r (fails_on {s = s} {u = u} ne go rest) = fails_on (not_stopped s clear ne) go (fails_more (step_clear s u r ne go) (more.on s u r go) rest)
 
   -- after a step that comes to no position X but f's origins
-  pub later_more : (s x : State) → Reach s.pos → ((u : State) → step src s ≡ Went u → X u.pos → O u.pos) → ArrivesLater src O p s x → ArrivesLater src (Stops p) p s x
+  pub later_more : (s x : State) → Reach s.pos → ((u : State) → step src s ≡ Went u → X u.pos → O u.pos) → ArrivesLater src O p s x →
+      ArrivesLater src (Stops p) p s x
   later_more s x r clear (u, go, rest) = (u, go, arrives_more (clear u go, λ never e. never s u r go e) (more.on s u r go) rest)
 
   pub fails_later_more : (s : State) → Reach s.pos → ((u : State) → step src s ≡ Went u → X u.pos → O u.pos) → FailsLater src O s → FailsLater src (Stops p) s
@@ -82,7 +85,8 @@ module _ (src : Program) (fs gs : Pos → Option Station) (Stops : Pos → Pos �
 
   -- or one step further on
   pub aligns_below : (s s1 x : State) → Reach s.pos → step src s ≡ Went s1 → ArrivesLater src O p s x → Aligns src (Stops p) p Same s1 x
-  aligns_below s s1 x r go (u, go', rest) = aligns_waiting s1 x (more.on s s1 r go) (subst (λ (y : State). Arrives src O p y x) (went_once src s u s1 go' go) rest)
+  aligns_below s s1 x r go (u, go', rest) = aligns_waiting s1 x (more.on s s1 r go)
+      (subst (λ (y : State). Arrives src O p y x) (went_once src s u s1 go' go) rest)
 
   -- and faults before it
   pub fails_waiting : (s : State) → Reach s.pos → Fails src O s → FailsBefore src (Stops p) p Same s
@@ -104,7 +108,9 @@ pub leads_kept : (src : Program) (start : Pos) (s u : State) → Leads src start
 leads_kept src start s u reach went = leads_on src reach (step_edge src s u went)
 
 -- where no branch of f goes to the first block, the source never comes back to its start
-pub never_back : (src f : List Block) (srcp fp : Program) → Shape src f srcp fp → ((p : Pos) (i : Item) → fp.fetch p ≡ Here i → OnRow (GoesTo (first_of src)) i.kind → ⊥) → IsNeverBack srcp (Leads srcp (block_start (first_of src))) (block_start (first_of src))
+pub never_back : (src f : List Block) (srcp fp : Program) → Shape src f srcp fp →
+    ((p : Pos) (i : Item) → fp.fetch p ≡ Here i → OnRow (GoesTo (first_of src)) i.kind → ⊥) →
+    IsNeverBack srcp (Leads srcp (block_start (first_of src))) (block_start (first_of src))
 never_back src f srcp fp shape none s u reach went at =
     let b = shape.back s.pos reach (subst (λ (z : Pos). Edge srcp s.pos z) at (step_edge srcp s u went)) in
     none b.0 b.1 b.2 b.3

@@ -2,15 +2,14 @@
 use Rattle.std.proofs.Common.{◌≡◌, ℕ, ◌+◌, ◌<◌, ◌≤◌, List, ◌∷◌, Option, Some, None, Bool, true, false, refl, sym, ap, ◌∙◌, subst, inl, inr, ◌⊎◌, arith}
 use Rattle.std.proofs.lemmas.Bool.{cases_Bool, cases_lt}
 use Rattle.rv64_instr.specs.declared.operand.Operand.{Operand}
-use Rattle.rv64_instr.specs.Row.{Row, Fixes, Moves, Sets, Loads, Stores, LoadsSlot, StoresSlot, Branches, Jumps, Calls, Returns, Unfit, row_of}
+use Rattle.rv64_instr.specs.Row.{Row, StoresSlot, Jumps, row_of}
 use Rattle.mir_func.specs.declared.position.Pos.{Pos}
 use Rattle.mir_func.specs.declared.item.Item.{Item}
 use Rattle.mir_func.specs.declared.item.ItemKind.{ItemKind}
 use Rattle.mir_func.specs.declared.item.ItemKind.TheVariants.{Code, Mark, Phi}
 use Rattle.mir_meaning.specs.State.{State, Core, updated}
 use Rattle.mir_meaning.specs.Step.{Went, Outcome, Falls, Goes, moved, act, does, with_core, numbered, is_call, mark_value, place_value, do_item, do_fetch, step}
-use Rattle.mir_func.specs.Graph.{Program, Fetch, Here, Silent, Outside, below, block_start}
-use Rattle.mir_func.specs.Graph.{Edge, FetchEdge, KindEdge, RowEdge, Leads, stay, go as by_edge}
+use Rattle.mir_func.specs.Graph.{Program, Fetch, Here, Silent, Outside, below, block_start, Edge, FetchEdge, KindEdge, RowEdge, Leads, stay, go as by_edge}
 use Rattle.mir_meaning.specs.Align.{position_of, is_code, is_jump, is_jump_row, Station, ByItems, station_of, item_station, fetch_station, station_at}
 use Rattle.mir_meaning.specs.Follow.{OnRow, IsSlotSave}
 use Rattle.simulation.specs.Words.{SameCode, IsAddedJump, HasPlainTurns}
@@ -22,7 +21,14 @@ pub same_code : (c : Core) → SameCode c c
 same_code c = record { entry = refl; regs = refl; slots = refl; memory = refl; script = refl; events = refl }
 
 pub code_trans : (c d e : Core) → SameCode c d → SameCode d e → SameCode c e
-code_trans c d e a b = record { entry = a.entry ∙ b.entry; regs = a.regs ∙ b.regs; slots = a.slots ∙ b.slots; memory = a.memory ∙ b.memory; script = a.script ∙ b.script; events = a.events ∙ b.events }
+code_trans c d e a b = record {
+  entry = a.entry ∙ b.entry;
+  regs = a.regs ∙ b.regs;
+  slots = a.slots ∙ b.slots;
+  memory = a.memory ∙ b.memory;
+  script = a.script ∙ b.script;
+  events = a.events ∙ b.events;
+}
 
 numbered_code : (sp call : Bool) (k : Option ℕ) (os : List Operand) (c : Core) → SameCode (numbered sp call k os c) c
 numbered_code sp call None os c = same_code c
@@ -39,17 +45,28 @@ module _ (g : Program) where
   next_from p Outside = p
 
   fall_code : (p : Pos) (c d : Core) (t : State) → SameCode d c → moved g.enter p (Falls d) ≡ Went t → SameCode t.core c × (t.pos ≡ below p)
-  fall_code p c d t h e = (let made : State = record { pos = below p; core = d } in let w : made ≡ t = cc in subst (λ (z : State). SameCode z.core c) w h, falls_below g.enter p d t e)
+  fall_code p c d t h e = (
+    let made : State = record { pos = below p; core = d } in let w : made ≡ t = cc in
+        subst (λ (z : State). SameCode z.core c) w h,
+    falls_below g.enter p d t e,
+  )
 
-  kind_code : (k : ItemKind) (i : Item) → item_station ByItems (is_code k) i ≡ None → (p : Pos) (c : Core) (t : State) → moved g.enter p (do_item g k c) ≡ Went t → SameCode t.core c × (t.pos ≡ below p)
+  kind_code : (k : ItemKind) (i : Item) → item_station ByItems (is_code k) i ≡ None → (p : Pos) (c : Core) (t : State) →
+      moved g.enter p (do_item g k c) ≡ Went t → SameCode t.core c × (t.pos ≡ below p)
   kind_code (Code j n) i e p c t go = cc
-  kind_code (Mark v m) i e p c t go = fall_code p c (record c { marks = (v, mark_value g m c) ∷ c.marks }) t (record { entry = refl; regs = refl; slots = refl; memory = refl; script = refl; events = refl }) go
-  kind_code (Phi q n) i e p c t go = fall_code p c (record c { pairs = updated n (updated 0 (place_value q c) (c.pairs n)) c.pairs }) t (record { entry = refl; regs = refl; slots = refl; memory = refl; script = refl; events = refl }) go
+  kind_code (Mark v m) i e p c t go = fall_code p c (record c { marks = (v, mark_value g m c) ∷ c.marks }) t
+      (record { entry = refl; regs = refl; slots = refl; memory = refl; script = refl; events = refl }) go
+  kind_code (Phi q n) i e p c t go = fall_code p c (record c { pairs = updated n (updated 0 (place_value q c) (c.pairs n)) c.pairs }) t
+      (record { entry = refl; regs = refl; slots = refl; memory = refl; script = refl; events = refl }) go
 
-  fetch_code : (x : Fetch) (b : ℕ) → fetch_station ByItems b x ≡ None → (p : Pos) (c : Core) (t : State) → moved g.enter p (do_fetch g x c) ≡ Went t → SameCode t.core c × (t.pos ≡ next_from p x)
+  fetch_code : (x : Fetch) (b : ℕ) → fetch_station ByItems b x ≡ None → (p : Pos) (c : Core) (t : State) → moved g.enter p (do_fetch g x c) ≡ Went t →
+      SameCode t.core c × (t.pos ≡ next_from p x)
   fetch_code (Here i) b e p c t go = kind_code i.kind i e p c t go
-  fetch_code (Silent k n) b e p c t go =
-      (let made : State = record { pos = block_start (g.enter n); core = c } in let w : made ≡ t = cc in subst (λ (z : State). SameCode z.core c) w (same_code c), goes_to_start g.enter p n c t go)
+  fetch_code (Silent k n) b e p c t go = (
+    let made : State = record { pos = block_start (g.enter n); core = c } in let w : made ≡ t = cc in
+        subst (λ (z : State). SameCode z.core c) w (same_code c),
+    goes_to_start g.enter p n c t go,
+  )
   fetch_code Outside b e p c t go = cc
 
   -- what is no station changes no place, and leads to one position
@@ -70,7 +87,8 @@ module _ (g : Program) where
   passes_code (on {t = t} {u = u} {v = v} ne st q) = code_trans v.core u.core t.core (passes_code q) (quiet_step t u ne st).0
 
   -- from one position it comes to one station
-  pub passes_to_one : {t u t' u' : State} (i i' : Station) → Passes t u → Passes t' u' → t.pos ≡ t'.pos → gs u.pos ≡ Some i → gs u'.pos ≡ Some i' → u.pos ≡ u'.pos
+  pub passes_to_one : {t u t' u' : State} (i i' : Station) → Passes t u → Passes t' u' → t.pos ≡ t'.pos → gs u.pos ≡ Some i → gs u'.pos ≡ Some i' →
+      u.pos ≡ u'.pos
   passes_to_one i i' still still e a a' = e
   passes_to_one i i' (still {t = t}) (on {t = t'} ne st q) e a a' = let bad : None ≡ Some i = sym ne ∙ ap gs (sym e) ∙ a in cc
   passes_to_one i i' (on {t = t} ne st q) (still {t = t'}) e a a' = let bad : None ≡ Some i' = sym ne ∙ ap gs e ∙ a' in cc
@@ -80,17 +98,7 @@ module _ (g : Program) where
   jump_act : (r : Row) → is_jump_row r ≡ true → (n : ℕ) × ((d : Core) → act r d ≡ Goes n d)
   unfolding act does
   jump_act (Jumps n) e = (n, λ d. refl)
-  jump_act (Fixes rd m) e = cc
-  jump_act (Moves rd rs) e = cc
-  jump_act (Sets rd op a b) e = cc
-  jump_act (Loads rd op b o) e = cc
-  jump_act (Stores op rs b o) e = cc
-  jump_act (LoadsSlot rd m) e = cc
-  jump_act (StoresSlot rs m) e = cc
-  jump_act (Branches op a b t) e = cc
-  jump_act (Calls name args) e = cc
-  jump_act (Returns v) e = cc
-  jump_act Unfit e = cc
+  jump_act _ e = cc
 
   -- a jump changes no place, and always goes to the start of one block
   pub record JumpsTo (k : ItemKind) : Type 0 where
@@ -102,17 +110,26 @@ module _ (g : Program) where
   jumps_to (Phi q n) e = cc
   jumps_to (Code j n) e =
       let r = jump_act (row_of j) e in
-      record { target = r.0; lands = λ p c t go. land r.0 p c t (sym (ap (λ (o : Outcome). moved g.enter p (with_core (numbered g.sees_pointer (is_call (row_of j)) n j.operands) o)) (r.1 c)) ∙ go) } where
-        land : (m : ℕ) (p : Pos) (c : Core) (t : State) → moved g.enter p (Goes m (numbered g.sees_pointer (is_call (row_of j)) n j.operands c)) ≡ Went t → SameCode t.core c × (t.pos ≡ block_start (g.enter m))
+      record {
+        target = r.0;
+        lands = λ p c t go. land r.0 p c t
+            (sym (ap (λ (o : Outcome). moved g.enter p (with_core (numbered g.sees_pointer (is_call (row_of j)) n j.operands) o)) (r.1 c)) ∙ go);
+      } where
+        land : (m : ℕ) (p : Pos) (c : Core) (t : State) → moved g.enter p (Goes m (numbered g.sees_pointer (is_call (row_of j)) n j.operands c)) ≡ Went t →
+            SameCode t.core c × (t.pos ≡ block_start (g.enter m))
         land m p c t go =
-            let d = numbered g.sees_pointer (is_call (row_of j)) n j.operands c in
-            (let made : State = record { pos = block_start (g.enter m); core = d } in let w : made ≡ t = cc in subst (λ (z : State). SameCode z.core c) w (numbered_code g.sees_pointer (is_call (row_of j)) n j.operands c), goes_to_start g.enter p m d t go)
+            let d = numbered g.sees_pointer (is_call (row_of j)) n j.operands c in (
+              let made : State = record { pos = block_start (g.enter m); core = d } in let w : made ≡ t = cc in
+                  subst (λ (z : State). SameCode z.core c) w (numbered_code g.sees_pointer (is_call (row_of j)) n j.operands c),
+              goes_to_start g.enter p m d t go,
+            )
 
   step_at : (t u : State) (x : Item) → g.fetch t.pos ≡ Here x → step g t ≡ Went u → moved g.enter t.pos (do_item g x.kind t.core) ≡ Went u
   step_at t u x f go = sym (ap (λ (z : Fetch). moved g.enter t.pos (do_fetch g z t.core)) f) ∙ go
 
   -- the step of a jump, from whatever state at its position
-  pub jump_step : (x : Item) → is_jump x.kind ≡ true → (t u k v : State) → g.fetch t.pos ≡ Here x → step g t ≡ Went u → k.pos ≡ t.pos → step g k ≡ Went v → SameCode v.core k.core × (v.pos ≡ u.pos)
+  pub jump_step : (x : Item) → is_jump x.kind ≡ true → (t u k v : State) → g.fetch t.pos ≡ Here x → step g t ≡ Went u → k.pos ≡ t.pos → step g k ≡ Went v →
+      SameCode v.core k.core × (v.pos ≡ u.pos)
   jump_step x jx t u k v ft go e go' =
       let j = jumps_to x.kind jx in
       let a = j.lands t.pos t.core u (step_at t u x ft go) in
@@ -162,7 +179,8 @@ module _ (g : Program) where
         | inr ge ↦ ap gs (same_pos r p (rb ∙ eb) (omega (arith, lt, ei, ge))) ∙ ne
       ]
   quiet_next p q (Silent k n) ne h e r rb lt = let ei : q.item ≡ 0 = ap (λ (z : Pos). z.item) e in absurd (omega (arith, lt, ei))
-  quiet_next p q Outside ne h e r rb lt = h r (rb ∙ ap (λ (z : Pos). z.block) e) (let ei : q.item ≡ p.item = ap (λ (z : Pos). z.item) e in omega (arith, ei, lt))
+  quiet_next p q Outside ne h e r rb lt = h r (rb ∙ ap (λ (z : Pos). z.block) e)
+      (let ei : q.item ≡ p.item = ap (λ (z : Pos). z.item) e in omega (arith, ei, lt))
 
   quiet_passes : {a b : State} → Passes a b → IsQuietAbove a.pos → IsQuietAbove b.pos
   quiet_passes still h = h
@@ -181,28 +199,21 @@ module _ (g : Program) where
   debug_below (Mark v m) e p q k = k
   debug_below (Phi r n) e p q k = k
 
-  jump_edge : (k : ItemKind) → is_jump k ≡ true → (p q : Pos) (c : Core) (u : State) → KindEdge g.enter k p q → moved g.enter p (do_item g k c) ≡ Went u → q ≡ u.pos
+  jump_edge : (k : ItemKind) → is_jump k ≡ true → (p q : Pos) (c : Core) (u : State) → KindEdge g.enter k p q → moved g.enter p (do_item g k c) ≡ Went u →
+      q ≡ u.pos
   jump_edge (Mark v m) e p q c u k st = cc
   jump_edge (Phi r n) e p q c u k st = cc
   jump_edge (Code i n) e p q c u k st = by_row (row_of i) e k st where
-    by_row : (r : Row) → is_jump_row r ≡ true → RowEdge g.enter r p q → moved g.enter p (with_core (numbered g.sees_pointer (is_call (row_of i)) n i.operands) (act r c)) ≡ Went u → q ≡ u.pos
+    by_row : (r : Row) → is_jump_row r ≡ true → RowEdge g.enter r p q →
+        moved g.enter p (with_core (numbered g.sees_pointer (is_call (row_of i)) n i.operands) (act r c)) ≡ Went u → q ≡ u.pos
     by_row (Jumps t) e k st =
         let d = numbered g.sees_pointer (is_call (row_of i)) n i.operands c in
         let st1 : moved g.enter p (Goes t d) ≡ Went u = unfold act in unfold does in st in
         k ∙ sym (goes_to_start g.enter p t d u st1)
-    by_row (Fixes rd m) e k st = cc
-    by_row (Moves rd rs) e k st = cc
-    by_row (Sets rd op a b) e k st = cc
-    by_row (Loads rd op b o) e k st = cc
-    by_row (Stores op rs b o) e k st = cc
-    by_row (LoadsSlot rd m) e k st = cc
-    by_row (StoresSlot rs m) e k st = cc
-    by_row (Branches op a b t) e k st = cc
-    by_row (Calls name args) e k st = cc
-    by_row (Returns v) e k st = cc
-    by_row Unfit e k st = cc
+    by_row _ e k st = cc
 
-  module _ (Inner : Pos → Type 0) (facts : HasPlainTurns g Inner) (t u v : State) (x : Item) (i : Station) (ft : g.fetch t.pos ≡ Here x) (jx : IsAddedJump x) (st : step g t ≡ Went u) (w : Passes u v) (sv : gs v.pos ≡ Some i) (at : i.pos ≡ position_of x.origin) where
+  module _ (Inner : Pos → Type 0) (facts : HasPlainTurns g Inner) (t u v : State) (x : Item) (i : Station) (ft : g.fetch t.pos ≡ Here x) (jx : IsAddedJump x)
+      (st : step g t ≡ Went u) (w : Passes u v) (sv : gs v.pos ≡ Some i) (at : i.pos ≡ position_of x.origin) where
     inner_all : {a b : State} → Inner a.pos → Passes a b → Inner b.pos
     inner_all h still = h
     inner_all h (on {t = a} {u = n} ne go q) = inner_all (facts.on a n h go) q
@@ -230,14 +241,21 @@ module _ (g : Program) where
       by_station (of_end k n fe ce ie) = cc
       by_station (of_item y fy cy iy) =
           let p : position_of y.origin ≡ position_of x.origin = ap (λ (z : Station). z.pos) iy ∙ at in
-          record { y = y; fetch = fy; code = cy; pos = p; block = facts.home v.pos t.pos y x (inner_all (facts.on t u inner_t st) w) inner_t fy ft (ap (λ (z : Pos). z.block) p) }
+          record {
+            y = y;
+            fetch = fy;
+            code = cy;
+            pos = p;
+            block = facts.home v.pos t.pos y x (inner_all (facts.on t u inner_t st) w) inner_t fy ft (ap (λ (z : Pos). z.block) p);
+          }
 
     -- the circle: from the station down to the jump, and the way back
     abbrev Circle : Pos → Type 0
     Circle p = ((p.block ≡ t.pos.block) × (v.pos.item ≤ p.item) × (p.item ≤ t.pos.item)) ⊎ IsOn w p
 
     -- what stands between is at the jump's position
-    between_at : (p : Pos) (j : Item) → g.fetch p ≡ Here j → p.block ≡ t.pos.block → v.pos.item ≤ p.item → p.item ≤ t.pos.item → position_of j.origin ≡ position_of x.origin
+    between_at : (p : Pos) (j : Item) → g.fetch p ≡ Here j → p.block ≡ t.pos.block → v.pos.item ≤ p.item → p.item ≤ t.pos.item →
+        position_of j.origin ≡ position_of x.origin
     between_at p j fj pb lo hi =
         let a = facts.order v.pos p at_end.y j at_end.fetch fj (at_end.block ∙ sym pb) lo in
         let b = facts.order p t.pos j x fj ft pb hi in
@@ -271,17 +289,20 @@ module _ (g : Program) where
     closed lt p q (inr h) k =
         elim (on_edge w p q h k) as (λ _. Circle q) [
           | inl z ↦ inr z
-          | inr e ↦ (let z : p.item ≡ v.pos.item = ap (λ (z : Pos). z.item) e in from_between p q (ap (λ (z : Pos). z.block) e ∙ at_end.block) (omega (arith, z)) (omega (arith, z, lt)) k)
+          | inr e ↦ (let z : p.item ≡ v.pos.item = ap (λ (z : Pos). z.item) e in
+              from_between p q (ap (λ (z : Pos). z.block) e ∙ at_end.block) (omega (arith, z)) (omega (arith, z, lt)) k)
         ]
 
     stays_in : v.pos.item < t.pos.item → {p r : Pos} → Leads g p r → Circle p → Circle r
     stays_in lt stay h = h
     stays_in lt (by_edge {p = p} {q = q} e rest) h = stays_in lt rest (closed lt p q h e)
 
-    no_store : v.pos.item < t.pos.item → (r : Pos) (k : Item) → g.fetch r ≡ Here k → is_code k.kind ≡ true → (position_of k.origin ≡ position_of x.origin → ⊥) → ((r.block ≡ v.pos.block) × (r.item < v.pos.item)) ⊎ Leads g v.pos r → ⊥
+    no_store : v.pos.item < t.pos.item → (r : Pos) (k : Item) → g.fetch r ≡ Here k → is_code k.kind ≡ true → (position_of k.origin ≡ position_of x.origin → ⊥) →
+        ((r.block ≡ v.pos.block) × (r.item < v.pos.item)) ⊎ Leads g v.pos r → ⊥
     no_store lt r k fk ck ne (inl h) =
         let top : u.pos.item ≡ 0 = ap (λ (z : Pos). z.item) lands.1 in
-        let bad : None ≡ Some (station_of ByItems k) = sym (quiet_passes w (λ q qb lt2. absurd (omega (arith, lt2, top))) r h.0 h.1) ∙ code_station ByItems g r k fk ck in
+        let bad : None ≡ Some (station_of ByItems k) = sym (quiet_passes w (λ q qb lt2. absurd (omega (arith, lt2, top))) r h.0 h.1) ∙
+        code_station ByItems g r k fk ck in
         cc
     no_store lt r k fk ck ne (inr h) =
         elim (stays_in lt h (inl (at_end.block, omega arith, omega (arith, lt)))) as (λ _. ⊥) [

@@ -1,29 +1,34 @@
 -- A register that is written stays so along a run; so a source doesn't fault where it returns physical registers.
-use Rattle.std.proofs.Common.{◌≡◌, ℕ, zero, suc, ◌%◌, ◌+◌, ◌^◌, ◌<◌, List, [], ◌∷◌, map, All, Option, Some, None, Bool, true, false, cond, nat_eq, nat_le, is_some, ◌&&◌, refl, sym, ap, ◌∙◌, subst, inl, inr, arith}
+use Rattle.std.proofs.Common.{◌≡◌, ℕ, zero, suc, ◌<◌, List, [], ◌∷◌, map, All, Option, Some, None, Bool, true, false, cond, nat_eq, nat_le, is_some, ◌&&◌, refl}
+use Rattle.std.proofs.Common.{sym, ap, ◌∙◌, subst, inl, inr, arith}
 use Rattle.std.specs.List.{list_all}
 use Rattle.std.proofs.lemmas.Bool.{cases_eq, and_parts, leb-true}
 use Rattle.std.proofs.lemmas.List.Elements.{All-cons, All-head, All-tail, All-nil}
 use Rattle.rv64_instr.specs.declared.op.Op.{Op}
 use Rattle.rv64_instr.specs.declared.op.Op.TheVariants.{Addi}
 use Rattle.rv64_instr.specs.declared.form.Form.{Form}
-use Rattle.rv64_instr.specs.declared.form.Form.TheVariants.{Registers, Immediate, Upper, Load, Store as StoreForm, Branch as BranchForm, Move, Jump, Call as CallForm, Return as ReturnForm}
+use Rattle.rv64_instr.specs.declared.form.Form.TheVariants.{Registers, Immediate, Upper, Load, Store as StoreForm, Branch as BranchForm, Move, Jump}
+use Rattle.rv64_instr.specs.declared.form.Form.TheVariants.{Call as CallForm, Return as ReturnForm}
 use Rattle.rv64_instr.specs.declared.operand.Operand.{Operand}
 use Rattle.rv64_instr.specs.declared.operand.Operand.TheVariants.{Def, Use, ImplicitUse, Imm, Slot as SlotOperand, Block, Symbol}
 use Rattle.rv64_instr.specs.Instruction.{Instruction}
 use Rattle.rv64_instr.specs.Form.{form_of, is_result, fits, has_form}
-use Rattle.rv64_instr.specs.Arithmetic.{word, computed, taken, width_of, extended}
-use Rattle.rv64_instr.specs.Row.{Row, Fixes, Moves, Sets, Loads, Stores, LoadsSlot, StoresSlot, Branches, Jumps, Calls, Returns, Unfit, row_of, row_by, implicit_uses, move_row, immediate_row}
+use Rattle.rv64_instr.specs.Arithmetic.{word}
+use Rattle.rv64_instr.specs.Row.{Row, Fixes, Moves, Sets, Loads, Stores, LoadsSlot, StoresSlot, Branches, Jumps, Calls, Returns, Unfit, row_of, row_by}
+use Rattle.rv64_instr.specs.Row.{implicit_uses, move_row, immediate_row}
 use Rattle.rv64_instr.specs.Access.{caller_saved, reads}
 use Rattle.mir_func.specs.declared.position.Pos.{Pos}
 use Rattle.mir_func.specs.declared.item.Item.{Item}
 use Rattle.mir_func.specs.declared.item.ItemKind.{ItemKind}
 use Rattle.mir_func.specs.declared.item.ItemKind.TheVariants.{Code, Mark, Phi}
-use Rattle.mir_meaning.specs.State.{Called, Reply, Core, State, content, put, put_all, spelled, low_bytes, written, touches_frame, writes_frame}
-use Rattle.mir_meaning.specs.Step.{Went, Faulted, Outcome, Falls, Goes, Gives, Traps, Asks, Breaks, moved, read, input_value, set_register, answered, slot_loaded, saved, does, are_written, act, with_core, is_call, numbered, do_item, do_fetch, step}
+use Rattle.mir_meaning.specs.State.{Reply, Core, State, content, put, put_all, writes_frame}
+use Rattle.mir_meaning.specs.Step.{Went, Outcome, Falls, Goes, Gives, Traps, Asks, Breaks, moved, read, set_register, answered, slot_loaded, does, are_written}
+use Rattle.mir_meaning.specs.Step.{act, with_core, is_call, numbered, do_item, do_fetch, step}
 use Rattle.mir_func.specs.Graph.{Program, Fetch, Here, Silent, Outside}
 use Rattle.mir_meaning.specs.Align.{Arrives, here, onward}
 use Rattle.mir_meaning.specs.Follow.{class_of, Return, IsStart, OnRow}
 use Rattle.simulation.specs.Refinement.{FaultsAt}
+use Rattle.simulation.proofs.Outcomes.{faults_traps}
 use Rattle.mir_meaning.specs.Effects.{OnCore}
 use Rattle.mir_meaning.proofs.Outcomes.{on_either, step_item}
 use Rattle.mir_meaning.proofs.Places.{put_same, put_other}
@@ -49,31 +54,27 @@ put_all_written (q ∷ rs) (x ∷ vs) r v regs e = let k = put_written q x r v r
 set_written : (rd x : ℕ) (c : Core) → StaysWritten c (set_register rd x c)
 set_written rd x c r v e = put_written rd x r v c.regs e
 
+same_written : (c : Core) → StaysWritten c c
+same_written c r v e = (v, e)
+
 does_written : (r : Row) (c : Core) → OnCore (StaysWritten c) (does r c)
 unfolding does
-does_written (Fixes rd n) c = set_written rd n c
-does_written (Moves rd rs) c = set_written rd (read c rs) c
-does_written (Sets rd op a b) c = set_written rd (computed op (read c a) (input_value c b)) c
-does_written (Loads rd op b o) c =
-    let a = (read c b + o) % 2 ^ 64 in
-    let x = extended op (spelled c.memory a (width_of op)) in
-    on_either (StaysWritten c) (touches_frame c.entry a (width_of op)) Traps (Falls (set_register rd x c)) tt (set_written rd x c)
-does_written (Stores op rs b o) c =
-    let a = (read c b + o) % 2 ^ 64 in
-    on_either (StaysWritten c) (touches_frame c.entry a (width_of op)) Traps (Falls (saved a (low_bytes (width_of op) (read c rs)) c)) tt (λ r v e. (v, e))
+does_written (Fixes rd n) c = set_written rd _ c
+does_written (Moves rd rs) c = set_written rd _ c
+does_written (Sets rd op a b) c = set_written rd _ c
+does_written (Loads rd op b o) c = search (on_either, set_written)
+does_written (Stores op rs b o) c = search (on_either, same_written)
 does_written (LoadsSlot rd n) c = by_slot (c.slots n) where
   by_slot : (x : Option ℕ) → OnCore (StaysWritten c) (slot_loaded rd c x)
   by_slot None = tt
   by_slot (Some x) = set_written rd x c
 does_written (StoresSlot rs n) c = λ r v e. (v, e)
-does_written (Branches op a b t) c = on_either (StaysWritten c) (taken op (read c a) (read c b)) (Goes t c) (Falls c) (λ r v e. (v, e)) (λ r v e. (v, e))
+does_written (Branches op a b t) c = search (on_either, same_written)
 does_written (Jumps t) c = λ r v e. (v, e)
 does_written (Calls name args) c = by_script (map (read c) args) c.script where
   by_script : (vs : List ℕ) (rs : List Reply) → OnCore (StaysWritten c) (answered name vs c rs)
   by_script vs [] = tt
-  by_script vs (q ∷ rs) =
-      on_either (StaysWritten c) (writes_frame c.entry q.writes) Traps (Falls (record c { regs = put_all caller_saved q.regs c.regs; memory = written c.memory q.writes; script = rs; events = Called name vs ∷ c.events })) tt
-      (λ r v e. put_all_written caller_saved q.regs r v c.regs e)
+  by_script vs (q ∷ rs) = on_either (StaysWritten c) (writes_frame c.entry q.writes) _ _ tt (λ r v e. put_all_written caller_saved q.regs r v c.regs e)
 does_written (Returns v) c = tt
 does_written Unfit c = tt
 
@@ -83,7 +84,8 @@ act_written r c = on_either (StaysWritten c) (are_written c (reads r)) (does r c
 
 item_written : (g : Program) (k : ItemKind) (c : Core) → OnCore (StaysWritten c) (do_item g k c)
 item_written g (Code i n) c = by_outcome (act (row_of i) c) n (act_written (row_of i) c) where
-  by_outcome : (o : Outcome) (n : Option ℕ) → OnCore (StaysWritten c) o → OnCore (StaysWritten c) (with_core (numbered g.sees_pointer (is_call (row_of i)) n i.operands) o)
+  by_outcome : (o : Outcome) (n : Option ℕ) → OnCore (StaysWritten c) o →
+      OnCore (StaysWritten c) (with_core (numbered g.sees_pointer (is_call (row_of i)) n i.operands) o)
   by_outcome (Falls d) None h = h
   by_outcome (Falls d) (Some k) h = h
   by_outcome (Goes t d) None h = h
@@ -129,16 +131,17 @@ HasPhysicalResults _ = ⊥
 -- as the form of returns has it
 results_are_physical : (os : List Operand) → list_all is_result os ≡ true → All (λ r. r < 32) (implicit_uses os)
 results_are_physical [] e = All-nil (λ r. r < 32)
-results_are_physical (ImplicitUse r ∷ rest) e = by_test (results_are_physical rest (and_parts (is_result (ImplicitUse r)) (list_all is_result rest) e).1) (nat_eq r 2) where
-  low : r < 32
-  low =
-      let is = (and_parts (is_result (ImplicitUse r)) (list_all is_result rest) e).0 in
-      let k = leb-true r 17 (and_parts (nat_le 10 r) (nat_le r 17) is).1 in
-      omega (arith, k)
+results_are_physical (ImplicitUse r ∷ rest) e = by_test (results_are_physical rest (and_parts (is_result (ImplicitUse r)) (list_all is_result rest) e).1)
+    (nat_eq r 2) where
+      low : r < 32
+      low =
+          let is = (and_parts (is_result (ImplicitUse r)) (list_all is_result rest) e).0 in
+          let k = leb-true r 17 (and_parts (nat_le 10 r) (nat_le r 17) is).1 in
+          omega (arith, k)
 
-  by_test : All (λ r. r < 32) (implicit_uses rest) → (b : Bool) → All (λ r. r < 32) (cond b (implicit_uses rest) (r ∷ implicit_uses rest))
-  by_test more true = more
-  by_test more false = All-cons (λ r. r < 32) r (implicit_uses rest) low more
+      by_test : All (λ r. r < 32) (implicit_uses rest) → (b : Bool) → All (λ r. r < 32) (cond b (implicit_uses rest) (r ∷ implicit_uses rest))
+      by_test more true = more
+      by_test more false = All-cons (λ r. r < 32) r (implicit_uses rest) low more
 results_are_physical (_ ∷ rest) e = cc
 
 row_physical : (f : Form) (op : Op) (os : List Operand) → fits f os ≡ true → class_of (row_by f op os) ≡ Return → HasPhysicalResults (row_by f op os)
@@ -168,7 +171,8 @@ row_physical _ op _ e c = cc
 pub has_physical_results : (i : Instruction) → has_form i.op i.operands ≡ true → class_of (row_of i) ≡ Return → HasPhysicalResults (row_of i)
 has_physical_results i e c = row_physical (form_of i.op) i.op i.operands e c
 
-row_returns : (g : Program) (k : ItemKind) (c : Core) → ((r : ℕ) → r < 32 → (v : ℕ) × (content c.regs r ≡ Some v)) → OnRow HasPhysicalResults k → do_item g k c ≡ Traps → ⊥
+row_returns : (g : Program) (k : ItemKind) (c : Core) → ((r : ℕ) → r < 32 → (v : ℕ) × (content c.regs r ≡ Some v)) → OnRow HasPhysicalResults k →
+    do_item g k c ≡ Traps → ⊥
 unfolding act does
 row_returns g (Code i n) c has low e = by_row (row_of i) low e where
   by_row : (r : Row) → HasPhysicalResults r → with_core (numbered g.sees_pointer (is_call (row_of i)) n i.operands) (act r c) ≡ Traps → ⊥
@@ -192,14 +196,9 @@ row_returns g (Mark v m) c has low e = low
 row_returns g (Phi p n) c has low e = low
 
 -- so from a start, the source doesn't fault where it has a return
-pub returns_never_fault : (src : Program) (first : ℕ) (s0 : State) → IsStart first s0 → (p : Pos) (i : Item) → src.fetch p ≡ Here i → OnRow HasPhysicalResults i.kind → FaultsAt src s0 p → ⊥
+pub returns_never_fault : (src : Program) (first : ℕ) (s0 : State) → IsStart first s0 → (p : Pos) (i : Item) → src.fetch p ≡ Here i →
+    OnRow HasPhysicalResults i.kind → FaultsAt src s0 p → ⊥
 returns_never_fault src first s0 start p i fi low (s, comes, st) =
     row_returns src i.kind s.core (λ r lt. let k = start.regs r lt in run_written src (λ q. ⊥) p comes r k.0 k.1) low
-    (by_outcome (do_item src i.kind s.core) (sym (step_item src s i (do_item src i.kind s.core) (ap src.fetch (arrives_at src (λ q. ⊥) p comes) ∙ fi) refl) ∙ st)) where
-      by_outcome : (o : Outcome) → moved src.enter s.pos o ≡ Faulted → o ≡ Traps
-      by_outcome Traps e = refl
-      by_outcome (Falls c) e = cc
-      by_outcome (Goes n c) e = cc
-      by_outcome (Gives v) e = cc
-      by_outcome Asks e = cc
-      by_outcome Breaks e = cc
+    (faults_traps src.enter s.pos (do_item src i.kind s.core)
+    (sym (step_item src s i (do_item src i.kind s.core) (ap src.fetch (arrives_at src (λ q. ⊥) p comes) ∙ fi) refl) ∙ st))

@@ -3,10 +3,10 @@ use Rattle.std.specs.Prelude.{◌≡◌, ◌⊎◌, ℕ, ◌+◌, List, [], ◌�
 use Rattle.mir_func.specs.declared.position.Pos.{Pos}
 use Rattle.mir_func.specs.declared.item.Item.{Item}
 use Rattle.mir_meaning.specs.State.{Core, State}
-use Rattle.mir_meaning.specs.Step.{Outcome, Falls, Goes, Gives, Traps, Asks, Breaks, Went, Faulted, do_item, step}
+use Rattle.mir_meaning.specs.Step.{Outcome, Falls, Traps, Went, Faulted, do_item, step}
 use Rattle.mir_func.specs.Graph.{Silent, Program, Edge, below, block_start}
 use Rattle.mir_meaning.specs.Align.{position_of, is_code, Station, Count, ByEnds, station_at, IsOrigin, Since, Same, After, AnyOrigin, RunsAlong}
-use Rattle.simulation.specs.Sides.{Sides, Relation, Laid, since_item, ShowsSame, Does, DoBoth}
+use Rattle.simulation.specs.Sides.{Sides, Relation, Laid, since_item, ShowsSame, Does, DoBoth, OutcomesAlike}
 
 -- how g stands beside f: before added code at the start; level with it; ahead at the position of f's next code; or
 -- behind a store that is owed to what f has at a position
@@ -77,14 +77,9 @@ module _ (count : Count) (src : Program) (sides : Sides) (relation : AddedRelati
 
   -- what f's code does and what g's code of one origin does
   abbrev pub DoAlike : (b : ℕ) → List Item → List Item → Since → Stage → Outcome → Outcome → Type 0
-  DoAlike b xs ys m k (Falls c) (Falls d) = Cores k b xs ys c d
-  DoAlike b xs ys m k (Goes i c) (Goes j d) =
-      (i ≡ j) × (m ≡ After) × (standing k ≡ Level) × Cores (entry i) i (rest_f (block_start i)) (rest_g (start_in_g i)) c d
-  DoAlike b xs ys m k (Gives v) (Gives w) = v ≡ w
-  DoAlike b xs ys m k Traps Traps = Unit {0}
-  DoAlike b xs ys m k Asks Asks = Unit {0}
-  DoAlike b xs ys m k Breaks Breaks = Unit {0}
-  DoAlike b xs ys m k _ _ = ⊥
+  DoAlike b xs ys m k x y =
+      OutcomesAlike (Cores k b xs ys)
+      (λ i c d. (m ≡ After) × (standing k ≡ Level) × Cores (entry i) i (rest_f (block_start i)) (rest_g (start_in_g i)) c d) x y
 
   -- after added code at the start, more of it comes, or what f has there
   abbrev pub MayOpen : Standing → Type 0

@@ -4,12 +4,12 @@ use Rattle.mir_func.specs.declared.position.Pos.{Pos}
 use Rattle.mir_func.specs.declared.position.Origin.TheVariants.{Kept}
 use Rattle.mir_func.specs.declared.item.Item.{Item}
 use Rattle.mir_meaning.specs.State.{Core}
-use Rattle.mir_meaning.specs.Step.{Outcome, Falls, Goes, Gives, Traps, Asks, Breaks, do_item}
+use Rattle.mir_meaning.specs.Step.{Outcome, Falls, Goes, Gives, Traps, do_item}
 use Rattle.mir_func.specs.Graph.{Here, Silent, Program, block_start}
 use Rattle.mir_meaning.specs.Align.{position_of, is_code, Count, moves_on, station_at, IsOrigin, Since, After, AnyOrigin, RunsAlong}
 use Rattle.mir_meaning.specs.Follow.{next_rank, InOrder}
 use Rattle.simulation.specs.Refinement.{FaultsAt}
-use Rattle.simulation.specs.Sides.{Sides, Relation, Laid, since_item, ShowsSame, Does, DoBoth}
+use Rattle.simulation.specs.Sides.{Sides, Relation, Laid, since_item, ShowsSame, Does, DoBoth, OutcomesAlike}
 
 -- the code falls through with such a core, or traps where it may
 abbrev pub FallsOrTraps : (may : Type 0) → (Core → Type 0) → Outcome → Type 0
@@ -41,14 +41,8 @@ module _ (count : Count) (src : Program) (sides : Sides) (relation : Relation) w
 
   -- what f's code does and what g's code of one origin does
   abbrev pub DoAlike : (b : ℕ) → List Item → List Item → Since → Stage → Outcome → Outcome → Type 0
-  DoAlike b xs ys m k (Falls c) (Falls d) = Cores k b xs ys c d
-  DoAlike b xs ys m k (Goes i c) (Goes j d) =
-      (i ≡ j) × (m ≡ After) × Cores (entry i) i (rest_f (block_start i)) (rest_g (block_start i)) c d
-  DoAlike b xs ys m k (Gives v) (Gives w) = v ≡ w
-  DoAlike b xs ys m k Traps Traps = Unit {0}
-  DoAlike b xs ys m k Asks Asks = Unit {0}
-  DoAlike b xs ys m k Breaks Breaks = Unit {0}
-  DoAlike b xs ys m k _ _ = ⊥
+  DoAlike b xs ys m k x y =
+      OutcomesAlike (Cores k b xs ys) (λ i c d. (m ≡ After) × Cores (entry i) i (rest_f (block_start i)) (rest_g (block_start i)) c d) x y
 
   -- code of f alone may trap where the source moves on after it, and where g idles ahead, if the source stops there
   abbrev pub MayTrap : Item → List Item → Type 0

@@ -29,7 +29,8 @@ pub data Walk (f : Program) (fs gs : Pos → Option Station) (p : Pos) : Option 
 
 -- f goes on, past stations that may be passed on the way to p, to one of them at which it stops on a frame fault
 pub data IsDoomed (f : Program) (fs gs : Pos → Option Station) (p : Pos) : Option Pos → State → Type 0 where
-  faults : {last : Option Pos} {u : State} (j : Station) → fs u.pos ≡ Some j → MayPass gs p last j → (j.pos ≡ p → ⊥) → step f u ≡ Faulted → IsDoomed f fs gs p last u
+  faults : {last : Option Pos} {u : State} (j : Station) → fs u.pos ≡ Some j → MayPass gs p last j → (j.pos ≡ p → ⊥) → step f u ≡ Faulted →
+      IsDoomed f fs gs p last u
   later : {last : Option Pos} {u v : State} → fs u.pos ≡ None → step f u ≡ Went v → IsDoomed f fs gs p last v → IsDoomed f fs gs p last u
   later_past : {last : Option Pos} {u v : State} (j : Station) → fs u.pos ≡ Some j → MayPass gs p last j → step f u ≡ Went v →
       IsDoomed f fs gs p (waiting (since_of j.waits) j.pos) v → IsDoomed f fs gs p last u
@@ -50,7 +51,8 @@ pub record Meets (f g : Program) (fs : Pos → Option Station) (R : Option Pos �
   pub told : (v : VarId) (x : ℕ) → Tells t v x → Tells w v x
   pub returns : (results : List ℕ) → step g t ≡ Returned results → step f w ≡ Returned results
   pub faults : step g t ≡ Faulted → step f w ≡ Faulted
-  pub goes : (t' : State) → step g t ≡ Went t' → ((w' : State) × (step f w ≡ Went w') × R (waiting (since_of i.waits) i.pos) t' w') ⊎ ((since_of i.waits ≡ After) × (step f w ≡ Faulted))
+  pub goes : (t' : State) → step g t ≡ Went t' → ((w' : State) × (step f w ≡ Went w') × R (waiting (since_of i.waits) i.pos) t' w') ⊎
+      ((since_of i.waits ≡ After) × (step f w ≡ Faulted))
 
 -- the source, run from s0, stops on a frame fault at a position
 abbrev pub FaultsAt : (src : Program) (s0 : State) → Pos → Type 0
@@ -60,7 +62,8 @@ FaultsAt src s0 p = (s : State) × Arrives src (λ q. ⊥) p s0 s × (step src s
 pub data Lingers (g : Program) (gs : Pos → Option Station) (p : Pos) : State → State → Type 0 where
   stays : {t : State} → Lingers g gs p t t
   goes_by : {t u v : State} → gs t.pos ≡ None → step g t ≡ Went u → Lingers g gs p u v → Lingers g gs p t v
-  waits_by : {t u v : State} (i : Station) → gs t.pos ≡ Some i → i.pos ≡ p → since_of i.waits ≡ Same → step g t ≡ Went u → Lingers g gs p u v → Lingers g gs p t v
+  waits_by : {t u v : State} (i : Station) → gs t.pos ≡ Some i → i.pos ≡ p → since_of i.waits ≡ Same → step g t ≡ Went u → Lingers g gs p u v →
+      Lingers g gs p t v
 
 -- g at t shows what f shows at w, tells no more, and doesn't return
 pub record Idles (g : Program) (w t : State) : Type 0 where

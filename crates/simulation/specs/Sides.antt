@@ -4,7 +4,7 @@ use Rattle.mir_func.specs.declared.position.Pos.{Pos}
 use Rattle.mir_func.specs.declared.variable.VarId.{VarId}
 use Rattle.mir_func.specs.declared.item.Item.{Item}
 use Rattle.mir_meaning.specs.State.{Core, State, assigned}
-use Rattle.mir_meaning.specs.Step.{Falls, do_item}
+use Rattle.mir_meaning.specs.Step.{Outcome, Falls, Goes, Gives, Traps, Asks, Breaks, do_item}
 use Rattle.mir_func.specs.Graph.{Fetch, Here, Silent, Outside, Program, below}
 use Rattle.mir_meaning.specs.Align.{Count, station_of, Since, since_of}
 
@@ -54,3 +54,13 @@ Does h x c P = (e : Core) × (do_item h x.kind c ≡ Falls e) × P e
 -- an item of each falls through, with such cores
 abbrev pub DoBoth : Program → Program → Item → Item → Core → Core → (Core → Core → Type 0) → Type 0
 DoBoth f g x y c d P = (e e' : Core) × (do_item f x.kind c ≡ Falls e) × (do_item g y.kind d ≡ Falls e') × P e e'
+
+-- both fall through, with cores that P relates; both go to one block i, with cores that J i relates; or both end alike
+abbrev pub OutcomesAlike : (P : Core → Core → Type 0) (J : ℕ → Core → Core → Type 0) → Outcome → Outcome → Type 0
+OutcomesAlike P J (Falls c) (Falls d) = P c d
+OutcomesAlike P J (Goes i c) (Goes j d) = (i ≡ j) × J i c d
+OutcomesAlike P J (Gives v) (Gives w) = v ≡ w
+OutcomesAlike P J Traps Traps = Unit {0}
+OutcomesAlike P J Asks Asks = Unit {0}
+OutcomesAlike P J Breaks Breaks = Unit {0}
+OutcomesAlike P J _ _ = ⊥

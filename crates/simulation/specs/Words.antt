@@ -4,9 +4,9 @@ use Rattle.mir_func.specs.declared.position.Pos.{Pos}
 use Rattle.mir_func.specs.declared.item.Item.{Item}
 use Rattle.mir_meaning.specs.State.{Core, State}
 use Rattle.mir_meaning.specs.Step.{Went, step}
-use Rattle.mir_func.specs.Graph.{Here, Program}
-use Rattle.mir_func.specs.Graph.{Leads}
-use Rattle.mir_meaning.specs.Align.{position_of, is_code, is_jump, waits_at, Station, ByItems, ByWords, station_at, Since, Aligns, First, Along, FailsBefore, Agrees, RunsAlong}
+use Rattle.mir_func.specs.Graph.{Here, Program, Leads}
+use Rattle.mir_meaning.specs.Align.{position_of, is_code, is_jump, waits_at, Station, ByItems, ByWords, station_at, Since, Aligns, First, Along, FailsBefore}
+use Rattle.mir_meaning.specs.Align.{Agrees, RunsAlong}
 use Rattle.mir_meaning.specs.Follow.{OnRow, IsSlotSave}
 
 -- the same core but for marks and pairs
@@ -46,18 +46,21 @@ pub record HasPlainTurns (g : Program) (Inner : Pos → Type 0) : Type 0 where
   pub jumps : (p : Pos) (i : Item) → g.fetch p ≡ Here i → is_jump i.kind ≡ true → Inner p
   pub on : (s u : State) → Inner s.pos → step g s ≡ Went u → Inner u.pos
   -- items from one block of the source stand in one block
-  pub home : (p q : Pos) (i j : Item) → Inner p → Inner q → g.fetch p ≡ Here i → g.fetch q ≡ Here j → (position_of i.origin).block ≡ (position_of j.origin).block → p.block ≡ q.block
+  pub home : (p q : Pos) (i j : Item) → Inner p → Inner q → g.fetch p ≡ Here i → g.fetch q ≡ Here j →
+      (position_of i.origin).block ≡ (position_of j.origin).block → p.block ≡ q.block
   -- nothing stands after a jump, and items stand without a gap, in the order of their positions
   pub last : (p q : Pos) (i j : Item) → g.fetch p ≡ Here i → is_jump i.kind ≡ true → g.fetch q ≡ Here j → p.block ≡ q.block → p.item < q.item → ⊥
   pub filled : (p q : Pos) (i : Item) → g.fetch p ≡ Here i → q.block ≡ p.block → q.item < p.item → (j : Item) × (g.fetch q ≡ Here j)
-  pub order : (p q : Pos) (i j : Item) → g.fetch p ≡ Here i → g.fetch q ≡ Here j → p.block ≡ q.block → p.item ≤ q.item → ((position_of i.origin).block ≡ (position_of j.origin).block) × ((position_of i.origin).item ≤ (position_of j.origin).item)
+  pub order : (p q : Pos) (i j : Item) → g.fetch p ≡ Here i → g.fetch q ≡ Here j → p.block ≡ q.block → p.item ≤ q.item →
+      ((position_of i.origin).block ≡ (position_of j.origin).block) × ((position_of i.origin).item ≤ (position_of j.origin).item)
   -- in an added jump's block, slot stores and jumps alone stand at its position
   pub silent : (p q : Pos) (i j : Item) → q.block ≡ p.block → g.fetch p ≡ Here i → IsAddedJump i → g.fetch q ≡ Here j → is_code j.kind ≡ true →
       position_of j.origin ≡ position_of i.origin → OnRow IsSlotSave j.kind ⊎ (is_jump j.kind ≡ true)
   -- and with such a store goes code at another position, before it in its block or after it
   pub stores : (p q : Pos) (i j : Item) → q.block ≡ p.block → g.fetch p ≡ Here i → IsAddedJump i → g.fetch q ≡ Here j → OnRow IsSlotSave j.kind →
       position_of j.origin ≡ position_of i.origin →
-      (r : Pos) × (k : Item) × (g.fetch r ≡ Here k) × (is_code k.kind ≡ true) × (position_of k.origin ≡ position_of i.origin → ⊥) × (((r.block ≡ q.block) × (r.item < q.item)) ⊎ Leads g q r)
+      (r : Pos) × (k : Item) × (g.fetch r ≡ Here k) × (is_code k.kind ≡ true) × (position_of k.origin ≡ position_of i.origin → ⊥) ×
+      (((r.block ≡ q.block) × (r.item < q.item)) ⊎ Leads g q r)
 
 -- what runs along over items, by the first arrival, runs along over words
 abbrev pub WordsFollow : (Inner : Pos → Type 0) → Type 0
