@@ -167,7 +167,7 @@ module _ (busy : Bool) (blocks : List Block) (resolve : ℕ → ℕ → Option (
     alike_do : (b : ℕ) (xs ys : List Item) (m : Since) (o p : Outcome) → ((c' : Core) (n : ℕ) → o ≡ Goes n c' → m ≡ After) → EndAlike Kin o p →
         DoAlike ct src sides relation b xs ys m tt o p
     alike_do b xs ys m (Falls c) (Falls d) go h = h
-    alike_do b xs ys m (Goes j c) (Goes k d) go h = (h.0, go c j refl, h.1)
+    alike_do b xs ys m (Goes j c) (Goes k d) go h = (h.0, (go c j refl, h.1))
     alike_do b xs ys m (Gives v) (Gives w) go h = h
     alike_do b xs ys m Traps Traps go h = tt
     alike_do b xs ys m Asks Asks go h = tt
