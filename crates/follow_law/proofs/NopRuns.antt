@@ -4,7 +4,7 @@ use Rattle.std.proofs.Common.{subst, inl, inr, ◌⊎◌, slice_get, arith}
 use Rattle.std.proofs.lemmas.Bool.{cases_eq}
 use Rattle.std.proofs.lemmas.List.Elements.{All-head, All-tail, All-contains}
 use Rattle.rv64_instr.specs.declared.operand.Operand.{Operand}
-use Rattle.rv64_instr.specs.Row.{Row, Fixes, Moves, Sets, Loads, Stores, LoadsSlot, StoresSlot, Branches, Jumps, Calls, Returns, Unfit, row_of}
+use Rattle.rv64_instr.specs.Row.{Row, Fixes, Jumps, row_of}
 use Rattle.mir_func.specs.declared.position.Pos.{Pos}
 use Rattle.mir_func.specs.declared.block.Block.{Block}
 use Rattle.mir_func.specs.declared.item.Item.{Item}
@@ -44,17 +44,7 @@ nop_is_code (Phi p n) e = cc
 
 no_jump_row : (r : Row) → is_nop_row r ≡ true → is_jump_row r ≡ false
 no_jump_row (Jumps t) e = cc
-no_jump_row (Fixes rd n) e = refl
-no_jump_row (Moves rd rs) e = cc
-no_jump_row (Sets rd op a b) e = cc
-no_jump_row (Loads rd op b o) e = cc
-no_jump_row (Stores op rs b o) e = cc
-no_jump_row (LoadsSlot rd n) e = cc
-no_jump_row (StoresSlot rs n) e = cc
-no_jump_row (Branches op a b t) e = cc
-no_jump_row (Calls n a) e = cc
-no_jump_row (Returns v) e = cc
-no_jump_row Unfit e = cc
+no_jump_row _ e = refl
 
 no_jump : (k : ItemKind) → is_nop k ≡ true → is_jump k ≡ false
 no_jump (Code i n) e = no_jump_row (row_of i) e

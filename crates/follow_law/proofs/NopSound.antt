@@ -7,7 +7,7 @@ use Rattle.std.proofs.lemmas.List.Elements.{filter-append, All-weaker, All-map}
 use Rattle.std.proofs.lemmas.List.Kept.{AllPairs-filter}
 use Rattle.std.proofs.lemmas.Option.{slice_get-get_or, get_or_from_slice_get}
 use Rattle.std.specs.Prelude.{AllPairs}
-use Rattle.rv64_instr.specs.Row.{Row, Fixes, Moves, Sets, Loads, Stores, LoadsSlot, StoresSlot, Branches, Jumps, Calls, Returns, Unfit, row_of}
+use Rattle.rv64_instr.specs.Row.{Row, Fixes, row_of}
 use Rattle.mir_func.specs.declared.block.Block.{Block}
 use Rattle.mir_func.specs.declared.item.Item.{Item}
 use Rattle.mir_func.specs.declared.item.ItemKind.{ItemKind}
@@ -63,18 +63,8 @@ once_from xs unlike i j x y k atx cx aty ny =
 leaving_stays : (k : ItemKind) (e : Exit) → exit_of k ≡ e → (e ≡ Onward → ⊥) → is_nop k ≡ false
 leaving_stays (Code i n) e h ne = by_row (row_of i) h where
   by_row : (r : Row) → row_exit r ≡ e → is_nop_row r ≡ false
-  by_row (Branches op a b t) h = refl
-  by_row (Jumps t) h = refl
-  by_row (Returns v) h = refl
   by_row (Fixes rd n) h = absurd (ne (sym h))
-  by_row (Moves rd rs) h = refl
-  by_row (Sets rd op a b) h = refl
-  by_row (Loads rd op b o) h = refl
-  by_row (Stores op rs b o) h = refl
-  by_row (LoadsSlot rd n) h = refl
-  by_row (StoresSlot rs n) h = refl
-  by_row (Calls n a) h = refl
-  by_row Unfit h = refl
+  by_row _ h = refl
 leaving_stays (Mark v m) e h ne = refl
 leaving_stays (Phi p m) e h ne = refl
 

@@ -26,41 +26,22 @@ use Rattle.follow_law.specs.Order.{IsInOrder}
 use Rattle.follow_law.specs.Rule.{Rule, IsCopy, IsJump, number_lost, mark_lost, register_lost, item, item_before, StandsAt, numbers_on, Has}
 use Rattle.follow_law.specs.Causes.{HasCause, IsFirstCause}
 
--- reasons for which a mark or a phi stays and gives nothing
-abbrev pub IsSilencing : Reason → Type 0
-IsSilencing WrongPlace = Unit {0}
-IsSilencing Scratch = Unit {0}
-IsSilencing Removed = ⊥
-IsSilencing Bypassed = ⊥
-IsSilencing Unreachable = ⊥
-IsSilencing NoScratch = ⊥
-IsSilencing CallNamed = ⊥
-IsSilencing EntryLoop = ⊥
-IsSilencing NoSlot = ⊥
+-- what becomes of what is lost: it is gone, or it stays and gives nothing, or it is a register that stays unspilled
+pub data Fate : Type 0 where
+  Gone : Fate
+  Silenced : Fate
+  Unspilled : Fate
 
--- reasons for which a mark or a phi is gone: its block is
-abbrev pub IsOfBlock : Reason → Type 0
-IsOfBlock Bypassed = Unit {0}
-IsOfBlock Unreachable = Unit {0}
-IsOfBlock Removed = ⊥
-IsOfBlock WrongPlace = ⊥
-IsOfBlock Scratch = ⊥
-IsOfBlock NoScratch = ⊥
-IsOfBlock CallNamed = ⊥
-IsOfBlock EntryLoop = ⊥
-IsOfBlock NoSlot = ⊥
-
--- reasons for which code is gone with its number
-abbrev pub IsOfCode : Reason → Type 0
-IsOfCode Removed = Unit {0}
-IsOfCode Unreachable = Unit {0}
-IsOfCode WrongPlace = ⊥
-IsOfCode Scratch = ⊥
-IsOfCode Bypassed = ⊥
-IsOfCode NoScratch = ⊥
-IsOfCode CallNamed = ⊥
-IsOfCode EntryLoop = ⊥
-IsOfCode NoSlot = ⊥
+abbrev pub fate : Reason → Fate
+fate Removed = Gone
+fate WrongPlace = Silenced
+fate Scratch = Silenced
+fate Bypassed = Gone
+fate Unreachable = Gone
+fate NoScratch = Unspilled
+fate CallNamed = Unspilled
+fate EntryLoop = Unspilled
+fate NoSlot = Unspilled
 
 module _ (rule : Rule) (c : Change) where
   -- the item at a place has no such loss, and what asks for this value asks for no register that goes elsewhere
@@ -114,7 +95,7 @@ module _ (rule : Rule) (c : Change) where
     code_goes : {i : Instruction} {o : Origin} {l : Loc} → ((k : ℕ) → rule.numbers c at k → ⊥) → Becomes at (item (Code i None) o l) []
     idle_goes : {i : Instruction} {k : ℕ} {o : Origin} {l : Loc} → sets (row_of i) ≡ [] → Becomes at (item (Code i (Some k)) o l) []
     -- code is gone with the number that it has or got
-    number_goes : {i : Instruction} {n : Option ℕ} {o : Origin} {l : Loc} (k : ℕ) (why : Reason) → IsOfCode why → Has rule c at n k →
+    number_goes : {i : Instruction} {n : Option ℕ} {o : Origin} {l : Loc} (k : ℕ) (why : Reason) → fate why ≡ Gone → Has rule c at n k →
         rule.loses c at (number_lost k why) → Becomes at (item (Code i n) o l) []
     -- a copy is gone, and another pair stands for its number; or a phi of its number is there for it, which gives
     -- nothing where its place is wrong
@@ -125,14 +106,14 @@ module _ (rule : Rule) (c : Change) where
     salvaged_wrong : {i : Instruction} {n : Option ℕ} {k : ℕ} {o : Origin} {l : Loc} {p : Place} → IsCopy (row_of i) → Has rule c at n k →
         rule.salvages c at p → rule.loses c at (number_lost k WrongPlace) → Becomes at (item (Code i n) o l) (item_before (Phi None k) o ∷ [])
     -- a mark of a register, or a phi of a place, gives nothing any more
-    mark_silenced : {v : VarId} {r : ℕ} {o : Origin} {l : Loc} (why : Reason) → IsSilencing why → rule.loses c at (mark_lost o why) →
+    mark_silenced : {v : VarId} {r : ℕ} {o : Origin} {l : Loc} (why : Reason) → fate why ≡ Silenced → rule.loses c at (mark_lost o why) →
         Becomes at (item (Mark v (At r)) o l) (item (Mark v Nothing) o l ∷ [])
-    phi_silenced : {p : Place} {k : ℕ} {o : Origin} {l : Loc} (why : Reason) → IsSilencing why → rule.loses c at (number_lost k why) →
+    phi_silenced : {p : Place} {k : ℕ} {o : Origin} {l : Loc} (why : Reason) → fate why ≡ Silenced → rule.loses c at (number_lost k why) →
         Becomes at (item (Phi (Some p) k) o l) (item (Phi None k) o l ∷ [])
     -- a mark or a phi is gone with its block
-    mark_goes : {v : VarId} {m : MarkValue} {o : Origin} {l : Loc} (why : Reason) → IsOfBlock why → rule.loses c at (mark_lost o why) →
+    mark_goes : {v : VarId} {m : MarkValue} {o : Origin} {l : Loc} (why : Reason) → fate why ≡ Gone → rule.loses c at (mark_lost o why) →
         Becomes at (item (Mark v m) o l) []
-    phi_goes : {p : Option Place} {k : ℕ} {o : Origin} {l : Loc} (why : Reason) → IsOfBlock why → rule.loses c at (number_lost k why) →
+    phi_goes : {p : Option Place} {k : ℕ} {o : Origin} {l : Loc} (why : Reason) → fate why ≡ Gone → rule.loses c at (number_lost k why) →
         Becomes at (item (Phi p k) o l) []
     -- what asks for a spilled register asks for its slot: a mark by a phi before it, with a number for both
     mark_spilled : {v : VarId} {r slot k : ℕ} {o : Origin} {l : Loc} → IsUnlost at (mark_lost o) → rule.spills c r slot → rule.numbers c at k →

@@ -1,5 +1,4 @@
 use Rattle.std.proofs.Common.{◌≡◌, ℕ, ◌<◌, List, subst, sym, ◌∙◌, inl, inr, ◌⊎◌, arith}
-use Rattle.rv64_instr.specs.declared.place.Place.{Place}
 use Rattle.rv64_instr.specs.declared.place.Place.TheVariants.{Register}
 use Rattle.mir_func.specs.declared.position.Pos.{Pos}
 use Rattle.mir_func.specs.declared.entry.Entry.{Entry}
@@ -7,7 +6,7 @@ use Rattle.mir_func.specs.Function.{Function}
 use Rattle.mir_func.specs.Graph.{Program}
 use Rattle.follow_law.specs.Change.{Change, change}
 use Rattle.follow_law.specs.Rule.{IsNow}
-use Rattle.follow_law.specs.Causes.{Comes, begins, goes_on, IsAfter, IsDefinition, IsRemovedDefinition, IsOtherDefinition, IsWrong, removed, unnamed, unset, overwritten}
+use Rattle.follow_law.specs.Causes.{Comes, begins, goes_on, IsDefinition, IsWrong, removed, unnamed, unset, overwritten}
 use Rattle.follow_law.specs.Nops.{nop_rule}
 use Rattle.follow_law.proofs.tests.nothing_is_wrong_without_a_change.Goals as goal
 
