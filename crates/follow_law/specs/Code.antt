@@ -1,6 +1,5 @@
 -- The second law of passes: what they make of code. Functions are without marks, phis and numbers here.
 use Rattle.std.specs.Prelude.{◌≡◌, map}
-use Rattle.mir_func.specs.declared.position.Pos.{Pos}
 use Rattle.mir_func.specs.declared.position.Origin.{Origin}
 use Rattle.mir_func.specs.declared.position.Origin.TheVariants.{Kept, Before}
 use Rattle.mir_func.specs.declared.location.Loc.TheVariants.{Absent}

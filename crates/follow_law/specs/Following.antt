@@ -1,5 +1,5 @@
 -- The first law of passes: what followed a source follows it still.
-use Rattle.std.specs.Prelude.{List, All, Bool, IsTrue}
+use Rattle.std.specs.Prelude.{List, Bool, IsTrue}
 use Rattle.rv64_instr.specs.Form.{has_form}
 use Rattle.mir_func.specs.declared.item.ItemKind.{ItemKind}
 use Rattle.mir_func.specs.declared.item.ItemKind.TheVariants.{Code, Mark, Phi}

@@ -1,4 +1,4 @@
-use Rattle.std.proofs.Common.{◌≡◌, ◌↔◌, ℕ, List, Contains, [], ◌∷◌, false, true, sym, ap, ◌∙◌, subst}
+use Rattle.std.proofs.Common.{◌≡◌, ◌↔◌, ℕ, List, Contains, [], ◌∷◌, false, true, sym, subst}
 use Rattle.mir_func.specs.Function.{Function}
 use Rattle.follow_law.specs.Change.{change}
 use Rattle.follow_law.specs.declared.loss.Reason.TheVariants.{Removed}
