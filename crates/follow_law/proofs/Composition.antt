@@ -10,7 +10,7 @@ use Rattle.follow_law.specs.declared.loss.Loss.{Loss}
 use Rattle.follow_law.specs.Change.{Change, change}
 use Rattle.follow_law.specs.Following.{KeepsFollowing}
 use Rattle.follow_law.specs.Code.{HasOneResult, SeesCodeAlone, AreAlike, placeless}
-use Rattle.follow_law.specs.Steps.{Step, EachCode, KeepsSteps, ChangeNoCode}
+use Rattle.follow_law.specs.Steps.{Step, EachCode, MakesInTurn, KeepsSteps, MakeCodeAlone}
 
 -- what steps keep in turn
 pub steps_then : (steps more : List Step) (f : Function) (fs : List Entry) (g : Function) (gs : List Entry) (h : Function) (hs : List Entry) (a b : List Loss) →
@@ -25,26 +25,28 @@ steps_then [] more f fs g gs h hs a b (ef, es, ea) y =
 steps_then (s ∷ steps) more f fs g gs h hs a b (m, ms, here, later, k, rest, e) y =
     (m, ms, here, later ++ b, k, steps_then steps more m ms g gs h hs later b rest y, ap (λ x. x ++ b) e ∙ append_assoc here later b)
 
--- debug items change no code: step by step
-alike_after : (steps : List Step) → EachCode SeesCodeAlone steps → (c d : Change) (lost lost' : List Loss) → KeepsSteps steps c lost →
-    KeepsSteps steps d lost' →
-    AreAlike (stripped c.old) (stripped d.old) → AreAlike (stripped c.new) (stripped d.new)
-alike_after [] sees c d lost lost' k k' h =
-    let bare : Function → Function = λ f. placeless (stripped f) in
-    ap bare k.0 ∙ h ∙ sym (ap bare k'.0)
-alike_after (s ∷ steps) sees c d lost lost' (f, fs, here, later, k, rest, e) (f', fs', here', later', k', rest', e') h =
-    alike_after steps sees.1 (record c { old = f; old_subs = fs }) (record d { old = f'; old_subs = fs' }) later later' rest rest'
-    (sees.0 (stripped c.old) (stripped d.old) (stripped f) (stripped f') h k.code k'.code)
+-- the code is made by the rules for code, step by step
+made_in_turn : (steps : List Step) (c : Change) (lost : List Loss) → KeepsSteps steps c lost → MakesInTurn steps (stripped c.old) (stripped c.new)
+made_in_turn [] c lost k = ap stripped k.0
+made_in_turn (s ∷ steps) c lost (f, fs, here, later, k, rest, e) = (stripped f, k.code, made_in_turn steps (record c { old = f; old_subs = fs }) later rest)
 
-same_after : (steps : List Step) → EachCode HasOneResult steps → (c d : Change) (lost lost' : List Loss) → KeepsSteps steps c lost → KeepsSteps steps d lost' →
-    stripped c.old ≡ stripped d.old → stripped c.new ≡ stripped d.new
-same_after [] one c d lost lost' k k' h = ap stripped k.0 ∙ h ∙ sym (ap stripped k'.0)
-same_after (s ∷ steps) one c d lost lost' (f, fs, here, later, k, rest, e) (f', fs', here', later', k', rest', e') h =
-    same_after steps one.1 (record c { old = f; old_subs = fs }) (record d { old = f'; old_subs = fs' }) later later' rest rest'
-    (one.0 (stripped c.old) (stripped f) (stripped f') k.code (subst (λ (x : Function). s.code x (stripped f')) (sym h) k'.code))
+-- and these see code alone, and have one result
+alike_in_turn : (steps : List Step) → EachCode SeesCodeAlone steps → (f f' g g' : Function) → AreAlike f f' → MakesInTurn steps f g → MakesInTurn steps f' g' →
+    AreAlike g g'
+alike_in_turn [] sees f f' g g' h k k' = ap placeless k ∙ h ∙ sym (ap placeless k')
+alike_in_turn (s ∷ steps) sees f f' g g' h (m, k, rest) (m', k', rest') = alike_in_turn steps sees.1 m m' g g' (sees.0 f f' m m' h k k') rest rest'
 
-pub change_no_code : (steps : List Step) → EachCode HasOneResult steps → EachCode SeesCodeAlone steps → ChangeNoCode steps
-change_no_code steps one sees = record { alike = alike_after steps sees; same = same_after steps one }
+same_in_turn : (steps : List Step) → EachCode HasOneResult steps → (f f' g g' : Function) → f ≡ f' → MakesInTurn steps f g → MakesInTurn steps f' g' → g ≡ g'
+same_in_turn [] one f f' g g' h k k' = k ∙ h ∙ sym k'
+same_in_turn (s ∷ steps) one f f' g g' h (m, k, rest) (m', k', rest') =
+    same_in_turn steps one.1 m m' g g' (one.0 f m m' k (subst (λ (x : Function). s.code x m') (sym h) k')) rest rest'
+
+pub make_code_alone : (steps : List Step) → EachCode HasOneResult steps → EachCode SeesCodeAlone steps → MakeCodeAlone steps
+make_code_alone steps one sees = record {
+  made = made_in_turn steps;
+  alike = λ c d lost lost' k k' h. alike_in_turn steps sees _ _ _ _ h (made_in_turn steps c lost k) (made_in_turn steps d lost' k');
+  same = λ c d lost lost' k k' h. same_in_turn steps one _ _ _ _ h (made_in_turn steps c lost k) (made_in_turn steps d lost' k');
+}
 
 -- what both keep, where the one keeps what the other asks for
 pub following_then : (asks keeps asks' keeps' : Bool) (f : Function) (fs : List Entry) (g : Function) (gs : List Entry) (h : Function) (hs : List Entry) →

@@ -3,7 +3,7 @@ ghost use Rattle.std.specs.Prelude.{◌≡◌, ℕ, ◌+◌, ◌*◌, ◌<◌, �
 ghost use Rattle.follow_law.specs.Change.{change};
 ghost use Rattle.follow_law.specs.Following.{KeepsFollowing};
 ghost use Rattle.follow_law.specs.Code.{HasOneResult, SeesCodeAlone};
-ghost use Rattle.follow_law.specs.Steps.{Step, EachCode, KeepsSteps, ChangeNoCode};
+ghost use Rattle.follow_law.specs.Steps.{Step, EachCode, KeepsSteps, MakeCodeAlone};
 ghost use Rattle.follow_law.specs.Sizes.{greatest, greatest_number, most_numbers, KeepsSizes};
 
 use crate::loss::Losses;
@@ -61,8 +61,9 @@ pub trait Pass {
     ghost grows: { 1 ≤ factor };
 }
 
-/// Debug items never change code: of two functions whose code is alike, whatever debug items stand in them, a pass
-/// makes two whose code is alike.
+/// The code after a pass is what the rules for code of its steps make of the code before it. So debug items never
+/// change code: of two functions whose code is alike, whatever debug items stand in them, it makes two whose code is
+/// alike.
 pub fn debug_items_change_no_code<P: Pass>(pass: &P)
-    ensures { ChangeNoCode (P.steps pass.now) }
+    ensures { MakeCodeAlone (P.steps pass.now) }
 {}
