@@ -20,7 +20,7 @@ use Rattle.simulation.proofs.Outcomes.{both_return, both_fault, alike_gives, ali
 use Rattle.simulation.proofs.Stops.{aligns_reaches}
 use Rattle.simulation.proofs.Joined.{Addition, AtHome, FaultAt, IsReady, Joins, JoinsAt, Now, Owed, at_home, dynamic_at, home_at, in_block, join_after}
 use Rattle.simulation.proofs.Joined.{join_ahead, join_behind, join_code, join_free, join_opened, may_begun, moves_to, past_g, ready, shown, stands_begun}
-use Rattle.simulation.proofs.Joined.{static_at, fs, gs, O, Seen, Stands}
+use Rattle.simulation.proofs.Joined.{static_at, fs, gs, OriginOfF, Seen, Stands}
 
 module _ (addition : Addition) where
   open addition use {count, src, sides, relation, facts, follows}
@@ -163,7 +163,8 @@ module _ (addition : Addition) where
   goes_on : (t s : State) (m : Since) (r : Now addition t s m) (k' : Stage) (x y : Item) (xs ys : List Item) → rest_f r.v.pos ≡ x ∷ xs → rest_g t.pos ≡ y ∷ ys →
       t.pos.block ≡ g.enter r.v.pos.block → is_code x.kind ≡ true → since_item count x ≡ since_item count y → Stands addition (standing k') x →
       Rests k' r.v.pos.block xs ys →
-      (s' : State) → Aligns src (O addition) (position_of x.origin) r.mf r.sf s' → Agrees src f r.v s' → (a c : Outcome) → do_item f x.kind r.v.core ≡ a →
+      (s' : State) → Aligns src (OriginOfF addition) (position_of x.origin) r.mf r.sf s' → Agrees src f r.v s' → (a c : Outcome) →
+      do_item f x.kind r.v.core ≡ a →
       DoAlike count src sides relation r.v.pos.block xs ys (since_item count x) k' a c → (t' : State) → moved g.enter t.pos c ≡ Went t' →
       Now addition t' s' (since_item count y)
   goes_on t s m r k' x y xs ys ef eg home cx j st s1 s' al ag (Falls e) (Falls e') fa q t' go =
@@ -172,8 +173,8 @@ module _ (addition : Addition) where
       let v1 : State = record { pos = below r.v.pos; core = e } in
       let t1 : State = record { pos = below t.pos; core = e' } in
       let is : t1 ≡ t' = cc in
-      let at = aligns_at src (O addition) (position_of x.origin) r.mf r.sf s' al in
-      let rs = aligns_reaches src Reach facts.more.on (O addition) (position_of x.origin) r.mf r.sf s' r.reach_f al in
+      let at = aligns_at src (OriginOfF addition) (position_of x.origin) r.mf r.sf s' al in
+      let rs = aligns_reaches src Reach facts.more.on (OriginOfF addition) (position_of x.origin) r.mf r.sf s' r.reach_f al in
       let made : Now addition t1 s' (since_item count y) = record {
         v = v1;
         sf = s';
@@ -195,8 +196,8 @@ module _ (addition : Addition) where
       let t1 : State = record { pos = block_start (g.enter n); core = e' } in
       let went : Went t1 ≡ Went t' = ap (λ (z : ℕ). Went (record { pos = block_start (g.enter z); core = e' })) q.0 ∙ go in
       let is : t1 ≡ t' = cc in
-      let at = aligns_at src (O addition) (position_of x.origin) r.mf r.sf s' al in
-      let rs = aligns_reaches src Reach facts.more.on (O addition) (position_of x.origin) r.mf r.sf s' r.reach_f al in
+      let at = aligns_at src (OriginOfF addition) (position_of x.origin) r.mf r.sf s' al in
+      let rs = aligns_reaches src Reach facts.more.on (OriginOfF addition) (position_of x.origin) r.mf r.sf s' r.reach_f al in
       let go_f : step f r.v ≡ Went (record { pos = block_start n; core = e }) = step_item f r.v x (Goes n e) fe.0 fa ∙
       ap (λ (z : ℕ). Went (record { pos = block_start z; core = e })) (facts.enter_f n) in
       let join = subst (λ (z : Standing). Joins addition z (since_item count x) s' (since_item count x) s') q.1.1
@@ -215,7 +216,7 @@ module _ (addition : Addition) where
   -- f at a station, where what f has may come: there the source is aligned with f and with g
   record MeetsF (t s : State) (m : Since) (r : Now addition t s m) (p : Pos) : Type 0 where
     to : State
-    aligns_f : Aligns src (O addition) p r.mf r.sf to
+    aligns_f : Aligns src (OriginOfF addition) p r.mf r.sf to
     agrees_f : Agrees src f r.v to
     aligns : Aligns src (Stops p) p m s to
     shows : ShowsSame to.core t.core
@@ -224,7 +225,7 @@ module _ (addition : Addition) where
   meets_f : (t s : State) (m : Since) (r : Now addition t s m) (i : Station) → fs addition r.v.pos ≡ Some i → MayCome (standing r.k) i.pos →
       MeetsF t s m r i.pos ⊎ FaultAt addition i.pos m s
   meets_f t s m r i e may =
-      let o : O addition i.pos = record { place = r.v.pos; station = i; stands = e; from = refl } in
+      let o : OriginOfF addition i.pos = record { place = r.v.pos; station = i; stands = e; from = refl } in
       elim (follows r.v r.sf r.mf i r.along e) as (λ _. MeetsF t s m r i.pos ⊎ FaultAt addition i.pos m s) [
         | inl z ↦
             inl (record {
@@ -233,7 +234,7 @@ module _ (addition : Addition) where
               agrees_f = z.2;
               aligns = (r.joins i.pos may o).next z.0 z.1;
               shows = shows_as r.v t z.0 (shown addition t s m r) z.2;
-              reach = aligns_reaches src Reach facts.more.on (O addition) i.pos r.mf r.sf z.0 r.reach_f z.1;
+              reach = aligns_reaches src Reach facts.more.on (OriginOfF addition) i.pos r.mf r.sf z.0 r.reach_f z.1;
             })
         | inr z ↦ inr ((r.joins i.pos may o).fails z)
       ]
@@ -422,7 +423,7 @@ module _ (addition : Addition) where
       elim (meets_f t s m r end se (subst (λ (q : Standing). MayCome q p) (sym lv) tt)) as (λ z. Met t s m i ⊎ FaultAt addition i.pos m s) [
         | inr z ↦ inr (subst (λ (q : Station). FaultAt addition q.pos m s) is z)
         | inl z ↦
-            let at = aligns_at src (O addition) p r.mf r.sf z.to z.aligns_f in
+            let at = aligns_at src (OriginOfF addition) p r.mf r.sf z.to z.aligns_f in
             let made : Now addition t1 z.to After = in_block addition t1 z.to After r.v n r.v.core z.to After (end_f r.v k n ff) refl
             (met end r.along se z.aligns_f (end_f r.v k n ff)) z.reach z.reach
             (facts.ends r.k r.v.pos k n r.v.core t.core lv ef ff (static_at addition t s m r [] [] ef eg) (dynamic_at addition t s m r [] [] ef eg))

@@ -16,8 +16,8 @@ use Rattle.simulation.specs.Refinement.{waiting, Walk, there, on, past, IsDoomed
 use Rattle.simulation.specs.Refinement.{IsStuckFrom}
 use Rattle.simulation.specs.InPlace.{FallsOrTraps, IsIdleAt, MayTrap, ended, both, taken, passed, added, paired}
 use Rattle.mir_meaning.proofs.Outcomes.{step_item}
-use Rattle.simulation.proofs.Order.{cases_pos, rank_high, rank_next, same_pos, IsDone, done_more, waits_after, done_past, waits_where, IsNoLater, IsFrom}
-use Rattle.simulation.proofs.Order.{IsUntil, from_less, until_more, until_here, may_pass}
+use Rattle.simulation.proofs.Order.{cases_pos, rank_high, rank_next, same_pos, IsDone, done_more, waits_after, waits_until, done_code, IsNoLater, IsFrom}
+use Rattle.simulation.proofs.Order.{IsUntil, from_less, until_more, may_pass}
 use Rattle.simulation.proofs.Between.{Change, fs, gs, Seen, IsNext, first_from, next_station}
 use Rattle.simulation.proofs.Idle.{lingers_past, shows_idle}
 use Rattle.simulation.proofs.Stations.{code_station, debug_station, IsStationOf, of_item, of_end, station_is_of, not_past_items}
@@ -205,8 +205,8 @@ module _ (change : Change) where
       let st = step_item f r.v x (Falls e) fx o in
       let since : since_item count x ≡ since_of (waits_at false x.origin) = ap (λ (z : Bool). since_of (waits_at z x.origin)) stays in
       goes_f last0 t u r k' x xs e (waits_after x.origin) ef (subst (Rests k' b xs) (sym eg) s) (subst (λ (z : List Item). Cores k' b xs z e t.core) (sym eg) q)
-      (λ p k. let z = waits_where x.origin p k in inl (ap (λ (y : Pos). y.block) z.0 ∙ ord.0, z.1))
-      (λ p k h. done_past x.origin r.n r.last p (ord.0 ∙ sym k) ord.1 (λ h'. until_here place b r.n p k (r.known p h')) h)
+      (waits_until place b x.origin ord.0)
+      (done_code place b r.n r.last x.origin ord.0 ord.1 r.known)
       (λ p next w j. past (station_of count x) (code_station count f r.v.pos x fx c)
       (may_pass place (gs change) count b r.n r.last x p ord.0 ord.1 r.known next.0 stays (lacks last0 t u r x p ord.0 ord.1 next)) st
       (subst (λ (z : Since). Walk f (fs change) (gs change) p (waiting z (position_of x.origin)) (record { pos = below r.v.pos; core = e }) w) (sym since) j))

@@ -15,8 +15,8 @@ use Rattle.simulation.specs.InPlace.{DoAlike, ended, both, taken, passed, added,
 use Rattle.mir_meaning.proofs.Alignment.{went_once}
 use Rattle.mir_meaning.proofs.Outcomes.{step_item, step_end}
 use Rattle.simulation.proofs.Refinement.{still_follows}
-use Rattle.simulation.proofs.Order.{done_next, rank_high, rank_low, rank_next, same_pos, done_more, waits_after, done_past, done_self, waits_where, IsNoLater}
-use Rattle.simulation.proofs.Order.{no_later, from_less, until_more, until_here, until_next, from_next}
+use Rattle.simulation.proofs.Order.{done_next, rank_high, rank_low, rank_next, same_pos, done_more, waits_after, done_self, waits_until, done_code, IsNoLater}
+use Rattle.simulation.proofs.Order.{no_later, from_less, until_more, until_next, from_next}
 use Rattle.simulation.proofs.Outcomes.{both_return, both_fault, alike_gives, alike_traps}
 use Rattle.simulation.proofs.Between.{Change, fs, gs, Seen, IsNext}
 use Rattle.simulation.proofs.Beside.{Beside, at_start, dynamic_at, static_at, IsReady, ready}
@@ -175,9 +175,9 @@ module _ (change : Change) where
         dynamic = rw (fe.1, ge.1) al;
         order_f = rw fe.1 (subst (λ (z : Origin). InOrder b (next_rank z) xs) o ord.2);
         order_g = rw ge.1 (subst (InOrder b r.m) eg r.order_g).2;
-        known = λ p k. let z = waits_where y.origin p k in inl (ap (λ (q : Pos). q.block) z.0 ∙ home, z.1);
+        known = waits_until place b y.origin home;
         done = done_next g facts.home t.pos b r.n (next_rank y.origin) r.last last y (sym r.block) ge.0
-            (λ p k h. done_past y.origin r.n r.last p (home ∙ sym k) low (λ h'. until_here place b r.n p k (r.known p h')) h) (λ h. done_self y.origin) r.done;
+            (done_code place b r.n r.last y.origin home low r.known) (λ h. done_self y.origin) r.done;
         high = λ p k l eb fi. subst (λ (z : Origin). next_rank z ≤ 2 * k) o (facts.within_f r.v.pos p x k l fe.0 fi (sym eb));
         walks = λ p next w j. j;
         dooms = λ p next d. d;

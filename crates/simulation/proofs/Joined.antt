@@ -37,8 +37,8 @@ module _ (addition : Addition) where
   abbrev pub gs : Pos → Option Station
   gs p = station_at count g p
 
-  abbrev pub O : Pos → Type 0
-  O p = IsOrigin fs p
+  abbrev pub OriginOfF : Pos → Type 0
+  OriginOfF p = IsOrigin fs p
 
   abbrev pub Seen : ℕ → Stage → List Item → List Item → Type 0
   Seen b k xs ys = View count src sides relation b k xs ys
@@ -51,14 +51,15 @@ module _ (addition : Addition) where
 
   -- what comes next for f, aligned at sf, comes next for g, aligned at s; and so do faults
   pub record JoinsAt (p : Pos) (mf : Since) (sf : State) (m : Since) (s : State) : Type 0 where
-    pub next : (x : State) → Aligns src O p mf sf x → Aligns src (Stops p) p m s x
-    pub fails : FailsBefore src O p mf sf → FailsBefore src (Stops p) p m s
+    pub next : (x : State) → Aligns src OriginOfF p mf sf x → Aligns src (Stops p) p m s x
+    pub fails : FailsBefore src OriginOfF p mf sf → FailsBefore src (Stops p) p m s
 
   abbrev pub Joins : Standing → Since → State → Since → State → Type 0
-  Joins st mf sf m s = (p : Pos) → MayCome st p → O p → JoinsAt p mf sf m s
+  Joins st mf sf m s = (p : Pos) → MayCome st p → OriginOfF p → JoinsAt p mf sf m s
 
   -- after code that both have
-  pub join_after : (s : State) → Reach s.pos → ((u : State) → step src s ≡ Went u → Extra u.pos → O u.pos) → (m : Since) → (m ≡ Start → ⊥) → Joins Level m s m s
+  pub join_after : (s : State) → Reach s.pos → ((u : State) → step src s ≡ Went u → Extra u.pos → OriginOfF u.pos) → (m : Since) → (m ≡ Start → ⊥) →
+      Joins Level m s m s
   join_after s r clear Start ns p may op = absurd (ns refl)
   join_after s r clear Same ns p may op = record {
     next = λ x a. elim a as (λ _. Aligns src (Stops p) p Same s x) [
@@ -86,12 +87,16 @@ module _ (addition : Addition) where
   join_code (Owing q) x m s r ns im at st p may op = absurd may
 
   -- where g is ahead, at what f comes to next
-  pub join_ahead : (p : Pos) (mf : Since) (sf s : State) → Aligns src O p mf sf s → Joins (Ahead p) mf sf Same s
+  pub join_ahead : (p : Pos) (mf : Since) (sf s : State) → Aligns src OriginOfF p mf sf s → Joins (Ahead p) mf sf Same s
   join_ahead p mf sf s al q may op =
-      let oq : O p = subst O may op in
+      let oq : OriginOfF p = subst OriginOfF may op in
       record {
-        next = λ x a. inl (aligns_at src O p mf sf s al ∙ sym may, aligns_once src O p oq mf sf s x al (subst (λ (z : Pos). Aligns src O z mf sf x) may a));
-        fails = λ z. absurd (aligns_not_fails src O p oq mf sf s al (subst (λ (y : Pos). FailsBefore src O y mf sf) may z));
+        next = λ x a. inl (
+          aligns_at src OriginOfF p mf sf s al ∙
+              sym may,
+          aligns_once src OriginOfF p oq mf sf s x al (subst (λ (z : Pos). Aligns src OriginOfF z mf sf x) may a),
+        );
+        fails = λ z. absurd (aligns_not_fails src OriginOfF p oq mf sf s al (subst (λ (y : Pos). FailsBefore src OriginOfF y mf sf) may z));
       }
 
   -- where g has stored what was owed

@@ -65,7 +65,7 @@ pub done_self : (o : Origin) → IsDone (next_rank o) (waits_after o) (position_
 done_self (Kept r) = inl (omega arith)
 done_self (Before r) = inr refl
 
-pub waits_where : (o : Origin) (q : Pos) → waits_after o ≡ Some q → (q ≡ position_of o) × (2 * q.item ≤ next_rank o)
+waits_where : (o : Origin) (q : Pos) → waits_after o ≡ Some q → (q ≡ position_of o) × (2 * q.item ≤ next_rank o)
 waits_where (Kept r) q e = cc
 waits_where (Before r) q e = let k : r ≡ q = cc in (sym k, subst (λ (z : Pos). 2 * z.item ≤ 2 * r.item) k (omega arith))
 
@@ -118,6 +118,14 @@ module _ (place : ℕ → ℕ) where
   pub until_here : (b n : ℕ) (q : Pos) → q.block ≡ b → IsUntil b n q → 2 * q.item ≤ n
   until_here b n q e (inl x) = x.1
   until_here b n q e (inr x) = let k : place q.block ≡ place b = ap place e in absurd (omega (arith, x, k))
+
+  -- past code of an origin that isn't a jump: where the source may wait, and what is done
+  pub waits_until : (b : ℕ) (o : Origin) → (position_of o).block ≡ b → (q : Pos) → waits_after o ≡ Some q → IsUntil b (next_rank o) q
+  waits_until b o home q e = let z = waits_where o q e in inl (ap (λ (p : Pos). p.block) z.0 ∙ home, z.1)
+
+  pub done_code : (b n : ℕ) (last : Option Pos) (o : Origin) → (position_of o).block ≡ b → n ≤ rank o → ((q : Pos) → last ≡ Some q → IsUntil b n q) →
+      (q : Pos) → q.block ≡ b → IsDone n last q → IsDone (next_rank o) (waits_after o) q
+  done_code b n last o home low known q qb h = done_past o n last q (home ∙ sym qb) low (λ e. until_here b n q qb (known q e)) h
 
   -- into the next block
   pub until_next : (b c n : ℕ) (q : Pos) → place b < place c → IsUntil b n q → IsUntil c 0 q

@@ -18,7 +18,7 @@ use Rattle.mir_meaning.proofs.Alignment.{went_once}
 use Rattle.mir_meaning.proofs.Edges.{step_edge}
 use Rattle.mir_meaning.proofs.Outcomes.{step_item}
 use Rattle.simulation.proofs.Refinement.{IsDoomedFrom, refines_or_doomed, still_follows}
-use Rattle.simulation.proofs.Order.{done_next, rank_next, same_pos, IsDone, done_more, waits_after, done_past, done_self, waits_where, IsUntil, until_more}
+use Rattle.simulation.proofs.Order.{done_next, rank_next, same_pos, IsDone, done_more, waits_after, done_self, waits_until, done_code, IsUntil, until_more}
 use Rattle.simulation.proofs.Order.{until_here}
 use Rattle.simulation.proofs.Stations.{not_code, debug_below, code_station, debug_station, end_is_station, code_is_some, code_is, debug_is_none, IsStationOf}
 use Rattle.simulation.proofs.Stations.{of_item, of_end, station_is_of, not_past_items, falls_stays}
@@ -290,9 +290,9 @@ module _ (rewiring : Rewiring) where
         static = rw (fe.1, ge.1) al.1;
         dynamic = rw (fe.1, ge.1) al.2;
         order_f = rw fe.1 (subst (λ (z : Origin). InOrder b (next_rank z) xs) o ord.2);
-        known = λ p k. let z = waits_where y.origin p k in inl (ap (λ (q : Pos). q.block) z.0 ∙ home, z.1);
+        known = waits_until place b y.origin home;
         done = done_next g facts.home t.pos b r.n (next_rank y.origin) r.last last y (sym r.block) ge.0
-            (λ q qb z. done_past y.origin r.n r.last q (home ∙ sym qb) low (λ k. until_here place b r.n q qb (r.known q k)) z) (λ c. done_self y.origin) r.done;
+            (done_code place b r.n r.last y.origin home low r.known) (λ c. done_self y.origin) r.done;
         high = λ q k m qb fq. subst (λ (z : Origin). next_rank z ≤ 2 * k) o (facts.within_f r.v.pos q x k m fe.0 fq (sym qb));
         walks = λ p ok w j. j;
         dooms = λ p le w. w;
@@ -332,7 +332,7 @@ module _ (rewiring : Rewiring) where
       let past_y : since_of (waits_at false y.origin) ≡ After = ap (λ (z : Origin). since_of (waits_at false z)) (sym o) ∙
       ap (λ (z : Bool). since_of (waits_at z x.origin)) (sym (stays_f e refl)) ∙ al.0 in
       let done0 = done_next g facts.home t.pos b r.n (next_rank y.origin) r.last (waits_after y.origin) y (sym r.block) ge.0
-      (λ q qb z. done_past y.origin r.n r.last q (home ∙ sym qb) low (λ k. until_here place b r.n q qb (r.known q k)) z) (λ c. done_self y.origin) r.done in
+      (done_code place b r.n r.last y.origin home low r.known) (λ c. done_self y.origin) r.done in
       let done : AllDone rewiring b (next_rank y.origin) None =
       subst (λ (z : Since). AllDone rewiring b (next_rank y.origin) (waiting z (position_of y.origin))) past_y
       (all_done b (next_rank y.origin) (waits_after y.origin) (below t.pos) r.block (ge.1 ∙ al.2) done0) in
