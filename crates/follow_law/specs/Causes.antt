@@ -53,6 +53,7 @@ names r (Code i k) = list_any (is_of_register (has_implicit_uses (row_of i)) r) 
 names r (Mark v m) = false
 names r (Phi p k) = false
 
+-- some code of the function names it
 abbrev pub is_named : Function → ℕ → Bool
 is_named f r = list_any (λ i. names r i.kind) (items_of f.blocks)
 
@@ -60,9 +61,11 @@ is_named f r = list_any (λ i. names r i.kind) (items_of f.blocks)
 abbrev pub scratch_of : Function → List ℕ
 scratch_of f = take 2 (filter (λ r. not (is_named f r)) (5 ∷ 6 ∷ 7 ∷ 28 ∷ 29 ∷ 30 ∷ 31 ∷ []))
 
+-- the positions are one
 abbrev pub is_position : Pos → Pos → Bool
 is_position p q = nat_eq p.block q.block && nat_eq p.item q.item
 
+-- the origins are one
 abbrev pub is_origin : Origin → Origin → Bool
 is_origin (Kept p) (Kept q) = is_position p q
 is_origin (Before p) (Before q) = is_position p q
@@ -91,11 +94,11 @@ IsLostWith (Mark v m) o what = what ≡ lost.Mark (position_of o)
 IsLostWith (Phi p k) o what = what ≡ lost.Number k
 IsLostWith (Code i k) o what = ⊥
 
--- a jump, or no code
-abbrev pub IsJumpAtMost : ItemKind → Type 0
-IsJumpAtMost (Code i k) = IsJump (row_of i)
-IsJumpAtMost (Mark v m) = Unit {0}
-IsJumpAtMost (Phi p k) = Unit {0}
+-- a jump or a debug item
+abbrev pub IsJumpOrDebug : ItemKind → Type 0
+IsJumpOrDebug (Code i k) = IsJump (row_of i)
+IsJumpOrDebug (Mark v m) = Unit {0}
+IsJumpOrDebug (Phi p k) = Unit {0}
 
 -- some path leads to the position from one where such paths begin, over none that stops them
 pub data Comes (f : Program) (Begins Stops : Pos → Type 0) : Pos → Type 0 where
@@ -107,6 +110,7 @@ module _ (c : Change) where
   abbrev pub old_program : Program
   old_program = program_of false c.old.blocks (resolve c.old_subs)
 
+  -- where it starts
   abbrev pub old_start : Pos
   old_start = block_start (first_of c.old.blocks)
 
@@ -123,31 +127,34 @@ module _ (c : Change) where
   abbrev pub LosesDefinition : Place → Origin → Type 0
   LosesDefinition x o = IsRemoved o × IsFewer (defines x) o
 
-  -- code at a position defines the place; it was removed; it stays
+  -- code at a position defines the place
   abbrev pub IsDefinition : Place → Pos → Type 0
   IsDefinition x p = (i : Item) × StandsAt c.old p i × (defines x i.kind ≡ true)
 
+  -- code at a position defines the place, and was removed
   abbrev pub IsRemovedDefinition : Place → Pos → Type 0
   IsRemovedDefinition x p = (i : Item) × StandsAt c.old p i × (defines x i.kind ≡ true) × LosesDefinition x i.origin
 
+  -- code at a position defines the place, and stays
   abbrev pub IsKeptDefinition : Place → Pos → Type 0
   IsKeptDefinition x p = (i : Item) × StandsAt c.old p i × (defines x i.kind ≡ true) × (LosesDefinition x i.origin → ⊥)
 
-  -- right after such a position
+  -- right after a position that has the property
   abbrev pub IsAfter : (Pos → Type 0) → Pos → Type 0
   IsAfter P q = (p : Pos) × P p × Edge old_program p q
 
-  -- the block could be reached; and it is gone
+  -- before the pass a path leads to the block
   abbrev pub IsReached : (block : ℕ) → Type 0
   IsReached b = Leads old_program old_start (block_start b)
 
+  -- after the pass there is no such block
   abbrev pub IsGoneBlock : (block : ℕ) → Type 0
   IsGoneBlock b = Contains (ids_of c.new.blocks) b → ⊥
 
   -- the block is without code but a jump, and now every way goes past it
   pub record IsBypassed (b : Block) : Type 0 where
     pub stood : Contains c.old.blocks b
-    pub jumps : All (λ i. IsJumpAtMost i.kind) b.items
+    pub jumps : All (λ i. IsJumpOrDebug i.kind) b.items
     pub reached : IsReached b.id
     pub gone : IsGoneBlock b.id
 
@@ -156,11 +163,11 @@ module _ (c : Change) where
   HasNewSlot = (slot : ℕ) × Contains c.new.slots slot × (Contains c.old.slots slot → ⊥)
 
 module _ (rule : Rule) (c : Change) where
-  -- code at a position defines a register that now is this one, and isn't the other register
+  -- code at a position defines another register than r, which has the same register after the pass
   abbrev pub IsOtherDefinition : (r now : ℕ) → Pos → Type 0
   IsOtherDefinition r now p = (s : ℕ) × IsNow rule c s now × IsDefinition c (Register s) p × (IsDefinition c (Register r) p → ⊥)
 
-  -- what a mark or a phi at the position finds in the place isn't what it found there before the pass
+  -- a mark or a phi at the position may find something else in the place than before the pass
   pub data IsWrong : Place → Pos → Type 0 where
     -- a path leads there from a removed definition without a kept one
     removed : {x : Place} {at : Pos} → Comes (old_program c) (IsAfter c (IsRemovedDefinition c x)) (IsKeptDefinition c x) at → IsWrong x at

@@ -20,9 +20,11 @@ abbrev pub placeless_origin : Origin → Origin
 placeless_origin (Kept p) = Kept (record { block = 0; item = 0 })
 placeless_origin (Before p) = Before (record { block = 0; item = 0 })
 
+-- what it is, and whether it is kept
 abbrev pub placeless_item : Item → Item
 placeless_item i = record { kind = i.kind; origin = placeless_origin i.origin; loc = Absent }
 
+-- its number and its items
 abbrev pub placeless_block : Block → Block
 placeless_block b = record { id = b.id; items = map placeless_item b.items; silent = 0 }
 

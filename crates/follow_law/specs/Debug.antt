@@ -44,19 +44,22 @@ fate EntryLoop = Unspilled
 fate NoSlot = Unspilled
 
 module _ (rule : Rule) (c : Change) where
-  -- the item at a place has no such loss, and what asks for this value asks for no register that goes elsewhere
+  -- the item at a place has no such loss
   abbrev pub IsUnlost : (at : Pos) → (Reason → Loss) → Type 0
   IsUnlost at loss = (why : Reason) → rule.loses c at (loss why) → ⊥
 
+  -- the register isn't spilled and gets no other register
   abbrev pub RegisterStays : ℕ → Type 0
   RegisterStays r = ((slot : ℕ) → rule.spills c r slot → ⊥) × ((now : ℕ) → rule.renames c r now → ⊥)
 
+  -- a mark of this value asks for no register that goes elsewhere
   abbrev pub ValueStays : MarkValue → Type 0
   ValueStays Nothing = Unit {0}
   ValueStays (Constant n) = Unit {0}
   ValueStays (At r) = RegisterStays r
   ValueStays (Pair k o) = Unit {0}
 
+  -- nor does a phi of this place
   abbrev pub PlaceStays : Option Place → Type 0
   PlaceStays None = Unit {0}
   PlaceStays (Some (Register r)) = RegisterStays r
@@ -71,6 +74,7 @@ module _ (rule : Rule) (c : Change) where
   IsKillOf (Phi None k) = (at : Pos) × rule.loses c at (number_lost k Bypassed)
   IsKillOf _ = ⊥
 
+  -- it stands before all of the block
   abbrev pub IsKillAt : (block : ℕ) → Item → Type 0
   IsKillAt b i = IsKillOf i.kind × (i.origin ≡ Before (record { block = b; item = 0 }))
 

@@ -75,6 +75,7 @@ nop_rule = record {
   kills = λ c block kills. kills ≡ [];
 }
 
+-- its one step
 abbrev pub nop_step : Step
 nop_step = record { code = IsThinned; debug = nop_rule }
 
