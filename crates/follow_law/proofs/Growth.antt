@@ -3,6 +3,7 @@ use Rattle.std.proofs.Common.{◌≡◌, ℕ, ◌+◌, ◌*◌, ◌≤◌, sym, 
 use Rattle.std.proofs.Math.Nat.{mul-le-mul, mul-le-mul_left, mul-le-mul_right, mul-add, add-mul, mul_assoc, mul_comm, le_trans, le_refl}
 use Rattle.mir_func.specs.declared.entry.Entry.{Entry}
 use Rattle.mir_func.specs.Function.{Function}
+use Rattle.follow_law.specs.Change.{change}
 use Rattle.follow_law.specs.Sizes.{most, item_count, code_count, KeepsSizes}
 
 -- what is multiplied by 1 at least doesn't fall
@@ -20,7 +21,8 @@ inner : (a m b n x : ℕ) → 1 ≤ a → 1 ≤ b → most a m x + 1024 * n ≤ 
 inner a m b n x ha hb =
     let w : ℕ = x + 1024 * m in
     let wide : w + 1024 * n ≤ x + 1024 * (m * b + n) = let k = le_times m b hb in omega (arith, k) in
-    replaced (a * w) (a * (1024 * n)) (a * (w + 1024 * n)) (a * (x + 1024 * (m * b + n))) (1024 * n) (mul-add a w (1024 * n)) (le_times_left a (1024 * n) ha) (mul-le-mul_left a wide)
+    replaced (a * w) (a * (1024 * n)) (a * (w + 1024 * n)) (a * (x + 1024 * (m * b + n))) (1024 * n) (mul-add a w (1024 * n)) (le_times_left a (1024 * n) ha)
+    (mul-le-mul_left a wide)
 
 -- the items that the other makes of those that the one made
 pub most_then : (a m b n x y : ℕ) → 1 ≤ a → 1 ≤ b → y ≤ most a m x → most b n y ≤ most (a * b) (m * b + n) x
@@ -54,8 +56,8 @@ slots_then m b n hb = let k = le_times m b hb in omega (arith, k)
 
 -- the bounds of both
 pub sizes_then : (a m b n : ℕ) (f : Function) (fs : List Entry) (g : Function) (gs : List Entry) (h : Function) (hs : List Entry) → 1 ≤ a → 1 ≤ b →
-    KeepsSizes a m (record { old = f; old_subs = fs; new = g; new_subs = gs }) → KeepsSizes b n (record { old = g; old_subs = gs; new = h; new_subs = hs }) →
-    KeepsSizes (a * b) (m * b + n) (record { old = f; old_subs = fs; new = h; new_subs = hs })
+    KeepsSizes a m (change f fs g gs) → KeepsSizes b n (change g gs h hs) →
+    KeepsSizes (a * b) (m * b + n) (change f fs h hs)
 sizes_then a m b n f fs g gs h hs ha hb x y = record {
   items = le_trans y.items (most_then a m b n (item_count f) (item_count g) ha hb x.items);
   code = le_trans y.code (most_then a m b n (code_count f) (code_count g) ha hb x.code);

@@ -11,7 +11,7 @@ use Rattle.std.proofs.lemmas.Map.Keys.{IsStrictlyIncreasing-dedup}
 use Rattle.follow_law.specs.declared.loss.Reason.{Reason}
 use Rattle.follow_law.specs.declared.loss.Loss.{Loss}
 use Rattle.follow_law.specs.Order.{LossComesBefore, IsInOrder}
-use Rattle.follow_law.specs.Debug.{number_lost}
+use Rattle.follow_law.specs.Rule.{number_lost}
 
 get_or_default : (ns : List ℕ) (i d e : ℕ) → i < length ns → get_or ns i d ≡ get_or ns i e
 get_or_default ns i d e lt = let w : Some (get_or ns i d) ≡ Some (get_or ns i e) = sym (slice_get-get_or ns i d lt) ∙ slice_get-get_or ns i e lt in cc
@@ -25,7 +25,8 @@ module _ (why : Reason) where
       let long : j < length ns = subst (λ (n : ℕ). j < n) (length-map ns lost) within in
       let a : get_or (map lost ns) i d ≡ lost (get_or ns i 0) = get_or-map lost ns i 0 d (omega (arith, lt, long)) in
       let b : get_or (map lost ns) j d ≡ lost (get_or ns j 0) = get_or-map lost ns j 0 d long in
-      subst (λ (x : Loss). LossComesBefore x (get_or (map lost ns) j d)) (sym a) (subst (λ (x : Loss). LossComesBefore (lost (get_or ns i 0)) x) (sym b) (inl (AllPairs-from_increasing ns rise i j 0 lt long)))
+      subst (λ (x : Loss). LossComesBefore x (get_or (map lost ns) j d)) (sym a)
+      (subst (λ (x : Loss). LossComesBefore (lost (get_or ns i 0)) x) (sym b) (inl (AllPairs-from_increasing ns rise i j 0 lt long)))
 
   pub sorted_in_order : (ns : List ℕ) → IsSorted nat_cmp ns → IsInOrder (map lost (dedup eqb ns))
   sorted_in_order ns sorted = rising_in_order (dedup eqb ns) (IsStrictlyIncreasing-dedup ns sorted)

@@ -17,7 +17,8 @@ abbrev any_save : List Item → Bool
 any_save xs = list_any (λ (i : Item). is_added_save i.kind i.origin) xs
 
 -- debug items are no stores
-save_first : (k : ItemKind) (o : Origin) (l : Loc) (xs : List Item) → any_save (stripped_items xs) ≡ any_save xs → any_save (stripped_items (record { kind = k; origin = o; loc = l } ∷ xs)) ≡ (is_added_save k o || any_save xs)
+save_first : (k : ItemKind) (o : Origin) (l : Loc) (xs : List Item) → any_save (stripped_items xs) ≡ any_save xs →
+    any_save (stripped_items (record { kind = k; origin = o; loc = l } ∷ xs)) ≡ (is_added_save k o || any_save xs)
 save_first (Code i n) (Kept p) l xs h = h
 save_first (Code i n) (Before p) l xs h = ap (λ (z : Bool). is_added_save (Code i n) (Before p) || z) h
 save_first (Mark v m) o l xs h = h
@@ -34,17 +35,21 @@ has_saves_stripped (b ∷ bs) = let e = saves_stripped b.items in let es = has_s
 module _ (busy : Bool) where
   -- debug items stay, and a number doesn't matter
   first_thin : (k : ItemKind) (o : Origin) (l : Loc) (xs : List Item) → stripped_items (filter (stays busy) xs) ≡ filter (stays busy) (stripped_items xs) →
-      stripped_items (filter (stays busy) (record { kind = k; origin = o; loc = l } ∷ xs)) ≡ filter (stays busy) (stripped_items (record { kind = k; origin = o; loc = l } ∷ xs))
+      stripped_items (filter (stays busy) (record { kind = k; origin = o; loc = l } ∷ xs)) ≡
+      filter (stays busy) (stripped_items (record { kind = k; origin = o; loc = l } ∷ xs))
   first_thin (Code i n) o l xs h = by_test (not (not busy && is_nop_row (row_of i))) where
-    by_test : (z : Bool) → stripped_items (cond z (record { kind = Code i n; origin = o; loc = l } ∷ filter (stays busy) xs) (filter (stays busy) xs)) ≡ cond z (record { kind = Code i None; origin = o; loc = l } ∷ filter (stays busy) (stripped_items xs)) (filter (stays busy) (stripped_items xs))
+    by_test : (z : Bool) → stripped_items (cond z (record { kind = Code i n; origin = o; loc = l } ∷ filter (stays busy) xs) (filter (stays busy) xs)) ≡
+        cond z (record { kind = Code i None; origin = o; loc = l } ∷ filter (stays busy) (stripped_items xs)) (filter (stays busy) (stripped_items xs))
     by_test true = ap (λ (ys : List Item). record { kind = Code i None; origin = o; loc = l } ∷ ys) h
     by_test false = h
   first_thin (Mark v m) o l xs h = by_test (not (not busy && false)) where
-    by_test : (z : Bool) → stripped_items (cond z (record { kind = Mark v m; origin = o; loc = l } ∷ filter (stays busy) xs) (filter (stays busy) xs)) ≡ filter (stays busy) (stripped_items xs)
+    by_test : (z : Bool) → stripped_items (cond z (record { kind = Mark v m; origin = o; loc = l } ∷ filter (stays busy) xs) (filter (stays busy) xs)) ≡
+        filter (stays busy) (stripped_items xs)
     by_test true = h
     by_test false = h
   first_thin (Phi p n) o l xs h = by_test (not (not busy && false)) where
-    by_test : (z : Bool) → stripped_items (cond z (record { kind = Phi p n; origin = o; loc = l } ∷ filter (stays busy) xs) (filter (stays busy) xs)) ≡ filter (stays busy) (stripped_items xs)
+    by_test : (z : Bool) → stripped_items (cond z (record { kind = Phi p n; origin = o; loc = l } ∷ filter (stays busy) xs) (filter (stays busy) xs)) ≡
+        filter (stays busy) (stripped_items xs)
     by_test true = h
     by_test false = h
 
@@ -58,5 +63,6 @@ module _ (busy : Bool) where
 
 pub stripped_thinned : (f : Function) → stripped (thinned f) ≡ thinned (stripped f)
 stripped_thinned f =
-    let e = blocks_stripped (has_added_saves f.blocks) f.blocks ∙ ap (λ (z : Bool). thinned_blocks z (stripped_blocks f.blocks)) (sym (has_saves_stripped f.blocks)) in
-    λ i. record { name = f.name; slots = f.slots; blocks = e i }
+    let e = blocks_stripped (has_added_saves f.blocks) f.blocks ∙
+    ap (λ (z : Bool). thinned_blocks z (stripped_blocks f.blocks)) (sym (has_saves_stripped f.blocks)) in
+    λ i. record (stripped f) { blocks = e i }

@@ -1,14 +1,18 @@
 -- What taking out no-operations does with debug items.
-use Rattle.std.proofs.Common.{◌≡◌, ℕ, zero, suc, ◌+◌, ◌<◌, ◌↔◌, List, [], ◌∷◌, ◌++◌, filter, length, All, Contains, Option, Some, None, Bool, true, false, cond, not, ◌&&◌, slice_get, get_or, append-nil, refl, sym, ap, ◌∙◌, subst, inl, inr, ◌⊎◌, arith}
+use Rattle.std.proofs.Common.{◌≡◌, ℕ, zero, suc, ◌+◌, ◌<◌, ◌↔◌, List, [], ◌∷◌, ◌++◌, filter, drop, length, count_by, All, Contains, Option, Some, None, Bool}
+use Rattle.std.proofs.Common.{true, false, cond, not, ◌&&◌, slice_get, get_or, nat_eq, eqb-true, eq-eqb, append-nil, refl, sym, ap, ◌∙◌, subst, inl, inr, ◌⊎◌}
+use Rattle.std.proofs.Common.{arith}
 use Rattle.std.specs.List.{flat_map, cons_option}
 use Rattle.std.proofs.lemmas.List.{get_or-map, length-map}
+use Rattle.std.proofs.lemmas.List.Sums.{sum_by-cons}
 use Rattle.std.proofs.lemmas.List.Elements.{All-weaker, All-contains_itself, Contains-append_left, Contains-append_right}
-use Rattle.std.proofs.lemmas.Option.{slice_get-get_or}
+use Rattle.std.proofs.lemmas.Option.{slice_get-get_or, get_or_from_slice_get}
 use Rattle.rv64_instr.specs.declared.place.Place.{Place}
 use Rattle.rv64_instr.specs.declared.place.Place.TheVariants.{Register, Slot, Const}
 use Rattle.rv64_instr.specs.Row.{Row, Moves, row_of}
 use Rattle.mir_func.specs.declared.position.Pos.{Pos}
 use Rattle.mir_func.specs.declared.position.Origin.{Origin}
+use Rattle.mir_func.specs.declared.position.Origin.TheVariants.{Kept, Before}
 use Rattle.mir_func.specs.declared.location.Loc.{Loc}
 use Rattle.mir_func.specs.declared.variable.MarkValue.{MarkValue}
 use Rattle.mir_func.specs.declared.variable.MarkValue.TheVariants.{Nothing, Constant, At, Pair}
@@ -18,15 +22,27 @@ use Rattle.mir_func.specs.declared.item.Item.{Item}
 use Rattle.mir_func.specs.declared.item.ItemKind.{ItemKind}
 use Rattle.mir_func.specs.declared.item.ItemKind.TheVariants.{Code, Mark, Phi}
 use Rattle.mir_func.specs.Function.{Function}
-use Rattle.mir_func.specs.Sound.{AreApart, ids_of, code_number, IsSound}
+use Rattle.mir_func.specs.Sound.{AreApart, ids_of, items_of, code_number, IsSound}
+use Rattle.mir_func.specs.Graph.{Here, front, fetch_in, from_block}
+use Rattle.mir_meaning.specs.Align.{is_code}
+use Rattle.mir_meaning.proofs.Reading.{apart_tail, found_in, front_item, within_list}
 use Rattle.follow_law.specs.declared.loss.Reason.TheVariants.{Removed}
 use Rattle.follow_law.specs.declared.loss.Lost.TheVariants as lost
 use Rattle.follow_law.specs.declared.loss.Loss.{Loss}
 use Rattle.follow_law.specs.Change.{Change}
 use Rattle.follow_law.specs.Order.{IsInOrder}
-use Rattle.follow_law.specs.Debug.{number_lost, IsCopy, IsFor, IsKillAt, ValueIsUnspilled, PlaceIsUnspilled, Becomes, mark_stays, phi_stays, code_stays, code_unnumbered, code_goes, number_goes, BecomeAll, over, next, BlocksBecome, none, stays as block_stays, HasCause, KeepsItems, KeepsDebugItems}
-use Rattle.follow_law.specs.Nops.{is_nop_row, is_nop, has_added_saves, stays, thinned_blocks, thinned, IsTaken, nop_rule, nop_number, numbers_in_items, nop_numbers, lost_in}
+use Rattle.follow_law.specs.Rule.{IsCopy, number_lost, item, StandsAt}
+use Rattle.follow_law.specs.Causes.{is_position, is_origin, IsRemoved, HasCause, code_removed}
+use Rattle.follow_law.specs.Debug.{RegisterStays, ValueStays, PlaceStays, IsKillAt, Becomes, mark_stays, phi_stays, code_stays, code_unnumbered, code_goes}
+use Rattle.follow_law.specs.Debug.{number_goes}
+use Rattle.follow_law.specs.Debug.{BecomeAll, over, next, BlocksBecome, none, stays as block_stays, IsLoss, IsFor, KeepsItems}
+use Rattle.follow_law.specs.Steps.{KeepsSteps}
+use Rattle.follow_law.specs.Nops.{is_nop_row, is_nop, has_added_saves, stays, thinned_blocks, thinned, IsTaken, nop_rule, nop_step, nop_number}
+use Rattle.follow_law.specs.Nops.{numbers_in_items, nop_numbers, lost_in}
 use Rattle.follow_law.proofs.NopRuns.{out_is}
+use Rattle.follow_law.proofs.NopCode.{stripped_thinned}
+use Rattle.follow_law.proofs.NopSound.{items_thin, sound_thin}
+use Rattle.follow_law.proofs.NopSizes.{count_thin}
 
 -- where an element of a list that is put together comes from
 in_first : {A : Type 0} (x : A) (xs : List A) (y : A) → Contains (x ∷ xs) y → (x ≡ y) ⊎ Contains xs y
@@ -41,18 +57,27 @@ at_later x xs y (k, lt, at) = (suc k, omega (arith, lt), at)
 
 in_append : {A : Type 0} (xs ys : List A) (y : A) → Contains (xs ++ ys) y → Contains xs y ⊎ Contains ys y
 in_append [] ys y h = inr h
-in_append (x ∷ xs) ys y h = elim (in_first x (xs ++ ys) y h) [ inl e ↦ inl (subst (Contains (x ∷ xs)) e (at_first x xs)) | inr k ↦ elim (in_append xs ys y k) [ inl l ↦ inl (at_later x xs y l) | inr l ↦ inr l ] ]
+in_append (x ∷ xs) ys y h = elim (in_first x (xs ++ ys) y h) [
+  | inl e ↦ inl (subst (Contains (x ∷ xs)) e (at_first x xs))
+  | inr k ↦ elim (in_append xs ys y k) [ inl l ↦ inl (at_later x xs y l) | inr l ↦ inr l ]
+]
 
 none_in : {A P : Type 0} (y : A) → Contains [] y → P
 none_in y h = absurd (omega (arith, h.1))
 
 in_flat : {A B : Type 0} (h : A → List B) (xs : List A) (y : B) → Contains (flat_map h xs) y → (x : A) × Contains xs x × Contains (h x) y
 in_flat h [] y k = none_in y k
-in_flat h (x ∷ xs) y k = elim (in_append (h x) (flat_map h xs) y k) [ inl l ↦ (x, at_first x xs, l) | inr l ↦ (let w = in_flat h xs y l in (w.0, at_later x xs w.0 w.1, w.2)) ]
+in_flat h (x ∷ xs) y k = elim (in_append (h x) (flat_map h xs) y k) [
+  | inl l ↦ (x, at_first x xs, l)
+  | inr l ↦ (let w = in_flat h xs y l in (w.0, at_later x xs w.0 w.1, w.2))
+]
 
 of_flat : {A B : Type 0} (h : A → List B) (xs : List A) (x : A) (y : B) → Contains xs x → Contains (h x) y → Contains (flat_map h xs) y
 of_flat h [] x y k l = none_in x k
-of_flat {A} h (z ∷ zs) x y k l = elim (in_first z zs x k) [ inl e ↦ Contains-append_left (h z) (flat_map h zs) y (subst (λ (w : A). Contains (h w) y) (sym e) l) | inr m ↦ Contains-append_right (h z) (flat_map h zs) y (of_flat h zs x y m l) ]
+of_flat {A} h (z ∷ zs) x y k l = elim (in_first z zs x k) [
+  | inl e ↦ Contains-append_left (h z) (flat_map h zs) y (subst (λ (w : A). Contains (h w) y) (sym e) l)
+  | inr m ↦ Contains-append_right (h z) (flat_map h zs) y (of_flat h zs x y m l)
+]
 
 -- a no-operation with a number among items
 record IsAmong (xs : List Item) (k : ℕ) : Type 0 where
@@ -67,9 +92,13 @@ later_among x xs k h = record { index = suc h.index; found = h.found; at = h.at;
 in_items : (xs : List Item) (k : ℕ) → Contains (numbers_in_items xs) k → IsAmong xs k
 in_items [] k h = none_in k h
 in_items (x ∷ xs) k h = by_number (nop_number x.kind) refl (in_items xs k) h where
-  by_number : (o : Option ℕ) → nop_number x.kind ≡ o → (Contains (numbers_in_items xs) k → IsAmong xs k) → Contains (cons_option o (numbers_in_items xs)) k → IsAmong (x ∷ xs) k
+  by_number : (o : Option ℕ) → nop_number x.kind ≡ o → (Contains (numbers_in_items xs) k → IsAmong xs k) → Contains (cons_option o (numbers_in_items xs)) k →
+      IsAmong (x ∷ xs) k
   by_number None e rec h = later_among x xs k (rec h)
-  by_number (Some n) e rec h = elim (in_first n (numbers_in_items xs) k h) [ inl same ↦ record { index = 0; found = x; at = refl; number = e ∙ ap Some same } | inr l ↦ later_among x xs k (rec l) ]
+  by_number (Some n) e rec h = elim (in_first n (numbers_in_items xs) k h) [
+    | inl same ↦ record { index = 0; found = x; at = refl; number = e ∙ ap Some same }
+    | inr l ↦ later_among x xs k (rec l)
+  ]
 
 more_option : (o : Option ℕ) (ns : List ℕ) (k : ℕ) → Contains ns k → Contains (cons_option o ns) k
 more_option None ns k h = h
@@ -111,23 +140,78 @@ no_copy _ e h = absurd h
 one_block : (bs : List Block) → AreApart (ids_of bs) → (a b : Block) → Contains bs a → Contains bs b → a.id ≡ b.id → a ≡ b
 one_block bs apart a b (i, lt, at) (j, lt', at') same =
     let id_at : (n : ℕ) (c : Block) → n < length bs → get_or bs n c ≡ c → slice_get (ids_of bs) n ≡ Some c.id =
-    λ n c l e. slice_get-get_or (ids_of bs) n c.id (subst (λ (m : ℕ). n < m) (sym (length-map bs (λ (x : Block). x.id))) l) ∙ ap Some (get_or-map (λ (x : Block). x.id) bs n c c.id l ∙ ap (λ (x : Block). x.id) e) in
+    λ n c l e. slice_get-get_or (ids_of bs) n c.id (subst (λ (m : ℕ). n < m) (sym (length-map bs (λ (x : Block). x.id))) l) ∙
+    ap Some (get_or-map (λ (x : Block). x.id) bs n c c.id l ∙ ap (λ (x : Block). x.id) e) in
     let e : i ≡ j = apart i j a.id (id_at i a lt at) (id_at j b lt' at' ∙ ap Some (sym same)) in
     let w : Some a ≡ Some b = sym (slice_get-get_or bs i a lt ∙ ap Some at) ∙ ap (slice_get bs) e ∙ slice_get-get_or bs j b lt' ∙ ap Some at' in
     cc
 
--- nothing is spilled
-value_unspilled : (c : Change) (m : MarkValue) → ValueIsUnspilled nop_rule c m
-value_unspilled c Nothing = tt
-value_unspilled c (Constant z) = tt
-value_unspilled c (At r) = λ slot h. h
-value_unspilled c (Pair k o) = tt
+-- a block's number leads to it, and an index in its items to the item
+block_at : (bs : List Block) → AreApart (ids_of bs) → (b : Block) → Contains bs b → (rest : List Block) × (from_block bs b.id ≡ b ∷ rest)
+block_at [] apart b h = none_in b h
+block_at (a ∷ bs) apart b h = by_test (nat_eq a.id b.id) refl (λ later. block_at bs (apart_tail a.id (ids_of bs) apart) b later) where
+  by_test : (z : Bool) → nat_eq a.id b.id ≡ z → (Contains bs b → (rest : List Block) × (from_block bs b.id ≡ b ∷ rest)) →
+      (rest : List Block) × (cond z (a ∷ bs) (from_block bs b.id) ≡ b ∷ rest)
+  by_test true e more = let same : a ≡ b = one_block (a ∷ bs) apart a b (at_first a bs) h (eqb-true a.id b.id e) in (bs, λ i. same i ∷ bs)
+  by_test false e more = elim (in_first a bs b h) [
+    | inl same ↦ (let t : nat_eq a.id b.id ≡ true = eq-eqb a.id b.id (ap (λ (x : Block). x.id) same) in let bad : true ≡ false = sym t ∙ e in cc)
+    | inr later ↦ more later
+  ]
 
-place_unspilled : (c : Change) (p : Option Place) → PlaceIsUnspilled nop_rule c p
-place_unspilled c None = tt
-place_unspilled c (Some (Register r)) = λ slot h. h
-place_unspilled c (Some (Slot n)) = tt
-place_unspilled c (Some (Const z)) = tt
+item_front : (xs : List Item) (n k : ℕ) (bs : List Block) (x : Item) → slice_get xs n ≡ Some x → front (drop n xs) k bs ≡ Here x
+item_front [] n k bs x e = cc
+item_front (y ∷ ys) zero k bs x e = let w : y ≡ x = cc in ap Here w
+item_front (y ∷ ys) (suc n) k bs x e = item_front ys n k bs x e
+
+same_position : (p : Pos) → is_position p p ≡ true
+same_position p = let a = eq-eqb p.block p.block refl in let b = eq-eqb p.item p.item refl in λ i. a i && b i
+
+same_origin : (o : Origin) → is_origin o o ≡ true
+same_origin (Kept p) = same_position p
+same_origin (Before p) = same_position p
+
+abbrev weight : Bool → ℕ
+weight z = cond z 1 0
+
+-- where one that passes a test is left out, fewer pass
+fewer_left : (p keep : Item → Bool) (xs : List Item) (x : Item) → Contains xs x → p x ≡ true → keep x ≡ false → count_by p (filter keep xs) < count_by p xs
+fewer_left p keep [] x h passes out = none_in x h
+fewer_left p keep (y ∷ ys) x h passes out =
+    let e : count_by p (y ∷ ys) ≡ weight (p y) + count_by p ys = sum_by-cons (λ z. weight (p z)) y ys in
+    let d : count_by p (filter keep (y ∷ ys)) < weight (p y) + count_by p ys = elim (in_first y ys x h) [
+      | inl same ↦ here same
+      | inr later ↦ there (keep y) (fewer_left p keep ys x later passes out)
+    ] in
+    subst (λ (n : ℕ). count_by p (filter keep (y ∷ ys)) < n) (sym e) d where
+      here : y ≡ x → count_by p (filter keep (y ∷ ys)) < weight (p y) + count_by p ys
+      here same =
+          let left : filter keep (y ∷ ys) ≡ filter keep ys = ap (λ (z : Bool). cond z (y ∷ filter keep ys) (filter keep ys)) (ap keep same ∙ out) in
+          let one : weight (p y) ≡ 1 = ap weight (ap p same ∙ passes) in
+          let less = count_thin p keep ys in
+          let n : count_by p (filter keep (y ∷ ys)) ≡ count_by p (filter keep ys) = ap (count_by p) left in
+          omega (arith, one, less, n)
+
+      there : (z : Bool) → count_by p (filter keep ys) < count_by p ys →
+          count_by p (cond z (y ∷ filter keep ys) (filter keep ys)) < weight (p y) + count_by p ys
+      there true k = let e : count_by p (y ∷ filter keep ys) ≡ weight (p y) + count_by p (filter keep ys) =
+          sum_by-cons (λ z. weight (p z)) y (filter keep ys) in omega (arith, e, k)
+      there false k = omega (arith, k)
+
+-- nothing is spilled or renamed
+register_stays : (c : Change) (r : ℕ) → RegisterStays nop_rule c r
+register_stays c r = (λ slot h. h, λ now h. h)
+
+value_stays : (c : Change) (m : MarkValue) → ValueStays nop_rule c m
+value_stays c Nothing = tt
+value_stays c (Constant z) = tt
+value_stays c (At r) = register_stays c r
+value_stays c (Pair k o) = tt
+
+place_stays : (c : Change) (p : Option Place) → PlaceStays nop_rule c p
+place_stays c None = tt
+place_stays c (Some (Register r)) = register_stays c r
+place_stays c (Some (Slot n)) = tt
+place_stays c (Some (Const z)) = tt
 
 module _ (f : Function) (sound : IsSound f) (subs : List Entry) where
   abbrev busy : Bool
@@ -135,6 +219,23 @@ module _ (f : Function) (sound : IsSound f) (subs : List Entry) where
 
   abbrev change : Change
   change = record { old = f; old_subs = subs; new = thinned f; new_subs = subs }
+
+  stands_in : (b : Block) → Contains f.blocks b → (n : ℕ) (x : Item) → slice_get b.items n ≡ Some x → StandsAt f (record { block = b.id; item = n }) x
+  stands_in b member n x at = let w = block_at f.blocks sound.blocks_apart b member in
+      ap (λ (bs : List Block). fetch_in bs n) w.1 ∙ item_front b.items n b.silent w.0 x at
+
+  -- the block of what stands somewhere
+  block_of : (at : Pos) (x : Item) → StandsAt f at x → (b : Block) × Contains f.blocks b × (slice_get b.items at.item ≡ Some x)
+  block_of at x stands = by_blocks (from_block f.blocks at.block) refl stands where
+    by_blocks : (bs : List Block) → from_block f.blocks at.block ≡ bs → fetch_in bs at.item ≡ Here x →
+        (b : Block) × Contains f.blocks b × (slice_get b.items at.item ≡ Some x)
+    by_blocks [] e h = cc
+    by_blocks (b ∷ bs) e h = (b, (found_in f.blocks at.block b bs e).0, front_item b.items at.item b.silent bs x h)
+
+  among_all : (at : Pos) (x : Item) → StandsAt f at x → Contains (items_of f.blocks) x
+  among_all at x stands =
+      let w = block_of at x stands in
+      of_flat (λ (b : Block). b.items) f.blocks w.0 x w.1 (at.item, within_list w.0.items at.item x w.2, get_or_from_slice_get w.0.items at.item x x w.2)
 
   -- the numbers that are lost are those of what is taken out
   taken_of : (k : ℕ) → Contains (lost_in f) k → (place : Pos) × IsTaken f place k
@@ -144,50 +245,70 @@ module _ (f : Function) (sound : IsSound f) (subs : List Entry) where
     by_busy false e h =
         let b = in_flat (λ (c : Block). numbers_in_items c.items) f.blocks k h in
         let w = in_items b.0.items k b.2 in
-        let nop = with_nop w.found.kind k w.number in
-        (record { block = b.0.id; item = w.index }, record { block = b.0; item = w.found; member = b.1; id = refl; stands = w.at; out = (λ i. not (not (e i) && nop.0 i)); number = nop.1 })
+        let nop = with_nop w.found.kind k w.number in (
+          record { block = b.0.id; item = w.index },
+          record { item = w.found; stands = stands_in b.0 b.1 w.index w.found w.at; out = (λ i. not (not (e i) && nop.0 i)); number = nop.1 },
+        )
 
   lost_of_taken : (place : Pos) (k : ℕ) → IsTaken f place k → Contains (lost_in f) k
   lost_of_taken place k t =
+      let w = block_of place t.item t.stands in
       let idle : busy ≡ false = out_idle busy (is_nop t.item.kind) t.out in
       let number : nop_number t.item.kind ≡ Some k = nop_with busy t.item.kind k t.out t.number in
-      subst (λ (z : Bool). Contains (cond z [] (nop_numbers f.blocks)) k) (sym idle) (of_flat (λ (c : Block). numbers_in_items c.items) f.blocks t.block k t.member (of_items t.block.items place.item t.item k t.stands number))
+      subst (λ (z : Bool). Contains (cond z [] (nop_numbers f.blocks)) k) (sym idle)
+      (of_flat (λ (c : Block). numbers_in_items c.items) f.blocks w.0 k w.1 (of_items w.0.items place.item t.item k w.2 number))
+
+  -- what is taken out at a place is what stands there
+  taken_is : (at : Pos) (k : ℕ) (x : Item) → StandsAt f at x → (t : IsTaken f at k) → t.item ≡ x
+  taken_is at k x stands t = let w : Here t.item ≡ Here x = sym t.stands ∙ stands in cc
+
+  -- and it is code that was removed, and no copy
+  removed_at : (at : Pos) (x : Item) → StandsAt f at x → is_code x.kind ≡ true → stays busy x ≡ false → IsRemoved change x.origin
+  removed_at at x stands code out =
+      let test : Item → Bool = λ i. is_code i.kind && is_origin i.origin x.origin in
+      let same = same_origin x.origin in
+      subst (λ (xs : List Item). count_by test xs < count_by test (items_of f.blocks)) (sym (items_thin (stays busy) f.blocks))
+      (fewer_left test (stays busy) (items_of f.blocks) x (among_all at x stands) (λ i. code i && same i) out)
+
+  cause_of : (at : Pos) (k : ℕ) (x : ItemKind) (o : Origin) (l : Loc) → StandsAt f at (item x o l) → stays busy (item x o l) ≡ false →
+      code_number x ≡ Some k → HasCause nop_rule change at (number_lost k Removed)
+  cause_of at k (Code i None) o l stands out number = cc
+  cause_of at k (Code i (Some m)) o l stands out number =
+      let w : m ≡ k = cc in
+      code_removed stands w (no_copy (row_of i) (out_is busy (is_nop_row (row_of i)) out)) (removed_at at _ stands refl out)
+  cause_of at k (Mark v m) o l stands out number = cc
+  cause_of at k (Phi p m) o l stands out number = cc
+
+  becomes : (at : Pos) (k : ItemKind) (o : Origin) (l : Loc) → StandsAt f at (item k o l) → (z : Bool) → stays busy (item k o l) ≡ z →
+      Becomes nop_rule change at (item k o l) (cond z (item k o l ∷ []) [])
+  becomes at (Mark v m) o l stands true stay =
+      mark_stays (λ why h. (let e : lost.Mark _ ≡ lost.Number h.0 = ap (λ (x : Loss). x.what) h.2 in cc)) (value_stays change m)
+  becomes at (Mark v m) o l stands false out = let bad : false ≡ true = out_is busy false out in cc
+  becomes at (Phi p k) o l stands true stay =
+      phi_stays (λ why h. (let e : None ≡ Some h.0 = sym (ap (λ (x : Item). code_number x.kind) (taken_is at h.0 _ stands h.1)) ∙ h.1.number in cc))
+      (place_stays change p)
+  becomes at (Phi p k) o l stands false out = let bad : false ≡ true = out_is busy false out in cc
+  becomes at (Code i None) o l stands true stay = code_unnumbered (λ k h. h)
+  becomes at (Code i (Some k)) o l stands true stay =
+      code_stays (λ why h. (let e : false ≡ true = sym h.1.out ∙ ap (stays busy) (taken_is at h.0 _ stands h.1) ∙ stay in cc))
+  becomes at (Code i None) o l stands false out = code_goes (λ k h. h)
+  becomes at (Code i (Some k)) o l stands false out = number_goes k Removed refl refl (k, record { item = _; stands = stands; out = out; number = refl }, refl)
 
   module _ (b : Block) (member : Contains f.blocks b) where
-    abbrev place : ℕ → Pos
-    place n = record { block = b.id; item = n }
-
-    -- what is taken out at a place is what stands there
-    taken_is : (n k : ℕ) (x : Item) → slice_get b.items n ≡ Some x → (t : IsTaken f (place n) k) → t.item ≡ x
-    taken_is n k x at t =
-        let same : t.block ≡ b = one_block f.blocks sound.blocks_apart t.block b t.member member t.id in
-        let w : Some t.item ≡ Some x = sym t.stands ∙ ap (λ (c : Block). slice_get c.items n) same ∙ at in
-        cc
-
-    becomes : (n : ℕ) (k : ItemKind) (o : Origin) (l : Loc) → slice_get b.items n ≡ Some (record { kind = k; origin = o; loc = l }) → (z : Bool) → stays busy (record { kind = k; origin = o; loc = l }) ≡ z →
-        Becomes nop_rule change (place n) (record { kind = k; origin = o; loc = l }) (cond z (record { kind = k; origin = o; loc = l } ∷ []) [])
-    becomes n (Mark v m) o l at true stay = mark_stays (λ why h. (let e : lost.Mark _ ≡ lost.Number h.0 = ap (λ (x : Loss). x.what) h.2 in cc)) (value_unspilled change m)
-    becomes n (Mark v m) o l at false out = let bad : false ≡ true = out_is busy false out in cc
-    becomes n (Phi p k) o l at true stay = phi_stays (λ why h. (let e : None ≡ Some h.0 = sym (ap (λ (x : Item). code_number x.kind) (taken_is n h.0 _ at h.1)) ∙ h.1.number in cc)) (place_unspilled change p)
-    becomes n (Phi p k) o l at false out = let bad : false ≡ true = out_is busy false out in cc
-    becomes n (Code i None) o l at true stay = code_unnumbered (λ k h. h)
-    becomes n (Code i (Some k)) o l at true stay = code_stays (λ why h. (let e : false ≡ true = sym h.1.out ∙ ap (stays busy) (taken_is n h.0 _ at h.1) ∙ stay in cc))
-    becomes n (Code i None) o l at false out = code_goes (λ k h. h)
-    becomes n (Code i (Some k)) o l at false out =
-        number_goes k Removed (no_copy (row_of i) (out_is busy (is_nop_row (row_of i)) out)) refl (k, record { block = b; item = _; member = member; id = refl; stands = at; out = out; number = refl }, refl)
-
-    become_all : (n : ℕ) (xs : List Item) → ((k : ℕ) (x : Item) → slice_get xs k ≡ Some x → slice_get b.items (n + k) ≡ Some x) → BecomeAll nop_rule change b.id n xs (filter (stays busy) xs)
+    become_all : (n : ℕ) (xs : List Item) → ((k : ℕ) (x : Item) → slice_get xs k ≡ Some x → slice_get b.items (n + k) ≡ Some x) →
+        BecomeAll nop_rule change b.id n xs (filter (stays busy) xs)
     become_all n [] at = over
     become_all n (x ∷ xs) at = by_test (stays busy x) refl (become_all (suc n) xs later) where
-      here : slice_get b.items n ≡ Some x
-      here = let z : n + 0 ≡ n = omega arith in sym (ap (slice_get b.items) z) ∙ at 0 x refl
+      here : StandsAt f (record { block = b.id; item = n }) x
+      here = let z : n + 0 ≡ n = omega arith in stands_in b member n x (sym (ap (slice_get b.items) z) ∙ at 0 x refl)
 
       later : (k : ℕ) (y : Item) → slice_get xs k ≡ Some y → slice_get b.items (suc n + k) ≡ Some y
       later k y e = let z : n + suc k ≡ suc n + k = omega arith in sym (ap (slice_get b.items) z) ∙ at (suc k) y e
 
-      by_test : (z : Bool) → stays busy x ≡ z → BecomeAll nop_rule change b.id (suc n) xs (filter (stays busy) xs) → BecomeAll nop_rule change b.id n (x ∷ xs) (cond z (x ∷ filter (stays busy) xs) (filter (stays busy) xs))
-      by_test true e rest = next (becomes n x.kind x.origin x.loc here true e) rest
-      by_test false e rest = next (becomes n x.kind x.origin x.loc here false e) rest
+      by_test : (z : Bool) → stays busy x ≡ z → BecomeAll nop_rule change b.id (suc n) xs (filter (stays busy) xs) →
+          BecomeAll nop_rule change b.id n (x ∷ xs) (cond z (x ∷ filter (stays busy) xs) (filter (stays busy) xs))
+      by_test true e rest = next (becomes _ x.kind x.origin x.loc here true e) rest
+      by_test false e rest = next (becomes _ x.kind x.origin x.loc here false e) rest
 
   none_killed : (b : ℕ) → All (IsKillAt nop_rule change b) []
   none_killed b k d lt = absurd (omega (arith, lt))
@@ -202,13 +323,28 @@ module _ (f : Function) (sound : IsSound f) (subs : List Entry) where
       (become_all b (members b (at_first b bs)) 0 b.items (λ k x e. (let z : k ≡ 0 + k = omega arith in sym (ap (slice_get b.items) z) ∙ e)))
       (blocks_become bs (λ c h. members c (at_later b bs c h)))
 
-  pub nops_debug : (losses : List Loss) → IsInOrder losses → ((l : Loss) → Contains losses l ↔ ((k : ℕ) × Contains (lost_in f) k × (l ≡ number_lost k Removed))) → KeepsDebugItems (nop_rule ∷ []) change losses
-  nops_debug losses ordered each =
+  pub nops_step : (losses : List Loss) → IsInOrder losses →
+      ((l : Loss) → Contains losses l ↔ ((k : ℕ) × Contains (lost_in f) k × (l ≡ number_lost k Removed))) → KeepsSteps (nop_step ∷ []) change losses
+  nops_step losses ordered each =
       let kept : KeepsItems nop_rule change losses = record {
         blocks = blocks_become f.blocks (λ b h. h);
         subs = ([], sym (append-nil subs), refl, none_added losses);
-        caused = All-weaker (Contains losses) (HasCause nop_rule change) (λ l h. (let w = (each l).0 h in let t = taken_of w.0 w.1 in inl (t.0, (w.0, t.1, w.2)))) losses (All-contains_itself losses);
+        said = All-weaker (Contains losses) (IsLoss nop_rule change)
+            (λ l h. (let w = (each l).0 h in let t = taken_of w.0 w.1 in inl (t.0, (w.0, t.1, w.2)))) losses (All-contains_itself losses);
         told = λ l h. elim h [ inl w ↦ (each l).1 (w.1.0, lost_of_taken w.0 w.1.0 w.1.1, w.1.2) | inr w ↦ absurd w.3 ];
         ordered = ordered;
-      } in
-      (thinned f, subs, losses, [], kept, (refl, refl, refl), sym (append-nil losses))
+        caused = λ at l h. subst (HasCause nop_rule change at) (sym h.2)
+            (cause_of at h.0 h.1.item.kind h.1.item.origin h.1.item.loc h.1.stands h.1.out h.1.number);
+        left = λ r why h. absurd h;
+        spilled = λ r slot h. absurd h;
+        renamed = λ r now h. absurd h;
+      } in (
+        thinned f,
+        subs,
+        losses,
+        [],
+        record { sound = sound_thin busy f sound; code = stripped_thinned f; items = kept },
+        (refl, refl, refl),
+        sym
+            (append-nil losses),
+      )

@@ -1,8 +1,10 @@
 -- What followed a source follows it without its no-operations.
-use Rattle.std.proofs.Common.{◌≡◌, ℕ, ◌≤◌, List, [], ◌∷◌, map, filter, All, Contains, Option, Some, None, Bool, true, false, cond, not, ◌&&◌, ◌||◌, refl, sym, ap, ◌∙◌, subst, slice_get, get_or, arith}
+use Rattle.std.proofs.Common.{◌≡◌, ℕ, ◌≤◌, List, [], ◌∷◌, map, filter, All, Contains, Option, Some, None, Bool, true, false, cond, not, ◌&&◌, ◌||◌, refl, sym}
+use Rattle.std.proofs.Common.{ap, ◌∙◌, subst, slice_get, get_or, arith}
 use Rattle.std.specs.List.{list_any}
 use Rattle.std.proofs.lemmas.List.{length-map}
-use Rattle.std.proofs.lemmas.List.Elements.{All-cons, All-contains, All-contains_itself, All-weaker, All-filter, All-map, Contains-append_left, Contains-append_right}
+use Rattle.std.proofs.lemmas.List.Elements.{All-cons, All-contains, All-contains_itself, All-weaker, All-filter, All-map, Contains-append_left}
+use Rattle.std.proofs.lemmas.List.Elements.{Contains-append_right}
 use Rattle.std.proofs.lemmas.Option.{slice_get-get_or, get_or_from_slice_get}
 use Rattle.std.proofs.Math.Nat.{le_trans}
 use Rattle.rv64_instr.specs.Row.{Row, Fixes, LoadsSlot, StoresSlot, Branches, Jumps, Returns, row_of}
@@ -22,10 +24,12 @@ use Rattle.mir_func.specs.Graph.{Here, Program}
 use Rattle.mir_func.specs.Graph.{fetch_in, from_block, program_of}
 use Rattle.mir_func.specs.Resolve.{resolve}
 use Rattle.mir_meaning.specs.Align.{is_jump, is_jump_row, waits_at, moves_on, Count, ByItems, ByEnds, station_at, AnyOrigin, RunsAlong, After, since_of}
-use Rattle.mir_meaning.specs.Follow.{MayAdd, KindFits, MarkFits, InOrder, next_rank, Among, none, same, left, first_of, OnRow, GoesTo, IsSlotSave, Shape, IsStart, SameEnd, IsEnd, KindsEndAlike, EndIsKept, EndComesFrom}
+use Rattle.mir_meaning.specs.Follow.{MayAdd, KindFits, MarkFits, InOrder, next_rank, Among, none, same, left, first_of, OnRow, GoesTo, IsSlotSave, Shape}
+use Rattle.mir_meaning.specs.Follow.{IsStart, SameEnd, IsEnd, KindsEndAlike, EndIsKept, EndComesFrom}
 use Rattle.mir_meaning.proofs.Reading.{found_in, front_item, within_list}
 use Rattle.simulation.proofs.Order.{rank_next}
 use Rattle.mir_meaning.proofs.Told.{tells_itself}
+use Rattle.follow_law.specs.Change.{change}
 use Rattle.follow_law.specs.Following.{KeepsFollowing}
 use Rattle.follow_law.specs.Nops.{is_nop_row, is_nop, is_save_row, is_added_save, has_added_saves, stays, thinned_blocks, thinned}
 use Rattle.follow_law.proofs.Thinning.{thin, item_from, item_to}
@@ -60,7 +64,9 @@ members [] = none_in where
 members (b ∷ bs) =
     All-cons (λ (c : Block). All (λ (x : Item). Contains (items_of (b ∷ bs)) x) c.items) b bs
     (All-weaker (Contains b.items) (Contains (items_of (b ∷ bs))) (λ x k. Contains-append_left b.items (items_of bs) x k) b.items (All-contains_itself b.items))
-    (All-weaker (λ (c : Block). All (Contains (items_of bs)) c.items) (λ (c : Block). All (Contains (items_of (b ∷ bs))) c.items) (λ c h. All-weaker (Contains (items_of bs)) (Contains (items_of (b ∷ bs))) (λ x k. Contains-append_right b.items (items_of bs) x k) c.items h) bs (members bs))
+    (All-weaker (λ (c : Block). All (Contains (items_of bs)) c.items) (λ (c : Block). All (Contains (items_of (b ∷ bs))) c.items)
+    (λ c h. All-weaker (Contains (items_of bs)) (Contains (items_of (b ∷ bs))) (λ x k. Contains-append_right b.items (items_of bs) x k) c.items h) bs
+    (members bs))
 
 -- what isn't a no-operation stays
 pub stays_else : (busy nop : Bool) → nop ≡ false → not (not busy && nop) ≡ true
@@ -91,7 +97,8 @@ end_stays (Mark v m) l h = absurd h
 end_stays (Phi p m) l h = absurd h
 
 -- added code goes elsewhere only if it is a jump
-added_goes : (r : Row) (item silent : ℕ) (k : Core → Core) (c c' : Core) (n : ℕ) → MayAdd r item silent → with_core k (act r c) ≡ Goes n c' → is_jump_row r ≡ true
+added_goes : (r : Row) (item silent : ℕ) (k : Core → Core) (c c' : Core) (n : ℕ) → MayAdd r item silent → with_core k (act r c) ≡ Goes n c' →
+    is_jump_row r ≡ true
 added_goes (Fixes rd m) item silent k c c' n may e = unfold act in unfold does in cc
 added_goes (LoadsSlot rd m) item silent k c c' n may e = unfold act in unfold does in by_slot (c.slots m) e where
   by_slot : (v : Option ℕ) → with_core k (slot_loaded rd c v) ≡ Goes n c' → false ≡ true
@@ -105,7 +112,8 @@ added_goes (Jumps t) item silent k c c' n may e = refl
 added_goes _ item silent k c c' n may e = absurd may
 
 -- so code of a function that follows a source goes elsewhere only where the source moves on after it
-moves_after : (ct : Count) (src : Program) (f : Program) (k : ItemKind) (o : Origin) (silent : ℕ) → ((k : ItemKind) → moves_on ct k ≡ is_jump k) → KindFits src k silent o →
+moves_after : (ct : Count) (src : Program) (f : Program) (k : ItemKind) (o : Origin) (silent : ℕ) → ((k : ItemKind) → moves_on ct k ≡ is_jump k) →
+    KindFits src k silent o →
     (c c' : Core) (n : ℕ) → do_item f k c ≡ Goes n c' → since_of (waits_at (moves_on ct k) o) ≡ After
 moves_after ct src f k (Kept p) silent counts fits c c' n e = refl
 moves_after ct src f (Code i m) (Before p) silent counts fits c c' n e =
@@ -115,7 +123,8 @@ moves_after ct src f (Mark v m) (Before p) silent counts fits c c' n e = cc
 moves_after ct src f (Phi q m) (Before p) silent counts fits c c' n e = cc
 
 -- the number of what stays isn't gone
-own_number : (busy : Bool) (blocks : List Block) (resolve : ℕ → ℕ → Option (ℕ × ℕ)) → NumbersOnce (items_of blocks) → (x : Item) → Contains (items_of blocks) x → stays busy x ≡ true → (k : ℕ) → number_of x.kind ≡ Some k → IsGone busy blocks resolve k → ⊥
+own_number : (busy : Bool) (blocks : List Block) (resolve : ℕ → ℕ → Option (ℕ × ℕ)) → NumbersOnce (items_of blocks) → (x : Item) →
+    Contains (items_of blocks) x → stays busy x ≡ true → (k : ℕ) → number_of x.kind ≡ Some k → IsGone busy blocks resolve k → ⊥
 own_number busy blocks resolve once x (i, lt, at) stay k number gone =
     let y = gone.item in
     let j = gone.member in
@@ -128,13 +137,15 @@ own_number busy blocks resolve once x (i, lt, at) stay k number gone =
     cc
 
 -- what holds of all items holds of what stands somewhere
-at_item : (P : Item → Type 0) (sp : Bool) (blocks : List Block) (resolve : ℕ → ℕ → Option (ℕ × ℕ)) → All (λ (b : Block). All P b.items) blocks → (p : Pos) (i : Item) → (program_of sp blocks resolve).fetch p ≡ Here i → P i
+at_item : (P : Item → Type 0) (sp : Bool) (blocks : List Block) (resolve : ℕ → ℕ → Option (ℕ × ℕ)) → All (λ (b : Block). All P b.items) blocks →
+    (p : Pos) (i : Item) → (program_of sp blocks resolve).fetch p ≡ Here i → P i
 at_item P sp blocks resolve all p i e = by_blocks (from_block blocks p.block) refl e where
   by_blocks : (bs : List Block) → from_block blocks p.block ≡ bs → fetch_in bs p.item ≡ Here i → P i
   by_blocks [] h e = cc
   by_blocks (b ∷ bs) h e =
       let at = front_item b.items p.item b.silent bs i e in
-      subst P (get_or_from_slice_get b.items p.item i i at) (All-contains (λ (b : Block). All P b.items) blocks b all (found_in blocks p.block b bs h).0 p.item i (within_list b.items p.item i at))
+      subst P (get_or_from_slice_get b.items p.item i i at)
+      (All-contains (λ (b : Block). All P b.items) blocks b all (found_in blocks p.block b bs h).0 p.item i (within_list b.items p.item i at))
 
 none_of_either : (x y : Bool) → (x || y) ≡ false → (x ≡ false) × (y ≡ false)
 none_of_either true y e = cc
@@ -146,9 +157,12 @@ none_any test [] e = none_in where
   none_in k d lt = absurd (omega (arith, lt))
 none_any test (x ∷ xs) e = let h = none_of_either (test x) (list_any test xs) e in All-cons (λ x. test x ≡ false) x xs h.0 (none_any test xs h.1)
 
-no_saves : (blocks : List Block) → has_added_saves blocks ≡ false → All (λ (b : Block). All (λ (i : Item). is_added_save i.kind i.origin ≡ false) b.items) blocks
+no_saves : (blocks : List Block) → has_added_saves blocks ≡ false →
+    All (λ (b : Block). All (λ (i : Item). is_added_save i.kind i.origin ≡ false) b.items) blocks
 no_saves blocks e =
-    All-weaker (λ (b : Block). list_any (λ (i : Item). is_added_save i.kind i.origin) b.items ≡ false) (λ (b : Block). All (λ (i : Item). is_added_save i.kind i.origin ≡ false) b.items) (λ b h. none_any (λ (i : Item). is_added_save i.kind i.origin) b.items h) blocks
+    All-weaker (λ (b : Block). list_any (λ (i : Item). is_added_save i.kind i.origin) b.items ≡ false)
+    (λ (b : Block). All (λ (i : Item). is_added_save i.kind i.origin ≡ false) b.items)
+    (λ b h. none_any (λ (i : Item). is_added_save i.kind i.origin) b.items h) blocks
     (none_any (λ (b : Block). list_any (λ (i : Item). is_added_save i.kind i.origin) b.items) blocks e)
 
 save_is_added : (k : ItemKind) (o : Origin) (p : Pos) → OnRow IsSlotSave k → o ≡ Before p → is_added_save k o ≡ true
@@ -169,16 +183,19 @@ thins_none [] = refl
 thins_none (b ∷ bs) = let e = keeps_all b.items in let es = thins_none bs in λ i. record { id = b.id; items = e i; silent = b.silent } ∷ es i
 
 -- for each item of each block that is left
-pub each_left : (keep : Item → Bool) (P : Block → Item → Type 0) (Q : Block → Item → Type 0) → ((b : Block) (i : Item) → P b i → Q (thin keep b) i) → (bs : List Block) → All (λ (b : Block). All (P b) b.items) bs → All (λ (b : Block). All (Q b) b.items) (map (thin keep) bs)
+pub each_left : (keep : Item → Bool) (P : Block → Item → Type 0) (Q : Block → Item → Type 0) → ((b : Block) (i : Item) → P b i → Q (thin keep b) i) →
+    (bs : List Block) → All (λ (b : Block). All (P b) b.items) bs → All (λ (b : Block). All (Q b) b.items) (map (thin keep) bs)
 each_left keep P Q f bs h =
     All-map (λ (b : Block). All (Q b) b.items) (thin keep) bs
-    (All-weaker (λ (b : Block). All (P b) b.items) (λ (b : Block). All (Q (thin keep b)) (filter keep b.items)) (λ b k. All-weaker (P b) (Q (thin keep b)) (f b) (filter keep b.items) (All-filter keep (P b) b.items k)) bs h)
+    (All-weaker (λ (b : Block). All (P b) b.items) (λ (b : Block). All (Q (thin keep b)) (filter keep b.items))
+    (λ b k. All-weaker (P b) (Q (thin keep b)) (f b) (filter keep b.items) (All-filter keep (P b) b.items k)) bs h)
 
 pub origin_thin : (keep : Item → Bool) (b : Block) (o : Origin) → OriginIn b o → OriginIn (thin keep b) o
 origin_thin keep b (Kept p) h = h
 origin_thin keep b (Before p) h = h
 
-module _ (f : Function) (sound : IsSound f) (src : List Block) (srcp : Program) (resolve : ℕ → ℕ → Option (ℕ × ℕ)) (none_added : has_added_saves f.blocks ≡ false) where
+module _ (f : Function) (sound : IsSound f) (src : List Block) (srcp : Program) (resolve : ℕ → ℕ → Option (ℕ × ℕ))
+    (none_added : has_added_saves f.blocks ≡ false) where
   abbrev keep : Item → Bool
   keep = stays false
 
@@ -193,7 +210,9 @@ module _ (f : Function) (sound : IsSound f) (src : List Block) (srcp : Program) 
 
   module _ (shape : Shape src f.blocks srcp fp) where
     order_new : All (λ (b : Block). InOrder b.id 0 b.items) new
-    order_new = All-map (λ (b : Block). InOrder b.id 0 b.items) (thin keep) f.blocks (All-weaker (λ (b : Block). InOrder b.id 0 b.items) (λ (b : Block). InOrder b.id 0 (filter keep b.items)) (λ b h. order_thin keep b.id 0 b.items h) f.blocks shape.order)
+    order_new = All-map (λ (b : Block). InOrder b.id 0 b.items) (thin keep) f.blocks
+        (All-weaker (λ (b : Block). InOrder b.id 0 b.items) (λ (b : Block). InOrder b.id 0 (filter keep b.items))
+        (λ b h. order_thin keep b.id 0 b.items h) f.blocks shape.order)
 
     origins_new : All (λ (b : Block). All (λ (i : Item). OriginIn b i.origin) b.items) new
     origins_new = each_left keep (λ b i. OriginIn b i.origin) (λ b i. OriginIn b i.origin) (λ b i h. origin_thin keep b i.origin h) f.blocks sound.origins
@@ -213,33 +232,46 @@ module _ (f : Function) (sound : IsSound f) (src : List Block) (srcp : Program) 
     shape_new = record {
       among = among_thin keep shape.among;
       first = first_thin keep f.blocks ∙ shape.first;
-      back = λ q leads edge. (let w = shape.back q leads edge in let at = item_to keep false f.blocks resolve w.0 w.1 (stays_else false (is_nop w.1.kind) (going_stays w.1.kind (first_of src) w.3)) w.2 in (at.0, w.1, at.2, w.3));
+      back = λ q leads edge. (let w = shape.back q leads edge in
+          let at = item_to keep false f.blocks resolve w.0 w.1 (stays_else false (is_nop w.1.kind) (going_stays w.1.kind (first_of src) w.3)) w.2 in
+          (at.0, w.1, at.2, w.3));
       order = order_new;
       items = each_left keep (λ b i. KindFits srcp i.kind b.silent i.origin) (λ b i. KindFits srcp i.kind b.silent i.origin) (λ b i h. h) f.blocks shape.items;
-      stores = λ b member p i block at save o. (let w = item_from keep false f.blocks resolve p i at in let bad : false ≡ true = sym (at_item (λ (i : Item). is_added_save i.kind i.origin ≡ false) false f.blocks resolve (no_saves f.blocks none_added) w.0 i w.2) ∙ save_is_added i.kind i.origin _ save o in cc);
+      stores = λ b member p i block at save o.
+          (let w = item_from keep false f.blocks resolve p i at in
+          let bad : false ≡ true = sym (at_item (λ (i : Item). is_added_save i.kind i.origin ≡ false) false f.blocks resolve
+          (no_saves f.blocks none_added) w.0 i w.2) ∙ save_is_added i.kind i.origin _ save o in cc);
       marks = each_left keep (λ b i. MarkFits i.kind i.origin) (λ b i. MarkFits i.kind i.origin) (λ b i h. h) f.blocks shape.marks;
     }
 
-    runs_new : (ct : Count) → ((k : ItemKind) → moves_on ct k ≡ is_jump k) → ((s : State) → IsStart (first_of src) s → RunsAlong srcp fp (station_at ct fp) (AnyOrigin (station_at ct fp)) s s) →
+    runs_new : (ct : Count) → ((k : ItemKind) → moves_on ct k ≡ is_jump k) →
+        ((s : State) → IsStart (first_of src) s → RunsAlong srcp fp (station_at ct fp) (AnyOrigin (station_at ct fp)) s s) →
         (s : State) → IsStart (first_of src) s → RunsAlong srcp gp (station_at ct gp) (AnyOrigin (station_at ct gp)) s s
     runs_new ct counts runs s start =
-        nops_run false f.blocks resolve ct srcp s (steady ct counts) sound.blocks_apart shape.order order_new sound.origins origins_new (ap (λ (p : Pos). p.item) start.pos) (tells_itself s.core, λ k o gone. start.pairs k o) (runs s start)
+        nops_run false f.blocks resolve ct srcp s (steady ct counts) sound.blocks_apart shape.order order_new sound.origins origins_new
+        (ap (λ (p : Pos). p.item) start.pos) (tells_itself s.core, λ k o gone. start.pairs k o) (runs s start)
 
-    ends_kept : ((p : Pos) (i : Item) → srcp.fetch p ≡ Here i → OnRow IsEnd i.kind → EndIsKept fp p i) → (p : Pos) (i : Item) → srcp.fetch p ≡ Here i → OnRow IsEnd i.kind → EndIsKept gp p i
+    ends_kept : ((p : Pos) (i : Item) → srcp.fetch p ≡ Here i → OnRow IsEnd i.kind → EndIsKept fp p i) → (p : Pos) (i : Item) → srcp.fetch p ≡ Here i →
+        OnRow IsEnd i.kind → EndIsKept gp p i
     ends_kept kept p i at end =
         let w = kept p i at end in
         let there = item_to keep false f.blocks resolve w.0 w.1 (stays_else false (is_nop w.1.kind) (end_stays i.kind w.1.kind w.4)) w.2 in
         (there.0, w.1, there.2, w.3, w.4)
 
-    ends_only : ((q : Pos) (j : Item) → fp.fetch q ≡ Here j → OnRow IsEnd j.kind → EndComesFrom srcp j) → (q : Pos) (j : Item) → gp.fetch q ≡ Here j → OnRow IsEnd j.kind → EndComesFrom srcp j
+    ends_only : ((q : Pos) (j : Item) → fp.fetch q ≡ Here j → OnRow IsEnd j.kind → EndComesFrom srcp j) → (q : Pos) (j : Item) → gp.fetch q ≡ Here j →
+        OnRow IsEnd j.kind → EndComesFrom srcp j
     ends_only only q j at end = let w = item_from keep false f.blocks resolve q j at in only w.0 j w.2 end
 
 -- what the pass keeps where it takes out no-operations
-following_new : (f : Function) (subs : List Entry) → IsSound f → has_added_saves f.blocks ≡ false → KeepsFollowing false true (record { old = f; old_subs = subs; new = record { name = f.name; slots = f.slots; blocks = thinned_blocks false f.blocks }; new_subs = subs })
+following_new : (f : Function) (subs : List Entry) → IsSound f → has_added_saves f.blocks ≡ false →
+    KeepsFollowing false true (change f subs (record f { blocks = thinned_blocks false f.blocks }) subs)
 following_new f subs sound none_added = record {
   follows = λ src fol ends.
       let srcp : Program = program_of true src.function.blocks (resolve src.subs) in
-      record { shape = shape_new f sound src.function.blocks srcp (resolve subs) none_added fol.shape; runs = runs_new f sound src.function.blocks srcp (resolve subs) none_added fol.shape ByItems (λ k. refl) fol.runs };
+      record {
+        shape = shape_new f sound src.function.blocks srcp (resolve subs) none_added fol.shape;
+        runs = runs_new f sound src.function.blocks srcp (resolve subs) none_added fol.shape ByItems (λ k. refl) fol.runs;
+      };
   ends = λ keeps src fol whole.
       let srcp : Program = program_of true src.function.blocks (resolve src.subs) in
       record {
@@ -250,11 +282,15 @@ following_new f subs sound none_added = record {
       };
 }
 
-following_itself : (f : Function) (subs : List Entry) → KeepsFollowing false true (record { old = f; old_subs = subs; new = f; new_subs = subs })
+following_itself : (f : Function) (subs : List Entry) → KeepsFollowing false true (change f subs f subs)
 following_itself f subs = record { follows = λ src fol ends. fol; ends = λ keeps src fol whole. whole }
 
-pub nops_follow : (f : Function) (subs : List Entry) → IsSound f → KeepsFollowing false true (record { old = f; old_subs = subs; new = thinned f; new_subs = subs })
+pub nops_follow : (f : Function) (subs : List Entry) → IsSound f →
+    KeepsFollowing false true (change f subs (thinned f) subs)
 nops_follow f subs sound = by_saves (has_added_saves f.blocks) refl where
-  by_saves : (z : Bool) → has_added_saves f.blocks ≡ z → KeepsFollowing false true (record { old = f; old_subs = subs; new = record { name = f.name; slots = f.slots; blocks = thinned_blocks z f.blocks }; new_subs = subs })
-  by_saves true e = subst (λ (bs : List Block). KeepsFollowing false true (record { old = f; old_subs = subs; new = record { name = f.name; slots = f.slots; blocks = bs }; new_subs = subs })) (sym (thins_none f.blocks)) (following_itself f subs)
+  by_saves : (z : Bool) → has_added_saves f.blocks ≡ z →
+      KeepsFollowing false true (change f subs (record f { blocks = thinned_blocks z f.blocks }) subs)
+  by_saves true e = subst (λ (bs : List Block). KeepsFollowing false true
+      (change f subs (record f { blocks = bs }) subs)) (sym (thins_none f.blocks))
+      (following_itself f subs)
   by_saves false e = following_new f subs sound e

@@ -1,9 +1,10 @@
 -- The run of a function without its no-operations.
-use Rattle.std.proofs.Common.{◌≡◌, ℕ, zero, List, [], ◌∷◌, filter, All, Contains, Option, Some, None, Bool, true, false, cond, not, ◌&&◌, refl, sym, ap, ◌∙◌, subst, inl, inr, ◌⊎◌, slice_get, arith}
+use Rattle.std.proofs.Common.{◌≡◌, ℕ, zero, List, [], ◌∷◌, filter, All, Contains, Option, Some, None, Bool, true, false, cond, not, ◌&&◌, refl, sym, ap, ◌∙◌}
+use Rattle.std.proofs.Common.{subst, inl, inr, ◌⊎◌, slice_get, arith}
 use Rattle.std.proofs.lemmas.Bool.{cases_eq}
 use Rattle.std.proofs.lemmas.List.Elements.{All-head, All-tail, All-contains}
 use Rattle.rv64_instr.specs.declared.operand.Operand.{Operand}
-use Rattle.rv64_instr.specs.Row.{Row, Fixes, Moves, Sets, Loads, Stores, LoadsSlot, StoresSlot, Branches, Jumps, Calls, Returns, Unfit, row_of}
+use Rattle.rv64_instr.specs.Row.{Row, Fixes, Jumps, row_of}
 use Rattle.mir_func.specs.declared.position.Pos.{Pos}
 use Rattle.mir_func.specs.declared.block.Block.{Block}
 use Rattle.mir_func.specs.declared.item.Item.{Item}
@@ -11,12 +12,14 @@ use Rattle.mir_func.specs.declared.item.ItemKind.{ItemKind}
 use Rattle.mir_func.specs.declared.item.ItemKind.TheVariants.{Code, Mark, Phi}
 use Rattle.mir_func.specs.Sound.{AreApart, ids_of, items_of, number_of, code_number, OriginIn}
 use Rattle.mir_meaning.specs.State.{Core, State, updated}
-use Rattle.mir_meaning.specs.Step.{Outcome, Falls, Goes, Gives, Traps, Asks, Breaks, act, does, with_core, is_call, numbered, given, defined, place_value, do_item}
+use Rattle.mir_meaning.specs.Step.{Outcome, Falls, Goes, Gives, Traps, Asks, Breaks, act, does, with_core, is_call, numbered, given, defined, place_value}
+use Rattle.mir_meaning.specs.Step.{do_item}
 use Rattle.mir_func.specs.Graph.{Program, block_start}
 use Rattle.mir_func.specs.Graph.{from_block, index_of, program_of}
 use Rattle.mir_meaning.specs.Align.{is_code, is_jump, is_jump_row, Count, end_station, station_at, IsOrigin, Since, After, AnyOrigin, RunsAlong}
 use Rattle.mir_meaning.specs.Follow.{InOrder}
-use Rattle.simulation.specs.InPlace.{FallsOrTraps, since_item, DoAlike, View, ended, both, taken, paired, InPlace}
+use Rattle.simulation.specs.Sides.{Sides, Relation, since_item}
+use Rattle.simulation.specs.InPlace.{FallsOrTraps, DoAlike, View, ended, both, taken, paired, InPlace}
 use Rattle.mir_meaning.proofs.Effects.{told_by, act_apart}
 use Rattle.mir_meaning.specs.Effects.{EndAlike, OnCore}
 use Rattle.mir_meaning.proofs.Places.{updated_other}
@@ -41,17 +44,7 @@ nop_is_code (Phi p n) e = cc
 
 no_jump_row : (r : Row) → is_nop_row r ≡ true → is_jump_row r ≡ false
 no_jump_row (Jumps t) e = cc
-no_jump_row (Fixes rd n) e = refl
-no_jump_row (Moves rd rs) e = cc
-no_jump_row (Sets rd op a b) e = cc
-no_jump_row (Loads rd op b o) e = cc
-no_jump_row (Stores op rs b o) e = cc
-no_jump_row (LoadsSlot rd n) e = cc
-no_jump_row (StoresSlot rs n) e = cc
-no_jump_row (Branches op a b t) e = cc
-no_jump_row (Calls n a) e = cc
-no_jump_row (Returns v) e = cc
-no_jump_row Unfit e = cc
+no_jump_row _ e = refl
 
 no_jump : (k : ItemKind) → is_nop k ≡ true → is_jump k ≡ false
 no_jump (Code i n) e = no_jump_row (row_of i) e
@@ -94,7 +87,8 @@ module _ (busy : Bool) (blocks : List Block) (resolve : ℕ → ℕ → Option (
   none_after : (n : ℕ) (v : ℕ → Option ℕ) (d : Core) → HasNone d → (IsGone n → ⊥) → (k o : ℕ) → IsGone k → updated n v d.pairs k o ≡ None
   none_after n v d h far k o gone = ap (λ (z : ℕ → Option ℕ). z o) (updated_other n k v d.pairs (λ e. far (subst IsGone e gone))) ∙ h k o gone
 
-  none_numbered : (call : Bool) (n : Option ℕ) (os : List Operand) (d : Core) → HasNone d → ((k : ℕ) → n ≡ Some k → IsGone k → ⊥) → HasNone (numbered false call n os d)
+  none_numbered : (call : Bool) (n : Option ℕ) (os : List Operand) (d : Core) → HasNone d → ((k : ℕ) → n ≡ Some k → IsGone k → ⊥) →
+      HasNone (numbered false call n os d)
   none_numbered call None os d h far = h
   none_numbered call (Some n) os d h far = none_after n _ d h (far n refl)
 
@@ -117,7 +111,8 @@ module _ (busy : Bool) (blocks : List Block) (resolve : ℕ → ℕ → Option (
   item_kin x c d h far = alike_and TellsLess HasNone (do_item f x c) (do_item g x d) (item_less f g sees_same x c d h.0) (none_kept x d h.1 far)
 
   -- a no-operation leaves all but the pairs of its number
-  pub nop_kin : (may : Type 0) (x : ItemKind) (c d : Core) → is_nop x ≡ true → Kin c d → ((k : ℕ) → code_number x ≡ Some k → IsGone k) → FallsOrTraps may (λ e. Kin e d) (do_item f x c)
+  pub nop_kin : (may : Type 0) (x : ItemKind) (c d : Core) → is_nop x ≡ true → Kin c d → ((k : ℕ) → code_number x ≡ Some k → IsGone k) →
+      FallsOrTraps may (λ e. Kin e d) (do_item f x c)
   nop_kin may (Mark v m) c d e h gone = cc
   nop_kin may (Phi p n) c d e h gone = cc
   nop_kin may (Code i n) c d e h gone = by_row (row_of i) e where
@@ -148,40 +143,50 @@ module _ (busy : Bool) (blocks : List Block) (resolve : ℕ → ℕ → Option (
     abbrev rg : Pos → List Item
     rg = rest_of (thinned_blocks busy blocks)
 
-    abbrev S : ℕ → List Item → List Item → Type 0
-    S b xs ys = (ys ≡ filter (stays busy) xs) × All (IsSteady ct) xs
+    abbrev sides : Sides
+    sides = record { old = record { program = f; rest = rf; start = s0 }; new = record { program = g; rest = rg; start = s0 } }
 
-    abbrev Q : ℕ → List Item → List Item → Core → Core → Type 0
-    Q b xs ys c d = Kin c d
+    abbrev relation : Relation
+    relation = record {
+      Stage = Unit {0};
+      entry = λ n. tt;
+      Rests = λ k b xs ys. (ys ≡ filter (stays busy) xs) × All (IsSteady ct) xs;
+      Cores = λ k b xs ys c d. Kin c d;
+    }
 
-    alike_do : (b : ℕ) (xs ys : List Item) (m : Since) (o p : Outcome) → ((c' : Core) (n : ℕ) → o ≡ Goes n c' → m ≡ After) → EndAlike Kin o p → DoAlike ct src f g s0 rf rg S Q b xs ys m o p
+    alike_do : (b : ℕ) (xs ys : List Item) (m : Since) (o p : Outcome) → ((c' : Core) (n : ℕ) → o ≡ Goes n c' → m ≡ After) → EndAlike Kin o p →
+        DoAlike ct src sides relation b xs ys m tt o p
     alike_do b xs ys m (Falls c) (Falls d) go h = h
-    alike_do b xs ys m (Goes j c) (Goes k d) go h = (h.0, go c j refl, h.1)
+    alike_do b xs ys m (Goes j c) (Goes k d) go h = (h.0, (go c j refl, h.1))
     alike_do b xs ys m (Gives v) (Gives w) go h = h
     alike_do b xs ys m Traps Traps go h = tt
     alike_do b xs ys m Asks Asks go h = tt
     alike_do b xs ys m Breaks Breaks go h = tt
     alike_do b xs ys m _ _ go h = absurd h
 
-    debug_falls : (x : ItemKind) → is_code x ≡ false → (c d : Core) → EndAlike Kin (do_item f x c) (do_item g x d) → (e e' : Core) × (do_item f x c ≡ Falls e) × (do_item g x d ≡ Falls e') × Kin e e'
+    debug_falls : (x : ItemKind) → is_code x ≡ false → (c d : Core) → EndAlike Kin (do_item f x c) (do_item g x d) →
+        (e e' : Core) × (do_item f x c ≡ Falls e) × (do_item g x d ≡ Falls e') × Kin e e'
     debug_falls (Code i n) e c d h = cc
     debug_falls (Mark v m) e c d h = (_, _, refl, refl, h)
     debug_falls (Phi p n) e c d h = (_, _, refl, refl, h)
 
     view_at : (b : ℕ) (x : Item) (xs : List Item) → IsSteady ct x → All (IsSteady ct) xs → (z : Bool) → stays busy x ≡ z →
-        View ct src f g s0 rf rg S Q b (x ∷ xs) (cond z (x ∷ filter (stays busy) xs) (filter (stays busy) xs))
+        View ct src sides relation b tt (x ∷ xs) (cond z (x ∷ filter (stays busy) xs) (filter (stays busy) xs))
     view_at b x xs s rest true k = by_code (is_code x.kind) refl where
-      by_code : (z : Bool) → is_code x.kind ≡ z → View ct src f g s0 rf rg S Q b (x ∷ xs) (x ∷ filter (stays busy) xs)
-      by_code true code = both code code refl refl (refl, rest) (λ c d h. alike_do b xs (filter (stays busy) xs) (since_item ct x) (do_item f x.kind c) (do_item g x.kind d) (λ c' n e. s.moves c c' n e) (item_kin x.kind c d h (s.own k)))
-      by_code false code = paired code code (refl, rest) (λ c d h. debug_falls x.kind code c d (item_kin x.kind c d h (s.own k)))
+      by_code : (z : Bool) → is_code x.kind ≡ z → View ct src sides relation b tt (x ∷ xs) (x ∷ filter (stays busy) xs)
+      by_code true code = both {k' = tt} code code refl refl (refl, rest)
+          (λ c d h. alike_do b xs (filter (stays busy) xs) (since_item ct x) (do_item f x.kind c) (do_item g x.kind d) (λ c' n e. s.moves c c' n e)
+          (item_kin x.kind c d h (s.own k)))
+      by_code false code = paired {k' = tt} code code (refl, rest) (λ c d h. debug_falls x.kind code c d (item_kin x.kind c d h (s.own k)))
     view_at b x xs s rest false k =
         let nop : is_nop x.kind ≡ true = out_is busy (is_nop x.kind) k in
-        taken (nop_is_code x.kind nop) (moves_on_less ct x.kind (no_jump x.kind nop)) (refl, rest) (λ c d h. nop_kin _ x.kind c d nop h (s.gone k))
+        taken {k' = tt} (nop_is_code x.kind nop) (moves_on_less ct x.kind (no_jump x.kind nop)) (refl, rest) (λ c d h. nop_kin _ x.kind c d nop h (s.gone k))
 
-    view : (b : ℕ) (xs ys : List Item) → S b xs ys → View ct src f g s0 rf rg S Q b xs ys
-    view b [] ys (e, steady) = subst (View ct src f g s0 rf rg S Q b []) (sym e) ended
-    view b (x ∷ xs) ys (e, steady) =
-        subst (View ct src f g s0 rf rg S Q b (x ∷ xs)) (sym e) (view_at b x xs (All-head (IsSteady ct) x xs steady) (All-tail (IsSteady ct) x xs steady) (stays busy x) refl)
+    view : (k : Unit {0}) (b : ℕ) (xs ys : List Item) → relation.Rests k b xs ys → View ct src sides relation b tt xs ys
+    view k b [] ys (e, steady) = subst (View ct src sides relation b tt []) (sym e) ended
+    view k b (x ∷ xs) ys (e, steady) =
+        subst (View ct src sides relation b tt (x ∷ xs)) (sym e)
+        (view_at b x xs (All-head (IsSteady ct) x xs steady) (All-tail (IsSteady ct) x xs steady) (stays busy x) refl)
 
     rest_steady : All (λ (b : Block). All (IsSteady ct) b.items) blocks → (n : ℕ) → All (IsSteady ct) (rf (block_start n))
     rest_steady h n = by_blocks (from_block blocks n) refl where
@@ -189,7 +194,8 @@ module _ (busy : Bool) (blocks : List Block) (resolve : ℕ → ℕ → Option (
       by_blocks [] e = none where
         none : All (IsSteady ct) []
         none k d lt = absurd (omega (arith, lt))
-      by_blocks (b ∷ bs) e = subst (All (IsSteady ct)) (sym (drop_zero b.items)) (All-contains (λ (b : Block). All (IsSteady ct) b.items) blocks b h (found_in blocks n b bs e).0)
+      by_blocks (b ∷ bs) e = subst (All (IsSteady ct)) (sym (drop_zero b.items))
+          (All-contains (λ (b : Block). All (IsSteady ct) b.items) blocks b h (found_in blocks n b bs e).0)
 
     origin_from : (p : Pos) → IsOrigin (station_at ct g) p → IsOrigin (station_at ct f) p
     origin_from p o = by_station (station_is_of ct g o.place o.station o.stands) where
@@ -199,30 +205,41 @@ module _ (busy : Bool) (blocks : List Block) (resolve : ℕ → ℕ → Option (
           record { place = w.0; station = o.station; stands = code_station ct f w.0 x w.2 code ∙ ap Some st; from = o.from }
       by_station (of_end k n at ends st) =
           let w = end_from (stays busy) false blocks resolve o.place k n at in
-          record { place = w.0; station = o.station; stands = end_is_station ct f w.0 k n w.2 ∙ ap (λ (z : ℕ). end_station ct (record { block = z; item = k })) w.1 ∙ ap (λ (z : Count). end_station z (record { block = o.place.block; item = k })) ends ∙ ap Some (sym st); from = o.from }
+          record {
+            place = w.0;
+            station = o.station;
+            stands = end_is_station ct f w.0 k n w.2 ∙ ap (λ (z : ℕ). end_station ct (record { block = z; item = k })) w.1 ∙
+                ap (λ (z : Count). end_station z (record { block = o.place.block; item = k })) ends ∙ ap Some (sym st);
+            from = o.from;
+          }
 
     -- the function without its no-operations runs along where it did
-    pub nops_run : All (λ (b : Block). All (IsSteady ct) b.items) blocks → AreApart (ids_of blocks) → All (λ (b : Block). InOrder b.id 0 b.items) blocks → All (λ (b : Block). InOrder b.id 0 b.items) (thinned_blocks busy blocks) →
-        All (λ (b : Block). All (λ (i : Item). OriginIn b i.origin) b.items) blocks → All (λ (b : Block). All (λ (i : Item). OriginIn b i.origin) b.items) (thinned_blocks busy blocks) →
+    pub nops_run : All (λ (b : Block). All (IsSteady ct) b.items) blocks → AreApart (ids_of blocks) → All (λ (b : Block). InOrder b.id 0 b.items) blocks →
+        All (λ (b : Block). InOrder b.id 0 b.items) (thinned_blocks busy blocks) →
+        All (λ (b : Block). All (λ (i : Item). OriginIn b i.origin) b.items) blocks →
+        All (λ (b : Block). All (λ (i : Item). OriginIn b i.origin) b.items) (thinned_blocks busy blocks) →
         s0.pos.item ≡ 0 → Kin s0.core s0.core →
         RunsAlong src f (station_at ct f) (AnyOrigin (station_at ct f)) s0 s0 → RunsAlong src g (station_at ct g) (AnyOrigin (station_at ct g)) s0 s0
-    nops_run steady apart ordered ordered' origins origins' first kin runs = in_place_follows S Q ct src f g rf rg (index_of blocks) s0 in_place first kin runs where
-      in_place : InPlace ct src f g s0 rf rg S Q (index_of blocks)
-      in_place = record {
-        laid_f = laid_out false blocks resolve;
-        laid_g = laid_out false (thinned_blocks busy blocks) resolve;
-        enter_f = λ n. refl;
-        enter_g = λ n. refl;
-        view = view;
-        starts = λ n. (rest_thin (stays busy) false blocks resolve n, rest_steady steady n);
-        order_f = in_order_at false blocks resolve ordered;
-        order_g = in_order_at false (thinned_blocks busy blocks) resolve ordered';
-        home = from_home false (thinned_blocks busy blocks) resolve origins';
-        within = from_within false (thinned_blocks busy blocks) resolve origins';
-        within_f = λ q e x k n at ends same. (let w = end_from (stays busy) false blocks resolve e k n ends in from_before_end false blocks resolve origins q w.0 x k n at w.2 (same ∙ sym w.1));
-        one_end = one_end false (thinned_blocks busy blocks) resolve;
-        origins = origin_from;
-        onward = λ p q k n same none none' ends. (let there = end_there (stays busy) false blocks resolve p q k n same none ends in (there, falls_down false blocks resolve apart p k n there));
-        ends = λ b n c d h. h;
-        shows = λ b xs ys c d h. record { events = ap (λ (z : Core). z.events) (sym h.0.same); told = h.0.marks };
-      }
+    nops_run steady apart ordered ordered' origins origins' first kin runs =
+        in_place_follows relation ct src sides (index_of blocks) in_place first refl kin runs where
+          in_place : InPlace ct src sides relation (index_of blocks)
+          in_place = record {
+            laid_f = laid_out false blocks resolve;
+            laid_g = laid_out false (thinned_blocks busy blocks) resolve;
+            enter_f = λ n. refl;
+            enter_g = λ n. refl;
+            view = view;
+            starts = λ n. (rest_thin (stays busy) false blocks resolve n, rest_steady steady n);
+            order_f = in_order_at false blocks resolve ordered;
+            order_g = in_order_at false (thinned_blocks busy blocks) resolve ordered';
+            home = from_home false (thinned_blocks busy blocks) resolve origins';
+            within = from_within false (thinned_blocks busy blocks) resolve origins';
+            within_f = λ q e x k n at ends same. (let w = end_from (stays busy) false blocks resolve e k n ends in
+                from_before_end false blocks resolve origins q w.0 x k n at w.2 (same ∙ sym w.1));
+            one_end = one_end false (thinned_blocks busy blocks) resolve;
+            origins = origin_from;
+            onward = λ p q k n same none none' ends.
+                (let there = end_there (stays busy) false blocks resolve p q k n same none ends in (there, falls_down false blocks resolve apart p k n there));
+            ends = λ k p j n c d at fetch s h. h;
+            shows = λ k b xs ys c d h. record { events = ap (λ (z : Core). z.events) (sym h.0.same); told = h.0.marks };
+          }

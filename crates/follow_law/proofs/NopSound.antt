@@ -1,18 +1,20 @@
 -- A function without its no-operations is a function still.
-use Rattle.std.proofs.Common.{◌≡◌, ℕ, ◌<◌, ◌≤◌, List, [], ◌∷◌, ◌++◌, map, filter, length, All, Some, Bool, true, false, cond, slice_get, get_or, refl, sym, ap, ◌∙◌, subst, inl, inr, arith}
+use Rattle.std.proofs.Common.{◌≡◌, ℕ, ◌<◌, ◌≤◌, List, [], ◌∷◌, ◌++◌, map, filter, length, All, Some, Bool, true, false, cond, slice_get, get_or, refl, sym, ap}
+use Rattle.std.proofs.Common.{◌∙◌, subst, inl, inr, arith}
 use Rattle.std.proofs.lemmas.Bool.{cases_order}
 use Rattle.std.proofs.lemmas.List.{length-map}
 use Rattle.std.proofs.lemmas.List.Elements.{filter-append, All-weaker, All-map}
 use Rattle.std.proofs.lemmas.List.Kept.{AllPairs-filter}
 use Rattle.std.proofs.lemmas.Option.{slice_get-get_or, get_or_from_slice_get}
 use Rattle.std.specs.Prelude.{AllPairs}
-use Rattle.rv64_instr.specs.Row.{Row, Fixes, Moves, Sets, Loads, Stores, LoadsSlot, StoresSlot, Branches, Jumps, Calls, Returns, Unfit, row_of}
+use Rattle.rv64_instr.specs.Row.{Row, Fixes, row_of}
 use Rattle.mir_func.specs.declared.block.Block.{Block}
 use Rattle.mir_func.specs.declared.item.Item.{Item}
 use Rattle.mir_func.specs.declared.item.ItemKind.{ItemKind}
 use Rattle.mir_func.specs.declared.item.ItemKind.TheVariants.{Code, Mark, Phi}
 use Rattle.mir_func.specs.Function.{Function}
-use Rattle.mir_func.specs.Sound.{AreApart, ids_of, items_of, number_of, code_number, NumbersOnce, OriginIn, TargetsIn, SlotsIn, LeavesPointer, Exit, Onward, Perhaps, Always, Final, row_exit, exit_of, IsJumpAtMost, MayFollow, EndsWell, Closes, LastCloses, IsSound}
+use Rattle.mir_func.specs.Sound.{AreApart, ids_of, items_of, number_of, code_number, NumbersOnce, OriginIn, TargetsIn, SlotsIn, LeavesPointer, Exit, Onward}
+use Rattle.mir_func.specs.Sound.{Perhaps, Always, Final, row_exit, exit_of, IsJumpAtMost, MayFollow, EndsWell, Closes, LastCloses, IsSound}
 use Rattle.mir_meaning.proofs.Reading.{within_list}
 use Rattle.follow_law.specs.Nops.{is_nop_row, is_nop, stays, thinned_blocks}
 use Rattle.follow_law.proofs.Thinning.{thin}
@@ -43,7 +45,10 @@ once_from : (xs : List Item) → AllPairs AreUnlike xs → NumbersOnce xs
 once_from xs unlike i j x y k atx cx aty ny =
     elim (cases_order i j) as (λ _. i ≡ j) [
       | inl e ↦ e
-      | inr ne ↦ elim ne as (λ _. i ≡ j) [ inl lt ↦ absurd ((below i j lt aty).one k (code i x atx cx) (num j y aty ny)) | inr lt ↦ absurd ((below j i lt atx).other k (num j y aty ny) (code i x atx cx)) ]
+      | inr ne ↦ elim ne as (λ _. i ≡ j) [
+        | inl lt ↦ absurd ((below i j lt aty).one k (code i x atx cx) (num j y aty ny))
+        | inr lt ↦ absurd ((below j i lt atx).other k (num j y aty ny) (code i x atx cx))
+      ]
     ] where
       below : (i j : ℕ) → i < j → {z : Item} → slice_get xs j ≡ Some z → AreUnlike (get_or xs i x) (get_or xs j x)
       below i j lt {z} at = unlike i j x lt (within_list xs j z at)
@@ -58,18 +63,8 @@ once_from xs unlike i j x y k atx cx aty ny =
 leaving_stays : (k : ItemKind) (e : Exit) → exit_of k ≡ e → (e ≡ Onward → ⊥) → is_nop k ≡ false
 leaving_stays (Code i n) e h ne = by_row (row_of i) h where
   by_row : (r : Row) → row_exit r ≡ e → is_nop_row r ≡ false
-  by_row (Branches op a b t) h = refl
-  by_row (Jumps t) h = refl
-  by_row (Returns v) h = refl
   by_row (Fixes rd n) h = absurd (ne (sym h))
-  by_row (Moves rd rs) h = refl
-  by_row (Sets rd op a b) h = refl
-  by_row (Loads rd op b o) h = refl
-  by_row (Stores op rs b o) h = refl
-  by_row (LoadsSlot rd n) h = refl
-  by_row (StoresSlot rs n) h = refl
-  by_row (Calls n a) h = refl
-  by_row Unfit h = refl
+  by_row _ h = refl
 leaving_stays (Mark v m) e h ne = refl
 leaving_stays (Phi p m) e h ne = refl
 
@@ -101,7 +96,8 @@ module _ (busy : Bool) where
 
   closes_thin : (xs : List Item) → Closes xs → Closes (filter keep xs)
   closes_thin [] h = absurd h
-  closes_thin (x ∷ []) h = subst Closes (sym (alone x (elim h as (λ _. is_nop x.kind ≡ false) [ inl e ↦ leaving_stays x.kind Always e (λ k. cc) | inr e ↦ leaving_stays x.kind Final e (λ k. cc) ]))) h
+  closes_thin (x ∷ []) h = subst Closes (sym
+      (alone x (elim h as (λ _. is_nop x.kind ≡ false) [ inl e ↦ leaving_stays x.kind Always e (λ k. cc) | inr e ↦ leaving_stays x.kind Final e (λ k. cc) ]))) h
   closes_thin (x ∷ y ∷ rest) h = by_test (keep x) (closes_thin (y ∷ rest) h) where
     by_test : (z : Bool) → Closes (filter keep (y ∷ rest)) → Closes (cond z (x ∷ filter keep (y ∷ rest)) (filter keep (y ∷ rest)))
     by_test true k = closes_more x (filter keep (y ∷ rest)) k
@@ -112,7 +108,7 @@ module _ (busy : Bool) where
   last_thin (b ∷ []) h = closes_thin b.items h
   last_thin (b ∷ c ∷ rest) h = last_thin (c ∷ rest) h
 
-  pub sound_thin : (f : Function) → IsSound f → IsSound (record { name = f.name; slots = f.slots; blocks = thinned_blocks busy f.blocks })
+  pub sound_thin : (f : Function) → IsSound f → IsSound (record f { blocks = thinned_blocks busy f.blocks })
   sound_thin f s =
       let new : List Block = thinned_blocks busy f.blocks in
       let ids : ids_of new ≡ ids_of f.blocks = ids_thin keep f.blocks in
@@ -121,11 +117,14 @@ module _ (busy : Bool) where
         slots_apart = s.slots_apart;
         few_blocks = subst (λ (n : ℕ). n ≤ 1024) (sym (length-map f.blocks (thin keep))) s.few_blocks;
         few_slots = s.few_slots;
-        targets = subst (λ (ns : List ℕ). All (λ (b : Block). All (λ (i : Item). TargetsIn ns i.kind) b.items) new) (sym ids) (each_left keep (λ b i. TargetsIn (ids_of f.blocks) i.kind) (λ b i. TargetsIn (ids_of f.blocks) i.kind) (λ b i h. h) f.blocks s.targets);
+        targets = subst (λ (ns : List ℕ). All (λ (b : Block). All (λ (i : Item). TargetsIn ns i.kind) b.items) new) (sym ids)
+            (each_left keep (λ b i. TargetsIn (ids_of f.blocks) i.kind) (λ b i. TargetsIn (ids_of f.blocks) i.kind) (λ b i h. h) f.blocks s.targets);
         slots = each_left keep (λ b i. SlotsIn f.slots i.kind) (λ b i. SlotsIn f.slots i.kind) (λ b i h. h) f.blocks s.slots;
         pointer = each_left keep (λ b i. LeavesPointer i.kind) (λ b i. LeavesPointer i.kind) (λ b i h. h) f.blocks s.pointer;
-        numbers = once_from (items_of new) (subst (λ (xs : List Item). AllPairs AreUnlike xs) (sym (items_thin keep f.blocks)) (AllPairs-filter AreUnlike keep (items_of f.blocks) (unlike_from (items_of f.blocks) s.numbers)));
+        numbers = once_from (items_of new) (subst (λ (xs : List Item). AllPairs AreUnlike xs) (sym (items_thin keep f.blocks))
+            (AllPairs-filter AreUnlike keep (items_of f.blocks) (unlike_from (items_of f.blocks) s.numbers)));
         origins = each_left keep (λ b i. OriginIn b i.origin) (λ b i. OriginIn b i.origin) (λ b i h. origin_thin keep b i.origin h) f.blocks s.origins;
-        ends = All-map (λ (b : Block). EndsWell b.items) (thin keep) f.blocks (All-weaker (λ (b : Block). EndsWell b.items) (λ (b : Block). EndsWell (filter keep b.items)) (λ b h. ends_thin b.items h) f.blocks s.ends);
+        ends = All-map (λ (b : Block). EndsWell b.items) (thin keep) f.blocks
+            (All-weaker (λ (b : Block). EndsWell b.items) (λ (b : Block). EndsWell (filter keep b.items)) (λ b h. ends_thin b.items h) f.blocks s.ends);
         last = last_thin f.blocks s.last;
       }

@@ -32,7 +32,8 @@ module _ (keep : Item → Bool) where
   pub from_thin : (bs : List Block) (n : ℕ) → from_block (map thin bs) n ≡ map thin (from_block bs n)
   from_thin [] n = refl
   from_thin (b ∷ bs) n = by_test (nat_eq b.id n) (from_thin bs n) where
-    by_test : (z : Bool) → from_block (map thin bs) n ≡ map thin (from_block bs n) → cond z (map thin (b ∷ bs)) (from_block (map thin bs) n) ≡ map thin (cond z (b ∷ bs) (from_block bs n))
+    by_test : (z : Bool) → from_block (map thin bs) n ≡ map thin (from_block bs n) →
+        cond z (map thin (b ∷ bs)) (from_block (map thin bs) n) ≡ map thin (cond z (b ∷ bs) (from_block bs n))
     by_test true h = refl
     by_test false h = h
 
@@ -50,7 +51,8 @@ module _ (keep : Item → Bool) where
   further x xs y s = record { index = suc s.index; rest = s.rest; at = s.at }
 
   -- what is left stood somewhere, and passes
-  from_step : (z : Bool) (x : Item) (xs ys : List Item) (n : ℕ) (y : Item) (more : List Item) → keep x ≡ z → ((m : ℕ) → drop m ys ≡ y ∷ more → Stands xs y × (keep y ≡ true)) →
+  from_step : (z : Bool) (x : Item) (xs ys : List Item) (n : ℕ) (y : Item) (more : List Item) → keep x ≡ z →
+      ((m : ℕ) → drop m ys ≡ y ∷ more → Stands xs y × (keep y ≡ true)) →
       drop n (cond z (x ∷ ys) ys) ≡ y ∷ more → Stands (x ∷ xs) y × (keep y ≡ true)
   from_step true x xs ys zero y more k rec h = let w : x ≡ y = cc in (record { index = 0; rest = xs; at = λ i. w i ∷ xs }, ap keep (sym w) ∙ k)
   from_step true x xs ys (suc n) y more k rec h = let r = rec n h in (further x xs y r.0, r.1)
@@ -62,7 +64,8 @@ module _ (keep : Item → Bool) where
   left_from (x ∷ xs) n y more e = from_step (keep x) x xs (filter keep xs) n y more refl (λ m h. left_from xs m y more h) e
 
   -- what passes is still somewhere
-  to_step : (z : Bool) (y : Item) (ys zs : List Item) (m : ℕ) (x : Item) (more : List Item) → keep y ≡ z → keep x ≡ true → ((n : ℕ) → drop n ys ≡ x ∷ more → Stands zs x) →
+  to_step : (z : Bool) (y : Item) (ys zs : List Item) (m : ℕ) (x : Item) (more : List Item) → keep y ≡ z → keep x ≡ true →
+      ((n : ℕ) → drop n ys ≡ x ∷ more → Stands zs x) →
       drop m (y ∷ ys) ≡ x ∷ more → Stands (cond z (y ∷ zs) zs) x
   to_step true y ys zs zero x more z k rec h = let w : y ≡ x = cc in record { index = 0; rest = zs; at = λ i. w i ∷ zs }
   to_step true y ys zs (suc m) x more z k rec h = further y zs x (rec m h)
@@ -84,12 +87,18 @@ module _ (keep : Item → Bool) where
     -- an item that is left stood in its block, and one that passes is left there
     pub item_from : (q : Pos) (y : Item) → g.fetch q ≡ Here y → (p : Pos) × (p.block ≡ q.block) × (f.fetch p ≡ Here y) × (keep y ≡ true)
     item_from q y e = by_blocks (from_block blocks q.block) refl (ap (λ (bs : List Block). fetch_in bs q.item) (sym (from_thin blocks q.block)) ∙ e) where
-      by_blocks : (bs : List Block) → from_block blocks q.block ≡ bs → fetch_in (map thin bs) q.item ≡ Here y → (p : Pos) × (p.block ≡ q.block) × (f.fetch p ≡ Here y) × (keep y ≡ true)
+      by_blocks : (bs : List Block) → from_block blocks q.block ≡ bs → fetch_in (map thin bs) q.item ≡ Here y →
+          (p : Pos) × (p.block ≡ q.block) × (f.fetch p ≡ Here y) × (keep y ≡ true)
       by_blocks [] h k = cc
       by_blocks (b ∷ bs) h k =
           let t = first_of_front (drop q.item (filter keep b.items)) b.silent (map thin bs) y k in
-          let s = left_from b.items q.item y t.0 t.1 in
-          (record { block = q.block; item = s.0.index }, refl, ap (λ (x : List Block). fetch_in x s.0.index) h ∙ ap (λ (x : List Item). front x b.silent bs) s.0.at, s.1)
+          let s = left_from b.items q.item y t.0 t.1 in (
+            record { block = q.block; item = s.0.index },
+            refl,
+            ap (λ (x : List Block). fetch_in x s.0.index) h ∙
+                ap (λ (x : List Item). front x b.silent bs) s.0.at,
+            s.1,
+          )
 
     pub item_to : (p : Pos) (x : Item) → keep x ≡ true → f.fetch p ≡ Here x → (q : Pos) × (q.block ≡ p.block) × (g.fetch q ≡ Here x)
     item_to p x k e = by_blocks (from_block blocks p.block) refl e where
@@ -97,28 +106,38 @@ module _ (keep : Item → Bool) where
       by_blocks [] h e = cc
       by_blocks (b ∷ bs) h e =
           let t = first_of_front (drop p.item b.items) b.silent bs x e in
-          let s = left_to b.items p.item x t.0 k t.1 in
-          (record { block = p.block; item = s.index }, refl, ap (λ (z : List Block). fetch_in z s.index) (from_thin blocks p.block ∙ ap (map thin) h) ∙ ap (λ (z : List Item). front z b.silent (map thin bs)) s.at)
+          let s = left_to b.items p.item x t.0 k t.1 in (
+            record { block = p.block; item = s.index },
+            refl,
+            ap (λ (z : List Block). fetch_in z s.index) (from_thin blocks p.block ∙ ap (map thin) h) ∙
+                ap (λ (z : List Item). front z b.silent (map thin bs)) s.at,
+          )
 
     -- a block's end is where it was
     pub end_from : (q : Pos) (k n : ℕ) → g.fetch q ≡ Silent k n → (p : Pos) × (p.block ≡ q.block) × (f.fetch p ≡ Silent k n)
     end_from q k n e = by_blocks (from_block blocks q.block) refl (ap (λ (bs : List Block). fetch_in bs q.item) (sym (from_thin blocks q.block)) ∙ e) where
-      by_blocks : (bs : List Block) → from_block blocks q.block ≡ bs → fetch_in (map thin bs) q.item ≡ Silent k n → (p : Pos) × (p.block ≡ q.block) × (f.fetch p ≡ Silent k n)
+      by_blocks : (bs : List Block) → from_block blocks q.block ≡ bs → fetch_in (map thin bs) q.item ≡ Silent k n →
+          (p : Pos) × (p.block ≡ q.block) × (f.fetch p ≡ Silent k n)
       by_blocks [] h e = cc
       by_blocks (b ∷ bs) h e =
-          let t = none_of_front (drop q.item (filter keep b.items)) b.silent (map thin bs) k n e in
-          (record { block = q.block; item = length b.items }, refl, ap (λ (x : List Block). fetch_in x (length b.items)) h ∙ ap (λ (x : List Item). front x b.silent bs) (drop_all b.items) ∙ sym (end_thin b.silent bs) ∙ t.1)
+          let t = none_of_front (drop q.item (filter keep b.items)) b.silent (map thin bs) k n e in (
+            record { block = q.block; item = length b.items },
+            refl,
+            ap (λ (x : List Block). fetch_in x (length b.items)) h ∙
+                ap (λ (x : List Item). front x b.silent bs) (drop_all b.items) ∙ sym (end_thin b.silent bs) ∙ t.1,
+          )
 
     -- past the items of a block f stands where g does
     pub end_there : (p q : Pos) (k n : ℕ) → p.block ≡ q.block → rest_of blocks p ≡ [] → g.fetch q ≡ Silent k n → f.fetch p ≡ Silent k n
-    end_there p q k n same none e = by_blocks (from_block blocks q.block) refl (ap (λ (bs : List Block). fetch_in bs q.item) (sym (from_thin blocks q.block)) ∙ e) where
-      by_blocks : (bs : List Block) → from_block blocks q.block ≡ bs → fetch_in (map thin bs) q.item ≡ Silent k n → f.fetch p ≡ Silent k n
-      by_blocks [] h e = cc
-      by_blocks (b ∷ bs) h e =
-          let t = none_of_front (drop q.item (filter keep b.items)) b.silent (map thin bs) k n e in
-          let at : from_block blocks p.block ≡ b ∷ bs = ap (from_block blocks) same ∙ h in
-          let r : drop p.item b.items ≡ [] = ap (λ (x : List Block). rest_in x p.item) (sym at) ∙ none in
-          ap (λ (x : List Block). fetch_in x p.item) at ∙ ap (λ (x : List Item). front x b.silent bs) r ∙ sym (end_thin b.silent bs) ∙ t.1
+    end_there p q k n same none e = by_blocks (from_block blocks q.block) refl
+        (ap (λ (bs : List Block). fetch_in bs q.item) (sym (from_thin blocks q.block)) ∙ e) where
+          by_blocks : (bs : List Block) → from_block blocks q.block ≡ bs → fetch_in (map thin bs) q.item ≡ Silent k n → f.fetch p ≡ Silent k n
+          by_blocks [] h e = cc
+          by_blocks (b ∷ bs) h e =
+              let t = none_of_front (drop q.item (filter keep b.items)) b.silent (map thin bs) k n e in
+              let at : from_block blocks p.block ≡ b ∷ bs = ap (from_block blocks) same ∙ h in
+              let r : drop p.item b.items ≡ [] = ap (λ (x : List Block). rest_in x p.item) (sym at) ∙ none in
+              ap (λ (x : List Block). fetch_in x p.item) at ∙ ap (λ (x : List Item). front x b.silent bs) r ∙ sym (end_thin b.silent bs) ∙ t.1
 
     -- a block starts with what passes of its items
     pub rest_thin : (n : ℕ) → rest_of (map thin blocks) (block_start n) ≡ filter keep (rest_of blocks (block_start n))

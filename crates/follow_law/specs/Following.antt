@@ -1,11 +1,20 @@
 -- The first law of passes: what followed a source follows it still.
 use Rattle.std.specs.Prelude.{List, Bool, IsTrue}
+use Rattle.rv64_instr.specs.Form.{has_form}
+use Rattle.mir_func.specs.declared.item.ItemKind.{ItemKind}
+use Rattle.mir_func.specs.declared.item.ItemKind.TheVariants.{Code, Mark, Phi}
 use Rattle.mir_func.specs.declared.entry.Entry.{Entry}
 use Rattle.mir_func.specs.Function.{Function}
-use Rattle.mir_func.specs.Sound.{IsSound}
+use Rattle.mir_func.specs.Sound.{AllItems, IsSound}
 use Rattle.mir_func.specs.Resolve.{resolve}
 use Rattle.mir_meaning.specs.Follow.{Follows, HasWholeEnds, IsRead}
 use Rattle.follow_law.specs.Change.{Change}
+
+-- code whose operands have the form of its opcode
+abbrev pub HasForm : ItemKind → Type 0
+HasForm (Code i k) = IsTrue (has_form i.op i.operands)
+HasForm (Mark v m) = Unit {0}
+HasForm (Phi p k) = Unit {0}
 
 -- a source: a function as it was read, with its substitutions
 pub record Source : Type 0 where
@@ -13,6 +22,7 @@ pub record Source : Type 0 where
   pub subs : List Entry
   pub sound : IsSound function
   pub read : IsRead function.blocks
+  pub form : AllItems (λ i. HasForm i.kind) function.blocks
 
 -- the function with its substitutions follows the source
 abbrev pub FollowsSource : Source → Function → List Entry → Type 0
@@ -25,5 +35,6 @@ EndsAsSource src f subs = HasWholeEnds src.function.blocks f.blocks (resolve src
 -- of whatever source the function followed, with whole ends if the pass asks for them, it follows that source still; and if
 -- the pass keeps whole ends, they are whole still
 pub record KeepsFollowing (asks keeps : Bool) (c : Change) : Type 0 where
-  pub follows : (src : Source) → FollowsSource src c.old c.old_subs → (IsTrue asks → EndsAsSource src c.old c.old_subs) → FollowsSource src c.new c.new_subs
+  pub follows : (src : Source) → FollowsSource src c.old c.old_subs → (IsTrue asks → EndsAsSource src c.old c.old_subs) →
+      FollowsSource src c.new c.new_subs
   pub ends : IsTrue keeps → (src : Source) → FollowsSource src c.old c.old_subs → EndsAsSource src c.old c.old_subs → EndsAsSource src c.new c.new_subs

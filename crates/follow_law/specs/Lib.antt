@@ -2,7 +2,11 @@ pub mod Change
 pub mod Following
 pub mod Code
 pub mod Order
+pub mod Rule
+pub mod Causes
 pub mod Debug
+pub mod Steps
 pub mod Sizes
 pub mod Laws
 pub mod Nops
+pub mod Tests

@@ -1,5 +1,5 @@
 -- The pass that takes out no-operations, as an example of a pass.
-use Rattle.std.specs.Prelude.{◌≡◌, ℕ, zero, List, [], map, filter, slice_get, Contains, Option, Some, None, Bool, true, false, cond, not, ◌&&◌}
+use Rattle.std.specs.Prelude.{◌≡◌, ℕ, zero, List, [], map, filter, Option, Some, None, Bool, true, false, cond, not, ◌&&◌}
 use Rattle.std.specs.List.{list_any, filter_map, flat_map}
 use Rattle.rv64_instr.specs.Row.{Row, Fixes, StoresSlot, row_of}
 use Rattle.mir_func.specs.declared.position.Pos.{Pos}
@@ -12,7 +12,9 @@ use Rattle.mir_func.specs.declared.block.Block.{Block}
 use Rattle.mir_func.specs.Function.{Function}
 use Rattle.mir_func.specs.Sound.{code_number}
 use Rattle.follow_law.specs.declared.loss.Reason.TheVariants.{Removed}
-use Rattle.follow_law.specs.Debug.{Rule, number_lost}
+use Rattle.follow_law.specs.Code.{CodeRule}
+use Rattle.follow_law.specs.Rule.{Rule, number_lost, StandsAt}
+use Rattle.follow_law.specs.Steps.{Step}
 
 -- a no-operation (RISC-V Unprivileged ISA, RV32I, "NOP Instruction"): a constant definition of x0
 abbrev pub is_nop_row : Row → Bool
@@ -48,18 +50,15 @@ thinned_blocks busy blocks = map (thinned_block busy) blocks
 
 -- the function without its no-operations
 abbrev pub thinned : Function → Function
-thinned f = record { name = f.name; slots = f.slots; blocks = thinned_blocks (has_added_saves f.blocks) f.blocks }
+thinned f = record f { blocks = thinned_blocks (has_added_saves f.blocks) f.blocks }
 
-abbrev pub IsThinned : Function → Function → Type 0
+abbrev pub IsThinned : CodeRule
 IsThinned f g = g ≡ thinned f
 
 -- the item at a place is taken out with this number
 pub record IsTaken (f : Function) (at : Pos) (k : ℕ) : Type 0 where
-  pub block : Block
   pub item : Item
-  pub member : Contains f.blocks block
-  pub id : block.id ≡ at.block
-  pub stands : slice_get block.items at.item ≡ Some item
+  pub stands : StandsAt f at item
   pub out : stays (has_added_saves f.blocks) item ≡ false
   pub number : code_number item.kind ≡ Some k
 
@@ -69,11 +68,16 @@ nop_rule = record {
   loses = λ c at loss. (k : ℕ) × IsTaken c.old at k × (loss ≡ number_lost k Removed);
   leaves = λ c r why. ⊥;
   spills = λ c r slot. ⊥;
+  renames = λ c r now. ⊥;
   numbers = λ c at k. ⊥;
   salvages = λ c at p. ⊥;
   substitutes = λ c more. more ≡ [];
   kills = λ c block kills. kills ≡ [];
 }
+
+-- its one step
+abbrev pub nop_step : Step
+nop_step = record { code = IsThinned; debug = nop_rule }
 
 -- the number of a no-operation, where it has one
 abbrev pub nop_number : ItemKind → Option ℕ

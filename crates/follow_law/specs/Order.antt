@@ -26,11 +26,14 @@ IsEarlier p q = (p.block < q.block) ⊎ ((p.block ≡ q.block) × (p.item < q.it
 -- numbers come before marks, and marks before registers
 abbrev pub ComesBefore : Lost → Lost → Type 0
 ComesBefore (Number k) (Number l) = k < l
-ComesBefore (Number k) _ = Unit {0}
+ComesBefore (Number k) (Mark q) = Unit {0}
+ComesBefore (Number k) (Register s) = Unit {0}
+ComesBefore (Mark p) (Number l) = ⊥
 ComesBefore (Mark p) (Mark q) = IsEarlier p q
-ComesBefore (Mark p) (Register r) = Unit {0}
+ComesBefore (Mark p) (Register s) = Unit {0}
+ComesBefore (Register r) (Number l) = ⊥
+ComesBefore (Register r) (Mark q) = ⊥
 ComesBefore (Register r) (Register s) = r < s
-ComesBefore _ _ = ⊥
 
 abbrev pub LossComesBefore : Loss → Loss → Type 0
 LossComesBefore a b = ComesBefore a.what b.what ⊎ ((a.what ≡ b.what) × (reason_rank a.reason < reason_rank b.reason))

@@ -1,13 +1,13 @@
 -- How far a pass may make a function grow.
-use Rattle.std.specs.Prelude.{ℕ, ◌+◌, ◌*◌, ◌<◌, ◌≤◌, max, List, [], ◌∷◌, ◌++◌, length, count_by, flat_map, Some, Bool, false, All}
+use Rattle.std.specs.Prelude.{ℕ, ◌+◌, ◌*◌, ◌<◌, ◌≤◌, max, List, [], ◌∷◌, ◌++◌, length, count_by, flat_map, Some, None, Bool, false, All}
 use Rattle.rv64_instr.specs.declared.operand.Operand.{Operand}
-use Rattle.rv64_instr.specs.declared.operand.Operand.TheVariants.{Def, Use, ImplicitDef, ImplicitUse}
-use Rattle.rv64_instr.specs.declared.place.Place.TheVariants.{Register}
+use Rattle.rv64_instr.specs.declared.operand.Operand.TheVariants.{Def, Use, ImplicitDef, ImplicitUse, Imm, Slot as OfSlot, Block as OfBlock, Symbol, Mask}
+use Rattle.rv64_instr.specs.declared.place.Place.TheVariants.{Register, Slot, Const}
 use Rattle.rv64_instr.specs.Row.{row_of}
 use Rattle.rv64_instr.specs.Parts.{is_call}
 use Rattle.mir_func.specs.declared.item.ItemKind.{ItemKind}
 use Rattle.mir_func.specs.declared.item.ItemKind.TheVariants.{Code, Mark, Phi}
-use Rattle.mir_func.specs.declared.variable.MarkValue.TheVariants.{At, Pair}
+use Rattle.mir_func.specs.declared.variable.MarkValue.TheVariants.{Nothing, Constant, At, Pair}
 use Rattle.mir_func.specs.declared.block.Block.{Block}
 use Rattle.mir_func.specs.declared.entry.Entry.{Entry}
 use Rattle.mir_func.specs.Function.{Function}
@@ -23,9 +23,12 @@ greatest (n ∷ ns) = max n (greatest ns)
 -- the debug instruction numbers that an item gives or asks for
 abbrev pub numbers_of : ItemKind → List ℕ
 numbers_of (Code i (Some k)) = k ∷ []
+numbers_of (Code i None) = []
 numbers_of (Phi p k) = k ∷ []
 numbers_of (Mark v (Pair k o)) = k ∷ []
-numbers_of _ = []
+numbers_of (Mark v Nothing) = []
+numbers_of (Mark v (Constant n)) = []
+numbers_of (Mark v (At r)) = []
 
 -- the debug instruction numbers of a function with its substitutions: on items, in marks, and on both sides of entries
 abbrev pub numbers_in : List Block → List Entry → List ℕ
@@ -42,7 +45,8 @@ code_count f = count_by (λ i. is_code i.kind) (items_of f.blocks)
 
 abbrev pub calls : ItemKind → Bool
 calls (Code i k) = is_call (row_of i)
-calls _ = false
+calls (Mark v m) = false
+calls (Phi p k) = false
 
 abbrev pub call_count : Function → ℕ
 call_count f = count_by (λ i. calls i.kind) (items_of f.blocks)
@@ -53,13 +57,22 @@ OperandIsPhysical (Def r) = r < 32
 OperandIsPhysical (Use r) = r < 32
 OperandIsPhysical (ImplicitDef r) = r < 32
 OperandIsPhysical (ImplicitUse r) = r < 32
-OperandIsPhysical _ = Unit {0}
+OperandIsPhysical (Imm i) = Unit {0}
+OperandIsPhysical (OfSlot n) = Unit {0}
+OperandIsPhysical (OfBlock n) = Unit {0}
+OperandIsPhysical (Symbol name) = Unit {0}
+OperandIsPhysical Mask = Unit {0}
 
 abbrev pub KindIsPhysical : ItemKind → Type 0
 KindIsPhysical (Code i k) = All OperandIsPhysical i.operands
 KindIsPhysical (Mark v (At r)) = r < 32
+KindIsPhysical (Mark v Nothing) = Unit {0}
+KindIsPhysical (Mark v (Constant n)) = Unit {0}
+KindIsPhysical (Mark v (Pair k o)) = Unit {0}
 KindIsPhysical (Phi (Some (Register r)) k) = r < 32
-KindIsPhysical _ = Unit {0}
+KindIsPhysical (Phi (Some (Slot n)) k) = Unit {0}
+KindIsPhysical (Phi (Some (Const n)) k) = Unit {0}
+KindIsPhysical (Phi None k) = Unit {0}
 
 -- no virtual register stands in the function
 abbrev pub IsPhysical : Function → Type 0

@@ -1,6 +1,6 @@
+//! Passes in a row: none, and one after another.
 ghost use Rattle.std.specs.Prelude.{◌≡◌, ◌++◌, ◌+◌, ◌*◌, true, false, not, ◌&&◌, ◌||◌, []};
-ghost use Rattle.follow_law.specs.Code.{IsSameCode, RewritesThen};
-ghost use Rattle.follow_law.specs.Laws.{one_same, one_then, grows_then};
+ghost use Rattle.follow_law.specs.Laws.{one_then, same_then, grows_then};
 ghost use Rattle.std.proofs.Common.{rules};
 
 use crate::loss::Losses;
@@ -24,9 +24,7 @@ impl Pass for Nothing {
 
     ghost count = { 0 };
 
-    ghost rewrites = { λ s. IsSameCode };
-
-    ghost rules = { λ s. [] };
+    ghost steps = { λ s. [] };
 
     fn run(
         &mut self,
@@ -37,7 +35,9 @@ impl Pass for Nothing {
         Ok(Losses::new(alloc))
     }
 
-    ghost one_code = { λ s. one_same };
+    ghost one_code = { λ s. tt };
+
+    ghost same_code = { λ s. tt };
 
     ghost grows = { Prim.search rules };
 }
@@ -62,9 +62,7 @@ impl<A: Pass, B: Pass> Pass for Then<A, B> {
 
     ghost count = { A.count * B.factor + B.count };
 
-    ghost rewrites = { λ s. RewritesThen (A.rewrites s.first) (B.rewrites s.second) };
-
-    ghost rules = { λ s. A.rules s.first ++ B.rules s.second };
+    ghost steps = { λ s. A.steps s.first ++ B.steps s.second };
 
     fn run(
         &mut self,
@@ -78,7 +76,9 @@ impl<A: Pass, B: Pass> Pass for Then<A, B> {
         Ok(losses)
     }
 
-    ghost one_code = { λ s. one_then (A.one_code s.first) (B.one_code s.second) };
+    ghost one_code = { λ s. one_then (A.steps s.first) _ (A.one_code s.first) (B.one_code s.second) };
+
+    ghost same_code = { λ s. same_then (A.steps s.first) _ (A.same_code s.first) (B.same_code s.second) };
 
     ghost grows = { grows_then A.factor B.factor A.grows B.grows };
 }

@@ -1,3 +1,4 @@
+//! What passes lose, and why.
 use lists::List;
 use mir_func::position::Pos;
 use rv64_instr::reg::Reg;

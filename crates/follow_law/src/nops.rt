@@ -1,13 +1,13 @@
 //! A small pass: no-operations are taken out. It is a model for the next pass.
-ghost use Rattle.std.specs.Prelude.{◌≡◌, ◌↔◌, ℕ, ◌++◌, [], ◌∷◌, true, false, map, filter, IfOk, OnOk, IsTrue, Contains};
+ghost use Rattle.std.specs.Prelude.{◌≡◌, ◌++◌, [], ◌∷◌, true, false, filter, IfOk, OnOk, IsTrue};
 ghost use Rattle.std.specs.List.{list_any};
 ghost use Rattle.rv64_instr.specs.Row.{row_of};
 ghost use Rattle.mir_func.specs.Sound.{IsSound};
-ghost use Rattle.follow_law.specs.declared.loss.Loss.{Loss};
 ghost use Rattle.follow_law.specs.Order.{IsInOrder};
-ghost use Rattle.follow_law.specs.Debug.{number_lost};
-ghost use Rattle.follow_law.specs.Laws.{one_thinned};
-ghost use Rattle.follow_law.specs.Nops.{is_nop_row, is_nop, is_added_save, has_added_saves, nop_number, nop_numbers, numbers_in_items, stays, thinned_blocks, thinned, lost_in, IsThinned, nop_rule};
+ghost use Rattle.follow_law.specs.Rule.{AreNumbersLost};
+ghost use Rattle.follow_law.specs.Laws.{one_thinned, same_thinned};
+ghost use Rattle.follow_law.specs.Nops.{is_nop_row, is_nop, is_added_save, has_added_saves, stays, thinned_blocks};
+ghost use Rattle.follow_law.specs.Nops.{thinned, nop_step, nop_number, nop_numbers, numbers_in_items, lost_in};
 ghost use Rattle.std.proofs.Common.{rules};
 
 use crate::loss::{Loss, Losses, Lost, Reason};
@@ -37,9 +37,7 @@ impl Pass for NopPass {
 
     ghost count = { 0 };
 
-    ghost rewrites = { λ s. IsThinned };
-
-    ghost rules = { λ s. nop_rule ∷ [] };
+    ghost steps = { λ s. nop_step ∷ [] };
 
     fn run(
         &mut self,
@@ -51,7 +49,9 @@ impl Pass for NopPass {
         lost_numbers(alloc, numbers, Reason::Removed)
     }
 
-    ghost one_code = { λ s. one_thinned };
+    ghost one_code = { λ s. (one_thinned, tt) };
+
+    ghost same_code = { λ s. (same_thinned, tt) };
 
     ghost grows = { Prim.search rules };
 }
@@ -169,7 +169,7 @@ fn is_nop_item(i: &Item) -> bool
 /// The losses of numbers for one reason, each once and in order.
 pub fn lost_numbers(alloc: Global, numbers: Vec<u32>, why: Reason) -> Result<Losses, AllocError>
     ensures ordered { IfOk result IsInOrder }
-    ensures each { IfOk result (λ losses. (l : Loss) → Contains losses l ↔ ((k : ℕ) × Contains numbers.items k × (l ≡ number_lost k why))) }
+    ensures each { IfOk result (AreNumbersLost numbers.items why) }
 {
     let mut numbers = numbers;
     numbers.sort_unstable();

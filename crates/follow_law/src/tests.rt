@@ -1,10 +1,12 @@
 ghost use Rattle.std.specs.Prelude.{◌≡◌, ◌+◌, ◌*◌, ◌<◌, ◌^◌, [], flat_map, IfOk};
+ghost use Rattle.follow_law.specs.Code.{SeesCodeAlone};
+ghost use Rattle.follow_law.specs.Tests.{IsWatching, NothingIsWrong};
 ghost use Rattle.follow_law.specs.Sizes.{greatest, greatest_number, most_numbers, numbers_in, numbers_of};
 
 use crate::compose::{Nothing, Then};
 use crate::loss::{Loss, Losses, Lost, Reason};
 use crate::nops::NopPass;
-use crate::pass::Pass;
+use crate::pass::{Pass, debug_items_change_no_code};
 use lists::List;
 use mir_func::block::{Block, Blocks};
 use mir_func::func::Func;
@@ -18,6 +20,16 @@ use rv64_instr::reg::physical;
 use std::alloc::{AllocError, Global};
 use std::test::Fail;
 use substitution::substitutions::Substitutions;
+
+/// A rule that sees silent indices sees where marks stood, and no pass may have it.
+fn silent_indices_are_no_code()
+    ensures { SeesCodeAlone IsWatching → ⊥ }
+{}
+
+/// Without a change no mark of a real register may be silenced.
+fn nothing_is_wrong_without_a_change()
+    ensures { NothingIsWrong }
+{}
 
 /// Runs a pass through its bound.
 fn run_pass<P: Pass>(
@@ -103,6 +115,9 @@ fn no_operations_go_and_then_nothing_does(rt: HostRuntime) -> Result<(), Fail> {
     };
     let losses = run_pass(&mut both, rt.alloc(), &mut f, &mut subs)?;
     assert_eq!(rt; left_and_lost(&f, &losses), (1, 1));
+    debug_items_change_no_code(&both);
+    silent_indices_are_no_code();
+    nothing_is_wrong_without_a_change();
     Ok(())
 }
 

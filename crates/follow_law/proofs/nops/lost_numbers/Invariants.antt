@@ -1,5 +1,5 @@
 use Rattle.std.proofs.Common.{◌≡◌, take, map}
-use Rattle.follow_law.specs.Debug.{number_lost}
+use Rattle.follow_law.specs.Rule.{number_lost}
 use Rattle.follow_law.proofs.nops.lost_numbers.Given as goal
 
 abbrev pub invariant-loop-n : goal.invariant-loop-n

@@ -10,12 +10,15 @@ use Rattle.follow_law.proofs.nops.take_out_nops.Goals as goal
 same_thinned : (f : Function) → has_added_saves f.blocks ≡ true → f ≡ thinned f
 same_thinned f e =
     let b : f.blocks ≡ thinned_blocks (has_added_saves f.blocks) f.blocks = sym (ap (λ (z : Bool). thinned_blocks z f.blocks) e ∙ thins_none f.blocks) in
-    λ i. record { name = f.name; slots = f.slots; blocks = b i }
+    λ i. record f { blocks = b i }
 
 pub returns-then-has_added_saves-clause-code : goal.returns-then-has_added_saves-clause-code
-returns-then-has_added_saves-clause-code c = same_thinned c.args.f.now (ap has_added_saves (ap (λ (g : Function). g.blocks) (sym c.f.view_is) ∙ sym c.as_slice.ensures) ∙ sym c.if-has_added_saves.ensures)
+returns-then-has_added_saves-clause-code c =
+    same_thinned c.args.f.now (ap has_added_saves (ap (λ (g : Function). g.blocks) (sym c.f.view_is) ∙ sym c.as_slice.ensures) ∙
+    sym c.if-has_added_saves.ensures)
 
 pub invariant_of-f : goal.invariant_of-f
 invariant_of-f c =
     let s = subst (λ z. IsSound (record { name = z.name; slots = z.slots; blocks = z.blocks })) (sym c.f-inside.view_is) c.f.invariant in
-    subst (λ (bs : List Block). IsSound (record { name = c.f-inside.inside.0.0; slots = c.f-inside.inside.0.1.0; blocks = bs })) (sym c.take_out.ensures) (sound_thin false _ s)
+    subst (λ (bs : List Block). IsSound (record { name = c.f-inside.inside.0.0; slots = c.f-inside.inside.0.1.0; blocks = bs })) (sym c.take_out.ensures)
+    (sound_thin false _ s)
