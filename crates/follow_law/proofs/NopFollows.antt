@@ -1,13 +1,12 @@
 -- What followed a source follows it without its no-operations.
-use Rattle.std.proofs.Common.{◌≡◌, ℕ, ◌≤◌, List, [], ◌∷◌, map, filter, All, Contains, Option, Some, None, Bool, true, false, cond, not, ◌&&◌, ◌||◌, refl, sym}
-use Rattle.std.proofs.Common.{ap, ◌∙◌, subst, slice_get, get_or, arith}
+use Rattle.std.proofs.Common.{◌≡◌, ℕ, ◌≤◌, List, [], ◌∷◌, map, filter, All, Contains, Option, Some, None, Bool, true, false, cond, not, ◌&&◌, ◌||◌, refl, sym, ap, ◌∙◌, subst, slice_get, get_or, arith}
 use Rattle.std.specs.List.{list_any}
 use Rattle.std.proofs.lemmas.List.{length-map}
-use Rattle.std.proofs.lemmas.List.Elements.{All-cons, All-contains, All-contains_itself, All-weaker, All-filter, All-map, Contains-append_left}
-use Rattle.std.proofs.lemmas.List.Elements.{Contains-append_right}
+use Rattle.std.proofs.lemmas.List.Elements.{All-cons, All-contains, All-contains_itself, All-weaker, All-filter, All-map, Contains-append_left, Contains-append_right}
 use Rattle.std.proofs.lemmas.Option.{slice_get-get_or, get_or_from_slice_get}
 use Rattle.std.proofs.Math.Nat.{le_trans}
 use Rattle.rv64_instr.specs.Row.{Row, Fixes, LoadsSlot, StoresSlot, Branches, Jumps, Returns, row_of}
+use Rattle.mir_func.specs.declared.entry.OperandPair.{OperandPair}
 use Rattle.mir_func.specs.declared.position.Pos.{Pos}
 use Rattle.mir_func.specs.declared.position.Origin.{Origin}
 use Rattle.mir_func.specs.declared.position.Origin.TheVariants.{Kept, Before}
@@ -19,13 +18,12 @@ use Rattle.mir_func.specs.declared.item.ItemKind.TheVariants.{Code, Mark, Phi}
 use Rattle.mir_func.specs.Function.{Function}
 use Rattle.mir_func.specs.Sound.{items_of, number_of, NumbersOnce, OriginIn, IsSound}
 use Rattle.mir_meaning.specs.State.{Core, State}
-use Rattle.mir_meaning.specs.Step.{Falls, Goes, Traps, act, does, slot_loaded, with_core, is_call, are_written, numbered, do_item}
-use Rattle.mir_func.specs.Graph.{Here, Program}
-use Rattle.mir_func.specs.Graph.{fetch_in, from_block, program_of}
+use Rattle.mir_meaning.specs.Step.{Falls, Goes, Traps, act, does, slot_loaded, with_core, are_written, numbered, do_item}
+use Rattle.rv64_instr.specs.Parts.{is_call, IsSlotStore}
+use Rattle.mir_func.specs.Graph.{Here, Program, fetch_in, from_block, program_of}
 use Rattle.mir_func.specs.Resolve.{resolve}
 use Rattle.mir_meaning.specs.Align.{is_jump, is_jump_row, waits_at, moves_on, Count, ByItems, ByEnds, station_at, AnyOrigin, RunsAlong, After, since_of}
-use Rattle.mir_meaning.specs.Follow.{MayAdd, KindFits, MarkFits, InOrder, next_rank, Among, none, same, left, first_of, OnRow, GoesTo, IsSlotSave, Shape}
-use Rattle.mir_meaning.specs.Follow.{IsStart, SameEnd, IsEnd, KindsEndAlike, EndIsKept, EndComesFrom}
+use Rattle.mir_meaning.specs.Follow.{MayAdd, KindFits, MarkFits, InOrder, next_rank, Among, none, same, left, first_of, OnRow, GoesTo, Shape, IsStart, SameEnd, IsEnd, KindsEndAlike, EndIsKept, EndComesFrom}
 use Rattle.mir_meaning.proofs.Reading.{found_in, front_item, within_list}
 use Rattle.simulation.proofs.Order.{rank_next}
 use Rattle.mir_meaning.proofs.Told.{tells_itself}
@@ -123,7 +121,7 @@ moves_after ct src f (Mark v m) (Before p) silent counts fits c c' n e = cc
 moves_after ct src f (Phi q m) (Before p) silent counts fits c c' n e = cc
 
 -- the number of what stays isn't gone
-own_number : (busy : Bool) (blocks : List Block) (resolve : ℕ → ℕ → Option (ℕ × ℕ)) → NumbersOnce (items_of blocks) → (x : Item) →
+own_number : (busy : Bool) (blocks : List Block) (resolve : OperandPair → Option OperandPair) → NumbersOnce (items_of blocks) → (x : Item) →
     Contains (items_of blocks) x → stays busy x ≡ true → (k : ℕ) → number_of x.kind ≡ Some k → IsGone busy blocks resolve k → ⊥
 own_number busy blocks resolve once x (i, lt, at) stay k number gone =
     let y = gone.item in
@@ -137,7 +135,7 @@ own_number busy blocks resolve once x (i, lt, at) stay k number gone =
     cc
 
 -- what holds of all items holds of what stands somewhere
-at_item : (P : Item → Type 0) (sp : Bool) (blocks : List Block) (resolve : ℕ → ℕ → Option (ℕ × ℕ)) → All (λ (b : Block). All P b.items) blocks →
+at_item : (P : Item → Type 0) (sp : Bool) (blocks : List Block) (resolve : OperandPair → Option OperandPair) → All (λ (b : Block). All P b.items) blocks →
     (p : Pos) (i : Item) → (program_of sp blocks resolve).fetch p ≡ Here i → P i
 at_item P sp blocks resolve all p i e = by_blocks (from_block blocks p.block) refl e where
   by_blocks : (bs : List Block) → from_block blocks p.block ≡ bs → fetch_in bs p.item ≡ Here i → P i
@@ -165,9 +163,9 @@ no_saves blocks e =
     (λ b h. none_any (λ (i : Item). is_added_save i.kind i.origin) b.items h) blocks
     (none_any (λ (b : Block). list_any (λ (i : Item). is_added_save i.kind i.origin) b.items) blocks e)
 
-save_is_added : (k : ItemKind) (o : Origin) (p : Pos) → OnRow IsSlotSave k → o ≡ Before p → is_added_save k o ≡ true
+save_is_added : (k : ItemKind) (o : Origin) (p : Pos) → OnRow IsSlotStore k → o ≡ Before p → is_added_save k o ≡ true
 save_is_added (Code i n) o p save e = rw e (by_row (row_of i) save) where
-  by_row : (r : Row) → IsSlotSave r → is_save_row r ≡ true
+  by_row : (r : Row) → IsSlotStore r → is_save_row r ≡ true
   by_row (StoresSlot rs m) h = refl
   by_row _ h = absurd h
 save_is_added (Mark v m) o p save e = absurd save
@@ -194,7 +192,7 @@ pub origin_thin : (keep : Item → Bool) (b : Block) (o : Origin) → OriginIn b
 origin_thin keep b (Kept p) h = h
 origin_thin keep b (Before p) h = h
 
-module _ (f : Function) (sound : IsSound f) (src : List Block) (srcp : Program) (resolve : ℕ → ℕ → Option (ℕ × ℕ))
+module _ (f : Function) (sound : IsSound f) (src : List Block) (srcp : Program) (resolve : OperandPair → Option OperandPair)
     (none_added : has_added_saves f.blocks ≡ false) where
   abbrev keep : Item → Bool
   keep = stays false

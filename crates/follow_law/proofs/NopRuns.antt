@@ -1,10 +1,10 @@
 -- The run of a function without its no-operations.
-use Rattle.std.proofs.Common.{◌≡◌, ℕ, zero, List, [], ◌∷◌, filter, All, Contains, Option, Some, None, Bool, true, false, cond, not, ◌&&◌, refl, sym, ap, ◌∙◌}
-use Rattle.std.proofs.Common.{subst, inl, inr, ◌⊎◌, slice_get, arith}
+use Rattle.std.proofs.Common.{◌≡◌, ℕ, zero, List, [], ◌∷◌, filter, All, Contains, Option, Some, None, Bool, true, false, cond, not, ◌&&◌, refl, sym, ap, ◌∙◌, subst, inl, inr, ◌⊎◌, slice_get, arith}
 use Rattle.std.proofs.lemmas.Bool.{cases_eq}
 use Rattle.std.proofs.lemmas.List.Elements.{All-head, All-tail, All-contains}
 use Rattle.rv64_instr.specs.declared.operand.Operand.{Operand}
 use Rattle.rv64_instr.specs.Row.{Row, Fixes, Jumps, row_of}
+use Rattle.mir_func.specs.declared.entry.OperandPair.{OperandPair}
 use Rattle.mir_func.specs.declared.position.Pos.{Pos}
 use Rattle.mir_func.specs.declared.block.Block.{Block}
 use Rattle.mir_func.specs.declared.item.Item.{Item}
@@ -12,10 +12,9 @@ use Rattle.mir_func.specs.declared.item.ItemKind.{ItemKind}
 use Rattle.mir_func.specs.declared.item.ItemKind.TheVariants.{Code, Mark, Phi}
 use Rattle.mir_func.specs.Sound.{AreApart, ids_of, items_of, number_of, code_number, OriginIn}
 use Rattle.mir_meaning.specs.State.{Core, State, updated}
-use Rattle.mir_meaning.specs.Step.{Outcome, Falls, Goes, Gives, Traps, Asks, Breaks, act, does, with_core, is_call, numbered, given, defined, place_value}
-use Rattle.mir_meaning.specs.Step.{do_item}
-use Rattle.mir_func.specs.Graph.{Program, block_start}
-use Rattle.mir_func.specs.Graph.{from_block, index_of, program_of}
+use Rattle.mir_meaning.specs.Step.{Outcome, Falls, Goes, Gives, Traps, Asks, Breaks, act, does, with_core, numbered, given, defined, place_value, do_item}
+use Rattle.rv64_instr.specs.Parts.{is_call}
+use Rattle.mir_func.specs.Graph.{Program, block_start, from_block, index_of, program_of}
 use Rattle.mir_meaning.specs.Align.{is_code, is_jump, is_jump_row, Count, end_station, station_at, IsOrigin, Since, After, AnyOrigin, RunsAlong}
 use Rattle.mir_meaning.specs.Follow.{InOrder}
 use Rattle.simulation.specs.Sides.{Sides, Relation, since_item}
@@ -60,7 +59,7 @@ alike_and R P Asks Asks h k = tt
 alike_and R P Breaks Breaks h k = tt
 alike_and R P _ _ h k = absurd h
 
-module _ (busy : Bool) (blocks : List Block) (resolve : ℕ → ℕ → Option (ℕ × ℕ)) where
+module _ (busy : Bool) (blocks : List Block) (resolve : OperandPair → Option OperandPair) where
   abbrev f : Program
   f = program_of false blocks resolve
 

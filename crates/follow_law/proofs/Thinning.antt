@@ -1,10 +1,10 @@
 -- Blocks whose items are those that pass a test: what stands where.
 use Rattle.std.proofs.Common.{◌≡◌, ℕ, zero, suc, List, [], ◌∷◌, map, filter, drop, length, Bool, true, false, cond, nat_eq, Option, refl, sym, ap, ◌∙◌}
+use Rattle.mir_func.specs.declared.entry.OperandPair.{OperandPair}
 use Rattle.mir_func.specs.declared.position.Pos.{Pos}
 use Rattle.mir_func.specs.declared.block.Block.{Block}
 use Rattle.mir_func.specs.declared.item.Item.{Item}
-use Rattle.mir_func.specs.Graph.{Here, Silent, Program, block_start}
-use Rattle.mir_func.specs.Graph.{end_of, front, fetch_in, from_block, program_of}
+use Rattle.mir_func.specs.Graph.{Here, Silent, Program, block_start, end_of, front, fetch_in, from_block, program_of}
 use Rattle.simulation.proofs.Laid.{rest_in, rest_of}
 
 -- the first of what is left from an index on
@@ -77,7 +77,7 @@ module _ (keep : Item → Bool) where
   left_to [] (suc m) x more k e = cc
   left_to (y ∷ ys) m x more k e = to_step (keep y) y ys (filter keep ys) m x more refl k (λ n h. left_to ys n x more k h) e
 
-  module _ (sp : Bool) (blocks : List Block) (resolve : ℕ → ℕ → Option (ℕ × ℕ)) where
+  module _ (sp : Bool) (blocks : List Block) (resolve : OperandPair → Option OperandPair) where
     abbrev f : Program
     f = program_of sp blocks resolve
 

@@ -6,8 +6,7 @@ ghost use Rattle.mir_func.specs.Sound.{IsSound};
 ghost use Rattle.follow_law.specs.Order.{IsInOrder};
 ghost use Rattle.follow_law.specs.Rule.{AreNumbersLost};
 ghost use Rattle.follow_law.specs.Laws.{one_thinned, same_thinned};
-ghost use Rattle.follow_law.specs.Nops.{is_nop_row, is_nop, is_added_save, has_added_saves, stays, thinned_blocks};
-ghost use Rattle.follow_law.specs.Nops.{thinned, nop_step, nop_number, nop_numbers, numbers_in_items, lost_in};
+ghost use Rattle.follow_law.specs.Nops.{is_nop_row, is_nop, is_added_save, has_added_saves, stays, thinned_blocks, thinned, nop_step, nop_number, nop_numbers, numbers_in_items, lost_in};
 ghost use Rattle.std.proofs.Common.{rules};
 
 use crate::loss::{Loss, Losses, Lost, Reason};
