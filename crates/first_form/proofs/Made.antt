@@ -15,11 +15,12 @@ use Rattle.mir_func.specs.declared.block.Block.{Block}
 use Rattle.mir_func.specs.declared.item.Item.{Item}
 use Rattle.mir_func.specs.declared.item.ItemKind.{ItemKind}
 use Rattle.mir_func.specs.declared.item.ItemKind.TheVariants.{Code, Mark, Phi}
+use Rattle.mir_func.specs.declared.object.Object.{Object}
 use Rattle.mir_func.specs.Function.{Function}
-use Rattle.mir_func.specs.Sound.{AreApart, IsSound, TargetIn, TargetsIn, SlotIn, SlotsIn, IsNotPointer, LeavesPointer, number_of, code_number, NumbersOnce, OriginIn, MayFollow, EndsWell, Closes}
+use Rattle.mir_func.specs.Sound.{AreApart, IsSound, IsSoundObject, TargetIn, TargetsIn, SlotIn, SlotsIn, ObjectIn, ObjectsIn, IsNotPointer, LeavesPointer, number_of, code_number, NumbersOnce, OriginIn, MayFollow, EndsWell, Closes}
 use Rattle.mir_func.specs.declared.exit.Exit.{Exit}
 use Rattle.mir_func.specs.declared.exit.Exit.TheVariants.{Onward, Final}
-use Rattle.mir_func.specs.Exits.{row_exit, exit_of}
+use Rattle.mir_func.specs.Exits.{row_exit, exit_of, Leaves}
 use Rattle.first_form.specs.declared.line.Line.{Line}
 use Rattle.first_form.specs.declared.line.Statement.{Statement}
 use Rattle.first_form.specs.declared.line.Statement.TheVariants.{AddImmediate, Add, Value, Reference, Return}
@@ -78,6 +79,18 @@ slots_in ids (Add to left right k) = tt
 slots_in ids (Value r v) = tt
 slots_in ids (Reference v k o) = tt
 slots_in ids (Return r) = tt
+
+immediate_object : (rd a n : ℕ) → ObjectIn [] (immediate_row Addi rd a n)
+immediate_object rd zero n = tt
+immediate_object rd (suc a) zero = tt
+immediate_object rd (suc a) (suc n) = tt
+
+objects_in : (s : Statement) → ObjectsIn [] (kind_of s)
+objects_in (AddImmediate to from i k) = immediate_object to from (word i)
+objects_in (Add to left right k) = tt
+objects_in (Value r v) = tt
+objects_in (Reference v k o) = tt
+objects_in (Return r) = tt
 
 target_other : (r : ℕ) → is_target r ≡ true → r ≡ 2 → ⊥
 target_other r h e = grind (arith, nat_tests)
@@ -191,7 +204,7 @@ ends_well n (l ∷ m ∷ ls) e =
 
 closes : (n : ℕ) (ls : List Line) → ends_in_return ls ≡ true → Closes (items_from n ls)
 closes n [] e = absurd cc
-closes n (l ∷ []) e = inr (return_exit l.statement e)
+closes n (l ∷ []) e = subst Leaves (sym (return_exit l.statement e)) tt
 closes n (l ∷ m ∷ ls) e = closes (suc n) (m ∷ ls) (and_parts (not (is_return l.statement)) (ends_in_return (m ∷ ls)) e).1
 
 apart_nil : AreApart []
@@ -211,10 +224,14 @@ sound ls first =
     record {
       blocks_apart = apart_one 0;
       slots_apart = apart_nil;
+      objects_apart = apart_nil;
+      each_object = All-nil IsSoundObject;
+      objects_laid = tt;
       few_blocks = omega arith;
       few_slots = omega arith;
       targets = one_block (λ x. All (λ i. TargetsIn (0 ∷ []) i.kind) x.items) b (items_all (λ i. TargetsIn (0 ∷ []) i.kind) (λ n l ok. targets_in (0 ∷ []) l.statement) 0 ls first.allowed);
       slots = one_block (λ x. All (λ i. SlotsIn [] i.kind) x.items) b (items_all (λ i. SlotsIn [] i.kind) (λ n l ok. slots_in [] l.statement) 0 ls first.allowed);
+      objects = one_block (λ x. All (λ i. ObjectsIn [] i.kind) x.items) b (items_all (λ i. ObjectsIn [] i.kind) (λ n l ok. objects_in l.statement) 0 ls first.allowed);
       pointer = one_block (λ x. All (λ i. LeavesPointer i.kind) x.items) b (items_all (λ i. LeavesPointer i.kind) (λ n l ok. leaves_pointer l.statement ok) 0 ls first.allowed);
       numbers = subst NumbersOnce (sym (append-nil (items_from 0 ls))) (numbers_once 0 ls (IsDistinct-from_AllPairs Decides-eqb (numbers_of ls) first.limits.numbers_once));
       origins = one_block (λ x. All (λ i. OriginIn x i.origin) x.items) b (origins_in b 0 ls refl (omega arith));
@@ -223,8 +240,9 @@ sound ls first =
     }
 
 -- the same of a function with these parts
-pub sound_with : (ls : List Line) (name slots : List ℕ) (blocks : List Block) → AreFirst ls → name ≡ (function_of ls).name → slots ≡ (function_of ls).slots → blocks ≡ (function_of ls).blocks → IsSound (record { name = name; slots = slots; blocks = blocks })
-sound_with ls name slots blocks first is-name is-slots is-blocks =
-    let whole : Function = record { name = name; slots = slots; blocks = blocks } in
-    let same : whole ≡ function_of ls = λ i. record { name = is-name i; slots = is-slots i; blocks = is-blocks i } in
+pub sound_with : (ls : List Line) (name slots : List ℕ) (objects : List Object) (blocks : List Block) → AreFirst ls → name ≡ (function_of ls).name → slots ≡ (function_of ls).slots →
+    objects ≡ (function_of ls).objects → blocks ≡ (function_of ls).blocks → IsSound (record { name = name; slots = slots; objects = objects; blocks = blocks })
+sound_with ls name slots objects blocks first is-name is-slots is-objects is-blocks =
+    let whole : Function = record { name = name; slots = slots; objects = objects; blocks = blocks } in
+    let same : whole ≡ function_of ls = λ i. record { name = is-name i; slots = is-slots i; objects = is-objects i; blocks = is-blocks i } in
     subst IsSound (sym same) (sound ls first)

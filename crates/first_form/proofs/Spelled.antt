@@ -33,11 +33,12 @@ location_is true rest = ap (λ (t : List ℕ). (codes ", debug-location !" ++ t)
 sum_parts : (a b c d e f g h rest : List ℕ) → ((((a ++ b) ++ c) ++ (d ++ ((e ++ f) ++ g))) ++ h) ++ rest ≡ a ++ (b ++ (c ++ (d ++ (e ++ (f ++ (g ++ (h ++ rest)))))))
 sum_parts a b c d e f g h rest = simp append_assoc
 
-value_parts : (a b c d e rest : List ℕ) → (a ++ b ++ c ++ d ++ e) ++ rest ≡ a ++ (b ++ (c ++ (d ++ (e ++ rest))))
-value_parts a b c d e rest = simp append_assoc
+value_parts : (a b c d e f rest : List ℕ) → (a ++ b ++ (c ++ d ++ e ++ f)) ++ rest ≡ a ++ (b ++ (c ++ (d ++ (e ++ (f ++ rest)))))
+value_parts a b c d e f rest = simp append_assoc
 
-reference_parts : (a b c d e f g rest : List ℕ) → (a ++ b ++ c ++ d ++ e ++ f ++ g) ++ rest ≡ a ++ (b ++ (c ++ (d ++ (e ++ (f ++ (g ++ rest))))))
-reference_parts a b c d e f g rest = simp append_assoc
+reference_parts : (a b c d e f g h i rest : List ℕ) →
+    (a ++ b ++ c ++ d ++ e ++ f ++ g ++ h ++ i) ++ rest ≡ a ++ (b ++ (c ++ (d ++ (e ++ (f ++ (g ++ (h ++ (i ++ rest))))))))
+reference_parts a b c d e f g h i rest = simp append_assoc
 
 return_parts : (a b c d rest : List ℕ) → ((a ++ (b ++ (c ++ d))) ++ []) ++ rest ≡ a ++ (b ++ (c ++ (d ++ rest)))
 return_parts a b c d rest = simp append_assoc
@@ -59,14 +60,14 @@ kind_is (Add to left right k) rest ok =
     ∙ (ap (λ (t : List ℕ). (codes "$x" ++ decimal to) ++ (codes " = " ++ (codes "ADD" ++ (codes " " ++ ((codes "$x" ++ decimal left) ++ (codes ", " ++ (t ++ (number_text k ++ rest)))))))) (register_is right (source_below right q.1))
     ∙ ap (λ (t : List ℕ). (codes "$x" ++ decimal to) ++ (codes " = " ++ (codes "ADD" ++ (codes " " ++ ((codes "$x" ++ decimal left) ++ (codes ", " ++ ((codes "$x" ++ decimal right) ++ t))))))) (number_is k rest))))
 kind_is (Value zero v) rest ok =
-    value_parts (codes "DBG_VALUE ") (codes "$x0") (codes ", $noreg, !") (decimal v) (codes ", !DIExpression()") rest
+    value_parts (codes "DBG_VALUE ") (codes "$x0") (codes ", $noreg, !") (decimal v) (codes ", ") (codes "!DIExpression()") rest
     ∙ ap (λ (t : List ℕ). codes "DBG_VALUE $x" ++ (t ++ (codes ", $noreg, !" ++ (decimal v ++ (codes ", !DIExpression()" ++ rest))))) (sym (decimal_digit 0 (omega arith)))
 kind_is (Value (suc r) v) rest ok =
     let p = and_parts (is_source (suc r)) (is_variable v) ok in
-    value_parts (codes "DBG_VALUE ") (register_text (suc r)) (codes ", $noreg, !") (decimal v) (codes ", !DIExpression()") rest
+    value_parts (codes "DBG_VALUE ") (register_text (suc r)) (codes ", $noreg, !") (decimal v) (codes ", ") (codes "!DIExpression()") rest
     ∙ ap (λ (t : List ℕ). codes "DBG_VALUE " ++ (t ++ (codes ", $noreg, !" ++ (decimal v ++ (codes ", !DIExpression()" ++ rest))))) (register_is (suc r) (source_below (suc r) p.0))
 kind_is (Reference v k o) rest ok =
-    reference_parts (codes "DBG_INSTR_REF !") (decimal v) (codes ", !DIExpression(DW_OP_LLVM_arg, 0), dbg-instr-ref(") (decimal k) (codes ", ") (decimal o) (codes ")") rest
+    reference_parts (codes "DBG_INSTR_REF !") (decimal v) (codes ", ") (codes "!DIExpression(DW_OP_LLVM_arg, 0)") (codes ", dbg-instr-ref(") (decimal k) (codes ", ") (decimal o) (codes ")") rest
 kind_is (Return None) rest ok = refl
 kind_is (Return (Some r)) rest ok =
     return_parts (codes "PseudoRET") (codes " ") (codes "implicit ") (register_text r) rest

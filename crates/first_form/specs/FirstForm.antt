@@ -3,7 +3,7 @@ use Rattle.std.specs.Prelude.{◌≡◌, ◌≢◌, ℕ, ℤ, pos, negsuc, zero,
 use Rattle.std.specs.List.{filter_map, list_all, AllPairs}
 use Rattle.std.specs.Ordering.{int_eq}
 use Rattle.std.specs.Set.{distinct_count}
-use Rattle.rv64_instr.specs.declared.op.Op.TheVariants.{PseudoRet}
+use Rattle.rv64_instr.specs.declared.op.Op.TheVariants.{Registers, Immediate, PseudoRet}
 use Rattle.rv64_instr.specs.declared.op.ImmediateOp.TheVariants.{Addi}
 use Rattle.rv64_instr.specs.declared.op.RegisterOp.TheVariants.{Add as Sum}
 use Rattle.rv64_instr.specs.declared.operand.Operand.{Operand}
@@ -28,7 +28,7 @@ use Rattle.first_form.specs.Source.{spelling}
 
 -- a variable of the function itself, by its node
 abbrev pub variable_of : ℕ → VarId
-variable_of node = record { node = node; inlined_at = None }
+variable_of node = record { node = node; inlined_at = None; fragment = None }
 
 -- what a mark of a register assigns: x0 holds the constant 0
 abbrev pub value_of : ℕ → MarkValue
@@ -40,10 +40,10 @@ result_operands None = []
 result_operands (Some r) = ImplicitUse r ∷ []
 
 abbrev pub kind_of : Statement → ItemKind
-kind_of (AddImmediate to from immediate number) = Code (record { op = Addi; operands = Def to ∷ Use from ∷ Imm immediate ∷ [] }) number
-kind_of (Add to left right number) = Code (record { op = Sum; operands = Def to ∷ Use left ∷ Use right ∷ [] }) number
+kind_of (AddImmediate to from immediate number) = Code (record { op = Immediate Addi; operands = Def to ∷ Use from ∷ Imm immediate ∷ [] }) number
+kind_of (Add to left right number) = Code (record { op = Registers Sum; operands = Def to ∷ Use left ∷ Use right ∷ [] }) number
 kind_of (Value register variable) = Mark (variable_of variable) (value_of register)
-kind_of (Reference variable number operand) = Mark (variable_of variable) (Pair number operand)
+kind_of (Reference variable number operand) = Mark (variable_of variable) (Pair (record { number = number; operand = operand }))
 kind_of (Return register) = Code (record { op = PseudoRet; operands = result_operands register }) None
 
 abbrev pub loc_of : Bool → Loc
@@ -59,9 +59,9 @@ abbrev pub items_from : ℕ → List Line → List Item
 items_from index [] = []
 items_from index (l ∷ ls) = item_of index l ∷ items_from (suc index) ls
 
--- the function `f`, without slots, of one block
+-- the function `f`, without slots and stack objects, of one block
 abbrev pub function_of : List Line → Function
-function_of lines = record { name = codes "f"; slots = []; blocks = record { id = 0; items = items_from 0 lines; silent = length lines } ∷ [] }
+function_of lines = record { name = codes "f"; slots = []; objects = []; blocks = record { id = 0; items = items_from 0 lines; silent = length lines } ∷ [] }
 
 -- ---- what a line may say
 
@@ -106,7 +106,10 @@ is_allowed (Return register) = is_result_or_none register
 
 abbrev pub is_return : Statement → Bool
 is_return (Return register) = true
-is_return _ = false
+is_return (AddImmediate to from immediate number) = false
+is_return (Add to left right number) = false
+is_return (Value register variable) = false
+is_return (Reference variable number operand) = false
 
 -- the last line is a return, and no other
 abbrev pub ends_in_return : List Line → Bool

@@ -9,7 +9,7 @@ use Rattle.mir_printer.specs.Spelling.{kind_text, location_text, value_mark_text
 
 -- in a text that is read, the mark of the constant 0 names the register x0. All else is as it is printed
 abbrev pub source_kind_text : ItemKind → List ℕ
-source_kind_text (Mark v (Constant (pos zero))) = value_mark_text (codes "$x0") v.node
+source_kind_text (Mark v (Constant (pos zero))) = value_mark_text (codes "$x0") v
 source_kind_text kind = kind_text kind
 
 abbrev pub source_text : Item → List ℕ

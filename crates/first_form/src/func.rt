@@ -1,7 +1,9 @@
+//! The function that lines stand for.
+
 ghost use Rattle.std.specs.Prelude.{◌≡◌, ◌<◌, ◌≤◌, true, length, [], ◌∷◌, IfOk};
 ghost use Rattle.std.specs.List.{list_all};
 ghost use Rattle.rv64_instr.specs.Instruction.{Instruction};
-ghost use Rattle.rv64_instr.specs.declared.op.Op.TheVariants.{PseudoRet};
+ghost use Rattle.rv64_instr.specs.declared.op.Op.TheVariants.{Immediate, PseudoRet, Registers};
 ghost use Rattle.rv64_instr.specs.declared.op.ImmediateOp.TheVariants.{Addi};
 ghost use Rattle.rv64_instr.specs.declared.op.RegisterOp.TheVariants.{Add};
 ghost use Rattle.rv64_instr.specs.declared.operand.Operand.TheVariants.{Def, Use, Imm};
@@ -11,13 +13,16 @@ use crate::line::{Line, Statement};
 use crate::text::MAX_ITEMS;
 use lists::List;
 use mir_func::block::Block;
+use mir_func::entry::OperandPair;
 use mir_func::func::Func;
 use mir_func::item::{Item, ItemKind, Items};
 use mir_func::location::Loc;
 use mir_func::position::{Origin, Pos};
 use mir_func::variable::{MarkValue, VarId};
+use numbers::code::{BlockId, DebugNumber, OperandIndex};
+use numbers::metadata::NodeId;
 use rv64_instr::instr::Instr;
-use rv64_instr::op::Op;
+use rv64_instr::op::{ImmediateOp, Op, RegisterOp};
 use rv64_instr::operand::{Operand, Operands};
 use rv64_instr::reg::{Reg, physical};
 use std::alloc::{AllocError, Global};
@@ -30,13 +35,14 @@ pub fn func(alloc: Global, lines: &[Line]) -> Result<Func, AllocError>
     let items = items(alloc, lines)?;
     let mut blocks = List::new(alloc);
     blocks.push(Block {
-        id: 0,
+        id: BlockId(0),
         items,
         silent: lines.len() as u32,
     })?;
     Ok(Func {
         name: List::from_slice(alloc, b"f")?,
         slots: List::new(alloc),
+        objects: List::new(alloc),
         blocks,
     })
 }
@@ -61,11 +67,11 @@ fn item(alloc: Global, index: u32, line: Line) -> Result<Item, AllocError>
     Ok(Item {
         kind: kind(alloc, line.statement)?,
         origin: Origin::Kept(Pos {
-            block: 0,
+            block: BlockId(0),
             item: index,
         }),
         loc: if line.located {
-            Loc::Node(5)
+            Loc::Node(NodeId(5))
         } else {
             Loc::Absent
         },
@@ -79,20 +85,32 @@ fn kind(alloc: Global, statement: Statement) -> Result<ItemKind, AllocError>
     match statement {
         Statement::AddImmediate(to, from, immediate, number) => {
             let instr = add_immediate(alloc, register(to), register(from), immediate)?;
-            Ok(ItemKind::Code(instr, number))
+            Ok(ItemKind::Code(instr, debug_number(number)))
         }
         Statement::Add(to, left, right, number) => {
             let instr = add(alloc, register(to), register(left), register(right))?;
-            Ok(ItemKind::Code(instr, number))
+            Ok(ItemKind::Code(instr, debug_number(number)))
         }
         Statement::Value(register, node) => {
             Ok(ItemKind::Mark(variable(node), mark_value(register)))
         }
         Statement::Reference(node, number, operand) => Ok(ItemKind::Mark(
             variable(node),
-            MarkValue::Pair(number, operand),
+            MarkValue::Pair(OperandPair {
+                number: DebugNumber(number),
+                operand: OperandIndex(operand),
+            }),
         )),
         Statement::Return(value) => Ok(ItemKind::Code(ret(alloc, value)?, None)),
+    }
+}
+
+fn debug_number(number: Option<u32>) -> Option<DebugNumber>
+    ensures { result ≡ number }
+{
+    match number {
+        None => None,
+        Some(n) => Some(DebugNumber(n)),
     }
 }
 
@@ -101,8 +119,9 @@ fn variable(node: u32) -> VarId
     ensures { result ≡ variable_of node }
 {
     VarId {
-        node,
+        node: NodeId(node),
         inlined_at: None,
+        fragment: None,
     }
 }
 
@@ -132,28 +151,28 @@ fn register(n: u32) -> Reg
 /// `to = ADDI from, immediate`.
 fn add_immediate(alloc: Global, to: Reg, from: Reg, immediate: i64) -> Result<Instr, AllocError>
     requires { is_immediate immediate ≡ true }
-    ensures { IfOk result (λ i. i ≡ record { op = Addi; operands = Def to ∷ Use from ∷ Imm immediate ∷ [] }) }
+    ensures { IfOk result (λ i. i ≡ record { op = Immediate Addi; operands = Def to ∷ Use from ∷ Imm immediate ∷ [] }) }
 {
     let mut operands = Operands::new(alloc);
     operands.push(Operand::Def(to))?;
     operands.push(Operand::Use(from))?;
     operands.push(Operand::Imm(immediate))?;
     Ok(Instr {
-        op: Op::Addi,
+        op: Op::Immediate(ImmediateOp::Addi),
         operands,
     })
 }
 
 /// `to = ADD left, right`.
 fn add(alloc: Global, to: Reg, left: Reg, right: Reg) -> Result<Instr, AllocError>
-    ensures { IfOk result (λ i. i ≡ record { op = Add; operands = Def to ∷ Use left ∷ Use right ∷ [] }) }
+    ensures { IfOk result (λ i. i ≡ record { op = Registers Add; operands = Def to ∷ Use left ∷ Use right ∷ [] }) }
 {
     let mut operands = Operands::new(alloc);
     operands.push(Operand::Def(to))?;
     operands.push(Operand::Use(left))?;
     operands.push(Operand::Use(right))?;
     Ok(Instr {
-        op: Op::Add,
+        op: Op::Registers(RegisterOp::Add),
         operands,
     })
 }

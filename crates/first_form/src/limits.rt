@@ -1,3 +1,5 @@
+//! The limits of a text in the first form.
+
 ghost use Rattle.std.specs.Prelude.{◌≡◌, ◌↔◌, ◌≢◌, IfOk, IsTrue};
 ghost use Rattle.std.specs.List.{AllPairs};
 ghost use Rattle.std.specs.Ordering.{int_eq, int_cmp, nat_cmp};

@@ -1,3 +1,5 @@
+//! Lines, as they are read.
+
 /// What an item line says, apart from its debug location. Registers are numbers of x0 to x31, variables are
 /// numbers of `DILocalVariable` nodes, and a number is that of `debug-instr-number`.
 #[derive(Clone, Copy, Debug, PartialEq, Eq)]

@@ -1,3 +1,5 @@
+//! Reading lines.
+
 ghost use Rattle.std.specs.Prelude.{◌≡◌, IfOk, IsTrue};
 ghost use Rattle.first_form.specs.Reading.{Gives, location_at, line_at, is_closing, lines_at};
 

@@ -1,3 +1,5 @@
+//! Reading a text in the first form.
+
 ghost use Rattle.std.specs.Prelude.{◌≡◌, IfOk, IfSome, IfNone, List, ℕ};
 ghost use Rattle.mir_func.specs.Function.{Function};
 ghost use Rattle.first_form.specs.FirstForm.{items_from, AreFirst, Stands};
@@ -52,9 +54,12 @@ pub fn one_reading()
 #[cfg(test)]
 mod tests {
     use super::*;
+    use mir_func::entry::OperandPair;
     use mir_func::item::ItemKind;
     use mir_func::location::Loc;
     use mir_func::variable::MarkValue;
+    use numbers::code::{DebugNumber, OperandIndex};
+    use numbers::metadata::NodeId;
     use std::test::Fail;
 
     const CLOSING: &[u8] = b"...\n";
@@ -152,9 +157,13 @@ body: |
         assert_eq!(rt; block.items.len(), 4);
         let items = block.items.as_slice();
         assert!(rt; matches!(items[0].kind, ItemKind::Mark(_, MarkValue::Constant(0))));
-        assert!(rt; matches!(items[1].kind, ItemKind::Code(_, Some(1))));
-        assert_eq!(rt; items[1].loc, Loc::Node(5));
-        assert!(rt; matches!(items[2].kind, ItemKind::Mark(_, MarkValue::Pair(1, 0))));
+        assert!(rt; matches!(items[1].kind, ItemKind::Code(_, Some(DebugNumber(1)))));
+        assert_eq!(rt; items[1].loc, Loc::Node(NodeId(5)));
+        let pair = OperandPair {
+            number: DebugNumber(1),
+            operand: OperandIndex(0),
+        };
+        assert!(rt; matches!(items[2].kind, ItemKind::Mark(_, MarkValue::Pair(p)) if p == pair));
         assert_eq!(rt; items[3].loc, Loc::Absent);
         Ok(())
     }

@@ -1,3 +1,5 @@
+//! What every text in the first form has, and how much of the rest.
+
 /// What stands above the items of a text in the first form: a module of LLVM's IR with the debug metadata, then
 /// the function `f` with its one block.
 pub const HEADER: &[u8] = b"--- |

@@ -1,3 +1,5 @@
+//! Reading numbers and words.
+
 ghost use Rattle.std.specs.Prelude.{◌≡◌, ◌<◌};
 ghost use Rattle.first_form.specs.Reading.{Gives, after_front, digits_at, number_at, negative_at, immediate_at};
 
