@@ -1,4 +1,5 @@
 -- What a line of an output tells.
+use Rattle.mir_func.specs.declared.entry.OperandPair.{OperandPair}
 use Rattle.std.specs.Prelude.{Bool, true, false, cond, nat_eq, codes, IfSome}
 use Rattle.std.specs.Fmt.{decimal}
 use Rattle.std.proofs.Common.{◌≡◌, ℕ, ◌/◌, ◌%◌, List, [], ◌∷◌, ◌++◌, length, Option, Some, None, arith, ap, sym, ◌∙◌, refl, append_assoc}
@@ -14,8 +15,8 @@ use Rattle.mir_printer.proofs.Symbols.{is_plain, digit_one, quoted_one, quoted_h
 use Rattle.mir_printer.proofs.Operands.{number_one}
 use Rattle.mir_printer.proofs.Items.{item_line_one}
 use Rattle.output_text.specs.Hex.{hex_lines, address_text}
-use Rattle.output_text.specs.Output.{ItemLine, ListedVariable, section_text, name_byte, name_text, function_line, inlined_text, variable_line, substitution_line, position_text, origin_text, start_text, item_line, block_line}
-use Rattle.output_text.specs.Shown.{HasNumbersAt, IsPrintableOrigin, IsPrintableLine, IsPrintableVariable, IsPrintableEntry}
+use Rattle.output_text.specs.Output.{ItemLine, ListedVariable, section_text, name_byte, name_text, function_line, inlined_text, variable_line, substitution_line, position_text, origin_text, start_text, item_line, block_line, pair_text, ListedObject, object_line}
+use Rattle.output_text.specs.Shown.{HasNumbersAt, IsPrintableOrigin, IsPrintableLine, IsPrintableVariable, IsPrintableEntry, declared_by, HasNumbers, IsPrintableObject}
 use Rattle.output_text.proofs.HexLemmas.{address_one, address_heads, bytes_one}
 
 -- ---- sections
@@ -131,24 +132,50 @@ variable_line_one v w r s is others e =
     let node = node_one v.variable.node w.variable.node v.variable.inlined_at w.variable.inlined_at (name_text v.name ++ (10 ∷ r)) (name_text w.name ++ (10 ∷ s)) is.node others.node is.inlined_at others.inlined_at
     (front_one (codes " !") _ _ list.1) in
     let name = spelled_one name_byte 10 before_feed v.name w.name r s node.2 in
-    let variable : v.variable ≡ w.variable = λ k. record { node = node.0 k; inlined_at = node.1 k } in
+    let variable : v.variable ≡ w.variable = λ k. record { node = node.0 k; inlined_at = node.1 k; fragment = (is.whole ∙ sym others.whole) k } in
     (λ k. record { list = list.0 k; variable = variable k; name = name.0 k }, name.1)
 
 -- ---- a substitution's line
 
-numbers_parts : (a b c d e f g h i j k rest : List ℕ) → (a ++ b ++ c ++ d ++ e ++ f ++ g ++ h ++ i ++ j ++ k) ++ rest ≡ a ++ (b ++ (c ++ (d ++ (e ++ (f ++ (g ++ (h ++ (i ++ (j ++ (k ++ rest))))))))))
-numbers_parts a b c d e f g h i j k rest = simp append_assoc
+pair_parts : (a b c d rest : List ℕ) → (a ++ b ++ c ++ d) ++ rest ≡ a ++ (b ++ (c ++ (d ++ rest)))
+pair_parts a b c d rest = simp append_assoc
 
-pub substitution_line_one : (x y : Entry) (r s : List ℕ) → IsPrintableEntry x → IsPrintableEntry y → substitution_line x ++ r ≡ substitution_line y ++ s → (x ≡ y) × (r ≡ s)
+pair_one : (p q : OperandPair) (r s : List ℕ) → HasNumbers p → HasNumbers q → pair_text p ++ r ≡ pair_text q ++ s → (p ≡ q) × (r ≡ s)
+pair_one p q r s is others e =
+    let whole = sym (pair_parts (decimal p.number) (codes " ") (decimal p.operand) (codes " ") r)
+    ∙ (e ∙ pair_parts (decimal q.number) (codes " ") (decimal q.operand) (codes " ") s) in
+    let number = number_one p.number q.number _ _ is.0 others.0 refl refl whole in
+    let operand = number_one p.operand q.operand _ _ is.1 others.1 refl refl (front_one (codes " ") _ _ number.1) in
+    (λ k. record { number = number.0 k; operand = operand.0 k }, front_one (codes " ") r s operand.1)
+
+entry_parts : (a b c d e rest : List ℕ) → (a ++ b ++ c ++ d ++ e) ++ rest ≡ a ++ (b ++ (c ++ (d ++ (e ++ rest))))
+entry_parts a b c d e rest = simp append_assoc
+
+pub substitution_line_one : (x y : Entry) (r s : List ℕ) → IsPrintableEntry x → IsPrintableEntry y → substitution_line x ++ r ≡ substitution_line y ++ s →
+    (x ≡ y) × (r ≡ s)
 substitution_line_one x y r s is others e =
-    let whole = sym (numbers_parts (codes "substitute ") (decimal x.src.0) (codes " ") (decimal x.src.1) (codes " ") (decimal x.dst.0) (codes " ") (decimal x.dst.1) (codes " ") (decimal x.subreg) (10 ∷ []) r)
-    ∙ (e ∙ numbers_parts (codes "substitute ") (decimal y.src.0) (codes " ") (decimal y.src.1) (codes " ") (decimal y.dst.0) (codes " ") (decimal y.dst.1) (codes " ") (decimal y.subreg) (10 ∷ []) s) in
-    let a = number_one x.src.0 y.src.0 _ _ is.src.0 others.src.0 refl refl (front_one (codes "substitute ") _ _ whole) in
-    let b = number_one x.src.1 y.src.1 _ _ is.src.1 others.src.1 refl refl (front_one (codes " ") _ _ a.1) in
-    let c = number_one x.dst.0 y.dst.0 _ _ is.dst.0 others.dst.0 refl refl (front_one (codes " ") _ _ b.1) in
-    let d = number_one x.dst.1 y.dst.1 _ _ is.dst.1 others.dst.1 refl refl (front_one (codes " ") _ _ c.1) in
-    let f = number_one x.subreg y.subreg _ _ is.subreg others.subreg refl refl (front_one (codes " ") _ _ d.1) in
-    (λ k. record { src = (a.0 k, b.0 k); dst = (c.0 k, d.0 k); subreg = f.0 k }, front_one (10 ∷ []) r s f.1)
+    let whole = sym (entry_parts (codes "substitute ") (pair_text x.src) (pair_text x.dst) (decimal x.subreg) (10 ∷ []) r)
+    ∙ (e ∙ entry_parts (codes "substitute ") (pair_text y.src) (pair_text y.dst) (decimal y.subreg) (10 ∷ []) s) in
+    let src = pair_one x.src y.src _ _ is.src others.src (front_one (codes "substitute ") _ _ whole) in
+    let dst = pair_one x.dst y.dst _ _ is.dst others.dst src.1 in
+    let subreg = number_one x.subreg y.subreg _ _ is.subreg others.subreg refl refl dst.1 in
+    (λ k. record { src = src.0 k; dst = dst.0 k; subreg = subreg.0 k }, front_one (10 ∷ []) r s subreg.1)
+
+-- ---- a stack object's line
+
+object_parts : (a b c d e f g rest : List ℕ) →
+    (a ++ b ++ c ++ d ++ e ++ f ++ g) ++ rest ≡ a ++ (b ++ (c ++ (d ++ (e ++ (f ++ (g ++ rest))))))
+object_parts a b c d e f g rest = simp append_assoc
+
+pub object_line_one : (x y : ListedObject) (r s : List ℕ) → IsPrintableObject x → IsPrintableObject y → object_line x ++ r ≡ object_line y ++ s →
+    (x ≡ y) × (r ≡ s)
+object_line_one x y r s is others e =
+    let whole = sym (object_parts (codes "object ") (decimal x.id) (codes " ") (decimal x.size) (codes " ") (decimal x.offset) (10 ∷ []) r)
+    ∙ (e ∙ object_parts (codes "object ") (decimal y.id) (codes " ") (decimal y.size) (codes " ") (decimal y.offset) (10 ∷ []) s) in
+    let id = number_one x.id y.id _ _ is.id others.id refl refl (front_one (codes "object ") _ _ whole) in
+    let size = number_one x.size y.size _ _ is.size others.size refl refl (front_one (codes " ") _ _ id.1) in
+    let offset = number_one x.offset y.offset _ _ is.offset others.offset refl refl (front_one (codes " ") _ _ size.1) in
+    (λ k. record { id = id.0 k; size = size.0 k; offset = offset.0 k }, front_one (10 ∷ []) r s offset.1)
 
 -- ---- an item's line
 
@@ -192,7 +219,7 @@ line_one inlined l m r s is others e =
     let whole = sym (line_parts (start_text l.address) (origin_text l.item.origin) (item_text l.item) (10 ∷ []) r) ∙ (e ∙ line_parts (start_text m.address) (origin_text m.item.origin) (item_text m.item) (10 ∷ []) s) in
     let start = start_one l.address m.address _ _ is.address others.address whole in
     let origin = origin_one l.item.origin m.item.origin _ _ is.origin others.origin start.1 in
-    let item = item_line_one inlined l.item m.item is.item others.item r s origin.1 in
+    let item = item_line_one (declared_by inlined) l.item m.item is.item others.item r s origin.1 in
     let same : l.item ≡ m.item = λ k. record { kind = item.0 k; origin = origin.0 k; loc = item.1 k } in
     (λ k. record { address = start.0 k; item = same k }, item.2)
 

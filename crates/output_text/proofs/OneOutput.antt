@@ -9,10 +9,10 @@ use Rattle.mir_func.specs.declared.position.Origin.TheVariants.{Kept, Before}
 use Rattle.mir_printer.specs.Spelling.{item_text}
 use Rattle.mir_printer.specs.Printable.{IsNumber}
 use Rattle.output_text.specs.Hex.{address_text}
-use Rattle.output_text.specs.Output.{ItemLine, ListedBlock, ListedFunction, Output, section_text, function_line, variable_line, substitution_line, origin_text, start_text, item_line, block_line, block_text, function_text, spelling}
-use Rattle.output_text.specs.Shown.{IsPrintableLine, IsPrintableVariable, IsPrintableEntry, IsPrintableBlock, IsPrintableFunction, IsPrintableOutput, Shows}
+use Rattle.output_text.specs.Output.{ItemLine, ListedBlock, ListedFunction, Output, section_text, function_line, variable_line, substitution_line, origin_text, start_text, item_line, block_line, block_text, function_text, spelling, object_line}
+use Rattle.output_text.specs.Shown.{IsPrintableLine, IsPrintableVariable, IsPrintableEntry, IsPrintableBlock, IsPrintableFunction, IsPrintableOutput, Shows, IsPrintableObject}
 use Rattle.output_text.proofs.HexLemmas.{address_heads}
-use Rattle.output_text.proofs.LineLemmas.{section_one, function_line_one, variable_line_one, substitution_line_one, line_one, block_line_one}
+use Rattle.output_text.proofs.LineLemmas.{section_one, function_line_one, variable_line_one, substitution_line_one, line_one, block_line_one, object_line_one}
 
 -- ---- many texts of a kind, one after the other
 
@@ -121,6 +121,13 @@ variables_tell = record {
   one = λ v w r s is others after afters e. variable_line_one v w r s is others e;
 }
 
+objects_tell : Tells IsPrintableObject object_line (begins_with 111) Anything
+objects_tell = record {
+  begin = λ x r is. refl;
+  after = λ x r is. tt;
+  one = λ x y r s is others after afters e. object_line_one x y r s is others e;
+}
+
 substitutions_tell : Tells IsPrintableEntry substitution_line (begins_with 115) Anything
 substitutions_tell = record {
   begin = λ x r is. refl;
@@ -156,6 +163,7 @@ blocks_tell inlined = record {
 pub record EndsFunction (t : List ℕ) : Type 0 where
   pub lines : begins_line t ≡ false
   pub blocks : begins_with 98 t ≡ false
+  pub objects : begins_with 111 t ≡ false
   pub variables : begins_with 118 t ≡ false
   pub substitutions : begins_with 115 t ≡ false
 
@@ -168,11 +176,17 @@ from_prologue f r = flat_map item_line f.prologue ++ from_blocks f r
 abbrev from_substitutions : ListedFunction → List ℕ → List ℕ
 from_substitutions f r = flat_map substitution_line f.substitutions ++ from_prologue f r
 
-function_parts : (a b c d e rest : List ℕ) → (a ++ b ++ c ++ d ++ e) ++ rest ≡ a ++ (b ++ (c ++ (d ++ (e ++ rest))))
-function_parts a b c d e rest = simp append_assoc
+abbrev from_variables : ListedFunction → List ℕ → List ℕ
+from_variables f r = flat_map variable_line f.variables ++ from_substitutions f r
 
-function_is : (f : ListedFunction) (r : List ℕ) → function_text f ++ r ≡ function_line f.name f.low f.high ++ (flat_map variable_line f.variables ++ from_substitutions f r)
-function_is f r = function_parts (function_line f.name f.low f.high) (flat_map variable_line f.variables) (flat_map substitution_line f.substitutions) (flat_map item_line f.prologue) (flat_map block_text f.blocks) r
+function_parts : (a b c d e f rest : List ℕ) → (a ++ b ++ c ++ d ++ e ++ f) ++ rest ≡ a ++ (b ++ (c ++ (d ++ (e ++ (f ++ rest)))))
+function_parts a b c d e f rest = simp append_assoc
+
+function_is : (f : ListedFunction) (r : List ℕ) →
+    function_text f ++ r ≡ function_line f.name f.low f.high ++ (flat_map object_line f.objects ++ from_variables f r)
+function_is f r =
+    function_parts (function_line f.name f.low f.high) (flat_map object_line f.objects) (flat_map variable_line f.variables)
+    (flat_map substitution_line f.substitutions) (flat_map item_line f.prologue) (flat_map block_text f.blocks) r
 
 module _ (inlined : ℕ → Option ℕ) where
   no_lines : (f : ListedFunction) (r : List ℕ) → IsPrintableFunction inlined f → EndsFunction r → begins_line (from_blocks f r) ≡ false
@@ -189,23 +203,32 @@ module _ (inlined : ℕ → Option ℕ) where
       (none_passes (IsPrintableLine inlined) item_line (begins_with 118) (line_other inlined 118 (omega arith)) f.prologue (from_blocks f r) is.prologue
       (none_passes (IsPrintableBlock inlined) block_text (begins_with 118) (λ b r is. refl) f.blocks r is.blocks end.variables))
 
+  no_objects : (f : ListedFunction) (r : List ℕ) → IsPrintableFunction inlined f → EndsFunction r → begins_with 111 (from_variables f r) ≡ false
+  no_objects f r is end =
+      none_passes IsPrintableVariable variable_line (begins_with 111) (λ x r is. refl) f.variables (from_substitutions f r) is.variables
+      (none_passes IsPrintableEntry substitution_line (begins_with 111) (λ x r is. refl) f.substitutions (from_prologue f r) is.substitutions
+      (none_passes (IsPrintableLine inlined) item_line (begins_with 111) (line_other inlined 111 (omega arith)) f.prologue (from_blocks f r) is.prologue
+      (none_passes (IsPrintableBlock inlined) block_text (begins_with 111) (λ b r is. refl) f.blocks r is.blocks end.objects)))
+
   function_one : (f g : ListedFunction) (r s : List ℕ) → IsPrintableFunction inlined f → IsPrintableFunction inlined g → EndsFunction r → EndsFunction s → function_text f ++ r ≡ function_text g ++ s → (f ≡ g) × (r ≡ s)
   function_one f g r s is others end ends e =
       let whole = sym (function_is f r) ∙ (e ∙ function_is g s) in
       let head = function_line_one f.name g.name f.low f.high g.low g.high _ _ whole in
+      let objects = many_one IsPrintableObject object_line (begins_with 111) Anything objects_tell f.objects g.objects (from_variables f r)
+      (from_variables g s) is.objects others.objects (no_objects f r is end) (no_objects g s others ends) tt tt head.3 in
       let variables = many_one IsPrintableVariable variable_line (begins_with 118) Anything variables_tell f.variables g.variables (from_substitutions f r) (from_substitutions g s) is.variables others.variables
-      (no_variables f r is end) (no_variables g s others ends) tt tt head.3 in
+      (no_variables f r is end) (no_variables g s others ends) tt tt objects.1 in
       let substitutions = many_one IsPrintableEntry substitution_line (begins_with 115) Anything substitutions_tell f.substitutions g.substitutions (from_prologue f r) (from_prologue g s) is.substitutions others.substitutions
       (no_substitutions f r is end) (no_substitutions g s others ends) tt tt variables.1 in
       let prologue = many_one (IsPrintableLine inlined) item_line begins_line Anything (lines_tell inlined) f.prologue g.prologue (from_blocks f r) (from_blocks g s) is.prologue others.prologue
       (no_lines f r is end) (no_lines g s others ends) tt tt substitutions.1 in
       let blocks = many_one (IsPrintableBlock inlined) block_text (begins_with 98) EndsLines (blocks_tell inlined) f.blocks g.blocks r s is.blocks others.blocks end.blocks ends.blocks end.lines ends.lines prologue.1 in
-      (λ k. record { name = head.0 k; low = head.1 k; high = head.2 k; variables = variables.0 k; substitutions = substitutions.0 k; prologue = prologue.0 k; blocks = blocks.0 k }, blocks.1)
+      (λ k. record { name = head.0 k; low = head.1 k; high = head.2 k; objects = objects.0 k; variables = variables.0 k; substitutions = substitutions.0 k; prologue = prologue.0 k; blocks = blocks.0 k }, blocks.1)
 
   functions_tell : Tells (IsPrintableFunction inlined) function_text begins_function EndsFunction
   functions_tell = record {
     begin = λ f r is. refl;
-    after = λ f r is. record { lines = refl; blocks = refl; variables = refl; substitutions = refl };
+    after = λ f r is. record { lines = refl; blocks = refl; objects = refl; variables = refl; substitutions = refl };
     one = function_one;
   }
 
@@ -215,7 +238,7 @@ module _ (inlined : ℕ → Option ℕ) where
       let right = output_parts (section_text (codes ".text") p.text) (section_text (codes ".debug_loclists") p.loclists) (flat_map function_text p.functions) in
       let text = section_one (codes ".text") o.text p.text _ _ is.text others.text (sym left ∙ (e ∙ right)) in
       let lists = section_one (codes ".debug_loclists") o.loclists p.loclists _ _ is.loclists others.loclists text.1 in
-      let end : EndsFunction [] = record { lines = refl; blocks = refl; variables = refl; substitutions = refl } in
+      let end : EndsFunction [] = record { lines = refl; blocks = refl; objects = refl; variables = refl; substitutions = refl } in
       let functions = many_one (IsPrintableFunction inlined) function_text begins_function EndsFunction functions_tell o.functions p.functions [] [] is.functions others.functions refl refl end end lists.1 in
       λ k. record { text = text.0 k; loclists = lists.0 k; functions = functions.0 k }
     where

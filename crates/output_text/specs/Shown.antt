@@ -1,11 +1,12 @@
 -- What a text shows: the output whose text it is.
-use Rattle.std.specs.Prelude.{◌≡◌, ℕ, List, length, All, Option, None, IfSome}
+use Rattle.std.specs.Prelude.{◌≡◌, ℕ, false, List, length, All, Option, None, IfSome}
 use Rattle.mir_func.specs.declared.position.Pos.{Pos}
 use Rattle.mir_func.specs.declared.position.Origin.{Origin}
 use Rattle.mir_func.specs.declared.position.Origin.TheVariants.{Kept, Before}
 use Rattle.mir_func.specs.declared.entry.Entry.{Entry}
-use Rattle.mir_printer.specs.Printable.{IsNumber, IsPrintable}
-use Rattle.output_text.specs.Output.{ItemLine, ListedVariable, ListedBlock, ListedFunction, Output, spelling}
+use Rattle.mir_func.specs.declared.entry.OperandPair.{OperandPair}
+use Rattle.mir_printer.specs.Printable.{Declared, IsNumber, IsPrintable}
+use Rattle.output_text.specs.Output.{ItemLine, ListedObject, ListedVariable, ListedBlock, ListedFunction, Output, spelling}
 
 abbrev pub HasNumbersAt : Pos → Type 0
 HasNumbersAt p = IsNumber p.block × IsNumber p.item
@@ -14,10 +15,14 @@ abbrev pub IsPrintableOrigin : Origin → Type 0
 IsPrintableOrigin (Kept p) = HasNumbersAt p
 IsPrintableOrigin (Before p) = HasNumbersAt p
 
+-- no item that is listed names a stack object: an access by one is listed as its word makes it, by x2
+abbrev pub declared_by : (inlined : ℕ → Option ℕ) → Declared
+declared_by inlined = record { objects = λ n. false; inlined = inlined }
+
 pub record IsPrintableLine (inlined : ℕ → Option ℕ) (l : ItemLine) : Type 0 where
   pub address : IfSome l.address IsNumber
   pub origin : IsPrintableOrigin l.item.origin
-  pub item : IsPrintable inlined l.item
+  pub item : IsPrintable (declared_by inlined) l.item
 
 pub record IsPrintableVariable (v : ListedVariable) : Type 0 where
   pub list : IsNumber v.list
