@@ -7,6 +7,7 @@ use Rattle.rv64_instr.specs.Row.{Row, Fixes, Moves, Sets, implicit_uses}
 use Rattle.rv64_word.specs.declared.machine_op.MachineOp.{MachineOp}
 use Rattle.rv64_word.specs.MachineRow.{MachineRow}
 use Rattle.mir_func.specs.declared.variable.VarId.{VarId}
+use Rattle.mir_func.specs.Variables.{part_value}
 use Rattle.mir_meaning.specs.State.{Core, State, content, assigned}
 use Rattle.mir_meaning.specs.Step.{or_zero}
 use Rattle.mir_func.specs.Graph.{Program}
@@ -16,14 +17,15 @@ use Rattle.path_tokens.specs.Trace as trace
 use Rattle.code_layout.specs.Image.{CodeLine, Image, word_at}
 use Rattle.rv64_word.specs.Decoded.{decoded}
 use Rattle.code_layout.specs.Machine.{Machine, register, place_content}
-use Rattle.code_layout.specs.MachineStep.{Ends, return_word, does_row, does, does_operation, does_word, does_line}
+use Rattle.code_layout.specs.MachineStep.{Ends, return_word, does_row, does, does_operation, does_word, call_of, does_line}
 use Rattle.code_layout.specs.Straight.{IsPlainRow, IsWordOf, Holds}
 use Rattle.rv64_word.proofs.Decoding.{is_decoded}
 use Rattle.code_layout.proofs.Fetching.{not_return}
 use Rattle.code_layout.proofs.Plain.{Holding}
 
 -- plain code isn't a call, and goes by its word
-pub plain_line : (image : Image) (l : CodeLine) (row : Row) (m : Machine) → IsPlainRow row → does_line image l row m ≡ does_word l (word_at image.text m.counter) m
+pub plain_line : (image : Image) (l : CodeLine) (row : Row) (m : Machine) → IsPlainRow row →
+    does_line image l (call_of row) m ≡ does_word l (word_at image.text m.counter) m
 plain_line image l (Fixes rd n) m p = refl
 plain_line image l (Moves rd rs) m p = refl
 plain_line image l (Sets rd op a b) m p = refl
@@ -42,10 +44,11 @@ names_here value trace.begin h = h
 names_here value (trace.onward run went) h = h.1
 
 -- a place that holds the variable's value by tokens does so in the machine
-pub held_place : (value : Token → ℕ) (v : VarId) (p : Place) (m : Machine) (t : Tokens) (c : Core) → Names value t c → Holding m c → Holds v t p → assigned v c.marks ≡ Some (place_content p m)
+pub held_place : (value : Token → ℕ) (v : VarId) (p : Place) (m : Machine) (t : Tokens) (c : Core) → Names value t c → Holding m c → Holds v t p →
+    assigned v c.marks ≡ Some (part_value v (place_content p m))
 held_place value v (place.Register r) m t c names h k =
     let at : content c.regs r ≡ Some (value k.token) = names.regs r k.token k.held in
-    names.variables v k.token k.variable ∙ ap Some (sym (h.same.regs r ∙ ap or_zero at))
+    names.variables v k.token k.variable ∙ ap (λ (x : ℕ). Some (part_value v x)) (sym (h.same.regs r ∙ ap or_zero at))
 held_place value v (place.Slot n) m t c names h k =
     let at : c.slots n ≡ Some (value k.token) = names.slots n k.token k.held in
     let none : c.slots n ≡ None = h.slots n in
@@ -53,4 +56,4 @@ held_place value v (place.Slot n) m t c names h k =
 held_place value v (place.Const n) m t c names h k =
     let held : Some (Fixed (word n)) ≡ Some k.token = k.held in
     let is : k.token ≡ Fixed (word n) = cc in
-    names.variables v k.token k.variable ∙ ap Some (ap value is ∙ names.numbers (word n))
+    names.variables v k.token k.variable ∙ ap (λ (x : ℕ). Some (part_value v x)) (ap value is ∙ names.numbers (word n))

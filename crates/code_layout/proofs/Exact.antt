@@ -1,6 +1,7 @@
 -- One path leads to each item of straight-line code, so the walk's tokens are those of every path.
-use Rattle.std.proofs.Common.{◌≡◌, ℕ, zero, suc, ◌+◌, List, [], ◌∷◌, drop, Option, Some, Bool, true, cond, eq-eqb, refl, sym, ap, ◌∙◌, subst, arith}
-use Rattle.std.specs.Prelude.{◌↔◌, slice_get}
+use Rattle.std.proofs.Common.{◌≡◌, ℕ, zero, suc, ◌+◌, List, [], ◌∷◌, drop, Option, Some, Bool, true, false, cond, eq-eqb, refl, sym, ap, ◌∙◌, subst, inl, inr, arith}
+use Rattle.std.specs.Prelude.{◌↔◌, ◌⊎◌, ◌≤◌, ◌<◌, slice_get}
+use Rattle.std.proofs.lemmas.Bool.{cases_lt}
 use Rattle.rv64_instr.specs.declared.place.Place.{Place}
 use Rattle.rv64_instr.specs.Row.{Row, Fixes, Moves, Sets, row_of}
 use Rattle.mir_func.specs.declared.entry.OperandPair.{OperandPair}
@@ -14,7 +15,7 @@ use Rattle.mir_func.specs.Graph.{Fetch, Here, Silent, Program, below, block_star
 use Rattle.mir_meaning.specs.Align.{is_code}
 use Rattle.mir_meaning.specs.Token.{Tokens, after_item, after_fetch, entry_tokens, variable_token, place_token, Path, begin, onward, SitsIn, IsWanted, NoneIsWanted}
 use Rattle.code_layout.specs.Straight.{IsPlainRow, IsStraight, returns, goes_on, marks, Holds}
-use Rattle.code_layout.specs.Exact.{IsFirst, GiveFirstAt, GiveFirstIf, GiveFirst, address_at, IsPointOf, StraightListsAreExact}
+use Rattle.code_layout.specs.Exact.{IsFirst, GiveFirstIf, GiveFirst, address_at, IsPointOf, StraightListsAreExact}
 use Rattle.code_layout.proofs.Laid.{drop_one, drop_zero}
 use Rattle.code_layout.proofs.Later.{entry_later, give_later}
 
@@ -24,6 +25,41 @@ plain_edge enter (Fixes rd n) p q h e = e
 plain_edge enter (Moves rd rs) p q h e = e
 plain_edge enter (Sets rd op a b) p q h e = e
 plain_edge enter _ p q h e = absurd h
+
+-- a code item has a byte at an address
+record HasByte (a : ℕ) (items : List Item) (byte : ℕ) : Type 0 where
+  number : ℕ
+  item : Item
+  stands : slice_get items number ≡ Some item
+  code : is_code item.kind ≡ true
+  from : address_at a items number ≤ byte
+  within : byte < address_at a items number + 4
+
+-- a byte of an item further on
+byte_below : (a : ℕ) (i : Item) (items : List Item) (byte : ℕ) → HasByte (cond (is_code i.kind) (a + 4) a) items byte → HasByte a (i ∷ items) byte
+byte_below a i items byte h = record { number = suc h.number; item = h.item; stands = h.stands; code = h.code; from = h.from; within = h.within }
+
+-- an address from the first item on is that of a code item's byte, or nothing is given there
+abbrev IsTold : (lists : VarId → (address : ℕ) → Place → Type 0) → (byte a : ℕ) → List Item → Type 0
+IsTold lists byte a items = HasByte a items byte ⊎ ((v : VarId) (place : Place) → lists v byte place → ⊥)
+
+told : (lists : VarId → (address : ℕ) → Place → Type 0) (resolve : OperandPair → Option OperandPair) (n a : ℕ) (t : Tokens) (items : List Item) →
+    GiveFirst lists resolve n a t items → (byte : ℕ) → a ≤ byte → IsTold lists byte a items
+told lists resolve n a t [] given byte from = inr (λ v place l. given v byte from place l)
+told lists resolve n a t (i ∷ items) given byte from =
+    by_kind (is_code i.kind) refl (told lists resolve (suc n) (cond (is_code i.kind) (a + 4) a) (after_item resolve n i.kind t) items given.1 byte)
+  where
+    below : IsTold lists byte (cond (is_code i.kind) (a + 4) a) items → IsTold lists byte a (i ∷ items)
+    below (inl h) = inl (byte_below a i items byte h)
+    below (inr none) = inr none
+
+    by_kind : (b : Bool) → is_code i.kind ≡ b →
+        (cond (is_code i.kind) (a + 4) a ≤ byte → IsTold lists byte (cond (is_code i.kind) (a + 4) a) items) → IsTold lists byte a (i ∷ items)
+    by_kind false e rest = below (rest (subst (λ (x : Bool). cond x (a + 4) a ≤ byte) (sym e) from))
+    by_kind true e rest = elim (cases_lt byte (a + 4)) as (λ z. IsTold lists byte a (i ∷ items)) [
+      | inl within ↦ inl (record { number = 0; item = i; stands = refl; code = e; from = from; within = within })
+      | inr past ↦ below (rest (subst (λ (x : Bool). cond x (a + 4) a ≤ byte) (sym e) past))
+    ]
 
 module _ (prologue block : Block) (resolve : OperandPair → Option OperandPair) where
   abbrev g : Program
@@ -147,7 +183,7 @@ module _ (prologue block : Block) (resolve : OperandPair → Option OperandPair)
       record Located (x index : ℕ) : Type 0 where
         tokens : Tokens
         path : Path g start (suc index) (spot index) tokens
-        gives : GiveFirstAt lists x tokens
+        gives : GiveFirstIf true lists x tokens
 
       at_head : (n a : ℕ) (t : Tokens) (i j : Item) → Some i ≡ Some j → is_code j.kind ≡ true → Path g start (suc n) (spot n) t → GiveFirstIf (is_code i.kind) lists a t → Located a n
       at_head n a t i j same code path given =
@@ -182,17 +218,32 @@ module _ (prologue block : Block) (resolve : OperandPair → Option OperandPair)
         given_in : GiveFirst lists resolve 1 0 entry_tokens block.items
         given_in = subst (λ (t : Tokens). GiveFirst lists resolve 1 0 t block.items) entry_later (give_later lists resolve 0 0 entry_tokens block.items given)
 
-        located : (a : ℕ) (p : Pos) → (point : IsPointOf 1 block.items a p) → Located a point.number
+        located : (a : ℕ) (p : Pos) → (point : IsPointOf 1 block.items a p) → Located (address_at 0 block.items point.number) point.number
         located a p point =
             let at : 0 + point.number ≡ point.number = omega arith in
             let found = locate straight 0 entry_tokens (drop_zero block.items) path_in given_in point.number point.item point.stands point.code in
-            subst (λ (x : ℕ). Located x point.number) (sym point.address) (subst (Located (address_at 0 block.items point.number)) at found)
+            subst (Located (address_at 0 block.items point.number)) at found
+
+        gives_nothing : (v : VarId) (a : ℕ) → ((p : Pos) → IsPointOf 1 block.items a p → ⊥) → (place : Place) → lists v a place → ⊥
+        gives_nothing v a none place l =
+            elim (told lists resolve 0 0 entry_tokens block.items given a (omega arith)) as (λ z. ⊥) [
+              | inl h ↦ none (spot h.number) (record {
+                number = h.number;
+                item = h.item;
+                stands = h.stands;
+                code = h.code;
+                from = h.from;
+                within = h.within;
+                position = refl;
+              })
+              | inr nothing ↦ nothing v place l
+            ]
 
         gives : (v : VarId) (a : ℕ) (p : Pos) → IsPointOf 1 block.items a p → (place : Place) → lists v a place ↔ IsWanted g start v p place
         gives v a p point place =
             let x = located a p point in
             let n : ℕ = point.number in
-            let first = x.gives.gives v place in (
+            let first = (x.gives a point.from point.within).gives v place in (
               λ l. subst (λ (q : Pos). IsWanted g start v q place) (sym point.position) (wanted n (suc n) x.tokens v place x.path (first.0 l)),
               λ w. first.1 (is_first n (suc n) x.tokens v place x.path (subst (λ (q : Pos). IsWanted g start v q place) point.position w)),
             )
@@ -201,7 +252,8 @@ module _ (prologue block : Block) (resolve : OperandPair → Option OperandPair)
         gives_none v a p point =
             let x = located a p point in
             let n : ℕ = point.number in (
-              λ none place named s. x.gives.gives_none v none place named (holds n (suc n) x.tokens v place x.path (subst (λ (q : Pos). SitsIn g start v place q) point.position s)),
+              λ none place named s. (x.gives a point.from point.within).gives_none v none place named
+                  (holds n (suc n) x.tokens v place x.path (subst (λ (q : Pos). SitsIn g start v place q) point.position s)),
               λ none place l. let w = (gives v a p point place).0 l in none place w.named w.sits,
             )
 
@@ -209,4 +261,5 @@ pub straight_lists_are_exact : (lists : VarId → (address : ℕ) → Place → 
 straight_lists_are_exact lists prologue block resolve words empty straight given = record {
   gives = gives prologue block resolve empty straight lists given;
   gives_none = gives_none prologue block resolve empty straight lists given;
+  outside = gives_nothing prologue block resolve empty straight lists given;
 }

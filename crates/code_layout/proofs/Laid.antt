@@ -1,5 +1,5 @@
 -- Straight-line code with its bytes and lines, item by item.
-use Rattle.std.proofs.Common.{◌≡◌, ℕ, zero, suc, ◌+◌, ◌<◌, List, [], ◌∷◌, ◌++◌, drop, All, Option, cond, refl, sym, ap, ◌∙◌, subst}
+use Rattle.std.proofs.Common.{◌≡◌, ℕ, zero, suc, ◌+◌, ◌<◌, List, [], ◌∷◌, ◌++◌, drop, All, Option, Some, cond, refl, sym, ap, ◌∙◌, subst}
 use Rattle.std.specs.List.{flat_map}
 use Rattle.std.specs.Int.{w32, to_le_bytes}
 use Rattle.rv64_instr.specs.Instruction.{Instruction}
@@ -12,9 +12,9 @@ use Rattle.mir_func.specs.declared.item.Item.{Item}
 use Rattle.mir_func.specs.declared.item.ItemKind.{ItemKind}
 use Rattle.mir_func.specs.declared.item.ItemKind.TheVariants.{Code, Mark}
 use Rattle.mir_meaning.specs.Align.{is_code}
-use Rattle.code_layout.specs.Image.{CodeLine}
+use Rattle.code_layout.specs.Image.{CodeLine, line_of}
 use Rattle.code_layout.specs.MachineStep.{return_word}
-use Rattle.code_layout.specs.Straight.{IsPlainRow, IsWordOf, IsStraight, line_of, lines_of}
+use Rattle.code_layout.specs.Straight.{IsPlainRow, IsWordOf, IsStraight, lines_of}
 use Rattle.code_layout.specs.Straight as straight
 
 pub drop_one : (xs : List Item) (n : ℕ) (x : Item) (rest : List Item) → drop n xs ≡ x ∷ rest → drop (suc n) xs ≡ rest
@@ -41,18 +41,20 @@ pub data IsLaid (block : ℕ) : (index address : ℕ) → List Item → (text : 
   marks : {n a : ℕ} {i : Item} {items : List Item} {text : List ℕ} {lines : List CodeLine} {v : VarId} {m : MarkValue} → i.kind ≡ Mark v m
       → IsLaid block (suc n) a items text lines → IsLaid block n a (i ∷ items) text lines
 
-pub code_lines : (b n a : ℕ) (i : Item) (items : List Item) (c : Instruction) (k : Option ℕ) → i.kind ≡ Code c k → i.origin ≡ Kept (record { block = b; item = n }) →
-    lines_of a (i ∷ items) ≡ kept_line b n a c ∷ lines_of (a + 4) items
+pub code_lines : (b n a : ℕ) (i : Item) (items : List Item) (c : Instruction) (k : Option ℕ) → i.kind ≡ Code c k →
+    i.origin ≡ Kept (record { block = b; item = n }) → lines_of a (i ∷ items) ≡ kept_line b n a c ∷ lines_of (a + 4) items
 code_lines b n a i items c k kind own =
-    ap (λ (x : ItemKind). line_of a i.origin x ++ lines_of (cond (is_code x) (a + 4) a) items) kind ∙ ap (λ (o : Origin). record { address = a; origin = o; instruction = c } ∷ lines_of (a + 4) items) own
+    ap (λ (x : ItemKind). line_of (Some a) i.origin x ++ lines_of (cond (is_code x) (a + 4) a) items) kind
+    ∙ ap (λ (o : Origin). record { address = a; origin = o; instruction = c } ∷ lines_of (a + 4) items) own
 
 pub mark_lines : (a : ℕ) (i : Item) (items : List Item) (v : VarId) (m : MarkValue) → i.kind ≡ Mark v m → lines_of a (i ∷ items) ≡ lines_of a items
-mark_lines a i items v m kind = ap (λ (x : ItemKind). line_of a i.origin x ++ lines_of (cond (is_code x) (a + 4) a) items) kind
+mark_lines a i items v m kind = ap (λ (x : ItemKind). line_of (Some a) i.origin x ++ lines_of (cond (is_code x) (a + 4) a) items) kind
 
 pub laid : {b n : ℕ} {items : List Item} {words : List ℕ} → IsStraight b n items words → (a : ℕ) → IsLaid b n a items (flat_map (to_le_bytes w32) words) (lines_of a items)
 laid {b = b} (straight.returns {n} {i} {c} {k} kind own row physical) a =
     subst (IsLaid b n a (i ∷ []) (to_le_bytes w32 return_word)) (sym (code_lines b n a i [] c k kind own)) (returns kind row physical)
 laid {b = b} (straight.goes_on {n} {i} {items} {words} {c} {k} w kind own plain is rest) a =
-    subst (IsLaid b n a (i ∷ items) (to_le_bytes w32 w ++ flat_map (to_le_bytes w32) words)) (sym (code_lines b n a i items c k kind own)) (goes_on w kind plain is (laid rest (a + 4)))
+    subst (IsLaid b n a (i ∷ items) (to_le_bytes w32 w ++ flat_map (to_le_bytes w32) words)) (sym (code_lines b n a i items c k kind own))
+    (goes_on w kind plain is (laid rest (a + 4)))
 laid {b = b} (straight.marks {n} {i} {items} {words} {v} {m} kind rest) a =
     subst (IsLaid b n a (i ∷ items) (flat_map (to_le_bytes w32) words)) (sym (mark_lines a i items v m kind)) (marks kind (laid rest a))

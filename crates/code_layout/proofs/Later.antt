@@ -5,7 +5,7 @@ use Rattle.rv64_instr.specs.declared.operand.Operand.{Operand}
 use Rattle.rv64_instr.specs.declared.place.Place.{Place}
 use Rattle.rv64_instr.specs.declared.place.Place.TheVariants.{Register, Slot, Const}
 use Rattle.rv64_instr.specs.Access.{caller_saved}
-use Rattle.rv64_instr.specs.Row.{Row, Fixes, Moves, Sets, Loads, LoadsSlot, StoresSlot, Calls, row_of}
+use Rattle.rv64_instr.specs.Row.{Row, Fixes, Moves, Sets, Addresses, Loads, LoadsSlot, StoresSlot, Calls, row_of}
 use Rattle.mir_func.specs.declared.entry.OperandPair.{OperandPair}
 use Rattle.mir_func.specs.declared.variable.VarId.{VarId}
 use Rattle.mir_func.specs.declared.variable.MarkValue.{MarkValue}
@@ -14,7 +14,7 @@ use Rattle.mir_func.specs.declared.item.Item.{Item}
 use Rattle.mir_func.specs.declared.item.ItemKind.{ItemKind}
 use Rattle.mir_func.specs.declared.item.ItemKind.TheVariants.{Code, Mark, Phi}
 use Rattle.mir_meaning.specs.State.{updated, assigned}
-use Rattle.mir_func.specs.Variables.{is_same}
+use Rattle.mir_func.specs.Variables.{is_same, overlaps}
 use Rattle.mir_meaning.specs.Step.{defined}
 use Rattle.rv64_instr.specs.Parts.{is_call}
 use Rattle.mir_meaning.specs.Align.{is_code}
@@ -70,6 +70,7 @@ moved_later n (Moves rd rs) t =
     ap (λ (x : Option Token). record (later_tokens t) { regs = put_token rd x (λ q. laters (t.regs q)) }) (register_later t.regs rs)
     ∙ ap (λ (x : ℕ → Option Token). record (later_tokens t) { regs = x }) (put_later rd (register_token t.regs rs) t.regs)
 moved_later n (Sets rd op a b) t = ap (λ (x : ℕ → Option Token). record (later_tokens t) { regs = x }) (put_later rd (Some (Made n rd)) t.regs)
+moved_later n (Addresses rd k offset) t = ap (λ (x : ℕ → Option Token). record (later_tokens t) { regs = x }) (put_later rd (Some (Made n rd)) t.regs)
 moved_later n (Loads rd op base offset) t = ap (λ (x : ℕ → Option Token). record (later_tokens t) { regs = x }) (put_later rd (Some (Made n rd)) t.regs)
 moved_later n (LoadsSlot rd k) t = ap (λ (x : ℕ → Option Token). record (later_tokens t) { regs = x }) (put_later rd (t.slots k) t.regs)
 moved_later n (StoresSlot rs k) t =
@@ -111,7 +112,7 @@ place_later (Some (Register r)) t = register_later t.regs r
 place_later (Some (Slot n)) t = refl
 place_later (Some (Const c)) t = refl
 
-pair_later : (q : Option (ℕ × ℕ)) (t : Tokens) → pair_token q (later_tokens t) ≡ laters (pair_token q t)
+pair_later : (q : Option OperandPair) (t : Tokens) → pair_token q (later_tokens t) ≡ laters (pair_token q t)
 pair_later None t = refl
 pair_later (Some q) t = refl
 
@@ -119,7 +120,7 @@ mark_later : (resolve : OperandPair → Option OperandPair) (m : MarkValue) (t :
 mark_later resolve Nothing t = refl
 mark_later resolve (Constant c) t = refl
 mark_later resolve (At r) t = register_later t.regs r
-mark_later resolve (Pair k o) t = pair_later (resolve k o) t
+mark_later resolve (Pair q) t = pair_later (resolve q) t
 
 item_later : (resolve : OperandPair → Option OperandPair) (n : ℕ) (kind : ItemKind) (t : Tokens) → after_item resolve (suc n) kind (later_tokens t) ≡ later_tokens (after_item resolve n kind t)
 item_later resolve n (Code i k) t =
@@ -141,7 +142,10 @@ entry_later = λ i. record { regs = λ r. entry_by (nat_lt r 32 && not (nat_eq r
 
 variable_later : (v : VarId) (ms : List (VarId × Option Token)) → assigned v (later_marks ms) ≡ laters (assigned v ms)
 variable_later v [] = refl
-variable_later v (m ∷ ms) = ap (λ (x : Option Token). cond (is_same v m.0) (laters m.1) x) (variable_later v ms) ∙ chosen (is_same v m.0) m.1 (assigned v ms)
+variable_later v (m ∷ ms) =
+    ap (λ (x : Option Token). cond (is_same v m.0) (laters m.1) (cond (overlaps v m.0) None x)) (variable_later v ms)
+    ∙ ap (λ (x : Option Token). cond (is_same v m.0) (laters m.1) x) (chosen (overlaps v m.0) None (assigned v ms))
+    ∙ chosen (is_same v m.0) m.1 (cond (overlaps v m.0) None (assigned v ms))
 
 one_token : (a b : Token) → later a ≡ later b → a ≡ b
 one_token (Entry q) (Entry r) e = let same : q ≡ r = cc in ap Entry same
@@ -193,11 +197,11 @@ module _ (lists : VarId → (address : ℕ) → Place → Type 0) (resolve : Ope
   }
 
   if_later : (b : Bool) (a : ℕ) (t : Tokens) → GiveFirstIf b lists a t → GiveFirstIf b lists a (later_tokens t)
-  if_later true a t is = at_later a t is
+  if_later true a t is = λ byte from within. at_later byte t (is byte from within)
   if_later false a t is = tt
 
   pub give_later : (n a : ℕ) (t : Tokens) (items : List Item) → GiveFirst lists resolve n a t items → GiveFirst lists resolve (suc n) a (later_tokens t) items
-  give_later n a t [] is = tt
+  give_later n a t [] is = is
   give_later n a t (i ∷ items) is = (
     if_later (is_code i.kind) a t is.0,
     subst (λ (x : Tokens). GiveFirst lists resolve (suc (suc n)) (cond (is_code i.kind) (a + 4) a) x items) (sym (item_later resolve n i.kind t))

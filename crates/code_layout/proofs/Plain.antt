@@ -1,7 +1,8 @@
 -- Plain code does the same in the source and in the machine.
-use Rattle.std.proofs.Common.{◌≡◌, ℕ, zero, suc, ◌<◌, List, [], ◌∷◌, map, All, Option, Some, None, Bool, true, false, cond, eqb, refl, ap, ◌∙◌}
-use Rattle.std.specs.Prelude.{IsSome, is_some, ◌&&◌}
-use Rattle.std.proofs.lemmas.List.Elements.{All-head, All-tail}
+use Rattle.std.proofs.Common.{◌≡◌, ℕ, zero, suc, ◌<◌, List, [], ◌∷◌, map, All, Option, Some, None, Bool, true, false, cond, eqb, eq-eqb, ne_eqb, refl, sym, ap, ◌∙◌}
+use Rattle.std.specs.Prelude.{IsSome, is_some, nat_eq, ◌&&◌, ◌||◌}
+use Rattle.std.specs.List.{list_any}
+use Rattle.std.proofs.lemmas.List.Elements.{All-nil, All-cons, All-head, All-tail}
 use Rattle.rv64_instr.specs.declared.operand.Operand.{Operand}
 use Rattle.rv64_instr.specs.Arithmetic.{computed}
 use Rattle.rv64_instr.specs.Row.{Row, Fixes, Moves, Sets, Returns}
@@ -13,7 +14,7 @@ use Rattle.mir_meaning.specs.Step.{Outcome, Falls, Gives, Traps, act, does, read
 use Rattle.mir_meaning.specs.Step as source
 use Rattle.code_layout.specs.Machine.{Machine, register, register_in, input, set_in}
 use Rattle.code_layout.specs.MachineStep.{Continues, past, set_register, does_row}
-use Rattle.code_layout.specs.Straight.{IsPlainInput, IsPlainRow}
+use Rattle.code_layout.specs.Straight.{IsSpare, IsPlainInput, IsPlainRow}
 use Rattle.code_layout.specs.StraightLaws.{HoldTheSame}
 
 -- the machine and the source hold the same, and the source's physical registers are written and no slot is
@@ -30,6 +31,7 @@ is_there (Some n) h = refl
 pub record SetsAlike (row : Row) (m : Machine) (c : Core) : Type 0 where
   pub rd : ℕ
   pub value : ℕ
+  pub spare : IsSpare rd
   pub machine : does_row row m ≡ Continues (past 4 (set_register rd value m))
   pub core : act row c ≡ Falls (source.set_register rd value c)
 
@@ -51,19 +53,21 @@ both false b e f = cc
 
 pub sets_alike : (row : Row) (m : Machine) (c : Core) → IsPlainRow row → Holding m c → SetsAlike row m c
 unfolding act does does_row
-sets_alike (Fixes rd n) m c p h = record { rd = rd; value = n; machine = refl; core = refl }
+sets_alike (Fixes rd n) m c p h = record { rd = rd; value = n; spare = p; machine = refl; core = refl }
 sets_alike (Moves rd rs) m c p h = record {
   rd = rd;
   value = read c rs;
+  spare = p.0;
   machine = ap (λ (x : ℕ). Continues (past 4 (set_register rd x m))) (h.same.regs rs);
-  core = falls_if _ _ (both _ true (is_there (content c.regs rs) (h.written rs p)) refl);
+  core = falls_if _ _ (both _ true (is_there (content c.regs rs) (h.written rs p.1)) refl);
 }
 sets_alike (Sets rd op a b) m c p h = record {
   rd = rd;
   value = computed op (read c a) (input_value c b);
+  spare = p.0;
   machine = ap (λ (x : ℕ). Continues (past 4 (set_register rd (computed op x (input m b)) m))) (h.same.regs a)
       ∙ ap (λ (x : ℕ). Continues (past 4 (set_register rd (computed op (read c a) x) m))) (input_alike m c b h);
-  core = falls_if _ _ (both _ _ (is_there (content c.regs a) (h.written a p.0)) (inputs_written c b p.1 h.written));
+  core = falls_if _ _ (both _ _ (is_there (content c.regs a) (h.written a p.1)) (inputs_written c b p.2 h.written));
 }
 sets_alike _ m c p h = absurd p
 
@@ -84,6 +88,33 @@ holding_set rd v m c h = record {
   written = set_written rd v c.regs h.written;
   slots = h.slots;
 }
+
+-- a register that is set leaves the others as they were
+set_other : (rd v r : ℕ) (f : ℕ → ℕ) → nat_eq rd r ≡ false → register_in (set_in rd v f) r ≡ register_in f r
+set_other zero v r f e = refl
+set_other (suc rd) v zero f e = refl
+set_other (suc rd) v (suc r) f e =
+    let ne : suc r ≡ suc rd → ⊥ = λ same. let is : nat_eq (suc rd) (suc r) ≡ true = eq-eqb (suc rd) (suc r) (sym same) in absurd (cc) in
+    ap (λ (b : Bool). cond b v (f (suc r))) (ne_eqb (suc r) (suc rd) ne)
+
+neither : (a b : Bool) → (a || b) ≡ false → (a ≡ false) × (b ≡ false)
+neither false b e = (refl, e)
+neither true b e = cc
+
+abbrev pub AreKept : (m m0 : Machine) → List ℕ → Type 0
+AreKept m m0 rs = All (λ r. register m r ≡ register m0 r) rs
+
+pub all_kept : (m m0 : Machine) → ((r : ℕ) → register m r ≡ register m0 r) → (rs : List ℕ) → AreKept m m0 rs
+all_kept m m0 h [] = All-nil (λ (r : ℕ). register m r ≡ register m0 r)
+all_kept m m0 h (r ∷ rs) = All-cons (λ (q : ℕ). register m q ≡ register m0 q) r rs (h r) (all_kept m m0 h rs)
+
+pub kept_set : (rd v : ℕ) (m m0 : Machine) (rs : List ℕ) → list_any (nat_eq rd) rs ≡ false → AreKept m m0 rs → AreKept (past 4 (set_register rd v m)) m0 rs
+kept_set rd v m m0 [] spare kept = All-nil (λ (r : ℕ). register_in (set_in rd v m.regs) r ≡ register m0 r)
+kept_set rd v m m0 (r ∷ rs) spare kept =
+    let both = neither (nat_eq rd r) (list_any (nat_eq rd) rs) spare in
+    let Same : ℕ → Type 0 = λ q. register m q ≡ register m0 q in
+    All-cons (λ (q : ℕ). register_in (set_in rd v m.regs) q ≡ register m0 q) r rs (set_other rd v r m.regs both.0 ∙ All-head Same r rs kept)
+    (kept_set rd v m m0 rs both.1 (All-tail Same r rs kept))
 
 pub holding_numbered : (m : Machine) (sp call : Bool) (k : Option ℕ) (operands : List Operand) (c : Core) → Holding m c → Holding m (numbered sp call k operands c)
 holding_numbered m sp call None operands c h = h

@@ -12,11 +12,14 @@ use Rattle.mir_func.specs.declared.position.Pos.{Pos}
 use Rattle.mir_func.specs.declared.variable.VarId.{VarId}
 use Rattle.mir_func.specs.declared.variable.MarkValue.{MarkValue}
 use Rattle.mir_func.specs.declared.block.Block.{Block}
+use Rattle.mir_func.specs.declared.object.Object.{Object}
+use Rattle.mir_func.specs.Function.{Function}
+use Rattle.mir_func.specs.Variables.{part_value}
 use Rattle.mir_func.specs.declared.item.Item.{Item}
 use Rattle.mir_func.specs.declared.item.ItemKind.{ItemKind}
 use Rattle.mir_func.specs.declared.item.ItemKind.TheVariants.{Code, Mark}
 use Rattle.mir_meaning.specs.State.{Core, State}
-use Rattle.mir_meaning.specs.Step.{Outcome, Falls, Gives, Went, Returned, act, read, or_zero, numbered, with_core, mark_value, do_item, step}
+use Rattle.mir_meaning.specs.Step.{Outcome, Falls, Gives, Went, Returned, act, read, or_zero, numbered, with_core, mark_value, part_of, do_item, step}
 use Rattle.rv64_instr.specs.Parts.{is_call}
 use Rattle.mir_func.specs.Graph.{Fetch, Here, Program, below, front, fetch_in, program_of}
 use Rattle.mir_meaning.specs.Step as source
@@ -30,14 +33,14 @@ use Rattle.path_tokens.specs.Trace as trace
 use Rattle.path_tokens.proofs.Along.{tokens_name_values}
 use Rattle.code_layout.specs.Image.{CodeLine, Image, line_at, word_at}
 use Rattle.code_layout.specs.Machine.{Machine, register, place_content, machine_start}
-use Rattle.code_layout.specs.MachineStep.{Continues, Ends, return_word, past, set_register, does_word, does_line, does_at, machine_step, Comes, there, steps, IsWell}
-use Rattle.code_layout.specs.Headline.{AlignsWith, MachineAlong, at_start, after_step, MachineAgrees}
+use Rattle.code_layout.specs.MachineStep.{Continues, Ends, return_word, past, set_register, does_word, call_of, does_line, does_at, machine_step, Comes, there, steps, IsWell}
+use Rattle.code_layout.specs.Headline.{AlignsWith, MachineAlong, at_start, after_step, KEPT, MachineAgrees, Headline}
 use Rattle.code_layout.specs.Straight.{IsPlainRow, IsWordOf, IsStraightImage, lines_of, GiveHeldAt, GiveHeld}
 use Rattle.code_layout.specs.StraightLaws.{HoldTheSame, StraightCodeRunsAlong, StraightCodeMeetsTheHeadline}
 use Rattle.code_layout.proofs.Fetching.{is_word, word_here}
 use Rattle.code_layout.proofs.AtLine.{plain_line, plain_word, names_here, held_place}
 use Rattle.code_layout.proofs.Laid.{kept_line, IsLaid, returns, goes_on, marks, laid, drop_one, drop_zero}
-use Rattle.code_layout.proofs.Plain.{Holding, sets_alike, holding_set, holding_numbered, read_alike, gives}
+use Rattle.code_layout.proofs.Plain.{Holding, AreKept, all_kept, kept_set, sets_alike, holding_set, holding_numbered, read_alike, gives}
 
 drop_more : (xs : List ℕ) (a k : ℕ) → drop (a + k) xs ≡ drop k (drop a xs)
 drop_more xs a k = sym (drop-drop k a xs)
@@ -58,6 +61,7 @@ module _ (block : Block) (resolve : OperandPair → Option OperandPair) (image :
     from : (x : ℕ) → a ≤ x → line_at image.lines x ≡ line_at lines x
     held : GiveHeld lists resolve n a t items
     holding : Holding m u.core
+    kept : AreKept m (machine_start image s0) KEPT
     run : Trace src s0 n u t
 
   fetch_here : (u : State) (n : ℕ) (i : Item) (items : List Item) → u.pos ≡ spot n → drop n block.items ≡ i ∷ items → src.fetch u.pos ≡ Here i
@@ -80,7 +84,7 @@ module _ (block : Block) (resolve : OperandPair → Option OperandPair) (image :
   past_mark : (m : Machine) (u : State) (n a : ℕ) (t : Tokens) (i : Item) (items : List Item) (text : List ℕ) (lines : List CodeLine) (v : VarId) (k : MarkValue) →
       i.kind ≡ Mark v k → Stands m u n a t (i ∷ items) text lines → PastMark m u (suc n) a (after_item resolve n i.kind t) items text lines
   past_mark m u n a t i items text lines v k e h =
-      let core : Core = record u.core { marks = (v, mark_value src k u.core) ∷ u.core.marks } in
+      let core : Core = record u.core { marks = (v, part_of v (mark_value src k u.core)) ∷ u.core.marks } in
       let state : State = record { pos = below u.pos; core = core } in
       let f : src.fetch u.pos ≡ Here i = fetch_here u n i items h.at h.rest in
       let went : step src u ≡ Went state = step_item src u i (Falls core) f (ap (λ (x : ItemKind). do_item src x u.core) e) in
@@ -99,6 +103,7 @@ module _ (block : Block) (resolve : OperandPair → Option OperandPair) (image :
             written = h.holding.written;
             slots = h.holding.slots;
           };
+          kept = h.kept;
           run = run_on u state n t i f h.run went;
         };
       }
@@ -187,7 +192,8 @@ module _ (block : Block) (resolve : OperandPair → Option OperandPair) (image :
       ap (line_at image.lines) h.counter ∙ h.from a (omega arith) ∙ ap (λ (b : Bool). cond b (Some (kept_line block.id n a c)) (line_at lines a)) (eq-eqb a a refl)
 
   -- the machine does the line's word
-  step_line : (m : Machine) (l : CodeLine) → line_at image.lines m.counter ≡ Some l → machine_step image m ≡ does_line image l (row_of l.instruction) m
+  step_line : (m : Machine) (l : CodeLine) → line_at image.lines m.counter ≡ Some l →
+      machine_step image m ≡ does_line image l (call_of (row_of l.instruction)) m
   step_line m l e = ap (λ (o : Option CodeLine). does_at image o m) e
 
   -- both go past plain code
@@ -225,6 +231,7 @@ module _ (block : Block) (resolve : OperandPair → Option OperandPair) (image :
           from = λ x le. h.from x (omega arith) ∙ (let ne : a ≡ x → ⊥ = λ z. absurd (omega arith) in ap (λ (b : Bool). cond b (Some l) (line_at lines x)) (ne_eqb a x ne));
           held = subst (λ (x : ItemKind). GiveHeld lists resolve (suc n) (cond (is_code x) (a + 4) a) (after_item resolve n i.kind t) items) e h.held.1;
           holding = holding_numbered machine true (is_call row) k c.operands _ (holding_set alike.rd alike.value m u.core h.holding);
+          kept = kept_set alike.rd alike.value m (machine_start image s0) KEPT alike.spare h.kept;
           run = run_on u state n t i f h.run went;
         };
       }
@@ -247,7 +254,7 @@ module _ (block : Block) (resolve : OperandPair → Option OperandPair) (image :
       let fetched : word_at image.text m.counter ≡ Some return_word = ap (word_at image.text) h.counter ∙ word_here image.text [] a return_word (omega arith) (h.bytes ∙ spelled) in
       record {
         results = map (read u.core) uses;
-        ends = step_line m l (line_here m u n a t (i ∷ items) text c lines h) ∙ ap (λ (x : Row). does_line image l x m) row ∙ ap (λ (o : Option ℕ). does_word l o m) fetched ∙ ap Ends (read_alike m u.core h.holding uses);
+        ends = step_line m l (line_here m u n a t (i ∷ items) text c lines h) ∙ ap (λ (x : Row). does_line image l (call_of x) m) row ∙ ap (λ (o : Option ℕ). does_word l o m) fetched ∙ ap Ends (read_alike m u.core h.holding uses);
         returned = step_item src u i (Gives (map (read u.core) uses)) f done;
       }
 
@@ -340,7 +347,7 @@ module _ (block : Block) (resolve : OperandPair → Option OperandPair) (image :
             way = p.went;
           }
 
-  module _ (image_is : IsStraightImage block image) (given : GiveHeld lists resolve 0 0 entry_tokens block.items) (start : IsStart block.id s0) where
+  module _ (image_is : IsStraightImage block image) (given : GiveHeld lists resolve 0 0 entry_tokens block.items) (start : IsStart [] block.id s0) where
     abbrev m0 : Machine
     m0 = machine_start image s0
 
@@ -369,6 +376,7 @@ module _ (block : Block) (resolve : OperandPair → Option OperandPair) (image :
         from = λ x le. ap (λ (lines : List CodeLine). line_at lines x) image_is.lines;
         held = given;
         holding = record { same = record { regs = read_start; memory = refl; events = sym start.events }; written = written; slots = start.slots };
+        kept = all_kept m0 m0 (λ r. refl) KEPT;
         run = trace.begin;
       };
       way = refl;
@@ -412,15 +420,21 @@ module _ (block : Block) (resolve : OperandPair → Option OperandPair) (image :
             absurd (cc)
 
     -- what a list gives at the line's address holds the variable's value
-    places_there : (m : Machine) (s : State) (since : Since) (x : Met m s since) (v : VarId) (p : Place) → lists v m.counter p → Tells x.state v (place_content p m)
+    places_there : (m : Machine) (s : State) (since : Since) (x : Met m s since) (v : VarId) (p : Place) → lists v m.counter p →
+        Tells x.state v (part_value v (place_content p m))
     places_there m s since x v p listed =
         let named = tokens_name_values src s0 written x.index x.state x.tokens x.stands.run in
         let names : Names named.0 x.tokens x.state.core = names_here named.0 x.stands.run named.1 in
         let gives_held : GiveHeldAt lists true x.address x.tokens = subst (λ (k : ItemKind). GiveHeldAt lists (is_code k) x.address x.tokens) x.kind x.stands.held.0 in
         held_place named.0 v p m x.tokens x.state.core names x.stands.holding (gives_held v p (subst (λ (a : ℕ). lists v a p) x.stands.counter listed))
 
-    agrees_there : (m : Machine) (s : State) (since : Since) (x : Met m s since) → MachineAgrees src image lists m x.state
-    agrees_there m s since x = record { events = x.stands.holding.same.events; returns = returns_there m s since x; places = places_there m s since x }
+    agrees_there : (m : Machine) (s : State) (since : Since) (x : Met m s since) → MachineAgrees src image lists m0 m x.state
+    agrees_there m s since x = record {
+      events = x.stands.holding.same.events;
+      returns = returns_there m s since x;
+      kept = λ results e. x.stands.kept;
+      places = places_there m s since x;
+    }
 
     -- where the machine comes, the source has come along
     along_of : {m : Machine} → Comes image m0 m → (s : State) × (since : Since) × MachineAlong src image m0 s0 m s since
@@ -449,7 +463,7 @@ module _ (block : Block) (resolve : OperandPair → Option OperandPair) (image :
     runs_along m s since l along line = let (x, aligns) = met_at m s since l along line in (x.state, aligns, x.stands.holding.same)
 
     agrees_along : (m : Machine) (s : State) (since : Since) (l : CodeLine) → MachineAlong src image m0 s0 m s since → line_at image.lines m.counter ≡ Some l →
-        (s' : State) × AlignsWith src l since s s' × MachineAgrees src image lists m s'
+        (s' : State) × AlignsWith src l since s s' × MachineAgrees src image lists m0 m s'
     agrees_along m s since l along line = let (x, aligns) = met_at m s since l along line in (x.state, aligns, agrees_there m s since x)
 
 -- lists that give nothing
@@ -466,7 +480,12 @@ straight_code_runs_along block resolve image is s0 start m s since l along line 
     runs_along block resolve image (λ v a p. ⊥) s0 is (none_given resolve 0 0 entry_tokens block.items) start m s since l along line
 
 pub straight_code_meets_the_headline : (lists : VarId → (address : ℕ) → Place → Type 0) → StraightCodeMeetsTheHeadline lists
-straight_code_meets_the_headline lists block resolve image is given = record {
-  agrees = λ s0 start m s since l along line. inl (agrees_along block resolve image lists s0 is given start m s since l along line);
-  stops = λ s0 start m comes. stops_well block resolve image lists s0 is given start m comes;
-}
+straight_code_meets_the_headline lists source block resolve image one none is given =
+    let plain : Function = record source { objects = []; blocks = block ∷ [] } in
+    let same : plain ≡ source = ap (λ (os : List Object). record source { objects = os; blocks = block ∷ [] }) (sym none)
+    ∙ ap (λ (bs : List Block). record source { blocks = bs }) (sym one) in
+    let headline : Headline plain resolve image lists = record {
+      agrees = λ s0 start m s since l along line. inl (agrees_along block resolve image lists s0 is given start m s since l along line);
+      stops = λ s0 start m comes. stops_well block resolve image lists s0 is given start m comes;
+    } in
+    subst (λ (f : Function). Headline f resolve image lists) same headline

@@ -26,8 +26,9 @@ FailsBeforeLine src l since s = FailsBefore src (First (position_of l.origin)) (
 -- counts so: where code was added before a position, the source may still stand there at the next line
 pub data MachineAlong (src : Program) (image : Image) (m0 : Machine) (s0 : State) : Machine → State → Since → Type 0 where
   at_start : MachineAlong src image m0 s0 m0 s0 Start
-  after_step : {m m' : Machine} {s s' : State} {since : Since} (l : CodeLine) → MachineAlong src image m0 s0 m s since → line_at image.lines m.counter ≡ Some l →
-      AlignsWith src l since s s' → machine_step image m ≡ Continues m' → MachineAlong src image m0 s0 m' s' (since_of (waits_at false l.origin))
+  after_step : {m m' : Machine} {s s' : State} {since : Since} (l : CodeLine) → MachineAlong src image m0 s0 m s since →
+      line_at image.lines m.counter ≡ Some l → AlignsWith src l since s s' → machine_step image m ≡ Continues m' →
+      MachineAlong src image m0 s0 m' s' (since_of (waits_at false l.origin))
 
 -- a start of a run of the function
 abbrev pub StartsAt : Function → State → Type 0
@@ -55,7 +56,7 @@ pub record Headline (source : Function) (resolve : OperandPair → Option Operan
   pub agrees : (s0 : State) → StartsAt source s0 → (m : Machine) (s : State) (since : Since) (l : CodeLine) →
       MachineAlong (program_of true source.blocks resolve) image (machine_start image s0) s0 m s since → line_at image.lines m.counter ≡ Some l →
       ((s' : State) × AlignsWith (program_of true source.blocks resolve) l since s s' ×
-          MachineAgrees (program_of true source.blocks resolve) image lists (machine_start image s0) m s')
+      MachineAgrees (program_of true source.blocks resolve) image lists (machine_start image s0) m s')
       ⊎ FailsBeforeLine (program_of true source.blocks resolve) l since s
   -- and the machine stops nowhere but at a return, whatever the source does
   pub stops : (s0 : State) → StartsAt source s0 → (m : Machine) → Comes image (machine_start image s0) m → IsWell (machine_step image m)

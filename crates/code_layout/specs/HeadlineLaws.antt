@@ -1,5 +1,5 @@
 -- The headline speaks of every state that the machine comes to.
-use Rattle.std.specs.Prelude.{◌≡◌, ◌⊎◌, ℕ, List, Option, Some, true}
+use Rattle.std.specs.Prelude.{◌≡◌, ◌⊎◌, ℕ, Option, Some, true}
 use Rattle.rv64_instr.specs.declared.place.Place.{Place}
 use Rattle.mir_func.specs.declared.entry.OperandPair.{OperandPair}
 use Rattle.mir_func.specs.declared.variable.VarId.{VarId}
@@ -32,4 +32,5 @@ pub record HasFailed (src : Program) (image : Image) (m0 : Machine) (s0 : State)
 abbrev pub HeadlineReachesEveryStep : (VarId → (address : ℕ) → Place → Type 0) → Type 0
 HeadlineReachesEveryStep lists = (source : Function) (resolve : OperandPair → Option OperandPair) (image : Image) → Headline source resolve image lists →
     (s0 : State) → StartsAt source s0 → (m : Machine) → Comes image (machine_start image s0) m →
-    HasCome (program_of true source.blocks resolve) image (machine_start image s0) s0 m ⊎ HasFailed (program_of true source.blocks resolve) image (machine_start image s0) s0
+    HasCome (program_of true source.blocks resolve) image (machine_start image s0) s0 m
+    ⊎ HasFailed (program_of true source.blocks resolve) image (machine_start image s0) s0

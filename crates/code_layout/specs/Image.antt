@@ -3,6 +3,8 @@ use Rattle.std.specs.Prelude.{ℕ, List, [], ◌∷◌, length, take, drop, Opti
 use Rattle.std.specs.Int.{w32, from_le_bytes}
 use Rattle.rv64_instr.specs.Instruction.{Instruction}
 use Rattle.mir_func.specs.declared.position.Origin.{Origin}
+use Rattle.mir_func.specs.declared.item.ItemKind.{ItemKind}
+use Rattle.mir_func.specs.declared.item.ItemKind.TheVariants.{Code, Mark, Phi}
 
 -- a line of the listing with code: the address of its first byte, where it comes from, and the instruction that stands there
 pub record CodeLine : Type 0 where
@@ -17,6 +19,13 @@ pub record Image : Type 0 where
   pub low : ℕ
   pub area : ℕ
   pub lines : List CodeLine
+
+-- the line with code of an item that is listed at an address, or at none
+abbrev pub line_of : (address : Option ℕ) → Origin → ItemKind → List CodeLine
+line_of None o kind = []
+line_of (Some a) o (Code c k) = record { address = a; origin = o; instruction = c } ∷ []
+line_of (Some a) o (Mark v m) = []
+line_of (Some a) o (Phi p k) = []
 
 -- the line at an address
 abbrev pub line_at : List CodeLine → (address : ℕ) → Option CodeLine

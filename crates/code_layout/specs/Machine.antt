@@ -9,8 +9,8 @@ use Rattle.mir_meaning.specs.State.{Event, Reply, State, updated, spelled}
 use Rattle.mir_meaning.specs.Step.{read}
 use Rattle.code_layout.specs.Image.{Image}
 
--- the content of x2 at entry, the bytes right below it that stack objects take together, the counter, 32 registers, the bytes of memory, the answers to calls that are left, and the
--- events so far, the newest first
+-- the content of x2 at entry, the bytes right below it that stack objects take together, the counter, 32 registers, the bytes of
+-- memory, the answers to calls that are left, and the events so far, the newest first
 pub record Machine : Type 0 where
   pub entry : ℕ
   pub area : ℕ
@@ -56,4 +56,5 @@ place_content (Const c) s = word c
 
 -- the machine at its start beside a start of the source: the same registers, memory and script
 abbrev pub machine_start : Image → State → Machine
-machine_start image s = record { entry = s.core.entry; area = image.area; counter = image.low; regs = read s.core; memory = s.core.memory; script = s.core.script; events = [] }
+machine_start image s =
+    record { entry = s.core.entry; area = image.area; counter = image.low; regs = read s.core; memory = s.core.memory; script = s.core.script; events = [] }

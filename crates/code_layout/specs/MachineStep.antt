@@ -2,7 +2,8 @@
 use Rattle.std.specs.Prelude.{◌≡◌, ℕ, ◌+◌, ◌*◌, ◌/◌, ◌%◌, ◌^◌, List, [], ◌∷◌, length, map, Option, Some, None, cond, nat_eq}
 use Rattle.rv64_instr.specs.Arithmetic.{computed, taken, load_width, store_width, extended}
 use Rattle.rv64_instr.specs.declared.decoded.Base.TheVariants.{PointedBy, ObjectAt}
-use Rattle.rv64_instr.specs.Row.{Row, Fixes, Moves, Sets, Addresses, Loads, Stores, LoadsSlot, StoresSlot, Branches, Jumps, Calls, Returns, Unfit, row_of, implicit_uses}
+use Rattle.rv64_instr.specs.Row.{Row, Fixes, Moves, Sets, Addresses, Loads, Stores, LoadsSlot, StoresSlot, Branches, Jumps, Calls, Returns, Unfit}
+use Rattle.rv64_instr.specs.Row.{row_of, implicit_uses}
 use Rattle.rv64_instr.specs.Access.{caller_saved}
 use Rattle.rv64_word.specs.declared.machine_op.MachineOp.{MachineOp}
 use Rattle.rv64_word.specs.MachineRow.{MachineRow, Does, Links, LinksTo, machine_row}
@@ -84,16 +85,34 @@ does_word l (Some w) s = cond (nat_eq w return_word) (Ends (map (register s) (im
 -- call's two words
 abbrev pub answered : (name args : List ℕ) → Machine → List Reply → Stepped
 answered name args s [] = Awaits
-answered name args s (r ∷ rest) = Continues (past 8 (record s { regs = set_all_in caller_saved r.regs s.regs; memory = written s.memory r.writes; script = rest; events = Called name args ∷ s.events }))
+answered name args s (r ∷ rest) =
+    let regs = set_all_in caller_saved r.regs s.regs in
+    Continues (past 8 (record s { regs = regs; memory = written s.memory r.writes; script = rest; events = Called name args ∷ s.events }))
+
+-- the call of a call site
+abbrev pub call_of : Row → Option (List ℕ × List ℕ)
+call_of (Fixes rd n) = None
+call_of (Moves rd rs) = None
+call_of (Sets rd op a b) = None
+call_of (Addresses rd n offset) = None
+call_of (Loads rd op base offset) = None
+call_of (Stores op rs base offset) = None
+call_of (LoadsSlot rd n) = None
+call_of (StoresSlot rs n) = None
+call_of (Branches op a b target) = None
+call_of (Jumps target) = None
+call_of (Calls name args) = Some (name, args)
+call_of (Returns results) = None
+call_of Unfit = None
 
 -- at a call site the machine calls, and elsewhere it does the word at the counter
-abbrev pub does_line : Image → CodeLine → Row → Machine → Stepped
-does_line image l (Calls name args) s = answered name (map (register s) args) s s.script
-does_line image l _ s = does_word l (word_at image.text s.counter) s
+abbrev pub does_line : Image → CodeLine → (call : Option (List ℕ × List ℕ)) → Machine → Stepped
+does_line image l (Some (name, args)) s = answered name (map (register s) args) s s.script
+does_line image l None s = does_word l (word_at image.text s.counter) s
 
 abbrev pub does_at : Image → Option CodeLine → Machine → Stepped
 does_at image None s = Leaves
-does_at image (Some l) s = does_line image l (row_of l.instruction) s
+does_at image (Some l) s = does_line image l (call_of (row_of l.instruction)) s
 
 -- one step
 abbrev pub machine_step : Image → Machine → Stepped

@@ -1,6 +1,6 @@
 -- Straight-line code: one block of constants, copies and arithmetic with a return at its end, its image, and its lists.
-use Rattle.std.specs.Prelude.{◌≡◌, ℕ, suc, ◌+◌, ◌<◌, Bool, true, false, cond, IsTrue, List, [], ◌∷◌, ◌++◌, All, Option, Some}
-use Rattle.std.specs.List.{flat_map}
+use Rattle.std.specs.Prelude.{◌≡◌, ℕ, suc, ◌+◌, ◌<◌, Bool, true, false, cond, IsTrue, List, [], ◌∷◌, ◌++◌, All, Option, Some, nat_eq}
+use Rattle.std.specs.List.{flat_map, list_any}
 use Rattle.std.specs.Int.{w32, to_le_bytes}
 use Rattle.rv64_instr.specs.Instruction.{Instruction}
 use Rattle.rv64_instr.specs.declared.place.Place.{Place}
@@ -11,18 +11,17 @@ use Rattle.rv64_word.specs.declared.machine_op.MachineOp.{MachineOp}
 use Rattle.rv64_word.specs.MachineOp.{is_encodable, word_of}
 use Rattle.rv64_word.specs.MachineRow.{Does, machine_row}
 use Rattle.mir_func.specs.declared.entry.OperandPair.{OperandPair}
-use Rattle.mir_func.specs.declared.position.Origin.{Origin}
 use Rattle.mir_func.specs.declared.position.Origin.TheVariants.{Kept}
 use Rattle.mir_func.specs.declared.variable.VarId.{VarId}
 use Rattle.mir_func.specs.declared.variable.MarkValue.{MarkValue}
 use Rattle.mir_func.specs.declared.item.Item.{Item}
-use Rattle.mir_func.specs.declared.item.ItemKind.{ItemKind}
 use Rattle.mir_func.specs.declared.item.ItemKind.TheVariants.{Code, Mark}
 use Rattle.mir_func.specs.declared.block.Block.{Block}
 use Rattle.mir_meaning.specs.Align.{is_code}
 use Rattle.mir_meaning.specs.Token.{Token, Tokens, after_item, variable_token, place_token}
-use Rattle.code_layout.specs.Image.{CodeLine, Image}
+use Rattle.code_layout.specs.Image.{CodeLine, Image, line_of}
 use Rattle.code_layout.specs.MachineStep.{return_word}
+use Rattle.code_layout.specs.Headline.{KEPT}
 
 abbrev pub IsPlainInput : Input → Type 0
 IsPlainInput (Content r) = r < 32
@@ -50,21 +49,18 @@ pub record IsWordOf (row : Row) (w : ℕ) : Type 0 where
 -- return is the last item, and all other code is plain
 pub data IsStraight (block : ℕ) : (index : ℕ) → List Item → (words : List ℕ) → Type 0 where
   returns : {n : ℕ} {i : Item} {c : Instruction} {k : Option ℕ} → i.kind ≡ Code c k → i.origin ≡ Kept (record { block = block; item = n })
-      → row_of c ≡ Returns (implicit_uses c.operands) → All (λ r. r < 32) (implicit_uses c.operands) → IsStraight block n (i ∷ []) (return_word ∷ [])
-  goes_on : {n : ℕ} {i : Item} {items : List Item} {words : List ℕ} {c : Instruction} {k : Option ℕ} (w : ℕ) → i.kind ≡ Code c k → i.origin ≡ Kept (record { block = block; item = n })
-      → IsPlainRow (row_of c) → IsWordOf (row_of c) w → IsStraight block (suc n) items words → IsStraight block n (i ∷ items) (w ∷ words)
-  marks : {n : ℕ} {i : Item} {items : List Item} {words : List ℕ} {v : VarId} {m : MarkValue} → i.kind ≡ Mark v m → IsStraight block (suc n) items words
-      → IsStraight block n (i ∷ items) words
-
--- the line of an item at an address, if it is code
-abbrev pub line_of : (address : ℕ) → Origin → ItemKind → List CodeLine
-line_of a o (Code c k) = record { address = a; origin = o; instruction = c } ∷ []
-line_of a o _ = []
+      → row_of c ≡ Returns (implicit_uses c.operands) → All (λ r. r < 32) (implicit_uses c.operands)
+      → IsStraight block n (i ∷ []) (return_word ∷ [])
+  goes_on : {n : ℕ} {i : Item} {items : List Item} {words : List ℕ} {c : Instruction} {k : Option ℕ} (w : ℕ) → i.kind ≡ Code c k
+      → i.origin ≡ Kept (record { block = block; item = n }) → IsPlainRow (row_of c) → IsWordOf (row_of c) w
+      → IsStraight block (suc n) items words → IsStraight block n (i ∷ items) (w ∷ words)
+  marks : {n : ℕ} {i : Item} {items : List Item} {words : List ℕ} {v : VarId} {m : MarkValue} → i.kind ≡ Mark v m
+      → IsStraight block (suc n) items words → IsStraight block n (i ∷ items) words
 
 -- the lines of items from an address on, where each code item has one word
 abbrev pub lines_of : (address : ℕ) → List Item → List CodeLine
 lines_of a [] = []
-lines_of a (i ∷ items) = line_of a i.origin i.kind ++ lines_of (cond (is_code i.kind) (a + 4) a) items
+lines_of a (i ∷ items) = line_of (Some a) i.origin i.kind ++ lines_of (cond (is_code i.kind) (a + 4) a) items
 
 -- the image of a block of straight-line code, which begins at address 0: its words one after the other, and its lines
 pub record IsStraightImage (block : Block) (image : Image) : Type 0 where
@@ -88,7 +84,8 @@ GiveHeldAt lists false a t = Unit {0}
 
 -- at the address of each code item the lists give no place but such as hold the variable's value there. The items' first
 -- index, address and tokens are these
-abbrev pub GiveHeld : (lists : VarId → (address : ℕ) → Place → Type 0) → (OperandPair → Option OperandPair) → (index address : ℕ) → Tokens → List Item → Type 0
+abbrev pub GiveHeld : (lists : VarId → (address : ℕ) → Place → Type 0) → (OperandPair → Option OperandPair) → (index address : ℕ) → Tokens → List Item →
+    Type 0
 GiveHeld lists resolve n a t [] = Unit {0}
 GiveHeld lists resolve n a t (i ∷ items) = GiveHeldAt lists (is_code i.kind) a t
     × GiveHeld lists resolve (suc n) (cond (is_code i.kind) (a + 4) a) (after_item resolve n i.kind t) items

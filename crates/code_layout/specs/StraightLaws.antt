@@ -4,6 +4,7 @@ use Rattle.rv64_instr.specs.declared.place.Place.{Place}
 use Rattle.mir_func.specs.declared.entry.OperandPair.{OperandPair}
 use Rattle.mir_func.specs.declared.variable.VarId.{VarId}
 use Rattle.mir_func.specs.declared.block.Block.{Block}
+use Rattle.mir_func.specs.Function.{Function}
 use Rattle.mir_meaning.specs.State.{Core, State}
 use Rattle.mir_meaning.specs.Step.{read}
 use Rattle.mir_func.specs.Graph.{program_of}
@@ -23,8 +24,9 @@ pub record HoldTheSame (m : Machine) (c : Core) : Type 0 where
 
 -- At each line that the machine comes to, the source comes to the line's origin, and both hold the same.
 abbrev pub StraightCodeRunsAlong : Type 0
-StraightCodeRunsAlong = (block : Block) (resolve : OperandPair → Option OperandPair) (image : Image) → IsStraightImage block image → (s0 : State) → IsStart [] block.id s0 →
-    (m : Machine) (s : State) (since : Since) (l : CodeLine) → MachineAlong (program_of true (block ∷ []) resolve) image (machine_start image s0) s0 m s since →
+StraightCodeRunsAlong = (block : Block) (resolve : OperandPair → Option OperandPair) (image : Image) → IsStraightImage block image →
+    (s0 : State) → IsStart [] block.id s0 → (m : Machine) (s : State) (since : Since) (l : CodeLine) →
+    MachineAlong (program_of true (block ∷ []) resolve) image (machine_start image s0) s0 m s since →
     line_at image.lines m.counter ≡ Some l → (s' : State) × AlignsWith (program_of true (block ∷ []) resolve) l since s s' × HoldTheSame m s'.core
 
 -- Where the lists give only places that hold the variable's value by the walk's tokens, the headline holds.
