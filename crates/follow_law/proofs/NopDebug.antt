@@ -23,7 +23,7 @@ use Rattle.mir_func.specs.Function.{Function}
 use Rattle.mir_func.specs.Sound.{AreApart, ids_of, items_of, code_number, IsSound}
 use Rattle.mir_func.specs.Graph.{Here, front, fetch_in, from_block}
 use Rattle.mir_meaning.specs.Align.{is_code}
-use Rattle.mir_meaning.proofs.Reading.{apart_tail, found_in, front_item, within_list}
+use Rattle.mir_meaning.proofs.Reading.{found, found_in, front_item, item_front, within_list}
 use Rattle.follow_law.specs.declared.loss.Reason.TheVariants.{Removed}
 use Rattle.follow_law.specs.declared.loss.Lost.TheVariants as lost
 use Rattle.follow_law.specs.declared.loss.Loss.{Loss}
@@ -131,33 +131,6 @@ no_copy : (r : Row) → is_nop_row r ≡ true → IsCopy r → ⊥
 no_copy (Moves rd rs) e h = cc
 no_copy _ e h = absurd h
 
--- two blocks of one number are one
-one_block : (bs : List Block) → AreApart (ids_of bs) → (a b : Block) → Contains bs a → Contains bs b → a.id ≡ b.id → a ≡ b
-one_block bs apart a b (i, lt, at) (j, lt', at') same =
-    let id_at : (n : ℕ) (c : Block) → n < length bs → get_or bs n c ≡ c → slice_get (ids_of bs) n ≡ Some c.id =
-    λ n c l e. slice_get-get_or (ids_of bs) n c.id (subst (λ (m : ℕ). n < m) (sym (length-map bs (λ (x : Block). x.id))) l) ∙
-    ap Some (get_or-map (λ (x : Block). x.id) bs n c c.id l ∙ ap (λ (x : Block). x.id) e) in
-    let e : i ≡ j = apart i j a.id (id_at i a lt at) (id_at j b lt' at' ∙ ap Some (sym same)) in
-    let w : Some a ≡ Some b = sym (slice_get-get_or bs i a lt ∙ ap Some at) ∙ ap (slice_get bs) e ∙ slice_get-get_or bs j b lt' ∙ ap Some at' in
-    cc
-
--- a block's number leads to it, and an index in its items to the item
-block_at : (bs : List Block) → AreApart (ids_of bs) → (b : Block) → Contains bs b → (rest : List Block) × (from_block bs b.id ≡ b ∷ rest)
-block_at [] apart b h = none_in b h
-block_at (a ∷ bs) apart b h = by_test (nat_eq a.id b.id) refl (λ later. block_at bs (apart_tail a.id (ids_of bs) apart) b later) where
-  by_test : (z : Bool) → nat_eq a.id b.id ≡ z → (Contains bs b → (rest : List Block) × (from_block bs b.id ≡ b ∷ rest)) →
-      (rest : List Block) × (cond z (a ∷ bs) (from_block bs b.id) ≡ b ∷ rest)
-  by_test true e more = let same : a ≡ b = one_block (a ∷ bs) apart a b (at_first a bs) h (eqb-true a.id b.id e) in (bs, λ i. same i ∷ bs)
-  by_test false e more = elim (in_first a bs b h) [
-    | inl same ↦ (let t : nat_eq a.id b.id ≡ true = eq-eqb a.id b.id (ap (λ (x : Block). x.id) same) in let bad : true ≡ false = sym t ∙ e in cc)
-    | inr later ↦ more later
-  ]
-
-item_front : (xs : List Item) (n k : ℕ) (bs : List Block) (x : Item) → slice_get xs n ≡ Some x → front (drop n xs) k bs ≡ Here x
-item_front [] n k bs x e = cc
-item_front (y ∷ ys) zero k bs x e = let w : y ≡ x = cc in ap Here w
-item_front (y ∷ ys) (suc n) k bs x e = item_front ys n k bs x e
-
 same_position : (p : Pos) → is_position p p ≡ true
 same_position p = let a = eq-eqb p.block p.block refl in let b = eq-eqb p.item p.item refl in λ i. a i && b i
 
@@ -200,7 +173,7 @@ value_stays : (c : Change) (m : MarkValue) → ValueStays nop_rule c m
 value_stays c Nothing = tt
 value_stays c (Constant z) = tt
 value_stays c (At r) = register_stays c r
-value_stays c (Pair k o) = tt
+value_stays c (Pair q) = tt
 
 place_stays : (c : Change) (p : Option Place) → PlaceStays nop_rule c p
 place_stays c None = tt
@@ -216,8 +189,8 @@ module _ (f : Function) (sound : IsSound f) (subs : List Entry) where
   change = record { old = f; old_subs = subs; new = thinned f; new_subs = subs }
 
   stands_in : (b : Block) → Contains f.blocks b → (n : ℕ) (x : Item) → slice_get b.items n ≡ Some x → StandsAt f (record { block = b.id; item = n }) x
-  stands_in b member n x at = let w = block_at f.blocks sound.blocks_apart b member in
-      ap (λ (bs : List Block). fetch_in bs n) w.1 ∙ item_front b.items n b.silent w.0 x at
+  stands_in b member n x at = let w = found f.blocks sound.blocks_apart b member in
+      ap (λ (bs : List Block). fetch_in bs n) w.at ∙ item_front b.items n b.silent w.rest x at
 
   -- the block of what stands somewhere
   block_of : (at : Pos) (x : Item) → StandsAt f at x → (b : Block) × Contains f.blocks b × (slice_get b.items at.item ≡ Some x)

@@ -78,7 +78,7 @@ module _ (busy : Bool) (blocks : List Block) (resolve : OperandPair → Option O
   Kin c d = TellsLess c d × ((k o : ℕ) → IsGone k → d.pairs k o ≡ None)
 
   sees_same : SeesLess f g
-  sees_same = record { sees = λ r c v e. e; resolve = λ k o. refl }
+  sees_same = record { sees = λ r c v e. e; resolve = λ q. refl }
 
   abbrev HasNone : Core → Type 0
   HasNone d = (k o : ℕ) → IsGone k → d.pairs k o ≡ None

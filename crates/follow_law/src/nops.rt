@@ -15,6 +15,7 @@ use mir_func::block::Block;
 use mir_func::func::Func;
 use mir_func::item::{Item, ItemKind};
 use mir_func::position::Origin;
+use numbers::code::DebugNumber;
 use rv64_instr::decoded::Decoded;
 use rv64_instr::instr::Instr;
 use std::alloc::{AllocError, Global};
@@ -56,7 +57,7 @@ impl Pass for NopPass {
 }
 
 /// Takes out the no-operations, and gives their numbers.
-fn take_out_nops(alloc: Global, f: &mut Func) -> Result<Vec<u32>, AllocError>
+fn take_out_nops(alloc: Global, f: &mut Func) -> Result<Vec<DebugNumber>, AllocError>
     ensures code { OnOk result (f.new ≡ thinned f.old) }
     ensures numbers { IfOk result (λ ns. ns.items ≡ lost_in f.old) }
     ensures sound { IsSound f.old }
@@ -107,7 +108,7 @@ fn is_added_save(i: &Item) -> bool
 }
 
 /// The numbers of the no-operations of blocks, in order.
-fn nop_numbers(alloc: Global, blocks: &[Block]) -> Result<Vec<u32>, AllocError>
+fn nop_numbers(alloc: Global, blocks: &[Block]) -> Result<Vec<DebugNumber>, AllocError>
     ensures { IfOk result (λ ns. ns.items ≡ nop_numbers blocks.now) }
 {
     let mut numbers = Vec::new(alloc);
@@ -118,7 +119,7 @@ fn nop_numbers(alloc: Global, blocks: &[Block]) -> Result<Vec<u32>, AllocError>
 }
 
 /// Appends the numbers of the no-operations of items.
-fn push_numbers(items: &[Item], numbers: &mut Vec<u32>) -> Result<(), AllocError>
+fn push_numbers(items: &[Item], numbers: &mut Vec<DebugNumber>) -> Result<(), AllocError>
     ensures { OnOk result (numbers.new.items ≡ numbers.old.items ++ numbers_in_items items.now) }
 {
     for i in items {
@@ -130,7 +131,7 @@ fn push_numbers(items: &[Item], numbers: &mut Vec<u32>) -> Result<(), AllocError
 }
 
 /// The number of a no-operation, where it has one.
-fn nop_number(k: &ItemKind) -> Option<u32>
+fn nop_number(k: &ItemKind) -> Option<DebugNumber>
     ensures { result ≡ nop_number k.now }
 {
     match k {
@@ -166,7 +167,7 @@ fn is_nop_item(i: &Item) -> bool
 }
 
 /// The losses of numbers for one reason, each once and in order.
-pub fn lost_numbers(alloc: Global, numbers: Vec<u32>, why: Reason) -> Result<Losses, AllocError>
+pub fn lost_numbers(alloc: Global, numbers: Vec<DebugNumber>, why: Reason) -> Result<Losses, AllocError>
     ensures ordered { IfOk result IsInOrder }
     ensures each { IfOk result (AreNumbersLost numbers.items why) }
 {
