@@ -1,10 +1,9 @@
 -- What taking out no-operations does with debug items.
-use Rattle.std.proofs.Common.{◌≡◌, ℕ, zero, suc, ◌+◌, ◌<◌, ◌↔◌, List, [], ◌∷◌, ◌++◌, filter, drop, length, count_by, All, Contains, Option, Some, None, Bool, true, false, cond, not, ◌&&◌, slice_get, get_or, nat_eq, eqb-true, eq-eqb, append-nil, refl, sym, ap, ◌∙◌, subst, inl, inr, ◌⊎◌, arith}
+use Rattle.std.proofs.Common.{◌≡◌, ℕ, zero, suc, ◌+◌, ◌<◌, ◌↔◌, List, [], ◌∷◌, ◌++◌, filter, count_by, All, Contains, Option, Some, None, Bool, true, false, cond, not, ◌&&◌, slice_get, eq-eqb, append-nil, refl, sym, ap, ◌∙◌, subst, inl, inr, ◌⊎◌, arith}
 use Rattle.std.specs.List.{flat_map, cons_option}
-use Rattle.std.proofs.lemmas.List.{get_or-map, length-map}
 use Rattle.std.proofs.lemmas.List.Sums.{sum_by-cons}
 use Rattle.std.proofs.lemmas.List.Elements.{All-weaker, All-contains_itself, Contains-append_left, Contains-append_right}
-use Rattle.std.proofs.lemmas.Option.{slice_get-get_or, get_or_from_slice_get}
+use Rattle.std.proofs.lemmas.Option.{get_or_from_slice_get}
 use Rattle.rv64_instr.specs.declared.place.Place.{Place}
 use Rattle.rv64_instr.specs.declared.place.Place.TheVariants.{Register, Slot, Const}
 use Rattle.rv64_instr.specs.Row.{Row, Moves, row_of}
@@ -20,8 +19,8 @@ use Rattle.mir_func.specs.declared.item.Item.{Item}
 use Rattle.mir_func.specs.declared.item.ItemKind.{ItemKind}
 use Rattle.mir_func.specs.declared.item.ItemKind.TheVariants.{Code, Mark, Phi}
 use Rattle.mir_func.specs.Function.{Function}
-use Rattle.mir_func.specs.Sound.{AreApart, ids_of, items_of, code_number, IsSound}
-use Rattle.mir_func.specs.Graph.{Here, front, fetch_in, from_block}
+use Rattle.mir_func.specs.Sound.{items_of, code_number, IsSound}
+use Rattle.mir_func.specs.Graph.{Here, fetch_in, from_block}
 use Rattle.mir_meaning.specs.Align.{is_code}
 use Rattle.mir_meaning.proofs.Reading.{found, found_in, front_item, item_front, within_list}
 use Rattle.follow_law.specs.declared.loss.Reason.TheVariants.{Removed}

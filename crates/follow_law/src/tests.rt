@@ -62,7 +62,10 @@ fn kept(kind: ItemKind, item: u32) -> Item
 {
     Item {
         kind,
-        origin: Origin::Kept(Pos { block: 0, item }),
+        origin: Origin::Kept(Pos {
+            block: BlockId(0),
+            item,
+        }),
         loc: Loc::Absent,
     }
 }
