@@ -1,5 +1,6 @@
 -- What taking out no-operations does with debug items.
-use Rattle.std.proofs.Common.{◌≡◌, ℕ, zero, suc, ◌+◌, ◌<◌, ◌↔◌, List, [], ◌∷◌, ◌++◌, filter, count_by, All, Contains, Option, Some, None, Bool, true, false, cond, not, ◌&&◌, slice_get, eq-eqb, append-nil, refl, sym, ap, ◌∙◌, subst, inl, inr, ◌⊎◌, arith}
+use Rattle.std.proofs.Common.{◌≡◌, ℕ, zero, suc, ◌+◌, ◌<◌, ◌↔◌, List, [], ◌∷◌, ◌++◌, filter, count_by, All, Contains, Option, Some, None, Bool, true, false}
+use Rattle.std.proofs.Common.{cond, not, ◌&&◌, slice_get, eq-eqb, append-nil, refl, sym, ap, ◌∙◌, subst, inl, inr, ◌⊎◌, arith}
 use Rattle.std.specs.List.{flat_map, cons_option}
 use Rattle.std.proofs.lemmas.List.Sums.{sum_by-cons}
 use Rattle.std.proofs.lemmas.List.Elements.{All-weaker, All-contains_itself, Contains-append_left, Contains-append_right}
@@ -30,9 +31,11 @@ use Rattle.follow_law.specs.Change.{Change}
 use Rattle.follow_law.specs.Order.{IsInOrder}
 use Rattle.follow_law.specs.Rule.{IsCopy, number_lost, item, StandsAt}
 use Rattle.follow_law.specs.Causes.{is_position, is_origin, IsRemoved, HasCause, code_removed}
-use Rattle.follow_law.specs.Debug.{RegisterStays, ValueStays, PlaceStays, IsKillAt, Becomes, mark_stays, phi_stays, code_stays, code_unnumbered, code_goes, number_goes, BecomeAll, over, next, BlocksBecome, none, stays as block_stays, IsLoss, IsFor, KeepsItems}
+use Rattle.follow_law.specs.Debug.{RegisterStays, ValueStays, PlaceStays, IsKillAt, Becomes, mark_stays, phi_stays, code_stays, code_unnumbered, code_goes}
+use Rattle.follow_law.specs.Debug.{number_goes, BecomeAll, over, next, BlocksBecome, none, stays as block_stays, IsLoss, IsFor, KeepsItems}
 use Rattle.follow_law.specs.Steps.{KeepsSteps}
-use Rattle.follow_law.specs.Nops.{is_nop_row, is_nop, has_added_saves, stays, thinned_blocks, thinned, IsTaken, nop_rule, nop_step, nop_number, numbers_in_items, nop_numbers, lost_in}
+use Rattle.follow_law.specs.Nops.{is_nop_row, is_nop, has_added_saves, stays, thinned_blocks, thinned, IsTaken, nop_rule, nop_step, nop_number}
+use Rattle.follow_law.specs.Nops.{numbers_in_items, nop_numbers, lost_in}
 use Rattle.follow_law.proofs.NopRuns.{out_is}
 use Rattle.follow_law.proofs.NopCode.{stripped_thinned}
 use Rattle.follow_law.proofs.NopSound.{items_thin, sound_thin}

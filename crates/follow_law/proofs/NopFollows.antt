@@ -1,8 +1,10 @@
 -- What followed a source follows it without its no-operations.
-use Rattle.std.proofs.Common.{◌≡◌, ℕ, ◌≤◌, List, [], ◌∷◌, map, filter, All, Contains, Option, Some, None, Bool, true, false, cond, not, ◌&&◌, ◌||◌, refl, sym, ap, ◌∙◌, subst, slice_get, get_or, arith}
+use Rattle.std.proofs.Common.{◌≡◌, ℕ, ◌≤◌, List, [], ◌∷◌, map, filter, All, Contains, Option, Some, None, Bool, true, false, cond, not, ◌&&◌, ◌||◌, refl, sym}
+use Rattle.std.proofs.Common.{ap, ◌∙◌, subst, slice_get, get_or, arith}
 use Rattle.std.specs.List.{list_any}
 use Rattle.std.proofs.lemmas.List.{length-map}
-use Rattle.std.proofs.lemmas.List.Elements.{All-cons, All-contains, All-contains_itself, All-weaker, All-filter, All-map, Contains-append_left, Contains-append_right}
+use Rattle.std.proofs.lemmas.List.Elements.{All-cons, All-contains, All-contains_itself, All-weaker, All-filter, All-map, Contains-append_left}
+use Rattle.std.proofs.lemmas.List.Elements.{Contains-append_right}
 use Rattle.std.proofs.lemmas.Option.{slice_get-get_or, get_or_from_slice_get}
 use Rattle.std.proofs.Math.Nat.{le_trans}
 use Rattle.rv64_instr.specs.Row.{Row, Fixes, LoadsSlot, StoresSlot, Branches, Jumps, Returns, row_of}
@@ -24,7 +26,8 @@ use Rattle.rv64_instr.specs.Parts.{is_call, IsSlotStore}
 use Rattle.mir_func.specs.Graph.{Here, Program, fetch_in, from_block, program_of}
 use Rattle.mir_func.specs.Resolve.{resolve}
 use Rattle.mir_meaning.specs.Align.{is_jump, is_jump_row, waits_at, moves_on, Count, ByItems, ByEnds, station_at, AnyOrigin, RunsAlong, After, since_of}
-use Rattle.mir_meaning.specs.Follow.{MayAdd, KindFits, MarkFits, InOrder, next_rank, Among, none, same, left, first_of, OnRow, GoesTo, Shape, IsStart, SameEnd, IsEnd, KindsEndAlike, EndIsKept, EndComesFrom}
+use Rattle.mir_meaning.specs.Follow.{MayAdd, KindFits, MarkFits, InOrder, next_rank, Among, none, same, left, first_of, OnRow, GoesTo, Shape, IsStart, SameEnd}
+use Rattle.mir_meaning.specs.Follow.{IsEnd, KindsEndAlike, EndIsKept, EndComesFrom}
 use Rattle.mir_meaning.proofs.Reading.{found_in, front_item, within_list}
 use Rattle.simulation.proofs.Order.{rank_next}
 use Rattle.mir_meaning.proofs.Told.{tells_itself}

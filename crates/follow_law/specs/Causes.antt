@@ -1,9 +1,11 @@
 -- The causes of losses: for each reason, when a pass may give it. They are said over the function before the pass and
 -- the one after it.
-use Rattle.std.specs.Prelude.{◌≡◌, ◌⊎◌, ℕ, ◌+◌, ◌<◌, ◌≤◌, List, [], ◌∷◌, length, take, filter, count_by, All, Contains, Option, Some, None, Bool, true, false, not, ◌&&◌, nat_eq}
+use Rattle.std.specs.Prelude.{◌≡◌, ◌⊎◌, ℕ, ◌+◌, ◌<◌, ◌≤◌, List, [], ◌∷◌, length, take, filter, count_by, All, Contains, Option, Some, None, Bool, true, false}
+use Rattle.std.specs.Prelude.{not, ◌&&◌, nat_eq}
 use Rattle.std.specs.List.{list_any}
 use Rattle.rv64_instr.specs.declared.operand.Operand.{Operand}
-use Rattle.rv64_instr.specs.declared.operand.Operand.TheVariants.{Def, Use, ImplicitDef, ImplicitUse, Imm, Slot as OfSlot, Object as OfObject, Block as OfBlock, Symbol, Mask}
+use Rattle.rv64_instr.specs.declared.operand.Operand.TheVariants.{Def, Use, ImplicitDef, ImplicitUse, Imm, Slot as OfSlot, Object as OfObject, Block as OfBlock}
+use Rattle.rv64_instr.specs.declared.operand.Operand.TheVariants.{Symbol, Mask}
 use Rattle.rv64_instr.specs.declared.place.Place.{Place}
 use Rattle.rv64_instr.specs.declared.place.Place.TheVariants.{Register}
 use Rattle.rv64_instr.specs.Instruction.{Instruction}

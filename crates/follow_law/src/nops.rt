@@ -6,7 +6,8 @@ ghost use Rattle.mir_func.specs.Sound.{IsSound};
 ghost use Rattle.follow_law.specs.Order.{IsInOrder};
 ghost use Rattle.follow_law.specs.Rule.{AreNumbersLost};
 ghost use Rattle.follow_law.specs.Laws.{one_thinned, same_thinned};
-ghost use Rattle.follow_law.specs.Nops.{is_nop_row, is_nop, is_added_save, has_added_saves, stays, thinned_blocks, thinned, nop_step, nop_number, nop_numbers, numbers_in_items, lost_in};
+ghost use Rattle.follow_law.specs.Nops.{is_nop_row, is_nop, is_added_save, has_added_saves, stays, thinned_blocks};
+ghost use Rattle.follow_law.specs.Nops.{thinned, nop_step, nop_number, nop_numbers, numbers_in_items, lost_in};
 ghost use Rattle.std.proofs.Common.{rules};
 
 use crate::loss::{Loss, Losses, Lost, Reason};
@@ -136,7 +137,7 @@ fn nop_number(k: &ItemKind) -> Option<DebugNumber>
 {
     match k {
         ItemKind::Code(i, Some(n)) if is_nop(i) => Some(*n),
-        _ => None,
+        ItemKind::Code(_, _) | ItemKind::Mark(_, _) | ItemKind::Phi(_, _) => None,
     }
 }
 
@@ -167,7 +168,11 @@ fn is_nop_item(i: &Item) -> bool
 }
 
 /// The losses of numbers for one reason, each once and in order.
-pub fn lost_numbers(alloc: Global, numbers: Vec<DebugNumber>, why: Reason) -> Result<Losses, AllocError>
+pub fn lost_numbers(
+    alloc: Global,
+    numbers: Vec<DebugNumber>,
+    why: Reason,
+) -> Result<Losses, AllocError>
     ensures ordered { IfOk result IsInOrder }
     ensures each { IfOk result (AreNumbersLost numbers.items why) }
 {
