@@ -3,6 +3,7 @@ use Rattle.std.proofs.Common.{◌≡◌, ℕ, ◌+◌, ◌*◌, ◌≤◌, sym, 
 use Rattle.std.proofs.Math.Nat.{mul-le-mul, mul-le-mul_left, mul-le-mul_right, mul-add, add-mul, mul_assoc, mul_comm, le_trans, le_refl}
 use Rattle.mir_func.specs.declared.entry.Entry.{Entry}
 use Rattle.mir_func.specs.Function.{Function}
+use Rattle.mir_func.specs.Limits.{MAX_SLOTS}
 use Rattle.follow_law.specs.Change.{change}
 use Rattle.follow_law.specs.Sizes.{most, item_count, code_count, KeepsSizes}
 
@@ -51,7 +52,7 @@ pub numbers_first : (a m b n x : ℕ) → 1 ≤ a → 1 ≤ b → m * most a m x
 numbers_first a m b n x ha hb = let k = numbers_then a m b n x (most a m x) ha hb (le_refl (most a m x)) in omega (arith, k)
 
 -- the slots that both may add
-pub slots_then : (m b n : ℕ) → 1 ≤ b → 224 * m + 224 * n ≤ 224 * (m * b + n)
+pub slots_then : (m b n : ℕ) → 1 ≤ b → MAX_SLOTS * m + MAX_SLOTS * n ≤ MAX_SLOTS * (m * b + n)
 slots_then m b n hb = let k = le_times m b hb in omega (arith, k)
 
 -- the bounds of both

@@ -1,10 +1,10 @@
 -- What taking out no-operations does with debug items.
-use Rattle.std.proofs.Common.{◌≡◌, ℕ, zero, suc, ◌+◌, ◌<◌, ◌↔◌, List, [], ◌∷◌, ◌++◌, filter, drop, length, count_by, All, Contains, Option, Some, None, Bool, true, false, cond, not, ◌&&◌, slice_get, get_or, nat_eq, eqb-true, eq-eqb, append-nil, refl, sym, ap, ◌∙◌, subst, inl, inr, ◌⊎◌, arith}
+use Rattle.std.proofs.Common.{◌≡◌, ℕ, zero, suc, ◌+◌, ◌<◌, ◌↔◌, List, [], ◌∷◌, ◌++◌, filter, count_by, All, Contains, Option, Some, None, Bool, true, false}
+use Rattle.std.proofs.Common.{cond, not, ◌&&◌, slice_get, eq-eqb, append-nil, refl, sym, ap, ◌∙◌, subst, inl, inr, ◌⊎◌, arith}
 use Rattle.std.specs.List.{flat_map, cons_option}
-use Rattle.std.proofs.lemmas.List.{get_or-map, length-map}
 use Rattle.std.proofs.lemmas.List.Sums.{sum_by-cons}
 use Rattle.std.proofs.lemmas.List.Elements.{All-weaker, All-contains_itself, Contains-append_left, Contains-append_right}
-use Rattle.std.proofs.lemmas.Option.{slice_get-get_or, get_or_from_slice_get}
+use Rattle.std.proofs.lemmas.Option.{get_or_from_slice_get}
 use Rattle.rv64_instr.specs.declared.place.Place.{Place}
 use Rattle.rv64_instr.specs.declared.place.Place.TheVariants.{Register, Slot, Const}
 use Rattle.rv64_instr.specs.Row.{Row, Moves, row_of}
@@ -20,10 +20,10 @@ use Rattle.mir_func.specs.declared.item.Item.{Item}
 use Rattle.mir_func.specs.declared.item.ItemKind.{ItemKind}
 use Rattle.mir_func.specs.declared.item.ItemKind.TheVariants.{Code, Mark, Phi}
 use Rattle.mir_func.specs.Function.{Function}
-use Rattle.mir_func.specs.Sound.{AreApart, ids_of, items_of, code_number, IsSound}
-use Rattle.mir_func.specs.Graph.{Here, front, fetch_in, from_block}
+use Rattle.mir_func.specs.Sound.{items_of, code_number, IsSound}
+use Rattle.mir_func.specs.Graph.{Here, fetch_in, from_block}
 use Rattle.mir_meaning.specs.Align.{is_code}
-use Rattle.mir_meaning.proofs.Reading.{apart_tail, found_in, front_item, within_list}
+use Rattle.mir_meaning.proofs.Reading.{found, found_in, front_item, item_front, within_list}
 use Rattle.follow_law.specs.declared.loss.Reason.TheVariants.{Removed}
 use Rattle.follow_law.specs.declared.loss.Lost.TheVariants as lost
 use Rattle.follow_law.specs.declared.loss.Loss.{Loss}
@@ -31,9 +31,11 @@ use Rattle.follow_law.specs.Change.{Change}
 use Rattle.follow_law.specs.Order.{IsInOrder}
 use Rattle.follow_law.specs.Rule.{IsCopy, number_lost, item, StandsAt}
 use Rattle.follow_law.specs.Causes.{is_position, is_origin, IsRemoved, HasCause, code_removed}
-use Rattle.follow_law.specs.Debug.{RegisterStays, ValueStays, PlaceStays, IsKillAt, Becomes, mark_stays, phi_stays, code_stays, code_unnumbered, code_goes, number_goes, BecomeAll, over, next, BlocksBecome, none, stays as block_stays, IsLoss, IsFor, KeepsItems}
+use Rattle.follow_law.specs.Debug.{RegisterStays, ValueStays, PlaceStays, IsKillAt, Becomes, mark_stays, phi_stays, code_stays, code_unnumbered, code_goes}
+use Rattle.follow_law.specs.Debug.{number_goes, BecomeAll, over, next, BlocksBecome, none, stays as block_stays, IsLoss, IsFor, KeepsItems}
 use Rattle.follow_law.specs.Steps.{KeepsSteps}
-use Rattle.follow_law.specs.Nops.{is_nop_row, is_nop, has_added_saves, stays, thinned_blocks, thinned, IsTaken, nop_rule, nop_step, nop_number, numbers_in_items, nop_numbers, lost_in}
+use Rattle.follow_law.specs.Nops.{is_nop_row, is_nop, has_added_saves, stays, thinned_blocks, thinned, IsTaken, nop_rule, nop_step, nop_number}
+use Rattle.follow_law.specs.Nops.{numbers_in_items, nop_numbers, lost_in}
 use Rattle.follow_law.proofs.NopRuns.{out_is}
 use Rattle.follow_law.proofs.NopCode.{stripped_thinned}
 use Rattle.follow_law.proofs.NopSound.{items_thin, sound_thin}
@@ -131,33 +133,6 @@ no_copy : (r : Row) → is_nop_row r ≡ true → IsCopy r → ⊥
 no_copy (Moves rd rs) e h = cc
 no_copy _ e h = absurd h
 
--- two blocks of one number are one
-one_block : (bs : List Block) → AreApart (ids_of bs) → (a b : Block) → Contains bs a → Contains bs b → a.id ≡ b.id → a ≡ b
-one_block bs apart a b (i, lt, at) (j, lt', at') same =
-    let id_at : (n : ℕ) (c : Block) → n < length bs → get_or bs n c ≡ c → slice_get (ids_of bs) n ≡ Some c.id =
-    λ n c l e. slice_get-get_or (ids_of bs) n c.id (subst (λ (m : ℕ). n < m) (sym (length-map bs (λ (x : Block). x.id))) l) ∙
-    ap Some (get_or-map (λ (x : Block). x.id) bs n c c.id l ∙ ap (λ (x : Block). x.id) e) in
-    let e : i ≡ j = apart i j a.id (id_at i a lt at) (id_at j b lt' at' ∙ ap Some (sym same)) in
-    let w : Some a ≡ Some b = sym (slice_get-get_or bs i a lt ∙ ap Some at) ∙ ap (slice_get bs) e ∙ slice_get-get_or bs j b lt' ∙ ap Some at' in
-    cc
-
--- a block's number leads to it, and an index in its items to the item
-block_at : (bs : List Block) → AreApart (ids_of bs) → (b : Block) → Contains bs b → (rest : List Block) × (from_block bs b.id ≡ b ∷ rest)
-block_at [] apart b h = none_in b h
-block_at (a ∷ bs) apart b h = by_test (nat_eq a.id b.id) refl (λ later. block_at bs (apart_tail a.id (ids_of bs) apart) b later) where
-  by_test : (z : Bool) → nat_eq a.id b.id ≡ z → (Contains bs b → (rest : List Block) × (from_block bs b.id ≡ b ∷ rest)) →
-      (rest : List Block) × (cond z (a ∷ bs) (from_block bs b.id) ≡ b ∷ rest)
-  by_test true e more = let same : a ≡ b = one_block (a ∷ bs) apart a b (at_first a bs) h (eqb-true a.id b.id e) in (bs, λ i. same i ∷ bs)
-  by_test false e more = elim (in_first a bs b h) [
-    | inl same ↦ (let t : nat_eq a.id b.id ≡ true = eq-eqb a.id b.id (ap (λ (x : Block). x.id) same) in let bad : true ≡ false = sym t ∙ e in cc)
-    | inr later ↦ more later
-  ]
-
-item_front : (xs : List Item) (n k : ℕ) (bs : List Block) (x : Item) → slice_get xs n ≡ Some x → front (drop n xs) k bs ≡ Here x
-item_front [] n k bs x e = cc
-item_front (y ∷ ys) zero k bs x e = let w : y ≡ x = cc in ap Here w
-item_front (y ∷ ys) (suc n) k bs x e = item_front ys n k bs x e
-
 same_position : (p : Pos) → is_position p p ≡ true
 same_position p = let a = eq-eqb p.block p.block refl in let b = eq-eqb p.item p.item refl in λ i. a i && b i
 
@@ -200,7 +175,7 @@ value_stays : (c : Change) (m : MarkValue) → ValueStays nop_rule c m
 value_stays c Nothing = tt
 value_stays c (Constant z) = tt
 value_stays c (At r) = register_stays c r
-value_stays c (Pair k o) = tt
+value_stays c (Pair q) = tt
 
 place_stays : (c : Change) (p : Option Place) → PlaceStays nop_rule c p
 place_stays c None = tt
@@ -216,8 +191,8 @@ module _ (f : Function) (sound : IsSound f) (subs : List Entry) where
   change = record { old = f; old_subs = subs; new = thinned f; new_subs = subs }
 
   stands_in : (b : Block) → Contains f.blocks b → (n : ℕ) (x : Item) → slice_get b.items n ≡ Some x → StandsAt f (record { block = b.id; item = n }) x
-  stands_in b member n x at = let w = block_at f.blocks sound.blocks_apart b member in
-      ap (λ (bs : List Block). fetch_in bs n) w.1 ∙ item_front b.items n b.silent w.0 x at
+  stands_in b member n x at = let w = found f.blocks sound.blocks_apart b member in
+      ap (λ (bs : List Block). fetch_in bs n) w.at ∙ item_front b.items n b.silent w.rest x at
 
   -- the block of what stands somewhere
   block_of : (at : Pos) (x : Item) → StandsAt f at x → (b : Block) × Contains f.blocks b × (slice_get b.items at.item ≡ Some x)

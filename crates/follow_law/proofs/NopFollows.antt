@@ -1,12 +1,15 @@
 -- What followed a source follows it without its no-operations.
-use Rattle.std.proofs.Common.{◌≡◌, ℕ, ◌≤◌, List, [], ◌∷◌, map, filter, All, Contains, Option, Some, None, Bool, true, false, cond, not, ◌&&◌, ◌||◌, refl, sym, ap, ◌∙◌, subst, slice_get, get_or, arith}
+use Rattle.std.proofs.Common.{◌≡◌, ℕ, ◌≤◌, List, [], ◌∷◌, map, filter, All, Contains, Option, Some, None, Bool, true, false, cond, not, ◌&&◌, ◌||◌, refl, sym}
+use Rattle.std.proofs.Common.{ap, ◌∙◌, subst, slice_get, get_or, arith}
 use Rattle.std.specs.List.{list_any}
 use Rattle.std.proofs.lemmas.List.{length-map}
-use Rattle.std.proofs.lemmas.List.Elements.{All-cons, All-contains, All-contains_itself, All-weaker, All-filter, All-map, Contains-append_left, Contains-append_right}
+use Rattle.std.proofs.lemmas.List.Elements.{All-cons, All-contains, All-contains_itself, All-weaker, All-filter, All-map, Contains-append_left}
+use Rattle.std.proofs.lemmas.List.Elements.{Contains-append_right}
 use Rattle.std.proofs.lemmas.Option.{slice_get-get_or, get_or_from_slice_get}
 use Rattle.std.proofs.Math.Nat.{le_trans}
 use Rattle.rv64_instr.specs.Row.{Row, Fixes, LoadsSlot, StoresSlot, Branches, Jumps, Returns, row_of}
 use Rattle.mir_func.specs.declared.entry.OperandPair.{OperandPair}
+use Rattle.mir_func.specs.declared.object.Object.{Object}
 use Rattle.mir_func.specs.declared.position.Pos.{Pos}
 use Rattle.mir_func.specs.declared.position.Origin.{Origin}
 use Rattle.mir_func.specs.declared.position.Origin.TheVariants.{Kept, Before}
@@ -23,7 +26,8 @@ use Rattle.rv64_instr.specs.Parts.{is_call, IsSlotStore}
 use Rattle.mir_func.specs.Graph.{Here, Program, fetch_in, from_block, program_of}
 use Rattle.mir_func.specs.Resolve.{resolve}
 use Rattle.mir_meaning.specs.Align.{is_jump, is_jump_row, waits_at, moves_on, Count, ByItems, ByEnds, station_at, AnyOrigin, RunsAlong, After, since_of}
-use Rattle.mir_meaning.specs.Follow.{MayAdd, KindFits, MarkFits, InOrder, next_rank, Among, none, same, left, first_of, OnRow, GoesTo, Shape, IsStart, SameEnd, IsEnd, KindsEndAlike, EndIsKept, EndComesFrom}
+use Rattle.mir_meaning.specs.Follow.{MayAdd, KindFits, MarkFits, InOrder, next_rank, Among, none, same, left, first_of, OnRow, GoesTo, Shape, IsStart, SameEnd}
+use Rattle.mir_meaning.specs.Follow.{IsEnd, KindsEndAlike, EndIsKept, EndComesFrom}
 use Rattle.mir_meaning.proofs.Reading.{found_in, front_item, within_list}
 use Rattle.simulation.proofs.Order.{rank_next}
 use Rattle.mir_meaning.proofs.Told.{tells_itself}
@@ -242,10 +246,10 @@ module _ (f : Function) (sound : IsSound f) (src : List Block) (srcp : Program) 
       marks = each_left keep (λ b i. MarkFits i.kind i.origin) (λ b i. MarkFits i.kind i.origin) (λ b i h. h) f.blocks shape.marks;
     }
 
-    runs_new : (ct : Count) → ((k : ItemKind) → moves_on ct k ≡ is_jump k) →
-        ((s : State) → IsStart (first_of src) s → RunsAlong srcp fp (station_at ct fp) (AnyOrigin (station_at ct fp)) s s) →
-        (s : State) → IsStart (first_of src) s → RunsAlong srcp gp (station_at ct gp) (AnyOrigin (station_at ct gp)) s s
-    runs_new ct counts runs s start =
+    runs_new : (ct : Count) (objects : List Object) → ((k : ItemKind) → moves_on ct k ≡ is_jump k) →
+        ((s : State) → IsStart objects (first_of src) s → RunsAlong srcp fp (station_at ct fp) (AnyOrigin (station_at ct fp)) s s) →
+        (s : State) → IsStart objects (first_of src) s → RunsAlong srcp gp (station_at ct gp) (AnyOrigin (station_at ct gp)) s s
+    runs_new ct objects counts runs s start =
         nops_run false f.blocks resolve ct srcp s (steady ct counts) sound.blocks_apart shape.order order_new sound.origins origins_new
         (ap (λ (p : Pos). p.item) start.pos) (tells_itself s.core, λ k o gone. start.pairs k o) (runs s start)
 
@@ -267,16 +271,21 @@ following_new f subs sound none_added = record {
   follows = λ src fol ends.
       let srcp : Program = program_of true src.function.blocks (resolve src.subs) in
       record {
-        shape = shape_new f sound src.function.blocks srcp (resolve subs) none_added fol.shape;
-        runs = runs_new f sound src.function.blocks srcp (resolve subs) none_added fol.shape ByItems (λ k. refl) fol.runs;
+        objects = fol.objects;
+        follows = record {
+          shape = shape_new f sound src.function.blocks srcp (resolve subs) none_added fol.follows.shape;
+          runs = runs_new f sound src.function.blocks srcp (resolve subs) none_added fol.follows.shape ByItems src.function.objects (λ k. refl)
+              fol.follows.runs;
+        };
       };
   ends = λ keeps src fol whole.
       let srcp : Program = program_of true src.function.blocks (resolve src.subs) in
       record {
         blocks = length-map f.blocks (thin (stays false)) ∙ whole.blocks;
-        kept = ends_kept f sound src.function.blocks srcp (resolve subs) none_added fol.shape whole.kept;
-        only = ends_only f sound src.function.blocks srcp (resolve subs) none_added fol.shape whole.only;
-        runs = runs_new f sound src.function.blocks srcp (resolve subs) none_added fol.shape ByEnds (λ k. refl) whole.runs;
+        kept = ends_kept f sound src.function.blocks srcp (resolve subs) none_added fol.follows.shape whole.kept;
+        only = ends_only f sound src.function.blocks srcp (resolve subs) none_added fol.follows.shape whole.only;
+        runs = runs_new f sound src.function.blocks srcp (resolve subs) none_added fol.follows.shape ByEnds src.function.objects (λ k. refl)
+            whole.runs;
       };
 }
 

@@ -1,5 +1,6 @@
 -- The run of a function without its no-operations.
-use Rattle.std.proofs.Common.{◌≡◌, ℕ, zero, List, [], ◌∷◌, filter, All, Contains, Option, Some, None, Bool, true, false, cond, not, ◌&&◌, refl, sym, ap, ◌∙◌, subst, inl, inr, ◌⊎◌, slice_get, arith}
+use Rattle.std.proofs.Common.{◌≡◌, ℕ, zero, List, [], ◌∷◌, filter, All, Contains, Option, Some, None, Bool, true, false, cond, not, ◌&&◌, refl, sym, ap, ◌∙◌}
+use Rattle.std.proofs.Common.{subst, inl, inr, ◌⊎◌, slice_get, arith}
 use Rattle.std.proofs.lemmas.Bool.{cases_eq}
 use Rattle.std.proofs.lemmas.List.Elements.{All-head, All-tail, All-contains}
 use Rattle.rv64_instr.specs.declared.operand.Operand.{Operand}
@@ -78,7 +79,7 @@ module _ (busy : Bool) (blocks : List Block) (resolve : OperandPair → Option O
   Kin c d = TellsLess c d × ((k o : ℕ) → IsGone k → d.pairs k o ≡ None)
 
   sees_same : SeesLess f g
-  sees_same = record { sees = λ r c v e. e; resolve = λ k o. refl }
+  sees_same = record { sees = λ r c v e. e; resolve = λ q. refl }
 
   abbrev HasNone : Core → Type 0
   HasNone d = (k o : ℕ) → IsGone k → d.pairs k o ≡ None

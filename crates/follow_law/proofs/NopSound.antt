@@ -1,5 +1,6 @@
 -- A function without its no-operations is a function still.
-use Rattle.std.proofs.Common.{◌≡◌, ℕ, ◌<◌, ◌≤◌, List, [], ◌∷◌, ◌++◌, map, filter, length, All, Some, Bool, true, false, cond, slice_get, get_or, refl, sym, ap, ◌∙◌, subst, inl, inr, arith}
+use Rattle.std.proofs.Common.{◌≡◌, ℕ, ◌<◌, ◌≤◌, List, [], ◌∷◌, ◌++◌, map, filter, length, All, Some, Bool, true, false, cond, slice_get, get_or, refl, sym, ap}
+use Rattle.std.proofs.Common.{◌∙◌, subst, inl, inr, arith}
 use Rattle.std.proofs.lemmas.Bool.{cases_order}
 use Rattle.std.proofs.lemmas.List.{length-map}
 use Rattle.std.proofs.lemmas.List.Elements.{filter-append, All-weaker, All-map}
@@ -12,10 +13,12 @@ use Rattle.mir_func.specs.declared.item.Item.{Item}
 use Rattle.mir_func.specs.declared.item.ItemKind.{ItemKind}
 use Rattle.mir_func.specs.declared.item.ItemKind.TheVariants.{Code, Mark, Phi}
 use Rattle.mir_func.specs.Function.{Function}
-use Rattle.mir_func.specs.Sound.{AreApart, ids_of, items_of, number_of, code_number, NumbersOnce, OriginIn, TargetsIn, SlotsIn, LeavesPointer, IsJumpAtMost, MayFollow, EndsWell, Closes, LastCloses, IsSound}
+use Rattle.mir_func.specs.Sound.{AreApart, ids_of, items_of, number_of, code_number, NumbersOnce, OriginIn, TargetsIn, SlotsIn, ObjectsIn, LeavesPointer}
+use Rattle.mir_func.specs.Sound.{IsJumpAtMost, MayFollow, EndsWell, Closes, LastCloses, IsSound}
 use Rattle.mir_func.specs.declared.exit.Exit.{Exit}
 use Rattle.mir_func.specs.declared.exit.Exit.TheVariants.{Onward, Perhaps, Always, Final}
-use Rattle.mir_func.specs.Exits.{row_exit, exit_of}
+use Rattle.mir_func.specs.Exits.{row_exit, exit_of, IsAlways, Leaves}
+use Rattle.mir_func.specs.Limits.{MAX_BLOCKS}
 use Rattle.mir_meaning.proofs.Reading.{within_list}
 use Rattle.follow_law.specs.Nops.{is_nop_row, is_nop, stays, thinned_blocks}
 use Rattle.follow_law.proofs.Thinning.{thin}
@@ -61,13 +64,17 @@ once_from xs unlike i j x y k atx cx aty ny =
       num n z at c = subst (λ (w : Item). number_of w.kind ≡ Some k) (sym (get_or_from_slice_get xs n z x at)) c
 
 -- an item at which control leaves is no no-operation
-leaving_stays : (k : ItemKind) (e : Exit) → exit_of k ≡ e → (e ≡ Onward → ⊥) → is_nop k ≡ false
-leaving_stays (Code i n) e h ne = by_row (row_of i) h where
-  by_row : (r : Row) → row_exit r ≡ e → is_nop_row r ≡ false
-  by_row (Fixes rd n) h = absurd (ne (sym h))
+leaving_stays : (k : ItemKind) → Leaves (exit_of k) → is_nop k ≡ false
+leaving_stays (Code i n) h = by_row (row_of i) h where
+  by_row : (r : Row) → Leaves (row_exit r) → is_nop_row r ≡ false
+  by_row (Fixes rd n) h = absurd h
   by_row _ h = refl
-leaving_stays (Mark v m) e h ne = refl
-leaving_stays (Phi p m) e h ne = refl
+leaving_stays (Mark v m) h = refl
+leaving_stays (Phi p m) h = refl
+
+always_leaves : (e : Exit) → IsAlways e → Leaves e
+always_leaves (Always n) h = tt
+always_leaves _ h = absurd h
 
 module _ (busy : Bool) where
   abbrev keep : Item → Bool
@@ -78,10 +85,10 @@ module _ (busy : Bool) where
 
   may_follow : (e : Exit) (rest : List Item) → MayFollow e rest → MayFollow e (filter keep rest)
   may_follow Onward rest h = tt
-  may_follow Perhaps [] h = tt
-  may_follow Perhaps (x ∷ []) h = subst IsJumpAtMost (sym (alone x (leaving_stays x.kind Always h (λ e. cc)))) h
-  may_follow Perhaps (x ∷ y ∷ rest) h = absurd h
-  may_follow Always rest h = ap (filter keep) h
+  may_follow (Perhaps n) [] h = tt
+  may_follow (Perhaps n) (x ∷ []) h = subst IsJumpAtMost (sym (alone x (leaving_stays x.kind (always_leaves (exit_of x.kind) h)))) h
+  may_follow (Perhaps n) (x ∷ y ∷ rest) h = absurd h
+  may_follow (Always n) rest h = ap (filter keep) h
   may_follow Final rest h = ap (filter keep) h
 
   ends_thin : (xs : List Item) → EndsWell xs → EndsWell (filter keep xs)
@@ -97,8 +104,7 @@ module _ (busy : Bool) where
 
   closes_thin : (xs : List Item) → Closes xs → Closes (filter keep xs)
   closes_thin [] h = absurd h
-  closes_thin (x ∷ []) h = subst Closes (sym
-      (alone x (elim h as (λ _. is_nop x.kind ≡ false) [ inl e ↦ leaving_stays x.kind Always e (λ k. cc) | inr e ↦ leaving_stays x.kind Final e (λ k. cc) ]))) h
+  closes_thin (x ∷ []) h = subst Closes (sym (alone x (leaving_stays x.kind h))) h
   closes_thin (x ∷ y ∷ rest) h = by_test (keep x) (closes_thin (y ∷ rest) h) where
     by_test : (z : Bool) → Closes (filter keep (y ∷ rest)) → Closes (cond z (x ∷ filter keep (y ∷ rest)) (filter keep (y ∷ rest)))
     by_test true k = closes_more x (filter keep (y ∷ rest)) k
@@ -116,11 +122,15 @@ module _ (busy : Bool) where
       record {
         blocks_apart = subst (λ (ns : List ℕ). AreApart ns) (sym ids) s.blocks_apart;
         slots_apart = s.slots_apart;
-        few_blocks = subst (λ (n : ℕ). n ≤ 1024) (sym (length-map f.blocks (thin keep))) s.few_blocks;
+        objects_apart = s.objects_apart;
+        few_blocks = subst (λ (n : ℕ). n ≤ MAX_BLOCKS) (sym (length-map f.blocks (thin keep))) s.few_blocks;
         few_slots = s.few_slots;
+        each_object = s.each_object;
+        objects_laid = s.objects_laid;
         targets = subst (λ (ns : List ℕ). All (λ (b : Block). All (λ (i : Item). TargetsIn ns i.kind) b.items) new) (sym ids)
             (each_left keep (λ b i. TargetsIn (ids_of f.blocks) i.kind) (λ b i. TargetsIn (ids_of f.blocks) i.kind) (λ b i h. h) f.blocks s.targets);
         slots = each_left keep (λ b i. SlotsIn f.slots i.kind) (λ b i. SlotsIn f.slots i.kind) (λ b i h. h) f.blocks s.slots;
+        objects = each_left keep (λ b i. ObjectsIn f.objects i.kind) (λ b i. ObjectsIn f.objects i.kind) (λ b i h. h) f.blocks s.objects;
         pointer = each_left keep (λ b i. LeavesPointer i.kind) (λ b i. LeavesPointer i.kind) (λ b i h. h) f.blocks s.pointer;
         numbers = once_from (items_of new) (subst (λ (xs : List Item). AllPairs AreUnlike xs) (sym (items_thin keep f.blocks))
             (AllPairs-filter AreUnlike keep (items_of f.blocks) (unlike_from (items_of f.blocks) s.numbers)));

@@ -1,9 +1,11 @@
 -- The causes of losses: for each reason, when a pass may give it. They are said over the function before the pass and
 -- the one after it.
-use Rattle.std.specs.Prelude.{◌≡◌, ◌⊎◌, ℕ, ◌<◌, ◌≤◌, List, [], ◌∷◌, length, take, filter, count_by, All, Contains, Option, Some, None, Bool, true, false, not, ◌&&◌, nat_eq}
+use Rattle.std.specs.Prelude.{◌≡◌, ◌⊎◌, ℕ, ◌+◌, ◌<◌, ◌≤◌, List, [], ◌∷◌, length, take, filter, count_by, All, Contains, Option, Some, None, Bool, true, false}
+use Rattle.std.specs.Prelude.{not, ◌&&◌, nat_eq}
 use Rattle.std.specs.List.{list_any}
 use Rattle.rv64_instr.specs.declared.operand.Operand.{Operand}
-use Rattle.rv64_instr.specs.declared.operand.Operand.TheVariants.{Def, Use, ImplicitDef, ImplicitUse, Imm, Slot as OfSlot, Block as OfBlock, Symbol, Mask}
+use Rattle.rv64_instr.specs.declared.operand.Operand.TheVariants.{Def, Use, ImplicitDef, ImplicitUse, Imm, Slot as OfSlot, Object as OfObject, Block as OfBlock}
+use Rattle.rv64_instr.specs.declared.operand.Operand.TheVariants.{Symbol, Mask}
 use Rattle.rv64_instr.specs.declared.place.Place.{Place}
 use Rattle.rv64_instr.specs.declared.place.Place.TheVariants.{Register}
 use Rattle.rv64_instr.specs.Instruction.{Instruction}
@@ -19,6 +21,7 @@ use Rattle.mir_func.specs.declared.item.ItemKind.{ItemKind}
 use Rattle.mir_func.specs.declared.item.ItemKind.TheVariants.{Code, Mark, Phi}
 use Rattle.mir_func.specs.declared.block.Block.{Block}
 use Rattle.mir_func.specs.Function.{Function}
+use Rattle.mir_func.specs.Limits.{MAX_SLOTS}
 use Rattle.mir_func.specs.Sound.{ids_of, items_of}
 use Rattle.mir_func.specs.Graph.{Program, below, block_start, program_of, Edge, Leads}
 use Rattle.mir_func.specs.Resolve.{resolve}
@@ -42,6 +45,7 @@ is_of_register counts r (ImplicitDef s) = counts && nat_eq s r
 is_of_register counts r (ImplicitUse s) = counts && nat_eq s r
 is_of_register counts r (Imm i) = false
 is_of_register counts r (OfSlot n) = false
+is_of_register counts r (OfObject n) = false
 is_of_register counts r (OfBlock n) = false
 is_of_register counts r (Symbol name) = false
 is_of_register counts r Mask = false
@@ -83,7 +87,7 @@ AsksFor x (Mark v (At r)) = x ≡ Register r
 AsksFor x (Phi (Some p) k) = x ≡ p
 AsksFor x (Mark v Nothing) = ⊥
 AsksFor x (Mark v (Constant n)) = ⊥
-AsksFor x (Mark v (Pair k o)) = ⊥
+AsksFor x (Mark v (Pair q)) = ⊥
 AsksFor x (Phi None k) = ⊥
 AsksFor x (Code i k) = ⊥
 
@@ -202,14 +206,15 @@ module _ (rule : Rule) (c : Change) where
         (IsReached c at.block → ⊥) → IsGoneBlock c at.block → HasCause at (number_lost k Unreachable)
 
   -- why a register can't be spilled: fewer than two scratch registers are free; a call names it, or code that was added;
-  -- it is live into the first block, to which a branch leads; there are 224 slots, those of lower registers among them
+  -- it is live into the first block, to which a branch leads; there are as many slots and objects
+  -- as a function may have, the slots of lower registers among them
   abbrev pub Prevents : Reason → ℕ → Type 0
   Prevents NoScratch r = length (scratch_of c.old) < 2
   Prevents CallNamed r = (i : Item) × Contains (items_of c.old.blocks) i × (names r i.kind ≡ true) ×
       (OnRow (λ row. is_call row ≡ true) i.kind ⊎ (i.origin ≡ Before (position_of i.origin)))
   Prevents EntryLoop r = Live (old_program c) (Register r) (old_start c) ×
       ((p : Pos) × (i : Item) × StandsAt c.old p i × OnRow (GoesTo (first_of c.old.blocks)) i.kind)
-  Prevents NoSlot r = (length c.new.slots ≡ 224) × ((s slot : ℕ) → rule.spills c s slot → s < r)
+  Prevents NoSlot r = (length c.new.slots + length c.new.objects ≡ MAX_SLOTS) × ((s slot : ℕ) → rule.spills c s slot → s < r)
   Prevents Removed r = ⊥
   Prevents WrongPlace r = ⊥
   Prevents Scratch r = ⊥

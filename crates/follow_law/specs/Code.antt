@@ -32,7 +32,7 @@ placeless_block b = record { id = b.id; items = map placeless_item b.items; sile
 abbrev pub placeless : Function → Function
 placeless f = record f { blocks = map placeless_block f.blocks }
 
--- both have the same names, slots, block numbers and items in order, each kept or not
+-- both have the same names, slots, objects, block numbers and items in order, each kept or not
 abbrev pub AreAlike : Function → Function → Type 0
 AreAlike f g = placeless f ≡ placeless g
 

@@ -16,6 +16,7 @@ use Rattle.mir_func.specs.declared.item.Item.{Item}
 use Rattle.mir_func.specs.declared.item.ItemKind.{ItemKind}
 use Rattle.mir_func.specs.declared.item.ItemKind.TheVariants.{Code, Mark, Phi}
 use Rattle.mir_func.specs.declared.block.Block.{Block}
+use Rattle.mir_func.specs.declared.entry.OperandPair.{OperandPair}
 use Rattle.mir_func.specs.declared.entry.Entry.{Entry}
 use Rattle.mir_func.specs.Resolve.{entry_of, Ends}
 use Rattle.follow_law.specs.declared.loss.Reason.{Reason}
@@ -23,7 +24,8 @@ use Rattle.follow_law.specs.declared.loss.Reason.TheVariants.{Removed, WrongPlac
 use Rattle.follow_law.specs.declared.loss.Loss.{Loss}
 use Rattle.follow_law.specs.Change.{Change}
 use Rattle.follow_law.specs.Order.{IsInOrder}
-use Rattle.follow_law.specs.Rule.{Rule, IsCopy, IsJump, number_lost, mark_lost, register_lost, item, item_before, StandsAt, numbers_on, Has}
+use Rattle.follow_law.specs.Rule.{Rule, IsCopy, IsJump, number_lost, mark_lost, register_lost, item, item_before, first_operand, StandsAt, numbers_on}
+use Rattle.follow_law.specs.Rule.{stack_numbers, Has}
 use Rattle.follow_law.specs.Causes.{HasCause, IsFirstCause}
 
 -- what becomes of what is lost: it is gone, or it stays and gives nothing, or it is a register that stays unspilled
@@ -57,7 +59,7 @@ module _ (rule : Rule) (c : Change) where
   ValueStays Nothing = Unit {0}
   ValueStays (Constant n) = Unit {0}
   ValueStays (At r) = RegisterStays r
-  ValueStays (Pair k o) = Unit {0}
+  ValueStays (Pair q) = Unit {0}
 
   -- nor does a phi of this place
   abbrev pub PlaceStays : Option Place → Type 0
@@ -66,7 +68,7 @@ module _ (rule : Rule) (c : Change) where
   PlaceStays (Some (Slot n)) = Unit {0}
   PlaceStays (Some (Const n)) = Unit {0}
 
-  -- a kill at the start of a block: its variable is assigned nothing, and a mark of it is lost with a block that is
+  -- a kill at the start of a block: its part of a variable is assigned nothing, and a mark of the same part is lost with a block that is
   -- bypassed; or its number gives nothing, and is lost so
   abbrev pub IsKillOf : ItemKind → Type 0
   IsKillOf (Mark v Nothing) = (at : Pos) × (m : MarkValue) × (o : Origin) × (l : Loc) × StandsAt c.old at (item (Mark v m) o l) ×
@@ -104,7 +106,7 @@ module _ (rule : Rule) (c : Change) where
     -- a copy is gone, and another pair stands for its number; or a phi of its number is there for it, which gives
     -- nothing where its place is wrong
     substituted : {i : Instruction} {n : Option ℕ} {o : Origin} {l : Loc} (k : ℕ) (e : Entry) → IsCopy (row_of i) → Has rule c at n k →
-        entry_of c.new_subs (k, 0) ≡ Some e → Becomes at (item (Code i n) o l) []
+        entry_of c.new_subs (first_operand k) ≡ Some e → Becomes at (item (Code i n) o l) []
     salvaged : {i : Instruction} {n : Option ℕ} {k : ℕ} {o : Origin} {l : Loc} {p : Place} → IsCopy (row_of i) → Has rule c at n k →
         rule.salvages c at p → IsUnlost at (number_lost k) → Becomes at (item (Code i n) o l) (item_before (Phi (Some p) k) o ∷ [])
     salvaged_wrong : {i : Instruction} {n : Option ℕ} {k : ℕ} {o : Origin} {l : Loc} {p : Place} → IsCopy (row_of i) → Has rule c at n k →
@@ -121,7 +123,7 @@ module _ (rule : Rule) (c : Change) where
         Becomes at (item (Phi p k) o l) []
     -- what asks for a spilled register asks for its slot: a mark by a phi before it, with a number for both
     mark_spilled : {v : VarId} {r slot k : ℕ} {o : Origin} {l : Loc} → IsUnlost at (mark_lost o) → rule.spills c r slot → rule.numbers c at k →
-        Becomes at (item (Mark v (At r)) o l) (item_before (Phi (Some (Slot slot)) k) o ∷ item (Mark v (Pair k 0)) o l ∷ [])
+        Becomes at (item (Mark v (At r)) o l) (item_before (Phi (Some (Slot slot)) k) o ∷ item (Mark v (Pair (first_operand k))) o l ∷ [])
     phi_spilled : {r slot k : ℕ} {o : Origin} {l : Loc} → IsUnlost at (number_lost k) → rule.spills c r slot →
         Becomes at (item (Phi (Some (Register r)) k) o l) (item (Phi (Some (Slot slot)) k) o l ∷ [])
     -- what asks for a register that got another one asks for that
@@ -149,16 +151,20 @@ module _ (rule : Rule) (c : Change) where
 abbrev pub IsLoss : Rule → Change → Loss → Type 0
 IsLoss rule c loss = ((place : Pos) × rule.loses c place loss) ⊎ ((r : ℕ) × (why : Reason) × (loss ≡ register_lost r why) × rule.leaves c r why)
 
+-- an item gives the number after the pass, or it is lost
+abbrev pub IsGivenOrLost : Change → List Loss → ℕ → Type 0
+IsGivenOrLost c losses k = Contains (numbers_on c.new) k ⊎ ((why : Reason) × Contains losses (number_lost k why))
+
 -- what an added entry is for: a number that no item gives any more. The chain of entries from its pair ends at one whose
 -- number an item gives, or is lost
 pub record IsFor (c : Change) (losses : List Loss) (e : Entry) : Type 0 where
-  pub whole : (e.src.1 ≡ 0) × (e.subreg ≡ 0)
-  pub gone : Contains (numbers_on c.new) e.src.0 → ⊥
-  pub stands : (q : ℕ × ℕ) × Ends c.new_subs e.dst q × (Contains (numbers_on c.new) q.0 ⊎ ((why : Reason) × Contains losses (number_lost q.0 why)))
+  pub whole : (e.src.operand ≡ 0) × (e.subreg ≡ 0)
+  pub gone : Contains (numbers_on c.new) e.src.number → ⊥
+  pub stands : (q : OperandPair) × Ends c.new_subs e.dst q × IsGivenOrLost c losses q.number
 
 -- the debug rule: what the blocks become; substitutions are added behind those that were there, each for a number that is
 -- gone; the losses are those that the pass says, each once and in order; and it says none without its cause. Registers are
--- spilled into new slots, and only virtual ones get another register, which is real
+-- spilled into new slots, whose numbers no slot and no stack object had, and only virtual ones get another register, which is real
 pub record KeepsItems (rule : Rule) (c : Change) (losses : List Loss) : Type 0 where
   pub blocks : BlocksBecome rule c c.old.blocks c.new.blocks
   pub subs : (more : List Entry) × (c.new_subs ≡ c.old_subs ++ more) × rule.substitutes c more × All (IsFor c losses) more
@@ -167,5 +173,5 @@ pub record KeepsItems (rule : Rule) (c : Change) (losses : List Loss) : Type 0 w
   pub ordered : IsInOrder losses
   pub caused : (place : Pos) (loss : Loss) → rule.loses c place loss → HasCause rule c place loss
   pub left : (r : ℕ) (why : Reason) → rule.leaves c r why → IsFirstCause rule c r why
-  pub spilled : (r slot : ℕ) → rule.spills c r slot → Contains c.new.slots slot × (Contains c.old.slots slot → ⊥)
+  pub spilled : (r slot : ℕ) → rule.spills c r slot → Contains c.new.slots slot × (Contains (stack_numbers c.old) slot → ⊥)
   pub renamed : (r now : ℕ) → rule.renames c r now → (32 ≤ r) × (now < 32)

@@ -1,5 +1,5 @@
 -- The first law of passes: what followed a source follows it still.
-use Rattle.std.specs.Prelude.{List, Bool, IsTrue}
+use Rattle.std.specs.Prelude.{◌≡◌, List, Bool, IsTrue}
 use Rattle.rv64_instr.specs.Form.{has_form}
 use Rattle.mir_func.specs.declared.item.ItemKind.{ItemKind}
 use Rattle.mir_func.specs.declared.item.ItemKind.TheVariants.{Code, Mark, Phi}
@@ -24,13 +24,14 @@ pub record Source : Type 0 where
   pub read : IsRead function.blocks
   pub form : AllItems (λ i. HasForm i.kind) function.blocks
 
--- the function with its substitutions follows the source
-abbrev pub FollowsSource : Source → Function → List Entry → Type 0
-FollowsSource src f subs = Follows src.function.blocks f.blocks (resolve src.subs) (resolve subs)
+-- the function with its substitutions follows the source, over the source's stack objects
+pub record FollowsSource (src : Source) (f : Function) (subs : List Entry) : Type 0 where
+  pub objects : f.objects ≡ src.function.objects
+  pub follows : Follows src.function.objects src.function.blocks f.blocks (resolve src.subs) (resolve subs)
 
 -- it has the source's ends of blocks
 abbrev pub EndsAsSource : Source → Function → List Entry → Type 0
-EndsAsSource src f subs = HasWholeEnds src.function.blocks f.blocks (resolve src.subs) (resolve subs)
+EndsAsSource src f subs = HasWholeEnds src.function.objects src.function.blocks f.blocks (resolve src.subs) (resolve subs)
 
 -- of whatever source the function followed, with whole ends if the pass asks for them, it follows that source still; and if
 -- the pass keeps whole ends, they are whole still

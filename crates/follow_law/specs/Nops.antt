@@ -7,7 +7,7 @@ use Rattle.mir_func.specs.declared.position.Origin.{Origin}
 use Rattle.mir_func.specs.declared.position.Origin.TheVariants.{Before}
 use Rattle.mir_func.specs.declared.item.Item.{Item}
 use Rattle.mir_func.specs.declared.item.ItemKind.{ItemKind}
-use Rattle.mir_func.specs.declared.item.ItemKind.TheVariants.{Code}
+use Rattle.mir_func.specs.declared.item.ItemKind.TheVariants.{Code, Mark, Phi}
 use Rattle.mir_func.specs.declared.block.Block.{Block}
 use Rattle.mir_func.specs.Function.{Function}
 use Rattle.mir_func.specs.Sound.{code_number}
@@ -82,7 +82,9 @@ nop_step = record { code = IsThinned; debug = nop_rule }
 -- the number of a no-operation, where it has one
 abbrev pub nop_number : ItemKind → Option ℕ
 nop_number (Code i (Some k)) = cond (is_nop_row (row_of i)) (Some k) None
-nop_number _ = None
+nop_number (Code i None) = None
+nop_number (Mark v m) = None
+nop_number (Phi p k) = None
 
 abbrev pub numbers_in_items : List Item → List ℕ
 numbers_in_items items = filter_map (λ i. nop_number i.kind) items

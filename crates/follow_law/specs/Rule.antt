@@ -1,5 +1,5 @@
 -- What a pass says of what it does to debug items.
-use Rattle.std.specs.Prelude.{◌≡◌, ◌⊎◌, ◌↔◌, ℕ, suc, List, Option, Some, None, filter_map, Contains}
+use Rattle.std.specs.Prelude.{◌≡◌, ◌⊎◌, ◌↔◌, ℕ, suc, ◌++◌, List, map, Option, Some, None, filter_map, Contains}
 use Rattle.rv64_instr.specs.declared.place.Place.{Place}
 use Rattle.rv64_instr.specs.Row.{Row, Moves, Jumps}
 use Rattle.mir_func.specs.declared.position.Pos.{Pos}
@@ -9,6 +9,7 @@ use Rattle.mir_func.specs.declared.location.Loc.{Loc}
 use Rattle.mir_func.specs.declared.location.Loc.TheVariants.{Absent}
 use Rattle.mir_func.specs.declared.item.Item.{Item}
 use Rattle.mir_func.specs.declared.item.ItemKind.{ItemKind}
+use Rattle.mir_func.specs.declared.entry.OperandPair.{OperandPair}
 use Rattle.mir_func.specs.declared.entry.Entry.{Entry}
 use Rattle.mir_func.specs.Function.{Function}
 use Rattle.mir_func.specs.Sound.{items_of, number_of}
@@ -64,6 +65,10 @@ item k o l = record { kind = k; origin = o; loc = l }
 abbrev pub item_before : ItemKind → Origin → Item
 item_before k o = record { kind = k; origin = Before (position_of o); loc = Absent }
 
+-- operand 0 of the item with a number
+abbrev pub first_operand : ℕ → OperandPair
+first_operand k = record { number = k; operand = 0 }
+
 -- the item stands at the place
 abbrev pub StandsAt : Function → (place : Pos) → Item → Type 0
 StandsAt f p i = fetch_in (from_block f.blocks p.block) p.item ≡ Here i
@@ -71,6 +76,10 @@ StandsAt f p i = fetch_in (from_block f.blocks p.block) p.item ≡ Here i
 -- the numbers that code and phis give
 abbrev pub numbers_on : Function → List ℕ
 numbers_on f = filter_map (λ i. number_of i.kind) (items_of f.blocks)
+
+-- the N of each `%stack.N`: the numbers of slots and of stack objects
+abbrev pub stack_numbers : Function → List ℕ
+stack_numbers f = f.slots ++ map (λ o. o.id) f.objects
 
 -- the number that code at a place has, or gets on the way
 abbrev pub Has : Rule → Change → (at : Pos) → Option ℕ → ℕ → Type 0

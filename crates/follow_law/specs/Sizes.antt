@@ -1,8 +1,5 @@
 -- How far a pass may make a function grow.
-use Rattle.std.specs.Prelude.{ℕ, ◌+◌, ◌*◌, ◌<◌, ◌≤◌, max, List, [], ◌∷◌, ◌++◌, length, count_by, flat_map, Some, None, Bool, false, All}
-use Rattle.rv64_instr.specs.declared.operand.Operand.{Operand}
-use Rattle.rv64_instr.specs.declared.operand.Operand.TheVariants.{Def, Use, ImplicitDef, ImplicitUse, Imm, Slot as OfSlot, Block as OfBlock, Symbol, Mask}
-use Rattle.rv64_instr.specs.declared.place.Place.TheVariants.{Register, Slot, Const}
+use Rattle.std.specs.Prelude.{ℕ, ◌+◌, ◌*◌, ◌≤◌, max, List, [], ◌∷◌, ◌++◌, length, count_by, flat_map, Some, None, Bool, false}
 use Rattle.rv64_instr.specs.Row.{row_of}
 use Rattle.rv64_instr.specs.Parts.{is_call}
 use Rattle.mir_func.specs.declared.item.ItemKind.{ItemKind}
@@ -12,8 +9,11 @@ use Rattle.mir_func.specs.declared.block.Block.{Block}
 use Rattle.mir_func.specs.declared.entry.Entry.{Entry}
 use Rattle.mir_func.specs.Function.{Function}
 use Rattle.mir_func.specs.Sound.{items_of, AllItems}
+use Rattle.mir_func.specs.SoundFrame.{HasPhysical}
+use Rattle.mir_func.specs.Limits.{MAX_SLOTS}
 use Rattle.mir_meaning.specs.Align.{is_code}
 use Rattle.follow_law.specs.Change.{Change}
+use Rattle.follow_law.specs.Rule.{stack_numbers}
 
 -- the greatest of some numbers, or 0 where there is none
 abbrev pub greatest : List ℕ → ℕ
@@ -25,14 +25,14 @@ abbrev pub numbers_of : ItemKind → List ℕ
 numbers_of (Code i (Some k)) = k ∷ []
 numbers_of (Code i None) = []
 numbers_of (Phi p k) = k ∷ []
-numbers_of (Mark v (Pair k o)) = k ∷ []
+numbers_of (Mark v (Pair q)) = q.number ∷ []
 numbers_of (Mark v Nothing) = []
 numbers_of (Mark v (Constant n)) = []
 numbers_of (Mark v (At r)) = []
 
 -- the debug instruction numbers of a function with its substitutions: on items, in marks, and on both sides of entries
 abbrev pub numbers_in : List Block → List Entry → List ℕ
-numbers_in blocks subs = flat_map (λ i. numbers_of i.kind) (items_of blocks) ++ flat_map (λ e. e.src.0 ∷ e.dst.0 ∷ []) subs
+numbers_in blocks subs = flat_map (λ i. numbers_of i.kind) (items_of blocks) ++ flat_map (λ e. e.src.number ∷ e.dst.number ∷ []) subs
 
 abbrev pub greatest_number : Function → List Entry → ℕ
 greatest_number f subs = greatest (numbers_in f.blocks subs)
@@ -51,32 +51,9 @@ calls (Phi p k) = false
 abbrev pub call_count : Function → ℕ
 call_count f = count_by (λ i. calls i.kind) (items_of f.blocks)
 
--- the registers of an item are x0 to x31
-abbrev pub OperandIsPhysical : Operand → Type 0
-OperandIsPhysical (Def r) = r < 32
-OperandIsPhysical (Use r) = r < 32
-OperandIsPhysical (ImplicitDef r) = r < 32
-OperandIsPhysical (ImplicitUse r) = r < 32
-OperandIsPhysical (Imm i) = Unit {0}
-OperandIsPhysical (OfSlot n) = Unit {0}
-OperandIsPhysical (OfBlock n) = Unit {0}
-OperandIsPhysical (Symbol name) = Unit {0}
-OperandIsPhysical Mask = Unit {0}
-
-abbrev pub KindIsPhysical : ItemKind → Type 0
-KindIsPhysical (Code i k) = All OperandIsPhysical i.operands
-KindIsPhysical (Mark v (At r)) = r < 32
-KindIsPhysical (Mark v Nothing) = Unit {0}
-KindIsPhysical (Mark v (Constant n)) = Unit {0}
-KindIsPhysical (Mark v (Pair k o)) = Unit {0}
-KindIsPhysical (Phi (Some (Register r)) k) = r < 32
-KindIsPhysical (Phi (Some (Slot n)) k) = Unit {0}
-KindIsPhysical (Phi (Some (Const n)) k) = Unit {0}
-KindIsPhysical (Phi None k) = Unit {0}
-
 -- no virtual register stands in the function
 abbrev pub IsPhysical : Function → Type 0
-IsPhysical f = AllItems (λ i. KindIsPhysical i.kind) f.blocks
+IsPhysical f = AllItems (λ i. HasPhysical i.kind) f.blocks
 
 -- how many items a pass may make of some: its factor times as many, and 1,024 a count more, for each of which a block may get one
 abbrev pub most : (factor count items : ℕ) → ℕ
@@ -93,4 +70,4 @@ pub record KeepsSizes (factor count : ℕ) (c : Change) : Type 0 where
   pub calls : call_count c.new ≤ call_count c.old
   pub physical : IsPhysical c.old → IsPhysical c.new
   pub numbers : greatest_number c.new c.new_subs ≤ greatest_number c.old c.old_subs + most_numbers factor count c.old
-  pub slots : greatest c.new.slots ≤ greatest c.old.slots + 224 * count
+  pub slots : greatest (stack_numbers c.new) ≤ greatest (stack_numbers c.old) + MAX_SLOTS * count

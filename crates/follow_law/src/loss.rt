@@ -1,6 +1,7 @@
 //! What passes lose, and why.
 use lists::List;
 use mir_func::position::Pos;
+use numbers::code::DebugNumber;
 use rv64_instr::reg::Reg;
 
 /// Why something is lost, in the order in which reports have them.
@@ -22,7 +23,7 @@ pub enum Reason {
     CallNamed,
     /// The register is live into the first block, to which a branch leads.
     EntryLoop,
-    /// There are as many slots as a function may have.
+    /// There are as many slots and stack objects as a function may have.
     NoSlot,
 }
 
@@ -30,7 +31,7 @@ pub enum Reason {
 #[derive(Clone, Copy, Debug, PartialEq, Eq, PartialOrd, Ord)]
 pub enum Lost {
     /// A debug instruction number: it gives no value any more.
-    Number(u32),
+    Number(DebugNumber),
     /// The mark from this position of the source: it assigns nothing any more, or is gone.
     Mark(Pos),
     /// A register that was to be spilled and wasn't.

@@ -6,7 +6,8 @@ ghost use Rattle.mir_func.specs.Sound.{IsSound};
 ghost use Rattle.follow_law.specs.Order.{IsInOrder};
 ghost use Rattle.follow_law.specs.Rule.{AreNumbersLost};
 ghost use Rattle.follow_law.specs.Laws.{one_thinned, same_thinned};
-ghost use Rattle.follow_law.specs.Nops.{is_nop_row, is_nop, is_added_save, has_added_saves, stays, thinned_blocks, thinned, nop_step, nop_number, nop_numbers, numbers_in_items, lost_in};
+ghost use Rattle.follow_law.specs.Nops.{is_nop_row, is_nop, is_added_save, has_added_saves, stays, thinned_blocks};
+ghost use Rattle.follow_law.specs.Nops.{thinned, nop_step, nop_number, nop_numbers, numbers_in_items, lost_in};
 ghost use Rattle.std.proofs.Common.{rules};
 
 use crate::loss::{Loss, Losses, Lost, Reason};
@@ -15,6 +16,7 @@ use mir_func::block::Block;
 use mir_func::func::Func;
 use mir_func::item::{Item, ItemKind};
 use mir_func::position::Origin;
+use numbers::code::DebugNumber;
 use rv64_instr::decoded::Decoded;
 use rv64_instr::instr::Instr;
 use std::alloc::{AllocError, Global};
@@ -56,7 +58,7 @@ impl Pass for NopPass {
 }
 
 /// Takes out the no-operations, and gives their numbers.
-fn take_out_nops(alloc: Global, f: &mut Func) -> Result<Vec<u32>, AllocError>
+fn take_out_nops(alloc: Global, f: &mut Func) -> Result<Vec<DebugNumber>, AllocError>
     ensures code { OnOk result (f.new ≡ thinned f.old) }
     ensures numbers { IfOk result (λ ns. ns.items ≡ lost_in f.old) }
     ensures sound { IsSound f.old }
@@ -107,7 +109,7 @@ fn is_added_save(i: &Item) -> bool
 }
 
 /// The numbers of the no-operations of blocks, in order.
-fn nop_numbers(alloc: Global, blocks: &[Block]) -> Result<Vec<u32>, AllocError>
+fn nop_numbers(alloc: Global, blocks: &[Block]) -> Result<Vec<DebugNumber>, AllocError>
     ensures { IfOk result (λ ns. ns.items ≡ nop_numbers blocks.now) }
 {
     let mut numbers = Vec::new(alloc);
@@ -118,7 +120,7 @@ fn nop_numbers(alloc: Global, blocks: &[Block]) -> Result<Vec<u32>, AllocError>
 }
 
 /// Appends the numbers of the no-operations of items.
-fn push_numbers(items: &[Item], numbers: &mut Vec<u32>) -> Result<(), AllocError>
+fn push_numbers(items: &[Item], numbers: &mut Vec<DebugNumber>) -> Result<(), AllocError>
     ensures { OnOk result (numbers.new.items ≡ numbers.old.items ++ numbers_in_items items.now) }
 {
     for i in items {
@@ -130,12 +132,12 @@ fn push_numbers(items: &[Item], numbers: &mut Vec<u32>) -> Result<(), AllocError
 }
 
 /// The number of a no-operation, where it has one.
-fn nop_number(k: &ItemKind) -> Option<u32>
+fn nop_number(k: &ItemKind) -> Option<DebugNumber>
     ensures { result ≡ nop_number k.now }
 {
     match k {
         ItemKind::Code(i, Some(n)) if is_nop(i) => Some(*n),
-        _ => None,
+        ItemKind::Code(_, _) | ItemKind::Mark(_, _) | ItemKind::Phi(_, _) => None,
     }
 }
 
@@ -166,7 +168,11 @@ fn is_nop_item(i: &Item) -> bool
 }
 
 /// The losses of numbers for one reason, each once and in order.
-pub fn lost_numbers(alloc: Global, numbers: Vec<u32>, why: Reason) -> Result<Losses, AllocError>
+pub fn lost_numbers(
+    alloc: Global,
+    numbers: Vec<DebugNumber>,
+    why: Reason,
+) -> Result<Losses, AllocError>
     ensures ordered { IfOk result IsInOrder }
     ensures each { IfOk result (AreNumbersLost numbers.items why) }
 {

@@ -1,7 +1,9 @@
 //! What a pass is, and the laws that each keeps.
 ghost use Rattle.std.specs.Prelude.{◌≡◌, ℕ, ◌+◌, ◌*◌, ◌<◌, ◌≤◌, ◌^◌, List, Bool, IsTrue, IfOk, OnOk};
+ghost use Rattle.mir_func.specs.Limits.{MAX_SLOTS};
 ghost use Rattle.follow_law.specs.Change.{change};
 ghost use Rattle.follow_law.specs.Following.{KeepsFollowing};
+ghost use Rattle.follow_law.specs.Rule.{stack_numbers};
 ghost use Rattle.follow_law.specs.Code.{HasOneResult, SeesCodeAlone};
 ghost use Rattle.follow_law.specs.Steps.{Step, EachCode, KeepsSteps, MakeCodeAlone};
 ghost use Rattle.follow_law.specs.Sizes.{greatest, greatest_number, most_numbers, KeepsSizes};
@@ -34,7 +36,8 @@ pub trait Pass {
     ghost fits: { Bool };
     /// How many times as many items there may be after it, at least 1.
     ghost factor: { ℕ };
-    /// How many items more there may be for each block, how many numbers for each item, and how many slots in 224s.
+    /// How many items more there may be for each block, how many numbers for each item, and how many times as many
+    /// slots as a function may have.
     ghost count: { ℕ };
     /// Its rule for code and its rule for debug items, or those of its parts, one after the other.
     ghost steps: { Self → List Step };
@@ -47,7 +50,7 @@ pub trait Pass {
         subs: &mut Substitutions,
     ) -> Result<Losses, AllocError>
         requires numbers { greatest_number f.old subs.old + most_numbers factor count f.old < 2 ^ 31 }
-        requires slots { greatest f.old.slots + 224 * count < 2 ^ 31 }
+        requires slots { greatest (stack_numbers f.old) + MAX_SLOTS * count < 2 ^ 31 }
         ensures follows { OnOk result (IsTrue fits → KeepsFollowing asks keeps (change f.old subs.old f.new subs.new)) }
         ensures steps { IfOk result (KeepsSteps (steps self.old) (change f.old subs.old f.new subs.new)) }
         ensures sizes { OnOk result (KeepsSizes factor count (change f.old subs.old f.new subs.new)) }

@@ -1,5 +1,7 @@
 ghost use Rattle.std.specs.Prelude.{◌≡◌, ◌+◌, ◌*◌, ◌<◌, ◌^◌, [], flat_map, IfOk};
+ghost use Rattle.mir_func.specs.Limits.{MAX_SLOTS};
 ghost use Rattle.follow_law.specs.Code.{SeesCodeAlone};
+ghost use Rattle.follow_law.specs.Rule.{stack_numbers};
 ghost use Rattle.follow_law.specs.Tests.{IsWatching, NothingIsWrong};
 ghost use Rattle.follow_law.specs.Sizes.{greatest, greatest_number, most_numbers, numbers_in, numbers_of};
 
@@ -13,8 +15,10 @@ use mir_func::func::Func;
 use mir_func::item::{Item, ItemKind, Items};
 use mir_func::location::Loc;
 use mir_func::position::{Origin, Pos};
+use numbers::code::{BlockId, DebugNumber};
 use rv64_instr::instr::Instr;
-use rv64_instr::op::Op;
+use rv64_instr::name::Name;
+use rv64_instr::op::{ImmediateOp, Op};
 use rv64_instr::operand::{Operand, Operands};
 use rv64_instr::reg::physical;
 use std::alloc::{AllocError, Global};
@@ -39,7 +43,7 @@ fn run_pass<P: Pass>(
     subs: &mut Substitutions,
 ) -> Result<Losses, AllocError>
     requires numbers { greatest_number f.old subs.old + most_numbers P.factor P.count f.old < 2 ^ 31 }
-    requires slots { greatest f.old.slots + 224 * P.count < 2 ^ 31 }
+    requires slots { greatest (stack_numbers f.old) + MAX_SLOTS * P.count < 2 ^ 31 }
 {
     pass.run(alloc, f, subs)
 }
@@ -51,7 +55,7 @@ fn nop(alloc: Global) -> Result<Instr, Fail> {
     operands.push(Operand::Def(zero))?;
     operands.push(Operand::Use(zero))?;
     operands.push(Operand::Imm(0))?;
-    Ok(Instr::new(Op::Addi, operands).ok_or("no form")?)
+    Ok(Instr::new(Op::Immediate(ImmediateOp::Addi), operands).ok_or("no form")?)
 }
 
 fn kept(kind: ItemKind, item: u32) -> Item
@@ -59,7 +63,10 @@ fn kept(kind: ItemKind, item: u32) -> Item
 {
     Item {
         kind,
-        origin: Origin::Kept(Pos { block: 0, item }),
+        origin: Origin::Kept(Pos {
+            block: BlockId(0),
+            item,
+        }),
         loc: Loc::Absent,
     }
 }
@@ -71,7 +78,7 @@ fn sample_items(alloc: Global) -> Result<Items, Fail>
     let first = nop(alloc)?;
     let back = Instr::new(Op::PseudoRet, Operands::new(alloc)).ok_or("no form")?;
     let mut items = Items::new(alloc);
-    items.push(kept(ItemKind::Code(first, Some(1)), 0))?;
+    items.push(kept(ItemKind::Code(first, Some(DebugNumber(1))), 0))?;
     items.push(kept(ItemKind::Code(back, None), 1))?;
     Ok(items)
 }
@@ -81,7 +88,7 @@ fn sample_blocks(alloc: Global) -> Result<Blocks, Fail>
 {
     let mut blocks = Blocks::new(alloc);
     blocks.push(Block {
-        id: 0,
+        id: BlockId(0),
         items: sample_items(alloc)?,
         silent: 2,
     })?;
@@ -90,10 +97,16 @@ fn sample_blocks(alloc: Global) -> Result<Blocks, Fail>
 
 fn sample(alloc: Global) -> Result<Func, Fail>
     ensures numbers { IfOk result (λ f. greatest_number f [] < 2 ^ 31) }
-    ensures slots { IfOk result (λ f. greatest f.slots < 2 ^ 31) }
+    ensures slots { IfOk result (λ f. greatest (stack_numbers f) < 2 ^ 31) }
 {
     let blocks = sample_blocks(alloc)?;
-    Ok(Func::new(alloc, List::new(alloc), List::new(alloc), blocks)?)
+    Ok(Func::new(
+        alloc,
+        Name::new(alloc),
+        List::new(alloc),
+        List::new(alloc),
+        blocks,
+    )?)
 }
 
 #[test]
@@ -124,7 +137,7 @@ fn no_operations_go_and_then_nothing_does(rt: HostRuntime) -> Result<(), Fail> {
 /// How many items the first block has, and how often number 1 is lost because it was removed.
 fn left_and_lost(f: &Func, losses: &Losses) -> (usize, usize) {
     let one = Loss {
-        what: Lost::Number(1),
+        what: Lost::Number(DebugNumber(1)),
         reason: Reason::Removed,
     };
     let left = match f.blocks.as_slice() {

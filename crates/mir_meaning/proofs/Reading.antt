@@ -37,9 +37,9 @@ found_in (a ∷ cs) n b rest e = by_test (nat_eq a.id n) refl (found_in cs n b r
   by_test false t later e = let h = later e in let k = h.0 in ((suc k.0, (let l = k.1 in omega (arith, l)), k.2), h.1)
 
 -- and where numbers differ, with that block
-record FoundAt (bs : List Block) (b : Block) : Type 0 where
-  rest : List Block
-  at : from_block bs b.id ≡ b ∷ rest
+pub record FoundAt (bs : List Block) (b : Block) : Type 0 where
+  pub rest : List Block
+  pub at : from_block bs b.id ≡ b ∷ rest
 
 pub apart_tail : (n : ℕ) (ns : List ℕ) → AreApart (n ∷ ns) → AreApart ns
 apart_tail n ns h i j m a b = let k : suc i ≡ suc j = h (suc i) (suc j) m a b in omega (arith, k)
@@ -49,7 +49,7 @@ number_at [] b k lt e = absurd (omega (arith, lt))
 number_at (a ∷ cs) b zero lt e = ap (λ (x : Block). Some x.id) e
 number_at (a ∷ cs) b (suc k) lt e = number_at cs b k (omega (arith, lt)) e
 
-found : (bs : List Block) → AreApart (ids_of bs) → (b : Block) → Contains bs b → FoundAt bs b
+pub found : (bs : List Block) → AreApart (ids_of bs) → (b : Block) → Contains bs b → FoundAt bs b
 found [] h b (k, lt, e) = absurd (omega (arith, lt))
 found (a ∷ cs) h b (zero, lt, e) = record {
   rest = cs;
@@ -70,7 +70,7 @@ front_item [] (suc n) k (b ∷ bs) i e = cc
 front_item (j ∷ is) zero k bs i e = let w : j ≡ i = cc in ap Some w
 front_item (j ∷ is) (suc n) k bs i e = front_item is n k bs i e
 
-item_front : (is : List Item) (n k : ℕ) (bs : List Block) (i : Item) → slice_get is n ≡ Some i → front (drop n is) k bs ≡ Here i
+pub item_front : (is : List Item) (n k : ℕ) (bs : List Block) (i : Item) → slice_get is n ≡ Some i → front (drop n is) k bs ≡ Here i
 item_front [] n k bs i e = cc
 item_front (j ∷ is) zero k bs i e = let w : j ≡ i = cc in ap Here w
 item_front (j ∷ is) (suc n) k bs i e = item_front is n k bs i e

@@ -19,6 +19,11 @@ returns-then-has_added_saves-clause-code c =
 
 pub invariant_of-f : goal.invariant_of-f
 invariant_of-f c =
-    let s = subst (λ z. IsSound (record { name = z.name; slots = z.slots; blocks = z.blocks })) (sym c.f-inside.view_is) c.f.invariant in
-    subst (λ (bs : List Block). IsSound (record { name = c.f-inside.inside.0.0; slots = c.f-inside.inside.0.1.0; blocks = bs })) (sym c.take_out.ensures)
-    (sound_thin false _ s)
+    let With : List Block → Type 0 = λ bs. IsSound (record {
+      name = c.f-inside.inside.0.0;
+      slots = c.f-inside.inside.0.1.0;
+      objects = c.f-inside.inside.0.1.1.0;
+      blocks = bs;
+    }) in
+    let s = subst (λ z. IsSound (record { name = z.name; slots = z.slots; objects = z.objects; blocks = z.blocks })) (sym c.f-inside.view_is) c.f.invariant in
+    subst With (sym c.take_out.ensures) (sound_thin false _ s)

@@ -2,6 +2,7 @@
 -- one alone.
 use Rattle.std.proofs.Common.{◌≡◌, ℕ, [], ◌∷◌, length, None, refl, ap, arith}
 use Rattle.std.specs.Prelude.{pos}
+use Rattle.rv64_instr.specs.declared.op.Op.TheVariants.{Immediate}
 use Rattle.rv64_instr.specs.declared.op.ImmediateOp.TheVariants.{Addi}
 use Rattle.rv64_instr.specs.declared.operand.Operand.TheVariants.{Def, Use, Imm}
 use Rattle.mir_func.specs.declared.position.Origin.TheVariants.{Kept}
@@ -14,13 +15,13 @@ use Rattle.follow_law.proofs.tests.silent_indices_are_no_code.Goals as goal
 
 abbrev nop : Item
 nop = record {
-  kind = Code (record { op = Addi; operands = Def 0 ∷ Use 0 ∷ Imm (pos 0) ∷ [] }) None;
+  kind = Code (record { op = Immediate Addi; operands = Def 0 ∷ Use 0 ∷ Imm (pos 0) ∷ [] }) None;
   origin = Kept (record { block = 0; item = 0 });
   loc = Absent;
 }
 
 abbrev alone : (silent : ℕ) → Function
-alone n = record { name = []; slots = []; blocks = record { id = 0; items = nop ∷ []; silent = n } ∷ [] }
+alone n = record { name = []; slots = []; objects = []; blocks = record { id = 0; items = nop ∷ []; silent = n } ∷ [] }
 
 pub returns : goal.returns
 returns c sees =
