@@ -50,7 +50,7 @@ fn place_len(place: Place) -> usize
 {
     match place {
         Place::Register(_) => 1,
-        Place::Slot(offset) => 1 + sleb(offset as i64).len(),
+        Place::Slot(offset) => 1 + sleb(i64::from(offset.number())).len(),
         Place::Const(c) => 2 + sleb(c).len(),
     }
 }
@@ -65,7 +65,7 @@ fn push_place(out: &mut Vec<u8>, place: Place) -> Result<(), AllocError>
         Place::Register(register) => out.push(DW_OP_reg0 + register.number() as u8)?,
         Place::Slot(offset) => {
             out.push(DW_OP_breg2)?;
-            push_leb(out, &sleb(offset as i64))?;
+            push_leb(out, &sleb(i64::from(offset.number())))?;
         }
         Place::Const(c) => {
             out.push(DW_OP_consts)?;

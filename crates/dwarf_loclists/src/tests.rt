@@ -6,6 +6,7 @@ ghost use Rattle.dwarf_loclists.specs.Ranges.{IsListed, ArePieces, IsLocated, As
 use crate::range::{Location, Part, Range, RangeLists};
 use crate::section::{lists_size, write_lists};
 use lists::List;
+use numbers::code::SlotId;
 use rv64_instr::place::Place;
 use rv64_instr::reg::physical;
 use std::alloc::{AllocError, Global};
@@ -20,7 +21,7 @@ fn is_listed(place: Place) -> bool
             let n = register.number();
             1 <= n && n <= 31 && n != 2
         }
-        Place::Slot(offset) => offset % 8 == 0 && offset <= 2024,
+        Place::Slot(SlotId(offset)) => offset % 8 == 0 && offset <= 2024,
         Place::Const(_) => true,
     }
 }
@@ -151,7 +152,7 @@ fn sections(rt: HostRuntime) -> Result<(), Fail> {
     let x10 = Row::Whole(x(10)?);
     let x11 = Row::Whole(x(11)?);
     let x12 = Row::Whole(x(12)?);
-    let slot = |offset: u32| Row::Whole(Place::Slot(offset));
+    let slot = |offset: u32| Row::Whole(Place::Slot(SlotId(offset)));
 
     let none = section(alloc, &[])?;
     assert_eq!(rt;
