@@ -2,8 +2,7 @@
 
 ghost use Rattle.std.specs.Prelude.{◌≡◌, IfOk, IfSome, IfNone, List, ℕ};
 ghost use Rattle.mir_func.specs.Function.{Function};
-ghost use Rattle.first_form.specs.FirstForm.{items_from, AreFirst, Stands};
-ghost use Rattle.first_form.specs.Source.{spelling};
+ghost use Rattle.first_form.specs.FirstForm.{AreFirst, IsSpelledBy, Stands};
 ghost use Rattle.first_form.specs.declared.line.Line.{Line};
 
 use crate::func::func;
@@ -30,8 +29,8 @@ pub fn read(alloc: Global, text: &[u8]) -> Result<Option<Func>, AllocError>
 
 /// The lines that a text in the first form spells.
 fn first_lines(alloc: Global, text: &[u8]) -> Result<Option<Vec<Line>>, AllocError>
-    ensures found { IfOk result (λ read. IfSome read (λ ls. AreFirst ls.items × (text.now ≡ spelling HEADER.now (items_from 0 ls.items)))) }
-    ensures none { IfOk result (λ read. IfNone read ((ls : List Line) → AreFirst ls → text.now ≡ spelling HEADER.now (items_from 0 ls) → ⊥)) }
+    ensures found { IfOk result (λ read. IfSome read (λ ls. AreFirst ls.items × IsSpelledBy ls.items text.now)) }
+    ensures none { IfOk result (λ read. IfNone read ((ls : List Line) → AreFirst ls → IsSpelledBy ls text.now → ⊥)) }
 {
     let Some(body) = after(HEADER, text) else {
         return Ok(None);

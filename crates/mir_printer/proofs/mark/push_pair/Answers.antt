@@ -16,7 +16,8 @@ returns-clause-ok c =
     let expression = pair_expression_text v.fragment in
     let number = reference ++ decimal q.number in
     let operand = comma ++ decimal q.operand in
-    ended c.push_str-2.result old c.push_numbered-3.new.text c.push_str-2.new.text ((((node ++ comma) ++ expression) ++ number) ++ operand) (codes ")") (pair_mark_text v q)
+    ended c.push_str-2.result old c.push_numbered-3.new.text c.push_str-2.new.text ((((node ++ comma) ++ expression) ++ number) ++ operand) (codes ")")
+    (pair_mark_text v q)
     (joined old c.push_numbered-2.new.text c.push_numbered-3.new.text (((node ++ comma) ++ expression) ++ number) operand
     (joined old c.push_pair_expression.new.text c.push_numbered-2.new.text ((node ++ comma) ++ expression) number
     (joined old c.push_str.new.text c.push_pair_expression.new.text (node ++ comma) expression
