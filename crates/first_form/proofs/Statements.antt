@@ -45,7 +45,8 @@ statement_before (Return r) rest = codes "PseudoRET" ++ return_before r rest
 code_number_takes : (bytes : List ℕ) (k : Option ℕ) (rest : List ℕ) → code_number_at bytes ≡ Some (k, rest) → bytes ≡ number_before k rest
 unfolding code_number_at
 code_number_takes bytes k rest e =
-    elim (case_is (after_front (codes ", debug-instr-number ") bytes) (λ a. number_at a >>= λ k. Some (Some k.0, k.1)) (Some (None, bytes)) (Some (k, rest)) e) [
+    elim (case_is (after_front (codes ", debug-instr-number ") bytes) (λ a. number_at a >>= λ k. Some (Some k.0, k.1)) (Some (None, bytes))
+    (Some (k, rest)) e) [
       | inl (a, front, e1) ↦
           let n = bind_some (number_at a) (λ k. Some (Some k.0, k.1)) (k, rest) e1 in
           let p = some_pair_parts (Some n.0.0) k n.0.1 rest n.2 in
