@@ -453,17 +453,21 @@ fn has_number(kind: &ItemKind) -> bool {
 }
 
 #[test]
-fn strips_and_copies(rt: HostRuntime) -> Result<(), Fail> {
+fn copies(rt: HostRuntime) -> Result<(), Fail> {
     let f = made(rt.alloc(), SOUND)??;
-    assert_eq!(rt; counts(&f), [10, 4, 9]);
     let copied = f.copy()?;
     assert_eq!(rt; counts(&copied), [10, 4, 9]);
     assert_eq!(rt; copied.slots.len(), 2);
     assert_eq!(rt; copied.objects.len(), 2);
+    Ok(())
+}
+
+#[test]
+fn strips(rt: HostRuntime) -> Result<(), Fail> {
+    let f = made(rt.alloc(), SOUND)??;
     let stripped = strip(rt.alloc(), &f)?;
     assert_eq!(rt; counts(&stripped), [7, 0, 6]);
     assert_eq!(rt; stripped.name.as_slice(), b"count".as_slice());
-    assert_eq!(rt; stripped.objects.len(), 2);
     Ok(())
 }
 
