@@ -3,6 +3,8 @@ use Rattle.std.specs.Prelude.{◌≡◌, ℕ, ◌+◌, ◌*◌, ◌<◌, ◌≤�
 use Rattle.std.specs.Ordering.{int_eq}
 use Rattle.rv64_instr.specs.declared.place.Place.{Place}
 use Rattle.rv64_instr.specs.declared.place.Place.TheVariants.{Register, Slot, Const}
+use Rattle.dwarf_loclists.specs.declared.range.Location.{Location}
+use Rattle.dwarf_loclists.specs.declared.range.Location.TheVariants.{Whole, Parts}
 use Rattle.dwarf_loclists.specs.declared.range.Range.{Range}
 use Rattle.dwarf_loclists.specs.Ranges.{place_in, IsListed}
 
@@ -10,11 +12,21 @@ abbrev pub is_same_place : Place → Place → Bool
 is_same_place (Register r) (Register s) = nat_eq r s
 is_same_place (Slot m) (Slot n) = nat_eq m n
 is_same_place (Const c) (Const d) = int_eq c d
-is_same_place _ _ = false
+is_same_place (Register r) (Slot n) = false
+is_same_place (Register r) (Const d) = false
+is_same_place (Slot m) (Register s) = false
+is_same_place (Slot m) (Const d) = false
+is_same_place (Const c) (Register s) = false
+is_same_place (Const c) (Slot n) = false
+
+-- the whole variable is at the place
+abbrev pub is_at : Location → Place → Bool
+is_at (Whole p) place = is_same_place p place
+is_at (Parts parts) place = false
 
 -- from an address to the end of the word at another
 abbrev pub word_range : (lo address : ℕ) → Place → Range
-word_range lo address place = record { lo = lo; hi = address + 4; place = place }
+word_range lo address place = record { lo = lo; hi = address + 4; location = Whole place }
 
 abbrev pub option_list : Option Range → List Range
 option_list None = []
@@ -23,11 +35,11 @@ option_list (Some r) = r ∷ []
 -- the word at an address is at a place. The range that goes on goes on, or ends and is followed by the new one
 abbrev pub closed_at : Option Range → ℕ → Place → List Range
 closed_at None address place = []
-closed_at (Some r) address place = cond (is_same_place r.place place) [] (r ∷ [])
+closed_at (Some r) address place = cond (is_at r.location place) [] (r ∷ [])
 
 abbrev pub opened_at : Option Range → ℕ → Place → Range
 opened_at None address place = word_range address address place
-opened_at (Some r) address place = cond (is_same_place r.place place) (word_range r.lo address place) (word_range address address place)
+opened_at (Some r) address place = cond (is_at r.location place) (word_range r.lo address place) (word_range address address place)
 
 -- the ranges of the words from an address on, where a range may go on
 abbrev pub ranges_from : (address : ℕ) → Option Range → List (Option Place) → List Range

@@ -1,9 +1,11 @@
+//! The ranges of a list, by the place at each word.
+
 ghost use Rattle.std.specs.Prelude.{◌≡◌, ◌+◌, ◌^◌, ◌<◌, ◌≤◌, ◌++◌, ◌∷◌, List, Option, Some, None, All, IfOk, OnOk, length};
 ghost use Rattle.rv64_instr.specs.declared.place.Place.{Place};
 ghost use Rattle.dwarf_loclists.specs.Ranges.{Ascend, ArePlaces};
-ghost use Rattle.block_lists.specs.Ranges.{is_same_place, word_range, opened_at, closed_at, ranges_from, option_list, MayBeListed};
+ghost use Rattle.block_lists.specs.Ranges.{is_at, word_range, opened_at, closed_at, ranges_from, option_list, MayBeListed};
 
-use dwarf_loclists::range::{Range, Ranges};
+use dwarf_loclists::range::{Location, Range, Ranges};
 use rv64_instr::place::Place;
 use std::alloc::{AllocError, Global};
 
@@ -86,11 +88,21 @@ fn pass_range(
     ensures current { IfOk result (λ after. after ≡ opened_at (Some range) address place) }
     ensures closed { OnOk result (ranges.new ≡ ranges.old ++ closed_at (Some range) address place) }
 {
-    if range.place == place {
+    if is_at(&range.location, place) {
         Ok(word_range(range.lo, address, place))
     } else {
         ranges.push(range)?;
         Ok(word_range(address, address, place))
+    }
+}
+
+/// Whether the whole variable is at the place.
+fn is_at(location: &Location, place: Place) -> bool
+    ensures { result ≡ is_at location.now place }
+{
+    match location {
+        Location::Whole(p) => *p == place,
+        Location::Parts(_) => false,
     }
 }
 
@@ -102,6 +114,6 @@ fn word_range(lo: u64, address: u64, place: Place) -> Range
     Range {
         lo,
         hi: address + 4,
-        place,
+        location: Location::Whole(place),
     }
 }
