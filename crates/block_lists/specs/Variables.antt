@@ -1,10 +1,10 @@
 -- The variables of a function, which number the lists: each as a whole, by the first mark of any of its parts.
-use Rattle.std.specs.Prelude.{List, [], ◌∷◌, ◌++◌, cond}
+use Rattle.std.specs.Prelude.{◌≡◌, List, [], ◌∷◌, ◌++◌, None, cond}
 use Rattle.std.specs.List.{list_any}
 use Rattle.mir_func.specs.declared.variable.VarId.{VarId}
 use Rattle.mir_func.specs.declared.item.Item.{Item}
 use Rattle.mir_func.specs.declared.item.ItemKind.{ItemKind}
-use Rattle.mir_func.specs.declared.item.ItemKind.TheVariants.{Mark}
+use Rattle.mir_func.specs.declared.item.ItemKind.TheVariants.{Code, Mark, Phi}
 use Rattle.mir_func.specs.Variables.{is_same}
 
 abbrev pub with_variable : List VarId → VarId → List VarId

@@ -84,7 +84,7 @@ impl Tracker {
         match number {
             None => Ok(()),
             Some(k) => {
-                self.pass_number(k.number(), instr)?;
+                self.pass_number(k, instr)?;
                 Ok(())
             }
         }
@@ -110,7 +110,7 @@ impl Tracker {
     }
 
     /// Gives the number that an instruction carries the token of the register that the instruction sets.
-    fn pass_number(&mut self, k: u32, instr: &Instr) -> Result<(), AllocError>
+    fn pass_number(&mut self, k: DebugNumber, instr: &Instr) -> Result<(), AllocError>
         ensures none { defined false (slice_get instr.now.operands 0) ≡ None → self.new ≡ self.old }
         ensures some { OnOk result ((rd : ℕ) → defined false (slice_get instr.now.operands 0) ≡ Some rd → (q : ℕ) → number_at self.new.numbers q ≡ cond (nat_eq q k) (token_at self.old.regs rd) (number_at self.old.numbers q)) }
         ensures regs { self.new.regs ≡ self.old.regs }
@@ -121,7 +121,7 @@ impl Tracker {
             None => Ok(()),
             Some(rd) => {
                 let token = self.get(rd);
-                set_number(&mut self.numbers, k, token)
+                set_number(&mut self.numbers, k.number(), token)
             }
         }
     }

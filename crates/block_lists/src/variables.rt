@@ -32,7 +32,7 @@ fn add_mark(variables: &mut VarIds, kind: &ItemKind) -> Result<(), AllocError>
     ensures few { OnOk result (length variables.new ≤ length variables.old + 1) }
 {
     match kind {
-        ItemKind::Mark(variable, _) => add(variables, whole(*variable)),
+        ItemKind::Mark(variable, _) => add(variables, &whole(*variable)),
         ItemKind::Code(_, _) | ItemKind::Phi(_, _) => Ok(()),
     }
 }
@@ -49,19 +49,19 @@ fn whole(v: VarId) -> VarId
 }
 
 /// Adds a variable, unless it is there.
-fn add(variables: &mut VarIds, variable: VarId) -> Result<(), AllocError>
-    ensures value { OnOk result (variables.new ≡ with_variable variables.old variable) }
+fn add(variables: &mut VarIds, variable: &VarId) -> Result<(), AllocError>
+    ensures value { OnOk result (variables.new ≡ with_variable variables.old variable.now) }
     ensures few { OnOk result (length variables.new ≤ length variables.old + 1) }
 {
     if has(variables.as_slice(), variable) {
         Ok(())
     } else {
-        variables.push(variable)
+        variables.push(*variable)
     }
 }
 
-fn has(variables: &[VarId], variable: VarId) -> bool
-    ensures { result ≡ list_any (is_same variable) variables.now }
+fn has(variables: &[VarId], variable: &VarId) -> bool
+    ensures { result ≡ list_any (is_same variable.now) variables.now }
 {
-    variables.iter().any(|other| variable == *other)
+    variables.iter().any(|other| *variable == *other)
 }
