@@ -4,7 +4,7 @@ use Rattle.std.proofs.Common.{◌≡◌, ◌≢◌, ℕ, zero, suc, ◌+◌, ◌
 use Rattle.std.proofs.lemmas.Bool.Decides.{nat_tests, eqb_tells, leb_tells}
 use Rattle.std.proofs.lemmas.List.{get_or_past}
 use Rattle.rv64_instr.specs.declared.operand.Operand.{Operand}
-use Rattle.rv64_instr.specs.Row.{Row, Fixes, Moves, Sets, Loads, Stores, LoadsSlot, StoresSlot, Branches, Jumps, Calls, Returns, Unfit}
+use Rattle.rv64_instr.specs.Row.{Row, Fixes, Moves, Sets, Addresses, Loads, Stores, LoadsSlot, StoresSlot, Branches, Jumps, Calls, Returns, Unfit}
 use Rattle.mir_meaning.specs.Step.{defined}
 use Rattle.rv64_instr.specs.Parts.{is_call}
 use Rattle.mir_meaning.specs.Token as token
@@ -12,7 +12,7 @@ use Rattle.mir_meaning.specs.Token.{Tokens, variable_token, register_token, put_
 use Rattle.block_lists.specs.declared.token.Token.{Token}
 use Rattle.block_lists.specs.declared.token.Token.TheVariants.{Entry, Made, Fixed}
 use Rattle.block_lists.specs.declared.tracker.Tracker.{Tracker}
-use Rattle.block_lists.specs.Code.{IsPlainRow, DefinesFirst}
+use Rattle.block_lists.specs.Code.{IsLaidOutRow, DefinesFirst}
 use Rattle.block_lists.specs.Tracking.{named, register_at, token_at, with_token, regs_after, number_at, pair_at, Numbers, Tracks}
 
 token_of : (s : Tracker) (t : Tokens) (r : ℕ) → Tracks s t → register_token t.regs r ≡ named (token_at s.regs r)
@@ -56,22 +56,24 @@ set_tracks s t rd tok tracks below = record {
   pointer = pointer_kept s.regs rd tok tracks.pointer;
   slots = tracks.slots;
   pairs = tracks.pairs;
+  whole = tracks.whole;
   value = tracks.value;
 }
 
 without_slots : (s : Tracker) (t : Tokens) (b : Bool) → Tracks s t → Tracks s (cond b (record t { slots = λ k. None }) t)
-without_slots s t true tracks = record { count = tracks.count; regs = tracks.regs; pointer = tracks.pointer; slots = λ n. refl; pairs = tracks.pairs; value = tracks.value }
+without_slots s t true tracks = record { count = tracks.count; regs = tracks.regs; pointer = tracks.pointer; slots = λ n. refl; pairs = tracks.pairs; whole = tracks.whole; value = tracks.value }
 without_slots s t false tracks = tracks
 
-pub code_tracks : (s : Tracker) (t : Tokens) (n : ℕ) (row : Row) → Tracks s t → IsPlainRow row → Tracks (record s { regs = regs_after n row s.regs }) (code_tokens n row t)
+pub code_tracks : (s : Tracker) (t : Tokens) (n : ℕ) (row : Row) → Tracks s t → IsLaidOutRow row → Tracks (record s { regs = regs_after n row s.regs }) (code_tokens n row t)
 unfolding moved_tokens
-code_tracks s t n (Fixes rd c) tracks plain = without_slots _ _ (sets_pointer (Fixes rd c)) (set_tracks s t rd (Some (Fixed c)) tracks plain)
+code_tracks s t n (Fixes rd c) tracks plain = without_slots _ _ (sets_pointer (Fixes rd c)) (set_tracks s t rd (Some (Fixed c)) tracks plain.0)
 code_tracks s t n (Moves rd rs) tracks plain =
     let moved = set_tracks s t rd (token_at s.regs rs) tracks plain.0 in
     without_slots (record s { regs = with_token s.regs rd (token_at s.regs rs) }) (record t { regs = put_token rd (register_token t.regs rs) t.regs }) (sets_pointer (Moves rd rs))
     (subst (λ (x : Option token.Token). Tracks (record s { regs = with_token s.regs rd (token_at s.regs rs) }) (record t { regs = put_token rd x t.regs })) (sym (token_of s t rs tracks)) moved)
-code_tracks s t n (Sets rd op a b) tracks plain = without_slots _ _ (sets_pointer (Sets rd op a b)) (set_tracks s t rd (Some (Made n rd)) tracks plain)
+code_tracks s t n (Sets rd op a b) tracks plain = without_slots _ _ (sets_pointer (Sets rd op a b)) (set_tracks s t rd (Some (Made n rd)) tracks plain.0)
 code_tracks s t n (Returns results) tracks plain = tracks
+code_tracks s t n (Addresses rd k offset) tracks plain = absurd plain
 code_tracks s t n (Loads rd op base offset) tracks plain = absurd plain
 code_tracks s t n (Stores op rs base offset) tracks plain = absurd plain
 code_tracks s t n (LoadsSlot rd k) tracks plain = absurd plain
@@ -81,11 +83,12 @@ code_tracks s t n (Jumps target) tracks plain = absurd plain
 code_tracks s t n (Calls name args) tracks plain = absurd plain
 code_tracks s t n Unfit tracks plain = absurd plain
 
-pub plain_is_no_call : (row : Row) → IsPlainRow row → is_call row ≡ false
+pub plain_is_no_call : (row : Row) → IsLaidOutRow row → is_call row ≡ false
 plain_is_no_call (Fixes rd c) plain = refl
 plain_is_no_call (Moves rd rs) plain = refl
 plain_is_no_call (Sets rd op a b) plain = refl
 plain_is_no_call (Returns results) plain = refl
+plain_is_no_call (Addresses rd k offset) plain = refl
 plain_is_no_call (Loads rd op base offset) plain = refl
 plain_is_no_call (Stores op rs base offset) plain = refl
 plain_is_no_call (LoadsSlot rd k) plain = refl
@@ -139,6 +142,7 @@ with_pairs s s' t k operands tracks regs variable value pairs = record {
   pointer = ap (λ rs. register_at rs 2) regs ∙ tracks.pointer;
   slots = tracks.slots;
   pairs = pairs;
+  whole = ap (λ v. v.fragment) variable ∙ tracks.whole;
   value = ap (λ v. variable_token v t) variable ∙ (tracks.value ∙ ap named (sym value));
 }
 

@@ -1,3 +1,5 @@
+//! The location lists of a block.
+
 ghost use Rattle.std.specs.Prelude.{◌≡◌, ℕ, ◌<◌, ◌≤◌, ◌+◌, List, Option, Some, length, slice_get, All, IfOk, OnOk};
 ghost use Rattle.rv64_instr.specs.declared.place.Place.{Place};
 ghost use Rattle.mir_func.specs.declared.variable.VarId.{VarId};
@@ -8,6 +10,7 @@ ghost use Rattle.block_lists.specs.Code.{IsPlain};
 ghost use Rattle.block_lists.specs.Lists.{IsListFor};
 ghost use Rattle.block_lists.specs.Ranges.{MayBeListed};
 ghost use Rattle.block_lists.specs.Tracking.{Tracks};
+ghost use Rattle.block_lists.specs.Variables.{IsWhole};
 ghost use Rattle.block_lists.specs.Walk.{unchanged, FirstPlaces, Notes};
 
 use crate::code::is_code;
@@ -27,6 +30,7 @@ type Places = List<Option<Place>>;
 pub fn lists(alloc: Global, items: &[Item], variables: &[VarId]) -> Result<RangeLists, AllocError>
     requires few { length items.now ≤ 8192 }
     requires plain { All IsPlain items.now }
+    requires whole { All IsWhole variables.now }
     ensures each { IfOk result (λ lists. length lists ≡ length variables.now) }
     ensures exact { IfOk result (λ lists. (k : ℕ) (v : VarId) (ranges : List Range) → slice_get variables.now k ≡ Some v → slice_get lists k ≡ Some ranges → IsListFor v items.now ranges) }
     ensures short { IfOk result (All (λ ranges. length ranges ≤ 8192)) }
@@ -44,6 +48,7 @@ pub fn lists(alloc: Global, items: &[Item], variables: &[VarId]) -> Result<Range
 fn list(alloc: Global, items: &[Item], variable: VarId) -> Result<Ranges, AllocError>
     requires few { length items.now ≤ 8192 }
     requires plain { All IsPlain items.now }
+    requires whole { IsWhole variable }
     ensures exact { IfOk result (IsListFor variable items.now) }
     ensures short { IfOk result (λ ranges. length ranges ≤ 8192) }
     ensures ascend { IfOk result Ascend }
@@ -58,6 +63,7 @@ fn list(alloc: Global, items: &[Item], variable: VarId) -> Result<Ranges, AllocE
 fn places(alloc: Global, items: &[Item], variable: VarId) -> Result<Places, AllocError>
     requires few { length items.now ≤ 8192 }
     requires plain { All IsPlain items.now }
+    requires whole { IsWhole variable }
     ensures first { IfOk result (FirstPlaces variable 0 entry_tokens items.now) }
     ensures listed { IfOk result (All MayBeListed) }
     ensures few { IfOk result (λ places. length places ≤ length items.now) }

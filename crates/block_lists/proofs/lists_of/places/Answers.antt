@@ -24,3 +24,6 @@ loop-index-preserved c =
 pub returns-clause-first : goal.returns-clause-first
 returns-clause-first c =
     walk_ends c.args.variable c.loop-index.index c.loop-index.invariant.tokens c.args.items.now c.loop-index.places c.loop-index-test.false c.loop-index.invariant.first
+
+pub new-tracker-requires : goal.new-tracker-requires
+new-tracker-requires c = c.requires.whole
