@@ -4,7 +4,7 @@ use Rattle.std.specs.Prelude.{All, ◌⊎◌, Result, Ok, Err, IfOk, OnErr}
 use Rattle.std.specs.declared.alloc.AllocError.{AllocError}
 use Rattle.std.proofs.lemmas.Bool.{cases_eq, eq-eqb, ne_eqb}
 use Rattle.std.proofs.lemmas.List.Elements.{All-drop}
-use Rattle.rv64_instr.specs.Row.{Row, Fixes, Moves, Sets, Loads, Stores, LoadsSlot, StoresSlot, Branches, Jumps, Calls, Returns, Unfit, row_of}
+use Rattle.rv64_instr.specs.Row.{Row, Fixes, Moves, Sets, Addresses, Loads, Stores, LoadsSlot, StoresSlot, Branches, Jumps, Calls, Returns, Unfit, row_of}
 use Rattle.mir_func.specs.declared.position.Pos.{Pos}
 use Rattle.mir_func.specs.declared.block.Block.{Block}
 use Rattle.mir_func.specs.declared.item.Item.{Item}
@@ -13,12 +13,12 @@ use Rattle.mir_func.specs.declared.item.ItemKind.TheVariants.{Code, Mark, Phi}
 use Rattle.mir_func.specs.Function.{Function}
 use Rattle.mir_func.specs.Sound.{IsSound, TargetIn, TargetsIn, AllItems, ids_of, LastCloses, Closes}
 use Rattle.mir_func.specs.declared.exit.Exit.{Exit}
-use Rattle.mir_func.specs.declared.exit.Exit.TheVariants.{Onward, Perhaps, Always, Final}
-use Rattle.mir_func.specs.Exits.{row_exit, exit_of}
+use Rattle.mir_func.specs.declared.exit.Exit.TheVariants.{Onward}
+use Rattle.mir_func.specs.Exits.{Leaves, row_exit, exit_of}
 use Rattle.mir_func.specs.Graph.{Here, Silent, Outside, below, block_start, fetch_in, front, from_block, FetchEdge, KindEdge, RowEdge}
 use Rattle.mir_meaning.proofs.Places.{contains_head, contains_tail}
 use Rattle.mir_semantics.specs.declared.state.SourceStep.{SourceStep}
-use Rattle.mir_semantics.specs.declared.state.SourceStep.TheVariants.{Went, Returned, Fault, Waits}
+use Rattle.mir_semantics.specs.declared.state.SourceStep.TheVariants.{Went, Returned, Faulted, Waits}
 use Rattle.mir_semantics.specs.StandsFor.{Concrete, IsPosition}
 use Rattle.mir_semantics.specs.Steps.{GoesAlong}
 
@@ -53,22 +53,22 @@ drop_closes (b ∷ c ∷ cs) (suc i) closes lt = drop_closes (c ∷ cs) i closes
 
 -- ---- below an item
 -- an item of a block that closes, with nothing below it, leaves for good
-closes_last : (items : List Item) (n k : ℕ) (it : Item) → Closes items → front (drop n items) k [] ≡ Here it → front (drop (suc n) items) k [] ≡ Outside → (exit_of it.kind ≡ Always) ⊎ (exit_of it.kind ≡ Final)
+closes_last : (items : List Item) (n k : ℕ) (it : Item) → Closes items → front (drop n items) k [] ≡ Here it → front (drop (suc n) items) k [] ≡ Outside → Leaves (exit_of it.kind)
 closes_last [] n k it closes here out = absurd closes
 closes_last (x ∷ []) zero k it closes here out =
     let h : Here x ≡ Here it = here in
     let same : x ≡ it = cc in
-    subst (λ (y : Item). (exit_of y.kind ≡ Always) ⊎ (exit_of y.kind ≡ Final)) same closes
+    subst (λ (y : Item). Leaves (exit_of y.kind)) same closes
 closes_last (x ∷ []) (suc zero) k it closes here out = (let no : Outside ≡ Here it = here in cc)
 closes_last (x ∷ []) (suc (suc n)) k it closes here out = (let no : Outside ≡ Here it = here in cc)
 closes_last (x ∷ y ∷ rest) zero k it closes here out = (let no : Here y ≡ Outside = out in cc)
 closes_last (x ∷ y ∷ rest) (suc n) k it closes here out = closes_last (y ∷ rest) n k it closes here out
 
-pub below_inside : (b : Block) (bs : List Block) (n : ℕ) (it : Item) → LastCloses (b ∷ bs) → fetch_in (b ∷ bs) n ≡ Here it → (exit_of it.kind ≡ Always → ⊥) → (exit_of it.kind ≡ Final → ⊥) → fetch_in (b ∷ bs) (n + 1) ≡ Outside → ⊥
-below_inside b [] n it closes here jumps ends out =
+pub below_inside : (b : Block) (bs : List Block) (n : ℕ) (it : Item) → LastCloses (b ∷ bs) → fetch_in (b ∷ bs) n ≡ Here it → (Leaves (exit_of it.kind) → ⊥) → fetch_in (b ∷ bs) (n + 1) ≡ Outside → ⊥
+below_inside b [] n it closes here stays out =
     let next : n + 1 ≡ suc n = omega arith in
-    elim (closes_last b.items n b.silent it closes here (sym (ap (λ (x : ℕ). fetch_in (b ∷ []) x) next) ∙ out)) [ inl e ↦ jumps e | inr e ↦ ends e ]
-below_inside b (c ∷ cs) n it closes here jumps ends out = more (drop (n + 1) b.items) out
+    stays (closes_last b.items n b.silent it closes here (sym (ap (λ (x : ℕ). fetch_in (b ∷ []) x) next) ∙ out))
+below_inside b (c ∷ cs) n it closes here stays out = more (drop (n + 1) b.items) out
   where
     more : (items : List Item) → front items b.silent (c ∷ cs) ≡ Outside → ⊥
     more [] out = (let no : Silent b.silent c.id ≡ Outside = out in cc)
@@ -78,20 +78,21 @@ below_inside b (c ∷ cs) n it closes here jumps ends out = more (drop (n + 1) b
 -- an edge leads to the start of a block that is there, or below code that doesn't leave for good
 pub data LeadsOn (ids : List ℕ) (e : Exit) (p q : Pos) : Type 0 where
   to_block : (n : ℕ) → Contains ids n → q ≡ block_start n → LeadsOn ids e p q
-  to_below : q ≡ below p → (e ≡ Always → ⊥) → (e ≡ Final → ⊥) → LeadsOn ids e p q
+  to_below : q ≡ below p → (Leaves e → ⊥) → LeadsOn ids e p q
 
 onward : (ids : List ℕ) (p q : Pos) → q ≡ below p → LeadsOn ids Onward p q
-onward ids p q e = to_below e (λ z. (let no : Onward ≡ Always = z in cc)) (λ z. (let no : Onward ≡ Final = z in cc))
+onward ids p q e = to_below e (λ z. z)
 
 row_leads : (ids : List ℕ) (r : Row) (p q : Pos) → TargetIn ids r → RowEdge (λ n. n) r p q → LeadsOn ids (row_exit r) p q
 row_leads ids (Branches op a b t) p q at (inl e) = to_block t at e
-row_leads ids (Branches op a b t) p q at (inr e) = to_below e (λ z. (let no : Perhaps ≡ Always = z in cc)) (λ z. (let no : Perhaps ≡ Final = z in cc))
+row_leads ids (Branches op a b t) p q at (inr e) = to_below e (λ z. z)
 row_leads ids (Jumps t) p q at e = to_block t at e
 row_leads ids (Returns rs) p q at e = absurd e
 row_leads ids Unfit p q at e = absurd e
 row_leads ids (Fixes rd n) p q at e = onward ids p q e
 row_leads ids (Moves rd rs) p q at e = onward ids p q e
 row_leads ids (Sets rd op a b) p q at e = onward ids p q e
+row_leads ids (Addresses rd n offset) p q at e = onward ids p q e
 row_leads ids (Loads rd op a n) p q at e = onward ids p q e
 row_leads ids (Stores op a b n) p q at e = onward ids p q e
 row_leads ids (LoadsSlot rd n) p q at e = onward ids p q e
@@ -134,8 +135,8 @@ edge_inside f sound p q (b ∷ bs) from closes targets edge = by_items (drop p.i
   where
     at_leads : (x : Item) (cs : List Block) → from_block f.blocks p.block ≡ b ∷ cs → LastCloses (b ∷ cs) → fetch_in (b ∷ cs) p.item ≡ Here x → LeadsOn (ids_of f.blocks) (exit_of x.kind) p q → IsPosition f.blocks q
     at_leads x cs from closes here (to_block n there same) = subst (λ (z : Pos). IsPosition f.blocks z) (sym same) (block_inside f.blocks n sound.last there)
-    at_leads x cs from closes here (to_below same jumps ends) =
-        subst (λ (z : Pos). IsPosition f.blocks z) (sym same) (λ out. below_inside b cs p.item x closes here jumps ends (sym (ap (λ zs. fetch_in zs (p.item + 1)) from) ∙ out))
+    at_leads x cs from closes here (to_below same stays) =
+        subst (λ (z : Pos). IsPosition f.blocks z) (sym same) (λ out. below_inside b cs p.item x closes here stays (sym (ap (λ zs. fetch_in zs (p.item + 1)) from) ∙ out))
 
     by_items : (xs : List Item) (cs : List Block) → from_block f.blocks p.block ≡ b ∷ cs → LastCloses (b ∷ cs) → drop p.item b.items ≡ xs → FetchEdge (λ n. n) (front xs b.silent cs) p q → IsPosition f.blocks q
     by_items (x ∷ xs) cs from closes is edge =
@@ -149,7 +150,7 @@ edge_inside f sound p q (b ∷ bs) from closes targets edge = by_items (drop p.i
 stays_inside : (f : Function) → IsSound f → (p q : Pos) (i : ℕ) (r : SourceStep) → i < length f.blocks → from_block f.blocks p.block ≡ drop i f.blocks → IsPosition f.blocks p → GoesAlong (fetch_in (drop i f.blocks) p.item) r p q → IsPosition f.blocks q
 stays_inside f sound p q i Went lt from inside along = edge_inside f sound p q (drop i f.blocks) from (drop_closes f.blocks i sound.last lt) (All-drop (λ b. All (λ x. TargetsIn (ids_of f.blocks) x.kind) b.items) i f.blocks sound.targets) along
 stays_inside f sound p q i Returned lt from inside along = subst (λ (z : Pos). IsPosition f.blocks z) (sym along) inside
-stays_inside f sound p q i Fault lt from inside along = subst (λ (z : Pos). IsPosition f.blocks z) (sym along) inside
+stays_inside f sound p q i Faulted lt from inside along = subst (λ (z : Pos). IsPosition f.blocks z) (sym along) inside
 stays_inside f sound p q i Waits lt from inside along = subst (λ (z : Pos). IsPosition f.blocks z) (sym along) inside
 
 pub stays_inside_ok : (f : Function) → IsSound f → (old new : Concrete) (i : ℕ) → i < length f.blocks → from_block f.blocks old.pos.block ≡ drop i f.blocks → IsPosition f.blocks old.pos → (r : Result SourceStep AllocError) →

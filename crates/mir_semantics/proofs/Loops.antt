@@ -2,6 +2,7 @@
 use Rattle.std.proofs.Common.{◌≡◌, ◌≢◌, ℕ, zero, suc, ◌+◌, ◌-◌, ◌*◌, ◌/◌, ◌%◌, ◌^◌, ◌<◌, ◌≤◌, List, [], ◌∷◌, length, Option, Some, None, Bool, true, false, cond, refl, sym, ap, subst, ◌∙◌, inl, inr, drop, get_or, arith, get_or-set_other, get_or-set_same, length-set}
 use Rattle.std.proofs.Math.Seq.{drop-cons}
 use Rattle.std.proofs.Math.Nat.{pow-le-pow_right}
+use Rattle.std.proofs.lemmas.List.{drop_all}
 use Rattle.std.proofs.lemmas.Nat.{pow-add}
 use Rattle.std.proofs.lemmas.Bool.{cases_eq, eq-eqb, ne_eqb, ltb-true, and_parts}
 use Rattle.std.specs.Prelude.{nat_eq, nat_lt, unwrap_or, slice_index_or, slice_set, ◌||◌}
@@ -16,11 +17,11 @@ use Rattle.mir_meaning.specs.State.{updated, content, put, put_all, spelled, sto
 use Rattle.mir_semantics.specs.Places.{AreRegisters, RegistersHold, MemoryHolds, some_writes}
 
 -- ---- the frame
-pub touches_later : (e a k n : ℕ) → k < n → in_frame e ((a + k) % 2 ^ 64) ≡ false → touches_frame e (a + (k + 1)) (n - (k + 1)) ≡ touches_frame e (a + k) (n - k)
-touches_later e a k n lt h =
+pub touches_later : (e z a k n : ℕ) → k < n → in_frame e z ((a + k) % 2 ^ 64) ≡ false → touches_frame e z (a + (k + 1)) (n - (k + 1)) ≡ touches_frame e z (a + k) (n - k)
+touches_later e z a k n lt h =
     let one : n - k ≡ suc (n - (k + 1)) = omega arith in
     let next : a + (k + 1) ≡ a + k + 1 = omega arith in
-    ap (λ (x : ℕ). touches_frame e x (n - (k + 1))) next ∙ sym (ap (touches_frame e (a + k)) one ∙ ap (λ (b : Bool). b || touches_frame e (a + k + 1) (n - (k + 1))) h)
+    ap (λ (x : ℕ). touches_frame e z x (n - (k + 1))) next ∙ sym (ap (touches_frame e z (a + k)) one ∙ ap (λ (b : Bool). b || touches_frame e z (a + k + 1) (n - (k + 1))) h)
 
 -- ---- memory
 pub memory_put : (es fs : List (ℕ × ℕ)) (f : ℕ → ℕ) (k b : ℕ) → MemoryHolds es f → ((q : ℕ) → lookup (nat_eq q) fs ≡ cond (nat_eq k q) (Some b) (lookup (nat_eq q) es)) → MemoryHolds fs (updated k b f)
@@ -51,15 +52,9 @@ written_some f ws i d w t lt e h =
     let here : drop i ws ≡ Some w ∷ drop (i + 1) ws = drop-cons ws i d lt ∙ ap (λ o. o ∷ drop (suc i) ws) e ∙ ap (λ (n : ℕ). Some w ∷ drop n ws) (sym next) in
     sym (ap (λ xs. written f (some_writes xs)) here) ∙ h
 
-drop_end : (ws : List (Option (ℕ × ℕ))) (i : ℕ) → length ws ≤ i → drop i ws ≡ []
-drop_end [] zero le = refl
-drop_end [] (suc i) le = refl
-drop_end (w ∷ ws) zero le = absurd (omega arith)
-drop_end (w ∷ ws) (suc i) le = drop_end ws i (omega arith)
-
 pub written_end : (es : List (ℕ × ℕ)) (f t : ℕ → ℕ) (ws : List (Option (ℕ × ℕ))) (i : ℕ) → length ws ≤ i → MemoryHolds es f → written f (some_writes (drop i ws)) ≡ t → MemoryHolds es t
 written_end es f t ws i le holds h =
-    let same : f ≡ t = sym (ap (λ xs. written f (some_writes xs)) (drop_end ws i le)) ∙ h in
+    let same : f ≡ t = sym (ap (λ xs. written f (some_writes xs)) (drop_all i ws le)) ∙ h in
     subst (λ (g : ℕ → ℕ). MemoryHolds es g) same holds
 
 -- ---- numbers in memory

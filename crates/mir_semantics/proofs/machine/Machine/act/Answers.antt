@@ -14,6 +14,9 @@ returns-in-Moves-clause-ok c = at_row (row_of c.args.i.now) _ (option_copied c.a
 pub returns-in-Sets-clause-ok : goal.returns-in-Sets-clause-ok
 returns-in-Sets-clause-ok c = at_row (row_of c.args.i.now) _ (option_copied c.args.answer) _ _ _ c.in-Sets.ensures.row (c.compute.ensures (option_copied c.args.answer))
 
+pub returns-in-Addresses-clause-ok : goal.returns-in-Addresses-clause-ok
+returns-in-Addresses-clause-ok c = at_row (row_of c.args.i.now) _ (option_copied c.args.answer) _ _ _ c.in-Addresses.ensures.row (c.address_of.ensures (option_copied c.args.answer))
+
 pub returns-in-Loads-clause-ok : goal.returns-in-Loads-clause-ok
 returns-in-Loads-clause-ok c = at_row (row_of c.args.i.now) _ (option_copied c.args.answer) _ _ _ c.in-Loads.ensures.row (c.load.ensures (option_copied c.args.answer))
 
