@@ -1,5 +1,5 @@
 -- What is kept stands for a state, and a return is one again.
-use Rattle.std.proofs.Common.{◌≡◌, ℕ, zero, suc, subst, inl, inr, List, [], ◌∷◌, map, Option, Some, None, Bool, true, false, cond, ◌&&◌, nat_eq, refl, sym, ap, ◌∙◌}
+use Rattle.std.proofs.Common.{◌≡◌, ℕ, zero, suc, subst, List, [], ◌∷◌, map, Option, Some, None, Bool, true, false, cond, nat_eq, refl, sym}
 use Rattle.std.specs.Prelude.{slice_index_or}
 use Rattle.std.specs.Map.{lookup}
 use Rattle.rv64_instr.specs.Row.{Row, Calls, row_of}

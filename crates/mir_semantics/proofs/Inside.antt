@@ -1,6 +1,6 @@
 -- In a sound function control stays inside: each edge leads to an item, or to the end of a block that isn't the last.
 use Rattle.std.proofs.Common.{◌≡◌, ℕ, zero, suc, ◌+◌, ◌<◌, List, [], ◌∷◌, length, Contains, Bool, cond, refl, sym, ap, ◌∙◌, subst, inl, inr, drop, arith}
-use Rattle.std.specs.Prelude.{All, ◌⊎◌, Result, Ok, Err, IfOk, OnErr}
+use Rattle.std.specs.Prelude.{All, Result, Ok, Err, IfOk, OnErr}
 use Rattle.std.specs.declared.alloc.AllocError.{AllocError}
 use Rattle.std.proofs.lemmas.Bool.{cases_eq, eq-eqb, ne_eqb}
 use Rattle.std.proofs.lemmas.List.Elements.{All-drop}

@@ -1,5 +1,5 @@
 -- Parts of variables: what is kept of each stands for some marks, and for one more after an assignment.
-use Rattle.std.proofs.Common.{◌≡◌, ℕ, List, [], ◌∷◌, ◌++◌, map, Option, Some, None, Bool, true, false, cond, ◌&&◌, nat_eq, refl, sym, ap, ◌∙◌, subst, inl, inr, arith, suc, length, drop, get_or, append_assoc, append-nil}
+use Rattle.std.proofs.Common.{◌≡◌, ℕ, List, [], ◌∷◌, ◌++◌, Option, Some, None, Bool, true, false, cond, ◌&&◌, nat_eq, refl, sym, ap, ◌∙◌, subst, inl, inr, arith, suc, length, drop, get_or, append_assoc, append-nil}
 use Rattle.std.specs.Prelude.{◌⊎◌, ◌<◌, ◌≤◌, ◌+◌, nat_lt, unwrap_or}
 use Rattle.std.specs.Option.{option_eq}
 use Rattle.std.specs.Map.{lookup}
@@ -8,7 +8,7 @@ use Rattle.std.proofs.lemmas.List.{drop_all}
 use Rattle.std.proofs.lemmas.Bool.{cases_eq, cases_Bool, eq-eqb, eqb-true, ne_eqb, and_parts, lt-ltb, ltb-true}
 use Rattle.mir_func.specs.declared.variable.VarId.{VarId}
 use Rattle.mir_func.specs.Parts.{Bytes}
-use Rattle.mir_func.specs.Variables.{is_same, is_same_node, is_same_variable, are_same_bytes, do_meet, overlaps}
+use Rattle.mir_func.specs.Variables.{is_same_node, is_same_variable, are_same_bytes, do_meet}
 use Rattle.mir_meaning.specs.State.{assigned}
 use Rattle.mir_semantics.specs.Assigned.{Covers, MarksHold, are_same_keys, assigned_in, key_of, part_in}
 

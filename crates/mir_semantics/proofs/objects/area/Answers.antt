@@ -1,4 +1,4 @@
-use Rattle.std.proofs.Common.{ℕ, ◌≡◌, ◌+◌, arith, drop, sym, ap, ◌∙◌, subst}
+use Rattle.std.proofs.Common.{ℕ, ◌+◌, arith, drop, sym, ap, ◌∙◌, subst}
 use Rattle.mir_func.specs.Objects.{AreLaidFrom, end_from}
 use Rattle.mir_func.specs.Sound.{IsSoundObject}
 use Rattle.mir_semantics.proofs.Laying.{turn}

@@ -1,10 +1,8 @@
-use Rattle.std.proofs.Common.{rules, sym, ◌∙◌, ap}
-use Rattle.std.specs.Prelude.{nat_eq}
+use Rattle.std.proofs.Common.{rules}
 use Rattle.std.proofs.lemmas.Iterator.{YieldsList-from_map}
 use Rattle.std.proofs.lemmas.Iterator.Adapters.{YieldsList-from_rev_slice, fact_from_collect}
 use Rattle.std.proofs.lemmas.Iterator.Consumers.{YieldsList-at}
 use Rattle.std.proofs.lemmas.Result.{IfOk-weaker}
-use Rattle.indexmap.specs.IndexMap.{IsFromIterResult}
 use Rattle.mir_func.specs.Objects.{offset_of}
 use Rattle.mir_semantics.specs.Places.{ObjectsHold}
 use Rattle.mir_semantics.proofs.Laying.{offset_pair, offsets_found}

@@ -1,6 +1,6 @@
-use Rattle.std.proofs.Common.{ℕ, Option, Some, cond, ◌≡◌, refl, sym, ap, ◌∙◌, subst}
+use Rattle.std.proofs.Common.{ℕ, Option, Some, cond, ◌≡◌, refl, subst}
 use Rattle.std.specs.Map.{lookup}
-use Rattle.mir_semantics.specs.Assigned.{are_same_keys, MarksHold}
+use Rattle.mir_semantics.specs.Assigned.{are_same_keys}
 use Rattle.mir_semantics.proofs.Marking.{marks_put}
 use Rattle.mir_semantics.proofs.assignments.Assignments.assign.Goals as goal
 

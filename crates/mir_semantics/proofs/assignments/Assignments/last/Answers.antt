@@ -1,4 +1,4 @@
-use Rattle.std.proofs.Common.{ℕ, Option, [], sym, ap, ◌∙◌}
+use Rattle.std.proofs.Common.{ℕ, Option, [], ap, ◌∙◌}
 use Rattle.std.specs.Prelude.{unwrap_or}
 use Rattle.std.specs.Map.{lookup}
 use Rattle.mir_semantics.specs.Assigned.{are_same_keys, assigned_in, part_in}

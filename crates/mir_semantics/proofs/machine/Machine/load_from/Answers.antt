@@ -1,4 +1,4 @@
-use Rattle.std.proofs.Common.{ℕ, sym, ap, subst, ◌≡◌, true, false, ◌∙◌}
+use Rattle.std.proofs.Common.{ap, ◌∙◌}
 use Rattle.rv64_instr.specs.Arithmetic.{extended}
 use Rattle.mir_meaning.specs.State.{spelled}
 use Rattle.mir_meaning.specs.Step.{is_fault}
