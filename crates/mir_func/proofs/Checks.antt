@@ -1,5 +1,6 @@
 -- What the checks of parts say of a function.
-use Rattle.std.proofs.Common.{◌≡◌, ◌↔◌, ◌⊎◌, ℕ, zero, suc, ◌-◌, ◌<◌, ◌≤◌, Bool, true, false, List, [], ◌∷◌, ◌++◌, length, get_or, Some, IsTrue, refl, sym, ap, subst, ◌∙◌, inl, inr, arith}
+use Rattle.std.proofs.Common.{◌≡◌, ◌↔◌, ◌⊎◌, ℕ, zero, suc, ◌+◌, ◌-◌, ◌<◌, ◌≤◌, Bool, true, false, List, [], ◌∷◌, ◌++◌, length, get_or, Some, IsTrue, refl, sym}
+use Rattle.std.proofs.Common.{ap, subst, ◌∙◌, inl, inr, arith}
 use Rattle.std.specs.Prelude.{All, Contains}
 use Rattle.std.specs.Bool.{MatchBool}
 use Rattle.std.specs.List.{slice_get, AllWithin, HoldsAt}
@@ -9,13 +10,18 @@ use Rattle.mir_func.specs.declared.block.Block.{Block}
 use Rattle.mir_func.specs.declared.item.Item.{Item}
 use Rattle.mir_func.specs.declared.item.ItemKind.{ItemKind}
 use Rattle.mir_func.specs.declared.item.ItemKind.TheVariants.{Code, Mark, Phi}
-use Rattle.mir_func.specs.Sound.{ids_of, items_of, AllItems, TargetsIn, SlotsIn, LeavesPointer, OriginIn, EndsWell, Closes, LastCloses, IsSound}
+use Rattle.mir_func.specs.Sound.{ids_of, items_of, AllItems, TargetsIn, SlotsIn, ObjectsIn, LeavesPointer, OriginIn, EndsWell, Closes, LastCloses, IsSound}
 use Rattle.mir_func.specs.Exits.{exit_of, Leaves}
-use Rattle.mir_func.specs.Checks.{PhiIsApart, IsSoundItem, IsSoundBlock, AreSoundParts}
+use Rattle.mir_func.specs.declared.object.Object.{Object}
+use Rattle.mir_func.specs.declared.sound.Declared.{Declared}
+use Rattle.mir_func.specs.Function.{Function}
+use Rattle.mir_func.specs.Limits.{MAX_BLOCKS, MAX_SLOTS}
+use Rattle.mir_func.specs.Checks.{PhiIsApart, IsSoundItem, IsSoundBlock, AreSoundParts, AreSoundObjects}
 use Rattle.mir_func.proofs.Once.{codes_of, IsCode, PhiOff, codes_apart, phis_off, once_from}
 
 -- what `all` answers, both ways
-pub both_from_all : {X : Type 0} (P : X → Type 0) (xs : List X) (r : Bool) → MatchBool r (AllWithin P xs 0 (length xs)) ((k : ℕ) × (k < length xs) × HoldsAt (λ x. P x → ⊥) xs k) → IsTrue r ↔ All P xs
+pub both_from_all : {X : Type 0} (P : X → Type 0) (xs : List X) (r : Bool) →
+    MatchBool r (AllWithin P xs 0 (length xs)) ((k : ℕ) × (k < length xs) × HoldsAt (λ x. P x → ⊥) xs k) → IsTrue r ↔ All P xs
 both_from_all P xs true h = (λ _. All-from_all_within P xs h, λ _. refl)
 both_from_all {X} P [] false h = let l : h.0 < 0 = h.1 in absurd (omega arith)
 both_from_all P (x ∷ xs) false h = (λ e. absurd (false≢true e), λ a. absurd (h.2 x (a h.0 x h.1)))
@@ -101,3 +107,82 @@ off_apart : (items : List Item) (k : ItemKind) → PhiOff (IsCode items) k → P
 off_apart items (Code i k) h = tt
 off_apart items (Mark v m) h = tt
 off_apart items (Phi p k) h = λ c. h (c.0, contains_at (codes_of items) c.0 k c.1 c.2)
+
+-- ---- the whole
+
+-- what a function of these parts declares
+abbrev pub declared_of : (slots : List ℕ) → List Object → List Block → Declared
+declared_of slots objects blocks = record { blocks = ids_of blocks; slots = slots; objects = objects; codes = codes_of (items_of blocks) }
+
+-- one thing that each item keeps, from all that it keeps
+each_item : (d : Declared) (P : Block → Item → Type 0) (blocks : List Block) → All (IsSoundBlock d) blocks →
+    ((b : Block) (i : Item) → IsSoundItem d b i → P b i) → All (λ b. All (P b) b.items) blocks
+each_item d P blocks h part =
+    All-weaker (IsSoundBlock d) (λ (b : Block). All (P b) b.items) (λ b s. All-weaker (IsSoundItem d b) (P b) (part b) b.items s.each) blocks h
+
+sound_from : (name slots : List ℕ) (objects : List Object) (blocks : List Block) → length blocks ≤ MAX_BLOCKS → length slots + length objects ≤ MAX_SLOTS →
+    AreSoundObjects objects → AreSoundParts (declared_of slots objects blocks) blocks →
+    IsSound (record { name = name; slots = slots; objects = objects; blocks = blocks })
+sound_from name slots objects blocks few_b few_s o s =
+    let d = declared_of slots objects blocks in
+    let ids = ids_of blocks in
+    let codes = codes_of (items_of blocks) in
+    let phis : All (λ i. PhiIsApart codes i.kind) (items_of blocks) =
+    all_items (λ i. PhiIsApart codes i.kind) blocks (each_item d (λ b i. PhiIsApart codes i.kind) blocks s.each (λ b i t. t.phi)) in
+    record {
+      blocks_apart = s.ids_apart;
+      slots_apart = s.slots_apart;
+      objects_apart = o.apart;
+      few_blocks = few_b;
+      few_slots = few_s;
+      each_object = o.each;
+      objects_laid = o.laid;
+      targets = each_item d (λ b i. TargetsIn ids i.kind) blocks s.each (λ b i t. t.target);
+      slots = each_item d (λ b i. SlotsIn slots i.kind) blocks s.each (λ b i t. t.slot);
+      objects = each_item d (λ b i. ObjectsIn objects i.kind) blocks s.each (λ b i t. t.object);
+      pointer = each_item d (λ b i. LeavesPointer i.kind) blocks s.each (λ b i t. t.pointer);
+      numbers = once_from (items_of blocks) s.codes_apart
+          (λ i x e. apart_off (items_of blocks) x.kind (at_get (λ i. PhiIsApart codes i.kind) (items_of blocks) i x phis e));
+      origins = each_item d (λ b i. OriginIn b i.origin) blocks s.each (λ b i t. t.origin);
+      ends = All-weaker (IsSoundBlock d) (λ (b : Block). EndsWell b.items) (λ b t. t.ends) blocks s.each;
+      last = s.last;
+    }
+
+pub objects_from : (f : Function) → IsSound f → AreSoundObjects f.objects
+objects_from f s = record { apart = s.objects_apart; each = s.each_object; laid = s.objects_laid }
+
+parts_from : (f : Function) → IsSound f → AreSoundParts (declared_of f.slots f.objects f.blocks) f.blocks
+parts_from f s =
+    let items = items_of f.blocks in
+    let codes = codes_of items in
+    let phis : AllItems (λ i. PhiIsApart codes i.kind) f.blocks =
+    items_all (λ i. PhiIsApart codes i.kind) f.blocks
+    (from_get (λ i. PhiIsApart codes i.kind) items (λ i x e. off_apart items x.kind (phis_off items s.numbers i x e))) in
+    record {
+      ids_apart = s.blocks_apart;
+      slots_apart = s.slots_apart;
+      codes_apart = codes_apart items s.numbers;
+      each = λ k d l. record {
+        each = λ n x m. record {
+          target = s.targets k d l n x m;
+          slot = s.slots k d l n x m;
+          object = s.objects k d l n x m;
+          pointer = s.pointer k d l n x m;
+          phi = phis k d l n x m;
+          origin = s.origins k d l n x m;
+        };
+        ends = s.ends k d l;
+      };
+      last = s.last;
+    }
+
+-- where the counts and the objects are right, the function is sound exactly where its parts are
+pub sound_by_parts : (d : Declared) (slots : List ℕ) (objects : List Object) (blocks : List Block) (b : Bool) → length blocks ≤ MAX_BLOCKS →
+    length slots + length objects ≤ MAX_SLOTS → AreSoundObjects objects → d ≡ declared_of slots objects blocks → IsTrue b ↔ AreSoundParts d blocks →
+    (name : List ℕ) → IsTrue b ↔ IsSound (record { name = name; slots = slots; objects = objects; blocks = blocks })
+sound_by_parts d slots objects blocks b few_b few_s o same both name =
+    let here : IsTrue b ↔ AreSoundParts (declared_of slots objects blocks) blocks = subst (λ (e : Declared). IsTrue b ↔ AreSoundParts e blocks) same both in (
+      λ t. sound_from name slots objects blocks few_b few_s o (here.0 t),
+      λ s. here.1
+          (parts_from (record { name = name; slots = slots; objects = objects; blocks = blocks }) s),
+    )

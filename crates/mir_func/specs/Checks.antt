@@ -1,10 +1,19 @@
 -- What the checks of a function's parts say.
-use Rattle.std.specs.Prelude.{ℕ, List, Contains, All}
+use Rattle.std.specs.Prelude.{◌≡◌, ℕ, List, Contains, All, map, option_map}
+use Rattle.std.specs.Ordering.{nat_cmp}
+use Rattle.std.specs.BTreeMap.{BTreeMap, get}
 use Rattle.mir_func.specs.declared.block.Block.{Block}
 use Rattle.mir_func.specs.declared.item.Item.{Item}
 use Rattle.mir_func.specs.declared.item.ItemKind.{ItemKind}
 use Rattle.mir_func.specs.declared.item.ItemKind.TheVariants.{Code, Mark, Phi}
-use Rattle.mir_func.specs.Sound.{AreApart, TargetsIn, SlotsIn, LeavesPointer, OriginIn, EndsWell, LastCloses}
+use Rattle.mir_func.specs.declared.object.Object.{Object}
+use Rattle.mir_func.specs.declared.sound.Declared.{Declared}
+use Rattle.mir_func.specs.Objects.{object_of, AreLaidFrom}
+use Rattle.mir_func.specs.Sound.{AreApart, TargetsIn, SlotsIn, ObjectsIn, LeavesPointer, OriginIn, EndsWell, LastCloses, IsSoundObject}
+
+-- the map has the size of the object of each number
+abbrev pub AreSizes : List Object → BTreeMap ℕ ℕ → Type 0
+AreSizes objects sizes = (n : ℕ) → get nat_cmp sizes n ≡ option_map (λ o. o.size) (object_of objects n)
 
 -- the number of a phi is none of these
 abbrev pub PhiIsApart : List ℕ → ItemKind → Type 0
@@ -12,23 +21,30 @@ PhiIsApart numbers (Phi p k) = Contains numbers k → ⊥
 PhiIsApart numbers (Code i k) = Unit {0}
 PhiIsApart numbers (Mark v m) = Unit {0}
 
--- what an item of a block of a sound function keeps, where these are the numbers of its blocks, of its slots and of its code
-pub record IsSoundItem (ids declared codes : List ℕ) (b : Block) (i : Item) : Type 0 where
-  pub target : TargetsIn ids i.kind
-  pub slot : SlotsIn declared i.kind
+-- what an item of a block of a sound function keeps, by what the function declares
+pub record IsSoundItem (d : Declared) (b : Block) (i : Item) : Type 0 where
+  pub target : TargetsIn d.blocks i.kind
+  pub slot : SlotsIn d.slots i.kind
+  pub object : ObjectsIn d.objects i.kind
   pub pointer : LeavesPointer i.kind
-  pub phi : PhiIsApart codes i.kind
+  pub phi : PhiIsApart d.codes i.kind
   pub origin : OriginIn b i.origin
 
 -- what a block of a sound function keeps
-pub record IsSoundBlock (ids declared codes : List ℕ) (b : Block) : Type 0 where
-  pub each : All (IsSoundItem ids declared codes b) b.items
+pub record IsSoundBlock (d : Declared) (b : Block) : Type 0 where
+  pub each : All (IsSoundItem d b) b.items
   pub ends : EndsWell b.items
 
--- what a sound function keeps beside its counts, by those numbers
-pub record AreSoundParts (ids declared codes : List ℕ) (blocks : List Block) : Type 0 where
-  pub ids_apart : AreApart ids
-  pub slots_apart : AreApart declared
-  pub codes_apart : AreApart codes
-  pub each : All (IsSoundBlock ids declared codes) blocks
+-- what a sound function keeps beside its counts and its objects
+pub record AreSoundParts (d : Declared) (blocks : List Block) : Type 0 where
+  pub ids_apart : AreApart d.blocks
+  pub slots_apart : AreApart d.slots
+  pub codes_apart : AreApart d.codes
+  pub each : All (IsSoundBlock d) blocks
   pub last : LastCloses blocks
+
+-- what the objects of a sound function keep
+pub record AreSoundObjects (objects : List Object) : Type 0 where
+  pub apart : AreApart (map (λ o. o.id) objects)
+  pub each : All IsSoundObject objects
+  pub laid : AreLaidFrom 0 objects

@@ -1,15 +1,18 @@
 //! Functions between reading and their frame.
 
-ghost use Rattle.std.specs.Prelude.{◌≡◌, IfOk};
+ghost use Rattle.std.specs.Prelude.{◌≡◌, IfOk, IsErrOf};
 ghost use Rattle.mir_func.specs.Sound.{IsSound};
+ghost use Rattle.mir_func.specs.declared.func.FuncError.TheVariants.{Memory};
 
 use crate::block::{Blocks, copy_blocks};
 use crate::object::Objects;
+use crate::sound::are_sound;
 use lists::List;
 use numbers::code::SlotId;
 use rv64_instr::name::Name;
 use std::alloc::{AllocError, Global};
 use std::marker::Model;
+use thiserror::Error;
 
 /// The numbers of a function's frame slots of eight bytes, in declared order.
 pub type SlotIds = List<SlotId>;
@@ -34,12 +37,70 @@ impl Model for Func {
 
     ghost use Rattle.mir_func.specs.Sound.{IsSound};
 
-    ghost view = { λ f. record { name = f.name; slots = f.slots; objects = f.objects; blocks = f.blocks } };
+    ghost view = { λ f. record {
+      name = f.name;
+      slots = f.slots;
+      objects = f.objects;
+      blocks = f.blocks;
+    } };
 
-    ghost invariant = { λ f. IsSound (record { name = f.name; slots = f.slots; objects = f.objects; blocks = f.blocks }) };
+    ghost invariant = { λ f. IsSound (record {
+      name = f.name;
+      slots = f.slots;
+      objects = f.objects;
+      blocks = f.blocks;
+    }) };
+}
+
+/// Why no function was made.
+#[derive(Debug, Drop, Error)]
+pub enum FuncError {
+    /// There is no sound function of these parts.
+    #[error("no sound function")]
+    Unsound,
+    /// Memory ran out.
+    #[error("out of memory")]
+    Memory,
+}
+
+impl From<AllocError> for FuncError {
+    ghost from_gives = { λ _ e. e ≡ Memory };
+
+    fn from(_: AllocError) -> FuncError {
+        FuncError::Memory
+    }
 }
 
 impl Func {
+    /// The function of these parts. It is `Unsound` exactly where they make no sound function.
+    pub fn new(
+        alloc: Global,
+        name: Name,
+        slots: SlotIds,
+        objects: Objects,
+        blocks: Blocks,
+    ) -> Result<Func, FuncError>
+        ensures made { IfOk result (λ f.
+            f ≡ record { name = name; slots = slots; objects = objects; blocks = blocks }) }
+        ensures unsound { IsErrOf result FuncError.Unsound →
+            IsSound (record { name = name; slots = slots; objects = objects; blocks = blocks }) → ⊥ }
+    {
+        if !are_sound(
+            alloc,
+            slots.as_slice(),
+            objects.as_slice(),
+            blocks.as_slice(),
+        )? {
+            return Err(FuncError::Unsound);
+        }
+        Ok(Func {
+            name,
+            slots,
+            objects,
+            blocks,
+        })
+    }
+
     /// An equal function.
     pub fn copy(&self) -> Result<Func, AllocError>
         ensures { IfOk result (λ copied. copied ≡ self.now) }

@@ -10,9 +10,16 @@ pub mod exit;
 pub mod framed;
 pub mod func;
 pub mod item;
+pub mod limits;
 pub mod location;
+mod number_set;
 pub mod object;
+mod object_sizes;
 pub mod position;
+mod sound;
+mod sound_objects;
 pub mod strip;
 pub mod successors;
+#[cfg(test)]
+mod tests;
 pub mod variable;

@@ -1,5 +1,8 @@
 //! Stack objects.
 
+ghost use Rattle.std.specs.Prelude.{◌≡◌, ◌+◌, ◌^◌, ◌<◌, ◌≤◌};
+ghost use Rattle.mir_func.specs.Objects.{up_to};
+
 use lists::List;
 use numbers::code::ObjectId;
 
@@ -18,3 +21,12 @@ pub struct Object {
 
 /// The stack objects of a function, in declared order.
 pub type Objects = List<Object>;
+
+/// The least multiple of an alignment that isn't below a number.
+pub fn up_to(align: u64, n: u64) -> u64
+    requires positive { 0 < align }
+    requires fits { n + align ≤ 2 ^ 64 }
+    ensures { result ≡ up_to align n }
+{
+    (n + (align - 1)) / align * align
+}

@@ -3,6 +3,7 @@
 ghost use Rattle.std.specs.Prelude.{◌≡◌, IfSome, IsNone, ◌↔◌};
 
 use crate::entry::OperandPair;
+use crate::limits::{MAX_PART, MAX_PART_END};
 use numbers::metadata::NodeId;
 use rv64_instr::reg::Reg;
 use std::marker::Model;
@@ -60,14 +61,8 @@ impl Fragment {
     }
 }
 
-/// The longest part of a variable, in bytes.
-const MAX_PART: u32 = 8;
-
-/// The greatest end of a part, in bytes.
-const MAX_PART_END: u32 = 8_192;
-
-/// A part of a variable of the program that is debugged, in one inlined instance of its function: some of its bytes, or the
-/// whole.
+/// A part of a variable of the program that is debugged, in one inlined instance of its function: some of its bytes,
+/// or the whole.
 #[derive(Clone, Copy, Debug, PartialEq, Eq)]
 pub struct VarId {
     /// Its `DILocalVariable` node.

@@ -1,0 +1,12 @@
+use Rattle.std.proofs.Common.{rules}
+use Rattle.std.proofs.lemmas.Iterator.{items_from_collect, YieldsList-from_slice, YieldsList-from_map}
+use Rattle.std.proofs.lemmas.Iterator.Consumers.{YieldsList-at}
+use Rattle.std.proofs.lemmas.List.{map-id}
+use Rattle.mir_func.proofs.sound.slot_numbers.Goals as goal
+
+pub returns : goal.returns
+returns c =
+    let numbers = items_from_collect _ c.collect.ensures.ran
+    (YieldsList-from_map _ (λ n. n) (YieldsList-at c.map.ensures.source (YieldsList-from_slice c.args.slots.now c.iter.ensures.rest)) c.map.ensures.closure
+    (λ x r q k. search rules)) in
+    rw map-id at numbers
