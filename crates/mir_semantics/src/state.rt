@@ -372,3 +372,8 @@ fn is_call(i: &Instr) -> bool
         _ => false,
     }
 }
+
+#[cfg(test)]
+mod build;
+#[cfg(test)]
+mod tests;
