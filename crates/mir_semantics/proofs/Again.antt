@@ -81,31 +81,39 @@ step_for (Silent k n) answer = tt
 step_for Outside answer = tt
 
 -- a call returns from no run
-call_goes_on : (enter : ℕ → ℕ) (p : Pos) (f : Core → Core) (name args : List ℕ) (s : Core) (results : List ℕ) (other : Option Answer) → moved enter p (with_core f (act (Calls name args) s)) ≡ step.Returned results → IsAnswered (Calls name args) other s.script
+call_goes_on : (enter : ℕ → ℕ) (p : Pos) (f : Core → Core) (name args : List ℕ) (s : Core) (results : List ℕ) (other : Option Answer) →
+    moved enter p (with_core f (act (Calls name args) s)) ≡ step.Returned results → IsAnswered (Calls name args) other s.script
 unfolding act does
 call_goes_on enter p f name args s results other e = by_test (are_written s args) e where
-  by_frame : (z : Bool) (c : Core) → moved enter p (with_core f (cond z step.Traps (step.Falls c))) ≡ step.Returned results → IsAnswered (Calls name args) other s.script
+  by_frame : (z : Bool) (c : Core) → moved enter p (with_core f (cond z step.Traps (step.Falls c))) ≡ step.Returned results →
+      IsAnswered (Calls name args) other s.script
   by_frame true c e = cc
   by_frame false c e = cc
 
-  by_script : (vs : List ℕ) (rs : List Reply) → moved enter p (with_core f (answered name vs s rs)) ≡ step.Returned results → IsAnswered (Calls name args) other s.script
+  by_script : (vs : List ℕ) (rs : List Reply) → moved enter p (with_core f (answered name vs s rs)) ≡ step.Returned results →
+      IsAnswered (Calls name args) other s.script
   by_script vs [] e = cc
-  by_script vs (r ∷ rs) e = by_frame (writes_frame s.entry s.area r.writes) (record s { regs = put_all caller_saved r.regs s.regs; memory = written s.memory r.writes; script = rs; events = Called name vs ∷ s.events }) e
+  by_script vs (r ∷ rs) e = by_frame (writes_frame s.entry s.area r.writes)
+      (record s { regs = put_all caller_saved r.regs s.regs; memory = written s.memory r.writes; script = rs; events = Called name vs ∷ s.events }) e
 
-  by_test : (z : Bool) → moved enter p (with_core f (cond z (answered name (map (read s) args) s s.script) step.Traps)) ≡ step.Returned results → IsAnswered (Calls name args) other s.script
+  by_test : (z : Bool) → moved enter p (with_core f (cond z (answered name (map (read s) args) s s.script) step.Traps)) ≡ step.Returned results →
+      IsAnswered (Calls name args) other s.script
   by_test true e = by_script (map (read s) args) s.script e
   by_test false e = cc
 
-row_again : (enter : ℕ → ℕ) (p : Pos) (f : Core → Core) (r : Row) (s : Core) (results : List ℕ) (other : Option Answer) → moved enter p (with_core f (act r s)) ≡ step.Returned results → IsAnswered r other s.script
+row_again : (enter : ℕ → ℕ) (p : Pos) (f : Core → Core) (r : Row) (s : Core) (results : List ℕ) (other : Option Answer) →
+    moved enter p (with_core f (act r s)) ≡ step.Returned results → IsAnswered r other s.script
 row_again enter p f (Calls name args) s results other e = call_goes_on enter p f name args s results other e
 row_again enter p f _ s results other e = tt
 
-kind_again : (g : Program) (p : Pos) (k : ItemKind) (s : Core) (results : List ℕ) (other : Option Answer) → moved g.enter p (do_item g k s) ≡ step.Returned results → IsItemAnswered k other s.script
+kind_again : (g : Program) (p : Pos) (k : ItemKind) (s : Core) (results : List ℕ) (other : Option Answer) →
+    moved g.enter p (do_item g k s) ≡ step.Returned results → IsItemAnswered k other s.script
 kind_again g p (Code c n) s results other e = row_again g.enter p _ (row_of c) s results other e
 kind_again g p (Mark v m) s results other e = tt
 kind_again g p (Phi q n) s results other e = tt
 
-fetch_again : (g : Program) (p : Pos) (x : Fetch) (s : Core) (results : List ℕ) (other : Option Answer) → moved g.enter p (do_fetch g x s) ≡ step.Returned results → IsStepAnswered x other s.script
+fetch_again : (g : Program) (p : Pos) (x : Fetch) (s : Core) (results : List ℕ) (other : Option Answer) →
+    moved g.enter p (do_fetch g x s) ≡ step.Returned results → IsStepAnswered x other s.script
 fetch_again g p (Here i) s results other e = kind_again g p i.kind s results other e
 fetch_again g p (Silent k n) s results other e = tt
 fetch_again g p Outside s results other e = tt
@@ -120,6 +128,7 @@ pub returns_again : ReturnsAgain
 returns_again g answer other r kept new states first second =
     let at = states (script_for answer) [] in
     let s = at.state in
-    let agrees : IsStepAnswered (g.fetch s.pos) answer s.core.script = subst (λ (rs : List Reply). IsStepAnswered (g.fetch s.pos) answer rs) (sym at.same_script) (step_for (g.fetch s.pos) answer) in
+    let agrees : IsStepAnswered (g.fetch s.pos) answer s.core.script = subst (λ (rs : List Reply). IsStepAnswered (g.fetch s.pos) answer rs)
+    (sym at.same_script) (step_for (g.fetch s.pos) answer) in
     let h = first s at.stands agrees in
     only_returned r new (step.step g s) h.0 h.1 (second s at.stands (fetch_again g s.pos (g.fetch s.pos) s.core h.0 other h.1))

@@ -17,7 +17,8 @@ use Rattle.mir_semantics.specs.declared.machine.Outcome.TheVariants.{Falls}
 use Rattle.mir_semantics.specs.Assigned.{MarksHold}
 use Rattle.mir_semantics.specs.StandsFor.{Concrete, flat, pair_eq, PairsHold, Holds, DoesItem}
 
-pub mark_does : (subs : List Entry) (v : VarId) (m : MarkValue) (answer : Option Answer) (old : Concrete) (fs : List ((ℕ × Option ℕ) × List (Option Bytes × Option ℕ))) (x : Option ℕ) →
+pub mark_does : (subs : List Entry) (v : VarId) (m : MarkValue) (answer : Option Answer) (old : Concrete)
+    (fs : List ((ℕ × Option ℕ) × List (Option Bytes × Option ℕ))) (x : Option ℕ) →
     ((s : Core) → Holds old s → x ≡ part_of v (mark_value (program_of true [] (resolve subs)) m s)) →
     ((marks : List (VarId × Option ℕ)) → MarksHold old.assigned marks → MarksHold fs ((v, x) ∷ marks)) →
     DoesItem subs (Mark v m) answer Falls old (record old { assigned = fs })
@@ -27,7 +28,14 @@ mark_does subs v m answer old fs x is put = record {
         record s { marks = (v, value) ∷ s.marks },
         refl,
         record {
-          machine = record { entry = holds.machine.entry; area = holds.machine.area; objects = holds.machine.objects; registers = holds.machine.registers; slots = holds.machine.slots; memory = holds.machine.memory };
+          machine = record {
+            entry = holds.machine.entry;
+            area = holds.machine.area;
+            objects = holds.machine.objects;
+            registers = holds.machine.registers;
+            slots = holds.machine.slots;
+            memory = holds.machine.memory;
+          };
           pairs = holds.pairs;
           marks = subst (λ (y : Option ℕ). MarksHold fs ((v, y) ∷ s.marks)) (is s holds) (put s.marks holds.marks);
         },
@@ -52,7 +60,8 @@ pairs_put es fs f k o x holds put l p =
             ∙ sym (ap flat (put (l, p) ∙ ap (λ (b : Bool). cond b (Some x) (lookup (pair_eq (l, p)) es)) same))
         | inr n ↦
             let other : pair_eq (k, o) (l, p) ≡ false = and_right (nat_eq k l) (nat_eq o p) (ne_eqb o p (λ d. n (sym d))) in
-            ap (λ (b : Bool). cond b (updated o x (f k)) (f l) p) (eq-eqb l k e) ∙ ap (λ (b : Bool). cond b x (f k p)) (ne_eqb p o n) ∙ ap (λ (a : ℕ). f a p) (sym e) ∙ holds l p
+            ap (λ (b : Bool). cond b (updated o x (f k)) (f l) p) (eq-eqb l k e) ∙ ap (λ (b : Bool). cond b x (f k p)) (ne_eqb p o n)
+            ∙ ap (λ (a : ℕ). f a p) (sym e) ∙ holds l p
             ∙ sym (ap flat (put (l, p) ∙ ap (λ (b : Bool). cond b (Some x) (lookup (pair_eq (l, p)) es)) other))
       ])
       | inr n ↦
@@ -70,8 +79,16 @@ phi_does subs p k answer old fs x is put = record {
     record s { pairs = updated k (updated 0 (place_value p s) (s.pairs k)) s.pairs },
     refl,
     record {
-      machine = record { entry = holds.machine.entry; area = holds.machine.area; objects = holds.machine.objects; registers = holds.machine.registers; slots = holds.machine.slots; memory = holds.machine.memory };
-      pairs = subst (λ (y : Option ℕ). PairsHold fs (updated k (updated 0 y (s.pairs k)) s.pairs)) (is s holds) (pairs_put old.pairs fs s.pairs k 0 x holds.pairs put);
+      machine = record {
+        entry = holds.machine.entry;
+        area = holds.machine.area;
+        objects = holds.machine.objects;
+        registers = holds.machine.registers;
+        slots = holds.machine.slots;
+        memory = holds.machine.memory;
+      };
+      pairs = subst (λ (y : Option ℕ). PairsHold fs (updated k (updated 0 y (s.pairs k)) s.pairs)) (is s holds)
+          (pairs_put old.pairs fs s.pairs k 0 x holds.pairs put);
       marks = holds.marks;
     },
   );

@@ -37,10 +37,12 @@ block_inside [] n closes at = absurd closes
 block_inside (b ∷ bs) n closes at = λ out.
     elim (cases_eq b.id n) [
       | inl e ↦ start_inside b bs closes (sym (ap (λ (t : Bool). fetch_in (cond t (b ∷ bs) (from_block bs n)) 0) (eq-eqb b.id n e)) ∙ out)
-      | inr ne ↦ later bs closes at ne (sym (ap (λ (t : Bool). fetch_in (cond t (b ∷ bs) (from_block bs n)) 0) (ne_eqb b.id n ne)) ∙ out) (λ more k. block_inside bs n more k)
+      | inr ne ↦ later bs closes at ne (sym (ap (λ (t : Bool). fetch_in (cond t (b ∷ bs) (from_block bs n)) 0) (ne_eqb b.id n ne)) ∙ out)
+          (λ more k. block_inside bs n more k)
     ]
   where
-    later : (cs : List Block) → LastCloses (b ∷ cs) → Contains (b.id ∷ ids_of cs) n → (b.id ≡ n → ⊥) → fetch_in (from_block cs n) 0 ≡ Outside → (LastCloses cs → Contains (ids_of cs) n → IsPosition cs (block_start n)) → ⊥
+    later : (cs : List Block) → LastCloses (b ∷ cs) → Contains (b.id ∷ ids_of cs) n → (b.id ≡ n → ⊥) → fetch_in (from_block cs n) 0 ≡ Outside →
+        (LastCloses cs → Contains (ids_of cs) n → IsPosition cs (block_start n)) → ⊥
     later cs closes (zero, lt, e) ne out more = ne e
     later [] closes (suc k, lt, e) ne out more = absurd (omega (arith, lt))
     later (c ∷ cs) closes (suc k, lt, e) ne out more = more closes (k, omega (arith, lt), e) out
@@ -53,7 +55,8 @@ drop_closes (b ∷ c ∷ cs) (suc i) closes lt = drop_closes (c ∷ cs) i closes
 
 -- ---- below an item
 -- an item of a block that closes, with nothing below it, leaves for good
-closes_last : (items : List Item) (n k : ℕ) (it : Item) → Closes items → front (drop n items) k [] ≡ Here it → front (drop (suc n) items) k [] ≡ Outside → Leaves (exit_of it.kind)
+closes_last : (items : List Item) (n k : ℕ) (it : Item) → Closes items → front (drop n items) k [] ≡ Here it → front (drop (suc n) items) k [] ≡ Outside →
+    Leaves (exit_of it.kind)
 closes_last [] n k it closes here out = absurd closes
 closes_last (x ∷ []) zero k it closes here out =
     let h : Here x ≡ Here it = here in
@@ -64,7 +67,8 @@ closes_last (x ∷ []) (suc (suc n)) k it closes here out = (let no : Outside �
 closes_last (x ∷ y ∷ rest) zero k it closes here out = (let no : Here y ≡ Outside = out in cc)
 closes_last (x ∷ y ∷ rest) (suc n) k it closes here out = closes_last (y ∷ rest) n k it closes here out
 
-pub below_inside : (b : Block) (bs : List Block) (n : ℕ) (it : Item) → LastCloses (b ∷ bs) → fetch_in (b ∷ bs) n ≡ Here it → (Leaves (exit_of it.kind) → ⊥) → fetch_in (b ∷ bs) (n + 1) ≡ Outside → ⊥
+pub below_inside : (b : Block) (bs : List Block) (n : ℕ) (it : Item) → LastCloses (b ∷ bs) → fetch_in (b ∷ bs) n ≡ Here it → (Leaves (exit_of it.kind) → ⊥) →
+    fetch_in (b ∷ bs) (n + 1) ≡ Outside → ⊥
 below_inside b [] n it closes here stays out =
     let next : n + 1 ≡ suc n = omega arith in
     stays (closes_last b.items n b.silent it closes here (sym (ap (λ (x : ℕ). fetch_in (b ∷ []) x) next) ∙ out))
@@ -113,7 +117,8 @@ item_all P items n k bs it all here = at_head (drop n items) (All-drop P n items
         let h : Here x ≡ Here it = here in
         let same : x ≡ it = cc in
         subst P same (all 0 x (omega arith))
-    at_head [] all here = elim bs as (λ z. front [] k z ≡ Here it → P it) [ [] ↦ (λ e. (let no : Outside ≡ Here it = e in cc)) | b ∷ rest ↦ (λ e. (let no : Silent k b.id ≡ Here it = e in cc)) ] here
+    at_head [] all here = elim bs as (λ z. front [] k z ≡ Here it →
+        P it) [ [] ↦ (λ e. (let no : Outside ≡ Here it = e in cc)) | b ∷ rest ↦ (λ e. (let no : Silent k b.id ≡ Here it = e in cc)) ] here
 
 -- ---- the whole function
 -- the block after a block that is there is there too
@@ -125,35 +130,44 @@ next_there (x ∷ xs) n b c cs e =
           let all : x ∷ xs ≡ b ∷ c ∷ cs = sym (ap (λ (t : Bool). cond t (x ∷ xs) (from_block xs n)) (eq-eqb x.id n h)) ∙ e in
           let rest : xs ≡ c ∷ cs = cc in
           contains_tail x.id c.id (ids_of xs) (subst (λ (ys : List Block). Contains (ids_of ys) c.id) (sym rest) (contains_head c.id (ids_of cs)))
-      | inr ne ↦ contains_tail x.id c.id (ids_of xs) (next_there xs n b c cs (sym (ap (λ (t : Bool). cond t (x ∷ xs) (from_block xs n)) (ne_eqb x.id n ne)) ∙ e))
+      | inr ne ↦ contains_tail x.id c.id (ids_of xs)
+          (next_there xs n b c cs (sym (ap (λ (t : Bool). cond t (x ∷ xs) (from_block xs n)) (ne_eqb x.id n ne)) ∙ e))
     ]
 
-edge_inside : (f : Function) → IsSound f → (p q : Pos) (blocks : List Block) → from_block f.blocks p.block ≡ blocks → LastCloses blocks → AllItems (λ i. TargetsIn (ids_of f.blocks) i.kind) blocks →
+edge_inside : (f : Function) → IsSound f → (p q : Pos) (blocks : List Block) → from_block f.blocks p.block ≡ blocks → LastCloses blocks →
+    AllItems (λ i. TargetsIn (ids_of f.blocks) i.kind) blocks →
     FetchEdge (λ n. n) (fetch_in blocks p.item) p q → IsPosition f.blocks q
 edge_inside f sound p q [] from closes targets edge = absurd closes
 edge_inside f sound p q (b ∷ bs) from closes targets edge = by_items (drop p.item b.items) bs from closes refl edge
   where
-    at_leads : (x : Item) (cs : List Block) → from_block f.blocks p.block ≡ b ∷ cs → LastCloses (b ∷ cs) → fetch_in (b ∷ cs) p.item ≡ Here x → LeadsOn (ids_of f.blocks) (exit_of x.kind) p q → IsPosition f.blocks q
+    at_leads : (x : Item) (cs : List Block) → from_block f.blocks p.block ≡ b ∷ cs → LastCloses (b ∷ cs) → fetch_in (b ∷ cs) p.item ≡ Here x →
+        LeadsOn (ids_of f.blocks) (exit_of x.kind) p q → IsPosition f.blocks q
     at_leads x cs from closes here (to_block n there same) = subst (λ (z : Pos). IsPosition f.blocks z) (sym same) (block_inside f.blocks n sound.last there)
     at_leads x cs from closes here (to_below same stays) =
-        subst (λ (z : Pos). IsPosition f.blocks z) (sym same) (λ out. below_inside b cs p.item x closes here stays (sym (ap (λ zs. fetch_in zs (p.item + 1)) from) ∙ out))
+        subst (λ (z : Pos). IsPosition f.blocks z) (sym same)
+        (λ out. below_inside b cs p.item x closes here stays (sym (ap (λ zs. fetch_in zs (p.item + 1)) from) ∙ out))
 
-    by_items : (xs : List Item) (cs : List Block) → from_block f.blocks p.block ≡ b ∷ cs → LastCloses (b ∷ cs) → drop p.item b.items ≡ xs → FetchEdge (λ n. n) (front xs b.silent cs) p q → IsPosition f.blocks q
+    by_items : (xs : List Item) (cs : List Block) → from_block f.blocks p.block ≡ b ∷ cs → LastCloses (b ∷ cs) → drop p.item b.items ≡ xs →
+        FetchEdge (λ n. n) (front xs b.silent cs) p q → IsPosition f.blocks q
     by_items (x ∷ xs) cs from closes is edge =
         let here : fetch_in (b ∷ cs) p.item ≡ Here x = ap (λ zs. front zs b.silent cs) is in
         let target = item_all (λ i. TargetsIn (ids_of f.blocks) i.kind) b.items p.item b.silent cs x (targets 0 b (omega arith)) here in
         at_leads x cs from closes here (kind_leads (ids_of f.blocks) x.kind p q target edge)
     by_items [] [] from closes is edge = absurd edge
-    by_items [] (c ∷ cs) from closes is edge = subst (λ (z : Pos). IsPosition f.blocks z) (sym edge) (block_inside f.blocks c.id sound.last (next_there f.blocks p.block b c cs from))
+    by_items [] (c ∷ cs) from closes is edge =
+        subst (λ (z : Pos). IsPosition f.blocks z) (sym edge) (block_inside f.blocks c.id sound.last (next_there f.blocks p.block b c cs from))
 
 -- a step from a position of the function leads to one
-stays_inside : (f : Function) → IsSound f → (p q : Pos) (i : ℕ) (r : SourceStep) → i < length f.blocks → from_block f.blocks p.block ≡ drop i f.blocks → IsPosition f.blocks p → GoesAlong (fetch_in (drop i f.blocks) p.item) r p q → IsPosition f.blocks q
-stays_inside f sound p q i Went lt from inside along = edge_inside f sound p q (drop i f.blocks) from (drop_closes f.blocks i sound.last lt) (All-drop (λ b. All (λ x. TargetsIn (ids_of f.blocks) x.kind) b.items) i f.blocks sound.targets) along
+stays_inside : (f : Function) → IsSound f → (p q : Pos) (i : ℕ) (r : SourceStep) → i < length f.blocks → from_block f.blocks p.block ≡ drop i f.blocks →
+    IsPosition f.blocks p → GoesAlong (fetch_in (drop i f.blocks) p.item) r p q → IsPosition f.blocks q
+stays_inside f sound p q i Went lt from inside along = edge_inside f sound p q (drop i f.blocks) from (drop_closes f.blocks i sound.last lt)
+    (All-drop (λ b. All (λ x. TargetsIn (ids_of f.blocks) x.kind) b.items) i f.blocks sound.targets) along
 stays_inside f sound p q i Returned lt from inside along = subst (λ (z : Pos). IsPosition f.blocks z) (sym along) inside
 stays_inside f sound p q i Faulted lt from inside along = subst (λ (z : Pos). IsPosition f.blocks z) (sym along) inside
 stays_inside f sound p q i Waits lt from inside along = subst (λ (z : Pos). IsPosition f.blocks z) (sym along) inside
 
-pub stays_inside_ok : (f : Function) → IsSound f → (old new : Concrete) (i : ℕ) → i < length f.blocks → from_block f.blocks old.pos.block ≡ drop i f.blocks → IsPosition f.blocks old.pos → (r : Result SourceStep AllocError) →
+pub stays_inside_ok : (f : Function) → IsSound f → (old new : Concrete) (i : ℕ) → i < length f.blocks → from_block f.blocks old.pos.block ≡ drop i f.blocks →
+    IsPosition f.blocks old.pos → (r : Result SourceStep AllocError) →
     IfOk r (λ o. GoesAlong (fetch_in (drop i f.blocks) old.pos.item) o old.pos new.pos) → OnErr r (new ≡ old) → IsPosition f.blocks new.pos
 stays_inside_ok f sound old new i lt from inside (Ok o) along same = stays_inside f sound old.pos new.pos i o lt from inside along
 stays_inside_ok f sound old new i lt from inside (Err x) along same = subst (λ (c : Concrete). IsPosition f.blocks c.pos) (sym same) inside

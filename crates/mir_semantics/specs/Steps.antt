@@ -73,5 +73,6 @@ pub record IsState (c : Concrete) (script : List Reply) (events : List Event) : 
 
 -- where a step returned and changed nothing, each later step returns too, whatever answer it is given
 abbrev pub ReturnsAgain : Type 0
-ReturnsAgain = (g : Program) (answer other : Option Answer) (r : SourceStep) (kept new : Concrete) → ((script : List Reply) (events : List Event) → IsState kept script events) →
+ReturnsAgain = (g : Program) (answer other : Option Answer) (r : SourceStep) (kept new : Concrete) →
+    ((script : List Reply) (events : List Event) → IsState kept script events) →
     Steps g answer Returned kept kept → Steps g other r kept new → r ≡ Returned

@@ -1,6 +1,7 @@
 //! What the parts of variables were assigned last.
 
-ghost use Rattle.std.specs.Prelude.{◌≡◌, ◌≤◌, ◌<◌, ◌+◌, ◌*◌, ◌%◌, ◌^◌, ℕ, [], ◌∷◌, List, Option, OnOk, OnErr, IfOk, IsTrue};
+ghost use Rattle.std.specs.Prelude.{◌≡◌, ◌≤◌, ◌<◌, ◌+◌, ◌*◌, ◌%◌, ◌^◌};
+ghost use Rattle.std.specs.Prelude.{ℕ, [], ◌∷◌, List, Option, OnOk, OnErr, IfOk, IsTrue};
 ghost use Rattle.mir_func.specs.declared.variable.VarId.{VarId};
 ghost use Rattle.mir_func.specs.Parts.{Bytes};
 ghost use Rattle.mir_func.specs.Variables.{are_same_bytes, do_meet, low_part};

@@ -1,6 +1,7 @@
 //! A run of a function as it was read, a step at a time.
 
-ghost use Rattle.std.specs.Prelude.{◌≡◌, ◌<◌, ◌+◌, ◌^◌, true, [], List, Option, Some, None, IfOk, OnErr, IsTrue, ◌↔◌, length};
+ghost use Rattle.std.specs.Prelude.{◌≡◌, ◌<◌, ◌+◌, ◌^◌, ◌↔◌, true, [], length};
+ghost use Rattle.std.specs.Prelude.{List, Option, Some, None, IfOk, OnErr, IsTrue};
 ghost use Rattle.std.specs.Option.{option_copied};
 ghost use Rattle.rv64_instr.specs.declared.start.Answer.{Answer};
 ghost use Rattle.mir_func.specs.declared.entry.Entry.{Entry};
@@ -10,7 +11,8 @@ ghost use Rattle.mir_func.specs.Graph.{Outside, program_of, fetch_in};
 ghost use Rattle.mir_func.specs.Resolve.{resolve};
 ghost use Rattle.mir_meaning.specs.Follow.{first_of};
 ghost use Rattle.mir_semantics.specs.StandsFor.{DoesItem, Holds, StandsFor, Starts, IsPosition, AreCounted};
-ghost use Rattle.mir_semantics.specs.Steps.{IsState, ReturnsAgain, Steps, StepsFrom, ChangesOnlyByGoing, GoesAlong, source_of, step_after, position_after};
+ghost use Rattle.mir_semantics.specs.Steps.{ReturnsAgain, Steps, StepsFrom, source_of};
+ghost use Rattle.mir_semantics.specs.Steps.{IsState, ChangesOnlyByGoing, GoesAlong, step_after, position_after};
 ghost use Rattle.rv64_instr.specs.Parts.{is_call};
 ghost use Rattle.rv64_instr.specs.Row.{row_of};
 
@@ -71,7 +73,8 @@ impl Model for SourceState {
 impl SourceState {
     /// The state at the start of a run of the function.
     pub fn new(alloc: Global, f: &Func, start: &Start) -> Result<SourceState, AllocError>
-        ensures stands { IfOk result (λ made. (s : State) → Starts f.now.objects f.now.blocks start.now s → StandsFor made s) }
+        ensures stands { IfOk result (λ made. (s : State)
+            → Starts f.now.objects f.now.blocks start.now s → StandsFor made s) }
         ensures at { IfOk result (λ made. IsPosition f.now.blocks made.pos) }
     {
         Ok(SourceState {
@@ -107,8 +110,8 @@ impl SourceState {
         self.machine.registers.hold_zero();
     }
 
-    /// What a part of a variable was assigned last. None where nothing was assigned to it yet, where its last assignment
-    /// gave no value, and where a part that overlaps it was assigned later.
+    /// What a part of a variable was assigned last. None where nothing was assigned to it yet, where its last
+    /// assignment gave no value, and where a part that overlaps it was assigned later.
     pub fn value_of(&self, v: &VarId) -> Option<u64>
         ensures { (s : State) → StandsFor self.now s → result ≡ assigned v.now s.core.marks }
     {
@@ -151,7 +154,8 @@ impl SourceState {
         ensures step { IfOk result (λ r. StepsFrom (fetch_in blocks.now self.old.pos.item) subs.now
             (option_copied answer.entry) r self.old self.new) }
         ensures stays { IfOk result (λ r. ChangesOnlyByGoing r self.old self.new) }
-        ensures edge { IfOk result (λ r. GoesAlong (fetch_in blocks.now self.old.pos.item) r self.old.pos self.new.pos) }
+        ensures edge { IfOk result (λ r.
+            GoesAlong (fetch_in blocks.now self.old.pos.item) r self.old.pos self.new.pos) }
         ensures memory { OnErr result (self.new ≡ self.old) }
     {
         let items = blocks[0].items.as_slice();

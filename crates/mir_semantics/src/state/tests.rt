@@ -342,8 +342,8 @@ const ENTRIES: [(u32, u32, u32); 5] = [
     (17, 14, 1),
 ];
 
-/// A mark of the whole has the value whole, and one of a part its low bytes. Parts that overlap it have none from then on,
-/// and other parts and variables keep theirs. 2^32 + 1 is 4,294,967,297.
+/// A mark of the whole has the value whole, and one of a part its low bytes. Parts that overlap it have none from then
+/// on, and other parts and variables keep theirs. 2^32 + 1 is 4,294,967,297.
 const PARTS: (&str, &str) = (
     "bb 0
        mark 1 4294967297
@@ -538,8 +538,8 @@ const OBJECTS: [(&str, &str); 4] = [
     ),
 ];
 
-/// Where an access of eight bytes at x10 is, and how the step ends: with the object the frame has the addresses 1,046,528
-/// to 1,048,559.
+/// Where an access of eight bytes at x10 is, and how the step ends: with the object the frame has the addresses
+/// 1,046,528 to 1,048,559.
 const OBJECT_EDGES: [(&str, u64, &str); 7] = [
     ("LD def:11 use:10 0", 1_046_520, "went 1 0 1"),
     ("LD def:11 use:10 0", 1_046_521, "faulted 2 0 0"),

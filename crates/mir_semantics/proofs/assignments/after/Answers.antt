@@ -18,7 +18,12 @@ loop-old-preserved c =
         w.in_ok-push-2.ensures.ok ∙ ap (λ xs. xs ++ o ∷ []) k.1,
         λ b h. turn_keeps b k.0 parts i o _ c.loop-old-test.true c.old-item.is (k.2 b h),
       )
-      | else-not-covers w ↦ rw w.made-is (k.0, k.1, λ b h. turn_drops b c.args.part.now k.0 parts i o _ c.loop-old-test.true c.old-item.is (w.if-not-covers.ensures refl) h (k.2 b h))
+      | else-not-covers w ↦ rw w.made-is (
+        k.0,
+        k.1,
+        λ b h. turn_drops b c.args.part.now k.0 parts i o _ c.loop-old-test.true c.old-item.is
+            (w.if-not-covers.ensures refl) h (k.2 b h),
+      )
     ]
 
 pub returns : goal.returns

@@ -4,4 +4,8 @@ use Rattle.mir_semantics.proofs.Loops.{from_apart}
 use Rattle.mir_semantics.proofs.blocks.find.Goals as goal
 
 pub returns-then-eq : goal.returns-then-eq
-returns-then-eq c = (c.if-i-blocks.true, from_apart c.args.blocks.now c.in-Some.i c.args.id c.index-blocks-i.result c.requires c.if-i-blocks.true (eqb-true _ _ (sym c.if-eq.ensures)))
+returns-then-eq c = (
+  c.if-i-blocks.true,
+  from_apart c.args.blocks.now c.in-Some.i c.args.id c.index-blocks-i.result c.requires c.if-i-blocks.true
+      (eqb-true _ _ (sym c.if-eq.ensures)),
+)

@@ -9,11 +9,13 @@ returns-in-Some c =
     let v = c.args.v.now in
     c.last_in.ensures
     ∙ ap (part_in v.fragment)
-    (c.as_slice.ensures ∙ ap (λ o. unwrap_or o []) c.in-Some.ensures.value ∙ ap (λ (k : ℕ × Option ℕ). unwrap_or (lookup (are_same_keys k) c.self.inside.parts.entries) []) c.key.ensures)
+    (c.as_slice.ensures ∙ ap (λ o. unwrap_or o []) c.in-Some.ensures.value
+    ∙ ap (λ (k : ℕ × Option ℕ). unwrap_or (lookup (are_same_keys k) c.self.inside.parts.entries) []) c.key.ensures)
     ∙ ap (assigned_in v) c.self.view_is
 
 pub returns-in-None : goal.returns-in-None
 returns-in-None c =
     let v = c.args.v.now in
-    ap (part_in v.fragment) (ap (λ o. unwrap_or o []) c.in-None.ensures.value ∙ ap (λ (k : ℕ × Option ℕ). unwrap_or (lookup (are_same_keys k) c.self.inside.parts.entries) []) c.key.ensures)
+    ap (part_in v.fragment) (ap (λ o. unwrap_or o []) c.in-None.ensures.value
+    ∙ ap (λ (k : ℕ × Option ℕ). unwrap_or (lookup (are_same_keys k) c.self.inside.parts.entries) []) c.key.ensures)
     ∙ ap (assigned_in v) c.self.view_is

@@ -12,4 +12,5 @@ returns-else-i-items-clause-step c =
     let items = ap length c.as_slice-items.ensures in
     let past : length (get_or blocks 0 c.index-blocks-0.result).items ≤ c.self.inside.pos.item = omega (arith, c.if-i-items.false, items) in
     rw (← c.self.view_is)
-    (silent_steps blocks c.index-blocks-0.result c.index-blocks-1.result _ c.args.subs.now (option_copied c.args.answer) _ (more_blocks blocks c.index-blocks-0.result c.self.inside.pos.item c.requires.some past at) past refl)
+    (silent_steps blocks c.index-blocks-0.result c.index-blocks-1.result _ c.args.subs.now (option_copied c.args.answer) _
+    (more_blocks blocks c.index-blocks-0.result c.self.inside.pos.item c.requires.some past at) past refl)
