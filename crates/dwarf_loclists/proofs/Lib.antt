@@ -3,3 +3,4 @@ pub mod SpellingLemmas
 pub mod OneLocation
 pub mod OneReading
 pub mod Places
+pub mod SplitLemmas
