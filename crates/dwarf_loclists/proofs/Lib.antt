@@ -4,3 +4,7 @@ pub mod OneLocation
 pub mod OneReading
 pub mod Places
 pub mod SplitLemmas
+pub mod ReaderLemmas
+pub mod LastLemmas
+pub mod EntryLemmas
+pub mod ListLemmas

@@ -172,12 +172,14 @@ left_on (Parts parts) i from rest p after left e is = go (drop i parts) refl lef
     go (q ∷ others) dropped are wide spelled =
         let found = piece_one from p q after _ is are.0 (sym e ∙ spelled) in
         let more = drop_more i parts q others dropped in
-        let same : q.offset + q.length ≡ p.offset + p.length = ap (λ (r : Part). r.offset + r.length) (sym found.0) in
-        ((
-          subst (λ (n : ℕ). ArePieces n (drop (i + 1) parts)) same (subst (ArePieces (q.offset + q.length)) (sym more.0) are.1),
-          subst (λ (ps : List Part). All (λ (r : Part). HasWord r.place) ps) (sym more.0) (All-rest (λ (r : Part). HasWord r.place) q others (q ∷ others) refl wide),
-          found.1 ∙ ap (λ (n : ℕ). composite_location n others) same ∙ ap (composite_location (p.offset + p.length)) (sym more.0),
-        ), more.1 ∙ ap Some (sym found.0))
+        let same : q.offset + q.length ≡ p.offset + p.length = ap (λ (r : Part). r.offset + r.length) (sym found.0) in (
+          (
+            subst (λ (n : ℕ). ArePieces n (drop (i + 1) parts)) same (subst (ArePieces (q.offset + q.length)) (sym more.0) are.1),
+            subst (λ (ps : List Part). All (λ (r : Part). HasWord r.place) ps) (sym more.0) (All-rest (λ (r : Part). HasWord r.place) q others (q ∷ others) refl wide),
+            found.1 ∙ ap (λ (n : ℕ). composite_location n others) same ∙ ap (composite_location (p.offset + p.length)) (sym more.0),
+          ),
+          more.1 ∙ ap Some (sym found.0),
+        )
 
 -- without a piece there is none from here on
 pub left_none : (l : Location) (i j from : ℕ) (rest : List ℕ) → Left l i from rest → i ≤ j
@@ -197,9 +199,10 @@ whole_front bytes (Whole q) p rest s e ok =
     let found = place_one q p [] rest s.located ok (append-nil (simple_location q) ∙ sym s.spelled ∙ e) in
     ((λ none. ap Some found.0), λ some. absurd (some (sym found.1)))
 whole_front bytes (Parts []) p rest s e ok = absurd s.located
-whole_front bytes (Parts (q ∷ parts)) p rest s e ok =
-    ((λ none. absurd (whole_no_piece p q _ ok s.located.0.4 (sym (append-nil (simple_location p)) ∙ ap (λ (xs : List ℕ). simple_location p ++ xs) (sym none) ∙ sym e ∙ s.spelled))),
-      λ some. refl)
+whole_front bytes (Parts (q ∷ parts)) p rest s e ok = (
+  (λ none. absurd (whole_no_piece p q _ ok s.located.0.4 (sym (append-nil (simple_location p)) ∙ ap (λ (xs : List ℕ). simple_location p ++ xs) (sym none) ∙ sym e ∙ s.spelled))),
+  λ some. refl,
+)
 
 pub no_front : (bytes : List ℕ) (l : Location) → Spells bytes l → ((p : Place) (rest : List ℕ) → IsListed p → HasWord p → bytes ≡ simple_location p ++ rest → ⊥)
     → whole_place (Some l) ≡ None
@@ -217,9 +220,10 @@ location_of_pieces bytes s some = go s.parts s.are s.wide s.spelled
 pub pieces_of_location : (bytes : List ℕ) (l : Location) → Spells bytes l → whole_place (Some l) ≡ None → SpellsPieces 0 bytes × (length bytes ≡ 0 → ⊥)
 pieces_of_location bytes (Whole p) s none = absurd cc
 pieces_of_location bytes (Parts []) s none = absurd s.located
-pieces_of_location bytes (Parts (p ∷ parts)) s none =
-    (record { parts = p ∷ parts; are = s.located; wide = s.wide; spelled = s.spelled },
-      λ empty. let shorter = piece_shorter 0 p bytes _ s.spelled in omega arith)
+pieces_of_location bytes (Parts (p ∷ parts)) s none = (
+  record { parts = p ∷ parts; are = s.located; wide = s.wide; spelled = s.spelled },
+  λ empty. let shorter = piece_shorter 0 p bytes _ s.spelled in omega arith,
+)
 
 pub not_empty : (xs : List ℕ) (b : Bool) → b ≡ (length xs == 0) → b ≡ false → xs ≡ [] → ⊥
 not_empty [] b is no_more e = absurd cc
@@ -232,3 +236,7 @@ is_empty (x ∷ xs) b is none = absurd (grind (arith, nat_tests))
 pub on_true : (b : Bool) (X : Type 0) → (b ≡ true → X) → OnTrue b X
 on_true true X h = h refl
 on_true false X h = tt
+
+pub at_true : (b : Bool) (X : Type 0) → b ≡ true → OnTrue b X → X
+at_true true X is h = h
+at_true false X is h = absurd cc

@@ -8,8 +8,12 @@
 
 pub mod constants;
 pub mod entry;
+pub mod fault;
+mod header;
+mod list_reader;
 pub mod location;
 pub mod range;
+pub mod reader;
 pub mod reading;
 pub mod section;
 mod split;

@@ -38,13 +38,7 @@ pub fn whole(bytes: &[u8]) -> Option<Place>
     ensures only { IfSome result (λ p. Spells bytes.now (Whole p)) }
 {
     match split_place(bytes) {
-        Some((place, rest)) => {
-            if rest.is_empty() {
-                Some(place)
-            } else {
-                None
-            }
-        }
+        Some((place, rest)) => { if rest.is_empty() { Some(place) } else { None } }
         None => None,
     }
 }

@@ -3,7 +3,9 @@
 ghost use Rattle.std.specs.Prelude.{IsTrue, All, ℕ};
 ghost use Rattle.dwarf_loclists.specs.Ranges.{IsListed, ArePieces, IsLocated, Ascend, ArePlaces};
 
+use crate::fault::ListFault;
 use crate::range::{Location, Part, Range, RangeLists};
+use crate::reader::list_count;
 use crate::section::{lists_size, write_lists};
 use lists::List;
 use rv64_instr::place::Place;
@@ -229,4 +231,43 @@ fn pieces(rt: HostRuntime) -> Result<(), Fail> {
     ];
     assert_eq!(rt; behind.as_slice(), want.as_slice());
     Ok(())
+}
+
+/// Row 1's section with one byte changed, and what a reader says of it.
+#[test]
+fn damaged_lists(rt: HostRuntime) -> Result<(), Fail> {
+    let good = [
+        0x12, 0, 0, 0, 5, 0, 8, 0, 1, 0, 0, 0, 4, 0, 0, 0, 4, 0, 8, 1, 0x5a, 0,
+    ];
+    assert_eq!(rt; list_count(&good), Ok(1));
+    for (index, value, at) in [
+        (0, 0x13, 0),
+        (4, 4, 4),
+        (6, 4, 6),
+        (7, 1, 7),
+        (8, 2, 12),
+        (12, 5, 12),
+        (16, 5, 16),
+        (17, 8, 18),
+        (18, 0, 18),
+        (20, 0x52, 20),
+        (21, 1, 21),
+    ] {
+        let mut bytes = good;
+        bytes[index] = value;
+        assert_eq!(rt; list_count(&bytes), Err(ListFault { at }));
+    }
+    Ok(())
+}
+
+/// Each proper prefix of a section is wrong from its length on.
+#[test]
+fn prefixes(rt: HostRuntime) {
+    let whole = [
+        0x26, 0, 0, 0, 5, 0, 8, 0, 2, 0, 0, 0, 8, 0, 0, 0, 21, 0, 0, 0, 4, 0, 4, 6, 0x5a, 0x93, 4,
+        0x5b, 0x93, 4, 0x04, 4, 8, 5, 0x93, 4, 0x5a, 0x93, 4, 0, 0, 0,
+    ];
+    for n in 0..whole.len() {
+        assert_eq!(rt; list_count(&whole[..n]), Err(ListFault { at: 0 }));
+    }
 }

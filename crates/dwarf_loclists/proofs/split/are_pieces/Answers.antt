@@ -3,10 +3,11 @@ use Rattle.dwarf_loclists.proofs.SplitLemmas.{pieces_on, pieces_back, no_pieces,
 use Rattle.dwarf_loclists.proofs.split.are_pieces.Goals as goal
 
 pub returns-in-None : goal.returns-in-None
-returns-in-None c =
-    ((λ h. absurd cc),
-      λ s. absurd (not_empty c.loop-rest.rest.now _ c.is_empty.ensures c.loop-rest-test.true
-        (no_pieces c.loop-rest.from c.loop-rest.rest.now c.in-None.ensures.none (c.loop-rest.invariant.back s))))
+returns-in-None c = (
+  (λ h. absurd cc),
+  λ s. absurd (not_empty c.loop-rest.rest.now _ c.is_empty.ensures c.loop-rest-test.true
+      (no_pieces c.loop-rest.from c.loop-rest.rest.now c.in-None.ensures.none (c.loop-rest.invariant.back s))),
+)
 
 pub loop-rest-preserved : goal.loop-rest-preserved
 loop-rest-preserved c = record {

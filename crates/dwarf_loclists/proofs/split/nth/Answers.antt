@@ -14,7 +14,7 @@ pub returns-in-Some-split_piece : goal.returns-in-Some-split_piece
 returns-in-Some-split_piece c = λ l s.
     let at : c.loop.counter ≡ c.args.n = omega arith in
     sym (left_on l c.loop.counter c.loop.from c.loop.rest.now c.in-Some-split_piece.part c.in-Some-split_piece.field-0-1.now (c.loop.invariant l s)
-      c.in-Some-split_piece.ensures.some c.in-Some-split_piece.ensures.is).1
+    c.in-Some-split_piece.ensures.some c.in-Some-split_piece.ensures.is).1
     ∙ ap (nth_piece (Some l)) at
 
 pub returns-in-None-split_piece : goal.returns-in-None-split_piece

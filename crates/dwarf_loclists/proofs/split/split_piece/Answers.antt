@@ -8,9 +8,9 @@ use Rattle.dwarf_loclists.proofs.split.split_piece.Goals.{then-length-eq0-via-th
 pub returns-in_err-operation-clause-none : goal.returns-in_err-operation-clause-none
 returns-in_err-operation-clause-none c = rw c.from_residual-in_err-operation.ensures
     (λ p rest ok wide e.
-      let b = behind_place c.args.from c.in_ok-offset.offset c.in-Some.place c.args.bytes.now c.in_ok-offset.after.now c.in-Some.after.now p rest c.in_ok-offset.ensures.only
-      c.in-Some.ensures.some c.in-Some.ensures.listed ok e in
-      omega (arith, ap length b.2, c.in_err-operation.ensures.cases))
+    let b = behind_place c.args.from c.in_ok-offset.offset c.in-Some.place c.args.bytes.now c.in_ok-offset.after.now c.in-Some.after.now p rest c.in_ok-offset.ensures.only
+    c.in-Some.ensures.some c.in-Some.ensures.listed ok e in
+    omega (arith, ap length b.2, c.in_err-operation.ensures.cases))
 
 pub returns-then-operation-clause-none : goal.returns-then-operation-clause-none
 returns-then-operation-clause-none c = λ p rest ok wide e.
@@ -21,10 +21,10 @@ returns-then-operation-clause-none c = λ p rest ok wide e.
 pub returns-in_err-length-clause-none : goal.returns-in_err-length-clause-none
 returns-in_err-length-clause-none c = rw c.from_residual-in_err-length.ensures
     (λ p rest ok wide e.
-      let b = behind_place c.args.from c.in_ok-offset.offset c.in-Some.place c.args.bytes.now c.in_ok-offset.after.now c.in-Some.after.now p rest c.in_ok-offset.ensures.only
-      c.in-Some.ensures.some c.in-Some.ensures.listed ok e in
-      c.in_err-length.ensures.none p.length rest (omega (arith, ok.2))
-      (tails_one c.in_ok-operation.operation.now 147 _ _ (sym c.in_ok-operation.ensures.cases.0 ∙ b.2)))
+    let b = behind_place c.args.from c.in_ok-offset.offset c.in-Some.place c.args.bytes.now c.in_ok-offset.after.now c.in-Some.after.now p rest c.in_ok-offset.ensures.only
+    c.in-Some.ensures.some c.in-Some.ensures.listed ok e in
+    c.in_err-length.ensures.none p.length rest (omega (arith, ok.2))
+    (tails_one c.in_ok-operation.operation.now 147 _ _ (sym c.in_ok-operation.ensures.cases.0 ∙ b.2)))
 
 pub returns-then-length-eq0-clause-none : goal.returns-then-length-eq0-clause-none
 returns-then-length-eq0-clause-none c = λ p rest ok wide e.
