@@ -8,3 +8,5 @@ pub mod ReaderLemmas
 pub mod LastLemmas
 pub mod EntryLemmas
 pub mod ListLemmas
+pub mod WholeLemmas
+pub mod FoundLemmas

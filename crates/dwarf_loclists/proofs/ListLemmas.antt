@@ -3,9 +3,9 @@ use Rattle.std.specs.Prelude.{◌≢◌, All, Option, Some, None, slice_get, nat
 use Rattle.std.specs.Option.{option_map}
 use Rattle.std.specs.List.{flat_map}
 use Rattle.std.specs.Int.{w32, to_le_bytes}
-use Rattle.std.proofs.Common.{◌≡◌, ◌⊎◌, ℕ, zero, suc, ◌+◌, ◌-◌, ◌*◌, ◌^◌, ◌<◌, ◌≤◌, List, [], ◌∷◌, ◌++◌, length, drop, arith, ap, sym, subst, ◌∙◌, refl, length-append, append-nil, inl, inr}
+use Rattle.std.proofs.Common.{◌≡◌, ◌⊎◌, ℕ, zero, suc, ◌+◌, ◌-◌, ◌*◌, ◌^◌, ◌<◌, ◌≤◌, List, [], ◌∷◌, ◌++◌, length, drop, arith, ap, sym, subst, ◌∙◌, refl, length-append, append-nil, length-drop, take, inl, inr}
 use Rattle.std.proofs.lemmas.Bool.Decides.{nat_tests}
-use Rattle.std.proofs.lemmas.List.{drop-drop}
+use Rattle.std.proofs.lemmas.List.{drop-drop, take_all}
 use Rattle.std.proofs.lemmas.List.Concat.{flat_map-append}
 use Rattle.std.proofs.lemmas.List.Prefix.{front_rest}
 use Rattle.dwarf_loclists.specs.declared.range.Location.{Location}
@@ -159,12 +159,13 @@ pub no_lists : (bytes : List ℕ) (n k address : ℕ) (table rest : List ℕ) �
 no_lists bytes n k address table rest a = record { done = []; at = a; count = refl; is = refl }
 
 pub lists_end : (bytes : List ℕ) (n number k address : ℕ) (found : Option (List ℕ)) (table rest : List ℕ) → ListsRead bytes n number k address found table rest → n ≤ number
-    → rest ≡ [] → AllRead bytes k address found
+    → rest ≡ [] → AllRead bytes n k address found
 lists_end bytes n number k address found table rest r end empty =
     let all : length r.done ≡ n = omega (arith, r.count, r.at.count) in
     record {
       lists = r.done;
       reached = onward r.at.reached (record { here = []; rest = drop (first_byte (ListOffset n r.done)) bytes; stands = refl; may = inr (all, omega (arith, r.at.within, ap length empty), refl, refl) });
+      all = all;
       is = r.is;
     }
 
@@ -191,3 +192,13 @@ lists_past bytes n number k address at found table rest r end some is =
     nothing : (xs : List ℕ) → length xs ≡ 0 → xs ≡ []
     nothing [] none = refl
     nothing (x ∷ xs) none = absurd (omega arith)
+
+pub whole_slice : (m : ℕ) (bytes : List ℕ) → take (length bytes - m) (drop m bytes) ≡ drop m bytes
+whole_slice m bytes = take_all (length bytes - m) (drop m bytes) (omega (arith, length-drop m bytes))
+
+-- a list's offset, counted from the end
+pub offset_is : (bytes : List ℕ) (n : ℕ) (done : List (List Range)) (table rest : List ℕ) → AtLists bytes n done table rest → (field : List ℕ)
+    → field ≡ to_le_bytes w32 (length bytes - 12 - length rest) → field ≡ to_le_bytes w32 (4 * n + length (bodies done))
+offset_is bytes n done table rest a field is =
+    let same : length bytes - 12 - length rest ≡ 4 * n + length (bodies done) = omega (arith, a.within) in
+    is ∙ ap (to_le_bytes w32) same

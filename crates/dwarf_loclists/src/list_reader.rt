@@ -49,7 +49,7 @@ pub fn read_lists(
 ) -> Result<Option<&[u8]>, ListFault>
     requires at { AtLists bytes.now count [] (drop 12 bytes.now) (drop (12 + 4 * count) bytes.now) }
     requires size { length bytes.now < 4 + Standard.LENGTH_LIMIT }
-    ensures ok { IfOk result (λ found. AllRead bytes.now k address (option_copied found)) }
+    ensures ok { IfOk result (λ found. AllRead bytes.now count k address (option_copied found)) }
     ensures err { IfErr result (λ f. FaultAt bytes.now f.at) }
 {
     let mut table = &bytes[HEADER..];

@@ -71,7 +71,8 @@ pub record ListsRead (bytes : List ℕ) (n number k address : ℕ) (found : Opti
   pub is : found ≡ option_map expression (location_of done k address)
 
 -- all lists were read
-pub record AllRead (bytes : List ℕ) (k address : ℕ) (found : Option (List ℕ)) : Type 0 where
+pub record AllRead (bytes : List ℕ) (n k address : ℕ) (found : Option (List ℕ)) : Type 0 where
   pub lists : List (List Range)
   pub reached : Reaches bytes (Nothing lists)
+  pub all : length lists ≡ n
   pub is : found ≡ option_map expression (location_of lists k address)
