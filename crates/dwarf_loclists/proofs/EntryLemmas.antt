@@ -18,7 +18,7 @@ use Rattle.dwarf_loclists.proofs.ReaderLemmas.{step, stuck}
 use Rattle.dwarf_loclists.proofs.LastLemmas.{last_more}
 
 -- how many bytes an entry more takes
-entry_size : (ranges : List Range) (r : Range) → length (flat_map entry (ranges ++ r ∷ []))
+pub entry_size : (ranges : List Range) (r : Range) → length (flat_map entry (ranges ++ r ∷ []))
     ≡ length (flat_map entry ranges) + (1 + length (uleb_of r.lo) + length (uleb_of r.hi) + length (uleb_of (length (expression r.location))) + length (expression r.location))
 entry_size ranges r =
     let whole : length (flat_map entry (ranges ++ r ∷ [])) ≡ length (flat_map entry ranges ++ flat_map entry (r ∷ [])) = ap length (flat_map-append entry ranges (r ∷ [])) in
@@ -48,9 +48,9 @@ module _ (bytes : List ℕ) (n : ℕ) (done : List (List Range)) (ranges : List 
   start_low rest after last lo end at s l e below is =
       stuck bytes (StartOffset n done ranges) rest at s (λ done e. cc) is
       (λ here behind next split m.
-        let found = uleb_one lo m.0 after behind (sym e ∙ split ∙ ap (λ (xs : List ℕ). xs ++ behind) m.3) in
-        let from = l.ends m.0 m.2 in
-        omega (arith, found.0, from))
+      let found = uleb_one lo m.0 after behind (sym e ∙ split ∙ ap (λ (xs : List ℕ). xs ++ behind) m.3) in
+      let from = l.ends m.0 m.2 in
+      omega (arith, found.0, from))
 
   pub end_on : (rest after : List ℕ) (lo hi : ℕ) → StandsAt bytes (EndOffset n done ranges lo) rest → rest ≡ uleb_of hi ++ after → hi < 2 ^ 64 → lo < hi
       → StandsAt bytes (ExpressionLength n done ranges lo hi) after
@@ -67,8 +67,8 @@ module _ (bytes : List ℕ) (n : ℕ) (done : List (List Range)) (ranges : List 
   end_low rest after lo hi at s e below is =
       stuck bytes (EndOffset n done ranges lo) rest at s (λ done e. cc) is
       (λ here behind next split m.
-        let found = uleb_one hi m.0 after behind (sym e ∙ split ∙ ap (λ (xs : List ℕ). xs ++ behind) m.3) in
-        omega (arith, found.0, m.2))
+      let found = uleb_one hi m.0 after behind (sym e ∙ split ∙ ap (λ (xs : List ℕ). xs ++ behind) m.3) in
+      omega (arith, found.0, m.2))
 
   pub length_on : (rest after : List ℕ) (lo hi len : ℕ) → StandsAt bytes (ExpressionLength n done ranges lo hi) rest → rest ≡ uleb_of len ++ after → len < 2 ^ 64
       → StandsAt bytes (Expression n done ranges lo hi len) after
@@ -102,7 +102,7 @@ module _ (bytes : List ℕ) (n : ℕ) (done : List (List Range)) (ranges : List 
   expression_same rest last lo hi len end at s room l touch same is =
       stuck bytes (Expression n done ranges lo hi len) rest at s (λ done e. cc) is
       (λ here behind next split m.
-        l.same (record { lo = lo; hi = hi; location = m.0 }) m.1.located m.3 touch (sym m.1.spelled ∙ the_front rest here behind len room split m.2 ∙ same))
+      l.same (record { lo = lo; hi = hi; location = m.0 }) m.1.located m.3 touch (sym m.1.spelled ∙ the_front rest here behind len room split m.2 ∙ same))
 
   pub entry_on : (rest last : List ℕ) (lo hi len end : ℕ) (location : Location) → StandsAt bytes (Expression n done ranges lo hi len) rest → len ≤ length rest
       → Last ranges end last → end ≤ lo → lo < hi → Spells (take len rest) location → (lo ≡ end → take len rest ≢ last)
@@ -115,7 +115,7 @@ module _ (bytes : List ℕ) (n : ℕ) (done : List (List Range)) (ranges : List 
         location = location;
         spells = spells;
         stands = step bytes (Expression n done ranges lo hi len) (EntryKind n done (ranges ++ r ∷ [])) (take len rest) rest (drop len rest) s (sym (take-append-drop len rest))
-          (location, spells, size, ascend, refl) (omega (arith, entry_size ranges r, ap length spells.spelled, ap (λ (m : ℕ). length (uleb_of m)) (sym (ap length spells.spelled) ∙ size), size));
+            (location, spells, size, ascend, refl) (omega (arith, entry_size ranges r, ap length spells.spelled, ap (λ (m : ℕ). length (uleb_of m)) (sym (ap length spells.spelled) ∙ size), size));
         last = subst (λ (xs : List ℕ). Last (ranges ++ r ∷ []) hi xs) (sym spells.spelled) (last_more ranges r ascend spells.located);
         order = order;
         before = l.begins lo from;

@@ -10,3 +10,5 @@ pub mod EntryLemmas
 pub mod ListLemmas
 pub mod WholeLemmas
 pub mod FoundLemmas
+pub mod OneFault
+pub mod Sections

@@ -19,7 +19,7 @@ use Rattle.dwarf_loclists.proofs.ReaderLemmas.{step, stuck}
 use Rattle.dwarf_loclists.proofs.LastLemmas.{last_none, found_last, found_before}
 
 -- how many bytes a list more takes
-bodies_size : (done : List (List Range)) (ranges : List Range) → length (bodies (done ++ ranges ∷ [])) ≡ length (bodies done) + (length (flat_map entry ranges) + 1)
+pub bodies_size : (done : List (List Range)) (ranges : List Range) → length (bodies (done ++ ranges ∷ [])) ≡ length (bodies done) + (length (flat_map entry ranges) + 1)
 bodies_size done ranges =
     omega (
       arith,
@@ -35,10 +35,10 @@ module _ (bytes : List ℕ) (n : ℕ) (done : List (List Range)) where
   kind_none ranges rest at s is no_end no_pair =
       stuck bytes (EntryKind n done ranges) rest at s (λ done e. cc) is
       (λ here behind next split m.
-        elim m [
-          | inl end ↦ no_end behind (split ∙ ap (λ (xs : List ℕ). xs ++ behind) end.0)
-          | inr pair ↦ no_pair behind (split ∙ ap (λ (xs : List ℕ). xs ++ behind) pair.0)
-        ])
+      elim m [
+        | inl end ↦ no_end behind (split ∙ ap (λ (xs : List ℕ). xs ++ behind) end.0)
+        | inr pair ↦ no_pair behind (split ∙ ap (λ (xs : List ℕ). xs ++ behind) pair.0)
+      ])
 
   pub kind_pair : (ranges : List Range) (rest behind : List ℕ) → StandsAt bytes (EntryKind n done ranges) rest → rest ≡ 4 ∷ behind
       → StandsAt bytes (StartOffset n done ranges) behind
@@ -79,7 +79,7 @@ module _ (bytes : List ℕ) (n : ℕ) (done : List (List Range)) where
             ];
       }
 
-at_offset : (bytes : List ℕ) (n : ℕ) (done : List (List Range)) (table rest : List ℕ) → AtLists bytes n done table rest → length done < n
+pub at_offset : (bytes : List ℕ) (n : ℕ) (done : List (List Range)) (table rest : List ℕ) → AtLists bytes n done table rest → length done < n
     → StandsAt bytes (ListOffset n done) table
 at_offset bytes n done table rest a more =
     let place : first_byte (ListOffset n done) ≡ 12 + 4 * length done = grind (arith, nat_tests) in

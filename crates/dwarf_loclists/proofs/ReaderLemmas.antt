@@ -34,9 +34,10 @@ at_start bytes = record { reached = begin; here = refl; within = omega arith }
 -- the length that is right, and the only one
 pub length_field : (bytes : List ℕ) → 4 ≤ length bytes → length bytes - 4 < 4294967280 → (field : List ℕ) → field ≡ to_le_bytes w32 (length bytes - 4)
     → MayBe (length bytes) UnitLength field Version × ((xs : List ℕ) (next : Field) → MayBe (length bytes) UnitLength xs next → xs ≡ field)
-length_field bytes some small field is =
-    ((length bytes - 4, small, omega arith, is, refl),
-      λ xs next m. m.3 ∙ ap (to_le_bytes w32) (let after : m.0 ≡ length bytes - 4 = omega (arith, m.2) in after) ∙ sym is)
+length_field bytes some small field is = (
+  (length bytes - 4, small, omega arith, is, refl),
+  λ xs next m. m.3 ∙ ap (to_le_bytes w32) (let after : m.0 ≡ length bytes - 4 = omega (arith, m.2) in after) ∙ sym is,
+)
 
 pub wrong_length : (bytes : List ℕ) → ((n : ℕ) → n < 4294967280 → length bytes ≡ 4 + n → ⊥) → FaultAt bytes 0
 wrong_length bytes none = record {
@@ -66,10 +67,10 @@ pub count_too_large : (bytes rest after : List ℕ) (n at : ℕ) → StandsAt by
 count_too_large bytes rest after n at s e fits room is =
     stuck bytes OffsetEntryCount rest at s (λ done e. cc) is
     (λ here behind next split m.
-      let front = cut (to_le_bytes w32 n) (to_le_bytes w32 m.0) after behind refl (sym e ∙ split ∙ ap (λ (xs : List ℕ). xs ++ behind) m.3) in
-      let same : n ≡ m.0 = sym (from_le_bytes-to_le_bytes_4 n fits) ∙ ap (from_le_bytes w32) front.0 ∙ from_le_bytes-to_le_bytes_4 m.0 m.1 in
-      let size : length rest ≡ 4 + length after = omega (arith, ap length e) in
-      omega (arith, same, m.2, s.within))
+    let front = cut (to_le_bytes w32 n) (to_le_bytes w32 m.0) after behind refl (sym e ∙ split ∙ ap (λ (xs : List ℕ). xs ++ behind) m.3) in
+    let same : n ≡ m.0 = sym (from_le_bytes-to_le_bytes_4 n fits) ∙ ap (from_le_bytes w32) front.0 ∙ from_le_bytes-to_le_bytes_4 m.0 m.1 in
+    let size : length rest ≡ 4 + length after = omega (arith, ap length e) in
+    omega (arith, same, m.2, s.within))
 
 pub count_cut : (bytes rest : List ℕ) (at : ℕ) → StandsAt bytes OffsetEntryCount rest → length rest < 4 → at + length rest ≡ length bytes → FaultAt bytes at
 count_cut bytes rest at s short is =

@@ -100,8 +100,8 @@ offsets_push first [] ranges =
 offsets_push first (d ∷ done) ranges =
     let size : (first + length (list_spelling d)) + length (bodies done) ≡ first + length (bodies (d ∷ done)) = omega (arith, length-append (list_spelling d) (bodies done)) in
     ap (λ (xs : List ℕ). to_le_bytes w32 first ++ xs)
-      (offsets_push (first + length (list_spelling d)) done ranges
-      ∙ ap (λ (m : ℕ). offsets_from (first + length (list_spelling d)) done ++ to_le_bytes w32 m) size)
+    (offsets_push (first + length (list_spelling d)) done ranges
+    ∙ ap (λ (m : ℕ). offsets_from (first + length (list_spelling d)) done ++ to_le_bytes w32 m) size)
     ∙ sym (append_assoc (to_le_bytes w32 first) (offsets_from (first + length (list_spelling d)) done) (to_le_bytes w32 (first + length (bodies (d ∷ done)))))
 
 bodies_push : (done : List (List Range)) (ranges : List Range) → ((bodies done ++ flat_map entry ranges) ++ []) ++ 0 ∷ [] ≡ bodies (done ++ ranges ∷ [])
@@ -263,16 +263,19 @@ one_more bytes (EndOffset n done ranges lo) next b r =
     (grown bytes n done ranges (4 ∷ uleb_of lo) (uleb_of r.may.0) r.rest at b.0 (omega arith) (moved bytes r.here r.rest (uleb_of r.may.0) at r.stands r.may.3), b.1, r.may.1)
 one_more bytes (ExpressionLength n done ranges lo hi) next b r =
     let at : ℕ = first_byte (ExpressionLength n done ranges lo hi) in
-    subst (Before bytes) (sym r.may.3)
-    (grown bytes n done ranges (4 ∷ uleb_of lo ++ uleb_of hi) (uleb_of r.may.0) r.rest at b.0 (omega (arith, length-append (uleb_of lo) (uleb_of hi)))
-      (moved bytes r.here r.rest (uleb_of r.may.0) at r.stands r.may.2), b.1, b.2)
+    subst (Before bytes) (sym r.may.3) (
+      grown bytes n done ranges (4 ∷ uleb_of lo ++ uleb_of hi) (uleb_of r.may.0) r.rest at b.0 (omega (arith, length-append (uleb_of lo) (uleb_of hi)))
+          (moved bytes r.here r.rest (uleb_of r.may.0) at r.stands r.may.2),
+      b.1,
+      b.2,
+    )
 one_more bytes (Expression n done ranges lo hi len) next b r =
     let one : Range = record { lo = lo; hi = hi; location = r.may.0 } in
     let at : ℕ = first_byte (Expression n done ranges lo hi len) in
     subst (Before bytes) (sym r.may.4)
     (range_done bytes n done ranges one len r.here r.rest at b.0
-      (omega (arith, length-append (4 ∷ uleb_of lo ++ uleb_of hi) (uleb_of len), length-append (uleb_of lo) (uleb_of hi)))
-      r.stands r.may.1.spelled r.may.2 r.may.3 r.may.1.located (b.1, b.2, r.may.1.wide))
+    (omega (arith, length-append (4 ∷ uleb_of lo ++ uleb_of hi) (uleb_of len), length-append (uleb_of lo) (uleb_of hi)))
+    r.stands r.may.1.spelled r.may.2 r.may.3 r.may.1.located (b.1, b.2, r.may.1.wide))
 one_more bytes (Nothing done) next b r = absurd r.may
 
 pub what_stands : (bytes : List ℕ) (f : Field) → Reaches bytes f → Before bytes f

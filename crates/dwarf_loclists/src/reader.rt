@@ -15,6 +15,8 @@ use rv64_instr::place::Place;
 /// How many lists a section has. It takes no memory.
 pub fn list_count(bytes: &[u8]) -> Result<u32, ListFault>
     ensures ok { IfOk result (λ n. (lists : List (List Range)) × IsSection bytes.now lists × (n ≡ length lists)) }
+    // So a list number below the count is one that `place_at` and `piece_at` take.
+    ensures count { IfOk result (λ n. (lists : List (List Range)) → IsSection bytes.now lists → n ≡ length lists) }
     ensures err { IfErr result (λ f. FaultAt bytes.now f.at) }
 {
     let count = read_header(bytes)?;

@@ -9,10 +9,10 @@ pub returns-then-bytes-lt-LENGTH-clause-err : goal.returns-then-bytes-lt-LENGTH-
 returns-then-bytes-lt-LENGTH-clause-err c =
     wrong_length c.args.bytes.now
     (λ n small is.
-      elim c.then-bytes-lt-LENGTH.branch [
-        | then-bytes-lt-LENGTH-via-then-bytes-lt-LENGTH w ↦ omega (arith, w.if-bytes-lt-LENGTH.true)
-        | then-bytes-lt-LENGTH-via-else-bytes-lt-LENGTH+then-bytes-ge-LENGTH_LIMIT w ↦ omega (arith, w.if-bytes-ge-LENGTH_LIMIT.true)
-      ])
+    elim c.then-bytes-lt-LENGTH.branch [
+      | then-bytes-lt-LENGTH-via-then-bytes-lt-LENGTH w ↦ omega (arith, w.if-bytes-lt-LENGTH.true)
+      | then-bytes-lt-LENGTH-via-else-bytes-lt-LENGTH+then-bytes-ge-LENGTH_LIMIT w ↦ omega (arith, w.if-bytes-ge-LENGTH_LIMIT.true)
+    ])
 
 pub returns-in_err-rest-clause-err : goal.returns-in_err-rest-clause-err
 returns-in_err-rest-clause-err c =

@@ -58,8 +58,8 @@ returns-then-not-is_expression-clause-err c = λ n done ranges s l.
     c.in_ok-len.ensures.fits in
     expression_wrong c.args.bytes.now n done ranges c.in_ok-len.rest.now c.in_ok-lo.lo c.in_ok-hi.hi c.in_ok-len.len _ s3 c.if-len-rest.false
     (λ location spells.
-      true≢false
-        (sym (c.is_expression.ensures.no location (subst (λ (xs : List ℕ). Spells xs location) (sym c.split_at.ensures.front) spells)) ∙ c.if-not-is_expression.true))
+    true≢false
+    (sym (c.is_expression.ensures.no location (subst (λ (xs : List ℕ). Spells xs location) (sym c.split_at.ensures.front) spells)) ∙ c.if-not-is_expression.true))
     c.at-then-not-is_expression.ensures
 
 pub returns-then-repeats-clause-err : goal.returns-then-repeats-clause-err

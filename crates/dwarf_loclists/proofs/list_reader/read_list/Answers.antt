@@ -15,8 +15,8 @@ pub returns-in_err-kind-clause-err : goal.returns-in_err-kind-clause-err
 returns-in_err-kind-clause-err c =
     let p = err_from_is_err_and c.from_residual.result c.from_residual.ensures.1 in
     rw (p.1, p.2) (λ n done s.
-      let r = c.loop-kind.invariant.so_far n done s in
-      kind_none c.args.bytes.now n done r.ranges c.loop-kind.rest.now _ r.stands c.in_err-kind.ensures.at c.in_err-kind.ensures.no_end c.in_err-kind.ensures.no_pair)
+    let r = c.loop-kind.invariant.so_far n done s in
+    kind_none c.args.bytes.now n done r.ranges c.loop-kind.rest.now _ r.stands c.in_err-kind.ensures.at c.in_err-kind.ensures.no_end c.in_err-kind.ensures.no_pair)
 
 pub returns-then-kind-eq-DW_LLE_end_of_list-clause-ok : goal.returns-then-kind-eq-DW_LLE_end_of_list-clause-ok
 returns-then-kind-eq-DW_LLE_end_of_list-clause-ok c = λ n done s.
@@ -43,11 +43,14 @@ loop-kind-preserved c =
           let k = kind_pair c.args.bytes.now n done r.ranges c.loop-kind.rest.now c.in_ok-kind.after.now r.stands (c.in_ok-kind.ensures.front ∙ ap (λ (b : ℕ). b ∷ c.in_ok-kind.after.now) four) in
           range_more c.args.bytes.now n done c.args.address c.loop-kind.last.hi c.loop-kind.last.expression.now _ c.loop-kind.rest.now c.in_ok-kind.after.now c.in_ok-entry.after.now
           c.in_ok-entry.entry.lo c.in_ok-entry.entry.hi c.in_ok-entry.entry.expression.now r (c.in_ok-entry.ensures.ok n done r.ranges k r.last) (option_copied c.loop-kind.found)
-          (inr ((λ from below.
-            elim c.else-entry-address.branch [
-              | else-entry-address-via-then-entry-address+else-address-entry w ↦ omega (arith, w.if-address-entry.false)
-              | else-entry-address-via-else-entry-address w ↦ omega (arith, w.if-entry-address.false)
-            ]), refl));
+          (inr (
+            (λ from below.
+                elim c.else-entry-address.branch [
+                  | else-entry-address-via-then-entry-address+else-address-entry w ↦ omega (arith, w.if-address-entry.false)
+                  | else-entry-address-via-else-entry-address w ↦ omega (arith, w.if-entry-address.false)
+                ]),
+            refl,
+          ));
     }
 
 pub loop-kind-preserved-then-address-entry : goal.loop-kind-preserved-then-address-entry

@@ -9,7 +9,7 @@ abbrev pub invariant-loop-kind : goal.invariant-loop-kind
 invariant-loop-kind l = record {
   short : length l.rest ≤ length l.bytes;
   so_far : (n : ℕ) (done : List (List Range)) → StandsAt l.bytes (EntryKind n done []) l.start
-    → RangesRead l.bytes n done l.address l.last.hi l.last.expression.now (option_copied l.found) l.rest;
+      → RangesRead l.bytes n done l.address l.last.hi l.last.expression.now (option_copied l.found) l.rest;
 }
 
 abbrev pub decreases-loop-kind : goal.decreases-loop-kind
