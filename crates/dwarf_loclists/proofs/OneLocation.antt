@@ -104,11 +104,11 @@ piece_one from p q x y ok_p ok_q e =
           ]
     ]
 
-some_end : (xs ys : List ℕ) (m : ℕ) → xs ++ (m ∷ ys) ≡ [] → ⊥
+pub some_end : (xs ys : List ℕ) (m : ℕ) → xs ++ (m ∷ ys) ≡ [] → ⊥
 some_end [] ys m e = cc
 some_end (x ∷ xs) ys m e = cc
 
-some_piece : (from : ℕ) (p : Part) (x : List ℕ) → piece from p ++ x ≡ [] → ⊥
+pub some_piece : (from : ℕ) (p : Part) (x : List ℕ) → piece from p ++ x ≡ [] → ⊥
 some_piece from p x e =
     elim (cases_lt from p.offset) [
       | inl gapped ↦ some_end [] _ 147 (sym (piece-gap from p x gapped) ∙ e)

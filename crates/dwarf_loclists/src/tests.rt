@@ -3,7 +3,9 @@
 ghost use Rattle.std.specs.Prelude.{IsTrue, All, ℕ};
 ghost use Rattle.dwarf_loclists.specs.Ranges.{IsListed, ArePieces, IsLocated, Ascend, ArePlaces};
 
+use crate::fault::ListFault;
 use crate::range::{Location, Part, Range, RangeLists};
+use crate::reader::{list_count, piece_at, place_at};
 use crate::section::{lists_size, write_lists};
 use lists::List;
 use numbers::code::SlotId;
@@ -229,5 +231,94 @@ fn pieces(rt: HostRuntime) -> Result<(), Fail> {
         0x16, 0, 0, 0, 5, 0, 8, 0, 1, 0, 0, 0, 4, 0, 0, 0, 4, 0, 4, 5, 0x93, 2, 0x5b, 0x93, 4, 0,
     ];
     assert_eq!(rt; behind.as_slice(), want.as_slice());
+    Ok(())
+}
+
+/// Row 1's section with one byte changed, and what a reader says of it.
+#[test]
+fn damaged_lists(rt: HostRuntime) -> Result<(), Fail> {
+    let good = [
+        0x12, 0, 0, 0, 5, 0, 8, 0, 1, 0, 0, 0, 4, 0, 0, 0, 4, 0, 8, 1, 0x5a, 0,
+    ];
+    assert_eq!(rt; list_count(&good), Ok(1));
+    for (index, value, at) in [
+        (0, 0x13, 0),
+        (4, 4, 4),
+        (6, 4, 6),
+        (7, 1, 7),
+        (8, 2, 12),
+        (12, 5, 12),
+        (16, 5, 16),
+        (17, 8, 18),
+        (18, 0, 18),
+        (20, 0x52, 20),
+        (21, 1, 21),
+    ] {
+        let mut bytes = good;
+        bytes[index] = value;
+        assert_eq!(rt; list_count(&bytes), Err(ListFault { at }));
+    }
+    Ok(())
+}
+
+/// Each proper prefix of a section is wrong from its length on.
+#[test]
+fn prefixes(rt: HostRuntime) {
+    let whole = [
+        0x26, 0, 0, 0, 5, 0, 8, 0, 2, 0, 0, 0, 8, 0, 0, 0, 0x13, 0, 0, 0, 4, 0x10, 0x14, 1, 0x5a,
+        4, 0x14, 0x18, 1, 0x58, 0, 4, 0x18, 0x40, 1, 0x59, 4, 0x40, 0x48, 1, 0x5a, 0,
+    ];
+    assert_eq!(rt; list_count(&whole), Ok(2));
+    for n in 0..whole.len() {
+        assert_eq!(rt; list_count(&whole[..n]), Err(ListFault { at: 0 }));
+    }
+}
+
+/// What a list of a section that is right gives at an address, and none where it has fewer lists.
+fn place(bytes: &[u8], k: u32, address: u64) -> Result<Option<Place>, ListFault> {
+    if k < list_count(bytes)? {
+        place_at(bytes, k, address)
+    } else {
+        Ok(None)
+    }
+}
+
+/// The piece of such a number.
+fn piece(bytes: &[u8], k: u32, address: u64, n: u32) -> Result<Option<Part>, ListFault> {
+    if k < list_count(bytes)? {
+        piece_at(bytes, k, address, n)
+    } else {
+        Ok(None)
+    }
+}
+
+/// A list of two ranges, at a register and in two pieces behind a gap, by hand from DWARF 5.
+#[test]
+fn reads_back(rt: HostRuntime) -> Result<(), Fail> {
+    let (x10, x11) = (x(10)?, x(11)?);
+    let bytes = [
+        0x1e, 0, 0, 0, 5, 0, 8, 0, 1, 0, 0, 0, 4, 0, 0, 0, 4, 4, 8, 1, 0x5b, 4, 8, 16, 8, 0x93, 2,
+        0x5a, 0x93, 4, 0x5b, 0x93, 1, 0,
+    ];
+    assert_eq!(rt; list_count(&bytes), Ok(1));
+    assert_eq!(rt; place(&bytes, 0, 3), Ok(None));
+    assert_eq!(rt; place(&bytes, 0, 4), Ok(Some(x11)));
+    assert_eq!(rt; place(&bytes, 0, 7), Ok(Some(x11)));
+    assert_eq!(rt; place(&bytes, 0, 8), Ok(None));
+    assert_eq!(rt; piece(&bytes, 0, 7, 0), Ok(None));
+    let first = Part {
+        offset: 2,
+        length: 4,
+        place: x10,
+    };
+    let second = Part {
+        offset: 6,
+        length: 1,
+        place: x11,
+    };
+    assert_eq!(rt; piece(&bytes, 0, 8, 0), Ok(Some(first)));
+    assert_eq!(rt; piece(&bytes, 0, 15, 1), Ok(Some(second)));
+    assert_eq!(rt; piece(&bytes, 0, 15, 2), Ok(None));
+    assert_eq!(rt; piece(&bytes, 0, 16, 0), Ok(None));
     Ok(())
 }
