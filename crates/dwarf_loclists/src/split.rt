@@ -13,6 +13,7 @@ ghost use Rattle.dwarf_loclists.specs.Spelling.{simple_location, gap, piece, Spe
 use crate::constants::*;
 use crate::range::Part;
 use dwarf_base::front::{split_sleb, split_uleb};
+use numbers::code::SlotId;
 use rv64_instr::place::Place;
 use rv64_instr::reg::physical;
 
@@ -130,7 +131,7 @@ fn split_slot(bytes: &[u8]) -> Option<(Place, &[u8])>
     }
     let offset = value as u32;
     if offset % DOUBLEWORD == 0 {
-        Some((Place::Slot(offset), rest))
+        Some((Place::Slot(SlotId(offset)), rest))
     } else {
         None
     }
