@@ -1,5 +1,5 @@
 -- What every function with its frame keeps (RISC-V ELF psABI, "Integer Calling Convention").
-use Rattle.std.specs.Prelude.{◌≡◌, ◌⊎◌, ℕ, zero, suc, ℤ, pos, ◌-ℤ◌, ◌-◌, ◌%◌, ◌<◌, ◌≤◌, List, [], ◌∷◌, ◌++◌, map, Option, Some, None, All}
+use Rattle.std.specs.Prelude.{◌≡◌, ℕ, zero, suc, ℤ, pos, ◌-ℤ◌, ◌-◌, ◌%◌, ◌<◌, ◌≤◌, List, [], ◌∷◌, ◌++◌, map, Option, Some, None, All}
 use Rattle.std.specs.List.Sorted.{IsStrictlyIncreasing}
 use Rattle.rv64_instr.specs.declared.op.Op.TheVariants.{Immediate, Load, Store}
 use Rattle.rv64_instr.specs.declared.op.ImmediateOp.TheVariants.{Addi}
