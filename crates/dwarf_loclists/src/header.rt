@@ -1,7 +1,7 @@
 //! The header of a section, as it is read.
 
 ghost use Rattle.std.specs.Prelude.{◌≡◌, ◌+◌, ◌*◌, ◌<◌, ◌≤◌, ◌++◌, ℕ, List, [], length, IfOk, IfErr};
-ghost use Rattle.std.proofs.Common.{drop};
+ghost use Rattle.std.specs.Prelude.{drop};
 ghost use Rattle.dwarf_base.specs.Standard;
 ghost use Rattle.dwarf_loclists.specs.Fault.{Field, OffsetEntryCount, MayBe, first_byte, FaultAt};
 ghost use Rattle.dwarf_loclists.specs.steps.Reader.{StandsAt, Goes, AtLists};

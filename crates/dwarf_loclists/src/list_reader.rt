@@ -2,7 +2,7 @@
 
 ghost use Rattle.std.specs.Prelude.{◌≡◌, ◌≢◌, ◌+◌, ◌*◌, ◌^◌, ◌<◌, ◌≤◌, ◌⊎◌, ℕ, List, [], ◌∷◌, ◌++◌, length, IfOk, IfErr, IsTrue, ◌↔◌};
 ghost use Rattle.std.specs.Option.{option_copied};
-ghost use Rattle.std.proofs.Common.{drop};
+ghost use Rattle.std.specs.Prelude.{drop};
 ghost use Rattle.dwarf_base.specs.Leb.{uleb_of};
 ghost use Rattle.dwarf_base.specs.Standard;
 ghost use Rattle.dwarf_loclists.specs.declared.range.Range.{Range};

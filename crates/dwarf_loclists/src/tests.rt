@@ -94,47 +94,13 @@ fn can_be_written(lists: &RangeLists) -> bool
     true
 }
 
-/// A place of a whole variable, or pieces of one.
-#[derive(Clone, Copy)]
-enum Row<'a> {
-    Whole(Place),
-    Parts(&'a [(u32, u32, Place)]),
-}
-
-/// The location of a row.
-fn location(alloc: Global, row: Row) -> Result<Location, AllocError> {
-    match row {
-        Row::Whole(place) => Ok(Location::Whole(place)),
-        Row::Parts(rows) => {
-            let mut parts = List::new(alloc);
-            for (offset, length, place) in rows.iter().copied() {
-                parts.push(Part {
-                    offset,
-                    length,
-                    place,
-                })?;
-            }
-            Ok(Location::Parts(parts))
-        }
-    }
-}
-
-/// The section of lists of ranges, and that its size is as told.
-fn section(alloc: Global, table: &[&[(u64, u64, Row)]]) -> Result<List<u8>, Fail> {
-    let mut lists = List::new(alloc);
-    for row in table {
-        let mut ranges = List::new(alloc);
-        for (lo, hi, row) in row.iter().copied() {
-            let location = location(alloc, row)?;
-            ranges.push(Range { lo, hi, location })?;
-        }
-        lists.push(ranges)?;
-    }
-    if !can_be_written(&lists) {
+/// The section of lists, and that its size is as told.
+fn written(alloc: Global, lists: &RangeLists) -> Result<List<u8>, Fail> {
+    if !can_be_written(lists) {
         return Err(Fail::from("lists that can't be written"));
     }
-    let size = lists_size(&lists).ok_or("too many bytes")?;
-    let bytes = write_lists(alloc, &lists)?;
+    let size = lists_size(lists).ok_or("too many bytes")?;
+    let bytes = write_lists(alloc, lists)?;
     if bytes.len() == size as usize {
         Ok(bytes)
     } else {
@@ -142,19 +108,47 @@ fn section(alloc: Global, table: &[&[(u64, u64, Row)]]) -> Result<List<u8>, Fail
     }
 }
 
-/// The register xN.
-fn x(n: u32) -> Result<Place, Fail> {
-    Ok(Place::Register(physical(n).ok_or("a register")?))
+/// The section of lists of ranges of whole variables.
+fn section(alloc: Global, table: &[&[(u64, u64, Place)]]) -> Result<List<u8>, Fail> {
+    let mut lists = List::new(alloc);
+    for row in table {
+        let mut ranges = List::new(alloc);
+        for (lo, hi, place) in row.iter().copied() {
+            let location = Location::Whole(place);
+            ranges.push(Range { lo, hi, location })?;
+        }
+        lists.push(ranges)?;
+    }
+    written(alloc, &lists)
+}
+
+/// Parts, each at an offset, of a length and at a place.
+fn parts(alloc: Global, rows: &[(u32, u32, Place)]) -> Result<Location, AllocError> {
+    let mut parts = List::new(alloc);
+    for (offset, length, place) in rows.iter().copied() {
+        parts.push(Part {
+            offset,
+            length,
+            place,
+        })?;
+    }
+    Ok(Location::Parts(parts))
+}
+
+/// The section of one list.
+fn one_list(alloc: Global, ranges: List<Range>) -> Result<List<u8>, Fail> {
+    let mut lists = List::new(alloc);
+    lists.push(ranges)?;
+    written(alloc, &lists)
 }
 
 /// Written by hand from DWARF 5 section 7.29.
 #[test]
 fn sections(rt: HostRuntime) -> Result<(), Fail> {
     let alloc = rt.alloc();
-    let x10 = Row::Whole(x(10)?);
-    let x11 = Row::Whole(x(11)?);
-    let x12 = Row::Whole(x(12)?);
-    let slot = |offset: u32| Row::Whole(Place::Slot(SlotId(offset)));
+    let x10 = Place::Register(physical(10).ok_or("a register")?);
+    let x11 = Place::Register(physical(11).ok_or("a register")?);
+    let x12 = Place::Register(physical(12).ok_or("a register")?);
 
     let none = section(alloc, &[])?;
     assert_eq!(rt;
@@ -180,7 +174,7 @@ fn sections(rt: HostRuntime) -> Result<(), Fail> {
     ];
     assert_eq!(rt; two_lists.as_slice(), want.as_slice());
 
-    let constant = section(alloc, &[&[(0, 4, Row::Whole(Place::Const(7)))]])?;
+    let constant = section(alloc, &[&[(0, 4, Place::Const(7))]])?;
     let want = [
         0x14, 0, 0, 0, 5, 0, 8, 0, 1, 0, 0, 0, 4, 0, 0, 0, 4, 0, 4, 3, 0x11, 7, 0x9f, 0,
     ];
@@ -188,7 +182,11 @@ fn sections(rt: HostRuntime) -> Result<(), Fail> {
 
     let slots = section(
         alloc,
-        &[&[(8, 20, x10), (20, 24, slot(0)), (200, 300, slot(2024))]],
+        &[&[
+            (8, 20, x10),
+            (20, 24, Place::Slot(0)),
+            (200, 300, Place::Slot(2024)),
+        ]],
     )?;
     let want = [
         0x21, 0, 0, 0, 5, 0, 8, 0, 1, 0, 0, 0, 4, 0, 0, 0, 4, 8, 20, 1, 0x5a, 4, 20, 24, 2, 0x72,
@@ -202,35 +200,46 @@ fn sections(rt: HostRuntime) -> Result<(), Fail> {
 #[test]
 fn pieces(rt: HostRuntime) -> Result<(), Fail> {
     let alloc = rt.alloc();
-    let (x10, x11) = (x(10)?, x(11)?);
+    let x10 = Place::Register(physical(10).ok_or("a register")?);
+    let x11 = Place::Register(physical(11).ok_or("a register")?);
 
-    // Two halves, then one beside a constant's
-    let halves = section(
-        alloc,
-        &[&[
-            (0, 4, Row::Parts(&[(0, 4, x10), (4, 4, x11)])),
-            (4, 8, Row::Parts(&[(0, 4, x10)])),
-        ]],
-    )?;
+    // Two halves, then the lower one alone
+    let mut ranges = List::new(alloc);
+    let location = parts(alloc, &[(0, 4, x10), (4, 4, x11)])?;
+    ranges.push(Range {
+        lo: 0,
+        hi: 4,
+        location,
+    })?;
+    let location = parts(alloc, &[(0, 4, x10)])?;
+    ranges.push(Range {
+        lo: 4,
+        hi: 8,
+        location,
+    })?;
     let want = [
         0x1e, 0, 0, 0, 5, 0, 8, 0, 1, 0, 0, 0, 4, 0, 0, 0, 4, 0, 4, 6, 0x5a, 0x93, 4, 0x5b, 0x93,
         4, 4, 4, 8, 3, 0x5a, 0x93, 4, 0,
     ];
+    let halves = one_list(alloc, ranges)?;
     assert_eq!(rt; halves.as_slice(), want.as_slice());
 
-    // The upper half alone, behind a gap
-    let upper = section(alloc, &[&[(0, 4, Row::Parts(&[(4, 4, x10)]))]])?;
-    let want = [
-        0x16, 0, 0, 0, 5, 0, 8, 0, 1, 0, 0, 0, 4, 0, 0, 0, 4, 0, 4, 5, 0x93, 4, 0x5a, 0x93, 4, 0,
-    ];
-    assert_eq!(rt; upper.as_slice(), want.as_slice());
-
-    // Two bytes that are nowhere, and then four
-    let behind = section(alloc, &[&[(0, 4, Row::Parts(&[(2, 4, x11)]))]])?;
-    let want = [
-        0x16, 0, 0, 0, 5, 0, 8, 0, 1, 0, 0, 0, 4, 0, 0, 0, 4, 0, 4, 5, 0x93, 2, 0x5b, 0x93, 4, 0,
-    ];
-    assert_eq!(rt; behind.as_slice(), want.as_slice());
+    // The upper half alone, and bytes 2 to 5: behind gaps
+    for (gap, operation, place) in [(4, 0x5a, x10), (2, 0x5b, x11)] {
+        let mut ranges = List::new(alloc);
+        let location = parts(alloc, &[(gap, 4, place)])?;
+        ranges.push(Range {
+            lo: 0,
+            hi: 4,
+            location,
+        })?;
+        let want = [
+            0x16, 0, 0, 0, 5, 0, 8, 0, 1, 0, 0, 0, 4, 0, 0, 0, 4, 0, 4, 5, 0x93, gap as u8,
+            operation, 0x93, 4, 0,
+        ];
+        let behind = one_list(alloc, ranges)?;
+        assert_eq!(rt; behind.as_slice(), want.as_slice());
+    }
     Ok(())
 }
 
@@ -255,6 +264,7 @@ fn damaged_lists(rt: HostRuntime) -> Result<(), Fail> {
         (21, 1, 21),
     ] {
         let mut bytes = good;
+        assert!(rt; index < bytes.len());
         bytes[index] = value;
         assert_eq!(rt; list_count(&bytes), Err(ListFault { at }));
     }
@@ -295,7 +305,8 @@ fn piece(bytes: &[u8], k: u32, address: u64, n: u32) -> Result<Option<Part>, Lis
 /// A list of two ranges, at a register and in two pieces behind a gap, by hand from DWARF 5.
 #[test]
 fn reads_back(rt: HostRuntime) -> Result<(), Fail> {
-    let (x10, x11) = (x(10)?, x(11)?);
+    let x10 = Place::Register(physical(10).ok_or("a register")?);
+    let x11 = Place::Register(physical(11).ok_or("a register")?);
     let bytes = [
         0x1e, 0, 0, 0, 5, 0, 8, 0, 1, 0, 0, 0, 4, 0, 0, 0, 4, 4, 8, 1, 0x5b, 4, 8, 16, 8, 0x93, 2,
         0x5a, 0x93, 4, 0x5b, 0x93, 1, 0,
