@@ -20,6 +20,7 @@ pub record IsListFor (v : VarId) (items : List Item) (ranges : List Range) : Typ
 -- a list for each variable, in their order
 pub record AreLists (items : List Item) (lists : List (List Range)) : Type 0 where
   pub each : length lists ≡ length (variables_of [] items)
-  pub exact : (k : ℕ) (v : VarId) (ranges : List Range) → slice_get (variables_of [] items) k ≡ Some v → slice_get lists k ≡ Some ranges → IsListFor v items ranges
+  pub exact : (k : ℕ) (v : VarId) (ranges : List Range) → slice_get (variables_of [] items) k ≡ Some v → slice_get lists k ≡ Some ranges →
+      IsListFor v items ranges
   pub ascend : All Ascend lists
   pub places : All ArePlaces lists

@@ -80,6 +80,7 @@ pub record Tracks (s : Tracker) (t : Tokens) : Type 0 where
 -- the lowest register but x0 and x2 that has the token, or none
 abbrev pub IsLowest : List (Option Token) → Token → Option Place → Type 0
 IsLowest regs t None = (r : ℕ) → 0 < r → r < 32 → r ≢ 2 → register_at regs r ≢ Some t
-IsLowest regs t (Some (Register n)) = (0 < n) × (n < 32) × (n ≢ 2) × (register_at regs n ≡ Some t) × ((r : ℕ) → 0 < r → r < n → r ≢ 2 → register_at regs r ≢ Some t)
+IsLowest regs t (Some (Register n)) = (0 < n) × (n < 32) × (n ≢ 2) × (register_at regs n ≡ Some t) ×
+    ((r : ℕ) → 0 < r → r < n → r ≢ 2 → register_at regs r ≢ Some t)
 IsLowest regs t (Some (Slot n)) = ⊥
 IsLowest regs t (Some (Const c)) = ⊥

@@ -11,5 +11,6 @@ pub returns-clause-whole : goal.returns-clause-whole
 returns-clause-whole c =
     let items = c.args.items.now in
     let listed = c.loop-item.variables in
-    let all : listed ≡ variables_of [] items = ap (variables_of listed) (sym (drop_all c.loop-item.item-index items c.loop-item-test.false)) ∙ c.loop-item.invariant.value in
+    let all : listed ≡ variables_of [] items = ap (variables_of listed) (sym (drop_all c.loop-item.item-index items c.loop-item-test.false)) ∙
+    c.loop-item.invariant.value in
     subst (All IsWhole) (sym all) (variables_whole [] items (All-nil IsWhole))
