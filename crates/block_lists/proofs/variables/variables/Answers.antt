@@ -2,7 +2,6 @@ use Rattle.std.proofs.Common.{◌≡◌, [], ap, sym, ◌∙◌, subst}
 use Rattle.std.specs.Prelude.{All}
 use Rattle.std.proofs.lemmas.List.{drop_all}
 use Rattle.std.proofs.lemmas.List.Elements.{All-nil}
-use Rattle.mir_func.specs.declared.variable.VarId.{VarId}
 use Rattle.block_lists.specs.Variables.{IsWhole, variables_of}
 use Rattle.block_lists.proofs.MarkedLemmas.{variables_whole}
 use Rattle.block_lists.proofs.variables.variables.Goals as goal
