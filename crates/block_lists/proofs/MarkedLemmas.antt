@@ -35,14 +35,16 @@ neither true b e = absurd cc
 neither false b e = (refl, e)
 
 -- a variable that isn't known isn't one that is
-unknown_by : (b : Bool) (v w : VarId) (known : List VarId) → is_same v w ≡ b → list_any (is_same v) known ≡ false → list_any (is_same w) known ≡ true → is_same v w ≡ false
+unknown_by : (b : Bool) (v w : VarId) (known : List VarId) → is_same v w ≡ b → list_any (is_same v) known ≡ false → list_any (is_same w) known ≡ true →
+    is_same v w ≡ false
 unknown_by false v w known e none some = e
 unknown_by true v w known e none some =
     let same : v ≡ w = same_is v w e in
     let both : false ≡ true = sym none ∙ (ap (λ (x : VarId). list_any (is_same x) known) same ∙ some) in
     absurd cc
 
-with_by : (b : Bool) (v w : VarId) (known : List VarId) → list_any (is_same w) known ≡ b → list_any (is_same v) (cond b known (known ++ w ∷ [])) ≡ false → (list_any (is_same v) known ≡ false) × (is_same v w ≡ false)
+with_by : (b : Bool) (v w : VarId) (known : List VarId) → list_any (is_same w) known ≡ b → list_any (is_same v) (cond b known (known ++ w ∷ [])) ≡ false →
+    (list_any (is_same v) known ≡ false) × (is_same v w ≡ false)
 with_by true v w known some none = (none, unknown_by (is_same v w) v w known refl none some)
 with_by false v w known some none =
     let parts = neither (list_any (is_same v) known) (is_same v w || false) (sym (list_any-append (is_same v) known (w ∷ [])) ∙ none) in
@@ -87,7 +89,8 @@ variables_whole known (i ∷ items) all = variables_whole (with_mark known i.kin
 abbrev pub IsNumbered : VarId → List VarId → Type 0
 IsNumbered v vs = (k : ℕ) × (slice_get vs k ≡ Some v)
 
-number_by : (b : Bool) (v x : VarId) (xs : List VarId) → is_same v x ≡ b → (list_any (is_same v) xs ≡ true → IsNumbered v xs) → (b || list_any (is_same v) xs) ≡ true → IsNumbered v (x ∷ xs)
+number_by : (b : Bool) (v x : VarId) (xs : List VarId) → is_same v x ≡ b → (list_any (is_same v) xs ≡ true → IsNumbered v xs) →
+    (b || list_any (is_same v) xs) ≡ true → IsNumbered v (x ∷ xs)
 number_by true v x xs same more e = (zero, ap (λ (y : VarId). Some y) (sym (same_is v x same)))
 number_by false v x xs other more e = let found = more e in (suc found.0, found.1)
 
@@ -133,9 +136,11 @@ numbered_marks : (call : Bool) (k : Option ℕ) (operands : List Operand) (t : T
 numbered_marks call None operands t = refl
 numbered_marks call (Some k) operands t = refl
 
-pub still_none : (v : VarId) (n : ℕ) (k : ItemKind) (t : Tokens) → IsUnmarkedBy v k → assigned v t.marks ≡ None → assigned v (after_item unchanged n k t).marks ≡ None
+pub still_none : (v : VarId) (n : ℕ) (k : ItemKind) (t : Tokens) → IsUnmarkedBy v k → assigned v t.marks ≡ None →
+    assigned v (after_item unchanged n k t).marks ≡ None
 still_none v n (Code i k) t is none =
-    ap (assigned v) (numbered_marks (is_call (row_of i)) k i.operands (code_tokens n (row_of i) t) ∙ code_marks (sets_pointer (row_of i)) (moved_tokens n (row_of i) t) t (moved_marks n (row_of i) t)) ∙ none
+    ap (assigned v) (numbered_marks (is_call (row_of i)) k i.operands (code_tokens n (row_of i) t) ∙
+    code_marks (sets_pointer (row_of i)) (moved_tokens n (row_of i) t) t (moved_marks n (row_of i) t)) ∙ none
 still_none v n (Mark w m) t is none = by_test (overlaps v w) refl where
   by_test : (b : Bool) → overlaps v w ≡ b → assigned v ((w, mark_token unchanged m t) ∷ t.marks) ≡ None
   by_test true over = assigned_over v w (mark_token unchanged m t) t.marks is over

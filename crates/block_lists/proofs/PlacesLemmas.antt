@@ -30,7 +30,8 @@ passed_early a r p rest true x is_open early later = later (run_to r.lo a p) (om
 passed_early a r p rest false x is_open early later =
     below r (rest (Some (run_to a a p))) x early ∙ later (run_to a a p) (omega arith, refl) (omega arith)
 
-early : (places : List (Option Place)) (a : ℕ) (current : Option Run) (x : ℕ) → IsOpen a current → x < start a current → place_in (ranges_from a current places) x ≡ None
+early : (places : List (Option Place)) (a : ℕ) (current : Option Run) (x : ℕ) → IsOpen a current → x < start a current →
+    place_in (ranges_from a current places) x ≡ None
 early [] a None x is_open lower = refl
 early [] a (Some r) x is_open lower = below r [] x lower
 early (None ∷ places) a None x is_open lower = early places (a + 4) None x tt (omega arith)
@@ -41,14 +42,16 @@ early (Some p ∷ places) a (Some r) x is_open lower =
     passed_early a r p (λ current. ranges_from (a + 4) current places) (is_same_place r.place p) x is_open lower
     (λ o is small. early places (a + 4) (Some o) x is small)
 
-passed_within : (a : ℕ) (r : Run) (p : Place) (rest : Option Run → List Range) (b : Bool) (x : ℕ) → is_same_place r.place p ≡ b → IsOpen a (Some r) → r.lo ≤ x → x < a
+passed_within : (a : ℕ) (r : Run) (p : Place) (rest : Option Run → List Range) (b : Bool) (x : ℕ) → is_same_place r.place p ≡ b → IsOpen a (Some r) →
+    r.lo ≤ x → x < a
     → ((o : Run) → IsOpen (a + 4) (Some o) → o.lo ≤ x → place_in (rest (Some o)) x ≡ Some o.place)
     → place_in (cond b [] (range_of r ∷ []) ++ rest (Some (cond b (run_to r.lo a p) (run_to a a p)))) x ≡ Some r.place
 passed_within a r p rest true x same is_open from upto later =
     later (run_to r.lo a p) (omega arith, refl) from ∙ ap Some (sym (same_place r.place p same))
 passed_within a r p rest false x same is_open from upto later = hit r (rest (Some (run_to a a p))) x from (omega arith)
 
-within : (places : List (Option Place)) (a : ℕ) (r : Run) (x : ℕ) → IsOpen a (Some r) → r.lo ≤ x → x < a → place_in (ranges_from a (Some r) places) x ≡ Some r.place
+within : (places : List (Option Place)) (a : ℕ) (r : Run) (x : ℕ) → IsOpen a (Some r) → r.lo ≤ x → x < a →
+    place_in (ranges_from a (Some r) places) x ≡ Some r.place
 within [] a r x is_open from upto = hit r [] x from (omega arith)
 within (None ∷ places) a r x is_open from upto = hit r (ranges_from (a + 4) None places) x from (omega arith)
 within (Some p ∷ places) a r x is_open from upto =
@@ -86,7 +89,8 @@ inside (Some p ∷ places) a (Some r) is_open (suc n) q at x from upto =
     passed_after a r p (λ current. ranges_from (a + 4) current places) (is_same_place r.place p) x q is_open (omega arith)
     (λ o is same lower. inside places (a + 4) (Some o) is n q at x (omega arith) (omega arith))
 
-outside : (places : List (Option Place)) (a : ℕ) (current : Option Run) → IsOpen a current → (x : ℕ) → a + 4 * length places ≤ x → place_in (ranges_from a current places) x ≡ None
+outside : (places : List (Option Place)) (a : ℕ) (current : Option Run) → IsOpen a current → (x : ℕ) → a + 4 * length places ≤ x →
+    place_in (ranges_from a current places) x ≡ None
 outside [] a None is_open x from = refl
 outside [] a (Some r) is_open x from = above r [] x (omega arith)
 outside (None ∷ places) a None is_open x from = outside places (a + 4) None tt x (omega arith)

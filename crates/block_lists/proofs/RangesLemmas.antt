@@ -55,9 +55,11 @@ before_gap : (a : ℕ) (r : Run) (ranges : List Range) → IsOpen a (Some r) →
 before_gap a r [] is_open ascends = ((refl, refl), is_open.0)
 before_gap a r (s ∷ rest) is_open ascends = ((refl, refl), (is_open.0, omega arith, (λ touch. absurd (omega arith)), ascends.1))
 
-before_other : (a : ℕ) (r : Run) (p : Place) (ranges : List Range) → IsOpen a (Some r) → r.place ≢ p → Ascends (a + 4) (Some (run_to a a p)) ranges → Ascends a (Some r) (range_of r ∷ ranges)
+before_other : (a : ℕ) (r : Run) (p : Place) (ranges : List Range) → IsOpen a (Some r) → r.place ≢ p → Ascends (a + 4) (Some (run_to a a p)) ranges →
+    Ascends a (Some r) (range_of r ∷ ranges)
 before_other a r p [] is_open other ascends = absurd ascends.0
-before_other a r p (s ∷ rest) is_open other ascends = ((refl, refl), (is_open.0, omega (arith, ascends.0.0), (λ touch same. other (whole_one r.place p (same ∙ ascends.0.1))), ascends.1))
+before_other a r p (s ∷ rest) is_open other ascends =
+    ((refl, refl), (is_open.0, omega (arith, ascends.0.0), (λ touch same. other (whole_one r.place p (same ∙ ascends.0.1))), ascends.1))
 
 after_gap : (a : ℕ) (ranges : List Range) → Ascends (a + 4) None ranges → Ascends a None ranges
 after_gap a [] ascends = (tt, ascends.1)
@@ -87,7 +89,8 @@ ranges_from-ascends (None ∷ places) a (Some r) is_open = before_gap a r (range
 ranges_from-ascends (Some p ∷ places) a None is_open =
     begun a p (ranges_from (a + 4) (Some (run_to a a p)) places) (ranges_from-ascends places (a + 4) (Some (run_to a a p)) (omega arith, refl))
 ranges_from-ascends (Some p ∷ places) a (Some r) is_open =
-    passed a r p (λ current. ranges_from (a + 4) current places) (is_same_place r.place p) refl is_open (λ current is. ranges_from-ascends places (a + 4) current is)
+    passed a r p (λ current. ranges_from (a + 4) current places) (is_same_place r.place p) refl is_open
+    (λ current is. ranges_from-ascends places (a + 4) current is)
 
 -- the run that goes on can be listed
 abbrev pub IsOpenPlace : Option Run → Type 0
@@ -98,14 +101,17 @@ placed : (a : ℕ) (r : Run) (p : Place) (rest : Option Run → List Range) (b :
     → ((current : Option Run) → IsOpenPlace current → ArePlaces (rest current))
     → ArePlaces (cond b [] (range_of r ∷ []) ++ rest (Some (cond b (run_to r.lo a p) (run_to a a p))))
 placed a r p rest true listed next places = places (Some (run_to r.lo a p)) next
-placed a r p rest false listed next places = All-cons (λ s. IsLocated s.location) (range_of r) (rest (Some (run_to a a p))) listed (places (Some (run_to a a p)) next)
+placed a r p rest false listed next places = All-cons (λ s. IsLocated s.location) (range_of r) (rest (Some (run_to a a p))) listed
+    (places (Some (run_to a a p)) next)
 
-pub ranges_from-places : (places : List (Option Place)) (a : ℕ) (current : Option Run) → All MayBeListed places → IsOpenPlace current → ArePlaces (ranges_from a current places)
+pub ranges_from-places : (places : List (Option Place)) (a : ℕ) (current : Option Run) → All MayBeListed places → IsOpenPlace current →
+    ArePlaces (ranges_from a current places)
 ranges_from-places [] a None all listed = All-nil (λ s. IsLocated s.location)
 ranges_from-places [] a (Some r) all listed = All-cons (λ s. IsLocated s.location) (range_of r) [] listed (All-nil (λ s. IsLocated s.location))
 ranges_from-places (None ∷ places) a None all listed = ranges_from-places places (a + 4) None (All-tail MayBeListed None places all) tt
 ranges_from-places (None ∷ places) a (Some r) all listed =
-    All-cons (λ s. IsLocated s.location) (range_of r) (ranges_from (a + 4) None places) listed (ranges_from-places places (a + 4) None (All-tail MayBeListed None places all) tt)
+    All-cons (λ s. IsLocated s.location) (range_of r) (ranges_from (a + 4) None places) listed
+    (ranges_from-places places (a + 4) None (All-tail MayBeListed None places all) tt)
 ranges_from-places (Some p ∷ places) a None all listed =
     ranges_from-places places (a + 4) (Some (run_to a a p)) (All-tail MayBeListed (Some p) places all) (All-head MayBeListed (Some p) places all)
 ranges_from-places (Some p ∷ places) a (Some r) all listed =
@@ -117,12 +123,14 @@ abbrev pub open_count : Option Run → ℕ
 open_count None = 0
 open_count (Some r) = 1
 
-counted : (a : ℕ) (r : Run) (p : Place) (rest : Option Run → List Range) (n : ℕ) (b : Bool) → ((current : Option Run) → length (rest current) ≤ n + open_count current)
+counted : (a : ℕ) (r : Run) (p : Place) (rest : Option Run → List Range) (n : ℕ) (b : Bool) →
+    ((current : Option Run) → length (rest current) ≤ n + open_count current)
     → length (cond b [] (range_of r ∷ []) ++ rest (Some (cond b (run_to r.lo a p) (run_to a a p)))) ≤ suc n + 1
 counted a r p rest n true count = let here : length (rest (Some (run_to r.lo a p))) ≤ n + 1 = count (Some (run_to r.lo a p)) in omega arith
 counted a r p rest n false count = let here : length (rest (Some (run_to a a p))) ≤ n + 1 = count (Some (run_to a a p)) in omega arith
 
-pub length-ranges_from : (places : List (Option Place)) (a : ℕ) (current : Option Run) → length (ranges_from a current places) ≤ length places + open_count current
+pub length-ranges_from : (places : List (Option Place)) (a : ℕ) (current : Option Run) →
+    length (ranges_from a current places) ≤ length places + open_count current
 length-ranges_from [] a None = omega arith
 length-ranges_from [] a (Some r) = omega arith
 length-ranges_from (None ∷ places) a None = omega (arith, length-ranges_from places (a + 4) None)
@@ -131,16 +139,19 @@ length-ranges_from (Some p ∷ places) a None =
     let rest : length (ranges_from (a + 4) (Some (run_to a a p)) places) ≤ length places + 1 = length-ranges_from places (a + 4) (Some (run_to a a p)) in
     omega arith
 length-ranges_from (Some p ∷ places) a (Some r) =
-    counted a r p (λ current. ranges_from (a + 4) current places) (length places) (is_same_place r.place p) (λ current. length-ranges_from places (a + 4) current)
+    counted a r p (λ current. ranges_from (a + 4) current places) (length places) (is_same_place r.place p)
+    (λ current. length-ranges_from places (a + 4) current)
 
 pub ok_ascend : {E : Type 0} (r : Result (List Range) E) (places : List (Option Place)) → IfOk r (λ ranges. ranges ≡ ranges_from 0 None places) → IfOk r Ascend
 ok_ascend (Ok ranges) places is = subst Ascend (sym is) (ranges_from-ascends places 0 None tt).1
 ok_ascend (Err e) places is = tt
 
-pub ok_places : {E : Type 0} (r : Result (List Range) E) (places : List (Option Place)) → All MayBeListed places → IfOk r (λ ranges. ranges ≡ ranges_from 0 None places) → IfOk r ArePlaces
+pub ok_places : {E : Type 0} (r : Result (List Range) E) (places : List (Option Place)) → All MayBeListed places →
+    IfOk r (λ ranges. ranges ≡ ranges_from 0 None places) → IfOk r ArePlaces
 ok_places (Ok ranges) places all is = let P : List Range → Type 0 = λ rs. ArePlaces rs in subst P (sym is) (ranges_from-places places 0 None all tt)
 ok_places (Err e) places all is = tt
 
-pub ok_few : {E : Type 0} (r : Result (List Range) E) (places : List (Option Place)) → IfOk r (λ ranges. ranges ≡ ranges_from 0 None places) → IfOk r (λ ranges. length ranges ≤ length places)
+pub ok_few : {E : Type 0} (r : Result (List Range) E) (places : List (Option Place)) → IfOk r (λ ranges. ranges ≡ ranges_from 0 None places) →
+    IfOk r (λ ranges. length ranges ≤ length places)
 ok_few (Ok ranges) places is = omega (arith, ap length is, length-ranges_from places 0 None)
 ok_few (Err e) places is = tt

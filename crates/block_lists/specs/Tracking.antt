@@ -6,8 +6,10 @@ use Rattle.std.specs.declared.hash.BuildHasherDefault.{BuildHasherDefault}
 use Rattle.rv64_instr.specs.declared.place.Place.{Place}
 use Rattle.rv64_instr.specs.declared.place.Place.TheVariants.{Register, Slot, Const}
 use Rattle.rv64_instr.specs.Row.{Row, Fixes, Moves, Sets, Addresses, Loads, Stores, LoadsSlot, StoresSlot, Branches, Jumps, Calls, Returns, Unfit}
+use Rattle.mir_func.specs.declared.item.ItemKind.{ItemKind}
 use Rattle.mir_meaning.specs.Token as token
-use Rattle.mir_meaning.specs.Token.{Tokens, variable_token}
+use Rattle.mir_meaning.specs.Token.{Tokens, variable_token, after_item}
+use Rattle.block_lists.specs.Walk.{unchanged}
 use Rattle.block_lists.specs.declared.token.Token.{Token}
 use Rattle.block_lists.specs.declared.token.Token.TheVariants.{Entry, Made, Fixed}
 use Rattle.block_lists.specs.declared.tracker.Tracker.{Tracker}
@@ -77,9 +79,14 @@ pub record Tracks (s : Tracker) (t : Tokens) : Type 0 where
   pub whole : s.variable.fragment ≡ None
   pub value : variable_token s.variable t ≡ named s.value
 
+-- a tracker of the tokens before the item at an index becomes one of those after it
+abbrev pub Passes : (before after : Tracker) → (index : ℕ) → ItemKind → Type 0
+Passes before after n k = (t : Tokens) → Tracks before t → Tracks after (after_item unchanged n k t)
+
 -- the lowest register but x0 and x2 that has the token, or none
 abbrev pub IsLowest : List (Option Token) → Token → Option Place → Type 0
 IsLowest regs t None = (r : ℕ) → 0 < r → r < 32 → r ≢ 2 → register_at regs r ≢ Some t
-IsLowest regs t (Some (Register n)) = (0 < n) × (n < 32) × (n ≢ 2) × (register_at regs n ≡ Some t) × ((r : ℕ) → 0 < r → r < n → r ≢ 2 → register_at regs r ≢ Some t)
+IsLowest regs t (Some (Register n)) = (0 < n) × (n < 32) × (n ≢ 2) × (register_at regs n ≡ Some t) ×
+    ((r : ℕ) → 0 < r → r < n → r ≢ 2 → register_at regs r ≢ Some t)
 IsLowest regs t (Some (Slot n)) = ⊥
 IsLowest regs t (Some (Const c)) = ⊥

@@ -7,9 +7,9 @@ ghost use Rattle.mir_meaning.specs.Token.{Tokens, entry_tokens, after_item};
 ghost use Rattle.dwarf_loclists.specs.declared.range.Range.{Range};
 ghost use Rattle.dwarf_loclists.specs.Ranges.{Ascend, ArePlaces};
 ghost use Rattle.block_lists.specs.Code.{IsPlain};
-ghost use Rattle.block_lists.specs.Lists.{IsListFor};
+ghost use Rattle.block_lists.specs.Lists.{IsListFor, AreListsFor};
 ghost use Rattle.block_lists.specs.Ranges.{MayBeListed};
-ghost use Rattle.block_lists.specs.Tracking.{Tracks};
+ghost use Rattle.block_lists.specs.Tracking.{Tracks, Passes};
 ghost use Rattle.block_lists.specs.Variables.{IsWhole};
 ghost use Rattle.block_lists.specs.Walk.{unchanged, FirstPlaces, Notes};
 
@@ -32,7 +32,7 @@ pub fn lists(alloc: Global, items: &[Item], variables: &[VarId]) -> Result<Range
     requires plain { All IsPlain items.now }
     requires whole { All IsWhole variables.now }
     ensures each { IfOk result (λ lists. length lists ≡ length variables.now) }
-    ensures exact { IfOk result (λ lists. (k : ℕ) (v : VarId) (ranges : List Range) → slice_get variables.now k ≡ Some v → slice_get lists k ≡ Some ranges → IsListFor v items.now ranges) }
+    ensures exact { IfOk result (AreListsFor variables.now items.now) }
     ensures short { IfOk result (All (λ ranges. length ranges ≤ 8192)) }
     ensures ascend { IfOk result (All Ascend) }
     ensures places { IfOk result (All ArePlaces) }
@@ -86,7 +86,7 @@ fn pass_item(
     requires plain { IsPlain item.now }
     requires listed { All MayBeListed places.old }
     ensures noted { OnOk result ((t : Tokens) → Tracks tracker.old t → Notes tracker.old.variable t item.now places.old places.new) }
-    ensures tracks { OnOk result ((t : Tokens) → Tracks tracker.old t → Tracks tracker.new (after_item unchanged index item.now.kind t)) }
+    ensures tracks { OnOk result (Passes tracker.old tracker.new index item.now.kind) }
     ensures variable { tracker.new.variable ≡ tracker.old.variable }
     ensures listed { OnOk result (All MayBeListed places.new) }
     ensures few { OnOk result (length places.new ≤ length places.old + 1) }

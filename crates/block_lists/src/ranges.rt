@@ -1,9 +1,11 @@
 //! The ranges of a list, by the place at each word.
 
-ghost use Rattle.std.specs.Prelude.{◌≡◌, ◌+◌, ◌^◌, ◌<◌, ◌≤◌, ◌++◌, ◌∷◌, List, Option, Some, None, All, IfOk, OnOk, length};
+ghost use Rattle.std.specs.Prelude.{◌≡◌, ◌+◌, ◌^◌, ◌<◌, ◌≤◌, ◌++◌, ◌∷◌};
+ghost use Rattle.std.specs.Prelude.{List, Option, Some, None, All, IfOk, OnOk, length};
 ghost use Rattle.rv64_instr.specs.declared.place.Place.{Place};
 ghost use Rattle.dwarf_loclists.specs.Ranges.{Ascend, ArePlaces};
-ghost use Rattle.block_lists.specs.Ranges.{range_of, run_to, opened_at, closed_at, ranges_from, option_list, MayBeListed};
+ghost use Rattle.block_lists.specs.Ranges.{range_of, run_to, opened_at};
+ghost use Rattle.block_lists.specs.Ranges.{closed_at, ranges_from, option_list, MayBeListed};
 
 use dwarf_loclists::range::{Location, Range, Ranges};
 use rv64_instr::place::Place;

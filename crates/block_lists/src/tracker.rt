@@ -1,13 +1,15 @@
 //! The tokens along a block, as far as one variable needs them.
 
-ghost use Rattle.std.specs.Prelude.{◌≡◌, ◌≢◌, ℕ, ◌<◌, Option, None, Some, false, cond, nat_eq, slice_get, length, nat_lt, not, ◌&&◌, IsTrue, ◌↔◌, OnOk};
+ghost use Rattle.std.specs.Prelude.{◌≡◌, ◌≢◌, ℕ, ◌<◌, Option, None, Some, false, cond};
+ghost use Rattle.std.specs.Prelude.{nat_eq, slice_get, length, nat_lt, not, ◌&&◌, IsTrue, ◌↔◌, OnOk};
 ghost use Rattle.rv64_instr.specs.Row.{row_of};
 ghost use Rattle.mir_func.specs.declared.item.ItemKind.TheVariants.{Code, Mark};
 ghost use Rattle.mir_meaning.specs.Step.{defined};
-ghost use Rattle.mir_meaning.specs.Token.{Tokens, entry_tokens, after_item, mark_token};
+ghost use Rattle.mir_meaning.specs.Token.{Tokens, entry_tokens, mark_token};
 ghost use Rattle.block_lists.specs.Code.{IsPlainKind, IsLaidOutRow, DefinesFirst};
 ghost use Rattle.block_lists.specs.Ranges.{MayBeListed};
-ghost use Rattle.block_lists.specs.Tracking.{token_at, with_token, regs_after, number_at, pair_at, register_at, named, Tracks, IsLowest};
+ghost use Rattle.block_lists.specs.Tracking.{token_at, with_token, regs_after, number_at, pair_at};
+ghost use Rattle.block_lists.specs.Tracking.{register_at, named, Tracks, Passes, IsLowest};
 ghost use Rattle.block_lists.specs.Walk.{unchanged, IsFirstPlace};
 
 use crate::token::Token;
@@ -56,7 +58,7 @@ impl Tracker {
     /// Passes an item, whose index in the block is given.
     pub fn pass(&mut self, index: u32, kind: &ItemKind) -> Result<(), AllocError>
         requires { IsPlainKind kind.now }
-        ensures tracks { OnOk result ((t : Tokens) → Tracks self.old t → Tracks self.new (after_item unchanged index kind.now t)) }
+        ensures tracks { OnOk result (Passes self.old self.new index kind.now) }
         ensures variable { self.new.variable ≡ self.old.variable }
     {
         match kind {
@@ -77,7 +79,7 @@ impl Tracker {
     ) -> Result<(), AllocError>
         requires row { IsLaidOutRow (row_of instr.now) }
         requires operands { DefinesFirst instr.now.operands }
-        ensures tracks { OnOk result ((t : Tokens) → Tracks self.old t → Tracks self.new (after_item unchanged index (Code instr.now number) t)) }
+        ensures tracks { OnOk result (Passes self.old self.new index (Code instr.now number)) }
         ensures variable { self.new.variable ≡ self.old.variable }
     {
         self.pass_code(index, instr);
@@ -128,7 +130,7 @@ impl Tracker {
 
     fn pass_mark(&mut self, index: u32, variable: VarId, value: &MarkValue)
         requires { variable.fragment ≡ None }
-        ensures tracks { (t : Tokens) → Tracks self.old t → Tracks self.new (after_item unchanged index (Mark variable value.now) t) }
+        ensures tracks { Passes self.old self.new index (Mark variable value.now) }
         ensures variable { self.new.variable ≡ self.old.variable }
     {
         if self.variable == variable {
