@@ -184,8 +184,8 @@ fn sections(rt: HostRuntime) -> Result<(), Fail> {
         alloc,
         &[&[
             (8, 20, x10),
-            (20, 24, Place::Slot(0)),
-            (200, 300, Place::Slot(2024)),
+            (20, 24, Place::Slot(SlotId(0))),
+            (200, 300, Place::Slot(SlotId(2024))),
         ]],
     )?;
     let want = [
