@@ -12,7 +12,6 @@ use Rattle.mir_func.specs.Sound.{items_of}
 use Rattle.mir_func.specs.SoundFrame.{HasPhysical}
 use Rattle.mir_meaning.specs.Align.{is_code}
 use Rattle.follow_law.specs.Change.{change}
-use Rattle.follow_law.specs.Rule.{stack_numbers}
 use Rattle.follow_law.specs.Sizes.{greatest, most_numbers, numbers_of, calls, KeepsSizes}
 use Rattle.follow_law.specs.Nops.{stays, thinned_blocks}
 use Rattle.follow_law.proofs.NopFollows.{each_left}
@@ -82,5 +81,5 @@ sizes_thin busy f subs =
       numbers = le_trans (subst (λ (ys : List Item). greatest (flat_map (λ i. numbers_of i.kind) ys ++ entries) ≤ greatest
           (flat_map (λ i. numbers_of i.kind) xs ++ entries)) (sym e) (numbers_thin (λ i. numbers_of i.kind) keep xs entries))
           (le_more (greatest (flat_map (λ i. numbers_of i.kind) xs ++ entries)) (most_numbers 1 0 f));
-      slots = le_more (greatest (stack_numbers f)) (MAX_SLOTS * 0);
+      slots = le_more (greatest f.slots) (MAX_SLOTS * 0);
     }

@@ -25,7 +25,7 @@ use Rattle.follow_law.specs.declared.loss.Loss.{Loss}
 use Rattle.follow_law.specs.Change.{Change}
 use Rattle.follow_law.specs.Order.{IsInOrder}
 use Rattle.follow_law.specs.Rule.{Rule, IsCopy, IsJump, number_lost, mark_lost, register_lost, item, item_before, first_operand, StandsAt, numbers_on}
-use Rattle.follow_law.specs.Rule.{stack_numbers, Has}
+use Rattle.follow_law.specs.Rule.{Has}
 use Rattle.follow_law.specs.Causes.{HasCause, IsFirstCause}
 
 -- what becomes of what is lost: it is gone, or it stays and gives nothing, or it is a register that stays unspilled
@@ -173,5 +173,5 @@ pub record KeepsItems (rule : Rule) (c : Change) (losses : List Loss) : Type 0 w
   pub ordered : IsInOrder losses
   pub caused : (place : Pos) (loss : Loss) → rule.loses c place loss → HasCause rule c place loss
   pub left : (r : ℕ) (why : Reason) → rule.leaves c r why → IsFirstCause rule c r why
-  pub spilled : (r slot : ℕ) → rule.spills c r slot → Contains c.new.slots slot × (Contains (stack_numbers c.old) slot → ⊥)
+  pub spilled : (r slot : ℕ) → rule.spills c r slot → Contains c.new.slots slot × (Contains c.old.slots slot → ⊥)
   pub renamed : (r now : ℕ) → rule.renames c r now → (32 ≤ r) × (now < 32)

@@ -13,7 +13,6 @@ use Rattle.mir_func.specs.SoundFrame.{HasPhysical}
 use Rattle.mir_func.specs.Limits.{MAX_SLOTS}
 use Rattle.mir_meaning.specs.Align.{is_code}
 use Rattle.follow_law.specs.Change.{Change}
-use Rattle.follow_law.specs.Rule.{stack_numbers}
 
 -- the greatest of some numbers, or 0 where there is none
 abbrev pub greatest : List ℕ → ℕ
@@ -70,4 +69,4 @@ pub record KeepsSizes (factor count : ℕ) (c : Change) : Type 0 where
   pub calls : call_count c.new ≤ call_count c.old
   pub physical : IsPhysical c.old → IsPhysical c.new
   pub numbers : greatest_number c.new c.new_subs ≤ greatest_number c.old c.old_subs + most_numbers factor count c.old
-  pub slots : greatest (stack_numbers c.new) ≤ greatest (stack_numbers c.old) + MAX_SLOTS * count
+  pub slots : greatest c.new.slots ≤ greatest c.old.slots + MAX_SLOTS * count
