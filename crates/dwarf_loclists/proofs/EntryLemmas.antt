@@ -1,5 +1,5 @@
 -- How a reader goes on over the fields of an entry, and where it finds a fault in them.
-use Rattle.std.specs.Prelude.{◌≢◌, All}
+use Rattle.std.specs.Prelude.{◌≢◌}
 use Rattle.std.proofs.Common.{◌≡◌, ℕ, ◌+◌, ◌^◌, ◌<◌, ◌≤◌, List, [], ◌∷◌, ◌++◌, length, take, drop, arith, ap, sym, subst, ◌∙◌, refl, length-append, length-take, append-nil}
 use Rattle.std.specs.List.{flat_map}
 use Rattle.std.proofs.lemmas.List.{take-append-drop}
@@ -10,7 +10,7 @@ use Rattle.dwarf_loclists.specs.declared.range.Location.{Location}
 use Rattle.dwarf_loclists.specs.declared.range.Range.{Range}
 use Rattle.dwarf_loclists.specs.Ranges.{Ascend}
 use Rattle.dwarf_loclists.specs.Spelling.{entry, expression, Spells}
-use Rattle.dwarf_loclists.specs.Fault.{Field, StartOffset, EndOffset, ExpressionLength, Expression, EntryKind, FaultAt}
+use Rattle.dwarf_loclists.specs.Fault.{StartOffset, EndOffset, ExpressionLength, Expression, EntryKind, FaultAt}
 use Rattle.dwarf_loclists.specs.steps.Reader.{StandsAt, Last, EntryRead}
 use Rattle.dwarf_loclists.proofs.OneLocation.{uleb_one}
 use Rattle.dwarf_loclists.proofs.OneReading.{cut}

@@ -1,6 +1,6 @@
 -- What may follow the ranges of a list, by the last of them.
-use Rattle.std.specs.Prelude.{◌≢◌, nat_le, nat_lt, ◌&&◌, if◌then◌else◌, All, Option, Some, None}
-use Rattle.std.proofs.Common.{◌≡◌, ℕ, ◌+◌, ◌<◌, ◌≤◌, List, [], ◌∷◌, ◌++◌, length, arith, ap, sym, subst, ◌∙◌, refl, inl, inr}
+use Rattle.std.specs.Prelude.{◌≢◌, nat_le, nat_lt, ◌&&◌, if◌then◌else◌, All, Option, Some}
+use Rattle.std.proofs.Common.{◌≡◌, ℕ, ◌<◌, ◌≤◌, List, [], ◌∷◌, ◌++◌, arith, ap, sym, ◌∙◌, refl, inl, inr}
 use Rattle.std.proofs.lemmas.Bool.{cases_lt}
 use Rattle.std.proofs.lemmas.Bool.Decides.{nat_tests}
 use Rattle.std.proofs.lemmas.List.Elements.{All-cons, All-rest, All-head, All-nil}
@@ -12,7 +12,7 @@ use Rattle.dwarf_loclists.specs.declared.range.Range.{Range}
 use Rattle.dwarf_loclists.specs.Ranges.{Ascend, IsLocated, location_in}
 use Rattle.dwarf_loclists.specs.Spelling.{simple_location, expression}
 use Rattle.dwarf_loclists.specs.steps.Reader.{Last}
-use Rattle.dwarf_loclists.proofs.OneLocation.{expression_one, some_piece, some_end, no_gap}
+use Rattle.dwarf_loclists.proofs.OneLocation.{expression_one, some_piece}
 
 -- the last two of ranges that ascend
 pub ascend_split : (front : List Range) (r s : Range) → Ascend ((front ++ r ∷ []) ++ s ∷ []) → (r.hi ≤ s.lo) × (r.hi ≡ s.lo → r.location ≢ s.location) × (s.lo < s.hi)

@@ -1,20 +1,19 @@
 -- How a reader goes on over the lists of a section.
-use Rattle.std.specs.Prelude.{◌≢◌, All, Option, Some, None, slice_get, nat_lt}
+use Rattle.std.specs.Prelude.{◌≢◌, Option, Some, None}
 use Rattle.std.specs.Option.{option_map}
 use Rattle.std.specs.List.{flat_map}
 use Rattle.std.specs.Int.{w32, to_le_bytes}
-use Rattle.std.proofs.Common.{◌≡◌, ◌⊎◌, ℕ, zero, suc, ◌+◌, ◌-◌, ◌*◌, ◌^◌, ◌<◌, ◌≤◌, List, [], ◌∷◌, ◌++◌, length, drop, arith, ap, sym, subst, ◌∙◌, refl, length-append, append-nil, length-drop, take, inl, inr}
+use Rattle.std.proofs.Common.{◌≡◌, ◌⊎◌, ℕ, zero, suc, ◌+◌, ◌-◌, ◌*◌, ◌<◌, ◌≤◌, List, [], ◌∷◌, ◌++◌, length, drop, arith, ap, sym, ◌∙◌, refl, length-append, append-nil, length-drop, take, inl, inr}
 use Rattle.std.proofs.lemmas.Bool.Decides.{nat_tests}
 use Rattle.std.proofs.lemmas.List.{drop-drop, take_all}
 use Rattle.std.proofs.lemmas.List.Concat.{flat_map-append}
 use Rattle.std.proofs.lemmas.List.Prefix.{front_rest}
-use Rattle.dwarf_loclists.specs.declared.range.Location.{Location}
 use Rattle.dwarf_loclists.specs.declared.range.Range.{Range}
 use Rattle.dwarf_loclists.specs.Ranges.{location_in}
 use Rattle.dwarf_loclists.specs.Spelling.{entry, expression, list_spelling, bodies}
 use Rattle.dwarf_loclists.specs.Standard.{DW_LLE_end_of_list}
-use Rattle.dwarf_loclists.specs.Fault.{Field, Reaches, onward, MayBe, first_byte, after, FaultAt, ListOffset, EntryKind, StartOffset, Nothing}
-use Rattle.dwarf_loclists.specs.steps.Reader.{StandsAt, AtLists, Last, EntryRead, RangesRead, ListRead, ListsRead, AllRead, location_of}
+use Rattle.dwarf_loclists.specs.Fault.{Field, onward, MayBe, first_byte, after, FaultAt, ListOffset, EntryKind, StartOffset}
+use Rattle.dwarf_loclists.specs.steps.Reader.{StandsAt, AtLists, EntryRead, RangesRead, ListRead, ListsRead, AllRead, location_of}
 use Rattle.dwarf_loclists.proofs.ReaderLemmas.{step, stuck}
 use Rattle.dwarf_loclists.proofs.LastLemmas.{last_none, found_last, found_before}
 

@@ -1,11 +1,10 @@
 -- Each field leads to one next field, so the fields that are right end at one field.
 use Rattle.std.specs.Int.{w32, to_le_bytes, from_le_bytes}
-use Rattle.std.proofs.Common.{◌≡◌, ◌⊎◌, ℕ, ◌+◌, ◌*◌, ◌^◌, ◌<◌, ◌≤◌, List, [], ◌∷◌, ◌++◌, length, drop, arith, ap, sym, subst, ◌∙◌, refl, inl, inr}
+use Rattle.std.proofs.Common.{◌≡◌, ℕ, List, [], ◌∷◌, ◌++◌, arith, ap, sym, subst, ◌∙◌, refl, inl, inr}
 use Rattle.std.proofs.lemmas.Nat.{from_le_bytes-to_le_bytes_4}
-use Rattle.dwarf_base.specs.Leb.{uleb_of}
 use Rattle.dwarf_loclists.specs.declared.range.Location.{Location}
 use Rattle.dwarf_loclists.specs.declared.range.Range.{Range}
-use Rattle.dwarf_loclists.specs.Fault.{Field, Reaches, begin, onward, IsRight, MayBe, first_byte, FaultAt, UnitLength, Version, AddressSize, SegmentSelectorSize, OffsetEntryCount, ListOffset, EntryKind, StartOffset, EndOffset, ExpressionLength, Expression, Nothing}
+use Rattle.dwarf_loclists.specs.Fault.{Field, Reaches, begin, onward, IsRight, first_byte, FaultAt, UnitLength, Version, AddressSize, SegmentSelectorSize, OffsetEntryCount, ListOffset, EntryKind, StartOffset, EndOffset, ExpressionLength, Expression, Nothing}
 use Rattle.dwarf_loclists.proofs.OneLocation.{uleb_one, heads_one, expression_one}
 use Rattle.dwarf_loclists.proofs.OneReading.{cut}
 

@@ -1,13 +1,11 @@
 -- How a reader of a section goes on over a field, and where it finds a fault.
-use Rattle.std.specs.Prelude.{◌≢◌, All}
 use Rattle.std.specs.Int.{w32, to_le_bytes, from_le_bytes}
 use Rattle.std.proofs.lemmas.Nat.{from_le_bytes-to_le_bytes_4}
 use Rattle.dwarf_loclists.proofs.OneReading.{cut}
-use Rattle.std.proofs.Common.{◌≡◌, ℕ, zero, suc, ◌+◌, ◌-◌, ◌*◌, ◌/◌, ◌^◌, ◌<◌, ◌≤◌, List, [], ◌∷◌, ◌++◌, length, take, drop, arith, ap, sym, subst, ◌∙◌, refl, length-append, length-drop, inl, inr}
+use Rattle.std.proofs.Common.{◌≡◌, ℕ, ◌+◌, ◌-◌, ◌*◌, ◌/◌, ◌^◌, ◌<◌, ◌≤◌, List, [], ◌++◌, length, drop, arith, ap, sym, ◌∙◌, refl, length-append, length-drop}
 use Rattle.std.proofs.lemmas.List.{drop-drop}
 use Rattle.std.proofs.lemmas.List.Prefix.{front_rest}
-use Rattle.dwarf_loclists.specs.declared.range.Range.{Range}
-use Rattle.dwarf_loclists.specs.Fault.{Field, Reaches, begin, onward, MayBe, first_byte, FaultAt, UnitLength, Version, OffsetEntryCount, ListOffset, Nothing}
+use Rattle.dwarf_loclists.specs.Fault.{Field, begin, onward, MayBe, first_byte, FaultAt, UnitLength, Version, OffsetEntryCount}
 use Rattle.dwarf_loclists.specs.steps.Reader.{StandsAt, Goes, AtLists}
 
 pub step : (bytes : List ℕ) (field next : Field) (here rest after : List ℕ) → StandsAt bytes field rest → rest ≡ here ++ after → MayBe (length bytes) field here next

@@ -2,7 +2,7 @@
 use Rattle.std.specs.Prelude.{All}
 use Rattle.std.specs.List.{flat_map}
 use Rattle.std.specs.Int.{w16, w32, to_le_bytes}
-use Rattle.std.proofs.Common.{◌≡◌, ℕ, ◌+◌, ◌-◌, ◌*◌, ◌^◌, ◌<◌, ◌≤◌, List, [], ◌∷◌, ◌++◌, length, drop, arith, ap, sym, subst, ◌∙◌, refl, length-append, append_assoc, append-nil, inl, inr}
+use Rattle.std.proofs.Common.{◌≡◌, ℕ, ◌+◌, ◌*◌, ◌^◌, ◌<◌, ◌≤◌, List, [], ◌∷◌, ◌++◌, length, drop, arith, ap, sym, subst, ◌∙◌, refl, length-append, append_assoc, append-nil, inl, inr}
 use Rattle.std.proofs.lemmas.List.{drop-drop}
 use Rattle.std.proofs.lemmas.List.Prefix.{front_rest}
 use Rattle.std.proofs.lemmas.Bool.Decides.{nat_tests}
@@ -10,14 +10,14 @@ use Rattle.std.proofs.lemmas.List.Elements.{All-cons, All-rest, All-head, All-ni
 use Rattle.dwarf_base.specs.Leb.{uleb_of}
 use Rattle.dwarf_loclists.specs.declared.range.Range.{Range}
 use Rattle.dwarf_loclists.specs.Ranges.{Ascend, ArePlaces, Are64Bit, IsLocated, HasWords}
-use Rattle.dwarf_loclists.specs.Spelling.{entry, expression, list_spelling, bodies, offsets_from, header, spelling, Spells}
+use Rattle.dwarf_loclists.specs.Spelling.{entry, expression, list_spelling, bodies, offsets_from, header, spelling}
 use Rattle.dwarf_loclists.specs.Reading.{IsSection}
-use Rattle.dwarf_loclists.specs.Fault.{Field, Reaches, onward, FaultAt, after, first_byte, UnitLength, Version, AddressSize, SegmentSelectorSize, OffsetEntryCount, ListOffset, EntryKind, StartOffset, EndOffset, ExpressionLength, Expression, Nothing}
-use Rattle.dwarf_loclists.specs.steps.Reader.{StandsAt, AtLists, RangesRead}
+use Rattle.dwarf_loclists.specs.Fault.{Reaches, onward, FaultAt, after, first_byte, UnitLength, Version, AddressSize, SegmentSelectorSize, OffsetEntryCount, ListOffset, EntryKind, StartOffset, EndOffset, ExpressionLength, Expression, Nothing}
+use Rattle.dwarf_loclists.specs.steps.Reader.{StandsAt}
 use Rattle.dwarf_loclists.proofs.SpellingLemmas.{length-spelling, length-offsets_from}
-use Rattle.dwarf_loclists.proofs.ReaderLemmas.{step, at_start, counted}
+use Rattle.dwarf_loclists.proofs.ReaderLemmas.{step, at_start}
 use Rattle.dwarf_loclists.proofs.EntryLemmas.{entry_size}
-use Rattle.dwarf_loclists.proofs.ListLemmas.{bodies_size, at_offset}
+use Rattle.dwarf_loclists.proofs.ListLemmas.{bodies_size}
 use Rattle.dwarf_loclists.proofs.OneFault.{no_fault}
 
 -- ranges up to one of those that ascend

@@ -1,7 +1,7 @@
 -- What stands at the front of an expression, by its first byte.
 use Rattle.std.specs.Prelude.{ℤ, pos}
-use Rattle.std.proofs.Common.{◌≡◌, ℕ, ◌+◌, ◌-◌, ◌*◌, ◌%◌, ◌^◌, ◌<◌, ◌≤◌, List, [], ◌∷◌, ◌++◌, length, arith, ap, sym, ◌∙◌, refl, append_assoc, inl, inr}
-use Rattle.std.specs.Prelude.{All, Option, Some, None, slice_get}
+use Rattle.std.proofs.Common.{◌≡◌, ℕ, ◌+◌, ◌-◌, ◌%◌, ◌<◌, ◌≤◌, List, [], ◌∷◌, ◌++◌, length, arith, ap, sym, ◌∙◌, refl, append_assoc, inl, inr}
+use Rattle.std.specs.Prelude.{All, Some, None, slice_get}
 use Rattle.dwarf_loclists.specs.declared.range.Location.{Location}
 use Rattle.dwarf_loclists.specs.declared.range.Location.TheVariants.{Whole, Parts}
 use Rattle.std.specs.Bool.{OnTrue}
@@ -13,8 +13,8 @@ use Rattle.rv64_instr.specs.declared.place.Place.{Place}
 use Rattle.rv64_instr.specs.declared.place.Place.TheVariants.{Register, Slot, Const}
 use Rattle.dwarf_base.specs.Leb.{uleb_of, sleb_of}
 use Rattle.dwarf_loclists.specs.declared.range.Part.{Part}
-use Rattle.dwarf_loclists.specs.Ranges.{IsListed, IsPiece, ArePieces, HasWord, IsLocated, HasWords, nth_piece, whole_place}
-use Rattle.dwarf_loclists.specs.Spelling.{simple_location, gap, piece, composite_location, expression, Spells}
+use Rattle.dwarf_loclists.specs.Ranges.{IsListed, IsPiece, ArePieces, HasWord, nth_piece, whole_place}
+use Rattle.dwarf_loclists.specs.Spelling.{simple_location, gap, piece, composite_location, Spells}
 use Rattle.dwarf_loclists.specs.steps.Pieces.{BeginsNoPiece, SpellsPieces}
 use Rattle.dwarf_loclists.proofs.OneLocation.{uleb_one, sleb_one, heads_one, tails_one, gap_some, gap_none, no_gap, after_gap, place_one, piece-gap, piece-no_gap, piece_one, some_piece, some_end}
 

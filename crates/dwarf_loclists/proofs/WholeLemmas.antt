@@ -3,7 +3,7 @@
 use Rattle.std.specs.Prelude.{All}
 use Rattle.std.specs.List.{flat_map}
 use Rattle.std.specs.Int.{w16, w32, to_le_bytes}
-use Rattle.std.proofs.Common.{◌≡◌, ◌⊎◌, ℕ, ◌+◌, ◌-◌, ◌*◌, ◌^◌, ◌<◌, ◌≤◌, List, [], ◌∷◌, ◌++◌, length, drop, arith, ap, sym, subst, ◌∙◌, refl, length-append, append_assoc, append-nil, length-drop, inl, inr}
+use Rattle.std.proofs.Common.{◌≡◌, ℕ, ◌+◌, ◌-◌, ◌*◌, ◌^◌, ◌<◌, ◌≤◌, List, [], ◌∷◌, ◌++◌, length, drop, arith, ap, sym, subst, ◌∙◌, refl, length-append, append_assoc, append-nil, length-drop, inl, inr}
 use Rattle.std.proofs.lemmas.Bool.Decides.{nat_tests}
 use Rattle.std.proofs.lemmas.List.{drop-drop}
 use Rattle.std.proofs.lemmas.List.Concat.{flat_map-append}
@@ -14,7 +14,7 @@ use Rattle.dwarf_loclists.specs.declared.range.Range.{Range}
 use Rattle.dwarf_loclists.specs.Ranges.{Ascend, ArePlaces, Are64Bit, IsLocated, HasWords}
 use Rattle.dwarf_loclists.specs.Spelling.{entry, expression, list_spelling, bodies, offsets_from, header, spelling}
 use Rattle.dwarf_loclists.specs.Reading.{IsSection}
-use Rattle.dwarf_loclists.specs.Fault.{Field, Reaches, begin, onward, IsRight, MayBe, first_byte, after, UnitLength, Version, AddressSize, SegmentSelectorSize, OffsetEntryCount, ListOffset, EntryKind, StartOffset, EndOffset, ExpressionLength, Expression, Nothing}
+use Rattle.dwarf_loclists.specs.Fault.{Field, Reaches, begin, onward, IsRight, first_byte, after, UnitLength, Version, AddressSize, SegmentSelectorSize, OffsetEntryCount, ListOffset, EntryKind, StartOffset, EndOffset, ExpressionLength, Expression, Nothing}
 use Rattle.dwarf_loclists.proofs.SpellingLemmas.{length-offsets_from}
 
 -- the bytes begin with these

@@ -1,5 +1,5 @@
 use Rattle.std.specs.Option.{option_copied}
-use Rattle.std.proofs.Common.{◌≡◌, ◌≤◌, ℕ, List, ◌∷◌, Some, length, refl, arith, ap, ◌∙◌, inl, inr}
+use Rattle.std.proofs.Common.{◌≡◌, ℕ, ◌∷◌, Some, length, refl, arith, ap, ◌∙◌, inl, inr}
 use Rattle.std.proofs.lemmas.Result.{err_from_is_err_and}
 use Rattle.dwarf_loclists.proofs.ListLemmas.{kind_none, kind_pair, list_end, no_ranges, range_more}
 use Rattle.dwarf_loclists.proofs.list_reader.read_list.Goals as goal

@@ -1,4 +1,4 @@
-use Rattle.std.proofs.Common.{◌≡◌, ◌≤◌, ℕ, List, length, []}
+use Rattle.std.proofs.Common.{◌≤◌, ℕ, List, length, []}
 use Rattle.std.specs.Option.{option_copied}
 use Rattle.dwarf_loclists.specs.declared.range.Range.{Range}
 use Rattle.dwarf_loclists.specs.Fault.{EntryKind}

@@ -1,5 +1,5 @@
 use Rattle.std.specs.Option.{option_copied}
-use Rattle.std.proofs.Common.{◌+◌, ◌*◌, arith, refl, ap, length, sym, ◌∙◌, inl, inr}
+use Rattle.std.proofs.Common.{◌+◌, ◌*◌, arith, ap, length, inl, inr}
 use Rattle.std.proofs.lemmas.Result.{err_from_is_err_and}
 use Rattle.dwarf_loclists.proofs.SplitLemmas.{is_empty, not_empty}
 use Rattle.dwarf_loclists.specs.Fault.{ListOffset}

@@ -1,11 +1,8 @@
-use Rattle.std.specs.Prelude.{◌≡◌, ℕ, ◌^◌, ◌<◌, List, length, Option, Some, slice_get}
-use Rattle.std.proofs.Common.{arith, sym, ap, ◌∙◌}
-use Rattle.rv64_instr.specs.declared.place.Place.{Place}
-use Rattle.dwarf_loclists.specs.declared.range.Part.{Part}
+use Rattle.std.specs.Prelude.{◌≡◌, ℕ, List, Option, Some, slice_get}
+use Rattle.std.proofs.Common.{sym, ap, ◌∙◌}
 use Rattle.dwarf_loclists.specs.declared.range.Location.{Location}
-use Rattle.dwarf_loclists.specs.declared.range.Range.{Range}
 use Rattle.dwarf_loclists.specs.Ranges.{location_in, whole_place, nth_piece}
-use Rattle.dwarf_loclists.specs.Reading.{IsSection, LocationAt, PlaceAt, PieceAt}
+use Rattle.dwarf_loclists.specs.Reading.{LocationAt}
 use Rattle.dwarf_loclists.proofs.OneReading.{one_section}
 use Rattle.dwarf_loclists.proofs.reading.one_reading.Goals as goal
 

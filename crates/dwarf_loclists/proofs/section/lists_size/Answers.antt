@@ -1,7 +1,5 @@
-use Rattle.std.specs.Prelude.{All}
-use Rattle.std.proofs.Common.{refl, arith, rules, ◌≡◌, ◌<◌, ◌≤◌, ◌+◌, ◌*◌, ◌^◌, List, length, ap, mul-le-mul_right}
+use Rattle.std.proofs.Common.{refl, arith, ◌≡◌, ◌<◌, ◌≤◌, ◌+◌, ◌*◌, ◌^◌, length, ap, mul-le-mul_right}
 use Rattle.std.proofs.lemmas.Grind.{common_steps}
-use Rattle.dwarf_loclists.specs.declared.range.Range.{Range}
 use Rattle.dwarf_loclists.specs.Spelling.{spelling, list_spelling}
 use Rattle.dwarf_loclists.proofs.SpellingLemmas.{counted_more, counted_all, short_one, places_in}
 use Rattle.dwarf_loclists.proofs.section.lists_size.Goals as goal

@@ -1,4 +1,4 @@
-use Rattle.std.proofs.Common.{ℕ, arith, ap, length}
+use Rattle.std.proofs.Common.{arith, ap, length}
 use Rattle.dwarf_loclists.specs.Spelling.{list_spelling}
 use Rattle.dwarf_loclists.proofs.SpellingLemmas.{front_le, next_le}
 use Rattle.dwarf_loclists.proofs.section.push_offsets.Goals as goal

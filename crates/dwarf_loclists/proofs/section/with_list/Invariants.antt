@@ -1,4 +1,4 @@
-use Rattle.std.proofs.Common.{◌≡◌, ◌<◌, ◌≤◌, ◌+◌, ◌*◌, ◌^◌, take, length}
+use Rattle.std.proofs.Common.{◌≡◌, ◌≤◌, ◌+◌, ◌*◌, take, length}
 use Rattle.std.specs.List.{flat_map}
 use Rattle.dwarf_loclists.specs.Spelling.{entry}
 use Rattle.dwarf_loclists.proofs.SpellingLemmas.{places_in}

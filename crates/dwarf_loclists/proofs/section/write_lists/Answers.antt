@@ -1,9 +1,9 @@
 use Rattle.std.specs.Prelude.{Option, IfSome, All, ◌-◌}
-use Rattle.std.proofs.Common.{ℕ, List, refl, sym, subst, arith, ◌≡◌, ◌+◌, ◌*◌, ◌++◌, ◌∙◌, ap, length}
+use Rattle.std.proofs.Common.{ℕ, List, subst, arith, ◌≡◌, ◌+◌, ◌*◌, ◌++◌, ◌∙◌, ap, length}
 use Rattle.dwarf_loclists.specs.declared.range.Range.{Range}
 use Rattle.dwarf_loclists.specs.Ranges.{Are64Bit}
 use Rattle.dwarf_loclists.specs.Spelling.{spelling, offsets_from, bodies}
-use Rattle.dwarf_loclists.proofs.SpellingLemmas.{length-spelling, assembled, is_section}
+use Rattle.dwarf_loclists.proofs.SpellingLemmas.{length-spelling, assembled}
 use Rattle.dwarf_loclists.proofs.section.write_lists.Goals as goal
 
 pub overflow_sub-size : goal.overflow_sub-size

@@ -1,4 +1,4 @@
-use Rattle.std.proofs.Common.{refl, ap, length, ◌∙◌}
+use Rattle.std.proofs.Common.{refl, ap, length}
 use Rattle.dwarf_loclists.proofs.SplitLemmas.{pieces_on, pieces_back, no_pieces, pieces_end, piece_shorter, not_empty, is_empty}
 use Rattle.dwarf_loclists.proofs.split.are_pieces.Goals as goal
 

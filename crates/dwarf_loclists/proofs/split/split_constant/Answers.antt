@@ -1,4 +1,4 @@
-use Rattle.std.proofs.Common.{◌≡◌, List, ℕ, ◌∷◌, arith, ap, length, sym, ◌∙◌}
+use Rattle.std.proofs.Common.{arith, ap, length, sym, ◌∙◌}
 use Rattle.dwarf_loclists.proofs.OneLocation.{heads_one}
 use Rattle.dwarf_loclists.proofs.SplitLemmas.{constant_front}
 use Rattle.dwarf_loclists.proofs.split.split_constant.Goals as goal

@@ -1,5 +1,4 @@
-use Rattle.std.proofs.Common.{ℕ, List, ◌≡◌, ◌<◌, ◌∷◌, ◌++◌, ◌∙◌, ap, sym, length, arith}
-use Rattle.std.proofs.lemmas.Bool.Decides.{nat_tests}
+use Rattle.std.proofs.Common.{◌∙◌, ap, sym, length, arith}
 use Rattle.dwarf_loclists.proofs.OneLocation.{heads_one, tails_one, uleb_one}
 use Rattle.dwarf_loclists.proofs.SplitLemmas.{behind_place}
 use Rattle.dwarf_loclists.proofs.split.split_piece.Goals as goal

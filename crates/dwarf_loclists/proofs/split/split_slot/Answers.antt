@@ -1,5 +1,5 @@
 use Rattle.std.specs.Prelude.{ℤ, pos}
-use Rattle.std.proofs.Common.{◌≡◌, ◌%◌, ◌≤◌, ap, sym, ◌∙◌, arith}
+use Rattle.std.proofs.Common.{◌≡◌, ◌%◌, ap, ◌∙◌, arith}
 use Rattle.std.specs.Int.{w64}
 use mir.Val.{to_z, of_z}
 use lib.IntN.{nat_abs}
