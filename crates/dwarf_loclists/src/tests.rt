@@ -1,7 +1,6 @@
 ghost use Rattle.std.specs.Prelude.{IsTrue, All};
 ghost use Rattle.dwarf_loclists.specs.Ranges.{IsListed, Ascend, ArePlaces};
 
-use crate::leb::{sleb, uleb};
 use crate::range::{Range, RangeLists};
 use crate::section::{lists_size, write_lists};
 use lists::List;
@@ -80,35 +79,6 @@ fn section(alloc: Global, table: &[&[(u64, u64, Place)]]) -> Result<List<u8>, Fa
     } else {
         Err(Fail::from("another size"))
     }
-}
-
-#[test]
-fn unsigned_numbers(rt: HostRuntime) {
-    // The examples of DWARF 5 section 7.6, and the largest number
-    assert_eq!(rt; uleb(2).as_slice(), [2].as_slice());
-    assert_eq!(rt; uleb(127).as_slice(), [127].as_slice());
-    assert_eq!(rt; uleb(128).as_slice(), [0x80, 1].as_slice());
-    assert_eq!(rt; uleb(129).as_slice(), [0x81, 1].as_slice());
-    assert_eq!(rt; uleb(12857).as_slice(), [0xb9, 0x64].as_slice());
-    let most = [0xff, 0xff, 0xff, 0xff, 0xff, 0xff, 0xff, 0xff, 0xff, 1];
-    assert_eq!(rt; uleb(u64::MAX).as_slice(), most.as_slice());
-}
-
-#[test]
-fn signed_numbers(rt: HostRuntime) {
-    // The examples of DWARF 5 section 7.6, and the extremes
-    assert_eq!(rt; sleb(2).as_slice(), [2].as_slice());
-    assert_eq!(rt; sleb(-2).as_slice(), [0x7e].as_slice());
-    assert_eq!(rt; sleb(127).as_slice(), [0xff, 0].as_slice());
-    assert_eq!(rt; sleb(-127).as_slice(), [0x81, 0x7f].as_slice());
-    assert_eq!(rt; sleb(128).as_slice(), [0x80, 1].as_slice());
-    assert_eq!(rt; sleb(-128).as_slice(), [0x80, 0x7f].as_slice());
-    assert_eq!(rt; sleb(129).as_slice(), [0x81, 1].as_slice());
-    assert_eq!(rt; sleb(-129).as_slice(), [0xff, 0x7e].as_slice());
-    let most = [0xff, 0xff, 0xff, 0xff, 0xff, 0xff, 0xff, 0xff, 0xff, 0];
-    assert_eq!(rt; sleb(i64::MAX).as_slice(), most.as_slice());
-    let least = [0x80, 0x80, 0x80, 0x80, 0x80, 0x80, 0x80, 0x80, 0x80, 0x7f];
-    assert_eq!(rt; sleb(i64::MIN).as_slice(), least.as_slice());
 }
 
 /// Written by hand from DWARF 5 section 7.29.

@@ -1,5 +1,5 @@
-use Rattle.dwarf_loclists.proofs.LebLemmas.{Going}
-use Rattle.dwarf_loclists.proofs.leb.spelled.Given as goal
+use Rattle.dwarf_base.proofs.LebLemmas.{Going}
+use Rattle.dwarf_base.proofs.leb.spelled.Given as goal
 
 abbrev pub invariant-loop-rest : goal.invariant-loop-rest
 invariant-loop-rest l = Going l.limit l.complement l.v l.bytes l.len l.rest

@@ -2,7 +2,7 @@
 use Rattle.std.proofs.Common.{◌≡◌, ℕ, zero, suc, ◌+◌, ◌*◌, ◌/◌, ◌%◌, ◌^◌, ◌<◌, ◌≤◌, Bool, List, [], ◌∷◌, ◌++◌, length, take, set, arith, ap, sym, ◌∙◌, refl, length-set, append_assoc, pow-suc}
 use Rattle.std.proofs.lemmas.List.{take_more_set}
 use Rattle.std.proofs.lemmas.Bool.Decides.{nat_tests}
-use Rattle.dwarf_loclists.specs.Leb.{groups, group}
+use Rattle.dwarf_base.specs.Leb.{groups, group}
 
 -- a number below the limit is one group
 pub groups_last : (most limit : ℕ) (complement : Bool) (n : ℕ) → n < limit → groups most limit complement n ≡ group complement n ∷ []

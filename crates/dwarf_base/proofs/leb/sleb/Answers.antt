@@ -1,6 +1,6 @@
 use Rattle.std.proofs.Common.{◌∙◌, sym}
-use Rattle.dwarf_loclists.proofs.LebLaws.{negative_bits, other_bits, sleb_of-groups, sleb_law, sleb_shortest}
-use Rattle.dwarf_loclists.proofs.leb.sleb.Goals as goal
+use Rattle.dwarf_base.proofs.LebLaws.{negative_bits, other_bits, sleb_of-groups, sleb_law, sleb_shortest}
+use Rattle.dwarf_base.proofs.leb.sleb.Goals as goal
 
 pub returns-then-v-lt0-clause-bytes : goal.returns-then-v-lt0-clause-bytes
 returns-then-v-lt0-clause-bytes c = c.spelled.ensures ∙ sym (sleb_of-groups _ _ _ (negative_bits _ c.ranges.v c.if-v-lt0.true))

@@ -8,8 +8,8 @@ use Rattle.std.proofs.Common.{◌≡◌, ℕ, zero, suc, ◌+◌, ◌*◌, ◌/�
 use Rattle.std.proofs.lemmas.Bool.Decides.{nat_tests}
 use Rattle.std.proofs.lemmas.Bool.{cases_lt}
 use Rattle.std.proofs.lemmas.Int.{ints, to_z-of_z}
-use Rattle.dwarf_loclists.specs.Leb.{groups, group, uleb_of, sleb_of, IsLeb, unsigned_value, signed_value}
-use Rattle.dwarf_loclists.proofs.LebLemmas.{groups_last, groups_more, shorter}
+use Rattle.dwarf_base.specs.Leb.{groups, group, uleb_of, sleb_of, IsLeb, unsigned_value, signed_value}
+use Rattle.dwarf_base.proofs.LebLemmas.{groups_last, groups_more, shorter}
 
 IsLeb-cons : (b : ℕ) (xs : List ℕ) → 128 ≤ b → b < 256 → IsLeb xs → IsLeb (b ∷ xs)
 IsLeb-cons b [] high byte is = absurd is

@@ -1,6 +1,6 @@
 use Rattle.std.proofs.Common.{arith, refl}
-use Rattle.dwarf_loclists.proofs.LebLemmas.{starts, goes, ends}
-use Rattle.dwarf_loclists.proofs.leb.spelled.Goals as goal
+use Rattle.dwarf_base.proofs.LebLemmas.{starts, goes, ends}
+use Rattle.dwarf_base.proofs.leb.spelled.Goals as goal
 
 pub loop-rest-init : goal.loop-rest-init
 loop-rest-init c = starts _ _ _ _ refl c.requires.room

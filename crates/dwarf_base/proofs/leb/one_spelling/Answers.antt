@@ -1,7 +1,7 @@
 use Rattle.std.proofs.Common.{ap, sym, ◌∙◌}
-use Rattle.dwarf_loclists.specs.Leb.{unsigned_value, signed_value}
-use Rattle.dwarf_loclists.proofs.LebLaws.{no_prefix, uleb_law, sleb_law}
-use Rattle.dwarf_loclists.proofs.leb.one_spelling.Goals as goal
+use Rattle.dwarf_base.specs.Leb.{unsigned_value, signed_value}
+use Rattle.dwarf_base.proofs.LebLaws.{no_prefix, uleb_law, sleb_law}
+use Rattle.dwarf_base.proofs.leb.one_spelling.Goals as goal
 
 pub returns-clause-whole : goal.returns-clause-whole
 returns-clause-whole c = no_prefix

@@ -1,5 +1,7 @@
+//! Numbers in LEB128 (DWARF 5 section 7.6): the one shortest spelling of a number.
+
 ghost use Rattle.std.specs.Prelude.{◌≡◌, ℕ, List, ◌≤◌, ◌<◌, ◌^◌, ◌*◌, ◌++◌, ℤ, length};
-ghost use Rattle.dwarf_loclists.specs.Leb.{uleb_of, sleb_of, groups, group, IsLeb, unsigned_value, signed_value};
+ghost use Rattle.dwarf_base.specs.Leb.{uleb_of, sleb_of, groups, group, IsLeb, unsigned_value, signed_value};
 
 use std::marker::Model;
 

@@ -1,6 +1,6 @@
 use Rattle.std.proofs.Common.{arith, ◌∙◌, sym}
-use Rattle.dwarf_loclists.proofs.LebLaws.{uleb_of-groups, uleb_law, uleb_shortest}
-use Rattle.dwarf_loclists.proofs.leb.uleb.Goals as goal
+use Rattle.dwarf_base.proofs.LebLaws.{uleb_of-groups, uleb_law, uleb_shortest}
+use Rattle.dwarf_base.proofs.leb.uleb.Goals as goal
 
 pub returns-clause-bytes : goal.returns-clause-bytes
 returns-clause-bytes c = c.spelled.ensures ∙ sym (uleb_of-groups c.args.v (omega arith))

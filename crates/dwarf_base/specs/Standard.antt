@@ -1,0 +1,26 @@
+-- The numbers of DWARF 5 that more than one section has, under the standard's names where it gives them one.
+use Rattle.std.specs.Prelude.{ℕ}
+
+-- the version of a section (sections 7.5.1.1, 7.24, 7.28 and 7.29)
+abbrev pub VERSION : ℕ
+VERSION = 5
+
+-- the bytes of an address (RV64)
+abbrev pub ADDRESS_SIZE : ℕ
+ADDRESS_SIZE = 8
+
+-- the bytes of a segment selector: there are none
+abbrev pub SEGMENT_SELECTOR_SIZE : ℕ
+SEGMENT_SELECTOR_SIZE = 0
+
+-- a section's length in the 32-bit format is below this (section 7.4)
+abbrev pub LENGTH_LIMIT : ℕ
+LENGTH_LIMIT = 4294967280
+
+-- the form of a text that ends with a zero byte (section 7.5.6)
+abbrev pub DW_FORM_string : ℕ
+DW_FORM_string = 8
+
+-- the form of an unsigned LEB128 number (section 7.5.6)
+abbrev pub DW_FORM_udata : ℕ
+DW_FORM_udata = 15
