@@ -1,2 +1,3 @@
 pub mod LebLemmas
 pub mod LebLaws
+pub mod FrontLemmas

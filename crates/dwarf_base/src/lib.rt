@@ -4,6 +4,7 @@
 #![tactic(auto)]
 
 pub mod constants;
+pub mod front;
 pub mod leb;
 #[cfg(test)]
 mod tests;

@@ -1,5 +1,6 @@
 //! The examples of the standard.
 
+use crate::front::{split_sleb, split_u32, split_uleb};
 use crate::leb::{sleb, uleb};
 
 #[test]
@@ -29,4 +30,49 @@ fn signed_numbers(rt: HostRuntime) {
     assert_eq!(rt; sleb(i64::MAX).as_slice(), most.as_slice());
     let least = [0x80, 0x80, 0x80, 0x80, 0x80, 0x80, 0x80, 0x80, 0x80, 0x7f];
     assert_eq!(rt; sleb(i64::MIN).as_slice(), least.as_slice());
+}
+
+#[test]
+fn numbers_at_the_front(rt: HostRuntime) {
+    // The examples of DWARF 5 section 7.6 with a byte behind them
+    for (bytes, value) in [
+        ([2, 9, 9], 2),
+        ([127, 9, 9], 127),
+        ([0x80, 1, 9], 128),
+        ([0x81, 1, 9], 129),
+        ([0xb9, 0x64, 9], 12857),
+    ] {
+        let found = split_uleb(&bytes).map(|(n, rest)| (n, rest.len()));
+        assert_eq!(rt; found, Some((value, 3 - uleb(value).len())));
+    }
+    for (bytes, value) in [
+        ([2, 9, 9], 2),
+        ([0x7e, 9, 9], -2),
+        ([0xff, 0, 9], 127),
+        ([0x81, 0x7f, 9], -127),
+        ([0x80, 1, 9], 128),
+        ([0x80, 0x7f, 9], -128),
+        ([0x81, 1, 9], 129),
+        ([0xff, 0x7e, 9], -129),
+    ] {
+        let found = split_sleb(&bytes).map(|(n, rest)| (n, rest.len()));
+        assert_eq!(rt; found, Some((value, 3 - sleb(value).len())));
+    }
+    // Not the shortest, cut off, of more than 64 bits
+    assert_eq!(rt; split_uleb(&[0x80, 0]).is_none(), true);
+    assert_eq!(rt; split_uleb(&[0x80]).is_none(), true);
+    assert_eq!(rt;
+        split_uleb(&[0xff, 0xff, 0xff, 0xff, 0xff, 0xff, 0xff, 0xff, 0xff, 2]).is_none(),
+        true
+    );
+    assert_eq!(rt; split_sleb(&[0xff, 0x7f]).is_none(), true);
+    assert_eq!(rt;
+        split_sleb(&[0x80, 0x80, 0x80, 0x80, 0x80, 0x80, 0x80, 0x80, 0x80, 1]).is_none(),
+        true
+    );
+    assert_eq!(rt;
+        split_u32(&[1, 2, 0, 0, 7]).map(|(n, rest)| (n, rest.len())),
+        Some((0x201, 1))
+    );
+    assert_eq!(rt; split_u32(&[1, 2, 0]).is_none(), true);
 }
