@@ -1,0 +1,28 @@
+-- What a line number table is, apart from its bytes.
+use Rattle.std.specs.Prelude.{ℕ, ◌<◌, ◌≤◌, ◌^◌, List, [], ◌∷◌, All}
+use Rattle.dwarf_line.specs.declared.table.FileEntry.{FileEntry}
+use Rattle.dwarf_line.specs.declared.table.Row.{Row}
+use Rattle.dwarf_line.specs.declared.table.Sequence.{Sequence}
+use Rattle.dwarf_line.specs.declared.table.LineTable.{LineTable}
+
+-- from an address on, the rows' addresses don't fall, up to the end
+abbrev pub Ascend : ℕ → List Row → ℕ → Type 0
+Ascend from [] end = from ≤ end
+Ascend from (r ∷ rows) end = (from ≤ r.address) × Ascend r.address rows end
+
+-- there is a row, the addresses don't fall, and the end isn't below the last
+abbrev pub HasRows : List Row → ℕ → Type 0
+HasRows [] end = ⊥
+HasRows (r ∷ rows) end = Ascend r.address rows end
+
+abbrev pub IsSequence : Sequence → Type 0
+IsSequence s = HasRows s.rows s.end
+
+-- a name has no zero byte
+abbrev pub IsName : List ℕ → Type 0
+IsName name = All (λ byte. 0 < byte) name
+
+-- the names of directories and files have no zero byte
+pub record HasNames (t : LineTable) : Type 0 where
+  pub dirs : All IsName t.dirs
+  pub files : All (λ (f : FileEntry). IsName f.name) t.files
