@@ -1,1 +1,3 @@
 pub mod SpellingLemmas
+pub mod Numbers
+pub mod ReadLoops

@@ -8,6 +8,7 @@
 #![tactic(auto)]
 
 pub mod constants;
+mod read;
 pub mod size;
 pub mod table;
 pub mod write;

@@ -1,0 +1,14 @@
+-- What a reader of the code returned, against what is read.
+use Rattle.std.specs.Prelude.{◌≡◌, ℕ, Result, Ok, Err}
+use Rattle.dwarf_line.specs.declared.read.ReadError.{ReadError}
+use Rattle.dwarf_line.specs.declared.read.ReadError.TheVariants.{Memory, Left}
+
+-- the same fault, unless memory ran out
+abbrev pub Fails : {Y : Type 0} → ReadError → Result Y ℕ → Type 0
+Fails Memory read = Unit {0}
+Fails (Left left) read = read ≡ Err left
+
+-- the same value, seen by view, or the same fault, unless memory ran out
+abbrev pub Gives : {X Y : Type 0} → (X → Y) → Result X ReadError → Result Y ℕ → Type 0
+Gives view (Ok x) read = read ≡ Ok (view x)
+Gives view (Err e) read = Fails e read
