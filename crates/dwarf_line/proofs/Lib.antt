@@ -1,3 +1,4 @@
 pub mod SpellingLemmas
 pub mod Numbers
 pub mod ReadLoops
+pub mod Groups

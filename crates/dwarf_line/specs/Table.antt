@@ -26,3 +26,10 @@ IsName name = All (λ byte. 0 < byte) name
 pub record HasNames (t : LineTable) : Type 0 where
   pub dirs : All IsName t.dirs
   pub files : All (λ (f : FileEntry). IsName f.name) t.files
+
+-- a row's address has 64 bits, its file, line and column have 32
+pub record IsRow (r : Row) : Type 0 where
+  pub address : r.address < 2 ^ 64
+  pub file : r.file < 2 ^ 32
+  pub line : r.line < 2 ^ 32
+  pub column : r.column < 2 ^ 32
