@@ -2,3 +2,6 @@ pub mod SpellingLemmas
 pub mod Numbers
 pub mod ReadLoops
 pub mod Groups
+pub mod Program
+pub mod Fixed
+pub mod Header

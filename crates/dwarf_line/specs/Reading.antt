@@ -1,14 +1,16 @@
 -- A line number table's section read from the left, field by field (DWARF 5 sections 6.2.4 and 6.2.5), and where its first wrong field is.
-use Rattle.std.specs.Prelude.{◌≡◌, ◌≢◌, ℕ, zero, suc, ◌+◌, ◌-◌, ◌^◌, Bool, true, false, Option, Some, None, Result, Ok, Err, List, [], ◌∷◌, ◌++◌, length, ◌==◌, nat_lt, ◌&&◌, if◌then◌else◌}
+use Rattle.std.specs.Prelude.{◌≡◌, ◌≢◌, ℕ, zero, suc, ◌+◌, ◌-◌, ◌^◌, ◌<◌, Bool, true, false, Option, Some, None, Result, Ok, Err, List, [], ◌∷◌, ◌++◌, length, ◌==◌, nat_lt, All, ◌&&◌, if◌then◌else◌}
 use Rattle.std.specs.Int.{w16, w32, w64}
 use Rattle.dwarf_base.specs.Standard.{VERSION, ADDRESS_SIZE, SEGMENT_SELECTOR_SIZE, LENGTH_LIMIT}
 use Rattle.dwarf_line.specs.declared.table.Row.{Row}
 use Rattle.dwarf_line.specs.declared.table.Sequence.{Sequence}
+use Rattle.dwarf_line.specs.declared.table.LineTable.{LineTable}
 use Rattle.dwarf_line.specs.declared.read.Advance.{Advance}
 use Rattle.dwarf_line.specs.declared.read.Group.{Group}
 use Rattle.dwarf_line.specs.declared.read.Group.TheVariants.{Copied, Ended}
 use Rattle.dwarf_line.specs.Standard.{instruction_fields, directory_format, file_format, DW_LNS_copy, DW_LNS_advance_pc, DW_LNS_advance_line, DW_LNS_set_file, DW_LNS_set_column, EXTENDED_OPCODE, DW_LNE_end_sequence, DW_LNE_set_address}
-use Rattle.dwarf_line.specs.Spelling.{registers_at}
+use Rattle.dwarf_line.specs.Table.{HasNames, IsSequence, Fits}
+use Rattle.dwarf_line.specs.Spelling.{registers_at, spelling}
 use Rattle.dwarf_line.specs.Fields.{◌>>=◌, constants_at, number_at, uleb_at, advanced_at, line_at, behind_text}
 
 -- so many directories: what is behind them
@@ -101,33 +103,41 @@ start_at bytes = constants_at (EXTENDED_OPCODE ∷ 9 ∷ DW_LNE_set_address ∷ 
 
 -- the rows of a sequence and its end stand at the front, behind a row with the values of the registers
 pub data Rows : (first : Bool) (before : Row) (bytes : List ℕ) (rows : List Row) (end : ℕ) (rest : List ℕ) → Type 0 where
-  last : {first : Bool} {before : Row} {bytes : List ℕ} {end : ℕ} {rest : List ℕ}
+  LastRow : {first : Bool} {before : Row} {bytes : List ℕ} {end : ℕ} {rest : List ℕ}
       → group_at first before bytes ≡ Ok (Ended end, rest) → Rows first before bytes [] end rest
-  more : {first : Bool} {before r : Row} {bytes after : List ℕ} {rows : List Row} {end : ℕ} {rest : List ℕ}
+  NextRow : {first : Bool} {before r : Row} {bytes after : List ℕ} {rows : List Row} {end : ℕ} {rest : List ℕ}
       → group_at first before bytes ≡ Ok (Copied r, after) → Rows false r after rows end rest → Rows first before bytes (r ∷ rows) end rest
 
 -- the first wrong field of a sequence's rows
 pub data RowsFault : (first : Bool) (before : Row) (bytes : List ℕ) (left : ℕ) → Type 0 where
-  here : {first : Bool} {before : Row} {bytes : List ℕ} {left : ℕ} → group_at first before bytes ≡ Err left → RowsFault first before bytes left
-  later : {first : Bool} {before r : Row} {bytes after : List ℕ} {left : ℕ}
+  InRow : {first : Bool} {before : Row} {bytes : List ℕ} {left : ℕ} → group_at first before bytes ≡ Err left → RowsFault first before bytes left
+  InLaterRow : {first : Bool} {before r : Row} {bytes after : List ℕ} {left : ℕ}
       → group_at first before bytes ≡ Ok (Copied r, after) → RowsFault false r after left → RowsFault first before bytes left
 
 -- the bytes are the program of these sequences
 pub data Program : (bytes : List ℕ) (sequences : List Sequence) → Type 0 where
-  none : Program [] []
-  some : {bytes after rest : List ℕ} {start end : ℕ} {rows : List Row} {sequences : List Sequence}
+  NoSequence : Program [] []
+  NextSequence : {bytes after rest : List ℕ} {start end : ℕ} {rows : List Row} {sequences : List Sequence}
       → start_at bytes ≡ Ok (start, after) → Rows true (registers_at start) after rows end rest → Program rest sequences
       → Program bytes (record { rows = rows; end = end } ∷ sequences)
 
 -- the first wrong field of a program
 pub data ProgramFault : (bytes : List ℕ) (left : ℕ) → Type 0 where
-  begins : {bytes : List ℕ} {left : ℕ} → bytes ≢ [] → start_at bytes ≡ Err left → ProgramFault bytes left
-  inside : {bytes after : List ℕ} {start left : ℕ}
+  InStart : {bytes : List ℕ} {left : ℕ} → bytes ≢ [] → start_at bytes ≡ Err left → ProgramFault bytes left
+  InRows : {bytes after : List ℕ} {start left : ℕ}
       → start_at bytes ≡ Ok (start, after) → RowsFault true (registers_at start) after left → ProgramFault bytes left
-  behind : {bytes after rest : List ℕ} {start end left : ℕ} {rows : List Row}
+  InLaterSequence : {bytes after rest : List ℕ} {start end left : ℕ} {rows : List Row}
       → start_at bytes ≡ Ok (start, after) → Rows true (registers_at start) after rows end rest → ProgramFault rest left → ProgramFault bytes left
 
 -- the byte where the first wrong field of a section begins
 pub data FirstFault (bytes : List ℕ) (at : ℕ) : Type 0 where
-  in_header : (left : ℕ) → behind_header bytes ≡ Err left → at ≡ length bytes - left → FirstFault bytes at
-  in_program : (program : List ℕ) (left : ℕ) → behind_header bytes ≡ Ok program → ProgramFault program left → at ≡ length bytes - left → FirstFault bytes at
+  InHeader : (left : ℕ) → behind_header bytes ≡ Err left → at ≡ length bytes - left → FirstFault bytes at
+  InProgram : (program : List ℕ) (left : ℕ) → behind_header bytes ≡ Ok program → ProgramFault program left → at ≡ length bytes - left → FirstFault bytes at
+
+-- the bytes are the section of a table
+pub record IsSection (bytes : List ℕ) (t : LineTable) : Type 0 where
+  pub spelled : bytes ≡ spelling t
+  pub size : length bytes < 4 + LENGTH_LIMIT
+  pub names : HasNames t
+  pub sequences : All IsSequence t.sequences
+  pub fits : Fits t

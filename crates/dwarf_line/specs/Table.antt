@@ -1,5 +1,5 @@
 -- What a line number table is, apart from its bytes.
-use Rattle.std.specs.Prelude.{ℕ, ◌<◌, ◌≤◌, ◌^◌, List, [], ◌∷◌, All}
+use Rattle.std.specs.Prelude.{ℕ, ◌<◌, ◌≤◌, ◌^◌, List, [], ◌∷◌, length, All}
 use Rattle.dwarf_line.specs.declared.table.FileEntry.{FileEntry}
 use Rattle.dwarf_line.specs.declared.table.Row.{Row}
 use Rattle.dwarf_line.specs.declared.table.Sequence.{Sequence}
@@ -33,3 +33,13 @@ pub record IsRow (r : Row) : Type 0 where
   pub file : r.file < 2 ^ 32
   pub line : r.line < 2 ^ 32
   pub column : r.column < 2 ^ 32
+
+abbrev pub HasRange : Sequence → Type 0
+HasRange s = All IsRow s.rows × (s.end < 2 ^ 64)
+
+-- what a table can have: counts and numbers of directories have 64 bits, and so have the ends
+pub record Fits (t : LineTable) : Type 0 where
+  pub dirs : length t.dirs < 2 ^ 64
+  pub files : length t.files < 2 ^ 64
+  pub numbers : All (λ (f : FileEntry). f.dir < 2 ^ 64) t.files
+  pub sequences : All HasRange t.sequences

@@ -1,13 +1,18 @@
 //! What is read of a section, from the left.
 
-ghost use Rattle.std.specs.Prelude.{◌≡◌, ◌+◌, ◌^◌, ◌≤◌, ◌<◌, ◌++◌, ◌∷◌, [], length, IfOk, IfErr, Bool};
+ghost use Rattle.std.specs.Prelude.{◌≡◌, ◌+◌, ◌^◌, ◌≤◌, ◌<◌, ◌++◌, ◌∷◌, [], ◌-◌, length, IfOk, MatchResult, Bool, true};
 ghost use Rattle.std.specs.Int.{w16, w32, w64, to_le_bytes};
 ghost use Rattle.dwarf_line.specs.Fields.{constants_at, number_at, uleb_at, advanced_at, line_at, behind_text};
 ghost use Rattle.dwarf_line.specs.Reading.{behind_dirs, behind_files, behind_tables, behind_header, register_at, advance_at, copied_at, ended_at, closed_at, group_at, start_at};
-ghost use Rattle.dwarf_line.specs.steps.Gives.{Gives};
+ghost use Rattle.dwarf_line.specs.Reading.{Rows, RowsFault, Program, ProgramFault, FirstFault, IsSection};
+ghost use Rattle.dwarf_line.specs.Table.{IsRow};
+ghost use Rattle.dwarf_line.specs.Spelling.{registers_at};
+ghost use Rattle.dwarf_line.specs.steps.Gives.{Gives, Faults};
+ghost use Rattle.dwarf_line.specs.declared.table.LineTable.{LineTable};
 ghost use Rattle.dwarf_line.specs.Standard;
 
 use crate::constants::*;
+use crate::size::registers;
 use crate::table::{LineTable, Row, RowList, Sequence, Sequences};
 use dwarf_base::constants::{ADDRESS_SIZE, SEGMENT_SELECTOR_SIZE, VERSION};
 use dwarf_base::front::{split_sleb, split_uleb, split_u32};
@@ -389,4 +394,47 @@ fn start(bytes: &[u8]) -> Result<(u64, &[u8]), ReadError>
 {
     let address = constants(bytes, &[EXTENDED_OPCODE, 9, DW_LNE_set_address])?;
     u64_at(address)
+}
+
+/// The rows of a sequence that begins at an address, its end, and what is behind it.
+fn sequence_from(
+    alloc: Global,
+    start: u64,
+    bytes: &[u8],
+) -> Result<(Sequence, &[u8]), ReadError>
+    ensures { MatchResult result
+        (λ x. Rows true (registers_at start) bytes.now x.0.rows x.0.end x.1.now)
+        (λ e. Faults e (λ left. RowsFault true (registers_at start) bytes.now left)) }
+{
+    let mut rows = List::new(alloc);
+    let mut first = true;
+    let mut before = registers(start);
+    let mut rest = bytes;
+    loop {
+        let (group, after) = next_group(first, &before, rest)?;
+        match group {
+            Group::Ended(end) => return Ok((Sequence { rows, end }, after)),
+            Group::Copied(row) => {
+                rows.push(row)?;
+                first = false;
+                before = row;
+                rest = after;
+            }
+        }
+    }
+}
+
+/// The sequences of a line number program.
+fn sequences_of(alloc: Global, bytes: &[u8]) -> Result<Sequences, ReadError>
+    ensures { MatchResult result (λ sequences. Program bytes.now sequences) (λ e. Faults e (ProgramFault bytes.now)) }
+{
+    let mut sequences = List::new(alloc);
+    let mut rest = bytes;
+    while !rest.is_empty() {
+        let (address, rows) = start(rest)?;
+        let (sequence, after) = sequence_from(alloc, address, rows)?;
+        sequences.push(sequence)?;
+        rest = after;
+    }
+    Ok(sequences)
 }

@@ -12,3 +12,8 @@ Fails (Left left) read = read ≡ Err left
 abbrev pub Gives : {X Y : Type 0} → (X → Y) → Result X ReadError → Result Y ℕ → Type 0
 Gives view (Ok x) read = read ≡ Ok (view x)
 Gives view (Err e) read = Fails e read
+
+-- a fault of this kind, unless memory ran out
+abbrev pub Faults : ReadError → (ℕ → Type 0) → Type 0
+Faults Memory fault = Unit {0}
+Faults (Left left) fault = fault left
