@@ -3,7 +3,7 @@ use Rattle.std.specs.Prelude.{◌&&◌}
 use Rattle.std.specs.Option.{ok_or}
 use Rattle.std.specs.List.{flat_map, AllByRecursion}
 use Rattle.std.specs.Int.{w16, w32, to_le_bytes}
-use Rattle.std.proofs.Common.{◌≡◌, ◌≢◌, ℕ, zero, suc, ◌+◌, ◌-◌, ◌^◌, ◌<◌, ◌≤◌, Bool, true, false, cond, eqb, ltb, List, [], ◌∷◌, ◌++◌, length, Option, Some, None, Result, Ok, Err, arith, ap, subst, sym, ◌∙◌, refl, inl, inr, append_assoc, length-append, eq-eqb, eqb-true}
+use Rattle.std.proofs.Common.{◌≡◌, ◌≢◌, ℕ, zero, suc, ◌+◌, ◌-◌, ◌^◌, ◌<◌, ◌≤◌, Bool, true, false, cond, eqb, ltb, List, [], ◌∷◌, ◌++◌, length, Option, Some, None, Result, Ok, Err, arith, ap, subst, sym, ◌∙◌, refl, inl, inr, append_assoc, length-append, eq-eqb, eqb-true, lit<}
 use Rattle.std.proofs.lemmas.Bool.{ltb-true, lt-ltb}
 use Rattle.dwarf_base.specs.Leb.{uleb_of}
 use Rattle.dwarf_base.specs.Standard.{LENGTH_LIMIT}
@@ -300,3 +300,36 @@ header_take bytes program are e =
           file_count = t.file_count;
         }
 
+
+pub header_again : (dirs : List (List ℕ)) (files : List FileEntry) (program : List ℕ) → AllByRecursion HasNoZero dirs → AllByRecursion IsFile files → length dirs < 2 ^ 64
+    → length files < 2 ^ 64 → 8 + length (tables_of dirs files) + length program < LENGTH_LIMIT
+    → behind_header (header (8 + length (tables_of dirs files) + length program) (length (tables_of dirs files)) ++ (tables_of dirs files ++ program)) ≡ Ok program
+unfolding behind_header
+header_again dirs files program names are dirs_fit files_fit small =
+    let tb : List ℕ = tables_of dirs files in
+    let after : ℕ = 8 + length tb + length program in
+    let g : List ℕ = tb ++ program in
+    let f : List ℕ = to_le_bytes w32 (length tb) ++ g in
+    let d : List ℕ = (8 ∷ 0 ∷ []) ++ f in
+    let a : List ℕ = to_le_bytes w16 5 ++ d in
+    let bytes : List ℕ = to_le_bytes w32 after ++ a in
+    let whole : length g ≡ length tb + length program = length-append tb program in
+    let long : after ≡ length a = omega (arith, whole) in
+    let header_is : length tb + length program ≡ length g = sym whole in
+    let judged = λ (before : List ℕ) (header_length : ℕ × List ℕ) (program : List ℕ).
+    cond (eqb (header_length.0 + length program) (length header_length.1)) (right program) (fault (length before)) in
+    let tables = λ (before : List ℕ) (header_length : ℕ × List ℕ). behind_tables header_length.1 >>= judged before header_length in
+    let lengths = λ (before : List ℕ). number_at w32 before >>= tables before in
+    let sizes = λ (x : List ℕ). constants_at (8 ∷ 0 ∷ []) x >>= lengths in
+    let versions = λ (start : List ℕ) (version : ℕ × List ℕ). cond (eqb version.0 5) (right version.1) (fault (length start)) >>= sizes in
+    let starts = λ (start : List ℕ). number_at w16 start >>= versions start in
+    let sections = λ (section : ℕ × List ℕ).
+    cond (eqb section.0 (length section.1) && ltb section.0 LENGTH_LIMIT) (right section.1) (fault (length bytes)) >>= starts in
+    ap behind_header (nested_header (to_le_bytes w32 after) (to_le_bytes w16 5) (8 ∷ 0 ∷ []) (to_le_bytes w32 (length tb)) g)
+    ∙ ap (λ r. r >>= sections) (number_again w32 (2 ^ 32) wide32 after a (omega arith))
+    ∙ ap (λ b. cond (b && ltb after LENGTH_LIMIT) (right a) (fault (length bytes)) >>= starts) (eq-eqb after (length a) long)
+    ∙ ap (λ b. cond b (right a) (fault (length bytes)) >>= starts) (lt-ltb after LENGTH_LIMIT small)
+    ∙ ap (λ r. r >>= versions a) (number_again w16 (2 ^ 16) wide16 5 d (lit< tt))
+    ∙ ap (λ r. r >>= tables f) (number_again w32 (2 ^ 32) wide32 (length tb) g (omega arith))
+    ∙ ap (λ r. r >>= judged f (length tb, g)) (tables_again dirs files program names are dirs_fit files_fit)
+    ∙ ap (λ b. cond b (right program) (fault (length f))) (eq-eqb (length tb + length program) (length g) header_is)

@@ -5,3 +5,4 @@ pub mod Groups
 pub mod Program
 pub mod Fixed
 pub mod Header
+pub mod Sections
