@@ -133,13 +133,9 @@ files_again (f ∷ files) rest are =
 
 -- ---- the tables
 
-abbrev tables_of : (dirs : List (List ℕ)) (files : List FileEntry) → List ℕ
+abbrev pub tables_of : (dirs : List (List ℕ)) (files : List FileEntry) → List ℕ
 tables_of dirs files =
     instruction_fields ++ directory_format ++ uleb_of (length dirs) ++ flat_map text dirs ++ file_format ++ uleb_of (length files) ++ flat_map file files
-
-pub tables_is : (t : LineTable) → tables t ≡ tables_of t.dirs t.files
-unfolding tables
-tables_is t = refl
 
 nested_tables : (a b c d e f g x : List ℕ) → (a ++ b ++ c ++ d ++ e ++ f ++ g) ++ x ≡ a ++ (b ++ (c ++ (d ++ (e ++ (f ++ (g ++ x))))))
 nested_tables a b c d e f g x = simp append_assoc

@@ -1,5 +1,5 @@
 -- A section is read exactly where it is that of a table, and then its sequences are read.
-use Rattle.std.specs.Prelude.{All}
+use Rattle.std.specs.Prelude.{All, MatchResult}
 use Rattle.std.specs.List.{flat_map, AllByRecursion}
 use Rattle.std.proofs.Common.{◌≡◌, ◌≢◌, ℕ, zero, suc, ◌+◌, ◌-◌, ◌^◌, ◌<◌, ◌≤◌, true, false, List, [], ◌∷◌, ◌++◌, length, Result, Ok, Err, arith, ap, subst, sym, ◌∙◌, refl, append_assoc, length-append}
 use Rattle.std.proofs.lemmas.List.Elements.{recursion_from_All, All-from_recursion}
@@ -10,11 +10,14 @@ use Rattle.dwarf_line.specs.declared.table.Sequence.{Sequence}
 use Rattle.dwarf_line.specs.declared.table.LineTable.{LineTable}
 use Rattle.dwarf_line.specs.Table.{Ascend, HasRows, IsSequence, IsName, HasNames, IsRow, HasRange, Fits}
 use Rattle.dwarf_line.specs.Spelling.{tables, rows_to, set_address, registers_at, first_address, sequence, program, header, spelling}
-use Rattle.dwarf_line.specs.Reading.{behind_header, Rows, RowsFault, start_at, Program, NoSequence, NextSequence, ProgramFault, InStart, InRows, InLaterSequence, IsSection}
+use Rattle.dwarf_line.specs.Reading.{behind_header, Rows, RowsFault, start_at, Program, NoSequence, NextSequence, ProgramFault, InStart, InRows, InLaterSequence, SectionFault, InHeader, InProgram, FirstFault, IsSection}
+use Rattle.dwarf_line.specs.declared.read.ReadError.{ReadError}
+use Rattle.dwarf_line.specs.declared.read.ReadError.TheVariants.{Memory, Left}
+use Rattle.dwarf_line.specs.steps.Gives.{Faults, Reads}
 use Rattle.dwarf_line.proofs.Groups.{ok_is, not_ok}
 use Rattle.dwarf_line.proofs.Fixed.{IsBytes, IsBytes-behind}
 use Rattle.dwarf_line.proofs.Program.{AreRows, BeginsAt, rows_take, rows_again, rows_apart, rows_one, start_takes, start_again, begins_row}
-use Rattle.dwarf_line.proofs.Header.{HasNoZero, IsFile, Head, tables_is, header_take, header_again}
+use Rattle.dwarf_line.proofs.Header.{HasNoZero, IsFile, Head, tables_of, header_take, header_again}
 
 -- what a sequence keeps that can be written
 pub record IsWritten (s : Sequence) : Type 0 where
@@ -104,3 +107,108 @@ program_one {bytes} (NextSequence {after = x} {rest = rest} {start = a} {end = e
   where
     sequence_of : List Row → ℕ → Sequence
     sequence_of rows end = record { rows = rows; end = end }
+
+-- ---- the section
+
+each_of : {X : Type 0} (P Q : X → Type 0) → ((x : X) → P x → Q x) → (xs : List X) → AllByRecursion P xs → AllByRecursion Q xs
+each_of P Q weaker [] are = tt
+each_of P Q weaker (x ∷ xs) are = (weaker x are.0, each_of P Q weaker xs are.1)
+
+all_of : {X : Type 0} (P Q : X → Type 0) → ((x : X) → P x → Q x) → (xs : List X) → AllByRecursion P xs → All Q xs
+all_of P Q weaker xs are = All-from_recursion Q xs (each_of P Q weaker xs are)
+
+name_of : (name : List ℕ) → HasNoZero name → IsName name
+name_of name whole = All-from_recursion (λ byte. 0 < byte) name whole
+
+no_zero : (name : List ℕ) → IsName name → HasNoZero name
+no_zero name is = recursion_from_All (λ byte. 0 < byte) name is
+
+names_again : (dirs : List (List ℕ)) → All IsName dirs → AllByRecursion HasNoZero dirs
+names_again dirs names = each_of IsName HasNoZero no_zero dirs (recursion_from_All IsName dirs names)
+
+both_of : {X : Type 0} (P Q R : X → Type 0) → ((x : X) → P x → Q x → R x) → (xs : List X) → AllByRecursion P xs → AllByRecursion Q xs → AllByRecursion R xs
+both_of P Q R together [] ps qs = tt
+both_of P Q R together (x ∷ xs) ps qs = (together x ps.0 qs.0, both_of P Q R together xs ps.1 qs.1)
+
+abbrev IsNamed : FileEntry → Type 0
+IsNamed f = IsName f.name
+
+abbrev IsNumbered : FileEntry → Type 0
+IsNumbered f = f.dir < 2 ^ 64
+
+files_again : (files : List FileEntry) → All IsNamed files → All IsNumbered files → AllByRecursion IsFile files
+files_again files names numbers =
+    both_of IsNamed IsNumbered IsFile (λ f named numbered. record { name = no_zero f.name named; dir = numbered }) files (recursion_from_All IsNamed files names)
+    (recursion_from_All IsNumbered files numbers)
+
+written_again : (ss : List Sequence) → All IsSequence ss → All HasRange ss → AllByRecursion IsWritten ss
+written_again ss sequences ranges =
+    both_of IsSequence HasRange IsWritten (λ s is range. record { rows = is; fits = recursion_from_All IsRow s.rows range.0; end = range.1 }) ss
+    (recursion_from_All IsSequence ss sequences) (recursion_from_All HasRange ss ranges)
+
+-- what is read is the section of a table
+pub section_found : (bytes p : List ℕ) (ss : List Sequence) → IsBytes bytes → behind_header bytes ≡ Ok p → Program p ss
+    → (t : LineTable) × IsSection bytes t × (t.sequences ≡ ss)
+unfolding spelling tables
+section_found bytes p ss are e reads =
+    let head = header_take bytes p are e in
+    let front : List ℕ = header (8 + length (tables_of head.dirs head.files) + length p) (length (tables_of head.dirs head.files)) ++ tables_of head.dirs head.files in
+    let joined : bytes ≡ front ++ p =
+    head.spelled ∙ sym (append_assoc (header (8 + length (tables_of head.dirs head.files) + length p) (length (tables_of head.dirs head.files))) (tables_of head.dirs head.files) p) in
+    let sequences = program_takes (IsBytes-behind bytes front p joined are) reads in
+    let t : LineTable = record { dirs = head.dirs; files = head.files; sequences = ss } in
+    (t, record {
+      spelled = joined ∙ ap (λ x. header (8 + length (tables_of head.dirs head.files) + length x) (length (tables_of head.dirs head.files)) ++ tables_of head.dirs head.files ++ x) sequences.spelled;
+      size = head.size;
+      names = record { dirs = all_of HasNoZero IsName name_of head.dirs head.names; files = all_of IsFile IsNamed (λ f is. name_of f.name is.name) head.files head.are };
+      sequences = all_of IsWritten IsSequence (λ s is. is.rows) ss sequences.are;
+      fits = record {
+        dirs = head.dir_count;
+        files = head.file_count;
+        numbers = all_of IsFile IsNumbered (λ f is. is.dir) head.files head.are;
+        sequences = all_of IsWritten HasRange (λ s is. (All-from_recursion IsRow s.rows is.fits, is.end)) ss sequences.are;
+      };
+    }, refl)
+
+-- and the section of a table is read
+pub section_header : (bytes : List ℕ) (t : LineTable) → IsSection bytes t → behind_header bytes ≡ Ok (program t.sequences)
+unfolding spelling tables
+section_header bytes t is =
+    let tb : List ℕ = tables_of t.dirs t.files in
+    let p : List ℕ = program t.sequences in
+    let long : length (spelling t) ≡ 4 + (8 + length tb + length p) = omega (arith, length-append tb p) in
+    ap behind_header (is.spelled ∙ append_assoc (header (8 + length tb + length p) (length tb)) tb p)
+    ∙ header_again t.dirs t.files p (names_again t.dirs is.names.dirs) (files_again t.files is.names.files is.fits.numbers) is.fits.dirs is.fits.files
+    (omega (arith, long, ap length is.spelled, is.size))
+
+pub section_program : (bytes : List ℕ) (t : LineTable) → IsSection bytes t → Program (program t.sequences) t.sequences
+section_program bytes t is = program_again t.sequences (written_again t.sequences is.sequences is.fits.sequences)
+
+-- ---- what the reader answers
+
+pub section_reads : (r : Result (List Sequence) ReadError) (bytes p : List ℕ) → behind_header bytes ≡ Ok p → MatchResult r (λ ss. Program p ss) (λ e. Faults e (ProgramFault p))
+    → MatchResult r (λ ss. Reads bytes ss) (λ e. Faults e (SectionFault bytes))
+section_reads (Ok ss) bytes p e reads = record { behind = p; header = e; reads = reads }
+section_reads (Err Memory) bytes p e fault = tt
+section_reads (Err (Left left)) bytes p e fault = InProgram p e fault
+
+section_apart : (bytes : List ℕ) (left : ℕ) (t : LineTable) → SectionFault bytes left → IsSection bytes t → ⊥
+section_apart bytes left t (InHeader e) is = not_ok left (program t.sequences) (sym e ∙ section_header bytes t is)
+section_apart bytes left t (InProgram p e fault) is =
+    let same : p ≡ program t.sequences = ok_is p (program t.sequences) (sym e ∙ section_header bytes t is) in
+    program_apart fault (subst (λ x. Program x t.sequences) (sym same) (section_program bytes t is))
+
+pub read_only : (bytes : List ℕ) (ss : List Sequence) (t : LineTable) → Reads bytes ss → IsSection bytes t → ss ≡ t.sequences
+read_only bytes ss t reads is =
+    let same : reads.behind ≡ program t.sequences = ok_is reads.behind (program t.sequences) (sym reads.header ∙ section_header bytes t is) in
+    program_one reads.reads (subst (λ x. Program x t.sequences) (sym same) (section_program bytes t is))
+
+pub fault_only : (bytes : List ℕ) (left : ℕ) (e : ReadError) (t : LineTable) (P : Type 0) → e ≡ Left left → Faults e (SectionFault bytes) → IsSection bytes t → P
+fault_only bytes left e t P is_left fault is = absurd (section_apart bytes left t (subst (λ x. Faults x (SectionFault bytes)) is_left fault) is)
+
+pub first_fault : (bytes : List ℕ) (left : ℕ) (e : ReadError) (at : ℕ) → e ≡ Left left → Faults e (SectionFault bytes) → at ≡ length bytes - left → FirstFault bytes at
+first_fault bytes left e at is_left fault place =
+    record { left = left; fault = subst (λ x. Faults x (SectionFault bytes)) is_left fault; place = place }
+
+pub one_table : (bytes : List ℕ) (a b : LineTable) → IsSection bytes a → IsSection bytes b → a.sequences ≡ b.sequences
+one_table bytes a b is_a is_b = read_only bytes a.sequences b (record { behind = program a.sequences; header = section_header bytes a is_a; reads = section_program bytes a is_a }) is_b

@@ -129,10 +129,16 @@ pub data ProgramFault : (bytes : List ℕ) (left : ℕ) → Type 0 where
   InLaterSequence : {bytes after rest : List ℕ} {start end left : ℕ} {rows : List Row}
       → start_at bytes ≡ Ok (start, after) → Rows true (registers_at start) after rows end rest → ProgramFault rest left → ProgramFault bytes left
 
+-- the first wrong field of a section
+pub data SectionFault (bytes : List ℕ) (left : ℕ) : Type 0 where
+  InHeader : behind_header bytes ≡ Err left → SectionFault bytes left
+  InProgram : (program : List ℕ) → behind_header bytes ≡ Ok program → ProgramFault program left → SectionFault bytes left
+
 -- the byte where the first wrong field of a section begins
-pub data FirstFault (bytes : List ℕ) (at : ℕ) : Type 0 where
-  InHeader : (left : ℕ) → behind_header bytes ≡ Err left → at ≡ length bytes - left → FirstFault bytes at
-  InProgram : (program : List ℕ) (left : ℕ) → behind_header bytes ≡ Ok program → ProgramFault program left → at ≡ length bytes - left → FirstFault bytes at
+pub record FirstFault (bytes : List ℕ) (at : ℕ) : Type 0 where
+  pub left : ℕ
+  pub fault : SectionFault bytes left
+  pub place : at ≡ length bytes - left
 
 -- the bytes are the section of a table
 pub record IsSection (bytes : List ℕ) (t : LineTable) : Type 0 where

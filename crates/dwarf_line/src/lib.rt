@@ -8,7 +8,8 @@
 #![tactic(auto)]
 
 pub mod constants;
-mod read;
+pub mod fault;
+pub mod read;
 pub mod size;
 pub mod table;
 pub mod write;

@@ -1,23 +1,47 @@
 //! What is read of a section, from the left.
 
-ghost use Rattle.std.specs.Prelude.{◌≡◌, ◌+◌, ◌^◌, ◌≤◌, ◌<◌, ◌++◌, ◌∷◌, [], ◌-◌, length, IfOk, MatchResult, Bool, true};
+ghost use Rattle.std.specs.Prelude.{◌≡◌, ◌+◌, ◌^◌, ◌≤◌, ◌<◌, ◌++◌, ◌∷◌, [], ◌-◌, length, IfOk, IsErrOf, MatchResult, ℕ, List, true};
 ghost use Rattle.std.specs.Int.{w16, w32, w64, to_le_bytes};
 ghost use Rattle.dwarf_line.specs.Fields.{constants_at, number_at, uleb_at, advanced_at, line_at, behind_text};
 ghost use Rattle.dwarf_line.specs.Reading.{behind_dirs, behind_files, behind_tables, behind_header, register_at, advance_at, copied_at, ended_at, closed_at, group_at, start_at};
-ghost use Rattle.dwarf_line.specs.Reading.{Rows, RowsFault, Program, ProgramFault, FirstFault, IsSection};
+ghost use Rattle.dwarf_line.specs.Reading.{Rows, RowsFault, Program, ProgramFault, SectionFault, FirstFault, IsSection};
 ghost use Rattle.dwarf_line.specs.Table.{IsRow};
 ghost use Rattle.dwarf_line.specs.Spelling.{registers_at};
-ghost use Rattle.dwarf_line.specs.steps.Gives.{Gives, Faults};
+ghost use Rattle.dwarf_line.specs.steps.Gives.{Gives, Faults, Reads};
 ghost use Rattle.dwarf_line.specs.declared.table.LineTable.{LineTable};
 ghost use Rattle.dwarf_line.specs.Standard;
 
 use crate::constants::*;
+use crate::fault::LineError;
 use crate::size::registers;
 use crate::table::{LineTable, Row, RowList, Sequence, Sequences};
 use dwarf_base::constants::{ADDRESS_SIZE, SEGMENT_SELECTOR_SIZE, VERSION};
 use dwarf_base::front::{split_sleb, split_uleb, split_u32};
 use lists::List;
 use std::alloc::{AllocError, AllocFailed, Global};
+
+/// The sequences of a section `.debug_line`, as `write_line` writes it. Special opcodes aren't read, and files and directories are
+/// passed over. It takes memory for the rows alone.
+pub fn rows(alloc: Global, bytes: &[u8]) -> Result<Sequences, LineError>
+    // What is read is the section of a table with these sequences.
+    ensures found { IfOk result (λ sequences. (t : LineTable) × IsSection bytes.now t × (t.sequences ≡ sequences)) }
+    // What is the section of a table is read, unless memory runs out.
+    ensures only { (t : LineTable) → IsSection bytes.now t
+        → MatchResult result (λ sequences. sequences ≡ t.sequences) (λ e. e ≡ LineError.Memory) }
+    // Of anything else it is told where the first wrong field is.
+    ensures fault { (at : ℕ) → IsErrOf result (LineError.LineFault at) → FirstFault bytes.now at }
+{
+    match section(alloc, bytes) {
+        Ok(sequences) => Ok(sequences),
+        Err(ReadError::Left(left)) => Err(LineError::LineFault(bytes.len().saturating_sub(left))),
+        Err(ReadError::Memory) => Err(LineError::Memory),
+    }
+}
+
+/// Two tables with one section have the same sequences.
+pub fn one_reading()
+    ensures { (bytes : List ℕ) (a b : LineTable) → IsSection bytes a → IsSection bytes b → a.sequences ≡ b.sequences }
+{}
 
 /// Why bytes couldn't be read on.
 #[derive(Debug, Drop)]
@@ -437,4 +461,12 @@ fn sequences_of(alloc: Global, bytes: &[u8]) -> Result<Sequences, ReadError>
         rest = after;
     }
     Ok(sequences)
+}
+
+/// The sequences of a section.
+fn section(alloc: Global, bytes: &[u8]) -> Result<Sequences, ReadError>
+    ensures { MatchResult result (λ sequences. Reads bytes.now sequences) (λ e. Faults e (SectionFault bytes.now)) }
+{
+    let program = after_header(bytes)?;
+    sequences_of(alloc, program)
 }

@@ -1,5 +1,7 @@
 -- What a reader of the code returned, against what is read.
-use Rattle.std.specs.Prelude.{◌≡◌, ℕ, Result, Ok, Err}
+use Rattle.std.specs.Prelude.{◌≡◌, ℕ, List, Result, Ok, Err}
+use Rattle.dwarf_line.specs.declared.table.Sequence.{Sequence}
+use Rattle.dwarf_line.specs.Reading.{behind_header, Program}
 use Rattle.dwarf_line.specs.declared.read.ReadError.{ReadError}
 use Rattle.dwarf_line.specs.declared.read.ReadError.TheVariants.{Memory, Left}
 
@@ -17,3 +19,9 @@ Gives view (Err e) read = Fails e read
 abbrev pub Faults : ReadError → (ℕ → Type 0) → Type 0
 Faults Memory fault = Unit {0}
 Faults (Left left) fault = fault left
+
+-- the header is read, and behind it a program of these sequences
+pub record Reads (bytes : List ℕ) (sequences : List Sequence) : Type 0 where
+  pub behind : List ℕ
+  pub header : behind_header bytes ≡ Ok behind
+  pub reads : Program behind sequences
