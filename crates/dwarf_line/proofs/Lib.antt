@@ -1,4 +1,5 @@
 pub mod SpellingLemmas
+pub mod WriteLoops
 pub mod Numbers
 pub mod ReadLoops
 pub mod Groups

@@ -8,7 +8,7 @@ use Rattle.dwarf_line.specs.declared.table.FileEntry.{FileEntry}
 use Rattle.dwarf_line.specs.declared.table.Row.{Row}
 use Rattle.dwarf_line.specs.declared.table.Sequence.{Sequence}
 use Rattle.dwarf_line.specs.declared.table.LineTable.{LineTable}
-use Rattle.dwarf_line.specs.Table.{Ascend, HasRows, IsSequence, IsName, HasNames, IsRow, HasRange, Fits}
+use Rattle.dwarf_line.specs.Table.{Ascend, HasRows, IsSequence, IsName, IsNamed, IsNumbered, HasNames, IsRow, HasRange, Fits}
 use Rattle.dwarf_line.specs.Spelling.{tables, rows_to, set_address, registers_at, first_address, sequence, program, header, spelling}
 use Rattle.dwarf_line.specs.Reading.{behind_header, Rows, RowsFault, start_at, Program, NoSequence, NextSequence, ProgramFault, InStart, InRows, InLaterSequence, SectionFault, InHeader, InProgram, FirstFault, IsSection}
 use Rattle.dwarf_line.specs.declared.read.ReadError.{ReadError}
@@ -129,12 +129,6 @@ names_again dirs names = each_of IsName HasNoZero no_zero dirs (recursion_from_A
 both_of : {X : Type 0} (P Q R : X → Type 0) → ((x : X) → P x → Q x → R x) → (xs : List X) → AllByRecursion P xs → AllByRecursion Q xs → AllByRecursion R xs
 both_of P Q R together [] ps qs = tt
 both_of P Q R together (x ∷ xs) ps qs = (together x ps.0 qs.0, both_of P Q R together xs ps.1 qs.1)
-
-abbrev IsNamed : FileEntry → Type 0
-IsNamed f = IsName f.name
-
-abbrev IsNumbered : FileEntry → Type 0
-IsNumbered f = f.dir < 2 ^ 64
 
 files_again : (files : List FileEntry) → All IsNamed files → All IsNumbered files → AllByRecursion IsFile files
 files_again files names numbers =

@@ -24,15 +24,6 @@ written t out first second third length_after header_length program_is tables_ar
     ∙ ap (λ n. header n header_length ++ tables t ++ program t.sequences) after
     ∙ ap (λ n. header (8 + length (tables t) + length (program t.sequences)) n ++ tables t ++ program t.sequences) length_is
 
--- one sequence more
-pub one_more : (out before items : List ℕ) (sequences : List Sequence) (i : ℕ) (s : Sequence) (rows : List Row) → i < length sequences → s ≡ get_or sequences i s
-    → before ≡ out ++ program (take i sequences) → rows ≡ s.rows → items ≡ before ++ sequence (record { rows = rows; end = s.end })
-    → items ≡ out ++ program (take (i + 1) sequences)
-one_more out before items sequences i s rows inside at so_far same more =
-    let all : take (i + 1) sequences ≡ take i sequences ++ s ∷ [] = take_more sequences i s inside ∙ ap (λ x. take i sequences ++ x ∷ []) (sym at) in
-    more ∙ ap (λ r. before ++ sequence (record { rows = r; end = s.end })) same
-    ∙ ap (λ x. x ++ sequence s) so_far ∙ flat_map_more sequence out (take i sequences) s ∙ ap (λ x. out ++ program x) (sym all)
-
 -- the tables, as their parts were written one after the other
 pub tables_written : (t : LineTable) (o o1 o2 o3 o4 o5 o6 u v : List ℕ) (dirs : List (List ℕ)) (files : List FileEntry)
     → o1 ≡ o ++ instruction_fields → o2 ≡ o1 ++ directory_format → o3 ≡ o2 ++ u → o4 ≡ o3 ++ flat_map text dirs → o5 ≡ o4 ++ file_format → o6 ≡ o5 ++ v

@@ -22,10 +22,13 @@ IsSequence s = HasRows s.rows s.end
 abbrev pub IsName : List ℕ → Type 0
 IsName name = All (λ byte. 0 < byte) name
 
+abbrev pub IsNamed : FileEntry → Type 0
+IsNamed f = IsName f.name
+
 -- the names of directories and files have no zero byte
 pub record HasNames (t : LineTable) : Type 0 where
   pub dirs : All IsName t.dirs
-  pub files : All (λ (f : FileEntry). IsName f.name) t.files
+  pub files : All IsNamed t.files
 
 -- a row's address has 64 bits, its file, line and column have 32
 pub record IsRow (r : Row) : Type 0 where
@@ -37,9 +40,13 @@ pub record IsRow (r : Row) : Type 0 where
 abbrev pub HasRange : Sequence → Type 0
 HasRange s = All IsRow s.rows × (s.end < 2 ^ 64)
 
+-- a file's directory has a number of 64 bits
+abbrev pub IsNumbered : FileEntry → Type 0
+IsNumbered f = f.dir < 2 ^ 64
+
 -- what a table can have: counts and numbers of directories have 64 bits, and so have the ends
 pub record Fits (t : LineTable) : Type 0 where
   pub dirs : length t.dirs < 2 ^ 64
   pub files : length t.files < 2 ^ 64
-  pub numbers : All (λ (f : FileEntry). f.dir < 2 ^ 64) t.files
+  pub numbers : All IsNumbered t.files
   pub sequences : All HasRange t.sequences

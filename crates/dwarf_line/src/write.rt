@@ -2,7 +2,8 @@
 
 ghost use Rattle.std.specs.Prelude.{◌≡◌, ◌+◌, ◌^◌, ◌≤◌, ◌<◌, ◌++◌, ◌∷◌, length, All, OnOk, IfOk};
 ghost use Rattle.std.specs.List.{flat_map};
-ghost use Rattle.dwarf_line.specs.Table.{Ascend, HasRows, IsSequence};
+ghost use Rattle.dwarf_line.specs.Table.{Ascend, HasRows, IsSequence, HasNames, IsRow, HasRange, IsNumbered};
+ghost use Rattle.dwarf_line.specs.Reading.{IsSection};
 ghost use Rattle.dwarf_line.specs.Spelling;
 ghost use Rattle.dwarf_line.specs.Spelling.{changing, set_file, set_column, advance_pc, advance_line, set_address, end_sequence, rows_to, first_address, registers_at, sequence, program, text, tables, header, spelling};
 
@@ -22,9 +23,14 @@ const LENGTH: usize = 4;
 
 /// The section `.debug_line` of a table.
 pub fn write_line(alloc: Global, t: &LineTable) -> Result<Bytes, AllocError>
+    // The names have no zero byte.
+    requires names { HasNames t.now }
+    // Each sequence has a row, its addresses don't fall, and its end isn't below the last.
     requires sequences { All IsSequence t.now.sequences }
     requires size { length (spelling t.now) < 2 ^ 31 }
-    ensures { IfOk result (λ bytes. bytes ≡ spelling t.now) }
+    ensures bytes { IfOk result (λ bytes. bytes ≡ spelling t.now) }
+    // It is in the grammar, and its table is this one.
+    ensures section { IfOk result (λ bytes. IsSection bytes t.now) }
 {
     let size = section_len(t);
     let mut out = Vec::with_capacity(alloc, size)?;
@@ -48,7 +54,10 @@ fn push_header(out: &mut Vec<u8>, length_after: u32, header_length: u32) -> Resu
 /// Appends what the header's length counts.
 #[tactic(auto, unfolding(crate::specs::Spelling::tables))]
 fn push_tables(out: &mut Vec<u8>, t: &LineTable) -> Result<(), AllocError>
-    ensures { OnOk result (out.new.items ≡ out.old.items ++ tables t.now) }
+    ensures bytes { OnOk result (out.new.items ≡ out.old.items ++ tables t.now) }
+    ensures dirs { OnOk result (length t.now.dirs < 2 ^ 64) }
+    ensures files { OnOk result (length t.now.files < 2 ^ 64) }
+    ensures numbers { OnOk result (All IsNumbered t.now.files) }
 {
     out.extend_from_slice(&INSTRUCTION_FIELDS)?;
     out.extend_from_slice(&DIRECTORY_FORMAT)?;
@@ -71,19 +80,29 @@ fn push_dirs(out: &mut Vec<u8>, dirs: &[Name]) -> Result<(), AllocError>
 
 /// Appends files.
 fn push_files(out: &mut Vec<u8>, files: &[FileEntry]) -> Result<(), AllocError>
-    ensures { OnOk result (out.new.items ≡ out.old.items ++ flat_map Spelling.file files.now) }
+    ensures bytes { OnOk result (out.new.items ≡ out.old.items ++ flat_map Spelling.file files.now) }
+    ensures numbers { OnOk result (All IsNumbered files.now) }
 {
     for file in files {
-        push_text(out, file.name.as_slice())?;
-        push_leb(out, &uleb(file.dir as u64))?;
+        push_source(out, file)?;
     }
     Ok(())
+}
+
+/// Appends a file: its name, and the number of its directory.
+fn push_source(out: &mut Vec<u8>, file: &FileEntry) -> Result<(), AllocError>
+    ensures bytes { OnOk result (out.new.items ≡ out.old.items ++ Spelling.file file.now) }
+    ensures number { OnOk result (IsNumbered file.now) }
+{
+    push_text(out, file.name.as_slice())?;
+    push_leb(out, &uleb(file.dir as u64))
 }
 
 /// Appends the line number program.
 fn push_program(out: &mut Vec<u8>, sequences: &[Sequence]) -> Result<(), AllocError>
     requires { All IsSequence sequences.now }
-    ensures { OnOk result (out.new.items ≡ out.old.items ++ program sequences.now) }
+    ensures bytes { OnOk result (out.new.items ≡ out.old.items ++ program sequences.now) }
+    ensures ranges { OnOk result (All HasRange sequences.now) }
 {
     for sequence in sequences {
         push_sequence(out, sequence.rows.as_slice(), sequence.end)?;
@@ -94,7 +113,8 @@ fn push_program(out: &mut Vec<u8>, sequences: &[Sequence]) -> Result<(), AllocEr
 /// Appends a sequence: its first address, its rows, and its end.
 fn push_sequence(out: &mut Vec<u8>, rows: &[Row], end: u64) -> Result<(), AllocError>
     requires { HasRows rows.now end }
-    ensures { OnOk result (out.new.items ≡ out.old.items ++ sequence (record { rows = rows.now; end = end })) }
+    ensures bytes { OnOk result (out.new.items ≡ out.old.items ++ sequence (record { rows = rows.now; end = end })) }
+    ensures ranges { OnOk result (All IsRow rows.now × (end < 2 ^ 64)) }
 {
     let mut before = registers(rows[0].address);
     push_set_address(out, before.address)?;
@@ -131,7 +151,8 @@ fn push_end(out: &mut Vec<u8>, last: u64, end: u64) -> Result<(), AllocError>
 #[tactic(auto, unfolding(crate::specs::Spelling::row))]
 fn push_row(out: &mut Vec<u8>, before: &Row, row: &Row) -> Result<(), AllocError>
     requires { before.now.address ≤ row.now.address }
-    ensures { OnOk result (out.new.items ≡ out.old.items ++ Spelling.row before.now row.now) }
+    ensures bytes { OnOk result (out.new.items ≡ out.old.items ++ Spelling.row before.now row.now) }
+    ensures ranges { OnOk result (IsRow row.now) }
 {
     push_file(out, before.file, row.file)?;
     push_column(out, before.column, row.column)?;

@@ -4,9 +4,9 @@ use Rattle.dwarf_base.specs.Leb.{uleb_of}
 use Rattle.dwarf_line.proofs.SpellingLemmas.{tables_written}
 use Rattle.dwarf_line.proofs.write.push_tables.Goals as goal
 
-pub returns : goal.returns
-returns c =
-    IfOk-equal _ _ _ _ c.push_files.ensures
+pub returns-clause-bytes : goal.returns-clause-bytes
+returns-clause-bytes c =
+    IfOk-equal _ _ _ _ c.push_files.ensures.bytes
     (tables_written c.args.t.now _ _ _ _ _ _ _ _ _ _ _
     c.in_ok-extend_from_slice.ensures.items c.in_ok-extend_from_slice-2.ensures.items c.in_ok-push_leb.ensures c.in_ok-push_dirs.ensures
     c.in_ok-extend_from_slice-3.ensures.items c.in_ok-push_leb-2.ensures
