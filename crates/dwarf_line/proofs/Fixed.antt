@@ -66,15 +66,16 @@ number_takes w limit wide bytes n rest are e =
     elim (chosen (ltb (length bytes) (byte_len w)) (wrong (length bytes)) (number (from_le_bytes w (take (byte_len w) bytes)) (drop (byte_len w) bytes)) (number n rest) e) [
       | inl short ↦ absurd (not_ok (length bytes) (n, rest) short.1)
       | inr enough ↦
-        (let long : byte_len w ≤ length bytes = ltb-false _ _ enough.0 in
-        let same = ok_is (from_le_bytes w (take (byte_len w) bytes), drop (byte_len w) bytes) (n, rest) enough.1 in
-        let n_is : from_le_bytes w (take (byte_len w) bytes) ≡ n = ap (λ (p : ℕ × List ℕ). p.0) same in
-        let rest_is : drop (byte_len w) bytes ≡ rest = ap (λ (p : ℕ × List ℕ). p.1) same in
-        let front : to_le_bytes w (from_le_bytes w (take (byte_len w) bytes)) ≡ take (byte_len w) bytes =
-        wide.back (take (byte_len w) bytes) (omega (arith, length-take (byte_len w) bytes)) (IsBytes-take (byte_len w) bytes are) in
-        (sym (take-append-drop (byte_len w) bytes) ∙ ap (λ x. x ++ drop (byte_len w) bytes) (sym front)
-        ∙ ap (λ k. to_le_bytes w k ++ drop (byte_len w) bytes) n_is ∙ ap (λ x. to_le_bytes w n ++ x) rest_is,
-        rw (← n_is) (wide.below (take (byte_len w) bytes) (IsBytes-take (byte_len w) bytes are))))
+          (let long : byte_len w ≤ length bytes = ltb-false _ _ enough.0 in
+          let same = ok_is (from_le_bytes w (take (byte_len w) bytes), drop (byte_len w) bytes) (n, rest) enough.1 in
+          let n_is : from_le_bytes w (take (byte_len w) bytes) ≡ n = ap (λ (p : ℕ × List ℕ). p.0) same in
+          let rest_is : drop (byte_len w) bytes ≡ rest = ap (λ (p : ℕ × List ℕ). p.1) same in
+          let front : to_le_bytes w (from_le_bytes w (take (byte_len w) bytes)) ≡ take (byte_len w) bytes =
+          wide.back (take (byte_len w) bytes) (omega (arith, length-take (byte_len w) bytes)) (IsBytes-take (byte_len w) bytes are) in (
+            sym (take-append-drop (byte_len w) bytes) ∙ ap (λ x. x ++ drop (byte_len w) bytes) (sym front)
+                ∙ ap (λ k. to_le_bytes w k ++ drop (byte_len w) bytes) n_is ∙ ap (λ x. to_le_bytes w n ++ x) rest_is,
+            rw (← n_is) (wide.below (take (byte_len w) bytes) (IsBytes-take (byte_len w) bytes are)),
+          ))
     ]
 
 pub number_again : (w : Width) (limit : ℕ) → IsWide w limit → (n : ℕ) (rest : List ℕ) → n < limit → number_at w (to_le_bytes w n ++ rest) ≡ Ok (n, rest)

@@ -83,9 +83,11 @@ sets spell Fits opcode old b bytes left m after new rest is read e =
     elim (chosen (eqb m old) (wrong left) (number m after) (number new rest) e) [
       | inl same ↦ absurd (not_ok left (new, rest) same.1)
       | inr apart ↦
-        subst (λ (p : ℕ × List ℕ). (b ∷ bytes ≡ changing old p.0 (opcode ∷ spell p.0) ++ p.1) × Fits p.0) (ok_is (m, after) (new, rest) apart.1)
-        (let head : b ≡ opcode = eqb-true b opcode is in
-        ap (λ k. k ∷ bytes) head ∙ ap (λ x. opcode ∷ x) read.0 ∙ sym (ap (λ x. x ++ after) (changed old m (opcode ∷ spell m) apart.0)), read.1)
+          subst (λ (p : ℕ × List ℕ). (b ∷ bytes ≡ changing old p.0 (opcode ∷ spell p.0) ++ p.1) × Fits p.0) (ok_is (m, after) (new, rest) apart.1) (
+            let head : b ≡ opcode = eqb-true b opcode is in
+                ap (λ k. k ∷ bytes) head ∙ ap (λ x. opcode ∷ x) read.0 ∙ sym (ap (λ x. x ++ after) (changed old m (opcode ∷ spell m) apart.0)),
+            read.1,
+          )
     ]
 
 pub register_takes : (opcode : ℕ) (read : List ℕ → Result (ℕ × List ℕ) ℕ) (spell : ℕ → List ℕ) (Fits : ℕ → Type 0) (old : ℕ) (bytes : List ℕ) (new : ℕ) (rest : List ℕ)
@@ -95,8 +97,8 @@ register_takes opcode read spell Fits old [] new rest is fits e = stays spell Fi
 register_takes opcode read spell Fits old (b ∷ bytes) new rest is fits e =
     elim (chosen (eqb b opcode) (read bytes >>= (λ (x : ℕ × List ℕ). cond (eqb x.0 old) (wrong (length bytes)) (done x))) (number old (b ∷ bytes)) (number new rest) e) [
       | inl stands ↦
-        (let operand = bind_ok (read bytes) (λ (x : ℕ × List ℕ). cond (eqb x.0 old) (wrong (length bytes)) (done x)) (new, rest) stands.1 in
-        sets spell Fits opcode old b bytes (length bytes) operand.0.0 operand.0.1 new rest stands.0 (is.takes bytes operand.0.0 operand.0.1 operand.1) operand.2)
+          (let operand = bind_ok (read bytes) (λ (x : ℕ × List ℕ). cond (eqb x.0 old) (wrong (length bytes)) (done x)) (new, rest) stands.1 in
+          sets spell Fits opcode old b bytes (length bytes) operand.0.0 operand.0.1 new rest stands.0 (is.takes bytes operand.0.0 operand.0.1 operand.1) operand.2)
       | inr other ↦ stays spell Fits opcode old (b ∷ bytes) new rest fits other.1
     ]
 
@@ -112,11 +114,11 @@ unfolding register_at
 register_again opcode read spell Fits old new rest is fits other =
     elim (cases_Bool (eqb new old)) [
       | inl same ↦
-        (let number : new ≡ old = eqb-true new old same in
-        ap (λ b. register_at opcode read old (cond b [] (opcode ∷ spell new) ++ rest)) same ∙ register_other opcode read old rest other ∙ ap (λ n. Ok (n, rest)) (sym number))
+          (let number : new ≡ old = eqb-true new old same in
+          ap (λ b. register_at opcode read old (cond b [] (opcode ∷ spell new) ++ rest)) same ∙ register_other opcode read old rest other ∙ ap (λ n. Ok (n, rest)) (sym number))
       | inr apart ↦
-        ap (λ b. register_at opcode read old (cond b [] (opcode ∷ spell new) ++ rest)) apart
-        ∙ rw (eq-eqb opcode opcode refl, is.again new rest fits, apart) refl
+          ap (λ b. register_at opcode read old (cond b [] (opcode ∷ spell new) ++ rest)) apart
+          ∙ rw (eq-eqb opcode opcode refl, is.again new rest fits, apart) refl
     ]
 
 -- ---- the address
@@ -144,9 +146,11 @@ advances_to : (from b : ℕ) (bytes : List ℕ) (to : ℕ) (after : List ℕ) (a
     → (bytes ≡ uleb_of (to - from) ++ after) × (from ≤ to) × (to < 2 ^ 64) → advanced (record { address = to; operand = Some (length bytes) }) after ≡ advanced a rest
     → (b ∷ bytes ≡ advance from a ++ rest) × IsAdvance false from a
 advances_to from b bytes to after a rest is read e =
-    subst (λ (p : Advance × List ℕ). (b ∷ bytes ≡ advance from p.0 ++ p.1) × IsAdvance false from p.0) (ok_is (record { address = to; operand = Some (length bytes) }, after) (a, rest) e)
-    (let head : b ≡ 2 = eqb-true b 2 is in
-    ap (λ k. k ∷ bytes) head ∙ ap (λ x. 2 ∷ x) read.0, record { above = read.1; fits = read.2; stays = λ none. absurd cc; begins = λ begun. absurd cc })
+    subst (λ (p : Advance × List ℕ). (b ∷ bytes ≡ advance from p.0 ++ p.1) × IsAdvance false from p.0) (ok_is (record { address = to; operand = Some (length bytes) }, after) (a, rest) e) (
+      let head : b ≡ 2 = eqb-true b 2 is in
+          ap (λ k. k ∷ bytes) head ∙ ap (λ x. 2 ∷ x) read.0,
+      record { above = read.1; fits = read.2; stays = λ none. absurd cc; begins = λ begun. absurd cc },
+    )
 
 pub advance_takes : (first : Bool) (from : ℕ) (bytes : List ℕ) (a : Advance) (rest : List ℕ) → from < 2 ^ 64 → advance_at first from bytes ≡ Ok (a, rest)
     → (bytes ≡ advance from a ++ rest) × IsAdvance first from a
@@ -157,8 +161,8 @@ advance_takes false from (b ∷ bytes) a rest fits e =
     elim (chosen (eqb b 2) (advanced_at from bytes >>= (λ (to : ℕ × List ℕ). advanced (record { address = to.0; operand = Some (length bytes) }) to.1))
     (advanced (record { address = from; operand = None }) (b ∷ bytes)) (advanced a rest) e) [
       | inl stands ↦
-        (let operand = bind_ok (advanced_at from bytes) (λ (to : ℕ × List ℕ). advanced (record { address = to.0; operand = Some (length bytes) }) to.1) (a, rest) stands.1 in
-        advances_to from b bytes operand.0.0 operand.0.1 a rest stands.0 (advanced_takes from bytes operand.0.0 operand.0.1 operand.1) operand.2)
+          (let operand = bind_ok (advanced_at from bytes) (λ (to : ℕ × List ℕ). advanced (record { address = to.0; operand = Some (length bytes) }) to.1) (a, rest) stands.1 in
+          advances_to from b bytes operand.0.0 operand.0.1 a rest stands.0 (advanced_takes from bytes operand.0.0 operand.0.1 operand.1) operand.2)
       | inr other ↦ stays_at false from (b ∷ bytes) a rest fits other.1
     ]
 
@@ -184,13 +188,13 @@ pub advance_again : (first : Bool) (from to : ℕ) (rest : List ℕ) → from �
 advance_again first from to rest above fits begins other =
     elim (cases_Bool (eqb to from)) [
       | inl same ↦
-        (let number : to ≡ from = eqb-true to from same in
-        record {
-          operand = None;
-          read = ap (λ b. advance_at first from (cond b [] (advance_pc from to) ++ rest)) same ∙ advance_other first from rest other
-              ∙ ap (λ n. advanced (record { address = n; operand = None }) rest) (sym number);
-          moves = λ k e. absurd cc;
-        })
+          (let number : to ≡ from = eqb-true to from same in
+          record {
+            operand = None;
+            read = ap (λ b. advance_at first from (cond b [] (advance_pc from to) ++ rest)) same ∙ advance_other first from rest other
+                ∙ ap (λ n. advanced (record { address = n; operand = None }) rest) (sym number);
+            moves = λ k e. absurd cc;
+          })
       | inr apart ↦ not_first first (λ is. eqb-false to from apart (begins is)) apart
     ]
   where
@@ -244,8 +248,8 @@ copied_takes before r (Some left) b after rest g is e =
     elim (chosen (eqb r.address before.address) (refused left) (given (Copied r) after) (given g rest) e) [
       | inl same ↦ absurd (not_ok left (g, rest) same.1)
       | inr apart ↦
-        copies (sym (group_is (Copied r) g after rest apart.1)) (ap (λ k. k ∷ after) is ∙ ap (λ x. 1 ∷ x) (rest_is (Copied r) g after rest apart.1))
-        (λ some. eqb-false r.address before.address apart.0)
+          copies (sym (group_is (Copied r) g after rest apart.1)) (ap (λ k. k ∷ after) is ∙ ap (λ x. 1 ∷ x) (rest_is (Copied r) g after rest apart.1))
+          (λ some. eqb-false r.address before.address apart.0)
     ]
 
 ended_takes : (before r : Row) (operand : Option ℕ) (b : ℕ) (after rest : List ℕ) (g : Group) → b ≡ 0 → ended_at before r operand after ≡ Ok (g, rest)
@@ -256,12 +260,12 @@ ended_takes before r (Some left) b after rest g is e =
     elim (chosen (eqb r.file before.file && (eqb r.column before.column && eqb r.line before.line))
     (constants_at (1 ∷ 1 ∷ []) after >>= (λ x. given (Ended r.address) x)) (refused (suc (length after))) (given g rest) e) [
       | inl alone ↦
-        (let end = bind_ok (constants_at (1 ∷ 1 ∷ []) after) (λ x. given (Ended r.address) x) (g, rest) alone.1 in
-        let files = and_true _ _ alone.0 in
-        let others = and_true _ _ files.1 in
-        let stands : after ≡ 1 ∷ 1 ∷ rest = constants_take (1 ∷ 1 ∷ []) after end.0 end.1 ∙ ap (λ x. 1 ∷ 1 ∷ x) (rest_is (Ended r.address) g end.0 rest end.2) in
-        ends (sym (group_is (Ended r.address) g end.0 rest end.2)) (ap (λ k. k ∷ after) is ∙ ap (λ x. 0 ∷ x) stands) (λ none. absurd cc)
-        (eqb-true _ _ files.0) (eqb-true _ _ others.0) (eqb-true _ _ others.1))
+          (let end = bind_ok (constants_at (1 ∷ 1 ∷ []) after) (λ x. given (Ended r.address) x) (g, rest) alone.1 in
+          let files = and_true _ _ alone.0 in
+          let others = and_true _ _ files.1 in
+          let stands : after ≡ 1 ∷ 1 ∷ rest = constants_take (1 ∷ 1 ∷ []) after end.0 end.1 ∙ ap (λ x. 1 ∷ 1 ∷ x) (rest_is (Ended r.address) g end.0 rest end.2) in
+          ends (sym (group_is (Ended r.address) g end.0 rest end.2)) (ap (λ k. k ∷ after) is ∙ ap (λ x. 0 ∷ x) stands) (λ none. absurd cc)
+          (eqb-true _ _ files.0) (eqb-true _ _ others.0) (eqb-true _ _ others.1))
       | inr other ↦ absurd (not_ok (suc (length after)) (g, rest) other.1)
     ]
   where
@@ -277,10 +281,10 @@ closed_takes before r operand (b ∷ after) rest g e =
     elim (chosen (eqb b 1) (copied_at before r operand after) (cond (eqb b 0) (ended_at before r operand after) (refused (suc (length after)))) (given g rest) e) [
       | inl copy ↦ copied_takes before r operand b after rest g (eqb-true b 1 copy.0) copy.1
       | inr other ↦
-        elim (chosen (eqb b 0) (ended_at before r operand after) (refused (suc (length after))) (given g rest) other.1) [
-          | inl end ↦ ended_takes before r operand b after rest g (eqb-true b 0 end.0) end.1
-          | inr none ↦ absurd (not_ok (suc (length after)) (g, rest) none.1)
-        ]
+          elim (chosen (eqb b 0) (ended_at before r operand after) (refused (suc (length after))) (given g rest) other.1) [
+            | inl end ↦ ended_takes before r operand b after rest g (eqb-true b 0 end.0) end.1
+            | inr none ↦ absurd (not_ok (suc (length after)) (g, rest) none.1)
+          ]
     ]
 
 -- ---- a row, or an end
@@ -351,8 +355,14 @@ group_parts first before bytes g rest fits e =
     record {
       r = record { address = a.0.0.address; file = f.0.0; line = l.0.0; column = c.0.0 };
       operand = a.0.0.operand;
-      b1 = f.0.1; b2 = c.0.1; b3 = a.0.1; b4 = l.0.1;
-      file = file.0; column = column.0; address = address.0; line = line.0;
+      b1 = f.0.1;
+      b2 = c.0.1;
+      b3 = a.0.1;
+      b4 = l.0.1;
+      file = file.0;
+      column = column.0;
+      address = address.0;
+      line = line.0;
       fits = record { address = address.1.fits; file = file.1; line = line.1; column = column.1 };
       moves = address.1;
       closes = closed_takes before _ a.0.0.operand l.0.1 rest g l.2;

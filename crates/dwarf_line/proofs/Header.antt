@@ -296,7 +296,6 @@ header_take bytes program are e =
           file_count = t.file_count;
         }
 
-
 pub header_again : (dirs : List (List ℕ)) (files : List FileEntry) (program : List ℕ) → AllByRecursion HasNoZero dirs → AllByRecursion IsFile files → length dirs < 2 ^ 64
     → length files < 2 ^ 64 → 8 + length (tables_of dirs files) + length program < LENGTH_LIMIT
     → behind_header (header (8 + length (tables_of dirs files) + length program) (length (tables_of dirs files)) ++ (tables_of dirs files ++ program)) ≡ Ok program

@@ -150,19 +150,22 @@ section_found bytes p ss are e reads =
     let joined : bytes ≡ front ++ p =
     head.spelled ∙ sym (append_assoc (header (8 + length (tables_of head.dirs head.files) + length p) (length (tables_of head.dirs head.files))) (tables_of head.dirs head.files) p) in
     let sequences = program_takes (IsBytes-behind bytes front p joined are) reads in
-    let t : LineTable = record { dirs = head.dirs; files = head.files; sequences = ss } in
-    (t, record {
-      spelled = joined ∙ ap (λ x. header (8 + length (tables_of head.dirs head.files) + length x) (length (tables_of head.dirs head.files)) ++ tables_of head.dirs head.files ++ x) sequences.spelled;
-      size = head.size;
-      names = record { dirs = all_of HasNoZero IsName name_of head.dirs head.names; files = all_of IsFile IsNamed (λ f is. name_of f.name is.name) head.files head.are };
-      sequences = all_of IsWritten IsSequence (λ s is. is.rows) ss sequences.are;
-      fits = record {
-        dirs = head.dir_count;
-        files = head.file_count;
-        numbers = all_of IsFile IsNumbered (λ f is. is.dir) head.files head.are;
-        sequences = all_of IsWritten HasRange (λ s is. (All-from_recursion IsRow s.rows is.fits, is.end)) ss sequences.are;
-      };
-    }, refl)
+    let t : LineTable = record { dirs = head.dirs; files = head.files; sequences = ss } in (
+      t,
+      record {
+        spelled = joined ∙ ap (λ x. header (8 + length (tables_of head.dirs head.files) + length x) (length (tables_of head.dirs head.files)) ++ tables_of head.dirs head.files ++ x) sequences.spelled;
+        size = head.size;
+        names = record { dirs = all_of HasNoZero IsName name_of head.dirs head.names; files = all_of IsFile IsNamed (λ f is. name_of f.name is.name) head.files head.are };
+        sequences = all_of IsWritten IsSequence (λ s is. is.rows) ss sequences.are;
+        fits = record {
+          dirs = head.dir_count;
+          files = head.file_count;
+          numbers = all_of IsFile IsNumbered (λ f is. is.dir) head.files head.are;
+          sequences = all_of IsWritten HasRange (λ s is. (All-from_recursion IsRow s.rows is.fits, is.end)) ss sequences.are;
+        };
+      },
+      refl,
+    )
 
 -- and the section of a table is read
 pub section_header : (bytes : List ℕ) (t : LineTable) → IsSection bytes t → behind_header bytes ≡ Ok (program t.sequences)

@@ -35,4 +35,10 @@ pub static INSTRUCTION_FIELDS: [u8; 18] = [
 /// The format of a directory's entry: its path as text (sections 6.2.4 and 7.22).
 pub static DIRECTORY_FORMAT: [u8; 3] = [1, DW_LNCT_path, DW_FORM_string];
 /// The format of a file's entry: its path as text, and its directory's number (sections 6.2.4 and 7.22).
-pub static FILE_FORMAT: [u8; 5] = [2, DW_LNCT_path, DW_FORM_string, DW_LNCT_directory_index, DW_FORM_udata];
+pub static FILE_FORMAT: [u8; 5] = [
+    2,
+    DW_LNCT_path,
+    DW_FORM_string,
+    DW_LNCT_directory_index,
+    DW_FORM_udata,
+];

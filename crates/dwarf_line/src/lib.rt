@@ -12,4 +12,6 @@ pub mod fault;
 pub mod read;
 pub mod size;
 pub mod table;
+#[cfg(test)]
+mod tests;
 pub mod write;

@@ -16,7 +16,7 @@ use crate::fault::LineError;
 use crate::size::registers;
 use crate::table::{LineTable, Row, RowList, Sequence, Sequences};
 use dwarf_base::constants::{ADDRESS_SIZE, SEGMENT_SELECTOR_SIZE, VERSION};
-use dwarf_base::front::{split_sleb, split_uleb, split_u32};
+use dwarf_base::front::{split_sleb, split_u32, split_uleb};
 use lists::List;
 use std::alloc::{AllocError, AllocFailed, Global};
 
@@ -54,6 +54,7 @@ enum ReadError {
 
 impl From<AllocError> for ReadError {
     ghost use Rattle.dwarf_line.specs.declared.read.ReadError.TheVariants.{Memory};
+
     ghost from_gives = { λ _ e. e ≡ Memory };
 
     fn from(_error: AllocError) -> ReadError {
@@ -395,7 +396,11 @@ fn closed<'a>(
 
 /// The opcodes of one row, or of a sequence's end.
 #[tactic(auto, unfolding(crate::specs::Reading::group_at))]
-fn next_group<'a>(first: bool, before: &Row, bytes: &'a [u8]) -> Result<(Group, &'a [u8]), ReadError>
+fn next_group<'a>(
+    first: bool,
+    before: &Row,
+    bytes: &'a [u8],
+) -> Result<(Group, &'a [u8]), ReadError>
     ensures { Gives (λ x. (x.0, x.1.now)) result (group_at first before.now bytes.now) }
 {
     let (file, bytes) = file_at(before.file, bytes)?;
@@ -421,11 +426,7 @@ fn start(bytes: &[u8]) -> Result<(u64, &[u8]), ReadError>
 }
 
 /// The rows of a sequence that begins at an address, its end, and what is behind it.
-fn sequence_from(
-    alloc: Global,
-    start: u64,
-    bytes: &[u8],
-) -> Result<(Sequence, &[u8]), ReadError>
+fn sequence_from(alloc: Global, start: u64, bytes: &[u8]) -> Result<(Sequence, &[u8]), ReadError>
     ensures { MatchResult result
         (λ x. Rows true (registers_at start) bytes.now x.0.rows x.0.end x.1.now)
         (λ e. Faults e (λ left. RowsFault true (registers_at start) bytes.now left)) }
