@@ -3,19 +3,17 @@ use Rattle.std.specs.Prelude.{◌&&◌}
 use Rattle.std.specs.Option.{ok_or}
 use Rattle.std.specs.List.{flat_map, AllByRecursion}
 use Rattle.std.specs.Int.{w16, w32, to_le_bytes}
-use Rattle.std.proofs.Common.{◌≡◌, ◌≢◌, ℕ, zero, suc, ◌+◌, ◌-◌, ◌^◌, ◌<◌, ◌≤◌, Bool, true, false, cond, eqb, ltb, List, [], ◌∷◌, ◌++◌, length, Option, Some, None, Result, Ok, Err, arith, ap, subst, sym, ◌∙◌, refl, inl, inr, append_assoc, length-append, eq-eqb, eqb-true, lit<}
+use Rattle.std.proofs.Common.{◌≡◌, ℕ, zero, suc, ◌+◌, ◌^◌, ◌<◌, Bool, true, false, cond, eqb, ltb, List, [], ◌∷◌, ◌++◌, length, Option, Some, None, Result, Ok, Err, arith, ap, subst, sym, ◌∙◌, refl, append_assoc, length-append, eq-eqb, eqb-true, lit<}
 use Rattle.std.proofs.lemmas.Bool.{ltb-true, lt-ltb}
 use Rattle.dwarf_base.specs.Leb.{uleb_of}
 use Rattle.dwarf_base.specs.Standard.{LENGTH_LIMIT}
 use Rattle.dwarf_line.specs.declared.table.FileEntry.{FileEntry}
-use Rattle.dwarf_line.specs.declared.table.Sequence.{Sequence}
-use Rattle.dwarf_line.specs.declared.table.LineTable.{LineTable}
 use Rattle.dwarf_line.specs.Standard.{instruction_fields, directory_format, file_format}
-use Rattle.dwarf_line.specs.Spelling.{text, file, tables, program, header, spelling}
+use Rattle.dwarf_line.specs.Spelling.{text, file, program, header}
 use Rattle.dwarf_line.specs.Fields.{◌>>=◌, constants_at, number_at, uleb_at, behind_zero, behind_text}
 use Rattle.dwarf_line.specs.Reading.{behind_dirs, behind_files, behind_tables, behind_header}
 use Rattle.dwarf_line.proofs.Numbers.{uleb_takes, uleb_again}
-use Rattle.dwarf_line.proofs.Groups.{bind_ok, chosen, ok_is, not_ok, constants_take, constants_again}
+use Rattle.dwarf_line.proofs.Groups.{bind_ok, ok_is, not_ok, constants_take, constants_again}
 use Rattle.dwarf_line.proofs.Fixed.{IsBytes, IsBytes-behind, wide16, wide32, number_takes, number_again}
 
 -- ---- texts

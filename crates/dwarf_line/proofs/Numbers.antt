@@ -1,15 +1,14 @@
 -- A number is read where its spelling stands, and nowhere else.
-use Rattle.std.specs.Prelude.{ℤ, pos, negsuc, ◌+ℤ◌, ◌-ℤ◌, nat_eq, FitsSigned}
-use Rattle.std.specs.Int.{w64}
+use Rattle.std.specs.Prelude.{ℤ, pos, negsuc, ◌+ℤ◌, ◌-ℤ◌, nat_eq}
 use Rattle.std.specs.List.{starts_with}
-use Rattle.std.proofs.Common.{◌≡◌, ◌≢◌, ℕ, zero, suc, ◌+◌, ◌-◌, ◌^◌, ◌<◌, ◌≤◌, Bool, true, false, cond, ltb, List, [], ◌∷◌, ◌++◌, length, drop, Option, Some, None, Result, Ok, Err, arith, ap, sym, ◌∙◌, refl, inl, inr}
+use Rattle.std.proofs.Common.{◌≡◌, ◌≢◌, ℕ, ◌+◌, ◌-◌, ◌^◌, ◌<◌, ◌≤◌, Bool, true, false, cond, ltb, List, [], ◌∷◌, ◌++◌, length, drop, Option, Some, None, Ok, Err, arith, ap, sym, ◌∙◌, refl, inl, inr}
 use Rattle.std.proofs.lemmas.Bool.{cases_Bool}
 use Rattle.std.proofs.lemmas.Bool.Decides.{Decides-eqb, nat_tests}
 use Rattle.std.proofs.lemmas.List.{drop_at}
 use Rattle.std.proofs.lemmas.Slice.Eq.{starts_is}
 use Rattle.std.proofs.lemmas.Int.{ints}
 use Rattle.dwarf_base.specs.Leb.{uleb_of, sleb_of, IsLeb, unsigned_value, signed_value}
-use Rattle.dwarf_base.proofs.LebLaws.{no_prefix, uleb_law, sleb_law}
+use Rattle.dwarf_base.proofs.LebLaws.{uleb_law, sleb_law}
 use Rattle.dwarf_line.specs.Fields.{leb_front, spelled_at, below, natural_below, uleb_at, advanced_at, line_at}
 
 -- what is read of the front of the bytes is what a spelling at the front says

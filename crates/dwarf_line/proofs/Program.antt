@@ -1,15 +1,15 @@
 -- A sequence's rows are read where they are spelled, and a wrong field is none that is spelled.
 use Rattle.std.specs.List.{AllByRecursion}
-use Rattle.std.proofs.Common.{◌≡◌, ◌≢◌, ℕ, zero, suc, ◌+◌, ◌-◌, ◌^◌, ◌<◌, ◌≤◌, Bool, true, false, List, [], ◌∷◌, ◌++◌, length, get_or, Result, Ok, Err, arith, ap, subst, sym, ◌∙◌, refl, append_assoc, lit<}
+use Rattle.std.proofs.Common.{◌≡◌, ℕ, ◌^◌, ◌<◌, Bool, true, false, List, [], ◌∷◌, ◌++◌, Result, Ok, Err, ap, subst, sym, ◌∙◌, refl, append_assoc, lit<}
 use Rattle.dwarf_line.specs.declared.table.Row.{Row}
 use Rattle.dwarf_line.specs.declared.read.Group.{Group}
 use Rattle.dwarf_line.specs.declared.read.Group.TheVariants.{Copied, Ended}
 use Rattle.dwarf_line.specs.Table.{Ascend, IsRow}
 use Rattle.std.specs.Int.{w64}
-use Rattle.dwarf_line.specs.Spelling.{advance_pc, end_sequence, row, rows_to, set_address, registers_at, first_address, sequence, program}
+use Rattle.dwarf_line.specs.Spelling.{row, rows_to, set_address, registers_at}
 use Rattle.dwarf_line.specs.Fields.{constants_at, number_at}
-use Rattle.dwarf_line.specs.Reading.{group_at, Rows, LastRow, NextRow, RowsFault, InRow, InLaterRow, start_at, Program, NoSequence, NextSequence, ProgramFault, InStart, InRows, InLaterSequence}
-use Rattle.dwarf_line.proofs.Groups.{bind_ok, ok_is, not_ok, constants_take, constants_again, group_takes, row_again, end_again}
+use Rattle.dwarf_line.specs.Reading.{group_at, Rows, LastRow, NextRow, RowsFault, InRow, InLaterRow, start_at}
+use Rattle.dwarf_line.proofs.Groups.{bind_ok, ok_is, not_ok, constants_take, group_takes, row_again, end_again}
 use Rattle.dwarf_line.proofs.Fixed.{IsBytes, IsBytes-behind, wide64, number_takes, number_again}
 
 abbrev pub BeginsAt : ℕ → List Row → Type 0

@@ -1,23 +1,22 @@
 -- A section is read exactly where it is that of a table, and then its sequences are read.
 use Rattle.std.specs.Prelude.{All, MatchResult}
-use Rattle.std.specs.List.{flat_map, AllByRecursion}
-use Rattle.std.proofs.Common.{◌≡◌, ◌≢◌, ℕ, zero, suc, ◌+◌, ◌-◌, ◌^◌, ◌<◌, ◌≤◌, true, false, List, [], ◌∷◌, ◌++◌, length, Result, Ok, Err, arith, ap, subst, sym, ◌∙◌, refl, append_assoc, length-append}
+use Rattle.std.specs.List.{AllByRecursion}
+use Rattle.std.proofs.Common.{◌≡◌, ℕ, ◌+◌, ◌-◌, ◌^◌, ◌<◌, true, List, [], ◌∷◌, ◌++◌, length, Result, Ok, Err, arith, ap, subst, sym, ◌∙◌, refl, append_assoc, length-append}
 use Rattle.std.proofs.lemmas.List.Elements.{recursion_from_All, All-from_recursion}
-use Rattle.dwarf_base.specs.Standard.{LENGTH_LIMIT}
 use Rattle.dwarf_line.specs.declared.table.FileEntry.{FileEntry}
 use Rattle.dwarf_line.specs.declared.table.Row.{Row}
 use Rattle.dwarf_line.specs.declared.table.Sequence.{Sequence}
 use Rattle.dwarf_line.specs.declared.table.LineTable.{LineTable}
-use Rattle.dwarf_line.specs.Table.{Ascend, HasRows, IsSequence, IsName, IsNamed, IsNumbered, HasNames, IsRow, HasRange, Fits}
-use Rattle.dwarf_line.specs.Spelling.{tables, rows_to, set_address, registers_at, first_address, sequence, program, header, spelling}
-use Rattle.dwarf_line.specs.Reading.{behind_header, Rows, RowsFault, start_at, Program, NoSequence, NextSequence, ProgramFault, InStart, InRows, InLaterSequence, SectionFault, InHeader, InProgram, FirstFault, IsSection}
+use Rattle.dwarf_line.specs.Table.{HasRows, IsSequence, IsName, IsNamed, IsNumbered, IsRow, HasRange}
+use Rattle.dwarf_line.specs.Spelling.{tables, rows_to, set_address, registers_at, program, header, spelling}
+use Rattle.dwarf_line.specs.Reading.{behind_header, Rows, start_at, Program, NoSequence, NextSequence, ProgramFault, InStart, InRows, InLaterSequence, SectionFault, InHeader, InProgram, FirstFault, IsSection}
 use Rattle.dwarf_line.specs.declared.read.ReadError.{ReadError}
 use Rattle.dwarf_line.specs.declared.read.ReadError.TheVariants.{Memory, Left}
 use Rattle.dwarf_line.specs.steps.Gives.{Faults, Reads}
 use Rattle.dwarf_line.proofs.Groups.{ok_is, not_ok}
 use Rattle.dwarf_line.proofs.Fixed.{IsBytes, IsBytes-behind}
-use Rattle.dwarf_line.proofs.Program.{AreRows, BeginsAt, rows_take, rows_again, rows_apart, rows_one, start_takes, start_again, begins_row}
-use Rattle.dwarf_line.proofs.Header.{HasNoZero, IsFile, Head, tables_of, header_take, header_again}
+use Rattle.dwarf_line.proofs.Program.{AreRows, rows_take, rows_again, rows_apart, rows_one, start_takes, start_again, begins_row}
+use Rattle.dwarf_line.proofs.Header.{HasNoZero, IsFile, tables_of, header_take, header_again}
 
 -- what a sequence keeps that can be written
 pub record IsWritten (s : Sequence) : Type 0 where

@@ -1,14 +1,11 @@
 -- How long a section is.
-use Rattle.std.proofs.Common.{◌≡◌, ℕ, ◌+◌, ◌≤◌, ◌<◌, List, [], ◌∷◌, ◌++◌, length, take, get_or, arith, ap, sym, ◌∙◌, length-append, append_assoc}
-use Rattle.std.proofs.lemmas.List.{take_more, flat_map_more}
+use Rattle.std.proofs.Common.{◌≡◌, ℕ, ◌+◌, List, [], ◌++◌, length, arith, ap, ◌∙◌, length-append, append_assoc}
 use Rattle.std.specs.List.{flat_map}
 use Rattle.dwarf_base.specs.Leb.{uleb_of}
 use Rattle.dwarf_line.specs.declared.table.FileEntry.{FileEntry}
-use Rattle.dwarf_line.specs.declared.table.Row.{Row}
-use Rattle.dwarf_line.specs.declared.table.Sequence.{Sequence}
 use Rattle.dwarf_line.specs.Standard.{instruction_fields, directory_format, file_format}
 use Rattle.dwarf_line.specs.declared.table.LineTable.{LineTable}
-use Rattle.dwarf_line.specs.Spelling.{text, file, tables, sequence, program, header, spelling}
+use Rattle.dwarf_line.specs.Spelling.{text, file, tables, program, header, spelling}
 
 pub length-spelling : (t : LineTable) → length (spelling t) ≡ 12 + length (tables t) + length (program t.sequences)
 unfolding spelling

@@ -1,5 +1,4 @@
-use Rattle.std.proofs.Common.{◌≡◌, ◌<◌, ◌++◌, ◌-◌, ◌∙◌, sym, arith, ap}
-use Rattle.dwarf_base.specs.Leb.{uleb_of}
+use Rattle.std.proofs.Common.{◌-◌, ◌∙◌, sym, arith}
 use Rattle.dwarf_line.proofs.Numbers.{advanced_by, advanced_fault, uleb_one}
 use Rattle.dwarf_line.proofs.read.advanced.Goals as goal
 

@@ -1,7 +1,6 @@
 use Rattle.std.specs.Prelude.{pos, ◌-ℤ◌}
-use Rattle.std.proofs.Common.{◌≡◌, ◌<◌, ◌++◌, ◌∙◌, sym, arith, ap}
+use Rattle.std.proofs.Common.{◌∙◌, sym, arith}
 use Rattle.std.proofs.lemmas.Int.{ints}
-use Rattle.dwarf_base.specs.Leb.{sleb_of}
 use Rattle.dwarf_line.proofs.Numbers.{line_by, line_fault, sleb_one}
 use Rattle.dwarf_line.proofs.read.line.Goals as goal
 

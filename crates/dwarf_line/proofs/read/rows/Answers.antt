@@ -1,8 +1,7 @@
-use Rattle.std.proofs.Common.{◌≡◌, ℕ, ◌<◌, List, Result, Err, get_or, arith, sym, ◌∙◌}
+use Rattle.std.proofs.Common.{◌≡◌, ℕ, List, Result, Err, arith, sym, ◌∙◌}
 use Rattle.dwarf_line.specs.declared.table.Sequence.{Sequence}
 use Rattle.dwarf_line.specs.declared.fault.LineError.{LineError}
 use Rattle.dwarf_line.specs.declared.fault.LineError.TheVariants.{LineFault}
-use Rattle.dwarf_line.proofs.Fixed.{IsBytes}
 use Rattle.dwarf_line.proofs.Sections.{section_found, read_only, fault_only, first_fault}
 use Rattle.dwarf_line.proofs.read.rows.Goals as goal
 

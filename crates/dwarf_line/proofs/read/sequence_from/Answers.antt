@@ -1,4 +1,3 @@
-use Rattle.std.proofs.Common.{arith}
 use Rattle.std.proofs.lemmas.Result.{err_from_is_err_and}
 use Rattle.dwarf_line.proofs.ReadLoops.{group_fault, group_smaller, row_fits, reads_more, reads_all, fault_more}
 use Rattle.dwarf_line.proofs.read.sequence_from.Goals as goal

@@ -1,4 +1,4 @@
-use Rattle.std.proofs.Common.{◌≡◌, ℕ, true, List, ◌++◌, length}
+use Rattle.std.proofs.Common.{ℕ, true, List, ◌++◌, length}
 use Rattle.dwarf_line.specs.declared.table.Row.{Row}
 use Rattle.dwarf_line.specs.Table.{IsRow}
 use Rattle.dwarf_line.specs.Spelling.{registers_at}

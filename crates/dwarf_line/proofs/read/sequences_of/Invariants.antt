@@ -1,4 +1,4 @@
-use Rattle.std.proofs.Common.{◌≡◌, ℕ, List, ◌++◌, length}
+use Rattle.std.proofs.Common.{ℕ, List, ◌++◌, length}
 use Rattle.dwarf_line.specs.declared.table.Sequence.{Sequence}
 use Rattle.dwarf_line.specs.Reading.{Program, ProgramFault}
 use Rattle.dwarf_line.proofs.Fixed.{IsBytes}
