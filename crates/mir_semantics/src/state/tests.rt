@@ -174,7 +174,9 @@ fn run(
     given: &Answer,
     looks: &str,
 ) -> Result<(), Fail> {
-    assert!(rt; SourceState::can_run(f));
+    if !SourceState::can_run(f) {
+        return Err(Fail::from("too many items"));
+    }
     let mut state = SourceState::new(alloc, f, from)?;
     looks_on(rt, &mut state, f, subs, given, looks)
 }
