@@ -34,12 +34,14 @@ plain_line image l _ m p = absurd p
 -- what a plain row's word does
 pub plain_word : (l : CodeLine) (row : Row) (w : ℕ) (m : Machine) → IsWordOf row w → does_word l (Some w) m ≡ does_row row m
 plain_word l row w m h =
-    ap (λ (b : Bool). cond b (Ends (map (register m) (implicit_uses l.instruction.operands))) (does_operation (decoded w) m)) (ne_eqb w return_word (not_return row w h))
+    ap (λ (b : Bool). cond b (Ends (map (register m) (implicit_uses l.instruction.operands))) (does_operation (decoded w) m))
+    (ne_eqb w return_word (not_return row w h))
     ∙ ap (λ (o : Option MachineOp). does_operation o m) (is_decoded h.operation w h.fits h.spelled)
     ∙ ap (λ (x : MachineRow). does x m) (h.does m.counter)
 
 -- at the end of a trace what has a token holds its value
-pub names_here : {g : Program} {start : State} {n : ℕ} {s : State} {t : Tokens} (value : Token → ℕ) (run : Trace g start n s t) → NamesAlong value run → Names value t s.core
+pub names_here : {g : Program} {start : State} {n : ℕ} {s : State} {t : Tokens} (value : Token → ℕ) (run : Trace g start n s t) → NamesAlong value run →
+    Names value t s.core
 names_here value trace.begin h = h
 names_here value (trace.onward run went) h = h.1
 

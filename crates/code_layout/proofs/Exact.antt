@@ -1,5 +1,6 @@
 -- One path leads to each item of straight-line code, so the walk's tokens are those of every path.
-use Rattle.std.proofs.Common.{◌≡◌, ℕ, zero, suc, ◌+◌, List, [], ◌∷◌, drop, Option, Some, Bool, true, false, cond, eq-eqb, refl, sym, ap, ◌∙◌, subst, inl, inr, arith}
+use Rattle.std.proofs.Common.{◌≡◌, ℕ, zero, suc, ◌+◌, List, [], ◌∷◌, drop, Option, Some, Bool, true, false, cond, eq-eqb, refl, sym, ap, ◌∙◌, subst}
+use Rattle.std.proofs.Common.{inl, inr, arith}
 use Rattle.std.specs.Prelude.{◌↔◌, ◌⊎◌, ◌≤◌, ◌<◌, slice_get}
 use Rattle.std.proofs.lemmas.Bool.{cases_lt}
 use Rattle.rv64_instr.specs.declared.place.Place.{Place}
@@ -13,7 +14,8 @@ use Rattle.mir_func.specs.declared.item.ItemKind.{ItemKind}
 use Rattle.mir_func.specs.declared.item.ItemKind.TheVariants.{Code}
 use Rattle.mir_func.specs.Graph.{Fetch, Here, Silent, Program, below, block_start, front, framed_program, Edge, RowEdge, KindEdge, FetchEdge}
 use Rattle.mir_meaning.specs.Align.{is_code}
-use Rattle.mir_meaning.specs.Token.{Tokens, after_item, after_fetch, entry_tokens, variable_token, place_token, Path, begin, onward, SitsIn, IsWanted, NoneIsWanted}
+use Rattle.mir_meaning.specs.Token.{Tokens, after_item, after_fetch, entry_tokens, variable_token, place_token, Path, begin, onward, SitsIn, IsWanted}
+use Rattle.mir_meaning.specs.Token.{NoneIsWanted}
 use Rattle.code_layout.specs.Straight.{IsPlainRow, IsStraight, returns, goes_on, marks, Holds}
 use Rattle.code_layout.specs.Exact.{IsFirst, GiveFirstIf, GiveFirst, address_at, IsPointOf, StraightListsAreExact}
 use Rattle.code_layout.proofs.Laid.{drop_one, drop_zero}
@@ -73,7 +75,8 @@ module _ (prologue block : Block) (resolve : OperandPair → Option OperandPair)
   spot n = record { block = 1; item = n }
 
   -- from each item control goes to the one below alone
-  goes_below : {n : ℕ} {items : List Item} {words : List ℕ} → IsStraight block.id n items words → (j : ℕ) (p q : Pos) → FetchEdge g.enter (front (drop j items) block.silent []) p q → q ≡ below p
+  goes_below : {n : ℕ} {items : List Item} {words : List ℕ} → IsStraight block.id n items words → (j : ℕ) (p q : Pos) →
+      FetchEdge g.enter (front (drop j items) block.silent []) p q → q ≡ below p
   goes_below (returns {i = i} {c = c} {k = k} kind own row physical) zero p q e =
       let by_kind : KindEdge g.enter (Code c k) p q = subst (λ (x : ItemKind). KindEdge g.enter x p q) kind e in
       absurd (subst (λ (x : Row). RowEdge g.enter x p q) row by_kind)
@@ -129,7 +132,8 @@ module _ (prologue block : Block) (resolve : OperandPair → Option OperandPair)
     one_more : {n : ℕ} {p q : Pos} {t : Tokens} → Reaches n p t → Edge g p q → Reaches (suc n) q (after_fetch resolve n (g.fetch p) t)
     unfolding walked
     one_more {q = q} outside e =
-        subst (λ (x : Pos). Reaches 1 x (after_fetch resolve 0 (g.fetch start) entry_tokens)) (sym (edge_in q e)) (subst (λ (x : Tokens). Reaches 1 (spot 0) x) (sym (tokens_in entry_tokens)) (inside 0))
+        subst (λ (x : Pos). Reaches 1 x (after_fetch resolve 0 (g.fetch start) entry_tokens)) (sym (edge_in q e))
+        (subst (λ (x : Tokens). Reaches 1 (spot 0) x) (sym (tokens_in entry_tokens)) (inside 0))
     one_more {q = q} (inside n) e =
         subst (λ (x : Pos). Reaches (suc (suc n)) x (after_fetch resolve (suc n) (g.fetch (spot n)) (walked n))) (sym (edge_down n q e)) (inside (suc n))
 
@@ -151,18 +155,29 @@ module _ (prologue block : Block) (resolve : OperandPair → Option OperandPair)
     sits : (n m : ℕ) (t : Tokens) (v : VarId) (place : Place) → Path g start m (spot n) t → Holds v t place → SitsIn g start v place (spot n)
     sits n m t v place path h = record {
       reached = (m, t, path);
-      same = λ k u other. let is = same_tokens n m k t u path other in
-          (h.token, subst (λ (x : Tokens). variable_token v x ≡ Some h.token) is h.variable, subst (λ (x : Tokens). place_token (Some place) x ≡ Some h.token) is h.held);
+      same = λ k u other. let is = same_tokens n m k t u path other in (
+        h.token,
+        subst (λ (x : Tokens). variable_token v x ≡ Some h.token) is h.variable,
+        subst (λ (x : Tokens). place_token (Some place) x ≡ Some h.token) is h.held,
+      );
     }
 
     holds : (n m : ℕ) (t : Tokens) (v : VarId) (place : Place) → Path g start m (spot n) t → SitsIn g start v place (spot n) → Holds v t place
     holds n m t v place path s = let (k, variable, held) = s.same m t path in record { token = k; variable = variable; held = held }
 
     wanted : (n m : ℕ) (t : Tokens) (v : VarId) (place : Place) → Path g start m (spot n) t → IsFirst v t place → IsWanted g start v (spot n) place
-    wanted n m t v place path f = record { named = f.named; sits = sits n m t v place path f.holds; first = λ other named precedes s. f.first other named precedes (holds n m t v other path s) }
+    wanted n m t v place path f = record {
+      named = f.named;
+      sits = sits n m t v place path f.holds;
+      first = λ other named precedes s. f.first other named precedes (holds n m t v other path s);
+    }
 
     is_first : (n m : ℕ) (t : Tokens) (v : VarId) (place : Place) → Path g start m (spot n) t → IsWanted g start v (spot n) place → IsFirst v t place
-    is_first n m t v place path w = record { named = w.named; holds = holds n m t v place path w.sits; first = λ other named precedes h. w.first other named precedes (sits n m t v other path h) }
+    is_first n m t v place path w = record {
+      named = w.named;
+      holds = holds n m t v place path w.sits;
+      first = λ other named precedes h. w.first other named precedes (sits n m t v other path h);
+    }
 
     path_in : Path g start 1 (spot 0) entry_tokens
     path_in =
@@ -172,11 +187,13 @@ module _ (prologue block : Block) (resolve : OperandPair → Option OperandPair)
     fetch_here : (n : ℕ) (i : Item) (items : List Item) → drop n block.items ≡ i ∷ items → g.fetch (spot n) ≡ Here i
     fetch_here n i items rest = fetch_spot n ∙ ap (λ (xs : List Item). front xs block.silent []) rest
 
-    path_on : (n : ℕ) (i : Item) (items : List Item) (t : Tokens) → drop n block.items ≡ i ∷ items → KindEdge g.enter i.kind (spot n) (spot (suc n)) → Path g start (suc n) (spot n) t →
+    path_on : (n : ℕ) (i : Item) (items : List Item) (t : Tokens) → drop n block.items ≡ i ∷ items → KindEdge g.enter i.kind (spot n) (spot (suc n)) →
+        Path g start (suc n) (spot n) t →
         Path g start (suc (suc n)) (spot (suc n)) (after_item resolve (suc n) i.kind t)
     path_on n i items t rest e path =
         let f = fetch_here n i items rest in
-        subst (λ (x : Fetch). Path g start (suc (suc n)) (spot (suc n)) (after_fetch resolve (suc n) x t)) f (onward path (subst (λ (x : Fetch). FetchEdge g.enter x (spot n) (spot (suc n))) (sym f) e))
+        subst (λ (x : Fetch). Path g start (suc (suc n)) (spot (suc n)) (after_fetch resolve (suc n) x t)) f
+        (onward path (subst (λ (x : Fetch). FetchEdge g.enter x (spot n) (spot (suc n))) (sym f) e))
 
     module _ (lists : VarId → (address : ℕ) → Place → Type 0) where
       -- an item, with the path to it
@@ -185,13 +202,15 @@ module _ (prologue block : Block) (resolve : OperandPair → Option OperandPair)
         path : Path g start (suc index) (spot index) tokens
         gives : GiveFirstIf true lists x tokens
 
-      at_head : (n a : ℕ) (t : Tokens) (i j : Item) → Some i ≡ Some j → is_code j.kind ≡ true → Path g start (suc n) (spot n) t → GiveFirstIf (is_code i.kind) lists a t → Located a n
+      at_head : (n a : ℕ) (t : Tokens) (i j : Item) → Some i ≡ Some j → is_code j.kind ≡ true → Path g start (suc n) (spot n) t →
+          GiveFirstIf (is_code i.kind) lists a t → Located a n
       at_head n a t i j same code path given =
           let is : i ≡ j = cc in
           let here : is_code i.kind ≡ true = ap (λ (x : Item). is_code x.kind) is ∙ code in
           record { tokens = t; path = path; gives = subst (λ (b : Bool). GiveFirstIf b lists a t) here given }
 
-      locate : {n : ℕ} {items : List Item} {words : List ℕ} → IsStraight block.id n items words → (a : ℕ) (t : Tokens) → drop n block.items ≡ items → Path g start (suc n) (spot n) t → GiveFirst lists resolve (suc n) a t items →
+      locate : {n : ℕ} {items : List Item} {words : List ℕ} → IsStraight block.id n items words → (a : ℕ) (t : Tokens) → drop n block.items ≡ items →
+          Path g start (suc n) (spot n) t → GiveFirst lists resolve (suc n) a t items →
           (j : ℕ) (i : Item) → slice_get items j ≡ Some i → is_code i.kind ≡ true → Located (address_at a items j) (n + j)
       locate (returns {n} {i} {c} {k} kind own row physical) a t rest path given zero x e code =
           let at : n ≡ n + 0 = omega arith in
@@ -201,18 +220,22 @@ module _ (prologue block : Block) (resolve : OperandPair → Option OperandPair)
           let at : n ≡ n + 0 = omega arith in
           subst (Located a) at (at_head n a t i x e code path given.0)
       locate (goes_on {n} {i} {items} {words} {c} {k} w kind own plain is more) a t rest path given (suc j) x e code =
-          let edge : KindEdge g.enter i.kind (spot n) (spot (suc n)) = subst (λ (z : ItemKind). KindEdge g.enter z (spot n) (spot (suc n))) (sym kind) (plain_edge g.enter (row_of c) (spot n) (spot (suc n)) plain (sym (below_spot n))) in
+          let edge : KindEdge g.enter i.kind (spot n) (spot (suc n)) = subst (λ (z : ItemKind). KindEdge g.enter z (spot n) (spot (suc n))) (sym kind)
+          (plain_edge g.enter (row_of c) (spot n) (spot (suc n)) plain (sym (below_spot n))) in
           let at : suc n + j ≡ n + suc j = omega arith in
           subst (Located (address_at a (i ∷ items) (suc j))) at
-          (locate more (cond (is_code i.kind) (a + 4) a) (after_item resolve (suc n) i.kind t) (drop_one block.items n i items rest) (path_on n i items t rest edge path) given.1 j x e code)
+          (locate more (cond (is_code i.kind) (a + 4) a) (after_item resolve (suc n) i.kind t) (drop_one block.items n i items rest)
+          (path_on n i items t rest edge path) given.1 j x e code)
       locate (marks {n} {i} {items} {words} {v} {m} kind more) a t rest path given zero x e code =
           let at : n ≡ n + 0 = omega arith in
           subst (Located a) at (at_head n a t i x e code path given.0)
       locate (marks {n} {i} {items} {words} {v} {m} kind more) a t rest path given (suc j) x e code =
-          let edge : KindEdge g.enter i.kind (spot n) (spot (suc n)) = subst (λ (z : ItemKind). KindEdge g.enter z (spot n) (spot (suc n))) (sym kind) (sym (below_spot n)) in
+          let edge : KindEdge g.enter i.kind (spot n) (spot (suc n)) =
+          subst (λ (z : ItemKind). KindEdge g.enter z (spot n) (spot (suc n))) (sym kind) (sym (below_spot n)) in
           let at : suc n + j ≡ n + suc j = omega arith in
           subst (Located (address_at a (i ∷ items) (suc j))) at
-          (locate more (cond (is_code i.kind) (a + 4) a) (after_item resolve (suc n) i.kind t) (drop_one block.items n i items rest) (path_on n i items t rest edge path) given.1 j x e code)
+          (locate more (cond (is_code i.kind) (a + 4) a) (after_item resolve (suc n) i.kind t) (drop_one block.items n i items rest)
+          (path_on n i items t rest edge path) given.1 j x e code)
 
       module _ (given : GiveFirst lists resolve 0 0 entry_tokens block.items) where
         given_in : GiveFirst lists resolve 1 0 entry_tokens block.items

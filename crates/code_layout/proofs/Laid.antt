@@ -50,7 +50,8 @@ code_lines b n a i items c k kind own =
 pub mark_lines : (a : ℕ) (i : Item) (items : List Item) (v : VarId) (m : MarkValue) → i.kind ≡ Mark v m → lines_of a (i ∷ items) ≡ lines_of a items
 mark_lines a i items v m kind = ap (λ (x : ItemKind). line_of (Some a) i.origin x ++ lines_of (cond (is_code x) (a + 4) a) items) kind
 
-pub laid : {b n : ℕ} {items : List Item} {words : List ℕ} → IsStraight b n items words → (a : ℕ) → IsLaid b n a items (flat_map (to_le_bytes w32) words) (lines_of a items)
+pub laid : {b n : ℕ} {items : List Item} {words : List ℕ} → IsStraight b n items words → (a : ℕ) →
+    IsLaid b n a items (flat_map (to_le_bytes w32) words) (lines_of a items)
 laid {b = b} (straight.returns {n} {i} {c} {k} kind own row physical) a =
     subst (IsLaid b n a (i ∷ []) (to_le_bytes w32 return_word)) (sym (code_lines b n a i [] c k kind own)) (returns kind row physical)
 laid {b = b} (straight.goes_on {n} {i} {items} {words} {c} {k} w kind own plain is rest) a =

@@ -18,7 +18,8 @@ use Rattle.mir_func.specs.Variables.{is_same, overlaps}
 use Rattle.mir_meaning.specs.Step.{defined}
 use Rattle.rv64_instr.specs.Parts.{is_call}
 use Rattle.mir_meaning.specs.Align.{is_code}
-use Rattle.mir_meaning.specs.Token.{Token, Entry, Made, Fixed, Tokens, register_token, put_token, make_all, moved_tokens, sets_pointer, code_tokens, given_token, numbered_tokens, place_token, pair_token, mark_token, after_item, entry_tokens, variable_token}
+use Rattle.mir_meaning.specs.Token.{Token, Entry, Made, Fixed, Tokens, register_token, put_token, make_all, moved_tokens, sets_pointer, code_tokens}
+use Rattle.mir_meaning.specs.Token.{given_token, numbered_tokens, place_token, pair_token, mark_token, after_item, entry_tokens, variable_token}
 use Rattle.code_layout.specs.Straight.{Holds}
 use Rattle.code_layout.specs.Exact.{IsFirst, GiveFirstAt, GiveFirstIf, GiveFirst}
 
@@ -50,7 +51,8 @@ register_later regs (suc r) = refl
 
 put_later : (r : ℕ) (t : Option Token) (regs : ℕ → Option Token) → put_token r (laters t) (λ q. laters (regs q)) ≡ (λ q. laters (put_token r t regs q))
 put_later zero t regs = refl
-put_later (suc r) t regs = λ k q. (ap (λ (x : Option Token). cond (nat_eq q (suc r)) x (laters (regs q))) (chosen (nat_eq r 1) None t) ∙ chosen (nat_eq q (suc r)) (cond (nat_eq r 1) None t) (regs q)) k
+put_later (suc r) t regs = λ k q. (ap (λ (x : Option Token). cond (nat_eq q (suc r)) x (laters (regs q))) (chosen (nat_eq r 1) None t)
+    ∙ chosen (nat_eq q (suc r)) (cond (nat_eq r 1) None t) (regs q)) k
 
 make_later : (n : ℕ) (rs : List ℕ) (regs : ℕ → Option Token) → make_all (suc n) rs (λ q. laters (regs q)) ≡ (λ q. laters (make_all n rs regs q))
 make_later n [] regs = refl
@@ -79,7 +81,8 @@ moved_later n (StoresSlot rs k) t =
 moved_later n (Calls name args) t = ap (λ (x : ℕ → Option Token). record (later_tokens t) { regs = x }) (make_later n caller_saved t.regs)
 moved_later n _ t = refl
 
-code_by : (b : Bool) (t : Tokens) → cond b (record (later_tokens t) { slots = λ k. None }) (later_tokens t) ≡ later_tokens (cond b (record t { slots = λ k. None }) t)
+code_by : (b : Bool) (t : Tokens) →
+    cond b (record (later_tokens t) { slots = λ k. None }) (later_tokens t) ≡ later_tokens (cond b (record t { slots = λ k. None }) t)
 code_by true t = refl
 code_by false t = refl
 
@@ -91,20 +94,25 @@ given_later : (d : Option ℕ) (old : Option Token) (t : Tokens) → given_token
 given_later None old t = refl
 given_later (Some r) old t = register_later t.regs r
 
-pairs_later : (k : ℕ) (new : ℕ → Option Token) (pairs : ℕ → ℕ → Option Token) → updated {A = ℕ → Option Token} k (λ o. laters (new o)) (λ j o. laters (pairs j o)) ≡ (λ j o. laters (updated k new pairs j o))
+pairs_later : (k : ℕ) (new : ℕ → Option Token) (pairs : ℕ → ℕ → Option Token) →
+    updated {A = ℕ → Option Token} k (λ o. laters (new o)) (λ j o. laters (pairs j o)) ≡ (λ j o. laters (updated k new pairs j o))
 pairs_later k new pairs = λ i j o. by (nat_eq j k) j o i
   where
-    by : (b : Bool) (j o : ℕ) → cond {A = ℕ → Option Token} b (λ q. laters (new q)) (λ q. laters (pairs j q)) o ≡ laters (cond {A = ℕ → Option Token} b new (pairs j) o)
+    by : (b : Bool) (j o : ℕ) → cond {A = ℕ → Option Token} b (λ q. laters (new q)) (λ q. laters (pairs j q)) o
+        ≡ laters (cond {A = ℕ → Option Token} b new (pairs j) o)
     by true j o = refl
     by false j o = refl
 
-numbered_later : (call : Bool) (k : Option ℕ) (operands : List Operand) (t : Tokens) → numbered_tokens call k operands (later_tokens t) ≡ later_tokens (numbered_tokens call k operands t)
+numbered_later : (call : Bool) (k : Option ℕ) (operands : List Operand) (t : Tokens) →
+    numbered_tokens call k operands (later_tokens t) ≡ later_tokens (numbered_tokens call k operands t)
 numbered_later call None operands t = refl
 numbered_later call (Some k) operands t =
-    let given : (λ o. given_token (defined call (slice_get operands o)) (laters (t.pairs k o)) (later_tokens t)) ≡ (λ o. laters (given_token (defined call (slice_get operands o)) (t.pairs k o) t)) =
+    let given : (λ o. given_token (defined call (slice_get operands o)) (laters (t.pairs k o)) (later_tokens t))
+    ≡ (λ o. laters (given_token (defined call (slice_get operands o)) (t.pairs k o) t)) =
     λ i o. given_later (defined call (slice_get operands o)) (t.pairs k o) t i in
     ap (λ (x : ℕ → Option Token). record (later_tokens t) { pairs = updated k x (λ j o. laters (t.pairs j o)) }) given
-    ∙ ap (λ (x : ℕ → ℕ → Option Token). record (later_tokens t) { pairs = x }) (pairs_later k (λ o. given_token (defined call (slice_get operands o)) (t.pairs k o) t) t.pairs)
+    ∙ ap (λ (x : ℕ → ℕ → Option Token). record (later_tokens t) { pairs = x })
+    (pairs_later k (λ o. given_token (defined call (slice_get operands o)) (t.pairs k o) t) t.pairs)
 
 place_later : (p : Option Place) (t : Tokens) → place_token p (later_tokens t) ≡ laters (place_token p t)
 place_later None t = refl
@@ -122,12 +130,15 @@ mark_later resolve (Constant c) t = refl
 mark_later resolve (At r) t = register_later t.regs r
 mark_later resolve (Pair q) t = pair_later (resolve q) t
 
-item_later : (resolve : OperandPair → Option OperandPair) (n : ℕ) (kind : ItemKind) (t : Tokens) → after_item resolve (suc n) kind (later_tokens t) ≡ later_tokens (after_item resolve n kind t)
+item_later : (resolve : OperandPair → Option OperandPair) (n : ℕ) (kind : ItemKind) (t : Tokens) →
+    after_item resolve (suc n) kind (later_tokens t) ≡ later_tokens (after_item resolve n kind t)
 item_later resolve n (Code i k) t =
-    ap (numbered_tokens (is_call (row_of i)) k i.operands) (code_later n (row_of i) t) ∙ numbered_later (is_call (row_of i)) k i.operands (code_tokens n (row_of i) t)
+    ap (numbered_tokens (is_call (row_of i)) k i.operands) (code_later n (row_of i) t)
+    ∙ numbered_later (is_call (row_of i)) k i.operands (code_tokens n (row_of i) t)
 item_later resolve n (Mark v m) t = ap (λ (x : Option Token). record (later_tokens t) { marks = (v, x) ∷ later_marks t.marks }) (mark_later resolve m t)
 item_later resolve n (Phi p k) t =
-    ap (λ (x : Option Token). record (later_tokens t) { pairs = updated k (updated 0 x (λ o. laters (t.pairs k o))) (λ j o. laters (t.pairs j o)) }) (place_later p t)
+    ap (λ (x : Option Token). record (later_tokens t) { pairs = updated k (updated 0 x (λ o. laters (t.pairs k o))) (λ j o. laters (t.pairs j o)) })
+    (place_later p t)
     ∙ (ap (λ (x : ℕ → Option Token). record (later_tokens t) { pairs = updated k x (λ j o. laters (t.pairs j o)) }) (slot_later 0 (place_token p t) (t.pairs k))
     ∙ ap (λ (x : ℕ → ℕ → Option Token). record (later_tokens t) { pairs = x }) (pairs_later k (updated 0 (place_token p t) (t.pairs k)) t.pairs))
 
@@ -180,7 +191,8 @@ holds_later v t p h = record {
 
 holds_before : (v : VarId) (t : Tokens) (p : Place) → Holds v (later_tokens t) p → Holds v t p
 holds_before v t p h =
-    let same = same_before (variable_token v t) (place_token (Some p) t) h.token (sym (variable_later v t.marks) ∙ h.variable) (sym (place_later (Some p) t) ∙ h.held) in
+    let same = same_before (variable_token v t) (place_token (Some p) t) h.token (sym (variable_later v t.marks) ∙ h.variable)
+    (sym (place_later (Some p) t) ∙ h.held) in
     record { token = same.token; variable = same.first; held = same.second }
 
 first_later : (v : VarId) (t : Tokens) (p : Place) → IsFirst v t p ↔ IsFirst v (later_tokens t) p

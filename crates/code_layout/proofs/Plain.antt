@@ -1,5 +1,6 @@
 -- Plain code does the same in the source and in the machine.
-use Rattle.std.proofs.Common.{◌≡◌, ℕ, zero, suc, ◌<◌, List, [], ◌∷◌, map, All, Option, Some, None, Bool, true, false, cond, eqb, eq-eqb, ne_eqb, refl, sym, ap, ◌∙◌}
+use Rattle.std.proofs.Common.{◌≡◌, ℕ, zero, suc, ◌<◌, List, [], ◌∷◌, map, All, Option, Some, None, Bool, true, false, cond, eqb, eq-eqb, ne_eqb, refl}
+use Rattle.std.proofs.Common.{sym, ap, ◌∙◌}
 use Rattle.std.specs.Prelude.{IsSome, is_some, nat_eq, ◌&&◌, ◌||◌}
 use Rattle.std.specs.List.{list_any}
 use Rattle.std.proofs.lemmas.List.Elements.{All-nil, All-cons, All-head, All-tail}
@@ -72,10 +73,12 @@ sets_alike (Sets rd op a b) m c p h = record {
 sets_alike _ m c p h = absurd p
 
 -- a register that is set in both
-set_alike : (rd v : ℕ) (f : ℕ → ℕ) (g : ℕ → Option ℕ) → ((r : ℕ) → register_in f r ≡ or_zero (content g r)) → (r : ℕ) → register_in (set_in rd v f) r ≡ or_zero (content (put rd v g) r)
+set_alike : (rd v : ℕ) (f : ℕ → ℕ) (g : ℕ → Option ℕ) → ((r : ℕ) → register_in f r ≡ or_zero (content g r)) → (r : ℕ) →
+    register_in (set_in rd v f) r ≡ or_zero (content (put rd v g) r)
 set_alike zero v f g h r = h r
 set_alike (suc rd) v f g h zero = refl
-set_alike (suc rd) v f g h (suc r) = elim (eqb (suc r) (suc rd)) as (λ b. cond b v (f (suc r)) ≡ or_zero (cond b (Some v) (g (suc r)))) [ true ↦ refl | false ↦ h (suc r) ]
+set_alike (suc rd) v f g h (suc r) =
+    elim (eqb (suc r) (suc rd)) as (λ b. cond b v (f (suc r)) ≡ or_zero (cond b (Some v) (g (suc r)))) [ true ↦ refl | false ↦ h (suc r) ]
 
 set_written : (rd v : ℕ) (g : ℕ → Option ℕ) → ((r : ℕ) → r < 32 → IsSome (content g r)) → (r : ℕ) → r < 32 → IsSome (content (put rd v g) r)
 set_written zero v g h r lt = h r lt
@@ -116,7 +119,8 @@ kept_set rd v m m0 (r ∷ rs) spare kept =
     All-cons (λ (q : ℕ). register_in (set_in rd v m.regs) q ≡ register m0 q) r rs (set_other rd v r m.regs both.0 ∙ All-head Same r rs kept)
     (kept_set rd v m m0 rs both.1 (All-tail Same r rs kept))
 
-pub holding_numbered : (m : Machine) (sp call : Bool) (k : Option ℕ) (operands : List Operand) (c : Core) → Holding m c → Holding m (numbered sp call k operands c)
+pub holding_numbered : (m : Machine) (sp call : Bool) (k : Option ℕ) (operands : List Operand) (c : Core) → Holding m c →
+    Holding m (numbered sp call k operands c)
 holding_numbered m sp call None operands c h = h
 holding_numbered m sp call (Some k) operands c h = record {
   same = record { regs = h.same.regs; memory = h.same.memory; events = h.same.events };
@@ -131,7 +135,8 @@ read_alike m c h (r ∷ rs) = ap (λ (x : ℕ). x ∷ map (register m) rs) (h.sa
 
 all_written : (c : Core) → ((r : ℕ) → r < 32 → IsSome (content c.regs r)) → (rs : List ℕ) → All (λ r. r < 32) rs → are_written c rs ≡ true
 all_written c h [] a = refl
-all_written c h (r ∷ rs) a = both _ _ (is_there (content c.regs r) (h r (All-head (λ (q : ℕ). q < 32) r rs a))) (all_written c h rs (All-tail (λ (q : ℕ). q < 32) r rs a))
+all_written c h (r ∷ rs) a = both _ _ (is_there (content c.regs r) (h r (All-head (λ (q : ℕ). q < 32) r rs a)))
+    (all_written c h rs (All-tail (λ (q : ℕ). q < 32) r rs a))
 
 pub gives : (c : Core) → ((r : ℕ) → r < 32 → IsSome (content c.regs r)) → (rs : List ℕ) → All (λ r. r < 32) rs → act (Returns rs) c ≡ Gives (map (read c) rs)
 unfolding act does

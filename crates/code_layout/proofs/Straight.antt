@@ -1,5 +1,6 @@
 -- The machine's run over straight-line code, beside the source's.
-use Rattle.std.proofs.Common.{◌≡◌, ℕ, zero, suc, ◌+◌, ◌<◌, ◌≤◌, List, [], ◌∷◌, ◌++◌, drop, map, All, Option, Some, Bool, true, false, cond, eq-eqb, ne_eqb, refl, sym, ap, ◌∙◌, subst, inl, arith}
+use Rattle.std.proofs.Common.{◌≡◌, ℕ, zero, suc, ◌+◌, ◌<◌, ◌≤◌, List, [], ◌∷◌, ◌++◌, drop, map, All, Option, Some, Bool, true, false, cond, eq-eqb}
+use Rattle.std.proofs.Common.{ne_eqb, refl, sym, ap, ◌∙◌, subst, inl, arith}
 use Rattle.std.specs.Prelude.{is_some}
 use Rattle.std.specs.List.{flat_map}
 use Rattle.std.specs.Int.{w32, to_le_bytes}
@@ -33,7 +34,8 @@ use Rattle.path_tokens.specs.Trace as trace
 use Rattle.path_tokens.proofs.Along.{tokens_name_values}
 use Rattle.code_layout.specs.Image.{CodeLine, Image, line_at, word_at}
 use Rattle.code_layout.specs.Machine.{Machine, register, place_content, machine_start}
-use Rattle.code_layout.specs.MachineStep.{Continues, Ends, return_word, past, set_register, does_word, call_of, does_line, does_at, machine_step, Comes, there, steps, IsWell}
+use Rattle.code_layout.specs.MachineStep.{Continues, Ends, return_word, past, set_register, does_word, call_of, does_line, does_at, machine_step}
+use Rattle.code_layout.specs.MachineStep.{Comes, there, steps, IsWell}
 use Rattle.code_layout.specs.Headline.{AlignsWith, MachineAlong, at_start, after_step, KEPT, MachineAgrees, Headline}
 use Rattle.code_layout.specs.Straight.{IsPlainRow, IsWordOf, IsStraightImage, lines_of, GiveHeldAt, GiveHeld}
 use Rattle.code_layout.specs.StraightLaws.{HoldTheSame, StraightCodeRunsAlong, StraightCodeMeetsTheHeadline}
@@ -66,13 +68,15 @@ module _ (block : Block) (resolve : OperandPair → Option OperandPair) (image :
 
   fetch_here : (u : State) (n : ℕ) (i : Item) (items : List Item) → u.pos ≡ spot n → drop n block.items ≡ i ∷ items → src.fetch u.pos ≡ Here i
   fetch_here u n i items at rest =
-      ap src.fetch at ∙ ap (λ (b : Bool). fetch_in (cond b (block ∷ []) []) n) (eq-eqb block.id block.id refl) ∙ ap (λ (xs : List Item). front xs block.silent []) rest
+      ap src.fetch at ∙ ap (λ (b : Bool). fetch_in (cond b (block ∷ []) []) n) (eq-eqb block.id block.id refl)
+      ∙ ap (λ (xs : List Item). front xs block.silent []) rest
 
   spot_below : (p : Pos) (n : ℕ) → p ≡ spot n → below p ≡ spot (suc n)
   spot_below p n e = let k : n + 1 ≡ suc n = omega arith in ap below e ∙ ap spot k
 
   -- the trace goes on past an item
-  run_on : (u u' : State) (n : ℕ) (t : Tokens) (i : Item) → src.fetch u.pos ≡ Here i → Trace src s0 n u t → step src u ≡ Went u' → Trace src s0 (suc n) u' (after_item resolve n i.kind t)
+  run_on : (u u' : State) (n : ℕ) (t : Tokens) (i : Item) → src.fetch u.pos ≡ Here i → Trace src s0 n u t → step src u ≡ Went u' →
+      Trace src s0 (suc n) u' (after_item resolve n i.kind t)
   run_on u u' n t i f run went = subst (λ (x : Fetch). Trace src s0 (suc n) u' (after_fetch resolve n x t)) f (trace.onward run went)
 
   -- the source goes past a mark, and the machine stays
@@ -81,7 +85,8 @@ module _ (block : Block) (resolve : OperandPair → Option OperandPair) (image :
     went : step src u ≡ Went state
     stands : Stands m state n a t items text lines
 
-  past_mark : (m : Machine) (u : State) (n a : ℕ) (t : Tokens) (i : Item) (items : List Item) (text : List ℕ) (lines : List CodeLine) (v : VarId) (k : MarkValue) →
+  past_mark : (m : Machine) (u : State) (n a : ℕ) (t : Tokens) (i : Item) (items : List Item) (text : List ℕ) (lines : List CodeLine) (v : VarId)
+      (k : MarkValue) →
       i.kind ≡ Mark v k → Stands m u n a t (i ∷ items) text lines → PastMark m u (suc n) a (after_item resolve n i.kind t) items text lines
   past_mark m u n a t i items text lines v k e h =
       let core : Core = record u.core { marks = (v, part_of v (mark_value src k u.core)) ∷ u.core.marks } in
@@ -110,8 +115,10 @@ module _ (block : Block) (resolve : OperandPair → Option OperandPair) (image :
 
   -- what stands at an address, with code
   data Ending (index a : ℕ) (c : Instruction) (items : List Item) (text : List ℕ) (lines : List CodeLine) : Type 0 where
-    at_return : row_of c ≡ Returns (implicit_uses c.operands) → All (λ r. r < 32) (implicit_uses c.operands) → text ≡ to_le_bytes w32 return_word → Ending index a c items text lines
-    at_plain : (w : ℕ) (more : List ℕ) → IsPlainRow (row_of c) → IsWordOf (row_of c) w → text ≡ to_le_bytes w32 w ++ more → IsLaid block.id (suc index) (a + 4) items more lines → Ending index a c items text lines
+    at_return : row_of c ≡ Returns (implicit_uses c.operands) → All (λ r. r < 32) (implicit_uses c.operands) → text ≡ to_le_bytes w32 return_word →
+        Ending index a c items text lines
+    at_plain : (w : ℕ) (more : List ℕ) → IsPlainRow (row_of c) → IsWordOf (row_of c) w → text ≡ to_le_bytes w32 w ++ more →
+        IsLaid block.id (suc index) (a + 4) items more lines → Ending index a c items text lines
 
   -- the source at the next code item
   record Arrived (m : Machine) (u : State) (n a : ℕ) : Type 0 where
@@ -145,10 +152,13 @@ module _ (block : Block) (resolve : OperandPair → Option OperandPair) (image :
     kind = r.kind;
     stands = r.stands;
     ending = r.ending;
-    arrives = onward (λ e. let k : suc n ≤ r.index = r.later in let same : n ≡ r.index = ap (λ (p : Pos). p.item) (sym at ∙ e) in absurd (omega arith)) went r.arrives;
+    arrives = onward
+        (λ e. let k : suc n ≤ r.index = r.later in let same : n ≡ r.index = ap (λ (p : Pos). p.item) (sym at ∙ e) in absurd (omega arith))
+        went r.arrives;
   }
 
-  arrive : {n a : ℕ} {items : List Item} {text : List ℕ} {lines : List CodeLine} → IsLaid block.id n a items text lines → (m : Machine) (u : State) (t : Tokens) → Stands m u n a t items text lines → Arrived m u n a
+  arrive : {n a : ℕ} {items : List Item} {text : List ℕ} {lines : List CodeLine} → IsLaid block.id n a items text lines →
+      (m : Machine) (u : State) (t : Tokens) → Stands m u n a t items text lines → Arrived m u n a
   arrive (returns {n} {a} {i} {c} {k} kind row physical) m u t h = record {
     state = u;
     index = n;
@@ -189,7 +199,8 @@ module _ (block : Block) (resolve : OperandPair → Option OperandPair) (image :
   line_here : (m : Machine) (u : State) (n a : ℕ) (t : Tokens) (items : List Item) (text : List ℕ) (c : Instruction) (lines : List CodeLine) →
       Stands m u n a t items text (kept_line block.id n a c ∷ lines) → line_at image.lines m.counter ≡ Some (kept_line block.id n a c)
   line_here m u n a t items text c lines h =
-      ap (line_at image.lines) h.counter ∙ h.from a (omega arith) ∙ ap (λ (b : Bool). cond b (Some (kept_line block.id n a c)) (line_at lines a)) (eq-eqb a a refl)
+      ap (line_at image.lines) h.counter ∙ h.from a (omega arith)
+      ∙ ap (λ (b : Bool). cond b (Some (kept_line block.id n a c)) (line_at lines a)) (eq-eqb a a refl)
 
   -- the machine does the line's word
   step_line : (m : Machine) (l : CodeLine) → line_at image.lines m.counter ≡ Some l →
@@ -204,8 +215,10 @@ module _ (block : Block) (resolve : OperandPair → Option OperandPair) (image :
     went : step src u ≡ Went state
     stands : Stands machine state n a t items text lines
 
-  past_plain : (m : Machine) (u : State) (n a : ℕ) (t : Tokens) (i : Item) (items : List Item) (text more : List ℕ) (lines : List CodeLine) (c : Instruction) (k : Option ℕ) (w : ℕ) →
-      i.kind ≡ Code c k → IsPlainRow (row_of c) → IsWordOf (row_of c) w → text ≡ to_le_bytes w32 w ++ more → Stands m u n a t (i ∷ items) text (kept_line block.id n a c ∷ lines) →
+  past_plain : (m : Machine) (u : State) (n a : ℕ) (t : Tokens) (i : Item) (items : List Item) (text more : List ℕ) (lines : List CodeLine)
+      (c : Instruction) (k : Option ℕ) (w : ℕ) →
+      i.kind ≡ Code c k → IsPlainRow (row_of c) → IsWordOf (row_of c) w → text ≡ to_le_bytes w32 w ++ more →
+      Stands m u n a t (i ∷ items) text (kept_line block.id n a c ∷ lines) →
       PastPlain m u (suc n) (a + 4) (after_item resolve n i.kind t) items more lines
   past_plain m u n a t i items text more lines c k w e plain is spelled h =
       let row = row_of c in
@@ -215,20 +228,24 @@ module _ (block : Block) (resolve : OperandPair → Option OperandPair) (image :
       let core : Core = numbered true (is_call row) k c.operands (source.set_register alike.rd alike.value u.core) in
       let state : State = record { pos = below u.pos; core = core } in
       let f : src.fetch u.pos ≡ Here i = fetch_here u n i items h.at h.rest in
-      let done : do_item src i.kind u.core ≡ Falls core = ap (λ (x : ItemKind). do_item src x u.core) e ∙ ap (with_core (numbered true (is_call row) k c.operands)) alike.core in
+      let done : do_item src i.kind u.core ≡ Falls core =
+      ap (λ (x : ItemKind). do_item src x u.core) e ∙ ap (with_core (numbered true (is_call row) k c.operands)) alike.core in
       let went : step src u ≡ Went state = step_item src u i (Falls core) f done in
-      let fetched : word_at image.text m.counter ≡ Some w = ap (word_at image.text) h.counter ∙ word_here image.text more a w (is_word row w is) (h.bytes ∙ spelled) in
+      let fetched : word_at image.text m.counter ≡ Some w =
+      ap (word_at image.text) h.counter ∙ word_here image.text more a w (is_word row w is) (h.bytes ∙ spelled) in
       record {
         machine = machine;
         state = state;
-        continues = step_line m l (line_here m u n a t (i ∷ items) text c lines h) ∙ plain_line image l row m plain ∙ ap (λ (o : Option ℕ). does_word l o m) fetched ∙ plain_word l row w m is ∙ alike.machine;
+        continues = step_line m l (line_here m u n a t (i ∷ items) text c lines h) ∙ plain_line image l row m plain
+            ∙ ap (λ (o : Option ℕ). does_word l o m) fetched ∙ plain_word l row w m is ∙ alike.machine;
         went = went;
         stands = record {
           counter = ap (λ (x : ℕ). x + 4) h.counter;
           at = spot_below u.pos n h.at;
           rest = drop_one block.items n i items h.rest;
           bytes = drop_more image.text a 4 ∙ ap (drop 4) (h.bytes ∙ spelled);
-          from = λ x le. h.from x (omega arith) ∙ (let ne : a ≡ x → ⊥ = λ z. absurd (omega arith) in ap (λ (b : Bool). cond b (Some l) (line_at lines x)) (ne_eqb a x ne));
+          from = λ x le. h.from x (omega arith)
+              ∙ (let ne : a ≡ x → ⊥ = λ z. absurd (omega arith) in ap (λ (b : Bool). cond b (Some l) (line_at lines x)) (ne_eqb a x ne));
           held = subst (λ (x : ItemKind). GiveHeld lists resolve (suc n) (cond (is_code x) (a + 4) a) (after_item resolve n i.kind t) items) e h.held.1;
           holding = holding_numbered machine true (is_call row) k c.operands _ (holding_set alike.rd alike.value m u.core h.holding);
           kept = kept_set alike.rd alike.value m (machine_start image s0) KEPT alike.spare h.kept;
@@ -242,7 +259,8 @@ module _ (block : Block) (resolve : OperandPair → Option OperandPair) (image :
     ends : machine_step image m ≡ Ends results
     returned : step src u ≡ Returned results
 
-  at_end : (m : Machine) (u : State) (n a : ℕ) (t : Tokens) (i : Item) (items : List Item) (text : List ℕ) (lines : List CodeLine) (c : Instruction) (k : Option ℕ) →
+  at_end : (m : Machine) (u : State) (n a : ℕ) (t : Tokens) (i : Item) (items : List Item) (text : List ℕ) (lines : List CodeLine) (c : Instruction)
+      (k : Option ℕ) →
       i.kind ≡ Code c k → row_of c ≡ Returns (implicit_uses c.operands) → All (λ r. r < 32) (implicit_uses c.operands) → text ≡ to_le_bytes w32 return_word →
       Stands m u n a t (i ∷ items) text (kept_line block.id n a c ∷ lines) → AtReturn m u
   at_end m u n a t i items text lines c k e row physical spelled h =
@@ -250,11 +268,14 @@ module _ (block : Block) (resolve : OperandPair → Option OperandPair) (image :
       let l : CodeLine = kept_line block.id n a c in
       let f : src.fetch u.pos ≡ Here i = fetch_here u n i items h.at h.rest in
       let acts : act (row_of c) u.core ≡ Gives (map (read u.core) uses) = ap (λ (x : Row). act x u.core) row ∙ gives u.core h.holding.written uses physical in
-      let done : do_item src i.kind u.core ≡ Gives (map (read u.core) uses) = ap (λ (x : ItemKind). do_item src x u.core) e ∙ ap (with_core (numbered true (is_call (row_of c)) k c.operands)) acts in
-      let fetched : word_at image.text m.counter ≡ Some return_word = ap (word_at image.text) h.counter ∙ word_here image.text [] a return_word (omega arith) (h.bytes ∙ spelled) in
+      let done : do_item src i.kind u.core ≡ Gives (map (read u.core) uses) =
+      ap (λ (x : ItemKind). do_item src x u.core) e ∙ ap (with_core (numbered true (is_call (row_of c)) k c.operands)) acts in
+      let fetched : word_at image.text m.counter ≡ Some return_word =
+      ap (word_at image.text) h.counter ∙ word_here image.text [] a return_word (omega arith) (h.bytes ∙ spelled) in
       record {
         results = map (read u.core) uses;
-        ends = step_line m l (line_here m u n a t (i ∷ items) text c lines h) ∙ ap (λ (x : Row). does_line image l (call_of x) m) row ∙ ap (λ (o : Option ℕ). does_word l o m) fetched ∙ ap Ends (read_alike m u.core h.holding uses);
+        ends = step_line m l (line_here m u n a t (i ∷ items) text c lines h) ∙ ap (λ (x : Row). does_line image l (call_of x) m) row
+            ∙ ap (λ (o : Option ℕ). does_word l o m) fetched ∙ ap Ends (read_alike m u.core h.holding uses);
         returned = step_item src u i (Gives (map (read u.core) uses)) f done;
       }
 
@@ -318,7 +339,8 @@ module _ (block : Block) (resolve : OperandPair → Option OperandPair) (image :
         aligns = aligned_by since s r.state a.state (spot a.index) r.way a.arrives;
       }
 
-  met_line : (m : Machine) (s : State) (since : Since) (x : Met m s since) → line_at image.lines m.counter ≡ Some (kept_line block.id x.index x.address x.instruction)
+  met_line : (m : Machine) (s : State) (since : Since) (x : Met m s since) →
+      line_at image.lines m.counter ≡ Some (kept_line block.id x.index x.address x.instruction)
   met_line m s since x = line_here m x.state x.index x.address x.tokens (x.item ∷ x.items) x.text x.instruction x.lines x.stands
 
   -- the machine's next state, with the source's
@@ -331,7 +353,8 @@ module _ (block : Block) (resolve : OperandPair → Option OperandPair) (image :
           let bad : Ends r.results ≡ Continues m' = sym r.ends ∙ e in
           absurd (cc)
       by_ending (at_plain w more plain is spelled rest) =
-          let p = past_plain m x.state x.index x.address x.tokens x.item x.items x.text more x.lines x.instruction x.number w x.kind plain is spelled x.stands in
+          let p = past_plain m x.state x.index x.address x.tokens x.item x.items x.text more x.lines x.instruction x.number w x.kind plain is spelled
+          x.stands in
           let both : Continues p.machine ≡ Continues m' = sym p.continues ∙ e in
           let same : p.machine ≡ m' = cc in
           record {
@@ -343,7 +366,9 @@ module _ (block : Block) (resolve : OperandPair → Option OperandPair) (image :
             text = more;
             lines = x.lines;
             straight = rest;
-            stands = subst (λ (z : Machine). Stands z p.state (suc x.index) (x.address + 4) (after_item resolve x.index x.item.kind x.tokens) x.items more x.lines) same p.stands;
+            stands = subst
+                (λ (z : Machine). Stands z p.state (suc x.index) (x.address + 4) (after_item resolve x.index x.item.kind x.tokens) x.items more x.lines)
+                same p.stands;
             way = p.went;
           }
 
@@ -392,7 +417,8 @@ module _ (block : Block) (resolve : OperandPair → Option OperandPair) (image :
         let same : l ≡ mine = cc in
         let there : AlignsWith src mine since s s' = subst (λ (z : CodeLine). AlignsWith src z since s s') same aligned in
         let one : x.state ≡ s' = aligns_once src (First (spot x.index)) (spot x.index) refl since s x.state s' x.aligns there in
-        subst (λ (z : CodeLine). Ready m' s' (since_of (waits_at false z.origin))) (sym same) (subst (λ (z : State). Ready m' z After) one (ready_next m m' s since x continues))
+        subst (λ (z : CodeLine). Ready m' s' (since_of (waits_at false z.origin))) (sym same)
+        (subst (λ (z : State). Ready m' z After) one (ready_next m m' s since x continues))
 
     -- the alignment is there at each line
     met_at : (m : Machine) (s : State) (since : Since) (l : CodeLine) → MachineAlong src image m0 s0 m s since → line_at image.lines m.counter ≡ Some l →
@@ -405,7 +431,8 @@ module _ (block : Block) (resolve : OperandPair → Option OperandPair) (image :
         (x, subst (λ (z : CodeLine). AlignsWith src z since s x.state) (sym same) x.aligns)
 
     -- at a return of the machine the source returns the same
-    returns_there : (m : Machine) (s : State) (since : Since) (x : Met m s since) (results : List ℕ) → machine_step image m ≡ Ends results → step src x.state ≡ Returned results
+    returns_there : (m : Machine) (s : State) (since : Since) (x : Met m s since) (results : List ℕ) → machine_step image m ≡ Ends results →
+        step src x.state ≡ Returned results
     returns_there m s since x results e = by_ending x.ending
       where
         by_ending : Ending x.index x.address x.instruction x.items x.text x.lines → step src x.state ≡ Returned results
@@ -415,7 +442,8 @@ module _ (block : Block) (resolve : OperandPair → Option OperandPair) (image :
             let same : r.results ≡ results = cc in
             r.returned ∙ ap Returned same
         by_ending (at_plain w more plain is spelled rest) =
-            let p = past_plain m x.state x.index x.address x.tokens x.item x.items x.text more x.lines x.instruction x.number w x.kind plain is spelled x.stands in
+            let p = past_plain m x.state x.index x.address x.tokens x.item x.items x.text more x.lines x.instruction x.number w x.kind plain is spelled
+            x.stands in
             let bad : Continues p.machine ≡ Ends results = sym p.continues ∙ e in
             absurd (cc)
 
@@ -425,7 +453,8 @@ module _ (block : Block) (resolve : OperandPair → Option OperandPair) (image :
     places_there m s since x v p listed =
         let named = tokens_name_values src s0 written x.index x.state x.tokens x.stands.run in
         let names : Names named.0 x.tokens x.state.core = names_here named.0 x.stands.run named.1 in
-        let gives_held : GiveHeldAt lists true x.address x.tokens = subst (λ (k : ItemKind). GiveHeldAt lists (is_code k) x.address x.tokens) x.kind x.stands.held.0 in
+        let gives_held : GiveHeldAt lists true x.address x.tokens =
+        subst (λ (k : ItemKind). GiveHeldAt lists (is_code k) x.address x.tokens) x.kind x.stands.held.0 in
         held_place named.0 v p m x.tokens x.state.core names x.stands.holding (gives_held v p (subst (λ (a : ℕ). lists v a p) x.stands.counter listed))
 
     agrees_there : (m : Machine) (s : State) (since : Since) (x : Met m s since) → MachineAgrees src image lists m0 m x.state
@@ -452,7 +481,8 @@ module _ (block : Block) (resolve : OperandPair → Option OperandPair) (image :
             let r = at_end m x.state x.index x.address x.tokens x.item x.items x.text x.lines x.instruction x.number x.kind row physical spelled x.stands in
             subst IsWell (sym r.ends) tt
         by_ending (at_plain w more plain is spelled rest) =
-            let p = past_plain m x.state x.index x.address x.tokens x.item x.items x.text more x.lines x.instruction x.number w x.kind plain is spelled x.stands in
+            let p = past_plain m x.state x.index x.address x.tokens x.item x.items x.text more x.lines x.instruction x.number w x.kind plain is spelled
+            x.stands in
             subst IsWell (sym p.continues) tt
 
     stops_well : (m : Machine) → Comes image m0 m → IsWell (machine_step image m)

@@ -11,9 +11,9 @@ use Rattle.mir_meaning.specs.Align.{is_code}
 use Rattle.mir_meaning.specs.Token.{Tokens, after_item, entry_tokens, IsPlace, Precedes, IsWanted, NoneIsWanted}
 use Rattle.code_layout.specs.Straight.{Holds, IsStraight}
 
--- location lists are exact for a function, where `points` tells of each address of a byte of its code the position of that code:
--- there they give a part of a variable a place exactly where that is wanted at the position, and they give it none exactly where
--- none is wanted. At an address with no point they give none
+-- location lists are exact for a function, where `points` relates the address of each byte of its code to that code's position:
+-- at the address they give a part of a variable a place exactly where that place is wanted at the position, and give it none exactly
+-- where none is wanted. At an address with no point they give nothing
 pub record AreExact (g : Program) (start : Pos) (points : (address : ℕ) → Pos → Type 0) (lists : VarId → (address : ℕ) → Place → Type 0) : Type 0 where
   pub gives : (v : VarId) (a : ℕ) (p : Pos) → points a p → (place : Place) → lists v a place ↔ IsWanted g start v p place
   pub gives_none : (v : VarId) (a : ℕ) (p : Pos) → points a p → ((place : Place) → lists v a place → ⊥) ↔ NoneIsWanted g start v p

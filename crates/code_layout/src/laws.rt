@@ -23,13 +23,15 @@ pub fn straight_code_runs_along()
     ensures { StraightCodeRunsAlong }
 {}
 
-/// The headline holds of straight-line code whose lists give only places that hold the variable's value by tokens.
+/// The headline holds of a source of straight-line code without stack objects, whose lists give only places that hold
+/// the variable's value by tokens.
 pub fn straight_code_meets_the_headline<L: LocationLists>()
     ensures { StraightCodeMeetsTheHeadline L.gives }
 {}
 
-/// Lists of straight-line code that give the first places by tokens are exact: they give the wanted place, and none
-/// exactly where none is wanted, by the paths of the function behind an empty prologue.
+/// Lists of straight-line code that give the first places by tokens are exact: at each byte of code they give the
+/// wanted place, and none exactly where none is wanted, by the paths of the function behind an empty prologue; and
+/// nothing outside the code.
 pub fn straight_lists_are_exact<L: LocationLists>()
     ensures { StraightListsAreExact L.gives }
 {}
