@@ -15,7 +15,9 @@ same a b =
     (grind (arith, nat_tests), grind (arith, nat_tests))
 
 pub distinct_from_size : (n : ℕ) (xs : List ℕ) → n ≡ distinct_count (eq_by_cmp nat_cmp) xs → IsTrue (nat_eq n (length xs)) → AllPairs (λ x y. x ≢ y) xs
-distinct_from_size n xs size t = AllPairs-from_IsDistinct same xs (IsDistinct-from_count (eq_by_cmp_equiv nat_cmp_total) xs (sym size ∙ eqb-true n (length xs) t))
+distinct_from_size n xs size t = AllPairs-from_IsDistinct same xs
+    (IsDistinct-from_count (eq_by_cmp_equiv nat_cmp_total) xs (sym size ∙ eqb-true n (length xs) t))
 
 pub size_from_distinct : (n : ℕ) (xs : List ℕ) → n ≡ distinct_count (eq_by_cmp nat_cmp) xs → AllPairs (λ x y. x ≢ y) xs → IsTrue (nat_eq n (length xs))
-size_from_distinct n xs size h = let e = size ∙ distinct_count-from_IsDistinct (eq_by_cmp_equiv nat_cmp_total) xs (IsDistinct-from_AllPairs same xs h) in eq-eqb n (length xs) e
+size_from_distinct n xs size h = let e = size ∙ distinct_count-from_IsDistinct (eq_by_cmp_equiv nat_cmp_total) xs
+    (IsDistinct-from_AllPairs same xs h) in eq-eqb n (length xs) e

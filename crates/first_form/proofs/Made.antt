@@ -1,5 +1,6 @@
 -- The items of lines, made one after the other, and that their function is sound.
-use Rattle.std.proofs.Common.{◌≡◌, ℕ, zero, suc, ◌+◌, ◌<◌, ◌≤◌, true, false, ◌&&◌, not, nat_eq, List, [], ◌∷◌, ◌++◌, length, take, get_or, Option, Some, None, refl, sym, ap, subst, ◌∙◌, arith, inr}
+use Rattle.std.proofs.Common.{◌≡◌, ℕ, zero, suc, ◌+◌, ◌<◌, ◌≤◌, true, false, ◌&&◌, not, nat_eq, List, [], ◌∷◌, ◌++◌, length, take, get_or, Option, Some, None}
+use Rattle.std.proofs.Common.{refl, sym, ap, subst, ◌∙◌, arith}
 use Rattle.std.specs.List.{list_all, All, AllByRecursion, IsDistinct, cons_option, slice_get}
 use Rattle.std.proofs.lemmas.Bool.{and_parts, not-true, eqb-false}
 use Rattle.std.proofs.lemmas.Bool.Decides.{Decides-eqb, nat_tests}
@@ -17,14 +18,16 @@ use Rattle.mir_func.specs.declared.item.ItemKind.{ItemKind}
 use Rattle.mir_func.specs.declared.item.ItemKind.TheVariants.{Code, Mark, Phi}
 use Rattle.mir_func.specs.declared.object.Object.{Object}
 use Rattle.mir_func.specs.Function.{Function}
-use Rattle.mir_func.specs.Sound.{AreApart, IsSound, IsSoundObject, TargetIn, TargetsIn, SlotIn, SlotsIn, ObjectIn, ObjectsIn, IsNotPointer, LeavesPointer, number_of, code_number, NumbersOnce, OriginIn, MayFollow, EndsWell, Closes}
+use Rattle.mir_func.specs.Sound.{AreApart, IsSound, IsSoundObject, TargetIn, TargetsIn, SlotIn, SlotsIn, ObjectIn, ObjectsIn, IsNotPointer, LeavesPointer}
+use Rattle.mir_func.specs.Sound.{number_of, code_number, NumbersOnce, OriginIn, MayFollow, EndsWell, Closes}
 use Rattle.mir_func.specs.declared.exit.Exit.{Exit}
 use Rattle.mir_func.specs.declared.exit.Exit.TheVariants.{Onward, Final}
 use Rattle.mir_func.specs.Exits.{row_exit, exit_of, Leaves}
 use Rattle.first_form.specs.declared.line.Line.{Line}
 use Rattle.first_form.specs.declared.line.Statement.{Statement}
 use Rattle.first_form.specs.declared.line.Statement.TheVariants.{AddImmediate, Add, Value, Reference, Return}
-use Rattle.first_form.specs.FirstForm.{is_target, is_source, is_immediate, is_small_or_none, is_allowed, is_return, ends_in_return, number_in, numbers_of, kind_of, item_of, items_from, function_of, AreFirst}
+use Rattle.first_form.specs.FirstForm.{is_target, is_source, is_immediate, is_small_or_none, is_allowed, is_return, ends_in_return, number_in, numbers_of}
+use Rattle.first_form.specs.FirstForm.{kind_of, item_of, items_from, function_of, AreFirst}
 
 -- ---- one item more
 
@@ -34,7 +37,8 @@ items_push n (y ∷ ys) x =
     let e : suc n + length ys ≡ n + length (y ∷ ys) = omega arith in
     ap (λ (is : List Item). item_of n y ∷ is) (items_push (suc n) ys x ∙ ap (λ (k : ℕ). items_from (suc n) ys ++ item_of k x ∷ []) e)
 
-pub items_step : (xs : List Line) (i : ℕ) (d : Line) (is : List Item) → i < length xs → is ≡ items_from 0 (take i xs) → is ++ item_of i (get_or xs i d) ∷ [] ≡ items_from 0 (take (i + 1) xs)
+pub items_step : (xs : List Line) (i : ℕ) (d : Line) (is : List Item) → i < length xs → is ≡ items_from 0 (take i xs) →
+    is ++ item_of i (get_or xs i d) ∷ [] ≡ items_from 0 (take (i + 1) xs)
 items_step xs i d is lt so_far =
     let len : 0 + length (take i xs) ≡ i = omega (arith, length-take i xs) in
     let x : Line = get_or xs i d in
@@ -45,7 +49,8 @@ items_step xs i d is lt so_far =
 -- ---- soundness
 
 -- what holds of the item of every line that may stand holds of all items
-items_all : (P : Item → Type 0) → ((n : ℕ) (l : Line) → is_allowed l.statement ≡ true → P (item_of n l)) → (n : ℕ) (ls : List Line) → list_all (λ l. is_allowed l.statement) ls ≡ true → All P (items_from n ls)
+items_all : (P : Item → Type 0) → ((n : ℕ) (l : Line) → is_allowed l.statement ≡ true → P (item_of n l)) → (n : ℕ) (ls : List Line) →
+    list_all (λ l. is_allowed l.statement) ls ≡ true → All P (items_from n ls)
 items_all P one n [] h = All-nil P
 items_all P one n (l ∷ ls) h =
     let p = and_parts (is_allowed l.statement) (list_all (λ l. is_allowed l.statement) ls) h in
@@ -103,12 +108,15 @@ leaves_pointer (AddImmediate to from i k) ok =
     let p = and_parts (is_target to && is_source from && is_immediate i) (is_small_or_none k) ok in
     let q = and_parts (is_target to && is_source from) (is_immediate i) p.0 in
     let r = and_parts (is_target to) (is_source from) q.0 in
-    All-cons IsNotPointer (Def to) (Use from ∷ Imm i ∷ []) (target_other to r.0) (All-cons IsNotPointer (Use from) (Imm i ∷ []) (source_other from r.1) (All-cons IsNotPointer (Imm i) [] tt (All-nil IsNotPointer)))
+    All-cons IsNotPointer (Def to) (Use from ∷ Imm i ∷ []) (target_other to r.0)
+    (All-cons IsNotPointer (Use from) (Imm i ∷ []) (source_other from r.1) (All-cons IsNotPointer (Imm i) [] tt (All-nil IsNotPointer)))
 leaves_pointer (Add to left right k) ok =
     let p = and_parts (is_target to && is_source left && is_source right) (is_small_or_none k) ok in
     let q = and_parts (is_target to && is_source left) (is_source right) p.0 in
     let r = and_parts (is_target to) (is_source left) q.0 in
-    All-cons IsNotPointer (Def to) (Use left ∷ Use right ∷ []) (target_other to r.0) (All-cons IsNotPointer (Use left) (Use right ∷ []) (source_other left r.1) (All-cons IsNotPointer (Use right) [] (source_other right q.1) (All-nil IsNotPointer)))
+    All-cons IsNotPointer (Def to) (Use left ∷ Use right ∷ []) (target_other to r.0)
+    (All-cons IsNotPointer (Use left) (Use right ∷ []) (source_other left r.1)
+    (All-cons IsNotPointer (Use right) [] (source_other right q.1) (All-nil IsNotPointer)))
 leaves_pointer (Value r v) ok = tt
 leaves_pointer (Reference v k o) ok = tt
 leaves_pointer (Return None) ok = All-nil IsNotPointer
@@ -140,7 +148,8 @@ absent_below : (k : ℕ) (o : Option ℕ) (ks : List ℕ) → AllByRecursion (λ
 absent_below k None ks h = h
 absent_below k (Some m) ks h = h.1
 
-absent : (k n : ℕ) (ls : List Line) → AllByRecursion (λ m. nat_eq k m ≡ false) (numbers_of ls) → (j : ℕ) (y : Item) → slice_get (items_from n ls) j ≡ Some y → number_of y.kind ≡ Some k → ⊥
+absent : (k n : ℕ) (ls : List Line) → AllByRecursion (λ m. nat_eq k m ≡ false) (numbers_of ls) → (j : ℕ) (y : Item) → slice_get (items_from n ls) j ≡ Some y →
+    number_of y.kind ≡ Some k → ⊥
 absent k n [] h j y at is = absurd cc
 absent k n (l ∷ ls) h zero y at is =
     let e : item_of n l ≡ y = cc in
@@ -199,8 +208,11 @@ ends_well : (n : ℕ) (ls : List Line) → ends_in_return ls ≡ true → EndsWe
 ends_well n [] e = absurd cc
 ends_well n (l ∷ []) e = (subst (λ (x : Exit). MayFollow x []) (sym (return_exit l.statement e)) refl, tt)
 ends_well n (l ∷ m ∷ ls) e =
-    let p = and_parts (not (is_return l.statement)) (ends_in_return (m ∷ ls)) e in
-    (subst (λ (x : Exit). MayFollow x (items_from (suc n) (m ∷ ls))) (sym (other_exit l.statement (not-true (is_return l.statement) p.0))) tt, ends_well (suc n) (m ∷ ls) p.1)
+    let p = and_parts (not (is_return l.statement)) (ends_in_return (m ∷ ls)) e in (
+      subst (λ (x : Exit). MayFollow x (items_from (suc n) (m ∷ ls))) (sym (other_exit l.statement (not-true (is_return l.statement) p.0))) tt,
+      ends_well
+          (suc n) (m ∷ ls) p.1,
+    )
 
 closes : (n : ℕ) (ls : List Line) → ends_in_return ls ≡ true → Closes (items_from n ls)
 closes n [] e = absurd cc
@@ -229,18 +241,24 @@ sound ls first =
       objects_laid = tt;
       few_blocks = omega arith;
       few_slots = omega arith;
-      targets = one_block (λ x. All (λ i. TargetsIn (0 ∷ []) i.kind) x.items) b (items_all (λ i. TargetsIn (0 ∷ []) i.kind) (λ n l ok. targets_in (0 ∷ []) l.statement) 0 ls first.allowed);
-      slots = one_block (λ x. All (λ i. SlotsIn [] i.kind) x.items) b (items_all (λ i. SlotsIn [] i.kind) (λ n l ok. slots_in [] l.statement) 0 ls first.allowed);
-      objects = one_block (λ x. All (λ i. ObjectsIn [] i.kind) x.items) b (items_all (λ i. ObjectsIn [] i.kind) (λ n l ok. objects_in l.statement) 0 ls first.allowed);
-      pointer = one_block (λ x. All (λ i. LeavesPointer i.kind) x.items) b (items_all (λ i. LeavesPointer i.kind) (λ n l ok. leaves_pointer l.statement ok) 0 ls first.allowed);
-      numbers = subst NumbersOnce (sym (append-nil (items_from 0 ls))) (numbers_once 0 ls (IsDistinct-from_AllPairs Decides-eqb (numbers_of ls) first.limits.numbers_once));
+      targets = one_block (λ x. All (λ i. TargetsIn (0 ∷ []) i.kind) x.items) b
+          (items_all (λ i. TargetsIn (0 ∷ []) i.kind) (λ n l ok. targets_in (0 ∷ []) l.statement) 0 ls first.allowed);
+      slots = one_block (λ x. All (λ i. SlotsIn [] i.kind) x.items) b
+          (items_all (λ i. SlotsIn [] i.kind) (λ n l ok. slots_in [] l.statement) 0 ls first.allowed);
+      objects = one_block (λ x. All (λ i. ObjectsIn [] i.kind) x.items) b
+          (items_all (λ i. ObjectsIn [] i.kind) (λ n l ok. objects_in l.statement) 0 ls first.allowed);
+      pointer = one_block (λ x. All (λ i. LeavesPointer i.kind) x.items) b
+          (items_all (λ i. LeavesPointer i.kind) (λ n l ok. leaves_pointer l.statement ok) 0 ls first.allowed);
+      numbers = subst NumbersOnce (sym (append-nil (items_from 0 ls)))
+          (numbers_once 0 ls (IsDistinct-from_AllPairs Decides-eqb (numbers_of ls) first.limits.numbers_once));
       origins = one_block (λ x. All (λ i. OriginIn x i.origin) x.items) b (origins_in b 0 ls refl (omega arith));
       ends = one_block (λ x. EndsWell x.items) b (ends_well 0 ls first.ends);
       last = closes 0 ls first.ends;
     }
 
 -- the same of a function with these parts
-pub sound_with : (ls : List Line) (name slots : List ℕ) (objects : List Object) (blocks : List Block) → AreFirst ls → name ≡ (function_of ls).name → slots ≡ (function_of ls).slots →
+pub sound_with : (ls : List Line) (name slots : List ℕ) (objects : List Object) (blocks : List Block) → AreFirst ls → name ≡ (function_of ls).name →
+    slots ≡ (function_of ls).slots →
     objects ≡ (function_of ls).objects → blocks ≡ (function_of ls).blocks → IsSound (record { name = name; slots = slots; objects = objects; blocks = blocks })
 sound_with ls name slots objects blocks first is-name is-slots is-objects is-blocks =
     let whole : Function = record { name = name; slots = slots; objects = objects; blocks = blocks } in

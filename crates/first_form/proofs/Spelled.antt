@@ -30,7 +30,8 @@ location_is false rest = refl
 location_is true rest = ap (λ (t : List ℕ). (codes ", debug-location !" ++ t) ++ rest) (decimal_digit 5 (omega arith))
 
 -- parts of a text, from left to right
-sum_parts : (a b c d e f g h rest : List ℕ) → ((((a ++ b) ++ c) ++ (d ++ ((e ++ f) ++ g))) ++ h) ++ rest ≡ a ++ (b ++ (c ++ (d ++ (e ++ (f ++ (g ++ (h ++ rest)))))))
+sum_parts : (a b c d e f g h rest : List ℕ) → ((((a ++ b) ++ c) ++ (d ++ ((e ++ f) ++ g))) ++ h) ++ rest ≡ a ++
+    (b ++ (c ++ (d ++ (e ++ (f ++ (g ++ (h ++ rest)))))))
 sum_parts a b c d e f g h rest = simp append_assoc
 
 value_parts : (a b c d e f rest : List ℕ) → (a ++ b ++ (c ++ d ++ e ++ f)) ++ rest ≡ a ++ (b ++ (c ++ (d ++ (e ++ (f ++ rest)))))
@@ -55,19 +56,27 @@ kind_is (Add to left right k) rest ok =
     let q = and_parts (is_target to && is_source left) (is_source right) p.0 in
     let r = and_parts (is_target to) (is_source left) q.0 in
     sum_parts (register_text to) (codes " = ") (codes "ADD") (codes " ") (register_text left) (codes ", ") (register_text right) (number_text k) rest
-    ∙ (ap (λ (t : List ℕ). t ++ (codes " = " ++ (codes "ADD" ++ (codes " " ++ (register_text left ++ (codes ", " ++ (register_text right ++ (number_text k ++ rest)))))))) (register_is to (target_below to r.0))
-    ∙ (ap (λ (t : List ℕ). (codes "$x" ++ decimal to) ++ (codes " = " ++ (codes "ADD" ++ (codes " " ++ (t ++ (codes ", " ++ (register_text right ++ (number_text k ++ rest)))))))) (register_is left (source_below left r.1))
-    ∙ (ap (λ (t : List ℕ). (codes "$x" ++ decimal to) ++ (codes " = " ++ (codes "ADD" ++ (codes " " ++ ((codes "$x" ++ decimal left) ++ (codes ", " ++ (t ++ (number_text k ++ rest)))))))) (register_is right (source_below right q.1))
-    ∙ ap (λ (t : List ℕ). (codes "$x" ++ decimal to) ++ (codes " = " ++ (codes "ADD" ++ (codes " " ++ ((codes "$x" ++ decimal left) ++ (codes ", " ++ ((codes "$x" ++ decimal right) ++ t))))))) (number_is k rest))))
+    ∙ (ap (λ (t : List ℕ). t ++ (codes " = " ++ (codes "ADD" ++
+    (codes " " ++ (register_text left ++ (codes ", " ++ (register_text right ++ (number_text k ++ rest)))))))) (register_is to (target_below to r.0))
+    ∙ (ap (λ (t : List ℕ). (codes "$x" ++ decimal to) ++ (codes " = " ++
+    (codes "ADD" ++ (codes " " ++ (t ++ (codes ", " ++ (register_text right ++ (number_text k ++ rest)))))))) (register_is left (source_below left r.1))
+    ∙ (ap (λ (t : List ℕ). (codes "$x" ++ decimal to) ++ (codes " = " ++
+    (codes "ADD" ++ (codes " " ++ ((codes "$x" ++ decimal left) ++ (codes ", " ++ (t ++ (number_text k ++ rest))))))))
+    (register_is right (source_below right q.1))
+    ∙ ap (λ (t : List ℕ). (codes "$x" ++ decimal to) ++ (codes " = " ++
+    (codes "ADD" ++ (codes " " ++ ((codes "$x" ++ decimal left) ++ (codes ", " ++ ((codes "$x" ++ decimal right) ++ t))))))) (number_is k rest))))
 kind_is (Value zero v) rest ok =
     value_parts (codes "DBG_VALUE ") (codes "$x0") (codes ", $noreg, !") (decimal v) (codes ", ") (codes "!DIExpression()") rest
-    ∙ ap (λ (t : List ℕ). codes "DBG_VALUE $x" ++ (t ++ (codes ", $noreg, !" ++ (decimal v ++ (codes ", !DIExpression()" ++ rest))))) (sym (decimal_digit 0 (omega arith)))
+    ∙ ap (λ (t : List ℕ). codes "DBG_VALUE $x" ++ (t ++ (codes ", $noreg, !" ++ (decimal v ++ (codes ", !DIExpression()" ++ rest)))))
+    (sym (decimal_digit 0 (omega arith)))
 kind_is (Value (suc r) v) rest ok =
     let p = and_parts (is_source (suc r)) (is_variable v) ok in
     value_parts (codes "DBG_VALUE ") (register_text (suc r)) (codes ", $noreg, !") (decimal v) (codes ", ") (codes "!DIExpression()") rest
-    ∙ ap (λ (t : List ℕ). codes "DBG_VALUE " ++ (t ++ (codes ", $noreg, !" ++ (decimal v ++ (codes ", !DIExpression()" ++ rest))))) (register_is (suc r) (source_below (suc r) p.0))
+    ∙ ap (λ (t : List ℕ). codes "DBG_VALUE " ++ (t ++ (codes ", $noreg, !" ++ (decimal v ++ (codes ", !DIExpression()" ++ rest)))))
+    (register_is (suc r) (source_below (suc r) p.0))
 kind_is (Reference v k o) rest ok =
-    reference_parts (codes "DBG_INSTR_REF !") (decimal v) (codes ", ") (codes "!DIExpression(DW_OP_LLVM_arg, 0)") (codes ", dbg-instr-ref(") (decimal k) (codes ", ") (decimal o) (codes ")") rest
+    reference_parts (codes "DBG_INSTR_REF !") (decimal v) (codes ", ") (codes "!DIExpression(DW_OP_LLVM_arg, 0)") (codes ", dbg-instr-ref(") (decimal k)
+    (codes ", ") (decimal o) (codes ")") rest
 kind_is (Return None) rest ok = refl
 kind_is (Return (Some r)) rest ok =
     return_parts (codes "PseudoRET") (codes " ") (codes "implicit ") (register_text r) rest
@@ -80,15 +89,20 @@ pub line_is : (n : ℕ) (l : Line) (rest : List ℕ) → is_allowed l.statement 
 line_is n l rest ok =
     let kind : List ℕ = source_kind_text (kind_of l.statement) in
     let place : List ℕ = location_text (loc_of l.located) in
-    let grouped : item_line (item_of n l) ++ rest ≡ codes "    " ++ (source_kind_text (kind_of l.statement) ++ (location_text (loc_of l.located) ++ (10 ∷ rest))) = simp append_assoc in
-    grouped ∙ (ap (λ (t : List ℕ). codes "    " ++ (source_kind_text (kind_of l.statement) ++ t)) (location_is l.located (10 ∷ rest)) ∙ ap (λ (t : List ℕ). codes "    " ++ t) (kind_is l.statement (location_before l.located (10 ∷ rest)) ok))
+    let grouped : item_line (item_of n l) ++ rest ≡ codes "    " ++
+    (source_kind_text (kind_of l.statement) ++ (location_text (loc_of l.located) ++ (10 ∷ rest))) = simp append_assoc in
+    grouped ∙ (ap (λ (t : List ℕ). codes "    " ++ (source_kind_text (kind_of l.statement) ++ t)) (location_is l.located (10 ∷ rest)) ∙ ap
+    (λ (t : List ℕ). codes "    " ++ t) (kind_is l.statement (location_before l.located (10 ∷ rest)) ok))
 
 abbrev pub lines_before : List Line → List ℕ → List ℕ
 lines_before [] rest = rest
 lines_before (l ∷ ls) rest = line_before l (lines_before ls rest)
 
-pub lines_are : (n : ℕ) (ls : List Line) (rest : List ℕ) → list_all (λ l. is_allowed l.statement) ls ≡ true → flat_map item_line (items_from n ls) ++ rest ≡ lines_before ls rest
+pub lines_are : (n : ℕ) (ls : List Line) (rest : List ℕ) → list_all (λ l. is_allowed l.statement) ls ≡ true →
+    flat_map item_line (items_from n ls) ++ rest ≡ lines_before ls rest
 lines_are n [] rest ok = refl
 lines_are n (l ∷ ls) rest ok =
     let p = and_parts (is_allowed l.statement) (list_all (λ l. is_allowed l.statement) ls) ok in
-    ap (λ (t : List ℕ). t ++ rest) (flat_map-cons item_line (item_of n l) (items_from (suc n) ls)) ∙ (append_assoc (item_line (item_of n l)) (flat_map item_line (items_from (suc n) ls)) rest ∙ (ap (λ (t : List ℕ). item_line (item_of n l) ++ t) (lines_are (suc n) ls rest p.1) ∙ line_is n l (lines_before ls rest) p.0))
+    ap (λ (t : List ℕ). t ++ rest) (flat_map-cons item_line (item_of n l) (items_from (suc n) ls)) ∙
+    (append_assoc (item_line (item_of n l)) (flat_map item_line (items_from (suc n) ls)) rest ∙
+    (ap (λ (t : List ℕ). item_line (item_of n l) ++ t) (lines_are (suc n) ls rest p.1) ∙ line_is n l (lines_before ls rest) p.0))

@@ -1,5 +1,6 @@
 -- A token that is read is the token that was written, and what was written is read again.
-use Rattle.std.proofs.Common.{◌≡◌, ℕ, ℤ, zero, suc, pos, negsuc, ◌+◌, ◌-◌, ◌*◌, ◌/◌, ◌%◌, ◌<◌, ◌≤◌, Bool, true, false, cond, nat_eq, nat_le, List, [], ◌∷◌, ◌++◌, Option, Some, None, refl, sym, ap, ◌∙◌, append_assoc, arith, inl, inr, ◌⊎◌, ◌≢◌, Bor}
+use Rattle.std.proofs.Common.{◌≡◌, ℕ, ℤ, zero, suc, pos, negsuc, ◌+◌, ◌-◌, ◌*◌, ◌/◌, ◌%◌, ◌<◌, ◌≤◌, Bool, true, false, cond, nat_eq, nat_le, List, [], ◌∷◌}
+use Rattle.std.proofs.Common.{◌++◌, Option, Some, None, refl, sym, ap, ◌∙◌, append_assoc, arith, inl, inr, ◌⊎◌, ◌≢◌, Bor}
 use Rattle.std.specs.Prelude.{MatchOption}
 use Rattle.std.specs.Fmt.{decimal, signed_decimal}
 use Rattle.std.proofs.lemmas.Bool.{and_parts, and_from, eqb-true, eq-eqb, eqb-false, ne_eqb, leb-true, le-leb, ltb-true, lt-ltb}
@@ -48,7 +49,8 @@ unfolding after_front
 front_again [] rest = refl
 front_again (c ∷ cs) rest = rw (eq-eqb c c refl) (front_again cs rest)
 
-pub front_is : (front bytes : List ℕ) (r : Option (Bor (List ℕ))) → MatchOption r ((rest : List ℕ) → bytes ≢ front ++ rest) (λ x. bytes ≡ front ++ x.now) → Gives (λ x. x.now) r (after_front front bytes)
+pub front_is : (front bytes : List ℕ) (r : Option (Bor (List ℕ))) → MatchOption r ((rest : List ℕ) → bytes ≢ front ++ rest) (λ x. bytes ≡ front ++ x.now) →
+    Gives (λ x. x.now) r (after_front front bytes)
 front_is front bytes None h = none_from (after_front front bytes) (λ rest e. h rest (front_takes front bytes rest e))
 front_is front bytes (Some x) h = ap (after_front front) h ∙ front_again front x.now
 
@@ -72,9 +74,11 @@ decimal_longer n b low from to small =
     let m : ℕ = n * 10 + (b - 48) in
     let front : (n * 10 + (b - 48)) / 10 ≡ n = omega arith in
     let last : 48 + (n * 10 + (b - 48)) % 10 ≡ b = omega arith in
-    decimal_step (n * 10 + (b - 48)) (omega arith) (omega arith) ∙ ap (λ (x : ℕ). decimal x ++ (48 + (n * 10 + (b - 48)) % 10) ∷ []) front ∙ ap (λ (x : ℕ). decimal n ++ x ∷ []) last
+    decimal_step (n * 10 + (b - 48)) (omega arith) (omega arith) ∙ ap (λ (x : ℕ). decimal x ++ (48 + (n * 10 + (b - 48)) % 10) ∷ []) front ∙ ap
+    (λ (x : ℕ). decimal n ++ x ∷ []) last
 
-pub digits_take : (n : ℕ) (bytes : List ℕ) (x : ℕ) (rest : List ℕ) → 0 < n → n < limit → digits_at n bytes ≡ Some (x, rest) → (decimal n ++ bytes ≡ decimal x ++ rest) × (x < limit)
+pub digits_take : (n : ℕ) (bytes : List ℕ) (x : ℕ) (rest : List ℕ) → 0 < n → n < limit → digits_at n bytes ≡ Some (x, rest) →
+    (decimal n ++ bytes ≡ decimal x ++ rest) × (x < limit)
 unfolding digits_at
 digits_take n [] x rest low small e =
     let p = some_pair_parts n x [] rest e in
@@ -112,8 +116,11 @@ number_takes (b ∷ bs) x rest e =
           let at : 0 ≡ x = p.0 in
           let left : bs ≡ rest = p.1 in
           let zero-is : decimal 0 ≡ 48 ∷ [] = decimal_digit 0 (omega arith) in
-          let b-is : b ≡ 48 = eqb-true b 48 d in
-          (ap (λ (k : ℕ). k ∷ bs) b-is ∙ (ap (λ (t : List ℕ). t ++ bs) (sym zero-is) ∙ (ap (λ (k : ℕ). decimal k ++ bs) at ∙ ap (λ (t : List ℕ). decimal x ++ t) left)), omega arith)
+          let b-is : b ≡ 48 = eqb-true b 48 d in (
+            ap (λ (k : ℕ). k ∷ bs) b-is ∙ (ap (λ (t : List ℕ). t ++ bs) (sym zero-is) ∙
+                (ap (λ (k : ℕ). decimal k ++ bs) at ∙ ap (λ (t : List ℕ). decimal x ++ t) left)),
+            omega arith,
+          )
       | inr (d, e1) ↦
           let g = cond_is (is_digit b) (digits_at (b - 48) bs) (x, rest) e1 in
           let from : 48 ≤ b = digit_low b g.0 in

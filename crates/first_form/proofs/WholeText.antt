@@ -1,5 +1,6 @@
 -- Lines that are read are the lines that were written, and what was written is read again.
-use Rattle.std.proofs.Common.{◌≡◌, ℕ, zero, suc, ◌≤◌, Bool, true, false, cond, not, List, [], ◌∷◌, ◌++◌, length, Some, None, refl, sym, ap, subst, ◌∙◌, arith, inl, inr}
+use Rattle.std.proofs.Common.{◌≡◌, ℕ, zero, suc, ◌≤◌, Bool, true, false, cond, not, List, [], ◌∷◌, ◌++◌, length, Some, None, refl, sym, ap, subst, ◌∙◌, arith}
+use Rattle.std.proofs.Common.{inl, inr}
 use Rattle.std.specs.Prelude.{codes}
 use Rattle.std.specs.List.{list_all}
 use Rattle.std.proofs.lemmas.Bool.{and_parts, and_from, not_from_false, not-true}
@@ -34,21 +35,35 @@ after_location false rest = record { no_digit = refl; no_number = refl; no_regis
 pub line_takes : (bytes : List ℕ) (l : Line) (rest : List ℕ) → line_at bytes ≡ Some (l, rest) → (bytes ≡ line_before l rest) × (is_allowed l.statement ≡ true)
 unfolding line_at
 line_takes bytes l rest e =
-    let a = bind_some (after_front (codes "    ") bytes) (λ a. statement_at a >>= λ s. after_front (10 ∷ []) (location_at s.1).1 >>= λ b. cond (is_allowed s.0) (Some (record { statement = s.0; located = (location_at s.1).0 }, b)) None) (l, rest) e in
-    let s = bind_some (statement_at a.0) (λ s. after_front (10 ∷ []) (location_at s.1).1 >>= λ b. cond (is_allowed s.0) (Some (record { statement = s.0; located = (location_at s.1).0 }, b)) None) (l, rest) a.2 in
-    let b = bind_some (after_front (10 ∷ []) (location_at s.0.1).1) (λ b. cond (is_allowed s.0.0) (Some (record { statement = s.0.0; located = (location_at s.0.1).0 }, b)) None) (l, rest) s.2 in
+    let a = bind_some (after_front (codes "    ") bytes) (λ a. statement_at a >>= λ s. after_front (10 ∷ []) (location_at s.1).1 >>= λ b. cond (is_allowed s.0)
+    (Some (record { statement = s.0; located = (location_at s.1).0 }, b)) None) (l, rest) e in
+    let s = bind_some (statement_at a.0) (λ s. after_front (10 ∷ []) (location_at s.1).1 >>= λ b. cond (is_allowed s.0)
+    (Some (record { statement = s.0; located = (location_at s.1).0 }, b)) None) (l, rest) a.2 in
+    let b = bind_some (after_front (10 ∷ []) (location_at s.0.1).1)
+    (λ b. cond (is_allowed s.0.0) (Some (record { statement = s.0.0; located = (location_at s.0.1).0 }, b)) None) (l, rest) s.2 in
     let g = cond_is (is_allowed s.0.0) (Some (record { statement = s.0.0; located = (location_at s.0.1).0 }, b.0)) (l, rest) b.2 in
     let made : Line = record { statement = s.0.0; located = (location_at s.0.1).0 } in
     let p = some_pair_parts made l b.0 rest g.1 in
     let t3 : (location_at s.0.1).1 ≡ 10 ∷ rest = front_takes (10 ∷ []) (location_at s.0.1).1 b.0 b.1 ∙ ap (λ (t : List ℕ). 10 ∷ t) p.1 in
     let t2 : s.0.1 ≡ location_before (location_at s.0.1).0 (10 ∷ rest) = location_takes s.0.1 ∙ ap (location_before (location_at s.0.1).0) t3 in
-    let t1 : a.0 ≡ statement_before s.0.0 (location_before (location_at s.0.1).0 (10 ∷ rest)) = statement_takes a.0 s.0.0 s.0.1 s.1 ∙ ap (statement_before s.0.0) t2 in
-    (front_takes (codes "    ") bytes a.0 a.1 ∙ (ap (λ (t : List ℕ). codes "    " ++ t) t1 ∙ ap (λ (x : Line). line_before x rest) p.0), ap (λ (x : Line). is_allowed x.statement) (sym p.0) ∙ g.0)
+    let t1 : a.0 ≡ statement_before s.0.0 (location_before (location_at s.0.1).0 (10 ∷ rest)) = statement_takes a.0 s.0.0 s.0.1 s.1 ∙ ap
+    (statement_before s.0.0) t2 in (
+      front_takes (codes "    ") bytes a.0 a.1 ∙ (ap (λ (t : List ℕ). codes "    " ++ t) t1 ∙ ap (λ (x : Line). line_before x rest) p.0),
+      ap
+          (λ (x : Line). is_allowed x.statement) (sym p.0) ∙ g.0,
+    )
 
 pub line_again : (l : Line) (rest : List ℕ) → is_allowed l.statement ≡ true → line_at (line_before l rest) ≡ Some (l, rest)
 unfolding line_at
 line_again l rest ok =
-    rw (front_again (codes "    ") (statement_before l.statement (location_before l.located (10 ∷ rest))), statement_again l.statement (location_before l.located (10 ∷ rest)) ok (after_location l.located rest), location_again l.located rest, front_again (10 ∷ []) rest, ok) refl
+    rw (
+      front_again (codes "    ") (statement_before l.statement (location_before l.located (10 ∷ rest))),
+      statement_again l.statement
+          (location_before l.located (10 ∷ rest)) ok (after_location l.located rest),
+      location_again l.located rest,
+      front_again (10 ∷ []) rest,
+      ok,
+    ) refl
 
 -- ---- the closing line
 
@@ -88,7 +103,8 @@ pub lines_take : (n : ℕ) (bytes : List ℕ) (ls : List Line) → lines_at n by
 unfolding lines_at
 lines_take zero bytes ls e = absurd cc
 lines_take (suc n) bytes ls e =
-    let a = bind_some (line_at bytes) (λ l. cond (is_return l.0.statement) (cond (is_closing l.1) (Some (l.0 ∷ [])) None) (lines_at n l.1 >>= λ ls. Some (l.0 ∷ ls))) ls e in
+    let a = bind_some (line_at bytes) (λ l. cond (is_return l.0.statement) (cond (is_closing l.1) (Some (l.0 ∷ [])) None)
+    (lines_at n l.1 >>= λ ls. Some (l.0 ∷ ls))) ls e in
     let t = line_takes bytes a.0.0 a.0.1 a.1 in
     elim (chosen (is_return a.0.0.statement) (cond (is_closing a.0.1) (Some (a.0.0 ∷ [])) None) (lines_at n a.0.1 >>= λ ls. Some (a.0.0 ∷ ls)) (Some ls) a.2) [
       | inl (r, e1) ↦
@@ -111,7 +127,8 @@ lines_take (suc n) bytes ls e =
           })
     ]
 
-pub lines_again : (n : ℕ) (ls : List Line) → list_all (λ l. is_allowed l.statement) ls ≡ true → ends_in_return ls ≡ true → length ls ≤ n → lines_at n (lines_before ls closing) ≡ Some ls
+pub lines_again : (n : ℕ) (ls : List Line) → list_all (λ l. is_allowed l.statement) ls ≡ true → ends_in_return ls ≡ true → length ls ≤ n →
+    lines_at n (lines_before ls closing) ≡ Some ls
 unfolding lines_at
 lines_again n [] ok e few = absurd cc
 lines_again zero (l ∷ ls) ok e few = absurd (omega arith)

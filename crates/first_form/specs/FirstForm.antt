@@ -1,5 +1,6 @@
 -- The first form: which items a text in it has, and the function that it stands for.
-use Rattle.std.specs.Prelude.{◌≡◌, ◌≢◌, ℕ, ℤ, pos, negsuc, zero, suc, ◌≤◌, Bool, true, false, ◌&&◌, ◌||◌, not, nat_eq, nat_le, nat_lt, int_le, List, [], ◌∷◌, Option, Some, None, codes, length}
+use Rattle.std.specs.Prelude.{◌≡◌, ◌≢◌, ℕ, ℤ, pos, negsuc, zero, suc, ◌≤◌, Bool, true, false, ◌&&◌, ◌||◌, not, nat_eq, nat_le, nat_lt, int_le, List, [], ◌∷◌}
+use Rattle.std.specs.Prelude.{Option, Some, None, codes, length}
 use Rattle.std.specs.List.{filter_map, list_all, AllPairs}
 use Rattle.std.specs.Ordering.{int_eq}
 use Rattle.std.specs.Set.{distinct_count}
@@ -156,9 +157,13 @@ pub record AreFirst (lines : List Line) : Type 0 where
   pub items : length lines ≤ MAX_ITEMS
   pub limits : KeepsLimits lines
 
+-- the header, the lines and the closing line
+abbrev pub IsSpelledBy : List Line → List ℕ → Type 0
+IsSpelledBy lines text = text ≡ spelling HEADER.now (items_from 0 lines)
+
 -- the text is in the first form, and stands for the function
 pub record Stands (text : List ℕ) (f : Function) : Type 0 where
   pub lines : List Line
   pub first : AreFirst lines
-  pub spelled : text ≡ spelling HEADER.now (items_from 0 lines)
+  pub spelled : IsSpelledBy lines text
   pub function : f ≡ function_of lines

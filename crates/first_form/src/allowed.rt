@@ -1,7 +1,18 @@
 //! What lines of a text in the first form may say.
 
 ghost use Rattle.std.specs.Prelude.{◌≡◌};
-ghost use Rattle.first_form.specs.FirstForm.{is_target, is_source, is_result, is_variable, is_small, is_small_or_none, is_immediate, is_result_or_none, is_allowed, is_return};
+ghost use Rattle.first_form.specs.FirstForm.{
+  is_target,
+  is_source,
+  is_result,
+  is_variable,
+  is_small,
+  is_small_or_none,
+  is_immediate,
+  is_result_or_none,
+  is_allowed,
+  is_return,
+};
 
 use crate::line::Statement;
 

@@ -7,7 +7,20 @@ ghost use Rattle.rv64_instr.specs.declared.op.Op.TheVariants.{Immediate, PseudoR
 ghost use Rattle.rv64_instr.specs.declared.op.ImmediateOp.TheVariants.{Addi};
 ghost use Rattle.rv64_instr.specs.declared.op.RegisterOp.TheVariants.{Add};
 ghost use Rattle.rv64_instr.specs.declared.operand.Operand.TheVariants.{Def, Use, Imm};
-ghost use Rattle.first_form.specs.FirstForm.{is_immediate, is_result_or_none, is_allowed, variable_of, value_of, result_operands, kind_of, loc_of, item_of, items_from, function_of, AreFirst};
+ghost use Rattle.first_form.specs.FirstForm.{
+  is_immediate,
+  is_result_or_none,
+  is_allowed,
+  variable_of,
+  value_of,
+  result_operands,
+  kind_of,
+  loc_of,
+  item_of,
+  items_from,
+  function_of,
+  AreFirst,
+};
 
 use crate::line::{Line, Statement};
 use crate::text::MAX_ITEMS;

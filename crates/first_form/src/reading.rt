@@ -2,8 +2,7 @@
 
 ghost use Rattle.std.specs.Prelude.{◌≡◌, IfOk, IfSome, IfNone, List, ℕ};
 ghost use Rattle.mir_func.specs.Function.{Function};
-ghost use Rattle.first_form.specs.FirstForm.{items_from, AreFirst, Stands};
-ghost use Rattle.first_form.specs.Source.{spelling};
+ghost use Rattle.first_form.specs.FirstForm.{AreFirst, IsSpelledBy, Stands};
 ghost use Rattle.first_form.specs.declared.line.Line.{Line};
 
 use crate::func::func;
@@ -30,8 +29,8 @@ pub fn read(alloc: Global, text: &[u8]) -> Result<Option<Func>, AllocError>
 
 /// The lines that a text in the first form spells.
 fn first_lines(alloc: Global, text: &[u8]) -> Result<Option<Vec<Line>>, AllocError>
-    ensures found { IfOk result (λ read. IfSome read (λ ls. AreFirst ls.items × (text.now ≡ spelling HEADER.now (items_from 0 ls.items)))) }
-    ensures none { IfOk result (λ read. IfNone read ((ls : List Line) → AreFirst ls → text.now ≡ spelling HEADER.now (items_from 0 ls) → ⊥)) }
+    ensures found { IfOk result (λ read. IfSome read (λ ls. AreFirst ls.items × IsSpelledBy ls.items text.now)) }
+    ensures none { IfOk result (λ read. IfNone read ((ls : List Line) → AreFirst ls → IsSpelledBy ls text.now → ⊥)) }
 {
     let Some(body) = after(HEADER, text) else {
         return Ok(None);
@@ -55,7 +54,7 @@ pub fn one_reading()
 mod tests {
     use super::*;
     use mir_func::entry::OperandPair;
-    use mir_func::item::ItemKind;
+    use mir_func::item::{Item, ItemKind};
     use mir_func::location::Loc;
     use mir_func::variable::MarkValue;
     use numbers::code::{DebugNumber, OperandIndex};
@@ -130,7 +129,7 @@ body: |
         "    $x0 = ADDI $x10, 1\n    PseudoRET\n",
         "    $x10 = SUB $x10, $x10\n    PseudoRET\n",
         "    $x10 = ADDI $x10, 1, debug-instr-number 1073741824\n    PseudoRET\n",
-        "    $x10 = ADDI $x10, 1, debug-instr-number 1\n    $x11 = ADD $x10, $x10, debug-instr-number 1\n    PseudoRET\n",
+        "    $x5 = ADDI $x5, 1, debug-instr-number 1\n    $x5 = ADD $x5, $x5, debug-instr-number 1\n    PseudoRET\n",
         "    $x10 = ADDI $x10, 1, debug-location !5, debug-instr-number 1\n    PseudoRET\n",
         "    $x10 = ADDI $x10, 1, debug-location !3\n    PseudoRET\n",
         "    DBG_VALUE $x10, $noreg, !5, !DIExpression()\n    PseudoRET\n",
@@ -145,6 +144,20 @@ body: |
         read(alloc, text.as_slice())
     }
 
+    fn number_of(item: &Item) -> Option<DebugNumber> {
+        match item.kind {
+            ItemKind::Code(_, number) => number,
+            ItemKind::Mark(_, _) | ItemKind::Phi(_, _) => None,
+        }
+    }
+
+    fn pair_of(item: &Item) -> Option<OperandPair> {
+        match item.kind {
+            ItemKind::Mark(_, MarkValue::Pair(pair)) => Some(pair),
+            ItemKind::Code(_, _) | ItemKind::Mark(_, _) | ItemKind::Phi(_, _) => None,
+        }
+    }
+
     #[test]
     fn reads_a_whole_text(rt: HostRuntime) -> Result<(), Fail> {
         let f = read(rt.alloc(), ONE_ADD.as_bytes())?.ok_or("not in the first form")?;
@@ -157,13 +170,13 @@ body: |
         assert_eq!(rt; block.items.len(), 4);
         let items = block.items.as_slice();
         assert!(rt; matches!(items[0].kind, ItemKind::Mark(_, MarkValue::Constant(0))));
-        assert!(rt; matches!(items[1].kind, ItemKind::Code(_, Some(DebugNumber(1)))));
+        assert_eq!(rt; number_of(&items[1]), Some(DebugNumber(1)));
         assert_eq!(rt; items[1].loc, Loc::Node(NodeId(5)));
         let pair = OperandPair {
             number: DebugNumber(1),
             operand: OperandIndex(0),
         };
-        assert!(rt; matches!(items[2].kind, ItemKind::Mark(_, MarkValue::Pair(p)) if p == pair));
+        assert_eq!(rt; pair_of(&items[2]), Some(pair));
         assert_eq!(rt; items[3].loc, Loc::Absent);
         Ok(())
     }

@@ -1,7 +1,18 @@
 //! Reading what a line says.
 
 ghost use Rattle.std.specs.Prelude.{◌≡◌};
-ghost use Rattle.first_form.specs.Reading.{Gives, code_number_at, add_immediate_at, add_at, sum_at, value_at, pair_at, reference_at, return_at, statement_at};
+ghost use Rattle.first_form.specs.Reading.{
+  Gives,
+  code_number_at,
+  add_immediate_at,
+  add_at,
+  sum_at,
+  value_at,
+  pair_at,
+  reference_at,
+  return_at,
+  statement_at,
+};
 
 use crate::line::Statement;
 use crate::token::{after, immediate, number};

@@ -8,7 +8,8 @@ use Rattle.std.specs.BTreeSet.{BTreeSet, btree_set_len, IsFromIterResult, contai
 use Rattle.std.proofs.lemmas.Bool.{eqb-true, eq-eqb, cases_order}
 use Rattle.std.proofs.lemmas.Bool.Decides.{nat_tests}
 use Rattle.std.proofs.lemmas.Cmp.{nat_cmp_total, ranked, eq_by_cmp_equiv}
-use Rattle.std.proofs.lemmas.Map.Made.{IsDistinct-from_count, distinct_count-from_IsDistinct, AllPairs-from_IsDistinct, IsDistinct-from_AllPairs, is_member-Decides}
+use Rattle.std.proofs.lemmas.Map.Made.{IsDistinct-from_count, distinct_count-from_IsDistinct, AllPairs-from_IsDistinct, IsDistinct-from_AllPairs}
+use Rattle.std.proofs.lemmas.Map.Made.{is_member-Decides}
 use Rattle.std.proofs.lemmas.Map.Views.{btree_set_len-from_list}
 use Rattle.mir_func.specs.Sound.{AreApart}
 
@@ -45,11 +46,13 @@ apart_from_pairs xs h i j n e f =
     ]
 
 -- the size of a list's set says whether no number stands twice
-pub apart_by_size : (xs : List ℕ) (s : BTreeSet ℕ) (m n : ℕ) → IsFromIterResult nat_cmp xs s → m ≡ btree_set_len s → n ≡ length xs → IsTrue (nat_eq m n) ↔ AreApart xs
+pub apart_by_size : (xs : List ℕ) (s : BTreeSet ℕ) (m n : ℕ) → IsFromIterResult nat_cmp xs s → m ≡ btree_set_len s → n ≡ length xs →
+    IsTrue (nat_eq m n) ↔ AreApart xs
 apart_by_size xs s m n made size len =
     let count = size ∙ btree_set_len-from_list nat_cmp_total xs s made in (
       λ t. apart_from_pairs xs (AllPairs-from_IsDistinct same xs (IsDistinct-from_count (eq_by_cmp_equiv nat_cmp_total) xs (sym count ∙ eqb-true m n t ∙ len))),
-      λ h. eq-eqb m n (count ∙ distinct_count-from_IsDistinct (eq_by_cmp_equiv nat_cmp_total) xs (IsDistinct-from_AllPairs same xs (pairs_from_apart xs h)) ∙ sym len),
+      λ h. eq-eqb m n (count ∙ distinct_count-from_IsDistinct (eq_by_cmp_equiv nat_cmp_total) xs (IsDistinct-from_AllPairs same xs (pairs_from_apart xs h))
+          ∙ sym len),
     )
 
 -- a list's set has what the list has

@@ -1,5 +1,6 @@
 -- What the checks of parts say of a function.
-use Rattle.std.proofs.Common.{◌≡◌, ◌↔◌, ◌⊎◌, ℕ, zero, suc, ◌+◌, ◌-◌, ◌<◌, ◌≤◌, Bool, true, false, List, [], ◌∷◌, ◌++◌, length, get_or, Some, IsTrue, refl, sym, ap, subst, ◌∙◌, inl, inr, arith}
+use Rattle.std.proofs.Common.{◌≡◌, ◌↔◌, ◌⊎◌, ℕ, zero, suc, ◌+◌, ◌-◌, ◌<◌, ◌≤◌, Bool, true, false, List, [], ◌∷◌, ◌++◌, length, get_or, Some, IsTrue, refl, sym}
+use Rattle.std.proofs.Common.{ap, subst, ◌∙◌, inl, inr, arith}
 use Rattle.std.specs.Prelude.{All, Contains}
 use Rattle.std.specs.Bool.{MatchBool}
 use Rattle.std.specs.List.{slice_get, AllWithin, HoldsAt}
@@ -19,7 +20,8 @@ use Rattle.mir_func.specs.Checks.{PhiIsApart, IsSoundItem, IsSoundBlock, AreSoun
 use Rattle.mir_func.proofs.Once.{codes_of, IsCode, PhiOff, codes_apart, phis_off, once_from}
 
 -- what `all` answers, both ways
-pub both_from_all : {X : Type 0} (P : X → Type 0) (xs : List X) (r : Bool) → MatchBool r (AllWithin P xs 0 (length xs)) ((k : ℕ) × (k < length xs) × HoldsAt (λ x. P x → ⊥) xs k) → IsTrue r ↔ All P xs
+pub both_from_all : {X : Type 0} (P : X → Type 0) (xs : List X) (r : Bool) →
+    MatchBool r (AllWithin P xs 0 (length xs)) ((k : ℕ) × (k < length xs) × HoldsAt (λ x. P x → ⊥) xs k) → IsTrue r ↔ All P xs
 both_from_all P xs true h = (λ _. All-from_all_within P xs h, λ _. refl)
 both_from_all {X} P [] false h = let l : h.0 < 0 = h.1 in absurd (omega arith)
 both_from_all P (x ∷ xs) false h = (λ e. absurd (false≢true e), λ a. absurd (h.2 x (a h.0 x h.1)))
@@ -179,5 +181,8 @@ pub sound_by_parts : (d : Declared) (slots : List ℕ) (objects : List Object) (
     length slots + length objects ≤ MAX_SLOTS → AreSoundObjects objects → d ≡ declared_of slots objects blocks → IsTrue b ↔ AreSoundParts d blocks →
     (name : List ℕ) → IsTrue b ↔ IsSound (record { name = name; slots = slots; objects = objects; blocks = blocks })
 sound_by_parts d slots objects blocks b few_b few_s o same both name =
-    let here : IsTrue b ↔ AreSoundParts (declared_of slots objects blocks) blocks = subst (λ (e : Declared). IsTrue b ↔ AreSoundParts e blocks) same both in
-    (λ t. sound_from name slots objects blocks few_b few_s o (here.0 t), λ s. here.1 (parts_from (record { name = name; slots = slots; objects = objects; blocks = blocks }) s))
+    let here : IsTrue b ↔ AreSoundParts (declared_of slots objects blocks) blocks = subst (λ (e : Declared). IsTrue b ↔ AreSoundParts e blocks) same both in (
+      λ t. sound_from name slots objects blocks few_b few_s o (here.0 t),
+      λ s. here.1
+          (parts_from (record { name = name; slots = slots; objects = objects; blocks = blocks }) s),
+    )

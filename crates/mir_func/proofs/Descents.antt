@@ -53,5 +53,6 @@ module _ (sp : Bool) (blocks : List Block) (resolve : OperandPair → Option Ope
   descend (go e more) d = descend more (one_step _ _ e d)
 
   -- where a path from a block's start comes to a position with an edge to a block, control may go to it from the position's block
-  pub path_goes : (m n : ℕ) (p : Pos) → Leads (program_of sp blocks resolve) (block_start m) p → Edge (program_of sp blocks resolve) p (block_start n) → GoesTo (program_of sp blocks resolve) p.block n
+  pub path_goes : (m n : ℕ) (p : Pos) → Leads (program_of sp blocks resolve) (block_start m) p → Edge (program_of sp blocks resolve) p (block_start n) →
+      GoesTo (program_of sp blocks resolve) p.block n
   path_goes m n p path e = (p.item, descend path (λ j l. absurd (omega arith)), e)

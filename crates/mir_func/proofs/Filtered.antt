@@ -10,4 +10,5 @@ filter_map_turn {X} {Y} h xs i x ys zs t l e so_far more =
     let one : take (i + 1) xs ≡ take i xs ++ x ∷ [] = take_more xs i x l ∙ ap (λ (y : X). take i xs ++ y ∷ []) (sym e) in
     let f : filter_map h (take (i + 1) xs) ≡ filter_map h (take i xs) ++ cons_option (h x) [] =
     ap (filter_map h) one ∙ filter_map-append h (take i xs) (x ∷ []) in
-    more ∙ (ap (λ (ws : List Y). ws ++ cons_option (h x) []) so_far ∙ (append_assoc t (filter_map h (take i xs)) (cons_option (h x) []) ∙ ap (λ (ws : List Y). t ++ ws) (sym f)))
+    more ∙ (ap (λ (ws : List Y). ws ++ cons_option (h x) []) so_far ∙ (append_assoc t (filter_map h (take i xs)) (cons_option (h x) []) ∙ ap
+    (λ (ws : List Y). t ++ ws) (sym f)))

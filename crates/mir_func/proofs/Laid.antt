@@ -1,5 +1,6 @@
 -- Stack objects: their alignments, where they lie, and how their sizes are found.
-use Rattle.std.proofs.Common.{◌≡◌, ◌↔◌, ℕ, zero, suc, ◌+◌, ◌<◌, ◌≤◌, Bool, true, false, cond, List, [], ◌∷◌, ◌++◌, map, reverse, nat_eq, Option, Some, None, refl, sym, ap, ◌∙◌, arith}
+use Rattle.std.proofs.Common.{◌≡◌, ◌↔◌, ℕ, zero, suc, ◌+◌, ◌<◌, ◌≤◌, Bool, true, false, cond, List, [], ◌∷◌, ◌++◌, map, reverse, nat_eq, Option, Some, None}
+use Rattle.std.proofs.Common.{refl, sym, ap, ◌∙◌, arith}
 use Rattle.std.specs.Prelude.{Contains, option_map}
 use Rattle.std.specs.Bool.{Decides}
 use Rattle.std.specs.List.{list_any}
@@ -75,11 +76,18 @@ sizes_found (o ∷ os) q =
     ∙ (ap (λ (b : Bool). cond b (Some o.size) (Made (map size_pair (reverse os)) q)) (same_test o.id q)
     ∙ (ap (λ (r : Option ℕ). cond (nat_eq o.id q) (Some o.size) r) (sizes_found os q) ∙ found_by (nat_eq o.id q) o (object_of os q))))
 
-bytes_by : (objects : List Object) (n bytes size : ℕ) (r : Option Object) → object_of objects n ≡ r → option_map (λ o. o.size) r ≡ Some size → (bytes ≤ size) ↔ HasBytes objects n bytes
+bytes_by : (objects : List Object) (n bytes size : ℕ) (r : Option Object) → object_of objects n ≡ r → option_map (λ o. o.size) r ≡ Some size →
+    (bytes ≤ size) ↔ HasBytes objects n bytes
 bytes_by objects n bytes size None e f = absurd cc
 bytes_by objects n bytes size (Some o) e f =
-    let same_size : o.size ≡ size = cc in
-    (λ l. (o, e, omega arith), λ h. let one : Some h.0 ≡ Some o = sym h.1 ∙ e in let same_object : h.0 ≡ o = cc in let s : h.0.size ≡ size = ap (λ (x : Object). x.size) same_object ∙ same_size in let l : bytes ≤ h.0.size = h.2 in omega arith)
+    let same_size : o.size ≡ size = cc in (
+      λ l. (o, e, omega arith),
+      λ h.
+          let one : Some h.0 ≡ Some o = sym h.1 ∙ e in
+          let same_object : h.0 ≡ o = cc in
+          let s : h.0.size ≡ size = ap (λ (x : Object). x.size) same_object ∙ same_size in
+          let l : bytes ≤ h.0.size = h.2 in omega arith,
+    )
 
 -- an object's size says whether it has so many bytes
 pub has_bytes_by : (objects : List Object) (n bytes size : ℕ) → Found objects n ≡ Some size → (bytes ≤ size) ↔ HasBytes objects n bytes

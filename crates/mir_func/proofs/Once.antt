@@ -1,5 +1,6 @@
 -- Numbers of code that stand once: the numbers of code are apart, and no phi has one of them.
-use Rattle.std.proofs.Common.{◌≡◌, ℕ, zero, suc, ◌+◌, ◌<◌, List, [], ◌∷◌, ◌++◌, length, get_or, drop, Option, Some, None, refl, sym, ap, ◌∙◌, subst, arith, append_assoc, add-one, drop-cons}
+use Rattle.std.proofs.Common.{◌≡◌, ℕ, zero, suc, ◌+◌, ◌<◌, List, [], ◌∷◌, ◌++◌, length, get_or, drop, Option, Some, None, refl, sym, ap, ◌∙◌, subst, arith}
+use Rattle.std.proofs.Common.{append_assoc, add-one, drop-cons}
 use Rattle.std.specs.List.{slice_get, filter_map, cons_option}
 use Rattle.std.proofs.lemmas.List.Elements.{filter_map-append}
 use Rattle.mir_func.specs.declared.block.Block.{Block}
@@ -49,7 +50,8 @@ HasCode items n = (i : ℕ) × (x : Item) × (slice_get items i ≡ Some x) × (
 code_past : (x : Item) (xs : List Item) (n : ℕ) → HasCode xs n → HasCode (x ∷ xs) n
 code_past x xs n r = (suc r.0, r.1, r.2, r.3)
 
-code_at : (x : Item) (xs : List Item) (n : ℕ) → ((j : ℕ) → slice_get (codes_of xs) j ≡ Some n → HasCode xs n) → (o : Option ℕ) (j : ℕ) → code_number x.kind ≡ o → slice_get (cons_option o (codes_of xs)) j ≡ Some n → HasCode (x ∷ xs) n
+code_at : (x : Item) (xs : List Item) (n : ℕ) → ((j : ℕ) → slice_get (codes_of xs) j ≡ Some n → HasCode xs n) → (o : Option ℕ) (j : ℕ) →
+    code_number x.kind ≡ o → slice_get (cons_option o (codes_of xs)) j ≡ Some n → HasCode (x ∷ xs) n
 code_at x xs n later None j o f = code_past x xs n (later j f)
 code_at x xs n later (Some m) zero o f = (zero, x, refl, o ∙ f)
 code_at x xs n later (Some m) (suc j) o f = code_past x xs n (later j f)
@@ -63,7 +65,8 @@ code_later None ns n c = c
 code_later (Some m) ns n c = (suc c.0, c.1)
 
 -- a code's number among the code numbers
-code_of_item : (items : List Item) (i n : ℕ) (x : Item) → slice_get items i ≡ Some x → code_number x.kind ≡ Some n → (j : ℕ) × (slice_get (codes_of items) j ≡ Some n)
+code_of_item : (items : List Item) (i n : ℕ) (x : Item) → slice_get items i ≡ Some x → code_number x.kind ≡ Some n →
+    (j : ℕ) × (slice_get (codes_of items) j ≡ Some n)
 code_of_item [] i n x e f = absurd cc
 code_of_item (y ∷ ys) zero n x e f =
     let same : y ≡ x = cc in
@@ -74,7 +77,8 @@ code_of_item (y ∷ ys) (suc i) n x e f = code_later (code_number y.kind) (codes
 once_tail : (x : Item) (xs : List Item) → NumbersOnce (x ∷ xs) → NumbersOnce xs
 once_tail x xs h i j a b k e f g d = let s : suc i ≡ suc j = h (suc i) (suc j) a b k e f g d in omega arith
 
-apart_with : (x : Item) (xs : List Item) → NumbersOnce (x ∷ xs) → AreApart (codes_of xs) → (o : Option ℕ) → code_number x.kind ≡ o → AreApart (cons_option o (codes_of xs))
+apart_with : (x : Item) (xs : List Item) → NumbersOnce (x ∷ xs) → AreApart (codes_of xs) → (o : Option ℕ) → code_number x.kind ≡ o →
+    AreApart (cons_option o (codes_of xs))
 apart_with x xs h rest None o = rest
 apart_with x xs h rest (Some n) o = apart_cons n (codes_of xs) rest (λ j e.
     let r = item_of_code xs j n e in
@@ -135,7 +139,8 @@ once_within (z ∷ zs) h S all off (suc i) zero x y k e f g d =
     let first : code_number z.kind ≡ Some k = ap (λ (w : Item). code_number w.kind) same ∙ c in
     absurd (apart_head k (codes_of zs) r.0 (subst (λ (o : Option ℕ). AreApart (cons_option o (codes_of zs))) first h) r.1)
 once_within (z ∷ zs) h S all off (suc i) (suc j) x y k e f g d =
-    ap suc (once_within zs (apart_rest (code_number z.kind) (codes_of zs) h) S (λ n c. all n (code_later (code_number z.kind) (codes_of zs) n c)) (λ l w q. off (suc l) w q) i j x y k e f g d)
+    ap suc (once_within zs (apart_rest (code_number z.kind) (codes_of zs) h) S (λ n c. all n (code_later (code_number z.kind) (codes_of zs) n c))
+    (λ l w q. off (suc l) w q) i j x y k e f g d)
 
 pub once_from : (items : List Item) → AreApart (codes_of items) → PhisOff (IsCode items) items → NumbersOnce items
 once_from items apart off = once_within items apart (IsCode items) (λ n c. c) off

@@ -15,7 +15,8 @@ use Rattle.mir_func.specs.declared.exit.Exit.{Exit}
 use Rattle.mir_func.specs.declared.exit.Exit.TheVariants.{Onward, Perhaps, Always, Final}
 use Rattle.mir_func.specs.Exits.{exit_of, IsAlways, Leaves}
 use Rattle.mir_func.specs.Function.{Function}
-use Rattle.mir_func.specs.Sound.{AreApart, ids_of, items_of, AllItems, TargetsIn, SlotsIn, ObjectsIn, LeavesPointer, code_number, NumbersOnce, OriginIn, IsJumpAtMost, MayFollow, EndsWell, Closes, LastCloses, IsSound}
+use Rattle.mir_func.specs.Sound.{AreApart, ids_of, items_of, AllItems, TargetsIn, SlotsIn, ObjectsIn, LeavesPointer, code_number, NumbersOnce, OriginIn}
+use Rattle.mir_func.specs.Sound.{IsJumpAtMost, MayFollow, EndsWell, Closes, LastCloses, IsSound}
 use Rattle.mir_func.specs.Strip.{bare, stripped_items, stripped_block, stripped_blocks, stripped}
 use Rattle.mir_func.proofs.Checks.{at_get}
 
@@ -31,9 +32,11 @@ length-stripped (b ∷ bs) = ap suc (length-stripped bs)
 
 -- what holds of code with a number holds of it without
 abbrev Carries : (Item → Type 0) → (Item → Type 0) → Type 0
-Carries P Q = (i : Instruction) (k : Option ℕ) (o : Origin) (l : Loc) → P (record { kind = Code i k; origin = o; loc = l }) → Q (record { kind = Code i None; origin = o; loc = l })
+Carries P Q = (i : Instruction) (k : Option ℕ) (o : Origin) (l : Loc) → P (record { kind = Code i k; origin = o; loc = l }) → Q
+    (record { kind = Code i None; origin = o; loc = l })
 
-all_with : (P Q : Item → Type 0) → Carries P Q → (k : ItemKind) (o : Origin) (l : Loc) (rest : List Item) → P (record { kind = k; origin = o; loc = l }) → All Q rest → All Q (cons_option (bare k o l) rest)
+all_with : (P Q : Item → Type 0) → Carries P Q → (k : ItemKind) (o : Origin) (l : Loc) (rest : List Item) → P (record { kind = k; origin = o; loc = l }) →
+    All Q rest → All Q (cons_option (bare k o l) rest)
 all_with P Q f (Code i k) o l rest p r = All-cons Q (record { kind = Code i None; origin = o; loc = l }) rest (f i k o l p) r
 all_with P Q f (Mark v m) o l rest p r = r
 all_with P Q f (Phi x k) o l rest p r = r
@@ -136,7 +139,8 @@ stripped_sound f s =
       pointer = items_stripped (λ i. LeavesPointer i.kind) (λ i. LeavesPointer i.kind) (λ i k o l h. h) f.blocks s.pointer;
       numbers = once_stripped f.blocks;
       origins = blocks_stripped (λ b. All (λ i. OriginIn b i.origin) b.items) (λ b. All (λ i. OriginIn b i.origin) b.items)
-          (λ b a. all_stripped (λ i. OriginIn b i.origin) (λ i. OriginIn (stripped_block b) i.origin) (λ i k o l h. origin_stripped b o h) b.items a) f.blocks s.origins;
+          (λ b a. all_stripped (λ i. OriginIn b i.origin) (λ i. OriginIn (stripped_block b) i.origin)
+          (λ i k o l h. origin_stripped b o h) b.items a) f.blocks s.origins;
       ends = blocks_stripped (λ b. EndsWell b.items) (λ b. EndsWell b.items) (λ b e. ends_stripped b.items e) f.blocks s.ends;
       last = last_stripped f.blocks s.last;
     }

@@ -1,5 +1,6 @@
 -- Where control may go from a block: down its items, by their edges.
-use Rattle.std.proofs.Common.{◌≡◌, ◌↔◌, ◌⊎◌, ℕ, zero, suc, ◌+◌, ◌<◌, Bool, cond, List, [], ◌∷◌, length, get_or, drop, Option, Some, None, refl, sym, ap, subst, ◌∙◌, inl, inr, arith}
+use Rattle.std.proofs.Common.{◌≡◌, ◌↔◌, ◌⊎◌, ℕ, zero, suc, ◌+◌, ◌<◌, Bool, cond, List, [], ◌∷◌, length, get_or, drop, Option, Some, None, refl, sym, ap, subst}
+use Rattle.std.proofs.Common.{◌∙◌, inl, inr, arith}
 use Rattle.std.specs.Prelude.{Contains, option_to_list}
 use Rattle.std.specs.List.{slice_get}
 use Rattle.std.proofs.lemmas.Bool.{eq-eqb, ne_eqb}
@@ -165,7 +166,8 @@ id_among (c ∷ cs) (suc i) b e = id_among cs i b e
 apart_tail : (n : ℕ) (ns : List ℕ) → AreApart (n ∷ ns) → AreApart ns
 apart_tail n ns h i j m e f = let k : suc i ≡ suc j = h (suc i) (suc j) m e f in omega arith
 
-from_block-at : (blocks : List Block) (i : ℕ) (b : Block) → AreApart (ids_of blocks) → slice_get blocks i ≡ Some b → from_block blocks b.id ≡ b ∷ drop (suc i) blocks
+from_block-at : (blocks : List Block) (i : ℕ) (b : Block) → AreApart (ids_of blocks) → slice_get blocks i ≡ Some b →
+    from_block blocks b.id ≡ b ∷ drop (suc i) blocks
 from_block-at [] i b h e = absurd cc
 from_block-at (c ∷ cs) zero b h e =
     let same : c ≡ b = cc in
@@ -180,7 +182,8 @@ head_id-drop [] (suc i) = refl
 head_id-drop (b ∷ bs) zero = refl
 head_id-drop (b ∷ bs) (suc i) = head_id-drop bs i
 
-module _ (sp : Bool) (blocks : List Block) (resolve : OperandPair → Option OperandPair) (i : ℕ) (b : Block) (found : from_block blocks b.id ≡ b ∷ drop (suc i) blocks) where
+module _ (sp : Bool) (blocks : List Block) (resolve : OperandPair → Option OperandPair) (i : ℕ) (b : Block)
+    (found : from_block blocks b.id ≡ b ∷ drop (suc i) blocks) where
   fetched : (k : ℕ) → fetch_in (from_block blocks b.id) k ≡ at_index b.items b.silent (drop (suc i) blocks) k
   fetched k = ap (λ (bs : List Block). fetch_in bs k) found
 
@@ -200,12 +203,15 @@ module _ (sp : Bool) (blocks : List Block) (resolve : OperandPair → Option Ope
 
 -- the ways from a block's items are the blocks to which control may go from it
 ways_are : (blocks : List Block) (i : ℕ) (b : Block) → AreApart (ids_of blocks) → slice_get blocks i ≡ Some b →
-    (sp : Bool) (resolve : OperandPair → Option OperandPair) (n : ℕ) → Contains (ways b.items (slice_get (ids_of blocks) (suc i))) n ↔ GoesTo (program_of sp blocks resolve) b.id n
+    (sp : Bool) (resolve : OperandPair → Option OperandPair) (n : ℕ) →
+    Contains (ways b.items (slice_get (ids_of blocks) (suc i))) n ↔ GoesTo (program_of sp blocks resolve) b.id n
 ways_are blocks i b apart e sp resolve n =
     let found = from_block-at blocks i b apart e in
     let next = head_id-drop blocks (suc i) in (
-      λ h. goes_to sp blocks resolve i b found n (way_to b.items b.silent (drop (suc i) blocks) n (subst (λ (o : Option ℕ). Contains (ways b.items o) n) (sym next) h)),
-      λ h. subst (λ (o : Option ℕ). Contains (ways b.items o) n) next (way_from b.items b.silent (drop (suc i) blocks) n (goes_from sp blocks resolve i b found n h)),
+      λ h. goes_to sp blocks resolve i b found n (way_to b.items b.silent (drop (suc i) blocks) n
+          (subst (λ (o : Option ℕ). Contains (ways b.items o) n) (sym next) h)),
+      λ h. subst (λ (o : Option ℕ). Contains (ways b.items o) n) next (way_from b.items b.silent (drop (suc i) blocks) n
+          (goes_from sp blocks resolve i b found n h)),
     )
 
 get_at : (blocks : List Block) (i : ℕ) (b : Block) → i < length blocks → b ≡ get_or blocks i b → slice_get blocks i ≡ Some b
@@ -219,7 +225,8 @@ id_at (m ∷ ns) zero n e = cc
 id_at (m ∷ ns) (suc i) n e = id_at ns i n e
 
 -- the same of the numbers that were found by index
-pub block_ways : (blocks : List Block) (i : ℕ) (b : Block) (next : Option ℕ) (ns : List ℕ) → AreApart (ids_of blocks) → i < length blocks → b ≡ get_or blocks i b →
+pub block_ways : (blocks : List Block) (i : ℕ) (b : Block) (next : Option ℕ) (ns : List ℕ) → AreApart (ids_of blocks) → i < length blocks →
+    b ≡ get_or blocks i b →
     next ≡ slice_get (ids_of blocks) (i + 1) → ns ≡ ways b.items next →
     (sp : Bool) (resolve : OperandPair → Option OperandPair) (n : ℕ) → Contains ns n ↔ GoesTo (program_of sp blocks resolve) (get_or (ids_of blocks) i 0) n
 block_ways blocks i b next ns apart l e after w sp resolve n =
@@ -228,4 +235,5 @@ block_ways blocks i b next ns apart l e after w sp resolve n =
     let same : ns ≡ ways b.items (slice_get (ids_of blocks) (suc i)) = w ∙ ap (ways b.items) (after ∙ ap (slice_get (ids_of blocks)) one) in
     let id : b.id ≡ get_or (ids_of blocks) i 0 = sym (id_at (ids_of blocks) i b.id (id_among blocks i b stands)) in
     subst (λ (xs : List ℕ). Contains xs n ↔ GoesTo (program_of sp blocks resolve) (get_or (ids_of blocks) i 0) n) (sym same)
-    (subst (λ (m : ℕ). Contains (ways b.items (slice_get (ids_of blocks) (suc i))) n ↔ GoesTo (program_of sp blocks resolve) m n) id (ways_are blocks i b apart stands sp resolve n))
+    (subst (λ (m : ℕ). Contains (ways b.items (slice_get (ids_of blocks) (suc i))) n ↔ GoesTo (program_of sp blocks resolve) m n) id
+    (ways_are blocks i b apart stands sp resolve n))

@@ -62,7 +62,8 @@ index_of (b ∷ bs) n = cond (nat_eq b.id n) 0 (suc (index_of bs n))
 
 -- a function with its frame: a position's block is a block's index, and a branch goes past the prologue
 abbrev pub framed_program : List Block → (OperandPair → Option OperandPair) → Program
-framed_program blocks resolve = record { fetch = λ p. fetch_in (drop p.block blocks) p.item; enter = λ n. suc (index_of (body_of blocks) n); resolve = resolve; sees_pointer = false }
+framed_program blocks resolve =
+    record { fetch = λ p. fetch_in (drop p.block blocks) p.item; enter = λ n. suc (index_of (body_of blocks) n); resolve = resolve; sees_pointer = false }
 
 -- where control may go from code of a row
 abbrev pub RowEdge : (ℕ → ℕ) → Row → Pos → Pos → Type 0

@@ -2,8 +2,8 @@
 
 use numbers::code::{DebugNumber, OperandIndex};
 
-/// An operand of the instruction that has a debug instruction number (LLVM, "Instruction referencing for debug info": a debug
-/// instruction operand pair).
+/// An operand of the instruction that has a debug instruction number (LLVM, "Instruction referencing for debug info":
+/// a debug instruction operand pair).
 #[derive(Clone, Copy, Debug, PartialEq, Eq, PartialOrd, Ord)]
 pub struct OperandPair {
     /// The instruction's number.

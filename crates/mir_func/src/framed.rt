@@ -58,7 +58,21 @@ impl Model for Framed {
 
     ghost use Rattle.mir_func.specs.SoundFrame.{IsFramed};
 
-    ghost view = { λ f. record { name = f.name; size = f.size; offsets = f.offsets; saved = f.saved; objects = f.objects; blocks = f.blocks } };
+    ghost view = { λ f. record {
+      name = f.name;
+      size = f.size;
+      offsets = f.offsets;
+      saved = f.saved;
+      objects = f.objects;
+      blocks = f.blocks;
+    } };
 
-    ghost invariant = { λ f. IsFramed (record { name = f.name; size = f.size; offsets = f.offsets; saved = f.saved; objects = f.objects; blocks = f.blocks }) };
+    ghost invariant = { λ f. IsFramed (record {
+      name = f.name;
+      size = f.size;
+      offsets = f.offsets;
+      saved = f.saved;
+      objects = f.objects;
+      blocks = f.blocks;
+    }) };
 }

@@ -37,9 +37,19 @@ impl Model for Func {
 
     ghost use Rattle.mir_func.specs.Sound.{IsSound};
 
-    ghost view = { λ f. record { name = f.name; slots = f.slots; objects = f.objects; blocks = f.blocks } };
+    ghost view = { λ f. record {
+      name = f.name;
+      slots = f.slots;
+      objects = f.objects;
+      blocks = f.blocks;
+    } };
 
-    ghost invariant = { λ f. IsSound (record { name = f.name; slots = f.slots; objects = f.objects; blocks = f.blocks }) };
+    ghost invariant = { λ f. IsSound (record {
+      name = f.name;
+      slots = f.slots;
+      objects = f.objects;
+      blocks = f.blocks;
+    }) };
 }
 
 /// Why no function was made.
@@ -70,7 +80,8 @@ impl Func {
         objects: Objects,
         blocks: Blocks,
     ) -> Result<Func, FuncError>
-        ensures made { IfOk result (λ f. f ≡ record { name = name; slots = slots; objects = objects; blocks = blocks }) }
+        ensures made { IfOk result (λ f.
+            f ≡ record { name = name; slots = slots; objects = objects; blocks = blocks }) }
         ensures unsound { IsErrOf result FuncError.Unsound →
             IsSound (record { name = name; slots = slots; objects = objects; blocks = blocks }) → ⊥ }
     {

@@ -1,4 +1,5 @@
-//! Whether slots, stack objects and blocks are those of a sound function: a check for each thing that every function keeps.
+//! Whether slots, stack objects and blocks are those of a sound function: a check for each thing that every function
+//! keeps.
 
 ghost use Rattle.std.specs.Prelude.{◌≡◌, ◌↔◌, ◌++◌, ℕ, List, filter_map, All, IfOk, OnOk, IsTrue};
 ghost use Rattle.rv64_instr.specs.Row.{Row};

@@ -61,8 +61,8 @@ impl Fragment {
     }
 }
 
-/// A part of a variable of the program that is debugged, in one inlined instance of its function: some of its bytes, or the
-/// whole.
+/// A part of a variable of the program that is debugged, in one inlined instance of its function: some of its bytes,
+/// or the whole.
 #[derive(Clone, Copy, Debug, PartialEq, Eq)]
 pub struct VarId {
     /// Its `DILocalVariable` node.

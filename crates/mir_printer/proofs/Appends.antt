@@ -8,7 +8,8 @@ pub joined : (old mid new a b : List ℕ) → mid ≡ old ++ a → new ≡ mid +
 joined old mid new a b first second = second ∙ (ap (λ t. t ++ b) first ∙ append_assoc old a b)
 
 -- the last piece ends the whole
-pub ended : {T E : Type 0} (r : Result T E) (old mid new a b whole : List ℕ) → mid ≡ old ++ a → OnOk r (new ≡ mid ++ b) → a ++ b ≡ whole → OnOk r (new ≡ old ++ whole)
+pub ended : {T E : Type 0} (r : Result T E) (old mid new a b whole : List ℕ) → mid ≡ old ++ a → OnOk r (new ≡ mid ++ b) → a ++ b ≡ whole →
+    OnOk r (new ≡ old ++ whole)
 ended (Ok x) old mid new a b whole first second all = joined old mid new a b first second ∙ ap (λ t. old ++ t) all
 ended (Err e) old mid new a b whole first second all = tt
 

@@ -1,5 +1,6 @@
 -- Parts of a text that are told apart from what follows them.
-use Rattle.std.proofs.Common.{◌≡◌, ℕ, ℤ, pos, negsuc, suc, ◌+◌, ◌%◌, ◌^◌, ◌<◌, ◌≤◌, Bool, true, false, ◌&&◌, nat_le, nat_eq, List, [], ◌∷◌, ◌++◌, refl, sym, ap, ◌∙◌, append_assoc, arith}
+use Rattle.std.proofs.Common.{◌≡◌, ℕ, ℤ, pos, negsuc, suc, ◌+◌, ◌%◌, ◌^◌, ◌<◌, ◌≤◌, Bool, true, false, ◌&&◌, nat_le, nat_eq, List, [], ◌∷◌, ◌++◌, refl, sym, ap}
+use Rattle.std.proofs.Common.{◌∙◌, append_assoc, arith}
 use Rattle.std.specs.List.{flat_map, list_all}
 use Rattle.std.specs.Fmt.{decimal, signed_decimal}
 use Rattle.std.proofs.lemmas.Bool.{and_parts, and_from, eqb-false}
@@ -65,12 +66,21 @@ digits_more text d small is = record {
   parts = ap (λ (t : List ℕ). t ++ (48 + d) ∷ []) is.parts;
   low = is.low;
   high = is.high;
-  all = list_all-append is_digit text ((48 + d) ∷ []) ∙ and_from (list_all is_digit text) (is_digit (48 + d) && true) is.all (and_from (is_digit (48 + d)) true (digit_is d small) refl);
+  all = list_all-append is_digit text ((48 + d) ∷ []) ∙ and_from (list_all is_digit text) (is_digit (48 + d) && true) is.all
+      (and_from (is_digit (48 + d)) true (digit_is d small) refl);
 }
 
 decimal_is : (n : ℕ) → n < 2 ^ 64 → Digits (decimal n)
 decimal_is n small = decimal_by_steps (λ m text. Digits text)
-    (λ m one. record { first = 48 + m; rest = []; parts = refl; low = omega arith; high = omega arith; all = and_from (is_digit (48 + m)) true (digit_is m one) refl })
+    (λ m one. record {
+      first = 48 + m;
+      rest = [];
+      parts = refl;
+      low = omega arith;
+      high = omega arith;
+      all = and_from (is_digit (48 + m)) true
+          (digit_is m one) refl;
+    })
     (λ m text ten before. digits_more text (m % 10) (omega arith) before)
     n small
 
@@ -103,8 +113,10 @@ no_sign m r s small e =
     let same : is.0 ≡ 45 = cc in
     omega (arith, same, is.3)
 
-pub signed_one : (i j : ℤ) (r s : List ℕ) → IsSigned i → IsSigned j → Stops is_digit r → Stops is_digit s → signed_decimal i ++ r ≡ signed_decimal j ++ s → (i ≡ j) × (r ≡ s)
-signed_one (pos m) (pos n) r s small other stop stops e = let found = decimal_one m n r s (sizes m small) (sizes n other) stop stops e in (ap pos found.0, found.1)
+pub signed_one : (i j : ℤ) (r s : List ℕ) → IsSigned i → IsSigned j → Stops is_digit r → Stops is_digit s → signed_decimal i ++ r ≡ signed_decimal j ++ s →
+    (i ≡ j) × (r ≡ s)
+signed_one (pos m) (pos n) r s small other stop stops e = let found = decimal_one m n r s (sizes m small) (sizes n other) stop stops e in
+    (ap pos found.0, found.1)
 signed_one (pos m) (negsuc n) r s small other stop stops e = absurd (no_sign m r (decimal (suc n) ++ s) (sizes m small) e)
 signed_one (negsuc m) (pos n) r s small other stop stops e = absurd (no_sign n s (decimal (suc m) ++ r) (sizes n other) (sym e))
 signed_one (negsuc m) (negsuc n) r s small other stop stops e =
@@ -123,11 +135,15 @@ pub record Spells (spelled : ℕ → List ℕ) (closing : ℕ) : Type 0 where
 regroup : (a b c : List ℕ) → (a ++ b) ++ c ≡ a ++ (b ++ c)
 regroup a b c = append_assoc a b c
 
-pub spelled_one : (spelled : ℕ → List ℕ) (closing : ℕ) → Spells spelled closing → (a b r s : List ℕ) → flat_map spelled a ++ closing ∷ r ≡ flat_map spelled b ++ closing ∷ s → (a ≡ b) × (r ≡ s)
+pub spelled_one : (spelled : ℕ → List ℕ) (closing : ℕ) → Spells spelled closing → (a b r s : List ℕ) →
+    flat_map spelled a ++ closing ∷ r ≡ flat_map spelled b ++ closing ∷ s → (a ≡ b) × (r ≡ s)
 spelled_one spelled closing is [] [] r s e = (refl, (let tails : r ≡ s = cc in tails))
-spelled_one spelled closing is [] (y ∷ b) r s e = absurd (is.begins y (flat_map spelled b ++ closing ∷ s) r (sym (e ∙ regroup (spelled y) (flat_map spelled b) (closing ∷ s))))
-spelled_one spelled closing is (x ∷ a) [] r s e = absurd (is.begins x (flat_map spelled a ++ closing ∷ r) s (sym (regroup (spelled x) (flat_map spelled a) (closing ∷ r)) ∙ e))
+spelled_one spelled closing is [] (y ∷ b) r s e = absurd (is.begins y (flat_map spelled b ++ closing ∷ s) r
+    (sym (e ∙ regroup (spelled y) (flat_map spelled b) (closing ∷ s))))
+spelled_one spelled closing is (x ∷ a) [] r s e = absurd (is.begins x (flat_map spelled a ++ closing ∷ r) s
+    (sym (regroup (spelled x) (flat_map spelled a) (closing ∷ r)) ∙ e))
 spelled_one spelled closing is (x ∷ a) (y ∷ b) r s e =
-    let first = is.one x y (flat_map spelled a ++ closing ∷ r) (flat_map spelled b ++ closing ∷ s) (sym (regroup (spelled x) (flat_map spelled a) (closing ∷ r)) ∙ (e ∙ regroup (spelled y) (flat_map spelled b) (closing ∷ s))) in
+    let first = is.one x y (flat_map spelled a ++ closing ∷ r) (flat_map spelled b ++ closing ∷ s)
+    (sym (regroup (spelled x) (flat_map spelled a) (closing ∷ r)) ∙ (e ∙ regroup (spelled y) (flat_map spelled b) (closing ∷ s))) in
     let rest = spelled_one spelled closing is a b r s first.1 in
     (let head : x ≡ y = first.0 in let tail : a ≡ b = rest.0 in cc, rest.1)

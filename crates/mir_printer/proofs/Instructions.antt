@@ -1,5 +1,6 @@
 -- The instruction that a text stands for.
-use Rattle.std.proofs.Common.{◌≡◌, ℕ, ℤ, pos, Bool, true, false, ◌&&◌, ◌||◌, not, nat_le, nat_lt, nat_eq, List, [], ◌∷◌, ◌++◌, Option, Some, None, refl, sym, ap, subst, ◌∙◌, append_assoc}
+use Rattle.std.proofs.Common.{◌≡◌, ℕ, ℤ, pos, Bool, true, false, ◌&&◌, ◌||◌, not, nat_le, nat_lt, nat_eq, List, [], ◌∷◌, ◌++◌, Option, Some, None, refl, sym}
+use Rattle.std.proofs.Common.{ap, subst, ◌∙◌, append_assoc}
 use Rattle.std.specs.Prelude.{codes, filter, map, All}
 use Rattle.std.specs.List.{list_all}
 use Rattle.std.proofs.lemmas.Bool.{and_parts}
@@ -18,14 +19,16 @@ use Rattle.rv64_instr.specs.declared.operand.Operand.{Operand}
 use Rattle.rv64_instr.specs.declared.operand.Operand.TheVariants.{Def, Use, Imm, Slot, Object, Block, Symbol, Mask}
 use Rattle.rv64_instr.specs.Instruction.{Instruction}
 use Rattle.rv64_instr.specs.Arithmetic.{load_width, store_width}
-use Rattle.rv64_instr.specs.Form.{has_form, fits_registers, fits_immediate, fits_upper, fits_branch, fits_load, fits_store, fits_copy, fits_jump, fits_call, is_within, has_12_bits, is_immediate, is_addi, moves_slot, is_implicit, is_argument, is_result}
+use Rattle.rv64_instr.specs.Form.{has_form, fits_registers, fits_immediate, fits_upper, fits_branch, fits_load, fits_store, fits_copy, fits_jump, fits_call}
+use Rattle.rv64_instr.specs.Form.{is_within, has_12_bits, is_immediate, is_addi, moves_slot, is_implicit, is_argument, is_result}
 use Rattle.rv64_instr.specs.Mnemonic.{mnemonic_of}
 use Rattle.rv64_instr.proofs.Names.{mnemonic_of-injective}
 use Rattle.mir_printer.specs.Spelling.{instruction_text, is_definition, register_text, uses_text}
 use Rattle.mir_printer.specs.Printable.{IsNumber, HasNumbers, IsPrintableInstruction, as_slot}
 use Rattle.mir_printer.proofs.Cuts.{front_one, Stops, run_one}
 use Rattle.mir_printer.proofs.Operands.{register_one, AllUses, IsTail, uses_one}
-use Rattle.mir_printer.proofs.Stack.{Each, IsNoSlot, OneKind, no_slots, no_objects, IsTold, operands_one, implicit_plain, argument_plain, result_plain, no_slots_of, no_objects_of}
+use Rattle.mir_printer.proofs.Stack.{Each, IsNoSlot, OneKind, no_slots, no_objects, IsTold, operands_one, implicit_plain, argument_plain, result_plain}
+use Rattle.mir_printer.proofs.Stack.{no_slots_of, no_objects_of}
 
 -- ---- opcodes
 
@@ -87,7 +90,8 @@ behind : (a b : Bool) → (a && b) ≡ true → b ≡ true
 behind a b e = (and_parts a b e).1
 
 -- `rd = OP` and two operands that are no slots
-sets : (rd : ℕ) (a b : Operand) (rest : List Operand) → is_definition a ≡ false → is_definition b ≡ false → IsNoSlot a → IsNoSlot b → list_all is_implicit rest ≡ true → Parts (Def rd ∷ a ∷ b ∷ rest)
+sets : (rd : ℕ) (a b : Operand) (rest : List Operand) → is_definition a ≡ false → is_definition b ≡ false → IsNoSlot a → IsNoSlot b →
+    list_all is_implicit rest ≡ true → Parts (Def rd ∷ a ∷ b ∷ rest)
 sets rd a b rest x y u v all = record {
   target = Some rd;
   uses = a ∷ b ∷ rest;
@@ -97,7 +101,8 @@ sets rd a b rest x y u v all = record {
 }
 
 -- `OP` and three such operands
-takes : (a b c : Operand) (rest : List Operand) → is_definition a ≡ false → is_definition b ≡ false → is_definition c ≡ false → IsNoSlot a → IsNoSlot b → IsNoSlot c → list_all is_implicit rest ≡ true → Parts (a ∷ b ∷ c ∷ rest)
+takes : (a b c : Operand) (rest : List Operand) → is_definition a ≡ false → is_definition b ≡ false → is_definition c ≡ false → IsNoSlot a → IsNoSlot b →
+    IsNoSlot c → list_all is_implicit rest ≡ true → Parts (a ∷ b ∷ c ∷ rest)
 takes a b c rest x y z u v w all = record {
   target = None;
   uses = a ∷ b ∷ c ∷ rest;
@@ -129,7 +134,8 @@ registers_parts (Def rd ∷ Use a ∷ Use b ∷ rest) e = sets rd (Use a) (Use b
 registers_parts os e = absurd cc
 
 immediate_parts : (op : ImmediateOp) (os : List Operand) → fits_immediate op os ≡ true → Parts os
-immediate_parts op (Def rd ∷ Use a ∷ Imm i ∷ rest) e = sets rd (Use a) (Imm i) rest refl refl refl refl (behind (is_immediate op i) (list_all is_implicit rest) e)
+immediate_parts op (Def rd ∷ Use a ∷ Imm i ∷ rest) e = sets rd (Use a) (Imm i) rest refl refl refl refl
+    (behind (is_immediate op i) (list_all is_implicit rest) e)
 immediate_parts op (Def rd ∷ Object n ∷ Imm i ∷ rest) e =
     sets rd (Object n) (Imm i) rest refl refl refl refl (behind (is_addi op && is_immediate op i) (list_all is_implicit rest) e)
 immediate_parts op os e = absurd cc
@@ -151,9 +157,11 @@ load_parts op (Def rd ∷ Object n ∷ Imm i ∷ rest) e = sets rd (Object n) (I
 load_parts op os e = absurd cc
 
 store_parts : (op : StoreOp) (os : List Operand) → fits_store op os ≡ true → Parts os
-store_parts op (Use a ∷ Use b ∷ Imm i ∷ rest) e = takes (Use a) (Use b) (Imm i) rest refl refl refl refl refl refl (behind (has_12_bits i) (list_all is_implicit rest) e)
+store_parts op (Use a ∷ Use b ∷ Imm i ∷ rest) e = takes (Use a) (Use b) (Imm i) rest refl refl refl refl refl refl
+    (behind (has_12_bits i) (list_all is_implicit rest) e)
 store_parts op (Use a ∷ Slot n ∷ Imm i ∷ rest) e = stores_slot a n i rest (behind (moves_slot (store_width op) i) (list_all is_implicit rest) e)
-store_parts op (Use a ∷ Object n ∷ Imm i ∷ rest) e = takes (Use a) (Object n) (Imm i) rest refl refl refl refl refl refl (behind (has_12_bits i) (list_all is_implicit rest) e)
+store_parts op (Use a ∷ Object n ∷ Imm i ∷ rest) e = takes (Use a) (Object n) (Imm i) rest refl refl refl refl refl refl
+    (behind (has_12_bits i) (list_all is_implicit rest) e)
 store_parts op os e = absurd cc
 
 copy_parts : (os : List Operand) → fits_copy os ≡ true → Parts os
@@ -162,7 +170,14 @@ copy_parts (Def rd ∷ Use a ∷ rest) e =
 copy_parts os e = absurd cc
 
 jump_parts : (os : List Operand) → fits_jump os ≡ true → Parts os
-jump_parts (Block n ∷ rest) e = record { target = None; uses = Block n ∷ rest; parts = refl; none = (refl, implicits rest e); kind = no_slots (refl, plain rest e) }
+jump_parts (Block n ∷ rest) e = record {
+  target = None;
+  uses = Block n ∷ rest;
+  parts = refl;
+  none = (refl, implicits rest e);
+  kind = no_slots
+      (refl, plain rest e);
+}
 jump_parts os e = absurd cc
 
 call_parts : (os : List Operand) → fits_call os ≡ true → Parts os
@@ -205,7 +220,8 @@ all_uses : (os : List Operand) → NoDefinitions os → filter (λ o. not (is_de
 all_uses [] none = refl
 all_uses (o ∷ os) none = rw (none.0) (ap (λ (us : List Operand). o ∷ us) (all_uses os none.1))
 
-text_before : (target : Option ℕ) (op : Op) (uses : List Operand) (tail : List ℕ) → NoDefinitions uses → instruction_text (record { op = op; operands = with_target target uses }) ++ tail ≡ before target op uses tail
+text_before : (target : Option ℕ) (op : Op) (uses : List Operand) (tail : List ℕ) → NoDefinitions uses →
+    instruction_text (record { op = op; operands = with_target target uses }) ++ tail ≡ before target op uses tail
 text_before None op uses tail none = rw (no_definitions uses none, all_uses uses none) (simp append_assoc)
 text_before (Some rd) op uses tail none = rw (no_definitions uses none, all_uses uses none) (simp append_assoc)
 
@@ -260,11 +276,15 @@ head_apart op r n s e =
     let both : true ≡ false = sym (opcode_head op r) ∙ (ap head_is_letter e ∙ register_head (nat_lt n 32) n s refl) in
     cc
 
-before_one : (x y : Option ℕ) (a b : Op) (us vs : List Operand) (r s : List ℕ) → HasTarget x → HasTarget y → AllUses us → AllUses vs → IsTail r → IsTail s → Stops is_letter r → Stops is_letter s →
+before_one : (x y : Option ℕ) (a b : Op) (us vs : List Operand) (r s : List ℕ) → HasTarget x → HasTarget y → AllUses us → AllUses vs → IsTail r → IsTail s →
+    Stops is_letter r → Stops is_letter s →
     before x a us r ≡ before y b vs s → (x ≡ y) × (a ≡ b) × (map as_slot us ≡ map as_slot vs) × (r ≡ s)
-before_one None None a b us vs r s small other all others tail tails stop stops e = let found = after_one a b us vs r s all others tail tails stop stops e in (refl, found.0, found.1, found.2)
-before_one None (Some n) a b us vs r s small other all others tail tails stop stops e = absurd (head_apart a (uses_text us ++ r) n (codes " = " ++ after_target b vs s) e)
-before_one (Some m) None a b us vs r s small other all others tail tails stop stops e = absurd (head_apart b (uses_text vs ++ s) m (codes " = " ++ after_target a us r) (sym e))
+before_one None None a b us vs r s small other all others tail tails stop stops e = let found = after_one a b us vs r s all others tail tails stop stops e in
+    (refl, found.0, found.1, found.2)
+before_one None (Some n) a b us vs r s small other all others tail tails stop stops e = absurd
+    (head_apart a (uses_text us ++ r) n (codes " = " ++ after_target b vs s) e)
+before_one (Some m) None a b us vs r s small other all others tail tails stop stops e = absurd
+    (head_apart b (uses_text vs ++ s) m (codes " = " ++ after_target a us r) (sym e))
 before_one (Some m) (Some n) a b us vs r s small other all others tail tails stop stops e =
     let target = register_one m n (codes " = " ++ after_target a us r) (codes " = " ++ after_target b vs s) small other refl refl e in
     let found = after_one a b us vs r s all others tail tails stop stops (front_one (codes " = ") (after_target a us r) (after_target b vs s) target.1) in
@@ -276,7 +296,8 @@ pub record EndsInstruction (text : List ℕ) : Type 0 where
   pub letter : Stops is_letter text
 
 -- two instructions of one opcode that are one with slots for objects
-same_instruction : (objects : ℕ → Bool) (i j : Instruction) → IsPrintableInstruction objects i → IsPrintableInstruction objects j → OneKind i.operands → OneKind j.operands →
+same_instruction : (objects : ℕ → Bool) (i j : Instruction) → IsPrintableInstruction objects i → IsPrintableInstruction objects j → OneKind i.operands →
+    OneKind j.operands →
     i.op ≡ j.op → map as_slot i.operands ≡ map as_slot j.operands → i ≡ j
 same_instruction objects i j is others kind kinds op e =
     let form : has_form i.op j.operands ≡ true = ap (λ (o : Op). has_form o j.operands) op ∙ others.form in
@@ -288,7 +309,8 @@ slots_of : (target : Option ℕ) (uses : List Operand) → map as_slot (with_tar
 slots_of None uses = refl
 slots_of (Some rd) uses = refl
 
-pub instruction_one : (objects : ℕ → Bool) (i j : Instruction) (r s : List ℕ) → IsPrintableInstruction objects i → IsPrintableInstruction objects j → EndsInstruction r → EndsInstruction s →
+pub instruction_one : (objects : ℕ → Bool) (i j : Instruction) (r s : List ℕ) → IsPrintableInstruction objects i → IsPrintableInstruction objects j →
+    EndsInstruction r → EndsInstruction s →
     instruction_text i ++ r ≡ instruction_text j ++ s → (i ≡ j) × (r ≡ s)
 instruction_one objects i j r s is others end ends e =
     let p = parts_of i.op i.operands is.form in
@@ -299,7 +321,8 @@ instruction_one objects i j r s is others end ends e =
     ap (λ (os : List Operand). instruction_text (record { op = i.op; operands = os }) ++ r) p.parts ∙ text_before p.target i.op p.uses r p.none in
     let right : instruction_text j ++ s ≡ before q.target j.op q.uses s =
     ap (λ (os : List Operand). instruction_text (record { op = j.op; operands = os }) ++ s) q.parts ∙ text_before q.target j.op q.uses s q.none in
-    let found = before_one p.target q.target i.op j.op p.uses q.uses r s (target_of p.target p.uses all) (target_of q.target q.uses more) (uses_of p.uses p.none (numbers_of p.target p.uses all))
+    let found = before_one p.target q.target i.op j.op p.uses q.uses r s (target_of p.target p.uses all) (target_of q.target q.uses more)
+    (uses_of p.uses p.none (numbers_of p.target p.uses all))
     (uses_of q.uses q.none (numbers_of q.target q.uses more)) end.tail ends.tail end.letter ends.letter (sym left ∙ (e ∙ right)) in
     let slots : map as_slot i.operands ≡ map as_slot j.operands =
     ap (map as_slot) p.parts ∙ (slots_of p.target p.uses ∙ (ap (λ (t : Option ℕ). with_target t (map as_slot p.uses)) found.0 ∙

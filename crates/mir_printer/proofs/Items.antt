@@ -1,5 +1,6 @@
 -- The item that a text stands for.
-use Rattle.std.proofs.Common.{◌≡◌, ℕ, ℤ, pos, ◌-◌, ◌*◌, ◌<◌, ◌≤◌, Bool, true, false, nat_lt, List, [], ◌∷◌, ◌++◌, Option, Some, None, refl, sym, ap, ◌∙◌, append_assoc, arith}
+use Rattle.std.proofs.Common.{◌≡◌, ℕ, ℤ, pos, ◌-◌, ◌*◌, ◌<◌, ◌≤◌, Bool, true, false, nat_lt, List, [], ◌∷◌, ◌++◌, Option, Some, None, refl, sym, ap, ◌∙◌}
+use Rattle.std.proofs.Common.{append_assoc, arith}
 use Rattle.std.specs.Prelude.{codes, IfSome}
 use Rattle.std.specs.Fmt.{decimal, signed_decimal}
 use Rattle.std.proofs.lemmas.Fmt.{decimal_digit}
@@ -17,8 +18,10 @@ use Rattle.mir_func.specs.declared.variable.MarkValue.TheVariants.{Nothing, Cons
 use Rattle.mir_func.specs.declared.item.Item.{Item}
 use Rattle.mir_func.specs.declared.item.ItemKind.{ItemKind}
 use Rattle.mir_func.specs.declared.item.ItemKind.TheVariants.{Code, Mark, Phi}
-use Rattle.mir_printer.specs.Spelling.{register_text, instruction_text, number_text, phi_place_text, expression_text, pair_expression_text, value_mark_text, mark_text, kind_text, inlined_at_text, location_text, item_text}
-use Rattle.mir_printer.specs.Printable.{IsNumber, IsSigned, IsPrintableInstruction, IsPrintablePlace, IsPrintableValue, IsPrintableLoc, IsPrintableVariable, IsPrintableKind, IsPrintable, Declared, inlined_at}
+use Rattle.mir_printer.specs.Spelling.{register_text, instruction_text, number_text, phi_place_text, expression_text, pair_expression_text, value_mark_text}
+use Rattle.mir_printer.specs.Spelling.{mark_text, kind_text, inlined_at_text, location_text, item_text}
+use Rattle.mir_printer.specs.Printable.{IsNumber, IsSigned, IsPrintableInstruction, IsPrintablePlace, IsPrintableValue, IsPrintableLoc, IsPrintableVariable}
+use Rattle.mir_printer.specs.Printable.{IsPrintableKind, IsPrintable, Declared, inlined_at}
 use Rattle.mir_printer.proofs.Cuts.{front_one, apart, Stops, is_digit, decimal_head, signed_one, signed_head}
 use Rattle.mir_printer.proofs.Operands.{goes_on, wide, number_one, register_one}
 use Rattle.mir_printer.proofs.Instructions.{EndsInstruction, instruction_one, instruction_begins}
@@ -48,7 +51,8 @@ inlined_before None rest = codes ")" ++ rest
 inlined_before (Some n) rest = codes ", inlinedAt: !" ++ (decimal n ++ (codes ")" ++ rest))
 
 abbrev inline_before : InlineLoc → List ℕ → List ℕ
-inline_before l rest = decimal l.line ++ (codes ", column: " ++ (decimal l.column ++ (codes ", scope: !" ++ (decimal l.scope ++ inlined_before l.inlined_at rest))))
+inline_before l rest = decimal l.line ++ (codes ", column: " ++
+    (decimal l.column ++ (codes ", scope: !" ++ (decimal l.scope ++ inlined_before l.inlined_at rest))))
 
 -- behind `, debug-location !`
 abbrev node_before : Loc → List ℕ → List ℕ
@@ -72,8 +76,10 @@ location_is : (l : Loc) (rest : List ℕ) → location_text l ++ rest ≡ locati
 location_is Absent rest = refl
 location_is (Node n) rest = append_assoc (codes ", debug-location !") (decimal n) rest
 location_is (Inline l) rest =
-    inline_parts (codes ", debug-location !DILocation(line: ") (decimal l.line) (codes ", column: ") (decimal l.column) (codes ", scope: !") (decimal l.scope) (inlined_at_text l.inlined_at) (codes ")") rest
-    ∙ ap (λ (t : List ℕ). codes ", debug-location !DILocation(line: " ++ (decimal l.line ++ (codes ", column: " ++ (decimal l.column ++ (codes ", scope: !" ++ (decimal l.scope ++ t)))))) (inlined_is l.inlined_at rest)
+    inline_parts (codes ", debug-location !DILocation(line: ") (decimal l.line) (codes ", column: ") (decimal l.column) (codes ", scope: !") (decimal l.scope)
+    (inlined_at_text l.inlined_at) (codes ")") rest
+    ∙ ap (λ (t : List ℕ). codes ", debug-location !DILocation(line: " ++
+    (decimal l.line ++ (codes ", column: " ++ (decimal l.column ++ (codes ", scope: !" ++ (decimal l.scope ++ t)))))) (inlined_is l.inlined_at rest)
 
 inlined_stops : (o : Option ℕ) (rest : List ℕ) → Stops is_digit (inlined_before o rest)
 inlined_stops None rest = refl
@@ -84,14 +90,17 @@ inlined_one None None r s small other e = (refl, front_one (codes ")") r s e)
 inlined_one None (Some n) r s small other e = absurd (apart 41 44 r (codes " inlinedAt: !" ++ (decimal n ++ (codes ")" ++ s))) refl e)
 inlined_one (Some m) None r s small other e = absurd (apart 44 41 (codes " inlinedAt: !" ++ (decimal m ++ (codes ")" ++ r))) s refl e)
 inlined_one (Some m) (Some n) r s small other e =
-    let found = number_one m n (codes ")" ++ r) (codes ")" ++ s) small other refl refl (front_one (codes ", inlinedAt: !") (decimal m ++ (codes ")" ++ r)) (decimal n ++ (codes ")" ++ s)) e) in
+    let found = number_one m n (codes ")" ++ r) (codes ")" ++ s) small other refl refl
+    (front_one (codes ", inlinedAt: !") (decimal m ++ (codes ")" ++ r)) (decimal n ++ (codes ")" ++ s)) e) in
     (some_number m n found.0, front_one (codes ")") r s found.1)
 
-inline_one : (a b : InlineLoc) (r s : List ℕ) → IsPrintableLoc (Inline a) → IsPrintableLoc (Inline b) → inline_before a r ≡ inline_before b s → (a ≡ b) × (r ≡ s)
+inline_one : (a b : InlineLoc) (r s : List ℕ) → IsPrintableLoc (Inline a) → IsPrintableLoc (Inline b) → inline_before a r ≡ inline_before b s →
+    (a ≡ b) × (r ≡ s)
 inline_one a b r s is others e =
     let line = number_one a.line b.line _ _ is.0 others.0 refl refl e in
     let column = number_one a.column b.column _ _ is.1 others.1 refl refl (front_one (codes ", column: ") _ _ line.1) in
-    let scope = number_one a.scope b.scope _ _ is.2 others.2 (inlined_stops a.inlined_at r) (inlined_stops b.inlined_at s) (front_one (codes ", scope: !") _ _ column.1) in
+    let scope = number_one a.scope b.scope _ _ is.2 others.2 (inlined_stops a.inlined_at r) (inlined_stops b.inlined_at s)
+    (front_one (codes ", scope: !") _ _ column.1) in
     let inlined = inlined_one a.inlined_at b.inlined_at r s is.3 others.3 scope.1 in
     (λ k. record { line = line.0 k; column = column.0 k; scope = scope.0 k; inlined_at = inlined.0 k }, inlined.1)
 
@@ -99,7 +108,8 @@ inline_one a b r s is others e =
 location_one : (l m : Loc) (r s : List ℕ) → IsPrintableLoc l → IsPrintableLoc m → location_before l (10 ∷ r) ≡ location_before m (10 ∷ s) → (l ≡ m) × (r ≡ s)
 location_one Absent Absent r s is others e = (refl, front_one (10 ∷ []) r s e)
 location_one (Node m) (Node n) r s is others e =
-    let found = number_one m n (10 ∷ r) (10 ∷ s) is others refl refl (front_one (codes ", debug-location !") (decimal m ++ (10 ∷ r)) (decimal n ++ (10 ∷ s)) e) in
+    let found = number_one m n (10 ∷ r) (10 ∷ s) is others refl refl
+    (front_one (codes ", debug-location !") (decimal m ++ (10 ∷ r)) (decimal n ++ (10 ∷ s)) e) in
     (ap Node found.0, front_one (10 ∷ []) r s found.1)
 location_one (Inline l) (Inline m) r s is others e =
     let found = inline_one l m (10 ∷ r) (10 ∷ s) is others (front_one (codes ", debug-location !DILocation(line: ") _ _ e) in
@@ -109,9 +119,11 @@ location_one (Node n) Absent r s is others e = absurd (apart 10 44 s (codes " de
 location_one Absent (Inline l) r s is others e = absurd (apart 10 44 r (codes " debug-location !DILocation(line: " ++ inline_before l (10 ∷ s)) refl e)
 location_one (Inline l) Absent r s is others e = absurd (apart 10 44 s (codes " debug-location !DILocation(line: " ++ inline_before l (10 ∷ r)) refl (sym e))
 location_one (Node n) (Inline l) r s is others e =
-    absurd (digit_apart n 68 (10 ∷ r) (codes "ILocation(line: " ++ inline_before l (10 ∷ s)) is (λ low high. omega arith) (front_one (codes ", debug-location !") (decimal n ++ (10 ∷ r)) _ e))
+    absurd (digit_apart n 68 (10 ∷ r) (codes "ILocation(line: " ++ inline_before l (10 ∷ s)) is (λ low high. omega arith)
+    (front_one (codes ", debug-location !") (decimal n ++ (10 ∷ r)) _ e))
 location_one (Inline l) (Node n) r s is others e =
-    absurd (digit_apart n 68 (10 ∷ s) (codes "ILocation(line: " ++ inline_before l (10 ∷ r)) others (λ low high. omega arith) (front_one (codes ", debug-location !") (decimal n ++ (10 ∷ s)) _ (sym e)))
+    absurd (digit_apart n 68 (10 ∷ s) (codes "ILocation(line: " ++ inline_before l (10 ∷ r)) others (λ low high. omega arith)
+    (front_one (codes ", debug-location !") (decimal n ++ (10 ∷ s)) _ (sym e)))
 
 -- ---- debug instruction numbers, and the locations behind them
 
@@ -145,8 +157,10 @@ location_stops (Inline l) r = refl
 -- a number is no location
 number_apart : (k : ℕ) (l : Loc) (r s : List ℕ) → codes ", debug-instr-number " ++ r ≡ location_before l (10 ∷ s) → ⊥
 number_apart k Absent r s e = apart 44 10 (codes " debug-instr-number " ++ r) s refl e
-number_apart k (Node n) r s e = apart 105 108 (codes "nstr-number " ++ r) (codes "ocation !" ++ (decimal n ++ (10 ∷ s))) refl (front_one (codes ", debug-") _ _ e)
-number_apart k (Inline l) r s e = apart 105 108 (codes "nstr-number " ++ r) (codes "ocation !DILocation(line: " ++ inline_before l (10 ∷ s)) refl (front_one (codes ", debug-") _ _ e)
+number_apart k (Node n) r s e = apart 105 108 (codes "nstr-number " ++ r) (codes "ocation !" ++ (decimal n ++ (10 ∷ s))) refl
+    (front_one (codes ", debug-") _ _ e)
+number_apart k (Inline l) r s e = apart 105 108 (codes "nstr-number " ++ r) (codes "ocation !DILocation(line: " ++ inline_before l (10 ∷ s)) refl
+    (front_one (codes ", debug-") _ _ e)
 
 numbers_one : (j k : Option ℕ) (l m : Loc) (r s : List ℕ) → IfSome j IsNumber → IfSome k IsNumber → IsPrintableLoc l → IsPrintableLoc m →
     number_before j (location_before l (10 ∷ r)) ≡ number_before k (location_before m (10 ∷ s)) → (j ≡ k) × (l ≡ m) × (r ≡ s)
@@ -154,7 +168,8 @@ numbers_one None None l m r s small other is others e = let found = location_one
 numbers_one None (Some k) l m r s small other is others e = absurd (number_apart k l (decimal k ++ location_before m (10 ∷ s)) r (sym e))
 numbers_one (Some j) None l m r s small other is others e = absurd (number_apart j m (decimal j ++ location_before l (10 ∷ r)) s e)
 numbers_one (Some j) (Some k) l m r s small other is others e =
-    let number = number_one j k (location_before l (10 ∷ r)) (location_before m (10 ∷ s)) small other (location_stops l r) (location_stops m s) (front_one (codes ", debug-instr-number ") _ _ e) in
+    let number = number_one j k (location_before l (10 ∷ r)) (location_before m (10 ∷ s)) small other (location_stops l r) (location_stops m s)
+    (front_one (codes ", debug-instr-number ") _ _ e) in
     let found = location_one l m r s is others number.1 in
     (some_number j k number.0, found.0, found.1)
 
@@ -188,7 +203,8 @@ abbrev is_value : MarkValue → Bool
 is_value (Pair q) = false
 is_value m = true
 
-value_one : (m n : MarkValue) (r s : List ℕ) → is_value m ≡ true → is_value n ≡ true → IsPrintableValue m → IsPrintableValue n → Stops is_digit r → Stops is_digit s →
+value_one : (m n : MarkValue) (r s : List ℕ) → is_value m ≡ true → is_value n ≡ true → IsPrintableValue m → IsPrintableValue n → Stops is_digit r →
+    Stops is_digit s →
     value_text m ++ r ≡ value_text n ++ s → (m ≡ n) × (r ≡ s)
 value_one Nothing Nothing r s v w is others stop stops e = (refl, front_one (codes "$noreg") r s e)
 value_one (Constant c) (Constant d) r s v w is others stop stops e = let found = signed_one c d r s is others stop stops e in (ap Constant found.0, found.1)
@@ -201,10 +217,12 @@ value_one (Constant c) (At n) r s v w is others stop stops e = absurd (not_signe
 value_one (At n) (Constant c) r s v w is others stop stops e = absurd (not_signed (nat_lt n 32) n c r s refl others (sym e))
 value_one m n r s v w is others stop stops e = absurd cc
 
-place_zero : (p : Bool) (n : ℕ) (r s : List ℕ) → nat_lt n 32 ≡ p → 0 < n → IsNumber n → Stops is_digit r → Stops is_digit s → register_text n ++ r ≡ codes "$x0" ++ s → ⊥
+place_zero : (p : Bool) (n : ℕ) (r s : List ℕ) → nat_lt n 32 ≡ p → 0 < n → IsNumber n → Stops is_digit r → Stops is_digit s →
+    register_text n ++ r ≡ codes "$x0" ++ s → ⊥
 place_zero true n r s is some small stop stops e =
     let named : codes "$x" ++ (decimal n ++ r) ≡ codes "$x" ++ (codes "0" ++ s) = rw is at e in
-    let zero : decimal n ++ r ≡ decimal 0 ++ s = front_one (codes "$x") (decimal n ++ r) (codes "0" ++ s) named ∙ ap (λ (t : List ℕ). t ++ s) (sym (decimal_digit 0 (omega arith))) in
+    let zero : decimal n ++ r ≡ decimal 0 ++ s = front_one (codes "$x") (decimal n ++ r) (codes "0" ++ s) named ∙ ap (λ (t : List ℕ). t ++ s)
+    (sym (decimal_digit 0 (omega arith))) in
     omega (arith, (number_one n 0 r s small (omega arith) stop stops zero).0)
 place_zero false n r s is some small stop stops e =
     let named : codes "%" ++ (decimal (n - 32) ++ r) ≡ codes "$x0" ++ s = rw is at e in
@@ -219,24 +237,29 @@ not_stack true n r s is small e =
     apart 36 37 (120 ∷ (decimal n ++ r)) (codes "stack." ++ s) refl named
 not_stack false n r s is small e =
     let named : codes "%" ++ (decimal (n - 32) ++ r) ≡ codes "%stack." ++ s = rw is at e in
-    digit_apart (n - 32) 115 r (codes "tack." ++ s) (short n small) (λ low high. omega arith) (front_one (codes "%") (decimal (n - 32) ++ r) (codes "stack." ++ s) named)
+    digit_apart (n - 32) 115 r (codes "tack." ++ s) (short n small) (λ low high. omega arith)
+    (front_one (codes "%") (decimal (n - 32) ++ r) (codes "stack." ++ s) named)
 
 const_one : (c d : ℤ) → c ≡ pos 0 → d ≡ pos 0 → Some (Const c) ≡ Some (Const d)
 const_one c d is others = ap (λ (i : ℤ). Some (Const i)) (is ∙ sym others)
 
-place_one : (p q : Option Place) (r s : List ℕ) → IsPrintablePlace p → IsPrintablePlace q → Stops is_digit r → Stops is_digit s → phi_place_text p ++ r ≡ phi_place_text q ++ s → (p ≡ q) × (r ≡ s)
+place_one : (p q : Option Place) (r s : List ℕ) → IsPrintablePlace p → IsPrintablePlace q → Stops is_digit r → Stops is_digit s →
+    phi_place_text p ++ r ≡ phi_place_text q ++ s → (p ≡ q) × (r ≡ s)
 place_one None None r s is others stop stops e = (refl, front_one (codes "$noreg") r s e)
 place_one (Some (Register m)) (Some (Register n)) r s is others stop stops e =
     let found = register_one m n r s is.1 others.1 stop stops e in (ap (λ (k : ℕ). Some (Register k)) found.0, found.1)
 place_one (Some (Slot m)) (Some (Slot n)) r s is others stop stops e =
-    let found = number_one m n r s is others stop stops (front_one (codes "%stack.") (decimal m ++ r) (decimal n ++ s) e) in (ap (λ (k : ℕ). Some (Slot k)) found.0, found.1)
+    let found = number_one m n r s is others stop stops (front_one (codes "%stack.") (decimal m ++ r) (decimal n ++ s) e) in
+    (ap (λ (k : ℕ). Some (Slot k)) found.0, found.1)
 place_one (Some (Const c)) (Some (Const d)) r s is others stop stops e = (const_one c d is others, front_one (codes "$x0") r s e)
 place_one None (Some (Register n)) r s is others stop stops e = absurd (not_noreg (nat_lt n 32) n s r refl (sym e))
 place_one (Some (Register n)) None r s is others stop stops e = absurd (not_noreg (nat_lt n 32) n r s refl e)
 place_one None (Some (Slot n)) r s is others stop stops e = absurd (apart 36 37 (codes "noreg" ++ r) (codes "stack." ++ (decimal n ++ s)) refl e)
 place_one (Some (Slot n)) None r s is others stop stops e = absurd (apart 36 37 (codes "noreg" ++ s) (codes "stack." ++ (decimal n ++ r)) refl (sym e))
-place_one None (Some (Const c)) r s is others stop stops e = absurd (apart 110 120 (codes "oreg" ++ r) (codes "0" ++ s) refl (front_one (codes "$") (codes "noreg" ++ r) (codes "x0" ++ s) e))
-place_one (Some (Const c)) None r s is others stop stops e = absurd (apart 110 120 (codes "oreg" ++ s) (codes "0" ++ r) refl (front_one (codes "$") (codes "noreg" ++ s) (codes "x0" ++ r) (sym e)))
+place_one None (Some (Const c)) r s is others stop stops e = absurd
+    (apart 110 120 (codes "oreg" ++ r) (codes "0" ++ s) refl (front_one (codes "$") (codes "noreg" ++ r) (codes "x0" ++ s) e))
+place_one (Some (Const c)) None r s is others stop stops e = absurd
+    (apart 110 120 (codes "oreg" ++ s) (codes "0" ++ r) refl (front_one (codes "$") (codes "noreg" ++ s) (codes "x0" ++ r) (sym e)))
 place_one (Some (Register m)) (Some (Slot n)) r s is others stop stops e = absurd (not_stack (nat_lt m 32) m r (decimal n ++ s) refl is.1 e)
 place_one (Some (Slot n)) (Some (Register m)) r s is others stop stops e = absurd (not_stack (nat_lt m 32) m s (decimal n ++ r) refl others.1 (sym e))
 place_one (Some (Register m)) (Some (Const c)) r s is others stop stops e = absurd (place_zero (nat_lt m 32) m r s refl is.0 is.1 stop stops e)
@@ -283,12 +306,14 @@ expression_is (Some b) rest =
 pair_expression_is : (o : Option Bytes) (rest : List ℕ) → pair_expression_text o ++ rest ≡ pair_expression_before o rest
 pair_expression_is None rest = refl
 pair_expression_is (Some b) rest =
-    closed_parts (codes "!DIExpression(DW_OP_LLVM_arg, 0, ") (codes "DW_OP_LLVM_fragment, ") (decimal (8 * b.offset)) (codes ", ") (decimal (8 * b.length)) (codes ")") rest
+    closed_parts (codes "!DIExpression(DW_OP_LLVM_arg, 0, ") (codes "DW_OP_LLVM_fragment, ") (decimal (8 * b.offset)) (codes ", ") (decimal (8 * b.length))
+    (codes ")") rest
 
 value_parts : (a b c d e f rest : List ℕ) → (a ++ b ++ (c ++ d ++ e ++ f)) ++ rest ≡ a ++ (b ++ (c ++ (d ++ (e ++ (f ++ rest)))))
 value_parts a b c d e f rest = simp append_assoc
 
-pair_parts : (a b c d e f g h i rest : List ℕ) → (a ++ b ++ c ++ d ++ e ++ f ++ g ++ h ++ i) ++ rest ≡ a ++ (b ++ (c ++ (d ++ (e ++ (f ++ (g ++ (h ++ (i ++ rest))))))))
+pair_parts : (a b c d e f g h i rest : List ℕ) → (a ++ b ++ c ++ d ++ e ++ f ++ g ++ h ++ i) ++ rest ≡ a ++
+    (b ++ (c ++ (d ++ (e ++ (f ++ (g ++ (h ++ (i ++ rest))))))))
 pair_parts a b c d e f g h i rest = simp append_assoc
 
 value_mark_is : (value : List ℕ) (v : VarId) (rest : List ℕ) → value_mark_text value v ++ rest ≡ codes "DBG_VALUE " ++ (value ++ variable_before v rest)
@@ -301,11 +326,13 @@ mark_is v Nothing rest = value_mark_is (codes "$noreg") v rest
 mark_is v (Constant c) rest = value_mark_is (signed_decimal c) v rest
 mark_is v (At n) rest = value_mark_is (register_text n) v rest
 mark_is v (Pair q) rest =
-    pair_parts (codes "DBG_INSTR_REF !") (decimal v.node) (codes ", ") (pair_expression_text v.fragment) (codes ", dbg-instr-ref(") (decimal q.number) (codes ", ") (decimal q.operand) (codes ")") rest
+    pair_parts (codes "DBG_INSTR_REF !") (decimal v.node) (codes ", ") (pair_expression_text v.fragment) (codes ", dbg-instr-ref(") (decimal q.number)
+    (codes ", ") (decimal q.operand) (codes ")") rest
     ∙ ap (λ (t : List ℕ). codes "DBG_INSTR_REF !" ++ (decimal v.node ++ (codes ", " ++ t))) (pair_expression_is v.fragment (operands_before q rest))
 
 -- the bits of so many bytes
-bits_one : (m n : ℕ) (r s : List ℕ) → m ≤ 8192 → n ≤ 8192 → Stops is_digit r → Stops is_digit s → decimal (8 * m) ++ r ≡ decimal (8 * n) ++ s → (m ≡ n) × (r ≡ s)
+bits_one : (m n : ℕ) (r s : List ℕ) → m ≤ 8192 → n ≤ 8192 → Stops is_digit r → Stops is_digit s → decimal (8 * m) ++ r ≡ decimal (8 * n) ++ s →
+    (m ≡ n) × (r ≡ s)
 bits_one m n r s small other stop stops e =
     let found = number_one (8 * m) (8 * n) r s (few m small) (few n other) stop stops e in
     (eighth m n found.0, found.1)
@@ -338,7 +365,8 @@ expression_one (Some a) (Some b) r s is others e =
     let found = fragment_one a b r s is others (front_one (codes "!DIExpression(") _ _ e) in
     (some_part a b found.0, found.1)
 
-pair_expression_one : (o p : Option Bytes) (r s : List ℕ) → IfSome o IsPart → IfSome p IsPart → pair_expression_before o r ≡ pair_expression_before p s → (o ≡ p) × (r ≡ s)
+pair_expression_one : (o p : Option Bytes) (r s : List ℕ) → IfSome o IsPart → IfSome p IsPart → pair_expression_before o r ≡ pair_expression_before p s →
+    (o ≡ p) × (r ≡ s)
 pair_expression_one None None r s is others e = (refl, front_one (codes "!DIExpression(DW_OP_LLVM_arg, 0)") r s e)
 pair_expression_one None (Some b) r s is others e = absurd (apart 41 44 _ _ refl (front_one (codes "!DIExpression(DW_OP_LLVM_arg, 0") _ _ e))
 pair_expression_one (Some a) None r s is others e = absurd (apart 44 41 _ _ refl (front_one (codes "!DIExpression(DW_OP_LLVM_arg, 0") _ _ e))
@@ -356,13 +384,15 @@ record HasSizes (v : VarId) : Type 0 where
   node : IsNumber v.node
   part : IfSome v.fragment IsPart
 
-operands_one : (p q : OperandPair) (r s : List ℕ) → IsPrintableValue (Pair p) → IsPrintableValue (Pair q) → operands_before p r ≡ operands_before q s → (p ≡ q) × (r ≡ s)
+operands_one : (p q : OperandPair) (r s : List ℕ) → IsPrintableValue (Pair p) → IsPrintableValue (Pair q) → operands_before p r ≡ operands_before q s →
+    (p ≡ q) × (r ≡ s)
 operands_one p q r s is others e =
     let number = number_one p.number q.number _ _ is.0 others.0 refl refl (front_one (codes ", dbg-instr-ref(") _ _ e) in
     let operand = number_one p.operand q.operand (codes ")" ++ r) (codes ")" ++ s) is.1 others.1 refl refl (front_one (codes ", ") _ _ number.1) in
     (λ k. record { number = number.0 k; operand = operand.0 k }, front_one (codes ")") r s operand.1)
 
-pair_one : (v w : VarId) (p q : OperandPair) (r s : List ℕ) → HasSizes v → HasSizes w → IsPrintableValue (Pair p) → IsPrintableValue (Pair q) → pair_before v p r ≡ pair_before w q s →
+pair_one : (v w : VarId) (p q : OperandPair) (r s : List ℕ) → HasSizes v → HasSizes w → IsPrintableValue (Pair p) → IsPrintableValue (Pair q) →
+    pair_before v p r ≡ pair_before w q s →
     IsNamed v w × (Pair p ≡ Pair q) × (r ≡ s)
 pair_one v w p q r s small other is others e =
     let node = number_one v.node w.node _ _ small.node other.node refl refl e in
@@ -376,16 +406,19 @@ variable_one v w r s small other e =
     let part = expression_one v.fragment w.fragment r s small.part other.part (front_one (codes ", ") _ _ node.1) in
     (record { node = node.0; fragment = part.0 }, part.1)
 
-plain_one : (v w : VarId) (m n : MarkValue) (r s : List ℕ) → is_value m ≡ true → is_value n ≡ true → HasSizes v → HasSizes w → IsPrintableValue m → IsPrintableValue n →
+plain_one : (v w : VarId) (m n : MarkValue) (r s : List ℕ) → is_value m ≡ true → is_value n ≡ true → HasSizes v → HasSizes w → IsPrintableValue m →
+    IsPrintableValue n →
     codes "DBG_VALUE " ++ (value_text m ++ variable_before v r) ≡ codes "DBG_VALUE " ++ (value_text n ++ variable_before w s) → IsNamed v w × (m ≡ n) × (r ≡ s)
 plain_one v w m n r s a b small other is others e =
     let value = value_one m n (variable_before v r) (variable_before w s) a b is others refl refl (front_one (codes "DBG_VALUE ") _ _ e) in
     let node = variable_one v w r s small other value.1 in
     (node.0, value.0, node.1)
 
-mark_one : (v w : VarId) (m n : MarkValue) (r s : List ℕ) → HasSizes v → HasSizes w → IsPrintableValue m → IsPrintableValue n → mark_before v m r ≡ mark_before w n s →
+mark_one : (v w : VarId) (m n : MarkValue) (r s : List ℕ) → HasSizes v → HasSizes w → IsPrintableValue m → IsPrintableValue n →
+    mark_before v m r ≡ mark_before w n s →
     IsNamed v w × (m ≡ n) × (r ≡ s)
-mark_one v w (Pair p) (Pair q) r s small other is others e = pair_one v w p q r s small other is others (front_one (codes "DBG_INSTR_REF !") (pair_before v p r) (pair_before w q s) e)
+mark_one v w (Pair p) (Pair q) r s small other is others e = pair_one v w p q r s small other is others
+    (front_one (codes "DBG_INSTR_REF !") (pair_before v p r) (pair_before w q s) e)
 mark_one v w (Pair p) Nothing r s small other is others e = absurd (apart 73 86 _ _ refl (front_one (codes "DBG_") _ _ e))
 mark_one v w (Pair p) (Constant c) r s small other is others e = absurd (apart 73 86 _ _ refl (front_one (codes "DBG_") _ _ e))
 mark_one v w (Pair p) (At n) r s small other is others e = absurd (apart 73 86 _ _ refl (front_one (codes "DBG_") _ _ e))
@@ -419,7 +452,8 @@ kind_is (Phi p k) behind = phi_parts (codes "DBG_PHI ") (phi_place_text p) (code
 
 line_is : (i : Item) (rest : List ℕ) → item_text i ++ 10 ∷ rest ≡ line_before i.kind i.loc rest
 line_is i rest =
-    append_assoc (kind_text i.kind) (location_text i.loc) (10 ∷ rest) ∙ (ap (λ (t : List ℕ). kind_text i.kind ++ t) (location_is i.loc (10 ∷ rest)) ∙ kind_is i.kind (location_before i.loc (10 ∷ rest)))
+    append_assoc (kind_text i.kind) (location_text i.loc) (10 ∷ rest) ∙
+    (ap (λ (t : List ℕ). kind_text i.kind ++ t) (location_is i.loc (10 ∷ rest)) ∙ kind_is i.kind (location_before i.loc (10 ∷ rest)))
 
 variable_same : (v w : VarId) → IsNamed v w → v.inlined_at ≡ w.inlined_at → v ≡ w
 variable_same v w named inlined = λ k. record { node = named.node k; inlined_at = inlined k; fragment = named.fragment k }
@@ -439,7 +473,8 @@ phi_apart : (v : VarId) (m : MarkValue) (rest s : List ℕ) → mark_before v m 
 phi_apart v (Pair q) rest s e = apart 73 80 _ _ refl (front_one (codes "DBG_") _ (codes "PHI " ++ s) e)
 phi_apart v m rest s e = apart 86 80 _ _ refl (front_one (codes "DBG_") _ (codes "PHI " ++ s) e)
 
-kind_one : (declared : Declared) (x y : ItemKind) (l m : Loc) (r s : List ℕ) → IsPrintableKind declared l x → IsPrintableKind declared m y → IsPrintableLoc l → IsPrintableLoc m →
+kind_one : (declared : Declared) (x y : ItemKind) (l m : Loc) (r s : List ℕ) → IsPrintableKind declared l x → IsPrintableKind declared m y → IsPrintableLoc l →
+    IsPrintableLoc m →
     line_before x l r ≡ line_before y m s → (x ≡ y) × (l ≡ m) × (r ≡ s)
 kind_one declared (Code i j) (Code h k) l m r s is others at ats e =
     let code = instruction_one declared.objects i h _ _ is.0 others.0 (number_ends j l r) (number_ends k m s) e in
@@ -462,11 +497,13 @@ kind_one declared (Phi p j) (Code h k) l m r s is others at ats e = absurd (inst
 kind_one declared (Mark v a) (Phi q k) l m r s is others at ats e = absurd (phi_apart v a _ _ e)
 kind_one declared (Phi p j) (Mark w b) l m r s is others at ats e = absurd (phi_apart w b _ _ (sym e))
 
-pub item_line_one : (declared : Declared) (i j : Item) → IsPrintable declared i → IsPrintable declared j → (r s : List ℕ) → item_text i ++ 10 ∷ r ≡ item_text j ++ 10 ∷ s → (i.kind ≡ j.kind) × (i.loc ≡ j.loc) × (r ≡ s)
+pub item_line_one : (declared : Declared) (i j : Item) → IsPrintable declared i → IsPrintable declared j → (r s : List ℕ) →
+    item_text i ++ 10 ∷ r ≡ item_text j ++ 10 ∷ s → (i.kind ≡ j.kind) × (i.loc ≡ j.loc) × (r ≡ s)
 item_line_one declared i j is others r s e =
     kind_one declared i.kind j.kind i.loc j.loc r s is.kind others.kind is.loc others.loc (sym (line_is i r) ∙ (e ∙ line_is j s))
 
-pub item_text_one : (declared : Declared) (i j : Item) → IsPrintable declared i → IsPrintable declared j → item_text i ≡ item_text j → (i.kind ≡ j.kind) × (i.loc ≡ j.loc)
+pub item_text_one : (declared : Declared) (i j : Item) → IsPrintable declared i → IsPrintable declared j → item_text i ≡ item_text j →
+    (i.kind ≡ j.kind) × (i.loc ≡ j.loc)
 item_text_one declared i j is others e =
     let found = item_line_one declared i j is others [] [] (ap (λ (t : List ℕ). t ++ 10 ∷ []) e) in
     (found.0, found.1)

@@ -23,21 +23,26 @@ listed_text-snoc lead (t ∷ ts) u = rw (comma_separated-snoc t ts u) (simp appe
 
 selected_texts-more : (definitions : Bool) (operands : List Operand) (i : ℕ) (o : Operand) → i < length operands → get_or operands i o ≡ o →
     selected_texts definitions (take (i + 1) operands) ≡ selected_texts definitions (take i operands) ++ cond (selects definitions o) (operand_text o ∷ []) []
-selected_texts-more definitions operands i o below is = rw (filter_more (selects definitions) operands i o below) (rw is (rw (map-append operand_text (filter (selects definitions) (take i operands)) (cond (selects definitions o) (o ∷ []) [])) (ap (λ ts. selected_texts definitions (take i operands) ++ ts) (single (selects definitions o) o))))
+selected_texts-more definitions operands i o below is = rw (filter_more (selects definitions) operands i o below)
+    (rw is (rw (map-append operand_text (filter (selects definitions) (take i operands)) (cond (selects definitions o) (o ∷ []) []))
+    (ap (λ ts. selected_texts definitions (take i operands) ++ ts) (single (selects definitions o) o))))
   where
     single : (b : Bool) (o : Operand) → map operand_text (cond b (o ∷ []) []) ≡ cond b (operand_text o ∷ []) []
     single true o = refl
     single false o = refl
 
 -- the next operand is selected
-pub selected_texts-taken : (definitions : Bool) (operands : List Operand) (i : ℕ) (o : Operand) → i < length operands → get_or operands i o ≡ o → selects definitions o ≡ true →
+pub selected_texts-taken : (definitions : Bool) (operands : List Operand) (i : ℕ) (o : Operand) → i < length operands → get_or operands i o ≡ o →
+    selects definitions o ≡ true →
     selected_texts definitions (take (i + 1) operands) ≡ selected_texts definitions (take i operands) ++ operand_text o ∷ []
 selected_texts-taken definitions operands i o below is selected = selected_texts-more definitions operands i o below is ∙ rw selected
 
 -- it is not
-pub selected_texts-left : (definitions : Bool) (operands : List Operand) (i : ℕ) (o : Operand) → i < length operands → get_or operands i o ≡ o → selects definitions o ≡ false →
+pub selected_texts-left : (definitions : Bool) (operands : List Operand) (i : ℕ) (o : Operand) → i < length operands → get_or operands i o ≡ o →
+    selects definitions o ≡ false →
     selected_texts definitions (take (i + 1) operands) ≡ selected_texts definitions (take i operands)
-selected_texts-left definitions operands i o below is left = selected_texts-more definitions operands i o below is ∙ rw left (append-nil (selected_texts definitions (take i operands)))
+selected_texts-left definitions operands i o below is left = selected_texts-more definitions operands i o below is ∙ rw left
+    (append-nil (selected_texts definitions (take i operands)))
 
 pub next_lead-snoc : (lead : List ℕ) (ts : List (List ℕ)) (u : List ℕ) → next_lead lead (ts ++ u ∷ []) ≡ codes ", "
 next_lead-snoc lead [] u = refl
@@ -47,11 +52,13 @@ pub has_any-snoc : (ts : List (List ℕ)) (u : List ℕ) → has_any (ts ++ u �
 has_any-snoc [] u = refl
 has_any-snoc (t ∷ ts) u = refl
 
-pub definitions_text-any : (operands : List Operand) → has_any (map operand_text operands) ≡ true → definitions_text operands ≡ listed_text [] (map operand_text operands) ++ codes " = "
+pub definitions_text-any : (operands : List Operand) → has_any (map operand_text operands) ≡ true →
+    definitions_text operands ≡ listed_text [] (map operand_text operands) ++ codes " = "
 definitions_text-any [] any = cc
 definitions_text-any (o ∷ os) any = refl
 
-pub definitions_text-none : (operands : List Operand) → has_any (map operand_text operands) ≡ false → definitions_text operands ≡ listed_text [] (map operand_text operands)
+pub definitions_text-none : (operands : List Operand) → has_any (map operand_text operands) ≡ false →
+    definitions_text operands ≡ listed_text [] (map operand_text operands)
 definitions_text-none [] none = refl
 definitions_text-none (o ∷ os) none = cc
 

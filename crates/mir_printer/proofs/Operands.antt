@@ -1,5 +1,6 @@
 -- The operands that a text stands for.
-use Rattle.std.proofs.Common.{◌≡◌, ℕ, ◌-◌, ◌^◌, ◌<◌, ◌≤◌, Bool, true, false, ◌&&◌, not, nat_eq, nat_lt, cond, List, [], ◌∷◌, ◌++◌, refl, sym, ap, ◌∙◌, append_assoc, arith}
+use Rattle.std.proofs.Common.{◌≡◌, ℕ, ◌-◌, ◌^◌, ◌<◌, ◌≤◌, Bool, true, false, ◌&&◌, not, nat_eq, nat_lt, cond, List, [], ◌∷◌, ◌++◌, refl, sym, ap, ◌∙◌}
+use Rattle.std.proofs.Common.{append_assoc, arith}
 use Rattle.std.specs.Prelude.{codes, map}
 use Rattle.std.specs.Fmt.{decimal}
 use Rattle.std.proofs.lemmas.Bool.{ltb-false, ne_eqb}
@@ -36,7 +37,8 @@ register_cases false false m n r s is others small other stop stops e =
     let same : m ≡ n = omega (arith, found.0, ltb-false m 32 is, ltb-false n 32 others) in
     (same, found.1)
 
-pub register_one : (m n : ℕ) (r s : List ℕ) → IsNumber m → IsNumber n → Stops is_digit r → Stops is_digit s → register_text m ++ r ≡ register_text n ++ s → (m ≡ n) × (r ≡ s)
+pub register_one : (m n : ℕ) (r s : List ℕ) → IsNumber m → IsNumber n → Stops is_digit r → Stops is_digit s → register_text m ++ r ≡ register_text n ++ s →
+    (m ≡ n) × (r ≡ s)
 register_one m n r s small other stop stops e = register_cases (nat_lt m 32) (nat_lt n 32) m n r s refl refl small other stop stops e
 
 -- ---- one operand
@@ -57,7 +59,8 @@ after_percent (b ∷ bs) = cond (nat_eq b 115) at_stack (cond (nat_eq b 98) at_b
 
 abbrev lead : List ℕ → Lead
 lead [] = at_number
-lead (b ∷ bs) = cond (nat_eq b 36) at_register (cond (nat_eq b 37) (after_percent bs) (cond (nat_eq b 64) at_symbol (cond (nat_eq b 109) at_mask (cond (nat_eq b 105) at_implicit at_number))))
+lead (b ∷ bs) = cond (nat_eq b 36) at_register (cond (nat_eq b 37) (after_percent bs)
+    (cond (nat_eq b 64) at_symbol (cond (nat_eq b 109) at_mask (cond (nat_eq b 105) at_implicit at_number))))
 
 abbrev lead_of : Operand → Lead
 lead_of (Def r) = at_register
@@ -76,7 +79,14 @@ digit_after b bs low high = rw (ne_eqb b 115 (λ e. omega arith), ne_eqb b 98 (�
 
 number_lead : (b : ℕ) (bs : List ℕ) → 45 ≤ b → b ≤ 57 → lead (b ∷ bs) ≡ at_number
 number_lead b bs low high =
-    rw (ne_eqb b 36 (λ e. omega arith), ne_eqb b 37 (λ e. omega arith), ne_eqb b 64 (λ e. omega arith), ne_eqb b 109 (λ e. omega arith), ne_eqb b 105 (λ e. omega arith)) refl
+    rw (
+      ne_eqb b 36 (λ e. omega arith),
+      ne_eqb b 37 (λ e. omega arith),
+      ne_eqb b 64 (λ e. omega arith),
+      ne_eqb b 109 (λ e. omega arith),
+      ne_eqb b 105
+          (λ e. omega arith),
+    ) refl
 
 register_lead : (p : Bool) (n : ℕ) (r : List ℕ) → IsNumber n → lead (register_by p n ++ r) ≡ at_register
 register_lead true n r small = refl
@@ -108,9 +118,11 @@ same_lead o p r s is others e = sym (lead_is o r is) ∙ (ap lead e ∙ lead_is 
 
 implicits : (m n : ℕ) (r s : List ℕ) → operand_text (ImplicitDef m) ++ r ≡ operand_text (ImplicitUse n) ++ s → ⊥
 implicits m n r s e =
-    apart 45 32 (codes "def " ++ (register_text m ++ r)) (register_text n ++ s) refl (front_one (codes "implicit") (codes "-def " ++ (register_text m ++ r)) (codes " " ++ (register_text n ++ s)) e)
+    apart 45 32 (codes "def " ++ (register_text m ++ r)) (register_text n ++ s) refl
+    (front_one (codes "implicit") (codes "-def " ++ (register_text m ++ r)) (codes " " ++ (register_text n ++ s)) e)
 
-stack_one : (m n : ℕ) (r s : List ℕ) → IsNumber m → IsNumber n → Follows r → Follows s → codes "%stack." ++ decimal m ++ r ≡ codes "%stack." ++ decimal n ++ s → (Slot m ≡ Slot n) × (r ≡ s)
+stack_one : (m n : ℕ) (r s : List ℕ) → IsNumber m → IsNumber n → Follows r → Follows s →
+    codes "%stack." ++ decimal m ++ r ≡ codes "%stack." ++ decimal n ++ s → (Slot m ≡ Slot n) × (r ≡ s)
 stack_one m n r s small other follow follows e =
     let tails : decimal m ++ r ≡ decimal n ++ s = cc in
     let found = number_one m n r s small other follow.digits follows.digits tails in (ap Slot found.0, found.1)
@@ -160,7 +172,8 @@ rest_text (o ∷ os) tail = codes ", " ++ (operand_text o ++ rest_text os tail)
 commas : (o : Operand) (os : List Operand) (tail : List ℕ) → comma_separated (map operand_text (o ∷ os)) ++ tail ≡ operand_text o ++ rest_text os tail
 commas o [] tail = refl
 commas o (p ∷ os) tail =
-    let grouped : comma_separated (map operand_text (o ∷ p ∷ os)) ++ tail ≡ operand_text o ++ (codes ", " ++ (comma_separated (map operand_text (p ∷ os)) ++ tail)) = simp append_assoc in
+    let grouped : comma_separated (map operand_text (o ∷ p ∷ os)) ++ tail ≡ operand_text o ++
+    (codes ", " ++ (comma_separated (map operand_text (p ∷ os)) ++ tail)) = simp append_assoc in
     grouped ∙ ap (λ (t : List ℕ). operand_text o ++ (codes ", " ++ t)) (commas p os tail)
 
 -- another operand comes: behind the comma and the blank no `d` stands

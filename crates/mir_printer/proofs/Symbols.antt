@@ -1,5 +1,6 @@
 -- The name that a symbol's text stands for.
-use Rattle.std.proofs.Common.{◌≡◌, ℕ, ◌/◌, ◌%◌, Bool, true, false, ◌&&◌, ◌||◌, not, nat_le, nat_eq, cond, List, [], ◌∷◌, ◌++◌, refl, sym, ap, ◌∙◌, append_assoc, arith}
+use Rattle.std.proofs.Common.{◌≡◌, ℕ, ◌/◌, ◌%◌, Bool, true, false, ◌&&◌, ◌||◌, not, nat_le, nat_eq, cond, List, [], ◌∷◌, ◌++◌, refl, sym, ap, ◌∙◌, append_assoc}
+use Rattle.std.proofs.Common.{arith}
 use Rattle.std.specs.List.{flat_map, list_all}
 use Rattle.std.proofs.lemmas.Bool.{and_parts}
 use Rattle.std.proofs.lemmas.Bool.Decides.{nat_tests}
@@ -67,7 +68,8 @@ not_quoted (b ∷ bs) r s is e =
 closed : (a r : List ℕ) → (a ++ 34 ∷ []) ++ r ≡ a ++ 34 ∷ r
 closed a r = append_assoc a (34 ∷ []) r
 
-name_one : (p q : Bool) (a b r s : List ℕ) → is_word a ≡ p → is_word b ≡ q → Stops is_bare r → Stops is_bare s → name_by p a ++ r ≡ name_by q b ++ s → (a ≡ b) × (r ≡ s)
+name_one : (p q : Bool) (a b r s : List ℕ) → is_word a ≡ p → is_word b ≡ q → Stops is_bare r → Stops is_bare s → name_by p a ++ r ≡ name_by q b ++ s →
+    (a ≡ b) × (r ≡ s)
 name_one true true a b r s is others stop stops e =
     run_one is_bare a b r s (and_parts (not (is_empty a)) (list_all is_bare a) is).1 (and_parts (not (is_empty b)) (list_all is_bare b) others).1 stop stops e
 name_one true false a b r s is others stop stops e = absurd (not_quoted a r ((flat_map quoted_byte b ++ 34 ∷ []) ++ s) is e)

@@ -1,5 +1,6 @@
 -- The one spelling of an item (LLVM, Machine IR (MIR) Format Reference Manual, "Machine Instructions").
-use Rattle.std.specs.Prelude.{ℕ, ◌+◌, ◌-◌, ◌*◌, ◌/◌, ◌%◌, Bool, true, false, cond, ◌&&◌, ◌||◌, not, nat_eq, nat_le, nat_lt, List, [], ◌∷◌, ◌++◌, Option, Some, None, codes, filter, map}
+use Rattle.std.specs.Prelude.{ℕ, ◌+◌, ◌-◌, ◌*◌, ◌/◌, ◌%◌, Bool, true, false, cond, ◌&&◌, ◌||◌, not, nat_eq, nat_le, nat_lt, List, [], ◌∷◌, ◌++◌, Option, Some}
+use Rattle.std.specs.Prelude.{None, codes, filter, map}
 use Rattle.std.specs.List.{flat_map, list_all}
 use Rattle.std.specs.Fmt.{decimal, signed_decimal}
 use Rattle.rv64_instr.specs.declared.operand.Operand.{Operand}
@@ -27,7 +28,8 @@ comma_separated (t ∷ u ∷ rest) = t ++ codes ", " ++ comma_separated (u ∷ r
 
 -- a letter, a digit, `_`, `.`, `-` or `$`
 abbrev pub is_bare : ℕ → Bool
-is_bare b = (nat_le 65 b && nat_le b 90) || (nat_le 97 b && nat_le b 122) || (nat_le 48 b && nat_le b 57) || nat_eq b 95 || nat_eq b 46 || nat_eq b 45 || nat_eq b 36
+is_bare b = (nat_le 65 b && nat_le b 90) || (nat_le 97 b && nat_le b 122) ||
+    (nat_le 48 b && nat_le b 57) || nat_eq b 95 || nat_eq b 46 || nat_eq b 45 || nat_eq b 36
 
 -- a hexadecimal digit, upper case
 abbrev pub upper_hex_digit : ℕ → ℕ
@@ -129,10 +131,13 @@ mark_text v (Constant c) = value_mark_text (signed_decimal c) v
 mark_text v (At r) = value_mark_text (register_text r) v
 mark_text v (Pair q) = pair_mark_text v q
 
+abbrev pub phi_text : Option Place → ℕ → List ℕ
+phi_text p k = codes "DBG_PHI " ++ phi_place_text p ++ codes ", " ++ decimal k
+
 abbrev pub kind_text : ItemKind → List ℕ
 kind_text (Code i k) = instruction_text i ++ number_text k
 kind_text (Mark v m) = mark_text v m
-kind_text (Phi p k) = codes "DBG_PHI " ++ phi_place_text p ++ codes ", " ++ decimal k
+kind_text (Phi p k) = phi_text p k
 
 abbrev pub inlined_at_text : Option ℕ → List ℕ
 inlined_at_text None = []
@@ -141,7 +146,8 @@ inlined_at_text (Some n) = codes ", inlinedAt: !" ++ decimal n
 abbrev pub location_text : Loc → List ℕ
 location_text Absent = []
 location_text (Node n) = codes ", debug-location !" ++ decimal n
-location_text (Inline l) = codes ", debug-location !DILocation(line: " ++ decimal l.line ++ codes ", column: " ++ decimal l.column ++ codes ", scope: !" ++ decimal l.scope ++ inlined_at_text l.inlined_at ++ codes ")"
+location_text (Inline l) = codes ", debug-location !DILocation(line: " ++ decimal l.line ++ codes ", column: " ++ decimal l.column ++ codes ", scope: !" ++
+    decimal l.scope ++ inlined_at_text l.inlined_at ++ codes ")"
 
 -- the item on its line
 abbrev pub item_text : Item → List ℕ

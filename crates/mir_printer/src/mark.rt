@@ -10,6 +10,7 @@ ghost use Rattle.mir_printer.specs.Spelling.{
   pair_expression_text,
   pair_mark_text,
   phi_place_text,
+  phi_text,
   register_text,
   value_mark_text,
   variable_text,
@@ -142,7 +143,7 @@ pub(crate) fn push_phi(
     place: &Option<Place>,
     number: &DebugNumber,
 ) -> Result<(), AllocError>
-    ensures ok { OnOk result (text.new ≡ text.old ++ (codes "DBG_PHI " ++ phi_place_text place.now ++ codes ", " ++ decimal number.now)) }
+    ensures ok { OnOk result (text.new ≡ text.old ++ phi_text place.now number.now) }
     ensures err { OnErr result (GrownFrom text.old text.new) }
 {
     push_str(text, "DBG_PHI ")?;

@@ -34,6 +34,7 @@ spelled slices value = fold (λ word s. word * 2 ^ s.width + bits_of s (value s.
 abbrev pub width_of : List Slice → ℕ
 width_of slices = sum_by (λ s. s.width) slices
 
+-- the two are one field
 abbrev pub same_field : Field → Field → Bool
 same_field Opcode Opcode = true
 same_field Rd Rd = true

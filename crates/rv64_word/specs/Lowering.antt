@@ -18,34 +18,39 @@ use Rattle.rv64_word.specs.declared.word_op.WordOp.{WordOp}
 use Rattle.rv64_word.specs.declared.word_op.WordOp.TheVariants.{Registers, Immediate, Lui, Branch, Load, Store, Jal, Jalr}
 use Rattle.rv64_word.specs.MachineOp.{is_encodable}
 
+-- the machine operation of these fields
 abbrev pub machine_op : WordOp → (rd rs1 rs2 : ℕ) → ℤ → MachineOp
 machine_op op rd rs1 rs2 imm = record { op = op; rd = rd; rs1 = rs1; rs2 = rs2; imm = imm }
 
+-- `rd = OP rs1, rs2`
 abbrev pub register_fields : RegisterOp → List Operand → Option MachineOp
 register_fields op (Def rd ∷ Use a ∷ Use b ∷ rest) = Some (machine_op (Registers op) rd a b (pos 0))
 register_fields op _ = None
 
--- the address of a stack object plus a number is x2's content plus the object's offset from it and the number
+-- `rd = OP rs1, imm`. The address of a stack object plus a number is x2's content plus the object's offset from it and the number
 abbrev pub immediate_fields : ImmediateOp → List Operand → (object : ℕ) → Option MachineOp
 immediate_fields op (Def rd ∷ Use a ∷ Imm i ∷ rest) object = Some (machine_op (Immediate op) rd a 0 i)
 immediate_fields op (Def rd ∷ Object n ∷ Imm i ∷ rest) object = Some (machine_op (Immediate Addi) rd 2 0 (pos object +ℤ i))
 immediate_fields op _ object = None
 
+-- `rd = LUI imm`
 abbrev pub upper_fields : List Operand → Option MachineOp
 upper_fields (Def rd ∷ Imm i ∷ rest) = Some (machine_op Lui rd 0 0 i)
 upper_fields _ = None
 
+-- `OP rs1, rs2, %bb.N`, where the block has an offset from the instruction
 abbrev pub branch_fields : BranchOp → List Operand → (offset : ℤ) → Option MachineOp
 branch_fields op (Use a ∷ Use b ∷ Block n ∷ rest) offset = Some (machine_op (Branch op) 0 a b offset)
 branch_fields op _ offset = None
 
--- a frame slot's number is its offset from x2
+-- a load. A frame slot's number is its offset from x2, and a stack object has one
 abbrev pub load_fields : LoadOp → List Operand → (object : ℕ) → Option MachineOp
 load_fields op (Def rd ∷ Use base ∷ Imm i ∷ rest) object = Some (machine_op (Load op) rd base 0 i)
 load_fields op (Def rd ∷ Slot n ∷ rest) object = Some (machine_op (Load Ld) rd 2 0 (pos n))
 load_fields op (Def rd ∷ Object n ∷ Imm i ∷ rest) object = Some (machine_op (Load op) rd 2 0 (pos object +ℤ i))
 load_fields op _ object = None
 
+-- a store, likewise
 abbrev pub store_fields : StoreOp → List Operand → (object : ℕ) → Option MachineOp
 store_fields op (Use rs ∷ Use base ∷ Imm i ∷ rest) object = Some (machine_op (Store op) 0 base rs i)
 store_fields op (Use rs ∷ Slot n ∷ rest) object = Some (machine_op (Store Sd) 0 2 rs (pos n))

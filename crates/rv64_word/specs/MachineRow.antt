@@ -48,7 +48,7 @@ row_as Jalr address m = LinksTo m.rd m.rs1 (word m.imm)
 abbrev pub machine_row : (address : ℕ) → MachineOp → MachineRow
 machine_row address m = row_as m.op address m
 
--- the stack object that a base is
+-- the stack object that an access counts its offset from
 abbrev pub base_object : Base → Option ℕ
 base_object (PointedBy r) = None
 base_object (ObjectAt n) = Some n
@@ -73,16 +73,19 @@ object_named Unfit = None
 abbrev pub from_object : (object offset : ℕ) → ℕ
 from_object object offset = (object + offset) % 2 ^ 64
 
+-- a load in memory, whose stack object has an offset from x2
 abbrev pub placed_load : (object rd : ℕ) → LoadOp → Base → (offset : ℕ) → Row
 placed_load object rd op (PointedBy r) offset = Loads rd op (PointedBy r) offset
 placed_load object rd op (ObjectAt n) offset = Loads rd op (PointedBy 2) (from_object object offset)
 
+-- a store in memory, likewise
 abbrev pub placed_store : (object : ℕ) → StoreOp → (rs : ℕ) → Base → (offset : ℕ) → Row
 placed_store object op rs (PointedBy r) offset = Stores op rs (PointedBy r) offset
 placed_store object op rs (ObjectAt n) offset = Stores op rs (PointedBy 2) (from_object object offset)
 
 -- the row of an instruction in memory: its target has an address, its stack object an offset from x2, and a frame slot's
--- number is its offset from x2. A return goes to x1's content. A call, which has two words, has none of its own
+-- number is its offset from x2. A return goes to x1's content. A call has two words,
+-- neither of which has its row
 abbrev pub placed : (target object : ℕ) → Row → MachineRow
 placed target object (Fixes rd n) = Does (Fixes rd n)
 placed target object (Moves rd rs) = Does (Moves rd rs)

@@ -1,5 +1,6 @@
 -- Chains that end, by the number of their entries.
-use Rattle.std.proofs.Common.{◌≡◌, ℕ, ◌≤◌, ◌<◌, ◌+◌, ◌-◌, List, [], ◌∷◌, length, Option, Some, None, Bool, true, false, cond, refl, sym, ap, subst, arith, ◌∙◌, zero, suc, inl, inr}
+use Rattle.std.proofs.Common.{◌≡◌, ℕ, ◌≤◌, ◌<◌, ◌+◌, ◌-◌, List, [], ◌∷◌, length, Option, Some, None, Bool, true, false, cond, refl, sym, ap, subst, arith, ◌∙◌}
+use Rattle.std.proofs.Common.{zero, suc, inl, inr}
 use Rattle.std.specs.Prelude.{nat_eq}
 use Rattle.std.proofs.lemmas.Bool.{cases_Bool, eqb-true, eq-eqb}
 use Rattle.mir_func.specs.declared.entry.OperandPair.{OperandPair}
@@ -10,20 +11,25 @@ use Rattle.substitution.proofs.Entries.{is_pair-true, entry_of-later}
 -- one look-up of a chain
 pub chain_end-none : (subs : List Entry) (n : ℕ) (q : OperandPair) → entry_of subs q ≡ None → chain_end subs n q ≡ Some q
 chain_end-none subs zero q h = ap (λ (o : Option Entry). elim o as (λ _. Option OperandPair) [ None ↦ Some q | Some e ↦ None ]) h
-chain_end-none subs (suc n) q h = ap (λ (o : Option Entry). elim o as (λ _. Option OperandPair) [ None ↦ Some q | Some e ↦ cond (nat_eq e.subreg 0) (chain_end subs n e.dst) None ]) h
+chain_end-none subs (suc n) q h = ap (λ (o : Option Entry). elim o as (λ _. Option OperandPair)
+    [ None ↦ Some q | Some e ↦ cond (nat_eq e.subreg 0) (chain_end subs n e.dst) None ]) h
 
 pub chain_end-zero : (subs : List Entry) (q : OperandPair) (e : Entry) → entry_of subs q ≡ Some e → chain_end subs zero q ≡ None
 chain_end-zero subs q e h = ap (λ (o : Option Entry). elim o as (λ _. Option OperandPair) [ None ↦ Some q | Some e ↦ None ]) h
 
-pub chain_end-some : (subs : List Entry) (n : ℕ) (q : OperandPair) (e : Entry) → entry_of subs q ≡ Some e → chain_end subs (suc n) q ≡ cond (nat_eq e.subreg 0) (chain_end subs n e.dst) None
-chain_end-some subs n q e h = ap (λ (o : Option Entry). elim o as (λ _. Option OperandPair) [ None ↦ Some q | Some e ↦ cond (nat_eq e.subreg 0) (chain_end subs n e.dst) None ]) h
+pub chain_end-some : (subs : List Entry) (n : ℕ) (q : OperandPair) (e : Entry) → entry_of subs q ≡ Some e →
+    chain_end subs (suc n) q ≡ cond (nat_eq e.subreg 0) (chain_end subs n e.dst) None
+chain_end-some subs n q e h = ap (λ (o : Option Entry). elim o as (λ _. Option OperandPair)
+    [ None ↦ Some q | Some e ↦ cond (nat_eq e.subreg 0) (chain_end subs n e.dst) None ]) h
 
 -- a chain that goes on over an entry
-pub chain_end-goes : (subs : List Entry) (n : ℕ) (q : OperandPair) (e : Entry) → entry_of subs q ≡ Some e → e.subreg ≡ 0 → chain_end subs (suc n) q ≡ chain_end subs n e.dst
+pub chain_end-goes : (subs : List Entry) (n : ℕ) (q : OperandPair) (e : Entry) → entry_of subs q ≡ Some e → e.subreg ≡ 0 →
+    chain_end subs (suc n) q ≡ chain_end subs n e.dst
 chain_end-goes subs n q e h z = chain_end-some subs n q e h ∙ ap (λ (b : Bool). cond b (chain_end subs n e.dst) None) (eq-eqb e.subreg 0 z)
 
 -- a chain that meets an entry for a part of a register
-pub chain_end-part : (subs : List Entry) (n : ℕ) (q : OperandPair) (e : Entry) → entry_of subs q ≡ Some e → nat_eq e.subreg 0 ≡ false → chain_end subs n q ≡ None
+pub chain_end-part : (subs : List Entry) (n : ℕ) (q : OperandPair) (e : Entry) → entry_of subs q ≡ Some e → nat_eq e.subreg 0 ≡ false →
+    chain_end subs n q ≡ None
 chain_end-part subs zero q e h z = chain_end-zero subs q e h
 chain_end-part subs (suc n) q e h z = chain_end-some subs n q e h ∙ ap (λ (b : Bool). cond b (chain_end subs n e.dst) None) z
 
@@ -58,7 +64,8 @@ entry_of-without q p (e ∷ es) h =
           let other : is_pair e.src p ≡ false = ap (λ (x : OperandPair). is_pair x p) (is_pair-true e.src q t) ∙ h in
           ap (λ (b : Bool). entry_of (cond b (without q es) (e ∷ without q es)) p) t ∙ entry_of-without q p es h ∙ sym (entry_of-later e es p other)
       | inr f ↦
-          ap (λ (b : Bool). entry_of (cond b (without q es) (e ∷ without q es)) p) f ∙ ap (λ (o : Option Entry). cond (is_pair e.src p) (Some e) o) (entry_of-without q p es h)
+          ap (λ (b : Bool). entry_of (cond b (without q es) (e ∷ without q es)) p) f ∙ ap (λ (o : Option Entry). cond (is_pair e.src p) (Some e) o)
+          (entry_of-without q p es h)
     ]
 
 length-without : (q : OperandPair) (subs : List Entry) → length (without q subs) ≤ length subs
@@ -90,7 +97,8 @@ apart subs q r m p a never =
     ]
 
 -- nor does it need its entries
-EndsIn-without : (subs : List Entry) (q r : OperandPair) (m : ℕ) (p : OperandPair) → EndsIn subs m p r → ((k : ℕ) → k ≤ m → EndsIn subs k q r → ⊥) → is_pair q p ≡ false → EndsIn (without q subs) m p r
+EndsIn-without : (subs : List Entry) (q r : OperandPair) (m : ℕ) (p : OperandPair) → EndsIn subs m p r → ((k : ℕ) → k ≤ m → EndsIn subs k q r → ⊥) →
+    is_pair q p ≡ false → EndsIn (without q subs) m p r
 EndsIn-without subs q r zero p (h, w) never f = (entry_of-without q p subs f ∙ h, w)
 EndsIn-without subs q r (suc m) p (e, h, z, a) never f =
     let later : (k : ℕ) → k ≤ m → EndsIn subs k q r → ⊥ = λ k le b. never k (omega arith) b in
@@ -142,7 +150,8 @@ ends_resolve subs q r h =
     chain_end-found subs a.0 (length subs) q r (EndsIn-short a.0 subs q r a.1) a.1
 
 -- one turn of the loop that follows a chain
-pub chain_end-turn : (subs : List Entry) (q : OperandPair) (e : Entry) (i n : ℕ) (t : Option OperandPair) → i < n → entry_of subs q ≡ Some e → e.subreg ≡ 0 → chain_end subs (n - i) q ≡ t → chain_end subs (n - (i + 1)) e.dst ≡ t
+pub chain_end-turn : (subs : List Entry) (q : OperandPair) (e : Entry) (i n : ℕ) (t : Option OperandPair) → i < n → entry_of subs q ≡ Some e → e.subreg ≡ 0 →
+    chain_end subs (n - i) q ≡ t → chain_end subs (n - (i + 1)) e.dst ≡ t
 chain_end-turn subs q e i n t lt h z k =
     let one : n - i ≡ suc (n - (i + 1)) = omega arith in
     sym (chain_end-goes subs (n - (i + 1)) q e h z) ∙ ap (λ (m : ℕ). chain_end subs m q) (sym one) ∙ k

@@ -24,7 +24,8 @@ pub entry_of-first : (x : Entry) (xs : List Entry) (q : OperandPair) → is_pair
 entry_of-first x xs q h = ap (λ (b : Bool). cond b (Some x) (entry_of xs q)) h
 
 -- an entry whose source is new
-pub entry_of-push : (xs : List Entry) (e : Entry) (q : OperandPair) → entry_of xs e.src ≡ None → entry_of (xs ++ e ∷ []) q ≡ cond (is_pair e.src q) (Some e) (entry_of xs q)
+pub entry_of-push : (xs : List Entry) (e : Entry) (q : OperandPair) → entry_of xs e.src ≡ None →
+    entry_of (xs ++ e ∷ []) q ≡ cond (is_pair e.src q) (Some e) (entry_of xs q)
 entry_of-push [] e q h = refl
 entry_of-push (x ∷ xs) e q h =
     elim (cases_Bool (is_pair x.src e.src)) [
@@ -44,10 +45,12 @@ entry_of-push (x ∷ xs) e q h =
     ]
 
 -- an index with one more entry
-pub indexed-push : (xs ys : List Entry) (e : Entry) (m n : OperandPair → Option Entry) → ((q : OperandPair) → m q ≡ entry_of xs q) → is_some (m e.src) ≡ false → ((q : OperandPair) → n q ≡ cond (is_pair e.src q) (Some e) (m q)) → ys ≡ xs ++ e ∷ [] → (q : OperandPair) → n q ≡ entry_of ys q
+pub indexed-push : (xs ys : List Entry) (e : Entry) (m n : OperandPair → Option Entry) → ((q : OperandPair) → m q ≡ entry_of xs q) →
+    is_some (m e.src) ≡ false → ((q : OperandPair) → n q ≡ cond (is_pair e.src q) (Some e) (m q)) → ys ≡ xs ++ e ∷ [] → (q : OperandPair) → n q ≡ entry_of ys q
 indexed-push xs ys e m n known absent put more q =
     let new : entry_of xs e.src ≡ None = is_some-false (entry_of xs e.src) (ap is_some (sym (known e.src)) ∙ absent) in
-    put q ∙ ap (λ (o : Option Entry). cond (is_pair e.src q) (Some e) o) (known q) ∙ sym (entry_of-push xs e q new) ∙ ap (λ (zs : List Entry). entry_of zs q) (sym more)
+    put q ∙ ap (λ (o : Option Entry). cond (is_pair e.src q) (Some e) o) (known q) ∙ sym (entry_of-push xs e q new) ∙ ap (λ (zs : List Entry). entry_of zs q)
+    (sym more)
   where
     is_some-false : (o : Option Entry) → is_some o ≡ false → o ≡ None
     is_some-false None h = refl

@@ -13,8 +13,11 @@ returns-in_default-2-clause-none c = no_lines HEADER.now c.args.text.now c.in-So
 
 pub returns-then-branch-clause-found : goal.returns-then-branch-clause-found
 returns-then-branch-clause-found c =
-    first_from HEADER.now c.args.text.now c.in-Some.body.now c.in-Some-2.lines.items c.in-Some.ensures (rw c.in-Some-2.is at c.in_ok-lines.ensures) (subst KeepsLimits c.as_slice.ensures.value (c.in_ok-keeps_limits.ensures.0 c.if-branch.true))
+    first_from HEADER.now c.args.text.now c.in-Some.body.now c.in-Some-2.lines.items c.in-Some.ensures (rw c.in-Some-2.is at c.in_ok-lines.ensures)
+    (subst KeepsLimits c.as_slice.ensures.value (c.in_ok-keeps_limits.ensures.0 c.if-branch.true))
 
 pub returns-else-branch-clause-none : goal.returns-else-branch-clause-none
 returns-else-branch-clause-none c =
-    no_limits HEADER.now c.args.text.now c.in-Some.body.now c.in-Some-2.lines.items c.in-Some.ensures (rw c.in-Some-2.is at c.in_ok-lines.ensures) (λ limits. both_ways c.in_ok-keeps_limits.field-0 c.if-branch.false (c.in_ok-keeps_limits.ensures.1 (subst KeepsLimits (sym c.as_slice.ensures.value) limits)))
+    no_limits HEADER.now c.args.text.now c.in-Some.body.now c.in-Some-2.lines.items c.in-Some.ensures (rw c.in-Some-2.is at c.in_ok-lines.ensures)
+    (λ limits. both_ways c.in_ok-keeps_limits.field-0 c.if-branch.false
+    (c.in_ok-keeps_limits.ensures.1 (subst KeepsLimits (sym c.as_slice.ensures.value) limits)))

@@ -12,5 +12,6 @@ use Rattle.mir_func.proofs.object_sizes.sizes_of.Goals as goal
 pub returns : goal.returns
 returns c =
     let made = fact_from_collect (IsFromIterResult nat_cmp) c.collect.result c.collect.ensures.ran
-    (YieldsList-from_map _ size_pair (YieldsList-at c.map.ensures.source (YieldsList-from_rev_slice c.args.objects.now (rw c.rev.ensures.source c.iter.ensures.rest))) c.map.ensures.closure (λ x r q k. search rules)) in
+    (YieldsList-from_map _ size_pair (YieldsList-at c.map.ensures.source
+    (YieldsList-from_rev_slice c.args.objects.now (rw c.rev.ensures.source c.iter.ensures.rest))) c.map.ensures.closure (λ x r q k. search rules)) in
     IfOk-weaker c.collect.result _ (AreSizes c.args.objects.now) (λ m h q. h.0 q ∙ sizes_found c.args.objects.now q) made

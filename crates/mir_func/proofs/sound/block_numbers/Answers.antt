@@ -6,4 +6,5 @@ use Rattle.mir_func.proofs.sound.block_numbers.Goals as goal
 pub returns : goal.returns
 returns c =
     items_from_collect _ c.collect.ensures.ran
-    (YieldsList-from_map _ (λ b. b.id) (YieldsList-at c.map.ensures.source (YieldsList-from_slice c.args.blocks.now c.iter.ensures.rest)) c.map.ensures.closure (λ x r q k. search rules))
+    (YieldsList-from_map _ (λ b. b.id) (YieldsList-at c.map.ensures.source
+    (YieldsList-from_slice c.args.blocks.now c.iter.ensures.rest)) c.map.ensures.closure (λ x r q k. search rules))

@@ -13,11 +13,13 @@ loop-i-preserved c =
     elim c.match-code_number.branch [
       | in-Some+in_ok-push w ↦
           let o : code_number c.i-item.result.kind ≡ Some w.in-Some.k = sym c.code_number.ensures ∙ w.in-Some.is in
-          let pushed : c.match-code_number.numbers.items ≡ ns ++ w.in-Some.k ∷ [] = ap (λ (v : Vec ℕ Global). v.items) w.numbers-is ∙ (w.in_ok-push.ensures.items ∙ ap (λ (k : ℕ). ns ++ k ∷ []) w.number.ensures) in
+          let pushed : c.match-code_number.numbers.items ≡ ns ++ w.in-Some.k ∷ [] = ap (λ (v : Vec ℕ Global). v.items) w.numbers-is ∙
+          (w.in_ok-push.ensures.items ∙ ap (λ (k : ℕ). ns ++ k ∷ []) w.number.ensures) in
           pushed ∙ ap (λ (x : Option ℕ). ns ++ cons_option x []) (sym o)
       | in_default w ↦
           let o : code_number c.i-item.result.kind ≡ None = sym c.code_number.ensures ∙ w.in_default.is in
           let same : c.match-code_number.numbers.items ≡ ns ++ [] = ap (λ (v : Vec ℕ Global). v.items) w.numbers-is ∙ sym (append-nil ns) in
           same ∙ ap (λ (x : Option ℕ). ns ++ cons_option x []) (sym o)
     ] in
-    filter_map_turn (λ (x : Item). code_number x.kind) c.args.items.now c.loop-i.i-index c.i-item.result ns c.match-code_number.numbers.items _ (omega arith) c.i-item.is c.loop-i.invariant more
+    filter_map_turn (λ (x : Item). code_number x.kind) c.args.items.now c.loop-i.i-index c.i-item.result ns c.match-code_number.numbers.items _
+    (omega arith) c.i-item.is c.loop-i.invariant more

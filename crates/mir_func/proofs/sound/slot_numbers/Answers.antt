@@ -7,5 +7,6 @@ use Rattle.mir_func.proofs.sound.slot_numbers.Goals as goal
 pub returns : goal.returns
 returns c =
     let numbers = items_from_collect _ c.collect.ensures.ran
-    (YieldsList-from_map _ (λ n. n) (YieldsList-at c.map.ensures.source (YieldsList-from_slice c.args.slots.now c.iter.ensures.rest)) c.map.ensures.closure (λ x r q k. search rules)) in
+    (YieldsList-from_map _ (λ n. n) (YieldsList-at c.map.ensures.source (YieldsList-from_slice c.args.slots.now c.iter.ensures.rest)) c.map.ensures.closure
+    (λ x r q k. search rules)) in
     rw map-id at numbers

@@ -20,4 +20,5 @@ loop-i-preserved c =
           let same : c.match-branch-2.stripped ≡ so_far ++ [] = w.stripped-is ∙ sym (append-nil so_far) in
           same ∙ ap (λ (x : Option Item). so_far ++ cons_option x []) (sym o)
     ] in
-    filter_map_turn stripped_item c.args.items.now c.loop-i.i-index c.i-item.result so_far c.match-branch-2.stripped [] (omega arith) c.i-item.is c.loop-i.invariant more
+    filter_map_turn stripped_item c.args.items.now c.loop-i.i-index c.i-item.result so_far c.match-branch-2.stripped []
+    (omega arith) c.i-item.is c.loop-i.invariant more

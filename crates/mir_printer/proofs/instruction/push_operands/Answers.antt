@@ -24,7 +24,16 @@ loop-operand-preserved c =
           let first = append_assoc c.args.text.now (listed_text lead done) (next_lead lead done ++ text) in
           let second = append_assoc (c.args.text.now ++ listed_text lead done) (next_lead lead done) text in
           record {
-            text = cc (listed, first, second, w.in_ok-push_str.ensures.ok, w.in_ok-push_operand.ensures.ok, c.loop-operand.invariant.text, c.loop-operand.invariant.lead, w.text-is);
+            text = cc (
+              listed,
+              first,
+              second,
+              w.in_ok-push_str.ensures.ok,
+              w.in_ok-push_operand.ensures.ok,
+              c.loop-operand.invariant.text,
+              c.loop-operand.invariant.lead,
+              w.text-is,
+            );
             lead = ap (λ b. b.now) w.next_lead-is ∙ sym (ap (λ ts. next_lead lead ts) more ∙ next_lead-snoc lead done text);
             any = w.any-is ∙ sym (ap (λ ts. has_any ts) more ∙ has_any-snoc done text);
           }

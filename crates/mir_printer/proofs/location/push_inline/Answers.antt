@@ -16,6 +16,8 @@ returns-clause-ok c =
     (joined c.args.text.now c.push_numbered-3.new.text c.push_inlined_at.new.text ((line ++ column) ++ scope) inlined_at
     (joined c.args.text.now c.push_numbered-2.new.text c.push_numbered-3.new.text (line ++ column) scope
     (joined c.args.text.now c.push_numbered.new.text c.push_numbered-2.new.text line column c.in_ok-push_numbered.ensures.ok c.in_ok-push_numbered-2.ensures.ok)
-    (numbered c.push_numbered-2.new.text c.push_numbered-3.new.text (codes ", scope: !") c.number.result c.args.inline.now.scope c.in_ok-push_numbered-3.ensures.ok c.number.ensures))
+    (numbered c.push_numbered-2.new.text c.push_numbered-3.new.text
+    (codes ", scope: !") c.number.result c.args.inline.now.scope c.in_ok-push_numbered-3.ensures.ok c.number.ensures))
     c.in_ok-push_inlined_at.ensures.ok)
-    c.push_str.ensures.ok (labelled_more (codes ", debug-location !DILocation(line: ") (decimal c.args.inline.now.line) (codes ", column: ") (decimal c.args.inline.now.column) (codes ", scope: !") (decimal c.args.inline.now.scope) inlined_at (codes ")"))
+    c.push_str.ensures.ok (labelled_more (codes ", debug-location !DILocation(line: ") (decimal c.args.inline.now.line) (codes ", column: ")
+    (decimal c.args.inline.now.column) (codes ", scope: !") (decimal c.args.inline.now.scope) inlined_at (codes ")"))

@@ -16,7 +16,8 @@ returns-clause-ok c =
     let expression = pair_expression_text v.fragment in
     let number = reference ++ decimal q.number in
     let operand = comma ++ decimal q.operand in
-    ended c.push_str-2.result old c.push_numbered-3.new.text c.push_str-2.new.text ((((node ++ comma) ++ expression) ++ number) ++ operand) (codes ")") (pair_mark_text v q)
+    ended c.push_str-2.result old c.push_numbered-3.new.text c.push_str-2.new.text ((((node ++ comma) ++ expression) ++ number) ++ operand) (codes ")")
+    (pair_mark_text v q)
     (joined old c.push_numbered-2.new.text c.push_numbered-3.new.text (((node ++ comma) ++ expression) ++ number) operand
     (joined old c.push_pair_expression.new.text c.push_numbered-2.new.text ((node ++ comma) ++ expression) number
     (joined old c.push_str.new.text c.push_pair_expression.new.text (node ++ comma) expression
@@ -24,7 +25,8 @@ returns-clause-ok c =
     (numbered old c.push_numbered.new.text start c.number.result v.node c.in_ok-push_numbered.ensures.ok c.number.ensures)
     c.in_ok-push_str.ensures.ok)
     c.in_ok-push_pair_expression.ensures.ok)
-    (numbered c.push_pair_expression.new.text c.push_numbered-2.new.text reference c.number-2.result q.number c.in_ok-push_numbered-2.ensures.ok c.number-2.ensures))
+    (numbered c.push_pair_expression.new.text c.push_numbered-2.new.text reference c.number-2.result q.number
+    c.in_ok-push_numbered-2.ensures.ok c.number-2.ensures))
     (numbered c.push_numbered-2.new.text c.push_numbered-3.new.text comma c.number-3.result q.operand c.in_ok-push_numbered-3.ensures.ok c.number-3.ensures))
     c.push_str-2.ensures.ok
     (labelled_pair start (decimal v.node) comma expression reference (decimal q.number) comma (decimal q.operand) (codes ")"))

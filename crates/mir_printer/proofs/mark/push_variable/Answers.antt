@@ -9,7 +9,8 @@ returns-clause-ok c =
     let v = c.args.variable.now in
     let label = codes ", $noreg, !" in
     let node = label ++ decimal v.node in
-    ended c.push_expression.result c.args.text.now c.push_str.new.text c.push_expression.new.text (node ++ codes ", ") (expression_text v.fragment) (variable_text v)
+    ended c.push_expression.result c.args.text.now c.push_str.new.text c.push_expression.new.text (node ++ codes ", ") (expression_text v.fragment)
+    (variable_text v)
     (joined c.args.text.now c.push_numbered.new.text c.push_str.new.text node (codes ", ")
     (numbered c.args.text.now c.push_numbered.new.text label c.number.result v.node c.in_ok-push_numbered.ensures.ok c.number.ensures)
     c.in_ok-push_str.ensures.ok)
