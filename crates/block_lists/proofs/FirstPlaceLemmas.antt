@@ -19,11 +19,13 @@ pub record AtCode (v : VarId) (n : ℕ) (t : Tokens) (i : Item) (items : List It
   pub is_first : IsFirstPlace v t first
   pub walk : FirstPlaces v (suc n) (after_item unchanged n i.kind t) items rest
 
-pub walk_at_code : {v : VarId} {n : ℕ} {t : Tokens} {i : Item} {items : List Item} {places : List (Option Place)} → is_code i.kind ≡ true → FirstPlaces v n t (i ∷ items) places → AtCode v n t i items places
+pub walk_at_code : {v : VarId} {n : ℕ} {t : Tokens} {i : Item} {items : List Item} {places : List (Option Place)} → is_code i.kind ≡ true →
+    FirstPlaces v n t (i ∷ items) places → AtCode v n t i items places
 walk_at_code e (at_code {p = p} {places = ps} c f w) = record { first = p; rest = ps; both = refl; is_first = f; walk = w }
 walk_at_code e (at_mark c w) = absurd cc
 
-pub walk_at_mark : {v : VarId} {n : ℕ} {t : Tokens} {i : Item} {items : List Item} {places : List (Option Place)} → is_code i.kind ≡ false → FirstPlaces v n t (i ∷ items) places
+pub walk_at_mark : {v : VarId} {n : ℕ} {t : Tokens} {i : Item} {items : List Item} {places : List (Option Place)} → is_code i.kind ≡ false →
+    FirstPlaces v n t (i ∷ items) places
     → FirstPlaces v (suc n) (after_item unchanged n i.kind t) items places
 walk_at_mark e (at_code c f w) = absurd cc
 walk_at_mark e (at_mark c w) = w
@@ -33,7 +35,8 @@ walk_at_mark e (at_mark c w) = w
 pick : (m n : ℕ) → (m < n → ⊥) → (n < m → ⊥) → m ≡ n
 pick m n h k = omega (arith, h, k)
 
-token_one : (v : VarId) (t : Tokens) (p q : Place) (a b : Option Token) → Holds v t p → Holds v t q → place_token (Some p) t ≡ a → place_token (Some q) t ≡ b → a ≡ b
+token_one : (v : VarId) (t : Tokens) (p q : Place) (a b : Option Token) → Holds v t p → Holds v t q → place_token (Some p) t ≡ a →
+    place_token (Some q) t ≡ b → a ≡ b
 token_one v t p q a b h k at_p at_q =
     let same : Some h.token ≡ Some k.token = sym h.variable ∙ k.variable in
     sym at_p ∙ (h.held ∙ (same ∙ (sym k.held ∙ at_q)))
@@ -51,7 +54,8 @@ pub first_one : (v : VarId) (t : Tokens) (p q : Place) → IsFirstPlace v t (Som
 first_one v t (Register r) (Register s) f g = ap Register (pick r s (λ less. g.2 (Register r) f.0 less f.1) (λ less. f.2 (Register s) g.0 less g.1))
 first_one v t (Slot m) (Slot n) f g = ap Slot (pick m n (λ less. g.2 (Slot m) f.0 less f.1) (λ less. f.2 (Slot n) g.0 less g.1))
 first_one v t (Const a) (Const b) f g =
-    ap Const (word_one a b f.0 g.0 (fixed_one (word a) (word b) (token_one v t (Const a) (Const b) (Some (Fixed (word a))) (Some (Fixed (word b))) f.1 g.1 refl refl)))
+    ap Const (word_one a b f.0 g.0 (fixed_one (word a) (word b)
+    (token_one v t (Const a) (Const b) (Some (Fixed (word a))) (Some (Fixed (word b))) f.1 g.1 refl refl)))
 first_one v t (Register r) (Slot n) f g = absurd (g.2 (Register r) f.0 tt f.1)
 first_one v t (Register r) (Const c) f g = absurd (f.2 (Const c) g.0 tt g.1)
 first_one v t (Slot n) (Register r) f g = absurd (f.2 (Register r) g.0 tt g.1)

@@ -5,66 +5,70 @@ use Rattle.std.proofs.lemmas.Bool.Decides.{nat_tests}
 use Rattle.rv64_instr.specs.declared.place.Place.{Place}
 use Rattle.dwarf_loclists.specs.declared.range.Range.{Range}
 use Rattle.dwarf_loclists.specs.Ranges.{place_in}
-use Rattle.block_lists.specs.Ranges.{is_same_place, word_range, ranges_from, IsListOf}
+use Rattle.block_lists.specs.declared.ranges.Run.{Run}
+use Rattle.block_lists.specs.Ranges.{is_same_place, run_to, range_of, ranges_from, IsListOf}
 use Rattle.block_lists.proofs.RangesLemmas.{IsOpen, same_place}
 
-hit : (r : Range) (rest : List Range) (x : ℕ) → r.lo ≤ x → x < r.hi → place_in (r ∷ rest) x ≡ Some r.place
+hit : (r : Run) (rest : List Range) (x : ℕ) → r.lo ≤ x → x < r.hi → place_in (range_of r ∷ rest) x ≡ Some r.place
 hit r rest x from below = grind (arith, nat_tests)
 
-below : (r : Range) (rest : List Range) (x : ℕ) → x < r.lo → place_in (r ∷ rest) x ≡ place_in rest x
+below : (r : Run) (rest : List Range) (x : ℕ) → x < r.lo → place_in (range_of r ∷ rest) x ≡ place_in rest x
 below r rest x lower = grind (arith, nat_tests)
 
-above : (r : Range) (rest : List Range) (x : ℕ) → r.hi ≤ x → place_in (r ∷ rest) x ≡ place_in rest x
+above : (r : Run) (rest : List Range) (x : ℕ) → r.hi ≤ x → place_in (range_of r ∷ rest) x ≡ place_in rest x
 above r rest x upper = grind (arith, nat_tests)
 
 -- where the ranges begin
-abbrev start : ℕ → Option Range → ℕ
+abbrev start : ℕ → Option Run → ℕ
 start a None = a
 start a (Some r) = r.lo
 
-passed_early : (a : ℕ) (r : Range) (p : Place) (rest : Option Range → List Range) (b : Bool) (x : ℕ) → IsOpen a (Some r) → x < r.lo
-    → ((o : Range) → IsOpen (a + 4) (Some o) → x < o.lo → place_in (rest (Some o)) x ≡ None)
-    → place_in (cond b [] (r ∷ []) ++ rest (Some (cond b (word_range r.lo a p) (word_range a a p)))) x ≡ None
-passed_early a r p rest true x is_open early later = later (word_range r.lo a p) (omega arith, refl) early
+passed_early : (a : ℕ) (r : Run) (p : Place) (rest : Option Run → List Range) (b : Bool) (x : ℕ) → IsOpen a (Some r) → x < r.lo
+    → ((o : Run) → IsOpen (a + 4) (Some o) → x < o.lo → place_in (rest (Some o)) x ≡ None)
+    → place_in (cond b [] (range_of r ∷ []) ++ rest (Some (cond b (run_to r.lo a p) (run_to a a p)))) x ≡ None
+passed_early a r p rest true x is_open early later = later (run_to r.lo a p) (omega arith, refl) early
 passed_early a r p rest false x is_open early later =
-    below r (rest (Some (word_range a a p))) x early ∙ later (word_range a a p) (omega arith, refl) (omega arith)
+    below r (rest (Some (run_to a a p))) x early ∙ later (run_to a a p) (omega arith, refl) (omega arith)
 
-early : (places : List (Option Place)) (a : ℕ) (current : Option Range) (x : ℕ) → IsOpen a current → x < start a current → place_in (ranges_from a current places) x ≡ None
+early : (places : List (Option Place)) (a : ℕ) (current : Option Run) (x : ℕ) → IsOpen a current → x < start a current →
+    place_in (ranges_from a current places) x ≡ None
 early [] a None x is_open lower = refl
 early [] a (Some r) x is_open lower = below r [] x lower
 early (None ∷ places) a None x is_open lower = early places (a + 4) None x tt (omega arith)
 early (None ∷ places) a (Some r) x is_open lower =
     below r (ranges_from (a + 4) None places) x lower ∙ early places (a + 4) None x tt (omega arith)
-early (Some p ∷ places) a None x is_open lower = early places (a + 4) (Some (word_range a a p)) x (omega arith, refl) lower
+early (Some p ∷ places) a None x is_open lower = early places (a + 4) (Some (run_to a a p)) x (omega arith, refl) lower
 early (Some p ∷ places) a (Some r) x is_open lower =
     passed_early a r p (λ current. ranges_from (a + 4) current places) (is_same_place r.place p) x is_open lower
     (λ o is small. early places (a + 4) (Some o) x is small)
 
-passed_within : (a : ℕ) (r : Range) (p : Place) (rest : Option Range → List Range) (b : Bool) (x : ℕ) → is_same_place r.place p ≡ b → IsOpen a (Some r) → r.lo ≤ x → x < a
-    → ((o : Range) → IsOpen (a + 4) (Some o) → o.lo ≤ x → place_in (rest (Some o)) x ≡ Some o.place)
-    → place_in (cond b [] (r ∷ []) ++ rest (Some (cond b (word_range r.lo a p) (word_range a a p)))) x ≡ Some r.place
+passed_within : (a : ℕ) (r : Run) (p : Place) (rest : Option Run → List Range) (b : Bool) (x : ℕ) → is_same_place r.place p ≡ b → IsOpen a (Some r) →
+    r.lo ≤ x → x < a
+    → ((o : Run) → IsOpen (a + 4) (Some o) → o.lo ≤ x → place_in (rest (Some o)) x ≡ Some o.place)
+    → place_in (cond b [] (range_of r ∷ []) ++ rest (Some (cond b (run_to r.lo a p) (run_to a a p)))) x ≡ Some r.place
 passed_within a r p rest true x same is_open from upto later =
-    later (word_range r.lo a p) (omega arith, refl) from ∙ ap Some (sym (same_place r.place p same))
-passed_within a r p rest false x same is_open from upto later = hit r (rest (Some (word_range a a p))) x from (omega arith)
+    later (run_to r.lo a p) (omega arith, refl) from ∙ ap Some (sym (same_place r.place p same))
+passed_within a r p rest false x same is_open from upto later = hit r (rest (Some (run_to a a p))) x from (omega arith)
 
-within : (places : List (Option Place)) (a : ℕ) (r : Range) (x : ℕ) → IsOpen a (Some r) → r.lo ≤ x → x < a → place_in (ranges_from a (Some r) places) x ≡ Some r.place
+within : (places : List (Option Place)) (a : ℕ) (r : Run) (x : ℕ) → IsOpen a (Some r) → r.lo ≤ x → x < a →
+    place_in (ranges_from a (Some r) places) x ≡ Some r.place
 within [] a r x is_open from upto = hit r [] x from (omega arith)
 within (None ∷ places) a r x is_open from upto = hit r (ranges_from (a + 4) None places) x from (omega arith)
 within (Some p ∷ places) a r x is_open from upto =
     passed_within a r p (λ current. ranges_from (a + 4) current places) (is_same_place r.place p) x refl is_open from upto
     (λ o is lower. within places (a + 4) o x is lower (omega arith))
 
-passed_after : (a : ℕ) (r : Range) (p : Place) (rest : Option Range → List Range) (b : Bool) (x : ℕ) (q : Option Place) → IsOpen a (Some r) → a ≤ x
-    → ((o : Range) → IsOpen (a + 4) (Some o) → o.place ≡ p → o.lo ≤ a → place_in (rest (Some o)) x ≡ q)
-    → place_in (cond b [] (r ∷ []) ++ rest (Some (cond b (word_range r.lo a p) (word_range a a p)))) x ≡ q
-passed_after a r p rest true x q is_open from later = later (word_range r.lo a p) (omega arith, refl) refl (omega arith)
+passed_after : (a : ℕ) (r : Run) (p : Place) (rest : Option Run → List Range) (b : Bool) (x : ℕ) (q : Option Place) → IsOpen a (Some r) → a ≤ x
+    → ((o : Run) → IsOpen (a + 4) (Some o) → o.place ≡ p → o.lo ≤ a → place_in (rest (Some o)) x ≡ q)
+    → place_in (cond b [] (range_of r ∷ []) ++ rest (Some (cond b (run_to r.lo a p) (run_to a a p)))) x ≡ q
+passed_after a r p rest true x q is_open from later = later (run_to r.lo a p) (omega arith, refl) refl (omega arith)
 passed_after a r p rest false x q is_open from later =
-    above r (rest (Some (word_range a a p))) x (omega arith) ∙ later (word_range a a p) (omega arith, refl) refl (omega arith)
+    above r (rest (Some (run_to a a p))) x (omega arith) ∙ later (run_to a a p) (omega arith, refl) refl (omega arith)
 
 some_same : {A : Type 0} (x y : A) → Some x ≡ Some y → x ≡ y
 some_same x y same = cc
 
-inside : (places : List (Option Place)) (a : ℕ) (current : Option Range) → IsOpen a current → (n : ℕ) (q : Option Place) → slice_get places n ≡ Some q
+inside : (places : List (Option Place)) (a : ℕ) (current : Option Run) → IsOpen a current → (n : ℕ) (q : Option Place) → slice_get places n ≡ Some q
     → (x : ℕ) → a + 4 * n ≤ x → x < a + 4 * n + 4 → place_in (ranges_from a current places) x ≡ q
 inside [] a current is_open n q at x from upto = cc
 inside (None ∷ places) a None is_open zero q at x from upto =
@@ -75,22 +79,23 @@ inside (None ∷ places) a None is_open (suc n) q at x from upto = inside places
 inside (None ∷ places) a (Some r) is_open (suc n) q at x from upto =
     above r (ranges_from (a + 4) None places) x (omega arith) ∙ inside places (a + 4) None tt n q at x (omega arith) (omega arith)
 inside (Some p ∷ places) a None is_open zero q at x from upto =
-    within places (a + 4) (word_range a a p) x (omega arith, refl) (omega arith) (omega arith) ∙ some_same (Some p) q at
+    within places (a + 4) (run_to a a p) x (omega arith, refl) (omega arith) (omega arith) ∙ some_same (Some p) q at
 inside (Some p ∷ places) a (Some r) is_open zero q at x from upto =
     passed_after a r p (λ current. ranges_from (a + 4) current places) (is_same_place r.place p) x q is_open (omega arith)
     (λ o is same lower. within places (a + 4) o x is (omega arith) (omega arith) ∙ (ap Some same ∙ some_same (Some p) q at))
 inside (Some p ∷ places) a None is_open (suc n) q at x from upto =
-    inside places (a + 4) (Some (word_range a a p)) (omega arith, refl) n q at x (omega arith) (omega arith)
+    inside places (a + 4) (Some (run_to a a p)) (omega arith, refl) n q at x (omega arith) (omega arith)
 inside (Some p ∷ places) a (Some r) is_open (suc n) q at x from upto =
     passed_after a r p (λ current. ranges_from (a + 4) current places) (is_same_place r.place p) x q is_open (omega arith)
     (λ o is same lower. inside places (a + 4) (Some o) is n q at x (omega arith) (omega arith))
 
-outside : (places : List (Option Place)) (a : ℕ) (current : Option Range) → IsOpen a current → (x : ℕ) → a + 4 * length places ≤ x → place_in (ranges_from a current places) x ≡ None
+outside : (places : List (Option Place)) (a : ℕ) (current : Option Run) → IsOpen a current → (x : ℕ) → a + 4 * length places ≤ x →
+    place_in (ranges_from a current places) x ≡ None
 outside [] a None is_open x from = refl
 outside [] a (Some r) is_open x from = above r [] x (omega arith)
 outside (None ∷ places) a None is_open x from = outside places (a + 4) None tt x (omega arith)
 outside (None ∷ places) a (Some r) is_open x from = above r (ranges_from (a + 4) None places) x (omega arith) ∙ outside places (a + 4) None tt x (omega arith)
-outside (Some p ∷ places) a None is_open x from = outside places (a + 4) (Some (word_range a a p)) (omega arith, refl) x (omega arith)
+outside (Some p ∷ places) a None is_open x from = outside places (a + 4) (Some (run_to a a p)) (omega arith, refl) x (omega arith)
 outside (Some p ∷ places) a (Some r) is_open x from =
     passed_after a r p (λ current. ranges_from (a + 4) current places) (is_same_place r.place p) x None is_open (omega arith)
     (λ o is same lower. outside places (a + 4) (Some o) is x (omega arith))

@@ -17,9 +17,14 @@ pub record IsListFor (v : VarId) (items : List Item) (ranges : List Range) : Typ
   pub first : FirstPlaces v 0 entry_tokens items places
   pub listed : IsListOf places ranges
 
+-- each variable has the list of its number
+abbrev pub AreListsFor : List VarId → List Item → List (List Range) → Type 0
+AreListsFor variables items lists = (k : ℕ) (v : VarId) (ranges : List Range) →
+    slice_get variables k ≡ Some v → slice_get lists k ≡ Some ranges → IsListFor v items ranges
+
 -- a list for each variable, in their order
 pub record AreLists (items : List Item) (lists : List (List Range)) : Type 0 where
   pub each : length lists ≡ length (variables_of [] items)
-  pub exact : (k : ℕ) (v : VarId) (ranges : List Range) → slice_get (variables_of [] items) k ≡ Some v → slice_get lists k ≡ Some ranges → IsListFor v items ranges
+  pub exact : AreListsFor (variables_of [] items) items lists
   pub ascend : All Ascend lists
   pub places : All ArePlaces lists

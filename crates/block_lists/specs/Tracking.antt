@@ -5,9 +5,11 @@ use Rattle.std.specs.declared.hash.FoldHasher.{FoldHasher}
 use Rattle.std.specs.declared.hash.BuildHasherDefault.{BuildHasherDefault}
 use Rattle.rv64_instr.specs.declared.place.Place.{Place}
 use Rattle.rv64_instr.specs.declared.place.Place.TheVariants.{Register, Slot, Const}
-use Rattle.rv64_instr.specs.Row.{Row, Fixes, Moves, Sets}
+use Rattle.rv64_instr.specs.Row.{Row, Fixes, Moves, Sets, Addresses, Loads, Stores, LoadsSlot, StoresSlot, Branches, Jumps, Calls, Returns, Unfit}
+use Rattle.mir_func.specs.declared.item.ItemKind.{ItemKind}
 use Rattle.mir_meaning.specs.Token as token
-use Rattle.mir_meaning.specs.Token.{Tokens, variable_token}
+use Rattle.mir_meaning.specs.Token.{Tokens, variable_token, after_item}
+use Rattle.block_lists.specs.Walk.{unchanged}
 use Rattle.block_lists.specs.declared.token.Token.{Token}
 use Rattle.block_lists.specs.declared.token.Token.TheVariants.{Entry, Made, Fixed}
 use Rattle.block_lists.specs.declared.tracker.Tracker.{Tracker}
@@ -40,7 +42,16 @@ abbrev pub regs_after : ℕ → Row → List (Option Token) → List (Option Tok
 regs_after n (Fixes rd c) regs = with_token regs rd (Some (Fixed c))
 regs_after n (Moves rd rs) regs = with_token regs rd (token_at regs rs)
 regs_after n (Sets rd op a b) regs = with_token regs rd (Some (Made n rd))
-regs_after n _ regs = regs
+regs_after n (Addresses rd k offset) regs = regs
+regs_after n (Loads rd op base offset) regs = regs
+regs_after n (Stores op rs base offset) regs = regs
+regs_after n (LoadsSlot rd k) regs = regs
+regs_after n (StoresSlot rs k) regs = regs
+regs_after n (Branches op a b target) regs = regs
+regs_after n (Jumps target) regs = regs
+regs_after n (Calls name args) regs = regs
+regs_after n (Returns results) regs = regs
+regs_after n Unfit regs = regs
 
 -- the tokens of numbers
 abbrev pub Numbers : Type 0
@@ -65,11 +76,17 @@ pub record Tracks (s : Tracker) (t : Tokens) : Type 0 where
   pub pointer : register_at s.regs 2 ≡ None
   pub slots : (n : ℕ) → t.slots n ≡ None
   pub pairs : (k o : ℕ) → t.pairs k o ≡ named (pair_at s.numbers k o)
+  pub whole : s.variable.fragment ≡ None
   pub value : variable_token s.variable t ≡ named s.value
+
+-- a tracker of the tokens before the item at an index becomes one of those after it
+abbrev pub Passes : (before after : Tracker) → (index : ℕ) → ItemKind → Type 0
+Passes before after n k = (t : Tokens) → Tracks before t → Tracks after (after_item unchanged n k t)
 
 -- the lowest register but x0 and x2 that has the token, or none
 abbrev pub IsLowest : List (Option Token) → Token → Option Place → Type 0
 IsLowest regs t None = (r : ℕ) → 0 < r → r < 32 → r ≢ 2 → register_at regs r ≢ Some t
-IsLowest regs t (Some (Register n)) = (0 < n) × (n < 32) × (n ≢ 2) × (register_at regs n ≡ Some t) × ((r : ℕ) → 0 < r → r < n → r ≢ 2 → register_at regs r ≢ Some t)
+IsLowest regs t (Some (Register n)) = (0 < n) × (n < 32) × (n ≢ 2) × (register_at regs n ≡ Some t) ×
+    ((r : ℕ) → 0 < r → r < n → r ≢ 2 → register_at regs r ≢ Some t)
 IsLowest regs t (Some (Slot n)) = ⊥
 IsLowest regs t (Some (Const c)) = ⊥

@@ -10,7 +10,7 @@ use Rattle.code_layout.specs.Straight.{Holds}
 
 -- no number is substituted
 abbrev pub unchanged : OperandPair → Option OperandPair
-unchanged k o = Some (k, o)
+unchanged q = Some q
 
 -- the first place that holds it, or none where no place does
 abbrev pub IsFirstPlace : VarId → Tokens → Option Place → Type 0

@@ -1,3 +1,5 @@
+//! The machine code of a block.
+
 ghost use Rattle.std.specs.Prelude.{◌≡◌, ◌≤◌, ◌+◌, ◌++◌, ◌*◌, All, length, IsSome, IfOk, OnOk};
 ghost use Rattle.mir_meaning.specs.Align.{is_code};
 ghost use Rattle.block_lists.specs.Code.{code_bytes, operation_of, word_bytes, code_of, IsPlain, IsPlainKind};
@@ -47,7 +49,7 @@ fn push_word(bytes: &mut Bytes, instr: &Instr) -> Result<(), AllocError>
     ensures code { OnOk result (bytes.new ≡ bytes.old ++ word_bytes (operation_of instr.now)) }
     ensures size { OnOk result (length bytes.new ≡ length bytes.old + 4) }
 {
-    match lower(instr, 0) {
+    match lower(instr, 0, 0) {
         Some(operation) => bytes.extend_from_slice(&encode(&operation).to_le_bytes()),
         None => unreachable!(),
     }

@@ -1,3 +1,5 @@
+//! The location lists of a block.
+
 ghost use Rattle.std.specs.Prelude.{◌≡◌, ℕ, ◌<◌, ◌≤◌, ◌+◌, List, Option, Some, length, slice_get, All, IfOk, OnOk};
 ghost use Rattle.rv64_instr.specs.declared.place.Place.{Place};
 ghost use Rattle.mir_func.specs.declared.variable.VarId.{VarId};
@@ -5,9 +7,10 @@ ghost use Rattle.mir_meaning.specs.Token.{Tokens, entry_tokens, after_item};
 ghost use Rattle.dwarf_loclists.specs.declared.range.Range.{Range};
 ghost use Rattle.dwarf_loclists.specs.Ranges.{Ascend, ArePlaces};
 ghost use Rattle.block_lists.specs.Code.{IsPlain};
-ghost use Rattle.block_lists.specs.Lists.{IsListFor};
+ghost use Rattle.block_lists.specs.Lists.{IsListFor, AreListsFor};
 ghost use Rattle.block_lists.specs.Ranges.{MayBeListed};
-ghost use Rattle.block_lists.specs.Tracking.{Tracks};
+ghost use Rattle.block_lists.specs.Tracking.{Tracks, Passes};
+ghost use Rattle.block_lists.specs.Variables.{IsWhole};
 ghost use Rattle.block_lists.specs.Walk.{unchanged, FirstPlaces, Notes};
 
 use crate::code::is_code;
@@ -27,8 +30,9 @@ type Places = List<Option<Place>>;
 pub fn lists(alloc: Global, items: &[Item], variables: &[VarId]) -> Result<RangeLists, AllocError>
     requires few { length items.now ≤ 8192 }
     requires plain { All IsPlain items.now }
+    requires whole { All IsWhole variables.now }
     ensures each { IfOk result (λ lists. length lists ≡ length variables.now) }
-    ensures exact { IfOk result (λ lists. (k : ℕ) (v : VarId) (ranges : List Range) → slice_get variables.now k ≡ Some v → slice_get lists k ≡ Some ranges → IsListFor v items.now ranges) }
+    ensures exact { IfOk result (AreListsFor variables.now items.now) }
     ensures short { IfOk result (All (λ ranges. length ranges ≤ 8192)) }
     ensures ascend { IfOk result (All Ascend) }
     ensures places { IfOk result (All ArePlaces) }
@@ -44,6 +48,7 @@ pub fn lists(alloc: Global, items: &[Item], variables: &[VarId]) -> Result<Range
 fn list(alloc: Global, items: &[Item], variable: VarId) -> Result<Ranges, AllocError>
     requires few { length items.now ≤ 8192 }
     requires plain { All IsPlain items.now }
+    requires whole { IsWhole variable }
     ensures exact { IfOk result (IsListFor variable items.now) }
     ensures short { IfOk result (λ ranges. length ranges ≤ 8192) }
     ensures ascend { IfOk result Ascend }
@@ -58,6 +63,7 @@ fn list(alloc: Global, items: &[Item], variable: VarId) -> Result<Ranges, AllocE
 fn places(alloc: Global, items: &[Item], variable: VarId) -> Result<Places, AllocError>
     requires few { length items.now ≤ 8192 }
     requires plain { All IsPlain items.now }
+    requires whole { IsWhole variable }
     ensures first { IfOk result (FirstPlaces variable 0 entry_tokens items.now) }
     ensures listed { IfOk result (All MayBeListed) }
     ensures few { IfOk result (λ places. length places ≤ length items.now) }
@@ -80,7 +86,7 @@ fn pass_item(
     requires plain { IsPlain item.now }
     requires listed { All MayBeListed places.old }
     ensures noted { OnOk result ((t : Tokens) → Tracks tracker.old t → Notes tracker.old.variable t item.now places.old places.new) }
-    ensures tracks { OnOk result ((t : Tokens) → Tracks tracker.old t → Tracks tracker.new (after_item unchanged index item.now.kind t)) }
+    ensures tracks { OnOk result (Passes tracker.old tracker.new index item.now.kind) }
     ensures variable { tracker.new.variable ≡ tracker.old.variable }
     ensures listed { OnOk result (All MayBeListed places.new) }
     ensures few { OnOk result (length places.new ≤ length places.old + 1) }

@@ -1,3 +1,5 @@
+//! Names for values along the path through a block.
+
 /// The name of a value along the path through the block: the same at two places only where they hold the same value.
 #[derive(Clone, Copy, Debug, PartialEq, Eq)]
 pub enum Token {

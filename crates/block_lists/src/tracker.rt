@@ -1,16 +1,21 @@
-ghost use Rattle.std.specs.Prelude.{◌≡◌, ◌≢◌, ℕ, ◌<◌, Option, None, Some, false, cond, nat_eq, slice_get, length, nat_lt, not, ◌&&◌, IsTrue, ◌↔◌, OnOk};
+//! The tokens along a block, as far as one variable needs them.
+
+ghost use Rattle.std.specs.Prelude.{◌≡◌, ◌≢◌, ℕ, ◌<◌, Option, None, Some, false, cond};
+ghost use Rattle.std.specs.Prelude.{nat_eq, slice_get, length, nat_lt, not, ◌&&◌, IsTrue, ◌↔◌, OnOk};
 ghost use Rattle.rv64_instr.specs.Row.{row_of};
 ghost use Rattle.mir_func.specs.declared.item.ItemKind.TheVariants.{Code, Mark};
 ghost use Rattle.mir_meaning.specs.Step.{defined};
-ghost use Rattle.mir_meaning.specs.Token.{Tokens, entry_tokens, after_item, mark_token};
-ghost use Rattle.block_lists.specs.Code.{IsPlainKind, IsPlainRow, DefinesFirst};
+ghost use Rattle.mir_meaning.specs.Token.{Tokens, entry_tokens, mark_token};
+ghost use Rattle.block_lists.specs.Code.{IsPlainKind, IsLaidOutRow, DefinesFirst};
 ghost use Rattle.block_lists.specs.Ranges.{MayBeListed};
-ghost use Rattle.block_lists.specs.Tracking.{token_at, with_token, regs_after, number_at, pair_at, register_at, named, Tracks, IsLowest};
+ghost use Rattle.block_lists.specs.Tracking.{token_at, with_token, regs_after, number_at, pair_at};
+ghost use Rattle.block_lists.specs.Tracking.{register_at, named, Tracks, Passes, IsLowest};
 ghost use Rattle.block_lists.specs.Walk.{unchanged, IsFirstPlace};
 
 use crate::token::Token;
 use mir_func::item::ItemKind;
 use mir_func::variable::{MarkValue, VarId};
+use numbers::code::DebugNumber;
 use rv64_instr::decoded::Decoded;
 use rv64_instr::instr::Instr;
 use rv64_instr::operand::Operand;
@@ -38,6 +43,7 @@ pub struct Tracker {
 impl Tracker {
     /// Before the first item: each register but x2 has a token of its own.
     pub fn new(alloc: Global, variable: VarId) -> Tracker
+        requires { variable.fragment ≡ None }
         ensures tracks { Tracks result entry_tokens }
         ensures variable { result.variable ≡ variable }
     {
@@ -52,7 +58,7 @@ impl Tracker {
     /// Passes an item, whose index in the block is given.
     pub fn pass(&mut self, index: u32, kind: &ItemKind) -> Result<(), AllocError>
         requires { IsPlainKind kind.now }
-        ensures tracks { OnOk result ((t : Tokens) → Tracks self.old t → Tracks self.new (after_item unchanged index kind.now t)) }
+        ensures tracks { OnOk result (Passes self.old self.new index kind.now) }
         ensures variable { self.new.variable ≡ self.old.variable }
     {
         match kind {
@@ -69,11 +75,11 @@ impl Tracker {
         &mut self,
         index: u32,
         instr: &Instr,
-        number: Option<u32>,
+        number: Option<DebugNumber>,
     ) -> Result<(), AllocError>
-        requires row { IsPlainRow (row_of instr.now) }
+        requires row { IsLaidOutRow (row_of instr.now) }
         requires operands { DefinesFirst instr.now.operands }
-        ensures tracks { OnOk result ((t : Tokens) → Tracks self.old t → Tracks self.new (after_item unchanged index (Code instr.now number) t)) }
+        ensures tracks { OnOk result (Passes self.old self.new index (Code instr.now number)) }
         ensures variable { self.new.variable ≡ self.old.variable }
     {
         self.pass_code(index, instr);
@@ -93,12 +99,20 @@ impl Tracker {
             Decoded::Fixes(rd, n) => self.put(rd, Some(Token::Fixed(n))),
             Decoded::Moves(rd, rs) => self.put(rd, self.get(rs)),
             Decoded::Sets(rd, _, _, _) => self.put(rd, Some(Token::Made(index, rd.number()))),
-            _ => {}
+            Decoded::Addresses(_, _, _)
+            | Decoded::Loads(_, _, _, _)
+            | Decoded::Stores(_, _, _, _)
+            | Decoded::LoadsSlot(_, _)
+            | Decoded::StoresSlot(_, _)
+            | Decoded::Branches(_, _, _, _)
+            | Decoded::Jumps(_)
+            | Decoded::Calls
+            | Decoded::Returns => {}
         }
     }
 
     /// Gives the number that an instruction carries the token of the register that the instruction sets.
-    fn pass_number(&mut self, k: u32, instr: &Instr) -> Result<(), AllocError>
+    fn pass_number(&mut self, k: DebugNumber, instr: &Instr) -> Result<(), AllocError>
         ensures none { defined false (slice_get instr.now.operands 0) ≡ None → self.new ≡ self.old }
         ensures some { OnOk result ((rd : ℕ) → defined false (slice_get instr.now.operands 0) ≡ Some rd → (q : ℕ) → number_at self.new.numbers q ≡ cond (nat_eq q k) (token_at self.old.regs rd) (number_at self.old.numbers q)) }
         ensures regs { self.new.regs ≡ self.old.regs }
@@ -109,13 +123,14 @@ impl Tracker {
             None => Ok(()),
             Some(rd) => {
                 let token = self.get(rd);
-                set_number(&mut self.numbers, k, token)
+                set_number(&mut self.numbers, k.number(), token)
             }
         }
     }
 
     fn pass_mark(&mut self, index: u32, variable: VarId, value: &MarkValue)
-        ensures tracks { (t : Tokens) → Tracks self.old t → Tracks self.new (after_item unchanged index (Mark variable value.now) t) }
+        requires { variable.fragment ≡ None }
+        ensures tracks { Passes self.old self.new index (Mark variable value.now) }
         ensures variable { self.new.variable ≡ self.old.variable }
     {
         if self.variable == variable {
@@ -131,7 +146,7 @@ impl Tracker {
             MarkValue::Nothing => None,
             MarkValue::Constant(c) => Some(Token::Fixed(c.cast_unsigned())),
             MarkValue::At(r) => self.get(*r),
-            MarkValue::Pair(number, operand) => self.pair(*number, *operand),
+            MarkValue::Pair(q) => self.pair(q.number.number(), q.operand.number()),
         }
     }
 

@@ -15,7 +15,8 @@ loop-index-preserved c =
     record {
       tokens = after_item unchanged i item.kind tokens;
       tracks = c.in_ok-pass_item.ensures.tracks tokens c.loop-index.invariant.tracks;
-      first = walk_more c.args.variable i tokens item c.args.items.now c.loop-index.places c.pass_item.new.places c.loop-index-test.true c.index-items-index.is notes c.loop-index.invariant.first;
+      first = walk_more c.args.variable i tokens item c.args.items.now c.loop-index.places c.pass_item.new.places c.loop-index-test.true
+          c.index-items-index.is notes c.loop-index.invariant.first;
       variable = c.pass_item.ensures.variable ∙ c.loop-index.invariant.variable;
       listed = c.in_ok-pass_item.ensures.listed;
       few = omega (arith, c.in_ok-pass_item.ensures.few, c.loop-index.invariant.few);
@@ -23,4 +24,8 @@ loop-index-preserved c =
 
 pub returns-clause-first : goal.returns-clause-first
 returns-clause-first c =
-    walk_ends c.args.variable c.loop-index.index c.loop-index.invariant.tokens c.args.items.now c.loop-index.places c.loop-index-test.false c.loop-index.invariant.first
+    walk_ends c.args.variable c.loop-index.index c.loop-index.invariant.tokens c.args.items.now c.loop-index.places c.loop-index-test.false
+    c.loop-index.invariant.first
+
+pub new-tracker-requires : goal.new-tracker-requires
+new-tracker-requires c = c.requires.whole

@@ -11,7 +11,8 @@ abbrev pub invariant-loop-index : goal.invariant-loop-index
 invariant-loop-index l = record {
   tokens : Tokens;
   tracks : Tracks l.tracker tokens;
-  first : (rest : List (Option Place)) → FirstPlaces l.fn.variable l.index tokens (drop l.index l.items) rest → FirstPlaces l.fn.variable 0 entry_tokens l.items (l.places ++ rest);
+  first : (rest : List (Option Place)) → FirstPlaces l.fn.variable l.index tokens (drop l.index l.items) rest →
+      FirstPlaces l.fn.variable 0 entry_tokens l.items (l.places ++ rest);
   variable : l.tracker.variable ≡ l.fn.variable;
   listed : All MayBeListed l.places;
   few : length l.places ≤ l.index;
