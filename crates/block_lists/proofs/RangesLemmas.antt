@@ -9,7 +9,7 @@ use Rattle.dwarf_loclists.specs.declared.range.Location.TheVariants.{Whole}
 use Rattle.dwarf_loclists.specs.declared.range.Range.{Range}
 use Rattle.dwarf_loclists.specs.Ranges.{Ascend, ArePlaces, IsListed, IsLocated}
 use Rattle.block_lists.specs.declared.ranges.Run.{Run}
-use Rattle.block_lists.specs.Ranges.{is_same_place, run_to, range_of, ranges_from, MayBeListed}
+use Rattle.block_lists.specs.Ranges.{is_same_place, run_to, range_of, ranges_from, IsOfWhole, MayBeListed}
 
 is_same_place-refl : (p : Place) → is_same_place p p ≡ true
 is_same_place-refl (Register r) = grind (arith, nat_tests)
@@ -117,6 +117,21 @@ ranges_from-places (Some p ∷ places) a None all listed =
 ranges_from-places (Some p ∷ places) a (Some r) all listed =
     placed a r p (λ current. ranges_from (a + 4) current places) (is_same_place r.place p) listed (All-head MayBeListed (Some p) places all)
     (λ current is. ranges_from-places places (a + 4) current (All-tail MayBeListed (Some p) places all) is)
+
+of_whole : (a : ℕ) (r : Run) (p : Place) (rest : Option Run → List Range) (b : Bool) → ((current : Option Run) → All IsOfWhole (rest current)) →
+    All IsOfWhole (cond b [] (range_of r ∷ []) ++ rest (Some (cond b (run_to r.lo a p) (run_to a a p))))
+of_whole a r p rest true whole = whole (Some (run_to r.lo a p))
+of_whole a r p rest false whole = All-cons IsOfWhole (range_of r) (rest (Some (run_to a a p))) (r.place, refl) (whole (Some (run_to a a p)))
+
+pub ranges_from-whole : (places : List (Option Place)) (a : ℕ) (current : Option Run) → All IsOfWhole (ranges_from a current places)
+ranges_from-whole [] a None = All-nil IsOfWhole
+ranges_from-whole [] a (Some r) = All-cons IsOfWhole (range_of r) [] (r.place, refl) (All-nil IsOfWhole)
+ranges_from-whole (None ∷ places) a None = ranges_from-whole places (a + 4) None
+ranges_from-whole (None ∷ places) a (Some r) =
+    All-cons IsOfWhole (range_of r) (ranges_from (a + 4) None places) (r.place, refl) (ranges_from-whole places (a + 4) None)
+ranges_from-whole (Some p ∷ places) a None = ranges_from-whole places (a + 4) (Some (run_to a a p))
+ranges_from-whole (Some p ∷ places) a (Some r) =
+    of_whole a r p (λ current. ranges_from (a + 4) current places) (is_same_place r.place p) (λ current. ranges_from-whole places (a + 4) current)
 
 -- how many runs are current
 abbrev pub open_count : Option Run → ℕ

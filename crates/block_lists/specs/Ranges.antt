@@ -51,6 +51,10 @@ pub record IsListOf (places : List (Option Place)) (ranges : List Range) : Type 
   pub inside : (n : ℕ) (p : Option Place) → slice_get places n ≡ Some p → (a : ℕ) → 4 * n ≤ a → a < 4 * n + 4 → place_in ranges a ≡ p
   pub outside : (a : ℕ) → 4 * length places ≤ a → place_in ranges a ≡ None
 
+-- a range of the whole variable: it is at one place
+abbrev pub IsOfWhole : Range → Type 0
+IsOfWhole r = (place : Place) × (r.location ≡ Whole place)
+
 -- a place that can be listed, or none
 abbrev pub MayBeListed : Option Place → Type 0
 MayBeListed None = Unit {0}

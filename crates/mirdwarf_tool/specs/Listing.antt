@@ -40,6 +40,7 @@ listing_of name size variables block = record {
   name = name;
   low = 0;
   high = size;
+  objects = [];
   variables = listed_variables 0 variables;
   substitutions = [];
   prologue = [];
@@ -48,7 +49,8 @@ listing_of name size variables block = record {
 
 -- the output of a function of one block, by the bytes of its sections
 abbrev pub output_with : (name : List ℕ) → (code bytes : List ℕ) → List VarId → Block → Output
-output_with name code bytes variables block = record { text = code; loclists = bytes; functions = listing_of name (length code) variables block ∷ [] }
+output_with name code bytes variables block =
+    record { text = code; loclists = bytes; functions = listing_of name (length code) variables block ∷ [] }
 
 -- the output of a function of one block with its lists
 abbrev pub output_of : (name : List ℕ) → Block → List (List Range) → Output
@@ -60,4 +62,4 @@ compiled_text name block lists = spelling (output_of name block lists)
 
 -- the image of a block that is laid out from address 0 on
 abbrev pub block_image : Block → Image
-block_image block = record { text = code_of block.items; low = 0; lines = straight.lines_of 0 block.items }
+block_image block = record { text = code_of block.items; low = 0; area = 0; lines = straight.lines_of 0 block.items }

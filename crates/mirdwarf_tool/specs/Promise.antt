@@ -1,14 +1,16 @@
 -- What an output promises of a run of its code.
-use Rattle.std.specs.Prelude.{◌≡◌, ℕ, zero, suc, ◌+◌, cond, pos, List, [], ◌∷◌, length, drop, Option, Some, slice_get, map, All}
+use Rattle.std.specs.Prelude.{◌≡◌, ℕ, zero, suc, ◌+◌, ◌<◌, ◌≤◌, cond, pos, List, [], ◌∷◌, length, drop, Option, Some, None, slice_get, map, All}
 use Rattle.std.specs.List.{flat_map}
+use Rattle.rv64_instr.specs.declared.op.Op.TheVariants.{Load, Store}
 use Rattle.rv64_instr.specs.declared.op.LoadOp.TheVariants.{Ld}
 use Rattle.rv64_instr.specs.declared.op.StoreOp.TheVariants.{Sd}
 use Rattle.rv64_instr.specs.declared.operand.Operand.TheVariants.{Def, Use, Imm, Slot}
+use Rattle.rv64_instr.specs.declared.decoded.Base.TheVariants.{PointedBy}
 use Rattle.rv64_instr.specs.declared.place.Place.{Place}
 use Rattle.rv64_instr.specs.Instruction.{Instruction}
 use Rattle.rv64_instr.specs.Row.{Row, Loads, Stores, row_of}
+use Rattle.rv64_instr.specs.Parts.{is_call}
 use Rattle.mir_func.specs.declared.position.Pos.{Pos}
-use Rattle.mir_func.specs.declared.position.Origin.{Origin}
 use Rattle.mir_func.specs.declared.variable.VarId.{VarId}
 use Rattle.mir_func.specs.declared.item.Item.{Item}
 use Rattle.mir_func.specs.declared.item.ItemKind.{ItemKind}
@@ -16,21 +18,18 @@ use Rattle.mir_func.specs.declared.item.ItemKind.TheVariants.{Code}
 use Rattle.mir_func.specs.declared.block.Block.{Block}
 use Rattle.mir_func.specs.declared.entry.Entry.{Entry}
 use Rattle.mir_func.specs.Function.{Function}
-use Rattle.rv64_instr.specs.Parts.{is_call}
 use Rattle.mir_func.specs.Graph.{Program, block_start, framed_program}
-use Rattle.mir_meaning.specs.Align.{is_code}
+use Rattle.mir_func.specs.Objects.{up_to}
+use Rattle.mir_func.specs.Parts.{Bytes}
 use Rattle.mir_func.specs.Resolve.{resolve}
-use Rattle.dwarf_loclists.specs.Reading.{PlaceAt}
-use Rattle.code_layout.specs.Image.{CodeLine, Image}
+use Rattle.mir_meaning.specs.Align.{is_code}
+use Rattle.dwarf_loclists.specs.Reading.{PlaceAt, PieceAt}
+use Rattle.code_layout.specs.Image.{Image, line_of}
 use Rattle.code_layout.specs.Headline.{Headline}
 use Rattle.code_layout.specs.Exact.{AreExact}
-use Rattle.output_text.specs.Output.{ItemLine, ListedVariable, ListedBlock, ListedFunction, Output}
+use Rattle.block_lists.specs.Variables.{whole}
+use Rattle.output_text.specs.Output.{ItemLine, ListedObject, ListedVariable, ListedBlock, ListedFunction, Output}
 use Rattle.mirdwarf_tool.specs.Listing.{start_of}
-
--- a line with an address and an instruction, as the machine's image has it
-abbrev pub code_line : Option ℕ → Origin → ItemKind → List CodeLine
-code_line (Some address) origin (Code c k) = record { address = address; origin = origin; instruction = c } ∷ []
-code_line _ origin kind = []
 
 -- the number of the first block
 abbrev pub first_id : List ListedBlock → ℕ
@@ -45,19 +44,38 @@ blocks_of f = record { id = first_id f.blocks; lines = f.prologue } ∷ f.blocks
 abbrev pub lines_of : ListedFunction → List ItemLine
 lines_of f = flat_map (λ b. b.lines) (blocks_of f)
 
--- the image of a function of an output: the bytes of `.text`, the function's first address, and its lines with code, each with
--- its address, its origin and its instruction
-abbrev pub image_of : Output → ListedFunction → Image
-image_of o f = record { text = o.text; low = f.low; lines = flat_map (λ l. code_line l.address l.item.origin l.item.kind) (lines_of f) }
+-- the bytes that the listed stack objects take together: the end of the last one, up to a multiple of 16
+abbrev pub end_of : ℕ → List ListedObject → ℕ
+end_of n [] = n
+end_of n (o ∷ os) = end_of (o.offset + o.size) os
 
--- the bytes of the section of lists give a variable of a function a place at an address: the list that a line of the variable
--- names says it there
+abbrev pub area_shown : List ListedObject → ℕ
+area_shown objects = up_to 16 (end_of 0 objects)
+
+-- the image of a function of an output: the bytes of `.text`, the function's first address, its stack objects' bytes, and its
+-- lines with code, each with its address, its origin and its instruction
+abbrev pub image_of : Output → ListedFunction → Image
+image_of o f = record {
+  text = o.text;
+  low = f.low;
+  area = area_shown f.objects;
+  lines = flat_map (λ l. line_of l.address l.item.origin l.item.kind) (lines_of f);
+}
+
+-- a list of a section gives a part of a variable a place at an address: the whole variable by the place that it is at, and
+-- some bytes of it by a piece of just these bytes
+abbrev pub GivesPart : (section : List ℕ) → (list address : ℕ) → Option Bytes → Place → Type 0
+GivesPart section k a None place = PlaceAt section k a (Some place)
+GivesPart section k a (Some b) place = (n : ℕ) × PieceAt section k a n (Some (record { offset = b.offset; length = b.length; place = place }))
+
+-- the bytes of the section of lists give a part of a variable of a function a place at an address: the list that a line of the
+-- variable names says it there
 pub record Gives (o : Output) (f : ListedFunction) (v : VarId) (address : ℕ) (place : Place) : Type 0 where
   pub number : ℕ
   pub line : ListedVariable
   pub stands : slice_get f.variables number ≡ Some line
-  pub named : line.variable ≡ v
-  pub given : PlaceAt o.loclists line.list address (Some place)
+  pub named : line.variable ≡ whole v
+  pub given : GivesPart o.loclists line.list address v.fragment place
 
 -- a function that was read, with the substitutions of its debug instruction numbers
 pub record SourceFunction : Type 0 where
@@ -102,12 +120,12 @@ pub record AreLaidOut (sources : List SourceFunction) (o : Output) : Type 0 wher
 -- function's code stands where its lines say the source stands, with the source's events and result, and what the section gives
 -- holds the newest assignment
 abbrev pub MeetsHeadline : Output → SourceFunction → ListedFunction → Type 0
-MeetsHeadline o source f = Headline source.function.blocks (resolve source.substitutions) (image_of o f) (Gives o f)
+MeetsHeadline o source f = Headline source.function (resolve source.substitutions) (image_of o f) (Gives o f)
 
 -- an access at an offset from x2, as its word makes it, is one of the frame slot with that offset: no other access goes by x2
 abbrev pub raised_by : Row → Instruction → Instruction
-raised_by (Loads rd Ld (suc (suc zero)) n) i = record { op = Ld; operands = Def rd ∷ Slot n ∷ Imm (pos 0) ∷ drop 3 i.operands }
-raised_by (Stores Sd rs (suc (suc zero)) n) i = record { op = Sd; operands = Use rs ∷ Slot n ∷ Imm (pos 0) ∷ drop 3 i.operands }
+raised_by (Loads rd Ld (PointedBy (suc (suc zero))) n) i = record { op = Load Ld; operands = Def rd ∷ Slot n ∷ Imm (pos 0) ∷ drop 3 i.operands }
+raised_by (Stores Sd rs (PointedBy (suc (suc zero))) n) i = record { op = Store Sd; operands = Use rs ∷ Slot n ∷ Imm (pos 0) ∷ drop 3 i.operands }
 raised_by row i = i
 
 abbrev pub raised : ItemKind → ItemKind
@@ -126,16 +144,20 @@ block_shown b = record { id = b.id; items = map item_shown b.lines; silent = len
 abbrev pub program_shown : ListedFunction → Program
 program_shown f = framed_program (map block_shown (blocks_of f)) (resolve f.substitutions)
 
--- a line with this address stands at this place of its function: in this block, 0 for the prologue, and at this index
+-- a line that has a byte at an address stands at this place of its function: in this block, 0 for the prologue, and at this index
 pub record IsListedAt (f : ListedFunction) (address : ℕ) (p : Pos) : Type 0 where
   pub block : ListedBlock
   pub line : ItemLine
+  pub first : ℕ
   pub stands : slice_get (blocks_of f) p.block ≡ Some block
-  pub within : slice_get block.lines p.item ≡ Some line
-  pub here : line.address ≡ Some address
+  pub listed : slice_get block.lines p.item ≡ Some line
+  pub begins : line.address ≡ Some first
+  pub from : first ≤ address
+  pub within : address < past_item first line.item.kind
 
--- at the address of each line the section gives a variable the place that is wanted at the line, by the tokens of all paths of
--- the function that the lines show, and none exactly where none is wanted
+-- at the address of each byte of a line the section gives a part of a variable the place that is wanted at the line, by the tokens
+-- of all paths of the function that the lines show, and none exactly where none is wanted; and at no other address, be it below
+-- the function's first or from its end on, it gives any
 abbrev pub IsExactFor : Output → ListedFunction → Type 0
 IsExactFor o f = AreExact (program_shown f) (block_start 0) (IsListedAt f) (Gives o f)
 

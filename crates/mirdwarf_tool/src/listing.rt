@@ -1,3 +1,5 @@
+//! The listing of a function of one block.
+
 ghost use Rattle.std.specs.Prelude.{◌≡◌, ◌++◌, ◌+◌, ◌*◌, ◌^◌, ◌<◌, ◌≤◌, length, OnOk};
 ghost use Rattle.std.specs.Fmt.{decimal};
 ghost use Rattle.std.specs.List.{flat_map};
@@ -13,6 +15,7 @@ use mir_func::variable::VarId;
 use mir_printer::item::push_item;
 use mir_printer::symbol::push_escaped;
 use mir_printer::text::{Text, push_numbered, push_str};
+use numbers::metadata::NodeId;
 use std::alloc::AllocError;
 
 /// Appends the listing of a function of one block: its line with the addresses from 0 to its length in bytes, its
@@ -30,7 +33,7 @@ pub fn push_listing(
 {
     push_function(text, name, size)?;
     push_variables(text, variables)?;
-    push_block(text, block.id)?;
+    push_block(text, block.id.number())?;
     push_items(text, block.items.as_slice())
 }
 
@@ -80,19 +83,19 @@ fn push_variable(text: &mut Text, k: u32, variable: &VarId) -> Result<(), AllocE
     ensures { OnOk result (text.new ≡ text.old ++ variable_line (record { list = k; variable = variable.now; name = variable_name variable.now.node })) }
 {
     push_numbered(text, "variable ", k)?;
-    push_numbered(text, " !", variable.node)?;
+    push_numbered(text, " !", variable.node.number())?;
     push_inlined(text, variable.inlined_at)?;
     text.push(b' ')?;
-    push_str(text, variable_name(variable.node))?;
+    push_str(text, variable_name(variable.node.number()))?;
     text.push(b'\n')
 }
 
-fn push_inlined(text: &mut Text, inlined_at: Option<u32>) -> Result<(), AllocError>
+fn push_inlined(text: &mut Text, inlined_at: Option<NodeId>) -> Result<(), AllocError>
     ensures { OnOk result (text.new ≡ text.old ++ inlined_text inlined_at) }
 {
     match inlined_at {
         None => push_str(text, " -"),
-        Some(node) => push_numbered(text, " !", node),
+        Some(node) => push_numbered(text, " !", node.number()),
     }
 }
 
@@ -158,7 +161,7 @@ fn push_origin(text: &mut Text, origin: Origin) -> Result<(), AllocError>
 fn push_position(text: &mut Text, sign: &str, pos: Pos) -> Result<(), AllocError>
     ensures { OnOk result (text.new ≡ text.old ++ position_text sign.now pos) }
 {
-    push_numbered(text, sign, pos.block)?;
+    push_numbered(text, sign, pos.block.number())?;
     push_numbered(text, ".", pos.item)?;
     text.push(b' ')
 }
