@@ -11,15 +11,23 @@ use lists::List;
 use std::alloc::Global;
 use std::test::Fail;
 
-/// Whether the types of a function's variables are below a number.
-fn has_types(count: usize, f: &FunctionEntry) -> bool
-    ensures { IsTrue result → HasTypes count f.now }
+/// Whether a variable's type is below a number.
+fn has_type(count: usize, v: &VariableEntry) -> bool
+    ensures { IsTrue result → HasType count v.now }
 {
-    for variable in f.variables.as_slice() {
-        if let Some(base) = variable.base {
-            if base as usize >= count {
-                return false;
-            }
+    match v.base {
+        None => true,
+        Some(base) => (base as usize) < count,
+    }
+}
+
+/// Whether variables' types are below a number.
+fn have_type(count: usize, variables: &[VariableEntry]) -> bool
+    ensures { IsTrue result → All (HasType count) variables.now }
+{
+    for variable in variables {
+        if !has_type(count, variable) {
+            return false;
         }
     }
     true
@@ -30,7 +38,7 @@ fn have_types(count: usize, functions: &[FunctionEntry]) -> bool
     ensures { IsTrue result → All (HasTypes count) functions.now }
 {
     for function in functions {
-        if !has_types(count, function) {
+        if !have_type(count, function.variables.as_slice()) {
             return false;
         }
     }
@@ -144,7 +152,7 @@ fn each_kind(rt: HostRuntime) -> Result<(), Fail> {
     };
     let want = [
         0x6c, 0, 0, 0, 5, 0, 1, 8, 0, 0, 0, 0, 1, 0x0c, 0, 0, 0, 0, 0, 0, 0, 0, 0, 0, 0, 0, 0, 0,
-        0, 0, 0x10, 0x20, 0, 0, 0x0c, 0, 0, 0, 7, b'i', b'n', b't', 0, 4, 5, 7, b'c', b'h', b'a',
+        0, 0x10, 0x20, 0, 0, 0x0c, 0, 0, 0, 7, b'i', b'n', b't', 0, 4, 5, 7, b'c', b'h', b'a',
         b'r', 0, 1, 6, 2, b'm', b'a', b'i', b'n', 0, 0, 0x10, 0, 0, 0, 0, 0, 0, 0, 0x10, 0, 0, 3,
         b'a', 0, 0x2c, 0, 0, 0, 0x80, 1, 4, b'b', 0, 0, 5, b'c', 0, 0x25, 0, 0, 0, 1, 6, 0, 2, 0,
         2, b'g', 0, 0, 0, 0, 0, 0, 0, 0, 0, 0x10, 0, 0, 0, 0, 0,
