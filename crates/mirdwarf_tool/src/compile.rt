@@ -1,6 +1,9 @@
+//! The text that is written of a function.
+
 ghost use Rattle.std.specs.Prelude.{◌≡◌, ◌++◌, ◌^◌, ◌<◌, ◌≤◌, [], codes, length, All, IfOk};
 ghost use Rattle.block_lists.specs.Code.{IsPlain};
 ghost use Rattle.mirdwarf_tool.specs.Compiled.{IsFirstForm, Compiles, CompilesBlock};
+ghost use Rattle.block_lists.specs.Ranges.{IsOfWhole};
 ghost use Rattle.block_lists.specs.Variables.{variables_of};
 ghost use Rattle.output_text.specs.Output as output;
 ghost use Rattle.mirdwarf_tool.specs.Listing.{output_with, block_image};
@@ -84,6 +87,7 @@ fn section_of(alloc: Global, lists: &RangeLists) -> Result<Bytes, AllocError>
     requires places { All ArePlaces lists.now }
     requires few { length lists.now ≤ 2 }
     requires short { All (λ ranges. length ranges ≤ 8192) lists.now }
+    requires whole { All (All IsOfWhole) lists.now }
     ensures bytes { IfOk result (λ bytes. bytes ≡ spelling lists.now) }
     ensures section { IfOk result (λ bytes. IsSection bytes lists.now) }
 {
