@@ -64,6 +64,7 @@ kind_printable (AddImmediate to from i k) b h =
       record {
         form = and_from (is_immediate i) true in_range refl;
         numbers = three HasNumbers (Def to) (Use from) (Imm i) (target_number to (both_left (is_target to) (is_source from) registers)) (source_number from (both_right (is_target to) (is_source from) registers)) (immediate_signed i in_range);
+        stack = λ form. three (IsAsDeclared no_objects) (Def to) (Use from) (Imm i) tt tt tt;
       },
       number_or_none k (both_right (is_target to && is_source from && is_immediate i) (is_small_or_none k) h),
     )
@@ -80,20 +81,24 @@ kind_printable (Add to left right k) b h =
     )
 kind_printable (Value zero v) true h = (record { node = variable_number v (both_right (is_source 0) (is_variable v) h); inlined = refl; part = tt }, omega arith)
 kind_printable (Value zero v) false h = (record { node = variable_number v (both_right (is_source 0) (is_variable v) h); inlined = refl; part = tt }, omega arith)
-kind_printable (Value (suc r) v) true h =
-    (record { node = variable_number v (both_right (is_source (suc r)) (is_variable v) h); inlined = refl; part = tt },
-    source_number (suc r) (both_left (is_source (suc r)) (is_variable v) h))
-kind_printable (Value (suc r) v) false h =
-    (record { node = variable_number v (both_right (is_source (suc r)) (is_variable v) h); inlined = refl; part = tt },
-    source_number (suc r) (both_left (is_source (suc r)) (is_variable v) h))
+kind_printable (Value (suc r) v) true h = (
+  record { node = variable_number v (both_right (is_source (suc r)) (is_variable v) h); inlined = refl; part = tt },
+  source_number (suc r) (both_left (is_source (suc r)) (is_variable v) h),
+)
+kind_printable (Value (suc r) v) false h = (
+  record { node = variable_number v (both_right (is_source (suc r)) (is_variable v) h); inlined = refl; part = tt },
+  source_number (suc r) (both_left (is_source (suc r)) (is_variable v) h),
+)
 kind_printable (Reference v k o) true h =
-    let front = both_left (is_variable v && is_small k) (is_small o) h in
-    (record { node = variable_number v (both_left (is_variable v) (is_small k) front); inlined = refl; part = tt },
-    (small_number k (both_right (is_variable v) (is_small k) front), small_number o (both_right (is_variable v && is_small k) (is_small o) h)))
+    let front = both_left (is_variable v && is_small k) (is_small o) h in (
+      record { node = variable_number v (both_left (is_variable v) (is_small k) front); inlined = refl; part = tt },
+      (small_number k (both_right (is_variable v) (is_small k) front), small_number o (both_right (is_variable v && is_small k) (is_small o) h)),
+    )
 kind_printable (Reference v k o) false h =
-    let front = both_left (is_variable v && is_small k) (is_small o) h in
-    (record { node = variable_number v (both_left (is_variable v) (is_small k) front); inlined = refl; part = tt },
-    (small_number k (both_right (is_variable v) (is_small k) front), small_number o (both_right (is_variable v && is_small k) (is_small o) h)))
+    let front = both_left (is_variable v && is_small k) (is_small o) h in (
+      record { node = variable_number v (both_left (is_variable v) (is_small k) front); inlined = refl; part = tt },
+      (small_number k (both_right (is_variable v) (is_small k) front), small_number o (both_right (is_variable v && is_small k) (is_small o) h)),
+    )
 kind_printable (Return None) b h = (record { form = refl; numbers = All-nil HasNumbers; stack = λ form. All-nil (IsAsDeclared no_objects) }, tt)
 kind_printable (Return (Some r)) b h = (record { form = and_from (is_result r) true h refl; numbers = All-cons HasNumbers (ImplicitUse r) [] (result_number r h) (All-nil HasNumbers); stack = λ form. All-cons (IsAsDeclared no_objects) (ImplicitUse r) [] tt (All-nil (IsAsDeclared no_objects)) }, tt)
 

@@ -215,14 +215,15 @@ is_whole v is = λ i. record v { fragment = sym is i }
 -- ranges of a whole variable have no pieces
 no_part : (ranges : List Range) (x n : ℕ) (part : Part) → All IsOfWhole ranges → Some part ≡ nth_piece (location_in ranges x) n → ⊥
 no_part [] x n part whole e = cc
-no_part (r ∷ ranges) x n part whole e = by (nat_le r.lo x && nat_lt x r.hi) e
+no_part (r ∷ ranges) x n part whole e = by (nat_le r.lo x && nat_lt x r.hi) (no_part ranges x n part (All-tail IsOfWhole r ranges whole)) e
   where
     here : (l : Location) → (place : Place) × (l ≡ Whole place) → Some part ≡ nth_piece (Some l) n → ⊥
     here (Whole p) is f = cc
     here (Parts parts) is f = let both : Parts parts ≡ Whole is.0 = is.1 in cc
-    by : (b : Bool) → Some part ≡ nth_piece (if b then Some r.location else location_in ranges x) n → ⊥
-    by true f = here r.location (All-head IsOfWhole r ranges whole) f
-    by false f = no_part ranges x n part (All-tail IsOfWhole r ranges whole) f
+
+    by : (b : Bool) → (Some part ≡ nth_piece (location_in ranges x) n → ⊥) → Some part ≡ nth_piece (if b then Some r.location else location_in ranges x) n → ⊥
+    by true more f = here r.location (All-head IsOfWhole r ranges whole) f
+    by false more f = more f
 
 -- ---- the variables of a block along its walk
 
@@ -341,6 +342,7 @@ module _ (name code : List ℕ) (block : Block) (lists : List (List Range)) (pla
       whole_walked : (b : Bool) → IsWhole v → list_any (is_same v) variables ≡ b → Walked v (given v) 0 0 entry_tokens block.items
       whole_walked true whole some = let k = numbered v variables some in inl (told v k.0 whole k.1)
       whole_walked false whole none = inr (untold v none (unlisted v whole none))
+
       by : (f : Option Bytes) → v.fragment ≡ f → Walked v (given v) 0 0 entry_tokens block.items
       by None whole = whole_walked (list_any (is_same v) variables) whole refl
       by (Some b) part = inr (untold v (part_unlisted v b part (list_any (is_same v) variables) refl) (part_never v b part))

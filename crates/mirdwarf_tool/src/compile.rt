@@ -12,10 +12,9 @@ ghost use Rattle.dwarf_loclists.specs.Spelling.{spelling};
 ghost use Rattle.dwarf_loclists.specs.Reading.{IsSection};
 ghost use Rattle.code_layout.specs.Straight.{IsStraightImage};
 
-use block_lists::code::machine_code;
 use crate::listing::push_listing;
+use block_lists::code::machine_code;
 use block_lists::lists_of::lists;
-use output_text::section::push_section;
 use block_lists::variables::variables;
 use dwarf_loclists::range::RangeLists;
 use dwarf_loclists::section::{Bytes, lists_size, write_lists};
@@ -23,6 +22,7 @@ use mir_func::block::Block;
 use mir_func::func::Func;
 use mir_func::variable::VarId;
 use mir_printer::text::Text;
+use output_text::section::push_section;
 use std::alloc::{AllocError, Global};
 
 /// The text of a function's sections and of its listing.

@@ -7,7 +7,6 @@ ghost use Rattle.output_text.specs.Output.{name_text, name_byte, function_line, 
 ghost use Rattle.mirdwarf_tool.specs.Listing.{variable_name, listed_variables, start_of, item_listed, listed_items, listing_of};
 
 use block_lists::code::is_code;
-use output_text::hex::push_address;
 use mir_func::block::Block;
 use mir_func::item::Item;
 use mir_func::position::{Origin, Pos};
@@ -17,6 +16,7 @@ use mir_printer::symbol::push_escaped;
 use mir_printer::text::{Text, push_numbered, push_str};
 use numbers::code::BlockId;
 use numbers::metadata::NodeId;
+use output_text::hex::push_address;
 use std::alloc::AllocError;
 
 /// Appends the listing of a function of one block: its line with the addresses from 0 to its length in bytes, its
