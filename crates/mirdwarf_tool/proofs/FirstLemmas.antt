@@ -1,16 +1,17 @@
 -- A function that a text in the first form stands for has one block of plain items.
-use Rattle.std.specs.Prelude.{Some, None, IsSome, if◌then◌else◌, pos, All, Bool, true, false, ◌&&◌, nat_lt}
-use Rattle.std.specs.List.{list_all}
-use Rattle.std.proofs.Common.{◌≡◌, ℕ, zero, suc, ◌<◌, List, [], ◌∷◌, length, arith, ap, refl}
-use Rattle.std.proofs.lemmas.Bool.Decides.{nat_tests}
+use Rattle.std.specs.Prelude.{Some, None, IsSome, if◌then◌else◌, pos, All, Bool, true, false, ◌&&◌, ◌||◌, nat_eq, nat_lt}
+use Rattle.std.specs.List.{list_all, list_any}
+use Rattle.std.proofs.Common.{◌≡◌, ℕ, zero, suc, ◌<◌, List, [], ◌∷◌, length, arith, ap, sym, ◌∙◌, refl, inl, inr}
+use Rattle.std.proofs.lemmas.Bool.Decides.{nat_tests, eqb_tells}
 use Rattle.std.proofs.lemmas.List.Elements.{All-cons, All-nil}
 use Rattle.rv64_instr.specs.Arithmetic.{word}
 use Rattle.rv64_instr.specs.Row.{immediate_row}
 use Rattle.rv64_instr.specs.declared.op.ImmediateOp.TheVariants.{Addi}
+use Rattle.rv64_instr.specs.declared.op.RegisterOp.TheVariants.{Add as Sum}
 use Rattle.rv64_instr.specs.declared.operand.Operand.{Operand}
 use Rattle.rv64_instr.specs.declared.operand.Operand.TheVariants.{Def, Use, Imm}
 use Rattle.rv64_word.specs.declared.machine_op.MachineOp.{MachineOp}
-use Rattle.rv64_word.specs.declared.word_op.WordOp.TheVariants as word_op
+use Rattle.rv64_word.specs.declared.word_op.WordOp.TheVariants.{Registers, Immediate}
 use Rattle.rv64_word.specs.MachineOp.{is_encodable}
 use Rattle.rv64_word.specs.Lowering.{in_range, machine_op}
 use Rattle.mir_meaning.specs.Step.{defined}
@@ -18,7 +19,9 @@ use Rattle.first_form.specs.declared.line.Line.{Line}
 use Rattle.first_form.specs.declared.line.Statement.{Statement}
 use Rattle.first_form.specs.declared.line.Statement.TheVariants.{AddImmediate, Add, Value, Reference, Return}
 use Rattle.first_form.specs.FirstForm.{is_allowed, is_target, is_source, is_immediate, is_small_or_none, kind_of, items_from, item_of}
-use Rattle.block_lists.specs.Code.{IsPlain, IsPlainKind, IsPlainRow, DefinesFirst}
+use Rattle.code_layout.specs.Headline.{KEPT}
+use Rattle.code_layout.specs.Straight.{IsSpare}
+use Rattle.block_lists.specs.Code.{IsPlain, IsPlainKind, IsLaidOutRow, DefinesFirst}
 
 pub both_left : (a b : Bool) → (a && b) ≡ true → a ≡ true
 both_left true b e = refl
@@ -41,10 +44,27 @@ source_below r h = grind (arith, nat_tests)
 below_register : (r : ℕ) → r < 32 → nat_lt r 32 ≡ true
 below_register r h = grind (arith, nat_tests)
 
-add_row : (to from n : ℕ) → to < 32 → from < 32 → IsPlainRow (immediate_row Addi to from n)
-add_row to zero n to_below from_below = to_below
-add_row to (suc r) zero to_below from_below = (to_below, from_below)
-add_row to (suc r) (suc n) to_below from_below = to_below
+neither : (a b : Bool) → (a || b) ≡ false → (a ≡ false) × (b ≡ false)
+neither true b e = absurd cc
+neither false b e = (refl, e)
+
+-- a target is none of registers that are no targets
+apart_from : (r : ℕ) → is_target r ≡ true → (rs : List ℕ) → list_any is_target rs ≡ false → list_any (nat_eq r) rs ≡ false
+apart_from r h [] none = refl
+apart_from r h (s ∷ rs) none =
+    let parts = neither (is_target s) (list_any is_target rs) none in
+    elim (eqb_tells r s) [
+      | inl e ↦ let both : true ≡ false = sym h ∙ (ap is_target e.1 ∙ parts.0) in absurd cc
+      | inr e ↦ rw e.0 (apart_from r h rs parts.1)
+    ]
+
+pub target_spare : (r : ℕ) → is_target r ≡ true → IsSpare r
+target_spare r h = apart_from r h KEPT refl
+
+add_row : (to from n : ℕ) → to < 32 → IsSpare to → from < 32 → IsLaidOutRow (immediate_row Addi to from n)
+add_row to zero n to_below spare from_below = (to_below, spare)
+add_row to (suc r) zero to_below spare from_below = (to_below, spare, from_below)
+add_row to (suc r) (suc n) to_below spare from_below = (to_below, spare)
 
 -- of three operands the first alone defines a register
 three : (a b c : Operand) → defined false (Some b) ≡ None → defined false (Some c) ≡ None → DefinesFirst (a ∷ b ∷ c ∷ [])
@@ -63,28 +83,30 @@ pub plain_kind : (s : Statement) → is_allowed s ≡ true → IsPlainKind (kind
 plain_kind (AddImmediate to from i k) h =
     let front = both_left (is_target to && is_source from && is_immediate i) (is_small_or_none k) h in
     let registers = both_left (is_target to && is_source from) (is_immediate i) front in
-    let to_below = target_below to (both_left (is_target to) (is_source from) registers) in
+    let target = both_left (is_target to) (is_source from) registers in
+    let to_below = target_below to target in
     let from_below = source_below from (both_right (is_target to) (is_source from) registers) in
     let fits = both_right (is_target to && is_source from) (is_immediate i) front in (
-      has_word (machine_op word_op.Addi to from 0 i)
+      has_word (machine_op (Immediate Addi) to from 0 i)
           (both (nat_lt to 32 && nat_lt from 32 && true) (is_immediate i) (both (nat_lt to 32 && nat_lt from 32) true (both (nat_lt to 32) (nat_lt from 32) (below_register to to_below) (below_register from from_below)) refl) fits),
-      add_row to from (word i) to_below from_below,
+      add_row to from (word i) to_below (target_spare to target) from_below,
       three (Def to) (Use from) (Imm i) refl refl,
     )
 plain_kind (Add to left right k) h =
     let front = both_left (is_target to && is_source left && is_source right) (is_small_or_none k) h in
     let two = both_left (is_target to && is_source left) (is_source right) front in
-    let to_below = target_below to (both_left (is_target to) (is_source left) two) in
+    let target = both_left (is_target to) (is_source left) two in
+    let to_below = target_below to target in
     let left_below = source_below left (both_right (is_target to) (is_source left) two) in
     let right_below = source_below right (both_right (is_target to && is_source left) (is_source right) front) in (
-      has_word (machine_op word_op.Add to left right (pos 0))
+      has_word (machine_op (Registers Sum) to left right (pos 0))
           (both (nat_lt to 32 && nat_lt left 32 && nat_lt right 32) true
           (both (nat_lt to 32 && nat_lt left 32) (nat_lt right 32) (both (nat_lt to 32) (nat_lt left 32) (below_register to to_below) (below_register left left_below)) (below_register right right_below)) refl),
-      to_below,
+      (to_below, target_spare to target),
       three (Def to) (Use left) (Use right) refl refl,
     )
-plain_kind (Value r v) h = tt
-plain_kind (Reference v k o) h = tt
+plain_kind (Value r v) h = refl
+plain_kind (Reference v k o) h = refl
 plain_kind (Return None) h = (refl, tt, λ o. refl)
 plain_kind (Return (Some r)) h = (refl, tt, λ o. refl)
 

@@ -6,3 +6,4 @@ pub mod VariablesLemmas
 pub mod ListingLemmas
 pub mod PromiseLemmas
 pub mod ShownLemmas
+pub mod SectionLemmas

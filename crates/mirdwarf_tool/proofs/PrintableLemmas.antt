@@ -12,13 +12,13 @@ use Rattle.mir_func.specs.declared.item.Item.{Item}
 use Rattle.mir_func.specs.declared.item.ItemKind.{ItemKind}
 use Rattle.mir_func.specs.declared.item.ItemKind.TheVariants.{Code, Mark, Phi}
 use Rattle.mir_meaning.specs.Align.{is_code}
-use Rattle.mir_printer.specs.Printable.{IsNumber, IsSigned, HasNumbers, IsPrintableLoc, IsPrintableKind}
+use Rattle.mir_printer.specs.Printable.{IsNumber, IsSigned, HasNumbers, IsAsDeclared, IsPrintableLoc, IsPrintableKind}
 use Rattle.first_form.specs.declared.line.Line.{Line}
 use Rattle.first_form.specs.declared.line.Statement.{Statement}
 use Rattle.first_form.specs.declared.line.Statement.TheVariants.{AddImmediate, Add, Value, Reference, Return}
 use Rattle.first_form.specs.FirstForm.{is_allowed, is_target, is_source, is_result, is_variable, is_small, is_small_or_none, is_immediate, kind_of, loc_of, item_of, items_from}
 use Rattle.block_lists.specs.Code.{word_bytes, operation_of, code_bytes, code_of}
-use Rattle.output_text.specs.Shown.{IsPrintableLine, not_inlined}
+use Rattle.output_text.specs.Shown.{IsPrintableLine, declared_by, not_inlined}
 use Rattle.mirdwarf_tool.specs.Listing.{start_of, item_listed, listed_items}
 use Rattle.mirdwarf_tool.proofs.FirstLemmas.{both_left, both_right}
 
@@ -45,21 +45,26 @@ immediate_signed : (i : ℤ) → is_immediate i ≡ true → IsSigned i
 immediate_signed (pos n) h = let less : n < 2048 = grind (arith, nat_tests) in omega arith
 immediate_signed (negsuc n) h = let less : n < 2048 = grind (arith, nat_tests) in omega arith
 
-three : (a b c : Operand) → HasNumbers a → HasNumbers b → HasNumbers c → All HasNumbers (a ∷ b ∷ c ∷ [])
-three a b c x y z = All-cons HasNumbers a (b ∷ c ∷ []) x (All-cons HasNumbers b (c ∷ []) y (All-cons HasNumbers c [] z (All-nil HasNumbers)))
+three : (P : Operand → Type 0) (a b c : Operand) → P a → P b → P c → All P (a ∷ b ∷ c ∷ [])
+three P a b c x y z = All-cons P a (b ∷ c ∷ []) x (All-cons P b (c ∷ []) y (All-cons P c [] z (All-nil P)))
 
 not_located : (b : Bool) → IsPrintableLoc (loc_of b)
 not_located true = omega arith
 not_located false = tt
 
-kind_printable : (s : Statement) (b : Bool) → is_allowed s ≡ true → IsPrintableKind not_inlined (loc_of b) (kind_of s)
+-- no number is declared as a stack object's
+abbrev no_objects : ℕ → Bool
+no_objects = λ n. false
+
+kind_printable : (s : Statement) (b : Bool) → is_allowed s ≡ true → IsPrintableKind (declared_by not_inlined) (loc_of b) (kind_of s)
 kind_printable (AddImmediate to from i k) b h =
     let front = both_left (is_target to && is_source from && is_immediate i) (is_small_or_none k) h in
     let registers = both_left (is_target to && is_source from) (is_immediate i) front in
     let in_range = both_right (is_target to && is_source from) (is_immediate i) front in (
       record {
         form = and_from (is_immediate i) true in_range refl;
-        numbers = three (Def to) (Use from) (Imm i) (target_number to (both_left (is_target to) (is_source from) registers)) (source_number from (both_right (is_target to) (is_source from) registers)) (immediate_signed i in_range);
+        numbers = three HasNumbers (Def to) (Use from) (Imm i) (target_number to (both_left (is_target to) (is_source from) registers)) (source_number from (both_right (is_target to) (is_source from) registers)) (immediate_signed i in_range);
+        stack = λ form. three (IsAsDeclared no_objects) (Def to) (Use from) (Imm i) tt tt tt;
       },
       number_or_none k (both_right (is_target to && is_source from && is_immediate i) (is_small_or_none k) h),
     )
@@ -68,23 +73,34 @@ kind_printable (Add to left right k) b h =
     let two = both_left (is_target to && is_source left) (is_source right) front in (
       record {
         form = refl;
-        numbers = three (Def to) (Use left) (Use right) (target_number to (both_left (is_target to) (is_source left) two)) (source_number left (both_right (is_target to) (is_source left) two))
+        numbers = three HasNumbers (Def to) (Use left) (Use right) (target_number to (both_left (is_target to) (is_source left) two)) (source_number left (both_right (is_target to) (is_source left) two))
             (source_number right (both_right (is_target to && is_source left) (is_source right) front));
+        stack = λ form. three (IsAsDeclared no_objects) (Def to) (Use left) (Use right) tt tt tt;
       },
       number_or_none k (both_right (is_target to && is_source left && is_source right) (is_small_or_none k) h),
     )
-kind_printable (Value zero v) true h = (variable_number v (both_right (is_source 0) (is_variable v) h), refl, omega arith)
-kind_printable (Value zero v) false h = (variable_number v (both_right (is_source 0) (is_variable v) h), refl, omega arith)
-kind_printable (Value (suc r) v) true h = (variable_number v (both_right (is_source (suc r)) (is_variable v) h), refl, source_number (suc r) (both_left (is_source (suc r)) (is_variable v) h))
-kind_printable (Value (suc r) v) false h = (variable_number v (both_right (is_source (suc r)) (is_variable v) h), refl, source_number (suc r) (both_left (is_source (suc r)) (is_variable v) h))
+kind_printable (Value zero v) true h = (record { node = variable_number v (both_right (is_source 0) (is_variable v) h); inlined = refl; part = tt }, omega arith)
+kind_printable (Value zero v) false h = (record { node = variable_number v (both_right (is_source 0) (is_variable v) h); inlined = refl; part = tt }, omega arith)
+kind_printable (Value (suc r) v) true h = (
+  record { node = variable_number v (both_right (is_source (suc r)) (is_variable v) h); inlined = refl; part = tt },
+  source_number (suc r) (both_left (is_source (suc r)) (is_variable v) h),
+)
+kind_printable (Value (suc r) v) false h = (
+  record { node = variable_number v (both_right (is_source (suc r)) (is_variable v) h); inlined = refl; part = tt },
+  source_number (suc r) (both_left (is_source (suc r)) (is_variable v) h),
+)
 kind_printable (Reference v k o) true h =
-    let front = both_left (is_variable v && is_small k) (is_small o) h in
-    (variable_number v (both_left (is_variable v) (is_small k) front), refl, (small_number k (both_right (is_variable v) (is_small k) front), small_number o (both_right (is_variable v && is_small k) (is_small o) h)))
+    let front = both_left (is_variable v && is_small k) (is_small o) h in (
+      record { node = variable_number v (both_left (is_variable v) (is_small k) front); inlined = refl; part = tt },
+      (small_number k (both_right (is_variable v) (is_small k) front), small_number o (both_right (is_variable v && is_small k) (is_small o) h)),
+    )
 kind_printable (Reference v k o) false h =
-    let front = both_left (is_variable v && is_small k) (is_small o) h in
-    (variable_number v (both_left (is_variable v) (is_small k) front), refl, (small_number k (both_right (is_variable v) (is_small k) front), small_number o (both_right (is_variable v && is_small k) (is_small o) h)))
-kind_printable (Return None) b h = (record { form = refl; numbers = All-nil HasNumbers }, tt)
-kind_printable (Return (Some r)) b h = (record { form = and_from (is_result r) true h refl; numbers = All-cons HasNumbers (ImplicitUse r) [] (result_number r h) (All-nil HasNumbers) }, tt)
+    let front = both_left (is_variable v && is_small k) (is_small o) h in (
+      record { node = variable_number v (both_left (is_variable v) (is_small k) front); inlined = refl; part = tt },
+      (small_number k (both_right (is_variable v) (is_small k) front), small_number o (both_right (is_variable v && is_small k) (is_small o) h)),
+    )
+kind_printable (Return None) b h = (record { form = refl; numbers = All-nil HasNumbers; stack = λ form. All-nil (IsAsDeclared no_objects) }, tt)
+kind_printable (Return (Some r)) b h = (record { form = and_from (is_result r) true h refl; numbers = All-cons HasNumbers (ImplicitUse r) [] (result_number r h) (All-nil HasNumbers); stack = λ form. All-cons (IsAsDeclared no_objects) (ImplicitUse r) [] tt (All-nil (IsAsDeclared no_objects)) }, tt)
 
 start_number : (b : Bool) (a : ℕ) → IsNumber a → IfSome (start_of a b) IsNumber
 start_number true a small = small

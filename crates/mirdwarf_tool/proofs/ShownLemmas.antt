@@ -1,11 +1,12 @@
 -- The output of a block: its image, the places of its lines, and what it promises.
-use Rattle.std.specs.Prelude.{Option, Some, Result, Ok, Err, IfOk, Bool, true, false, cond, slice_get, map}
+use Rattle.std.specs.Prelude.{Option, Some, Result, Ok, Err, IfOk, All, ◌<◌, Bool, true, false, cond, slice_get, map}
 use Rattle.std.specs.List.{flat_map}
 use Rattle.std.specs.Int.{w32, to_le_bytes}
 use Rattle.std.proofs.Common.{◌≡◌, ℕ, zero, suc, ◌+◌, List, [], ◌∷◌, ◌++◌, length, ap, sym, ◌∙◌, refl, subst, arith, append-nil, length-append, get_or}
 use Rattle.std.proofs.lemmas.List.Elements.{All-cons, All-nil}
+use Rattle.rv64_instr.specs.declared.place.Place.{Place}
 use Rattle.rv64_instr.specs.Instruction.{Instruction}
-use Rattle.rv64_instr.specs.Row.{Row, Fixes, Moves, Sets, Loads, Stores, LoadsSlot, StoresSlot, Branches, Jumps, Calls, Returns, Unfit, row_of}
+use Rattle.rv64_instr.specs.Row.{Row, Fixes, Moves, Sets, Addresses, Loads, Stores, LoadsSlot, StoresSlot, Branches, Jumps, Calls, Returns, Unfit, row_of}
 use Rattle.mir_func.specs.declared.position.Pos.{Pos}
 use Rattle.mir_func.specs.declared.position.Origin.{Origin}
 use Rattle.mir_func.specs.declared.variable.VarId.{VarId}
@@ -23,21 +24,21 @@ use Rattle.mir_printer.specs.Printable.{IsNumber}
 use Rattle.dwarf_loclists.specs.declared.range.Range.{Range}
 use Rattle.dwarf_loclists.specs.Spelling as loclists
 use Rattle.dwarf_loclists.specs.Reading.{IsSection}
-use Rattle.code_layout.specs.Image.{CodeLine, Image}
+use Rattle.code_layout.specs.Image.{CodeLine, Image, line_of}
 use Rattle.code_layout.specs.Headline.{Headline}
 use Rattle.code_layout.specs.Straight.{IsPlainRow, IsStraight, IsStraightImage, returns, goes_on, marks}
 use Rattle.code_layout.specs.Straight as straight
 use Rattle.code_layout.specs.Exact.{GiveFirst, address_at, IsPointOf}
 use Rattle.code_layout.proofs.Straight.{straight_code_meets_the_headline}
 use Rattle.code_layout.proofs.Exact.{straight_lists_are_exact}
-use Rattle.block_lists.specs.Code.{code_of}
+use Rattle.block_lists.specs.Code.{code_of, IsPlain}
 use Rattle.output_text.specs.Output.{ItemLine, ListedBlock, ListedFunction, Output, spelling}
 use Rattle.output_text.specs.Shown.{IsPrintableFunction, Shows, OfShown, not_inlined}
 use Rattle.mirdwarf_tool.specs.Listing.{start_of, item_listed, listed_items, listing_of, output_with, output_of, compiled_text, block_image}
 use Rattle.block_lists.specs.Variables.{variables_of}
 use Rattle.block_lists.specs.Walk.{unchanged}
 use Rattle.block_lists.specs.Lists.{AreLists}
-use Rattle.mirdwarf_tool.specs.Promise.{code_line, blocks_of, lines_of, raised_by, raised, item_shown, block_shown, image_of, Gives, SourceFunction, unsubstituted, OfEach, past_item, LinesLie, IsLaidOut, AreLaidOut, MeetsHeadline, Promises, IsListedAt, IsExactFor, IsExact, ListsSource, ListsSources}
+use Rattle.mirdwarf_tool.specs.Promise.{blocks_of, lines_of, raised_by, raised, item_shown, block_shown, image_of, Gives, SourceFunction, unsubstituted, OfEach, past_item, LinesLie, IsLaidOut, AreLaidOut, MeetsHeadline, Promises, IsListedAt, IsExactFor, IsExact, ListsSource, ListsSources}
 use Rattle.mirdwarf_tool.specs.Compiled.{IsFirstForm, CompilesBlock, Compiles}
 use Rattle.output_text.proofs.OneOutput.{one_reading}
 use Rattle.mirdwarf_tool.proofs.PromiseLemmas.{held_from, gives_first}
@@ -45,18 +46,18 @@ use Rattle.mirdwarf_tool.proofs.PromiseLemmas.{held_from, gives_first}
 -- ---- the image
 
 abbrev line_shown : ItemLine → List CodeLine
-line_shown l = code_line l.address l.item.origin l.item.kind
+line_shown l = line_of l.address l.item.origin l.item.kind
 
-line_same : (a : ℕ) (o : Origin) (k : ItemKind) → code_line (start_of a (is_code k)) o k ≡ straight.line_of a o k
+line_same : (a : ℕ) (o : Origin) (k : ItemKind) → line_of (start_of a (is_code k)) o k ≡ line_of (Some a) o k
 line_same a o (Code c n) = refl
 line_same a o (Mark v m) = refl
 line_same a o (Phi p n) = refl
 
-lines_same : (a : ℕ) (items : List Item) → flat_map (λ l. code_line l.address l.item.origin l.item.kind) (listed_items a items) ≡ straight.lines_of a items
+lines_same : (a : ℕ) (items : List Item) → flat_map line_shown (listed_items a items) ≡ straight.lines_of a items
 lines_same a [] = refl
 lines_same a (i ∷ items) =
     ap (λ (t : List CodeLine). t ++ flat_map line_shown (listed_items (cond (is_code i.kind) (a + 4) a) items)) (line_same a i.origin i.kind)
-    ∙ ap (λ (t : List CodeLine). straight.line_of a i.origin i.kind ++ t) (lines_same (cond (is_code i.kind) (a + 4) a) items)
+    ∙ ap (λ (t : List CodeLine). line_of (Some a) i.origin i.kind ++ t) (lines_same (cond (is_code i.kind) (a + 4) a) items)
 
 abbrev listing : (name : List ℕ) → Block → ListedFunction
 listing name block = listing_of name (length (code_of block.items)) (variables_of [] block.items) block
@@ -64,7 +65,7 @@ listing name block = listing_of name (length (code_of block.items)) (variables_o
 image_same : (name : List ℕ) (block : Block) (lists : List (List Range)) → image_of (output_of name block lists) (listing name block) ≡ block_image block
 image_same name block lists =
     let lines : flat_map line_shown (listed_items 0 block.items ++ []) ≡ straight.lines_of 0 block.items = ap (flat_map line_shown) (append-nil (listed_items 0 block.items)) ∙ lines_same 0 block.items in
-    λ k. record { text = code_of block.items; low = 0; lines = lines k }
+    λ k. record { text = code_of block.items; low = 0; area = 0; lines = lines k }
 
 -- ---- the places of lines
 
@@ -73,27 +74,38 @@ start_is true here a e = (refl, (let same : here ≡ a = cc in sym same))
 start_is false here a e = absurd cc
 
 -- the item of a line with an address
-record HasItem (items : List Item) (first n a : ℕ) : Type 0 where
+record HasItem (items : List Item) (first n a : ℕ) (line : ItemLine) : Type 0 where
   item : Item
   stands : slice_get items n ≡ Some item
   code : is_code item.kind ≡ true
   address : a ≡ address_at first items n
+  kind : line.item.kind ≡ item.kind
 
-has_item : (items : List Item) (first n a : ℕ) (l : ItemLine) → slice_get (listed_items first items) n ≡ Some l → l.address ≡ Some a → HasItem items first n a
+has_item : (items : List Item) (first n a : ℕ) (l : ItemLine) → slice_get (listed_items first items) n ≡ Some l → l.address ≡ Some a → HasItem items first n a l
 has_item [] first n a l e here = absurd cc
 has_item (i ∷ items) first zero a l e here =
     let same : item_listed first i ≡ l = cc in
     let start = start_is (is_code i.kind) first a (ap (λ (x : ItemLine). x.address) same ∙ here) in
-    record { item = i; stands = refl; code = start.0; address = start.1 }
+    record { item = i; stands = refl; code = start.0; address = start.1; kind = ap (λ (x : ItemLine). x.item.kind) (sym same) }
 has_item (i ∷ items) first (suc n) a l e here =
     let more = has_item items (cond (is_code i.kind) (first + 4) first) n a l e here in
-    record { item = more.item; stands = more.stands; code = more.code; address = more.address }
+    record { item = more.item; stands = more.stands; code = more.code; address = more.address; kind = more.kind }
+
+-- the line of code
+line_listed : (items : List Item) (first n : ℕ) (i : Item) → slice_get items n ≡ Some i → is_code i.kind ≡ true →
+    slice_get (listed_items first items) n ≡ Some (record { address = Some (address_at first items n); item = i })
+line_listed [] first n i at code = absurd cc
+line_listed (j ∷ items) first zero i at code =
+    let same : j ≡ i = cc in
+    ap (λ (x : Item). Some (item_listed first x)) same ∙ ap (λ (b : Bool). Some (record { address = start_of first b; item = i })) code
+line_listed (j ∷ items) first (suc n) i at code = line_listed items (cond (is_code j.kind) (first + 4) first) n i at code
 
 -- straight code accesses no slot
 plain_raised : (r : Row) (c : Instruction) → IsPlainRow r → raised_by r c ≡ c
 plain_raised (Fixes rd n) c plain = refl
 plain_raised (Moves rd rs) c plain = refl
 plain_raised (Sets rd op x y) c plain = refl
+plain_raised (Addresses rd n offset) c plain = absurd plain
 plain_raised (Loads rd op base n) c plain = absurd plain
 plain_raised (Stores op rs base n) c plain = absurd plain
 plain_raised (LoadsSlot rd n) c plain = absurd plain
@@ -138,6 +150,7 @@ plain_no_call : (r : Row) → IsPlainRow r → is_call r ≡ false
 plain_no_call (Fixes rd n) plain = refl
 plain_no_call (Moves rd rs) plain = refl
 plain_no_call (Sets rd op x y) plain = refl
+plain_no_call (Addresses rd n offset) plain = refl
 plain_no_call (Loads rd op base n) plain = refl
 plain_no_call (Stores op rs base n) plain = refl
 plain_no_call (LoadsSlot rd n) plain = refl
@@ -195,37 +208,99 @@ in_block name block (suc zero) n lb l e within =
     (refl, ap (λ (x : ListedBlock). slice_get x.lines n) same ∙ within)
 in_block name block (suc (suc b)) n lb l e within = absurd cc
 
-point_of : (name : List ℕ) (block : Block) (a : ℕ) (p : Pos) → IsListedAt (listing name block) a p → IsPointOf 1 block.items a p
-point_of name block a p at =
-    let place = in_block name block p.block p.item at.block at.line at.stands at.within in
-    let found = has_item block.items 0 p.item a at.line place.1 at.here in
-    record { number = p.item; item = found.item; stands = found.stands; code = found.code; address = found.address; position = λ k. record { block = place.0 k; item = p.item } }
+-- a byte of a word is one of its four
+in_word : (k : ItemKind) (a x : ℕ) → is_code k ≡ true → past_item a k ≡ cond (is_code k) (a + 4) a → x < past_item a k → x < a + 4
+in_word k a x code word within = let end : past_item a k ≡ a + 4 = word ∙ ap (λ (b : Bool). cond b (a + 4) a) code in omega (arith, within, end)
+
+-- the item of a line of straight code is as long as a word
+items_long : {b n : ℕ} {items : List Item} {words : List ℕ} → IsStraight b n items words → (m a : ℕ) (i : Item) → slice_get items m ≡ Some i →
+    past_item a i.kind ≡ cond (is_code i.kind) (a + 4) a
+items_long (returns {i = i} {c = c} {k = k} kind own row physical) zero a j at =
+    let same : i ≡ j = cc in
+    subst (λ (x : Item). past_item a x.kind ≡ cond (is_code x.kind) (a + 4) a) same (word_long i.kind c k a kind (ap is_call row)).past
+items_long (returns {i = i} {c = c} {k = k} kind own row physical) (suc m) a j at = absurd cc
+items_long (goes_on {i = i} {c = c} {k = k} w kind own plain is rest) zero a j at =
+    let same : i ≡ j = cc in
+    subst (λ (x : Item). past_item a x.kind ≡ cond (is_code x.kind) (a + 4) a) same (word_long i.kind c k a kind (plain_no_call (row_of c) plain)).past
+items_long (goes_on w kind own plain is rest) (suc m) a j at = items_long rest m a j at
+items_long (marks {i = i} kind rest) zero a j at =
+    let same : i ≡ j = cc in
+    subst (λ (x : Item). past_item a x.kind ≡ cond (is_code x.kind) (a + 4) a) same
+    (subst (λ (x : ItemKind). past_item a x ≡ cond (is_code x) (a + 4) a) (sym kind) refl)
+items_long (marks kind rest) (suc m) a j at = items_long rest m a j at
+
+point_of : (name : List ℕ) (block : Block) → IsStraightImage block (block_image block) → (a : ℕ) (p : Pos) → IsListedAt (listing name block) a p →
+    IsPointOf 1 block.items a p
+point_of name block is a p at =
+    let place = in_block name block p.block p.item at.block at.line at.stands at.listed in
+    let found = has_item block.items 0 p.item at.first at.line place.1 at.begins in
+    let long = items_long is.straight p.item at.first found.item found.stands in
+    let within = subst (λ (k : ItemKind). a < past_item at.first k) found.kind at.within in
+    let below : a < at.first + 4 = in_word found.item.kind at.first a found.code long within in
+    record {
+      number = p.item;
+      item = found.item;
+      stands = found.stands;
+      code = found.code;
+      from = omega (arith, at.from, found.address);
+      within = omega (arith, below, found.address);
+      position = λ k. record { block = place.0 k; item = p.item };
+    }
+
+-- and back
+listed_at : (name : List ℕ) (block : Block) → IsStraightImage block (block_image block) → (a : ℕ) (p : Pos) → IsPointOf 1 block.items a p →
+    IsListedAt (listing name block) a p
+listed_at name block is a p point =
+    let line = line_listed block.items 0 point.number point.item point.stands point.code in
+    let long = items_long is.straight point.number (address_at 0 block.items point.number) point.item point.stands in
+    let end : past_item (address_at 0 block.items point.number) point.item.kind ≡ address_at 0 block.items point.number + 4 =
+    long ∙ ap (λ (b : Bool). cond b (address_at 0 block.items point.number + 4) (address_at 0 block.items point.number)) point.code in
+    let at : IsListedAt (listing name block) a (record { block = 1; item = point.number }) = record {
+      block = record { id = block.id; lines = listed_items 0 block.items };
+      line = record { address = Some (address_at 0 block.items point.number); item = point.item };
+      first = address_at 0 block.items point.number;
+      stands = refl;
+      listed = line;
+      begins = refl;
+      from = point.from;
+      within = omega (arith, point.within, end);
+    } in
+    subst (IsListedAt (listing name block) a) (sym point.position) at
 
 -- ---- the headline and exactness
 
-module _ (name : List ℕ) (block : Block) (lists : List (List Range)) (are : AreLists block.items lists) (section : IsSection (loclists.spelling lists) lists) where
-  firsts : GiveFirst (Gives (output_of name block lists) (listing name block)) unchanged 0 0 entry_tokens block.items
-  firsts = gives_first name (code_of block.items) block lists are section
+module _ (name : List ℕ) (block : Block) (lists : List (List Range)) (plain : All IsPlain block.items) (are : AreLists block.items lists)
+    (section : IsSection (loclists.spelling lists) lists) (is : IsStraightImage block (block_image block)) where
+  abbrev output : Output
+  output = output_of name block lists
 
-  pub headline_of : IsStraightImage block (block_image block) → Headline (block ∷ []) (resolve []) (image_of (output_of name block lists) (listing name block)) (Gives (output_of name block lists) (listing name block))
-  headline_of is =
+  abbrev given : VarId → ℕ → Place → Type 0
+  given = Gives (output_of name block lists) (listing name block)
+
+  firsts : GiveFirst given unchanged 0 0 entry_tokens block.items
+  firsts = gives_first name (code_of block.items) block lists plain are section
+
+  pub headline_of : (source : Function) → source.blocks ≡ block ∷ [] → source.objects ≡ [] →
+      Headline source (resolve []) (image_of (output_of name block lists) (listing name block)) (Gives (output_of name block lists) (listing name block))
+  headline_of source one none =
       let image : Image = image_of (output_of name block lists) (listing name block) in
-      let straight_image : IsStraightImage block (image_of (output_of name block lists) (listing name block)) = subst (IsStraightImage block) (sym (image_same name block lists)) is in
-      straight_code_meets_the_headline (Gives (output_of name block lists) (listing name block)) block (resolve []) (image_of (output_of name block lists) (listing name block)) straight_image
-      (held_from (Gives (output_of name block lists) (listing name block)) 0 0 entry_tokens block.items firsts)
+      let straight_image : IsStraightImage block image = subst (IsStraightImage block) (sym (image_same name block lists)) is in
+      straight_code_meets_the_headline given source block (resolve []) image one none straight_image (held_from given 0 0 entry_tokens block.items firsts)
 
-  pub exact_of : IsStraightImage block (block_image block) → IsExactFor (output_of name block lists) (listing name block)
-  exact_of is =
+  pub exact_of : IsExactFor (output_of name block lists) (listing name block)
+  exact_of =
       let shown : Block = block_shown (record { id = block.id; lines = listed_items 0 block.items }) in
       let prologue : Block = block_shown (record { id = block.id; lines = [] }) in
       let back : block.items ≡ map item_shown (listed_items 0 block.items) = sym (items_back is.straight 0) in
-      let law = straight_lists_are_exact (Gives (output_of name block lists) (listing name block)) (block_shown (record { id = block.id; lines = [] }))
-      (block_shown (record { id = block.id; lines = listed_items 0 block.items })) (resolve []) is.words refl
+      let law = straight_lists_are_exact given prologue shown (resolve []) is.words refl
       (subst (λ (xs : List Item). IsStraight block.id 0 xs is.words) back is.straight)
-      (subst (GiveFirst (Gives (output_of name block lists) (listing name block)) unchanged 0 0 entry_tokens) back firsts) in
+      (subst (GiveFirst given unchanged 0 0 entry_tokens) back firsts) in
+      let point : (a : ℕ) (p : Pos) → IsListedAt (listing name block) a p → IsPointOf 1 (map item_shown (listed_items 0 block.items)) a p =
+      λ a p at. subst (λ (xs : List Item). IsPointOf 1 xs a p) back (point_of name block is a p at) in
       record {
-        gives = λ v a p at. law.gives v a p (subst (λ (xs : List Item). IsPointOf 1 xs a p) back (point_of name block a p at));
-        gives_none = λ v a p at. law.gives_none v a p (subst (λ (xs : List Item). IsPointOf 1 xs a p) back (point_of name block a p at));
+        gives = λ v a p at. law.gives v a p (point a p at);
+        gives_none = λ v a p at. law.gives_none v a p (point a p at);
+        outside = λ v a none. law.outside v a (λ p at. none p (listed_at name block is a p (subst (λ (xs : List Item). IsPointOf 1 xs a p) (sym back) at)));
       }
 
 -- ---- what is written shows the output, and no other
@@ -270,10 +345,12 @@ compiles f text first block one is =
         functions = All-cons (IsPrintableFunction not_inlined) (listing f.name block) [] printable (All-nil (IsPrintableFunction not_inlined));
       };
     } in
+    let plain : All IsPlain block.items = subst (λ (b : Block). All IsPlain b.items) same first.plain in
     let headline : MeetsHeadline (output_of f.name block is.lists) (unsubstituted f) (listing f.name block) =
-    subst (λ (bs : List Block). Headline bs (resolve []) (image_of (output_of f.name block is.lists) (listing f.name block)) (Gives (output_of f.name block is.lists) (listing f.name block))) (sym one) (headline_of f.name block is.lists is.located is.section straight_image) in
+    headline_of f.name block is.lists plain is.located is.section straight_image f one first.objects in
     let exact : IsExact (output_of f.name block is.lists) =
-    All-cons (IsExactFor (output_of f.name block is.lists)) (listing f.name block) [] (exact_of f.name block is.lists is.located is.section straight_image) (All-nil (IsExactFor (output_of f.name block is.lists))) in
+    All-cons (IsExactFor (output_of f.name block is.lists)) (listing f.name block) []
+    (exact_of f.name block is.lists plain is.located is.section straight_image) (All-nil (IsExactFor (output_of f.name block is.lists))) in
     record {
       block = block;
       one = one;

@@ -9,6 +9,7 @@ use Rattle.rv64_instr.specs.Arithmetic.{word}
 use Rattle.rv64_instr.specs.Instruction.{Instruction}
 use Rattle.rv64_instr.specs.Row.{Row, Fixes, Moves, Sets, immediate_row, row_of}
 use Rattle.rv64_instr.specs.declared.op.ImmediateOp.TheVariants.{Addi}
+use Rattle.rv64_instr.specs.declared.op.RegisterOp.TheVariants.{Add as Sum}
 use Rattle.rv64_word.specs.declared.machine_op.MachineOp.{MachineOp}
 use Rattle.rv64_word.specs.declared.word_op.WordOp.TheVariants.{Jalr}
 use Rattle.rv64_word.specs.declared.word_op.WordOp.TheVariants as word_op
@@ -27,11 +28,11 @@ use Rattle.first_form.specs.declared.line.Statement.{Statement}
 use Rattle.first_form.specs.declared.line.Statement.TheVariants.{AddImmediate, Add, Value, Reference, Return}
 use Rattle.first_form.specs.FirstForm.{is_allowed, is_target, is_source, is_result, is_immediate, is_small_or_none, is_return, ends_in_return, kind_of, items_from, loc_of}
 use Rattle.code_layout.specs.MachineStep.{return_word}
-use Rattle.code_layout.specs.Straight.{IsStraight, IsStraightImage, IsWordOf, returns, goes_on, marks}
+use Rattle.code_layout.specs.Straight.{IsSpare, IsStraight, IsStraightImage, IsWordOf, returns, goes_on, marks}
 use Rattle.code_layout.specs.Straight as straight
 use Rattle.block_lists.specs.Code.{code_bytes, code_of, operation_of, word_bytes}
 use Rattle.mirdwarf_tool.specs.Listing.{block_image}
-use Rattle.mirdwarf_tool.proofs.FirstLemmas.{both_left, both_right, source_below, plain_kind}
+use Rattle.mirdwarf_tool.proofs.FirstLemmas.{both_left, both_right, source_below, target_spare, plain_kind}
 
 abbrev word_in : Option MachineOp → List ℕ
 word_in None = []
@@ -62,26 +63,26 @@ return_spelled : word_of (machine_op Jalr 0 1 0 (pos 0)) ≡ return_word
 unfolding word_of
 return_spelled = refl
 
-immediate_plain : (to from n : ℕ) → from < 32 → straight.IsPlainRow (immediate_row Addi to from n)
-immediate_plain to zero n below = tt
-immediate_plain to (suc r) zero below = below
-immediate_plain to (suc r) (suc n) below = (below, tt)
+immediate_plain : (to from n : ℕ) → IsSpare to → from < 32 → straight.IsPlainRow (immediate_row Addi to from n)
+immediate_plain to zero n spare below = spare
+immediate_plain to (suc r) zero spare below = (spare, below)
+immediate_plain to (suc r) (suc n) spare below = (spare, below, tt)
 
 -- a plain row is itself in memory, wherever it stands
-plain_placed : (target : ℕ) (row : Row) → straight.IsPlainRow row → placed target row ≡ Does row
-plain_placed target (Fixes rd n) plain = refl
-plain_placed target (Moves rd rs) plain = refl
-plain_placed target (Sets rd op a b) plain = refl
-plain_placed target row plain = absurd plain
+plain_placed : (target object : ℕ) (row : Row) → straight.IsPlainRow row → placed target object row ≡ Does row
+plain_placed target object (Fixes rd n) plain = refl
+plain_placed target object (Moves rd rs) plain = refl
+plain_placed target object (Sets rd op a b) plain = refl
+plain_placed target object row plain = absurd plain
 
 word_does : (i : Instruction) (m : MachineOp) → operation_of i ≡ Some m → straight.IsPlainRow (row_of i) → IsWordOf (row_of i) (word_of m)
 word_does i m e plain =
-    let acts = subst (λ (o : Option MachineOp). IfSome o (ActsAs (pos 0) i)) e (lowered_acts (pos 0) i) in
+    let acts = subst (λ (o : Option MachineOp). IfSome o (ActsAs (pos 0) 0 i)) e (lowered_acts (pos 0) 0 i) in
     record {
       operation = m;
-      fits = subst (λ (o : Option MachineOp). IfSome o (λ n. IsTrue (is_encodable n))) e (lowered_fits (pos 0) i);
+      fits = subst (λ (o : Option MachineOp). IfSome o (λ n. IsTrue (is_encodable n))) e (lowered_fits (pos 0) 0 i);
       spelled = refl;
-      does = λ address. acts address ∙ plain_placed (at_offset address (pos 0)) (row_of i) plain;
+      does = λ address. acts address ∙ plain_placed (at_offset address (pos 0)) 0 (row_of i) plain;
     }
 
 on_word : (n : ℕ) (i : Item) {c : Instruction} {k : Option ℕ} (o : Option MachineOp) (items : List Item) (words : List ℕ) → i.kind ≡ Code c k → i.origin ≡ Kept (record { block = 0; item = n })
@@ -115,16 +116,18 @@ straight_next : (n : ℕ) (s : Statement) (loc : Loc) (items : List Item) (words
 straight_next n (AddImmediate to from i k) loc items words h r rest =
     let front = both_left (is_target to && is_source from && is_immediate i) (is_small_or_none k) h in
     let registers = both_left (is_target to && is_source from) (is_immediate i) front in
+    let spare = target_spare to (both_left (is_target to) (is_source from) registers) in
     let from_below = source_below from (both_right (is_target to) (is_source from) registers) in
     let plain = plain_kind (AddImmediate to from i k) h in
-    on_word n (own n (AddImmediate to from i k) loc) (in_range (machine_op word_op.Addi to from 0 i)) items words refl refl refl plain.0 (immediate_plain to from (word i) from_below) rest
+    on_word n (own n (AddImmediate to from i k) loc) (in_range (machine_op (word_op.Immediate Addi) to from 0 i)) items words refl refl refl plain.0 (immediate_plain to from (word i) spare from_below) rest
 straight_next n (Add to left right k) loc items words h r rest =
     let front = both_left (is_target to && is_source left && is_source right) (is_small_or_none k) h in
     let two = both_left (is_target to && is_source left) (is_source right) front in
+    let spare = target_spare to (both_left (is_target to) (is_source left) two) in
     let left_below = source_below left (both_right (is_target to) (is_source left) two) in
     let right_below = source_below right (both_right (is_target to && is_source left) (is_source right) front) in
     let plain = plain_kind (Add to left right k) h in
-    on_word n (own n (Add to left right k) loc) (in_range (machine_op word_op.Add to left right (pos 0))) items words refl refl refl plain.0 (left_below, right_below) rest
+    on_word n (own n (Add to left right k) loc) (in_range (machine_op (word_op.Registers Sum) to left right (pos 0))) items words refl refl refl plain.0 (spare, left_below, right_below) rest
 straight_next n (Value x v) loc items words h r rest = marks refl rest
 straight_next n (Reference v k o) loc items words h r rest = marks refl rest
 straight_next n (Return x) loc items words h r rest = absurd cc
@@ -143,6 +146,7 @@ straight_image lines block id items h ends = record {
   words = words_of block.items;
   straight = subst (λ (b : ℕ). IsStraight b 0 block.items (words_of block.items)) (sym id) (subst (λ (xs : List Item). IsStraight 0 0 xs (words_of xs)) (sym items) (straight_items 0 lines h ends));
   low = refl;
+  area = refl;
   text = code_by_words block.items;
   lines = refl;
 }

@@ -15,7 +15,7 @@ use Rattle.first_form.specs.FirstForm.{AreFirst, Stands, function_of, is_allowed
 use Rattle.mirdwarf_tool.specs.Compiled.{IsFirstForm}
 use Rattle.block_lists.specs.Code.{code_of}
 use Rattle.output_text.specs.Output.{ListedVariable, ListedBlock}
-use Rattle.output_text.specs.Shown.{IsPrintableLine, IsPrintableVariable, IsPrintableEntry, IsPrintableBlock, IsPrintableFunction, not_inlined}
+use Rattle.output_text.specs.Shown.{IsPrintableLine, IsPrintableObject, IsPrintableVariable, IsPrintableEntry, IsPrintableBlock, IsPrintableFunction, not_inlined}
 use Rattle.mirdwarf_tool.specs.Listing.{variable_name, listed_variables, listed_items, listing_of}
 use Rattle.block_lists.specs.Variables.{with_variable, with_mark, variables_of}
 use Rattle.mirdwarf_tool.proofs.FirstLemmas.{both_left, both_right, plain_items, length-items_from}
@@ -85,7 +85,7 @@ two_variables lines h = known_two (variables_of [] (items_from 0 lines)) (known_
 -- a listed variable of the two
 listed_printable : (k n : ℕ) (vs : List ListedVariable) → k < 2 → n < 7 → All IsPrintableVariable vs → All IsPrintableVariable (record { list = k; variable = variable_of n; name = variable_name n } ∷ vs)
 listed_printable k n vs few small all =
-    All-cons IsPrintableVariable (record { list = k; variable = variable_of n; name = variable_name n }) vs (record { list = omega arith; node = omega arith; inlined_at = tt }) all
+    All-cons IsPrintableVariable (record { list = k; variable = variable_of n; name = variable_name n }) vs (record { list = omega arith; node = omega arith; inlined_at = tt; whole = refl }) all
 
 known_printable : (known : List VarId) → IsKnown known → All IsPrintableVariable (listed_variables 0 known)
 known_printable _ no_one = All-nil IsPrintableVariable
@@ -106,6 +106,7 @@ listing_printable lines first =
     record {
       low = omega arith;
       high = size_small lines first;
+      objects = All-nil IsPrintableObject;
       variables = known_printable (variables_of [] (items_from 0 lines)) (known_all [] 0 lines no_one first.allowed);
       substitutions = All-nil IsPrintableEntry;
       prologue = All-nil (IsPrintableLine not_inlined);
@@ -116,6 +117,7 @@ first_of_lines : (lines : List Line) → AreFirst lines → IsFirstForm (functio
 first_of_lines lines first = record {
   block = record { id = 0; items = items_from 0 lines; silent = length lines };
   one = refl;
+  objects = refl;
   plain = plain_items 0 lines first.allowed;
   silent = sym (length-items_from 0 lines);
   printable = listing_printable lines first;

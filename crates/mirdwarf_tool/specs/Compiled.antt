@@ -13,11 +13,12 @@ use Rattle.output_text.specs.Shown.{IsPrintableFunction, OfShown, not_inlined}
 use Rattle.block_lists.specs.Lists.{AreLists}
 use Rattle.mirdwarf_tool.specs.Promise.{unsubstituted, AreLaidOut, Promises, IsExact, ListsSources}
 
--- a function of one block of at most 8,192 plain items, which run straight to a return, with at most two variables, whose listing
+-- a function without stack objects, of one block of at most 8,192 plain items, which run straight to a return, with at most two variables, whose listing
 -- tells it
 pub record IsFirstForm (f : Function) : Type 0 where
   pub block : Block
   pub one : f.blocks ≡ block ∷ []
+  pub objects : f.objects ≡ []
   pub plain : All IsPlain block.items
   pub silent : block.silent ≡ length block.items
   pub printable : IsPrintableFunction not_inlined (listing_of f.name (length (code_of block.items)) (variables_of [] block.items) block)

@@ -1,6 +1,9 @@
+//! The text that is written of a function.
+
 ghost use Rattle.std.specs.Prelude.{◌≡◌, ◌++◌, ◌^◌, ◌<◌, ◌≤◌, [], codes, length, All, IfOk};
 ghost use Rattle.block_lists.specs.Code.{IsPlain};
 ghost use Rattle.mirdwarf_tool.specs.Compiled.{IsFirstForm, Compiles, CompilesBlock};
+ghost use Rattle.block_lists.specs.Ranges.{IsOfWhole};
 ghost use Rattle.block_lists.specs.Variables.{variables_of};
 ghost use Rattle.output_text.specs.Output as output;
 ghost use Rattle.mirdwarf_tool.specs.Listing.{output_with, block_image};
@@ -9,10 +12,9 @@ ghost use Rattle.dwarf_loclists.specs.Spelling.{spelling};
 ghost use Rattle.dwarf_loclists.specs.Reading.{IsSection};
 ghost use Rattle.code_layout.specs.Straight.{IsStraightImage};
 
-use block_lists::code::machine_code;
 use crate::listing::push_listing;
+use block_lists::code::machine_code;
 use block_lists::lists_of::lists;
-use output_text::section::push_section;
 use block_lists::variables::variables;
 use dwarf_loclists::range::RangeLists;
 use dwarf_loclists::section::{Bytes, lists_size, write_lists};
@@ -20,6 +22,7 @@ use mir_func::block::Block;
 use mir_func::func::Func;
 use mir_func::variable::VarId;
 use mir_printer::text::Text;
+use output_text::section::push_section;
 use std::alloc::{AllocError, Global};
 
 /// The text of a function's sections and of its listing.
@@ -84,6 +87,7 @@ fn section_of(alloc: Global, lists: &RangeLists) -> Result<Bytes, AllocError>
     requires places { All ArePlaces lists.now }
     requires few { length lists.now ≤ 2 }
     requires short { All (λ ranges. length ranges ≤ 8192) lists.now }
+    requires whole { All (All IsOfWhole) lists.now }
     ensures bytes { IfOk result (λ bytes. bytes ≡ spelling lists.now) }
     ensures section { IfOk result (λ bytes. IsSection bytes lists.now) }
 {

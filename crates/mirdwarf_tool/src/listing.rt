@@ -7,7 +7,6 @@ ghost use Rattle.output_text.specs.Output.{name_text, name_byte, function_line, 
 ghost use Rattle.mirdwarf_tool.specs.Listing.{variable_name, listed_variables, start_of, item_listed, listed_items, listing_of};
 
 use block_lists::code::is_code;
-use output_text::hex::push_address;
 use mir_func::block::Block;
 use mir_func::item::Item;
 use mir_func::position::{Origin, Pos};
@@ -15,7 +14,9 @@ use mir_func::variable::VarId;
 use mir_printer::item::push_item;
 use mir_printer::symbol::push_escaped;
 use mir_printer::text::{Text, push_numbered, push_str};
+use numbers::code::BlockId;
 use numbers::metadata::NodeId;
+use output_text::hex::push_address;
 use std::alloc::AllocError;
 
 /// Appends the listing of a function of one block: its line with the addresses from 0 to its length in bytes, its
@@ -33,7 +34,7 @@ pub fn push_listing(
 {
     push_function(text, name, size)?;
     push_variables(text, variables)?;
-    push_block(text, block.id.number())?;
+    push_block(text, block.id)?;
     push_items(text, block.items.as_slice())
 }
 
@@ -106,10 +107,10 @@ fn variable_name(node: u32) -> &'static str
     if node == 6 { "a" } else { "v" }
 }
 
-fn push_block(text: &mut Text, id: u32) -> Result<(), AllocError>
+fn push_block(text: &mut Text, id: BlockId) -> Result<(), AllocError>
     ensures { OnOk result (text.new ≡ text.old ++ block_line id) }
 {
-    push_numbered(text, "block ", id)?;
+    push_numbered(text, "block ", id.number())?;
     text.push(b'\n')
 }
 
