@@ -1,6 +1,7 @@
 -- How a reader goes on over the fields of an entry, and where it finds a fault in them.
 use Rattle.std.specs.Prelude.{◌≢◌}
-use Rattle.std.proofs.Common.{◌≡◌, ℕ, ◌+◌, ◌^◌, ◌<◌, ◌≤◌, List, [], ◌∷◌, ◌++◌, length, take, drop, arith, ap, sym, subst, ◌∙◌, refl, length-append, length-take, append-nil}
+use Rattle.std.proofs.Common.{◌≡◌, ℕ, ◌+◌, ◌^◌, ◌<◌, ◌≤◌, List, [], ◌∷◌, ◌++◌, length, take, drop, arith, ap, sym, subst, ◌∙◌, refl, length-append, length-take}
+use Rattle.std.proofs.Common.{append-nil}
 use Rattle.std.specs.List.{flat_map}
 use Rattle.std.proofs.lemmas.List.{take-append-drop}
 use Rattle.std.proofs.lemmas.List.Concat.{flat_map-append}
@@ -19,9 +20,11 @@ use Rattle.dwarf_loclists.proofs.LastLemmas.{last_more}
 
 -- how many bytes an entry more takes
 pub entry_size : (ranges : List Range) (r : Range) → length (flat_map entry (ranges ++ r ∷ []))
-    ≡ length (flat_map entry ranges) + (1 + length (uleb_of r.lo) + length (uleb_of r.hi) + length (uleb_of (length (expression r.location))) + length (expression r.location))
+    ≡ length (flat_map entry ranges) + (1 + length (uleb_of r.lo) + length (uleb_of r.hi) + length (uleb_of (length (expression r.location))) + length
+    (expression r.location))
 entry_size ranges r =
-    let whole : length (flat_map entry (ranges ++ r ∷ [])) ≡ length (flat_map entry ranges ++ flat_map entry (r ∷ [])) = ap length (flat_map-append entry ranges (r ∷ [])) in
+    let whole : length (flat_map entry (ranges ++ r ∷ [])) ≡ length (flat_map entry ranges ++ flat_map entry (r ∷ []))
+    = ap length (flat_map-append entry ranges (r ∷ [])) in
     omega (
       arith,
       whole,
@@ -33,7 +36,8 @@ entry_size ranges r =
     )
 
 module _ (bytes : List ℕ) (n : ℕ) (done : List (List Range)) (ranges : List Range) where
-  pub start_on : (rest after last : List ℕ) (lo end : ℕ) → StandsAt bytes (StartOffset n done ranges) rest → Last ranges end last → rest ≡ uleb_of lo ++ after → lo < 2 ^ 64
+  pub start_on : (rest after last : List ℕ) (lo end : ℕ) → StandsAt bytes (StartOffset n done ranges) rest → Last ranges end last → rest ≡ uleb_of lo ++ after
+      → lo < 2 ^ 64
       → end ≤ lo → StandsAt bytes (EndOffset n done ranges lo) after
   start_on rest after last lo end s l e fits from =
       step bytes (StartOffset n done ranges) (EndOffset n done ranges lo) (uleb_of lo) rest after s e (lo, fits, l.begins lo from, refl, refl) refl
@@ -41,9 +45,11 @@ module _ (bytes : List ℕ) (n : ℕ) (done : List (List Range)) (ranges : List 
   pub start_none : (rest : List ℕ) (at : ℕ) → StandsAt bytes (StartOffset n done ranges) rest → at + length rest ≡ length bytes
       → ((m : ℕ) (after : List ℕ) → m < 2 ^ 64 → rest ≢ uleb_of m ++ after) → FaultAt bytes at
   start_none rest at s is none =
-      stuck bytes (StartOffset n done ranges) rest at s (λ done e. cc) is (λ here behind next e m. none m.0 behind m.1 (e ∙ ap (λ (xs : List ℕ). xs ++ behind) m.3))
+      stuck bytes (StartOffset n done ranges) rest at s (λ done e. cc) is
+      (λ here behind next e m. none m.0 behind m.1 (e ∙ ap (λ (xs : List ℕ). xs ++ behind) m.3))
 
-  pub start_low : (rest after last : List ℕ) (lo end at : ℕ) → StandsAt bytes (StartOffset n done ranges) rest → Last ranges end last → rest ≡ uleb_of lo ++ after → lo < end
+  pub start_low : (rest after last : List ℕ) (lo end at : ℕ) → StandsAt bytes (StartOffset n done ranges) rest → Last ranges end last → rest
+      ≡ uleb_of lo ++ after → lo < end
       → at + length rest ≡ length bytes → FaultAt bytes at
   start_low rest after last lo end at s l e below is =
       stuck bytes (StartOffset n done ranges) rest at s (λ done e. cc) is
@@ -60,7 +66,8 @@ module _ (bytes : List ℕ) (n : ℕ) (done : List (List Range)) (ranges : List 
   pub end_none : (rest : List ℕ) (lo at : ℕ) → StandsAt bytes (EndOffset n done ranges lo) rest → at + length rest ≡ length bytes
       → ((m : ℕ) (after : List ℕ) → m < 2 ^ 64 → rest ≢ uleb_of m ++ after) → FaultAt bytes at
   end_none rest lo at s is none =
-      stuck bytes (EndOffset n done ranges lo) rest at s (λ done e. cc) is (λ here behind next e m. none m.0 behind m.1 (e ∙ ap (λ (xs : List ℕ). xs ++ behind) m.3))
+      stuck bytes (EndOffset n done ranges lo) rest at s (λ done e. cc) is
+      (λ here behind next e m. none m.0 behind m.1 (e ∙ ap (λ (xs : List ℕ). xs ++ behind) m.3))
 
   pub end_low : (rest after : List ℕ) (lo hi at : ℕ) → StandsAt bytes (EndOffset n done ranges lo) rest → rest ≡ uleb_of hi ++ after → hi ≤ lo
       → at + length rest ≡ length bytes → FaultAt bytes at
@@ -70,7 +77,8 @@ module _ (bytes : List ℕ) (n : ℕ) (done : List (List Range)) (ranges : List 
       let found = uleb_one hi m.0 after behind (sym e ∙ split ∙ ap (λ (xs : List ℕ). xs ++ behind) m.3) in
       omega (arith, found.0, m.2))
 
-  pub length_on : (rest after : List ℕ) (lo hi len : ℕ) → StandsAt bytes (ExpressionLength n done ranges lo hi) rest → rest ≡ uleb_of len ++ after → len < 2 ^ 64
+  pub length_on : (rest after : List ℕ) (lo hi len : ℕ) → StandsAt bytes (ExpressionLength n done ranges lo hi) rest → rest ≡ uleb_of len ++ after
+      → len < 2 ^ 64
       → StandsAt bytes (Expression n done ranges lo hi len) after
   length_on rest after lo hi len s e fits =
       step bytes (ExpressionLength n done ranges lo hi) (Expression n done ranges lo hi len) (uleb_of len) rest after s e (len, fits, refl, refl) refl
@@ -78,9 +86,11 @@ module _ (bytes : List ℕ) (n : ℕ) (done : List (List Range)) (ranges : List 
   pub length_none : (rest : List ℕ) (lo hi at : ℕ) → StandsAt bytes (ExpressionLength n done ranges lo hi) rest → at + length rest ≡ length bytes
       → ((m : ℕ) (after : List ℕ) → m < 2 ^ 64 → rest ≢ uleb_of m ++ after) → FaultAt bytes at
   length_none rest lo hi at s is none =
-      stuck bytes (ExpressionLength n done ranges lo hi) rest at s (λ done e. cc) is (λ here behind next e m. none m.0 behind m.1 (e ∙ ap (λ (xs : List ℕ). xs ++ behind) m.2))
+      stuck bytes (ExpressionLength n done ranges lo hi) rest at s (λ done e. cc) is
+      (λ here behind next e m. none m.0 behind m.1 (e ∙ ap (λ (xs : List ℕ). xs ++ behind) m.2))
 
-  pub expression_cut : (rest : List ℕ) (lo hi len at : ℕ) → StandsAt bytes (Expression n done ranges lo hi len) rest → length rest < len → at + length rest ≡ length bytes
+  pub expression_cut : (rest : List ℕ) (lo hi len at : ℕ) → StandsAt bytes (Expression n done ranges lo hi len) rest → length rest < len → at + length rest
+      ≡ length bytes
       → FaultAt bytes at
   expression_cut rest lo hi len at s short is =
       stuck bytes (Expression n done ranges lo hi len) rest at s (λ done e. cc) is
@@ -97,7 +107,8 @@ module _ (bytes : List ℕ) (n : ℕ) (done : List (List Range)) (ranges : List 
       stuck bytes (Expression n done ranges lo hi len) rest at s (λ done e. cc) is
       (λ here behind next split m. none m.0 (subst (λ (xs : List ℕ). Spells xs m.0) (the_front rest here behind len room split m.2) m.1))
 
-  pub expression_same : (rest last : List ℕ) (lo hi len end at : ℕ) → StandsAt bytes (Expression n done ranges lo hi len) rest → len ≤ length rest → Last ranges end last
+  pub expression_same : (rest last : List ℕ) (lo hi len end at : ℕ) → StandsAt bytes (Expression n done ranges lo hi len) rest → len ≤ length rest
+      → Last ranges end last
       → lo ≡ end → take len rest ≡ last → at + length rest ≡ length bytes → FaultAt bytes at
   expression_same rest last lo hi len end at s room l touch same is =
       stuck bytes (Expression n done ranges lo hi len) rest at s (λ done e. cc) is
@@ -114,8 +125,16 @@ module _ (bytes : List ℕ) (n : ℕ) (done : List (List Range)) (ranges : List 
       record {
         location = location;
         spells = spells;
-        stands = step bytes (Expression n done ranges lo hi len) (EntryKind n done (ranges ++ r ∷ [])) (take len rest) rest (drop len rest) s (sym (take-append-drop len rest))
-            (location, spells, size, ascend, refl) (omega (arith, entry_size ranges r, ap length spells.spelled, ap (λ (m : ℕ). length (uleb_of m)) (sym (ap length spells.spelled) ∙ size), size));
+        stands = step bytes (Expression n done ranges lo hi len) (EntryKind n done (ranges ++ r ∷ [])) (take len rest) rest (drop len rest) s
+            (sym (take-append-drop len rest))
+            (location, spells, size, ascend, refl) (omega (
+              arith,
+              entry_size ranges r,
+              ap length spells.spelled,
+              ap (λ (m : ℕ). length (uleb_of m)) (sym (ap
+                  length spells.spelled) ∙ size),
+              size,
+            ));
         last = subst (λ (xs : List ℕ). Last (ranges ++ r ∷ []) hi xs) (sym spells.spelled) (last_more ranges r ascend spells.located);
         order = order;
         before = l.begins lo from;

@@ -14,7 +14,8 @@ use Rattle.dwarf_loclists.proofs.Places.{only}
 use Rattle.dwarf_loclists.proofs.WholeLemmas.{all_right}
 
 -- the list of a number, if there is one
-listed : (lists : List (List Range)) (k : ℕ) → k < length lists → (ranges : List Range) × (slice_get lists k ≡ Some ranges) × ((P : List Range → Type 0) → All P lists → P ranges)
+listed : (lists : List (List Range)) (k : ℕ) → k < length lists → (ranges : List Range) × (slice_get lists k ≡ Some ranges) × ((P : List Range → Type 0) → All
+    P lists → P ranges)
 listed [] k inside = absurd (omega arith)
 listed (r ∷ lists) zero inside = (r, refl, λ P all. all zero r (omega arith))
 listed (r ∷ lists) (suc k) inside =
@@ -49,7 +50,8 @@ found_at bytes n k address found a inside =
     }
 
 -- a location whose expression was found
-spelled : (location : Option Location) (here : List ℕ) → Some here ≡ option_map expression location → (l : Location) × (location ≡ Some l) × (here ≡ expression l)
+spelled : (location : Option Location) (here : List ℕ) → Some here ≡ option_map expression location
+    → (l : Location) × (location ≡ Some l) × (here ≡ expression l)
 spelled None here e = absurd cc
 spelled (Some l) here e = (l, refl, cc)
 

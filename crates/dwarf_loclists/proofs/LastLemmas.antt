@@ -15,7 +15,8 @@ use Rattle.dwarf_loclists.specs.steps.Reader.{Last}
 use Rattle.dwarf_loclists.proofs.OneLocation.{expression_one, some_piece}
 
 -- the last two of ranges that ascend
-pub ascend_split : (front : List Range) (r s : Range) → Ascend ((front ++ r ∷ []) ++ s ∷ []) → (r.hi ≤ s.lo) × (r.hi ≡ s.lo → r.location ≢ s.location) × (s.lo < s.hi)
+pub ascend_split : (front : List Range) (r s : Range) → Ascend ((front ++ r ∷ []) ++ s ∷ [])
+    → (r.hi ≤ s.lo) × (r.hi ≡ s.lo → r.location ≢ s.location) × (s.lo < s.hi)
 ascend_split [] r s a = (a.1, a.2, a.3)
 ascend_split (p ∷ []) r s a = (a.3.1, a.3.2, a.3.3)
 ascend_split (p ∷ q ∷ front) r s a = ascend_split (q ∷ front) r s a.3
@@ -82,7 +83,8 @@ found_last (p ∷ front) r address all from below =
     past : (p : Range) (rest : List Range) (address : ℕ) → p.hi ≤ address → location_in (p ∷ rest) address ≡ location_in rest address
     past p rest address above = grind (arith, nat_tests)
 
-pub found_before : (front : List Range) (r : Range) (address : ℕ) → (r.lo ≤ address → address < r.hi → ⊥) → location_in (front ++ r ∷ []) address ≡ location_in front address
+pub found_before : (front : List Range) (r : Range) (address : ℕ) → (r.lo ≤ address → address < r.hi → ⊥) → location_in (front ++ r ∷ []) address
+    ≡ location_in front address
 found_before [] r address outside =
     elim (cases_lt address r.lo) [
       | inl below ↦ grind (arith, nat_tests)

@@ -3,7 +3,8 @@ use Rattle.std.specs.Prelude.{◌≢◌, Option, Some, None}
 use Rattle.std.specs.Option.{option_map}
 use Rattle.std.specs.List.{flat_map}
 use Rattle.std.specs.Int.{w32, to_le_bytes}
-use Rattle.std.proofs.Common.{◌≡◌, ◌⊎◌, ℕ, zero, suc, ◌+◌, ◌-◌, ◌*◌, ◌<◌, ◌≤◌, List, [], ◌∷◌, ◌++◌, length, drop, arith, ap, sym, ◌∙◌, refl, length-append, append-nil, length-drop, take, inl, inr}
+use Rattle.std.proofs.Common.{◌≡◌, ◌⊎◌, ℕ, zero, suc, ◌+◌, ◌-◌, ◌*◌, ◌<◌, ◌≤◌, List, [], ◌∷◌, ◌++◌, length, drop, arith, ap, sym, ◌∙◌, refl, length-append}
+use Rattle.std.proofs.Common.{append-nil, length-drop, take, inl, inr}
 use Rattle.std.proofs.lemmas.Bool.Decides.{nat_tests}
 use Rattle.std.proofs.lemmas.List.{drop-drop, take_all}
 use Rattle.std.proofs.lemmas.List.Concat.{flat_map-append}
@@ -18,7 +19,8 @@ use Rattle.dwarf_loclists.proofs.ReaderLemmas.{step, stuck}
 use Rattle.dwarf_loclists.proofs.LastLemmas.{last_none, found_last, found_before}
 
 -- how many bytes a list more takes
-pub bodies_size : (done : List (List Range)) (ranges : List Range) → length (bodies (done ++ ranges ∷ [])) ≡ length (bodies done) + (length (flat_map entry ranges) + 1)
+pub bodies_size : (done : List (List Range)) (ranges : List Range) → length (bodies (done ++ ranges ∷ []))
+    ≡ length (bodies done) + (length (flat_map entry ranges) + 1)
 bodies_size done ranges =
     omega (
       arith,
@@ -44,7 +46,8 @@ module _ (bytes : List ℕ) (n : ℕ) (done : List (List Range)) where
   kind_pair ranges rest behind s e =
       step bytes (EntryKind n done ranges) (StartOffset n done ranges) (4 ∷ []) rest behind s e (inr (refl, refl)) refl
 
-  pub list_end : (address end : ℕ) (before : List ℕ) (found : Option (List ℕ)) (rest behind : List ℕ) → RangesRead bytes n done address end before found rest → rest ≡ 0 ∷ behind
+  pub list_end : (address end : ℕ) (before : List ℕ) (found : Option (List ℕ)) (rest behind : List ℕ) → RangesRead bytes n done address end before found rest
+      → rest ≡ 0 ∷ behind
       → ListRead bytes n done address found behind
   list_end address end before found rest behind r e =
       let s = r.stands in
@@ -84,7 +87,8 @@ at_offset bytes n done table rest a more =
     let place : first_byte (ListOffset n done) ≡ 12 + 4 * length done = grind (arith, nat_tests) in
     record { reached = a.reached; here = ap (λ (m : ℕ). drop m bytes) place ∙ a.offset; within = omega (arith, place, a.before) }
 
-pub offset_stands : (bytes : List ℕ) (n number k address : ℕ) (found : Option (List ℕ)) (table rest : List ℕ) (r : ListsRead bytes n number k address found table rest)
+pub offset_stands : (bytes : List ℕ) (n number k address : ℕ) (found : Option (List ℕ)) (table rest : List ℕ)
+    (r : ListsRead bytes n number k address found table rest)
     → number < n → StandsAt bytes (ListOffset n r.done) table
 offset_stands bytes n number k address found table rest r more = at_offset bytes n r.done table rest r.at (omega (arith, r.count))
 
@@ -119,8 +123,10 @@ location_of_more (d ∷ done) ranges (suc k) address =
       | inr other ↦ inr (λ e. other.0 (omega arith), other.1)
     ]
 
-pub lists_more : (bytes : List ℕ) (n number k address : ℕ) (found : Option (List ℕ)) (field table rest left : List ℕ) (in_list : Option (List ℕ)) (next : List ℕ)
-    → (r : ListsRead bytes n number k address found table rest) → number < n → table ≡ field ++ left → length field ≡ 4 → ListRead bytes n r.done address in_list next
+pub lists_more : (bytes : List ℕ) (n number k address : ℕ) (found : Option (List ℕ)) (field table rest left : List ℕ) (in_list : Option (List ℕ))
+    (next : List ℕ)
+    → (r : ListsRead bytes n number k address found table rest) → number < n → table ≡ field ++ left → length field ≡ 4
+    → ListRead bytes n r.done address in_list next
     → (new : Option (List ℕ)) → ((number ≡ k) × (new ≡ in_list)) ⊎ ((number ≢ k) × (new ≡ found))
     → ListsRead bytes n (number + 1) k address new left next
 lists_more bytes n number k address found field table rest left in_list next r more e four l new which =
@@ -132,7 +138,8 @@ lists_more bytes n number k address found field table rest left in_list next r m
       at =
           record {
             reached = l.reached;
-            offset = ap (λ (m : ℕ). drop m bytes) place ∙ sym (drop-drop (length field) (12 + 4 * length r.done) bytes) ∙ ap (drop (length field)) r.at.offset ∙ front_rest table field left e;
+            offset = ap (λ (m : ℕ). drop m bytes) place ∙ sym (drop-drop (length field) (12 + 4 * length r.done) bytes) ∙ ap (drop (length field)) r.at.offset
+                ∙ front_rest table field left e;
             lists = l.lists;
             count = omega (arith, r.count);
             before = omega (arith, place, r.at.before, ap length e, length-append field left);
@@ -157,18 +164,34 @@ lists_more bytes n number k address found field table rest left in_list next r m
 pub no_lists : (bytes : List ℕ) (n k address : ℕ) (table rest : List ℕ) → AtLists bytes n [] table rest → ListsRead bytes n 0 k address None table rest
 no_lists bytes n k address table rest a = record { done = []; at = a; count = refl; is = refl }
 
-pub lists_end : (bytes : List ℕ) (n number k address : ℕ) (found : Option (List ℕ)) (table rest : List ℕ) → ListsRead bytes n number k address found table rest → n ≤ number
+pub lists_end : (bytes : List ℕ) (n number k address : ℕ) (found : Option (List ℕ)) (table rest : List ℕ)
+    → ListsRead bytes n number k address found table rest → n ≤ number
     → rest ≡ [] → AllRead bytes n k address found
 lists_end bytes n number k address found table rest r end empty =
     let all : length r.done ≡ n = omega (arith, r.count, r.at.count) in
     record {
       lists = r.done;
-      reached = onward r.at.reached (record { here = []; rest = drop (first_byte (ListOffset n r.done)) bytes; stands = refl; may = inr (all, omega (arith, r.at.within, ap length empty), refl, refl) });
+      reached = onward r.at.reached (record {
+        here = [];
+        rest = drop (first_byte (ListOffset n r.done)) bytes;
+        stands = refl;
+        may = inr (
+          all,
+          omega (
+            arith,
+            r.at.within,
+            ap length empty,
+          ),
+          refl,
+          refl,
+        );
+      });
       all = all;
       is = r.is;
     }
 
-pub lists_past : (bytes : List ℕ) (n number k address at : ℕ) (found : Option (List ℕ)) (table rest : List ℕ) → ListsRead bytes n number k address found table rest → n ≤ number
+pub lists_past : (bytes : List ℕ) (n number k address at : ℕ) (found : Option (List ℕ)) (table rest : List ℕ)
+    → ListsRead bytes n number k address found table rest → n ≤ number
     → (rest ≡ [] → ⊥) → at + length rest ≡ length bytes → FaultAt bytes at
 lists_past bytes n number k address at found table rest r end some is =
     let all : length r.done ≡ n = omega (arith, r.count, r.at.count) in

@@ -4,7 +4,8 @@ use Rattle.std.proofs.Common.{◌≡◌, ℕ, List, [], ◌∷◌, ◌++◌, ari
 use Rattle.std.proofs.lemmas.Nat.{from_le_bytes-to_le_bytes_4}
 use Rattle.dwarf_loclists.specs.declared.range.Location.{Location}
 use Rattle.dwarf_loclists.specs.declared.range.Range.{Range}
-use Rattle.dwarf_loclists.specs.Fault.{Field, Reaches, begin, onward, IsRight, first_byte, FaultAt, UnitLength, Version, AddressSize, SegmentSelectorSize, OffsetEntryCount, ListOffset, EntryKind, StartOffset, EndOffset, ExpressionLength, Expression, Nothing}
+use Rattle.dwarf_loclists.specs.Fault.{Field, Reaches, begin, onward, IsRight, first_byte, FaultAt, UnitLength, Version, AddressSize, SegmentSelectorSize}
+use Rattle.dwarf_loclists.specs.Fault.{OffsetEntryCount, ListOffset, EntryKind, StartOffset, EndOffset, ExpressionLength, Expression, Nothing}
 use Rattle.dwarf_loclists.proofs.OneLocation.{uleb_one, heads_one, expression_one}
 use Rattle.dwarf_loclists.proofs.OneReading.{cut}
 
@@ -21,7 +22,8 @@ right_one bytes AddressSize s t a b = a.may.1 ∙ sym b.may.1
 right_one bytes SegmentSelectorSize s t a b = a.may.1 ∙ sym b.may.1
 right_one bytes OffsetEntryCount s t a b =
     let same = cut (to_le_bytes w32 a.may.0) (to_le_bytes w32 b.may.0) a.rest b.rest refl (fronts bytes OffsetEntryCount s t a b _ _ a.may.3 b.may.3) in
-    let count : a.may.0 ≡ b.may.0 = sym (from_le_bytes-to_le_bytes_4 a.may.0 a.may.1) ∙ ap (from_le_bytes w32) same.0 ∙ from_le_bytes-to_le_bytes_4 b.may.0 b.may.1 in
+    let count : a.may.0 ≡ b.may.0 = sym (from_le_bytes-to_le_bytes_4 a.may.0 a.may.1) ∙ ap (from_le_bytes w32) same.0
+    ∙ from_le_bytes-to_le_bytes_4 b.may.0 b.may.1 in
     a.may.4 ∙ ap (λ (n : ℕ). ListOffset n []) count ∙ sym b.may.4
 right_one bytes (ListOffset n done) s t a b =
     elim a.may [
@@ -65,14 +67,16 @@ from_start : (bytes : List ℕ) (f t : Field) → Reaches bytes f → Onward byt
 from_start bytes f t begin o = o
 from_start bytes f t (onward {field} {next} reached right) o = from_start bytes field t reached (more right o)
 
-one_end : (bytes : List ℕ) (f g s t : Field) → f ≡ g → Onward bytes f s → Onward bytes g t → ((n : Field) → IsRight bytes s n → ⊥) → ((n : Field) → IsRight bytes t n → ⊥) → s ≡ t
+one_end : (bytes : List ℕ) (f g s t : Field) → f ≡ g → Onward bytes f s → Onward bytes g t → ((n : Field) → IsRight bytes s n → ⊥)
+    → ((n : Field) → IsRight bytes t n → ⊥) → s ≡ t
 one_end bytes f g s t same here here end_s end_t = same
 one_end bytes f g s t same here (more {f = _} {s = m} right rest) end_s end_t = absurd (end_s m (subst (λ (x : Field). IsRight bytes x m) (sym same) right))
 one_end bytes f g s t same (more {f = _} {s = m} right rest) here end_s end_t = absurd (end_t m (subst (λ (x : Field). IsRight bytes x m) same right))
 one_end bytes f g s t same (more {f = _} {s = m} right rest) (more {f = _} {s = k} right' rest') end_s end_t =
     one_end bytes m k s t (right_one bytes g m k (subst (λ (x : Field). IsRight bytes x m) same right) right') rest rest' end_s end_t
 
-pub one_field : (bytes : List ℕ) (s t : Field) → Reaches bytes s → Reaches bytes t → ((n : Field) → IsRight bytes s n → ⊥) → ((n : Field) → IsRight bytes t n → ⊥) → s ≡ t
+pub one_field : (bytes : List ℕ) (s t : Field) → Reaches bytes s → Reaches bytes t → ((n : Field) → IsRight bytes s n → ⊥)
+    → ((n : Field) → IsRight bytes t n → ⊥) → s ≡ t
 one_field bytes s t to_s to_t end_s end_t =
     one_end bytes UnitLength UnitLength s t refl (from_start bytes s s to_s here) (from_start bytes t t to_t here) end_s end_t
 

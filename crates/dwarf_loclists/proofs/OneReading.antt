@@ -52,7 +52,8 @@ list-append : (r : Range) (ranges : List Range) (x : List ℕ) → list_spelling
 list-append r ranges x = spliced (entry r) (flat_map entry ranges) (0 ∷ []) x
 
 -- a list can be told from what follows it
-list_one : (a b : List Range) (x y : List ℕ) → AllByRecursion Entered a → AllByRecursion Entered b → list_spelling a ++ x ≡ list_spelling b ++ y → (a ≡ b) × (x ≡ y)
+list_one : (a b : List Range) (x y : List ℕ) → AllByRecursion Entered a → AllByRecursion Entered b → list_spelling a ++ x ≡ list_spelling b ++ y
+    → (a ≡ b) × (x ≡ y)
 list_one [] [] x y ok_a ok_b e = (refl, tails_one 0 0 x y e)
 list_one [] (s ∷ b) x y ok_a ok_b e = absurd (omega (arith, heads_one 0 4 _ _ (e ∙ list-append s b y ∙ entry-append s (list_spelling b ++ y))))
 list_one (r ∷ a) [] x y ok_a ok_b e = absurd (omega (arith, heads_one 4 0 _ _ (sym (list-append r a x ∙ entry-append r (list_spelling a ++ x)) ∙ e)))

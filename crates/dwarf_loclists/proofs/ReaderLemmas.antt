@@ -8,11 +8,13 @@ use Rattle.std.proofs.lemmas.List.Prefix.{front_rest}
 use Rattle.dwarf_loclists.specs.Fault.{Field, begin, onward, MayBe, first_byte, FaultAt, UnitLength, Version, OffsetEntryCount}
 use Rattle.dwarf_loclists.specs.steps.Reader.{StandsAt, Goes, AtLists}
 
-pub step : (bytes : List ℕ) (field next : Field) (here rest after : List ℕ) → StandsAt bytes field rest → rest ≡ here ++ after → MayBe (length bytes) field here next
+pub step : (bytes : List ℕ) (field next : Field) (here rest after : List ℕ) → StandsAt bytes field rest → rest ≡ here ++ after
+    → MayBe (length bytes) field here next
     → first_byte next ≡ first_byte field + length here → StandsAt bytes next after
 step bytes field next here rest after s e may place = record {
   reached = onward s.reached (record { here = here; rest = after; stands = s.here ∙ e; may = may });
-  here = ap (λ (n : ℕ). drop n bytes) place ∙ sym (drop-drop (length here) (first_byte field) bytes) ∙ ap (drop (length here)) s.here ∙ front_rest rest here after e;
+  here = ap (λ (n : ℕ). drop n bytes) place ∙ sym (drop-drop (length here) (first_byte field) bytes) ∙ ap (drop (length here)) s.here
+      ∙ front_rest rest here after e;
   within = omega (arith, place, s.within, ap length e, length-append here after);
 }
 
@@ -60,7 +62,8 @@ counted bytes rest after n s e fits room =
       within = omega (arith, s.within, length-drop (12 + 4 * n) bytes);
     }
 
-pub count_too_large : (bytes rest after : List ℕ) (n at : ℕ) → StandsAt bytes OffsetEntryCount rest → rest ≡ to_le_bytes w32 n ++ after → n < 2 ^ 32 → length after / 4 < n
+pub count_too_large : (bytes rest after : List ℕ) (n at : ℕ) → StandsAt bytes OffsetEntryCount rest → rest ≡ to_le_bytes w32 n ++ after → n < 2 ^ 32
+    → length after / 4 < n
     → at + length rest ≡ length bytes → FaultAt bytes at
 count_too_large bytes rest after n at s e fits room is =
     stuck bytes OffsetEntryCount rest at s (λ done e. cc) is
@@ -73,4 +76,5 @@ count_too_large bytes rest after n at s e fits room is =
 pub count_cut : (bytes rest : List ℕ) (at : ℕ) → StandsAt bytes OffsetEntryCount rest → length rest < 4 → at + length rest ≡ length bytes → FaultAt bytes at
 count_cut bytes rest at s short is =
     stuck bytes OffsetEntryCount rest at s (λ done e. cc) is
-    (λ here behind next split m. let size : length rest ≡ 4 + length behind = omega (arith, ap length (split ∙ ap (λ (xs : List ℕ). xs ++ behind) m.3)) in omega arith)
+    (λ here behind next split m. let size : length rest ≡ 4 + length behind
+    = omega (arith, ap length (split ∙ ap (λ (xs : List ℕ). xs ++ behind) m.3)) in omega arith)

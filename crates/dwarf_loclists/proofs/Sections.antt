@@ -2,7 +2,8 @@
 use Rattle.std.specs.Prelude.{All}
 use Rattle.std.specs.List.{flat_map}
 use Rattle.std.specs.Int.{w16, w32, to_le_bytes}
-use Rattle.std.proofs.Common.{◌≡◌, ℕ, ◌+◌, ◌*◌, ◌^◌, ◌<◌, ◌≤◌, List, [], ◌∷◌, ◌++◌, length, drop, arith, ap, sym, subst, ◌∙◌, refl, length-append, append_assoc, append-nil, inl, inr}
+use Rattle.std.proofs.Common.{◌≡◌, ℕ, ◌+◌, ◌*◌, ◌^◌, ◌<◌, ◌≤◌, List, [], ◌∷◌, ◌++◌, length, drop, arith, ap, sym, subst, ◌∙◌, refl, length-append, append_assoc}
+use Rattle.std.proofs.Common.{append-nil, inl, inr}
 use Rattle.std.proofs.lemmas.List.{drop-drop}
 use Rattle.std.proofs.lemmas.List.Prefix.{front_rest}
 use Rattle.std.proofs.lemmas.Bool.Decides.{nat_tests}
@@ -12,7 +13,8 @@ use Rattle.dwarf_loclists.specs.declared.range.Range.{Range}
 use Rattle.dwarf_loclists.specs.Ranges.{Ascend, ArePlaces, Are64Bit, IsLocated, HasWords}
 use Rattle.dwarf_loclists.specs.Spelling.{entry, expression, list_spelling, bodies, offsets_from, header, spelling}
 use Rattle.dwarf_loclists.specs.Reading.{IsSection}
-use Rattle.dwarf_loclists.specs.Fault.{Reaches, onward, FaultAt, after, first_byte, UnitLength, Version, AddressSize, SegmentSelectorSize, OffsetEntryCount, ListOffset, EntryKind, StartOffset, EndOffset, ExpressionLength, Expression, Nothing}
+use Rattle.dwarf_loclists.specs.Fault.{Reaches, onward, FaultAt, after, first_byte, UnitLength, Version, AddressSize, SegmentSelectorSize, OffsetEntryCount}
+use Rattle.dwarf_loclists.specs.Fault.{ListOffset, EntryKind, StartOffset, EndOffset, ExpressionLength, Expression, Nothing}
 use Rattle.dwarf_loclists.specs.steps.Reader.{StandsAt}
 use Rattle.dwarf_loclists.proofs.SpellingLemmas.{length-spelling, length-offsets_from}
 use Rattle.dwarf_loclists.proofs.ReaderLemmas.{step, at_start}
@@ -50,17 +52,22 @@ entry-append : (r : Range) (x : List ℕ)
 entry-append r x = simp append_assoc
 
 -- an entry more
-entry_right : (bytes : List ℕ) (n : ℕ) (done : List (List Range)) (ranges : List Range) (r : Range) (rest behind : List ℕ) → StandsAt bytes (EntryKind n done ranges) rest
-    → rest ≡ entry r ++ behind → length bytes < 2 ^ 33 → Ascend (ranges ++ r ∷ []) → IsLocated r.location → (r.lo < 2 ^ 64) × (r.hi < 2 ^ 64) × HasWords r.location
+entry_right : (bytes : List ℕ) (n : ℕ) (done : List (List Range)) (ranges : List Range) (r : Range) (rest behind : List ℕ)
+    → StandsAt bytes (EntryKind n done ranges) rest
+    → rest ≡ entry r ++ behind → length bytes < 2 ^ 33 → Ascend (ranges ++ r ∷ []) → IsLocated r.location
+    → (r.lo < 2 ^ 64) × (r.hi < 2 ^ 64) × HasWords r.location
     → StandsAt bytes (EntryKind n done (ranges ++ r ∷ [])) behind
 entry_right bytes n done ranges r rest behind s e short ascend located wide =
     let here : List ℕ = expression r.location in
     let len : ℕ = length here in
     let s1 = step bytes (EntryKind n done ranges) (StartOffset n done ranges) (4 ∷ []) rest _ s (e ∙ entry-append r behind) (inr (refl, refl)) refl in
-    let s2 = step bytes (StartOffset n done ranges) (EndOffset n done ranges r.lo) (uleb_of r.lo) _ _ s1 refl (r.lo, wide.0, below_next ranges r ascend, refl, refl) refl in
-    let s3 = step bytes (EndOffset n done ranges r.lo) (ExpressionLength n done ranges r.lo r.hi) (uleb_of r.hi) _ _ s2 refl (r.hi, wide.1, order_of ranges r ascend, refl, refl) refl in
+    let s2 = step bytes (StartOffset n done ranges) (EndOffset n done ranges r.lo) (uleb_of r.lo) _ _ s1 refl
+    (r.lo, wide.0, below_next ranges r ascend, refl, refl) refl in
+    let s3 = step bytes (EndOffset n done ranges r.lo) (ExpressionLength n done ranges r.lo r.hi) (uleb_of r.hi) _ _ s2 refl
+    (r.hi, wide.1, order_of ranges r ascend, refl, refl) refl in
     let within : len < 2 ^ 64 = omega (arith, s3.within, length-append (uleb_of len) (here ++ behind), length-append here behind) in
-    let s4 = step bytes (ExpressionLength n done ranges r.lo r.hi) (Expression n done ranges r.lo r.hi len) (uleb_of len) _ _ s3 refl (len, within, refl, refl) refl in
+    let s4 = step bytes (ExpressionLength n done ranges r.lo r.hi) (Expression n done ranges r.lo r.hi len) (uleb_of len) _ _ s3 refl
+    (len, within, refl, refl) refl in
     step bytes (Expression n done ranges r.lo r.hi len) (EntryKind n done (ranges ++ r ∷ [])) here _ behind s4 refl
     (r.location, record { located = located; wide = wide.2; spelled = refl }, refl, ascend, refl) (omega (arith, entry_size ranges r))
 
@@ -68,14 +75,17 @@ spliced : (first rest end x : List ℕ) → ((first ++ rest) ++ end) ++ x ≡ fi
 spliced first rest end x = simp append_assoc
 
 -- the ranges that are left of a list
-ranges_right : (bytes : List ℕ) (n : ℕ) (done : List (List Range)) (front ranges : List Range) (rest behind : List ℕ) → StandsAt bytes (EntryKind n done front) rest
+ranges_right : (bytes : List ℕ) (n : ℕ) (done : List (List Range)) (front ranges : List Range) (rest behind : List ℕ)
+    → StandsAt bytes (EntryKind n done front) rest
     → rest ≡ list_spelling ranges ++ behind → length bytes < 2 ^ 33 → Ascend (front ++ ranges) → ArePlaces ranges → Are64Bit ranges
     → StandsAt bytes (EntryKind n done (front ++ ranges)) (0 ∷ behind)
 ranges_right bytes n done front [] rest behind s e short ascend places wide =
-    subst (λ (rs : List Range). StandsAt bytes (EntryKind n done rs) (0 ∷ behind)) (sym (append-nil front)) (subst (StandsAt bytes (EntryKind n done front)) e s)
+    subst (λ (rs : List Range). StandsAt bytes (EntryKind n done rs) (0 ∷ behind)) (sym (append-nil front))
+    (subst (StandsAt bytes (EntryKind n done front)) e s)
 ranges_right bytes n done front (r ∷ ranges) rest behind s e short ascend places wide =
     let one = ascend_front front r ranges ascend in
-    let next = entry_right bytes n done front r rest (list_spelling ranges ++ behind) s (e ∙ spliced (entry r) (flat_map entry ranges) (0 ∷ []) behind) short one
+    let next = entry_right bytes n done front r rest (list_spelling ranges ++ behind) s (e ∙ spliced (entry r) (flat_map entry ranges) (0 ∷ []) behind) short
+    one
     (All-head (λ (q : Range). IsLocated q.location) r ranges places)
     (All-head (λ (q : Range). (q.lo < 2 ^ 64) × (q.hi < 2 ^ 64) × HasWords q.location) r ranges wide) in
     let joined : (front ++ r ∷ []) ++ ranges ≡ front ++ r ∷ ranges = append_assoc front (r ∷ []) ranges in
@@ -93,7 +103,8 @@ record Left (bytes : List ℕ) (n : ℕ) (done lists : List (List Range)) : Type
   here : drop (after n done []) bytes ≡ bodies lists
   within : after n done [] + length (bodies lists) ≡ length bytes
 
-one_list : (bytes : List ℕ) (n : ℕ) (done : List (List Range)) (ranges : List Range) (lists : List (List Range)) → Left bytes n done (ranges ∷ lists) → length bytes < 2 ^ 33
+one_list : (bytes : List ℕ) (n : ℕ) (done : List (List Range)) (ranges : List Range) (lists : List (List Range)) → Left bytes n done (ranges ∷ lists)
+    → length bytes < 2 ^ 33
     → Ascend ranges → ArePlaces ranges → Are64Bit ranges → Left bytes n (done ++ ranges ∷ []) lists
 one_list bytes n done ranges lists l short ascend places wide =
     let first : ℕ = 4 * n + length (bodies done) in
@@ -103,7 +114,16 @@ one_list bytes n done ranges lists l short ascend places wide =
     let place : first_byte (ListOffset n done) ≡ 12 + 4 * length done = offset_place n done more in
     let offset : drop (12 + 4 * length done) bytes ≡ field ++ (others ++ l.table) = l.offset ∙ append_assoc field others l.table in
     let start : StandsAt bytes (EntryKind n done []) (bodies (ranges ∷ lists)) = record {
-      reached = onward l.reached (record { here = field; rest = others ++ l.table; stands = ap (λ (m : ℕ). drop m bytes) place ∙ offset; may = inl (more, refl, refl) });
+      reached = onward l.reached (record {
+        here = field;
+        rest = others ++ l.table;
+        stands = ap (λ (m : ℕ). drop m bytes) place ∙ offset;
+        may = inl (
+          more,
+          refl,
+          refl,
+        );
+      });
       here = l.here;
       within = l.within;
     } in
@@ -111,7 +131,8 @@ one_list bytes n done ranges lists l short ascend places wide =
     let size = bodies_size done ranges in
     let count : length (done ++ ranges ∷ []) ≡ length done + 1 = length-append done (ranges ∷ []) in
     let next : after n (done ++ ranges ∷ []) [] ≡ after n done ranges + 1 = omega arith in
-    let listed : 4 * n + length (bodies (done ++ ranges ∷ [])) ≡ first + length (list_spelling ranges) = omega (arith, length-append (flat_map entry ranges) (0 ∷ [])) in
+    let listed : 4 * n + length (bodies (done ++ ranges ∷ [])) ≡ first + length (list_spelling ranges)
+    = omega (arith, length-append (flat_map entry ranges) (0 ∷ [])) in
     record {
       reached = onward end.reached (record { here = 0 ∷ []; rest = bodies lists; stands = end.here; may = inl (refl, refl) });
       count = omega (arith, l.count);
@@ -128,16 +149,25 @@ one_list bytes n done ranges lists l short ascend places wide =
     offset_place : (n : ℕ) (done : List (List Range)) → length done < n → first_byte (ListOffset n done) ≡ 12 + 4 * length done
     offset_place n done more = grind (arith, nat_tests)
 
-lists_right : (bytes : List ℕ) (n : ℕ) (done lists : List (List Range)) → Left bytes n done lists → length bytes < 2 ^ 33 → All Ascend lists → All ArePlaces lists → All Are64Bit lists
+lists_right : (bytes : List ℕ) (n : ℕ) (done lists : List (List Range)) → Left bytes n done lists → length bytes < 2 ^ 33 → All Ascend lists
+    → All ArePlaces lists → All Are64Bit lists
     → Reaches bytes (Nothing (done ++ lists))
 lists_right bytes n done [] l short ascend places wide =
     subst (λ (ls : List (List Range)). Reaches bytes (Nothing ls)) (sym (append-nil done))
     (onward l.reached
-    (record { here = []; rest = drop (first_byte (ListOffset n done)) bytes; stands = refl; may = inr (omega (arith, l.count), omega (arith, l.within), refl, refl) }))
+    (record {
+      here = [];
+      rest = drop (first_byte (ListOffset n done)) bytes;
+      stands = refl;
+      may
+          = inr (omega (arith, l.count), omega (arith, l.within), refl, refl);
+    }))
 lists_right bytes n done (ranges ∷ lists) l short ascend places wide =
-    let next = one_list bytes n done ranges lists l short (All-head Ascend ranges lists ascend) (All-head ArePlaces ranges lists places) (All-head Are64Bit ranges lists wide) in
+    let next = one_list bytes n done ranges lists l short (All-head Ascend ranges lists ascend) (All-head ArePlaces ranges lists places)
+    (All-head Are64Bit ranges lists wide) in
     subst (λ (ls : List (List Range)). Reaches bytes (Nothing ls)) (append_assoc done (ranges ∷ []) lists)
-    (lists_right bytes n (done ++ ranges ∷ []) lists next short (All-rest Ascend ranges lists (ranges ∷ lists) refl ascend) (All-rest ArePlaces ranges lists (ranges ∷ lists) refl places)
+    (lists_right bytes n (done ++ ranges ∷ []) lists next short (All-rest Ascend ranges lists (ranges ∷ lists) refl ascend)
+    (All-rest ArePlaces ranges lists (ranges ∷ lists) refl places)
     (All-rest Are64Bit ranges lists (ranges ∷ lists) refl wide))
 
 -- the header is right
@@ -161,7 +191,19 @@ header_right bytes lists is =
     let past : drop (12 + 4 * n + 0 + 0) bytes ≡ bodies lists =
     ap (λ (k : ℕ). drop k bytes) (sym place) ∙ sym (drop-drop (length table) 12 bytes) ∙ front_rest (drop 12 bytes) table (bodies lists) after_count in
     record {
-      reached = onward s4.reached (record { here = to_le_bytes w32 n; rest = after_header; stands = stands; may = (n, omega (arith, total, is.size), omega (arith, total), refl, refl) });
+      reached = onward s4.reached (record {
+        here = to_le_bytes w32 n;
+        rest = after_header;
+        stands = stands;
+        may = (
+          n,
+          omega (arith, total, is.size),
+          omega
+              (arith, total),
+          refl,
+          refl,
+        );
+      });
       count = omega arith;
       table = bodies lists;
       offset = after_count ∙ ap (λ (k : ℕ). offsets_from k lists ++ bodies lists) (let same : 4 * n ≡ 4 * n + 0 = omega arith in same);

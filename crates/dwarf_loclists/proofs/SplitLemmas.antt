@@ -16,10 +16,12 @@ use Rattle.dwarf_loclists.specs.declared.range.Part.{Part}
 use Rattle.dwarf_loclists.specs.Ranges.{IsListed, IsPiece, ArePieces, HasWord, nth_piece, whole_place}
 use Rattle.dwarf_loclists.specs.Spelling.{simple_location, gap, piece, composite_location, Spells}
 use Rattle.dwarf_loclists.specs.steps.Pieces.{BeginsNoPiece, SpellsPieces}
-use Rattle.dwarf_loclists.proofs.OneLocation.{uleb_one, sleb_one, heads_one, tails_one, gap_some, gap_none, no_gap, after_gap, place_one, piece-gap, piece-no_gap, piece_one, some_piece, some_end}
+use Rattle.dwarf_loclists.proofs.OneLocation.{uleb_one, sleb_one, heads_one, tails_one, gap_some, gap_none, no_gap, after_gap, place_one, piece-gap}
+use Rattle.dwarf_loclists.proofs.OneLocation.{piece-no_gap, piece_one, some_piece, some_end}
 
 -- behind a constant's operation stand its number and the end of its location
-pub constant_front : (v : ℤ) (bytes after : List ℕ) (p : Place) (rest : List ℕ) → bytes ≡ sleb_of v ++ after → IsListed p → 17 ∷ bytes ≡ simple_location p ++ rest
+pub constant_front : (v : ℤ) (bytes after : List ℕ) (p : Place) (rest : List ℕ) → bytes ≡ sleb_of v ++ after → IsListed p → 17 ∷ bytes
+    ≡ simple_location p ++ rest
     → after ≡ 159 ∷ rest
 constant_front v bytes after (Register r) rest is ok e = absurd (omega (arith, heads_one 17 (80 + r) _ _ e))
 constant_front v bytes after (Slot o) rest is ok e = absurd (omega (arith, heads_one 17 114 _ _ e))
@@ -41,7 +43,8 @@ register_front operation bytes (Slot o) rest ok e no_constant no_slot = absurd (
 register_front operation bytes (Const c) rest ok e no_constant no_slot = absurd (no_constant (heads_one operation 17 _ _ e))
 
 -- the gap at the front, where what follows it begins no piece
-pub gap_front : (from size offset : ℕ) (bytes after left rest : List ℕ) → bytes ≡ 147 ∷ after → after ≡ uleb_of size ++ left → from ≤ offset → BeginsNoPiece rest
+pub gap_front : (from size offset : ℕ) (bytes after left rest : List ℕ) → bytes ≡ 147 ∷ after → after ≡ uleb_of size ++ left → from ≤ offset
+    → BeginsNoPiece rest
     → bytes ≡ gap from offset ++ rest → (from < offset) × (offset ≡ from + size) × (rest ≡ left)
 gap_front from size offset bytes after left rest first is onward plain e =
     elim (cases_lt from offset) [
@@ -53,7 +56,8 @@ gap_front from size offset bytes after left rest first is onward plain e =
     ]
 
 -- no gap is at the front
-pub front_without_gap : (from offset : ℕ) (bytes rest : List ℕ) → BeginsNoPiece bytes → from ≤ offset → bytes ≡ gap from offset ++ rest → (offset ≡ from) × (rest ≡ bytes)
+pub front_without_gap : (from offset : ℕ) (bytes rest : List ℕ) → BeginsNoPiece bytes → from ≤ offset → bytes ≡ gap from offset ++ rest
+    → (offset ≡ from) × (rest ≡ bytes)
 front_without_gap from offset bytes rest plain onward e =
     elim (cases_lt from offset) [
       | inl below ↦ absurd (plain.other _ (e ∙ ap (λ (xs : List ℕ). xs ++ rest) (gap_some from offset below)))
@@ -145,7 +149,8 @@ all_left bytes (Whole p) s = (refl, refl, s.spelled, s.located)
 all_left bytes (Parts []) s = absurd s.located
 all_left bytes (Parts (p ∷ parts)) s = (s.located, s.wide, s.spelled)
 
-drop_more : (i : ℕ) (parts : List Part) (q : Part) (others : List Part) → drop i parts ≡ q ∷ others → (drop (i + 1) parts ≡ others) × (slice_get parts i ≡ Some q)
+drop_more : (i : ℕ) (parts : List Part) (q : Part) (others : List Part) → drop i parts ≡ q ∷ others
+    → (drop (i + 1) parts ≡ others) × (slice_get parts i ≡ Some q)
 drop_more zero [] q others e = absurd cc
 drop_more zero (p ∷ parts) q others e = (cc, cc)
 drop_more (suc i) [] q others e = absurd cc
@@ -166,7 +171,8 @@ left_on (Whole w) i from rest p after left e is =
     absurd (whole_no_piece w p after left.3 is.4 (sym left.2 ∙ e ∙ ap (λ (n : ℕ). piece n p ++ after) left.1))
 left_on (Parts parts) i from rest p after left e is = go (drop i parts) refl left.0 left.1 left.2
   where
-    go : (others : List Part) → drop i parts ≡ others → ArePieces from others → All (λ (q : Part). HasWord q.place) others → rest ≡ composite_location from others
+    go : (others : List Part) → drop i parts ≡ others → ArePieces from others → All (λ (q : Part). HasWord q.place) others → rest
+        ≡ composite_location from others
         → Left (Parts parts) (i + 1) (p.offset + p.length) after × (nth_piece (Some (Parts parts)) i ≡ Some p)
     go [] dropped are wide spelled = absurd (some_piece from p after (sym e ∙ spelled))
     go (q ∷ others) dropped are wide spelled =
@@ -175,7 +181,8 @@ left_on (Parts parts) i from rest p after left e is = go (drop i parts) refl lef
         let same : q.offset + q.length ≡ p.offset + p.length = ap (λ (r : Part). r.offset + r.length) (sym found.0) in (
           (
             subst (λ (n : ℕ). ArePieces n (drop (i + 1) parts)) same (subst (ArePieces (q.offset + q.length)) (sym more.0) are.1),
-            subst (λ (ps : List Part). All (λ (r : Part). HasWord r.place) ps) (sym more.0) (All-rest (λ (r : Part). HasWord r.place) q others (q ∷ others) refl wide),
+            subst (λ (ps : List Part). All (λ (r : Part). HasWord r.place) ps) (sym more.0)
+                (All-rest (λ (r : Part). HasWord r.place) q others (q ∷ others) refl wide),
             found.1 ∙ ap (λ (n : ℕ). composite_location n others) same ∙ ap (composite_location (p.offset + p.length)) (sym more.0),
           ),
           more.1 ∙ ap Some (sym found.0),
@@ -187,7 +194,8 @@ pub left_none : (l : Location) (i j from : ℕ) (rest : List ℕ) → Left l i f
 left_none (Whole w) i j from rest left within none = refl
 left_none (Parts parts) i j from rest left within none = go (drop i parts) refl left.0 left.1 left.2
   where
-    go : (others : List Part) → drop i parts ≡ others → ArePieces from others → All (λ (q : Part). HasWord q.place) others → rest ≡ composite_location from others
+    go : (others : List Part) → drop i parts ≡ others → ArePieces from others → All (λ (q : Part). HasWord q.place) others → rest
+        ≡ composite_location from others
         → slice_get parts j ≡ None
     go [] dropped are wide spelled = drop_past i j parts dropped within
     go (q ∷ others) dropped are wide spelled = absurd (none q _ are.0 (All-head (λ (r : Part). HasWord r.place) q others wide) spelled)
@@ -200,7 +208,8 @@ whole_front bytes (Whole q) p rest s e ok =
     ((λ none. ap Some found.0), λ some. absurd (some (sym found.1)))
 whole_front bytes (Parts []) p rest s e ok = absurd s.located
 whole_front bytes (Parts (q ∷ parts)) p rest s e ok = (
-  (λ none. absurd (whole_no_piece p q _ ok s.located.0.4 (sym (append-nil (simple_location p)) ∙ ap (λ (xs : List ℕ). simple_location p ++ xs) (sym none) ∙ sym e ∙ s.spelled))),
+  (λ none. absurd (whole_no_piece p q _ ok s.located.0.4 (sym (append-nil (simple_location p)) ∙ ap (λ (xs : List ℕ). simple_location p ++ xs) (sym none) ∙
+      sym e ∙ s.spelled))),
   λ some. refl,
 )
 
@@ -213,7 +222,8 @@ no_front bytes (Parts parts) s none = refl
 pub location_of_pieces : (bytes : List ℕ) → SpellsPieces 0 bytes → (bytes ≡ [] → ⊥) → (l : Location) × Spells bytes l
 location_of_pieces bytes s some = go s.parts s.are s.wide s.spelled
   where
-    go : (parts : List Part) → ArePieces 0 parts → All (λ (q : Part). HasWord q.place) parts → bytes ≡ composite_location 0 parts → (l : Location) × Spells bytes l
+    go : (parts : List Part) → ArePieces 0 parts → All (λ (q : Part). HasWord q.place) parts → bytes ≡ composite_location 0 parts
+        → (l : Location) × Spells bytes l
     go [] are wide spelled = absurd (some spelled)
     go (p ∷ parts) are wide spelled = (Parts (p ∷ parts), record { located = are; wide = wide; spelled = spelled })
 

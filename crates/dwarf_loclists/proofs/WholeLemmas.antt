@@ -3,7 +3,8 @@
 use Rattle.std.specs.Prelude.{All}
 use Rattle.std.specs.List.{flat_map}
 use Rattle.std.specs.Int.{w16, w32, to_le_bytes}
-use Rattle.std.proofs.Common.{◌≡◌, ℕ, ◌+◌, ◌-◌, ◌*◌, ◌^◌, ◌<◌, ◌≤◌, List, [], ◌∷◌, ◌++◌, length, drop, arith, ap, sym, subst, ◌∙◌, refl, length-append, append_assoc, append-nil, length-drop, inl, inr}
+use Rattle.std.proofs.Common.{◌≡◌, ℕ, ◌+◌, ◌-◌, ◌*◌, ◌^◌, ◌<◌, ◌≤◌, List, [], ◌∷◌, ◌++◌, length, drop, arith, ap, sym, subst, ◌∙◌, refl, length-append}
+use Rattle.std.proofs.Common.{append_assoc, append-nil, length-drop, inl, inr}
 use Rattle.std.proofs.lemmas.Bool.Decides.{nat_tests}
 use Rattle.std.proofs.lemmas.List.{drop-drop}
 use Rattle.std.proofs.lemmas.List.Concat.{flat_map-append}
@@ -14,7 +15,8 @@ use Rattle.dwarf_loclists.specs.declared.range.Range.{Range}
 use Rattle.dwarf_loclists.specs.Ranges.{Ascend, ArePlaces, Are64Bit, IsLocated, HasWords}
 use Rattle.dwarf_loclists.specs.Spelling.{entry, expression, list_spelling, bodies, offsets_from, header, spelling}
 use Rattle.dwarf_loclists.specs.Reading.{IsSection}
-use Rattle.dwarf_loclists.specs.Fault.{Field, Reaches, begin, onward, IsRight, first_byte, after, UnitLength, Version, AddressSize, SegmentSelectorSize, OffsetEntryCount, ListOffset, EntryKind, StartOffset, EndOffset, ExpressionLength, Expression, Nothing}
+use Rattle.dwarf_loclists.specs.Fault.{Field, Reaches, begin, onward, IsRight, first_byte, after, UnitLength, Version, AddressSize, SegmentSelectorSize}
+use Rattle.dwarf_loclists.specs.Fault.{OffsetEntryCount, ListOffset, EntryKind, StartOffset, EndOffset, ExpressionLength, Expression, Nothing}
 use Rattle.dwarf_loclists.proofs.SpellingLemmas.{length-offsets_from}
 
 -- the bytes begin with these
@@ -65,7 +67,8 @@ abbrev pub Before : List ℕ → Field → Type 0
 Before bytes UnitLength = Unit {0}
 Before bytes Version = (length bytes < 4294967284) × (4 ≤ length bytes) × Front bytes (to_le_bytes w32 (length bytes - 4))
 Before bytes AddressSize = (length bytes < 4294967284) × (4 ≤ length bytes) × Front bytes (to_le_bytes w32 (length bytes - 4) ++ to_le_bytes w16 5)
-Before bytes SegmentSelectorSize = (length bytes < 4294967284) × (4 ≤ length bytes) × Front bytes ((to_le_bytes w32 (length bytes - 4) ++ to_le_bytes w16 5) ++ 8 ∷ [])
+Before bytes SegmentSelectorSize = (length bytes < 4294967284) × (4 ≤ length bytes) × Front bytes ((to_le_bytes w32 (length bytes - 4) ++ to_le_bytes w16 5)
+    ++ 8 ∷ [])
 Before bytes OffsetEntryCount =
     (length bytes < 4294967284) × (4 ≤ length bytes) × Front bytes (((to_le_bytes w32 (length bytes - 4) ++ to_le_bytes w16 5) ++ 8 ∷ []) ++ 0 ∷ [])
 Before bytes (ListOffset n done) = Listed bytes n done
@@ -83,11 +86,13 @@ grown bytes n done ranges partial here rest at r place stands =
     let front : List ℕ = (bodies done ++ flat_map entry ranges) ++ partial in
     let size : (12 + 4 * n) + length front ≡ at =
     omega (arith, place, length-append (bodies done ++ flat_map entry ranges) partial, length-append (bodies done) (flat_map entry ranges)) in
-    let here_is : drop (length front) (drop (12 + 4 * n) bytes) ≡ here ++ rest = drop-drop (length front) (12 + 4 * n) bytes ∙ ap (λ (m : ℕ). drop m bytes) size ∙ stands in
+    let here_is : drop (length front) (drop (12 + 4 * n) bytes) ≡ here ++ rest = drop-drop (length front) (12 + 4 * n) bytes
+    ∙ ap (λ (m : ℕ). drop m bytes) size ∙ stands in
     record {
       before = r.before;
       table = r.table;
-      lists = front_same _ _ _ (append_assoc (bodies done ++ flat_map entry ranges) partial here) (front_more (drop (12 + 4 * n) bytes) front here rest r.lists here_is);
+      lists = front_same _ _ _ (append_assoc (bodies done ++ flat_map entry ranges) partial here)
+          (front_more (drop (12 + 4 * n) bytes) front here rest r.lists here_is);
       ascend = r.ascend;
       places = r.places;
       wide = r.wide;
@@ -98,7 +103,8 @@ offsets_push : (first : ℕ) (done : List (List Range)) (ranges : List Range)
 offsets_push first [] ranges =
     let same : first + 0 ≡ first = omega arith in rw same (append-nil (to_le_bytes w32 first))
 offsets_push first (d ∷ done) ranges =
-    let size : (first + length (list_spelling d)) + length (bodies done) ≡ first + length (bodies (d ∷ done)) = omega (arith, length-append (list_spelling d) (bodies done)) in
+    let size : (first + length (list_spelling d)) + length (bodies done) ≡ first + length (bodies (d ∷ done))
+    = omega (arith, length-append (list_spelling d) (bodies done)) in
     ap (λ (xs : List ℕ). to_le_bytes w32 first ++ xs)
     (offsets_push (first + length (list_spelling d)) done ranges
     ∙ ap (λ (m : ℕ). offsets_from (first + length (list_spelling d)) done ++ to_le_bytes w32 m) size)
@@ -132,7 +138,8 @@ list_done bytes n done ranges here rest r stands is =
 
 -- the range that is done
 range_done : (bytes : List ℕ) (n : ℕ) (done : List (List Range)) (ranges : List Range) (r : Range) (len : ℕ) (here rest : List ℕ) (at : ℕ)
-    → Ranged bytes n done ranges ((4 ∷ uleb_of r.lo ++ uleb_of r.hi) ++ uleb_of len) → at ≡ after n done ranges + length ((4 ∷ uleb_of r.lo ++ uleb_of r.hi) ++ uleb_of len)
+    → Ranged bytes n done ranges ((4 ∷ uleb_of r.lo ++ uleb_of r.hi) ++ uleb_of len) → at
+    ≡ after n done ranges + length ((4 ∷ uleb_of r.lo ++ uleb_of r.hi) ++ uleb_of len)
     → drop at bytes ≡ here ++ rest → here ≡ expression r.location → length here ≡ len → Ascend (ranges ++ r ∷ []) → IsLocated r.location
     → (r.lo < 2 ^ 64) × (r.hi < 2 ^ 64) × HasWords r.location → Ranged bytes n done (ranges ++ r ∷ []) []
 range_done bytes n done ranges r len here rest at g place stands is size ascend located wide =
@@ -141,7 +148,8 @@ range_done bytes n done ranges r len here rest at g place stands is size ascend 
     let spelled : ((4 ∷ uleb_of r.lo ++ uleb_of r.hi) ++ uleb_of len) ++ here ≡ entry r =
     ap (λ (m : ℕ). ((4 ∷ uleb_of r.lo ++ uleb_of r.hi) ++ uleb_of m) ++ here) len_is
     ∙ ap (λ (xs : List ℕ). ((4 ∷ uleb_of r.lo ++ uleb_of r.hi) ++ uleb_of (length (expression r.location))) ++ xs) is in
-    let whole : (bodies done ++ flat_map entry ranges) ++ (((4 ∷ uleb_of r.lo ++ uleb_of r.hi) ++ uleb_of len) ++ here) ≡ (bodies done ++ flat_map entry (ranges ++ r ∷ [])) ++ [] =
+    let whole : (bodies done ++ flat_map entry ranges) ++ (((4 ∷ uleb_of r.lo ++ uleb_of r.hi) ++ uleb_of len) ++ here)
+    ≡ (bodies done ++ flat_map entry (ranges ++ r ∷ [])) ++ [] =
     ap (λ (xs : List ℕ). (bodies done ++ flat_map entry ranges) ++ xs) spelled
     ∙ append_assoc (bodies done) (flat_map entry ranges) (entry r)
     ∙ ap (λ (xs : List ℕ). bodies done ++ (flat_map entry ranges ++ xs)) (sym (append-nil (entry r)))
@@ -157,7 +165,8 @@ range_done bytes n done ranges r len here rest at g place stands is size ascend 
     }
 
 -- the section that is done
-section_done : (bytes : List ℕ) (n : ℕ) (done : List (List Range)) → Listed bytes n done → length done ≡ n → length bytes ≡ after n done [] → IsSection bytes done
+section_done : (bytes : List ℕ) (n : ℕ) (done : List (List Range)) → Listed bytes n done → length done ≡ n → length bytes ≡ after n done []
+    → IsSection bytes done
 unfolding spelling
 section_done bytes n done l all total =
     let h = l.before.head in
@@ -210,17 +219,33 @@ moved bytes here rest is at stands e = stands ∙ ap (λ (xs : List ℕ). xs ++ 
 one_more : (bytes : List ℕ) (f next : Field) → Before bytes f → IsRight bytes f next → Before bytes next
 one_more bytes UnitLength next b r =
     let here : r.here ≡ to_le_bytes w32 (length bytes - 4) = r.may.3 ∙ ap (to_le_bytes w32) (omega (arith, r.may.2)) in
-    subst (Before bytes) (sym r.may.4)
-    (omega (arith, r.may.1, r.may.2), omega (arith, r.may.2), front_more bytes [] (to_le_bytes w32 (length bytes - 4)) r.rest (front_none bytes) (moved bytes r.here r.rest _ 0 r.stands here))
+    subst (Before bytes) (sym r.may.4) (
+      omega (arith, r.may.1, r.may.2),
+      omega (arith, r.may.2),
+      front_more bytes [] (to_le_bytes w32 (length bytes - 4)) r.rest (front_none bytes)
+          (moved bytes r.here r.rest _ 0 r.stands here),
+    )
 one_more bytes Version next b r =
-    subst (Before bytes) (sym r.may.1)
-    (b.0, b.1, front_more bytes (to_le_bytes w32 (length bytes - 4)) (to_le_bytes w16 5) r.rest b.2 (moved bytes r.here r.rest (to_le_bytes w16 5) 4 r.stands r.may.0))
+    subst (Before bytes) (sym r.may.1) (
+      b.0,
+      b.1,
+      front_more bytes (to_le_bytes w32 (length bytes - 4)) (to_le_bytes w16 5) r.rest b.2
+          (moved bytes r.here r.rest (to_le_bytes w16 5) 4 r.stands r.may.0),
+    )
 one_more bytes AddressSize next b r =
-    subst (Before bytes) (sym r.may.1)
-    (b.0, b.1, front_more bytes (to_le_bytes w32 (length bytes - 4) ++ to_le_bytes w16 5) (8 ∷ []) r.rest b.2 (moved bytes r.here r.rest (8 ∷ []) 6 r.stands r.may.0))
+    subst (Before bytes) (sym r.may.1) (
+      b.0,
+      b.1,
+      front_more bytes (to_le_bytes w32 (length bytes - 4) ++ to_le_bytes w16 5) (8 ∷ []) r.rest b.2
+          (moved bytes r.here r.rest (8 ∷ []) 6 r.stands r.may.0),
+    )
 one_more bytes SegmentSelectorSize next b r =
-    subst (Before bytes) (sym r.may.1)
-    (b.0, b.1, front_more bytes ((to_le_bytes w32 (length bytes - 4) ++ to_le_bytes w16 5) ++ 8 ∷ []) (0 ∷ []) r.rest b.2 (moved bytes r.here r.rest (0 ∷ []) 7 r.stands r.may.0))
+    subst (Before bytes) (sym r.may.1) (
+      b.0,
+      b.1,
+      front_more bytes ((to_le_bytes w32 (length bytes - 4) ++ to_le_bytes w16 5) ++ 8 ∷ []) (0 ∷ []) r.rest b.2
+          (moved bytes r.here r.rest (0 ∷ []) 7 r.stands r.may.0),
+    )
 one_more bytes OffsetEntryCount next b r =
     subst (Before bytes) (sym r.may.4)
     (record {
@@ -252,15 +277,23 @@ one_more bytes (EntryKind n done ranges) next b r =
       | inl end ↦ subst (Before bytes) (sym end.1) (list_done bytes n done ranges r.here r.rest b r.stands end.0)
       | inr pair ↦
           subst (Before bytes) (sym pair.1)
-          (grown bytes n done ranges [] (4 ∷ []) r.rest (after n done ranges) b (omega arith) (moved bytes r.here r.rest (4 ∷ []) (after n done ranges) r.stands pair.0))
+          (grown bytes n done ranges [] (4 ∷ []) r.rest (after n done ranges) b (omega arith)
+          (moved bytes r.here r.rest (4 ∷ []) (after n done ranges) r.stands pair.0))
     ]
 one_more bytes (StartOffset n done ranges) next b r =
-    subst (Before bytes) (sym r.may.4)
-    (grown bytes n done ranges (4 ∷ []) (uleb_of r.may.0) r.rest (after n done ranges + 1) b refl (moved bytes r.here r.rest (uleb_of r.may.0) (after n done ranges + 1) r.stands r.may.3), r.may.1)
+    subst (Before bytes) (sym r.may.4) (
+      grown bytes n done ranges (4 ∷ []) (uleb_of r.may.0) r.rest (after n done ranges + 1) b refl
+          (moved bytes r.here r.rest (uleb_of r.may.0) (after n done ranges + 1) r.stands r.may.3),
+      r.may.1,
+    )
 one_more bytes (EndOffset n done ranges lo) next b r =
     let at : ℕ = first_byte (EndOffset n done ranges lo) in
-    subst (Before bytes) (sym r.may.4)
-    (grown bytes n done ranges (4 ∷ uleb_of lo) (uleb_of r.may.0) r.rest at b.0 (omega arith) (moved bytes r.here r.rest (uleb_of r.may.0) at r.stands r.may.3), b.1, r.may.1)
+    subst (Before bytes) (sym r.may.4) (
+      grown bytes n done ranges (4 ∷ uleb_of lo) (uleb_of r.may.0) r.rest at b.0 (omega arith)
+          (moved bytes r.here r.rest (uleb_of r.may.0) at r.stands r.may.3),
+      b.1,
+      r.may.1,
+    )
 one_more bytes (ExpressionLength n done ranges lo hi) next b r =
     let at : ℕ = first_byte (ExpressionLength n done ranges lo hi) in
     subst (Before bytes) (sym r.may.3) (

@@ -57,11 +57,13 @@ fn read_count(bytes: &[u8], rest: &[u8]) -> Result<u32, ListFault>
 /// What follows a field that may only be these bytes.
 pub fn expect<'a>(bytes: &[u8], rest: &'a [u8], field: &[u8]) -> Result<&'a [u8], ListFault>
     requires { length rest.now ≤ length bytes.now }
-    ensures ok { IfOk result (λ after. (f next : Field) → StandsAt bytes.now f rest.now → MayBe (length bytes.now) f field.now next
+    ensures ok { IfOk result (λ after. (f next : Field) → StandsAt bytes.now f rest.now
+        → MayBe (length bytes.now) f field.now next
         → first_byte next ≡ first_byte f + length field.now → StandsAt bytes.now next after.now) }
     ensures front { IfOk result (λ after. rest.now ≡ field.now ++ after.now) }
     ensures err { IfErr result (λ e. (f : Field) → StandsAt bytes.now f rest.now → Goes f
-        → ((xs : List ℕ) (next : Field) → MayBe (length bytes.now) f xs next → xs ≡ field.now) → FaultAt bytes.now e.at) }
+        → ((xs : List ℕ) (next : Field) → MayBe (length bytes.now) f xs next → xs ≡ field.now)
+        → FaultAt bytes.now e.at) }
 {
     match rest.strip_prefix(field) {
         Some(after) => Ok(after),

@@ -1,6 +1,7 @@
 //! The lists of a section, as they are read.
 
-ghost use Rattle.std.specs.Prelude.{◌≡◌, ◌≢◌, ◌+◌, ◌*◌, ◌^◌, ◌<◌, ◌≤◌, ◌⊎◌, ℕ, List, [], ◌∷◌, ◌++◌, length, IfOk, IfErr, IsTrue, ◌↔◌};
+ghost use Rattle.std.specs.Prelude.{◌≡◌, ◌≢◌, ◌+◌, ◌*◌, ◌^◌, ◌<◌, ◌≤◌, ◌⊎◌, ℕ, List, [], ◌∷◌, ◌++◌, length, IfOk};
+ghost use Rattle.std.specs.Prelude.{IfErr, IsTrue, ◌↔◌};
 ghost use Rattle.std.specs.Option.{option_copied};
 ghost use Rattle.std.specs.Prelude.{drop};
 ghost use Rattle.dwarf_base.specs.Leb.{uleb_of};
@@ -74,9 +75,11 @@ pub fn read_lists(
 /// Reads a list to its end.
 fn read_list<'a>(bytes: &[u8], start: &'a [u8], address: u64) -> Result<ReadList<'a>, ListFault>
     requires { length start.now ≤ length bytes.now }
-    ensures ok { IfOk result (λ r. (n : ℕ) (done : List (List Range)) → StandsAt bytes.now (EntryKind n done []) start.now
+    ensures ok { IfOk result (λ r. (n : ℕ) (done : List (List Range))
+        → StandsAt bytes.now (EntryKind n done []) start.now
         → ListRead bytes.now n done address (option_copied r.found) r.rest.now) }
-    ensures err { IfErr result (λ f. (n : ℕ) (done : List (List Range)) → StandsAt bytes.now (EntryKind n done []) start.now
+    ensures err { IfErr result (λ f. (n : ℕ) (done : List (List Range)) → StandsAt bytes.now (EntryKind n done [])
+        start.now
         → FaultAt bytes.now f.at) }
 {
     let mut rest = start;
@@ -123,10 +126,13 @@ fn read_entry<'a>(
     last: Entry<'a>,
 ) -> Result<(Entry<'a>, &'a [u8]), ListFault>
     requires { length rest.now ≤ length bytes.now }
-    ensures ok { IfOk result (λ r. (n : ℕ) (done : List (List Range)) (ranges : List Range) → StandsAt bytes.now (StartOffset n done ranges) rest.now
-        → Last ranges last.entry.hi last.entry.expression.now → EntryRead bytes.now n done ranges r.0.lo r.0.hi r.0.expression.now r.1.now) }
+    ensures ok { IfOk result (λ r. (n : ℕ) (done : List (List Range)) (ranges : List Range)
+        → StandsAt bytes.now (StartOffset n done ranges) rest.now
+        → Last ranges last.entry.hi last.entry.expression.now
+        → EntryRead bytes.now n done ranges r.0.lo r.0.hi r.0.expression.now r.1.now) }
     ensures shorter { IfOk result (λ r. length r.1.now ≤ length rest.now) }
-    ensures err { IfErr result (λ f. (n : ℕ) (done : List (List Range)) (ranges : List Range) → StandsAt bytes.now (StartOffset n done ranges) rest.now
+    ensures err { IfErr result (λ f. (n : ℕ) (done : List (List Range)) (ranges : List Range) → StandsAt bytes.now
+        (StartOffset n done ranges) rest.now
         → Last ranges last.entry.hi last.entry.expression.now → FaultAt bytes.now f.at) }
 {
     let (lo, after_lo) = read_number(bytes, rest)?;

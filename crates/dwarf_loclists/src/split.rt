@@ -1,6 +1,7 @@
 //! The location at the front of an expression's bytes: a place, or a piece after a piece.
 
-ghost use Rattle.std.specs.Prelude.{◌≡◌, ◌≢◌, ◌+◌, ◌^◌, ◌<◌, ◌≤◌, [], ◌∷◌, ◌++◌, ℕ, List, Some, IfSome, IfNone, IsTrue, ◌↔◌};
+ghost use Rattle.std.specs.Prelude.{◌≡◌, ◌≢◌, ◌+◌, ◌^◌, ◌<◌, ◌≤◌, [], ◌∷◌, ◌++◌, ℕ, List, Some, IfSome, IfNone, IsTrue};
+ghost use Rattle.std.specs.Prelude.{◌↔◌};
 ghost use Rattle.std.specs.Bool.{OnTrue};
 ghost use Rattle.rv64_instr.specs.declared.place.Place.{Place};
 ghost use Rattle.dwarf_loclists.specs.Ranges.{IsListed, IsPiece, HasWord, whole_place, nth_piece};
@@ -88,7 +89,8 @@ fn split_place(bytes: &[u8]) -> Option<(Place, &[u8])>
     ensures some { IfSome result (λ r. bytes.now ≡ simple_location r.0 ++ r.1.now) }
     ensures listed { IfSome result (λ r. IsListed r.0) }
     ensures wide { IfSome result (λ r. HasWord r.0) }
-    ensures none { IfNone result ((p : Place) (rest : List ℕ) → IsListed p → HasWord p → bytes.now ≢ simple_location p ++ rest) }
+    ensures none { IfNone result ((p : Place) (rest : List ℕ) → IsListed p → HasWord p → bytes.now ≢ simple_location p
+        ++ rest) }
 {
     let (operation, rest) = bytes.split_first()?;
     if *operation == DW_OP_consts {
@@ -156,7 +158,8 @@ fn split_piece(from: u32, bytes: &[u8]) -> Option<(Part, &[u8])>
     ensures some { IfSome result (λ r. bytes.now ≡ piece from r.0 ++ r.1.now) }
     ensures is { IfSome result (λ r. IsPiece from r.0) }
     ensures wide { IfSome result (λ r. HasWord r.0.place) }
-    ensures none { IfNone result ((p : Part) (rest : List ℕ) → IsPiece from p → HasWord p.place → bytes.now ≢ piece from p ++ rest) }
+    ensures none { IfNone result ((p : Part) (rest : List ℕ) → IsPiece from p → HasWord p.place → bytes.now ≢ piece
+        from p ++ rest) }
 {
     let (offset, after) = split_gap(from, bytes)?;
     let Some((place, after)) = split_place(after) else {
@@ -183,7 +186,8 @@ fn split_piece(from: u32, bytes: &[u8]) -> Option<(Part, &[u8])>
 fn split_gap(from: u32, bytes: &[u8]) -> Option<(u32, &[u8])>
     ensures some { IfSome result (λ r. bytes.now ≡ gap from r.0 ++ r.1.now) }
     ensures onward { IfSome result (λ r. from ≤ r.0) }
-    ensures only { IfSome result (λ r. (offset : ℕ) (rest : List ℕ) → from ≤ offset → BeginsNoPiece rest → bytes.now ≡ gap from offset ++ rest
+    ensures only { IfSome result (λ r. (offset : ℕ) (rest : List ℕ) → from ≤ offset → BeginsNoPiece rest → bytes.now ≡
+        gap from offset ++ rest
         → (offset ≡ r.0) × (rest ≡ r.1.now)) }
     ensures none { IfNone result ((offset : ℕ) (rest : List ℕ) → from ≤ offset → offset < 2 ^ 32 → BeginsNoPiece rest
         → bytes.now ≢ gap from offset ++ rest) }

@@ -45,7 +45,8 @@ pub record EntryRead (bytes : List ℕ) (n : ℕ) (done : List (List Range)) (ra
   pub before : All (λ r. r.hi ≤ lo) ranges
 
 -- some ranges of a list were read
-pub record RangesRead (bytes : List ℕ) (n : ℕ) (done : List (List Range)) (address end : ℕ) (before : List ℕ) (found : Option (List ℕ)) (rest : List ℕ) : Type 0 where
+pub record RangesRead (bytes : List ℕ) (n : ℕ) (done : List (List Range)) (address end : ℕ) (before : List ℕ) (found : Option (List ℕ)) (rest : List ℕ) : Type
+    0 where
   pub ranges : List Range
   pub stands : StandsAt bytes (EntryKind n done ranges) rest
   pub last : Last ranges end before

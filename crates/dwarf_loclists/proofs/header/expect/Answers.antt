@@ -13,7 +13,8 @@ pub returns-in-None-clause-err : goal.returns-in-None-clause-err
 returns-in-None-clause-err c = λ f s goes only.
     stuck c.args.bytes.now f c.args.rest.now _ s goes c.at.ensures
     (λ here after next e may.
-    strip_prefix_is Decides-eqb c.args.rest.now c.args.field.now None c.in-None.ensures.cases after (e ∙ ap (λ (xs : List ℕ). xs ++ after) (only here next may)))
+    strip_prefix_is Decides-eqb c.args.rest.now c.args.field.now None c.in-None.ensures.cases after
+    (e ∙ ap (λ (xs : List ℕ). xs ++ after) (only here next may)))
 
 pub returns-in-Some-clause-front : goal.returns-in-Some-clause-front
 returns-in-Some-clause-front c = strip_prefix_is Decides-eqb c.args.rest.now c.args.field.now (Some c.in-Some.after) c.in-Some.ensures.cases

@@ -3,7 +3,8 @@ use Rattle.std.proofs.lemmas.Result.{err_from_is_err_and}
 use Rattle.dwarf_loclists.specs.Fault.{UnitLength, Version, AddressSize, SegmentSelectorSize, OffsetEntryCount}
 use Rattle.dwarf_loclists.proofs.ReaderLemmas.{at_start, length_field, wrong_length}
 use Rattle.dwarf_loclists.proofs.header.read_header.Goals as goal
-use Rattle.dwarf_loclists.proofs.header.read_header.Goals.{then-bytes-lt-LENGTH-via-then-bytes-lt-LENGTH, then-bytes-lt-LENGTH-via-else-bytes-lt-LENGTH+then-bytes-ge-LENGTH_LIMIT}
+use Rattle.dwarf_loclists.proofs.header.read_header.Goals.{then-bytes-lt-LENGTH-via-then-bytes-lt-LENGTH}
+use Rattle.dwarf_loclists.proofs.header.read_header.Goals.{then-bytes-lt-LENGTH-via-else-bytes-lt-LENGTH+then-bytes-ge-LENGTH_LIMIT}
 
 pub returns-then-bytes-lt-LENGTH-clause-err : goal.returns-then-bytes-lt-LENGTH-clause-err
 returns-then-bytes-lt-LENGTH-clause-err c =

@@ -12,4 +12,5 @@ returns-in-Some-clause-ok c =
 pub returns-in-None-clause-ok : goal.returns-in-None-clause-ok
 returns-in-None-clause-ok c =
     let f = found_at c.args.bytes.now c.in_ok-count.count c.args.k c.args.address _ c.in_ok-expression.ensures.ok c.requires in
-    place_absent c.args.bytes.now c.args.k c.args.address (subst (λ (o : Option (List ℕ)). Found c.args.bytes.now c.args.k c.args.address o) (ap option_copied c.in-None.is) f)
+    place_absent c.args.bytes.now c.args.k c.args.address (subst (λ (o : Option (List ℕ)). Found c.args.bytes.now c.args.k c.args.address o) (ap option_copied
+    c.in-None.is) f)

@@ -19,5 +19,8 @@ pub loop-rest-smaller : goal.loop-rest-smaller
 loop-rest-smaller c = piece_shorter c.loop-rest.from c.in-Some.part c.loop-rest.rest.now c.in-Some.after.now c.in-Some.ensures.some
 
 pub returns : goal.returns
-returns c =
-    ((λ h. c.loop-rest.invariant.on (pieces_end c.loop-rest.from c.loop-rest.rest.now (ap length (is_empty c.loop-rest.rest.now _ c.is_empty.ensures c.loop-rest-test.false)))), λ s. refl)
+returns c = (
+  (λ h. c.loop-rest.invariant.on (pieces_end c.loop-rest.from c.loop-rest.rest.now (ap length (is_empty c.loop-rest.rest.now _ c.is_empty.ensures
+      c.loop-rest-test.false)))),
+  λ s. refl,
+)

@@ -8,7 +8,8 @@ returns-in-None c = λ l s. sym (left_none l c.loop.counter c.args.n c.loop.from
 
 pub loop-preserved : goal.loop-preserved
 loop-preserved c = λ l s.
-    (left_on l c.loop.counter c.loop.from c.loop.rest.now c.in-Some.part c.in-Some.after.now (c.loop.invariant l s) c.in-Some.ensures.some c.in-Some.ensures.is).0
+    (left_on l c.loop.counter c.loop.from c.loop.rest.now c.in-Some.part c.in-Some.after.now (c.loop.invariant l s) c.in-Some.ensures.some
+    c.in-Some.ensures.is).0
 
 pub returns-in-Some-split_piece : goal.returns-in-Some-split_piece
 returns-in-Some-split_piece c = λ l s.

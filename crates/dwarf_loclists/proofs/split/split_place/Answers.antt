@@ -6,5 +6,6 @@ pub returns-in_err-register-clause-none : goal.returns-in_err-register-clause-no
 returns-in_err-register-clause-none c = rw c.from_residual-in_err-register.ensures
     (λ p rest ok wide e.
     let (r, low, high, other, is) =
-    register_front c.in_ok-operation.operation.now _ p rest ok (sym c.in_ok-operation.ensures.cases.0 ∙ e) c.if-operation-eq-DW_OP_consts.false c.if-operation-eq-DW_OP_breg2.false in
+    register_front c.in_ok-operation.operation.now _ p rest ok (sym c.in_ok-operation.ensures.cases.0 ∙ e) c.if-operation-eq-DW_OP_consts.false
+    c.if-operation-eq-DW_OP_breg2.false in
     c.in_err-register.ensures.none r low high other is)

@@ -14,7 +14,8 @@ returns-then-value-lt0-clause-none c = λ p rest ok wide e.
     let same : to_z w64 (of_z w64 c.in_ok-value.value) ≡ pos f.0 = to_z-of_z w64 _ c.in_ok-value.ensures.fits ∙ f.1 in
     elim c.then-value-lt0.branch [
       | then-value-lt0-via-then-value-lt0 w ↦ let below = rw same at w.if-value-lt0.true in absurd (omega (arith, ints, below))
-      | then-value-lt0-via-else-value-lt0+then-value-gt-LAST_SLOT w ↦ let above = rw same at w.if-value-gt-LAST_SLOT.true in absurd (omega (arith, ints, above, f.3))
+      | then-value-lt0-via-else-value-lt0+then-value-gt-LAST_SLOT w ↦ let above
+          = rw same at w.if-value-gt-LAST_SLOT.true in absurd (omega (arith, ints, above, f.3))
     ]
 
 pub returns-else-offset-eq0-clause-none : goal.returns-else-offset-eq0-clause-none
