@@ -18,7 +18,8 @@ flat_map-map : {X Y : Type 0} (g : Y → List ℕ) (f : X → Y) (xs : List X) �
 flat_map-map g f [] = refl
 flat_map-map g f (x ∷ xs) = ap (λ ys. g (f x) ++ ys) (flat_map-map g f xs)
 
-same_parts : {X : Type 0} (P : X → Type 0) (f g : X → List ℕ) → ((x : X) → P x → f x ≡ g x) → (xs : List X) → AllByRecursion P xs → flat_map f xs ≡ flat_map g xs
+same_parts : {X : Type 0} (P : X → Type 0) (f g : X → List ℕ) → ((x : X) → P x → f x ≡ g x) → (xs : List X) → AllByRecursion P xs
+    → flat_map f xs ≡ flat_map g xs
 same_parts P f g each [] are = refl
 same_parts P f g each (x ∷ xs) are = ap (λ y. y ++ flat_map f xs) (each x are.0) ∙ ap (λ ys. g x ++ ys) (same_parts P f g each xs are.1)
 
@@ -36,7 +37,8 @@ tree_parts u =
     ap (λ x. entry (compile_unit u) ++ x ++ flat_map function (map (function_of (type_offset u)) u.functions) ++ 0 ∷ []) (flat_map-map entry base_type u.types)
     ∙ ap (λ x. entry (compile_unit u) ++ flat_map type_bytes u.types ++ x ++ 0 ∷ [])
     (flat_map-map function (function_of (type_offset u)) u.functions
-    ∙ same_parts (λ _. Unit {0}) (λ f. function (function_of (type_offset u) f)) (function_bytes (type_offset u)) (λ f is. function_parts (type_offset u) f) u.functions (always u.functions))
+    ∙ same_parts (λ _. Unit {0}) (λ f. function (function_of (type_offset u) f)) (function_bytes (type_offset u))
+    (λ f is. function_parts (type_offset u) f) u.functions (always u.functions))
 
 -- the parts' lengths
 pub length-tree : (u : CompilationUnit) → length (tree (tree_of u))
@@ -78,7 +80,8 @@ function_same count f g same h has =
     (recursion_from_All (HasType count) h.variables has))
 
 pub functions_same : (u : CompilationUnit) (offsets : List ℕ) (first : ℕ) → first ≡ 12 + length (entry (compile_unit u)) → AreOffsets first u.types offsets
-    → All (HasTypes (length u.types)) u.functions → flat_map (function_bytes (in_table offsets)) u.functions ≡ flat_map (function_bytes (type_offset u)) u.functions
+    → All (HasTypes (length u.types)) u.functions → flat_map (function_bytes (in_table offsets)) u.functions ≡ flat_map
+    (function_bytes (type_offset u)) u.functions
 functions_same u offsets first at are has =
     same_parts (HasTypes (length u.types)) (function_bytes (in_table offsets)) (function_bytes (type_offset u))
     (λ h is. function_same (length u.types) (in_table offsets) (type_offset u)
@@ -98,8 +101,10 @@ written u o0 o1 o2 o3 o4 o5 offsets types functions after e0 e1 after_is e2 type
     e2 ∙ ap (λ x. x ++ entry (compile_unit u)) (e1 ∙ ap (λ x. x ++ header after) e0 ∙ ap header is) in
     e5 ∙ ap (λ x. x ++ 0 ∷ [])
     (e4 ∙ ap (λ fs. o3 ++ flat_map (function_bytes (in_table offsets)) fs) functions_are ∙ ap (λ x. o3 ++ x) same
-    ∙ ap (λ x. x ++ flat_map (function_bytes (type_offset u)) u.functions) (e3 ∙ ap (λ ts. o2 ++ flat_map type_bytes ts) types_are ∙ ap (λ x. x ++ flat_map type_bytes u.types) front))
-    ∙ nested (header (8 + length (tree (tree_of u)))) (entry (compile_unit u)) (flat_map type_bytes u.types) (flat_map (function_bytes (type_offset u)) u.functions)
+    ∙ ap (λ x. x ++ flat_map (function_bytes (type_offset u)) u.functions)
+    (e3 ∙ ap (λ ts. o2 ++ flat_map type_bytes ts) types_are ∙ ap (λ x. x ++ flat_map type_bytes u.types) front))
+    ∙ nested (header (8 + length (tree (tree_of u)))) (entry (compile_unit u)) (flat_map type_bytes u.types)
+    (flat_map (function_bytes (type_offset u)) u.functions)
     ∙ ap (λ x. header (8 + length (tree (tree_of u))) ++ x) (sym (tree_parts u))
   where
     nested : (a b c d : List ℕ) → (((a ++ b) ++ c) ++ d) ++ 0 ∷ [] ≡ a ++ (b ++ c ++ d ++ 0 ∷ [])
@@ -139,11 +144,13 @@ length-variable offset v argument base is_argument is_base =
 -- where the first type is
 pub front_length : (u : CompilationUnit) (o0 o1 o2 : List ℕ) (after : ℕ) → o0 ≡ [] → o1 ≡ o0 ++ header after → o2 ≡ o1 ++ entry (compile_unit u)
     → length o2 ≡ 12 + length (entry (compile_unit u))
-front_length u o0 o1 o2 after e0 e1 e2 = ap length (e2 ∙ ap (λ x. x ++ entry (compile_unit u)) (e1 ∙ ap (λ x. x ++ header after) e0)) ∙ twelve (entry (compile_unit u))
+front_length u o0 o1 o2 after e0 e1 e2 = ap length (e2 ∙ ap (λ x. x ++ entry (compile_unit u)) (e1 ∙ ap (λ x. x ++ header after) e0))
+    ∙ twelve (entry (compile_unit u))
   where
     twelve : (x : List ℕ) → length (header after ++ x) ≡ 12 + length x
     twelve x = omega (arith, length-append (header after) x)
 
-pub offsets_at : (first : ℕ) (types others : List BaseEntry) (offsets table : List ℕ) → types ≡ others → offsets ≡ table → AreOffsets first types offsets → AreOffsets first others table
+pub offsets_at : (first : ℕ) (types others : List BaseEntry) (offsets table : List ℕ) → types ≡ others → offsets ≡ table
+    → AreOffsets first types offsets → AreOffsets first others table
 offsets_at first types others offsets table same equal are =
     subst (λ (ts : List BaseEntry). AreOffsets first ts table) same (subst (λ (os : List ℕ). AreOffsets first types os) equal are)

@@ -79,7 +79,8 @@ fn push_typed_parameter(
     offset: u32,
     list: u32,
 ) -> Result<(), AllocError>
-    ensures { OnOk result (out.new.items ≡ out.old.items ++ entry (record { kind = TypedParameter; given = (name.now, (offset, (list, tt))) })) }
+    ensures { OnOk result (out.new.items ≡ out.old.items
+        ++ entry (record { kind = TypedParameter; given = (name.now, (offset, (list, tt))) })) }
 {
     push_code(out, Kind::TypedParameter)?;
     push_text(out, name)?;
@@ -95,7 +96,8 @@ fn push_typed_variable(
     offset: u32,
     list: u32,
 ) -> Result<(), AllocError>
-    ensures { OnOk result (out.new.items ≡ out.old.items ++ entry (record { kind = TypedVariable; given = (name.now, (offset, (list, tt))) })) }
+    ensures { OnOk result (out.new.items ≡ out.old.items
+        ++ entry (record { kind = TypedVariable; given = (name.now, (offset, (list, tt))) })) }
 {
     push_code(out, Kind::TypedVariable)?;
     push_text(out, name)?;
@@ -106,7 +108,8 @@ fn push_typed_variable(
 /// Appends the entry of a parameter without a type.
 #[tactic(auto, unfolding(crate::specs::Entries::entry))]
 fn push_parameter(out: &mut Vec<u8>, name: &[u8], list: u32) -> Result<(), AllocError>
-    ensures { OnOk result (out.new.items ≡ out.old.items ++ entry (record { kind = Parameter; given = (name.now, (list, tt)) })) }
+    ensures { OnOk result (out.new.items ≡ out.old.items
+        ++ entry (record { kind = Parameter; given = (name.now, (list, tt)) })) }
 {
     push_code(out, Kind::Parameter)?;
     push_text(out, name)?;
@@ -116,7 +119,8 @@ fn push_parameter(out: &mut Vec<u8>, name: &[u8], list: u32) -> Result<(), Alloc
 /// Appends the entry of a variable without a type.
 #[tactic(auto, unfolding(crate::specs::Entries::entry))]
 fn push_plain_variable(out: &mut Vec<u8>, name: &[u8], list: u32) -> Result<(), AllocError>
-    ensures { OnOk result (out.new.items ≡ out.old.items ++ entry (record { kind = Variable; given = (name.now, (list, tt)) })) }
+    ensures { OnOk result (out.new.items ≡ out.old.items
+        ++ entry (record { kind = Variable; given = (name.now, (list, tt)) })) }
 {
     push_code(out, Kind::Variable)?;
     push_text(out, name)?;

@@ -72,7 +72,8 @@ fn types_of(alloc: Global, table: &[(&[u8], u8, u8)]) -> Result<List<BaseEntry>,
     Ok(types)
 }
 
-/// A function, its first address and length, and its variables' names, whether they are parameters, their types and lists.
+/// A function, its first address and length, and its variables' names, whether they are parameters, their types and
+/// lists.
 fn function_of(
     alloc: Global,
     name: &[u8],
@@ -130,7 +131,8 @@ fn one_variable(rt: HostRuntime) -> Result<(), Fail> {
     Ok(())
 }
 
-/// Each kind of entry, a name with a zero byte, empty names, a list's number of two bytes, and a function without variables.
+/// Each kind of entry, a name with a zero byte, empty names, a list's number of two bytes, and a function without
+/// variables.
 #[test]
 fn each_kind(rt: HostRuntime) -> Result<(), Fail> {
     let alloc = rt.alloc();

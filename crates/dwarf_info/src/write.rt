@@ -73,7 +73,8 @@ fn push_functions(
     functions: &[FunctionEntry],
 ) -> Result<(), AllocError>
     requires { All (HasTypes (length offsets.now)) functions.now }
-    ensures { OnOk result (out.new.items ≡ out.old.items ++ flat_map (function_bytes (in_table offsets.now)) functions.now) }
+    ensures { OnOk result (out.new.items ≡ out.old.items
+        ++ flat_map (function_bytes (in_table offsets.now)) functions.now) }
 {
     for function in functions {
         push_function(out, offsets, function)?;
@@ -99,7 +100,8 @@ fn push_variables(
     variables: &[VariableEntry],
 ) -> Result<(), AllocError>
     requires { All (HasType (length offsets.now)) variables.now }
-    ensures { OnOk result (out.new.items ≡ out.old.items ++ flat_map (variable_bytes (in_table offsets.now)) variables.now) }
+    ensures { OnOk result (out.new.items ≡ out.old.items
+        ++ flat_map (variable_bytes (in_table offsets.now)) variables.now) }
 {
     for variable in variables {
         push_variable(out, offsets, variable)?;

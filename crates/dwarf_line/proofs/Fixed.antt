@@ -63,7 +63,8 @@ wrong left = Err left
 pub number_takes : (w : Width) (limit : ℕ) → IsWide w limit → (bytes : List ℕ) (n : ℕ) (rest : List ℕ) → IsBytes bytes → number_at w bytes ≡ Ok (n, rest)
     → (bytes ≡ to_le_bytes w n ++ rest) × (n < limit)
 number_takes w limit wide bytes n rest are e =
-    elim (chosen (ltb (length bytes) (byte_len w)) (wrong (length bytes)) (number (from_le_bytes w (take (byte_len w) bytes)) (drop (byte_len w) bytes)) (number n rest) e) [
+    elim (chosen (ltb (length bytes) (byte_len w)) (wrong (length bytes))
+    (number (from_le_bytes w (take (byte_len w) bytes)) (drop (byte_len w) bytes)) (number n rest) e) [
       | inl short ↦ absurd (not_ok (length bytes) (n, rest) short.1)
       | inr enough ↦
           (let long : byte_len w ≤ length bytes = ltb-false _ _ enough.0 in

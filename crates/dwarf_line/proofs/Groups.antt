@@ -76,7 +76,8 @@ stays spell Fits opcode old bytes new rest fits e =
     subst (λ (p : ℕ × List ℕ). (bytes ≡ changing old p.0 (opcode ∷ spell p.0) ++ p.1) × Fits p.0) (ok_is (old, bytes) (new, rest) e)
     (sym (ap (λ x. x ++ bytes) (unchanged old (opcode ∷ spell old))), fits)
 
-sets : (spell : ℕ → List ℕ) (Fits : ℕ → Type 0) (opcode old b : ℕ) (bytes : List ℕ) (left : ℕ) (m : ℕ) (after : List ℕ) (new : ℕ) (rest : List ℕ) → eqb b opcode ≡ true
+sets : (spell : ℕ → List ℕ) (Fits : ℕ → Type 0) (opcode old b : ℕ) (bytes : List ℕ) (left : ℕ) (m : ℕ) (after : List ℕ) (new : ℕ) (rest : List ℕ)
+    → eqb b opcode ≡ true
     → (bytes ≡ spell m ++ after) × Fits m → cond (eqb m old) (wrong left) (number m after) ≡ number new rest
     → (b ∷ bytes ≡ changing old new (opcode ∷ spell new) ++ rest) × Fits new
 sets spell Fits opcode old b bytes left m after new rest is read e =
@@ -90,20 +91,25 @@ sets spell Fits opcode old b bytes left m after new rest is read e =
           )
     ]
 
-pub register_takes : (opcode : ℕ) (read : List ℕ → Result (ℕ × List ℕ) ℕ) (spell : ℕ → List ℕ) (Fits : ℕ → Type 0) (old : ℕ) (bytes : List ℕ) (new : ℕ) (rest : List ℕ)
-    → IsOperand read spell Fits → Fits old → register_at opcode read old bytes ≡ Ok (new, rest) → (bytes ≡ changing old new (opcode ∷ spell new) ++ rest) × Fits new
+pub register_takes : (opcode : ℕ) (read : List ℕ → Result (ℕ × List ℕ) ℕ) (spell : ℕ → List ℕ) (Fits : ℕ → Type 0) (old : ℕ) (bytes : List ℕ)
+    (new : ℕ) (rest : List ℕ)
+    → IsOperand read spell Fits → Fits old → register_at opcode read old bytes ≡ Ok (new, rest)
+    → (bytes ≡ changing old new (opcode ∷ spell new) ++ rest) × Fits new
 unfolding register_at
 register_takes opcode read spell Fits old [] new rest is fits e = stays spell Fits opcode old [] new rest fits e
 register_takes opcode read spell Fits old (b ∷ bytes) new rest is fits e =
-    elim (chosen (eqb b opcode) (read bytes >>= (λ (x : ℕ × List ℕ). cond (eqb x.0 old) (wrong (length bytes)) (done x))) (number old (b ∷ bytes)) (number new rest) e) [
+    elim (chosen (eqb b opcode) (read bytes >>= (λ (x : ℕ × List ℕ). cond (eqb x.0 old) (wrong (length bytes)) (done x))) (number old (b ∷ bytes))
+    (number new rest) e) [
       | inl stands ↦
           (let operand = bind_ok (read bytes) (λ (x : ℕ × List ℕ). cond (eqb x.0 old) (wrong (length bytes)) (done x)) (new, rest) stands.1 in
-          sets spell Fits opcode old b bytes (length bytes) operand.0.0 operand.0.1 new rest stands.0 (is.takes bytes operand.0.0 operand.0.1 operand.1) operand.2)
+          sets spell Fits opcode old b bytes (length bytes) operand.0.0 operand.0.1 new rest stands.0
+          (is.takes bytes operand.0.0 operand.0.1 operand.1) operand.2)
       | inr other ↦ stays spell Fits opcode old (b ∷ bytes) new rest fits other.1
     ]
 
 -- no opcode stands where the bytes begin with another
-register_other : (opcode : ℕ) (read : List ℕ → Result (ℕ × List ℕ) ℕ) (old : ℕ) (bytes : List ℕ) → Other opcode bytes → register_at opcode read old bytes ≡ Ok (old, bytes)
+register_other : (opcode : ℕ) (read : List ℕ → Result (ℕ × List ℕ) ℕ) (old : ℕ) (bytes : List ℕ) → Other opcode bytes
+    → register_at opcode read old bytes ≡ Ok (old, bytes)
 unfolding register_at
 register_other opcode read old [] other = refl
 register_other opcode read old (b ∷ bytes) other = rw (ne_eqb b opcode other) refl
@@ -115,7 +121,8 @@ register_again opcode read spell Fits old new rest is fits other =
     elim (cases_Bool (eqb new old)) [
       | inl same ↦
           (let number : new ≡ old = eqb-true new old same in
-          ap (λ b. register_at opcode read old (cond b [] (opcode ∷ spell new) ++ rest)) same ∙ register_other opcode read old rest other ∙ ap (λ n. Ok (n, rest)) (sym number))
+          ap (λ b. register_at opcode read old (cond b [] (opcode ∷ spell new) ++ rest)) same ∙ register_other opcode read old rest other
+          ∙ ap (λ n. Ok (n, rest)) (sym number))
       | inr apart ↦
           ap (λ b. register_at opcode read old (cond b [] (opcode ∷ spell new) ++ rest)) apart
           ∙ rw (eq-eqb opcode opcode refl, is.again new rest fits, apart) refl
@@ -136,17 +143,21 @@ pub record IsAdvance (first : Bool) (from : ℕ) (a : Advance) : Type 0 where
 abbrev advanced : Advance → List ℕ → Result (Advance × List ℕ) ℕ
 advanced a rest = Ok (a, rest)
 
-stays_at : (first : Bool) (from : ℕ) (bytes : List ℕ) (a : Advance) (rest : List ℕ) → from < 2 ^ 64 → advanced (record { address = from; operand = None }) bytes ≡ advanced a rest
+stays_at : (first : Bool) (from : ℕ) (bytes : List ℕ) (a : Advance) (rest : List ℕ) → from < 2 ^ 64
+    → advanced (record { address = from; operand = None }) bytes ≡ advanced a rest
     → (bytes ≡ advance from a ++ rest) × IsAdvance first from a
 stays_at first from bytes a rest fits e =
-    subst (λ (p : Advance × List ℕ). (bytes ≡ advance from p.0 ++ p.1) × IsAdvance first from p.0) (ok_is (record { address = from; operand = None }, bytes) (a, rest) e)
+    subst (λ (p : Advance × List ℕ). (bytes ≡ advance from p.0 ++ p.1) × IsAdvance first from p.0)
+    (ok_is (record { address = from; operand = None }, bytes) (a, rest) e)
     (refl, record { above = omega arith; fits = fits; stays = λ _. refl; begins = λ _. refl })
 
 advances_to : (from b : ℕ) (bytes : List ℕ) (to : ℕ) (after : List ℕ) (a : Advance) (rest : List ℕ) → eqb b 2 ≡ true
-    → (bytes ≡ uleb_of (to - from) ++ after) × (from ≤ to) × (to < 2 ^ 64) → advanced (record { address = to; operand = Some (length bytes) }) after ≡ advanced a rest
+    → (bytes ≡ uleb_of (to - from) ++ after) × (from ≤ to) × (to < 2 ^ 64)
+    → advanced (record { address = to; operand = Some (length bytes) }) after ≡ advanced a rest
     → (b ∷ bytes ≡ advance from a ++ rest) × IsAdvance false from a
 advances_to from b bytes to after a rest is read e =
-    subst (λ (p : Advance × List ℕ). (b ∷ bytes ≡ advance from p.0 ++ p.1) × IsAdvance false from p.0) (ok_is (record { address = to; operand = Some (length bytes) }, after) (a, rest) e) (
+    subst (λ (p : Advance × List ℕ). (b ∷ bytes ≡ advance from p.0 ++ p.1) × IsAdvance false from p.0)
+    (ok_is (record { address = to; operand = Some (length bytes) }, after) (a, rest) e) (
       let head : b ≡ 2 = eqb-true b 2 is in
           ap (λ k. k ∷ bytes) head ∙ ap (λ x. 2 ∷ x) read.0,
       record { above = read.1; fits = read.2; stays = λ none. absurd cc; begins = λ begun. absurd cc },
@@ -161,7 +172,8 @@ advance_takes false from (b ∷ bytes) a rest fits e =
     elim (chosen (eqb b 2) (advanced_at from bytes >>= (λ (to : ℕ × List ℕ). advanced (record { address = to.0; operand = Some (length bytes) }) to.1))
     (advanced (record { address = from; operand = None }) (b ∷ bytes)) (advanced a rest) e) [
       | inl stands ↦
-          (let operand = bind_ok (advanced_at from bytes) (λ (to : ℕ × List ℕ). advanced (record { address = to.0; operand = Some (length bytes) }) to.1) (a, rest) stands.1 in
+          (let operand = bind_ok (advanced_at from bytes) (λ (to : ℕ × List ℕ). advanced
+          (record { address = to.0; operand = Some (length bytes) }) to.1) (a, rest) stands.1 in
           advances_to from b bytes operand.0.0 operand.0.1 a rest stands.0 (advanced_takes from bytes operand.0.0 operand.0.1 operand.1) operand.2)
       | inr other ↦ stays_at false from (b ∷ bytes) a rest fits other.1
     ]
@@ -243,7 +255,8 @@ copied_takes : (before r : Row) (operand : Option ℕ) (b : ℕ) (after rest : L
     → Closes before r operand (b ∷ after) rest g
 unfolding copied_at
 copied_takes before r None b after rest g is e =
-    copies (sym (group_is (Copied r) g after rest e)) (ap (λ k. k ∷ after) is ∙ ap (λ x. 1 ∷ x) (rest_is (Copied r) g after rest e)) (λ some. absurd (some refl))
+    copies (sym (group_is (Copied r) g after rest e)) (ap (λ k. k ∷ after) is ∙ ap (λ x. 1 ∷ x) (rest_is (Copied r) g after rest e))
+    (λ some. absurd (some refl))
 copied_takes before r (Some left) b after rest g is e =
     elim (chosen (eqb r.address before.address) (refused left) (given (Copied r) after) (given g rest) e) [
       | inl same ↦ absurd (not_ok left (g, rest) same.1)
@@ -263,7 +276,8 @@ ended_takes before r (Some left) b after rest g is e =
           (let end = bind_ok (constants_at (1 ∷ 1 ∷ []) after) (λ x. given (Ended r.address) x) (g, rest) alone.1 in
           let files = and_true _ _ alone.0 in
           let others = and_true _ _ files.1 in
-          let stands : after ≡ 1 ∷ 1 ∷ rest = constants_take (1 ∷ 1 ∷ []) after end.0 end.1 ∙ ap (λ x. 1 ∷ 1 ∷ x) (rest_is (Ended r.address) g end.0 rest end.2) in
+          let stands : after ≡ 1 ∷ 1 ∷ rest = constants_take (1 ∷ 1 ∷ []) after end.0 end.1
+          ∙ ap (λ x. 1 ∷ 1 ∷ x) (rest_is (Ended r.address) g end.0 rest end.2) in
           ends (sym (group_is (Ended r.address) g end.0 rest end.2)) (ap (λ k. k ∷ after) is ∙ ap (λ x. 0 ∷ x) stands) (λ none. absurd cc)
           (eqb-true _ _ files.0) (eqb-true _ _ others.0) (eqb-true _ _ others.1))
       | inr other ↦ absurd (not_ok (suc (length after)) (g, rest) other.1)
@@ -278,7 +292,8 @@ pub closed_takes : (before r : Row) (operand : Option ℕ) (bytes rest : List �
 unfolding closed_at
 closed_takes before r operand [] rest g e = absurd (not_ok 0 (g, rest) e)
 closed_takes before r operand (b ∷ after) rest g e =
-    elim (chosen (eqb b 1) (copied_at before r operand after) (cond (eqb b 0) (ended_at before r operand after) (refused (suc (length after)))) (given g rest) e) [
+    elim (chosen (eqb b 1) (copied_at before r operand after) (cond (eqb b 0) (ended_at before r operand after) (refused (suc (length after))))
+    (given g rest) e) [
       | inl copy ↦ copied_takes before r operand b after rest g (eqb-true b 1 copy.0) copy.1
       | inr other ↦
           elim (chosen (eqb b 0) (ended_at before r operand after) (refused (suc (length after))) (given g rest) other.1) [
@@ -336,7 +351,8 @@ record Parts (first : Bool) (before : Row) (bytes rest : List ℕ) (g : Group) :
   moves : IsAdvance first before.address (record { address = r.address; operand = operand })
   closes : Closes before r operand b4 rest g
 
-group_parts : (first : Bool) (before : Row) (bytes : List ℕ) (g : Group) (rest : List ℕ) → IsRow before → group_at first before bytes ≡ Ok (g, rest) → Parts first before bytes rest g
+group_parts : (first : Bool) (before : Row) (bytes : List ℕ) (g : Group) (rest : List ℕ) → IsRow before → group_at first before bytes ≡ Ok (g, rest)
+    → Parts first before bytes rest g
 unfolding group_at
 group_parts first before bytes g rest fits e =
     let close = λ (file column : ℕ) (a : Advance) (line : ℕ × List ℕ).
@@ -351,7 +367,8 @@ group_parts first before bytes g rest fits e =
     let file = register_takes 4 (uleb_at (2 ^ 32)) uleb_of (λ n. n < 2 ^ 32) before.file bytes f.0.0 f.0.1 small fits.file f.1 in
     let column = register_takes 5 (uleb_at (2 ^ 32)) uleb_of (λ n. n < 2 ^ 32) before.column f.0.1 c.0.0 c.0.1 small fits.column c.1 in
     let address = advance_takes first before.address c.0.1 a.0.0 a.0.1 fits.address a.1 in
-    let line = register_takes 3 (line_at before.line) (λ to. sleb_of (pos to -ℤ pos before.line)) (λ n. n < 2 ^ 32) before.line a.0.1 l.0.0 l.0.1 (to_line before.line) fits.line l.1 in
+    let line = register_takes 3 (line_at before.line) (λ to. sleb_of (pos to -ℤ pos before.line)) (λ n. n < 2 ^ 32) before.line a.0.1 l.0.0 l.0.1
+    (to_line before.line) fits.line l.1 in
     record {
       r = record { address = a.0.0.address; file = f.0.0; line = l.0.0; column = c.0.0 };
       operand = a.0.0.operand;
@@ -368,7 +385,8 @@ group_parts first before bytes g rest fits e =
       closes = closed_takes before _ a.0.0.operand l.0.1 rest g l.2;
     }
 
-parts_group : (first : Bool) (before : Row) (bytes rest : List ℕ) (g : Group) (p : Parts first before bytes rest g) → Closes before p.r p.operand p.b4 rest g → IsGroup first before bytes rest g
+parts_group : (first : Bool) (before : Row) (bytes rest : List ℕ) (g : Group) (p : Parts first before bytes rest g)
+    → Closes before p.r p.operand p.b4 rest g → IsGroup first before bytes rest g
 parts_group first before bytes rest g p (copies is stands moved) =
     subst (IsGroup first before bytes rest) (sym is) (record {
       spelled =
@@ -403,7 +421,8 @@ parts_group first before bytes rest g p (ends is stands some same_file same_colu
     later true never = absurd (never refl)
     later false never = refl
 
-pub group_takes : (first : Bool) (before : Row) (bytes : List ℕ) (g : Group) (rest : List ℕ) → IsRow before → group_at first before bytes ≡ Ok (g, rest) → IsGroup first before bytes rest g
+pub group_takes : (first : Bool) (before : Row) (bytes : List ℕ) (g : Group) (rest : List ℕ) → IsRow before
+    → group_at first before bytes ≡ Ok (g, rest) → IsGroup first before bytes rest g
 group_takes first before bytes g rest fits e = let p = group_parts first before bytes g rest fits e in parts_group first before bytes rest g p p.closes
 
 -- ---- and back
@@ -411,7 +430,8 @@ group_takes first before bytes g rest fits e = let p = group_parts first before 
 step : {A B : Type 0} (r : Result A ℕ) (f : A → Result B ℕ) (x : A) → r ≡ Ok x → (r >>= f) ≡ f x
 step r f x e = ap (λ z. z >>= f) e
 
-copied_again : (before r : Row) (operand : Option ℕ) (rest : List ℕ) → ((k : ℕ) → operand ≡ Some k → r.address ≢ before.address) → copied_at before r operand rest ≡ Ok (Copied r, rest)
+copied_again : (before r : Row) (operand : Option ℕ) (rest : List ℕ) → ((k : ℕ) → operand ≡ Some k → r.address ≢ before.address)
+    → copied_at before r operand rest ≡ Ok (Copied r, rest)
 unfolding copied_at
 copied_again before r None rest moves = refl
 copied_again before r (Some k) rest moves = ap (λ b. cond b (refused k) (given (Copied r) rest)) (ne_eqb r.address before.address (moves k refl))
@@ -443,7 +463,8 @@ four_apart before r rest =
 
 five_apart : (before r : Row) (rest : List ℕ) → Other 5 (changing before.address r.address (advance_pc before.address r.address)
     ++ (changing before.line r.line (advance_line before.line r.line) ++ 1 ∷ rest))
-five_apart before r rest = other_changing 5 2 before.address r.address _ _ (numbers_differ 2 5 refl) (other_changing 5 3 before.line r.line _ _ (numbers_differ 3 5 refl) (numbers_differ 1 5 refl))
+five_apart before r rest = other_changing 5 2 before.address r.address _ _ (numbers_differ 2 5 refl)
+    (other_changing 5 3 before.line r.line _ _ (numbers_differ 3 5 refl) (numbers_differ 1 5 refl))
 
 two_apart : (before r : Row) (rest : List ℕ) → Other 2 (changing before.line r.line (advance_line before.line r.line) ++ 1 ∷ rest)
 two_apart before r rest = other_changing 2 3 before.line r.line _ _ (numbers_differ 3 2 refl) (numbers_differ 1 2 refl)
@@ -469,7 +490,8 @@ row_again first before r rest fits above begins =
     (register_again 5 (uleb_at (2 ^ 32)) uleb_of (λ n. n < 2 ^ 32) before.column r.column b2 small fits.column (five_apart before r rest))
     ∙ step (advance_at first before.address b2) (lines r.file r.column) (record { address = r.address; operand = a.operand }, b3) a.read
     ∙ step (register_at 3 (line_at before.line) before.line b3) (close r.file r.column (record { address = r.address; operand = a.operand })) (r.line, b4)
-    (register_again 3 (line_at before.line) (λ to. sleb_of (pos to -ℤ pos before.line)) (λ n. n < 2 ^ 32) before.line r.line b4 (to_line before.line) fits.line (numbers_differ 1 3 refl))
+    (register_again 3 (line_at before.line) (λ to. sleb_of (pos to -ℤ pos before.line)) (λ n. n < 2 ^ 32) before.line r.line b4
+    (to_line before.line) fits.line (numbers_differ 1 3 refl))
     ∙ closed_copy before r a.operand rest a.moves
 
 pub end_again : (before : Row) (end : ℕ) (rest : List ℕ) → before.address ≤ end → end < 2 ^ 64
@@ -486,11 +508,13 @@ end_again before end rest above fits =
     let k : ℕ = length (uleb_of (end - before.address) ++ tail) in
     let r : Row = record { address = end; file = before.file; line = before.line; column = before.column } in
     ap (group_at false before) (append_assoc (advance_pc before.address end) end_sequence rest)
-    ∙ step (register_at 4 (uleb_at (2 ^ 32)) before.file bytes) columns (before.file, bytes) (register_other 4 (uleb_at (2 ^ 32)) before.file bytes (numbers_differ 2 4 refl))
+    ∙ step (register_at 4 (uleb_at (2 ^ 32)) before.file bytes) columns (before.file, bytes)
+    (register_other 4 (uleb_at (2 ^ 32)) before.file bytes (numbers_differ 2 4 refl))
     ∙ step (register_at 5 (uleb_at (2 ^ 32)) before.column bytes) (addresses before.file) (before.column, bytes)
     (register_other 5 (uleb_at (2 ^ 32)) before.column bytes (numbers_differ 2 5 refl))
     ∙ step (advance_at false before.address bytes) (lines before.file before.column) (record { address = end; operand = Some k }, tail)
     (advance_stands before.address end tail above fits)
-    ∙ step (register_at 3 (line_at before.line) before.line tail) (close before.file before.column (record { address = end; operand = Some k })) (before.line, tail)
+    ∙ step (register_at 3 (line_at before.line) before.line tail) (close before.file before.column (record { address = end; operand = Some k }))
+    (before.line, tail)
     (register_other 3 (line_at before.line) before.line tail (numbers_differ 0 3 refl))
     ∙ closed_end before r k rest refl refl refl

@@ -122,7 +122,8 @@ unfolding behind_files
 files_again [] rest are = refl
 files_again (f ∷ files) rest are =
     ap (behind_files (suc (length files))) (nested (text f.name) (uleb_of f.dir) (flat_map file files) rest)
-    ∙ ap (λ r. r >>= (λ name. uleb_at (2 ^ 64) name >>= (λ dir. behind_files (length files) dir.1))) (text_again f.name (uleb_of f.dir ++ (flat_map file files ++ rest)) are.0.name)
+    ∙ ap (λ r. r >>= (λ name. uleb_at (2 ^ 64) name >>= (λ dir. behind_files (length files) dir.1)))
+    (text_again f.name (uleb_of f.dir ++ (flat_map file files ++ rest)) are.0.name)
     ∙ ap (λ r. r >>= (λ (dir : ℕ × List ℕ). behind_files (length files) dir.1)) (uleb_again (2 ^ 64) f.dir (flat_map file files ++ rest) are.0.dir)
     ∙ files_again files rest are.1
   where
@@ -168,23 +169,27 @@ tables_take bytes rest e =
       files = files.files;
       spelled =
           joined bytes a.0 b.0 c.0.1 d.0 f.0 g.0.1 rest c.0.0 g.0.0 dirs.dirs files.files (constants_take instruction_fields bytes a.0 a.1)
-          (constants_take directory_format a.0 b.0 b.1) dir_count.0 dirs.spelled (constants_take file_format d.0 f.0 f.1) file_count.0 files.spelled dirs.count files.count;
+          (constants_take directory_format a.0 b.0 b.1) dir_count.0 dirs.spelled
+          (constants_take file_format d.0 f.0 f.1) file_count.0 files.spelled dirs.count files.count;
       names = dirs.names;
       are = files.are;
       dir_count = omega (arith, dirs.count, dir_count.1);
       file_count = omega (arith, files.count, file_count.1);
     }
   where
-    joined : (bytes a b c d f g rest : List ℕ) (m n : ℕ) (dirs : List (List ℕ)) (files : List FileEntry) → bytes ≡ instruction_fields ++ a → a ≡ directory_format ++ b
+    joined : (bytes a b c d f g rest : List ℕ) (m n : ℕ) (dirs : List (List ℕ)) (files : List FileEntry) → bytes ≡ instruction_fields ++ a
+        → a ≡ directory_format ++ b
         → b ≡ uleb_of m ++ c → c ≡ flat_map text dirs ++ d → d ≡ file_format ++ f → f ≡ uleb_of n ++ g → g ≡ flat_map file files ++ rest
         → length dirs ≡ m → length files ≡ n → bytes ≡ tables_of dirs files ++ rest
     joined bytes a b c d f g rest m n dirs files ea eb ec ed ef eg er em en =
         ea ∙ ap (λ x. instruction_fields ++ x) (eb ∙ ap (λ x. directory_format ++ x) (ec ∙ ap (λ k. uleb_of k ++ c) (sym em)
         ∙ ap (λ x. uleb_of (length dirs) ++ x) (ed ∙ ap (λ x. flat_map text dirs ++ x) (ef ∙ ap (λ x. file_format ++ x)
         (eg ∙ ap (λ k. uleb_of k ++ g) (sym en) ∙ ap (λ x. uleb_of (length files) ++ x) er)))))
-        ∙ sym (nested_tables instruction_fields directory_format (uleb_of (length dirs)) (flat_map text dirs) file_format (uleb_of (length files)) (flat_map file files) rest)
+        ∙ sym (nested_tables instruction_fields directory_format (uleb_of (length dirs)) (flat_map text dirs) file_format (uleb_of (length files))
+        (flat_map file files) rest)
 
-pub tables_again : (dirs : List (List ℕ)) (files : List FileEntry) (rest : List ℕ) → AllByRecursion HasNoZero dirs → AllByRecursion IsFile files → length dirs < 2 ^ 64 → length files < 2 ^ 64
+pub tables_again : (dirs : List (List ℕ)) (files : List FileEntry) (rest : List ℕ) → AllByRecursion HasNoZero dirs → AllByRecursion IsFile files
+    → length dirs < 2 ^ 64 → length files < 2 ^ 64
     → behind_tables (tables_of dirs files ++ rest) ≡ Ok rest
 unfolding behind_tables
 tables_again dirs files rest names are dirs_fit files_fit =
@@ -197,7 +202,8 @@ tables_again dirs files rest names are dirs_fit files_fit =
     let c : List ℕ = flat_map text dirs ++ d in
     let b : List ℕ = uleb_of (length dirs) ++ c in
     let a : List ℕ = directory_format ++ b in
-    ap behind_tables (nested_tables instruction_fields directory_format (uleb_of (length dirs)) (flat_map text dirs) file_format (uleb_of (length files)) (flat_map file files) rest)
+    ap behind_tables (nested_tables instruction_fields directory_format (uleb_of (length dirs)) (flat_map text dirs) file_format
+    (uleb_of (length files)) (flat_map file files) rest)
     ∙ ap (λ r. r >>= (λ start. constants_at directory_format start >>= counted)) (constants_again instruction_fields a)
     ∙ ap (λ r. r >>= counted) (constants_again directory_format b)
     ∙ ap (λ r. r >>= (λ (dir_count : ℕ × List ℕ). behind_dirs dir_count.0 dir_count.1 >>= middle)) (uleb_again (2 ^ 64) (length dirs) c dirs_fit)
@@ -270,8 +276,10 @@ header_take bytes program are e =
     (subst (Tables g.0.1) tables_judged.1 t) (eqb-true _ _ both.0) (ltb-true _ _ both.1) (eqb-true _ _ version_judged.0)
     (subst (λ p. g.0.0 + length p ≡ length g.0.1) tables_judged.1 (eqb-true _ _ tables_judged.0))
   where
-    joined : (bytes a c f g program : List ℕ) (after version header_length : ℕ) → bytes ≡ to_le_bytes w32 after ++ a → a ≡ to_le_bytes w16 version ++ c → c ≡ 8 ∷ 0 ∷ f
-        → f ≡ to_le_bytes w32 header_length ++ g → Tables g program → after ≡ length a → after < LENGTH_LIMIT → version ≡ 5 → header_length + length program ≡ length g
+    joined : (bytes a c f g program : List ℕ) (after version header_length : ℕ) → bytes ≡ to_le_bytes w32 after ++ a
+        → a ≡ to_le_bytes w16 version ++ c → c ≡ 8 ∷ 0 ∷ f
+        → f ≡ to_le_bytes w32 header_length ++ g → Tables g program → after ≡ length a → after < LENGTH_LIMIT → version ≡ 5
+        → header_length + length program ≡ length g
         → Head bytes program
     joined bytes a c f g program after version header_length ea ec ef eg t is_after small is_five is_header =
         let tb = tables_of t.dirs t.files in
@@ -283,10 +291,12 @@ header_take bytes program are e =
           dirs = t.dirs;
           files = t.files;
           spelled =
-              ea ∙ ap (λ x. to_le_bytes w32 after ++ x) (ec ∙ ap (λ k. to_le_bytes w16 k ++ c) is_five ∙ ap (λ x. to_le_bytes w16 5 ++ x) (ef ∙ ap (λ x. 8 ∷ 0 ∷ x)
+              ea ∙ ap (λ x. to_le_bytes w32 after ++ x) (ec ∙ ap (λ k. to_le_bytes w16 k ++ c) is_five
+              ∙ ap (λ x. to_le_bytes w16 5 ++ x) (ef ∙ ap (λ x. 8 ∷ 0 ∷ x)
               (eg ∙ ap (λ k. to_le_bytes w32 k ++ g) hl ∙ ap (λ x. to_le_bytes w32 (length tb) ++ x) t.spelled)))
               ∙ ap (λ k. to_le_bytes w32 k ++ (to_le_bytes w16 5 ++ ((8 ∷ 0 ∷ []) ++ (to_le_bytes w32 (length tb) ++ (tb ++ program))))) la
-              ∙ sym (nested_header (to_le_bytes w32 (8 + length tb + length program)) (to_le_bytes w16 5) (8 ∷ 0 ∷ []) (to_le_bytes w32 (length tb)) (tb ++ program));
+              ∙ sym (nested_header (to_le_bytes w32 (8 + length tb + length program)) (to_le_bytes w16 5) (8 ∷ 0 ∷ []) (to_le_bytes w32 (length tb))
+              (tb ++ program));
           size = omega (arith, ap length ea);
           names = t.names;
           are = t.are;
@@ -294,9 +304,11 @@ header_take bytes program are e =
           file_count = t.file_count;
         }
 
-pub header_again : (dirs : List (List ℕ)) (files : List FileEntry) (program : List ℕ) → AllByRecursion HasNoZero dirs → AllByRecursion IsFile files → length dirs < 2 ^ 64
+pub header_again : (dirs : List (List ℕ)) (files : List FileEntry) (program : List ℕ) → AllByRecursion HasNoZero dirs → AllByRecursion IsFile files
+    → length dirs < 2 ^ 64
     → length files < 2 ^ 64 → 8 + length (tables_of dirs files) + length program < LENGTH_LIMIT
-    → behind_header (header (8 + length (tables_of dirs files) + length program) (length (tables_of dirs files)) ++ (tables_of dirs files ++ program)) ≡ Ok program
+    → behind_header (header (8 + length (tables_of dirs files) + length program) (length (tables_of dirs files)) ++
+    (tables_of dirs files ++ program)) ≡ Ok program
 unfolding behind_header
 header_again dirs files program names are dirs_fit files_fit small =
     let tb : List ℕ = tables_of dirs files in

@@ -36,13 +36,15 @@ if_ok : {A : Type 0} (b : Bool) (left : ℕ) (x y : A) → cond b (Ok x) (Err le
 if_ok true left x y e = (refl, cc)
 if_ok false left x y e = absurd cc
 
-pub spelled_takes : (spell : ℕ → List ℕ) (bytes : List ℕ) (o : Option ℕ) (n : ℕ) (rest : List ℕ) → spelled_at spell bytes o ≡ Ok (n, rest) → (o ≡ Some n) × (bytes ≡ spell n ++ rest)
+pub spelled_takes : (spell : ℕ → List ℕ) (bytes : List ℕ) (o : Option ℕ) (n : ℕ) (rest : List ℕ) → spelled_at spell bytes o ≡ Ok (n, rest)
+    → (o ≡ Some n) × (bytes ≡ spell n ++ rest)
 spelled_takes spell bytes None n rest e = absurd cc
 spelled_takes spell bytes (Some m) n rest e =
     let found = if_ok (starts_with nat_eq bytes (spell m)) (length bytes) (m, drop (length (spell m)) bytes) (n, rest) e in
     let number : m ≡ n = ap (λ (p : ℕ × List ℕ). p.0) found.1 in
     let behind : drop (length (spell m)) bytes ≡ rest = ap (λ (p : ℕ × List ℕ). p.1) found.1 in
-    let whole : bytes ≡ spell m ++ drop (length (spell m)) bytes = (starts_is Decides-eqb bytes (spell m) (starts_with nat_eq bytes (spell m)) refl).0 found.0 in
+    let whole : bytes ≡ spell m ++ drop (length (spell m)) bytes = (starts_is Decides-eqb bytes (spell m)
+    (starts_with nat_eq bytes (spell m)) refl).0 found.0 in
     (ap Some number, whole ∙ ap (λ x. spell m ++ x) behind ∙ ap (λ k. spell k ++ rest) number)
 
 pub spelled_again : (spell : ℕ → List ℕ) (n : ℕ) (rest : List ℕ) → spelled_at spell (spell n ++ rest) (Some n) ≡ Ok (n, rest)
@@ -53,7 +55,8 @@ spelled_again spell n rest =
     ∙ ap (λ (x : List ℕ). Ok (n, x)) (drop_at (spell n) rest (length (spell n)) refl)
 
 -- nothing is read where no spelling stands
-pub spelled_fault : (spell : ℕ → List ℕ) (bytes : List ℕ) (o : Option ℕ) → ((n : ℕ) (rest : List ℕ) → o ≡ Some n → bytes ≢ spell n ++ rest) → spelled_at spell bytes o ≡ Err (length bytes)
+pub spelled_fault : (spell : ℕ → List ℕ) (bytes : List ℕ) (o : Option ℕ) → ((n : ℕ) (rest : List ℕ) → o ≡ Some n → bytes ≢ spell n ++ rest)
+    → spelled_at spell bytes o ≡ Err (length bytes)
 spelled_fault spell bytes None lacks = refl
 spelled_fault spell bytes (Some n) lacks =
     elim (cases_Bool (starts_with nat_eq bytes (spell n))) [
@@ -84,7 +87,8 @@ uleb_again limit n rest fits =
 pub uleb_fault : (limit : ℕ) (bytes : List ℕ) → ((n : ℕ) (rest : List ℕ) → n < limit → bytes ≢ uleb_of n ++ rest) → uleb_at limit bytes ≡ Err (length bytes)
 unfolding uleb_at
 uleb_fault limit bytes lacks =
-    spelled_fault uleb_of bytes (below limit (unsigned_value (leb_front bytes))) (λ n rest e. lacks n rest (below-is limit (unsigned_value (leb_front bytes)) n e).1)
+    spelled_fault uleb_of bytes (below limit (unsigned_value (leb_front bytes)))
+    (λ n rest e. lacks n rest (below-is limit (unsigned_value (leb_front bytes)) n e).1)
 
 -- the number at the front is one alone
 pub uleb_one : (m n : ℕ) (x y : List ℕ) → uleb_of m ++ x ≡ uleb_of n ++ y → m ≡ n
@@ -125,7 +129,8 @@ natural-is : (limit : ℕ) (v : ℤ) (m : ℕ) → natural_below limit v ≡ Som
 natural-is limit (pos n) m e = let is = below-is limit n m e in (ap pos is.0, is.1)
 natural-is limit (negsuc n) m e = absurd cc
 
-pub line_takes : (from : ℕ) (bytes : List ℕ) (to : ℕ) (rest : List ℕ) → line_at from bytes ≡ Ok (to, rest) → (bytes ≡ sleb_of (pos to -ℤ pos from) ++ rest) × (to < 2 ^ 32)
+pub line_takes : (from : ℕ) (bytes : List ℕ) (to : ℕ) (rest : List ℕ) → line_at from bytes ≡ Ok (to, rest)
+    → (bytes ≡ sleb_of (pos to -ℤ pos from) ++ rest) × (to < 2 ^ 32)
 unfolding line_at
 line_takes from bytes to rest e =
     let found = spelled_takes (λ k. sleb_of (pos k -ℤ pos from)) bytes (natural_below (2 ^ 32) (pos from +ℤ signed_value (leb_front bytes))) to rest e in
@@ -140,7 +145,8 @@ line_again from to rest fits =
     ap (λ v. natural_below (2 ^ 32) (pos from +ℤ v)) (sleb_front (pos to -ℤ pos from) rest) ∙ ap (natural_below (2 ^ 32)) leads ∙ below-some (2 ^ 32) to fits in
     ap (spelled_at spell (sleb_of (pos to -ℤ pos from) ++ rest)) value ∙ spelled_again spell to rest
 
-pub line_fault : (from : ℕ) (bytes : List ℕ) → ((to : ℕ) (rest : List ℕ) → to < 2 ^ 32 → bytes ≢ sleb_of (pos to -ℤ pos from) ++ rest) → line_at from bytes ≡ Err (length bytes)
+pub line_fault : (from : ℕ) (bytes : List ℕ) → ((to : ℕ) (rest : List ℕ) → to < 2 ^ 32 → bytes ≢ sleb_of (pos to -ℤ pos from) ++ rest)
+    → line_at from bytes ≡ Err (length bytes)
 unfolding line_at
 line_fault from bytes lacks =
     spelled_fault (λ k. sleb_of (pos k -ℤ pos from)) bytes (natural_below (2 ^ 32) (pos from +ℤ signed_value (leb_front bytes)))
@@ -152,6 +158,7 @@ advanced_by from by bytes rest is fits =
     let back : by ≡ from + by - from = omega arith in
     ap (advanced_at from) (is ∙ ap (λ k. uleb_of k ++ rest) back) ∙ advanced_again from (from + by) rest (omega arith) fits
 
-pub line_by : (from to : ℕ) (by : ℤ) (bytes rest : List ℕ) → bytes ≡ sleb_of by ++ rest → by ≡ pos to -ℤ pos from → to < 2 ^ 32 → line_at from bytes ≡ Ok (to, rest)
+pub line_by : (from to : ℕ) (by : ℤ) (bytes rest : List ℕ) → bytes ≡ sleb_of by ++ rest → by ≡ pos to -ℤ pos from → to < 2 ^ 32
+    → line_at from bytes ≡ Ok (to, rest)
 line_by from to by bytes rest is back fits =
     ap (line_at from) (is ∙ ap (λ v. sleb_of v ++ rest) back) ∙ line_again from to rest fits

@@ -24,7 +24,8 @@ pub record AreRows (first : Bool) (before : Row) (bytes : List ℕ) (rows : List
   pub end_fits : end < 2 ^ 64
   pub begins : first ≡ true → BeginsAt before.address rows
 
-pub rows_take : {first : Bool} {before : Row} {bytes : List ℕ} {rows : List Row} {end : ℕ} {rest : List ℕ} → IsRow before → Rows first before bytes rows end rest
+pub rows_take : {first : Bool} {before : Row} {bytes : List ℕ} {rows : List Row} {end : ℕ} {rest : List ℕ} → IsRow before
+    → Rows first before bytes rows end rest
     → AreRows first before bytes rows end rest
 rows_take {first} {before} {bytes} {rows} {end} {rest} fits (LastRow e) =
     let is = group_takes first before bytes (Ended end) rest fits e in
@@ -44,12 +45,14 @@ rows_take {first} {before} {bytes} {rows} {end} {rest} fits (NextRow {r = r} {af
       begins = is.begins;
     }
 
-pub rows_again : (first : Bool) (before : Row) (rows : List Row) (end : ℕ) (rest : List ℕ) → AllByRecursion IsRow rows → end < 2 ^ 64 → Ascend before.address rows end
+pub rows_again : (first : Bool) (before : Row) (rows : List Row) (end : ℕ) (rest : List ℕ) → AllByRecursion IsRow rows → end < 2 ^ 64
+    → Ascend before.address rows end
     → (first ≡ true → BeginsAt before.address rows) → Rows first before (rows_to before rows end ++ rest) rows end rest
 rows_again true before [] end rest fits end_fits ascend begins = absurd (begins refl)
 rows_again false before [] end rest fits end_fits ascend begins = LastRow (end_again before end rest ascend end_fits)
 rows_again first before (r ∷ rows) end rest fits end_fits ascend begins =
-    NextRow (ap (group_at first before) (append_assoc (row before r) (rows_to r rows end) rest) ∙ row_again first before r (rows_to r rows end ++ rest) fits.0 ascend.0 begins)
+    NextRow (ap (group_at first before) (append_assoc (row before r) (rows_to r rows end) rest)
+    ∙ row_again first before r (rows_to r rows end ++ rest) fits.0 ascend.0 begins)
     (rows_again false r rows end rest fits.1 end_fits ascend.1 (λ begun. absurd cc))
 
 -- ---- a wrong field is none that is spelled
@@ -76,12 +79,15 @@ end_is a b e = cc
 pub rows_apart : {first : Bool} {before : Row} {bytes : List ℕ} {left : ℕ} {rows : List Row} {end : ℕ} {rest : List ℕ} → RowsFault first before bytes left
     → Rows first before bytes rows end rest → ⊥
 rows_apart {first} {before} {bytes} {left} (InRow e) (LastRow {end = end} {rest = rest} d) = no_fault (group_at first before bytes) left (Ended end, rest) e d
-rows_apart {first} {before} {bytes} {left} (InRow e) (NextRow {r = r} {after = after} d behind) = no_fault (group_at first before bytes) left (Copied r, after) e d
+rows_apart {first} {before} {bytes} {left} (InRow e) (NextRow {r = r} {after = after} d behind) = no_fault (group_at first before bytes) left
+    (Copied r, after) e d
 rows_apart {first} {before} {bytes} (InLaterRow {r = r} {after = after} e fault) (LastRow {end = end} {rest = rest} d) =
     not_both r end (one_group (group_at first before bytes) (Copied r) (Ended end) after rest e d).0
-rows_apart {first} {before} {bytes} {left} {rows} {end} {rest} (InLaterRow {r = r} {after = after} e fault) (NextRow {r = s} {after = behind} {rows = others} d reads) =
+rows_apart {first} {before} {bytes} {left} {rows} {end} {rest} (InLaterRow {r = r} {after = after} e fault)
+    (NextRow {r = s} {after = behind} {rows = others} d reads) =
     let same = one_group (group_at first before bytes) (Copied r) (Copied s) after behind e d in
-    rows_apart fault (subst (λ x. Rows false r x others end rest) (sym same.1) (subst (λ q. Rows false q behind others end rest) (sym (row_is r s same.0)) reads))
+    rows_apart fault (subst (λ x. Rows false r x others end rest) (sym same.1)
+    (subst (λ q. Rows false q behind others end rest) (sym (row_is r s same.0)) reads))
 
 -- rows that are read are one list alone
 pub record SameRows (ps qs : List Row) (a b : ℕ) (x y : List ℕ) : Type 0 where
@@ -98,7 +104,8 @@ rows_one {first} {before} {bytes} {rows} {others} {a} {b} {x} {y} (LastRow e) (N
     absurd (not_both s a (one_group (group_at first before bytes) (Copied s) (Ended a) behind x d e).0)
 rows_one {first} {before} {bytes} {rows} {others} {a} {b} {x} {y} (NextRow {r = r} {after = after} e reads) (LastRow d) =
     absurd (not_both r b (one_group (group_at first before bytes) (Copied r) (Ended b) after y e d).0)
-rows_one {first} {before} {bytes} {rows} {others} {a} {b} {x} {y} (NextRow {r = r} {after = after} {rows = ps} e reads) (NextRow {r = s} {after = behind} {rows = qs} d reads') =
+rows_one {first} {before} {bytes} {rows} {others} {a} {b} {x} {y} (NextRow {r = r} {after = after} {rows = ps} e reads)
+    (NextRow {r = s} {after = behind} {rows = qs} d reads') =
     let same = one_group (group_at first before bytes) (Copied r) (Copied s) after behind e d in
     let equal = row_is r s same.0 in
     let next = rows_one reads (subst (λ z. Rows false r z qs b y) (sym same.1) (subst (λ q. Rows false q behind qs b y) (sym equal) reads')) in
@@ -106,7 +113,8 @@ rows_one {first} {before} {bytes} {rows} {others} {a} {b} {x} {y} (NextRow {r = 
 
 -- ---- where a sequence begins
 
-pub start_takes : (bytes : List ℕ) (start : ℕ) (rest : List ℕ) → IsBytes bytes → start_at bytes ≡ Ok (start, rest) → (bytes ≡ set_address start ++ rest) × (start < 2 ^ 64)
+pub start_takes : (bytes : List ℕ) (start : ℕ) (rest : List ℕ) → IsBytes bytes → start_at bytes ≡ Ok (start, rest)
+    → (bytes ≡ set_address start ++ rest) × (start < 2 ^ 64)
 unfolding start_at
 start_takes bytes start rest are e =
     let opcode = bind_ok (constants_at (0 ∷ 9 ∷ 2 ∷ []) bytes) (number_at w64) (start, rest) e in

@@ -33,7 +33,8 @@ dirs_more count i rest after bytes inside read so_far =
     let one : behind_dirs (count - i) rest ≡ behind_dirs (count - (i + 1)) after = rw (k, read) refl in
     sym one ∙ so_far
 
-pub dirs_fault : (e : ReadError) (count i : ℕ) (rest bytes : List ℕ) → i < count → Fails e (behind_text rest) → behind_dirs (count - i) rest ≡ behind_dirs count bytes
+pub dirs_fault : (e : ReadError) (count i : ℕ) (rest bytes : List ℕ) → i < count → Fails e (behind_text rest)
+    → behind_dirs (count - i) rest ≡ behind_dirs count bytes
     → Fails e (behind_dirs count bytes)
 unfolding behind_dirs
 dirs_fault Memory count i rest bytes inside read so_far = tt
@@ -58,7 +59,8 @@ files_more count i rest name after bytes dir inside named numbered so_far =
     let one : behind_files (count - i) rest ≡ behind_files (count - (i + 1)) after = rw (k, named, numbered) refl in
     sym one ∙ so_far
 
-pub files_fault : (e : ReadError) (count i : ℕ) (rest bytes : List ℕ) → i < count → Fails e (behind_text rest) → behind_files (count - i) rest ≡ behind_files count bytes
+pub files_fault : (e : ReadError) (count i : ℕ) (rest bytes : List ℕ) → i < count → Fails e (behind_text rest)
+    → behind_files (count - i) rest ≡ behind_files count bytes
     → Fails e (behind_files count bytes)
 unfolding behind_files
 files_fault Memory count i rest bytes inside read so_far = tt
@@ -93,7 +95,8 @@ pub group_fault : (e : ReadError) (first : Bool) (before : Row) (rest : List ℕ
 group_fault Memory first before rest fault fails whole = tt
 group_fault (Left left) first before rest fault fails whole = whole left (InRow fails)
 
-pub group_smaller : (first : Bool) (before : Row) (rest : List ℕ) (g : Group) (r : Row) (after : List ℕ) → IsRow before → group_at first before rest ≡ Ok (g, after) → g ≡ Copied r
+pub group_smaller : (first : Bool) (before : Row) (rest : List ℕ) (g : Group) (r : Row) (after : List ℕ) → IsRow before
+    → group_at first before rest ≡ Ok (g, after) → g ≡ Copied r
     → length after < length rest
 unfolding row
 group_smaller first before rest g r after fits e is =
@@ -105,11 +108,13 @@ group_smaller first before rest g r after fits e is =
         changing before.file r.file (set_file r.file) ++ changing before.column r.column (set_column r.column)
         ++ changing before.address r.address (advance_pc before.address r.address) ++ changing before.line r.line (advance_line before.line r.line)
 
-pub row_fits : (first : Bool) (before : Row) (rest : List ℕ) (g : Group) (r : Row) (after : List ℕ) → IsRow before → group_at first before rest ≡ Ok (g, after) → g ≡ Copied r → IsRow r
+pub row_fits : (first : Bool) (before : Row) (rest : List ℕ) (g : Group) (r : Row) (after : List ℕ) → IsRow before
+    → group_at first before rest ≡ Ok (g, after) → g ≡ Copied r → IsRow r
 row_fits first before rest g r after fits e is = (group_takes first before rest (Copied r) after fits (e ∙ ap (λ h. given h after) is)).fits
 
 -- one row more is read
-pub reads_more : (first : Bool) (before : Row) (rest : List ℕ) (g : Group) (r : Row) (after : List ℕ) (start : Row) (bytes : List ℕ) (so_far pushed rows : List Row) (end : ℕ) (behind : List ℕ)
+pub reads_more : (first : Bool) (before : Row) (rest : List ℕ) (g : Group) (r : Row) (after : List ℕ) (start : Row) (bytes : List ℕ)
+    (so_far pushed rows : List Row) (end : ℕ) (behind : List ℕ)
     → group_at first before rest ≡ Ok (g, after) → g ≡ Copied r → pushed ≡ so_far ++ r ∷ []
     → ((rows : List Row) (end : ℕ) (behind : List ℕ) → Rows first before rest rows end behind → Rows true start bytes (so_far ++ rows) end behind)
     → Rows false r after rows end behind → Rows true start bytes (pushed ++ rows) end behind
@@ -131,7 +136,8 @@ fault_more first before rest g r after start bytes left e is whole fault = whole
 
 -- ---- the sequences of a program
 
-pub start_fault : (e : ReadError) (rest : List ℕ) (fault : ℕ → Type 0) → rest ≢ [] → Fails e (start_at rest) → ((left : ℕ) → ProgramFault rest left → fault left) → Faults e fault
+pub start_fault : (e : ReadError) (rest : List ℕ) (fault : ℕ → Type 0) → rest ≢ [] → Fails e (start_at rest)
+    → ((left : ℕ) → ProgramFault rest left → fault left) → Faults e fault
 start_fault Memory rest fault some fails whole = tt
 start_fault (Left left) rest fault some fails whole = whole left (InStart some fails)
 
@@ -162,12 +168,14 @@ pub sequences_more : (rest rows after bytes : List ℕ) (start : ℕ) (s : Seque
 sequences_more rest rows after bytes start s so_far pushed ss e reads push whole behind =
     subst (λ xs. Program bytes xs) (sym (append_assoc so_far (s ∷ []) ss) ∙ ap (λ x. x ++ ss) (sym push)) (whole (s ∷ ss) (NextSequence e reads behind))
 
-pub sequences_all : (rest bytes : List ℕ) (so_far : List Sequence) → length rest ≡ 0 → ((ss : List Sequence) → Program rest ss → Program bytes (so_far ++ ss)) → Program bytes so_far
+pub sequences_all : (rest bytes : List ℕ) (so_far : List Sequence) → length rest ≡ 0
+    → ((ss : List Sequence) → Program rest ss → Program bytes (so_far ++ ss)) → Program bytes so_far
 sequences_all rest bytes so_far ended whole =
     subst (λ xs. Program bytes xs) (append-nil so_far) (whole [] (subst (λ x. Program x []) (sym (nil_from_length rest ended)) NoSequence))
 
 pub sequences_fault : (rest rows after bytes : List ℕ) (start : ℕ) (s : Sequence) (left : ℕ) → start_at rest ≡ Ok (start, rows)
-    → Rows true (registers_at start) rows s.rows s.end after → ((left : ℕ) → ProgramFault rest left → ProgramFault bytes left) → ProgramFault after left → ProgramFault bytes left
+    → Rows true (registers_at start) rows s.rows s.end after → ((left : ℕ) → ProgramFault rest left → ProgramFault bytes left)
+    → ProgramFault after left → ProgramFault bytes left
 sequences_fault rest rows after bytes start s left e reads whole fault = whole left (InLaterSequence e reads fault)
 
 pub some_left : (rest : List ℕ) (b : Bool) → b ≡ eqb (length rest) 0 → b ≡ false → rest ≢ []

@@ -73,7 +73,8 @@ one_start : (r : Result (ℕ × List ℕ) ℕ) (a b : ℕ) (x y : List ℕ) → 
 one_start r a b x y e d = let same = ok_is (a, x) (b, y) (sym e ∙ d) in (ap (λ (p : ℕ × List ℕ). p.0) same, ap (λ (p : ℕ × List ℕ). p.1) same)
 
 -- rows that are read from where a sequence begins are read from there
-moved : (a b : ℕ) (x y rest : List ℕ) (rows : List Row) (end : ℕ) → (a ≡ b) × (x ≡ y) → Rows true (registers_at b) y rows end rest → Rows true (registers_at a) x rows end rest
+moved : (a b : ℕ) (x y rest : List ℕ) (rows : List Row) (end : ℕ) → (a ≡ b) × (x ≡ y) → Rows true (registers_at b) y rows end rest
+    → Rows true (registers_at a) x rows end rest
 moved a b x y rest rows end same reads =
     subst (λ n. Rows true (registers_at n) x rows end rest) (sym same.0) (subst (λ z. Rows true (registers_at b) z rows end rest) (sym same.1) reads)
 
@@ -131,7 +132,8 @@ both_of P Q R together (x ∷ xs) ps qs = (together x ps.0 qs.0, both_of P Q R t
 
 files_again : (files : List FileEntry) → All IsNamed files → All IsNumbered files → AllByRecursion IsFile files
 files_again files names numbers =
-    both_of IsNamed IsNumbered IsFile (λ f named numbered. record { name = no_zero f.name named; dir = numbered }) files (recursion_from_All IsNamed files names)
+    both_of IsNamed IsNumbered IsFile (λ f named numbered. record { name = no_zero f.name named; dir = numbered }) files
+    (recursion_from_All IsNamed files names)
     (recursion_from_All IsNumbered files numbers)
 
 written_again : (ss : List Sequence) → All IsSequence ss → All HasRange ss → AllByRecursion IsWritten ss
@@ -145,16 +147,23 @@ pub section_found : (bytes p : List ℕ) (ss : List Sequence) → IsBytes bytes 
 unfolding spelling tables
 section_found bytes p ss are e reads =
     let head = header_take bytes p are e in
-    let front : List ℕ = header (8 + length (tables_of head.dirs head.files) + length p) (length (tables_of head.dirs head.files)) ++ tables_of head.dirs head.files in
+    let front : List ℕ = header (8 + length (tables_of head.dirs head.files) + length p)
+    (length (tables_of head.dirs head.files)) ++ tables_of head.dirs head.files in
     let joined : bytes ≡ front ++ p =
-    head.spelled ∙ sym (append_assoc (header (8 + length (tables_of head.dirs head.files) + length p) (length (tables_of head.dirs head.files))) (tables_of head.dirs head.files) p) in
+    head.spelled ∙ sym (append_assoc (header (8 + length (tables_of head.dirs head.files) + length p) (length (tables_of head.dirs head.files)))
+    (tables_of head.dirs head.files) p) in
     let sequences = program_takes (IsBytes-behind bytes front p joined are) reads in
     let t : LineTable = record { dirs = head.dirs; files = head.files; sequences = ss } in (
       t,
       record {
-        spelled = joined ∙ ap (λ x. header (8 + length (tables_of head.dirs head.files) + length x) (length (tables_of head.dirs head.files)) ++ tables_of head.dirs head.files ++ x) sequences.spelled;
+        spelled = joined ∙ ap (λ x. header (8 + length (tables_of head.dirs head.files) + length x)
+            (length (tables_of head.dirs head.files)) ++ tables_of head.dirs head.files ++ x) sequences.spelled;
         size = head.size;
-        names = record { dirs = all_of HasNoZero IsName name_of head.dirs head.names; files = all_of IsFile IsNamed (λ f is. name_of f.name is.name) head.files head.are };
+        names = record {
+          dirs = all_of HasNoZero IsName name_of head.dirs head.names;
+          files = all_of IsFile IsNamed
+              (λ f is. name_of f.name is.name) head.files head.are;
+        };
         sequences = all_of IsWritten IsSequence (λ s is. is.rows) ss sequences.are;
         fits = record {
           dirs = head.dir_count;
@@ -182,7 +191,8 @@ section_program bytes t is = program_again t.sequences (written_again t.sequence
 
 -- ---- what the reader answers
 
-pub section_reads : (r : Result (List Sequence) ReadError) (bytes p : List ℕ) → behind_header bytes ≡ Ok p → MatchResult r (λ ss. Program p ss) (λ e. Faults e (ProgramFault p))
+pub section_reads : (r : Result (List Sequence) ReadError) (bytes p : List ℕ) → behind_header bytes ≡ Ok p
+    → MatchResult r (λ ss. Program p ss) (λ e. Faults e (ProgramFault p))
     → MatchResult r (λ ss. Reads bytes ss) (λ e. Faults e (SectionFault bytes))
 section_reads (Ok ss) bytes p e reads = record { behind = p; header = e; reads = reads }
 section_reads (Err Memory) bytes p e fault = tt
@@ -199,12 +209,15 @@ read_only bytes ss t reads is =
     let same : reads.behind ≡ program t.sequences = ok_is reads.behind (program t.sequences) (sym reads.header ∙ section_header bytes t is) in
     program_one reads.reads (subst (λ x. Program x t.sequences) (sym same) (section_program bytes t is))
 
-pub fault_only : (bytes : List ℕ) (left : ℕ) (e : ReadError) (t : LineTable) (P : Type 0) → e ≡ Left left → Faults e (SectionFault bytes) → IsSection bytes t → P
+pub fault_only : (bytes : List ℕ) (left : ℕ) (e : ReadError) (t : LineTable) (P : Type 0) → e ≡ Left left → Faults e (SectionFault bytes)
+    → IsSection bytes t → P
 fault_only bytes left e t P is_left fault is = absurd (section_apart bytes left t (subst (λ x. Faults x (SectionFault bytes)) is_left fault) is)
 
-pub first_fault : (bytes : List ℕ) (left : ℕ) (e : ReadError) (at : ℕ) → e ≡ Left left → Faults e (SectionFault bytes) → at ≡ length bytes - left → FirstFault bytes at
+pub first_fault : (bytes : List ℕ) (left : ℕ) (e : ReadError) (at : ℕ) → e ≡ Left left → Faults e (SectionFault bytes) → at ≡ length bytes - left
+    → FirstFault bytes at
 first_fault bytes left e at is_left fault place =
     record { left = left; fault = subst (λ x. Faults x (SectionFault bytes)) is_left fault; place = place }
 
 pub one_table : (bytes : List ℕ) (a b : LineTable) → IsSection bytes a → IsSection bytes b → a.sequences ≡ b.sequences
-one_table bytes a b is_a is_b = read_only bytes a.sequences b (record { behind = program a.sequences; header = section_header bytes a is_a; reads = section_program bytes a is_a }) is_b
+one_table bytes a b is_a is_b = read_only bytes a.sequences b
+    (record { behind = program a.sequences; header = section_header bytes a is_a; reads = section_program bytes a is_a }) is_b

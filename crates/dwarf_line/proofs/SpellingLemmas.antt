@@ -12,12 +12,15 @@ unfolding spelling
 length-spelling t = omega (arith, length-append (tables t) (program t.sequences))
 
 -- what is written is the section, part by part
-pub written : (t : LineTable) (out first second third : List ℕ) (length_after header_length : ℕ) → out ≡ third ++ program t.sequences → third ≡ second ++ tables t
-    → second ≡ first ++ header length_after header_length → first ≡ [] → length_after + 4 ≡ length (spelling t) → header_length ≡ length (tables t) → out ≡ spelling t
+pub written : (t : LineTable) (out first second third : List ℕ) (length_after header_length : ℕ) → out ≡ third ++ program t.sequences
+    → third ≡ second ++ tables t
+    → second ≡ first ++ header length_after header_length → first ≡ [] → length_after + 4 ≡ length (spelling t) → header_length ≡ length (tables t)
+    → out ≡ spelling t
 unfolding spelling
 written t out first second third length_after header_length program_is tables_are header_is first_is after_is length_is =
     let after : length_after ≡ 8 + length (tables t) + length (program t.sequences) = omega (arith, length-append (tables t) (program t.sequences)) in
-    program_is ∙ ap (λ x. x ++ program t.sequences) (tables_are ∙ ap (λ x. x ++ tables t) (header_is ∙ ap (λ x. x ++ header length_after header_length) first_is))
+    program_is ∙ ap (λ x. x ++ program t.sequences) (tables_are ∙ ap (λ x. x ++ tables t)
+    (header_is ∙ ap (λ x. x ++ header length_after header_length) first_is))
     ∙ ap (λ n. header n header_length ++ tables t ++ program t.sequences) after
     ∙ ap (λ n. header (8 + length (tables t) + length (program t.sequences)) n ++ tables t ++ program t.sequences) length_is
 
@@ -28,7 +31,8 @@ pub tables_written : (t : LineTable) (o o1 o2 o3 o4 o5 o6 u v : List ℕ) (dirs 
 unfolding tables
 tables_written t o o1 o2 o3 o4 o5 o6 u v dirs files e1 e2 e3 e4 e5 e6 u_is dirs_are v_is files_are =
     rw (e6, e5, e4, e3, e2, e1, u_is, dirs_are, v_is, files_are)
-    (nested o instruction_fields directory_format (uleb_of (length t.dirs)) (flat_map text t.dirs) file_format (uleb_of (length t.files)) (flat_map file t.files))
+    (nested o instruction_fields directory_format (uleb_of (length t.dirs)) (flat_map text t.dirs) file_format (uleb_of (length t.files))
+    (flat_map file t.files))
   where
     nested : (o a b c d e f g : List ℕ) → ((((((o ++ a) ++ b) ++ c) ++ d) ++ e) ++ f) ++ g ≡ o ++ ((((((a ++ b) ++ c) ++ d) ++ e) ++ f) ++ g)
     nested o a b c d e f g = simp append_assoc

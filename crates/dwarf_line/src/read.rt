@@ -20,8 +20,9 @@ use dwarf_base::front::{split_sleb, split_u32, split_uleb};
 use lists::List;
 use std::alloc::{AllocError, AllocFailed, Global};
 
-/// The sequences of a section `.debug_line`, as `write_line` writes it. Special opcodes aren't read, and files and directories are
-/// passed over. It takes memory for the rows alone.
+/// The sequences of a section `.debug_line`, as `write_line` writes it (DWARF 5 sections 6.2.4 and 6.2.5). Special
+/// opcodes aren't read, and files and directories are passed over. It takes memory for the rows alone, and looks at
+/// each byte a bounded number of times.
 pub fn rows(alloc: Global, bytes: &[u8]) -> Result<Sequences, LineError>
     // What is read is the section of a table with these sequences.
     ensures found { IfOk result (λ sequences. (t : LineTable) × IsSection bytes.now t × (t.sequences ≡ sequences)) }
@@ -269,7 +270,8 @@ fn after_header(bytes: &[u8]) -> Result<&[u8], ReadError>
 /// The file behind an opcode that may change it.
 #[tactic(auto, unfolding(crate::specs::Reading::register_at))]
 fn file_at(before: u32, bytes: &[u8]) -> Result<(u32, &[u8]), ReadError>
-    ensures { Gives (λ x. (x.0, x.1.now)) result (register_at Standard.DW_LNS_set_file (uleb_at (2 ^ 32)) before bytes.now) }
+    ensures { Gives (λ x. (x.0, x.1.now)) result
+        (register_at Standard.DW_LNS_set_file (uleb_at (2 ^ 32)) before bytes.now) }
 {
     match bytes {
         [DW_LNS_set_file, operand @ ..] => {
@@ -286,7 +288,8 @@ fn file_at(before: u32, bytes: &[u8]) -> Result<(u32, &[u8]), ReadError>
 /// The column behind an opcode that may change it.
 #[tactic(auto, unfolding(crate::specs::Reading::register_at))]
 fn column_at(before: u32, bytes: &[u8]) -> Result<(u32, &[u8]), ReadError>
-    ensures { Gives (λ x. (x.0, x.1.now)) result (register_at Standard.DW_LNS_set_column (uleb_at (2 ^ 32)) before bytes.now) }
+    ensures { Gives (λ x. (x.0, x.1.now)) result
+        (register_at Standard.DW_LNS_set_column (uleb_at (2 ^ 32)) before bytes.now) }
 {
     match bytes {
         [DW_LNS_set_column, operand @ ..] => {
@@ -303,7 +306,8 @@ fn column_at(before: u32, bytes: &[u8]) -> Result<(u32, &[u8]), ReadError>
 /// The line behind an opcode that may advance it.
 #[tactic(auto, unfolding(crate::specs::Reading::register_at))]
 fn new_line_at(before: u32, bytes: &[u8]) -> Result<(u32, &[u8]), ReadError>
-    ensures { Gives (λ x. (x.0, x.1.now)) result (register_at Standard.DW_LNS_advance_line (line_at before) before bytes.now) }
+    ensures { Gives (λ x. (x.0, x.1.now)) result
+        (register_at Standard.DW_LNS_advance_line (line_at before) before bytes.now) }
 {
     match bytes {
         [DW_LNS_advance_line, operand @ ..] => {

@@ -18,7 +18,8 @@ pub returns-in-Ok-clause-only : goal.returns-in-Ok-clause-only
 returns-in-Ok-clause-only c = λ t is. read_only _ _ t c.in-Ok.ensures is
 
 pub returns-in-Err-Left-clause-only : goal.returns-in-Err-Left-clause-only
-returns-in-Err-Left-clause-only c = λ t is. fault_only c.args.bytes.now c.in-Err-Left.left c.in-Err-Left.field-0 t _ c.in-Err-Left.field-0-is c.in-Err-Left.ensures is
+returns-in-Err-Left-clause-only c = λ t is. fault_only c.args.bytes.now c.in-Err-Left.left c.in-Err-Left.field-0 t _ c.in-Err-Left.field-0-is
+    c.in-Err-Left.ensures is
 
 pub returns-in-Err-Left-clause-fault : goal.returns-in-Err-Left-clause-fault
 returns-in-Err-Left-clause-fault c =

@@ -16,6 +16,7 @@ loop-rows-smaller c = group_smaller _ _ _ _ _ _ c.loop-rows.invariant.fits c.in_
 pub loop-rows-preserved : goal.loop-rows-preserved
 loop-rows-preserved c = record {
   fits = row_fits _ _ _ _ _ _ c.loop-rows.invariant.fits c.in_ok-group.ensures c.in-Copied.is;
-  reads = λ rows end rest h. reads_more _ _ _ _ _ _ _ _ _ _ rows end rest c.in_ok-group.ensures c.in-Copied.is c.in_ok-push-in-Copied.ensures.ok c.loop-rows.invariant.reads h;
+  reads = λ rows end rest h. reads_more _ _ _ _ _ _ _ _ _ _ rows end rest c.in_ok-group.ensures c.in-Copied.is c.in_ok-push-in-Copied.ensures.ok
+      c.loop-rows.invariant.reads h;
   faults = λ left h. fault_more _ _ _ _ _ _ _ _ left c.in_ok-group.ensures c.in-Copied.is c.loop-rows.invariant.faults h;
 }

@@ -8,7 +8,8 @@ use Rattle.dwarf_line.proofs.read.sequence_from.Given as goal
 abbrev pub invariant-loop-rows : goal.invariant-loop-rows
 invariant-loop-rows l = record {
   fits : IsRow l.before;
-  reads : (rows : List Row) (end : ℕ) (rest : List ℕ) → Rows l.first l.before l.rest rows end rest → Rows true (registers_at l.start) l.bytes (l.rows ++ rows) end rest;
+  reads : (rows : List Row) (end : ℕ) (rest : List ℕ) → Rows l.first l.before l.rest rows end rest
+      → Rows true (registers_at l.start) l.bytes (l.rows ++ rows) end rest;
   faults : (left : ℕ) → RowsFault l.first l.before l.rest left → RowsFault true (registers_at l.start) l.bytes left;
 }
 

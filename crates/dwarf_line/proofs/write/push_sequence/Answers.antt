@@ -14,4 +14,7 @@ loop-row-preserved c = record {
 
 pub returns-clause-ranges : goal.returns-clause-ranges
 returns-clause-ranges c =
-    let all : All IsRow c.args.rows.now × (c.args.end < 2 ^ 64) = (each_all IsRow _ _ c.loop-row-test.false c.loop-row.invariant.ranges, omega arith) in on_ok _ _ all
+    let all : All IsRow c.args.rows.now × (c.args.end < 2 ^ 64) = (
+      each_all IsRow _ _ c.loop-row-test.false c.loop-row.invariant.ranges,
+      omega arith,
+    ) in on_ok _ _ all
