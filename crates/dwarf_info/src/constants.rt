@@ -1,5 +1,8 @@
 //! The constants of DWARF 5 that entries and their abbreviations have, under the standard's names.
 
+ghost use Rattle.std.specs.Prelude.{◌≡◌};
+ghost use Rattle.dwarf_info.specs.Standard;
+
 /// A parameter of a function (DWARF 5 section 7.5.3).
 pub const DW_TAG_formal_parameter: u8 = 0x05;
 /// A unit that is compiled (section 7.5.3).
@@ -60,3 +63,35 @@ pub const DW_UT_compile: u8 = 0x01;
 pub const DW_LANG_C99: u16 = 0x000c;
 /// The offset in `.debug_loclists` behind its header (section 7.29).
 pub const LOCLISTS_BASE: u32 = 12;
+
+/// The constants are the standard's numbers.
+pub fn standard_numbers()
+    ensures tag_formal_parameter { DW_TAG_formal_parameter ≡ Standard.DW_TAG_formal_parameter }
+    ensures tag_compile_unit { DW_TAG_compile_unit ≡ Standard.DW_TAG_compile_unit }
+    ensures tag_base_type { DW_TAG_base_type ≡ Standard.DW_TAG_base_type }
+    ensures tag_subprogram { DW_TAG_subprogram ≡ Standard.DW_TAG_subprogram }
+    ensures tag_variable { DW_TAG_variable ≡ Standard.DW_TAG_variable }
+    ensures children_no { DW_CHILDREN_no ≡ Standard.DW_CHILDREN_no }
+    ensures children_yes { DW_CHILDREN_yes ≡ Standard.DW_CHILDREN_yes }
+    ensures at_location { DW_AT_location ≡ Standard.DW_AT_location }
+    ensures at_name { DW_AT_name ≡ Standard.DW_AT_name }
+    ensures at_byte_size { DW_AT_byte_size ≡ Standard.DW_AT_byte_size }
+    ensures at_stmt_list { DW_AT_stmt_list ≡ Standard.DW_AT_stmt_list }
+    ensures at_low_pc { DW_AT_low_pc ≡ Standard.DW_AT_low_pc }
+    ensures at_high_pc { DW_AT_high_pc ≡ Standard.DW_AT_high_pc }
+    ensures at_language { DW_AT_language ≡ Standard.DW_AT_language }
+    ensures at_comp_dir { DW_AT_comp_dir ≡ Standard.DW_AT_comp_dir }
+    ensures at_encoding { DW_AT_encoding ≡ Standard.DW_AT_encoding }
+    ensures at_type { DW_AT_type ≡ Standard.DW_AT_type }
+    ensures at_loclists_base { DW_AT_loclists_base ≡ Standard.DW_AT_loclists_base }
+    ensures form_addr { DW_FORM_addr ≡ Standard.DW_FORM_addr }
+    ensures form_data2 { DW_FORM_data2 ≡ Standard.DW_FORM_data2 }
+    ensures form_data4 { DW_FORM_data4 ≡ Standard.DW_FORM_data4 }
+    ensures form_data1 { DW_FORM_data1 ≡ Standard.DW_FORM_data1 }
+    ensures form_ref4 { DW_FORM_ref4 ≡ Standard.DW_FORM_ref4 }
+    ensures form_sec_offset { DW_FORM_sec_offset ≡ Standard.DW_FORM_sec_offset }
+    ensures form_loclistx { DW_FORM_loclistx ≡ Standard.DW_FORM_loclistx }
+    ensures ut_compile { DW_UT_compile ≡ Standard.DW_UT_compile }
+    ensures lang_c99 { DW_LANG_C99 ≡ Standard.DW_LANG_C99 }
+    ensures loclists_base { LOCLISTS_BASE ≡ Standard.LOCLISTS_BASE }
+{}

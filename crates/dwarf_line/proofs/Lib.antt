@@ -7,3 +7,4 @@ pub mod Program
 pub mod Fixed
 pub mod Header
 pub mod Sections
+pub mod LastRow

@@ -3,4 +3,5 @@ pub mod Table
 pub mod Spelling
 pub mod Fields
 pub mod Reading
+pub mod Rows
 pub mod steps

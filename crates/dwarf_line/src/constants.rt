@@ -42,3 +42,17 @@ pub static FILE_FORMAT: [u8; 5] = [
     DW_LNCT_directory_index,
     DW_FORM_udata,
 ];
+
+/// The constants are the standard's numbers.
+pub fn standard_numbers()
+    ensures lns_copy { DW_LNS_copy ≡ Standard.DW_LNS_copy }
+    ensures lns_advance_pc { DW_LNS_advance_pc ≡ Standard.DW_LNS_advance_pc }
+    ensures lns_advance_line { DW_LNS_advance_line ≡ Standard.DW_LNS_advance_line }
+    ensures lns_set_file { DW_LNS_set_file ≡ Standard.DW_LNS_set_file }
+    ensures lns_set_column { DW_LNS_set_column ≡ Standard.DW_LNS_set_column }
+    ensures extended_opcode { EXTENDED_OPCODE ≡ Standard.EXTENDED_OPCODE }
+    ensures lne_end_sequence { DW_LNE_end_sequence ≡ Standard.DW_LNE_end_sequence }
+    ensures lne_set_address { DW_LNE_set_address ≡ Standard.DW_LNE_set_address }
+    ensures lnct_path { DW_LNCT_path ≡ Standard.DW_LNCT_path }
+    ensures lnct_directory_index { DW_LNCT_directory_index ≡ Standard.DW_LNCT_directory_index }
+{}

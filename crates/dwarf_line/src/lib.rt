@@ -10,6 +10,7 @@
 pub mod constants;
 pub mod fault;
 pub mod read;
+pub mod row;
 pub mod size;
 pub mod table;
 #[cfg(test)]
