@@ -174,4 +174,33 @@ EndsWell (i ∷ rest) = MayFollow (exit_of i.kind) rest × EndsWell rest
 abbrev pub Closes : List Item → Type 0
 Closes [] = ⊥
 Closes (i ∷ []) = Leaves (exit_of i.kind)
-Closes (i ∷ j ∷ rest) = Closes (j
+Closes (i ∷ j ∷ rest) = Closes (j ∷ rest)
+
+-- there is a block, and control doesn't fall out of the last one
+abbrev pub LastCloses : List Block → Type 0
+LastCloses [] = ⊥
+LastCloses (b ∷ []) = Closes b.items
+LastCloses (b ∷ c ∷ rest) = LastCloses (c ∷ rest)
+
+-- what an object keeps
+pub record IsSoundObject (o : Object) : Type 0 where
+  pub size : o.size ≤ MAX_NUMBER
+  pub aligned : Contains ALIGNMENTS o.align
+
+-- what every function keeps
+pub record IsSound (f : Function) : Type 0 where
+  pub blocks_apart : AreApart (ids_of f.blocks)
+  pub slots_apart : AreApart f.slots
+  pub objects_apart : AreApart (map (λ o. o.id) f.objects)
+  pub few_blocks : length f.blocks ≤ MAX_BLOCKS
+  pub few_slots : length f.slots + length f.objects ≤ MAX_SLOTS
+  pub each_object : All IsSoundObject f.objects
+  pub objects_laid : AreLaidFrom 0 f.objects
+  pub targets : AllItems (λ i. TargetsIn (ids_of f.blocks) i.kind) f.blocks
+  pub slots : AllItems (λ i. SlotsIn f.slots i.kind) f.blocks
+  pub objects : AllItems (λ i. ObjectsIn f.objects i.kind) f.blocks
+  pub pointer : AllItems (λ i. LeavesPointer i.kind) f.blocks
+  pub numbers : NumbersOnce (items_of f.blocks)
+  pub origins : All (λ b. All (λ i. OriginIn b i.origin) b.items) f.blocks
+  pub ends : All (λ b. EndsWell b.items) f.blocks
+  pub last : LastCloses f.blocks
