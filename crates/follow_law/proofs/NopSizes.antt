@@ -7,7 +7,7 @@ use Rattle.std.proofs.Math.Nat.{le-max_left, le-max_right, max-le, le_trans, le_
 use Rattle.mir_func.specs.declared.entry.Entry.{Entry}
 use Rattle.mir_func.specs.declared.item.Item.{Item}
 use Rattle.mir_func.specs.Function.{Function}
-use Rattle.mir_func.specs.Limits.{MAX_SLOTS}
+use Rattle.mir_func.specs.Limits.{MAX_BLOCKS, MAX_SLOTS}
 use Rattle.mir_func.specs.Sound.{items_of}
 use Rattle.mir_func.specs.SoundFrame.{HasPhysical}
 use Rattle.mir_meaning.specs.Align.{is_code}
@@ -73,8 +73,8 @@ sizes_thin busy f subs =
     let entries : List ℕ = flat_map (λ s. s.src.number ∷ s.dst.number ∷ []) subs in
     let e : items_of (thinned_blocks busy f.blocks) ≡ filter keep xs = items_thin keep f.blocks in
     record {
-      items = subst (λ (ys : List Item). length ys ≤ 1 * (length xs + 1024 * 0)) (sym e) (let k = length_thin keep xs in omega (arith, k));
-      code = subst (λ (ys : List Item). count_by (λ i. is_code i.kind) ys ≤ 1 * (count_by (λ i. is_code i.kind) xs + 1024 * 0)) (sym e)
+      items = subst (λ (ys : List Item). length ys ≤ 1 * (length xs + MAX_BLOCKS * 0)) (sym e) (let k = length_thin keep xs in omega (arith, k));
+      code = subst (λ (ys : List Item). count_by (λ i. is_code i.kind) ys ≤ 1 * (count_by (λ i. is_code i.kind) xs + MAX_BLOCKS * 0)) (sym e)
           (let k = count_thin (λ i. is_code i.kind) keep xs in omega (arith, k));
       calls = subst (λ (ys : List Item). count_by (λ i. calls i.kind) ys ≤ count_by (λ i. calls i.kind) xs) (sym e) (count_thin (λ i. calls i.kind) keep xs);
       physical = λ h. each_left keep (λ b i. HasPhysical i.kind) (λ b i. HasPhysical i.kind) (λ b i k. k) f.blocks h;
