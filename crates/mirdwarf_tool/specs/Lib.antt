@@ -1,7 +1,9 @@
+pub mod Limits
 pub mod Status
 pub mod Fault
 pub mod Command
 pub mod Listing
 pub mod Promise
 pub mod Compiled
+pub mod Stream
 pub mod Run
