@@ -12,6 +12,7 @@ use Rattle.mirdwarf_tool.specs.declared.fault.Fault.TheVariants.{Usage, Read, To
 use Rattle.mirdwarf_tool.specs.declared.status.Status.TheVariants as status
 use Rattle.mirdwarf_tool.specs.Fault.{reading_fault, status_of, line_of}
 use Rattle.output_text.specs.Shown.{not_inlined}
+use Rattle.mirdwarf_tool.specs.Listing.{variable_name}
 use Rattle.mirdwarf_tool.specs.Promise.{unsubstituted}
 use Rattle.mirdwarf_tool.specs.Run.{Finishes, one, HasWritten, KeepsHeadline, WroteExactly, Explains, IsTooLong, IsNotBuilt, ReadingEnds, MayBeInForm, IsInForm}
 use Rattle.mirdwarf_tool.specs.Stream.{Change, MetFault, IsReadFor, IsReadWhole}
@@ -51,6 +52,7 @@ has_written input output is = record {
   read = is.accepted.read;
   sources = unsubstituted is.accepted.function ∷ [];
   inlined = not_inlined;
+  names = variable_name;
   stands = one is.accepted.stands;
   bytes = is.text;
   written = is.written;

@@ -34,11 +34,11 @@ use Rattle.code_layout.proofs.Exact.{straight_lists_are_exact}
 use Rattle.block_lists.specs.Code.{code_of, IsPlain}
 use Rattle.output_text.specs.Output.{ItemLine, ListedBlock, ListedFunction, Output, spelling}
 use Rattle.output_text.specs.Shown.{IsPrintableFunction, Shows, OfShown, not_inlined}
-use Rattle.mirdwarf_tool.specs.Listing.{start_of, item_listed, listed_items, listing_of, output_with, output_of, compiled_text, block_image}
+use Rattle.mirdwarf_tool.specs.Listing.{variable_name, variable_lines, start_of, item_listed, listed_items, listing_of, output_with, output_of, compiled_text, block_image}
 use Rattle.block_lists.specs.Variables.{variables_of}
 use Rattle.block_lists.specs.Walk.{unchanged}
 use Rattle.block_lists.specs.Lists.{AreLists}
-use Rattle.mirdwarf_tool.specs.Promise.{blocks_of, lines_of, raised_by, raised, item_shown, block_shown, image_of, Gives, SourceFunction, unsubstituted, OfEach, past_item, LinesLie, IsLaidOut, AreLaidOut, MeetsHeadline, Promises, IsListedAt, IsExactFor, IsExact, ListsSource, ListsSources}
+use Rattle.mirdwarf_tool.specs.Promise.{blocks_of, lines_of, raised_by, raised, item_shown, block_shown, image_of, Gives, SourceFunction, unsubstituted, OfEach, object_listed, source_variables, contents, past_item, LinesLie, IsLaidOut, AreLaidOut, MeetsHeadline, Promises, IsListedAt, IsExactFor, IsExact, ListsSource, ListsSources}
 use Rattle.mirdwarf_tool.specs.Compiled.{IsFirstForm, CompilesBlock, Compiles}
 use Rattle.output_text.proofs.OneOutput.{one_reading}
 use Rattle.mirdwarf_tool.proofs.PromiseLemmas.{held_from, gives_first}
@@ -134,16 +134,9 @@ items_back (goes_on {i = i} {items = items} {c = c} {k = k} w kind own plain is 
 items_back (marks {i = i} {items = items} {v = v} {m = m} kind rest) a =
     one_more a i items (mark_raised i.kind v m kind) (items_back rest (cond (is_code i.kind) (a + 4) a))
 
-items_count : (a : ℕ) (items : List Item) → length (listed_items a items) ≡ length items
-items_count a [] = refl
-items_count a (i ∷ items) = ap suc (items_count (cond (is_code i.kind) (a + 4) a) items)
-
 -- the lines of a block show it
-block_back : (block : Block) → IsStraightImage block (block_image block) → block.silent ≡ length block.items → block_shown (record { id = block.id; lines = listed_items 0 block.items }) ≡ block
-block_back block is silent =
-    let items = items_back is.straight 0 in
-    let count : length (listed_items 0 block.items) ≡ block.silent = items_count 0 block.items ∙ sym silent in
-    λ k. record { id = block.id; items = items k; silent = count k }
+block_back : (block : Block) → IsStraightImage block (block_image block) → contents (block_shown (record { id = block.id; lines = listed_items 0 block.items })) ≡ contents block
+block_back block is = ap (λ (items : List Item). (block.id, items)) (items_back is.straight 0)
 
 -- straight code has no call
 plain_no_call : (r : Row) → IsPlainRow r → is_call r ≡ false
@@ -331,11 +324,15 @@ of_shown P text o shows is = record { output = o; shown = shows; every = λ p ot
 list_count : (lists : List (List Range)) → IsSection (loclists.spelling lists) lists → IsNumber (length (loclists.spelling lists))
 list_count lists section = omega (arith, section.size)
 
+-- the variables of a function of one block
+one_variables : (f : Function) (block : Block) → f.blocks ≡ block ∷ [] → variables_of [] block.items ≡ source_variables f
+one_variables f block one =
+    ap (variables_of []) (sym (append-nil block.items)) ∙ ap (λ (bs : List Block). variables_of [] (flat_map (λ b. b.items) bs)) (sym one)
+
 pub compiles : (f : Function) (text : List ℕ) → IsFirstForm f → (block : Block) → f.blocks ≡ block ∷ [] → CompilesBlock f.name block text → Compiles f text
 compiles f text first block one is =
     let same : first.block ≡ block = one_block first.block block (sym first.one ∙ one) in
     let straight_image : IsStraightImage block (block_image block) = subst (λ (b : Block). IsStraightImage b (block_image b)) same first.straight in
-    let silent : block.silent ≡ length block.items = subst (λ (b : Block). b.silent ≡ length b.items) same first.silent in
     let printable : IsPrintableFunction not_inlined (listing f.name block) = subst (λ (b : Block). IsPrintableFunction not_inlined (listing f.name b)) same first.printable in
     let shows : Shows not_inlined text (output_of f.name block is.lists) = record {
       spelled = is.written;
@@ -355,14 +352,15 @@ compiles f text first block one is =
       block = block;
       one = one;
       compiled = is;
-      laid_out = of_shown (AreLaidOut (unsubstituted f ∷ [])) text (output_of f.name block is.lists) shows (record {
-        each = of_each IsLaidOut (unsubstituted f) (listing f.name block) (record { named = refl; lines = block_laid_out f.name block straight_image });
+      laid_out = of_shown (AreLaidOut variable_name (unsubstituted f ∷ [])) text (output_of f.name block is.lists) shows (record {
+        each = of_each IsLaidOut (unsubstituted f) (listing f.name block) (record { named = refl; objects = ap (map object_listed) (sym first.objects); lines = block_laid_out f.name block straight_image });
+        variables = (ap (variable_lines variable_name 0) (one_variables f block one), tt);
         functions = (refl, refl);
       });
       promise = of_shown (Promises (unsubstituted f ∷ [])) text (output_of f.name block is.lists) shows
           (of_each (MeetsHeadline (output_of f.name block is.lists)) (unsubstituted f) (listing f.name block) headline);
       listed = of_shown (ListsSources (unsubstituted f ∷ [])) text (output_of f.name block is.lists) shows
-          (of_each ListsSource (unsubstituted f) (listing f.name block) (record { blocks = ap (λ (b : Block). b ∷ []) (block_back block straight_image silent) ∙ sym one; substitutions = refl }));
+          (of_each ListsSource (unsubstituted f) (listing f.name block) (record { blocks = ap (λ (x : ℕ × List Item). x ∷ []) (block_back block straight_image) ∙ ap (map contents) (sym one); substitutions = refl }));
       exact = of_shown IsExact text (output_of f.name block is.lists) shows exact;
     }
   where

@@ -119,7 +119,6 @@ first_of_lines lines first = record {
   one = refl;
   objects = refl;
   plain = plain_items 0 lines first.allowed;
-  silent = sym (length-items_from 0 lines);
   printable = listing_printable lines first;
   straight = straight_image lines (record { id = 0; items = items_from 0 lines; silent = length lines }) refl refl first.allowed first.ends;
   few = omega (arith, length-items_from 0 lines, first.items);

@@ -8,7 +8,7 @@ use Rattle.dwarf_loclists.specs.Reading.{IsSection}
 use Rattle.code_layout.specs.Straight.{IsStraightImage}
 use Rattle.block_lists.specs.Code.{code_of, IsPlain}
 use Rattle.block_lists.specs.Variables.{variables_of}
-use Rattle.mirdwarf_tool.specs.Listing.{listing_of, compiled_text, block_image}
+use Rattle.mirdwarf_tool.specs.Listing.{variable_name, listing_of, compiled_text, block_image}
 use Rattle.output_text.specs.Shown.{IsPrintableFunction, OfShown, not_inlined}
 use Rattle.block_lists.specs.Lists.{AreLists}
 use Rattle.mirdwarf_tool.specs.Promise.{unsubstituted, AreLaidOut, Promises, IsExact, ListsSources}
@@ -20,7 +20,6 @@ pub record IsFirstForm (f : Function) : Type 0 where
   pub one : f.blocks ≡ block ∷ []
   pub objects : f.objects ≡ []
   pub plain : All IsPlain block.items
-  pub silent : block.silent ≡ length block.items
   pub printable : IsPrintableFunction not_inlined (listing_of f.name (length (code_of block.items)) (variables_of [] block.items) block)
   pub straight : IsStraightImage block (block_image block)
   pub few : length block.items ≤ 8192
@@ -39,7 +38,7 @@ pub record Compiles (f : Function) (text : List ℕ) : Type 0 where
   pub block : Block
   pub one : f.blocks ≡ block ∷ []
   pub compiled : CompilesBlock f.name block text
-  pub laid_out : OfShown not_inlined (AreLaidOut (unsubstituted f ∷ [])) text
+  pub laid_out : OfShown not_inlined (AreLaidOut variable_name (unsubstituted f ∷ [])) text
   pub promise : OfShown not_inlined (Promises (unsubstituted f ∷ [])) text
   pub listed : OfShown not_inlined (ListsSources (unsubstituted f ∷ [])) text
   pub exact : OfShown not_inlined IsExact text

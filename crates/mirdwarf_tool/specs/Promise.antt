@@ -17,6 +17,7 @@ use Rattle.mir_func.specs.declared.item.ItemKind.{ItemKind}
 use Rattle.mir_func.specs.declared.item.ItemKind.TheVariants.{Code}
 use Rattle.mir_func.specs.declared.block.Block.{Block}
 use Rattle.mir_func.specs.declared.entry.Entry.{Entry}
+use Rattle.mir_func.specs.declared.object.Object.{Object}
 use Rattle.mir_func.specs.Function.{Function}
 use Rattle.mir_func.specs.Graph.{Program, block_start, framed_program}
 use Rattle.mir_func.specs.Objects.{up_to}
@@ -27,9 +28,9 @@ use Rattle.dwarf_loclists.specs.Reading.{PlaceAt, PieceAt}
 use Rattle.code_layout.specs.Image.{Image, line_of}
 use Rattle.code_layout.specs.Headline.{Headline}
 use Rattle.code_layout.specs.Exact.{AreExact}
-use Rattle.block_lists.specs.Variables.{whole}
+use Rattle.block_lists.specs.Variables.{whole, variables_of}
 use Rattle.output_text.specs.Output.{ItemLine, ListedObject, ListedVariable, ListedBlock, ListedFunction, Output}
-use Rattle.mirdwarf_tool.specs.Listing.{start_of}
+use Rattle.mirdwarf_tool.specs.Listing.{start_of, variable_lines}
 
 -- the number of the first block
 abbrev pub first_id : List ListedBlock → ℕ
@@ -106,14 +107,33 @@ abbrev pub FunctionsLie : ℕ → List ListedFunction → ℕ → Type 0
 FunctionsLie a [] b = a ≡ b
 FunctionsLie a (f ∷ fs) b = (f.low ≡ a) × FunctionsLie f.high fs b
 
--- what is listed of a source has its name, and all lines between its first address and its end
+-- a stack object's line
+abbrev pub object_listed : Object → ListedObject
+object_listed o = record { id = o.id; size = o.size; offset = o.offset }
+
+-- what is listed of a source has its name, its stack objects, and all lines between its first address and its end
 pub record IsLaidOut (source : SourceFunction) (f : ListedFunction) : Type 0 where
   pub named : f.name ≡ source.function.name
+  pub objects : f.objects ≡ map object_listed source.function.objects
   pub lines : LinesLie f.low (lines_of f) f.high
 
--- each source is laid out so, and their functions fill `.text`
-pub record AreLaidOut (sources : List SourceFunction) (o : Output) : Type 0 where
+-- the variables of a source, each as a whole and once, by the first mark of any of its parts
+abbrev pub source_variables : Function → List VarId
+source_variables f = variables_of [] (flat_map (λ b. b.items) f.blocks)
+
+-- the variables that are listed are the sources' variables with their names, and from k on their lists are numbered one after
+-- the other, function by function
+abbrev pub ListVariables : (names : ℕ → List ℕ) → (k : ℕ) → List SourceFunction → List ListedFunction → Type 0
+ListVariables names k [] [] = Unit {0}
+ListVariables names k [] (f ∷ fs) = ⊥
+ListVariables names k (s ∷ ss) [] = ⊥
+ListVariables names k (s ∷ ss) (f ∷ fs) =
+    (f.variables ≡ variable_lines names k (source_variables s.function)) × ListVariables names (k + length f.variables) ss fs
+
+-- each source is laid out so, with its variables, whose names are told by their nodes, and their functions fill `.text`
+pub record AreLaidOut (names : ℕ → List ℕ) (sources : List SourceFunction) (o : Output) : Type 0 where
   pub each : OfEach IsLaidOut sources o.functions
+  pub variables : ListVariables names 0 sources o.functions
   pub functions : FunctionsLie 0 o.functions (length o.text)
 
 -- the headline of a source and what is listed of it: from every start, for every script and number of steps, the machine on the
@@ -169,9 +189,13 @@ Promises sources o = OfEach (MeetsHeadline o) sources o.functions
 abbrev pub IsExact : Output → Type 0
 IsExact o = All (IsExactFor o) o.functions
 
+-- the number and the items of a block: its silent position shows in no line
+abbrev pub contents : Block → ℕ × List Item
+contents b = (b.id, b.items)
+
 -- the blocks and the substitutions that are listed are those of the source: nothing is changed on the way
 pub record ListsSource (source : SourceFunction) (f : ListedFunction) : Type 0 where
-  pub blocks : map block_shown f.blocks ≡ source.function.blocks
+  pub blocks : map (λ b. contents (block_shown b)) f.blocks ≡ map contents source.function.blocks
   pub substitutions : f.substitutions ≡ source.substitutions
 
 abbrev pub ListsSources : List SourceFunction → Output → Type 0

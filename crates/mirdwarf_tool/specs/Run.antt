@@ -8,6 +8,7 @@ use Rattle.mirdwarf_tool.specs.declared.fault.Fault.TheVariants.{Usage, Read, To
 use Rattle.mirdwarf_tool.specs.Command.{IsCommand}
 use Rattle.output_text.specs.Shown.{OfShown, not_inlined}
 use Rattle.mirdwarf_tool.specs.Promise.{SourceFunction, unsubstituted, AreLaidOut, Promises, IsExact, ListsSources}
+use Rattle.mirdwarf_tool.specs.Listing.{variable_name}
 use Rattle.mirdwarf_tool.specs.Compiled.{Compiles}
 use Rattle.mirdwarf_tool.specs.Stream.{Change, MetFault, IsReadWhole, IsReadFor, IsWrittenWhole, IsWrittenInPart}
 
@@ -40,10 +41,10 @@ pub record Finishes (input output : Change) : Type 0 where
   pub accepted : Accepts input text
   pub written : IsWrittenWhole output text
 
--- the functions that a text stands for, and at which node each node of its locations is inlined: today one function without
--- substitutions, and no location is inlined
-pub data StandsForAll (text : List ℕ) : List SourceFunction → (inlined : ℕ → Option ℕ) → Type 0 where
-  one : {f : Function} → Stands text f → StandsForAll text (unsubstituted f ∷ []) not_inlined
+-- the functions that a text stands for, at which node each node of its locations is inlined, and the names of its variables by
+-- their nodes: today one function without substitutions, no location is inlined, and two variables are known
+pub data StandsForAll (text : List ℕ) : List SourceFunction → (inlined : ℕ → Option ℕ) → (names : ℕ → List ℕ) → Type 0 where
+  one : {f : Function} → Stands text f → StandsForAll text (unsubstituted f ∷ []) not_inlined variable_name
 
 -- a text was read that stands for functions, and bytes were written that show each of them laid out
 pub record HasWritten (input output : Change) : Type 0 where
@@ -51,10 +52,11 @@ pub record HasWritten (input output : Change) : Type 0 where
   pub read : HasRead input text
   pub sources : List SourceFunction
   pub inlined : ℕ → Option ℕ
-  pub stands : StandsForAll text sources inlined
+  pub names : ℕ → List ℕ
+  pub stands : StandsForAll text sources inlined names
   pub bytes : List ℕ
   pub written : IsWrittenWhole output bytes
-  pub laid_out : OfShown inlined (AreLaidOut sources) bytes
+  pub laid_out : OfShown inlined (AreLaidOut names sources) bytes
 
 -- the headline holds of what was read and what was written, for each function: from every start, for every script and number of
 -- steps, the machine on the code that the bytes show stands where their lines say the source stands, with the source's events
