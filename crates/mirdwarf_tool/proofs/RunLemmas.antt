@@ -14,7 +14,7 @@ use Rattle.mirdwarf_tool.specs.Fault.{reading_fault, status_of, line_of}
 use Rattle.output_text.specs.Shown.{not_inlined}
 use Rattle.mirdwarf_tool.specs.Listing.{variable_name}
 use Rattle.mirdwarf_tool.specs.Promise.{unsubstituted}
-use Rattle.mirdwarf_tool.specs.Run.{Finishes, one, HasWritten, KeepsHeadline, WroteExactly, Explains, IsTooLong, IsNotBuilt, ReadingEnds, MayBeInForm, IsInForm}
+use Rattle.mirdwarf_tool.specs.Run.{Finishes, one, HasWritten, KeepsHeadline, WroteExactly, WroteWords, Explains, IsTooLong, IsNotBuilt, ReadingEnds, MayBeInForm, IsInForm}
 use Rattle.mirdwarf_tool.specs.Stream.{Change, MetFault, IsReadFor, IsReadWhole}
 
 pub reading_ends : (input : Change) (e : ReadError) → (e ≡ reading.Failed → MetFault input) → (e ≡ reading.TooLong → IsReadFor input (INPUT_LIMIT + 1)) →
@@ -66,6 +66,10 @@ headline_kept input output is = record { wrote = has_written input output is; he
 pub wrote_exactly : (input output : Change) → Finishes input output → WroteExactly input output
 unfolding has_written
 wrote_exactly input output is = record { wrote = has_written input output is; listed = is.accepted.compiles.listed; exact = is.accepted.compiles.exact }
+
+pub wrote_words : (input output : Change) → Finishes input output → WroteWords input output
+unfolding has_written
+wrote_words input output is = record { wrote = has_written input output is; words = is.accepted.compiles.words }
 
 -- ---- the fault by the status
 

@@ -11,6 +11,7 @@ use Rattle.block_lists.specs.Variables.{variables_of}
 use Rattle.mirdwarf_tool.specs.Listing.{variable_name, listing_of, compiled_text, block_image}
 use Rattle.output_text.specs.Shown.{IsPrintableFunction, OfShown, not_inlined}
 use Rattle.block_lists.specs.Lists.{AreLists}
+use Rattle.mirdwarf_tool.specs.Words.{HaveWords}
 use Rattle.mirdwarf_tool.specs.Promise.{unsubstituted, AreLaidOut, Promises, IsExact, ListsSources}
 
 -- a function without stack objects, of one block of at most 8,192 plain items, which run straight to a return, with at most two variables, whose listing
@@ -33,7 +34,7 @@ pub record CompilesBlock (name : List ℕ) (block : Block) (text : List ℕ) : T
   pub written : text ≡ compiled_text name block lists
 
 -- the text is that of the function's one block, and the output that it shows has the function laid out, keeps its promise, lists
--- the function and is exact
+-- the function, is exact, and has the words of its lines
 pub record Compiles (f : Function) (text : List ℕ) : Type 0 where
   pub block : Block
   pub one : f.blocks ≡ block ∷ []
@@ -42,3 +43,4 @@ pub record Compiles (f : Function) (text : List ℕ) : Type 0 where
   pub promise : OfShown not_inlined (Promises (unsubstituted f ∷ [])) text
   pub listed : OfShown not_inlined (ListsSources (unsubstituted f ∷ [])) text
   pub exact : OfShown not_inlined IsExact text
+  pub words : OfShown not_inlined HaveWords text

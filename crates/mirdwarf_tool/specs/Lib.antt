@@ -4,6 +4,7 @@ pub mod Fault
 pub mod Command
 pub mod Listing
 pub mod Promise
+pub mod Words
 pub mod Compiled
 pub mod Stream
 pub mod Run

@@ -9,6 +9,7 @@ use Rattle.mirdwarf_tool.specs.Command.{IsCommand}
 use Rattle.output_text.specs.Shown.{OfShown, not_inlined}
 use Rattle.mirdwarf_tool.specs.Promise.{SourceFunction, unsubstituted, AreLaidOut, Promises, IsExact, ListsSources}
 use Rattle.mirdwarf_tool.specs.Listing.{variable_name}
+use Rattle.mirdwarf_tool.specs.Words.{HaveWords}
 use Rattle.mirdwarf_tool.specs.Compiled.{Compiles}
 use Rattle.mirdwarf_tool.specs.Stream.{Change, MetFault, IsReadWhole, IsReadFor, IsWrittenWhole, IsWrittenInPart}
 
@@ -71,6 +72,11 @@ pub record WroteExactly (input output : Change) : Type 0 where
   pub wrote : HasWritten input output
   pub listed : OfShown wrote.inlined (ListsSources wrote.sources) wrote.bytes
   pub exact : OfShown wrote.inlined IsExact wrote.bytes
+
+-- the bytes show the bytes of its instruction at each line that has an address
+pub record WroteWords (input output : Change) : Type 0 where
+  pub wrote : HasWritten input output
+  pub words : OfShown wrote.inlined HaveWords wrote.bytes
 
 -- a prefix of what is to be written was
 pub record IsCutOff (input output : Change) : Type 0 where

@@ -3,7 +3,7 @@
 ghost use Rattle.std.specs.Prelude.{◌≡◌, ◌≢◌, ◌≤◌, ◌↔◌, ◌⊎◌, IfOk, OnOk, OnErr, IfErr, IsErrOf, map, string_bytes};
 ghost use Rattle.mirdwarf_tool.specs.Command.{IsCommand};
 ghost use Rattle.mirdwarf_tool.specs.Fault.{line_of};
-ghost use Rattle.mirdwarf_tool.specs.Run.{Accepts, IsTooLong, IsNotBuilt, Finishes, KeepsHeadline, WroteExactly};
+ghost use Rattle.mirdwarf_tool.specs.Run.{Accepts, IsTooLong, IsNotBuilt, Finishes, KeepsHeadline, WroteExactly, WroteWords};
 ghost use Rattle.mirdwarf_tool.specs.Run.{IsCutOff, IsInForm, Explains, ReadingEnds, MayBeInForm};
 ghost use Rattle.mirdwarf_tool.specs.Stream.{change, MetFault, IsTold};
 
@@ -46,6 +46,9 @@ pub fn mirdwarf<S: Source, K: Sink, E: Sink>(
     // The lists say the place of a variable's value wherever the value is in one on every path, and nothing elsewhere.
     ensures exact { result ≡ Status.Done →
         WroteExactly (change S.left S.faults input.old input.new) (change K.written K.faults output.old output.new) }
+    // At each line that is written stand the bytes of its instruction.
+    ensures words { result ≡ Status.Done →
+        WroteWords (change S.left S.faults input.old input.new) (change K.written K.faults output.old output.new) }
 
     // A text in the first form is compiled, unless a fault is met or memory runs out.
     ensures complete { IsCommand (map string_bytes words.now) → IsInForm (S.left input.old) →
