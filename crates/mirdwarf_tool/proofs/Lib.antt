@@ -5,6 +5,7 @@ pub mod RunLemmas
 pub mod VariablesLemmas
 pub mod ListingLemmas
 pub mod PromiseLemmas
+pub mod FrameLemmas
 pub mod LinesLemmas
 pub mod WordsLemmas
 pub mod ShownLemmas

@@ -1,14 +1,13 @@
 -- The lines of a block: its image, their places and their addresses.
-use Rattle.std.specs.Prelude.{Option, Some, ◌<◌, Bool, true, false, cond, slice_get, map}
+use Rattle.std.specs.Prelude.{All, Option, Some, ◌<◌, Bool, true, false, cond, slice_get, map}
 use Rattle.std.specs.List.{flat_map}
 use Rattle.std.specs.Int.{w32, to_le_bytes}
 use Rattle.std.proofs.Common.{◌≡◌, ℕ, zero, suc, ◌+◌, List, [], ◌∷◌, ◌++◌, length, ap, sym, ◌∙◌, refl, subst, arith, append-nil, length-append}
+use Rattle.std.proofs.lemmas.List.Elements.{All-head, All-tail}
 use Rattle.rv64_instr.specs.Instruction.{Instruction}
 use Rattle.rv64_instr.specs.Row.{Row, Fixes, Moves, Sets, Addresses, Loads, Stores, LoadsSlot, StoresSlot, Branches, Jumps, Calls, Returns, Unfit, row_of}
 use Rattle.mir_func.specs.declared.position.Pos.{Pos}
 use Rattle.mir_func.specs.declared.position.Origin.{Origin}
-use Rattle.mir_func.specs.declared.variable.VarId.{VarId}
-use Rattle.mir_func.specs.declared.variable.MarkValue.{MarkValue}
 use Rattle.mir_func.specs.declared.item.Item.{Item}
 use Rattle.mir_func.specs.declared.item.ItemKind.{ItemKind}
 use Rattle.mir_func.specs.declared.item.ItemKind.TheVariants.{Code, Mark, Phi}
@@ -24,7 +23,8 @@ use Rattle.block_lists.specs.Code.{code_of}
 use Rattle.output_text.specs.Output.{ItemLine, ListedBlock, ListedFunction}
 use Rattle.mirdwarf_tool.specs.Listing.{start_of, item_listed, listed_items, listing_of, output_of, block_image}
 use Rattle.block_lists.specs.Variables.{variables_of}
-use Rattle.mirdwarf_tool.specs.Promise.{blocks_of, lines_of, raised_by, raised, item_shown, block_shown, image_of, contents, past_item, LinesLie, IsListedAt}
+use Rattle.mirdwarf_tool.specs.Compiled.{no_frame, IsUnframed}
+use Rattle.mirdwarf_tool.specs.Promise.{blocks_of, lines_of, item_shown, block_shown, image_of, contents, past_item, LinesLie, IsListedAt}
 
 -- ---- the image
 
@@ -83,43 +83,22 @@ line_listed (j ∷ items) first zero i at code =
     ap (λ (x : Item). Some (item_listed first x)) same ∙ ap (λ (b : Bool). Some (record { address = start_of first b; item = i })) code
 line_listed (j ∷ items) first (suc n) i at code = line_listed items (cond (is_code j.kind) (first + 4) first) n i at code
 
--- straight code accesses no slot
-plain_raised : (r : Row) (c : Instruction) → IsPlainRow r → raised_by r c ≡ c
-plain_raised (Fixes rd n) c plain = refl
-plain_raised (Moves rd rs) c plain = refl
-plain_raised (Sets rd op x y) c plain = refl
-plain_raised (Addresses rd n offset) c plain = absurd plain
-plain_raised (Loads rd op base n) c plain = absurd plain
-plain_raised (Stores op rs base n) c plain = absurd plain
-plain_raised (LoadsSlot rd n) c plain = absurd plain
-plain_raised (StoresSlot rs n) c plain = absurd plain
-plain_raised (Branches op x y target) c plain = absurd plain
-plain_raised (Jumps target) c plain = absurd plain
-plain_raised (Calls name args) c plain = absurd plain
-plain_raised (Returns results) c plain = absurd plain
-plain_raised Unfit c plain = absurd plain
-
-code_raised : (kind : ItemKind) (c : Instruction) (k : Option ℕ) → kind ≡ Code c k → raised_by (row_of c) c ≡ c → raised kind ≡ kind
-code_raised kind c k is same = ap raised is ∙ (ap (λ (d : Instruction). Code d k) same ∙ sym is)
-
-mark_raised : (kind : ItemKind) (v : VarId) (m : MarkValue) → kind ≡ Mark v m → raised kind ≡ kind
-mark_raised kind v m is = ap raised is ∙ sym is
-
-one_more : (a : ℕ) (i : Item) (items : List Item) → raised i.kind ≡ i.kind → map item_shown (listed_items (cond (is_code i.kind) (a + 4) a) items) ≡ items → map item_shown (listed_items a (i ∷ items)) ≡ i ∷ items
+-- the lines of items that reach no frame show them
+one_more : (a : ℕ) (i : Item) (items : List Item) → IsUnframed i →
+    map (item_shown no_frame) (listed_items (cond (is_code i.kind) (a + 4) a) items) ≡ items → map (item_shown no_frame) (listed_items a (i ∷ items)) ≡ i ∷ items
 one_more a i items kind rest =
-    ap (λ (k : ItemKind). record i { kind = k } ∷ map item_shown (listed_items (cond (is_code i.kind) (a + 4) a) items)) kind ∙ ap (λ (is : List Item). i ∷ is) rest
+    ap (λ (k : ItemKind). record i { kind = k } ∷ map (item_shown no_frame) (listed_items (cond (is_code i.kind) (a + 4) a) items)) kind
+    ∙ ap (λ (is : List Item). i ∷ is) rest
 
-pub items_back : {b n : ℕ} {items : List Item} {words : List ℕ} → IsStraight b n items words → (a : ℕ) → map item_shown (listed_items a items) ≡ items
-items_back (returns {i = i} {c = c} {k = k} kind own row physical) a =
-    one_more a i [] (code_raised i.kind c k kind (ap (λ (r : Row). raised_by r c) row)) refl
-items_back (goes_on {i = i} {items = items} {c = c} {k = k} w kind own plain is rest) a =
-    one_more a i items (code_raised i.kind c k kind (plain_raised (row_of c) c plain)) (items_back rest (cond (is_code i.kind) (a + 4) a))
-items_back (marks {i = i} {items = items} {v = v} {m = m} kind rest) a =
-    one_more a i items (mark_raised i.kind v m kind) (items_back rest (cond (is_code i.kind) (a + 4) a))
+pub items_back : (items : List Item) → All IsUnframed items → (a : ℕ) → map (item_shown no_frame) (listed_items a items) ≡ items
+items_back [] all a = refl
+items_back (i ∷ items) all a =
+    one_more a i items (All-head IsUnframed i items all) (items_back items (All-tail IsUnframed i items all) (cond (is_code i.kind) (a + 4) a))
 
 -- the lines of a block show it
-pub block_back : (block : Block) → IsStraightImage block (block_image block) → contents (block_shown (record { id = block.id; lines = listed_items 0 block.items })) ≡ contents block
-block_back block is = ap (λ (items : List Item). (block.id, items)) (items_back is.straight 0)
+pub block_back : (block : Block) → All IsUnframed block.items →
+    contents (block_shown no_frame (record { id = block.id; lines = listed_items 0 block.items })) ≡ contents block
+block_back block unframed = ap (λ (items : List Item). (block.id, items)) (items_back block.items unframed 0)
 
 -- straight code has no call
 plain_no_call : (r : Row) → IsPlainRow r → is_call r ≡ false

@@ -30,7 +30,7 @@ use Rattle.block_lists.specs.Walk.{unchanged}
 use Rattle.block_lists.specs.Lists.{AreLists}
 use Rattle.mirdwarf_tool.specs.Promise.{item_shown, block_shown, image_of, Gives, SourceFunction, unsubstituted, OfEach, object_listed, source_variables, contents, IsLaidOut, AreLaidOut, MeetsHeadline, Promises, IsListedAt, IsExactFor, IsExact, ListsSource, ListsSources}
 use Rattle.mirdwarf_tool.specs.Words.{HaveWordsOf, HaveWords}
-use Rattle.mirdwarf_tool.specs.Compiled.{IsFirstForm, CompilesBlock, Compiles}
+use Rattle.mirdwarf_tool.specs.Compiled.{no_frame, IsUnframed, IsFirstForm, CompilesBlock, Compiles}
 use Rattle.output_text.proofs.OneOutput.{one_reading}
 use Rattle.mirdwarf_tool.proofs.PromiseLemmas.{held_from, gives_first}
 use Rattle.mirdwarf_tool.proofs.LinesLemmas.{listing, image_same, items_back, block_back, block_laid_out, point_of, listed_at}
@@ -39,7 +39,7 @@ use Rattle.mirdwarf_tool.proofs.WordsLemmas.{block_words}
 -- ---- the headline and exactness
 
 module _ (name : List ℕ) (block : Block) (lists : List (List Range)) (plain : All IsPlain block.items) (are : AreLists block.items lists)
-    (section : IsSection (loclists.spelling lists) lists) (is : IsStraightImage block (block_image block)) where
+    (section : IsSection (loclists.spelling lists) lists) (is : IsStraightImage block (block_image block)) (unframed : All IsUnframed block.items) where
   abbrev output : Output
   output = output_of name block lists
 
@@ -58,13 +58,13 @@ module _ (name : List ℕ) (block : Block) (lists : List (List Range)) (plain : 
 
   pub exact_of : IsExactFor (output_of name block lists) (listing name block)
   exact_of =
-      let shown : Block = block_shown (record { id = block.id; lines = listed_items 0 block.items }) in
-      let prologue : Block = block_shown (record { id = block.id; lines = [] }) in
-      let back : block.items ≡ map item_shown (listed_items 0 block.items) = sym (items_back is.straight 0) in
+      let shown : Block = block_shown no_frame (record { id = block.id; lines = listed_items 0 block.items }) in
+      let prologue : Block = block_shown no_frame (record { id = block.id; lines = [] }) in
+      let back : block.items ≡ map (item_shown no_frame) (listed_items 0 block.items) = sym (items_back block.items unframed 0) in
       let law = straight_lists_are_exact given prologue shown (resolve []) is.words refl
       (subst (λ (xs : List Item). IsStraight block.id 0 xs is.words) back is.straight)
       (subst (GiveFirst given unchanged 0 0 entry_tokens) back firsts) in
-      let point : (a : ℕ) (p : Pos) → IsListedAt (listing name block) a p → IsPointOf 1 (map item_shown (listed_items 0 block.items)) a p =
+      let point : (a : ℕ) (p : Pos) → IsListedAt (listing name block) a p → IsPointOf 1 (map (item_shown no_frame) (listed_items 0 block.items)) a p =
       λ a p at. subst (λ (xs : List Item). IsPointOf 1 xs a p) back (point_of name block is a p at) in
       record {
         gives = λ v a p at. law.gives v a p (point a p at);
@@ -119,11 +119,12 @@ compiles f text first block one is =
       };
     } in
     let plain : All IsPlain block.items = subst (λ (b : Block). All IsPlain b.items) same first.plain in
+    let unframed : All IsUnframed block.items = subst (λ (b : Block). All IsUnframed b.items) same first.unframed in
     let headline : MeetsHeadline (output_of f.name block is.lists) (unsubstituted f) (listing f.name block) =
-    headline_of f.name block is.lists plain is.located is.section straight_image f one first.objects in
+    headline_of f.name block is.lists plain is.located is.section straight_image unframed f one first.objects in
     let exact : IsExact (output_of f.name block is.lists) =
     All-cons (IsExactFor (output_of f.name block is.lists)) (listing f.name block) []
-    (exact_of f.name block is.lists plain is.located is.section straight_image) (All-nil (IsExactFor (output_of f.name block is.lists))) in
+    (exact_of f.name block is.lists plain is.located is.section straight_image unframed) (All-nil (IsExactFor (output_of f.name block is.lists))) in
     record {
       block = block;
       one = one;
@@ -136,7 +137,7 @@ compiles f text first block one is =
       promise = of_shown (Promises (unsubstituted f ∷ [])) text (output_of f.name block is.lists) shows
           (of_each (MeetsHeadline (output_of f.name block is.lists)) (unsubstituted f) (listing f.name block) headline);
       listed = of_shown (ListsSources (unsubstituted f ∷ [])) text (output_of f.name block is.lists) shows
-          (of_each ListsSource (unsubstituted f) (listing f.name block) (record { blocks = ap (λ (x : ℕ × List Item). x ∷ []) (block_back block straight_image) ∙ ap (map contents) (sym one); substitutions = refl }));
+          (of_each ListsSource (unsubstituted f) (listing f.name block) (record { blocks = ap (λ (x : ℕ × List Item). x ∷ []) (block_back block unframed) ∙ ap (map contents) (sym one); substitutions = refl }));
       exact = of_shown IsExact text (output_of f.name block is.lists) shows exact;
       words = of_shown HaveWords text (output_of f.name block is.lists) shows
           (All-cons (HaveWordsOf (output_of f.name block is.lists)) (listing f.name block) [] (block_words f.name block is.lists plain)

@@ -1,6 +1,7 @@
 -- Functions of the first form, and what is written of them.
 use Rattle.std.specs.Prelude.{◌≡◌, ℕ, ◌≤◌, List, [], ◌∷◌, length, All}
 use Rattle.mir_func.specs.declared.block.Block.{Block}
+use Rattle.mir_func.specs.declared.item.Item.{Item}
 use Rattle.mir_func.specs.Function.{Function}
 use Rattle.dwarf_loclists.specs.declared.range.Range.{Range}
 use Rattle.dwarf_loclists.specs.Spelling as loclists
@@ -11,10 +12,19 @@ use Rattle.block_lists.specs.Variables.{variables_of}
 use Rattle.mirdwarf_tool.specs.Listing.{variable_name, listing_of, compiled_text, block_image}
 use Rattle.output_text.specs.Shown.{IsPrintableFunction, OfShown, not_inlined}
 use Rattle.block_lists.specs.Lists.{AreLists}
+use Rattle.mirdwarf_tool.specs.Frame.{ShownFrame, raised}
 use Rattle.mirdwarf_tool.specs.Words.{HaveWords}
 use Rattle.mirdwarf_tool.specs.Promise.{unsubstituted, AreLaidOut, Promises, IsExact, ListsSources}
 
--- a function without stack objects, of one block of at most 8,192 plain items, which run straight to a return, with at most two variables, whose listing
+-- no frame
+abbrev pub no_frame : ShownFrame
+no_frame = record { below = 0; objects = [] }
+
+-- an item that reaches no frame by x2: where there is none, it stays as it is
+abbrev pub IsUnframed : Item → Type 0
+IsUnframed i = raised no_frame i.kind ≡ i.kind
+
+-- a function without stack objects, of one block of at most 8,192 plain items, which run straight to a return and reach no frame, with at most two variables, whose listing
 -- tells it
 pub record IsFirstForm (f : Function) : Type 0 where
   pub block : Block
@@ -23,6 +33,7 @@ pub record IsFirstForm (f : Function) : Type 0 where
   pub plain : All IsPlain block.items
   pub printable : IsPrintableFunction not_inlined (listing_of f.name (length (code_of block.items)) (variables_of [] block.items) block)
   pub straight : IsStraightImage block (block_image block)
+  pub unframed : All IsUnframed block.items
   pub few : length block.items ≤ 8192
   pub two : length (variables_of [] block.items) ≤ 2
 

@@ -3,6 +3,7 @@ pub mod Status
 pub mod Fault
 pub mod Command
 pub mod Listing
+pub mod Frame
 pub mod Promise
 pub mod Words
 pub mod Compiled
