@@ -5,5 +5,8 @@ pub mod RunLemmas
 pub mod VariablesLemmas
 pub mod ListingLemmas
 pub mod PromiseLemmas
+pub mod FrameLemmas
+pub mod LinesLemmas
+pub mod WordsLemmas
 pub mod ShownLemmas
 pub mod SectionLemmas

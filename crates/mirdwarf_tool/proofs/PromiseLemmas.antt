@@ -205,7 +205,7 @@ variable_at (x ∷ vs) j (suc k) line e =
     (found.0, found.1 ∙ at)
 
 -- what holds of all holds of the one of a number
-all_at : {X : Type 0} (P : X → Type 0) (xs : List X) (k : ℕ) (x : X) → slice_get xs k ≡ Some x → All P xs → P x
+pub all_at : {X : Type 0} (P : X → Type 0) (xs : List X) (k : ℕ) (x : X) → slice_get xs k ≡ Some x → All P xs → P x
 all_at P xs k x at all = subst P (get_or_from_slice_get xs k x x at) (all k x (slice_get_within xs k x at))
 
 -- the variable of a whole

@@ -3,66 +3,73 @@ use Rattle.std.specs.Prelude.{◌⊎◌, Option, Some, None, IfSome}
 use Rattle.std.proofs.Common.{◌≡◌, ◌≢◌, ℕ, ◌+◌, ◌≤◌, List, [], ◌∷◌, ◌++◌, length, ap, sym, ◌∙◌, refl, subst, inl, inr, append-nil}
 use Rattle.io_edge.specs.declared.reading.ReadError.{ReadError}
 use Rattle.io_edge.specs.declared.reading.ReadError.TheVariants as reading
-use Rattle.io_edge.specs.Faults.{CountRose}
-use Rattle.io_edge.specs.Told.{Takes, TakesCount, IsAtEnd}
+use Rattle.io_edge.specs.Told.{Takes, IsAtEnd}
 use Rattle.mir_func.specs.Function.{Function}
 use Rattle.first_form.specs.FirstForm.{Stands}
-use Rattle.mirdwarf_tool.specs.declared.driver.TheConstants.{LIMIT}
+use Rattle.mirdwarf_tool.specs.Limits.{INPUT_LIMIT}
 use Rattle.mirdwarf_tool.specs.declared.fault.Fault.{Fault}
 use Rattle.mirdwarf_tool.specs.declared.fault.Fault.TheVariants.{Usage, Read, TooLong, NotBuilt, Write, Memory}
 use Rattle.mirdwarf_tool.specs.declared.status.Status.TheVariants as status
 use Rattle.mirdwarf_tool.specs.Fault.{reading_fault, status_of, line_of}
 use Rattle.output_text.specs.Shown.{not_inlined}
+use Rattle.mirdwarf_tool.specs.Listing.{variable_name}
 use Rattle.mirdwarf_tool.specs.Promise.{unsubstituted}
-use Rattle.mirdwarf_tool.specs.Run.{Finishes, one, HasWritten, KeepsHeadline, WroteExactly, Explains, IsTooLong, IsNotBuilt, ReadingEnds, MayBeInForm, IsInForm}
+use Rattle.mirdwarf_tool.specs.Run.{Finishes, one, HasWritten, KeepsHeadline, WroteExactly, WroteWords, Explains, IsTooLong, IsNotBuilt, ReadingEnds, MayBeInForm, IsInForm}
+use Rattle.mirdwarf_tool.specs.Stream.{Change, MetFault, IsReadFor, IsReadWhole}
 
-pub reading_ends : (before after : Option (List ℕ)) (count count_after : ℕ) (e : ReadError) → (e ≡ reading.Failed → CountRose count count_after)
-    → (e ≡ reading.TooLong → TakesCount before after (LIMIT + 1)) → ReadingEnds before after count count_after (reading_fault e)
-reading_ends before after count count_after reading.Failed failed too_long = failed refl
-reading_ends before after count count_after reading.TooLong failed too_long = too_long refl
-reading_ends before after count count_after reading.Memory failed too_long = tt
+pub reading_ends : (input : Change) (e : ReadError) → (e ≡ reading.Failed → MetFault input) → (e ≡ reading.TooLong → IsReadFor input (INPUT_LIMIT + 1)) →
+    ReadingEnds input (reading_fault e)
+reading_ends input reading.Failed failed too_long = failed refl
+reading_ends input reading.TooLong failed too_long = too_long refl
+reading_ends input reading.Memory failed too_long = tt
 
 -- what was read of bytes that are told are these bytes
-pub all_read : (text bytes : List ℕ) (after : Option (List ℕ)) → Takes (Some text) after bytes → IsAtEnd after → bytes ≡ text
+all_read : (text bytes : List ℕ) (after : Option (List ℕ)) → Takes (Some text) after bytes → IsAtEnd after → bytes ≡ text
 all_read text bytes None takes end = cc
 all_read text bytes (Some rest) takes end = sym (append-nil bytes) ∙ (ap (λ r. bytes ++ r) (sym end) ∙ some_same (bytes ++ rest) text (sym takes))
   where
     some_same : (a b : List ℕ) → Some a ≡ Some b → a ≡ b
     some_same a b same = cc
 
-pub reading_in_form : (before : Option (List ℕ)) (e : ReadError) → IsInForm before → IfSome before (λ bytes. length bytes ≤ LIMIT → e ≢ reading.TooLong) → MayBeInForm (reading_fault e)
+pub reading_in_form : (before : Option (List ℕ)) (e : ReadError) → IsInForm before → IfSome before (λ bytes. length bytes ≤ INPUT_LIMIT → e ≢ reading.TooLong) →
+    MayBeInForm (reading_fault e)
 reading_in_form before reading.Failed form fits = tt
 reading_in_form before reading.Memory form fits = tt
 reading_in_form before reading.TooLong form fits =
-    let P : Option (List ℕ) → Type 0 = λ b. IfSome b (λ bytes. length bytes ≤ LIMIT → reading.TooLong ≢ reading.TooLong) in
+    let P : Option (List ℕ) → Type 0 = λ b. IfSome b (λ bytes. length bytes ≤ INPUT_LIMIT → reading.TooLong ≢ reading.TooLong) in
     absurd (subst P form.told fits form.within refl)
 
-pub not_refused : (before after : Option (List ℕ)) (bytes : List ℕ) → IsInForm before → Takes before after bytes → IsAtEnd after → ((f : Function) → Stands bytes f → ⊥) → ⊥
-not_refused before after bytes form takes end refused =
-    let P : Option (List ℕ) → Type 0 = λ b. Takes b after bytes in
-    let same : bytes ≡ form.text = all_read form.text bytes after (subst P form.told takes) end in
+pub not_refused : (input : Change) (bytes : List ℕ) → IsInForm input.before.bytes → IsReadWhole input bytes → ((f : Function) → Stands bytes f → ⊥) → ⊥
+not_refused input bytes form read refused =
+    let P : Option (List ℕ) → Type 0 = λ b. Takes b input.after.bytes bytes in
+    let same : bytes ≡ form.text = all_read form.text bytes input.after.bytes (subst P form.told read.takes) read.ended in
     let Q : List ℕ → Type 0 = λ b. Stands b form.function in
     refused form.function (subst Q (sym same) form.stands)
 
-has_written : (before after written written_after : Option (List ℕ)) → Finishes before after written written_after → HasWritten before after written written_after
-has_written before after written written_after is = record {
+has_written : (input output : Change) → Finishes input output → HasWritten input output
+has_written input output is = record {
   text = is.accepted.text;
   read = is.accepted.read;
   sources = unsubstituted is.accepted.function ∷ [];
   inlined = not_inlined;
+  names = variable_name;
   stands = one is.accepted.stands;
-  bytes = is.output;
-  whole = is.whole;
+  bytes = is.text;
+  written = is.written;
   laid_out = is.accepted.compiles.laid_out;
 }
 
-pub headline_kept : (before after written written_after : Option (List ℕ)) → Finishes before after written written_after → KeepsHeadline before after written written_after
+pub headline_kept : (input output : Change) → Finishes input output → KeepsHeadline input output
 unfolding has_written
-headline_kept before after written written_after is = record { wrote = has_written before after written written_after is; headline = is.accepted.compiles.promise }
+headline_kept input output is = record { wrote = has_written input output is; headline = is.accepted.compiles.promise }
 
-pub wrote_exactly : (before after written written_after : Option (List ℕ)) → Finishes before after written written_after → WroteExactly before after written written_after
+pub wrote_exactly : (input output : Change) → Finishes input output → WroteExactly input output
 unfolding has_written
-wrote_exactly before after written written_after is = record { wrote = has_written before after written written_after is; listed = is.accepted.compiles.listed; exact = is.accepted.compiles.exact }
+wrote_exactly input output is = record { wrote = has_written input output is; listed = is.accepted.compiles.listed; exact = is.accepted.compiles.exact }
+
+pub wrote_words : (input output : Change) → Finishes input output → WroteWords input output
+unfolding has_written
+wrote_words input output is = record { wrote = has_written input output is; words = is.accepted.compiles.words }
 
 -- ---- the fault by the status
 
@@ -106,12 +113,11 @@ not_done NotBuilt e = cc
 not_done Write e = cc
 not_done Memory e = cc
 
-pub refusal : (words : List (List ℕ)) (before after written written_after : Option (List ℕ)) (reads reads_after writes writes_after : ℕ) (told : List ℕ → Type 0) (fault : Fault)
-    → status_of fault ≡ status.Refused → Explains words before after written written_after reads reads_after writes writes_after fault → told (line_of fault)
-    → (IsTooLong before after × told (line_of TooLong)) ⊎ (IsNotBuilt before after × told (line_of NotBuilt))
-refusal words before after written written_after reads reads_after writes writes_after told TooLong e explains tells = inl (explains.1, tells)
-refusal words before after written written_after reads reads_after writes writes_after told NotBuilt e explains tells = inr (explains.1, tells)
-refusal words before after written written_after reads reads_after writes writes_after told Usage e explains tells = cc
-refusal words before after written written_after reads reads_after writes writes_after told Read e explains tells = cc
-refusal words before after written written_after reads reads_after writes writes_after told Write e explains tells = cc
-refusal words before after written written_after reads reads_after writes writes_after told Memory e explains tells = cc
+pub refusal : (words : List (List ℕ)) (input output : Change) (told : List ℕ → Type 0) (fault : Fault) → status_of fault ≡ status.Refused →
+    Explains words input output fault → told (line_of fault) → (IsTooLong input × told (line_of TooLong)) ⊎ (IsNotBuilt input × told (line_of NotBuilt))
+refusal words input output told TooLong e explains tells = inl (explains.1, tells)
+refusal words input output told NotBuilt e explains tells = inr (explains.1, tells)
+refusal words input output told Usage e explains tells = cc
+refusal words input output told Read e explains tells = cc
+refusal words input output told Write e explains tells = cc
+refusal words input output told Memory e explains tells = cc

@@ -19,6 +19,7 @@ use Rattle.output_text.specs.Shown.{IsPrintableLine, IsPrintableObject, IsPrinta
 use Rattle.mirdwarf_tool.specs.Listing.{variable_name, listed_variables, listed_items, listing_of}
 use Rattle.block_lists.specs.Variables.{with_variable, with_mark, variables_of}
 use Rattle.mirdwarf_tool.proofs.FirstLemmas.{both_left, both_right, plain_items, length-items_from}
+use Rattle.mirdwarf_tool.proofs.FrameLemmas.{items_unframed}
 use Rattle.mirdwarf_tool.proofs.PrintableLemmas.{lines_printable, code_few}
 use Rattle.mirdwarf_tool.proofs.StraightLemmas.{straight_image}
 
@@ -119,9 +120,9 @@ first_of_lines lines first = record {
   one = refl;
   objects = refl;
   plain = plain_items 0 lines first.allowed;
-  silent = sym (length-items_from 0 lines);
   printable = listing_printable lines first;
   straight = straight_image lines (record { id = 0; items = items_from 0 lines; silent = length lines }) refl refl first.allowed first.ends;
+  unframed = items_unframed 0 lines first.allowed;
   few = omega (arith, length-items_from 0 lines, first.items);
   two = two_variables lines first.allowed;
 }

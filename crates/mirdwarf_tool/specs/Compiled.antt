@@ -1,6 +1,7 @@
 -- Functions of the first form, and what is written of them.
 use Rattle.std.specs.Prelude.{◌≡◌, ℕ, ◌≤◌, List, [], ◌∷◌, length, All}
 use Rattle.mir_func.specs.declared.block.Block.{Block}
+use Rattle.mir_func.specs.declared.item.Item.{Item}
 use Rattle.mir_func.specs.Function.{Function}
 use Rattle.dwarf_loclists.specs.declared.range.Range.{Range}
 use Rattle.dwarf_loclists.specs.Spelling as loclists
@@ -8,21 +9,31 @@ use Rattle.dwarf_loclists.specs.Reading.{IsSection}
 use Rattle.code_layout.specs.Straight.{IsStraightImage}
 use Rattle.block_lists.specs.Code.{code_of, IsPlain}
 use Rattle.block_lists.specs.Variables.{variables_of}
-use Rattle.mirdwarf_tool.specs.Listing.{listing_of, compiled_text, block_image}
+use Rattle.mirdwarf_tool.specs.Listing.{variable_name, listing_of, compiled_text, block_image}
 use Rattle.output_text.specs.Shown.{IsPrintableFunction, OfShown, not_inlined}
 use Rattle.block_lists.specs.Lists.{AreLists}
+use Rattle.mirdwarf_tool.specs.Frame.{ShownFrame, raised}
+use Rattle.mirdwarf_tool.specs.Words.{HaveWords}
 use Rattle.mirdwarf_tool.specs.Promise.{unsubstituted, AreLaidOut, Promises, IsExact, ListsSources}
 
--- a function without stack objects, of one block of at most 8,192 plain items, which run straight to a return, with at most two variables, whose listing
+-- no frame
+abbrev pub no_frame : ShownFrame
+no_frame = record { below = 0; objects = [] }
+
+-- an item that reaches no frame by x2: where there is none, it stays as it is
+abbrev pub IsUnframed : Item → Type 0
+IsUnframed i = raised no_frame i.kind ≡ i.kind
+
+-- a function without stack objects, of one block of at most 8,192 plain items, which run straight to a return and reach no frame, with at most two variables, whose listing
 -- tells it
 pub record IsFirstForm (f : Function) : Type 0 where
   pub block : Block
   pub one : f.blocks ≡ block ∷ []
   pub objects : f.objects ≡ []
   pub plain : All IsPlain block.items
-  pub silent : block.silent ≡ length block.items
   pub printable : IsPrintableFunction not_inlined (listing_of f.name (length (code_of block.items)) (variables_of [] block.items) block)
   pub straight : IsStraightImage block (block_image block)
+  pub unframed : All IsUnframed block.items
   pub few : length block.items ≤ 8192
   pub two : length (variables_of [] block.items) ≤ 2
 
@@ -34,12 +45,13 @@ pub record CompilesBlock (name : List ℕ) (block : Block) (text : List ℕ) : T
   pub written : text ≡ compiled_text name block lists
 
 -- the text is that of the function's one block, and the output that it shows has the function laid out, keeps its promise, lists
--- the function and is exact
+-- the function, is exact, and has the words of its lines
 pub record Compiles (f : Function) (text : List ℕ) : Type 0 where
   pub block : Block
   pub one : f.blocks ≡ block ∷ []
   pub compiled : CompilesBlock f.name block text
-  pub laid_out : OfShown not_inlined (AreLaidOut (unsubstituted f ∷ [])) text
+  pub laid_out : OfShown not_inlined (AreLaidOut variable_name (unsubstituted f ∷ [])) text
   pub promise : OfShown not_inlined (Promises (unsubstituted f ∷ [])) text
   pub listed : OfShown not_inlined (ListsSources (unsubstituted f ∷ [])) text
   pub exact : OfShown not_inlined IsExact text
+  pub words : OfShown not_inlined HaveWords text

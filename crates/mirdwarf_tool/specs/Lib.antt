@@ -1,7 +1,11 @@
+pub mod Limits
 pub mod Status
 pub mod Fault
 pub mod Command
 pub mod Listing
+pub mod Frame
 pub mod Promise
+pub mod Words
 pub mod Compiled
+pub mod Stream
 pub mod Run

@@ -1,14 +1,8 @@
 -- What an output promises of a run of its code.
-use Rattle.std.specs.Prelude.{◌≡◌, ℕ, zero, suc, ◌+◌, ◌<◌, ◌≤◌, cond, pos, List, [], ◌∷◌, length, drop, Option, Some, None, slice_get, map, All}
+use Rattle.std.specs.Prelude.{◌≡◌, ℕ, ◌+◌, ◌<◌, ◌≤◌, cond, List, [], ◌∷◌, length, Option, Some, None, slice_get, map, All}
 use Rattle.std.specs.List.{flat_map}
-use Rattle.rv64_instr.specs.declared.op.Op.TheVariants.{Load, Store}
-use Rattle.rv64_instr.specs.declared.op.LoadOp.TheVariants.{Ld}
-use Rattle.rv64_instr.specs.declared.op.StoreOp.TheVariants.{Sd}
-use Rattle.rv64_instr.specs.declared.operand.Operand.TheVariants.{Def, Use, Imm, Slot}
-use Rattle.rv64_instr.specs.declared.decoded.Base.TheVariants.{PointedBy}
 use Rattle.rv64_instr.specs.declared.place.Place.{Place}
-use Rattle.rv64_instr.specs.Instruction.{Instruction}
-use Rattle.rv64_instr.specs.Row.{Row, Loads, Stores, row_of}
+use Rattle.rv64_instr.specs.Row.{row_of}
 use Rattle.rv64_instr.specs.Parts.{is_call}
 use Rattle.mir_func.specs.declared.position.Pos.{Pos}
 use Rattle.mir_func.specs.declared.variable.VarId.{VarId}
@@ -17,9 +11,9 @@ use Rattle.mir_func.specs.declared.item.ItemKind.{ItemKind}
 use Rattle.mir_func.specs.declared.item.ItemKind.TheVariants.{Code}
 use Rattle.mir_func.specs.declared.block.Block.{Block}
 use Rattle.mir_func.specs.declared.entry.Entry.{Entry}
+use Rattle.mir_func.specs.declared.object.Object.{Object}
 use Rattle.mir_func.specs.Function.{Function}
 use Rattle.mir_func.specs.Graph.{Program, block_start, framed_program}
-use Rattle.mir_func.specs.Objects.{up_to}
 use Rattle.mir_func.specs.Parts.{Bytes}
 use Rattle.mir_func.specs.Resolve.{resolve}
 use Rattle.mir_meaning.specs.Align.{is_code}
@@ -27,9 +21,10 @@ use Rattle.dwarf_loclists.specs.Reading.{PlaceAt, PieceAt}
 use Rattle.code_layout.specs.Image.{Image, line_of}
 use Rattle.code_layout.specs.Headline.{Headline}
 use Rattle.code_layout.specs.Exact.{AreExact}
-use Rattle.block_lists.specs.Variables.{whole}
+use Rattle.block_lists.specs.Variables.{whole, variables_of}
 use Rattle.output_text.specs.Output.{ItemLine, ListedObject, ListedVariable, ListedBlock, ListedFunction, Output}
-use Rattle.mirdwarf_tool.specs.Listing.{start_of}
+use Rattle.mirdwarf_tool.specs.Frame.{ShownFrame, area_shown, frame_shown, raised}
+use Rattle.mirdwarf_tool.specs.Listing.{start_of, variable_lines}
 
 -- the number of the first block
 abbrev pub first_id : List ListedBlock → ℕ
@@ -43,14 +38,6 @@ blocks_of f = record { id = first_id f.blocks; lines = f.prologue } ∷ f.blocks
 -- all lines of a function
 abbrev pub lines_of : ListedFunction → List ItemLine
 lines_of f = flat_map (λ b. b.lines) (blocks_of f)
-
--- the bytes that the listed stack objects take together: the end of the last one, up to a multiple of 16
-abbrev pub end_of : ℕ → List ListedObject → ℕ
-end_of n [] = n
-end_of n (o ∷ os) = end_of (o.offset + o.size) os
-
-abbrev pub area_shown : List ListedObject → ℕ
-area_shown objects = up_to 16 (end_of 0 objects)
 
 -- the image of a function of an output: the bytes of `.text`, the function's first address, its stack objects' bytes, and its
 -- lines with code, each with its address, its origin and its instruction
@@ -106,14 +93,33 @@ abbrev pub FunctionsLie : ℕ → List ListedFunction → ℕ → Type 0
 FunctionsLie a [] b = a ≡ b
 FunctionsLie a (f ∷ fs) b = (f.low ≡ a) × FunctionsLie f.high fs b
 
--- what is listed of a source has its name, and all lines between its first address and its end
+-- a stack object's line
+abbrev pub object_listed : Object → ListedObject
+object_listed o = record { id = o.id; size = o.size; offset = o.offset }
+
+-- what is listed of a source has its name, its stack objects, and all lines between its first address and its end
 pub record IsLaidOut (source : SourceFunction) (f : ListedFunction) : Type 0 where
   pub named : f.name ≡ source.function.name
+  pub objects : f.objects ≡ map object_listed source.function.objects
   pub lines : LinesLie f.low (lines_of f) f.high
 
--- each source is laid out so, and their functions fill `.text`
-pub record AreLaidOut (sources : List SourceFunction) (o : Output) : Type 0 where
+-- the variables of a source, each as a whole and once, by the first mark of any of its parts
+abbrev pub source_variables : Function → List VarId
+source_variables f = variables_of [] (flat_map (λ b. b.items) f.blocks)
+
+-- the variables that are listed are the sources' variables with their names, and from k on their lists are numbered one after
+-- the other, function by function
+abbrev pub ListVariables : (names : ℕ → List ℕ) → (k : ℕ) → List SourceFunction → List ListedFunction → Type 0
+ListVariables names k [] [] = Unit {0}
+ListVariables names k [] (f ∷ fs) = ⊥
+ListVariables names k (s ∷ ss) [] = ⊥
+ListVariables names k (s ∷ ss) (f ∷ fs) =
+    (f.variables ≡ variable_lines names k (source_variables s.function)) × ListVariables names (k + length f.variables) ss fs
+
+-- each source is laid out so, with its variables, whose names are told by their nodes, and their functions fill `.text`
+pub record AreLaidOut (names : ℕ → List ℕ) (sources : List SourceFunction) (o : Output) : Type 0 where
   pub each : OfEach IsLaidOut sources o.functions
+  pub variables : ListVariables names 0 sources o.functions
   pub functions : FunctionsLie 0 o.functions (length o.text)
 
 -- the headline of a source and what is listed of it: from every start, for every script and number of steps, the machine on the
@@ -122,27 +128,17 @@ pub record AreLaidOut (sources : List SourceFunction) (o : Output) : Type 0 wher
 abbrev pub MeetsHeadline : Output → SourceFunction → ListedFunction → Type 0
 MeetsHeadline o source f = Headline source.function (resolve source.substitutions) (image_of o f) (Gives o f)
 
--- an access at an offset from x2, as its word makes it, is one of the frame slot with that offset: no other access goes by x2
-abbrev pub raised_by : Row → Instruction → Instruction
-raised_by (Loads rd Ld (PointedBy (suc (suc zero))) n) i = record { op = Load Ld; operands = Def rd ∷ Slot n ∷ Imm (pos 0) ∷ drop 3 i.operands }
-raised_by (Stores Sd rs (PointedBy (suc (suc zero))) n) i = record { op = Store Sd; operands = Use rs ∷ Slot n ∷ Imm (pos 0) ∷ drop 3 i.operands }
-raised_by row i = i
-
-abbrev pub raised : ItemKind → ItemKind
-raised (Code i k) = Code (raised_by (row_of i) i) k
-raised kind = kind
-
--- the item that a line shows
-abbrev pub item_shown : ItemLine → Item
-item_shown l = record l.item { kind = raised l.item.kind }
+-- the item that a line shows in a frame
+abbrev pub item_shown : ShownFrame → ItemLine → Item
+item_shown frame l = record l.item { kind = raised frame l.item.kind }
 
 -- the block that its lines show
-abbrev pub block_shown : ListedBlock → Block
-block_shown b = record { id = b.id; items = map item_shown b.lines; silent = length b.lines }
+abbrev pub block_shown : ShownFrame → ListedBlock → Block
+block_shown frame b = record { id = b.id; items = map (item_shown frame) b.lines; silent = length b.lines }
 
 -- the function that the lines show, with its prologue
 abbrev pub program_shown : ListedFunction → Program
-program_shown f = framed_program (map block_shown (blocks_of f)) (resolve f.substitutions)
+program_shown f = framed_program (map (block_shown (frame_shown f)) (blocks_of f)) (resolve f.substitutions)
 
 -- a line that has a byte at an address stands at this place of its function: in this block, 0 for the prologue, and at this index
 pub record IsListedAt (f : ListedFunction) (address : ℕ) (p : Pos) : Type 0 where
@@ -169,9 +165,13 @@ Promises sources o = OfEach (MeetsHeadline o) sources o.functions
 abbrev pub IsExact : Output → Type 0
 IsExact o = All (IsExactFor o) o.functions
 
+-- the number and the items of a block: its silent position shows in no line
+abbrev pub contents : Block → ℕ × List Item
+contents b = (b.id, b.items)
+
 -- the blocks and the substitutions that are listed are those of the source: nothing is changed on the way
 pub record ListsSource (source : SourceFunction) (f : ListedFunction) : Type 0 where
-  pub blocks : map block_shown f.blocks ≡ source.function.blocks
+  pub blocks : map (λ b. contents (block_shown (frame_shown f) b)) f.blocks ≡ map contents source.function.blocks
   pub substitutions : f.substitutions ≡ source.substitutions
 
 abbrev pub ListsSources : List SourceFunction → Output → Type 0

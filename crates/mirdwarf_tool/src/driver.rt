@@ -1,9 +1,11 @@
+//! The run of a command.
+
 ghost use Rattle.std.specs.Prelude.{◌≡◌, ◌≢◌, ◌≤◌, ◌↔◌, ◌⊎◌, IfOk, OnOk, OnErr, IfErr, IsErrOf, map, string_bytes};
-ghost use Rattle.io_edge.specs.Faults.{CountRose};
-ghost use Rattle.io_edge.specs.Told.{AppendsUnlessFault};
 ghost use Rattle.mirdwarf_tool.specs.Command.{IsCommand};
 ghost use Rattle.mirdwarf_tool.specs.Fault.{line_of};
-ghost use Rattle.mirdwarf_tool.specs.Run.{Accepts, IsTooLong, IsNotBuilt, Finishes, KeepsHeadline, WroteExactly, IsCutOff, IsInForm, Explains, ReadingEnds, MayBeInForm};
+ghost use Rattle.mirdwarf_tool.specs.Run.{Accepts, IsTooLong, IsNotBuilt, Finishes, KeepsHeadline, WroteExactly, WroteWords};
+ghost use Rattle.mirdwarf_tool.specs.Run.{IsCutOff, IsInForm, Explains, ReadingEnds, MayBeInForm};
+ghost use Rattle.mirdwarf_tool.specs.Stream.{change, MetFault, IsTold};
 
 use crate::command::is_command;
 use crate::compile::compile;
@@ -30,35 +32,55 @@ pub fn mirdwarf<S: Source, K: Sink, E: Sink>(
     faults: &mut E,
 ) -> Status
     // When each status comes. `Memory` may come at any growth.
-    ensures done { result ≡ Status.Done → Finishes (S.left input.old) (S.left input.new) (K.written output.old) (K.written output.new) }
-    ensures refused { result ≡ Status.Refused → IsTooLong (S.left input.old) (S.left input.new) ⊎ IsNotBuilt (S.left input.old) (S.left input.new) }
+    ensures done { result ≡ Status.Done →
+        Finishes (change S.left S.faults input.old input.new) (change K.written K.faults output.old output.new) }
+    ensures refused { result ≡ Status.Refused →
+        IsTooLong (change S.left S.faults input.old input.new) ⊎ IsNotBuilt (change S.left S.faults input.old input.new) }
     ensures usage { (result ≡ Status.Usage) ↔ (IsCommand (map string_bytes words.now) → ⊥) }
-    ensures read_fault { result ≡ Status.ReadFault → CountRose (S.faults input.old) (S.faults input.new) }
-    ensures write_fault { result ≡ Status.WriteFault → CountRose (K.faults output.old) (K.faults output.new) }
+    ensures read_fault { result ≡ Status.ReadFault → MetFault (change S.left S.faults input.old input.new) }
+    ensures write_fault { result ≡ Status.WriteFault → MetFault (change K.written K.faults output.old output.new) }
 
     // The machine on the written code runs along with the source that was read, and the written lists tell the truth.
-    ensures headline { result ≡ Status.Done → KeepsHeadline (S.left input.old) (S.left input.new) (K.written output.old) (K.written output.new) }
+    ensures headline { result ≡ Status.Done →
+        KeepsHeadline (change S.left S.faults input.old input.new) (change K.written K.faults output.old output.new) }
     // The lists say the place of a variable's value wherever the value is in one on every path, and nothing elsewhere.
-    ensures exact { result ≡ Status.Done → WroteExactly (S.left input.old) (S.left input.new) (K.written output.old) (K.written output.new) }
+    ensures exact { result ≡ Status.Done →
+        WroteExactly (change S.left S.faults input.old input.new) (change K.written K.faults output.old output.new) }
+    // At each line that is written stand the bytes of its instruction.
+    ensures words { result ≡ Status.Done →
+        WroteWords (change S.left S.faults input.old input.new) (change K.written K.faults output.old output.new) }
 
-    // A text in the first form is compiled, unless a count rises or memory runs out.
-    ensures complete { IsCommand (map string_bytes words.now) → IsInForm (S.left input.old) → ¬ CountRose (S.faults input.old) (S.faults input.new) → ¬ CountRose (K.faults output.old) (K.faults output.new) → (result ≡ Status.Done) ⊎ (result ≡ Status.Memory) }
+    // A text in the first form is compiled, unless a fault is met or memory runs out.
+    ensures complete { IsCommand (map string_bytes words.now) → IsInForm (S.left input.old) →
+        ¬ MetFault (change S.left S.faults input.old input.new) → ¬ MetFault (change K.written K.faults output.old output.new) →
+        (result ≡ Status.Done) ⊎ (result ≡ Status.Memory) }
 
     // What else it leaves: nothing is read where the words are no command, and nothing is written but at the end.
     ensures unread { result ≡ Status.Usage → input.new ≡ input.old }
     ensures unwritten { result ≢ Status.Done → result ≢ Status.WriteFault → output.new ≡ output.old }
-    ensures cut_off { result ≡ Status.WriteFault → IsCutOff (S.left input.old) (S.left input.new) (K.written output.old) (K.written output.new) }
+    ensures cut_off { result ≡ Status.WriteFault →
+        IsCutOff (change S.left S.faults input.old input.new) (change K.written K.faults output.old output.new) }
 
     // What it tells.
     ensures quiet { result ≡ Status.Done → faults.new ≡ faults.old }
-    ensures tells_refusal { result ≡ Status.Refused → (IsTooLong (S.left input.old) (S.left input.new) × AppendsUnlessFault (E.written faults.old) (E.written faults.new) (E.faults faults.old) (E.faults faults.new) (line_of Fault.TooLong)) ⊎ (IsNotBuilt (S.left input.old) (S.left input.new) × AppendsUnlessFault (E.written faults.old) (E.written faults.new) (E.faults faults.old) (E.faults faults.new) (line_of Fault.NotBuilt)) }
-    ensures tells_usage { result ≡ Status.Usage → AppendsUnlessFault (E.written faults.old) (E.written faults.new) (E.faults faults.old) (E.faults faults.new) (line_of Fault.Usage) }
-    ensures tells_memory { result ≡ Status.Memory → AppendsUnlessFault (E.written faults.old) (E.written faults.new) (E.faults faults.old) (E.faults faults.new) (line_of Fault.Memory) }
-    ensures tells_read { result ≡ Status.ReadFault → AppendsUnlessFault (E.written faults.old) (E.written faults.new) (E.faults faults.old) (E.faults faults.new) (line_of Fault.Read) }
-    ensures tells_write { result ≡ Status.WriteFault → AppendsUnlessFault (E.written faults.old) (E.written faults.new) (E.faults faults.old) (E.faults faults.new) (line_of Fault.Write) }
+    ensures tells_refusal { result ≡ Status.Refused →
+        (IsTooLong (change S.left S.faults input.old input.new)
+        × IsTold (change E.written E.faults faults.old faults.new) (line_of Fault.TooLong))
+        ⊎ (IsNotBuilt (change S.left S.faults input.old input.new)
+        × IsTold (change E.written E.faults faults.old faults.new) (line_of Fault.NotBuilt)) }
+    ensures tells_usage { result ≡ Status.Usage →
+        IsTold (change E.written E.faults faults.old faults.new) (line_of Fault.Usage) }
+    ensures tells_memory { result ≡ Status.Memory →
+        IsTold (change E.written E.faults faults.old faults.new) (line_of Fault.Memory) }
+    ensures tells_read { result ≡ Status.ReadFault →
+        IsTold (change E.written E.faults faults.old faults.new) (line_of Fault.Read) }
+    ensures tells_write { result ≡ Status.WriteFault →
+        IsTold (change E.written E.faults faults.old faults.new) (line_of Fault.Write) }
 
     // Counts never fall.
-    ensures counts { (S.faults input.old ≤ S.faults input.new) × (K.faults output.old ≤ K.faults output.new) × (E.faults faults.old ≤ E.faults faults.new) }
+    ensures input_counts { S.faults input.old ≤ S.faults input.new }
+    ensures output_counts { K.faults output.old ≤ K.faults output.new }
+    ensures faults_counts { E.faults faults.old ≤ E.faults faults.new }
 {
     match run(alloc, words, input, output) {
         Ok(()) => Status::Done,
@@ -71,7 +93,7 @@ pub fn mirdwarf<S: Source, K: Sink, E: Sink>(
 
 /// Tells of a fault, as far as the sink takes it.
 fn tell<E: Sink>(fault: Fault, faults: &mut E)
-    ensures line { AppendsUnlessFault (E.written faults.old) (E.written faults.new) (E.faults faults.old) (E.faults faults.new) (line_of fault) }
+    ensures line { IsTold (change E.written E.faults faults.old faults.new) (line_of fault) }
     ensures counts { E.faults faults.old ≤ E.faults faults.new }
 {
     let _ = write_all(faults, fault.line().as_bytes());
@@ -84,13 +106,16 @@ fn run<S: Source, K: Sink>(
     input: &mut S,
     output: &mut K,
 ) -> Result<(), Fault>
-    ensures done { OnOk result (Finishes (S.left input.old) (S.left input.new) (K.written output.old) (K.written output.new)) }
+    ensures done { OnOk result
+        (Finishes (change S.left S.faults input.old input.new) (change K.written K.faults output.old output.new)) }
     ensures command { OnOk result (IsCommand (map string_bytes words.now)) }
-    ensures err { IfErr result (Explains (map string_bytes words.now) (S.left input.old) (S.left input.new) (K.written output.old) (K.written output.new) (S.faults input.old) (S.faults input.new) (K.faults output.old) (K.faults output.new)) }
+    ensures err { IfErr result (Explains (map string_bytes words.now)
+        (change S.left S.faults input.old input.new) (change K.written K.faults output.old output.new)) }
     ensures unread { IsErrOf result Fault.Usage → input.new ≡ input.old }
     ensures unwritten { IfErr result (λ fault. fault ≢ Fault.Write → output.new ≡ output.old) }
     ensures complete { IsInForm (S.left input.old) → IfErr result MayBeInForm }
-    ensures counts { (S.faults input.old ≤ S.faults input.new) × (K.faults output.old ≤ K.faults output.new) }
+    ensures input_counts { S.faults input.old ≤ S.faults input.new }
+    ensures output_counts { K.faults output.old ≤ K.faults output.new }
 {
     if !is_command(words) {
         return Err(Fault::Usage);
@@ -104,8 +129,8 @@ fn run<S: Source, K: Sink>(
 
 /// What is to be written of an input.
 fn compiled<S: Source>(alloc: Global, input: &mut S) -> Result<Text, Fault>
-    ensures ok { IfOk result (Accepts (S.left input.old) (S.left input.new)) }
-    ensures err { IfErr result (ReadingEnds (S.left input.old) (S.left input.new) (S.faults input.old) (S.faults input.new)) }
+    ensures ok { IfOk result (Accepts (change S.left S.faults input.old input.new)) }
+    ensures err { IfErr result (ReadingEnds (change S.left S.faults input.old input.new)) }
     ensures complete { IsInForm (S.left input.old) → IfErr result MayBeInForm }
     ensures counts { S.faults input.old ≤ S.faults input.new }
 {
