@@ -3,19 +3,38 @@
 
 use io_edge::std_sink::StdSink;
 use io_edge::std_source::StdSource;
-use mirdwarf_tool::driver::mirdwarf;
+use mirdwarf_tool::driver::{mirdwarf, tell};
+use mirdwarf_tool::fault::Fault;
 use std::process::ExitCode;
 use std::{env, io};
 
-fn main(rt: HostRuntime) -> io::Result<ExitCode> {
-    let alloc = rt.alloc();
-    let mut words = Vec::new(alloc);
-    for word in env::args(&rt)?.skip(1) {
-        words.push(word)?;
-    }
+fn main(rt: HostRuntime) -> ExitCode {
     let mut input = StdSource::new(rt.stdin());
     let mut output = StdSink::new(rt.stdout());
     let mut faults = StdSink::new(rt.stderr());
-    let status = mirdwarf(alloc, &words, &mut input, &mut output, &mut faults);
-    Ok(ExitCode::from(status.number()))
+    let status = match words(&rt) {
+        Ok(words) => mirdwarf(rt.alloc(), &words, &mut input, &mut output, &mut faults),
+        Err(fault) => tell(fault, &mut faults),
+    };
+    ExitCode::from(status.number())
+}
+
+/// The words after the program's name.
+fn words(rt: &HostRuntime) -> Result<Vec<String>, Fault> {
+    let mut words = Vec::new(rt.alloc());
+    for word in env::args(rt).map_err(word_fault)?.skip(1) {
+        if words.push(word).is_err() {
+            return Err(Fault::Memory);
+        }
+    }
+    Ok(words)
+}
+
+/// What a fault of the words is: memory ran out, or a word is no UTF-8 and so no word of a command.
+fn word_fault(error: io::Error) -> Fault {
+    if error.kind() == io::ErrorKind::OutOfMemory {
+        Fault::Memory
+    } else {
+        Fault::Usage
+    }
 }
