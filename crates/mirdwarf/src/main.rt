@@ -1,40 +1,9 @@
-//! The program: the words after its name, standard input, output and error, and the status as its exit code.
+//! The program: the command over the host. Faults are told on standard error, and the status is the exit code.
 #![tactic(auto)]
 
-use io_edge::std_sink::StdSink;
-use io_edge::std_source::StdSource;
-use mirdwarf_tool::driver::{mirdwarf, tell};
-use mirdwarf_tool::fault::Fault;
+use mirdwarf_host::run;
 use std::process::ExitCode;
-use std::{env, io};
 
 fn main(rt: HostRuntime) -> ExitCode {
-    let mut input = StdSource::new(rt.stdin());
-    let mut output = StdSink::new(rt.stdout());
-    let mut faults = StdSink::new(rt.stderr());
-    let status = match words(&rt) {
-        Ok(words) => mirdwarf(rt.alloc(), &words, &mut input, &mut output, &mut faults),
-        Err(fault) => tell(fault, &mut faults),
-    };
-    ExitCode::from(status.number())
-}
-
-/// The words after the program's name.
-fn words(rt: &HostRuntime) -> Result<Vec<String>, Fault> {
-    let mut words = Vec::new(rt.alloc());
-    for word in env::args(rt).map_err(word_fault)?.skip(1) {
-        if words.push(word).is_err() {
-            return Err(Fault::Memory);
-        }
-    }
-    Ok(words)
-}
-
-/// What a fault of the words is: memory ran out, or a word is no UTF-8 and so no word of a command.
-fn word_fault(error: io::Error) -> Fault {
-    if error.kind() == io::ErrorKind::OutOfMemory {
-        Fault::Memory
-    } else {
-        Fault::Usage
-    }
+    run(&rt, rt.stderr())
 }
