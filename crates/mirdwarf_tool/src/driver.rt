@@ -2,7 +2,7 @@
 
 ghost use Rattle.std.specs.Prelude.{◌≡◌, ◌≢◌, ◌≤◌, ◌↔◌, ◌⊎◌, IfOk, OnOk, OnErr, IfErr, IsErrOf, map, string_bytes};
 ghost use Rattle.mirdwarf_tool.specs.Command.{IsCommand};
-ghost use Rattle.mirdwarf_tool.specs.Fault.{line_of};
+ghost use Rattle.mirdwarf_tool.specs.Fault.{line_of, status_of};
 ghost use Rattle.mirdwarf_tool.specs.Run.{Accepts, IsTooLong, IsNotBuilt, Finishes, KeepsHeadline, WroteExactly, WroteWords};
 ghost use Rattle.mirdwarf_tool.specs.Run.{IsCutOff, IsInForm, Explains, ReadingEnds, MayBeInForm};
 ghost use Rattle.mirdwarf_tool.specs.Stream.{change, MetFault, IsTold};
@@ -84,19 +84,18 @@ pub fn mirdwarf<S: Source, K: Sink, E: Sink>(
 {
     match run(alloc, words, input, output) {
         Ok(()) => Status::Done,
-        Err(fault) => {
-            tell(fault, faults);
-            fault.status()
-        }
+        Err(fault) => tell(fault, faults),
     }
 }
 
-/// Tells of a fault, as far as the sink takes it.
-fn tell<E: Sink>(fault: Fault, faults: &mut E)
+/// Tells of a fault by its line, as far as the sink takes it, and gives the status of a run that ends so.
+pub fn tell<E: Sink>(fault: Fault, faults: &mut E) -> Status
+    ensures status { result ≡ status_of fault }
     ensures line { IsTold (change E.written E.faults faults.old faults.new) (line_of fault) }
     ensures counts { E.faults faults.old ≤ E.faults faults.new }
 {
     let _ = write_all(faults, fault.line().as_bytes());
+    fault.status()
 }
 
 /// All but the telling of a fault.

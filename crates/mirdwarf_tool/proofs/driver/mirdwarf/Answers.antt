@@ -9,7 +9,7 @@ returns-in-Err-clause-tells_refusal g c refused =
     refusal (map string_bytes c.args.words.now) (change g.S.Source.left g.S.Source.faults c.args.input.now c.run.new.input)
     (change g.K.Sink.written g.K.Sink.faults c.args.output.now c.run.new.output)
     (λ (line : List ℕ). IsTold (change g.E.Sink.written g.E.Sink.faults c.args.faults.now c.tell.new.faults) line)
-    c.in-Err.fault (sym c.status.ensures ∙ refused) c.in-Err.ensures.err c.tell.ensures.line
+    c.in-Err.fault (sym c.tell.ensures.status ∙ refused) c.in-Err.ensures.err c.tell.ensures.line
 
 pub returns-in-Ok-clause-headline : goal.returns-in-Ok-clause-headline
 returns-in-Ok-clause-headline g c done =

@@ -1,0 +1,10 @@
+//! The program on a text that is refused, with faults told on standard output: the merge gate compares a program's status and
+//! standard output alone, so it sees the fault's line here.
+#![tactic(auto)]
+
+use mirdwarf_host::run;
+use std::process::ExitCode;
+
+fn main(rt: HostRuntime) -> ExitCode {
+    run(&rt, rt.stdout())
+}
