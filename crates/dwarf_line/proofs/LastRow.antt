@@ -39,7 +39,13 @@ last (q ∷ rows) address r e = chosen (leb q.address address) refl (row_in rows
     chosen false is o told e others = absurd cc
     chosen true is None told e others =
         let same : q ≡ r = some_is q r e in
-        record { before = []; behind = rows; stands = ap (λ x. x ∷ rows) same; at = subst (λ (x : Row). x.address ≤ address) same (at_or_before is); last = none_before rows address told }
+        record {
+          before = [];
+          behind = rows;
+          stands = ap (λ x. x ∷ rows) same;
+          at = subst (λ (x : Row). x.address ≤ address) same (at_or_before is);
+          last = none_before rows address told;
+        }
     chosen true is (Some s) told e others =
         let same : s ≡ r = some_is s r e in
         let next = others r (told ∙ ap Some same) in
