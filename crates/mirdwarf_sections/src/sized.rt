@@ -1,13 +1,15 @@
 //! Sections of a size: what instructions are counted of.
 
-ghost use Rattle.std.specs.Prelude.{◌≡◌, ◌<◌, ◌≤◌};
+ghost use Rattle.std.specs.Prelude.{◌≤◌};
 
 use crate::listable::are_listable;
-use crate::section::{entries, lines, location_lists};
+use crate::section::{lines, location_lists};
 use crate::table::are_sequences;
+use crate::types::have_types;
 use anyhow::{Context, bail};
 use dwarf_info::size::info_size;
 use dwarf_info::unit::{BaseEntry, FunctionEntry, Unit, VariableEntry};
+use dwarf_info::write::write_info;
 use dwarf_line::read::rows;
 use dwarf_line::size::line_size;
 use dwarf_line::table::{FileEntry, LineTable, Row, Sequence};
@@ -88,7 +90,9 @@ pub fn sized(alloc: Global, kind: Kind, step: Step, size: u32) -> anyhow::Result
 fn lists_up_to(alloc: Global, lists: &RangeLists, step: Step) -> anyhow::Result<usize> {
     match step {
         Step::Make => {
-            are_listable(lists);
+            if !are_listable(lists) {
+                bail!("ranges that can't be listed");
+            }
             Ok(0)
         }
         Step::Size => {
@@ -112,7 +116,9 @@ fn lists_up_to(alloc: Global, lists: &RangeLists, step: Step) -> anyhow::Result<
 fn lines_up_to(alloc: Global, table: &LineTable, step: Step) -> anyhow::Result<usize> {
     match step {
         Step::Make => {
-            are_sequences(table.sequences.as_slice());
+            if !are_sequences(table.sequences.as_slice()) {
+                bail!("rows that don't ascend");
+            }
             Ok(0)
         }
         Step::Size => {
@@ -134,10 +140,16 @@ fn lines_up_to(alloc: Global, table: &LineTable, step: Step) -> anyhow::Result<u
 
 /// The bytes of entries, which nothing here reads.
 fn entries_up_to(alloc: Global, unit: &Unit, step: Step) -> anyhow::Result<usize> {
+    if !have_types(unit.types.len(), unit.functions.as_slice()) {
+        bail!("a type that isn't there");
+    }
     match step {
         Step::Make => Ok(0),
         Step::Size => Ok(info_size(unit).context("too many bytes")? as usize),
-        Step::Write | Step::Read => Ok(entries(alloc, unit)?.len()),
+        Step::Write | Step::Read => {
+            info_size(unit).context("too many bytes")?;
+            Ok(write_info(alloc, unit)?.len())
+        }
     }
 }
 
