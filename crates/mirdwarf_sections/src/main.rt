@@ -1,6 +1,6 @@
-//! Sections of two examples as the writers give them, in hexadecimal: what bench/sections.py puts into ELF files for tools of
-//! others. With three words in place of that, a kind, a step and a size, it takes a section of that size so far: what
-//! docs/PERFORMANCE.md counts instructions of.
+//! Prints the sections of two examples as the writers give them, in hexadecimal: what bench/sections.py puts into ELF
+//! files for tools of others. With three words, a kind, a step and a size, it takes a section of that size so far in
+//! place of that: what docs/PERFORMANCE.md counts instructions of.
 #![tactic(auto)]
 
 mod example;
