@@ -1,6 +1,5 @@
 -- The abbreviations, as they were written one after the other.
-use Rattle.std.proofs.Common.{◌≡◌, ℕ, List, [], ◌∷◌, ◌++◌, ap, sym, ◌∙◌, append_assoc, append-nil}
-use Rattle.std.specs.List.{flat_map}
+use Rattle.std.proofs.Common.{◌≡◌, ℕ, List, [], ◌∷◌, ◌++◌, append_assoc, append-nil}
 use Rattle.dwarf_info.specs.declared.kind.Kind.TheVariants.{CompileUnit, Subprogram, TypedParameter, Parameter, TypedVariable, Variable, BaseType}
 use Rattle.dwarf_info.specs.Kinds.{abbreviation, abbreviations}
 

@@ -1,5 +1,5 @@
 -- The kinds of entries: the one description that abbreviations and entries are written from (DWARF 5 sections 7.5.2 and 7.5.3).
-use Rattle.std.specs.Prelude.{ℕ, Bool, true, false, List, [], ◌∷◌, ◌++◌}
+use Rattle.std.specs.Prelude.{ℕ, List, [], ◌∷◌, ◌++◌}
 use Rattle.std.specs.List.{flat_map}
 use Rattle.dwarf_base.specs.Leb.{uleb_of}
 use Rattle.dwarf_base.specs.Standard.{DW_FORM_string}

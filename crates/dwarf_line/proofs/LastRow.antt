@@ -1,6 +1,6 @@
 -- The row of an address.
 use Rattle.std.specs.Prelude.{unwrap_or}
-use Rattle.std.proofs.Common.{◌≡◌, ℕ, ◌≤◌, ◌<◌, Bool, true, false, cond, leb, Option, Some, None, List, [], ◌∷◌, ◌++◌, ap, subst, sym, ◌∙◌, refl, arith}
+use Rattle.std.proofs.Common.{◌≡◌, ℕ, ◌≤◌, ◌<◌, Bool, true, false, cond, leb, Option, Some, None, List, [], ◌∷◌, ap, subst, ◌∙◌, refl, arith}
 use Rattle.std.proofs.lemmas.Bool.Decides.{nat_tests}
 use Rattle.dwarf_line.specs.declared.table.Row.{Row}
 use Rattle.dwarf_line.specs.Table.{HasRows}

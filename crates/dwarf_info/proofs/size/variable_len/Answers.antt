@@ -1,4 +1,4 @@
-use Rattle.std.proofs.Common.{◌≡◌, ℕ, length, arith, ap}
+use Rattle.std.proofs.Common.{length, arith, ap}
 use Rattle.dwarf_info.specs.Entries.{named}
 use Rattle.dwarf_info.proofs.TreeLemmas.{length-variable}
 use Rattle.dwarf_info.proofs.size.variable_len.Goals as goal

@@ -1,5 +1,5 @@
 use Rattle.std.specs.List.{flat_map}
-use Rattle.std.proofs.Common.{◌≡◌, length, arith, ap, sym, ◌∙◌}
+use Rattle.std.proofs.Common.{length, arith, ap, sym, ◌∙◌}
 use Rattle.dwarf_info.specs.steps.Parts.{type_bytes}
 use Rattle.dwarf_info.proofs.TreeLemmas.{length-spelling, front_length, offsets_at, functions_same, written}
 use Rattle.dwarf_info.proofs.write.write_info.Goals as goal
