@@ -3,6 +3,7 @@
 
   bench/growth.py lex      crates/mirdwarf_bench/out/mirdwarf_bench, on texts of 1, 2 and 4 MiB
   bench/growth.py compile  crates/mirdwarf/out/mirdwarf, on functions of 1,000 to 8,000 items
+  bench/growth.py sections crates/mirdwarf_sections/out/mirdwarf_sections, on sections of 1,000 to 8,000 parts
 
 Build the program first by `rt run` in its crate's folder. Each line has the input's size, the count and its growth.
 """
@@ -59,12 +60,36 @@ def table(name, program, words, sizes, make):
         before = instructions
 
 
+# Of each kind of section: the steps, the call that each adds, and the step before it.
+SECTIONS = {
+    "lists": {"size": ("lists_size, by lists of ten ranges", "make"), "write": ("write_lists", "size"), "read": ("list_count", "write")},
+    "list": {"size": ("lists_size, by ranges of one list", "make"), "write": ("write_lists", "size"), "read": ("list_count", "write")},
+    "rows": {"size": ("line_size, by rows", "make"), "write": ("write_line", "size"), "read": ("rows", "write")},
+    "functions": {"size": ("info_size, by functions of four variables", "make"), "write": ("write_info", "size")},
+}
+
+
+def added(name, kind, step, before, sizes):
+    """A table of the instructions that a step has more than the one before it."""
+    program = os.path.join(TOP, "crates/mirdwarf_sections/out/mirdwarf_sections")
+    print(name)
+    last = None
+    for size in sizes:
+        instructions = count(program, [kind, step, str(size)], b"") - count(program, [kind, before, str(size)], b"")
+        print("  %9d  %13d  %s" % (size, instructions, "%.3f" % (instructions / last) if last else ""))
+        last = instructions
+
+
 def main():
     what = sys.argv[1:]
     if what == ["lex"]:
         program, sizes = "crates/mirdwarf_bench/out/mirdwarf_bench", [n << 20 for n in (1, 2, 4)]
         table("functions of one line, by bytes", program, [], sizes, one_line_functions)
         table("one long line, by bytes", program, [], sizes, one_long_line)
+    elif what == ["sections"]:
+        for kind, steps in SECTIONS.items():
+            for step, (call, before) in steps.items():
+                added(call, kind, step, before, (1000, 2000, 4000, 8000))
     elif what == ["compile"]:
         table("one block, by items", "crates/mirdwarf/out/mirdwarf", ["compile", "--passes=none"], (1000, 2000, 4000, 8000), one_block)
     else:

@@ -6,6 +6,8 @@
 pub mod code;
 pub mod lists_of;
 pub mod ranges;
+#[cfg(test)]
+mod tests;
 mod token;
 mod tracker;
 pub mod variables;

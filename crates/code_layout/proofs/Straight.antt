@@ -515,6 +515,7 @@ straight_code_meets_the_headline lists source block resolve image one none is gi
     let same : plain ≡ source = ap (λ (os : List Object). record source { objects = os; blocks = block ∷ [] }) (sym none)
     ∙ ap (λ (bs : List Block). record source { blocks = bs }) (sym one) in
     let headline : Headline plain resolve image lists = record {
+      area = is.area;
       agrees = λ s0 start m s since l along line. inl (agrees_along block resolve image lists s0 is given start m s since l along line);
       stops = λ s0 start m comes. stops_well block resolve image lists s0 is given start m comes;
     } in

@@ -1,9 +1,11 @@
 -- What location lists promise of a machine's run: the sentence that the compiler's top call states.
-use Rattle.std.specs.Prelude.{◌≡◌, ◌⊎◌, ℕ, List, [], ◌∷◌, Option, Some, false, true, All}
+use Rattle.std.specs.Prelude.{◌≡◌, ◌⊎◌, ℕ, List, ◌∷◌, Option, Some, false, true, All}
 use Rattle.rv64_instr.specs.declared.place.Place.{Place}
 use Rattle.mir_func.specs.declared.entry.OperandPair.{OperandPair}
 use Rattle.mir_func.specs.declared.variable.VarId.{VarId}
 use Rattle.mir_func.specs.Function.{Function}
+use Rattle.mir_func.specs.Objects.{area_of}
+use Rattle.mir_func.specs.SoundFrame.{SAVED}
 use Rattle.mir_func.specs.Variables.{part_value}
 use Rattle.mir_meaning.specs.State.{State}
 use Rattle.mir_meaning.specs.Step.{Returned, step}
@@ -37,7 +39,7 @@ StartsAt f s = IsStart f.objects (first_of f.blocks) s
 -- the registers that a function gives back as it found them: the return address, the stack pointer and the callee-saved ones
 -- (RISC-V ELF psABI, "Integer Register Convention")
 abbrev pub KEPT : List ℕ
-KEPT = 1 ∷ 2 ∷ 8 ∷ 9 ∷ 18 ∷ 19 ∷ 20 ∷ 21 ∷ 22 ∷ 23 ∷ 24 ∷ 25 ∷ 26 ∷ 27 ∷ []
+KEPT = 2 ∷ SAVED
 
 -- what is owed where the machine at m, begun at m0, is aligned with the source at s: the stores and calls so far are the same, a
 -- return of the machine is one of the source with the same result, and gives back what is to be kept; and each place that a list
@@ -51,6 +53,8 @@ pub record MachineAgrees (src : Program) (image : Image) (lists : VarId → ℕ 
 -- the headline, of a source with its stack objects, its image and its lists: from every start, for every script and number of
 -- machine steps
 pub record Headline (source : Function) (resolve : OperandPair → Option OperandPair) (image : Image) (lists : VarId → ℕ → Place → Type 0) : Type 0 where
+  -- the stack objects that are listed take as many bytes as the source's
+  pub area : image.area ≡ area_of source.objects
   -- at each line that the machine comes to, the source comes to the line's origin and both agree, unless the source stops on a
   -- frame fault before it
   pub agrees : (s0 : State) → StartsAt source s0 → (m : Machine) (s : State) (since : Since) (l : CodeLine) →

@@ -1,7 +1,8 @@
 -- A number at the front of bytes: by its first byte, and within the first ten.
 use Rattle.std.specs.Prelude.{ℤ, pos, negsuc, ◌+ℤ◌, ◌-ℤ◌, ◌*ℤ◌, ◌≤ℤ◌, ◌<ℤ◌, FitsSigned, Option, Some}
 use Rattle.std.specs.Int.{w64}
-use Rattle.std.proofs.Common.{◌≡◌, ℕ, zero, suc, ◌+◌, ◌*◌, ◌/◌, ◌%◌, ◌^◌, ◌<◌, ◌≤◌, Bool, List, [], ◌∷◌, ◌++◌, length, take, min, length-append, false, true, arith, ap, sym, ◌∙◌, refl, inl, inr}
+use Rattle.std.proofs.Common.{◌≡◌, ℕ, zero, suc, ◌+◌, ◌*◌, ◌/◌, ◌%◌, ◌^◌, ◌<◌, ◌≤◌, Bool, List, [], ◌∷◌, ◌++◌, length, take, min, length-append, false, true}
+use Rattle.std.proofs.Common.{arith, ap, sym, ◌∙◌, refl, inl, inr}
 use Rattle.std.proofs.lemmas.Bool.{cases_lt}
 use Rattle.std.proofs.lemmas.Bool.Decides.{nat_tests}
 use Rattle.std.proofs.lemmas.Int.{ints, to_z-of_z}
@@ -61,7 +62,8 @@ pub record UnsignedMore (b : ℕ) (tail front rest : List ℕ) : Type 0 where
   pub small : unsigned_value others < 2 ^ 64
   pub value : unsigned_value front ≡ b % 128 + 128 * unsigned_value others
 
-pub unsigned_byte : (bytes : List ℕ) (b : ℕ) (tail front rest : List ℕ) → bytes ≡ b ∷ tail → b < 128 → IsLeb front → bytes ≡ front ++ rest → unsigned_value front ≡ b
+pub unsigned_byte : (bytes : List ℕ) (b : ℕ) (tail front rest : List ℕ) → bytes ≡ b ∷ tail → b < 128 → IsLeb front → bytes ≡ front ++ rest
+    → unsigned_value front ≡ b
 unsigned_byte bytes b tail front rest first low is e =
     elim (begun b tail front rest is (sym first ∙ e)) [
       | one small front_is tail_is ↦ ap unsigned_value front_is ∙ omega arith
@@ -96,7 +98,8 @@ signed_byte bytes b tail front rest first low is e =
       | more others high leb front_is tail_is ↦ absurd (omega arith)
     ]
 
-septet_bounds : (b : ℕ) (v z : ℤ) → b < 128 → v ≡ pos b +ℤ (pos 128 *ℤ z) → FitsSigned w64 v → FitsSigned w64 z × ((negsuc 72057594037927935) ≤ℤ z) × (z <ℤ pos 72057594037927936)
+septet_bounds : (b : ℕ) (v z : ℤ) → b < 128 → v ≡ pos b +ℤ (pos 128 *ℤ z) → FitsSigned w64 v
+    → FitsSigned w64 z × ((negsuc 72057594037927935) ≤ℤ z) × (z <ℤ pos 72057594037927936)
 septet_bounds b v z small e fits = (omega (arith, ints), omega (arith, ints), omega (arith, ints))
 
 pub signed_bytes : (bytes : List ℕ) (b : ℕ) (tail front rest : List ℕ) → bytes ≡ b ∷ tail → 128 ≤ b → IsLeb front → bytes ≡ front ++ rest

@@ -4,7 +4,8 @@ use Rattle.std.specs.Int.{w64}
 use lib.Signed.{lt_z}
 use lib.IntN.{nat_abs}
 use mir.Val.{to_z, of_z}
-use Rattle.std.proofs.Common.{◌≡◌, ℕ, zero, suc, ◌+◌, ◌*◌, ◌/◌, ◌%◌, ◌^◌, ◌<◌, ◌≤◌, Bool, true, false, List, [], ◌∷◌, ◌++◌, length, arith, ap, sym, ◌∙◌, refl, inl, inr, pow-suc}
+use Rattle.std.proofs.Common.{◌≡◌, ℕ, zero, suc, ◌+◌, ◌*◌, ◌/◌, ◌%◌, ◌^◌, ◌<◌, ◌≤◌, Bool, true, false, List, [], ◌∷◌, ◌++◌, length, arith, ap, sym, ◌∙◌, refl}
+use Rattle.std.proofs.Common.{inl, inr, pow-suc}
 use Rattle.std.proofs.lemmas.Bool.Decides.{nat_tests}
 use Rattle.std.proofs.lemmas.Bool.{cases_lt}
 use Rattle.std.proofs.lemmas.Int.{ints, to_z-of_z}
@@ -52,7 +53,8 @@ some_byte (b ∷ bytes) is = omega arith
 one_group : (most limit : ℕ) (complement : Bool) (n : ℕ) → n < limit → length (groups most limit complement n) ≡ 1
 one_group most limit complement n small = rw (groups_last most limit complement n small) refl
 
-more_groups : (most limit : ℕ) (complement : Bool) (n : ℕ) → limit ≤ n → length (groups (suc most) limit complement n) ≡ 1 + length (groups most limit complement (n / 128))
+more_groups : (most limit : ℕ) (complement : Bool) (n : ℕ) → limit ≤ n → length (groups (suc most) limit complement n)
+    ≡ 1 + length (groups most limit complement (n / 128))
 more_groups most limit complement n large = rw (groups_more most limit complement n large) (omega arith)
 
 zero_groups : (limit : ℕ) (complement : Bool) (n : ℕ) → length (groups 0 limit complement n) ≡ 1
@@ -84,7 +86,8 @@ last_group : (complement : Bool) (n : ℕ) → n < 64 → signed_value (group co
 last_group false n small = grind (arith, ints, nat_tests)
 last_group true n small = grind (arith, ints, nat_tests)
 
-signed_step : (complement : Bool) (n : ℕ) → pos ((128 + group complement (n % 128)) % 128) +ℤ (pos 128 *ℤ signed_of complement (n / 128)) ≡ signed_of complement n
+signed_step : (complement : Bool) (n : ℕ) → pos ((128 + group complement (n % 128)) % 128) +ℤ (pos 128 *ℤ signed_of complement (n / 128))
+    ≡ signed_of complement n
 signed_step false n = omega (arith, ints)
 signed_step true n = omega (arith, ints)
 
@@ -99,7 +102,8 @@ signed_value-groups (suc most) complement n below =
           let short = shorter most 64 n below in
           rw (
             groups_more most 64 complement n large,
-            signed_value-cons (128 + group complement (n % 128)) (groups most 64 complement (n / 128)) (IsLeb-groups most 64 complement (n / 128) (omega arith) short),
+            signed_value-cons (128 + group complement (n % 128)) (groups most 64 complement (n / 128))
+                (IsLeb-groups most 64 complement (n / 128) (omega arith) short),
             signed_value-groups most complement (n / 128) short,
           ) (signed_step complement n)
     ]
@@ -156,7 +160,8 @@ enough limit (suc n) h =
     grown m n h = omega arith
 
 -- more groups than are enough change nothing
-same_groups : (j k limit : ℕ) (complement : Bool) (n : ℕ) → n < 128 ^ j * limit → n < 128 ^ k * limit → groups j limit complement n ≡ groups k limit complement n
+same_groups : (j k limit : ℕ) (complement : Bool) (n : ℕ) → n < 128 ^ j * limit → n < 128 ^ k * limit → groups j limit complement n
+    ≡ groups k limit complement n
 same_groups zero k limit complement n below_j below_k =
     let small : n < limit = omega arith in
     groups_last 0 limit complement n small ∙ sym (groups_last k limit complement n small)
@@ -168,7 +173,8 @@ same_groups (suc j) (suc k) limit complement n below_j below_k =
       | inl small ↦ groups_last (suc j) limit complement n small ∙ sym (groups_last (suc k) limit complement n small)
       | inr large ↦
           groups_more j limit complement n large
-          ∙ ap (λ ys. (128 + group complement (n % 128)) ∷ ys) (same_groups j k limit complement (n / 128) (shorter j limit n below_j) (shorter k limit n below_k))
+          ∙ ap (λ ys. (128 + group complement (n % 128)) ∷ ys) (same_groups j k limit complement (n / 128) (shorter j limit n below_j) (shorter k limit n
+          below_k))
           ∙ sym (groups_more k limit complement n large)
     ]
 

@@ -1,5 +1,6 @@
 -- How the loop that spells a number goes on, and what its bytes stand for.
-use Rattle.std.proofs.Common.{◌≡◌, ℕ, zero, suc, ◌+◌, ◌*◌, ◌/◌, ◌%◌, ◌^◌, ◌<◌, ◌≤◌, Bool, List, [], ◌∷◌, ◌++◌, length, take, set, arith, ap, sym, ◌∙◌, refl, length-set, append_assoc, pow-suc}
+use Rattle.std.proofs.Common.{◌≡◌, ℕ, zero, suc, ◌+◌, ◌*◌, ◌/◌, ◌%◌, ◌^◌, ◌<◌, ◌≤◌, Bool, List, [], ◌∷◌, ◌++◌, length, take, set, arith, ap, sym, ◌∙◌, refl}
+use Rattle.std.proofs.Common.{length-set, append_assoc, pow-suc}
 use Rattle.std.proofs.lemmas.List.{take_more_set}
 use Rattle.std.proofs.lemmas.Bool.Decides.{nat_tests}
 use Rattle.dwarf_base.specs.Leb.{groups, group}
@@ -42,7 +43,8 @@ pub goes : (limit : ℕ) (complement : Bool) (v : ℕ) (bytes : List ℕ) (len r
     → x ≡ group complement (rest % 128) → Going limit complement v (set bytes len (128 + x)) (len + 1) (rest / 128)
 goes limit complement v bytes len rest x going above e = step going.most going.room going.ten going.below going.so_far
   where
-    step : (most : ℕ) → len + most ≡ 9 → length bytes ≡ 10 → rest < 128 ^ most * limit → take len bytes ++ groups most limit complement rest ≡ groups 9 limit complement v
+    step : (most : ℕ) → len + most ≡ 9 → length bytes ≡ 10 → rest < 128 ^ most * limit → take len bytes ++ groups most limit complement rest
+        ≡ groups 9 limit complement v
         → Going limit complement v (set bytes len (128 + x)) (len + 1) (rest / 128)
     step zero room ten below so_far = absurd (omega arith)
     step (suc most) room ten below so_far = record {

@@ -1,7 +1,8 @@
 //! The numbers at the front of bytes, and what follows them. The shortest spelling of a number in range is one,
 //! and nothing else is.
 
-ghost use Rattle.std.specs.Prelude.{◌≡◌, ◌≢◌, ℕ, ℤ, List, ◌≤◌, ◌<◌, ◌^◌, ◌++◌, length, Some, IfSome, IfNone, FitsSigned};
+ghost use Rattle.std.specs.Prelude.{◌≡◌, ◌≢◌, ℕ, ℤ, List, ◌≤◌, ◌<◌, ◌^◌, ◌++◌, length, Some, IfSome, IfNone};
+ghost use Rattle.std.specs.Prelude.{FitsSigned};
 ghost use Rattle.std.specs.Int.{w16, w32, w64, to_le_bytes};
 ghost use Rattle.dwarf_base.specs.Leb.{uleb_of, sleb_of, IsLeb, unsigned_value, signed_value};
 
@@ -9,6 +10,10 @@ use crate::leb::{sleb, uleb};
 
 /// A number of 64 bits in LEB128 has at most so many bytes.
 const LONGEST: usize = 10;
+/// Above its lowest seven bits a number of 64 bits with a sign is no less than this,
+const LEAST: i64 = -0x100_0000_0000_0000;
+/// and below this.
+const LIMIT: i64 = 0x100_0000_0000_0000;
 
 /// The unsigned LEB128 number below 2^64 at the front, in its shortest spelling, and what follows it.
 /// `None` exactly where there is none (DWARF 5 section 7.6).
@@ -78,7 +83,7 @@ fn signed_front(bytes: &[u8]) -> Option<i64>
         return Some(*byte as i64 - 0x80);
     }
     let above = signed_front(rest)?;
-    if -0x100_0000_0000_0000 <= above && above < 0x100_0000_0000_0000 {
+    if LEAST <= above && above < LIMIT {
         Some((byte % 0x80) as i64 + 0x80 * above)
     } else {
         None

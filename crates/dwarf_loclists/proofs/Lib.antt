@@ -3,3 +3,12 @@ pub mod SpellingLemmas
 pub mod OneLocation
 pub mod OneReading
 pub mod Places
+pub mod SplitLemmas
+pub mod ReaderLemmas
+pub mod LastLemmas
+pub mod EntryLemmas
+pub mod ListLemmas
+pub mod WholeLemmas
+pub mod FoundLemmas
+pub mod OneFault
+pub mod Sections

@@ -48,7 +48,8 @@ place_one (Slot o) (Const c) x y ok_p ok_q e = absurd (omega (arith, heads_one 1
 place_one (Const c) (Register r) x y ok_p ok_q e = absurd (omega (arith, heads_one 17 (80 + r) _ _ e))
 place_one (Const c) (Slot o) x y ok_p ok_q e = absurd (omega (arith, heads_one 17 114 _ _ e))
 place_one (Const c) (Const d) x y ok_p ok_q e =
-    let found = sleb_one c d (159 ∷ x) (159 ∷ y) (sym (append_assoc (sleb_of c) (159 ∷ []) x) ∙ tails_one 17 17 _ _ e ∙ append_assoc (sleb_of d) (159 ∷ []) y) in
+    let found = sleb_one c d (159 ∷ x) (159 ∷ y) (sym (append_assoc (sleb_of c) (159 ∷ []) x) ∙ tails_one 17 17 _ _ e ∙ append_assoc (sleb_of d) (159 ∷ []) y)
+    in
     (ap Const found.0, tails_one 159 159 x y found.1)
 
 -- a simple location doesn't begin like a gap
@@ -92,7 +93,8 @@ piece_one from p q x y ok_p ok_q e =
       | inl gap_p ↦
           elim (cases_lt from q.offset) [
             | inl gap_q ↦
-                let found = uleb_one (p.offset - from) (q.offset - from) _ _ (tails_one 147 147 _ _ (sym (piece-gap from p x gap_p) ∙ e ∙ piece-gap from q y gap_q)) in
+                let found = uleb_one (p.offset - from) (q.offset - from) _ _
+                (tails_one 147 147 _ _ (sym (piece-gap from p x gap_p) ∙ e ∙ piece-gap from q y gap_q)) in
                 after_one p q x y ok_p.4 ok_q.4 (omega (arith, found.0)) found.1
             | inr no_q ↦ absurd (no_gap_after q y _ ok_q.4 (sym (piece-no_gap from q y no_q) ∙ sym e ∙ piece-gap from p x gap_p))
           ]
@@ -104,11 +106,11 @@ piece_one from p q x y ok_p ok_q e =
           ]
     ]
 
-some_end : (xs ys : List ℕ) (m : ℕ) → xs ++ (m ∷ ys) ≡ [] → ⊥
+pub some_end : (xs ys : List ℕ) (m : ℕ) → xs ++ (m ∷ ys) ≡ [] → ⊥
 some_end [] ys m e = cc
 some_end (x ∷ xs) ys m e = cc
 
-some_piece : (from : ℕ) (p : Part) (x : List ℕ) → piece from p ++ x ≡ [] → ⊥
+pub some_piece : (from : ℕ) (p : Part) (x : List ℕ) → piece from p ++ x ≡ [] → ⊥
 some_piece from p x e =
     elim (cases_lt from p.offset) [
       | inl gapped ↦ some_end [] _ 147 (sym (piece-gap from p x gapped) ∙ e)

@@ -10,7 +10,8 @@ use Rattle.dwarf_base.specs.Leb.{uleb_of}
 use Rattle.dwarf_loclists.specs.Ranges.{IsLocated, ArePlaces}
 use Rattle.dwarf_loclists.specs.Spelling.{expression, entry, list_spelling, bodies, offsets_from, header, spelling}
 use Rattle.dwarf_loclists.proofs.OneLocation.{uleb_one, heads_one, tails_one, expression_one}
-use Rattle.dwarf_loclists.proofs.SpellingLemmas.{length-offsets_from}
+use Rattle.dwarf_loclists.specs.Reading.{IsSection}
+use Rattle.dwarf_loclists.proofs.SpellingLemmas.{length-offsets_from, length-spelling}
 
 -- the two parts of a list, cut at one length
 pub cut : (a b x y : List ℕ) → length a ≡ length b → a ++ x ≡ b ++ y → (a ≡ b) × (x ≡ y)
@@ -51,7 +52,8 @@ list-append : (r : Range) (ranges : List Range) (x : List ℕ) → list_spelling
 list-append r ranges x = spliced (entry r) (flat_map entry ranges) (0 ∷ []) x
 
 -- a list can be told from what follows it
-list_one : (a b : List Range) (x y : List ℕ) → AllByRecursion Entered a → AllByRecursion Entered b → list_spelling a ++ x ≡ list_spelling b ++ y → (a ≡ b) × (x ≡ y)
+list_one : (a b : List Range) (x y : List ℕ) → AllByRecursion Entered a → AllByRecursion Entered b → list_spelling a ++ x ≡ list_spelling b ++ y
+    → (a ≡ b) × (x ≡ y)
 list_one [] [] x y ok_a ok_b e = (refl, tails_one 0 0 x y e)
 list_one [] (s ∷ b) x y ok_a ok_b e = absurd (omega (arith, heads_one 0 4 _ _ (e ∙ list-append s b y ∙ entry-append s (list_spelling b ++ y))))
 list_one (r ∷ a) [] x y ok_a ok_b e = absurd (omega (arith, heads_one 4 0 _ _ (sym (list-append r a x ∙ entry-append r (list_spelling a ++ x)) ∙ e)))
@@ -105,3 +107,12 @@ entered lists places =
     let one : (k : ℕ) (d : List Range) → k < length lists → AllByRecursion Entered (slice_index_or lists k d) =
     λ k d h. recursion_from_All Entered (slice_index_or lists k d) (places k d h) in
     recursion_from_All (AllByRecursion Entered) lists one
+
+count_fits : (bytes : List ℕ) (lists : List (List Range)) → IsSection bytes lists → length lists < 2 ^ 32
+count_fits bytes lists is = omega (arith, length-spelling lists, ap length is.spelled, is.size)
+
+-- bytes are the section of one list of lists
+pub one_section : (bytes : List ℕ) (a b : List (List Range)) → IsSection bytes a → IsSection bytes b → a ≡ b
+one_section bytes a b is_a is_b =
+    spelling_one a b (entered a is_a.places) (entered b is_b.places) (count_fits bytes a is_a) (count_fits bytes b is_b)
+    (sym is_a.spelled ∙ is_b.spelled)

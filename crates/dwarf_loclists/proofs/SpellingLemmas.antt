@@ -54,7 +54,8 @@ next_le f xs i x inside at =
     omega (arith, length-flat_map-take f xs i x inside, front_le f xs (i + 1), ap (λ y. length (f y)) at)
 
 -- the header, the offsets and the lists, as they are written one after the other
-pub assembled : (lists : List (List Range)) (none first second third : List ℕ) (n count : ℕ) → none ≡ [] → n + 4 ≡ length (spelling lists) → count ≡ length lists
+pub assembled : (lists : List (List Range)) (none first second third : List ℕ) (n count : ℕ) → none ≡ [] → n + 4 ≡ length (spelling lists) → count
+    ≡ length lists
     → first ≡ none ++ header n count → second ≡ first ++ offsets_from (4 * length lists) lists → third ≡ second ++ bodies lists → third ≡ spelling lists
 unfolding spelling
 assembled lists none first second third n count empty size counted headed offset listed =
@@ -77,7 +78,8 @@ abbrev pub places_in : List Range → ℕ
 places_in ranges = sum_by (λ (r : Range). places_of r.location) ranges
 
 -- one of several lists of at most n places
-pub short_one : (lists items : List (List Range)) (i : ℕ) (one ranges : List Range) (n : ℕ) → items ≡ lists → i < length items → one ≡ get_or items i one → ranges ≡ one
+pub short_one : (lists items : List (List Range)) (i : ℕ) (one ranges : List Range) (n : ℕ) → items ≡ lists → i < length items → one ≡ get_or items i one
+    → ranges ≡ one
     → All (λ (rs : List Range). places_in rs ≤ n) lists → places_in ranges ≤ n
 short_one lists items i one ranges n same inside at is all =
     let within : i < length lists = rw same at inside in

@@ -1,5 +1,5 @@
 -- The one spelling of location lists: the section .debug_loclists (DWARF 5 section 7.29).
-use Rattle.std.specs.Prelude.{ℕ, pos, ◌+◌, ◌-◌, ◌*◌, List, [], ◌∷◌, ◌++◌, length, nat_lt, if◌then◌else◌}
+use Rattle.std.specs.Prelude.{◌≡◌, ℕ, pos, ◌+◌, ◌-◌, ◌*◌, List, [], ◌∷◌, ◌++◌, length, nat_lt, if◌then◌else◌}
 use Rattle.std.specs.List.{flat_map}
 use Rattle.std.specs.Int.{w16, w32, to_le_bytes}
 use Rattle.rv64_instr.specs.declared.place.Place.{Place}
@@ -10,6 +10,7 @@ use Rattle.dwarf_loclists.specs.declared.range.Part.{Part}
 use Rattle.dwarf_loclists.specs.declared.range.Location.{Location}
 use Rattle.dwarf_loclists.specs.declared.range.Location.TheVariants.{Whole, Parts}
 use Rattle.dwarf_loclists.specs.declared.range.Range.{Range}
+use Rattle.dwarf_loclists.specs.Ranges.{IsLocated, HasWords}
 use Rattle.dwarf_loclists.specs.Standard.{DW_LLE_end_of_list, DW_LLE_offset_pair, DW_OP_reg0, DW_OP_breg2, DW_OP_consts, DW_OP_piece, DW_OP_stack_value}
 
 -- a simple location description (section 2.6.1.1): a register, memory at an offset from x2, or a value. xN has the number N (RISC-V ELF
@@ -36,6 +37,12 @@ composite_location from (p ∷ rest) = piece from p ++ composite_location (p.off
 abbrev pub expression : Location → List ℕ
 expression (Whole p) = simple_location p
 expression (Parts parts) = composite_location 0 parts
+
+-- the bytes are the expression of a location
+pub record Spells (bytes : List ℕ) (location : Location) : Type 0 where
+  pub located : IsLocated location
+  pub wide : HasWords location
+  pub spelled : bytes ≡ expression location
 
 -- an entry (section 2.6.2): the two ends of the range, the second exclusive, and a counted expression
 abbrev pub entry : Range → List ℕ

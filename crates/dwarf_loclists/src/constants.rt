@@ -10,7 +10,8 @@ pub const DW_LLE_offset_pair: u8 = 0x04;
 
 /// Pushes a signed LEB128 number (sections 2.5.1.1 and 7.7.1).
 pub const DW_OP_consts: u8 = 0x11;
-/// The value is in register 0; the operation of register n is n above (sections 2.6.1.1.3 and 7.7.1). xN has the number N
+/// The value is in register 0; the operation of register n is n above (sections 2.6.1.1.3 and 7.7.1). xN has the number
+/// N
 /// (RISC-V ELF psABI, "DWARF Register Numbers").
 pub const DW_OP_reg0: u8 = 0x50;
 /// The address is that in register 2, RISC-V's stack pointer, plus a signed LEB128 number (sections 2.5.1.2 and 7.7.1).

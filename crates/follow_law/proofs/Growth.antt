@@ -3,7 +3,7 @@ use Rattle.std.proofs.Common.{◌≡◌, ℕ, ◌+◌, ◌*◌, ◌≤◌, sym, 
 use Rattle.std.proofs.Math.Nat.{mul-le-mul, mul-le-mul_left, mul-le-mul_right, mul-add, add-mul, mul_assoc, mul_comm, le_trans, le_refl}
 use Rattle.mir_func.specs.declared.entry.Entry.{Entry}
 use Rattle.mir_func.specs.Function.{Function}
-use Rattle.mir_func.specs.Limits.{MAX_SLOTS}
+use Rattle.mir_func.specs.Limits.{MAX_BLOCKS, MAX_SLOTS}
 use Rattle.follow_law.specs.Change.{change}
 use Rattle.follow_law.specs.Sizes.{most, item_count, code_count, KeepsSizes}
 
@@ -18,25 +18,25 @@ replaced : (p q r s t : ℕ) → r ≡ p + q → t ≤ q → r ≤ s → p + t �
 replaced p q r s t e f g = omega (arith, e, f, g)
 
 -- what the one makes of x items, and the room that the other asks for beside
-inner : (a m b n x : ℕ) → 1 ≤ a → 1 ≤ b → most a m x + 1024 * n ≤ a * (x + 1024 * (m * b + n))
+inner : (a m b n x : ℕ) → 1 ≤ a → 1 ≤ b → most a m x + MAX_BLOCKS * n ≤ a * (x + MAX_BLOCKS * (m * b + n))
 inner a m b n x ha hb =
-    let w : ℕ = x + 1024 * m in
-    let wide : w + 1024 * n ≤ x + 1024 * (m * b + n) = let k = le_times m b hb in omega (arith, k) in
-    replaced (a * w) (a * (1024 * n)) (a * (w + 1024 * n)) (a * (x + 1024 * (m * b + n))) (1024 * n) (mul-add a w (1024 * n)) (le_times_left a (1024 * n) ha)
-    (mul-le-mul_left a wide)
+    let w : ℕ = x + MAX_BLOCKS * m in
+    let wide : w + MAX_BLOCKS * n ≤ x + MAX_BLOCKS * (m * b + n) = let k = le_times m b hb in omega (arith, k) in
+    let k : ℕ = MAX_BLOCKS * n in
+    replaced (a * w) (a * k) (a * (w + k)) (a * (x + MAX_BLOCKS * (m * b + n))) k (mul-add a w k) (le_times_left a k ha) (mul-le-mul_left a wide)
 
 -- the items that the other makes of those that the one made
 pub most_then : (a m b n x y : ℕ) → 1 ≤ a → 1 ≤ b → y ≤ most a m x → most b n y ≤ most (a * b) (m * b + n) x
 most_then a m b n x y ha hb h =
-    let z : ℕ = a * (x + 1024 * (m * b + n)) in
-    let room : y + 1024 * n ≤ z = let k = inner a m b n x ha hb in omega (arith, k, h) in
-    let e : b * z ≡ a * b * (x + 1024 * (m * b + n)) = sym (mul_assoc b a (x + 1024 * (m * b + n))) ∙ ap (λ k. k * (x + 1024 * (m * b + n))) (mul_comm b a) in
+    let w : ℕ = x + MAX_BLOCKS * (m * b + n) in
+    let room : y + MAX_BLOCKS * n ≤ a * w = let k = inner a m b n x ha hb in omega (arith, k, h) in
+    let e : b * (a * w) ≡ a * b * w = sym (mul_assoc b a w) ∙ ap (λ k. k * w) (mul_comm b a) in
     subst (λ v. most b n y ≤ v) e (mul-le-mul_left b room)
 
 pub most_first : (a m b n x : ℕ) → 1 ≤ a → 1 ≤ b → most a m x ≤ most (a * b) (m * b + n) x
 most_first a m b n x ha hb =
     let k : most b n (most a m x) ≤ most (a * b) (m * b + n) x = most_then a m b n x (most a m x) ha hb (le_refl (most a m x)) in
-    let j : most a m x + 1024 * n ≤ most b n (most a m x) = le_times_left b (most a m x + 1024 * n) hb in
+    let j : most a m x + MAX_BLOCKS * n ≤ most b n (most a m x) = le_times_left b (most a m x + MAX_BLOCKS * n) hb in
     omega (arith, k, j)
 
 -- the numbers that both may add

@@ -3,7 +3,7 @@ use Rattle.std.proofs.Common.{◌≡◌, ℕ, zero, suc, ◌+◌, ◌<◌, ◌�
 use Rattle.std.proofs.Common.{cond, not, ◌&&◌, slice_get, eq-eqb, append-nil, refl, sym, ap, ◌∙◌, subst, inl, inr, ◌⊎◌, arith}
 use Rattle.std.specs.List.{flat_map, cons_option}
 use Rattle.std.proofs.lemmas.List.Sums.{sum_by-cons}
-use Rattle.std.proofs.lemmas.List.Elements.{All-weaker, All-contains_itself, Contains-append_left, Contains-append_right}
+use Rattle.std.proofs.lemmas.List.Elements.{All-weaker, All-contains, All-contains_itself, Contains-append_left, Contains-append_right}
 use Rattle.std.proofs.lemmas.Option.{get_or_from_slice_get}
 use Rattle.rv64_instr.specs.declared.place.Place.{Place}
 use Rattle.rv64_instr.specs.declared.place.Place.TheVariants.{Register, Slot, Const}
@@ -20,9 +20,9 @@ use Rattle.mir_func.specs.declared.item.Item.{Item}
 use Rattle.mir_func.specs.declared.item.ItemKind.{ItemKind}
 use Rattle.mir_func.specs.declared.item.ItemKind.TheVariants.{Code, Mark, Phi}
 use Rattle.mir_func.specs.Function.{Function}
-use Rattle.mir_func.specs.Sound.{items_of, code_number, IsSound}
+use Rattle.mir_func.specs.Sound.{ids_of, items_of, code_number, OriginIn, IsSound}
 use Rattle.mir_func.specs.Graph.{Here, fetch_in, from_block}
-use Rattle.mir_meaning.specs.Align.{is_code}
+use Rattle.mir_meaning.specs.Align.{position_of, is_code}
 use Rattle.mir_meaning.proofs.Reading.{found, found_in, front_item, item_front, within_list}
 use Rattle.follow_law.specs.declared.loss.Reason.TheVariants.{Removed}
 use Rattle.follow_law.specs.declared.loss.Lost.TheVariants as lost
@@ -38,7 +38,7 @@ use Rattle.follow_law.specs.Nops.{is_nop_row, is_nop, has_added_saves, stays, th
 use Rattle.follow_law.specs.Nops.{numbers_in_items, nop_numbers, lost_in}
 use Rattle.follow_law.proofs.NopRuns.{out_is}
 use Rattle.follow_law.proofs.NopCode.{stripped_thinned}
-use Rattle.follow_law.proofs.NopSound.{items_thin, sound_thin}
+use Rattle.follow_law.proofs.NopSound.{items_thin, ids_thin, sound_thin}
 use Rattle.follow_law.proofs.NopSizes.{count_thin}
 
 -- where an element of a list that is put together comes from
@@ -51,6 +51,9 @@ at_first x xs = (zero, omega arith, refl)
 
 at_later : {A : Type 0} (x : A) (xs : List A) (y : A) → Contains xs y → Contains (x ∷ xs) y
 at_later x xs y (k, lt, at) = (suc k, omega (arith, lt), at)
+
+of_get : {A : Type 0} (xs : List A) (n : ℕ) (x : A) → slice_get xs n ≡ Some x → Contains xs x
+of_get xs n x at = (n, within_list xs n x at, get_or_from_slice_get xs n x x at)
 
 in_append : {A : Type 0} (xs ys : List A) (y : A) → Contains (xs ++ ys) y → Contains xs y ⊎ Contains ys y
 in_append [] ys y h = inr h
@@ -75,6 +78,18 @@ of_flat {A} h (z ∷ zs) x y k l = elim (in_first z zs x k) [
   | inl e ↦ Contains-append_left (h z) (flat_map h zs) y (subst (λ (w : A). Contains (h w) y) (sym e) l)
   | inr m ↦ Contains-append_right (h z) (flat_map h zs) y (of_flat h zs x y m l)
 ]
+
+of_ids : (bs : List Block) (b : Block) → Contains bs b → Contains (ids_of bs) b.id
+of_ids [] b h = none_in b h
+of_ids (a ∷ bs) b h = elim (in_first a bs b h) [
+  | inl e ↦ subst (Contains (ids_of (a ∷ bs))) (ap (λ (c : Block). c.id) e) (at_first a.id (ids_of bs))
+  | inr k ↦ at_later a.id (ids_of bs) b.id (of_ids bs b k)
+]
+
+-- an origin lies in its block
+origin_block : (b : Block) (o : Origin) → OriginIn b o → (position_of o).block ≡ b.id
+origin_block b (Kept p) h = h.0
+origin_block b (Before p) h = h.0
 
 -- a no-operation with a number among items
 record IsAmong (xs : List Item) (k : ℕ) : Type 0 where
@@ -203,9 +218,7 @@ module _ (f : Function) (sound : IsSound f) (subs : List Entry) where
     by_blocks (b ∷ bs) e h = (b, (found_in f.blocks at.block b bs e).0, front_item b.items at.item b.silent bs x h)
 
   among_all : (at : Pos) (x : Item) → StandsAt f at x → Contains (items_of f.blocks) x
-  among_all at x stands =
-      let w = block_of at x stands in
-      of_flat (λ (b : Block). b.items) f.blocks w.0 x w.1 (at.item, within_list w.0.items at.item x w.2, get_or_from_slice_get w.0.items at.item x x w.2)
+  among_all at x stands = let w = block_of at x stands in of_flat (λ (b : Block). b.items) f.blocks w.0 x w.1 (of_get w.0.items at.item x w.2)
 
   -- the numbers that are lost are those of what is taken out
   taken_of : (k : ℕ) → Contains (lost_in f) k → (place : Pos) × IsTaken f place k
@@ -232,13 +245,24 @@ module _ (f : Function) (sound : IsSound f) (subs : List Entry) where
   taken_is : (at : Pos) (k : ℕ) (x : Item) → StandsAt f at x → (t : IsTaken f at k) → t.item ≡ x
   taken_is at k x stands t = let w : Here t.item ≡ Here x = sym t.stands ∙ stands in cc
 
+  -- its block stays
+  block_left : (at : Pos) (x : Item) → StandsAt f at x → Contains (ids_of change.new.blocks) (position_of x.origin).block
+  block_left at x stands =
+      let w = block_of at x stands in
+      let each = All-contains (λ (b : Block). All (λ (i : Item). OriginIn b i.origin) b.items) f.blocks w.0 sound.origins w.1 in
+      let inside : OriginIn w.0 x.origin = All-contains (λ (i : Item). OriginIn w.0 i.origin) w.0.items x each (of_get w.0.items at.item x w.2) in
+      subst (λ (ns : List ℕ). Contains ns (position_of x.origin).block) (sym (ids_thin (stays busy) f.blocks))
+      (subst (Contains (ids_of f.blocks)) (sym (origin_block w.0 x.origin inside)) (of_ids f.blocks w.0 w.1))
+
   -- and it is code that was removed, and no copy
   removed_at : (at : Pos) (x : Item) → StandsAt f at x → is_code x.kind ≡ true → stays busy x ≡ false → IsRemoved change x.origin
   removed_at at x stands code out =
       let test : Item → Bool = λ i. is_code i.kind && is_origin i.origin x.origin in
       let same = same_origin x.origin in
-      subst (λ (xs : List Item). count_by test xs < count_by test (items_of f.blocks)) (sym (items_thin (stays busy) f.blocks))
-      (fewer_left test (stays busy) (items_of f.blocks) x (among_all at x stands) (λ i. code i && same i) out)
+      let fewer = fewer_left test (stays busy) (items_of f.blocks) x (among_all at x stands) (λ i. code i && same i) out in (
+        subst (λ (xs : List Item). count_by test xs < count_by test (items_of f.blocks)) (sym (items_thin (stays busy) f.blocks)) fewer,
+        block_left at x stands,
+      )
 
   cause_of : (at : Pos) (k : ℕ) (x : ItemKind) (o : Origin) (l : Loc) → StandsAt f at (item x o l) → stays busy (item x o l) ≡ false →
       code_number x ≡ Some k → HasCause nop_rule change at (number_lost k Removed)

@@ -7,12 +7,11 @@ use Rattle.std.proofs.Math.Nat.{le-max_left, le-max_right, max-le, le_trans, le_
 use Rattle.mir_func.specs.declared.entry.Entry.{Entry}
 use Rattle.mir_func.specs.declared.item.Item.{Item}
 use Rattle.mir_func.specs.Function.{Function}
-use Rattle.mir_func.specs.Limits.{MAX_SLOTS}
+use Rattle.mir_func.specs.Limits.{MAX_BLOCKS, MAX_SLOTS}
 use Rattle.mir_func.specs.Sound.{items_of}
 use Rattle.mir_func.specs.SoundFrame.{HasPhysical}
 use Rattle.mir_meaning.specs.Align.{is_code}
 use Rattle.follow_law.specs.Change.{change}
-use Rattle.follow_law.specs.Rule.{stack_numbers}
 use Rattle.follow_law.specs.Sizes.{greatest, most_numbers, numbers_of, calls, KeepsSizes}
 use Rattle.follow_law.specs.Nops.{stays, thinned_blocks}
 use Rattle.follow_law.proofs.NopFollows.{each_left}
@@ -74,13 +73,13 @@ sizes_thin busy f subs =
     let entries : List ℕ = flat_map (λ s. s.src.number ∷ s.dst.number ∷ []) subs in
     let e : items_of (thinned_blocks busy f.blocks) ≡ filter keep xs = items_thin keep f.blocks in
     record {
-      items = subst (λ (ys : List Item). length ys ≤ 1 * (length xs + 1024 * 0)) (sym e) (let k = length_thin keep xs in omega (arith, k));
-      code = subst (λ (ys : List Item). count_by (λ i. is_code i.kind) ys ≤ 1 * (count_by (λ i. is_code i.kind) xs + 1024 * 0)) (sym e)
+      items = subst (λ (ys : List Item). length ys ≤ 1 * (length xs + MAX_BLOCKS * 0)) (sym e) (let k = length_thin keep xs in omega (arith, k));
+      code = subst (λ (ys : List Item). count_by (λ i. is_code i.kind) ys ≤ 1 * (count_by (λ i. is_code i.kind) xs + MAX_BLOCKS * 0)) (sym e)
           (let k = count_thin (λ i. is_code i.kind) keep xs in omega (arith, k));
       calls = subst (λ (ys : List Item). count_by (λ i. calls i.kind) ys ≤ count_by (λ i. calls i.kind) xs) (sym e) (count_thin (λ i. calls i.kind) keep xs);
       physical = λ h. each_left keep (λ b i. HasPhysical i.kind) (λ b i. HasPhysical i.kind) (λ b i k. k) f.blocks h;
       numbers = le_trans (subst (λ (ys : List Item). greatest (flat_map (λ i. numbers_of i.kind) ys ++ entries) ≤ greatest
           (flat_map (λ i. numbers_of i.kind) xs ++ entries)) (sym e) (numbers_thin (λ i. numbers_of i.kind) keep xs entries))
           (le_more (greatest (flat_map (λ i. numbers_of i.kind) xs ++ entries)) (most_numbers 1 0 f));
-      slots = le_more (greatest (stack_numbers f)) (MAX_SLOTS * 0);
+      slots = le_more (greatest f.slots) (MAX_SLOTS * 0);
     }

@@ -28,7 +28,7 @@ pub items_thin : (keep : Item → Bool) (bs : List Block) → items_of (map (thi
 items_thin keep [] = refl
 items_thin keep (b ∷ bs) = ap (λ (xs : List Item). filter keep b.items ++ xs) (items_thin keep bs) ∙ sym (filter-append keep b.items (items_of bs))
 
-ids_thin : (keep : Item → Bool) (bs : List Block) → ids_of (map (thin keep) bs) ≡ ids_of bs
+pub ids_thin : (keep : Item → Bool) (bs : List Block) → ids_of (map (thin keep) bs) ≡ ids_of bs
 ids_thin keep [] = refl
 ids_thin keep (b ∷ bs) = ap (λ (ns : List ℕ). b.id ∷ ns) (ids_thin keep bs)
 

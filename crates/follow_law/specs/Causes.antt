@@ -122,9 +122,9 @@ module _ (c : Change) where
   IsFewer test o = count_by (λ i. test i.kind && is_origin i.origin o) (items_of c.new.blocks) <
       count_by (λ i. test i.kind && is_origin i.origin o) (items_of c.old.blocks)
 
-  -- code with this origin was removed. What is kept stands alone at its origin, so no code has it any more
+  -- code with this origin was removed, and its block stays. What is kept stands alone at its origin, so no code has it any more
   abbrev pub IsRemoved : Origin → Type 0
-  IsRemoved o = IsFewer is_code o
+  IsRemoved o = IsFewer is_code o × Contains (ids_of c.new.blocks) (position_of o).block
 
   -- a definition of the place with this origin was removed
   abbrev pub LosesDefinition : Place → Origin → Type 0
@@ -138,7 +138,7 @@ module _ (c : Change) where
   abbrev pub IsRemovedDefinition : Place → Pos → Type 0
   IsRemovedDefinition x p = (i : Item) × StandsAt c.old p i × (defines x i.kind ≡ true) × LosesDefinition x i.origin
 
-  -- code at a position defines the place, and stays
+  -- code at a position defines the place, and wasn't removed
   abbrev pub IsKeptDefinition : Place → Pos → Type 0
   IsKeptDefinition x p = (i : Item) × StandsAt c.old p i × (defines x i.kind ≡ true) × (LosesDefinition x i.origin → ⊥)
 

@@ -25,8 +25,8 @@ use Rattle.follow_law.specs.declared.loss.Loss.{Loss}
 use Rattle.follow_law.specs.Change.{Change}
 use Rattle.follow_law.specs.Order.{IsInOrder}
 use Rattle.follow_law.specs.Rule.{Rule, IsCopy, IsJump, number_lost, mark_lost, register_lost, item, item_before, first_operand, StandsAt, numbers_on}
-use Rattle.follow_law.specs.Rule.{stack_numbers, Has}
-use Rattle.follow_law.specs.Causes.{HasCause, IsFirstCause}
+use Rattle.follow_law.specs.Rule.{Has}
+use Rattle.follow_law.specs.Causes.{HasCause, IsFirstCause, IsRemoved}
 
 -- what becomes of what is lost: it is gone, or it stays and gives nothing, or it is a register that stays unspilled
 pub data Fate : Type 0 where
@@ -103,14 +103,15 @@ module _ (rule : Rule) (c : Change) where
     -- code is gone with the number that it has or got
     number_goes : {i : Instruction} {n : Option ℕ} {o : Origin} {l : Loc} (k : ℕ) (why : Reason) → fate why ≡ Gone → Has rule c at n k →
         rule.loses c at (number_lost k why) → Becomes at (item (Code i n) o l) []
-    -- a copy is gone, and another pair stands for its number; or a phi of its number is there for it, which gives
+    -- a copy was removed, and another pair stands for its number; or a phi of its number is there for it, which gives
     -- nothing where its place is wrong
-    substituted : {i : Instruction} {n : Option ℕ} {o : Origin} {l : Loc} (k : ℕ) (e : Entry) → IsCopy (row_of i) → Has rule c at n k →
-        entry_of c.new_subs (first_operand k) ≡ Some e → Becomes at (item (Code i n) o l) []
-    salvaged : {i : Instruction} {n : Option ℕ} {k : ℕ} {o : Origin} {l : Loc} {p : Place} → IsCopy (row_of i) → Has rule c at n k →
-        rule.salvages c at p → IsUnlost at (number_lost k) → Becomes at (item (Code i n) o l) (item_before (Phi (Some p) k) o ∷ [])
-    salvaged_wrong : {i : Instruction} {n : Option ℕ} {k : ℕ} {o : Origin} {l : Loc} {p : Place} → IsCopy (row_of i) → Has rule c at n k →
-        rule.salvages c at p → rule.loses c at (number_lost k WrongPlace) → Becomes at (item (Code i n) o l) (item_before (Phi None k) o ∷ [])
+    substituted : {i : Instruction} {n : Option ℕ} {o : Origin} {l : Loc} (k : ℕ) (e : Entry) → IsCopy (row_of i) → IsRemoved c o →
+        Has rule c at n k → entry_of c.new_subs (first_operand k) ≡ Some e → Becomes at (item (Code i n) o l) []
+    salvaged : {i : Instruction} {n : Option ℕ} {k : ℕ} {o : Origin} {l : Loc} {p : Place} → IsCopy (row_of i) → IsRemoved c o →
+        Has rule c at n k → rule.salvages c at p → IsUnlost at (number_lost k) → Becomes at (item (Code i n) o l) (item_before (Phi (Some p) k) o ∷ [])
+    salvaged_wrong : {i : Instruction} {n : Option ℕ} {k : ℕ} {o : Origin} {l : Loc} {p : Place} → IsCopy (row_of i) → IsRemoved c o →
+        Has rule c at n k → rule.salvages c at p → rule.loses c at (number_lost k WrongPlace) →
+        Becomes at (item (Code i n) o l) (item_before (Phi None k) o ∷ [])
     -- a mark of a register, or a phi of a place, gives nothing any more
     mark_silenced : {v : VarId} {r : ℕ} {o : Origin} {l : Loc} (why : Reason) → fate why ≡ Silenced → rule.loses c at (mark_lost o why) →
         Becomes at (item (Mark v (At r)) o l) (item (Mark v Nothing) o l ∷ [])
@@ -173,5 +174,5 @@ pub record KeepsItems (rule : Rule) (c : Change) (losses : List Loss) : Type 0 w
   pub ordered : IsInOrder losses
   pub caused : (place : Pos) (loss : Loss) → rule.loses c place loss → HasCause rule c place loss
   pub left : (r : ℕ) (why : Reason) → rule.leaves c r why → IsFirstCause rule c r why
-  pub spilled : (r slot : ℕ) → rule.spills c r slot → Contains c.new.slots slot × (Contains (stack_numbers c.old) slot → ⊥)
+  pub spilled : (r slot : ℕ) → rule.spills c r slot → Contains c.new.slots slot × (Contains c.old.slots slot → ⊥)
   pub renamed : (r now : ℕ) → rule.renames c r now → (32 ≤ r) × (now < 32)

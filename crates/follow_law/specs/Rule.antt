@@ -1,5 +1,5 @@
 -- What a pass says of what it does to debug items.
-use Rattle.std.specs.Prelude.{◌≡◌, ◌⊎◌, ◌↔◌, ℕ, suc, ◌++◌, List, map, Option, Some, None, filter_map, Contains}
+use Rattle.std.specs.Prelude.{◌≡◌, ◌⊎◌, ◌↔◌, ℕ, suc, List, Option, Some, None, filter_map, Contains}
 use Rattle.rv64_instr.specs.declared.place.Place.{Place}
 use Rattle.rv64_instr.specs.Row.{Row, Moves, Jumps}
 use Rattle.mir_func.specs.declared.position.Pos.{Pos}
@@ -76,10 +76,6 @@ StandsAt f p i = fetch_in (from_block f.blocks p.block) p.item ≡ Here i
 -- the numbers that code and phis give
 abbrev pub numbers_on : Function → List ℕ
 numbers_on f = filter_map (λ i. number_of i.kind) (items_of f.blocks)
-
--- the N of each `%stack.N`: the numbers of slots and of stack objects
-abbrev pub stack_numbers : Function → List ℕ
-stack_numbers f = f.slots ++ map (λ o. o.id) f.objects
 
 -- the number that code at a place has, or gets on the way
 abbrev pub Has : Rule → Change → (at : Pos) → Option ℕ → ℕ → Type 0

@@ -10,10 +10,9 @@ use Rattle.mir_func.specs.declared.entry.Entry.{Entry}
 use Rattle.mir_func.specs.Function.{Function}
 use Rattle.mir_func.specs.Sound.{items_of, AllItems}
 use Rattle.mir_func.specs.SoundFrame.{HasPhysical}
-use Rattle.mir_func.specs.Limits.{MAX_SLOTS}
+use Rattle.mir_func.specs.Limits.{MAX_BLOCKS, MAX_SLOTS}
 use Rattle.mir_meaning.specs.Align.{is_code}
 use Rattle.follow_law.specs.Change.{Change}
-use Rattle.follow_law.specs.Rule.{stack_numbers}
 
 -- the greatest of some numbers, or 0 where there is none
 abbrev pub greatest : List ℕ → ℕ
@@ -55,9 +54,10 @@ call_count f = count_by (λ i. calls i.kind) (items_of f.blocks)
 abbrev pub IsPhysical : Function → Type 0
 IsPhysical f = AllItems (λ i. HasPhysical i.kind) f.blocks
 
--- how many items a pass may make of some: its factor times as many, and 1,024 a count more, for each of which a block may get one
+-- how many items a pass may make of some: its factor times as many, counted with as many more as its count for each block that a
+-- function may have
 abbrev pub most : (factor count items : ℕ) → ℕ
-most factor count n = factor * (n + 1024 * count)
+most factor count n = factor * (n + MAX_BLOCKS * count)
 
 -- the most debug instruction numbers that it may add
 abbrev pub most_numbers : (factor count : ℕ) → Function → ℕ
@@ -70,4 +70,4 @@ pub record KeepsSizes (factor count : ℕ) (c : Change) : Type 0 where
   pub calls : call_count c.new ≤ call_count c.old
   pub physical : IsPhysical c.old → IsPhysical c.new
   pub numbers : greatest_number c.new c.new_subs ≤ greatest_number c.old c.old_subs + most_numbers factor count c.old
-  pub slots : greatest (stack_numbers c.new) ≤ greatest (stack_numbers c.old) + MAX_SLOTS * count
+  pub slots : greatest c.new.slots ≤ greatest c.old.slots + MAX_SLOTS * count

@@ -3,7 +3,6 @@ ghost use Rattle.std.specs.Prelude.{◌≡◌, ℕ, ◌+◌, ◌*◌, ◌<◌, �
 ghost use Rattle.mir_func.specs.Limits.{MAX_SLOTS};
 ghost use Rattle.follow_law.specs.Change.{change};
 ghost use Rattle.follow_law.specs.Following.{KeepsFollowing};
-ghost use Rattle.follow_law.specs.Rule.{stack_numbers};
 ghost use Rattle.follow_law.specs.Code.{HasOneResult, SeesCodeAlone};
 ghost use Rattle.follow_law.specs.Steps.{Step, EachCode, KeepsSteps, MakeCodeAlone};
 ghost use Rattle.follow_law.specs.Sizes.{greatest, greatest_number, most_numbers, KeepsSizes};
@@ -50,7 +49,7 @@ pub trait Pass {
         subs: &mut Substitutions,
     ) -> Result<Losses, AllocError>
         requires numbers { greatest_number f.old subs.old + most_numbers factor count f.old < 2 ^ 31 }
-        requires slots { greatest (stack_numbers f.old) + MAX_SLOTS * count < 2 ^ 31 }
+        requires slots { greatest f.old.slots + MAX_SLOTS * count < 2 ^ 31 }
         ensures follows { OnOk result (IsTrue fits → KeepsFollowing asks keeps (change f.old subs.old f.new subs.new)) }
         ensures steps { IfOk result (KeepsSteps (steps self.old) (change f.old subs.old f.new subs.new)) }
         ensures sizes { OnOk result (KeepsSizes factor count (change f.old subs.old f.new subs.new)) }

@@ -1,7 +1,6 @@
 ghost use Rattle.std.specs.Prelude.{◌≡◌, ◌+◌, ◌*◌, ◌<◌, ◌^◌, [], flat_map, IfOk};
 ghost use Rattle.mir_func.specs.Limits.{MAX_SLOTS};
 ghost use Rattle.follow_law.specs.Code.{SeesCodeAlone};
-ghost use Rattle.follow_law.specs.Rule.{stack_numbers};
 ghost use Rattle.follow_law.specs.Tests.{IsWatching, NothingIsWrong};
 ghost use Rattle.follow_law.specs.Sizes.{greatest, greatest_number, most_numbers, numbers_in, numbers_of};
 
@@ -43,7 +42,7 @@ fn run_pass<P: Pass>(
     subs: &mut Substitutions,
 ) -> Result<Losses, AllocError>
     requires numbers { greatest_number f.old subs.old + most_numbers P.factor P.count f.old < 2 ^ 31 }
-    requires slots { greatest (stack_numbers f.old) + MAX_SLOTS * P.count < 2 ^ 31 }
+    requires slots { greatest f.old.slots + MAX_SLOTS * P.count < 2 ^ 31 }
 {
     pass.run(alloc, f, subs)
 }
@@ -97,7 +96,7 @@ fn sample_blocks(alloc: Global) -> Result<Blocks, Fail>
 
 fn sample(alloc: Global) -> Result<Func, Fail>
     ensures numbers { IfOk result (λ f. greatest_number f [] < 2 ^ 31) }
-    ensures slots { IfOk result (λ f. greatest (stack_numbers f) < 2 ^ 31) }
+    ensures slots { IfOk result (λ f. greatest f.slots < 2 ^ 31) }
 {
     let blocks = sample_blocks(alloc)?;
     Ok(Func::new(

@@ -2,12 +2,13 @@
 use Rattle.std.specs.Prelude.{◌≡◌, ℕ, ◌+◌, ◌<◌, ◌≤◌, List, [], ◌∷◌, map, length, Option, Some, None, slice_get, All, Contains}
 use Rattle.std.specs.List.{flat_map}
 use Rattle.rv64_instr.specs.declared.operand.Operand.{Operand}
-use Rattle.rv64_instr.specs.declared.operand.Operand.TheVariants.{Def, Use}
+use Rattle.rv64_instr.specs.declared.operand.Operand.TheVariants.{Def, Use, ImplicitDef, ImplicitUse, Imm, Slot as OfSlot, Object as OfObject, Block as OfBlock, Symbol, Mask}
 use Rattle.rv64_instr.specs.declared.place.Place.{Place}
-use Rattle.rv64_instr.specs.declared.place.Place.TheVariants.{Slot}
-use Rattle.rv64_instr.specs.declared.decoded.Base.TheVariants.{ObjectAt}
+use Rattle.rv64_instr.specs.declared.place.Place.TheVariants.{Register, Slot, Const}
+use Rattle.rv64_instr.specs.declared.decoded.Base.{Base}
+use Rattle.rv64_instr.specs.declared.decoded.Base.TheVariants.{PointedBy, ObjectAt}
 use Rattle.rv64_instr.specs.Arithmetic.{load_width, store_width}
-use Rattle.rv64_instr.specs.Row.{Row, Addresses, Loads, Stores, LoadsSlot, StoresSlot, Branches, Jumps, row_of}
+use Rattle.rv64_instr.specs.Row.{Row, Fixes, Moves, Sets, Addresses, Loads, Stores, LoadsSlot, StoresSlot, Branches, Jumps, Calls, Returns, Unfit, row_of}
 use Rattle.mir_func.specs.declared.block.Block.{Block}
 use Rattle.mir_func.specs.declared.item.Item.{Item}
 use Rattle.mir_func.specs.declared.item.ItemKind.{ItemKind}
@@ -40,7 +41,17 @@ AllItems P blocks = All (λ b. All P b.items) blocks
 abbrev pub TargetIn : List ℕ → Row → Type 0
 TargetIn ids (Branches op a b target) = Contains ids target
 TargetIn ids (Jumps target) = Contains ids target
-TargetIn ids _ = Unit {0}
+TargetIn ids (Fixes rd n) = Unit {0}
+TargetIn ids (Moves rd rs) = Unit {0}
+TargetIn ids (Sets rd op a b) = Unit {0}
+TargetIn ids (Addresses rd n offset) = Unit {0}
+TargetIn ids (Loads rd op base offset) = Unit {0}
+TargetIn ids (Stores op rs base offset) = Unit {0}
+TargetIn ids (LoadsSlot rd n) = Unit {0}
+TargetIn ids (StoresSlot rs n) = Unit {0}
+TargetIn ids (Calls name args) = Unit {0}
+TargetIn ids (Returns results) = Unit {0}
+TargetIn ids Unfit = Unit {0}
 
 abbrev pub TargetsIn : List ℕ → ItemKind → Type 0
 TargetsIn ids (Code i n) = TargetIn ids (row_of i)
@@ -51,11 +62,23 @@ TargetsIn ids (Phi p k) = Unit {0}
 abbrev pub SlotIn : List ℕ → Row → Type 0
 SlotIn slots (LoadsSlot rd n) = Contains slots n
 SlotIn slots (StoresSlot rs n) = Contains slots n
-SlotIn slots _ = Unit {0}
+SlotIn slots (Fixes rd n) = Unit {0}
+SlotIn slots (Moves rd rs) = Unit {0}
+SlotIn slots (Sets rd op a b) = Unit {0}
+SlotIn slots (Addresses rd n offset) = Unit {0}
+SlotIn slots (Loads rd op base offset) = Unit {0}
+SlotIn slots (Stores op rs base offset) = Unit {0}
+SlotIn slots (Branches op a b target) = Unit {0}
+SlotIn slots (Jumps target) = Unit {0}
+SlotIn slots (Calls name args) = Unit {0}
+SlotIn slots (Returns results) = Unit {0}
+SlotIn slots Unfit = Unit {0}
 
 abbrev pub PlaceIn : List ℕ → Option Place → Type 0
 PlaceIn slots (Some (Slot n)) = Contains slots n
-PlaceIn slots _ = Unit {0}
+PlaceIn slots (Some (Register r)) = Unit {0}
+PlaceIn slots (Some (Const c)) = Unit {0}
+PlaceIn slots None = Unit {0}
 
 abbrev pub SlotsIn : List ℕ → ItemKind → Type 0
 SlotsIn slots (Code i k) = SlotIn slots (row_of i)
@@ -66,12 +89,25 @@ SlotsIn slots (Phi p k) = PlaceIn slots p
 abbrev pub HasBytes : List Object → (n bytes : ℕ) → Type 0
 HasBytes objects n bytes = (o : Object) × (object_of objects n ≡ Some o) × (bytes ≤ o.size)
 
+abbrev pub BaseHasBytes : List Object → Base → (bytes : ℕ) → Type 0
+BaseHasBytes objects (PointedBy r) bytes = Unit {0}
+BaseHasBytes objects (ObjectAt n) bytes = HasBytes objects n bytes
+
 -- an access by an object stays in it, and what is added to its address leads past its end at most
 abbrev pub ObjectIn : List Object → Row → Type 0
 ObjectIn objects (Addresses rd n offset) = HasBytes objects n offset
-ObjectIn objects (Loads rd op (ObjectAt n) offset) = HasBytes objects n (offset + load_width op)
-ObjectIn objects (Stores op rs (ObjectAt n) offset) = HasBytes objects n (offset + store_width op)
-ObjectIn objects _ = Unit {0}
+ObjectIn objects (Loads rd op base offset) = BaseHasBytes objects base (offset + load_width op)
+ObjectIn objects (Stores op rs base offset) = BaseHasBytes objects base (offset + store_width op)
+ObjectIn objects (Fixes rd n) = Unit {0}
+ObjectIn objects (Moves rd rs) = Unit {0}
+ObjectIn objects (Sets rd op a b) = Unit {0}
+ObjectIn objects (LoadsSlot rd n) = Unit {0}
+ObjectIn objects (StoresSlot rs n) = Unit {0}
+ObjectIn objects (Branches op a b target) = Unit {0}
+ObjectIn objects (Jumps target) = Unit {0}
+ObjectIn objects (Calls name args) = Unit {0}
+ObjectIn objects (Returns results) = Unit {0}
+ObjectIn objects Unfit = Unit {0}
 
 abbrev pub ObjectsIn : List Object → ItemKind → Type 0
 ObjectsIn objects (Code i k) = ObjectIn objects (row_of i)
@@ -82,7 +118,14 @@ ObjectsIn objects (Phi p k) = Unit {0}
 abbrev pub IsNotPointer : Operand → Type 0
 IsNotPointer (Def r) = r ≡ 2 → ⊥
 IsNotPointer (Use r) = r ≡ 2 → ⊥
-IsNotPointer _ = Unit {0}
+IsNotPointer (ImplicitDef r) = Unit {0}
+IsNotPointer (ImplicitUse r) = Unit {0}
+IsNotPointer (Imm i) = Unit {0}
+IsNotPointer (OfSlot n) = Unit {0}
+IsNotPointer (OfObject n) = Unit {0}
+IsNotPointer (OfBlock n) = Unit {0}
+IsNotPointer (Symbol name) = Unit {0}
+IsNotPointer Mask = Unit {0}
 
 abbrev pub LeavesPointer : ItemKind → Type 0
 LeavesPointer (Code i k) = All IsNotPointer i.operands

@@ -1,14 +1,14 @@
 -- What every function with its frame keeps (RISC-V ELF psABI, "Integer Calling Convention").
-use Rattle.std.specs.Prelude.{◌≡◌, ◌⊎◌, ℕ, zero, suc, ℤ, pos, ◌-ℤ◌, ◌-◌, ◌%◌, ◌<◌, ◌≤◌, List, [], ◌∷◌, ◌++◌, map, Option, Some, None, All}
+use Rattle.std.specs.Prelude.{◌+◌, Contains, length, ◌≡◌, ℕ, zero, suc, ℤ, pos, ◌-ℤ◌, ◌-◌, ◌%◌, ◌<◌, ◌≤◌, List, [], ◌∷◌, ◌++◌, map, Option, Some, None, All}
 use Rattle.std.specs.List.Sorted.{IsStrictlyIncreasing}
 use Rattle.rv64_instr.specs.declared.op.Op.TheVariants.{Immediate, Load, Store}
 use Rattle.rv64_instr.specs.declared.op.ImmediateOp.TheVariants.{Addi}
 use Rattle.rv64_instr.specs.declared.op.LoadOp.TheVariants.{Ld}
 use Rattle.rv64_instr.specs.declared.op.StoreOp.TheVariants.{Sd}
 use Rattle.rv64_instr.specs.declared.operand.Operand.{Operand}
-use Rattle.rv64_instr.specs.declared.operand.Operand.TheVariants.{Def, Use, ImplicitDef, ImplicitUse, Imm, Slot}
+use Rattle.rv64_instr.specs.declared.operand.Operand.TheVariants.{Def, Use, ImplicitDef, ImplicitUse, Imm, Slot, Object as OfObject, Block as OfBlock, Symbol, Mask}
 use Rattle.rv64_instr.specs.declared.place.Place.{Place}
-use Rattle.rv64_instr.specs.declared.place.Place.TheVariants.{Register}
+use Rattle.rv64_instr.specs.declared.place.Place.TheVariants.{Register, Slot as InSlot, Const}
 use Rattle.rv64_instr.specs.Instruction.{Instruction}
 use Rattle.mir_func.specs.declared.block.Block.{Block}
 use Rattle.mir_func.specs.declared.exit.Exit.TheVariants.{Final}
@@ -17,12 +17,17 @@ use Rattle.mir_func.specs.declared.item.Item.{Item}
 use Rattle.mir_func.specs.declared.item.ItemKind.{ItemKind}
 use Rattle.mir_func.specs.declared.item.ItemKind.TheVariants.{Code, Mark, Phi}
 use Rattle.mir_func.specs.declared.variable.MarkValue.{MarkValue}
-use Rattle.mir_func.specs.declared.variable.MarkValue.TheVariants.{At}
+use Rattle.mir_func.specs.declared.variable.MarkValue.TheVariants.{Nothing, Constant, At, Pair}
 use Rattle.mir_func.specs.Function.{FramedFunction}
 use Rattle.mir_func.specs.Exits.{exit_of}
-use Rattle.mir_func.specs.Limits.{MAX_FRAME}
+use Rattle.mir_func.specs.Limits.{MAX_FRAME, MAX_SLOTS}
 use Rattle.mir_func.specs.Objects.{AreLaidFrom, area_of}
 use Rattle.mir_func.specs.Sound.{AreApart, ids_of, AllItems, TargetsIn, SlotsIn, ObjectsIn, IsSoundObject, LeavesPointer, EndsWell, LastCloses}
+
+-- the registers that a frame may save: the return address, and those that a function gives back as it found them (RISC-V ELF
+-- psABI, "Integer Register Convention": ra, s0 to s11)
+abbrev pub SAVED : List ℕ
+SAVED = 1 ∷ 8 ∷ 9 ∷ 18 ∷ 19 ∷ 20 ∷ 21 ∷ 22 ∷ 23 ∷ 24 ∷ 25 ∷ 26 ∷ 27 ∷ []
 
 -- the offsets of slots and of saved registers, in bytes from x2
 abbrev pub slot_offsets : FramedFunction → List ℕ
@@ -38,15 +43,24 @@ IsPhysical (Def r) = r < 32
 IsPhysical (Use r) = r < 32
 IsPhysical (ImplicitDef r) = r < 32
 IsPhysical (ImplicitUse r) = r < 32
-IsPhysical _ = Unit {0}
+IsPhysical (Imm i) = Unit {0}
+IsPhysical (Slot n) = Unit {0}
+IsPhysical (OfObject n) = Unit {0}
+IsPhysical (OfBlock n) = Unit {0}
+IsPhysical (Symbol name) = Unit {0}
+IsPhysical Mask = Unit {0}
 
 abbrev pub ValueIsPhysical : MarkValue → Type 0
+ValueIsPhysical Nothing = Unit {0}
+ValueIsPhysical (Constant c) = Unit {0}
 ValueIsPhysical (At r) = r < 32
-ValueIsPhysical _ = Unit {0}
+ValueIsPhysical (Pair q) = Unit {0}
 
 abbrev pub PlaceIsPhysical : Option Place → Type 0
+PlaceIsPhysical None = Unit {0}
 PlaceIsPhysical (Some (Register r)) = r < 32
-PlaceIsPhysical _ = Unit {0}
+PlaceIsPhysical (Some (InSlot n)) = Unit {0}
+PlaceIsPhysical (Some (Const c)) = Unit {0}
 
 -- the registers of an item are x0 to x31
 abbrev pub HasPhysical : ItemKind → Type 0
@@ -112,6 +126,7 @@ pub record IsFramed (f : FramedFunction) : Type 0 where
   pub aligned : f.size % 16 ≡ 0
   pub small : f.size ≤ MAX_FRAME
   pub room : area_of f.objects ≤ f.size
+  pub few : length f.offsets + length f.objects ≤ MAX_SLOTS
   pub offsets : All (IsSlotOffset f) (slot_offsets f)
   pub offsets_apart : AreApart (slot_offsets f)
   pub each_object : All IsSoundObject f.objects
@@ -120,7 +135,7 @@ pub record IsFramed (f : FramedFunction) : Type 0 where
   pub slots : AllItems (λ i. SlotsIn (slot_offsets f) i.kind) f.blocks
   pub objects : AllItems (λ i. ObjectsIn f.objects i.kind) f.blocks
   pub saved : IsStrictlyIncreasing (map (λ s. s.register) f.saved)
-  pub saved_physical : All (λ s. s.register < 32) f.saved
+  pub saved_kept : All (λ s. Contains SAVED s.register) f.saved
   pub physical : AllItems (λ i. HasPhysical i.kind) f.blocks
   pub frame : HasFrame f.size f.saved f.blocks
   pub number : NumberedAlike f.blocks

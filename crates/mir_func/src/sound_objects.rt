@@ -6,7 +6,7 @@ ghost use Rattle.mir_func.specs.Objects.{ALIGNMENTS, AreLaidFrom};
 ghost use Rattle.mir_func.specs.Sound.{IsSoundObject};
 ghost use Rattle.mir_func.specs.Checks.{AreSoundObjects};
 
-use crate::limits::{ALIGNMENTS, MAX_SIZE};
+use crate::limits::{ALIGNMENTS, MAX_NUMBER};
 use crate::number_set::Numbers;
 use crate::object::{Object, up_to};
 use std::alloc::{AllocError, Global};
@@ -43,7 +43,7 @@ fn are_each_sound(objects: &[Object]) -> bool
 fn is_object_sound(o: &Object) -> bool
     ensures { IsTrue result ↔ IsSoundObject o.now }
 {
-    o.size <= MAX_SIZE && is_alignment(o.align)
+    o.size <= MAX_NUMBER && is_alignment(o.align)
 }
 
 fn is_alignment(align: u32) -> bool

@@ -8,7 +8,7 @@ use Rattle.rv64_instr.specs.declared.operand.Operand.{Operand}
 use Rattle.rv64_instr.specs.declared.operand.Operand.TheVariants.{Def, Use, Imm, Slot, Object, Block, Symbol}
 use Rattle.rv64_instr.specs.Instruction.{Instruction}
 use Rattle.rv64_instr.specs.Arithmetic.{word}
-use Rattle.rv64_instr.specs.Row.{Row, Calls, Returns, row_by, row_of, immediate_row, move_row, implicit_uses}
+use Rattle.rv64_instr.specs.Row.{Row, Calls, Returns, row_by, row_of, immediate_row, object_row, move_row, implicit_uses}
 
 abbrev pub AreImplicit : List Operand → Row → Type 0
 AreImplicit operands (Calls name args) = args ≡ implicit_uses operands
@@ -27,7 +27,10 @@ copies operands rd (suc r) = tt
 by_op : (op : Op) (operands : List Operand) → AreImplicit operands (row_by op operands)
 by_op (Registers op) (Def rd ∷ Use a ∷ Use b ∷ rest) = tt
 by_op (Immediate op) (Def rd ∷ Use a ∷ Imm i ∷ rest) = immediate (Def rd ∷ Use a ∷ Imm i ∷ rest) op rd a (word i)
-by_op (Immediate op) (Def rd ∷ Object n ∷ Imm i ∷ rest) = tt
+by_op (Immediate op) (Def rd ∷ Object n ∷ Imm i ∷ rest) = by_object op where
+  by_object : (op : ImmediateOp) → AreImplicit (Def rd ∷ Object n ∷ Imm i ∷ rest) (object_row op rd n (word i))
+  by_object Addi = tt
+  by_object _ = tt
 by_op Lui (Def rd ∷ Imm i ∷ rest) = tt
 by_op (Branch op) (Use a ∷ Use b ∷ Block target ∷ rest) = tt
 by_op (Load op) (Def rd ∷ Use base ∷ Imm i ∷ rest) = tt

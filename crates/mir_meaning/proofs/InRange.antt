@@ -16,7 +16,7 @@ use Rattle.rv64_instr.specs.declared.place.Place.TheVariants.{Register, Slot, Co
 use Rattle.rv64_instr.specs.Instruction.{Instruction}
 use Rattle.rv64_instr.specs.Arithmetic.{word, computed, extended, load_width, store_width, taken}
 use Rattle.rv64_instr.specs.Row.{Row, Fixes, Moves, Sets, Addresses, Loads, Stores, LoadsSlot, StoresSlot, Branches, Jumps, Calls, Returns, Unfit, row_of}
-use Rattle.rv64_instr.specs.Row.{row_by, move_row, immediate_row}
+use Rattle.rv64_instr.specs.Row.{row_by, move_row, immediate_row, object_row}
 use Rattle.rv64_instr.specs.declared.decoded.Input.{Input}
 use Rattle.rv64_instr.specs.declared.decoded.Input.TheVariants.{Content, Number}
 use Rattle.rv64_instr.specs.declared.decoded.Base.TheVariants.{ObjectAt}
@@ -62,6 +62,10 @@ immediate_in_range Addi rd (suc r) zero h = tt
 immediate_in_range Addi rd (suc r) (suc n) h = h
 immediate_in_range _ rd a n h = h
 
+object_in_range : (op : ImmediateOp) (rd n offset : ℕ) → IsWord offset → RowInRange (object_row op rd n offset)
+object_in_range Addi rd n offset h = h
+object_in_range _ rd n offset h = tt
+
 move_in_range : (rd rs : ℕ) → RowInRange (move_row rd rs)
 move_in_range rd zero = omega arith
 move_in_range rd (suc r) = tt
@@ -69,7 +73,7 @@ move_in_range rd (suc r) = tt
 by_op : (op : Op) (operands : List Operand) → RowInRange (row_by op operands)
 by_op (Registers op) (Def rd ∷ Use a ∷ Use b ∷ rest) = tt
 by_op (Immediate op) (Def rd ∷ Use a ∷ Imm i ∷ rest) = immediate_in_range op rd a (word i) (word_in_range i)
-by_op (Immediate op) (Def rd ∷ Object n ∷ Imm i ∷ rest) = word_in_range i
+by_op (Immediate op) (Def rd ∷ Object n ∷ Imm i ∷ rest) = object_in_range op rd n (word i) (word_in_range i)
 by_op Lui (Def rd ∷ Imm i ∷ rest) = extend32_in_range _
 by_op (Branch op) (Use a ∷ Use b ∷ Block target ∷ rest) = tt
 by_op (Load op) (Def rd ∷ Use base ∷ Imm i ∷ rest) = word_in_range i

@@ -50,7 +50,15 @@ MayAdd (LoadsSlot rd n) k silent = k < silent
 MayAdd (Fixes rd n) k silent = k < silent
 MayAdd (StoresSlot rs n) k silent = Unit {0}
 MayAdd (Jumps target) k silent = k ≡ silent
-MayAdd _ k silent = ⊥
+MayAdd (Moves rd rs) k silent = ⊥
+MayAdd (Sets rd op a b) k silent = ⊥
+MayAdd (Addresses rd n offset) k silent = ⊥
+MayAdd (Loads rd op base offset) k silent = ⊥
+MayAdd (Stores op rs base offset) k silent = ⊥
+MayAdd (Branches op a b target) k silent = ⊥
+MayAdd (Calls name args) k silent = ⊥
+MayAdd (Returns results) k silent = ⊥
+MayAdd Unfit k silent = ⊥
 
 abbrev pub ItemHasClass : Row → ItemKind → Type 0
 ItemHasClass r (Code c k) = class_of (row_of c) ≡ class_of r
@@ -109,14 +117,33 @@ OnRow P _ = ⊥
 abbrev pub GoesTo : ℕ → Row → Type 0
 GoesTo n (Branches op a b target) = target ≡ n
 GoesTo n (Jumps target) = target ≡ n
-GoesTo n _ = ⊥
+GoesTo block (Fixes rd n) = ⊥
+GoesTo block (Moves rd rs) = ⊥
+GoesTo block (Sets rd op a b) = ⊥
+GoesTo block (Addresses rd n offset) = ⊥
+GoesTo block (Loads rd op base offset) = ⊥
+GoesTo block (Stores op rs base offset) = ⊥
+GoesTo block (LoadsSlot rd n) = ⊥
+GoesTo block (StoresSlot rs n) = ⊥
+GoesTo block (Calls name args) = ⊥
+GoesTo block (Returns results) = ⊥
+GoesTo block Unfit = ⊥
 
 -- neither a branch nor a copy of a register to itself
 abbrev pub Counts : Row → Type 0
 Counts (Branches op a b target) = ⊥
 Counts (Jumps target) = ⊥
 Counts (Moves rd rs) = rd ≡ rs → ⊥
-Counts _ = Unit {0}
+Counts (Fixes rd n) = Unit {0}
+Counts (Sets rd op a b) = Unit {0}
+Counts (Addresses rd n offset) = Unit {0}
+Counts (Loads rd op base offset) = Unit {0}
+Counts (Stores op rs base offset) = Unit {0}
+Counts (LoadsSlot rd n) = Unit {0}
+Counts (StoresSlot rs n) = Unit {0}
+Counts (Calls name args) = Unit {0}
+Counts (Returns results) = Unit {0}
+Counts Unfit = Unit {0}
 
 -- what stands at q comes from another position than the end of the block of p, and is met before that end or after p
 abbrev pub IsMetApart : Program → (p : Pos) → (silent : ℕ) → (q : Pos) → Item → Type 0
@@ -172,7 +199,16 @@ abbrev pub IsEnd : Row → Type 0
 IsEnd (Branches op a b target) = Unit {0}
 IsEnd (Jumps target) = Unit {0}
 IsEnd (Returns results) = Unit {0}
-IsEnd _ = ⊥
+IsEnd (Fixes rd n) = ⊥
+IsEnd (Moves rd rs) = ⊥
+IsEnd (Sets rd op a b) = ⊥
+IsEnd (Addresses rd n offset) = ⊥
+IsEnd (Loads rd op base offset) = ⊥
+IsEnd (Stores op rs base offset) = ⊥
+IsEnd (LoadsSlot rd n) = ⊥
+IsEnd (StoresSlot rs n) = ⊥
+IsEnd (Calls name args) = ⊥
+IsEnd Unfit = ⊥
 
 abbrev pub KindsEndAlike : ItemKind → ItemKind → Type 0
 KindsEndAlike (Code c k) (Code d l) = SameEnd (row_of c) (row_of d)

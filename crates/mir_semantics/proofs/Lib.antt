@@ -1,5 +1,7 @@
 pub mod Rows
 pub mod Loops
+pub mod Marking
+pub mod Laying
 pub mod History
 pub mod Numbers
 pub mod Inside

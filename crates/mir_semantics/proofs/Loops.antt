@@ -1,7 +1,9 @@
 -- One turn of each loop over memory and registers.
-use Rattle.std.proofs.Common.{◌≡◌, ◌≢◌, ℕ, zero, suc, ◌+◌, ◌-◌, ◌*◌, ◌/◌, ◌%◌, ◌^◌, ◌<◌, ◌≤◌, List, [], ◌∷◌, length, Option, Some, None, Bool, true, false, cond, refl, sym, ap, subst, ◌∙◌, inl, inr, drop, get_or, arith, get_or-set_other, get_or-set_same, length-set}
+use Rattle.std.proofs.Common.{◌≡◌, ◌≢◌, ℕ, zero, suc, ◌+◌, ◌-◌, ◌*◌, ◌/◌, ◌%◌, ◌^◌, ◌<◌, ◌≤◌, List, [], ◌∷◌, length, Option, Some, None, Bool, true, false}
+use Rattle.std.proofs.Common.{cond, refl, sym, ap, subst, ◌∙◌, inl, inr, drop, get_or, arith, get_or-set_other, get_or-set_same, length-set}
 use Rattle.std.proofs.Math.Seq.{drop-cons}
 use Rattle.std.proofs.Math.Nat.{pow-le-pow_right}
+use Rattle.std.proofs.lemmas.List.{drop_all}
 use Rattle.std.proofs.lemmas.Nat.{pow-add}
 use Rattle.std.proofs.lemmas.Bool.{cases_eq, eq-eqb, ne_eqb, ltb-true, and_parts}
 use Rattle.std.specs.Prelude.{nat_eq, nat_lt, unwrap_or, slice_index_or, slice_set, ◌||◌}
@@ -16,21 +18,26 @@ use Rattle.mir_meaning.specs.State.{updated, content, put, put_all, spelled, sto
 use Rattle.mir_semantics.specs.Places.{AreRegisters, RegistersHold, MemoryHolds, some_writes}
 
 -- ---- the frame
-pub touches_later : (e a k n : ℕ) → k < n → in_frame e ((a + k) % 2 ^ 64) ≡ false → touches_frame e (a + (k + 1)) (n - (k + 1)) ≡ touches_frame e (a + k) (n - k)
-touches_later e a k n lt h =
+pub touches_later : (e z a k n : ℕ) → k < n → in_frame e z ((a + k) % 2 ^ 64) ≡ false →
+    touches_frame e z (a + (k + 1)) (n - (k + 1)) ≡ touches_frame e z (a + k) (n - k)
+touches_later e z a k n lt h =
     let one : n - k ≡ suc (n - (k + 1)) = omega arith in
     let next : a + (k + 1) ≡ a + k + 1 = omega arith in
-    ap (λ (x : ℕ). touches_frame e x (n - (k + 1))) next ∙ sym (ap (touches_frame e (a + k)) one ∙ ap (λ (b : Bool). b || touches_frame e (a + k + 1) (n - (k + 1))) h)
+    ap (λ (x : ℕ). touches_frame e z x (n - (k + 1))) next
+    ∙ sym (ap (touches_frame e z (a + k)) one ∙ ap (λ (b : Bool). b || touches_frame e z (a + k + 1) (n - (k + 1))) h)
 
 -- ---- memory
-pub memory_put : (es fs : List (ℕ × ℕ)) (f : ℕ → ℕ) (k b : ℕ) → MemoryHolds es f → ((q : ℕ) → lookup (nat_eq q) fs ≡ cond (nat_eq k q) (Some b) (lookup (nat_eq q) es)) → MemoryHolds fs (updated k b f)
+pub memory_put : (es fs : List (ℕ × ℕ)) (f : ℕ → ℕ) (k b : ℕ) → MemoryHolds es f →
+    ((q : ℕ) → lookup (nat_eq q) fs ≡ cond (nat_eq k q) (Some b) (lookup (nat_eq q) es)) → MemoryHolds fs (updated k b f)
 memory_put es fs f k b holds put q =
     elim (cases_eq q k) [
       | inl e ↦
-          ap (λ (t : Bool). cond t b (f q)) (eq-eqb q k e) ∙ sym (ap (λ (o : Option ℕ). unwrap_or o 0) (put q ∙ ap (λ (t : Bool). cond t (Some b) (lookup (nat_eq q) es)) (eq-eqb k q (sym e))))
+          ap (λ (t : Bool). cond t b (f q)) (eq-eqb q k e)
+          ∙ sym (ap (λ (o : Option ℕ). unwrap_or o 0) (put q ∙ ap (λ (t : Bool). cond t (Some b) (lookup (nat_eq q) es)) (eq-eqb k q (sym e))))
       | inr ne ↦
           let other : k ≡ q → ⊥ = λ e. ne (sym e) in
-          ap (λ (t : Bool). cond t b (f q)) (ne_eqb q k ne) ∙ holds q ∙ sym (ap (λ (o : Option ℕ). unwrap_or o 0) (put q ∙ ap (λ (t : Bool). cond t (Some b) (lookup (nat_eq q) es)) (ne_eqb k q other)))
+          ap (λ (t : Bool). cond t b (f q)) (ne_eqb q k ne) ∙ holds q
+          ∙ sym (ap (λ (o : Option ℕ). unwrap_or o 0) (put q ∙ ap (λ (t : Bool). cond t (Some b) (lookup (nat_eq q) es)) (ne_eqb k q other)))
     ]
 
 pub stored_first : (f : ℕ → ℕ) (a n v : ℕ) → stored f (a + 0) (low_bytes (n - 0) v) ≡ stored f a (low_bytes n v)
@@ -39,27 +46,25 @@ stored_first f a n v =
     let y : n - 0 ≡ n = omega arith in
     λ i. stored f (x i) (low_bytes (y i) v)
 
-pub stored_turn : (f : ℕ → ℕ) (a k n rest : ℕ) (t : ℕ → ℕ) → k < n → stored f (a + k) (low_bytes (n - k) rest) ≡ t → stored (updated ((a + k) % 2 ^ 64) (rest % 256) f) (a + (k + 1)) (low_bytes (n - (k + 1)) (rest / 256)) ≡ t
+pub stored_turn : (f : ℕ → ℕ) (a k n rest : ℕ) (t : ℕ → ℕ) → k < n → stored f (a + k) (low_bytes (n - k) rest) ≡ t →
+    stored (updated ((a + k) % 2 ^ 64) (rest % 256) f) (a + (k + 1)) (low_bytes (n - (k + 1)) (rest / 256)) ≡ t
 stored_turn f a k n rest t lt h =
     let one : n - k ≡ suc (n - (k + 1)) = omega arith in
     let next : a + (k + 1) ≡ a + k + 1 = omega arith in
-    ap (λ (x : ℕ). stored (updated ((a + k) % 2 ^ 64) (rest % 256) f) x (low_bytes (n - (k + 1)) (rest / 256))) next ∙ sym (ap (λ (m : ℕ). stored f (a + k) (low_bytes m rest)) one) ∙ h
+    ap (λ (x : ℕ). stored (updated ((a + k) % 2 ^ 64) (rest % 256) f) x (low_bytes (n - (k + 1)) (rest / 256))) next
+    ∙ sym (ap (λ (m : ℕ). stored f (a + k) (low_bytes m rest)) one) ∙ h
 
-pub written_some : (f : ℕ → ℕ) (ws : List (Option (ℕ × ℕ))) (i : ℕ) (d : Option (ℕ × ℕ)) (w : ℕ × ℕ) (t : ℕ → ℕ) → i < length ws → get_or ws i d ≡ Some w → written f (some_writes (drop i ws)) ≡ t → written (updated w.0 w.1 f) (some_writes (drop (i + 1) ws)) ≡ t
+pub written_some : (f : ℕ → ℕ) (ws : List (Option (ℕ × ℕ))) (i : ℕ) (d : Option (ℕ × ℕ)) (w : ℕ × ℕ) (t : ℕ → ℕ) → i < length ws → get_or ws i d ≡ Some w →
+    written f (some_writes (drop i ws)) ≡ t → written (updated w.0 w.1 f) (some_writes (drop (i + 1) ws)) ≡ t
 written_some f ws i d w t lt e h =
     let next : i + 1 ≡ suc i = omega arith in
     let here : drop i ws ≡ Some w ∷ drop (i + 1) ws = drop-cons ws i d lt ∙ ap (λ o. o ∷ drop (suc i) ws) e ∙ ap (λ (n : ℕ). Some w ∷ drop n ws) (sym next) in
     sym (ap (λ xs. written f (some_writes xs)) here) ∙ h
 
-drop_end : (ws : List (Option (ℕ × ℕ))) (i : ℕ) → length ws ≤ i → drop i ws ≡ []
-drop_end [] zero le = refl
-drop_end [] (suc i) le = refl
-drop_end (w ∷ ws) zero le = absurd (omega arith)
-drop_end (w ∷ ws) (suc i) le = drop_end ws i (omega arith)
-
-pub written_end : (es : List (ℕ × ℕ)) (f t : ℕ → ℕ) (ws : List (Option (ℕ × ℕ))) (i : ℕ) → length ws ≤ i → MemoryHolds es f → written f (some_writes (drop i ws)) ≡ t → MemoryHolds es t
+pub written_end : (es : List (ℕ × ℕ)) (f t : ℕ → ℕ) (ws : List (Option (ℕ × ℕ))) (i : ℕ) → length ws ≤ i → MemoryHolds es f →
+    written f (some_writes (drop i ws)) ≡ t → MemoryHolds es t
 written_end es f t ws i le holds h =
-    let same : f ≡ t = sym (ap (λ xs. written f (some_writes xs)) (drop_end ws i le)) ∙ h in
+    let same : f ≡ t = sym (ap (λ xs. written f (some_writes xs)) (drop_all i ws le)) ∙ h in
     subst (λ (g : ℕ → ℕ). MemoryHolds es g) same holds
 
 -- ---- numbers in memory
@@ -74,7 +79,8 @@ spelled_turn f a n i lt =
     let one : i + 1 ≡ suc i = omega arith in
     let at : a + (n - (i + 1)) ≡ a + (n - i - 1) = omega arith in
     let next : a + (n - i - 1) + 1 ≡ a + (n - i) = omega arith in
-    (λ j. spelled f (at j) (one j)) ∙ ap (λ (x : ℕ). f ((a + (n - i - 1)) % 2 ^ 64) + 256 * spelled f x i) next ∙ turned (f ((a + (n - i - 1)) % 2 ^ 64)) (spelled f (a + (n - i)) i)
+    (λ j. spelled f (at j) (one j)) ∙ ap (λ (x : ℕ). f ((a + (n - i - 1)) % 2 ^ 64) + 256 * spelled f x i) next
+    ∙ turned (f ((a + (n - i - 1)) % 2 ^ 64)) (spelled f (a + (n - i)) i)
   where
     turned : (x y : ℕ) → x + 256 * y ≡ y * 256 + x
     turned x y = omega arith
@@ -85,7 +91,8 @@ set_keeps xs k v are lt =
     let ne : zero ≢ k = λ e. omega (arith, e, lt) in
     record { long = length-set xs k (Some v) ∙ are.long; zero = get_or-set_other xs k 0 (Some v) None ne ∙ are.zero }
 
-pub put_holds : (xs : List (Option ℕ)) (f : ℕ → Option ℕ) (r v : ℕ) → 0 < r → r < length xs → RegistersHold xs f → RegistersHold (slice_set xs r (Some v)) (put r v f)
+pub put_holds : (xs : List (Option ℕ)) (f : ℕ → Option ℕ) (r v : ℕ) → 0 < r → r < length xs → RegistersHold xs f →
+    RegistersHold (slice_set xs r (Some v)) (put r v f)
 put_holds xs f zero v pos lt h q = absurd (omega arith)
 put_holds xs f (suc r) v pos lt h zero =
     let ne : zero ≢ suc r = λ e. omega (arith, e) in rw get_or-set_other (h zero)
@@ -95,7 +102,8 @@ put_holds xs f (suc r) v pos lt h (suc q) =
       | inr ne ↦ rw (ne_eqb (suc q) (suc r) ne, get_or-set_other) (h (suc q))
     ]
 
-pub each_between : (xs : List ℕ) (n : ℕ) → list_all (λ x. nat_lt 0 x) xs ≡ true → list_all (λ x. nat_lt x n) xs ≡ true → (i : ℕ) → i < length xs → (0 < get_or xs i 0) × (get_or xs i 0 < n)
+pub each_between : (xs : List ℕ) (n : ℕ) → list_all (λ x. nat_lt 0 x) xs ≡ true → list_all (λ x. nat_lt x n) xs ≡ true → (i : ℕ) → i < length xs →
+    (0 < get_or xs i 0) × (get_or xs i 0 < n)
 each_between [] n h k i lt = absurd (omega arith)
 each_between (x ∷ xs) n h k zero lt =
     let a = and_parts (nat_lt 0 x) (list_all (λ y. nat_lt 0 y) xs) h in
@@ -112,20 +120,23 @@ put_all_more r rs [] (suc i) f = refl
 put_all_more r rs (v ∷ vs) zero f = refl
 put_all_more r rs (v ∷ vs) (suc i) f = put_all_more r rs vs i f
 
-pub put_all_turn : (rs vs : List ℕ) (i : ℕ) (f t : ℕ → Option ℕ) → i < length rs → put_all (drop i rs) (drop i vs) f ≡ t → put_all (drop (i + 1) rs) (drop (i + 1) vs) (put (get_or rs i 0) (get_or vs i 0) f) ≡ t
+pub put_all_turn : (rs vs : List ℕ) (i : ℕ) (f t : ℕ → Option ℕ) → i < length rs → put_all (drop i rs) (drop i vs) f ≡ t →
+    put_all (drop (i + 1) rs) (drop (i + 1) vs) (put (get_or rs i 0) (get_or vs i 0) f) ≡ t
 put_all_turn rs vs i f t lt h =
     let next : i + 1 ≡ suc i = omega arith in
     ap (λ (n : ℕ). put_all (drop n rs) (drop n vs) (put (get_or rs i 0) (get_or vs i 0) f)) next
     ∙ sym (put_all_more (get_or rs i 0) (drop (suc i) rs) vs i f) ∙ sym (ap (λ (xs : List ℕ). put_all xs (drop i vs) f) (drop-cons rs i 0 lt)) ∙ h
 
-pub written_none : (f : ℕ → ℕ) (ws : List (Option (ℕ × ℕ))) (i : ℕ) (d : Option (ℕ × ℕ)) (t : ℕ → ℕ) → i < length ws → get_or ws i d ≡ None → written f (some_writes (drop i ws)) ≡ t → written f (some_writes (drop (i + 1) ws)) ≡ t
+pub written_none : (f : ℕ → ℕ) (ws : List (Option (ℕ × ℕ))) (i : ℕ) (d : Option (ℕ × ℕ)) (t : ℕ → ℕ) → i < length ws → get_or ws i d ≡ None →
+    written f (some_writes (drop i ws)) ≡ t → written f (some_writes (drop (i + 1) ws)) ≡ t
 written_none f ws i d t lt e h =
     let next : i + 1 ≡ suc i = omega arith in
     let here : drop i ws ≡ None ∷ drop (i + 1) ws = drop-cons ws i d lt ∙ ap (λ o. o ∷ drop (suc i) ws) e ∙ ap (λ (n : ℕ). None ∷ drop n ws) (sym next) in
     sym (ap (λ xs. written f (some_writes xs)) here) ∙ h
 
 -- ---- blocks
-pub from_first : (bs : List Block) (i n : ℕ) → slice_get (ids_of bs) i ≡ Some n → ((j : ℕ) → slice_get (ids_of bs) j ≡ Some n → i ≤ j) → from_block bs n ≡ drop i bs
+pub from_first : (bs : List Block) (i n : ℕ) → slice_get (ids_of bs) i ≡ Some n → ((j : ℕ) → slice_get (ids_of bs) j ≡ Some n → i ≤ j) →
+    from_block bs n ≡ drop i bs
 from_first [] i n h first = (let no : ◌≡◌ {A = Option ℕ} None (Some n) = h in cc)
 from_first (b ∷ bs) zero n h first =
     let some : Some b.id ≡ Some n = h in
@@ -138,5 +149,6 @@ from_first (b ∷ bs) (suc i) n h first =
 
 pub from_apart : (bs : List Block) (i n : ℕ) (d : Block) → AreApart (ids_of bs) → i < length bs → (get_or bs i d).id ≡ n → from_block bs n ≡ drop i bs
 from_apart bs i n d apart lt e =
-    let here : slice_get (ids_of bs) i ≡ Some n = slice_get-map (λ b. b.id) bs i ∙ ap (option_map (λ b. b.id)) (slice_get-get_or bs i d lt) ∙ ap (λ (x : ℕ). Some x) e in
+    let here : slice_get (ids_of bs) i ≡ Some n = slice_get-map (λ b. b.id) bs i ∙ ap (option_map (λ b. b.id)) (slice_get-get_or bs i d lt)
+    ∙ ap (λ (x : ℕ). Some x) e in
     from_first bs i n here (λ j k. (let same = apart i j n here k in omega (arith, same)))

@@ -1,32 +1,37 @@
 -- What an instruction does to the places as they are kept.
-use Rattle.std.specs.Prelude.{◌≡◌, ℕ, List, [], ◌∷◌, Option, Some, None, true, false, cond, slice_index}
-use Rattle.rv64_instr.specs.Arithmetic.{width_of}
-use Rattle.rv64_instr.specs.Access.{input_reads}
-use Rattle.rv64_instr.specs.declared.op.Op.{Op}
+use Rattle.std.specs.Prelude.{◌≡◌, ℕ, List, [], ◌∷◌, Option, Some, None, true, false, slice_index}
+use Rattle.rv64_instr.specs.Access.{input_reads, base_reads}
 use Rattle.rv64_instr.specs.Row.{Row, Calls}
+use Rattle.rv64_instr.specs.declared.decoded.Base.{Base}
 use Rattle.rv64_instr.specs.declared.decoded.Input.{Input}
 use Rattle.rv64_instr.specs.declared.start.Answer.{Answer}
 use Rattle.rv64_instr.specs.declared.start.Start.{Start}
+use Rattle.mir_func.specs.declared.object.Object.{Object}
 use Rattle.mir_func.specs.declared.position.Pos.{Pos}
-use Rattle.mir_meaning.specs.State.{Core, Reply, written, touches_frame, low_bytes}
+use Rattle.mir_func.specs.Objects.{area_of, offset_of}
+use Rattle.mir_meaning.specs.State.{Core, Reply, written}
 use Rattle.mir_meaning.specs.Step as step
-use Rattle.mir_meaning.specs.Step.{act, answered, are_written, input_value, saved}
+use Rattle.mir_meaning.specs.Step.{act, address_at, answered, are_written, input_value}
 use Rattle.mir_func.specs.Graph.{below, block_start, RowEdge}
 use Rattle.mir_semantics.specs.declared.machine.Machine.{Machine}
 use Rattle.mir_semantics.specs.declared.machine.Outcome.{Outcome}
 use Rattle.mir_semantics.specs.declared.machine.Outcome.TheVariants.{Falls, Goes, Returns as Ended, Faults, Waits}
-use Rattle.mir_semantics.specs.Places.{RegistersHold, SlotsHold, MemoryHolds, starting_registers, some_writes}
+use Rattle.mir_semantics.specs.Places.{ObjectsHold, RegistersHold, SlotsHold, MemoryHolds, starting_registers, some_writes}
 
--- the core's registers, slots and memory are those that are kept
+-- the core's stack objects, registers, slots and memory are those that are kept
 pub record MachineHolds (m : Machine) (s : Core) : Type 0 where
   pub entry : s.entry ≡ m.entry
+  pub area : s.area ≡ m.area
+  pub objects : ObjectsHold m.objects s.objects
   pub registers : RegistersHold m.registers s.regs
   pub slots : SlotsHold m.slots s.slots
   pub memory : MemoryHolds m.memory s.memory
 
--- at the start of a run
-pub record StartsMachine (start : Start) (m : Machine) : Type 0 where
+-- at the start of a run of a function with these stack objects
+pub record StartsMachine (stack : List Object) (start : Start) (m : Machine) : Type 0 where
   pub entry : m.entry ≡ slice_index start.regs 2
+  pub area : m.area ≡ area_of stack
+  pub objects : ObjectsHold m.objects (offset_of stack)
   pub registers : RegistersHold m.registers (starting_registers start.regs)
   pub slots : m.slots ≡ []
   pub memory : MemoryHolds m.memory (written (λ _. 0) start.memory)
@@ -63,13 +68,17 @@ EndsSo Waits now s x = x ≡ step.Asks
 abbrev pub Stays : Outcome → Machine → Machine → Type 0
 Stays Falls old new = Unit {0}
 Stays (Goes n) old new = Unit {0}
-Stays _ old new = new ≡ old
+Stays Ended old new = new ≡ old
+Stays Faults old new = new ≡ old
+Stays Waits old new = new ≡ old
 
 -- code of this row that goes on does so along one of the row's edges, wherever it stands
 abbrev pub Leads : Row → Outcome → Type 0
 Leads r Falls = (p : Pos) → RowEdge (λ n. n) r p (below p)
 Leads r (Goes n) = (p : Pos) → RowEdge (λ n. n) r p (block_start n)
-Leads r _ = Unit {0}
+Leads r Ended = Unit {0}
+Leads r Faults = Unit {0}
+Leads r Waits = Unit {0}
 
 -- code that goes to no block
 abbrev pub GoesNowhere : Outcome → Type 0
@@ -88,10 +97,6 @@ pub record Does (f : Core → step.Outcome) (o : Outcome) (old new : Machine) : 
   pub stays : Stays o old new
   pub leads : GoesNowhere o
 
--- a store of a number to an address
-abbrev pub saves : Op → (v address : ℕ) → Core → step.Outcome
-saves op v a s = cond (touches_frame s.entry a (width_of op)) step.Traps (step.Falls (saved a (low_bytes (width_of op) v) s))
-
 -- a call's answer is taken
 pub record Takes (a : Answer) (o : Outcome) (old new : Machine) : Type 0 where
   pub ends : (name args : List ℕ) (rest : List Reply) (s : Core) → MachineHolds old s → EndsSo o new s (answered name args s (reply_of a ∷ rest))
@@ -102,3 +107,8 @@ pub record Takes (a : Answer) (o : Outcome) (old new : Machine) : Type 0 where
 abbrev pub InputHolds : Core → Input → Option ℕ → Type 0
 InputHolds s b (Some v) = (are_written s (input_reads b) ≡ true) × (input_value s b ≡ v)
 InputHolds s b None = are_written s (input_reads b) ≡ false
+
+-- an access's address is this one, or it reads an unwritten register
+abbrev pub AddressHolds : Core → Base → (offset : ℕ) → Option ℕ → Type 0
+AddressHolds s base offset (Some a) = (are_written s (base_reads base) ≡ true) × (address_at s base offset ≡ a)
+AddressHolds s base offset None = are_written s (base_reads base) ≡ false

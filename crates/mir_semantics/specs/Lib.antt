@@ -1,4 +1,5 @@
 pub mod Places
 pub mod Acts
+pub mod Assigned
 pub mod StandsFor
 pub mod Steps

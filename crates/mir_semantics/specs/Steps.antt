@@ -9,7 +9,7 @@ use Rattle.mir_meaning.specs.Step.{Next, do_fetch, moved}
 use Rattle.mir_func.specs.Graph.{Program, program_of, FetchEdge, Fetch, below, block_start}
 use Rattle.mir_func.specs.Resolve.{resolve}
 use Rattle.mir_semantics.specs.declared.state.SourceStep.{SourceStep}
-use Rattle.mir_semantics.specs.declared.state.SourceStep.TheVariants.{Went, Returned, Fault, Waits}
+use Rattle.mir_semantics.specs.declared.state.SourceStep.TheVariants.{Went, Returned, Faulted, Waits}
 use Rattle.mir_func.specs.declared.position.Pos.{Pos}
 use Rattle.mir_semantics.specs.declared.machine.Outcome.{Outcome}
 use Rattle.mir_semantics.specs.declared.machine.Outcome.TheVariants.{Falls, Goes, Returns as Ended, Faults, Waits as Waiting}
@@ -19,7 +19,7 @@ use Rattle.mir_semantics.specs.StandsFor.{Concrete, StandsFor, IsStepAnswered}
 abbrev pub IsStep : SourceStep → Concrete → Next → Type 0
 IsStep Went now n = (t : State) × (n ≡ step.Went t) × StandsFor now t
 IsStep Returned now n = (results : List ℕ) × (n ≡ step.Returned results)
-IsStep Fault now n = n ≡ step.Faulted
+IsStep Faulted now n = n ≡ step.Faulted
 IsStep Waits now n = n ≡ step.Waits
 
 -- the function with the content of x2 seen, as the source runs
@@ -33,7 +33,9 @@ Steps g answer r old new = (s : State) → StandsFor old s → IsStepAnswered (g
 -- a step that doesn't go on changes nothing
 abbrev pub ChangesOnlyByGoing : SourceStep → Concrete → Concrete → Type 0
 ChangesOnlyByGoing Went old new = Unit {0}
-ChangesOnlyByGoing _ old new = new ≡ old
+ChangesOnlyByGoing Returned old new = new ≡ old
+ChangesOnlyByGoing Faulted old new = new ≡ old
+ChangesOnlyByGoing Waits old new = new ≡ old
 
 -- the same with what stands at the position
 abbrev pub StepsFrom : Fetch → List Entry → Option Answer → SourceStep → Concrete → Concrete → Type 0
@@ -43,20 +45,24 @@ StepsFrom here subs answer r old new = (s : State) → StandsFor old s → IsSte
 -- a step that goes on leads along an edge, and one that doesn't leads nowhere
 abbrev pub GoesAlong : Fetch → SourceStep → Pos → Pos → Type 0
 GoesAlong here Went p q = FetchEdge (λ n. n) here p q
-GoesAlong here _ p q = q ≡ p
+GoesAlong here Returned p q = q ≡ p
+GoesAlong here Faulted p q = q ≡ p
+GoesAlong here Waits p q = q ≡ p
 
 -- how the step of an outcome ends, and where it leads
 abbrev pub step_after : Outcome → SourceStep
 step_after Falls = Went
 step_after (Goes n) = Went
 step_after Ended = Returned
-step_after Faults = Fault
+step_after Faults = Faulted
 step_after Waiting = Waits
 
 abbrev pub position_after : Outcome → Pos → Pos
 position_after Falls p = below p
 position_after (Goes n) p = block_start n
-position_after _ p = p
+position_after Ended p = p
+position_after Faults p = p
+position_after Waiting p = p
 
 -- what is kept stands for a state with this script and these events
 pub record IsState (c : Concrete) (script : List Reply) (events : List Event) : Type 0 where
@@ -67,5 +73,6 @@ pub record IsState (c : Concrete) (script : List Reply) (events : List Event) : 
 
 -- where a step returned and changed nothing, each later step returns too, whatever answer it is given
 abbrev pub ReturnsAgain : Type 0
-ReturnsAgain = (g : Program) (answer other : Option Answer) (r : SourceStep) (kept new : Concrete) → ((script : List Reply) (events : List Event) → IsState kept script events) →
+ReturnsAgain = (g : Program) (answer other : Option Answer) (r : SourceStep) (kept new : Concrete) →
+    ((script : List Reply) (events : List Event) → IsState kept script events) →
     Steps g answer Returned kept kept → Steps g other r kept new → r ≡ Returned

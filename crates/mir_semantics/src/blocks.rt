@@ -1,8 +1,11 @@
+//! Where blocks stand, by their numbers.
+
 ghost use Rattle.std.specs.Prelude.{◌≡◌, ◌<◌, [], MatchOption, length, drop};
 ghost use Rattle.mir_func.specs.Sound.{AreApart, ids_of};
 ghost use Rattle.mir_func.specs.Graph.{from_block};
 
 use mir_func::block::Block;
+use numbers::code::BlockId;
 use std::alloc::{AllocError, Global};
 use std::collections::HashMap;
 
@@ -10,12 +13,12 @@ use std::collections::HashMap;
 pub type Places = HashMap<u32, usize>;
 
 /// The index of the block with this number. The block is looked for only where it isn't at its probable place.
-pub fn find(probable: &Places, blocks: &[Block], id: u32) -> Option<usize>
+pub fn find(probable: &Places, blocks: &[Block], id: BlockId) -> Option<usize>
     requires { AreApart (ids_of blocks.now) }
     ensures { MatchOption result (from_block blocks.now id ≡ [])
         (λ i. (i < length blocks.now) × (from_block blocks.now id ≡ drop i blocks.now)) }
 {
-    if let Some(i) = probable.get(&id).copied() {
+    if let Some(i) = probable.get(&id.number()).copied() {
         if i < blocks.len() && blocks[i].id == id {
             return Some(i);
         }
@@ -32,7 +35,7 @@ pub fn find(probable: &Places, blocks: &[Block], id: u32) -> Option<usize>
 pub fn places(alloc: Global, blocks: &[Block]) -> Result<Places, AllocError> {
     let mut places = HashMap::new(alloc);
     for (i, b) in blocks.iter().enumerate() {
-        places.insert(b.id, i)?;
+        places.insert(b.id.number(), i)?;
     }
     Ok(places)
 }

@@ -5,10 +5,12 @@
 //! sees what the theorems speak of.
 #![tactic(auto)]
 
+mod assignments;
 mod blocks;
 mod frame;
 mod machine;
 mod memory;
+mod objects;
 mod pairs;
 mod registers;
 mod slots;

@@ -1,30 +1,42 @@
-ghost use Rattle.std.specs.Prelude.{◌≡◌, ℕ, List, ◌∷◌, IfOk, OnErr, Option};
+//! What code does to registers, frame slots and memory.
+
+ghost use Rattle.std.specs.Prelude.{◌≡◌, ◌≤◌, ℕ, List, ◌∷◌, All, IfOk, OnErr, Option, length};
 ghost use Rattle.std.specs.Option.{option_copied};
 ghost use Rattle.rv64_instr.specs.Row as row;
 ghost use Rattle.rv64_instr.specs.Row.{row_of, implicit_uses};
-ghost use Rattle.rv64_instr.specs.Decoded.{full_input};
 ghost use Rattle.rv64_instr.specs.declared.start.Answer.{Answer};
+ghost use Rattle.mir_func.specs.Limits.{MAX_SLOTS};
+ghost use Rattle.mir_func.specs.Objects.{AreLaidFrom};
+ghost use Rattle.mir_func.specs.Sound.{IsSoundObject};
 ghost use Rattle.mir_meaning.specs.State.{Core};
-ghost use Rattle.mir_meaning.specs.Step.{are_written, loaded};
-ghost use Rattle.mir_semantics.specs.Acts.{Acts, Does, InputHolds, MachineHolds, StartsMachine, Takes, saves};
+ghost use Rattle.mir_meaning.specs.Step.{are_written, is_fault, loaded, object_address, put_in_memory};
+ghost use Rattle.mir_semantics.specs.Acts.{Acts, AddressHolds, Does, InputHolds, MachineHolds, StartsMachine, Takes};
 
 use crate::frame::{touches_frame, writes_frame};
 use crate::memory::Memory;
+use crate::objects::{self, Offsets};
 use crate::registers::Registers;
 use crate::slots::Slots;
-use rv64_instr::arithmetic::{compute, extend, is_taken, width};
-use rv64_instr::decoded::{Decoded, Input};
+use mir_func::object::Object;
+use numbers::code::{BlockId, ObjectId, SlotId};
+use rv64_instr::arithmetic::{compute, extend, is_taken, load_width, store_width};
+use rv64_instr::decoded::{Base, Decoded, Input};
 use rv64_instr::instr::Instr;
-use rv64_instr::op::Op;
+use rv64_instr::op::{BranchOp, LoadOp, RegisterOp, StoreOp};
 use rv64_instr::operand::Operand;
 use rv64_instr::reg::Reg;
 use rv64_instr::start::{Answer, Start};
 use std::alloc::{AllocError, Global};
 
-/// What code reads and writes: registers, frame slots and memory, and the stack pointer at entry.
+/// What code reads and writes: registers, frame slots and memory, and where stack objects lie.
 #[derive(Drop)]
 pub struct Machine {
+    /// The stack pointer at entry.
     pub entry: u64,
+    /// How many bytes right below it stack objects take.
+    pub area: u64,
+    /// How far each object lies above the lowest of these bytes.
+    pub objects: Offsets,
     pub registers: Registers,
     pub slots: Slots,
     pub memory: Memory,
@@ -36,7 +48,7 @@ pub enum Outcome {
     /// It goes on below.
     Falls,
     /// It goes to the block of this number.
-    Goes(u32),
+    Goes(BlockId),
     /// It ends the run.
     Returns,
     /// It stops on a frame fault.
@@ -46,12 +58,17 @@ pub enum Outcome {
 }
 
 impl Machine {
-    /// The machine at the start of a run.
-    pub fn new(alloc: Global, start: &Start) -> Result<Machine, AllocError>
-        ensures { IfOk result (λ made. StartsMachine start.now made) }
+    /// The machine at the start of a run of a function with these stack objects.
+    pub fn new(alloc: Global, stack: &[Object], start: &Start) -> Result<Machine, AllocError>
+        requires few { length stack.now ≤ MAX_SLOTS }
+        requires each { All IsSoundObject stack.now }
+        requires laid { AreLaidFrom 0 stack.now }
+        ensures { IfOk result (λ made. StartsMachine stack.now start.now made) }
     {
         Ok(Machine {
             entry: start.regs[2],
+            area: objects::area(stack),
+            objects: Offsets::new(alloc, stack)?,
             registers: Registers::new(alloc, &start.regs)?,
             slots: Slots::new(alloc),
             memory: Memory::new(alloc, start.memory.as_slice())?,
@@ -68,6 +85,7 @@ impl Machine {
             Decoded::Fixes(rd, n) => Ok(self.set(rd, n)),
             Decoded::Moves(rd, rs) => Ok(self.copy(rd, rs)),
             Decoded::Sets(rd, op, a, b) => Ok(self.compute(rd, op, a, b)),
+            Decoded::Addresses(rd, n, offset) => Ok(self.address_of(rd, n, offset)),
             Decoded::Loads(rd, op, base, offset) => Ok(self.load(rd, op, base, offset)),
             Decoded::Stores(op, rs, base, offset) => self.store(op, rs, base, offset),
             Decoded::LoadsSlot(rd, n) => Ok(self.load_slot(rd, n)),
@@ -98,22 +116,23 @@ impl Machine {
         }
     }
 
-    fn compute(&mut self, rd: Reg, op: Op, a: Reg, b: Input) -> Outcome
+    fn compute(&mut self, rd: Reg, op: RegisterOp, a: Reg, b: Input) -> Outcome
         ensures { (answer : Option Answer)
-            → Acts (row.Sets rd op a (full_input b)) answer result self.old self.new }
+            → Acts (row.Sets rd op a b) answer result self.old self.new }
     {
-        match (self.registers.read(a), self.input(b)) {
-            (Some(x), Some(y)) => {
-                self.registers.write(rd, compute(op, x, y));
-                Outcome::Falls
-            }
-            _ => Outcome::Faults,
-        }
+        let Some(x) = self.registers.read(a) else {
+            return Outcome::Faults;
+        };
+        let Some(y) = self.input(b) else {
+            return Outcome::Faults;
+        };
+        self.registers.write(rd, compute(op, x, y));
+        Outcome::Falls
     }
 
     /// The second input of an operation, where what it reads is written.
     fn input(&self, input: Input) -> Option<u64>
-        ensures { (s : Core) → MachineHolds self.now s → InputHolds s (full_input input) result }
+        ensures { (s : Core) → MachineHolds self.now s → InputHolds s input result }
     {
         match input {
             Input::Content(r) => self.registers.read(r),
@@ -121,21 +140,61 @@ impl Machine {
         }
     }
 
-    fn load(&mut self, rd: Reg, op: Op, base: Reg, offset: u64) -> Outcome
+    fn address_of(&mut self, rd: Reg, n: ObjectId, offset: u64) -> Outcome
+        ensures { (answer : Option Answer) → Acts (row.Addresses rd n offset) answer result self.old self.new }
+    {
+        let address = self.object_address(n).wrapping_add(offset);
+        self.registers.write(rd, address);
+        Outcome::Falls
+    }
+
+    /// The address of a stack object. Addresses wrap at 64 bits.
+    fn object_address(&self, n: ObjectId) -> u64
+        ensures { (s : Core) → MachineHolds self.now s → result ≡ object_address s n }
+    {
+        self.entry
+            .wrapping_sub(self.area)
+            .wrapping_add(self.objects.of(n))
+    }
+
+    /// An access's address, where what it reads is written.
+    fn address(&self, base: &Base, offset: u64) -> Option<u64>
+        ensures { (s : Core) → MachineHolds self.now s → AddressHolds s base.now offset result }
+    {
+        match base {
+            Base::PointedBy(r) => match self.registers.read(*r) {
+                Some(b) => Some(b.wrapping_add(offset)),
+                None => None,
+            },
+            Base::ObjectAt(n) => Some(self.object_address(*n).wrapping_add(offset)),
+        }
+    }
+
+    /// Whether an access touches the frame. By a stack object it is no frame fault.
+    fn is_fault(&self, base: &Base, address: u64, count: usize) -> bool
+        ensures { (s : Core) → MachineHolds self.now s → result ≡ is_fault base.now s address count }
+    {
+        match base {
+            Base::PointedBy(_) => touches_frame(self.entry, self.area, address, count),
+            Base::ObjectAt(_) => false,
+        }
+    }
+
+    fn load(&mut self, rd: Reg, op: LoadOp, base: Base, offset: u64) -> Outcome
         ensures { (answer : Option Answer)
             → Acts (row.Loads rd op base offset) answer result self.old self.new }
     {
-        match self.registers.read(base) {
-            Some(b) => self.load_from(rd, op, b.wrapping_add(offset)),
+        match self.address(&base, offset) {
+            Some(address) => self.load_from(rd, op, &base, address),
             None => Outcome::Faults,
         }
     }
 
-    fn load_from(&mut self, rd: Reg, op: Op, address: u64) -> Outcome
-        ensures { Does (loaded rd op address) result self.old self.new }
+    fn load_from(&mut self, rd: Reg, op: LoadOp, base: &Base, address: u64) -> Outcome
+        ensures { Does (loaded rd op base.now address) result self.old self.new }
     {
-        let count = width(op);
-        if touches_frame(self.entry, address, count) {
+        let count = load_width(op);
+        if self.is_fault(base, address, count) {
             return Outcome::Faults;
         }
         self.registers
@@ -143,30 +202,45 @@ impl Machine {
         Outcome::Falls
     }
 
-    fn store(&mut self, op: Op, rs: Reg, base: Reg, offset: u64) -> Result<Outcome, AllocError>
+    fn store(
+        &mut self,
+        op: StoreOp,
+        rs: Reg,
+        base: Base,
+        offset: u64,
+    ) -> Result<Outcome, AllocError>
         ensures ok { IfOk result (λ o. (answer : Option Answer)
             → Acts (row.Stores op rs base offset) answer o self.old self.new) }
         ensures err { OnErr result (self.new ≡ self.old) }
     {
-        match (self.registers.read(rs), self.registers.read(base)) {
-            (Some(value), Some(b)) => self.store_to(op, value, b.wrapping_add(offset)),
-            _ => Ok(Outcome::Faults),
-        }
+        let Some(value) = self.registers.read(rs) else {
+            return Ok(Outcome::Faults);
+        };
+        let Some(address) = self.address(&base, offset) else {
+            return Ok(Outcome::Faults);
+        };
+        self.store_to(op, &base, address, value)
     }
 
-    fn store_to(&mut self, op: Op, value: u64, address: u64) -> Result<Outcome, AllocError>
-        ensures ok { IfOk result (λ o. Does (saves op value address) o self.old self.new) }
+    fn store_to(
+        &mut self,
+        op: StoreOp,
+        base: &Base,
+        address: u64,
+        value: u64,
+    ) -> Result<Outcome, AllocError>
+        ensures ok { IfOk result (λ o. Does (put_in_memory op base.now address value) o self.old self.new) }
         ensures err { OnErr result (self.new ≡ self.old) }
     {
-        let count = width(op);
-        if touches_frame(self.entry, address, count) {
+        let count = store_width(op);
+        if self.is_fault(base, address, count) {
             return Ok(Outcome::Faults);
         }
         self.memory.store(address, count, value)?;
         Ok(Outcome::Falls)
     }
 
-    fn load_slot(&mut self, rd: Reg, slot: u32) -> Outcome
+    fn load_slot(&mut self, rd: Reg, slot: SlotId) -> Outcome
         ensures { (answer : Option Answer) → Acts (row.LoadsSlot rd slot) answer result self.old self.new }
     {
         match self.slots.read(slot) {
@@ -178,7 +252,7 @@ impl Machine {
         }
     }
 
-    fn store_slot(&mut self, rs: Reg, slot: u32) -> Result<Outcome, AllocError>
+    fn store_slot(&mut self, rs: Reg, slot: SlotId) -> Result<Outcome, AllocError>
         ensures ok { IfOk result (λ o. (answer : Option Answer)
             → Acts (row.StoresSlot rs slot) answer o self.old self.new) }
         ensures err { OnErr result (self.new ≡ self.old) }
@@ -192,18 +266,19 @@ impl Machine {
         }
     }
 
-    fn branch(&self, op: Op, a: Reg, b: Reg, target: u32) -> Outcome
+    fn branch(&self, op: BranchOp, a: Reg, b: Reg, target: BlockId) -> Outcome
         ensures { (answer : Option Answer) → Acts (row.Branches op a b target) answer result self.now self.now }
     {
-        match (self.registers.read(a), self.registers.read(b)) {
-            (Some(x), Some(y)) => {
-                if is_taken(op, x, y) {
-                    Outcome::Goes(target)
-                } else {
-                    Outcome::Falls
-                }
-            }
-            _ => Outcome::Faults,
+        let Some(x) = self.registers.read(a) else {
+            return Outcome::Faults;
+        };
+        let Some(y) = self.registers.read(b) else {
+            return Outcome::Faults;
+        };
+        if is_taken(op, x, y) {
+            Outcome::Goes(target)
+        } else {
+            Outcome::Falls
         }
     }
 
@@ -226,7 +301,7 @@ impl Machine {
         ensures ok { IfOk result (λ o. Takes answer.now o self.old self.new) }
         ensures err { OnErr result (self.new ≡ self.old) }
     {
-        if writes_frame(self.entry, &answer.writes) {
+        if writes_frame(self.entry, self.area, &answer.writes) {
             return Ok(Outcome::Faults);
         }
         self.memory.write(&answer.writes)?;

@@ -1,6 +1,8 @@
+//! Memory.
+
 ghost use Rattle.std.specs.Prelude.{◌≡◌, ◌<◌, ◌≤◌, ◌*◌, ◌^◌, ℕ, IfOk, OnOk, OnErr};
 ghost use Rattle.mir_meaning.specs.State.{spelled, stored, low_bytes, written};
-ghost use Rattle.mir_semantics.specs.Places.{MemoryHolds, byte_in, some_writes};
+ghost use Rattle.mir_semantics.specs.Places.{MemoryHolds, number_in, some_writes};
 
 use indexmap::IndexMap;
 use std::alloc::{AllocError, Global};
@@ -34,7 +36,7 @@ impl Memory {
 
     /// The byte at an address.
     pub fn byte(&self, address: u64) -> u8
-        ensures { result ≡ byte_in self.now address }
+        ensures { result ≡ number_in self.now address }
     {
         self.bytes.get(&address).copied().unwrap_or(0)
     }
@@ -42,7 +44,7 @@ impl Memory {
     /// The number that `count` bytes spell from an address on, little-endian. Addresses wrap at 64 bits.
     pub fn spelled(&self, address: u64, count: usize) -> u64
         requires { count ≤ 8 }
-        ensures value { result ≡ spelled (byte_in self.now) address count }
+        ensures value { result ≡ spelled (number_in self.now) address count }
         ensures below { result < 2 ^ (8 * count) }
     {
         let mut number = 0;

@@ -1,3 +1,5 @@
+//! What operands of code with debug instruction numbers had last.
+
 ghost use Rattle.std.specs.Prelude.{◌≡◌, ◌≤◌, true, Some, IsOk, length};
 ghost use Rattle.indexmap.specs.IndexMap.{spare};
 ghost use Rattle.mir_meaning.specs.State.{Core};
@@ -7,6 +9,7 @@ ghost use Rattle.mir_semantics.specs.StandsFor.{PairsHold};
 
 use crate::registers::Registers;
 use indexmap::IndexMap;
+use numbers::code::DebugNumber;
 use rv64_instr::operand::Operand;
 use rv64_instr::reg::Reg;
 use std::alloc::AllocError;
@@ -21,7 +24,14 @@ fn defined(call: bool, operand: &Operand) -> Option<Reg>
     match operand {
         Operand::Def(r) => Some(*r),
         Operand::ImplicitDef(r) => { if call { Some(*r) } else { None } }
-        _ => None,
+        Operand::Use(_)
+        | Operand::ImplicitUse(_)
+        | Operand::Imm(_)
+        | Operand::Slot(_)
+        | Operand::Object(_)
+        | Operand::Block(_)
+        | Operand::Symbol(_)
+        | Operand::Mask => None,
     }
 }
 
@@ -31,7 +41,7 @@ pub fn number(
     pairs: &mut Pairs,
     registers: &Registers,
     call: bool,
-    k: u32,
+    k: DebugNumber,
     operands: &[Operand],
 ) -> Result<(), AllocError>
     requires { length operands.now ≤ spare pairs.old }
@@ -41,7 +51,7 @@ pub fn number(
 {
     for (o, operand) in operands.iter().enumerate() {
         if let Some(r) = defined(call, operand) {
-            pairs.insert((k, o), registers.read(r))?;
+            pairs.insert((k.number(), o), registers.read(r))?;
         }
     }
     Ok(())

@@ -1,3 +1,5 @@
+//! Registers.
+
 ghost use Rattle.std.specs.Prelude.{◌≡◌, ◌<◌, ℕ, Option, Some, None, IfOk, slice_index_or};
 ghost use Rattle.rv64_instr.specs.Access.{caller_saved};
 ghost use Rattle.mir_meaning.specs.State.{put, put_all};

@@ -1,9 +1,12 @@
+//! Frame slots.
+
 ghost use Rattle.std.specs.Prelude.{◌≡◌, [], ℕ, Option, Some, OnOk, OnErr, nat_eq};
 ghost use Rattle.std.specs.Map.{lookup};
 ghost use Rattle.mir_meaning.specs.State.{updated};
 ghost use Rattle.mir_semantics.specs.Places.{SlotsHold};
 
 use indexmap::IndexMap;
+use numbers::code::SlotId;
 use std::alloc::{AllocError, Global};
 use std::marker::Model;
 
@@ -32,19 +35,19 @@ impl Slots {
     }
 
     /// The content of a slot, where it is written.
-    pub fn read(&self, slot: u32) -> Option<u64>
+    pub fn read(&self, slot: SlotId) -> Option<u64>
         ensures { result ≡ lookup (nat_eq slot) self.now }
     {
-        self.contents.get(&slot).copied()
+        self.contents.get(&slot.number()).copied()
     }
 
     /// Writes a slot. A refused write leaves all as it was.
-    pub fn write(&mut self, slot: u32, value: u64) -> Result<(), AllocError>
+    pub fn write(&mut self, slot: SlotId, value: u64) -> Result<(), AllocError>
         ensures ok { OnOk result ((held : ℕ → Option ℕ) → SlotsHold self.old held
             → SlotsHold self.new (updated slot (Some value) held)) }
         ensures err { OnErr result (self.new ≡ self.old) }
     {
-        self.contents.insert(slot, value)?;
+        self.contents.insert(slot.number(), value)?;
         Ok(())
     }
 }

@@ -1,25 +1,33 @@
-ghost use Rattle.std.specs.Prelude.{◌≡◌, ◌<◌, ◌+◌, ◌^◌, true, [], List, Option, Some, None, IfOk, OnErr, IsTrue, ◌↔◌, length};
+//! A run of a function as it was read, a step at a time.
+
+ghost use Rattle.std.specs.Prelude.{◌≡◌, ◌<◌, ◌+◌, ◌^◌, ◌↔◌, true, [], length};
+ghost use Rattle.std.specs.Prelude.{List, Option, Some, None, IfOk, OnErr, IsTrue};
 ghost use Rattle.std.specs.Option.{option_copied};
 ghost use Rattle.rv64_instr.specs.declared.start.Answer.{Answer};
 ghost use Rattle.mir_func.specs.declared.entry.Entry.{Entry};
 ghost use Rattle.mir_meaning.specs.State.{Core, Event, Reply, State, assigned};
 ghost use Rattle.mir_meaning.specs.Step as step;
-ghost use Rattle.mir_func.specs.Graph.{program_of, fetch_in};
+ghost use Rattle.mir_func.specs.Graph.{Outside, program_of, fetch_in};
 ghost use Rattle.mir_func.specs.Resolve.{resolve};
 ghost use Rattle.mir_meaning.specs.Follow.{first_of};
 ghost use Rattle.mir_semantics.specs.StandsFor.{DoesItem, Holds, StandsFor, Starts, IsPosition, AreCounted};
-ghost use Rattle.mir_semantics.specs.Steps.{IsState, ReturnsAgain, Steps, StepsFrom, ChangesOnlyByGoing, GoesAlong, source_of, step_after, position_after};
+ghost use Rattle.mir_semantics.specs.Steps.{ReturnsAgain, Steps, StepsFrom, source_of};
+ghost use Rattle.mir_semantics.specs.Steps.{IsState, ChangesOnlyByGoing, GoesAlong, step_after, position_after};
+ghost use Rattle.rv64_instr.specs.Parts.{is_call};
 ghost use Rattle.rv64_instr.specs.Row.{row_of};
 
+use crate::assignments::{Assignments, part_of};
 use crate::blocks;
 use crate::machine::{Machine, Outcome};
 use crate::pairs::{self, Pairs};
 use indexmap::IndexMap;
 use mir_func::block::Block;
+use mir_func::entry::OperandPair;
 use mir_func::func::Func;
 use mir_func::item::ItemKind;
 use mir_func::position::Pos;
 use mir_func::variable::{MarkValue, VarId};
+use numbers::code::{BlockId, DebugNumber};
 use rv64_instr::decoded::Decoded;
 use rv64_instr::instr::Instr;
 use rv64_instr::place::Place;
@@ -36,7 +44,7 @@ pub enum SourceStep {
     /// The run has returned.
     Returned,
     /// The run stops on a frame fault: it would touch the frame's bytes, or read what isn't written.
-    Fault,
+    Faulted,
     /// The run waits for the answer to a call.
     Waits,
 }
@@ -48,8 +56,8 @@ pub struct SourceState {
     machine: Machine,
     /// What each pair of a debug instruction number and an operand's index got last.
     pairs: Pairs,
-    /// What each variable was assigned last, by its node and the node that it is inlined at.
-    assigned: IndexMap<(u32, Option<u32>), Option<u64>>,
+    /// What each part of a variable was assigned last.
+    assigned: Assignments,
     /// Where blocks probably stand, by their numbers.
     probable: blocks::Places,
 }
@@ -59,13 +67,14 @@ impl Model for SourceState {
 
     ghost Value = { Concrete };
 
-    ghost view = { λ a. record { pos = a.pos; machine = a.machine; pairs = a.pairs.entries; assigned = a.assigned.entries } };
+    ghost view = { λ a. record { pos = a.pos; machine = a.machine; pairs = a.pairs.entries; assigned = a.assigned } };
 }
 
 impl SourceState {
     /// The state at the start of a run of the function.
     pub fn new(alloc: Global, f: &Func, start: &Start) -> Result<SourceState, AllocError>
-        ensures stands { IfOk result (λ made. (s : State) → Starts f.now.blocks start.now s → StandsFor made s) }
+        ensures stands { IfOk result (λ made. (s : State)
+            → Starts f.now.objects f.now.blocks start.now s → StandsFor made s) }
         ensures at { IfOk result (λ made. IsPosition f.now.blocks made.pos) }
     {
         Ok(SourceState {
@@ -73,9 +82,9 @@ impl SourceState {
                 block: first(f.blocks.as_slice()),
                 item: 0,
             },
-            machine: Machine::new(alloc, start)?,
+            machine: Machine::new(alloc, f.objects.as_slice(), start)?,
             pairs: IndexMap::new(alloc),
-            assigned: IndexMap::new(alloc),
+            assigned: Assignments::new(alloc),
             probable: blocks::places(alloc, f.blocks.as_slice())?,
         })
     }
@@ -101,15 +110,12 @@ impl SourceState {
         self.machine.registers.hold_zero();
     }
 
-    /// What a variable was assigned last. None where nothing was assigned to it yet, or its last assignment gave no
-    /// value.
+    /// What a part of a variable was assigned last. None where nothing was assigned to it yet, where its last
+    /// assignment gave no value, and where a part that overlaps it was assigned later.
     pub fn value_of(&self, v: &VarId) -> Option<u64>
         ensures { (s : State) → StandsFor self.now s → result ≡ assigned v.now s.core.marks }
     {
-        match self.assigned.get(&(v.node, v.inlined_at)) {
-            Some(value) => *value,
-            None => None,
-        }
+        self.assigned.last(v)
     }
 
     /// Makes one step: does the item at the position, or goes on from a block's end. An answer at another item than a
@@ -144,11 +150,12 @@ impl SourceState {
     ) -> Result<SourceStep, AllocError>
         requires some { 0 < length blocks.now }
         requires counted { AreCounted blocks.now }
-        requires at { fetch_in blocks.now self.old.pos.item ≡ step.Outside → ⊥ }
+        requires at { fetch_in blocks.now self.old.pos.item ≡ Outside → ⊥ }
         ensures step { IfOk result (λ r. StepsFrom (fetch_in blocks.now self.old.pos.item) subs.now
             (option_copied answer.entry) r self.old self.new) }
         ensures stays { IfOk result (λ r. ChangesOnlyByGoing r self.old self.new) }
-        ensures edge { IfOk result (λ r. GoesAlong (fetch_in blocks.now self.old.pos.item) r self.old.pos self.new.pos) }
+        ensures edge { IfOk result (λ r.
+            GoesAlong (fetch_in blocks.now self.old.pos.item) r self.old.pos self.new.pos) }
         ensures memory { OnErr result (self.new ≡ self.old) }
     {
         let items = blocks[0].items.as_slice();
@@ -181,7 +188,7 @@ impl SourceState {
                 SourceStep::Went
             }
             Outcome::Returns => SourceStep::Returned,
-            Outcome::Faults => SourceStep::Fault,
+            Outcome::Faults => SourceStep::Faulted,
             Outcome::Waits => SourceStep::Waits,
         }
     }
@@ -197,7 +204,7 @@ impl SourceState {
     {
         match kind {
             ItemKind::Code(i, k) => self.do_code(i, *k, answer),
-            ItemKind::Mark(v, m) => self.mark(*v, *m, subs),
+            ItemKind::Mark(v, m) => self.mark(v, *m, subs),
             ItemKind::Phi(place, k) => self.phi(*place, *k),
         }
     }
@@ -205,7 +212,7 @@ impl SourceState {
     fn do_code(
         &mut self,
         i: &Instr,
-        k: Option<u32>,
+        k: Option<DebugNumber>,
         answer: Option<&Answer>,
     ) -> Result<Outcome, AllocError>
         ensures ok { IfOk result (λ o. (subs : List Entry)
@@ -232,7 +239,7 @@ impl SourceState {
     fn do_numbered(
         &mut self,
         i: &Instr,
-        k: u32,
+        k: DebugNumber,
         answer: Option<&Answer>,
     ) -> Result<Outcome, AllocError>
         ensures ok { IfOk result (λ o. (subs : List Entry)
@@ -258,13 +265,13 @@ impl SourceState {
     }
 
     /// Does a mark.
-    fn mark(&mut self, v: VarId, m: MarkValue, subs: &Substitutions) -> Result<Outcome, AllocError>
+    fn mark(&mut self, v: &VarId, m: MarkValue, subs: &Substitutions) -> Result<Outcome, AllocError>
         ensures ok { IfOk result (λ o. (answer : Option Answer)
-            → DoesItem subs.now (ItemKind.Mark v m) answer o self.old self.new) }
+            → DoesItem subs.now (ItemKind.Mark v.now m) answer o self.old self.new) }
         ensures err { OnErr result (self.new ≡ self.old) }
     {
-        let value = self.mark_value(m, subs);
-        self.assigned.insert((v.node, v.inlined_at), value)?;
+        let value = part_of(v, self.mark_value(m, subs));
+        self.assigned.assign(v, value)?;
         Ok(Outcome::Falls)
     }
 
@@ -277,7 +284,7 @@ impl SourceState {
             MarkValue::Nothing => None,
             MarkValue::Constant(c) => Some(c.cast_unsigned()),
             MarkValue::At(r) => self.machine.registers.read(r),
-            MarkValue::Pair(k, o) => match subs.resolve((k, o)) {
+            MarkValue::Pair(pair) => match subs.resolve(pair) {
                 Some(pair) => self.pair(pair),
                 None => None,
             },
@@ -285,23 +292,26 @@ impl SourceState {
     }
 
     /// The last value of a pair.
-    fn pair(&self, pair: (u32, u32)) -> Option<u64>
-        ensures { (s : Core) → Holds self.now s → result ≡ s.pairs pair.0 pair.1 }
+    fn pair(&self, pair: OperandPair) -> Option<u64>
+        ensures { (s : Core) → Holds self.now s → result ≡ s.pairs pair.number pair.operand }
     {
-        match self.pairs.get(&(pair.0, pair.1 as usize)) {
+        match self
+            .pairs
+            .get(&(pair.number.number(), pair.operand.number() as usize))
+        {
             Some(value) => *value,
             None => None,
         }
     }
 
     /// Does a phi.
-    fn phi(&mut self, place: Option<Place>, k: u32) -> Result<Outcome, AllocError>
+    fn phi(&mut self, place: Option<Place>, k: DebugNumber) -> Result<Outcome, AllocError>
         ensures ok { IfOk result (λ o. (subs : List Entry) (answer : Option Answer)
             → DoesItem subs (ItemKind.Phi place k) answer o self.old self.new) }
         ensures err { OnErr result (self.new ≡ self.old) }
     {
         let value = self.place_value(place);
-        self.pairs.insert((k, 0), value)?;
+        self.pairs.insert((k.number(), 0), value)?;
         Ok(Outcome::Falls)
     }
 
@@ -350,7 +360,7 @@ pub fn returns_again()
 {}
 
 /// The number of the first block.
-fn first(blocks: &[Block]) -> u32
+fn first(blocks: &[Block]) -> BlockId
     requires { 0 < length blocks.now }
     ensures { result ≡ first_of blocks.now }
 {
@@ -359,7 +369,7 @@ fn first(blocks: &[Block]) -> u32
 
 /// Whether an instruction is a call.
 fn is_call(i: &Instr) -> bool
-    ensures { result ≡ step.is_call (row_of i.now) }
+    ensures { result ≡ is_call (row_of i.now) }
 {
     match i.decoded() {
         Decoded::Calls => true,

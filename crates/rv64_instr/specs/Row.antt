@@ -77,13 +77,29 @@ immediate_row Slliw rd a n = Sets rd Sllw a (Number n)
 immediate_row Srliw rd a n = Sets rd Srlw a (Number n)
 immediate_row Sraiw rd a n = Sets rd Sraw a (Number n)
 
+-- a number is added to the address of a stack object, and nothing else is done with it
+abbrev pub object_row : ImmediateOp → (rd n offset : ℕ) → Row
+object_row Addi rd n offset = Addresses rd n offset
+object_row Slti rd n offset = Unfit
+object_row Sltiu rd n offset = Unfit
+object_row Xori rd n offset = Unfit
+object_row Ori rd n offset = Unfit
+object_row Andi rd n offset = Unfit
+object_row Slli rd n offset = Unfit
+object_row Srli rd n offset = Unfit
+object_row Srai rd n offset = Unfit
+object_row Addiw rd n offset = Unfit
+object_row Slliw rd n offset = Unfit
+object_row Srliw rd n offset = Unfit
+object_row Sraiw rd n offset = Unfit
+
 abbrev pub registers_row : RegisterOp → List Operand → Row
 registers_row op (Def rd ∷ Use a ∷ Use b ∷ rest) = Sets rd op a (Content b)
 registers_row op _ = Unfit
 
 abbrev pub number_row : ImmediateOp → List Operand → Row
 number_row op (Def rd ∷ Use a ∷ Imm i ∷ rest) = immediate_row op rd a (word i)
-number_row op (Def rd ∷ Object n ∷ Imm i ∷ rest) = Addresses rd n (word i)
+number_row op (Def rd ∷ Object n ∷ Imm i ∷ rest) = object_row op rd n (word i)
 number_row op _ = Unfit
 
 abbrev pub upper_row : List Operand → Row

@@ -15,12 +15,12 @@ use Rattle.rv64_instr.specs.declared.operand.Operand.{Operand}
 use Rattle.rv64_instr.specs.declared.operand.Operand.TheVariants.{Def, Use, Imm, Slot, Object, Block}
 use Rattle.rv64_instr.specs.declared.decoded.Base.TheVariants.{PointedBy}
 use Rattle.rv64_instr.specs.Arithmetic.{word}
-use Rattle.rv64_instr.specs.Row.{Row, Loads, Stores, row_of, row_by, add_row, immediate_row, move_row, number_row, load_row, store_row}
+use Rattle.rv64_instr.specs.Row.{Row, Loads, Stores, row_of, row_by, add_row, immediate_row, move_row, number_row, object_row, load_row, store_row}
 use Rattle.rv64_word.specs.declared.machine_op.MachineOp.{MachineOp}
 use Rattle.rv64_word.specs.declared.word_op.WordOp.TheVariants as op
 use Rattle.rv64_word.specs.MachineOp.{is_encodable}
 use Rattle.rv64_word.specs.MachineRow.{MachineRow, Does, machine_row, placed, at_offset, from_object}
-use Rattle.rv64_word.specs.Lowering.{fields_of, immediate_fields, load_fields, store_fields, in_range, lowered, machine_op}
+use Rattle.rv64_word.specs.Lowering.{fields_of, immediate_fields, object_fields, load_fields, store_fields, in_range, lowered, machine_op}
 
 apart : (m : MachineOp) → None ≡ Some m → ⊥
 apart m e = let f : ⊥ = cc in f
@@ -78,12 +78,16 @@ at_same address row m n e h = subst (λ (x : MachineOp). machine_row address x �
 abbrev Acts : Option MachineOp → ℤ → (object address : ℕ) → Row → Type 0
 Acts found offset object address row = (m : MachineOp) → found ≡ Some m → machine_row address m ≡ placed (at_offset address offset) object row
 
+object_acts : (o : ImmediateOp) (rd n : ℕ) (i : ℤ) (offset : ℤ) (object address : ℕ) →
+    Acts (object_fields o rd (pos object +ℤ i)) offset object address (object_row o rd n (word i))
+object_acts Addi rd n i offset object address m e = at_same address _ _ m e (ap (λ k. Does (add_row rd 2 k)) (from_both object i))
+object_acts _ rd n i offset object address m e = absurd (apart m e)
+
 immediate_acts : (o : ImmediateOp) (operands : List Operand) (offset : ℤ) (object address : ℕ) →
     Acts (immediate_fields o operands object) offset object address (number_row o operands)
 immediate_acts o (Def rd ∷ Use a ∷ Imm i ∷ rest) offset object address m e =
     at_same address _ _ m e (sym (placed_immediate o rd a (word i) (at_offset address offset) object))
-immediate_acts o (Def rd ∷ Object n ∷ Imm i ∷ rest) offset object address m e =
-    at_same address _ _ m e (ap (λ k. Does (add_row rd 2 k)) (from_both object i))
+immediate_acts o (Def rd ∷ Object n ∷ Imm i ∷ rest) offset object address m e = object_acts o rd n i offset object address m e
 immediate_acts o operands offset object address m e = absurd (apart m e)
 
 load_acts : (o : LoadOp) (operands : List Operand) (offset : ℤ) (object address : ℕ) →

@@ -4,7 +4,7 @@ use Rattle.rv64_instr.specs.declared.op.Op.{Op}
 use Rattle.rv64_instr.specs.declared.op.Op.TheVariants as source
 use Rattle.rv64_instr.specs.declared.op.RegisterOp.{RegisterOp}
 use Rattle.rv64_instr.specs.declared.op.ImmediateOp.{ImmediateOp}
-use Rattle.rv64_instr.specs.declared.op.ImmediateOp.TheVariants.{Addi}
+use Rattle.rv64_instr.specs.declared.op.ImmediateOp.TheVariants.{Addi, Slti, Sltiu, Xori, Ori, Andi, Slli, Srli, Srai, Addiw, Slliw, Srliw, Sraiw}
 use Rattle.rv64_instr.specs.declared.op.BranchOp.{BranchOp}
 use Rattle.rv64_instr.specs.declared.op.LoadOp.{LoadOp}
 use Rattle.rv64_instr.specs.declared.op.LoadOp.TheVariants.{Ld}
@@ -27,10 +27,26 @@ abbrev pub register_fields : RegisterOp → List Operand → Option MachineOp
 register_fields op (Def rd ∷ Use a ∷ Use b ∷ rest) = Some (machine_op (Registers op) rd a b (pos 0))
 register_fields op _ = None
 
+-- `ADDI rd, x2, i` stands for the address of a stack object
+abbrev pub object_fields : ImmediateOp → (rd : ℕ) → (i : ℤ) → Option MachineOp
+object_fields Addi rd i = Some (machine_op (Immediate Addi) rd 2 0 i)
+object_fields Slti rd i = None
+object_fields Sltiu rd i = None
+object_fields Xori rd i = None
+object_fields Ori rd i = None
+object_fields Andi rd i = None
+object_fields Slli rd i = None
+object_fields Srli rd i = None
+object_fields Srai rd i = None
+object_fields Addiw rd i = None
+object_fields Slliw rd i = None
+object_fields Srliw rd i = None
+object_fields Sraiw rd i = None
+
 -- `rd = OP rs1, imm`. The address of a stack object plus a number is x2's content plus the object's offset from it and the number
 abbrev pub immediate_fields : ImmediateOp → List Operand → (object : ℕ) → Option MachineOp
 immediate_fields op (Def rd ∷ Use a ∷ Imm i ∷ rest) object = Some (machine_op (Immediate op) rd a 0 i)
-immediate_fields op (Def rd ∷ Object n ∷ Imm i ∷ rest) object = Some (machine_op (Immediate Addi) rd 2 0 (pos object +ℤ i))
+immediate_fields op (Def rd ∷ Object n ∷ Imm i ∷ rest) object = object_fields op rd (pos object +ℤ i)
 immediate_fields op _ object = None
 
 -- `rd = LUI imm`

@@ -5,6 +5,7 @@ ghost use Rattle.rv64_instr.specs.Form.{
   has_form,
   fits_registers,
   fits_immediate,
+  is_addi,
   fits_upper,
   fits_branch,
   fits_load,
@@ -21,6 +22,7 @@ ghost use Rattle.rv64_word.specs.Lowering.{
   fields_of,
   register_fields,
   immediate_fields,
+  object_fields,
   upper_fields,
   branch_fields,
   load_fields,
@@ -158,14 +160,19 @@ fn of_immediate(op: ImmediateOp, operands: &[Operand], object: u32) -> MachineOp
             machine_op(WordOp::Immediate(op), rd.number(), a.number(), 0, *i)
         }
         [Operand::Def(rd), Operand::Object(_), Operand::Imm(i), ..] => {
-            machine_op(
-                WordOp::Immediate(ImmediateOp::Addi),
-                rd.number(),
-                2,
-                0,
-                i64::from(object) + *i,
-            )
+            of_object(op, rd.number(), i64::from(object) + *i)
         }
+        _ => unreachable!(),
+    }
+}
+
+/// `ADDI rd, x2, i`, for the address of a stack object.
+fn of_object(op: ImmediateOp, rd: u32, i: i64) -> MachineOp
+    requires { IsTrue (is_addi op) }
+    ensures { Some result ≡ object_fields op rd i }
+{
+    match op {
+        ImmediateOp::Addi => machine_op(WordOp::Immediate(ImmediateOp::Addi), rd, 2, 0, i),
         _ => unreachable!(),
     }
 }

@@ -12,7 +12,7 @@ use Rattle.rv64_instr.specs.declared.operand.Operand.TheVariants.{Def, Use, Impl
 use Rattle.rv64_instr.specs.Instruction.{Instruction}
 use Rattle.rv64_instr.specs.Form.{is_result, has_form}
 use Rattle.rv64_instr.specs.Arithmetic.{word}
-use Rattle.rv64_instr.specs.Row.{Row, Fixes, Moves, Sets, Addresses, Loads, Stores, LoadsSlot, StoresSlot, Branches, Jumps, Calls, Returns, Unfit, row_of, row_by, implicit_uses, move_row, immediate_row}
+use Rattle.rv64_instr.specs.Row.{Row, Fixes, Moves, Sets, Addresses, Loads, Stores, LoadsSlot, StoresSlot, Branches, Jumps, Calls, Returns, Unfit, row_of, row_by, implicit_uses, move_row, immediate_row, object_row}
 use Rattle.rv64_instr.specs.Access.{caller_saved, reads}
 use Rattle.mir_func.specs.declared.object.Object as stack_object
 use Rattle.mir_func.specs.declared.position.Pos.{Pos}
@@ -149,6 +149,10 @@ immediate_goes_on Addi rd (suc r) zero h = cc
 immediate_goes_on Addi rd (suc r) (suc n) h = cc
 immediate_goes_on _ rd a n h = cc
 
+object_goes_on : (op : ImmediateOp) (rd n offset : ℕ) → class_of (object_row op rd n offset) ≡ Return → ⊥
+object_goes_on Addi rd n offset h = cc
+object_goes_on _ rd n offset h = cc
+
 copy_goes_on : (rd rs : ℕ) → class_of (move_row rd rs) ≡ Return → ⊥
 copy_goes_on rd zero h = cc
 copy_goes_on rd (suc r) h = cc
@@ -157,7 +161,7 @@ row_physical : (op : Op) (os : List Operand) → has_form op os ≡ true → cla
 row_physical PseudoRet os e c = results_are_physical os e
 row_physical (Registers op) (Def rd ∷ Use a ∷ Use b ∷ rest) e c = cc
 row_physical (Immediate op) (Def rd ∷ Use a ∷ Imm i ∷ rest) e c = absurd (immediate_goes_on op rd a (word i) c)
-row_physical (Immediate op) (Def rd ∷ Object n ∷ Imm i ∷ rest) e c = cc
+row_physical (Immediate op) (Def rd ∷ Object n ∷ Imm i ∷ rest) e c = absurd (object_goes_on op rd n (word i) c)
 row_physical Lui (Def rd ∷ Imm i ∷ rest) e c = cc
 row_physical (Load op) (Def rd ∷ Use base ∷ Imm i ∷ rest) e c = cc
 row_physical (Load op) (Def rd ∷ SlotOperand n ∷ rest) e c = cc

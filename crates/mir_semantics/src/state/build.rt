@@ -1,14 +1,18 @@
 //! Functions for the tests, from texts. A line `bb N` begins a block, and each further line is an item: an opcode and
-//! its operands, after `#K` where it has a number; `mark V` or `inlined V AT` and what the variable is assigned; or
-//! `phi K` and a place.
+//! its operands, after `#K` where it has a number; `mark V`, `inlined V AT` or `part V OFFSET LENGTH` and what the
+//! variable or its part is assigned; or `phi K` and a place.
 
 use lists::List;
 use mir_func::block::{Block, Blocks};
+use mir_func::entry::OperandPair;
 use mir_func::func::{Func, SlotIds};
 use mir_func::item::{Item, ItemKind, Items};
 use mir_func::location::Loc;
+use mir_func::object::Object;
 use mir_func::position::{Origin, Pos};
-use mir_func::variable::{MarkValue, VarId};
+use mir_func::variable::{Fragment, MarkValue, VarId};
+use numbers::code::{BlockId, DebugNumber, ObjectId, OperandIndex, SlotId};
+use numbers::metadata::NodeId;
 use rv64_instr::instr::Instr;
 use rv64_instr::op::Op;
 use rv64_instr::operand::{Operand, Operands};
@@ -43,8 +47,9 @@ fn named(class: &str, rest: Option<&str>) -> Result<Operand, Fail> {
         "use" => Ok(Operand::Use(register(rest)?)),
         "gives" => Ok(Operand::ImplicitDef(register(rest)?)),
         "takes" => Ok(Operand::ImplicitUse(register(rest)?)),
-        "slot" => Ok(Operand::Slot(number(rest)?)),
-        _ => Ok(Operand::Block(number(rest)?)),
+        "slot" => Ok(Operand::Slot(SlotId(number(rest)?))),
+        "object" => Ok(Operand::Object(ObjectId(number(rest)?))),
+        _ => Ok(Operand::Block(BlockId(number(rest)?))),
     }
 }
 
@@ -60,7 +65,10 @@ fn code(alloc: Global, opcode: &str, words: SplitWhitespace) -> Result<Instr, Fa
 fn mark_value(words: &mut SplitWhitespace) -> Result<MarkValue, Fail> {
     match words.next().ok_or("no value")? {
         "reg" => Ok(MarkValue::At(register(words.next())?)),
-        "pair" => Ok(MarkValue::Pair(number(words.next())?, number(words.next())?)),
+        "pair" => Ok(MarkValue::Pair(OperandPair {
+            number: DebugNumber(number(words.next())?),
+            operand: OperandIndex(number(words.next())?),
+        })),
         "none" => Ok(MarkValue::Nothing),
         word => Ok(MarkValue::Constant(word.parse::<i64>()?)),
     }
@@ -69,43 +77,58 @@ fn mark_value(words: &mut SplitWhitespace) -> Result<MarkValue, Fail> {
 fn place(words: &mut SplitWhitespace) -> Result<Option<Place>, Fail> {
     match words.next().ok_or("no place")? {
         "reg" => Ok(Some(Place::Register(register(words.next())?))),
-        "slot" => Ok(Some(Place::Slot(number(words.next())?))),
+        "slot" => Ok(Some(Place::Slot(SlotId(number(words.next())?)))),
         _ => Ok(None),
     }
+}
+
+/// A variable after its word: `mark V`, `inlined V AT` or `part V OFFSET LENGTH`. None after another word.
+pub fn variable(first: &str, words: &mut SplitWhitespace) -> Result<Option<VarId>, Fail> {
+    if !matches!(first, "mark" | "inlined" | "part") {
+        return Ok(None);
+    }
+    let node = NodeId(number(words.next())?);
+    let inlined_at = if first == "inlined" {
+        Some(NodeId(number(words.next())?))
+    } else {
+        None
+    };
+    let fragment = if first == "part" {
+        Fragment::new(number(words.next())?, number(words.next())?)
+    } else {
+        None
+    };
+    Ok(Some(VarId {
+        node,
+        inlined_at,
+        fragment,
+    }))
 }
 
 fn kind(alloc: Global, line: &str) -> Result<ItemKind, Fail> {
     let mut words = line.split_whitespace();
     let first = words.next().ok_or("no item")?;
-    match first {
-        "mark" | "inlined" => {
-            let node = number(words.next())?;
-            let inlined_at = if first == "mark" {
-                None
-            } else {
-                Some(number(words.next())?)
-            };
-            Ok(ItemKind::Mark(VarId { node, inlined_at }, mark_value(&mut words)?))
+    if let Some(v) = variable(first, &mut words)? {
+        return Ok(ItemKind::Mark(v, mark_value(&mut words)?));
+    }
+    if first == "phi" {
+        let k = DebugNumber(number(words.next())?);
+        return Ok(ItemKind::Phi(place(&mut words)?, k));
+    }
+    match first.strip_prefix("#") {
+        Some(k) => {
+            let k = DebugNumber(number(Some(k))?);
+            let opcode = words.next().ok_or("no opcode")?;
+            Ok(ItemKind::Code(code(alloc, opcode, words)?, Some(k)))
         }
-        "phi" => {
-            let k = number(words.next())?;
-            Ok(ItemKind::Phi(place(&mut words)?, k))
-        }
-        _ => match first.strip_prefix("#") {
-            Some(k) => {
-                let k = number(Some(k))?;
-                let opcode = words.next().ok_or("no opcode")?;
-                Ok(ItemKind::Code(code(alloc, opcode, words)?, Some(k)))
-            }
-            None => Ok(ItemKind::Code(code(alloc, first, words)?, None)),
-        },
+        None => Ok(ItemKind::Code(code(alloc, first, words)?, None)),
     }
 }
 
 /// A block as it is read: each item is kept at its own place.
 fn block(alloc: Global, text: &str) -> Result<Block, Fail> {
     let mut lines = text.lines();
-    let id = number(lines.next())?;
+    let id = BlockId(number(lines.next())?);
     let mut items: Items = List::new(alloc);
     for line in lines {
         if line.trim().is_empty() {
@@ -122,12 +145,13 @@ fn block(alloc: Global, text: &str) -> Result<Block, Fail> {
     Ok(Block { id, items, silent })
 }
 
-/// A function of these blocks, with the slots 0 and 1.
-pub fn function(alloc: Global, text: &str) -> Result<Func, Fail> {
-    let slots: SlotIds = List::from_slice(alloc, &[0, 1])?;
+/// A function of these blocks, with the slots 0 and 1 and these objects.
+pub fn function(alloc: Global, objects: &[Object], text: &str) -> Result<Func, Fail> {
+    let slots: SlotIds = List::from_slice(alloc, &[SlotId(0), SlotId(1)])?;
     let mut blocks: Blocks = List::new(alloc);
     for part in text.split("bb ").skip(1) {
         blocks.push(block(alloc, part)?)?;
     }
-    Ok(Func::new(alloc, List::new(alloc), slots, blocks)?)
+    let stack = List::from_slice(alloc, objects)?;
+    Ok(Func::new(alloc, List::new(alloc), slots, stack, blocks)?)
 }

@@ -1,12 +1,15 @@
+//! Runs of small functions, and what their steps and variables show.
+
 ghost use Rattle.mir_semantics.specs.StandsFor.{AreCounted, IsPosition};
 
-use super::build::{function, number};
+use super::build::{function, number, variable};
 use super::{SourceState, SourceStep};
 use lists::List;
-use mir_func::entry::Entry;
+use mir_func::entry::{Entry, OperandPair};
 use mir_func::func::Func;
+use mir_func::object::Object;
 use mir_func::position::Pos;
-use mir_func::variable::VarId;
+use numbers::code::{BlockId, DebugNumber, ObjectId, OperandIndex};
 use rv64_instr::start::{Answer, Start};
 use std::alloc::Global;
 use std::process::Abort;
@@ -41,10 +44,22 @@ fn answer(last: (u64, u8)) -> Answer {
     }
 }
 
-fn entries(alloc: Global, list: &[Entry]) -> Result<Substitutions, Fail> {
+/// Operand 0 of a debug instruction number.
+fn pair(number: u32) -> OperandPair {
+    OperandPair {
+        number: DebugNumber(number),
+        operand: OperandIndex(0),
+    }
+}
+
+fn entries(alloc: Global, list: &[(u32, u32, u32)]) -> Result<Substitutions, Fail> {
     let mut subs = Substitutions::new(alloc);
-    for entry in list {
-        subs.add(*entry)?;
+    for (src, dst, subreg) in list {
+        subs.add(Entry {
+            src: pair(*src),
+            dst: pair(*dst),
+            subreg: *subreg,
+        })?;
     }
     Ok(subs)
 }
@@ -54,7 +69,7 @@ fn end(word: Option<&str>) -> Result<SourceStep, Fail> {
     match word.ok_or("no end")? {
         "went" => Ok(SourceStep::Went),
         "returned" => Ok(SourceStep::Returned),
-        "fault" => Ok(SourceStep::Fault),
+        "faulted" => Ok(SourceStep::Faulted),
         "waits" => Ok(SourceStep::Waits),
         _ => Err(Fail::from("no end")),
     }
@@ -88,24 +103,9 @@ fn steps(
     Ok(())
 }
 
-/// Looks at a variable's value.
-fn has(
-    rt: &impl Abort,
-    state: &SourceState,
-    node: u32,
-    inlined_at: Option<u32>,
-    wanted: Option<u64>,
-) {
-    assert_eq!(rt;
-        state.value_of(&VarId { node, inlined_at }),
-        wanted,
-        "of {node}"
-    );
-}
-
 /// Looks at the position.
 fn stands(rt: &impl Abort, state: &SourceState, words: &mut SplitWhitespace) -> Result<(), Fail> {
-    let block = number(words.next())?;
+    let block = BlockId(number(words.next())?);
     let item = number(words.next())?;
     assert_eq!(rt; state.position(), Pos { block, item });
     Ok(())
@@ -127,15 +127,8 @@ fn look(
 {
     let mut words = line.split_whitespace();
     let first = words.next().ok_or("no look")?;
-    if first == "has" {
-        let node = number(words.next())?;
-        has(rt, state, node, None, value(words.next())?);
-        return Ok(());
-    }
-    if first == "inlined" {
-        let node = number(words.next())?;
-        let at = number(words.next())?;
-        has(rt, state, node, Some(at), value(words.next())?);
+    if let Some(v) = variable(first, &mut words)? {
+        assert_eq!(rt; state.value_of(&v), value(words.next())?, "{line}");
         return Ok(());
     }
     if first == "answer" {
@@ -181,22 +174,25 @@ fn run(
     given: &Answer,
     looks: &str,
 ) -> Result<(), Fail> {
-    assert!(rt; SourceState::can_run(f));
+    if !SourceState::can_run(f) {
+        return Err(Fail::from("too many items"));
+    }
     let mut state = SourceState::new(alloc, f, from)?;
     looks_on(rt, &mut state, f, subs, given, looks)
 }
 
-/// Runs a function of these blocks, and looks.
+/// Runs a function of these objects and blocks, and looks.
 fn sees(
     rt: &impl Abort,
     alloc: Global,
+    objects: &[Object],
     blocks: &str,
     subs: &Substitutions,
     from: &Start,
     given: &Answer,
     looks: &str,
 ) -> Result<(), Fail> {
-    let f = function(alloc, blocks)?;
+    let f = function(alloc, objects, blocks)?;
     run(rt, alloc, &f, subs, from, given, looks)
 }
 
@@ -213,20 +209,20 @@ const LOOP: (&str, &str) = (
      bb 3
        mark 2 reg 5
        PseudoRET takes:10",
-    "has 1 none
+    "mark 1 none
      went 2 0 2
      went 1 7 0
      went 4 7 0
-     has 1 3
+     mark 1 3
      went 4 7 0
-     has 1 5
+     mark 1 5
      went 4 7 4
-     has 1 6
+     mark 1 6
      went 1 3 0
      went 1 3 1
-     has 2 0
+     mark 2 0
      returned 2 3 1
-     has 1 6",
+     mark 1 6",
 );
 
 /// A jump over a block, and one back.
@@ -241,9 +237,9 @@ const JUMPS: (&str, &str) = (
        PseudoBR to:2",
     "went 1 9 0
      went 2 2 0
-     has 1 none
+     mark 1 none
      went 1 2 1
-     has 1 18446744073709551615
+     mark 1 18446744073709551615
      returned 2 2 1",
 );
 
@@ -269,13 +265,13 @@ const CALL: (&str, &str) = (
      waits 2 0 2
      answer went 0 3
      went 9 0 12
-     has 1 105
-     has 2 116
-     has 3 none
-     has 4 7
-     has 5 1008
-     has 6 101
-     has 7 171
+     mark 1 105
+     mark 2 116
+     mark 3 none
+     mark 4 7
+     mark 5 1008
+     mark 6 101
+     mark 7 171
      returned 2 0 12",
 );
 
@@ -302,18 +298,18 @@ const PHIS: (&str, &str) = (
        mark 7 pair 2 0
        PseudoRET",
     "went 2 0 2
-     has 1 none
+     mark 1 none
      went 4 0 6
-     has 1 9
+     mark 1 9
      went 5 0 11
-     has 2 none
-     has 3 1048576
-     has 4 9
+     mark 2 none
+     mark 3 1048576
+     mark 4 9
      went 7 0 18
-     has 4 none
-     has 5 none
-     has 6 none
-     has 7 0",
+     mark 4 none
+     mark 5 none
+     mark 6 none
+     mark 7 0",
 );
 
 /// A chain is followed to its end. One that comes round, or has a part of a register, gives nothing.
@@ -330,42 +326,69 @@ const CHAINS: (&str, &str) = (
        mark 1 5
        PseudoRET",
     "went 5 0 5
-     has 1 44
-     has 2 44
+     mark 1 44
+     mark 2 44
      went 4 0 9
-     has 1 5
+     mark 1 5
      inlined 1 60 44
-     has 2 none
-     has 3 none",
+     mark 2 none
+     mark 3 none",
 );
 
-const ENTRIES: [Entry; 5] = [
-    Entry {
-        src: (11, 0),
-        dst: (12, 0),
-        subreg: 0,
-    },
-    Entry {
-        src: (12, 0),
-        dst: (14, 0),
-        subreg: 0,
-    },
-    Entry {
-        src: (15, 0),
-        dst: (16, 0),
-        subreg: 0,
-    },
-    Entry {
-        src: (16, 0),
-        dst: (15, 0),
-        subreg: 0,
-    },
-    Entry {
-        src: (17, 0),
-        dst: (14, 0),
-        subreg: 1,
-    },
+/// Whose operand 0 is asked for, whose has the value, and the part of the register.
+const ENTRIES: [(u32, u32, u32); 5] = [
+    (11, 12, 0),
+    (12, 14, 0),
+    (15, 16, 0),
+    (16, 15, 0),
+    (17, 14, 1),
 ];
+
+/// A mark of the whole has the value whole, and one of a part its low bytes. Parts that overlap it have none from then
+/// on, and other parts and variables keep theirs. 2^32 + 1 is 4,294,967,297.
+const PARTS: (&str, &str) = (
+    "bb 0
+       mark 1 4294967297
+       part 1 0 4 4294967297
+       part 1 4 4 7
+       part 2 0 8 9
+       part 1 2 4 8
+       part 1 6 2 65537
+       inlined 1 60 5
+       mark 1 3
+       part 1 0 8 -1
+       part 1 8 1 -1
+       PseudoRET",
+    "went 1 0 1
+     mark 1 4294967297
+     part 1 0 4 none
+     went 1 0 2
+     mark 1 none
+     part 1 0 4 1
+     went 2 0 4
+     part 1 0 4 1
+     part 1 4 4 7
+     part 2 0 8 9
+     mark 2 none
+     went 1 0 5
+     part 1 0 4 none
+     part 1 4 4 none
+     part 1 2 4 8
+     part 2 0 8 9
+     went 1 0 6
+     part 1 2 4 8
+     part 1 6 2 1
+     went 2 0 8
+     mark 1 3
+     part 1 2 4 none
+     part 1 6 2 none
+     inlined 1 60 5
+     went 2 0 10
+     mark 1 none
+     part 1 0 8 18446744073709551615
+     part 1 8 1 255
+     part 1 8 2 none",
+);
 
 #[test]
 fn runs(rt: HostRuntime) -> Result<(), Fail> {
@@ -373,8 +396,8 @@ fn runs(rt: HostRuntime) -> Result<(), Fail> {
     let from = start(alloc, 0, &[])?;
     let subs = entries(alloc, &ENTRIES)?;
     let given = answer((16, 171));
-    for (blocks, looks) in [LOOP, JUMPS, CALL, PHIS, CHAINS] {
-        sees(&rt, alloc, blocks, &subs, &from, &given, looks)?;
+    for (blocks, looks) in [LOOP, JUMPS, CALL, PHIS, CHAINS, PARTS] {
+        sees(&rt, alloc, &[], blocks, &subs, &from, &given, looks)?;
     }
     Ok(())
 }
@@ -383,20 +406,20 @@ fn runs(rt: HostRuntime) -> Result<(), Fail> {
 /// 1,046,528 to 1,048,575. Addresses wrap.
 const EDGES: [(&str, u64, &str); 12] = [
     ("LD def:11 use:10 0", 1_046_520, "went 1 0 1"),
-    ("LD def:11 use:10 0", 1_046_521, "fault 2 0 0"),
-    ("LD def:11 use:10 0", 1_048_575, "fault 2 0 0"),
+    ("LD def:11 use:10 0", 1_046_521, "faulted 2 0 0"),
+    ("LD def:11 use:10 0", 1_048_575, "faulted 2 0 0"),
     ("LD def:11 use:10 0", 1_048_576, "went 1 0 1"),
     ("SD use:11 use:10 0", 1_046_520, "went 1 0 1"),
-    ("SD use:11 use:10 0", 1_046_521, "fault 2 0 0"),
-    ("SD use:11 use:10 0", 1_048_575, "fault 2 0 0"),
+    ("SD use:11 use:10 0", 1_046_521, "faulted 2 0 0"),
+    ("SD use:11 use:10 0", 1_048_575, "faulted 2 0 0"),
     (
         "SD use:11 use:10 0",
         18_446_744_073_709_551_612,
         "went 1 0 1",
     ),
     ("PseudoCALL g mask", 1_046_527, "answer went 0 1"),
-    ("PseudoCALL g mask", 1_046_528, "answer fault 0 0"),
-    ("PseudoCALL g mask", 1_048_575, "answer fault 0 0"),
+    ("PseudoCALL g mask", 1_046_528, "answer faulted 0 0"),
+    ("PseudoCALL g mask", 1_048_575, "answer faulted 0 0"),
     ("PseudoCALL g mask", 1_048_576, "answer went 0 1"),
 ];
 
@@ -410,6 +433,7 @@ fn faults(rt: HostRuntime) -> Result<(), Fail> {
         sees(
             &rt,
             alloc,
+            &[],
             blocks.as_str(),
             &subs,
             &from,
@@ -428,11 +452,12 @@ fn faults(rt: HostRuntime) -> Result<(), Fail> {
         sees(
             &rt,
             alloc,
+            &[],
             blocks.as_str(),
             &subs,
             &from,
             &answer((0, 0)),
-            "fault 2 0 0",
+            "faulted 2 0 0",
         )?;
     }
     Ok(())
@@ -483,9 +508,84 @@ const WRAPS: (&str, &str) = (
        mark 2 reg 13
        PseudoRET",
     "went 6 0 6
-     has 1 255
-     has 2 18446744073709551614",
+     mark 1 255
+     mark 2 18446744073709551614",
 );
+
+/// An object of 16 bytes, which are those right below the stack pointer at entry.
+const OBJECT: Object = Object {
+    id: ObjectId(5),
+    size: 16,
+    align: 8,
+    offset: 0,
+};
+
+/// What is done by way of the object, which lies from 1,048,560 on, how it ends, and what registers hold then.
+const OBJECTS: [(&str, &str); 4] = [
+    (
+        "ADDI def:11 object:5 8\nSD use:10 use:11 0\nLD def:12 object:5 8\nmark 1 reg 12\nmark 2 reg 11",
+        "went 5 0 5\nmark 1 77\nmark 2 1048568",
+    ),
+    (
+        "ADDI def:11 object:5 8\nSD use:10 use:11 -16",
+        "went 1 0 1\nfaulted 2 0 1",
+    ),
+    (
+        "ADDI def:11 object:5 0\nSD use:10 object:5 0\nLD def:12 use:11 0\nmark 1 reg 12",
+        "went 4 0 4\nmark 1 77",
+    ),
+    (
+        "SD use:10 object:5 8\nADDI def:11 object:5 16\nLD def:12 use:11 -8\nmark 1 reg 12\nLBU def:13 use:11 -17",
+        "went 4 0 4\nmark 1 77\nfaulted 1 0 4",
+    ),
+];
+
+/// Where an access of eight bytes at x10 is, and how the step ends: with the object the frame has the addresses
+/// 1,046,528 to 1,048,559.
+const OBJECT_EDGES: [(&str, u64, &str); 7] = [
+    ("LD def:11 use:10 0", 1_046_520, "went 1 0 1"),
+    ("LD def:11 use:10 0", 1_046_521, "faulted 2 0 0"),
+    ("LD def:11 use:10 0", 1_048_559, "faulted 2 0 0"),
+    ("LD def:11 use:10 0", 1_048_560, "went 1 0 1"),
+    ("SD use:11 use:10 0", 1_048_559, "faulted 2 0 0"),
+    ("PseudoCALL g mask", 1_048_559, "answer faulted 0 0"),
+    ("PseudoCALL g mask", 1_048_560, "answer went 0 1"),
+];
+
+#[test]
+fn reaches_objects(rt: HostRuntime) -> Result<(), Fail> {
+    let alloc = rt.alloc();
+    let subs = entries(alloc, &[])?;
+    let from = start(alloc, 77, &[])?;
+    for (lines, looks) in OBJECTS {
+        let blocks = format!(in alloc; "bb 0\n{lines}\nPseudoRET")?;
+        sees(
+            &rt,
+            alloc,
+            &[OBJECT],
+            blocks.as_str(),
+            &subs,
+            &from,
+            &answer((0, 0)),
+            looks,
+        )?;
+    }
+    for (line, address, looks) in OBJECT_EDGES {
+        let from = start(alloc, address, &[])?;
+        let blocks = format!(in alloc; "bb 0\n{line}\nPseudoRET")?;
+        sees(
+            &rt,
+            alloc,
+            &[OBJECT],
+            blocks.as_str(),
+            &subs,
+            &from,
+            &answer((address, 1)),
+            looks,
+        )?;
+    }
+    Ok(())
+}
 
 #[test]
 fn loads_and_stores(rt: HostRuntime) -> Result<(), Fail> {
@@ -497,10 +597,11 @@ fn loads_and_stores(rt: HostRuntime) -> Result<(), Fail> {
         let blocks = format!(in alloc;
             "bb 0\nLD def:11 use:10 8\n{store} use:11 use:10 0\n{load} def:12 use:10 0\nmark 1 reg 12\nPseudoRET"
         )?;
-        let looks = format!(in alloc; "went 4 0 4\nhas 1 {wanted}")?;
+        let looks = format!(in alloc; "went 4 0 4\nmark 1 {wanted}")?;
         sees(
             &rt,
             alloc,
+            &[],
             blocks.as_str(),
             &subs,
             &from,
@@ -509,5 +610,5 @@ fn loads_and_stores(rt: HostRuntime) -> Result<(), Fail> {
         )?;
     }
     let from = start(alloc, u64::MAX - 1, &[])?;
-    sees(&rt, alloc, WRAPS.0, &subs, &from, &given, WRAPS.1)
+    sees(&rt, alloc, &[], WRAPS.0, &subs, &from, &given, WRAPS.1)
 }

@@ -4,7 +4,8 @@ use Rattle.dwarf_base.specs.Leb.{signed_value}
 use Rattle.dwarf_base.proofs.FrontLemmas.{signed_byte, signed_bytes, byte_below, byte_above, septet_more}
 use Rattle.std.proofs.lemmas.Int.{ints, to_z-of_z}
 use Rattle.dwarf_base.proofs.front.+signed_front.Goals as goal
-use Rattle.dwarf_base.proofs.front.+signed_front.Goals.{else-above-geminus72057594037927936-via-then-above-geminus72057594037927936+else-above-lt72057594037927936, else-above-geminus72057594037927936-via-else-above-geminus72057594037927936}
+use Rattle.dwarf_base.proofs.front.+signed_front.Goals.{else-above-ge-LEAST-via-then-above-ge-LEAST+else-above-lt-LIMIT}
+use Rattle.dwarf_base.proofs.front.+signed_front.Goals.{else-above-ge-LEAST-via-else-above-ge-LEAST}
 
 pub returns-then-byte-lt64 : goal.returns-then-byte-lt64
 returns-then-byte-lt64 t c = λ front rest is e fits.
@@ -22,22 +23,22 @@ returns-in_err-above t c = λ front rest is e fits.
     let none : None ≡ Some (signed_value m.others) = c.in_err-above.ensures m.others rest m.leb m.tail_is m.small in
     absurd cc
 
-pub returns-then-above-lt72057594037927936 : goal.returns-then-above-lt72057594037927936
-returns-then-above-lt72057594037927936 t c = λ front rest is e fits.
+pub returns-then-above-lt-LIMIT : goal.returns-then-above-lt-LIMIT
+returns-then-above-lt-LIMIT t c = λ front rest is e fits.
     let m = signed_bytes c.args.bytes.now _ _ front rest c.in_ok-byte.ensures.cases.0 c.if-byte-lt128.false is e fits in
     let some : Some c.in_ok-above.above ≡ Some (signed_value m.others) = c.in_ok-above.ensures m.others rest m.leb m.tail_is m.small in
     let above : c.in_ok-above.above ≡ signed_value m.others = cc in
     rw above (ap Some (septet_more c.in_ok-byte.byte.now _ _ fits m.small m.value))
 
-pub returns-else-above-geminus72057594037927936 : goal.returns-else-above-geminus72057594037927936
-returns-else-above-geminus72057594037927936 t c = λ front rest is e fits.
+pub returns-else-above-ge-LEAST : goal.returns-else-above-ge-LEAST
+returns-else-above-ge-LEAST t c = λ front rest is e fits.
     let m = signed_bytes c.args.bytes.now _ _ front rest c.in_ok-byte.ensures.cases.0 c.if-byte-lt128.false is e fits in
     let some : Some c.in_ok-above.above ≡ Some (signed_value m.others) = c.in_ok-above.ensures m.others rest m.leb m.tail_is m.small in
     let above : c.in_ok-above.above ≡ signed_value m.others = cc in
     let same : to_z w64 (of_z w64 c.in_ok-above.above) ≡ signed_value m.others = rw above (to_z-of_z w64 (signed_value m.others) m.small) in
-    elim c.else-above-geminus72057594037927936.branch [
-      | else-above-geminus72057594037927936-via-then-above-geminus72057594037927936+else-above-lt72057594037927936 w ↦
-          let high = rw same at w.if-above-lt72057594037927936.false in absurd (omega (arith, ints, high, m.high))
-      | else-above-geminus72057594037927936-via-else-above-geminus72057594037927936 w ↦
-          let low = rw same at w.if-above-geminus72057594037927936.false in absurd (omega (arith, ints, low, m.low))
+    elim c.else-above-ge-LEAST.branch [
+      | else-above-ge-LEAST-via-then-above-ge-LEAST+else-above-lt-LIMIT w ↦
+          let high = rw same at w.if-above-lt-LIMIT.false in absurd (omega (arith, ints, high, m.high))
+      | else-above-ge-LEAST-via-else-above-ge-LEAST w ↦
+          let low = rw same at w.if-above-ge-LEAST.false in absurd (omega (arith, ints, low, m.low))
     ]

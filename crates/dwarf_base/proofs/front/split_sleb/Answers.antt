@@ -18,7 +18,8 @@ returns-in_err-rest-clause-none c = rw c.from_residual-in_err-rest.ensures
     (λ v rest fits e.
     let some : Some c.in_ok-value.value ≡ Some v = reads_sleb c.args.bytes.now _ _ v rest c.in_ok-value.ensures c.min.ensures fits e in
     let same : v ≡ c.in_ok-value.value = cc in
-    let spelled : sleb_of v ≡ c.as_slice.result.now = ap sleb_of (sym (to_z-of_z w64 v fits) ∙ ap (λ x. to_z w64 (of_z w64 x)) same) ∙ sym c.sleb-spelled.ensures.bytes ∙ sym c.as_slice.ensures in
+    let spelled : sleb_of v ≡ c.as_slice.result.now = ap sleb_of (sym (to_z-of_z w64 v fits) ∙ ap (λ x. to_z w64 (of_z w64 x)) same)
+    ∙ sym c.sleb-spelled.ensures.bytes ∙ sym c.as_slice.ensures in
     strip_prefix_is Decides-eqb c.args.bytes.now c.as_slice.result.now None c.in_err-rest.ensures.cases rest (e ∙ ap (λ (xs : List ℕ). xs ++ rest) spelled))
 
 pub returns-clause-some : goal.returns-clause-some

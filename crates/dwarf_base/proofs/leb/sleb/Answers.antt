@@ -9,7 +9,8 @@ pub returns-then-v-lt0-clause-spells : goal.returns-then-v-lt0-clause-spells
 returns-then-v-lt0-clause-spells c = rw (c.spelled.ensures, ← sleb_of-groups _ _ _ (negative_bits _ c.ranges.v c.if-v-lt0.true)) (sleb_law c.args.v)
 
 pub returns-then-v-lt0-clause-shortest : goal.returns-then-v-lt0-clause-shortest
-returns-then-v-lt0-clause-shortest c = λ bytes is e. rw (c.spelled.ensures, ← sleb_of-groups _ _ _ (negative_bits _ c.ranges.v c.if-v-lt0.true)) (sleb_shortest c.args.v bytes is e)
+returns-then-v-lt0-clause-shortest c = λ bytes is e. rw (c.spelled.ensures, ← sleb_of-groups _ _ _ (negative_bits _ c.ranges.v c.if-v-lt0.true))
+    (sleb_shortest c.args.v bytes is e)
 
 pub returns-else-v-lt0-clause-bytes : goal.returns-else-v-lt0-clause-bytes
 returns-else-v-lt0-clause-bytes c = c.spelled-else-v-lt0.ensures ∙ sym (sleb_of-groups _ _ _ (other_bits _ c.ranges.v c.if-v-lt0.false))
@@ -18,4 +19,5 @@ pub returns-else-v-lt0-clause-spells : goal.returns-else-v-lt0-clause-spells
 returns-else-v-lt0-clause-spells c = rw (c.spelled-else-v-lt0.ensures, ← sleb_of-groups _ _ _ (other_bits _ c.ranges.v c.if-v-lt0.false)) (sleb_law c.args.v)
 
 pub returns-else-v-lt0-clause-shortest : goal.returns-else-v-lt0-clause-shortest
-returns-else-v-lt0-clause-shortest c = λ bytes is e. rw (c.spelled-else-v-lt0.ensures, ← sleb_of-groups _ _ _ (other_bits _ c.ranges.v c.if-v-lt0.false)) (sleb_shortest c.args.v bytes is e)
+returns-else-v-lt0-clause-shortest c = λ bytes is e. rw (c.spelled-else-v-lt0.ensures, ← sleb_of-groups _ _ _ (other_bits _ c.ranges.v c.if-v-lt0.false))
+    (sleb_shortest c.args.v bytes is e)

@@ -12,7 +12,8 @@ loop-part-preserved c =
     let f = first_part _ _ c.args.parts.now c.part-item.result c.loop-part-test.true c.part-item.is c.loop-part.invariant.rest in
     record {
       rest = f.others;
-      written = appended c.loop-part.out.items (piece c.loop-part.from c.part-item.result) _ c.in_ok-push_piece.ensures.bytes f.bytes c.loop-part.invariant.written;
+      written = appended c.loop-part.out.items (piece c.loop-part.from c.part-item.result) _ c.in_ok-push_piece.ensures.bytes f.bytes
+          c.loop-part.invariant.written;
       wide =
           All-more (λ (p : Part). HasWord p.place) c.args.parts.now c.loop-part.part-index c.part-item.result c.loop-part-test.true c.loop-part.invariant.wide
           (subst (λ (p : Part). HasWord p.place) c.part-item.is c.in_ok-push_piece.ensures.wide);

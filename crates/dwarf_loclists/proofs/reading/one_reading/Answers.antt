@@ -1,20 +1,10 @@
-use Rattle.std.specs.Prelude.{◌≡◌, ℕ, ◌^◌, ◌<◌, List, length, Option, Some, slice_get}
-use Rattle.std.proofs.Common.{arith, sym, ap, ◌∙◌}
+use Rattle.std.specs.Prelude.{◌≡◌, ℕ, List, Option, Some, slice_get}
+use Rattle.std.proofs.Common.{sym, ap, ◌∙◌}
 use Rattle.dwarf_loclists.specs.declared.range.Location.{Location}
-use Rattle.dwarf_loclists.specs.declared.range.Range.{Range}
 use Rattle.dwarf_loclists.specs.Ranges.{location_in, whole_place, nth_piece}
-use Rattle.dwarf_loclists.specs.Reading.{IsSection, LocationAt}
-use Rattle.dwarf_loclists.proofs.SpellingLemmas.{length-spelling}
-use Rattle.dwarf_loclists.proofs.OneReading.{entered, spelling_one}
+use Rattle.dwarf_loclists.specs.Reading.{LocationAt}
+use Rattle.dwarf_loclists.proofs.OneReading.{one_section}
 use Rattle.dwarf_loclists.proofs.reading.one_reading.Goals as goal
-
-count_fits : (bytes : List ℕ) (lists : List (List Range)) → IsSection bytes lists → length lists < 2 ^ 32
-count_fits bytes lists is = omega (arith, length-spelling lists, ap length is.spelled, is.size)
-
-one_section : (bytes : List ℕ) (a b : List (List Range)) → IsSection bytes a → IsSection bytes b → a ≡ b
-one_section bytes a b is_a is_b =
-    spelling_one a b (entered a is_a.places) (entered b is_b.places) (count_fits bytes a is_a) (count_fits bytes b is_b)
-    (sym is_a.spelled ∙ is_b.spelled)
 
 one_location : (bytes : List ℕ) (k address : ℕ) (p q : Option Location) → LocationAt bytes k address p → LocationAt bytes k address q → p ≡ q
 one_location bytes k address p q at_p at_q =

@@ -16,7 +16,9 @@ loop-list-preserved c =
     }
 
 pub returns-clause-ascend : goal.returns-clause-ascend
-returns-clause-ascend c = λ _. All-same Ascend _ _ (sym (take_all _ _ (rw c.as_slice-list-items.ensures at c.loop-list-test.false))) c.loop-list.invariant.ascend
+returns-clause-ascend c = λ _. All-same Ascend _ _ (sym (take_all _ _ (rw c.as_slice-list-items.ensures at c.loop-list-test.false)))
+    c.loop-list.invariant.ascend
 
 pub returns-clause-places : goal.returns-clause-places
-returns-clause-places c = λ _. All-same ArePlaces _ _ (sym (take_all _ _ (rw c.as_slice-list-items.ensures at c.loop-list-test.false))) c.loop-list.invariant.places
+returns-clause-places c = λ _. All-same ArePlaces _ _ (sym (take_all _ _ (rw c.as_slice-list-items.ensures at c.loop-list-test.false)))
+    c.loop-list.invariant.places

@@ -24,7 +24,7 @@ module _ (f : Function) (subs : List Entry) where
   c = change f subs f subs
 
   right : (r : ℕ) (at : Pos) → r < 32 → IsWrong nop_rule c (Register r) at → ⊥
-  right r at real (removed path) = nowhere at (λ q after. (let less = after.1.3.0 in omega (arith, less))) path
+  right r at real (removed path) = nowhere at (λ q after. (let less = after.1.3.0.0 in omega (arith, less))) path
   right r at real (unnamed virtual none) = omega (arith, real, virtual)
   right r at real (unset gone path) = absurd gone
   right r at real (overwritten {now = now} is path) = nowhere at (λ q after. (

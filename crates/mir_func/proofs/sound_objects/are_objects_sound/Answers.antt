@@ -1,4 +1,4 @@
-use Rattle.std.proofs.Common.{◌≡◌, ◌↔◌, ◌∙◌, List, ℕ, IsTrue, map, subst}
+use Rattle.std.proofs.Common.{◌↔◌, ◌∙◌, List, ℕ, IsTrue, map, subst}
 use Rattle.std.specs.Prelude.{All}
 use Rattle.mir_func.specs.declared.object.Object.{Object}
 use Rattle.mir_func.specs.Sound.{AreApart, IsSoundObject}

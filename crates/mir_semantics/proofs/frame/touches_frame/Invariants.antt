@@ -3,4 +3,4 @@ use Rattle.mir_meaning.specs.State.{touches_frame}
 use Rattle.mir_semantics.proofs.frame.touches_frame.Given as goal
 
 abbrev pub invariant-loop-k : goal.invariant-loop-k
-invariant-loop-k l = touches_frame l.entry (l.address + l.k) (l.count - l.k) ≡ touches_frame l.entry l.address l.count
+invariant-loop-k l = touches_frame l.entry l.area (l.address + l.k) (l.count - l.k) ≡ touches_frame l.entry l.area l.address l.count

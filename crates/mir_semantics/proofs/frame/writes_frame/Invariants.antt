@@ -4,4 +4,4 @@ use Rattle.mir_semantics.specs.Places.{some_writes}
 use Rattle.mir_semantics.proofs.frame.writes_frame.Given as goal
 
 abbrev pub invariant-loop-write : goal.invariant-loop-write
-invariant-loop-write l = writes_frame l.entry (some_writes (drop l.write-index l.writes)) ≡ writes_frame l.entry (some_writes l.writes)
+invariant-loop-write l = writes_frame l.entry l.area (some_writes (drop l.write-index l.writes)) ≡ writes_frame l.entry l.area (some_writes l.writes)

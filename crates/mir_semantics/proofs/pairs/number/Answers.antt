@@ -1,7 +1,8 @@
-use Rattle.std.proofs.Common.{Option, ℕ, Some, arith, sym, ap, subst, ◌∙◌}
+use Rattle.std.proofs.Common.{◌≡◌, Option, ℕ, Some, cond, arith, sym, ap, subst, ◌∙◌}
+use Rattle.std.specs.Map.{lookup}
 use Rattle.mir_meaning.specs.Step.{defined}
 use Rattle.mir_meaning.specs.State.{updated}
-use Rattle.mir_semantics.specs.StandsFor.{PairsHold}
+use Rattle.mir_semantics.specs.StandsFor.{PairsHold, pair_eq}
 use Rattle.mir_semantics.proofs.History.{pairs_put}
 use Rattle.mir_semantics.proofs.Numbers.{given_below, pairs_alike, below_skips, below_gives, below_all}
 use Rattle.mir_semantics.proofs.pairs.number.Goals as goal
@@ -17,15 +18,20 @@ loop-o-preserved c =
         given = λ s registers begun.
             let f = given_below c.args.call c.args.k operands i s in
             let defines = sym w.in-Some.is ∙ c.defined.ensures ∙ ap (λ x. defined c.args.call (Some x)) c.index-operands-o.is in
-            let put = pairs_put _ w.insert.new.self.entries f c.args.k i w.read.result (c.loop-o.invariant.given s registers begun) w.in_ok-insert.ensures.updates.0 in
+            let put = pairs_put _ w.insert.new.self.entries f c.args.k i w.read.result (c.loop-o.invariant.given s registers begun)
+            (subst (λ (n : ℕ). (q : ℕ × ℕ) →
+            lookup (pair_eq q) w.insert.new.self.entries ≡ cond (pair_eq (n, i) q) (Some w.read.result)
+            (lookup (pair_eq q) c.loop-o.pairs.entries)) w.number.ensures w.in_ok-insert.ensures.updates.0) in
             pairs_alike _ _ _ (below_gives c.args.call c.args.k operands i c.index-operands-o.result w.in-Some.r s c.loop-o-test.true defines)
-            (subst (λ (x : Option ℕ). PairsHold w.insert.new.self.entries (updated c.args.k (updated i x (f c.args.k)) f)) (w.read.ensures ∙ sym (registers w.in-Some.r)) put);
+            (subst (λ (x : Option ℕ). PairsHold w.insert.new.self.entries (updated c.args.k (updated i x (f c.args.k)) f))
+            (w.read.ensures ∙ sym (registers w.in-Some.r)) put);
       })
       | in_default w ↦ rw w.pairs-is (record {
         room = (let k = c.loop-o.invariant.room in omega (arith, k));
         given = λ s registers begun.
             let nothing = sym w.in_default.is ∙ c.defined.ensures ∙ ap (λ x. defined c.args.call (Some x)) c.index-operands-o.is in
-            pairs_alike _ _ _ (below_skips c.args.call c.args.k operands i c.index-operands-o.result s c.loop-o-test.true nothing) (c.loop-o.invariant.given s registers begun);
+            pairs_alike _ _ _ (below_skips c.args.call c.args.k operands i c.index-operands-o.result s c.loop-o-test.true nothing)
+            (c.loop-o.invariant.given s registers begun);
       })
     ]
 

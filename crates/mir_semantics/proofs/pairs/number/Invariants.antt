@@ -9,5 +9,6 @@ use Rattle.mir_semantics.proofs.pairs.number.Given as goal
 abbrev pub invariant-loop-o : goal.invariant-loop-o
 invariant-loop-o l = record {
   room : length l.operands - l.o ≤ spare l.pairs;
-  given : (s : Core) → RegistersHold l.registers s.regs → PairsHold l.initial.pairs.entries s.pairs → PairsHold l.pairs.entries (given_below l.call l.k l.operands l.o s);
+  given : (s : Core) → RegistersHold l.registers s.regs → PairsHold l.initial.pairs.entries s.pairs →
+      PairsHold l.pairs.entries (given_below l.call l.k l.operands l.o s);
 }

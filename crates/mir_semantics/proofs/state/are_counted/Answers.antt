@@ -9,7 +9,8 @@ pub loop-b-preserved : goal.loop-b-preserved
 loop-b-preserved c =
     let blocks = c.args.blocks.now in
     let few : length c.b-item.result.items < 2 ^ 32 = omega (arith, c.if-len.false, c.len.ensures) in
-    All-more (λ b. length b.items < 2 ^ 32) blocks c.loop-b.b-index c.b-item.result c.loop-b-test.true c.loop-b.invariant (subst (λ (b : Block). length b.items < 2 ^ 32) c.b-item.is few)
+    All-more (λ b. length b.items < 2 ^ 32) blocks c.loop-b.b-index c.b-item.result c.loop-b-test.true c.loop-b.invariant
+    (subst (λ (b : Block). length b.items < 2 ^ 32) c.b-item.is few)
 
 pub returns : goal.returns
 returns c =

@@ -6,4 +6,5 @@ use Rattle.mir_semantics.specs.Acts.{MachineHolds}
 use Rattle.mir_semantics.proofs.machine.Machine.are_written.Given as goal
 
 abbrev pub invariant-loop-operand : goal.invariant-loop-operand
-invariant-loop-operand l = (s : Core) → MachineHolds l.self s → are_written s (implicit_uses (drop l.operand-index l.operands)) ≡ are_written s (implicit_uses l.operands)
+invariant-loop-operand l =
+    (s : Core) → MachineHolds l.self s → are_written s (implicit_uses (drop l.operand-index l.operands)) ≡ are_written s (implicit_uses l.operands)

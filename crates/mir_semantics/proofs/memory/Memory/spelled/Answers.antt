@@ -1,5 +1,5 @@
 use Rattle.std.proofs.Common.{arith}
-use Rattle.mir_semantics.specs.Places.{byte_in}
+use Rattle.mir_semantics.specs.Places.{number_in}
 use Rattle.mir_semantics.proofs.Loops.{power_small, power_next, spelled_turn}
 use Rattle.mir_semantics.proofs.memory.Memory.spelled.Goals as goal
 
@@ -23,5 +23,5 @@ loop-i-preserved c =
     let t = c.from.ensures in
     let e = c.byte.ensures in
     let p = power_next c.loop-i.i in
-    let s = spelled_turn (byte_in c.args.self.now) c.args.address c.args.count c.loop-i.i c.loop-i-test.true in
+    let s = spelled_turn (number_in c.args.self.now) c.args.address c.args.count c.loop-i.i c.loop-i-test.true in
     record { value = omega (arith, v, t, e, s); below = omega (arith, b, p, t) }

@@ -1,10 +1,10 @@
 use Rattle.std.proofs.Common.{◌≡◌, ◌<◌, ◌+◌, ◌-◌, ◌*◌, ◌^◌}
 use Rattle.mir_meaning.specs.State.{spelled}
-use Rattle.mir_semantics.specs.Places.{byte_in}
+use Rattle.mir_semantics.specs.Places.{number_in}
 use Rattle.mir_semantics.proofs.memory.Memory.spelled.Given as goal
 
 abbrev pub invariant-loop-i : goal.invariant-loop-i
 invariant-loop-i l = record {
-  value : l.number ≡ spelled (byte_in l.self) (l.address + (l.count - l.i)) l.i;
+  value : l.number ≡ spelled (number_in l.self) (l.address + (l.count - l.i)) l.i;
   below : l.number < 2 ^ (8 * l.i);
 }

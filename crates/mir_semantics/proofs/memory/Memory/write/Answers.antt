@@ -9,12 +9,17 @@ loop-write-preserved c = elim c.match-write.branch [
   | in-Some+in_ok-insert w ↦ rw w.self-inside-is (record {
     room = (let r = w.in_ok-insert.ensures.spare in let k = c.loop-write.invariant.room in omega (arith, r, k));
     holds = λ held h.
-        let q = c.loop-write.invariant.holds held h in
-        (updated _ _ q.0, memory_put _ _ q.0 _ _ q.1 w.in_ok-insert.ensures.updates.0, written_some q.0 c.args.writes.now c.loop-write.write-index _ (w.in-Some.address, w.in-Some.byte) _ c.loop-write-test.true w.in-Some.is q.2);
+        let q = c.loop-write.invariant.holds held h in (
+          updated _ _ q.0,
+          memory_put _ _ q.0 _ _ q.1 w.in_ok-insert.ensures.updates.0,
+          written_some q.0 c.args.writes.now c.loop-write.write-index _
+              (w.in-Some.address, w.in-Some.byte) _ c.loop-write-test.true w.in-Some.is q.2,
+        );
   })
   | in_default w ↦ rw w.self-inside-is (record {
     room = (let k = c.loop-write.invariant.room in omega (arith, k));
-    holds = λ held h. let q = c.loop-write.invariant.holds held h in (q.0, q.1, written_none q.0 c.args.writes.now c.loop-write.write-index _ _ c.loop-write-test.true w.in_default.is q.2);
+    holds = λ held h. let q = c.loop-write.invariant.holds held h in
+        (q.0, q.1, written_none q.0 c.args.writes.now c.loop-write.write-index _ _ c.loop-write-test.true w.in_default.is q.2);
   })
 ]
 

@@ -7,5 +7,7 @@ use Rattle.mir_semantics.proofs.registers.Registers.write_caller_saved.Given as 
 abbrev pub invariant-loop-i : goal.invariant-loop-i
 invariant-loop-i l = record {
   are : AreRegisters l.self-inside.contents.items;
-  holds : (held : ℕ → Option ℕ) → RegistersHold l.initial.self-inside.contents.items held → (now : ℕ → Option ℕ) × RegistersHold l.self-inside.contents.items now × (put_all (drop l.i caller_saved) (drop l.i l.values) now ≡ put_all caller_saved l.values held);
+  holds : (held : ℕ → Option ℕ) → RegistersHold l.initial.self-inside.contents.items held →
+      (now : ℕ → Option ℕ) × RegistersHold l.self-inside.contents.items now ×
+      (put_all (drop l.i caller_saved) (drop l.i l.values) now ≡ put_all caller_saved l.values held);
 }

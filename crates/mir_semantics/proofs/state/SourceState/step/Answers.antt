@@ -23,7 +23,8 @@ returns-clause-at c =
     ap (λ (n : ℕ). take n (drop i bs)) (sym (length-drop i bs)) ∙ take-length (drop i bs) ∙ ap (drop i) blocks in
     stays_inside_ok c.args.f.now (subst IsSound c.f.view_is c.f.invariant) old new i
     (subst (λ (xs : List Block). i < length xs) blocks c.in-Some.ensures.0)
-    (subst (λ (xs : List Block). from_block xs old.pos.block ≡ drop i xs) blocks (subst (λ (p : Pos). from_block bs p.block ≡ drop i bs) place c.in-Some.ensures.1))
+    (subst (λ (xs : List Block). from_block xs old.pos.block ≡ drop i xs) blocks
+    (subst (λ (p : Pos). from_block bs p.block ≡ drop i bs) place c.in-Some.ensures.1))
     c.requires.at c.step_in.result
     (subst (λ (xs : List Block). IfOk c.step_in.result (λ r. GoesAlong (fetch_in xs old.pos.item) r old.pos new.pos)) rest c.step_in.ensures.edge)
     c.step_in.ensures.memory

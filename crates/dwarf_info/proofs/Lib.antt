@@ -1,0 +1,3 @@
+pub mod AbbreviationLemmas
+pub mod EntryLemmas
+pub mod TreeLemmas

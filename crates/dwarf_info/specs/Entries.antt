@@ -1,0 +1,129 @@
+-- The tree of entries of a unit, and its one spelling: the section .debug_info (DWARF 5 sections 7.5.1 to 7.5.5).
+use Rattle.std.specs.Prelude.{ℕ, ◌+◌, ◌<◌, Bool, true, false, Option, Some, None, List, [], ◌∷◌, ◌++◌, length, take, map, ◌==◌, All, IfSome}
+use Rattle.std.specs.List.{flat_map, before_first}
+use Rattle.std.specs.Int.{w16, w32, w64, to_le_bytes}
+use Rattle.dwarf_base.specs.Leb.{uleb_of}
+use Rattle.dwarf_base.specs.Standard.{VERSION, ADDRESS_SIZE}
+use Rattle.dwarf_info.specs.declared.kind.Kind.{Kind}
+use Rattle.dwarf_info.specs.declared.kind.Kind.TheVariants.{CompileUnit, Subprogram, TypedParameter, Parameter, TypedVariable, Variable, BaseType}
+use Rattle.dwarf_info.specs.declared.kind.Form.{Form}
+use Rattle.dwarf_info.specs.declared.kind.Form.TheVariants.{Address, Data1, Data2, Data4, Text, Reference, SectionOffset, LocationList}
+use Rattle.dwarf_info.specs.declared.kind.Attribute.{Attribute}
+use Rattle.dwarf_info.specs.declared.unit.BaseEntry.{BaseEntry}
+use Rattle.dwarf_info.specs.declared.unit.VariableEntry.{VariableEntry}
+use Rattle.dwarf_info.specs.declared.unit.FunctionEntry.{FunctionEntry}
+use Rattle.dwarf_info.specs.declared.unit.Unit.{Unit as CompilationUnit}
+use Rattle.dwarf_info.specs.Standard.{DW_UT_compile, DW_LANG_C99, LOCLISTS_BASE, HEADER_LENGTH}
+use Rattle.dwarf_info.specs.Kinds.{code, attributes}
+
+-- a name counts up to its first zero byte
+abbrev pub named : List ℕ → List ℕ
+named name = before_first (λ byte. byte == 0) name
+
+-- what a value of a form is: the bytes of a text, or a number
+abbrev pub ValueOf : Form → Type 0
+ValueOf Address = ℕ
+ValueOf Data1 = ℕ
+ValueOf Data2 = ℕ
+ValueOf Data4 = ℕ
+ValueOf Text = List ℕ
+ValueOf Reference = ℕ
+ValueOf SectionOffset = ℕ
+ValueOf LocationList = ℕ
+
+-- how a value is written (section 7.5.5)
+abbrev pub value : (form : Form) → ValueOf form → List ℕ
+value Address address = to_le_bytes w64 address
+value Data1 n = n ∷ []
+value Data2 n = to_le_bytes w16 n
+value Data4 n = to_le_bytes w32 n
+value Text name = named name ++ 0 ∷ []
+value Reference offset = to_le_bytes w32 offset
+value SectionOffset offset = to_le_bytes w32 offset
+value LocationList n = uleb_of n
+
+-- a value for each attribute
+abbrev pub Values : List Attribute → Type 0
+Values [] = Unit {0}
+Values (a ∷ others) = ValueOf a.form × (Values others)
+
+abbrev pub values : (attributes_of : List Attribute) → Values attributes_of → List ℕ
+values [] given = []
+values (a ∷ others) given = value a.form given.0 ++ values others given.1
+
+-- an entry: its kind, and a value for each of the kind's attributes
+pub record Entry : Type 0 where
+  pub kind : Kind
+  pub given : Values (attributes kind)
+
+-- its spelling (section 7.5.2): the code of its abbreviation, and the values in order
+unfoldable pub entry : Entry → List ℕ
+entry e = uleb_of (code e.kind) ++ values (attributes e.kind) e.given
+
+-- a base type
+abbrev pub base_type : BaseEntry → Entry
+base_type b = record { kind = BaseType; given = (b.name, (b.size, (b.encoding, tt))) }
+
+-- a parameter or a variable, where the entry of each type is at an offset from the unit's first byte. Its location is the list of its number
+abbrev pub variable_by : (offset : ℕ → ℕ) → List ℕ → (argument : Bool) → Option ℕ → ℕ → Entry
+variable_by offset name true (Some base) list = record { kind = TypedParameter; given = (name, (offset base, (list, tt))) }
+variable_by offset name true None list = record { kind = Parameter; given = (name, (list, tt)) }
+variable_by offset name false (Some base) list = record { kind = TypedVariable; given = (name, (offset base, (list, tt))) }
+variable_by offset name false None list = record { kind = Variable; given = (name, (list, tt)) }
+
+abbrev pub variable : (offset : ℕ → ℕ) → VariableEntry → Entry
+variable offset v = variable_by offset v.name v.argument v.base v.list
+
+-- a function: its high_pc is a length (section 2.17.2)
+abbrev pub subprogram : FunctionEntry → Entry
+subprogram f = record { kind = Subprogram; given = (f.name, (f.lo, (f.len, tt))) }
+
+-- a unit, whose line number table is the first, and whose code begins at address 0
+abbrev pub compile_unit : CompilationUnit → Entry
+compile_unit u = record { kind = CompileUnit; given = (DW_LANG_C99, (u.name, (u.dir, (0, (0, (u.text_len, (LOCLISTS_BASE, tt))))))) }
+
+-- where the entry of type k is, counted from the unit's first byte: behind the header, the unit's entry and the types before it
+abbrev pub type_offset : CompilationUnit → ℕ → ℕ
+type_offset u k = HEADER_LENGTH + length (entry (compile_unit u)) + length (flat_map entry (map base_type (take k u.types)))
+
+-- an entry with children, and the entries that are its children
+pub record Function : Type 0 where
+  pub self : Entry
+  pub variables : List Entry
+
+-- the unit's entry, and those that are its children: the types and the functions
+pub record Tree : Type 0 where
+  pub self : Entry
+  pub types : List Entry
+  pub functions : List Function
+
+abbrev pub function_of : (offset : ℕ → ℕ) → FunctionEntry → Function
+function_of offset f = record { self = subprogram f; variables = map (variable offset) f.variables }
+
+-- the tree of a unit's entries
+abbrev pub tree_of : CompilationUnit → Tree
+tree_of u = record { self = compile_unit u; types = map base_type u.types; functions = map (function_of (type_offset u)) u.functions }
+
+-- a zero byte ends the children of an entry (section 7.5.3)
+abbrev pub function : Function → List ℕ
+function f = entry f.self ++ flat_map entry f.variables ++ 0 ∷ []
+
+unfoldable pub tree : Tree → List ℕ
+tree t = entry t.self ++ flat_map entry t.types ++ flat_map function t.functions ++ 0 ∷ []
+
+-- the unit's header (section 7.5.1.1): the length of what follows it, the version, the kind of unit, the size of addresses, and where its
+-- abbreviations begin
+abbrev pub header : (length_after : ℕ) → List ℕ
+header length_after = to_le_bytes w32 length_after ++ to_le_bytes w16 VERSION ++ (DW_UT_compile ∷ ADDRESS_SIZE ∷ []) ++ to_le_bytes w32 0
+
+-- the section
+unfoldable pub spelling : CompilationUnit → List ℕ
+spelling u = header (8 + length (tree (tree_of u))) ++ tree (tree_of u)
+
+-- a variable's type is one of so many
+abbrev pub HasType : ℕ → VariableEntry → Type 0
+HasType count v = IfSome v.base (λ base. base < count)
+
+-- the types of a function's variables are there
+abbrev pub HasTypes : ℕ → FunctionEntry → Type 0
+HasTypes count f = All (HasType count) f.variables

@@ -1,0 +1,223 @@
+//! The section of abbreviations.
+
+ghost use Rattle.std.specs.Prelude.{◌≡◌, ◌++◌, OnOk, IfOk};
+ghost use Rattle.std.specs.List.{flat_map};
+ghost use Rattle.dwarf_info.specs.Kinds;
+ghost use Rattle.dwarf_info.specs.Kinds.{form_number, abbreviation, abbreviations};
+
+use crate::constants::*;
+use crate::kind::{Attribute, Form, Kind};
+use dwarf_base::constants::DW_FORM_string;
+use dwarf_base::leb::{Leb, uleb};
+use lists::List;
+use std::alloc::{AllocError, Global};
+
+/// Bytes, in order.
+pub type Bytes = List<u8>;
+
+static COMPILE_UNIT: [Attribute; 7] = [
+    Attribute {
+        name: DW_AT_language,
+        form: Form::Data2,
+    },
+    Attribute {
+        name: DW_AT_name,
+        form: Form::Text,
+    },
+    Attribute {
+        name: DW_AT_comp_dir,
+        form: Form::Text,
+    },
+    Attribute {
+        name: DW_AT_stmt_list,
+        form: Form::SectionOffset,
+    },
+    Attribute {
+        name: DW_AT_low_pc,
+        form: Form::Address,
+    },
+    Attribute {
+        name: DW_AT_high_pc,
+        form: Form::Data4,
+    },
+    Attribute {
+        name: DW_AT_loclists_base,
+        form: Form::SectionOffset,
+    },
+];
+
+static SUBPROGRAM: [Attribute; 3] = [
+    Attribute {
+        name: DW_AT_name,
+        form: Form::Text,
+    },
+    Attribute {
+        name: DW_AT_low_pc,
+        form: Form::Address,
+    },
+    Attribute {
+        name: DW_AT_high_pc,
+        form: Form::Data4,
+    },
+];
+
+static TYPED: [Attribute; 3] = [
+    Attribute {
+        name: DW_AT_name,
+        form: Form::Text,
+    },
+    Attribute {
+        name: DW_AT_type,
+        form: Form::Reference,
+    },
+    Attribute {
+        name: DW_AT_location,
+        form: Form::LocationList,
+    },
+];
+
+static UNTYPED: [Attribute; 2] = [
+    Attribute {
+        name: DW_AT_name,
+        form: Form::Text,
+    },
+    Attribute {
+        name: DW_AT_location,
+        form: Form::LocationList,
+    },
+];
+
+static BASE_TYPE: [Attribute; 3] = [
+    Attribute {
+        name: DW_AT_name,
+        form: Form::Text,
+    },
+    Attribute {
+        name: DW_AT_byte_size,
+        form: Form::Data1,
+    },
+    Attribute {
+        name: DW_AT_encoding,
+        form: Form::Data1,
+    },
+];
+
+/// The section `.debug_abbrev`.
+#[tactic(auto, unfolding(crate::specs::Kinds::abbreviations))]
+pub fn write_abbrev(alloc: Global) -> Result<Bytes, AllocError>
+    ensures { IfOk result (λ bytes. bytes ≡ abbreviations) }
+{
+    let mut out = Vec::new(alloc);
+    push_abbreviation(&mut out, Kind::CompileUnit)?;
+    push_abbreviation(&mut out, Kind::Subprogram)?;
+    push_abbreviation(&mut out, Kind::TypedParameter)?;
+    push_abbreviation(&mut out, Kind::Parameter)?;
+    push_abbreviation(&mut out, Kind::TypedVariable)?;
+    push_abbreviation(&mut out, Kind::Variable)?;
+    push_abbreviation(&mut out, Kind::BaseType)?;
+    out.push(0)?;
+    Ok(List::from(out))
+}
+
+/// Appends the abbreviation of a kind.
+#[tactic(auto, unfolding(crate::specs::Kinds::abbreviation))]
+fn push_abbreviation(out: &mut Vec<u8>, kind: Kind) -> Result<(), AllocError>
+    ensures { OnOk result (out.new.items ≡ out.old.items ++ abbreviation kind) }
+{
+    push_leb(out, &uleb(code(kind) as u64))?;
+    push_leb(out, &uleb(tag(kind) as u64))?;
+    out.push(children(kind))?;
+    push_attributes(out, attributes(kind))?;
+    out.push(0)?;
+    out.push(0)?;
+    Ok(())
+}
+
+/// Appends the attributes of an abbreviation.
+fn push_attributes(out: &mut Vec<u8>, attributes: &[Attribute]) -> Result<(), AllocError>
+    ensures { OnOk result (out.new.items ≡ out.old.items ++ flat_map Kinds.attribute attributes.now) }
+{
+    for attribute in attributes {
+        push_leb(out, &uleb(attribute.name as u64))?;
+        push_leb(out, &uleb(form_number_of(attribute.form) as u64))?;
+    }
+    Ok(())
+}
+
+/// The code of a kind's abbreviation.
+pub fn code(kind: Kind) -> u8
+    ensures { result ≡ Kinds.code kind }
+{
+    match kind {
+        Kind::CompileUnit => 1,
+        Kind::Subprogram => 2,
+        Kind::TypedParameter => 3,
+        Kind::Parameter => 4,
+        Kind::TypedVariable => 5,
+        Kind::Variable => 6,
+        Kind::BaseType => 7,
+    }
+}
+
+/// The tag of a kind (DWARF 5 section 7.5.3).
+fn tag(kind: Kind) -> u8
+    ensures { result ≡ Kinds.tag kind }
+{
+    match kind {
+        Kind::CompileUnit => DW_TAG_compile_unit,
+        Kind::Subprogram => DW_TAG_subprogram,
+        Kind::TypedParameter | Kind::Parameter => DW_TAG_formal_parameter,
+        Kind::TypedVariable | Kind::Variable => DW_TAG_variable,
+        Kind::BaseType => DW_TAG_base_type,
+    }
+}
+
+/// Whether entries of a kind have children (DWARF 5 section 7.5.3).
+fn children(kind: Kind) -> u8
+    ensures { result ≡ Kinds.children kind }
+{
+    match kind {
+        Kind::CompileUnit | Kind::Subprogram => DW_CHILDREN_yes,
+        Kind::TypedParameter
+        | Kind::Parameter
+        | Kind::TypedVariable
+        | Kind::Variable
+        | Kind::BaseType => DW_CHILDREN_no,
+    }
+}
+
+/// The attributes of a kind, in order.
+fn attributes(kind: Kind) -> &'static [Attribute]
+    ensures { result.now ≡ Kinds.attributes kind }
+{
+    match kind {
+        Kind::CompileUnit => &COMPILE_UNIT,
+        Kind::Subprogram => &SUBPROGRAM,
+        Kind::TypedParameter | Kind::TypedVariable => &TYPED,
+        Kind::Parameter | Kind::Variable => &UNTYPED,
+        Kind::BaseType => &BASE_TYPE,
+    }
+}
+
+/// The number of a form (DWARF 5 section 7.5.6).
+fn form_number_of(form: Form) -> u8
+    ensures { result ≡ form_number form }
+{
+    match form {
+        Form::Address => DW_FORM_addr,
+        Form::Data1 => DW_FORM_data1,
+        Form::Data2 => DW_FORM_data2,
+        Form::Data4 => DW_FORM_data4,
+        Form::Text => DW_FORM_string,
+        Form::Reference => DW_FORM_ref4,
+        Form::SectionOffset => DW_FORM_sec_offset,
+        Form::LocationList => DW_FORM_loclistx,
+    }
+}
+
+/// Appends a LEB128 number.
+pub fn push_leb(out: &mut Vec<u8>, number: &Leb) -> Result<(), AllocError>
+    ensures { OnOk result (out.new.items ≡ out.old.items ++ number.now) }
+{
+    out.extend_from_slice(number.as_slice())
+}

@@ -1,0 +1,97 @@
+//! The constants of DWARF 5 that entries and their abbreviations have, under the standard's names.
+
+ghost use Rattle.std.specs.Prelude.{◌≡◌};
+ghost use Rattle.dwarf_info.specs.Standard;
+
+/// A parameter of a function (DWARF 5 section 7.5.3).
+pub const DW_TAG_formal_parameter: u8 = 0x05;
+/// A unit that is compiled (section 7.5.3).
+pub const DW_TAG_compile_unit: u8 = 0x11;
+/// A type of the language (section 7.5.3).
+pub const DW_TAG_base_type: u8 = 0x24;
+/// A function (section 7.5.3).
+pub const DW_TAG_subprogram: u8 = 0x2e;
+/// A variable (section 7.5.3).
+pub const DW_TAG_variable: u8 = 0x34;
+
+/// The entry has no children (section 7.5.3).
+pub const DW_CHILDREN_no: u8 = 0x00;
+/// The entry has children, and a zero byte ends them (section 7.5.3).
+pub const DW_CHILDREN_yes: u8 = 0x01;
+
+/// Where the value is (section 7.5.4).
+pub const DW_AT_location: u8 = 0x02;
+/// The name in the source (section 7.5.4).
+pub const DW_AT_name: u8 = 0x03;
+/// How many bytes the type has (section 7.5.4).
+pub const DW_AT_byte_size: u8 = 0x0b;
+/// Where the line number table of the unit begins (section 7.5.4).
+pub const DW_AT_stmt_list: u8 = 0x10;
+/// The first address (section 7.5.4).
+pub const DW_AT_low_pc: u8 = 0x11;
+/// How many bytes of code there are (section 7.5.4).
+pub const DW_AT_high_pc: u8 = 0x12;
+/// The language of the source (section 7.5.4).
+pub const DW_AT_language: u8 = 0x13;
+/// The directory of the compilation (section 7.5.4).
+pub const DW_AT_comp_dir: u8 = 0x1b;
+/// How the type's bytes are read (section 7.5.4).
+pub const DW_AT_encoding: u8 = 0x3e;
+/// The type (section 7.5.4).
+pub const DW_AT_type: u8 = 0x49;
+/// Where the location lists of the unit are counted from (section 7.5.4).
+pub const DW_AT_loclists_base: u8 = 0x8c;
+
+/// An address (sections 7.5.5 and 7.5.6).
+pub const DW_FORM_addr: u8 = 0x01;
+/// A number of two bytes (sections 7.5.5 and 7.5.6).
+pub const DW_FORM_data2: u8 = 0x05;
+/// A number of four bytes (sections 7.5.5 and 7.5.6).
+pub const DW_FORM_data4: u8 = 0x06;
+/// A number of one byte (sections 7.5.5 and 7.5.6).
+pub const DW_FORM_data1: u8 = 0x0b;
+/// An entry, by its offset of four bytes from the unit's first byte (sections 7.5.5 and 7.5.6).
+pub const DW_FORM_ref4: u8 = 0x13;
+/// A place in another section, by its offset of four bytes (sections 7.5.5 and 7.5.6).
+pub const DW_FORM_sec_offset: u8 = 0x17;
+/// A location list, by its number (sections 7.5.5 and 7.5.6).
+pub const DW_FORM_loclistx: u8 = 0x22;
+
+/// A unit that is compiled (section 7.5.1).
+pub const DW_UT_compile: u8 = 0x01;
+/// C, as of 1999 (section 7.12).
+pub const DW_LANG_C99: u16 = 0x000c;
+/// The offset in `.debug_loclists` behind its header (section 7.29).
+pub const LOCLISTS_BASE: u32 = 12;
+
+/// The constants are the standard's numbers.
+pub fn standard_numbers()
+    ensures tag_formal_parameter { DW_TAG_formal_parameter ≡ Standard.DW_TAG_formal_parameter }
+    ensures tag_compile_unit { DW_TAG_compile_unit ≡ Standard.DW_TAG_compile_unit }
+    ensures tag_base_type { DW_TAG_base_type ≡ Standard.DW_TAG_base_type }
+    ensures tag_subprogram { DW_TAG_subprogram ≡ Standard.DW_TAG_subprogram }
+    ensures tag_variable { DW_TAG_variable ≡ Standard.DW_TAG_variable }
+    ensures children_no { DW_CHILDREN_no ≡ Standard.DW_CHILDREN_no }
+    ensures children_yes { DW_CHILDREN_yes ≡ Standard.DW_CHILDREN_yes }
+    ensures at_location { DW_AT_location ≡ Standard.DW_AT_location }
+    ensures at_name { DW_AT_name ≡ Standard.DW_AT_name }
+    ensures at_byte_size { DW_AT_byte_size ≡ Standard.DW_AT_byte_size }
+    ensures at_stmt_list { DW_AT_stmt_list ≡ Standard.DW_AT_stmt_list }
+    ensures at_low_pc { DW_AT_low_pc ≡ Standard.DW_AT_low_pc }
+    ensures at_high_pc { DW_AT_high_pc ≡ Standard.DW_AT_high_pc }
+    ensures at_language { DW_AT_language ≡ Standard.DW_AT_language }
+    ensures at_comp_dir { DW_AT_comp_dir ≡ Standard.DW_AT_comp_dir }
+    ensures at_encoding { DW_AT_encoding ≡ Standard.DW_AT_encoding }
+    ensures at_type { DW_AT_type ≡ Standard.DW_AT_type }
+    ensures at_loclists_base { DW_AT_loclists_base ≡ Standard.DW_AT_loclists_base }
+    ensures form_addr { DW_FORM_addr ≡ Standard.DW_FORM_addr }
+    ensures form_data2 { DW_FORM_data2 ≡ Standard.DW_FORM_data2 }
+    ensures form_data4 { DW_FORM_data4 ≡ Standard.DW_FORM_data4 }
+    ensures form_data1 { DW_FORM_data1 ≡ Standard.DW_FORM_data1 }
+    ensures form_ref4 { DW_FORM_ref4 ≡ Standard.DW_FORM_ref4 }
+    ensures form_sec_offset { DW_FORM_sec_offset ≡ Standard.DW_FORM_sec_offset }
+    ensures form_loclistx { DW_FORM_loclistx ≡ Standard.DW_FORM_loclistx }
+    ensures ut_compile { DW_UT_compile ≡ Standard.DW_UT_compile }
+    ensures lang_c99 { DW_LANG_C99 ≡ Standard.DW_LANG_C99 }
+    ensures loclists_base { LOCLISTS_BASE ≡ Standard.LOCLISTS_BASE }
+{}

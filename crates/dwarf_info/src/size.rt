@@ -1,0 +1,141 @@
+//! How many bytes a section has.
+
+ghost use Rattle.std.specs.Prelude.{◌≡◌, ◌+◌, ◌^◌, ◌≤◌, ◌↔◌, ℕ, length, IsNone, IfSome};
+ghost use Rattle.std.specs.List.{flat_map};
+ghost use Rattle.dwarf_base.specs.Leb.{uleb_of};
+ghost use Rattle.dwarf_info.specs.Kinds;
+ghost use Rattle.dwarf_info.specs.Entries.{named, entry, base_type, variable, subprogram, compile_unit, spelling};
+ghost use Rattle.dwarf_info.specs.steps.Parts.{type_bytes, variable_bytes, function_bytes};
+ghost use Rattle.dwarf_info.specs.steps.Size.{capped};
+
+use crate::abbreviation::code;
+use crate::entry::text_of;
+use crate::kind::Kind;
+use crate::unit::{BaseEntry, FunctionEntry, Unit, VariableEntry};
+use dwarf_base::leb::uleb;
+
+/// A section has fewer bytes than this.
+const SECTION_LIMIT: usize = 1 << 31;
+/// The bytes of the unit's header.
+const HEADER: usize = 12;
+
+/// The bytes of the section `.debug_info` of a unit, and `None` exactly from 2^31 bytes on. It takes no memory.
+pub fn info_size(u: &Unit) -> Option<u32>
+    ensures none { IsNone result ↔ (2 ^ 31 ≤ length (spelling u.now)) }
+    ensures size { IfSome result (λ size. size ≡ length (spelling u.now)) }
+{
+    let size = section_len(u);
+    if size < SECTION_LIMIT {
+        Some(size as u32)
+    } else {
+        None
+    }
+}
+
+/// The bytes of the section.
+pub fn section_len(u: &Unit) -> usize
+    ensures { result ≡ capped (length (spelling u.now)) }
+{
+    (HEADER + 1)
+        .saturating_add(compile_unit_len(u))
+        .saturating_add(types_len(u.types.as_slice()))
+        .saturating_add(functions_len(u.functions.as_slice()))
+}
+
+/// The bytes of the types.
+fn types_len(types: &[BaseEntry]) -> usize
+    ensures { result ≡ capped (length (flat_map type_bytes types.now)) }
+{
+    let mut len: usize = 0;
+    for base in types {
+        len = len.saturating_add(base_type_len(base));
+    }
+    len
+}
+
+/// The bytes of the functions, with their variables.
+fn functions_len(functions: &[FunctionEntry]) -> usize
+    ensures { (offset : ℕ → ℕ) → result ≡ capped (length (flat_map (function_bytes offset) functions.now)) }
+{
+    let mut len: usize = 0;
+    for function in functions {
+        len = len.saturating_add(function_len(function));
+    }
+    len
+}
+
+/// The bytes of a function, with its variables.
+fn function_len(f: &FunctionEntry) -> usize
+    ensures { (offset : ℕ → ℕ) → result ≡ capped (length (function_bytes offset f.now)) }
+{
+    subprogram_len(f)
+        .saturating_add(variables_len(f.variables.as_slice()))
+        .saturating_add(1)
+}
+
+/// The bytes of variables.
+fn variables_len(variables: &[VariableEntry]) -> usize
+    ensures { (offset : ℕ → ℕ) → result ≡ capped (length (flat_map (variable_bytes offset) variables.now)) }
+{
+    let mut len: usize = 0;
+    for variable in variables {
+        len = len.saturating_add(variable_len(variable));
+    }
+    len
+}
+
+/// The bytes of the entry of a unit, without its children.
+#[tactic(auto, unfolding(crate::specs::Entries::entry))]
+fn compile_unit_len(u: &Unit) -> usize
+    ensures { result ≡ capped (length (entry (compile_unit u.now))) }
+{
+    (code_len(Kind::CompileUnit) + 22)
+        .saturating_add(text_len(u.name.as_slice()))
+        .saturating_add(text_len(u.dir.as_slice()))
+}
+
+/// The bytes of the entry of a type.
+#[tactic(auto, unfolding(crate::specs::Entries::entry))]
+fn base_type_len(b: &BaseEntry) -> usize
+    ensures { result ≡ capped (length (entry (base_type b.now))) }
+{
+    (code_len(Kind::BaseType) + 2).saturating_add(text_len(b.name.as_slice()))
+}
+
+/// The bytes of the entry of a function, without its children.
+#[tactic(auto, unfolding(crate::specs::Entries::entry))]
+fn subprogram_len(f: &FunctionEntry) -> usize
+    ensures { result ≡ capped (length (entry (subprogram f.now))) }
+{
+    (code_len(Kind::Subprogram) + 12).saturating_add(text_len(f.name.as_slice()))
+}
+
+/// The bytes of the entry of a parameter or variable.
+#[tactic(auto, unfolding(crate::specs::Entries::entry))]
+fn variable_len(v: &VariableEntry) -> usize
+    ensures { (offset : ℕ → ℕ) → result ≡ capped (length (entry (variable offset v.now))) }
+{
+    let name = text_len(v.name.as_slice());
+    let list = uleb(v.list as u64).len();
+    match (v.argument, v.base) {
+        (true, Some(_)) => (code_len(Kind::TypedParameter) + 4 + list).saturating_add(name),
+        (true, None) => (code_len(Kind::Parameter) + list).saturating_add(name),
+        (false, Some(_)) => (code_len(Kind::TypedVariable) + 4 + list).saturating_add(name),
+        (false, None) => (code_len(Kind::Variable) + list).saturating_add(name),
+    }
+}
+
+/// The bytes of the code of a kind's abbreviation.
+fn code_len(kind: Kind) -> usize
+    ensures exact { result ≡ length (uleb_of (Kinds.code kind)) }
+    ensures within { result ≤ 10 }
+{
+    uleb(code(kind) as u64).len()
+}
+
+/// The bytes of a text: a name up to its first zero byte, and a zero byte.
+fn text_len(name: &[u8]) -> usize
+    ensures { result ≡ length (named name.now) + 1 }
+{
+    text_of(name).len() + 1
+}

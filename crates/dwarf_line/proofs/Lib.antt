@@ -1,0 +1,10 @@
+pub mod SpellingLemmas
+pub mod WriteLoops
+pub mod Numbers
+pub mod ReadLoops
+pub mod Groups
+pub mod Program
+pub mod Fixed
+pub mod Header
+pub mod Sections
+pub mod LastRow

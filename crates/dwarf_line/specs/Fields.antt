@@ -1,0 +1,67 @@
+-- The fields of a section, read from the left: a value and the bytes behind it, or, where a field is wrong, how many bytes are left
+-- from its first one on.
+use Rattle.std.specs.Prelude.{ℕ, zero, suc, ℤ, pos, negsuc, ◌+◌, ◌-◌, ◌+ℤ◌, ◌-ℤ◌, ◌^◌, Option, Some, None, Result, Ok, Err, List, [], ◌∷◌, length, take, drop, ◌==◌, nat_eq, nat_lt, if◌then◌else◌}
+use Rattle.std.specs.Option.{ok_or}
+use Rattle.std.specs.List.{starts_with}
+use Rattle.std.specs.Int.{Width, byte_len, from_le_bytes}
+use Rattle.dwarf_base.specs.Leb.{uleb_of, sleb_of, unsigned_value, signed_value}
+
+-- a field, and then what is read behind it
+infixl 10 ◌>>=◌
+abbrev pub ◌>>=◌ : {A B : Type 0} → Result A ℕ → (A → Result B ℕ) → Result B ℕ
+(Ok x) >>= f = f x
+(Err left) >>= f = Err left
+
+-- fields of one byte that have one value each
+abbrev pub constants_at : List ℕ → List ℕ → Result (List ℕ) ℕ
+constants_at [] bytes = Ok bytes
+constants_at (n ∷ fields) [] = Err 0
+constants_at (n ∷ fields) (b ∷ bytes) = if b == n then constants_at fields bytes else Err (length (b ∷ bytes))
+
+-- a little-endian number
+abbrev pub number_at : Width → List ℕ → Result (ℕ × List ℕ) ℕ
+number_at w bytes =
+    if nat_lt (length bytes) (byte_len w) then Err (length bytes)
+    else Ok (from_le_bytes w (take (byte_len w) bytes), drop (byte_len w) bytes)
+
+-- the bytes up to the first one without its high bit: those of a LEB128 number (section 7.6)
+abbrev pub leb_front : List ℕ → List ℕ
+leb_front [] = []
+leb_front (b ∷ bytes) = if nat_lt b 128 then b ∷ [] else b ∷ leb_front bytes
+
+-- a number that has this spelling, which must stand there
+abbrev pub spelled_at : (ℕ → List ℕ) → List ℕ → Option ℕ → Result (ℕ × List ℕ) ℕ
+spelled_at spell bytes None = Err (length bytes)
+spelled_at spell bytes (Some n) =
+    if starts_with nat_eq bytes (spell n) then Ok (n, drop (length (spell n)) bytes) else Err (length bytes)
+
+-- a number, where it is below a limit
+abbrev pub below : ℕ → ℕ → Option ℕ
+below limit n = if nat_lt n limit then Some n else None
+
+-- a signed number, where it is not negative and below a limit
+abbrev pub natural_below : ℕ → ℤ → Option ℕ
+natural_below limit (pos n) = below limit n
+natural_below limit (negsuc n) = None
+
+-- an unsigned LEB128 number below a limit, in its shortest spelling
+unfoldable pub uleb_at : ℕ → List ℕ → Result (ℕ × List ℕ) ℕ
+uleb_at limit bytes = spelled_at uleb_of bytes (below limit (unsigned_value (leb_front bytes)))
+
+-- how far an address advances, as an unsigned LEB128 number; it is told where it leads, which is below 2^64
+unfoldable pub advanced_at : ℕ → List ℕ → Result (ℕ × List ℕ) ℕ
+advanced_at from bytes = spelled_at (λ to. uleb_of (to - from)) bytes (below (2 ^ 64) (from + unsigned_value (leb_front bytes)))
+
+-- how far a line advances, as a signed LEB128 number; it is told where it leads, which is 0 to 2^32 - 1
+unfoldable pub line_at : ℕ → List ℕ → Result (ℕ × List ℕ) ℕ
+line_at from bytes = spelled_at (λ to. sleb_of (pos to -ℤ pos from)) bytes (natural_below (2 ^ 32) (pos from +ℤ signed_value (leb_front bytes)))
+
+-- what is behind the first zero byte
+abbrev pub behind_zero : List ℕ → Option (List ℕ)
+behind_zero [] = None
+behind_zero (zero ∷ bytes) = Some bytes
+behind_zero (suc b ∷ bytes) = behind_zero bytes
+
+-- a text, which ends by its first zero byte: what is behind it
+abbrev pub behind_text : List ℕ → Result (List ℕ) ℕ
+behind_text bytes = ok_or (behind_zero bytes) (length bytes)

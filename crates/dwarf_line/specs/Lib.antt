@@ -1,0 +1,7 @@
+pub mod Standard
+pub mod Table
+pub mod Spelling
+pub mod Fields
+pub mod Reading
+pub mod Rows
+pub mod steps
