@@ -1,5 +1,5 @@
-//! The command over the host: the words after the program's name, and standard input and output. What a run does is the
-//! contract of the call that it makes; no contract can say what the host gives and takes.
+//! The command over the host: the words after the program's name, and standard input and output. What a run does is
+//! the contract of the call that it makes; no contract can say what the host gives and takes.
 #![tactic(auto)]
 
 use io_edge::std_sink::StdSink;
@@ -10,8 +10,8 @@ use std::io::Write;
 use std::process::ExitCode;
 use std::{env, io};
 
-/// Runs the command that the program's words are, on standard input and output, and gives its status as the exit code. A
-/// fault is told by a line on `faults`.
+/// Runs the command that the program's words are, on standard input and output, and gives its status as the exit
+/// code. A fault is told by a line on `faults`.
 pub fn run<W: Write + Drop>(rt: &HostRuntime, faults: W) -> ExitCode {
     let mut input = StdSource::new(rt.stdin());
     let mut output = StdSink::new(rt.stdout());

@@ -1,5 +1,5 @@
-//! The program on a text that is refused, with faults told on standard output: the merge gate compares a program's status and
-//! standard output alone, so it sees the fault's line here.
+//! The program on a text that is refused, with faults told on standard output: the merge gate compares a program's
+//! status and standard output alone, so it sees the fault's line here.
 #![tactic(auto)]
 
 use mirdwarf_host::run;

@@ -88,7 +88,9 @@ plain_kind (AddImmediate to from i k) h =
     let from_below = source_below from (both_right (is_target to) (is_source from) registers) in
     let fits = both_right (is_target to && is_source from) (is_immediate i) front in (
       has_word (machine_op (Immediate Addi) to from 0 i)
-          (both (nat_lt to 32 && nat_lt from 32 && true) (is_immediate i) (both (nat_lt to 32 && nat_lt from 32) true (both (nat_lt to 32) (nat_lt from 32) (below_register to to_below) (below_register from from_below)) refl) fits),
+          (both (nat_lt to 32 && nat_lt from 32 && true) (is_immediate i)
+          (both (nat_lt to 32 && nat_lt from 32) true (both (nat_lt to 32) (nat_lt from 32) (below_register to to_below)
+          (below_register from from_below)) refl) fits),
       add_row to from (word i) to_below (target_spare to target) from_below,
       three (Def to) (Use from) (Imm i) refl refl,
     )
@@ -101,7 +103,8 @@ plain_kind (Add to left right k) h =
     let right_below = source_below right (both_right (is_target to && is_source left) (is_source right) front) in (
       has_word (machine_op (Registers Sum) to left right (pos 0))
           (both (nat_lt to 32 && nat_lt left 32 && nat_lt right 32) true
-          (both (nat_lt to 32 && nat_lt left 32) (nat_lt right 32) (both (nat_lt to 32) (nat_lt left 32) (below_register to to_below) (below_register left left_below)) (below_register right right_below)) refl),
+          (both (nat_lt to 32 && nat_lt left 32) (nat_lt right 32)
+          (both (nat_lt to 32) (nat_lt left 32) (below_register to to_below) (below_register left left_below)) (below_register right right_below)) refl),
       (to_below, target_spare to target),
       three (Def to) (Use left) (Use right) refl refl,
     )
@@ -113,7 +116,8 @@ plain_kind (Return (Some r)) h = (refl, tt, λ o. refl)
 pub plain_items : (n : ℕ) (lines : List Line) → list_all (λ l. is_allowed l.statement) lines ≡ true → All IsPlain (items_from n lines)
 plain_items n [] h = All-nil IsPlain
 plain_items n (l ∷ ls) h =
-    All-cons IsPlain (item_of n l) (items_from (suc n) ls) (plain_kind l.statement (both_left (is_allowed l.statement) (list_all (λ l. is_allowed l.statement) ls) h))
+    All-cons IsPlain (item_of n l) (items_from (suc n) ls) (plain_kind l.statement
+    (both_left (is_allowed l.statement) (list_all (λ l. is_allowed l.statement) ls) h))
     (plain_items (suc n) ls (both_right (is_allowed l.statement) (list_all (λ l. is_allowed l.statement) ls) h))
 
 pub length-items_from : (n : ℕ) (lines : List Line) → length (items_from n lines) ≡ length lines

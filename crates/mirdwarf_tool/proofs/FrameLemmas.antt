@@ -36,5 +36,6 @@ kind_same (Return (Some r)) h = refl
 pub items_unframed : (n : ℕ) (lines : List Line) → list_all (λ l. is_allowed l.statement) lines ≡ true → All IsUnframed (items_from n lines)
 items_unframed n [] h = All-nil IsUnframed
 items_unframed n (l ∷ ls) h =
-    All-cons IsUnframed (item_of n l) (items_from (suc n) ls) (kind_same l.statement (both_left (is_allowed l.statement) (list_all (λ l. is_allowed l.statement) ls) h))
+    All-cons IsUnframed (item_of n l) (items_from (suc n) ls)
+    (kind_same l.statement (both_left (is_allowed l.statement) (list_all (λ l. is_allowed l.statement) ls) h))
     (items_unframed (suc n) ls (both_right (is_allowed l.statement) (list_all (λ l. is_allowed l.statement) ls) h))

@@ -47,7 +47,8 @@ listing name block = listing_of name (length (code_of block.items)) (variables_o
 
 pub image_same : (name : List ℕ) (block : Block) (lists : List (List Range)) → image_of (output_of name block lists) (listing name block) ≡ block_image block
 image_same name block lists =
-    let lines : flat_map line_shown (listed_items 0 block.items ++ []) ≡ straight.lines_of 0 block.items = ap (flat_map line_shown) (append-nil (listed_items 0 block.items)) ∙ lines_same 0 block.items in
+    let lines : flat_map line_shown (listed_items 0 block.items ++ []) ≡ straight.lines_of 0 block.items =
+    ap (flat_map line_shown) (append-nil (listed_items 0 block.items)) ∙ lines_same 0 block.items in
     λ k. record { text = code_of block.items; low = 0; area = 0; lines = lines k }
 
 -- ---- the places of lines
@@ -64,7 +65,8 @@ pub record HasItem (items : List Item) (first n a : ℕ) (line : ItemLine) : Typ
   pub address : a ≡ address_at first items n
   pub kind : line.item.kind ≡ item.kind
 
-pub has_item : (items : List Item) (first n a : ℕ) (l : ItemLine) → slice_get (listed_items first items) n ≡ Some l → l.address ≡ Some a → HasItem items first n a l
+pub has_item : (items : List Item) (first n a : ℕ) (l : ItemLine) → slice_get (listed_items first items) n ≡ Some l → l.address ≡ Some a →
+    HasItem items first n a l
 has_item [] first n a l e here = absurd cc
 has_item (i ∷ items) first zero a l e here =
     let same : item_listed first i ≡ l = cc in
@@ -85,7 +87,8 @@ line_listed (j ∷ items) first (suc n) i at code = line_listed items (cond (is_
 
 -- the lines of items that reach no frame show them
 one_more : (a : ℕ) (i : Item) (items : List Item) → IsUnframed i →
-    map (item_shown no_frame) (listed_items (cond (is_code i.kind) (a + 4) a) items) ≡ items → map (item_shown no_frame) (listed_items a (i ∷ items)) ≡ i ∷ items
+    map (item_shown no_frame) (listed_items (cond (is_code i.kind) (a + 4) a) items) ≡ items → map (item_shown no_frame)
+    (listed_items a (i ∷ items)) ≡ i ∷ items
 one_more a i items kind rest =
     ap (λ (k : ItemKind). record i { kind = k } ∷ map (item_shown no_frame) (listed_items (cond (is_code i.kind) (a + 4) a) items)) kind
     ∙ ap (λ (is : List Item). i ∷ is) rest
@@ -132,7 +135,8 @@ first_lies : (a e : ℕ) (i : Item) (items : List Item) → past_item a i.kind �
 first_lies a e i items past rest = (refl, subst (λ (x : ℕ). LinesLie x (listed_items (cond (is_code i.kind) (a + 4) a) items) e) (sym past) rest)
 
 -- the lines of straight code lie in its bytes
-lines_lie : {b n : ℕ} {items : List Item} {words : List ℕ} → IsStraight b n items words → (a e : ℕ) → e ≡ a + length (flat_map (to_le_bytes w32) words) → LinesLie a (listed_items a items) e
+lines_lie : {b n : ℕ} {items : List Item} {words : List ℕ} → IsStraight b n items words → (a e : ℕ) → e ≡ a + length (flat_map (to_le_bytes w32) words) →
+    LinesLie a (listed_items a items) e
 lines_lie (returns {i = i} {c = c} {k = k} kind own row physical) a e end =
     let word = word_long i.kind c k a kind (ap is_call row) in
     first_lies a e i [] word.past (word.next ∙ sym end)
@@ -141,19 +145,23 @@ lines_lie (goes_on {i = i} {items = items} {words = words} {c = c} {k = k} w kin
     first_lies a e i items word.past (lines_lie rest (cond (is_code i.kind) (a + 4) a) e (omega (arith, end, word.next, length-words w words)))
 lines_lie (marks {i = i} {items = items} {words = words} {v = v} {m = m} kind rest) a e end =
     first_lies a e i items (subst (λ (x : ItemKind). past_item a x ≡ cond (is_code x) (a + 4) a) (sym kind) refl)
-    (lines_lie rest (cond (is_code i.kind) (a + 4) a) e (end ∙ ap (λ (x : ItemKind). cond (is_code x) (a + 4) a + length (flat_map (to_le_bytes w32) words)) (sym kind)))
+    (lines_lie rest (cond (is_code i.kind) (a + 4) a) e (end ∙ ap
+    (λ (x : ItemKind). cond (is_code x) (a + 4) a + length (flat_map (to_le_bytes w32) words)) (sym kind)))
 
 -- a block is laid out so
-pub block_laid_out : (name : List ℕ) (block : Block) → IsStraightImage block (block_image block) → LinesLie 0 (lines_of (listing name block)) (length (code_of block.items))
+pub block_laid_out : (name : List ℕ) (block : Block) → IsStraightImage block (block_image block) → LinesLie 0 (lines_of (listing name block))
+    (length (code_of block.items))
 block_laid_out name block is =
     let end : length (code_of block.items) ≡ length (flat_map (to_le_bytes w32) is.words) = ap length is.text in
-    subst (λ (ls : List ItemLine). LinesLie 0 ls (length (code_of block.items))) (sym (append-nil (listed_items 0 block.items))) (lines_lie is.straight 0 (length (code_of block.items)) (omega (arith, end)))
+    subst (λ (ls : List ItemLine). LinesLie 0 ls (length (code_of block.items))) (sym (append-nil (listed_items 0 block.items)))
+    (lines_lie is.straight 0 (length (code_of block.items)) (omega (arith, end)))
 
 no_line : (n : ℕ) (l : ItemLine) → slice_get [] n ≡ Some l → ⊥
 no_line n l e = cc
 
 -- a line stands in the one block
-in_block : (name : List ℕ) (block : Block) (b n : ℕ) (lb : ListedBlock) (l : ItemLine) → slice_get (blocks_of (listing name block)) b ≡ Some lb → slice_get lb.lines n ≡ Some l →
+in_block : (name : List ℕ) (block : Block) (b n : ℕ) (lb : ListedBlock) (l : ItemLine) → slice_get (blocks_of (listing name block)) b ≡ Some lb →
+    slice_get lb.lines n ≡ Some l →
     (b ≡ 1) × (slice_get (listed_items 0 block.items) n ≡ Some l)
 in_block name block zero n lb l e within =
     let same : record { id = block.id; lines = [] } ≡ lb = cc in

@@ -16,7 +16,8 @@ use Rattle.mir_printer.specs.Printable.{IsNumber, IsSigned, HasNumbers, IsAsDecl
 use Rattle.first_form.specs.declared.line.Line.{Line}
 use Rattle.first_form.specs.declared.line.Statement.{Statement}
 use Rattle.first_form.specs.declared.line.Statement.TheVariants.{AddImmediate, Add, Value, Reference, Return}
-use Rattle.first_form.specs.FirstForm.{is_allowed, is_target, is_source, is_result, is_variable, is_small, is_small_or_none, is_immediate, kind_of, loc_of, item_of, items_from}
+use Rattle.first_form.specs.FirstForm.{is_allowed, is_target, is_source, is_result, is_variable, is_small, is_small_or_none, is_immediate, kind_of}
+use Rattle.first_form.specs.FirstForm.{loc_of, item_of, items_from}
 use Rattle.block_lists.specs.Code.{word_bytes, operation_of, code_bytes, code_of}
 use Rattle.output_text.specs.Shown.{IsPrintableLine, declared_by, not_inlined}
 use Rattle.mirdwarf_tool.specs.Listing.{start_of, item_listed, listed_items}
@@ -63,7 +64,8 @@ kind_printable (AddImmediate to from i k) b h =
     let in_range = both_right (is_target to && is_source from) (is_immediate i) front in (
       record {
         form = and_from (is_immediate i) true in_range refl;
-        numbers = three HasNumbers (Def to) (Use from) (Imm i) (target_number to (both_left (is_target to) (is_source from) registers)) (source_number from (both_right (is_target to) (is_source from) registers)) (immediate_signed i in_range);
+        numbers = three HasNumbers (Def to) (Use from) (Imm i) (target_number to (both_left (is_target to) (is_source from) registers))
+            (source_number from (both_right (is_target to) (is_source from) registers)) (immediate_signed i in_range);
         stack = λ form. three (IsAsDeclared no_objects) (Def to) (Use from) (Imm i) tt tt tt;
       },
       number_or_none k (both_right (is_target to && is_source from && is_immediate i) (is_small_or_none k) h),
@@ -73,14 +75,17 @@ kind_printable (Add to left right k) b h =
     let two = both_left (is_target to && is_source left) (is_source right) front in (
       record {
         form = refl;
-        numbers = three HasNumbers (Def to) (Use left) (Use right) (target_number to (both_left (is_target to) (is_source left) two)) (source_number left (both_right (is_target to) (is_source left) two))
+        numbers = three HasNumbers (Def to) (Use left) (Use right) (target_number to (both_left (is_target to) (is_source left) two))
+            (source_number left (both_right (is_target to) (is_source left) two))
             (source_number right (both_right (is_target to && is_source left) (is_source right) front));
         stack = λ form. three (IsAsDeclared no_objects) (Def to) (Use left) (Use right) tt tt tt;
       },
       number_or_none k (both_right (is_target to && is_source left && is_source right) (is_small_or_none k) h),
     )
-kind_printable (Value zero v) true h = (record { node = variable_number v (both_right (is_source 0) (is_variable v) h); inlined = refl; part = tt }, omega arith)
-kind_printable (Value zero v) false h = (record { node = variable_number v (both_right (is_source 0) (is_variable v) h); inlined = refl; part = tt }, omega arith)
+kind_printable (Value zero v) true h =
+    (record { node = variable_number v (both_right (is_source 0) (is_variable v) h); inlined = refl; part = tt }, omega arith)
+kind_printable (Value zero v) false h =
+    (record { node = variable_number v (both_right (is_source 0) (is_variable v) h); inlined = refl; part = tt }, omega arith)
 kind_printable (Value (suc r) v) true h = (
   record { node = variable_number v (both_right (is_source (suc r)) (is_variable v) h); inlined = refl; part = tt },
   source_number (suc r) (both_left (is_source (suc r)) (is_variable v) h),
@@ -100,7 +105,14 @@ kind_printable (Reference v k o) false h =
       (small_number k (both_right (is_variable v) (is_small k) front), small_number o (both_right (is_variable v && is_small k) (is_small o) h)),
     )
 kind_printable (Return None) b h = (record { form = refl; numbers = All-nil HasNumbers; stack = λ form. All-nil (IsAsDeclared no_objects) }, tt)
-kind_printable (Return (Some r)) b h = (record { form = and_from (is_result r) true h refl; numbers = All-cons HasNumbers (ImplicitUse r) [] (result_number r h) (All-nil HasNumbers); stack = λ form. All-cons (IsAsDeclared no_objects) (ImplicitUse r) [] tt (All-nil (IsAsDeclared no_objects)) }, tt)
+kind_printable (Return (Some r)) b h = (
+  record {
+    form = and_from (is_result r) true h refl;
+    numbers = All-cons HasNumbers (ImplicitUse r) [] (result_number r h) (All-nil HasNumbers);
+    stack = λ form. All-cons (IsAsDeclared no_objects) (ImplicitUse r) [] tt (All-nil (IsAsDeclared no_objects));
+  },
+  tt,
+)
 
 start_number : (b : Bool) (a : ℕ) → IsNumber a → IfSome (start_of a b) IsNumber
 start_number true a small = small
@@ -117,7 +129,8 @@ next_low : (b : Bool) (n a : ℕ) → a ≤ 4 * n → cond b (a + 4) a ≤ 4 * s
 next_low true n a low = omega arith
 next_low false n a low = omega arith
 
-pub lines_printable : (n a : ℕ) (ls : List Line) → n + length ls ≤ 8192 → a ≤ 4 * n → list_all (λ l. is_allowed l.statement) ls ≡ true → All (IsPrintableLine not_inlined) (listed_items a (items_from n ls))
+pub lines_printable : (n a : ℕ) (ls : List Line) → n + length ls ≤ 8192 → a ≤ 4 * n → list_all (λ l. is_allowed l.statement) ls ≡ true → All
+    (IsPrintableLine not_inlined) (listed_items a (items_from n ls))
 lines_printable n a [] few low h = All-nil (IsPrintableLine not_inlined)
 lines_printable n a (l ∷ ls) few low h =
     let here : n < 8192 = omega arith in
@@ -125,7 +138,8 @@ lines_printable n a (l ∷ ls) few low h =
     let after : ℕ = cond (is_code (item_of n l).kind) (a + 4) a in
     All-cons (IsPrintableLine not_inlined) (item_listed a (item_of n l)) (listed_items (cond (is_code (item_of n l).kind) (a + 4) a) (items_from (suc n) ls))
     (item_printable n a l here less (both_left (is_allowed l.statement) (list_all (λ l. is_allowed l.statement) ls) h))
-    (lines_printable (suc n) (cond (is_code (item_of n l).kind) (a + 4) a) ls (omega arith) (next_low (is_code (item_of n l).kind) n a low) (both_right (is_allowed l.statement) (list_all (λ l. is_allowed l.statement) ls) h))
+    (lines_printable (suc n) (cond (is_code (item_of n l).kind) (a + 4) a) ls (omega arith) (next_low (is_code (item_of n l).kind) n a low)
+    (both_right (is_allowed l.statement) (list_all (λ l. is_allowed l.statement) ls) h))
 
 word_few : (o : Option MachineOp) → length (word_bytes o) ≤ 4
 word_few None = omega arith

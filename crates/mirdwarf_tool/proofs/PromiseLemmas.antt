@@ -68,11 +68,13 @@ first_of v t p q e f =
     let is : IsFirstPlace v t (Some p) = subst (IsFirstPlace v t) e f in
     record { named = is.0; holds = is.1; first = is.2 }
 
-no_first : (v : VarId) (gives : ℕ → Place → Type 0) (a : ℕ) (t : Tokens) (q : Option Place) → IsFirstPlace v t q → ((p : Place) → q ≡ Some p → gives a p) → ((p : Place) → gives a p → ⊥) → (p : Place) → IsPlace p → Holds v t p → ⊥
+no_first : (v : VarId) (gives : ℕ → Place → Type 0) (a : ℕ) (t : Tokens) (q : Option Place) → IsFirstPlace v t q → ((p : Place) → q ≡ Some p → gives a p) →
+    ((p : Place) → gives a p → ⊥) → (p : Place) → IsPlace p → Holds v t p → ⊥
 no_first v gives a t None f given never p named h = f p named h
 no_first v gives a t (Some r) f given never p named h = never r (given r refl)
 
-code_told : (v : VarId) (gives : ℕ → Place → Type 0) (n a : ℕ) (t : Tokens) (i : Item) (items : List Item) → is_code i.kind ≡ true → Told v gives n a t (i ∷ items)
+code_told : (v : VarId) (gives : ℕ → Place → Type 0) (n a : ℕ) (t : Tokens) (i : Item) (items : List Item) → is_code i.kind ≡ true → Told v gives n a t
+    (i ∷ items)
     → (x : ℕ) → a ≤ x → x < a + 4 → Firsts v gives x t
 code_told v gives n a t i items code told x from within =
     let at = walk_at_code code told.walk in
@@ -96,14 +98,16 @@ code_untold v gives a t items untold = record {
   no_one = λ never p named h. no_token v t p untold.none h;
 }
 
-firsts : (v : VarId) (gives : ℕ → Place → Type 0) (n a : ℕ) (t : Tokens) (i : Item) (items : List Item) → is_code i.kind ≡ true → Walked v gives n a t (i ∷ items)
+firsts : (v : VarId) (gives : ℕ → Place → Type 0) (n a : ℕ) (t : Tokens) (i : Item) (items : List Item) → is_code i.kind ≡ true → Walked v gives n a t
+    (i ∷ items)
     → (x : ℕ) → a ≤ x → x < a + 4 → Firsts v gives x t
 firsts v gives n a t i items code walked x from within = elim walked [
   | inl told ↦ code_told v gives n a t i items code told x from within
   | inr untold ↦ code_untold v gives x t (i ∷ items) untold
 ]
 
-past_told : (b : Bool) (v : VarId) (gives : ℕ → Place → Type 0) (n a : ℕ) (t : Tokens) (i : Item) (items : List Item) → is_code i.kind ≡ b → Told v gives n a t (i ∷ items)
+past_told : (b : Bool) (v : VarId) (gives : ℕ → Place → Type 0) (n a : ℕ) (t : Tokens) (i : Item) (items : List Item) → is_code i.kind ≡ b →
+    Told v gives n a t (i ∷ items)
     → Told v gives (suc n) (cond b (a + 4) a) (after_item unchanged n i.kind t) items
 past_told true v gives n a t i items code told =
     let at = walk_at_code code told.walk in
@@ -125,7 +129,8 @@ no_more v gives n a t walked x past = elim walked [
   | inr untold ↦ untold.never x
 ]
 
-past : (b : Bool) (v : VarId) (gives : ℕ → Place → Type 0) (n a : ℕ) (t : Tokens) (i : Item) (items : List Item) → is_code i.kind ≡ b → Walked v gives n a t (i ∷ items)
+past : (b : Bool) (v : VarId) (gives : ℕ → Place → Type 0) (n a : ℕ) (t : Tokens) (i : Item) (items : List Item) → is_code i.kind ≡ b →
+    Walked v gives n a t (i ∷ items)
     → Walked v gives (suc n) (cond b (a + 4) a) (after_item unchanged n i.kind t) items
 past b v gives n a t i items code walked = elim walked [
   | inl told ↦ inl (past_told b v gives n a t i items code told)
@@ -134,11 +139,13 @@ past b v gives n a t i items code walked = elim walked [
 
 -- ---- all variables along the walk
 
-first_from : (lists : VarId → (address : ℕ) → Place → Type 0) (n a : ℕ) (t : Tokens) (items : List Item) → ((v : VarId) → Walked v (lists v) n a t items) → GiveFirst lists unchanged n a t items
+first_from : (lists : VarId → (address : ℕ) → Place → Type 0) (n a : ℕ) (t : Tokens) (items : List Item) → ((v : VarId) → Walked v (lists v) n a t items) →
+    GiveFirst lists unchanged n a t items
 first_from lists n a t [] walked = λ v. no_more v (lists v) n a t (walked v)
 first_from lists n a t (i ∷ items) walked = (
   here (is_code i.kind) refl,
-  first_from lists (suc n) (cond (is_code i.kind) (a + 4) a) (after_item unchanged n i.kind t) items (λ v. past (is_code i.kind) v (lists v) n a t i items refl (walked v)),
+  first_from lists (suc n) (cond (is_code i.kind) (a + 4) a) (after_item unchanged n i.kind t) items
+      (λ v. past (is_code i.kind) v (lists v) n a t i items refl (walked v)),
 )
   where
     here : (b : Bool) → is_code i.kind ≡ b → GiveFirstIf b lists a t
@@ -155,7 +162,8 @@ held_at true lists a t is =
 held_at false lists a t is = tt
 
 -- what is first holds the value
-pub held_from : (lists : VarId → (address : ℕ) → Place → Type 0) (n a : ℕ) (t : Tokens) (items : List Item) → GiveFirst lists unchanged n a t items → GiveHeld lists unchanged n a t items
+pub held_from : (lists : VarId → (address : ℕ) → Place → Type 0) (n a : ℕ) (t : Tokens) (items : List Item) → GiveFirst lists unchanged n a t items →
+    GiveHeld lists unchanged n a t items
 held_from lists n a t [] is = tt
 held_from lists n a t (i ∷ items) is = (
   held_at (is_code i.kind) lists a t is.0,
@@ -183,17 +191,20 @@ has_list (x ∷ vs) (r ∷ lists) zero v each e = record { ranges = r; at = refl
 has_list (x ∷ vs) (r ∷ lists) (suc k) v each e = let more = has_list vs lists k v (omega (arith, each)) e in record { ranges = more.ranges; at = more.at }
 
 -- the line of a variable, and back
-line_at : (vs : List VarId) (j k : ℕ) (v : VarId) → slice_get vs k ≡ Some v → slice_get (listed_variables j vs) k ≡ Some (record { list = j + k; variable = v; name = variable_name v.node })
+line_at : (vs : List VarId) (j k : ℕ) (v : VarId) → slice_get vs k ≡ Some v → slice_get (listed_variables j vs) k ≡ Some
+    (record { list = j + k; variable = v; name = variable_name v.node })
 line_at [] j k v e = absurd cc
 line_at (x ∷ vs) j zero v e =
     let same : x ≡ v = cc in
     let at : j ≡ j + 0 = omega arith in
-    ap (λ (y : VarId). Some (record { list = j; variable = y; name = variable_name y.node })) same ∙ ap (λ (n : ℕ). Some (record { list = n; variable = v; name = variable_name v.node })) at
+    ap (λ (y : VarId). Some (record { list = j; variable = y; name = variable_name y.node })) same
+    ∙ ap (λ (n : ℕ). Some (record { list = n; variable = v; name = variable_name v.node })) at
 line_at (x ∷ vs) j (suc k) v e =
     let at : (j + 1) + k ≡ j + suc k = omega arith in
     line_at vs (j + 1) k v e ∙ ap (λ (n : ℕ). Some (record { list = n; variable = v; name = variable_name v.node })) at
 
-variable_at : (vs : List VarId) (j k : ℕ) (line : ListedVariable) → slice_get (listed_variables j vs) k ≡ Some line → (slice_get vs k ≡ Some line.variable) × (line.list ≡ j + k)
+variable_at : (vs : List VarId) (j k : ℕ) (line : ListedVariable) → slice_get (listed_variables j vs) k ≡ Some line →
+    (slice_get vs k ≡ Some line.variable) × (line.list ≡ j + k)
 variable_at [] j k line e = absurd cc
 variable_at (x ∷ vs) j zero line e =
     let same : record { list = j; variable = x; name = variable_name x.node } ≡ line = cc in
@@ -271,7 +282,8 @@ module _ (name code : List ℕ) (block : Block) (lists : List (List Range)) (pla
       let there = piece.located in
       let same : there.lists ≡ lists = one_section (spelling lists) there.lists lists there.section section in
       let list : slice_get lists k ≡ Some there.ranges = ap (λ (ls : List (List Range)). slice_get ls k) (sym same) ∙ there.list in
-      no_part there.ranges x n part (all_at (All IsOfWhole) lists k there.ranges list (lists_whole variables block.items lists are.each are.exact)) (piece.nth ∙ ap (λ (l : Option Location). nth_piece l n) there.found)
+      no_part there.ranges x n part (all_at (All IsOfWhole) lists k there.ranges list (lists_whole variables block.items lists are.each are.exact))
+      (piece.nth ∙ ap (λ (l : Option Location). nth_piece l n) there.found)
 
   part_never : (v : VarId) (b : Bytes) → v.fragment ≡ Some b → (x : ℕ) (p : Place) → given v x p → ⊥
   part_never v b part x p g = absurd (pieces (subst (λ (f : Option Bytes). GivesPart (spelling lists) g.line.list x f p) part g.given))

@@ -14,7 +14,8 @@ use Rattle.mirdwarf_tool.specs.Fault.{reading_fault, status_of, line_of}
 use Rattle.output_text.specs.Shown.{not_inlined}
 use Rattle.mirdwarf_tool.specs.Listing.{variable_name}
 use Rattle.mirdwarf_tool.specs.Promise.{unsubstituted}
-use Rattle.mirdwarf_tool.specs.Run.{Finishes, one, HasWritten, KeepsHeadline, WroteExactly, WroteWords, Explains, IsTooLong, IsNotBuilt, ReadingEnds, MayBeInForm, IsInForm}
+use Rattle.mirdwarf_tool.specs.Run.{Finishes, one, HasWritten, KeepsHeadline, WroteExactly, WroteWords, Explains, IsTooLong, IsNotBuilt, ReadingEnds}
+use Rattle.mirdwarf_tool.specs.Run.{MayBeInForm, IsInForm}
 use Rattle.mirdwarf_tool.specs.Stream.{Change, MetFault, IsReadFor, IsReadWhole}
 
 pub reading_ends : (input : Change) (e : ReadError) → (e ≡ reading.Failed → MetFault input) → (e ≡ reading.TooLong → IsReadFor input (INPUT_LIMIT + 1)) →

@@ -25,7 +25,8 @@ pub all_few : (lists : List (List Range)) → All (λ ranges. length ranges ≤ 
 all_few lists few whole = λ k d within. few_places (get_or lists k d) (few k d within) (whole k d within)
 
 -- the lists of variables are of whole ones
-pub lists_whole : (variables : List VarId) (items : List Item) (lists : List (List Range)) → length lists ≡ length variables → AreListsFor variables items lists →
+pub lists_whole : (variables : List VarId) (items : List Item) (lists : List (List Range)) → length lists ≡ length variables →
+    AreListsFor variables items lists →
     All (All IsOfWhole) lists
 lists_whole variables items lists each exact = λ k d within.
     let named : k < length variables = omega (arith, within, each) in

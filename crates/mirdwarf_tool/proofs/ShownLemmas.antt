@@ -28,7 +28,9 @@ use Rattle.mirdwarf_tool.specs.Listing.{variable_name, variable_lines, listed_it
 use Rattle.block_lists.specs.Variables.{variables_of}
 use Rattle.block_lists.specs.Walk.{unchanged}
 use Rattle.block_lists.specs.Lists.{AreLists}
-use Rattle.mirdwarf_tool.specs.Promise.{item_shown, block_shown, image_of, Gives, SourceFunction, unsubstituted, OfEach, object_listed, source_variables, contents, IsLaidOut, AreLaidOut, MeetsHeadline, Promises, IsListedAt, IsExactFor, IsExact, ListsSource, ListsSources}
+use Rattle.mirdwarf_tool.specs.Promise.{item_shown, block_shown, image_of, Gives, SourceFunction, unsubstituted, OfEach, object_listed}
+use Rattle.mirdwarf_tool.specs.Promise.{source_variables, contents, IsLaidOut, AreLaidOut, MeetsHeadline, Promises, IsListedAt, IsExactFor, IsExact}
+use Rattle.mirdwarf_tool.specs.Promise.{ListsSource, ListsSources}
 use Rattle.mirdwarf_tool.specs.Words.{HaveWordsOf, HaveWords}
 use Rattle.mirdwarf_tool.specs.Compiled.{no_frame, IsUnframed, IsFirstForm, CompilesBlock, Compiles}
 use Rattle.output_text.proofs.OneOutput.{one_reading}
@@ -109,7 +111,8 @@ pub compiles : (f : Function) (text : List ℕ) → IsFirstForm f → (block : B
 compiles f text first block one is =
     let same : first.block ≡ block = one_block first.block block (sym first.one ∙ one) in
     let straight_image : IsStraightImage block (block_image block) = subst (λ (b : Block). IsStraightImage b (block_image b)) same first.straight in
-    let printable : IsPrintableFunction not_inlined (listing f.name block) = subst (λ (b : Block). IsPrintableFunction not_inlined (listing f.name b)) same first.printable in
+    let printable : IsPrintableFunction not_inlined (listing f.name block) =
+    subst (λ (b : Block). IsPrintableFunction not_inlined (listing f.name b)) same first.printable in
     let shows : Shows not_inlined text (output_of f.name block is.lists) = record {
       spelled = is.written;
       printable = record {
@@ -130,14 +133,16 @@ compiles f text first block one is =
       one = one;
       compiled = is;
       laid_out = of_shown (AreLaidOut variable_name (unsubstituted f ∷ [])) text (output_of f.name block is.lists) shows (record {
-        each = of_each IsLaidOut (unsubstituted f) (listing f.name block) (record { named = refl; objects = ap (map object_listed) (sym first.objects); lines = block_laid_out f.name block straight_image });
+        each = of_each IsLaidOut (unsubstituted f) (listing f.name block)
+            (record { named = refl; objects = ap (map object_listed) (sym first.objects); lines = block_laid_out f.name block straight_image });
         variables = (ap (variable_lines variable_name 0) (one_variables f block one), tt);
         functions = (refl, refl);
       });
       promise = of_shown (Promises (unsubstituted f ∷ [])) text (output_of f.name block is.lists) shows
           (of_each (MeetsHeadline (output_of f.name block is.lists)) (unsubstituted f) (listing f.name block) headline);
       listed = of_shown (ListsSources (unsubstituted f ∷ [])) text (output_of f.name block is.lists) shows
-          (of_each ListsSource (unsubstituted f) (listing f.name block) (record { blocks = ap (λ (x : ℕ × List Item). x ∷ []) (block_back block unframed) ∙ ap (map contents) (sym one); substitutions = refl }));
+          (of_each ListsSource (unsubstituted f) (listing f.name block)
+          (record { blocks = ap (λ (x : ℕ × List Item). x ∷ []) (block_back block unframed) ∙ ap (map contents) (sym one); substitutions = refl }));
       exact = of_shown IsExact text (output_of f.name block is.lists) shows exact;
       words = of_shown HaveWords text (output_of f.name block is.lists) shows
           (All-cons (HaveWordsOf (output_of f.name block is.lists)) (listing f.name block) [] (block_words f.name block is.lists plain)
@@ -151,7 +156,8 @@ item_is : (xs : List Block) (b x : Block) → xs ≡ b ∷ [] → x ≡ get_or x
 item_is xs b x e is = is ∙ ap (λ (bs : List Block). get_or bs 0 x) e
 
 -- the same of what a call gave
-pub compiles_ok : {E : Type 0} (r : Result (List ℕ) E) (f : Function) (name : List ℕ) (blocks : List Block) (block : Block) → IsFirstForm f → name ≡ f.name → blocks ≡ f.blocks → block ≡ get_or blocks 0 block →
+pub compiles_ok : {E : Type 0} (r : Result (List ℕ) E) (f : Function) (name : List ℕ) (blocks : List Block) (block : Block) → IsFirstForm f →
+    name ≡ f.name → blocks ≡ f.blocks → block ≡ get_or blocks 0 block →
     IfOk r (CompilesBlock name block) → IfOk r (Compiles f)
 compiles_ok (Err e) f name blocks block first named all is given = tt
 compiles_ok (Ok text) f name blocks block first named all is given =

@@ -26,7 +26,8 @@ use Rattle.mir_func.specs.declared.block.Block.{Block}
 use Rattle.first_form.specs.declared.line.Line.{Line}
 use Rattle.first_form.specs.declared.line.Statement.{Statement}
 use Rattle.first_form.specs.declared.line.Statement.TheVariants.{AddImmediate, Add, Value, Reference, Return}
-use Rattle.first_form.specs.FirstForm.{is_allowed, is_target, is_source, is_result, is_immediate, is_small_or_none, is_return, ends_in_return, kind_of, items_from, loc_of}
+use Rattle.first_form.specs.FirstForm.{is_allowed, is_target, is_source, is_result, is_immediate, is_small_or_none, is_return, ends_in_return, kind_of}
+use Rattle.first_form.specs.FirstForm.{items_from, loc_of}
 use Rattle.code_layout.specs.MachineStep.{return_word}
 use Rattle.code_layout.specs.Straight.{IsSpare, IsStraight, IsStraightImage, IsWordOf, returns, goes_on, marks}
 use Rattle.code_layout.specs.Straight as straight
@@ -46,11 +47,13 @@ abbrev words_of : List Item → List ℕ
 words_of [] = []
 words_of (i ∷ items) = words_in i.kind ++ words_of items
 
-bytes_of_word : (o : Option MachineOp) (bytes words : List ℕ) → bytes ≡ flat_map (to_le_bytes w32) words → word_bytes o ++ bytes ≡ flat_map (to_le_bytes w32) (word_in o ++ words)
+bytes_of_word : (o : Option MachineOp) (bytes words : List ℕ) → bytes ≡ flat_map (to_le_bytes w32) words → word_bytes o ++ bytes ≡ flat_map
+    (to_le_bytes w32) (word_in o ++ words)
 bytes_of_word None bytes words e = e
 bytes_of_word (Some m) bytes words e = ap (λ (b : List ℕ). to_le_bytes w32 (word_of m) ++ b) e
 
-bytes_more : (k : ItemKind) (bytes words : List ℕ) → bytes ≡ flat_map (to_le_bytes w32) words → code_bytes k ++ bytes ≡ flat_map (to_le_bytes w32) (words_in k ++ words)
+bytes_more : (k : ItemKind) (bytes words : List ℕ) → bytes ≡ flat_map (to_le_bytes w32) words → code_bytes k ++ bytes ≡ flat_map (to_le_bytes w32)
+    (words_in k ++ words)
 bytes_more (Code i n) bytes words e = bytes_of_word (operation_of i) bytes words e
 bytes_more (Mark v m) bytes words e = e
 bytes_more (Phi p n) bytes words e = e
@@ -85,7 +88,8 @@ word_does i m e plain =
       does = λ address. acts address ∙ plain_placed (at_offset address (pos 0)) 0 (row_of i) plain;
     }
 
-on_word : (n : ℕ) (i : Item) {c : Instruction} {k : Option ℕ} (o : Option MachineOp) (items : List Item) (words : List ℕ) → i.kind ≡ Code c k → i.origin ≡ Kept (record { block = 0; item = n })
+on_word : (n : ℕ) (i : Item) {c : Instruction} {k : Option ℕ} (o : Option MachineOp) (items : List Item) (words : List ℕ) → i.kind ≡ Code c k →
+    i.origin ≡ Kept (record { block = 0; item = n })
     → operation_of c ≡ o → IsSome o → straight.IsPlainRow (row_of c) → IsStraight 0 (suc n) items words → IsStraight 0 n (i ∷ items) (word_in o ++ words)
 on_word n i None items words kind own e some plain rest = cc
 on_word n i {c = c} (Some m) items words kind own e some plain rest = goes_on (word_of m) kind own plain (word_does c m e plain) rest
@@ -105,13 +109,15 @@ straight_last : (n : ℕ) (s : Statement) (loc : Loc) → is_allowed s ≡ true 
 straight_last n (Return None) loc h r =
     subst (λ (w : ℕ). IsStraight 0 n (own n (Return None) loc ∷ []) (w ∷ [])) (sym return_spelled) (returns refl refl refl (All-nil (λ (q : ℕ). q < 32)))
 straight_last n (Return (Some x)) loc h r =
-    subst (λ (w : ℕ). IsStraight 0 n (own n (Return (Some x)) loc ∷ []) (w ∷ [])) (sym return_spelled) (returns refl refl refl (physical (nat_eq x 2) x (result_below x h)))
+    subst (λ (w : ℕ). IsStraight 0 n (own n (Return (Some x)) loc ∷ []) (w ∷ [])) (sym return_spelled)
+    (returns refl refl refl (physical (nat_eq x 2) x (result_below x h)))
 straight_last n (AddImmediate to from i k) loc h r = absurd cc
 straight_last n (Add to left right k) loc h r = absurd cc
 straight_last n (Value x v) loc h r = absurd cc
 straight_last n (Reference v k o) loc h r = absurd cc
 
-straight_next : (n : ℕ) (s : Statement) (loc : Loc) (items : List Item) (words : List ℕ) → is_allowed s ≡ true → not (is_return s) ≡ true → IsStraight 0 (suc n) items words
+straight_next : (n : ℕ) (s : Statement) (loc : Loc) (items : List Item) (words : List ℕ) → is_allowed s ≡ true → not (is_return s) ≡ true → IsStraight 0
+    (suc n) items words
     → IsStraight 0 n (own n s loc ∷ items) (words_in (kind_of s) ++ words)
 straight_next n (AddImmediate to from i k) loc items words h r rest =
     let front = both_left (is_target to && is_source from && is_immediate i) (is_small_or_none k) h in
@@ -119,7 +125,8 @@ straight_next n (AddImmediate to from i k) loc items words h r rest =
     let spare = target_spare to (both_left (is_target to) (is_source from) registers) in
     let from_below = source_below from (both_right (is_target to) (is_source from) registers) in
     let plain = plain_kind (AddImmediate to from i k) h in
-    on_word n (own n (AddImmediate to from i k) loc) (in_range (machine_op (word_op.Immediate Addi) to from 0 i)) items words refl refl refl plain.0 (immediate_plain to from (word i) spare from_below) rest
+    on_word n (own n (AddImmediate to from i k) loc) (in_range (machine_op (word_op.Immediate Addi) to from 0 i)) items words refl refl refl plain.0
+    (immediate_plain to from (word i) spare from_below) rest
 straight_next n (Add to left right k) loc items words h r rest =
     let front = both_left (is_target to && is_source left && is_source right) (is_small_or_none k) h in
     let two = both_left (is_target to && is_source left) (is_source right) front in
@@ -127,24 +134,30 @@ straight_next n (Add to left right k) loc items words h r rest =
     let left_below = source_below left (both_right (is_target to) (is_source left) two) in
     let right_below = source_below right (both_right (is_target to && is_source left) (is_source right) front) in
     let plain = plain_kind (Add to left right k) h in
-    on_word n (own n (Add to left right k) loc) (in_range (machine_op (word_op.Registers Sum) to left right (pos 0))) items words refl refl refl plain.0 (spare, left_below, right_below) rest
+    on_word n (own n (Add to left right k) loc) (in_range (machine_op (word_op.Registers Sum) to left right (pos 0))) items words refl refl refl plain.0
+    (spare, left_below, right_below) rest
 straight_next n (Value x v) loc items words h r rest = marks refl rest
 straight_next n (Reference v k o) loc items words h r rest = marks refl rest
 straight_next n (Return x) loc items words h r rest = absurd cc
 
-straight_items : (n : ℕ) (lines : List Line) → list_all (λ l. is_allowed l.statement) lines ≡ true → ends_in_return lines ≡ true → IsStraight 0 n (items_from n lines) (words_of (items_from n lines))
+straight_items : (n : ℕ) (lines : List Line) → list_all (λ l. is_allowed l.statement) lines ≡ true → ends_in_return lines ≡ true → IsStraight 0 n
+    (items_from n lines) (words_of (items_from n lines))
 straight_items n [] h ends = absurd cc
 straight_items n (l ∷ []) h ends = straight_last n l.statement (loc_of l.located) (both_left (is_allowed l.statement) true h) ends
 straight_items n (l ∷ m ∷ ls) h ends =
     straight_next n l.statement (loc_of l.located) (items_from (suc n) (m ∷ ls)) (words_of (items_from (suc n) (m ∷ ls)))
-    (both_left (is_allowed l.statement) (list_all (λ l. is_allowed l.statement) (m ∷ ls)) h) (both_left (not (is_return l.statement)) (ends_in_return (m ∷ ls)) ends)
-    (straight_items (suc n) (m ∷ ls) (both_right (is_allowed l.statement) (list_all (λ l. is_allowed l.statement) (m ∷ ls)) h) (both_right (not (is_return l.statement)) (ends_in_return (m ∷ ls)) ends))
+    (both_left (is_allowed l.statement) (list_all (λ l. is_allowed l.statement) (m ∷ ls)) h)
+    (both_left (not (is_return l.statement)) (ends_in_return (m ∷ ls)) ends)
+    (straight_items (suc n) (m ∷ ls) (both_right (is_allowed l.statement) (list_all (λ l. is_allowed l.statement) (m ∷ ls)) h)
+    (both_right (not (is_return l.statement)) (ends_in_return (m ∷ ls)) ends))
 
-pub straight_image : (lines : List Line) (block : Block) → block.id ≡ 0 → block.items ≡ items_from 0 lines → list_all (λ l. is_allowed l.statement) lines ≡ true → ends_in_return lines ≡ true
+pub straight_image : (lines : List Line) (block : Block) → block.id ≡ 0 → block.items ≡ items_from 0 lines → list_all
+    (λ l. is_allowed l.statement) lines ≡ true → ends_in_return lines ≡ true
     → IsStraightImage block (block_image block)
 straight_image lines block id items h ends = record {
   words = words_of block.items;
-  straight = subst (λ (b : ℕ). IsStraight b 0 block.items (words_of block.items)) (sym id) (subst (λ (xs : List Item). IsStraight 0 0 xs (words_of xs)) (sym items) (straight_items 0 lines h ends));
+  straight = subst (λ (b : ℕ). IsStraight b 0 block.items (words_of block.items)) (sym id)
+      (subst (λ (xs : List Item). IsStraight 0 0 xs (words_of xs)) (sym items) (straight_items 0 lines h ends));
   low = refl;
   area = refl;
   text = code_by_words block.items;

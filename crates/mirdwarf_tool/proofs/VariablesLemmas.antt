@@ -15,7 +15,8 @@ use Rattle.first_form.specs.FirstForm.{AreFirst, Stands, function_of, is_allowed
 use Rattle.mirdwarf_tool.specs.Compiled.{IsFirstForm}
 use Rattle.block_lists.specs.Code.{code_of}
 use Rattle.output_text.specs.Output.{ListedVariable, ListedBlock}
-use Rattle.output_text.specs.Shown.{IsPrintableLine, IsPrintableObject, IsPrintableVariable, IsPrintableEntry, IsPrintableBlock, IsPrintableFunction, not_inlined}
+use Rattle.output_text.specs.Shown.{IsPrintableLine, IsPrintableObject, IsPrintableVariable, IsPrintableEntry, IsPrintableBlock, IsPrintableFunction}
+use Rattle.output_text.specs.Shown.{not_inlined}
 use Rattle.mirdwarf_tool.specs.Listing.{variable_name, listed_variables, listed_items, listing_of}
 use Rattle.block_lists.specs.Variables.{with_variable, with_mark, variables_of}
 use Rattle.mirdwarf_tool.proofs.FirstLemmas.{both_left, both_right, plain_items, length-items_from}
@@ -66,7 +67,8 @@ known_more known (Reference n k o) is h =
 known_more known (Return None) is h = is
 known_more known (Return (Some r)) is h = is
 
-known_all : (known : List VarId) (n : ℕ) (lines : List Line) → IsKnown known → list_all (λ l. is_allowed l.statement) lines ≡ true → IsKnown (variables_of known (items_from n lines))
+known_all : (known : List VarId) (n : ℕ) (lines : List Line) → IsKnown known → list_all (λ l. is_allowed l.statement) lines ≡ true → IsKnown
+    (variables_of known (items_from n lines))
 known_all known n [] is h = is
 known_all known n (l ∷ ls) is h =
     known_all (with_mark known (kind_of l.statement)) (suc n) ls
@@ -84,16 +86,20 @@ two_variables : (lines : List Line) → list_all (λ l. is_allowed l.statement) 
 two_variables lines h = known_two (variables_of [] (items_from 0 lines)) (known_all [] 0 lines no_one h)
 
 -- a listed variable of the two
-listed_printable : (k n : ℕ) (vs : List ListedVariable) → k < 2 → n < 7 → All IsPrintableVariable vs → All IsPrintableVariable (record { list = k; variable = variable_of n; name = variable_name n } ∷ vs)
+listed_printable : (k n : ℕ) (vs : List ListedVariable) → k < 2 → n < 7 → All IsPrintableVariable vs → All IsPrintableVariable
+    (record { list = k; variable = variable_of n; name = variable_name n } ∷ vs)
 listed_printable k n vs few small all =
-    All-cons IsPrintableVariable (record { list = k; variable = variable_of n; name = variable_name n }) vs (record { list = omega arith; node = omega arith; inlined_at = tt; whole = refl }) all
+    All-cons IsPrintableVariable (record { list = k; variable = variable_of n; name = variable_name n }) vs
+    (record { list = omega arith; node = omega arith; inlined_at = tt; whole = refl }) all
 
 known_printable : (known : List VarId) → IsKnown known → All IsPrintableVariable (listed_variables 0 known)
 known_printable _ no_one = All-nil IsPrintableVariable
 known_printable _ four = listed_printable 0 4 [] (omega arith) (omega arith) (All-nil IsPrintableVariable)
 known_printable _ six = listed_printable 0 6 [] (omega arith) (omega arith) (All-nil IsPrintableVariable)
-known_printable _ four_six = listed_printable 0 4 (record { list = 1; variable = variable_of 6; name = variable_name 6 } ∷ []) (omega arith) (omega arith) (listed_printable 1 6 [] (omega arith) (omega arith) (All-nil IsPrintableVariable))
-known_printable _ six_four = listed_printable 0 6 (record { list = 1; variable = variable_of 4; name = variable_name 4 } ∷ []) (omega arith) (omega arith) (listed_printable 1 4 [] (omega arith) (omega arith) (All-nil IsPrintableVariable))
+known_printable _ four_six = listed_printable 0 4 (record { list = 1; variable = variable_of 6; name = variable_name 6 } ∷ []) (omega arith) (omega arith)
+    (listed_printable 1 6 [] (omega arith) (omega arith) (All-nil IsPrintableVariable))
+known_printable _ six_four = listed_printable 0 6 (record { list = 1; variable = variable_of 4; name = variable_name 4 } ∷ []) (omega arith) (omega arith)
+    (listed_printable 1 4 [] (omega arith) (omega arith) (All-nil IsPrintableVariable))
 
 abbrev block_of : List Line → Block
 block_of lines = record { id = 0; items = items_from 0 lines; silent = length lines }
@@ -101,7 +107,8 @@ block_of lines = record { id = 0; items = items_from 0 lines; silent = length li
 size_small : (lines : List Line) → AreFirst lines → IsNumber (length (code_of (items_from 0 lines)))
 size_small lines first = omega (arith, code_few (items_from 0 lines), length-items_from 0 lines, first.items)
 
-listing_printable : (lines : List Line) → AreFirst lines → IsPrintableFunction not_inlined (listing_of (function_of lines).name (length (code_of (items_from 0 lines))) (variables_of [] (items_from 0 lines)) (block_of lines))
+listing_printable : (lines : List Line) → AreFirst lines → IsPrintableFunction not_inlined
+    (listing_of (function_of lines).name (length (code_of (items_from 0 lines))) (variables_of [] (items_from 0 lines)) (block_of lines))
 listing_printable lines first =
     let block : ListedBlock = record { id = 0; lines = listed_items 0 (items_from 0 lines) } in
     record {
@@ -111,7 +118,9 @@ listing_printable lines first =
       variables = known_printable (variables_of [] (items_from 0 lines)) (known_all [] 0 lines no_one first.allowed);
       substitutions = All-nil IsPrintableEntry;
       prologue = All-nil (IsPrintableLine not_inlined);
-      blocks = All-cons (IsPrintableBlock not_inlined) block [] (record { id = omega arith; lines = lines_printable 0 0 lines (omega (arith, first.items)) (omega arith) first.allowed }) (All-nil (IsPrintableBlock not_inlined));
+      blocks = All-cons (IsPrintableBlock not_inlined) block []
+          (record { id = omega arith; lines = lines_printable 0 0 lines (omega (arith, first.items)) (omega arith) first.allowed })
+          (All-nil (IsPrintableBlock not_inlined));
     }
 
 first_of_lines : (lines : List Line) → AreFirst lines → IsFirstForm (function_of lines)

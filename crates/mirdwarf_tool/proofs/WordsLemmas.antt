@@ -69,7 +69,8 @@ code_at (j ∷ items) plain front (suc n) i at code =
     length-append front (code_bytes j.kind)
     ∙ lengthened (is_code j.kind) (length front) (length (code_bytes j.kind)) (kind_size j.kind (All-head IsPlain j items plain)) in
     ap (λ (a : ℕ). take 4 (drop (address_at a items n) (front ++ (code_bytes j.kind ++ code_of items)))) (sym longer)
-    ∙ (ap (λ (bytes : List ℕ). take 4 (drop (address_at (length (front ++ code_bytes j.kind)) items n) bytes)) (front_joined front (code_bytes j.kind) (code_of items))
+    ∙ (ap (λ (bytes : List ℕ). take 4 (drop (address_at (length (front ++ code_bytes j.kind)) items n) bytes))
+    (front_joined front (code_bytes j.kind) (code_of items))
     ∙ code_at items (All-tail IsPlain j items plain) (front ++ code_bytes j.kind) n i at code)
 
 has_word : (text : List ℕ) (f : ListedFunction) (a : ℕ) (i : Instruction) (o : Option MachineOp) → operation_of i ≡ o → IsSome o → IsLaidOutRow (row_of i) →
@@ -83,13 +84,16 @@ has_word text f a i (Some m) e some plain bytes = record {
   stands = bytes ∙ ap word_bytes e;
 }
 
-pub block_words : (name : List ℕ) (block : Block) (lists : List (List Range)) → All IsPlain block.items → HaveWordsOf (output_of name block lists) (listing name block)
+pub block_words : (name : List ℕ) (block : Block) (lists : List (List Range)) → All IsPlain block.items → HaveWordsOf (output_of name block lists)
+    (listing name block)
 block_words name block lists plain n l a i k at here kind =
-    let line : slice_get (listed_items 0 block.items) n ≡ Some l = ap (λ (ls : List ItemLine). slice_get ls n) (sym (append-nil (listed_items 0 block.items))) ∙ at in
+    let line : slice_get (listed_items 0 block.items) n ≡ Some l =
+    ap (λ (ls : List ItemLine). slice_get ls n) (sym (append-nil (listed_items 0 block.items))) ∙ at in
     let found = has_item block.items 0 n a l line here in
     let code : found.item.kind ≡ Code i k = sym found.kind ∙ kind in
     let is : IsPlainKind (Code i k) = subst IsPlainKind code (all_at IsPlain block.items n found.item found.stands plain) in
     let bytes : take 4 (drop a (code_of block.items)) ≡ word_bytes (operation_of i) =
-    ap (λ (x : ℕ). take 4 (drop x (code_of block.items))) found.address ∙ (code_at block.items plain [] n found.item found.stands found.code ∙ ap code_bytes code) in
+    ap (λ (x : ℕ). take 4 (drop x (code_of block.items))) found.address
+    ∙ (code_at block.items plain [] n found.item found.stands found.code ∙ ap code_bytes code) in
     subst (λ (call : Bool). HasBytes call (code_of block.items) (listing name block) a i) (sym (laid_out_no_call (row_of i) is.1))
     (has_word (code_of block.items) (listing name block) a i (operation_of i) refl is.0 is.1 bytes)

@@ -24,8 +24,8 @@ no_frame = record { below = 0; objects = [] }
 abbrev pub IsUnframed : Item → Type 0
 IsUnframed i = raised no_frame i.kind ≡ i.kind
 
--- a function without stack objects, of one block of at most 8,192 plain items, which run straight to a return and reach no frame, with at most two variables, whose listing
--- tells it
+-- a function without stack objects, of one block of at most 8,192 plain items, which run straight to a return and reach no frame,
+-- with at most two variables, whose listing tells it
 pub record IsFirstForm (f : Function) : Type 0 where
   pub block : Block
   pub one : f.blocks ≡ block ∷ []

@@ -16,10 +16,14 @@ use Rattle.block_lists.specs.Variables.{variables_of}
 abbrev pub variable_name : ℕ → List ℕ
 variable_name node = cond (nat_eq node 6) (codes "a") (codes "v")
 
+-- the line of a variable, whose list has this number
+abbrev pub variable_listed : (names : ℕ → List ℕ) → (k : ℕ) → VarId → ListedVariable
+variable_listed names k v = record { list = k; variable = v; name = names v.node }
+
 -- the lines of variables, whose lists have the numbers from k on, and whose names are told by their nodes
 abbrev pub variable_lines : (names : ℕ → List ℕ) → ℕ → List VarId → List ListedVariable
 variable_lines names k [] = []
-variable_lines names k (v ∷ vs) = record { list = k; variable = v; name = names v.node } ∷ variable_lines names (k + 1) vs
+variable_lines names k (v ∷ vs) = variable_listed names k v ∷ variable_lines names (k + 1) vs
 
 -- those of the fixed metadata
 abbrev pub listed_variables : ℕ → List VarId → List ListedVariable

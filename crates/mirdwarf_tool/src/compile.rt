@@ -72,7 +72,8 @@ fn print(
     requires code { length code.now < 2 ^ 32 }
     requires items { length block.now.items < 2 ^ 16 }
     requires variables { length variables.now < 2 ^ 16 }
-    ensures { IfOk result (λ text. text ≡ output.spelling (output_with name.now code.now loclists.now variables.now block.now)) }
+    ensures { IfOk result (λ text.
+        text ≡ output.spelling (output_with name.now code.now loclists.now variables.now block.now)) }
 {
     let mut text = Text::new(alloc);
     push_section(&mut text, ".text", code)?;

@@ -3,7 +3,8 @@
 ghost use Rattle.std.specs.Prelude.{◌≡◌, ◌≢◌, ◌≤◌, ◌↔◌, ◌⊎◌, IfOk, OnOk, OnErr, IfErr, IsErrOf, map, string_bytes};
 ghost use Rattle.mirdwarf_tool.specs.Command.{IsCommand};
 ghost use Rattle.mirdwarf_tool.specs.Fault.{line_of, status_of};
-ghost use Rattle.mirdwarf_tool.specs.Run.{Accepts, IsTooLong, IsNotBuilt, Finishes, KeepsHeadline, WroteExactly, WroteWords};
+ghost use Rattle.mirdwarf_tool.specs.Run.{Accepts, IsTooLong, IsNotBuilt, Finishes};
+ghost use Rattle.mirdwarf_tool.specs.Run.{KeepsHeadline, WroteExactly, WroteWords};
 ghost use Rattle.mirdwarf_tool.specs.Run.{IsCutOff, IsInForm, Explains, ReadingEnds, MayBeInForm};
 ghost use Rattle.mirdwarf_tool.specs.Stream.{change, MetFault, IsTold};
 
@@ -35,7 +36,8 @@ pub fn mirdwarf<S: Source, K: Sink, E: Sink>(
     ensures done { result ≡ Status.Done →
         Finishes (change S.left S.faults input.old input.new) (change K.written K.faults output.old output.new) }
     ensures refused { result ≡ Status.Refused →
-        IsTooLong (change S.left S.faults input.old input.new) ⊎ IsNotBuilt (change S.left S.faults input.old input.new) }
+        IsTooLong (change S.left S.faults input.old input.new)
+        ⊎ IsNotBuilt (change S.left S.faults input.old input.new) }
     ensures usage { (result ≡ Status.Usage) ↔ (IsCommand (map string_bytes words.now) → ⊥) }
     ensures read_fault { result ≡ Status.ReadFault → MetFault (change S.left S.faults input.old input.new) }
     ensures write_fault { result ≡ Status.WriteFault → MetFault (change K.written K.faults output.old output.new) }
@@ -52,7 +54,8 @@ pub fn mirdwarf<S: Source, K: Sink, E: Sink>(
 
     // A text in the first form is compiled, unless a fault is met or memory runs out.
     ensures complete { IsCommand (map string_bytes words.now) → IsInForm (S.left input.old) →
-        ¬ MetFault (change S.left S.faults input.old input.new) → ¬ MetFault (change K.written K.faults output.old output.new) →
+        ¬ MetFault (change S.left S.faults input.old input.new) →
+        ¬ MetFault (change K.written K.faults output.old output.new) →
         (result ≡ Status.Done) ⊎ (result ≡ Status.Memory) }
 
     // What else it leaves: nothing is read where the words are no command, and nothing is written but at the end.

@@ -3,8 +3,10 @@
 ghost use Rattle.std.specs.Prelude.{◌≡◌, ◌++◌, ◌+◌, ◌*◌, ◌^◌, ◌<◌, ◌≤◌, length, OnOk};
 ghost use Rattle.std.specs.Fmt.{decimal};
 ghost use Rattle.std.specs.List.{flat_map};
-ghost use Rattle.output_text.specs.Output.{name_text, name_byte, function_line, function_text, variable_line, inlined_text, origin_text, position_text, start_text, block_line, item_line};
-ghost use Rattle.mirdwarf_tool.specs.Listing.{variable_name, listed_variables, start_of, item_listed, listed_items, listing_of};
+ghost use Rattle.output_text.specs.Output.{name_text, name_byte, function_line, function_text, variable_line};
+ghost use Rattle.output_text.specs.Output.{inlined_text, origin_text, position_text, start_text, block_line, item_line};
+ghost use Rattle.mirdwarf_tool.specs.Listing.{variable_name, variable_listed, listed_variables};
+ghost use Rattle.mirdwarf_tool.specs.Listing.{start_of, item_listed, listed_items, listing_of};
 
 use block_lists::code::is_code;
 use mir_func::block::Block;
@@ -81,7 +83,7 @@ fn push_variables(text: &mut Text, variables: &[VarId]) -> Result<(), AllocError
 }
 
 fn push_variable(text: &mut Text, k: u32, variable: &VarId) -> Result<(), AllocError>
-    ensures { OnOk result (text.new ≡ text.old ++ variable_line (record { list = k; variable = variable.now; name = variable_name variable.now.node })) }
+    ensures { OnOk result (text.new ≡ text.old ++ variable_line (variable_listed variable_name k variable.now)) }
 {
     push_numbered(text, "variable ", k)?;
     push_numbered(text, " !", variable.node.number())?;

@@ -18,8 +18,10 @@ returns c =
     let lists = c.in_ok-lists.lists in
     let items : c.as_slice-items.result.now ≡ block.items = c.as_slice-items.ensures in
     let variables : c.as_slice.result.now ≡ variables_of [] block.items = c.as_slice.ensures ∙ c.in_ok-variables.ensures.value ∙ ap (variables_of []) items in
-    let exact : (k : ℕ) (v : VarId) (ranges : List Range) → slice_get (variables_of [] block.items) k ≡ Some v → slice_get lists k ≡ Some ranges → IsListFor v block.items ranges =
-    λ k v ranges variable list. subst (λ (xs : List Item). IsListFor v xs ranges) items (c.in_ok-lists.ensures.exact k v ranges (ap (λ (vs : List VarId). slice_get vs k) variables ∙ variable) list) in
+    let exact : (k : ℕ) (v : VarId) (ranges : List Range) → slice_get (variables_of [] block.items) k ≡ Some v → slice_get lists k ≡ Some ranges →
+    IsListFor v block.items ranges =
+    λ k v ranges variable list. subst (λ (xs : List Item). IsListFor v xs ranges) items
+    (c.in_ok-lists.ensures.exact k v ranges (ap (λ (vs : List VarId). slice_get vs k) variables ∙ variable) list) in
     let located : AreLists block.items lists = record {
       each = c.in_ok-lists.ensures.each ∙ ap length variables;
       exact = exact;
@@ -39,4 +41,5 @@ returns c =
     }
 
 pub section_of-requires-clause-whole : goal.section_of-requires-clause-whole
-section_of-requires-clause-whole c = lists_whole c.as_slice.result.now c.as_slice-items.result.now c.in_ok-lists.lists c.in_ok-lists.ensures.each c.in_ok-lists.ensures.exact
+section_of-requires-clause-whole c =
+    lists_whole c.as_slice.result.now c.as_slice-items.result.now c.in_ok-lists.lists c.in_ok-lists.ensures.each c.in_ok-lists.ensures.exact

@@ -9,10 +9,15 @@ use Rattle.mirdwarf_tool.proofs.listing.push_listing.Goals as goal
 
 pub returns : goal.returns
 returns c =
-    let two = joined c.args.text.now c.push_function.new.text c.push_variables.new.text (function_line c.args.name.now 0 c.args.size) (flat_map variable_line (listed_variables 0 c.args.variables.now)) c.in_ok-push_function.ensures c.in_ok-push_variables.ensures in
-    let three = joined c.args.text.now c.push_variables.new.text c.push_block.new.text (function_line c.args.name.now 0 c.args.size ++ flat_map variable_line (listed_variables 0 c.args.variables.now)) (block_line c.args.block.now.id) two c.in_ok-push_block.ensures in
+    let two = joined c.args.text.now c.push_function.new.text c.push_variables.new.text (function_line c.args.name.now 0 c.args.size)
+    (flat_map variable_line (listed_variables 0 c.args.variables.now)) c.in_ok-push_function.ensures c.in_ok-push_variables.ensures in
+    let three = joined c.args.text.now c.push_variables.new.text c.push_block.new.text
+    (function_line c.args.name.now 0 c.args.size ++ flat_map variable_line (listed_variables 0 c.args.variables.now))
+    (block_line c.args.block.now.id) two c.in_ok-push_block.ensures in
     ended c.push_items.result c.args.text.now c.push_block.new.text c.push_items.new.text
     (function_line c.args.name.now 0 c.args.size ++ flat_map variable_line (listed_variables 0 c.args.variables.now) ++ block_line c.args.block.now.id)
-    (flat_map item_line (listed_items 0 c.as_slice.result.now)) (function_text (listing_of c.args.name.now c.args.size c.args.variables.now c.args.block.now)) three c.push_items.ensures
-    (ap (λ (is : List Item). function_line c.args.name.now 0 c.args.size ++ flat_map variable_line (listed_variables 0 c.args.variables.now) ++ block_line c.args.block.now.id ++ flat_map item_line (listed_items 0 is)) c.as_slice.ensures
+    (flat_map item_line (listed_items 0 c.as_slice.result.now))
+    (function_text (listing_of c.args.name.now c.args.size c.args.variables.now c.args.block.now)) three c.push_items.ensures
+    (ap (λ (is : List Item). function_line c.args.name.now 0 c.args.size ++ flat_map variable_line
+    (listed_variables 0 c.args.variables.now) ++ block_line c.args.block.now.id ++ flat_map item_line (listed_items 0 is)) c.as_slice.ensures
     ∙ sym (listing_parts c.args.name.now c.args.size c.args.variables.now c.args.block.now))

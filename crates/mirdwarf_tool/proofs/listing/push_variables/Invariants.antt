@@ -5,4 +5,5 @@ use Rattle.mirdwarf_tool.specs.Listing.{listed_variables}
 use Rattle.mirdwarf_tool.proofs.listing.push_variables.Given as goal
 
 abbrev pub invariant-loop-k : goal.invariant-loop-k
-invariant-loop-k l = l.text ++ flat_map variable_line (listed_variables l.k (drop l.k l.variables)) ≡ l.initial.text ++ flat_map variable_line (listed_variables 0 l.variables)
+invariant-loop-k l = l.text ++ flat_map variable_line (listed_variables l.k (drop l.k l.variables)) ≡ l.initial.text ++ flat_map variable_line
+    (listed_variables 0 l.variables)
