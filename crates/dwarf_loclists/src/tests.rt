@@ -1,6 +1,6 @@
 //! Sections written by hand from the standard.
 
-ghost use Rattle.std.specs.Prelude.{IsTrue, All, ℕ};
+ghost use Rattle.std.specs.Prelude.{IsTrue, All, ℕ, ◌≤◌, ◌≢◌};
 ghost use Rattle.dwarf_loclists.specs.Ranges.{IsListed, ArePieces, IsLocated, Ascend, ArePlaces};
 
 use crate::fault::ListFault;
@@ -19,13 +19,17 @@ fn is_listed(place: Place) -> bool
     ensures { IsTrue result → IsListed place }
 {
     match place {
-        Place::Register(register) => {
-            let n = register.number();
-            1 <= n && n <= 31 && n != 2
-        }
-        Place::Slot(SlotId(offset)) => offset % 8 == 0 && offset <= 2024,
+        Place::Register(register) => is_general(register.number()),
+        Place::Slot(slot) => slot.number() % 8 == 0 && slot.number() <= 2024,
         Place::Const(_) => true,
     }
+}
+
+/// Whether a register has this number that isn't x0 or the stack pointer.
+fn is_general(n: u32) -> bool
+    ensures { IsTrue result → (1 ≤ n) × (n ≤ 31) × (n ≢ 2) }
+{
+    1 <= n && n <= 31 && n != 2
 }
 
 /// Whether parts can be pieces after so many bytes.
