@@ -2,12 +2,21 @@
 use Rattle.std.proofs.Common.{◌≡◌, ℕ, zero, suc, ◌+◌, ◌-◌, ◌%◌, ◌^◌, ◌<◌, ◌≤◌, pos, negsuc, ◌-ℤ◌, List, [], ◌∷◌, map, All, Contains, Option, Some, None, Bool, true, false}
 use Rattle.std.proofs.Common.{cond, nat_eq, nat_le, le-leb, refl, sym, ap, ◌∙◌, subst, arith}
 use Rattle.std.proofs.lemmas.List.Elements.{All-head, All-tail, All-weaker, All-contains_itself}
-use Rattle.rv64_instr.specs.declared.decoded.Base.TheVariants.{ObjectAt}
+use Rattle.rv64_instr.specs.declared.decoded.Base.TheVariants.{PointedBy, ObjectAt}
 use Rattle.rv64_instr.specs.Arithmetic.{word, taken, computed, load_width, store_width}
 use Rattle.rv64_instr.specs.Row.{Row, Fixes, Moves, Sets, Addresses, Loads, Stores, LoadsSlot, StoresSlot, Branches, Jumps, Calls, Returns, Unfit, add_row}
 use Rattle.rv64_instr.specs.Access.{caller_saved}
 use Rattle.mir_func.specs.declared.exit.Exit.TheVariants.{Final}
-use Rattle.mir_func.specs.Exits.{row_exit}
+use Rattle.mir_func.specs.Exits.{row_exit, Leaves}
+use Rattle.mir_func.specs.Sound.{TargetIn}
+use Rattle.rv64_word.specs.MachineRow.{placed}
+use Rattle.code_layout.specs.Machine.{Machine}
+use Rattle.code_layout.specs.MachineStep.{Ends, does_row}
+use Rattle.code_layout.specs.MachineStep as machine
+use Rattle.rv64_instr.specs.declared.operand.Operand.{Operand}
+use Rattle.mir_meaning.specs.Step.{numbered}
+use Rattle.simulation.specs.Words.{SameCode}
+use Rattle.simulation.proofs.Turns.{same_code}
 use Rattle.mir_meaning.specs.State.{Core, Reply, content, put, put_all, writes_frame}
 use Rattle.mir_meaning.specs.Step.{Outcome, Falls, Goes, Traps, does, read}
 use Rattle.mir_meaning.specs.Step.{is_fault, address_at, answered, slot_loaded, set_register}
@@ -170,3 +179,101 @@ raises_to entry size small room top = let w : word (pos size) ≡ size % 2 ^ 64 
 pub not_zero : (n : ℕ) → (n ≡ 0 → ⊥) → (z : ℕ) × (n ≡ suc z)
 not_zero zero h = absurd (h refl)
 not_zero (suc z) h = (z, refl)
+
+-- a branch goes to one of these blocks
+abbrev OnGoes : (ℕ → Type 0) → Outcome → Type 0
+OnGoes P (Goes n d) = P n
+OnGoes P _ = Unit {0}
+
+either_goes : (P : ℕ → Type 0) (b : Bool) (x y : Outcome) → OnGoes P x → OnGoes P y → OnGoes P (cond b x y)
+either_goes P true x y a b = a
+either_goes P false x y a b = b
+
+loaded_goes : (P : ℕ → Type 0) (c : Core) (rd : ℕ) (x : Option ℕ) → OnGoes P (slot_loaded rd c x)
+loaded_goes P c rd None = tt
+loaded_goes P c rd (Some v) = tt
+
+answered_goes : (P : ℕ → Type 0) (c : Core) (name args : List ℕ) (rs : List Reply) → OnGoes P (answered name args c rs)
+answered_goes P c name args [] = tt
+answered_goes P c name args (x ∷ rs) = either_goes P (writes_frame c.entry c.area x.writes) Traps _ tt tt
+
+row_contains : (ids : List ℕ) (r : Row) (c : Core) → TargetIn ids r → OnGoes (Contains ids) (does r c)
+unfolding does
+row_contains ids (Fixes rd n) c h = tt
+row_contains ids (Moves rd rs) c h = tt
+row_contains ids (Sets rd op a b) c h = tt
+row_contains ids (Addresses rd n o) c h = tt
+row_contains ids (Loads rd op b o) c h = either_goes (Contains ids) (is_fault b c (address_at c b o) (load_width op)) Traps _ tt tt
+row_contains ids (Stores op rs b o) c h = either_goes (Contains ids) (is_fault b c (address_at c b o) (store_width op)) Traps _ tt tt
+row_contains ids (LoadsSlot rd n) c h = loaded_goes (Contains ids) c rd (c.slots n)
+row_contains ids (StoresSlot rs n) c h = tt
+row_contains ids (Branches op a b n) c h = either_goes (Contains ids) (taken op (read c a) (read c b)) (Goes n c) (Falls c) h tt
+row_contains ids (Jumps n) c h = h
+row_contains ids (Calls name args) c h = answered_goes (Contains ids) c name (map (read c) args) c.script
+row_contains ids (Returns v) c h = tt
+row_contains ids Unfit c h = tt
+
+pub goes_into : (ids : List ℕ) (r : Row) (c : Core) (n : ℕ) (d : Core) → TargetIn ids r → does r c ≡ Goes n d → Contains ids n
+goes_into ids r c n d h e = subst (OnGoes (Contains ids)) e (row_contains ids r c h)
+
+-- code that falls through doesn't leave
+pub falls_stays : (r : Row) (c d : Core) → does r c ≡ Falls d → Leaves (row_exit r) → ⊥
+unfolding does
+falls_stays (Jumps n) c d e h = cc
+falls_stays (Returns v) c d e h = cc
+falls_stays Unfit c d e h = cc
+falls_stays (Fixes rd n) c d e h = h
+falls_stays (Moves rd rs) c d e h = h
+falls_stays (Sets rd op a b) c d e h = h
+falls_stays (Addresses rd n o) c d e h = h
+falls_stays (Loads rd op b o) c d e h = h
+falls_stays (Stores op rs b o) c d e h = h
+falls_stays (LoadsSlot rd n) c d e h = h
+falls_stays (StoresSlot rs n) c d e h = h
+falls_stays (Branches op a b n) c d e h = h
+falls_stays (Calls name args) c d e h = h
+
+-- ---- words that don't return
+
+row_ends : (x : Row) (m : Machine) (v : List ℕ) → does_row x m ≡ Ends v → ⊥
+unfolding does_row
+row_ends (Fixes rd n) m v e = cc
+row_ends (Moves rd rs) m v e = cc
+row_ends (Sets rd op a b) m v e = cc
+row_ends (Addresses rd n o) m v e = cc
+row_ends (Loads rd op (PointedBy r) o) m v e = cc
+row_ends (Loads rd op (ObjectAt n) o) m v e = cc
+row_ends (Stores op rs (PointedBy r) o) m v e = cc
+row_ends (Stores op rs (ObjectAt n) o) m v e = cc
+row_ends (LoadsSlot rd n) m v e = cc
+row_ends (StoresSlot rs n) m v e = cc
+row_ends (Branches op a b n) m v e = cc
+row_ends (Jumps n) m v e = cc
+row_ends (Calls name args) m v e = cc
+row_ends (Returns results) m v e = cc
+row_ends Unfit m v e = cc
+
+pub word_goes : (target object : ℕ) (r : Row) (m : Machine) (v : List ℕ) → machine.does (placed target object r) m ≡ Ends v → ⊥
+word_goes target object (Fixes rd n) m v e = row_ends _ m v e
+word_goes target object (Moves rd rs) m v e = row_ends _ m v e
+word_goes target object (Sets rd op a b) m v e = row_ends _ m v e
+word_goes target object (Addresses rd n o) m v e = row_ends _ m v e
+word_goes target object (Loads rd op b o) m v e = row_ends _ m v e
+word_goes target object (Stores op rs b o) m v e = row_ends _ m v e
+word_goes target object (LoadsSlot rd n) m v e = row_ends _ m v e
+word_goes target object (StoresSlot rs n) m v e = row_ends _ m v e
+word_goes target object (Branches op a b n) m v e = row_ends _ m v e
+word_goes target object (Jumps n) m v e = row_ends _ m v e
+word_goes target object (Calls name args) m v e = row_ends _ m v e
+word_goes target object (Returns results) m v e = cc
+word_goes target object Unfit m v e = row_ends _ m v e
+
+pub call_goes : (name args : List ℕ) (m : Machine) (rs : List Reply) (v : List ℕ) → machine.answered name args m rs ≡ Ends v → ⊥
+call_goes name args m [] v e = cc
+call_goes name args m (r ∷ rs) v e = cc
+
+-- a number changes no place
+pub numbered_code : (sp call : Bool) (k : Option ℕ) (os : List Operand) (c : Core) → SameCode (numbered sp call k os c) c
+numbered_code sp call None os c = same_code c
+numbered_code sp call (Some k) os c =
+    record { entry = refl; area = refl; objects = refl; regs = refl; slots = refl; memory = refl; script = refl; events = refl }

@@ -34,7 +34,12 @@ use Rattle.machine_steps.proofs.Rows.{IsWordRow, FollowsRow, NeedsFrame, acts, r
 use Rattle.machine_steps.proofs.Calls.{FollowsCall, calls, contents, beside_numbered}
 use Rattle.machine_steps.proofs.Registers.{reads_physical}
 use Rattle.machine_steps.proofs.Points.{of_item, PointerMotion, keeps, lowers, raises, leaves, pointer_motion, start_down}
-use Rattle.machine_steps.proofs.Pointers.{SamePointer, row_keeps, adds_falls, final_needs, adds_needs, final_stops, on_falls, on_goes, falls_one, lowers_to, raises_to, not_zero, goes_target}
+use Rattle.machine_steps.proofs.Pointers.{SamePointer, row_keeps, adds_falls, final_needs, adds_needs, final_stops, on_falls, on_goes, falls_one, lowers_to, raises_to, not_zero, goes_target, goes_into, falls_stays, word_goes, call_goes, numbered_code}
+use Rattle.machine_steps.proofs.Lands.{Lands, below_lands, target_lands}
+use Rattle.mir_func.specs.Exits.{exit_of, Leaves}
+use Rattle.mir_func.specs.Sound.{TargetsIn, ids_of}
+use Rattle.mir_meaning.specs.Step.{Went, Returned, Faulted, Waits, Lost}
+use Rattle.simulation.specs.Words.{SameCode}
 
 module _ (f : FramedFunction) (framed : IsFramed f) (resolve : OperandPair → Option OperandPair) (image : Image) (laid : IsLaidAt f image) (t : State) (m : Machine)
     (level : Level f resolve image laid t m) (i : Item) (here : fetched f t.pos ≡ Here i) (c : Instruction) (k : Option ℕ) (kind : i.kind ≡ Code c k) where
@@ -161,19 +166,23 @@ module _ (f : FramedFunction) (framed : IsFramed f) (resolve : OperandPair → O
     counter = at_start;
   }
 
-  by_outcome : (x : Outcome) (st : Stepped) → does r t.core ≡ x → machine_step image m ≡ st → laid.address (below t.pos) ≡ laid.address t.pos + 4 →
+  named_code : (d : Core) → SameCode (named d) d
+  named_code d = numbered_code false (is_call r) k c.operands d
+
+  by_outcome : (x : Outcome) (st : Stepped) → does r t.core ≡ x → machine_step image m ≡ st → ((results : List ℕ) → st ≡ Ends results → ⊥) →
+      laid.address (below t.pos) ≡ laid.address t.pos + 4 →
       FollowsRow f (start_of f image laid.address (target_of r)) m x st → OneStep f resolve image laid t m
-  by_outcome (Falls d) st e s next (n, q, counter, b) =
+  by_outcome (Falls d) st e s never next (n, q, counter, b) =
       goes (below_state d) n (steps_as (Falls d) e) (s ∙ q)
       (level_falls d n e b (counter ∙ ap (λ (a : ℕ). a + 4) level.counter ∙ sym next))
-  by_outcome (Goes b d) st e s next (q, x) =
+  by_outcome (Goes b d) st e s never next (q, x) =
       let target = goes_target r t.core b d e in
       goes (start_state b d) (at (start_of f image laid.address (target_of r)) m) (steps_as (Goes b d) e) (s ∙ q)
       (level_goes b d (at (start_of f image laid.address (target_of r)) m) e x (ap (start_of f image laid.address) target))
-  by_outcome Traps st e s next x = faults (steps_as Traps e)
-  by_outcome (Gives v) st e s next x = absurd x
-  by_outcome Asks st e s next x = absurd x
-  by_outcome Breaks st e s next x = absurd x
+  by_outcome Traps st e s never next x = faults (steps_as Traps e) (λ v q. never v (sym s ∙ q))
+  by_outcome (Gives v) st e s never next x = absurd x
+  by_outcome Asks st e s never next x = absurd x
+  by_outcome Breaks st e s never next x = absurd x
 
   line_is : (l : Rattle.code_layout.specs.Image.CodeLine) → Rattle.code_layout.specs.Image.line_at image.lines (laid.address t.pos) ≡ Some l →
       Rattle.code_layout.specs.Image.line_at image.lines m.counter ≡ Some l
@@ -182,7 +191,7 @@ module _ (f : FramedFunction) (framed : IsFramed f) (resolve : OperandPair → O
   at_word : IsWordRow r → HasWord f image laid.address t.pos i r → AtCode f resolve image laid t m i
   at_word is w = single w.line (line_is w.line w.stands) w.origin
       (by_outcome (does r t.core) (machine.does (placed (start_of f image laid.address (target_of r)) (object_place f (object_named r)) r) m) refl
-      (w.step m level.counter) w.next
+      (w.step m level.counter) (word_goes (start_of f image laid.address (target_of r)) (object_place f (object_named r)) r m) w.next
       (rows f framed t.core m h (start_of f image laid.address (target_of r)) r is (row_in_range c) level.range needs slots_in objects_in))
 
   at_branch : (op : BranchOp) (a b n : ℕ) → r ≡ Branches op a b n → HasTwoWords f image laid.address t.pos i op a b n → AtCode f resolve image laid t m i
@@ -200,10 +209,10 @@ module _ (f : FramedFunction) (framed : IsFramed f) (resolve : OperandPair → O
             let to = at (start_of f image laid.address n) k4 in
             let b4 = beside_at f framed t.core m h (m.counter + 4) in
             through (start_state n t.core) k4 to (steps_as (Goes n t.core) d) s refl b4 (w.jump_step k4 at_jump)
-            (level_goes n t.core to d (beside_at f framed t.core k4 b4 (start_of f image laid.address n)) refl)
+            (named_code t.core) (level_goes n t.core to d (beside_at f framed t.core k4 b4 (start_of f image laid.address n)) refl)
         by_taken false d s =
             let k8 = past 8 m in
-            over (below_state t.core) k8 (steps_as (Falls t.core) d) s
+            over (below_state t.core) k8 (steps_as (Falls t.core) d) s refl (named_code t.core)
             (level_falls t.core k8 d (beside_at f framed t.core m h (m.counter + 8)) (ap (λ (x : ℕ). x + 8) level.counter ∙ sym w.next))
 
   at_call : (name args : List ℕ) → r ≡ Calls name args → HasCall f image laid.address t.pos i name args → AtCode f resolve image laid t m i
@@ -216,7 +225,7 @@ module _ (f : FramedFunction) (framed : IsFramed f) (resolve : OperandPair → O
             goes (below_state d) n (steps_as (Falls d) g) (s ∙ q)
             (level_falls d n g b (counter ∙ ap (λ (a : ℕ). a + 8) level.counter ∙ sym w.next))
         by_call Asks g st s x = waits (steps_as Asks g) (s ∙ x)
-        by_call Traps g st s x = faults (steps_as Traps g)
+        by_call Traps g st s x = faults (steps_as Traps g) (λ v q. call_goes name (map (register m) args) m m.script v (sym (w.step m level.counter) ∙ q))
         by_call (Goes b d) g st s x = absurd x
         by_call (Gives v) g st s x = absurd x
         by_call Breaks g st s x = absurd x
@@ -246,3 +255,22 @@ module _ (f : FramedFunction) (framed : IsFramed f) (resolve : OperandPair → O
   -- at the address of code the machine does what the code does
   pub at_code : AtCode f resolve image laid t m i
   at_code = by_row r refl (laid.code t.pos i c k here kind)
+
+  -- where it goes on, control comes to code
+  pub step_lands : (u : State) → step (framed_run f resolve image laid) t ≡ Went u → Lands f u.pos
+  step_lands u e = by_next (does r t.core) refl (sym stepped ∙ e) where
+    by_next : (x : Outcome) → does r t.core ≡ x → moved (framed_run f resolve image laid).enter t.pos (with_core named (does r t.core)) ≡ Went u → Lands f u.pos
+    by_next (Falls d) g s =
+        let made : Went (below_state d) ≡ Went u = sym (ap (λ (o : Outcome). moved (framed_run f resolve image laid).enter t.pos (with_core named o)) g) ∙ s in
+        let same : below_state d ≡ u = cc in
+        subst (λ (z : State). Lands f z.pos) same (below_lands f framed t.pos i here (λ l. falls_stays r t.core d g (subst (λ (z : ItemKind). Leaves (exit_of z)) kind l)))
+    by_next (Goes b d) g s =
+        let made : Went (start_state b d) ≡ Went u = sym (ap (λ (o : Outcome). moved (framed_run f resolve image laid).enter t.pos (with_core named o)) g) ∙ s in
+        let same : start_state b d ≡ u = cc in
+        let targets = subst (TargetsIn (ids_of (body_of f.blocks))) kind
+        (of_item f (λ (j : Item). TargetsIn (ids_of (body_of f.blocks)) j.kind) framed.targets t.pos i here) in
+        subst (λ (z : State). Lands f z.pos) same (target_lands f framed b (goes_into (ids_of (body_of f.blocks)) r t.core b d targets g))
+    by_next (Gives v) g s = let bad : Returned v ≡ Went u = sym (ap (λ (o : Outcome). moved (framed_run f resolve image laid).enter t.pos (with_core named o)) g) ∙ s in cc
+    by_next Traps g s = let bad : Faulted ≡ Went u = sym (ap (λ (o : Outcome). moved (framed_run f resolve image laid).enter t.pos (with_core named o)) g) ∙ s in cc
+    by_next Asks g s = let bad : Waits ≡ Went u = sym (ap (λ (o : Outcome). moved (framed_run f resolve image laid).enter t.pos (with_core named o)) g) ∙ s in cc
+    by_next Breaks g s = let bad : Lost ≡ Went u = sym (ap (λ (o : Outcome). moved (framed_run f resolve image laid).enter t.pos (with_core named o)) g) ∙ s in cc

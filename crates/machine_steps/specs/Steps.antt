@@ -35,13 +35,14 @@ module _ (f : FramedFunction) (resolve : OperandPair → Option OperandPair) (im
     goes : (u : State) (n : Machine) → step framed_run t ≡ Went u → machine_step image m ≡ Continues n → Level u n → OneStep t m
     gives : (results : List ℕ) → step framed_run t ≡ Returned results → machine_step image m ≡ Ends results → OneStep t m
     waits : step framed_run t ≡ Waits → machine_step image m ≡ Awaits → OneStep t m
-    faults : step framed_run t ≡ Faulted → OneStep t m
+    faults : step framed_run t ≡ Faulted → ((results : List ℕ) → machine_step image m ≡ Ends results → ⊥) → OneStep t m
 
   -- the step of a long branch, and the machine's: over the second line where it isn't taken, and else one step to it, and one by it
   pub data TwoSteps (t : State) (m : Machine) : Type 0 where
-    over : (u : State) (n : Machine) → step framed_run t ≡ Went u → machine_step image m ≡ Continues n → Level u n → TwoSteps t m
+    over : (u : State) (n : Machine) → step framed_run t ≡ Went u → machine_step image m ≡ Continues n → u.pos ≡ below t.pos →
+        SameCode u.core t.core → Level u n → TwoSteps t m
     through : (u : State) (k n : Machine) → step framed_run t ≡ Went u → machine_step image m ≡ Continues k → k.counter ≡ m.counter + 4 →
-        Beside f t.core k → machine_step image k ≡ Continues n → Level u n → TwoSteps t m
+        Beside f t.core k → machine_step image k ≡ Continues n → SameCode u.core t.core → Level u n → TwoSteps t m
 
   -- the machine at the address of code: its lines there, and its steps
   pub data AtCode (t : State) (m : Machine) (i : Item) : Type 0 where
