@@ -36,7 +36,7 @@ use Rattle.machine_steps.proofs.Registers.{reads_physical}
 use Rattle.machine_steps.proofs.Points.{of_item, PointerMotion, keeps, lowers, raises, leaves, pointer_motion, start_down}
 use Rattle.machine_steps.proofs.Pointers.{SamePointer, row_keeps, adds_falls, final_needs, adds_needs, final_stops, on_falls, on_goes, falls_one, lowers_to, raises_to, not_zero, goes_target, goes_into, falls_stays, word_goes, call_goes, numbered_code}
 use Rattle.machine_steps.proofs.Lands.{Lands, below_lands, target_lands}
-use Rattle.mir_func.specs.Exits.{exit_of, Leaves}
+use Rattle.mir_func.specs.Exits.{exit_of, row_exit, Leaves}
 use Rattle.mir_func.specs.Sound.{TargetsIn, ids_of}
 use Rattle.mir_meaning.specs.Step.{Went, Returned, Faulted, Waits, Lost}
 use Rattle.simulation.specs.Words.{SameCode}
@@ -197,7 +197,7 @@ module _ (f : FramedFunction) (framed : IsFramed f) (resolve : OperandPair → O
   at_branch : (op : BranchOp) (a b n : ℕ) → r ≡ Branches op a b n → HasTwoWords f image laid.address t.pos i op a b n → AtCode f resolve image laid t m i
   unfolding does
   at_branch op a b n e w = double w.line w.jump_line (line_is w.line w.stands)
-      (ap (λ (x : ℕ). Rattle.code_layout.specs.Image.line_at image.lines (x + 4)) level.counter ∙ w.jump_stands) w.origin w.jump_origin
+      (ap (λ (x : ℕ). Rattle.code_layout.specs.Image.line_at image.lines (x + 4)) level.counter ∙ w.jump_stands) w.origin w.jump_origin n (ap exit_of kind ∙ ap row_exit e)
       (by_taken (taken op (read t.core a) (read t.core b)) (ap (λ (x : Row). does x t.core) e)
       (w.step m level.counter ∙ ap (λ (z : Bool). Continues (cond z (past 4 m) (past 8 m)))
       (ap (λ (x : ℕ). taken op x (register m b)) (h.regs a) ∙ ap (taken op (read t.core a)) (h.regs b)))) where

@@ -3,6 +3,8 @@ use Rattle.std.specs.Prelude.{◌≡◌, ℕ, suc, ◌+◌, List, Option, Some, 
 use Rattle.mir_func.specs.declared.entry.OperandPair.{OperandPair}
 use Rattle.mir_func.specs.declared.item.Item.{Item}
 use Rattle.mir_func.specs.declared.position.Origin.TheVariants.{Before}
+use Rattle.mir_func.specs.declared.exit.Exit.TheVariants.{Perhaps}
+use Rattle.mir_func.specs.Exits.{exit_of}
 use Rattle.mir_func.specs.Function.{FramedFunction}
 use Rattle.mir_func.specs.declared.position.Pos.{Pos}
 use Rattle.mir_func.specs.Graph.{Here, Silent, Program, below, block_start, framed_program}
@@ -48,7 +50,7 @@ module _ (f : FramedFunction) (resolve : OperandPair → Option OperandPair) (im
   pub data AtCode (t : State) (m : Machine) (i : Item) : Type 0 where
     single : (l : CodeLine) → line_at image.lines m.counter ≡ Some l → l.origin ≡ i.origin → OneStep t m → AtCode t m i
     double : (l j : CodeLine) → line_at image.lines m.counter ≡ Some l → line_at image.lines (m.counter + 4) ≡ Some j →
-        l.origin ≡ Before (position_of i.origin) → j.origin ≡ i.origin → TwoSteps t m → AtCode t m i
+        l.origin ≡ Before (position_of i.origin) → j.origin ≡ i.origin → (b : ℕ) → exit_of i.kind ≡ Perhaps b → TwoSteps t m → AtCode t m i
 
   -- it goes on with equal places, and the machine, which stays, is level with it again
   pub record StaysLevel (t : State) (m : Machine) (p : Pos) : Type 0 where
