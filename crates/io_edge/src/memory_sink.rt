@@ -1,6 +1,7 @@
 //! A sink over memory.
 
-ghost use Rattle.std.specs.Prelude.{◌≡◌, ◌<◌, ◌≤◌, ◌-◌, ◌++◌, ◌↔◌, ◌⊎◌, ℕ, [], Some, length, take, min, IfOk, OnErr, IsErr};
+ghost use Rattle.std.specs.Prelude.{◌≡◌, ◌<◌, ◌≤◌, ◌-◌, ◌++◌, ◌↔◌, ◌⊎◌, ℕ, [], Some, length, take, min, IfOk, OnErr};
+ghost use Rattle.std.specs.Prelude.{IsErr};
 ghost use Rattle.io_edge.specs.Faults.{CountRose};
 ghost use Rattle.io_edge.specs.Told.{Appends};
 ghost use Rattle.io_edge.specs.Calls.{no_calls, IsToFail, after_call, after_fault};

@@ -1,6 +1,7 @@
 //! Reading a source to its end.
 
-ghost use Rattle.std.specs.Prelude.{◌≡◌, ◌≢◌, ◌+◌, ◌^◌, ◌<◌, ◌≤◌, ℕ, length, take, drop, ◌⊎◌, IfOk, IfErr, OnOk, OnErr, IfSome, IsErr, IsErrOf};
+ghost use Rattle.std.specs.Prelude.{◌≡◌, ◌≢◌, ◌+◌, ◌^◌, ◌<◌, ◌≤◌, ℕ, length, take, drop, ◌⊎◌, IfOk, IfErr, OnOk, OnErr};
+ghost use Rattle.std.specs.Prelude.{IfSome, IsErr, IsErrOf};
 ghost use Rattle.io_edge.specs.declared.reading.ReadError.TheVariants.{Failed, Memory};
 ghost use Rattle.io_edge.specs.Faults.{CountRose};
 ghost use Rattle.io_edge.specs.Reading.{AnswersFor};

@@ -1,5 +1,6 @@
 -- The scan gives the documents.
-use Rattle.std.proofs.Common.{◌≡◌, ℕ, suc, ◌+◌, Bool, true, false, not, cond, ltb, List, [], ◌∷◌, ◌++◌, length, take, Option, Some, None, refl, sym, ap, ◌∙◌, append_assoc, arith, inl, inr}
+use Rattle.std.proofs.Common.{◌≡◌, ℕ, suc, ◌+◌, Bool, true, false, not, cond, ltb, List, [], ◌∷◌, ◌++◌, length, take, Option, Some, None, refl, sym, ap, ◌∙◌}
+use Rattle.std.proofs.Common.{append_assoc, arith, inl, inr}
 use Rattle.std.specs.List.{prefix_len}
 use Rattle.std.specs.Str.Lines.{lines}
 use Rattle.std.proofs.lemmas.Bool.{lt-ltb, le-ltb, cases_lt}
@@ -11,7 +12,8 @@ use Rattle.mir_frame.specs.declared.open_function.OpenFunction.{OpenFunction}
 use Rattle.mir_frame.specs.declared.scan.Scan.{Scan}
 use Rattle.mir_frame.specs.Key.{is_close, is_passed, opens_block, opens_function}
 use Rattle.mir_frame.specs.Lines.{numbered, lines_of}
-use Rattle.mir_frame.specs.Documents.{lines_under, inside, is_closed, is_fault, is_complete, first_fault, fault_or, function_document, function_from, block_from, stops, documents_from, documents_of}
+use Rattle.mir_frame.specs.Documents.{lines_under, inside, is_closed, is_fault, is_complete, first_fault, fault_or, function_document, function_from}
+use Rattle.mir_frame.specs.Documents.{block_from, stops, documents_from, documents_of}
 use Rattle.mir_frame.specs.Scan.{scan, scan_or_stop, start, just_opened, taken, can_close, can_not_take, closed_at}
 use Rattle.mir_frame.proofs.OneFunction.{opened_with, taken-is, can_not_take-is, can_close-is, closed_at-is}
 

@@ -15,8 +15,10 @@ use Rattle.mir_printer.proofs.Symbols.{is_plain, digit_one, quoted_one, quoted_h
 use Rattle.mir_printer.proofs.Operands.{number_one}
 use Rattle.mir_printer.proofs.Items.{item_line_one}
 use Rattle.output_text.specs.Hex.{hex_lines, address_text}
-use Rattle.output_text.specs.Output.{ItemLine, ListedVariable, section_text, name_byte, name_text, function_line, inlined_text, variable_line, substitution_line, position_text, origin_text, start_text, item_line, block_line, pair_text, ListedObject, object_line}
-use Rattle.output_text.specs.Shown.{HasNumbersAt, IsPrintableOrigin, IsPrintableLine, IsPrintableVariable, IsPrintableEntry, declared_by, HasNumbers, IsPrintableObject}
+use Rattle.output_text.specs.Output.{ItemLine, ListedVariable, section_text, name_byte, name_text, function_line, inlined_text, variable_line}
+use Rattle.output_text.specs.Output.{substitution_line, position_text, origin_text, start_text, item_line, block_line, pair_text, ListedObject, object_line}
+use Rattle.output_text.specs.Shown.{HasNumbersAt, IsPrintableOrigin, IsPrintableLine, IsPrintableVariable, IsPrintableEntry, declared_by, HasNumbers}
+use Rattle.output_text.specs.Shown.{IsPrintableObject}
 use Rattle.output_text.proofs.HexLemmas.{address_one, address_heads, bytes_one}
 
 -- ---- sections

@@ -9,8 +9,10 @@ use Rattle.mir_func.specs.declared.position.Origin.TheVariants.{Kept, Before}
 use Rattle.mir_printer.specs.Spelling.{item_text}
 use Rattle.mir_printer.specs.Printable.{IsNumber}
 use Rattle.output_text.specs.Hex.{address_text}
-use Rattle.output_text.specs.Output.{ItemLine, ListedBlock, ListedFunction, Output, section_text, function_line, variable_line, substitution_line, origin_text, start_text, item_line, block_line, block_text, function_text, spelling, object_line}
-use Rattle.output_text.specs.Shown.{IsPrintableLine, IsPrintableVariable, IsPrintableEntry, IsPrintableBlock, IsPrintableFunction, IsPrintableOutput, Shows, IsPrintableObject}
+use Rattle.output_text.specs.Output.{ItemLine, ListedBlock, ListedFunction, Output, section_text, function_line, variable_line, substitution_line, origin_text}
+use Rattle.output_text.specs.Output.{start_text, item_line, block_line, block_text, function_text, spelling, object_line}
+use Rattle.output_text.specs.Shown.{IsPrintableLine, IsPrintableVariable, IsPrintableEntry, IsPrintableBlock, IsPrintableFunction, IsPrintableOutput, Shows}
+use Rattle.output_text.specs.Shown.{IsPrintableObject}
 use Rattle.output_text.proofs.HexLemmas.{address_heads}
 use Rattle.output_text.proofs.LineLemmas.{section_one, function_line_one, variable_line_one, substitution_line_one, line_one, block_line_one, object_line_one}
 
