@@ -66,7 +66,12 @@ impl Sink for MemorySink {
 
         // What each answer leaves.
         ensures count { IfOk result (λ n. n ≡ min (length bytes.now) (self.old.room - length self.old.written)) }
-        ensures ok { IfOk result (λ n. self.new ≡ record { written = self.old.written ++ take n bytes.now; room = self.old.room; calls = after_call self.old.calls }) }
+        ensures ok { IfOk result (λ n. self.new ≡ record {
+          written = self.old.written ++ take n bytes.now;
+          room =
+              self.old.room;
+          calls = after_call self.old.calls;
+        }) }
         ensures err { OnErr result (self.new ≡ record self.old { calls = after_fault self.old.calls }) }
 
         // What each sink promises.

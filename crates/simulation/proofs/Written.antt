@@ -209,7 +209,8 @@ row_returns g (Mark v m) c has low e = low
 row_returns g (Phi p n) c has low e = low
 
 -- so from a start, the source doesn't fault where it has a return
-pub returns_never_fault : (src : Program) (stack : List stack_object.Object) (first : ℕ) (s0 : State) → IsStart stack first s0 → (p : Pos) (i : Item) → src.fetch p ≡ Here i →
+pub returns_never_fault : (src : Program) (stack : List stack_object.Object) (first : ℕ) (s0 : State) → IsStart stack first s0 → (p : Pos) (i : Item) →
+    src.fetch p ≡ Here i →
     OnRow HasPhysicalResults i.kind → FaultsAt src s0 p → ⊥
 returns_never_fault src stack first s0 start p i fi low (s, comes, st) =
     row_returns src i.kind s.core (λ r lt. let k = start.regs r lt in run_written src (λ q. ⊥) p comes r k.0 k.1) low
