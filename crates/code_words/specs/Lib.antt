@@ -1,0 +1,3 @@
+pub mod Inverted
+pub mod Rule
+pub mod Long
