@@ -1,3 +1,5 @@
 pub mod Renames
 pub mod Framed
 pub mod Comes
+pub mod Ways
+pub mod Turns
