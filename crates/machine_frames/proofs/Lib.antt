@@ -3,3 +3,4 @@ pub mod Framed
 pub mod Comes
 pub mod Ways
 pub mod Turns
+pub mod Followers
