@@ -4,3 +4,4 @@ pub mod Long
 pub mod Listed
 pub mod Counts
 pub mod Laid
+pub mod steps

@@ -4,4 +4,13 @@
 //! round those that don't reach become long, which puts others further apart, until all short ones reach.
 #![tactic(auto)]
 
+pub mod branch;
 pub mod code;
+mod entries;
+pub mod layout;
+mod objects;
+mod plan;
+mod rounds;
+mod span;
+mod table;
+mod words;
