@@ -39,9 +39,9 @@ use Rattle.frame_lower.specs.Rule.{saved_places, saved_registers, saved_of, size
 use Rattle.frame_lower.specs.Rule.{epilogue, renamed, renamed_code, renamed_kind, is_final, framed_item, framed_items, framed_block, framed_blocks}
 use Rattle.frame_lower.specs.Rule.{prologue_block}
 use Rattle.frame_runs.specs.Stands.{IsEntered}
-use Rattle.frame_runs.proofs.Rows.{renamed_row, row_renamed}
+use Rattle.frame_lower.proofs.Rows.{renamed_row, row_renamed}
 use Rattle.frame_runs.proofs.Cores.{slots_below}
-use Rattle.frame_runs.proofs.Saved.{IsGivenBack, saved_above, saved_given, saved_in, none_saved}
+use Rattle.frame_lower.proofs.Saved.{IsGivenBack, saved_above, saved_given, saved_in, none_saved}
 use Rattle.frame_runs.proofs.Blocks.{from_index, items_from, drop_zero}
 use Rattle.frame_runs.proofs.Holding.{Holds, lowers_to, raises_to, adds_to, leaves_register, leaves_place, still_holds}
 
