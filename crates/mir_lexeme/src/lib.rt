@@ -7,3 +7,8 @@
 #![tactic(auto)]
 
 pub mod lexeme;
+mod number;
+mod register;
+pub mod sentence;
+pub mod symbol;
+mod word;

@@ -5,4 +5,11 @@
 //! asked here. (LLVM, Machine IR (MIR) Format Reference Manual, "Machine Instructions".)
 #![tactic(auto)]
 
+mod attribute;
+pub mod body;
+mod exceeds;
 pub mod form;
+mod front;
+mod item;
+mod operand;
+mod register;
