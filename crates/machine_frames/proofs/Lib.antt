@@ -1,0 +1,3 @@
+pub mod Renames
+pub mod Framed
+pub mod Comes
