@@ -67,7 +67,7 @@ pointer_put (suc (suc zero)) b = inr refl
 pointer_put (suc (suc (suc rd))) b = let off : nat_eq 2 (suc (suc (suc rd))) ≡ false = grind (arith, nat_tests) in
     subst (λ (z : Bool). StaysBare (InRegister 2) (cond z (cond (nat_eq (suc (suc rd)) 1) Nameless b) (Was (InRegister 2)))) (sym off) (inl refl)
 
-pointer_stays : (row : Row) → StaysBare (InRegister 2) (back_register 0 row 2)
+pub pointer_stays : (row : Row) → StaysBare (InRegister 2) (back_register 0 row 2)
 pointer_stays (Fixes rd c) = pointer_put rd (Was (OfNumber c))
 pointer_stays (Moves rd rs) = pointer_put rd (Was (InRegister rs))
 pointer_stays (Sets rd op a b) = pointer_put rd (New 0 rd)
@@ -119,7 +119,7 @@ module _ (things : List Tracked) where
   code_stays i (Some j) _ k (slot n bare) = row_stays (row_of i) (InSlot n) k (slot n bare)
   code_stays i (Some j) _ k (variable v bare) = inl refl
 
-  bare_stays : (resolve : OperandPair → Option OperandPair) (kind : ItemKind) (x : Tracked) → KnowsItem things resolve kind → IsBare things x →
+  pub bare_stays : (resolve : OperandPair → Option OperandPair) (kind : ItemKind) (x : Tracked) → KnowsItem things resolve kind → IsBare things x →
       StaysBare x (back resolve 0 kind x)
   bare_stays resolve (Code i j) x k bare = code_stays i j x k.0 bare
   bare_stays resolve (Mark v m) _ k pointer = inl refl

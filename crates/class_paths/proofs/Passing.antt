@@ -1,6 +1,6 @@
 -- Classes past an item. A path to the position below comes by the item, so sharing pulls back to before it; there the classes
 -- tell it, and a token that the item makes is none that was there.
-use Rattle.std.proofs.Common.{◌≡◌, ◌≢◌, ℕ, zero, suc, ◌+◌, ◌<◌, List, [], ◌∷◌, refl, sym, ap, ◌∙◌, subst, arith, inl, inr}
+use Rattle.std.proofs.Common.{◌≡◌, ◌≢◌, ℕ, zero, suc, ◌+◌, ◌<◌, List, [], ◌∷◌, refl, sym, ap, ◌∙◌, subst, arith, inl, inr, eqb-true}
 use Rattle.std.specs.Prelude.{◌↔◌, Contains, Option, Some, None, Bool, true, false, cond, nat_eq, slice_get}
 use Rattle.std.specs.List.{list_any}
 use Rattle.rv64_instr.specs.declared.place.Place.{Place}
@@ -99,7 +99,7 @@ paths_come_from_above g start p first reached =
 -- a pull-back to what has a class, over one item
 abbrev pub Knows : (things : List Tracked) → Back → Type 0
 Knows things (Was x) = IsKnown things x
-Knows things (New i r) = i ≡ 0
+Knows things (New i r) = (i ≡ 0) × (r < 32)
 Knows things Nameless = Unit {0}
 
 module _ (things : List Tracked) where
@@ -107,24 +107,29 @@ module _ (things : List Tracked) where
   known_if true x y kx ky = kx
   known_if false x y kx ky = ky
 
-  known_put : (rd : ℕ) (b : Back) (r : ℕ) → r < 32 → Knows things b → Knows things (put_back rd b r)
+  known_put : (rd : ℕ) (b : Back) (r : ℕ) → r < 32 → (r ≡ rd → Knows things b) → Knows things (put_back rd b r)
   known_put rd b zero kr k = kr
   known_put zero b (suc r) kr k = kr
-  known_put (suc rd) b (suc r) kr k = known_if (nat_eq (suc r) (suc rd)) (cond (nat_eq rd 1) Nameless b) (Was (InRegister (suc r)))
-      (known_if (nat_eq rd 1) Nameless b tt k) kr
+  known_put (suc rd) b (suc r) kr k = by_test (nat_eq (suc r) (suc rd)) refl where
+    by_test : (t : Bool) → nat_eq (suc r) (suc rd) ≡ t → Knows things (cond t (cond (nat_eq rd 1) Nameless b) (Was (InRegister (suc r))))
+    by_test true e = known_if (nat_eq rd 1) Nameless b tt (k (eqb-true (suc r) (suc rd) e))
+    by_test false e = kr
+
+  known_new : (rd r : ℕ) → r < 32 → Knows things (put_back rd (New 0 rd) r)
+  known_new rd r kr = known_put rd (New 0 rd) r kr (λ is. (refl, subst (λ (z : ℕ). z < 32) is kr))
 
   known_register : (row : Row) (r : ℕ) → KnowsRow things row → r < 32 → Knows things (back_register 0 row r)
-  known_register (Fixes rd c) r k kr = known_put rd (Was (OfNumber c)) r kr k
-  known_register (Moves rd rs) r k kr = known_put rd (Was (InRegister rs)) r kr k
-  known_register (Sets rd op a b) r k kr = known_put rd (New 0 rd) r kr refl
-  known_register (Addresses rd n offset) r k kr = known_put rd (New 0 rd) r kr refl
-  known_register (Loads rd op base offset) r k kr = known_put rd (New 0 rd) r kr refl
+  known_register (Fixes rd c) r k kr = known_put rd (Was (OfNumber c)) r kr (λ is. k)
+  known_register (Moves rd rs) r k kr = known_put rd (Was (InRegister rs)) r kr (λ is. k)
+  known_register (Sets rd op a b) r k kr = known_new rd r kr
+  known_register (Addresses rd n offset) r k kr = known_new rd r kr
+  known_register (Loads rd op base offset) r k kr = known_new rd r kr
   known_register (Stores op rs base offset) r k kr = kr
-  known_register (LoadsSlot rd n) r k kr = known_put rd (Was (InSlot n)) r kr k
+  known_register (LoadsSlot rd n) r k kr = known_put rd (Was (InSlot n)) r kr (λ is. k)
   known_register (StoresSlot rs n) r k kr = kr
   known_register (Branches op a b target) r k kr = kr
   known_register (Jumps target) r k kr = kr
-  known_register (Calls name args) r k kr = known_if (list_any (λ q. nat_eq r q) caller_saved) (New 0 r) (Was (InRegister r)) refl kr
+  known_register (Calls name args) r k kr = known_if (list_any (λ q. nat_eq r q) caller_saved) (New 0 r) (Was (InRegister r)) (refl, kr) kr
   known_register (Returns results) r k kr = kr
   known_register Unfit r k kr = kr
 
@@ -227,7 +232,7 @@ module _ (g : Program) (start p : Pos) (things : List Tracked) (class : Classes)
   backs_one (Was x) Nameless kb kc = (λ h. absurd (h.1 h.0), λ s. absurd (on_path (Was x) Nameless s))
   backs_one (New i q) (Was y) kb kc = (λ h. absurd (new.new y q kc (sym h.0)), λ s. absurd (on_path (New i q) (Was y) s))
   backs_one (New i q) (New j r) kb kc =
-      (λ h. λ n t path. (kb ∙ sym kc, new.apart q r h.0), λ s. (ap fresh (on_path (New i q) (New j r) s).1, new.some q))
+      (λ h. λ n t path. (kb.0 ∙ sym kc.0, new.apart q r h.0), λ s. (ap fresh (on_path (New i q) (New j r) s).1, new.some q))
   backs_one (New i q) Nameless kb kc = (λ h. absurd (new.some q h.0), λ s. absurd (on_path (New i q) Nameless s))
   backs_one Nameless c kb kc = (λ h. absurd (h.1 refl), λ s. absurd (on_path Nameless c s))
 
