@@ -3,3 +3,5 @@ pub mod Places
 pub mod Rows
 pub mod Items
 pub mod Giving
+pub mod Starting
+pub mod Constants

@@ -1,3 +1,5 @@
 pub mod Things
 pub mod Held
 pub mod Firsts
+pub mod Start
+pub mod Look

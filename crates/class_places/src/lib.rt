@@ -7,8 +7,10 @@
 pub mod firsts;
 pub mod held;
 pub mod index;
+pub mod look;
 pub mod pass;
 pub mod row;
+pub mod start;
 
 
 
