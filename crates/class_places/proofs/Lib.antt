@@ -5,3 +5,4 @@ pub mod Items
 pub mod Giving
 pub mod Starting
 pub mod Constants
+pub mod Entering

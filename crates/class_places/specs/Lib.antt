@@ -3,3 +3,4 @@ pub mod Held
 pub mod Firsts
 pub mod Start
 pub mod Look
+pub mod Entering

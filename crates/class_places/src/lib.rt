@@ -7,6 +7,7 @@
 pub mod firsts;
 pub mod held;
 pub mod index;
+pub mod laws;
 pub mod look;
 pub mod pass;
 pub mod row;
