@@ -1,7 +1,18 @@
 //! The name of a function.
 
 ghost use Rattle.std.specs.Prelude.{◌≡◌, [], Some, drop, IfOk};
-ghost use Rattle.mir_declarations.specs.Name.{opens_with, is_single_at, first_text, are_single, spelling_of, joined, name_by, refused_by, name_of_line, name_of};
+ghost use Rattle.mir_declarations.specs.Name.{
+  opens_with,
+  is_single_at,
+  first_text,
+  are_single,
+  spelling_of,
+  joined,
+  name_by,
+  refused_by,
+  name_of_line,
+  name_of,
+};
 
 use crate::entry::bad_line;
 use lists::List;

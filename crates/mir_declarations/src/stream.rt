@@ -2,7 +2,14 @@
 
 ghost use Rattle.std.specs.Prelude.{◌≡◌, ◌++◌, map, take, IfOk, OnOk};
 ghost use Rattle.mir_lexer.specs.Line.{tokens_of};
-ghost use Rattle.mir_declarations.specs.Stream.{tokens_or_none, tokens_up_to, line_tokens_of, piece_of, stream_of, text_at};
+ghost use Rattle.mir_declarations.specs.Stream.{
+  tokens_or_none,
+  tokens_up_to,
+  line_tokens_of,
+  piece_of,
+  stream_of,
+  text_at,
+};
 
 use lists::List;
 use meta_reader::token::text_of;

@@ -9,7 +9,14 @@ use std::test::Fail;
 
 /// What the function of a text declares, or its refusal.
 fn read(alloc: Global, text: &str) -> Result<Result<Declarations, Refusal>, Fail> {
-    let found = documents(alloc, text.as_bytes())?;
+    let bytes = text.as_bytes();
+    if bytes.len() >= 1 << 31 {
+        return Ok(Err(Refusal {
+            line: 0,
+            kind: RefusalKind::TooMany,
+        }));
+    }
+    let found = documents(alloc, bytes)?;
     let Some(document) = found.functions.as_slice().first() else {
         return Ok(Err(Refusal {
             line: 0,
@@ -26,7 +33,10 @@ fn read(alloc: Global, text: &str) -> Result<Result<Declarations, Refusal>, Fail
 #[test]
 fn reads_what_a_function_declares(rt: HostRuntime) -> Result<(), Fail> {
     let text =
-        "---\nname: 'it''s'\nstack:\n  - { id: 3, size: 8,\n      local-offset: -32, type: default } ; a slot\n  - { id: 0, size: 24, alignment: 16 }\nbody: |\ndebugValueSubstitutions:\n  - { srcinst: 2, srcop: 0, dstinst: 1, dstop: 0 }\n  - { srcinst: 2, srcop: 0, dstinst: 9, dstop: 0, subreg: 1 }\n...\n";
+        "---\nname: 'it''s'\nstack:\n  - { id: 3, size: 8,\n      local-offset: -32, type: default } ; a slot\n\
+        - { id: 0, size: 24, alignment: 16 }\nbody: |\n\
+        debugValueSubstitutions:\n  - { srcinst: 2, srcop: 0, dstinst: 1, dstop: 0 }\n\
+        - { srcinst: 2, srcop: 0, dstinst: 9, dstop: 0, subreg: 1 }\n...\n";
     let Ok(declared) = read(rt.alloc(), text)? else {
         assert!(rt; false, "the text is refused");
         return Ok(());
@@ -96,7 +106,8 @@ fn refuses_at_the_first_line(rt: HostRuntime) -> Result<(), Fail> {
             RefusalKind::StackObject,
         ),
         (
-            "---\nname: a\nbody: |\ndebugValueSubstitutions:\n- { srcinst: 1073741824, srcop: 0, dstinst: 1, dstop: 0 }\n...\n",
+            "---\nname: a\nbody: |\ndebugValueSubstitutions:\n\
+            - { srcinst: 1073741824, srcop: 0, dstinst: 1, dstop: 0 }\n...\n",
             5,
             RefusalKind::BadLine,
         ),
