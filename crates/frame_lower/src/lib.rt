@@ -4,7 +4,3 @@
 //! stays as it is, debug items among it; slots are named by where they lie. The rule is one equation on plain
 //! functions, in `specs/Rule.antt`.
 #![tactic(auto)]
-
-mod naming;
-mod places;
-mod saving;
