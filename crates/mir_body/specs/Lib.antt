@@ -1,0 +1,4 @@
+pub mod Met
+pub mod Limits
+pub mod Body
+pub mod Closing
