@@ -3,6 +3,8 @@ use Rattle.std.specs.Prelude.{◌≡◌, ℕ, ◌+◌, Bool, true, false, ◌||�
 use Rattle.std.specs.Option.{option_map}
 use Rattle.rv64_instr.specs.Arithmetic.{word}
 use Rattle.rv64_instr.specs.Row.{Row, Fixes, Moves, Sets, Addresses, Loads, Stores, LoadsSlot, StoresSlot, Branches, Jumps, Calls, Returns, Unfit, row_of}
+use Rattle.rv64_instr.specs.declared.decoded.Base.{Base}
+use Rattle.rv64_instr.specs.declared.decoded.Base.TheVariants.{PointedBy, ObjectAt}
 use Rattle.mir_func.specs.declared.block.Block.{Block}
 use Rattle.mir_func.specs.declared.item.Item.{Item}
 use Rattle.mir_func.specs.declared.item.ItemKind.{ItemKind}
@@ -49,11 +51,38 @@ constant_of (Code i number) = row_constant (row_of i)
 constant_of (Mark v m) = mark_constant m
 constant_of (Phi p number) = None
 
+-- the stack object that a base is
+abbrev pub base_object : Base → Option ℕ
+base_object (PointedBy r) = None
+base_object (ObjectAt n) = Some n
+
+-- the stack object that a row names
+abbrev pub row_object : Row → Option ℕ
+row_object (Addresses rd n offset) = Some n
+row_object (Loads rd op base offset) = base_object base
+row_object (Stores op rs base offset) = base_object base
+row_object (Fixes rd n) = None
+row_object (Moves rd rs) = None
+row_object (Sets rd op a b) = None
+row_object (LoadsSlot rd n) = None
+row_object (StoresSlot rs n) = None
+row_object (Branches op a b target) = None
+row_object (Jumps target) = None
+row_object (Calls name args) = None
+row_object (Returns results) = None
+row_object Unfit = None
+
+-- the stack object that an item names
+abbrev pub object_named : ItemKind → Option ℕ
+object_named (Code i number) = row_object (row_of i)
+object_named (Mark v m) = None
+object_named (Phi p number) = None
+
 -- ---- what was read
 
 -- before the first line
 abbrev pub nothing_read : Body
-nothing_read = record { before = []; last = None; entries = []; items = 0; ids = []; codes = []; numbers = []; constants = []; variables = [] }
+nothing_read = record { before = []; last = None; entries = []; items = 0; ids = []; codes = []; numbers = []; constants = []; objects = []; variables = [] }
 
 -- blocks with one more, if it is there
 abbrev pub and_last : List Block → Option Block → List Block
@@ -103,6 +132,11 @@ abbrev pub with_constant : Body → Option ℕ → Body
 with_constant body None = body
 with_constant body (Some n) = record body { constants = met n body.constants }
 
+-- the stack objects with one that is there
+abbrev pub with_object : Body → Option ℕ → Body
+with_object body None = body
+with_object body (Some n) = record body { objects = met n body.objects }
+
 -- the variables with that of a mark
 abbrev pub with_variable : Body → ItemKind → Body
 with_variable body (Code i k) = body
@@ -111,7 +145,7 @@ with_variable body (Phi p k) = body
 
 -- what is met in an item
 abbrev pub with_facts : Body → ItemKind → Body
-with_facts body kind = with_variable (with_constant (with_number body kind) (constant_of kind)) kind
+with_facts body kind = with_variable (with_object (with_constant (with_number body kind) (constant_of kind)) (object_named kind)) kind
 
 -- an item goes to the last block
 abbrev pub placed : Body → ItemKind → Loc → List ℕ → Body

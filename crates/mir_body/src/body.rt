@@ -1,6 +1,8 @@
 //! The blocks of a body so far.
 
 ghost use Rattle.std.specs.Prelude.{◌≡◌, ◌≤◌, IfOk, IsNone, OnOk};
+ghost use Rattle.rv64_instr.specs.Row.{Row};
+ghost use Rattle.rv64_instr.specs.Decoded.{Shows};
 ghost use Rattle.mir_body.specs.Limits.{MAX_ITEMS as MOST_ITEMS};
 ghost use Rattle.mir_body.specs.Body.{
   nothing_read,
@@ -13,6 +15,9 @@ ghost use Rattle.mir_body.specs.Body.{
   with_number,
   with_constant,
   constant_of,
+  object_named,
+  row_object,
+  with_object,
   exceeds,
   item_cause,
   placed,
@@ -31,7 +36,7 @@ use mir_func::position::{Origin, Pos};
 use mir_func::variable::MarkValue;
 use numbers::code::{BlockId, DebugNumber, SlotId};
 use refusal::kind::RefusalKind;
-use rv64_instr::decoded::Decoded;
+use rv64_instr::decoded::{Base, Decoded};
 use std::alloc::{AllocError, Global};
 
 /// The N of each `%stack.N` that lines name, in order.
@@ -56,6 +61,8 @@ pub struct Body {
     pub numbers: Met,
     /// The constants of its constant definitions and its marks, as 64 bits.
     pub constants: Met,
+    /// The stack entries that its code names as stack objects.
+    pub objects: Met,
     /// The parts of variables that its marks speak of.
     pub variables: Variables,
 }
@@ -74,6 +81,28 @@ fn constant_of(kind: &ItemKind) -> Option<u64>
     }
 }
 
+/// The number of the stack object that an instruction names.
+fn row_object(decoded: &Decoded) -> Option<u32>
+    ensures { (row : Row) → Shows decoded.now row → result ≡ row_object row }
+{
+    match *decoded {
+        Decoded::Addresses(_, n, _) => Some(n.number()),
+        Decoded::Loads(_, _, Base::ObjectAt(n), _) => Some(n.number()),
+        Decoded::Stores(_, _, Base::ObjectAt(n), _) => Some(n.number()),
+        _ => None,
+    }
+}
+
+/// The number of the stack object that an item names.
+fn object_of(kind: &ItemKind) -> Option<u32>
+    ensures { result ≡ object_named kind.now }
+{
+    match kind {
+        ItemKind::Code(instr, _) => row_object(&instr.decoded()),
+        ItemKind::Mark(_, _) | ItemKind::Phi(_, _) => None,
+    }
+}
+
 impl Body {
     /// Before the first line. It takes no memory.
     pub fn new(alloc: Global) -> Body
@@ -88,6 +117,7 @@ impl Body {
             codes: Met::new(alloc),
             numbers: Met::new(alloc),
             constants: Met::new(alloc),
+            objects: Met::new(alloc),
             variables: List::new(alloc),
         }
     }
@@ -156,6 +186,16 @@ impl Body {
         }
     }
 
+    /// Meets a stack object, if one is there.
+    fn meet_object(&mut self, object: Option<u32>) -> Result<(), AllocError>
+        ensures { OnOk result (self.new ≡ with_object self.old object) }
+    {
+        match object {
+            Some(n) => self.objects.meet(u64::from(n)),
+            None => Ok(()),
+        }
+    }
+
     /// Meets the variable of a mark.
     fn meet_variable(&mut self, kind: &ItemKind) -> Result<(), AllocError>
         ensures { OnOk result (self.new ≡ with_variable self.old kind.now) }
@@ -172,6 +212,7 @@ impl Body {
     {
         self.meet_number(kind)?;
         self.meet_constant(constant_of(kind))?;
+        self.meet_object(object_of(kind))?;
         self.meet_variable(kind)
     }
 

@@ -7,6 +7,7 @@
 
 pub mod body;
 pub mod closing;
+pub mod frame;
 pub mod limits;
 pub mod met;
 #[cfg(test)]
