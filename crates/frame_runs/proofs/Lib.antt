@@ -6,3 +6,7 @@ pub mod Saved
 pub mod Blocks
 pub mod Framing
 pub mod FrameFollows
+pub mod Holding
+pub mod Standing
+pub mod Positions
+pub mod FrameStands

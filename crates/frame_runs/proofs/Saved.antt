@@ -1,8 +1,10 @@
 -- The places of saved registers: above the slots, and of registers that are no results.
-use Rattle.std.proofs.Common.{◌≡◌, ℕ, zero, suc, ◌+◌, ◌*◌, ◌<◌, ◌≤◌, List, [], ◌∷◌, length, All, Contains, ◌⊎◌, inl, inr, Bool, true, false, ◌&&◌, ◌||◌, nat_le, refl, ap, subst, arith}
+use Rattle.std.proofs.Common.{◌≡◌, ℕ, zero, suc, ◌+◌, ◌*◌, ◌<◌, ◌≤◌, List, [], ◌∷◌, length, All, Contains, ◌⊎◌, inl, inr, Bool, true, false, cond, ◌&&◌, ◌||◌}
+use Rattle.std.proofs.Common.{nat_le}
+use Rattle.std.proofs.Common.{filter, refl, sym, ap, ◌∙◌, subst, arith}
 use Rattle.std.specs.List.{list_all}
 use Rattle.std.proofs.lemmas.Bool.{leb-true, and_parts}
-use Rattle.std.proofs.lemmas.List.Elements.{All-nil, All-cons, All-head, All-tail, All-filter}
+use Rattle.std.proofs.lemmas.List.Elements.{All-nil, All-cons, All-head, All-tail, All-filter, All-contains_itself}
 use Rattle.mir_func.specs.declared.framed.SavedRegister.{SavedRegister}
 use Rattle.mir_func.specs.Function.{Function}
 use Rattle.mir_func.specs.SoundFrame.{SAVED}
@@ -43,7 +45,7 @@ all_by : (rs : List ℕ) → list_all is_given rs ≡ true → All IsGivenBack r
 all_by [] h = All-nil IsGivenBack
 all_by (r ∷ rs) h = let p = and_parts (is_given r) (list_all is_given rs) h in All-cons IsGivenBack r rs (given_by r p.0) (all_by rs p.1)
 
-all_given : All IsGivenBack SAVED
+pub all_given : All IsGivenBack SAVED
 unfolding is_given
 all_given = all_by SAVED refl
 
@@ -71,6 +73,37 @@ saved_above f s k = (places (8 * length f.slots) (saved_registers f.blocks) (All
 
 pub saved_given : (f : Function) (s : SavedRegister) → Contains (saved_of f) s → IsGivenBack s.register
 saved_given f s k = (places (8 * length f.slots) (saved_registers f.blocks) (All-filter (is_set f.blocks) IsGivenBack SAVED all_given) s k).register
+
+registers_in : (P : ℕ → Type 0) (o : ℕ) (rs : List ℕ) → All P rs → (s : SavedRegister) → Contains (saved_places o rs) s → P s.register
+registers_in P o [] h s k = absurd (no_member s k)
+registers_in P o (r ∷ rs) h s (zero, lt, e) = subst (λ (z : SavedRegister). P z.register) e (All-head P r rs h)
+registers_in P o (r ∷ rs) h s (suc k, lt, e) = registers_in P (o + 8) rs (All-tail P r rs h) s (k, omega (arith, lt), e)
+
+-- they are among those that a function gives back
+pub saved_in : (f : Function) (s : SavedRegister) → Contains (saved_of f) s → Contains SAVED s.register
+saved_in f s k =
+    registers_in (Contains SAVED) (8 * length f.slots) (saved_registers f.blocks)
+    (All-filter (is_set f.blocks) (Contains SAVED) SAVED (All-contains_itself SAVED)) s k
+
+-- and each that some code sets is one of them
+place_of : (o : ℕ) (rs : List ℕ) (r : ℕ) → Contains rs r → (s : SavedRegister) × Contains (saved_places o rs) s × (s.register ≡ r)
+place_of o [] r k = absurd (no_member r k)
+place_of o (q ∷ rs) r (zero, lt, e) = (record { register = q; offset = o }, (0, omega arith, refl), e)
+place_of o (q ∷ rs) r (suc k, lt, e) =
+    let w = place_of (o + 8) rs r (k, omega (arith, lt), e) in let c = w.1 in (w.0, (suc c.0, (let l = c.1 in omega (arith, l)), c.2), w.2)
+
+kept_in : (p : ℕ → Bool) (rs : List ℕ) (r : ℕ) → Contains rs r → p r ≡ true → Contains (filter p rs) r
+kept_in p [] r k e = absurd (no_member r k)
+kept_in p (q ∷ rs) r (zero, lt, w) e =
+    subst (λ (b : Bool). Contains (cond b (q ∷ filter p rs) (filter p rs)) r) (sym (ap p w ∙ e)) (0, omega arith, w)
+kept_in p (q ∷ rs) r (suc k, lt, w) e = by_test (p q) (kept_in p rs r (k, omega (arith, lt), w) e) where
+  by_test : (b : Bool) → Contains (filter p rs) r → Contains (cond b (q ∷ filter p rs) (filter p rs)) r
+  by_test true (j, l, z) = (suc j, omega (arith, l), z)
+  by_test false h = h
+
+pub set_is_saved : (f : Function) (r : ℕ) → Contains SAVED r → is_set f.blocks r ≡ true →
+    (s : SavedRegister) × Contains (saved_of f) s × (s.register ≡ r)
+set_is_saved f r k e = place_of (8 * length f.slots) (saved_registers f.blocks) r (kept_in (is_set f.blocks) SAVED r k e)
 
 -- where there is no frame, nothing is saved
 pub none_saved : (f : Function) → size_of f ≡ 0 → saved_of f ≡ []
