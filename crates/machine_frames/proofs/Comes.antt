@@ -96,7 +96,7 @@ final_class (Branches op a b t) e = cc
 final_class (Jumps t) e = cc
 final_class (Calls name args) e = cc
 
-final_not_added : (r : Row) (k silent : ℕ) → row_exit r ≡ Final → MayAdd r k silent → ⊥
+pub final_not_added : (r : Row) (k silent : ℕ) → row_exit r ≡ Final → MayAdd r k silent → ⊥
 final_not_added (Returns results) k silent e h = h
 final_not_added Unfit k silent e h = h
 final_not_added (Fixes rd n) k silent e h = cc
@@ -225,12 +225,12 @@ module _ (source f : Function) (resolve fresolve : OperandPair → Option Operan
   -- ---- points
 
   -- an item of f, in its block
-  record IsOf (b : Block) (x : Item) : Type 0 where
-    member : Contains f.blocks b
-    home : (position_of x.origin).block ≡ b.id
-    fits : KindFits src x.kind b.silent x.origin
+  pub record IsOf (b : Block) (x : Item) : Type 0 where
+    pub member : Contains f.blocks b
+    pub home : (position_of x.origin).block ≡ b.id
+    pub fits : KindFits src x.kind b.silent x.origin
 
-  of_f : (j : ℕ) (b : Block) (rest : List Block) → drop j f.blocks ≡ b ∷ rest → (n : ℕ) (x : Item) → slice_get b.items n ≡ Some x → IsOf b x
+  pub of_f : (j : ℕ) (b : Block) (rest : List Block) → drop j f.blocks ≡ b ∷ rest → (n : ℕ) (x : Item) → slice_get b.items n ≡ Some x → IsOf b x
   of_f j b rest d n x e =
       let m = got f.blocks j b (dropped f.blocks j b rest d) in
       record {
@@ -241,14 +241,14 @@ module _ (source f : Function) (resolve fresolve : OperandPair → Option Operan
             (got b.items n x e);
       }
 
-  code_same : (a : Instruction) (m : Option ℕ) (b : Instruction) (n : Option ℕ) → Code a m ≡ Code b n → a ≡ b
+  pub code_same : (a : Instruction) (m : Option ℕ) (b : Instruction) (n : Option ℕ) → Code a m ≡ Code b n → a ≡ b
   code_same a m b n e = cc
 
   origin_same : (p q : Pos) → Before p ≡ Before q → p ≡ q
   origin_same p q e = cc
 
   -- code of the function is code of f, its slots named by their offsets
-  own_code : (x : Item) (c : Instruction) (k : Option ℕ) → Rattle.frame_lower.specs.Rule.renamed_kind f.slots x.kind ≡ Code c k →
+  pub own_code : (x : Item) (c : Instruction) (k : Option ℕ) → Rattle.frame_lower.specs.Rule.renamed_kind f.slots x.kind ≡ Code c k →
       (d : Instruction) × (x.kind ≡ Code d k) × (c ≡ renamed_code f.slots d)
   own_code x c k e = by_kind x.kind refl e where
     by_kind : (z : ItemKind) → x.kind ≡ z → Rattle.frame_lower.specs.Rule.renamed_kind f.slots z ≡ Code c k → (d : Instruction) × (x.kind ≡ Code d k) × (c ≡ renamed_code f.slots d)
@@ -256,14 +256,14 @@ module _ (source f : Function) (resolve fresolve : OperandPair → Option Operan
     by_kind (Mark v m) q h = cc
     by_kind (Phi p n) q h = cc
 
-  own_exit : (x : Item) → exit_of (Rattle.frame_lower.specs.Rule.renamed_kind f.slots x.kind) ≡ exit_of x.kind
+  pub own_exit : (x : Item) → exit_of (Rattle.frame_lower.specs.Rule.renamed_kind f.slots x.kind) ≡ exit_of x.kind
   own_exit x = by_kind x.kind where
     by_kind : (z : ItemKind) → exit_of (Rattle.frame_lower.specs.Rule.renamed_kind f.slots z) ≡ exit_of z
     by_kind (Code d m) = ap row_exit (row_renamed f.slots d) ∙ renamed_exit f.slots (row_of d)
     by_kind (Mark v m) = refl
     by_kind (Phi p n) = refl
 
-  fits_before : (b : Block) (x : Item) (d : Instruction) (k : Option ℕ) (q : Pos) → x.kind ≡ Code d k → x.origin ≡ Before q → KindFits src x.kind b.silent x.origin →
+  pub fits_before : (b : Block) (x : Item) (d : Instruction) (k : Option ℕ) (q : Pos) → x.kind ≡ Code d k → x.origin ≡ Before q → KindFits src x.kind b.silent x.origin →
       MayAdd (row_of d) q.item b.silent
   fits_before b x d k q ek eo h = subst (RowFits src (row_of d) b.silent) eo (subst (λ (z : ItemKind). KindFits src z b.silent x.origin) ek h)
 
@@ -275,10 +275,10 @@ module _ (source f : Function) (resolve fresolve : OperandPair → Option Operan
           (frame_harmless pro.is.instruction (prologue_is (size_of f) (saved_of f) pro.is.instruction pro.is.member)))
       | inr blk ↦ by_item blk (framed_item_is f blk.block.items p.item i blk.stands)
     ] where
-      by_item : (blk : InBlock f p i) → IsFramedItem f blk.block.items i → IsHarmless (row_of c) ⊎ NeverFaults src q
+      by_item : (blk : InBlock f p i) → IsFramedItem f blk.block.items p.item i → IsHarmless (row_of c) ⊎ NeverFaults src q
       by_item blk (gives_back n x at final is) = inl (subst (λ (x : Instruction). IsHarmless (row_of x)) (code_same is.instruction None c k (sym is.kind ∙ kind))
           (frame_harmless is.instruction (epilogue_is (size_of f) (saved_of f) is.instruction is.member)))
-      by_item blk (own n x at made_of) =
+      by_item blk (own n x at made_of ix) =
           let o = of_f blk.index blk.block blk.rest blk.found n x at in
           let code = own_code x c k (ap (λ (z : Item). z.kind) (sym made_of) ∙ kind) in
           let eo : x.origin ≡ Before q = ap (λ (z : Item). z.origin) (sym made_of) ∙ origin in
@@ -297,10 +297,10 @@ module _ (source f : Function) (resolve fresolve : OperandPair → Option Operan
       not_onward : {x : Exit} → x ≡ Final → x ≡ Onward → ⊥
       not_onward a b = let bad : Onward ≡ Final = sym b ∙ a in cc
 
-      by_item : (blk : InBlock f p i) → IsFramedItem f blk.block.items i → NeverFaults src (position_of i.origin)
+      by_item : (blk : InBlock f p i) → IsFramedItem f blk.block.items p.item i → NeverFaults src (position_of i.origin)
       by_item blk (gives_back n x at fin is) = absurd (not_onward (ap exit_of (sym is.kind) ∙ final)
           (frame_onward is.instruction (epilogue_is (size_of f) (saved_of f) is.instruction is.member)))
-      by_item blk (own n x at made_of) =
+      by_item blk (own n x at made_of ix) =
           let o = of_f blk.index blk.block blk.rest blk.found n x at in
           let ex : exit_of x.kind ≡ Final = sym (own_exit x) ∙ ap (λ (z : Item). exit_of z.kind) (sym made_of) ∙ final in
           subst (λ (z : Item). NeverFaults src (position_of z.origin)) (sym made_of) (by_kind x o x.kind refl ex) where
@@ -330,7 +330,7 @@ module _ (source f : Function) (resolve fresolve : OperandPair → Option Operan
       | inr a ↦ inr (let b = a in omega (arith, b))
     ]
 
-    block_order : (b : Block) → Contains f.blocks b → InOrder b.id 0 (framed_items f b.items)
+    pub block_order : (b : Block) → Contains f.blocks b → InOrder b.id 0 (framed_items f b.items)
     block_order b m = framed_order f b.id 0 b.items refl (All-contains (λ (c : Block). InOrder c.id 0 c.items) f.blocks b made.shape.order m)
 
     -- an item of a block comes from the block with its number
@@ -349,11 +349,11 @@ module _ (source f : Function) (resolve fresolve : OperandPair → Option Operan
         made.sound.blocks_apart a.index b.index b.block.id (id_at f.blocks a.index a.block (dropped f.blocks a.index a.block a.rest a.found) ∙ ap Some e)
         (id_at f.blocks b.index b.block (dropped f.blocks b.index b.block b.rest b.found))
 
-    branch_kept : (p : Pos) (i : Item) (n : ℕ) (blk : InBlock f p i) → exit_of i.kind ≡ Perhaps n → IsFramedItem f blk.block.items i →
+    branch_kept : (p : Pos) (i : Item) (n : ℕ) (blk : InBlock f p i) → exit_of i.kind ≡ Perhaps n → IsFramedItem f blk.block.items p.item i →
         (q : Pos) × (i.origin ≡ Kept q)
     branch_kept p i n blk exit (gives_back m x at fin is) =
         let bad : Onward ≡ Perhaps n = sym (frame_onward is.instruction (epilogue_is (size_of f) (saved_of f) is.instruction is.member)) ∙ ap exit_of (sym is.kind) ∙ exit in cc
-    branch_kept p i n blk exit (own m x at made_of) =
+    branch_kept p i n blk exit (own m x at made_of ix) =
         let o = of_f blk.index blk.block blk.rest blk.found m x at in
         let ex : exit_of x.kind ≡ Perhaps n = sym (own_exit x) ∙ ap (λ (z : Item). exit_of z.kind) (sym made_of) ∙ exit in
         let h = by_kind x o x.kind refl ex in

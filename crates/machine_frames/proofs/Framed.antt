@@ -1,5 +1,5 @@
 -- What the items of a function with its frame are: those of the prologue, those of the function, and those of epilogues.
-use Rattle.std.proofs.Common.{◌≡◌, ◌⊎◌, ℕ, zero, suc, ◌+◌, ◌*◌, ◌%◌, ◌<◌, ◌≤◌, ℤ, pos, ◌-ℤ◌, List, [], ◌∷◌, ◌++◌, drop, map, length, All, Contains, slice_get}
+use Rattle.std.proofs.Common.{◌≡◌, ◌⊎◌, ℕ, zero, suc, ◌+◌, ◌*◌, ◌%◌, ◌<◌, ◌≤◌, ℤ, pos, ◌-ℤ◌, List, [], ◌∷◌, ◌++◌, drop, take, map, length, length-append, All, Contains, slice_get}
 use Rattle.std.proofs.Common.{slice_index_or, Option, Some, None, Bool, true, false, cond, refl, sym, ap, ◌∙◌, subst, inl, inr, arith}
 use Rattle.std.specs.List.{flat_map}
 use Rattle.rv64_instr.specs.Instruction.{Instruction}
@@ -108,38 +108,46 @@ is_final_is Onward e = cc
 is_final_is (Perhaps n) e = cc
 is_final_is (Always n) e = cc
 
--- an item of a block with epilogues: an item of the block, or code of the epilogue of a return
-pub data IsFramedItem (f : Function) (xs : List Item) (i : Item) : Type 0 where
-  own : (n : ℕ) (x : Item) → slice_get xs n ≡ Some x → i ≡ renamed f.slots x → IsFramedItem f xs i
-  gives_back : (n : ℕ) (x : Item) → slice_get xs n ≡ Some x → exit_of x.kind ≡ Final →
-      IsAdded (Before (position_in x.origin)) (epilogue_code (size_of f) (saved_of f)) i → IsFramedItem f xs i
+-- the index where what an item becomes begins
+abbrev pub index_in : Function → List Item → ℕ → ℕ
+index_in f xs n = length (framed_items f (take n xs))
 
-pub framed_item_is : (f : Function) (xs : List Item) (k : ℕ) (i : Item) → slice_get (framed_items f xs) k ≡ Some i → IsFramedItem f xs i
+-- an item of a block with epilogues: an item of the block, or code of the epilogue of a return
+pub data IsFramedItem (f : Function) (xs : List Item) (k : ℕ) (i : Item) : Type 0 where
+  own : (n : ℕ) (x : Item) → slice_get xs n ≡ Some x → i ≡ renamed f.slots x → (is_final (exit_of x.kind) ≡ false → k ≡ index_in f xs n) → IsFramedItem f xs k i
+  gives_back : (n : ℕ) (x : Item) → slice_get xs n ≡ Some x → exit_of x.kind ≡ Final →
+      IsAdded (Before (position_in x.origin)) (epilogue_code (size_of f) (saved_of f)) i → IsFramedItem f xs k i
+
+pub framed_item_is : (f : Function) (xs : List Item) (k : ℕ) (i : Item) → slice_get (framed_items f xs) k ≡ Some i → IsFramedItem f xs k i
 framed_item_is f [] k i e = cc
 framed_item_is f (x ∷ xs) k i e =
     by_rest (in_append (framed_item f x) (framed_items f xs) k i e) (λ m h. framed_item_is f xs m i h)
     where
-      one : (m : ℕ) → slice_get (renamed f.slots x ∷ []) m ≡ Some i → IsFramedItem f (x ∷ xs) i
-      one zero h = let same : renamed f.slots x ≡ i = cc in own 0 x refl (sym same)
-      one (suc m) h = cc
+      one : (m : ℕ) → k ≡ length (cond (is_final (exit_of x.kind)) (epilogue f x.origin) []) + m → slice_get (renamed f.slots x ∷ []) m ≡ Some i →
+          IsFramedItem f (x ∷ xs) k i
+      one zero ek h =
+          let same : renamed f.slots x ≡ i = cc in
+          own 0 x refl (sym same) (λ no_return. ek ∙ ap (λ (b : Bool). length (cond b (epilogue f x.origin) []) + 0) no_return)
+      one (suc m) ek h = cc
 
-      by_exit : (b : Bool) → is_final (exit_of x.kind) ≡ b → (m : ℕ) → slice_get (cond b (epilogue f x.origin) []) m ≡ Some i → IsFramedItem f (x ∷ xs) i
+      by_exit : (b : Bool) → is_final (exit_of x.kind) ≡ b → (m : ℕ) → slice_get (cond b (epilogue f x.origin) []) m ≡ Some i → IsFramedItem f (x ∷ xs) k i
       by_exit true t m h = gives_back 0 x refl (is_final_is (exit_of x.kind) t)
           (added_item (size_of f) (Before (position_in x.origin)) (epilogue_code (size_of f) (saved_of f)) m i h)
       by_exit false t m h = cc
 
-      in_item : (m : ℕ) → slice_get (framed_item f x) m ≡ Some i → IsFramedItem f (x ∷ xs) i
-      in_item m h = elim (in_append (cond (is_final (exit_of x.kind)) (epilogue f x.origin) []) (renamed f.slots x ∷ []) m i h) as
-          (λ _. IsFramedItem f (x ∷ xs) i) [ inl y ↦ by_exit (is_final (exit_of x.kind)) refl m y | inr y ↦ one y.0 y.2 ]
+      in_item : slice_get (framed_item f x) k ≡ Some i → IsFramedItem f (x ∷ xs) k i
+      in_item h = elim (in_append (cond (is_final (exit_of x.kind)) (epilogue f x.origin) []) (renamed f.slots x ∷ []) k i h) as
+          (λ _. IsFramedItem f (x ∷ xs) k i) [ inl y ↦ by_exit (is_final (exit_of x.kind)) refl k y | inr y ↦ one y.0 y.1 y.2 ]
 
-      later : IsFramedItem f xs i → IsFramedItem f (x ∷ xs) i
-      later (own n y h same) = own (suc n) y h same
-      later (gives_back n y h final is) = gives_back (suc n) y h final is
+      later : (m : ℕ) → k ≡ length (framed_item f x) + m → IsFramedItem f xs m i → IsFramedItem f (x ∷ xs) k i
+      later m ek (own n y h same ix) = own (suc n) y h same (λ no_return. (let q = ix no_return in let l = length-append (framed_item f x) (framed_items f (take n xs)) in
+          ek ∙ ap (λ (z : ℕ). length (framed_item f x) + z) q ∙ sym l))
+      later m ek (gives_back n y h final is) = gives_back (suc n) y h final is
 
       by_rest : (slice_get (framed_item f x) k ≡ Some i) ⊎ ((m : ℕ) × (k ≡ length (framed_item f x) + m) × (slice_get (framed_items f xs) m ≡ Some i)) →
-          ((m : ℕ) → slice_get (framed_items f xs) m ≡ Some i → IsFramedItem f xs i) → IsFramedItem f (x ∷ xs) i
-      by_rest (inl h) rest = in_item k h
-      by_rest (inr h) rest = later (rest h.0 h.2)
+          ((m : ℕ) → slice_get (framed_items f xs) m ≡ Some i → IsFramedItem f xs m i) → IsFramedItem f (x ∷ xs) k i
+      by_rest (inl h) rest = in_item h
+      by_rest (inr h) rest = later h.0 h.1 (rest h.0 h.2)
 
 -- where an item stands: in the prologue, or in a block
 pub record InPrologue (f : Function) (p : Pos) (i : Item) : Type 0 where

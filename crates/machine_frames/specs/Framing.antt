@@ -8,7 +8,9 @@ use Rattle.mir_func.specs.Function.{Function}
 use Rattle.mir_func.specs.Graph.{program_of, framed_program}
 use Rattle.mir_func.specs.Sound.{AllItems, IsSound}
 use Rattle.mir_func.specs.SoundFrame.{IsFramed}
+use Rattle.mir_func.specs.declared.position.Pos.{Pos}
 use Rattle.mir_meaning.specs.Follow.{IsRead, Shape}
+use Rattle.simulation.specs.Words.{HasPlainTurns}
 use Rattle.frame_lower.specs.Rule.{framed_of}
 use Rattle.machine_runs.specs.Runs.{ComesFrom}
 
@@ -44,3 +46,12 @@ pub record IsMadeFrom (source f : Function) (resolve fresolve : OperandPair → 
 abbrev pub FramedComesFrom : Type 0
 FramedComesFrom = (source f : Function) (resolve fresolve : OperandPair → Option OperandPair) → IsMadeFrom source f resolve fresolve →
     IsFramed (framed_of f) → ComesFrom (program_of true source.blocks resolve) (framed_of f)
+
+-- past the prologue
+abbrev pub IsInner : Pos → Type 0
+IsInner p = 1 ≤ p.block
+
+-- With its frame it has plain turns.
+abbrev pub FramedHasPlainTurns : Type 0
+FramedHasPlainTurns = (source f : Function) (resolve fresolve : OperandPair → Option OperandPair) → IsMadeFrom source f resolve fresolve →
+    IsFramed (framed_of f) → HasPlainTurns (framed_program (framed_of f).blocks fresolve) IsInner
