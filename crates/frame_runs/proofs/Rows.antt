@@ -14,7 +14,7 @@ use Rattle.rv64_instr.specs.Row.{row_by}
 use Rattle.rv64_instr.specs.Row.{move_row, immediate_row, object_row, implicit_uses}
 use Rattle.rv64_instr.specs.Access.{reads}
 use Rattle.mir_func.specs.Sound.{IsNotPointer}
-use Rattle.frame_lower.specs.Rule.{slot_offset, renamed_operand, renamed_code}
+use Rattle.frame_rule.specs.Rule.{slot_offset, renamed_operand, renamed_code}
 
 -- the row with its slot named by its offset
 abbrev pub renamed_row : List ℕ → Row → Row

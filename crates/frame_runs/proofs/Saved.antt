@@ -8,7 +8,7 @@ use Rattle.std.proofs.lemmas.List.Elements.{All-nil, All-cons, All-head, All-tai
 use Rattle.mir_func.specs.declared.framed.SavedRegister.{SavedRegister}
 use Rattle.mir_func.specs.Function.{Function}
 use Rattle.mir_func.specs.SoundFrame.{SAVED}
-use Rattle.frame_lower.specs.Rule.{saved_places, saved_registers, saved_of, size_of, is_set}
+use Rattle.frame_rule.specs.Rule.{saved_places, saved_registers, saved_of, size_of, is_set}
 
 -- a register that is given back: physical, and neither an argument nor a result
 abbrev pub IsGivenBack : ℕ → Type 0
