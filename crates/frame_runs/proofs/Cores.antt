@@ -18,8 +18,8 @@ use Rattle.mir_meaning.specs.Step.{saved as written_to, does, act, are_written}
 use Rattle.mir_meaning.specs.Effects.{EndAlike}
 use Rattle.mir_meaning.proofs.Outcomes.{after_reply, alike_either}
 use Rattle.mir_meaning.proofs.Places.{updated_same, updated_other, put_other}
-use Rattle.frame_lower.specs.Rule.{slots_before, slot_offset}
-use Rattle.frame_lower.proofs.Rows.{renamed_row}
+use Rattle.frame_rule.specs.Rule.{slots_before, slot_offset}
+use Rattle.frame_rule.proofs.Rows.{renamed_row}
 
 -- a core with other registers and slots
 abbrev pub with_places : (ℕ → Option ℕ) → (ℕ → Option ℕ) → Core → Core

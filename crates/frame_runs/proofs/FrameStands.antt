@@ -32,9 +32,9 @@ use Rattle.mir_meaning.specs.Step.{Outcome, Falls, Goes, Gives, Traps, Asks, Bre
 use Rattle.mir_meaning.specs.Step.{address_at, is_fault, slot_loaded, answered, do_item, do_fetch, step}
 use Rattle.mir_meaning.proofs.Reading.{found_in}
 use Rattle.simulation.proofs.Laid.{rest_in, rest_of}
-use Rattle.frame_lower.specs.Rule.{sets_register, is_final, saved_of, framed_of}
+use Rattle.frame_rule.specs.Rule.{sets_register, is_final, saved_of, framed_of}
 use Rattle.frame_runs.specs.Stands.{is_return, is_as_found, frame_state, FrameState, FrameStands, FrameAlwaysStands, FrameGivesBack}
-use Rattle.frame_lower.proofs.Saved.{all_given, set_is_saved}
+use Rattle.frame_rule.proofs.Saved.{all_given, set_is_saved}
 use Rattle.frame_runs.proofs.Blocks.{drop_zero}
 use Rattle.frame_runs.proofs.Standing.{IsTame, part_after, part_start}
 use Rattle.frame_runs.proofs.Positions.{stands_by, or_true}

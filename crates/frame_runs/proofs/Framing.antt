@@ -39,14 +39,14 @@ use Rattle.simulation.specs.Added.{Standing, Opening, Level, Ahead, AddedRelatio
 use Rattle.simulation.specs.Added.{Adds, Begins, opens}
 use Rattle.simulation.proofs.Laid.{rest_in, rest_of, laid_out, laid_out_framed}
 use Rattle.simulation.proofs.Added.{added_follows}
-use Rattle.frame_lower.specs.Rule.{slot_offset, saved_of, size_of, added, added_all, position_in, prologue, epilogue, renamed_code, renamed_kind, renamed}
-use Rattle.frame_lower.specs.Rule.{is_final}
-use Rattle.frame_lower.specs.Rule.{framed_item, framed_items, framed_block, framed_blocks, prologue_block}
-use Rattle.frame_lower.proofs.Rows.{renamed_row, row_renamed, IsOther}
+use Rattle.frame_rule.specs.Rule.{slot_offset, saved_of, size_of, added, added_all, position_in, prologue, epilogue, renamed_code, renamed_kind, renamed}
+use Rattle.frame_rule.specs.Rule.{is_final}
+use Rattle.frame_rule.specs.Rule.{framed_item, framed_items, framed_block, framed_blocks, prologue_block}
+use Rattle.frame_rule.proofs.Rows.{renamed_row, row_renamed, IsOther}
 use Rattle.frame_runs.proofs.Cores.{Beside, put_written, updated_written, slots_below}
 use Rattle.frame_runs.proofs.ItemsAlike.{item_near, final_near}
 use Rattle.frame_runs.proofs.Fits.{IsResult, ReadsResults}
-use Rattle.frame_lower.proofs.Saved.{saved_above, saved_given, none_saved}
+use Rattle.frame_rule.proofs.Saved.{saved_above, saved_given, none_saved}
 use Rattle.frame_runs.proofs.Blocks.{from_index, items_from, ends_alike, drop_zero}
 
 pub data Stage : Type 0 where

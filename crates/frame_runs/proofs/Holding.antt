@@ -18,8 +18,8 @@ use Rattle.mir_meaning.specs.Live.{KindDefines}
 use Rattle.mir_meaning.specs.Effects.{OnCore}
 use Rattle.mir_meaning.proofs.Effects.{RowDefines, Keeps}
 use Rattle.mir_meaning.proofs.Parts.{defines_row, item_keeps}
-use Rattle.frame_lower.specs.Rule.{slot_offset, renamed_kind, sets_register}
-use Rattle.frame_lower.proofs.Rows.{renamed_row, row_renamed}
+use Rattle.frame_rule.specs.Rule.{slot_offset, renamed_kind, sets_register}
+use Rattle.frame_rule.proofs.Rows.{renamed_row, row_renamed}
 
 -- x2's content, the registers that are in their places, and those that are as at entry
 pub record Holds (e : Core) (x2 : ℕ) (InPlace : SavedRegister → Type 0) (Same : ℕ → Type 0) (d : Core) : Type 0 where

@@ -25,8 +25,8 @@ use Rattle.mir_meaning.specs.Step.{pair_value}
 use Rattle.mir_meaning.specs.Step.{mark_value, part_of, read, are_written, do_item}
 use Rattle.mir_meaning.specs.Effects.{EndAlike}
 use Rattle.mir_meaning.proofs.Outcomes.{alike_with, alike_either}
-use Rattle.frame_lower.specs.Rule.{renamed_operand, renamed_code, renamed_place, renamed_kind}
-use Rattle.frame_lower.proofs.Rows.{renamed_row, row_renamed, IsOther, reads_other}
+use Rattle.frame_rule.specs.Rule.{renamed_operand, renamed_code, renamed_place, renamed_kind}
+use Rattle.frame_rule.proofs.Rows.{renamed_row, row_renamed, IsOther, reads_other}
 use Rattle.frame_runs.proofs.Cores.{Beside, act_near, written_near, reads_near}
 
 call_same : (slots : List ℕ) (r : Row) → is_call (renamed_row slots r) ≡ is_call r

@@ -19,10 +19,10 @@ use Rattle.mir_func.specs.SoundFrame.{SAVED, adds_to_pointer, saves, restores, e
 use Rattle.mir_meaning.specs.State.{Core, content}
 use Rattle.simulation.specs.Sides.{Laid, IsPastItems}
 use Rattle.simulation.proofs.Laid.{rest_in, laid_out_framed}
-use Rattle.frame_lower.specs.Rule.{saved_places, saved_of, size_of, added, added_all, position_in, epilogue, renamed, is_final, framed_item, framed_items}
-use Rattle.frame_lower.specs.Rule.{framed_of}
+use Rattle.frame_rule.specs.Rule.{saved_places, saved_of, size_of, added, added_all, position_in, epilogue, renamed, is_final, framed_item, framed_items}
+use Rattle.frame_rule.specs.Rule.{framed_of}
 use Rattle.frame_runs.specs.Stands.{FrameState, is_return, is_as_found, frame_state, IsSaved, FrameStands}
-use Rattle.frame_lower.proofs.Saved.{none_saved}
+use Rattle.frame_rule.proofs.Saved.{none_saved}
 use Rattle.frame_runs.proofs.Standing.{Part, lowering, saving, body, loading, loaded, kind_exit}
 
 adds_goes_on : (n : ℕ) → row_exit (add_row 2 2 n) ≡ Onward

@@ -35,13 +35,13 @@ use Rattle.mir_meaning.proofs.Outcomes.{on_either}
 use Rattle.mir_meaning.proofs.Places.{put_same, put_other, updated_same, updated_other, contains_head, contains_tail}
 use Rattle.simulation.specs.Sides.{Laid, IsPastItems}
 use Rattle.simulation.proofs.Laid.{rest_in, rest_of, laid_out_framed}
-use Rattle.frame_lower.specs.Rule.{saved_places, saved_registers, saved_of, size_of, sets_register, added, added_all, position_in, prologue}
-use Rattle.frame_lower.specs.Rule.{epilogue, renamed, renamed_code, renamed_kind, is_final, framed_item, framed_items, framed_block, framed_blocks}
-use Rattle.frame_lower.specs.Rule.{prologue_block}
+use Rattle.frame_rule.specs.Rule.{saved_places, saved_registers, saved_of, size_of, sets_register, added, added_all, position_in, prologue}
+use Rattle.frame_rule.specs.Rule.{epilogue, renamed, renamed_code, renamed_kind, is_final, framed_item, framed_items, framed_block, framed_blocks}
+use Rattle.frame_rule.specs.Rule.{prologue_block}
 use Rattle.frame_runs.specs.Stands.{IsEntered}
-use Rattle.frame_lower.proofs.Rows.{renamed_row, row_renamed}
+use Rattle.frame_rule.proofs.Rows.{renamed_row, row_renamed}
 use Rattle.frame_runs.proofs.Cores.{slots_below}
-use Rattle.frame_lower.proofs.Saved.{IsGivenBack, saved_above, saved_given, saved_in, none_saved}
+use Rattle.frame_rule.proofs.Saved.{IsGivenBack, saved_above, saved_given, saved_in, none_saved}
 use Rattle.frame_runs.proofs.Blocks.{from_index, items_from, drop_zero}
 use Rattle.frame_runs.proofs.Holding.{Holds, lowers_to, raises_to, adds_to, leaves_register, leaves_place, still_holds}
 

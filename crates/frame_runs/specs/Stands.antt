@@ -12,7 +12,7 @@ use Rattle.mir_func.specs.Sound.{IsSound}
 use Rattle.mir_func.specs.SoundFrame.{SAVED}
 use Rattle.mir_meaning.specs.State.{Core, State, content}
 use Rattle.mir_meaning.specs.Step.{Went, Returned, read, step, run}
-use Rattle.frame_lower.specs.Rule.{is_final, framed_of, size_of}
+use Rattle.frame_rule.specs.Rule.{is_final, framed_of, size_of}
 
 -- the frame's state: by how many bytes x2 is lowered, and whether registers are in their places
 pub record FrameState : Type 0 where

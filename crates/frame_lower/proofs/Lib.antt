@@ -1,6 +1,0 @@
-pub mod Rows
-pub mod Saved
-pub mod Offsets
-pub mod Sound
-pub mod Ends
-pub mod Framed
