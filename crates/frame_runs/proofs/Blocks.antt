@@ -6,7 +6,7 @@ use Rattle.mir_func.specs.Function.{Function}
 use Rattle.mir_func.specs.Graph.{Silent, end_of, front, fetch_in, from_block, index_of}
 use Rattle.mir_func.specs.SoundFrame.{body_of}
 use Rattle.simulation.proofs.Laid.{rest_in}
-use Rattle.frame_lower.specs.Rule.{framed_items, framed_block, framed_blocks}
+use Rattle.frame_rule.specs.Rule.{framed_items, framed_block, framed_blocks}
 
 pub drop_zero : (xs : List Item) → drop 0 xs ≡ xs
 drop_zero [] = refl

@@ -1,5 +1,6 @@
 -- A core of a function beside one of the function with its frame: alike but for registers, and slots lie at their offsets.
-use Rattle.std.proofs.Common.{◌≡◌, ◌⊎◌, ℕ, zero, suc, ◌+◌, ◌%◌, ◌^◌, ◌<◌, List, [], ◌∷◌, map, length, All, Contains, Option, Some, None, IsSome, Bool, true, false}
+use Rattle.std.proofs.Common.{◌≡◌, ◌⊎◌, ℕ, zero, suc, ◌+◌, ◌%◌, ◌^◌, ◌<◌, List, [], ◌∷◌, map, length, All, Contains, Option, Some, None, IsSome, Bool, true}
+use Rattle.std.proofs.Common.{false}
 use Rattle.std.proofs.Common.{cond, nat_eq, ◌&&◌, is_some, refl, sym, ap, ◌∙◌, subst, inl, inr, eq-eqb, arith}
 use Rattle.std.proofs.lemmas.Bool.{cases_eq, eqb-true}
 use Rattle.std.proofs.lemmas.List.Elements.{All-head, All-tail}
@@ -17,8 +18,8 @@ use Rattle.mir_meaning.specs.Step.{saved as written_to, does, act, are_written}
 use Rattle.mir_meaning.specs.Effects.{EndAlike}
 use Rattle.mir_meaning.proofs.Outcomes.{after_reply, alike_either}
 use Rattle.mir_meaning.proofs.Places.{updated_same, updated_other, put_other}
-use Rattle.frame_lower.specs.Rule.{slots_before, slot_offset}
-use Rattle.frame_runs.proofs.Rows.{renamed_row}
+use Rattle.frame_rule.specs.Rule.{slots_before, slot_offset}
+use Rattle.frame_rule.proofs.Rows.{renamed_row}
 
 -- a core with other registers and slots
 abbrev pub with_places : (ℕ → Option ℕ) → (ℕ → Option ℕ) → Core → Core
@@ -150,7 +151,8 @@ module _ (slots : List ℕ) (saved : List SavedRegister) (Alike : ℕ → Type 0
     store_near : (a a' : ℕ) (bytes bytes' : List ℕ) (bad : ℕ → Bool) → a ≡ a' → bytes ≡ bytes' →
         EndAlike Near (cond (bad a) Traps (Falls (written_to a bytes c))) (cond (bad a') Traps (Falls (written_to a' bytes' d)))
     store_near a a' bytes bytes' bad e f =
-        let at : (z : ℕ) (w : List ℕ) → Type 0 = λ z w. EndAlike Near (cond (bad a) Traps (Falls (written_to a bytes c))) (cond (bad z) Traps (Falls (written_to z w d))) in
+        let at : (z : ℕ) (w : List ℕ) → Type 0 = λ z w. EndAlike Near (cond (bad a) Traps (Falls (written_to a bytes c))) (cond (bad z) Traps (Falls
+        (written_to z w d))) in
         subst (λ (z : ℕ). at z bytes') e (subst (λ (w : List ℕ). at a w) f
         (alike_either Near (bad a) Traps _ Traps _ tt
         (record { same = refl; regs = h.regs; kept = h.kept; held = h.held; written = h.written })))
@@ -179,11 +181,12 @@ module _ (slots : List ℕ) (saved : List SavedRegister) (Alike : ℕ → Type 0
     keep_near rs n k e = record {
       same = refl;
       regs = h.regs;
-      kept = λ m j. elim (cases_eq m n) as (λ _. updated (slot_offset slots n) (Some (read d rs)) slots' (slot_offset slots m) ≡ updated n (Some (read c rs)) c.slots m) [
-        | inl w ↦ rw w (updated_same (slot_offset slots n) (Some (read d rs)) slots' ∙ ap Some (sym e) ∙ sym (updated_same n (Some (read c rs)) c.slots))
-        | inr ne ↦ updated_other (slot_offset slots n) (slot_offset slots m) (Some (read d rs)) slots'
-            (λ w. ne (slots_differ slots m n j k (omega (arith, w)))) ∙ h.kept m j ∙ sym (updated_other n m (Some (read c rs)) c.slots ne)
-      ];
+      kept = λ m j. elim (cases_eq m n) as (λ _. updated (slot_offset slots n) (Some (read d rs)) slots' (slot_offset slots m) ≡ updated n (Some (read c rs))
+          c.slots m) [
+            | inl w ↦ rw w (updated_same (slot_offset slots n) (Some (read d rs)) slots' ∙ ap Some (sym e) ∙ sym (updated_same n (Some (read c rs)) c.slots))
+            | inr ne ↦ updated_other (slot_offset slots n) (slot_offset slots m) (Some (read d rs)) slots'
+                (λ w. ne (slots_differ slots m n j k (omega (arith, w)))) ∙ h.kept m j ∙ sym (updated_other n m (Some (read c rs)) c.slots ne)
+          ];
       held = λ s j. elim (h.held s j) [
         | inl w ↦ inl (updated_written (slot_offset slots n) (read d rs) s.offset slots' w)
         | inr w ↦ inr w

@@ -23,9 +23,10 @@ use Rattle.mir_func.specs.declared.position.Origin.TheVariants.{Kept, Before}
 use Rattle.mir_func.specs.Exits.{row_exit, exit_of}
 use Rattle.mir_func.specs.Graph.{Program}
 use Rattle.mir_meaning.specs.State.{Core, Reply, writes_frame}
-use Rattle.mir_meaning.specs.Step.{Outcome, Falls, Goes, Gives, Traps, Asks, Breaks, act, does, read, are_written, with_core, address_at, is_fault, slot_loaded, answered, do_item}
+use Rattle.mir_meaning.specs.Step.{Outcome, Falls, Goes, Gives, Traps, Asks, Breaks, act, does, read, are_written, with_core, address_at, is_fault, slot_loaded}
+use Rattle.mir_meaning.specs.Step.{answered, do_item}
 use Rattle.mir_meaning.specs.Align.{is_jump_row, is_jump, waits_at, ByItems, After, since_of}
-use Rattle.mir_meaning.specs.Follow.{KindFits}
+use Rattle.mir_meaning.specs.Follow.{RowFits, KindFits}
 use Rattle.simulation.specs.Sides.{since_item}
 use Rattle.frame_runs.specs.Runs.{HasForm}
 
@@ -80,7 +81,7 @@ going r j Traps n e h w = cc
 going r j Asks n e h w = cc
 going r j Breaks n e h w = cc
 
-row_moves : (src : Program) (r : Row) (silent : ℕ) (o : Origin) → Rattle.mir_meaning.specs.Follow.RowFits src r silent o → IsGoing r →
+row_moves : (src : Program) (r : Row) (silent : ℕ) (o : Origin) → RowFits src r silent o → IsGoing r →
     since_of (waits_at (is_jump_row r) o) ≡ After
 row_moves src (Branches op a b t) silent (Kept p) f h = refl
 row_moves src (Branches op a b t) silent (Before p) f h = absurd f

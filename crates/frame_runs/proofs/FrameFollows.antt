@@ -11,7 +11,7 @@ use Rattle.mir_meaning.specs.Align.{ByItems, station_at, First, RunsAlong}
 use Rattle.mir_meaning.specs.Follow.{KindFits, first_of}
 use Rattle.mir_meaning.proofs.Reading.{found_in}
 use Rattle.simulation.proofs.Laid.{rest_in, rest_of}
-use Rattle.frame_lower.specs.Rule.{framed_of}
+use Rattle.frame_rule.specs.Rule.{framed_of}
 use Rattle.frame_runs.specs.Runs.{HasForm, FrameFollows}
 use Rattle.frame_runs.proofs.Blocks.{drop_zero}
 use Rattle.frame_runs.proofs.Fits.{branch_moves, final_reads}

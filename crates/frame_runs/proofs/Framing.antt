@@ -8,7 +8,8 @@ use Rattle.std.proofs.lemmas.List.Elements.{All-head, All-tail}
 use Rattle.rv64_instr.specs.declared.op.RegisterOp.TheVariants.{Add}
 use Rattle.rv64_instr.specs.Arithmetic.{word, computed}
 use Rattle.rv64_instr.specs.Instruction.{Instruction}
-use Rattle.rv64_instr.specs.Row.{Row, Fixes, Moves, Sets, Addresses, Loads, Stores, LoadsSlot, StoresSlot, Branches, Jumps, Calls, Returns, Unfit, row_of, add_row}
+use Rattle.rv64_instr.specs.Row.{Row, Fixes, Moves, Sets, Addresses, Loads, Stores, LoadsSlot, StoresSlot, Branches, Jumps, Calls, Returns, Unfit, row_of}
+use Rattle.rv64_instr.specs.Row.{add_row}
 use Rattle.mir_func.specs.declared.block.Block.{Block}
 use Rattle.mir_func.specs.declared.entry.OperandPair.{OperandPair}
 use Rattle.mir_func.specs.declared.exit.Exit.{Exit}
@@ -27,7 +28,9 @@ use Rattle.mir_func.specs.Sound.{SlotsIn, LeavesPointer}
 use Rattle.mir_func.specs.SoundFrame.{adds_to_pointer, saves, restores, prologue_code, epilogue_code, body_of}
 use Rattle.mir_meaning.specs.State.{Core, State, updated, content, put, assigned}
 use Rattle.mir_meaning.specs.Step.{Outcome, Falls, Goes, Gives, Traps, Asks, Breaks, act, does, read, set_register, with_core, do_item, slot_loaded}
-use Rattle.mir_meaning.specs.Align.{position_of, is_code, is_jump, is_jump_row, ByItems, station_at, IsOrigin, Since, Same, After, since_of, First, AnyOrigin, RunsAlong}
+use Rattle.mir_meaning.specs.Align.{position_of, is_code, is_jump, is_jump_row, waits_at, ByItems, ByEnds, station_at, IsOrigin, Since, After, since_of, First}
+use Rattle.mir_meaning.specs.Align.{AnyOrigin}
+use Rattle.mir_meaning.specs.Align.{RunsAlong}
 use Rattle.mir_meaning.specs.Effects.{EndAlike}
 use Rattle.mir_meaning.proofs.Outcomes.{alike_with}
 use Rattle.mir_meaning.proofs.Places.{contains_head, contains_tail, updated_same, updated_other, put_other}
@@ -36,13 +39,14 @@ use Rattle.simulation.specs.Added.{Standing, Opening, Level, Ahead, AddedRelatio
 use Rattle.simulation.specs.Added.{Adds, Begins, opens}
 use Rattle.simulation.proofs.Laid.{rest_in, rest_of, laid_out, laid_out_framed}
 use Rattle.simulation.proofs.Added.{added_follows}
-use Rattle.frame_lower.specs.Rule.{slot_offset, saved_of, size_of, added, added_all, position_in, prologue, epilogue, renamed_code, renamed_kind, renamed, is_final}
-use Rattle.frame_lower.specs.Rule.{framed_item, framed_items, framed_block, framed_blocks, prologue_block}
-use Rattle.frame_runs.proofs.Rows.{renamed_row, row_renamed, IsOther}
+use Rattle.frame_rule.specs.Rule.{slot_offset, saved_of, size_of, added, added_all, position_in, prologue, epilogue, renamed_code, renamed_kind, renamed}
+use Rattle.frame_rule.specs.Rule.{is_final}
+use Rattle.frame_rule.specs.Rule.{framed_item, framed_items, framed_block, framed_blocks, prologue_block}
+use Rattle.frame_rule.proofs.Rows.{renamed_row, row_renamed, IsOther}
 use Rattle.frame_runs.proofs.Cores.{Beside, put_written, updated_written, slots_below}
 use Rattle.frame_runs.proofs.ItemsAlike.{item_near, final_near}
 use Rattle.frame_runs.proofs.Fits.{IsResult, ReadsResults}
-use Rattle.frame_runs.proofs.Saved.{saved_above, saved_given, none_saved}
+use Rattle.frame_rule.proofs.Saved.{saved_above, saved_given, none_saved}
 use Rattle.frame_runs.proofs.Blocks.{from_index, items_from, ends_alike, drop_zero}
 
 pub data Stage : Type 0 where
@@ -283,10 +287,20 @@ module _ (fn : Function) (resolve : OperandPair → Option OperandPair) (src : P
   }
 
   results_too : (c d : Core) → Beside fn.slots saved IsOther [] c d → Beside fn.slots saved IsResult [] c d
-  results_too c d h = record { same = h.same; regs = λ r j. (let a = j.0 in h.regs r (λ e. omega (arith, a, e))); kept = h.kept; held = h.held; written = h.written }
+  results_too c d h = record {
+    same = h.same;
+    regs = λ r j. (let a = j.0 in h.regs r (λ e. omega (arith, a, e)));
+    kept = h.kept;
+    held = h.held;
+    written =
+        h.written;
+  }
 
   held_now : (P : ℕ → Type 0) (c d : Core) → Beside fn.slots saved P [] c d → (s : SavedRegister) → Contains saved s → IsSome (d.slots s.offset)
   held_now P c d h s k = elim (h.held s k) [ inl w ↦ w | inr z ↦ absurd (no_member s z) ]
+
+  two_is_low : 2 < 32
+  two_is_low = omega arith
 
   not_result : IsResult 2 → ⊥
   not_result j = let a = j.0 in omega (arith, a)
@@ -302,9 +316,9 @@ module _ (fn : Function) (resolve : OperandPair → Option OperandPair) (src : P
         (todo : List SavedRegister) → AreSaved todo → Seen b k (x ∷ rest) (left x.origin todo ++ here_after)
     loads k come near [] all =
         before {k' = Loaded (position_of x.origin)} come (final_code x.kind final) refl (same_position x.origin)
-        (ap (λ (z : Bool). since_of (Rattle.mir_meaning.specs.Align.waits_at z (Before (position_in x.origin)))) (adds_no_jump (word (pos (size_of fn))))) refl
+        (ap (λ (z : Bool). since_of (waits_at z (Before (position_in x.origin)))) (adds_no_jump (word (pos (size_of fn))))) refl
         (record { item = x; rest = rest; here = refl; at = refl; final = final; these = refl; fits = fits })
-        (λ c d h. (let w = near _ c d h in let a = adds_does (word (pos (size_of fn))) d (w.written 2 (omega arith)) in
+        (λ c d h. (let w = near _ c d h in let a = adds_does (word (pos (size_of fn))) d (w.written 2 two_is_low) in
         inl (set_register 2 a.0 d, ap (with_core (λ z. z)) a.1, raised IsResult [] a.0 c d not_result w)))
     loads k come near (s ∷ todo) all =
         before {k' = Loading (position_of x.origin) todo} come (final_code x.kind final) refl (same_position x.origin) refl refl
@@ -316,11 +330,12 @@ module _ (fn : Function) (resolve : OperandPair → Option OperandPair) (src : P
     ends_loaded : (q : Pos) → position_of x.origin ≡ q → Seen b (Loaded q) (x ∷ rest) here_after
     ends_loaded q at =
         both {k' = Body} at (final_code x.kind final) (kind_code fn.slots x.kind ∙ final_code x.kind final) refl
-        (ap (λ (z : Bool). since_of (Rattle.mir_meaning.specs.Align.waits_at z x.origin)) (sym (kind_jump fn.slots x.kind))) (λ s u e w none. absurd none)
+        (ap (λ (z : Bool). since_of (waits_at z x.origin)) (sym (kind_jump fn.slots x.kind))) (λ s u e w none. absurd none)
         (refl, All-tail IsFit x rest fits)
         (λ c d h. by_kind x.kind final ((All-head IsFit x rest fits).results final) c d h) where
           by_kind : (k : ItemKind) → exit_of k ≡ Final → ReadsResults k → (c d : Core) → Beside fn.slots saved IsResult [] c d →
-              DoAlike ByItems src sides framing b rest (framed_items fn rest) (since_item ByItems x) Body (do_item f k c) (do_item g (renamed_kind fn.slots k) d)
+              DoAlike ByItems src sides framing b rest (framed_items fn rest) (since_item ByItems x) Body (do_item f k c) (do_item g (renamed_kind fn.slots k)
+              d)
           by_kind (Mark v m) e r c d h = cc
           by_kind (Phi p m) e r c d h = cc
           by_kind (Code i m) e r c d h =
@@ -348,7 +363,7 @@ module _ (fn : Function) (resolve : OperandPair → Option OperandPair) (src : P
     by_kind : (z : Bool) → is_code x.kind ≡ z → Seen b Body (x ∷ rest) (renamed fn.slots x ∷ framed_items fn rest)
     by_kind true z =
         both {k' = Body} tt z (kind_code fn.slots x.kind ∙ z) refl
-        (ap (λ (z : Bool). since_of (Rattle.mir_meaning.specs.Align.waits_at z x.origin)) (sym (kind_jump fn.slots x.kind))) (λ s u e w none. absurd none)
+        (ap (λ (z : Bool). since_of (waits_at z x.origin)) (sym (kind_jump fn.slots x.kind))) (λ s u e w none. absurd none)
         (refl, All-tail IsFit x rest fits)
         (λ c d h. to_outcomes (λ c d. Beside fn.slots saved IsOther [] c d) (since_item ByItems x) (Level ≡ Level) refl (do_item f x.kind c)
         (do_item g (renamed_kind fn.slots x.kind) d) (λ n e go. (All-head IsFit x rest fits).moves c e n go) (near c d h))
@@ -361,7 +376,8 @@ module _ (fn : Function) (resolve : OperandPair → Option OperandPair) (src : P
   view_body b (x ∷ rest) fits =
       subst (Seen b Body (x ∷ rest)) (sym (flat_map-cons (framed_item fn) x rest)) (by_exit (is_final (exit_of x.kind)) refl) where
         by_size : exit_of x.kind ≡ Final → (n : ℕ) → size_of fn ≡ n →
-            Seen b Body (x ∷ rest) ((added_all n (Before (position_in x.origin)) (epilogue_code (size_of fn) saved) ++ renamed fn.slots x ∷ []) ++ framed_items fn rest)
+            Seen b Body (x ∷ rest) ((added_all n (Before (position_in x.origin)) (epilogue_code (size_of fn) saved) ++ renamed fn.slots x ∷ []) ++
+            framed_items fn rest)
         by_size final zero e = in_body b x rest fits
         by_size final (suc n) e =
             subst (Seen b Body (x ∷ rest)) (sym (append_assoc (left x.origin saved) (renamed fn.slots x ∷ []) (framed_items fn rest)))
@@ -384,14 +400,16 @@ module _ (fn : Function) (resolve : OperandPair → Option OperandPair) (src : P
     view_start [] b xs ys h =
         subst (Seen b (Saving []) xs) (sym h.2)
         (entering {k' = Body} refl (λ e. by_items e) refl
-        (started b ∙ ap (framed_items fn) (sym h.1), subst (All IsFit) (sym h.1) (fits b)) (λ c d k. k) (λ p o e. subst (IsOrigin (station_at ByItems f)) (sym e) o)
+        (started b ∙ ap (framed_items fn) (sym h.1), subst (All IsFit) (sym h.1) (fits b)) (λ c d k. k) (λ p o e. subst (IsOrigin (station_at ByItems f)) (sym
+        e) o)
         (λ q j n e none go. leads q j n e none go)) where
-          by_items : ByItems ≡ Rattle.mir_meaning.specs.Align.ByEnds → ⊥
+          by_items : ByItems ≡ ByEnds → ⊥
           by_items e = cc
 
           leads : (q : Pos) (j n : ℕ) → q.block ≡ 0 → rg q ≡ [] → g.fetch q ≡ Silent j n → n ≡ s0.pos.block
           leads q j n e none go =
-              let w : drop q.block framed ≡ prologue_block fn b0 ∷ framed_block fn b0 ∷ map (framed_block fn) more = λ i. drop (e i) (framed_blocks fn (blocks i)) in
+              let w : drop q.block framed ≡ prologue_block fn b0 ∷ framed_block fn b0 ∷ map (framed_block fn) more =
+              λ i. drop (e i) (framed_blocks fn (blocks i)) in
               let none' : drop q.item (prologue fn b0.id) ≡ [] = sym (ap (λ (bs : List Block). rest_in bs q.item) w) ∙ none in
               let go' : front (drop q.item (prologue fn b0.id)) b0.silent (framed_block fn b0 ∷ map (framed_block fn) more) ≡ Silent j n =
               sym (ap (λ (bs : List Block). fetch_in bs q.item) w) ∙ go in
@@ -410,9 +428,9 @@ module _ (fn : Function) (resolve : OperandPair → Option OperandPair) (src : P
     view Lowering b xs ys h =
         subst (Seen b Lowering xs) (sym h.2)
         (opening {k' = Saving saved} refl refl refl
-        (ap (λ (z : Bool). since_of (Rattle.mir_meaning.specs.Align.waits_at z (Before s0.pos))) (adds_no_jump (word (pos 0 -ℤ pos (size_of fn))))) tt
+        (ap (λ (z : Bool). since_of (waits_at z (Before s0.pos))) (adds_no_jump (word (pos 0 -ℤ pos (size_of fn))))) tt
         (h.0, h.1, refl, λ q k. k)
-        (λ c d k. (let a = adds_does (word (pos 0 -ℤ pos (size_of fn))) d (k.written 2 (omega arith)) in
+        (λ c d k. (let a = adds_does (word (pos 0 -ℤ pos (size_of fn))) d (k.written 2 two_is_low) in
         (set_register 2 a.0 d, ap (with_core (λ z. z)) a.1, raised IsOther saved a.0 c d (λ j. j refl) k))))
     view (Saving todo) b xs ys h = view_start todo b xs ys h
     view Body b xs ys h = subst (Seen b Body xs) (sym h.0) (view_body b xs h.1)
@@ -423,7 +441,7 @@ module _ (fn : Function) (resolve : OperandPair → Option OperandPair) (src : P
         subst (λ (z : List Item). Seen b (Loaded q) z ys) (sym h.here) (subst (Seen b (Loaded q) (h.item ∷ h.rest)) (sym h.these)
         (ends_loaded b h.item h.rest h.fits h.final q h.at))
 
-    not_by_ends : {P : Type 0} → ByItems ≡ Rattle.mir_meaning.specs.Align.ByEnds → P
+    not_by_ends : {P : Type 0} → ByItems ≡ ByEnds → P
     not_by_ends e = cc
 
     shows_same : (P : ℕ → Type 0) (todo : List SavedRegister) (c d : Core) → Beside fn.slots saved P todo c d → ShowsSame c d
@@ -456,7 +474,13 @@ module _ (fn : Function) (resolve : OperandPair → Option OperandPair) (src : P
 
     adds : Adds ByItems src sides framing
     adds = record {
-      more = record { stops = λ p q o e. inl (subst (IsOrigin (station_at ByItems f)) (sym e) o); own = λ p o. refl; below = λ p x. absurd x; on = λ s u r e. tt };
+      more = record {
+        stops = λ p q o e. inl (subst (IsOrigin (station_at ByItems f)) (sym e) o);
+        own = λ p o. refl;
+        below = λ p x. absurd x;
+        on =
+            λ s u r e. tt;
+      };
       laid_f = laid_out false fn.blocks resolve;
       laid_g = laid_out_framed framed resolve;
       enter_f = λ n. refl;
@@ -489,7 +513,8 @@ module _ (fn : Function) (resolve : OperandPair → Option OperandPair) (src : P
 
     begins : Begins ByItems src sides framing
     begins = by_size (size_of fn) refl (at_first 0) where
-      by_size : (n : ℕ) → size_of fn ≡ n → rg (block_start 0) ≡ added_all n (Before s0.pos) (prologue_code (size_of fn) saved) → Begins ByItems src sides framing
+      by_size : (n : ℕ) → size_of fn ≡ n → rg (block_start 0) ≡ added_all n (Before s0.pos) (prologue_code (size_of fn) saved) →
+          Begins ByItems src sides framing
       by_size zero e w =
           opens (Saving []) refl (refl, ap rf at, w, λ s k. absurd (no_member s k))
           (start_beside [] (λ s k. subst (λ (z : List SavedRegister). Contains z s) (none_saved fn e) k))

@@ -1,5 +1,6 @@
 -- What items with their slots named by their offsets do, from cores that are beside each other.
-use Rattle.std.proofs.Common.{◌≡◌, ℕ, zero, suc, List, [], ◌∷◌, map, All, Option, Some, None, Bool, true, false, cond, slice_get, refl, sym, ap, ◌∙◌, subst, inl, inr}
+use Rattle.std.proofs.Common.{◌≡◌, ℕ, zero, suc, List, [], ◌∷◌, map, All, Option, Some, None, Bool, true, false, cond, slice_get, refl, sym, ap, ◌∙◌, subst}
+use Rattle.std.proofs.Common.{inl, inr}
 use Rattle.std.proofs.lemmas.Bool.{cases_eq, ne_eqb}
 use Rattle.rv64_instr.specs.declared.operand.Operand.{Operand}
 use Rattle.rv64_instr.specs.declared.operand.Operand.TheVariants.{Def, Use, ImplicitDef, ImplicitUse, Imm, Slot, Object, Block, Symbol, Mask}
@@ -19,12 +20,13 @@ use Rattle.mir_func.specs.Exits.{row_exit}
 use Rattle.mir_func.specs.Graph.{Program}
 use Rattle.mir_func.specs.Sound.{SlotsIn, PlaceIn, LeavesPointer}
 use Rattle.mir_meaning.specs.State.{Core, updated}
-use Rattle.mir_meaning.specs.Step.{Outcome, Falls, Goes, Gives, Traps, Asks, Breaks, act, does, seen, defined, given, numbered, with_core, place_value, pair_value}
-use Rattle.mir_meaning.specs.Step.{mark_value, part_of, are_written, do_item}
+use Rattle.mir_meaning.specs.Step.{Gives, Traps, act, does, seen, defined, given, numbered, with_core, place_value}
+use Rattle.mir_meaning.specs.Step.{pair_value}
+use Rattle.mir_meaning.specs.Step.{mark_value, part_of, read, are_written, do_item}
 use Rattle.mir_meaning.specs.Effects.{EndAlike}
 use Rattle.mir_meaning.proofs.Outcomes.{alike_with, alike_either}
-use Rattle.frame_lower.specs.Rule.{renamed_operand, renamed_code, renamed_place, renamed_kind}
-use Rattle.frame_runs.proofs.Rows.{renamed_row, row_renamed, IsOther, reads_other}
+use Rattle.frame_rule.specs.Rule.{renamed_operand, renamed_code, renamed_place, renamed_kind}
+use Rattle.frame_rule.proofs.Rows.{renamed_row, row_renamed, IsOther, reads_other}
 use Rattle.frame_runs.proofs.Cores.{Beside, act_near, written_near, reads_near}
 
 call_same : (slots : List ℕ) (r : Row) → is_call (renamed_row slots r) ≡ is_call r
@@ -126,11 +128,14 @@ module _ (slots : List ℕ) (saved todo : List SavedRegister) where
         (with_core (numbered false (is_call (row_of i)) n (map (renamed_operand slots) i.operands)) (act (renamed_row slots (row_of i)) d)) =
         alike_with Near Near _ _ (numbered_near (is_call (row_of i)) n i.operands) (act (row_of i) c) (act (renamed_row slots (row_of i)) d) core in
         let named : EndAlike Near (with_core (numbered false (is_call (row_of i)) n i.operands) (act (row_of i) c))
-        (with_core (numbered false (is_call (renamed_row slots (row_of i))) n (map (renamed_operand slots) i.operands)) (act (renamed_row slots (row_of i)) d)) =
+        (with_core (numbered false (is_call (renamed_row slots (row_of i))) n (map (renamed_operand slots) i.operands)) (act (renamed_row slots (row_of i)) d))
+        =
         subst (λ (b : Bool). EndAlike Near (with_core (numbered false (is_call (row_of i)) n i.operands) (act (row_of i) c))
-        (with_core (numbered false b n (map (renamed_operand slots) i.operands)) (act (renamed_row slots (row_of i)) d))) (sym (call_same slots (row_of i))) both in
+        (with_core (numbered false b n (map (renamed_operand slots) i.operands)) (act (renamed_row slots (row_of i)) d))) (sym (call_same slots (row_of i)))
+        both in
         let row : EndAlike Near (with_core (numbered false (is_call (row_of i)) n i.operands) (act (row_of i) c))
-        (with_core (numbered false (is_call (row_of (renamed_code slots i))) n (map (renamed_operand slots) i.operands)) (act (row_of (renamed_code slots i)) d)) =
+        (with_core (numbered false (is_call (row_of (renamed_code slots i))) n (map (renamed_operand slots) i.operands)) (act (row_of (renamed_code slots i))
+        d)) =
         subst (λ (r : Row). EndAlike Near (with_core (numbered false (is_call (row_of i)) n i.operands) (act (row_of i) c))
         (with_core (numbered false (is_call r) n (map (renamed_operand slots) i.operands)) (act r d))) (sym (row_renamed slots i)) named in
         subst (λ (b : Bool). EndAlike Near (with_core (numbered b (is_call (row_of i)) n i.operands) (act (row_of i) c))
@@ -167,9 +172,9 @@ pub final_near : (slots : List ℕ) (saved : List SavedRegister) (Alike : ℕ �
     Beside slots saved Alike todo c d → (r : Row) → row_exit r ≡ Final → All Alike (reads r) → EndAlike R (act r c) (act (renamed_row slots r) d)
 unfolding act does
 final_near slots saved Alike todo R c d h (Returns v) e k =
-    subst (λ (b : Bool). EndAlike R (cond (are_written c v) (Gives (map (Rattle.mir_meaning.specs.Step.read c) v)) Traps)
-    (cond b (Gives (map (Rattle.mir_meaning.specs.Step.read d) v)) Traps)) (written_near slots saved Alike todo c d h v k)
-    (alike_either R (are_written c v) (Gives (map (Rattle.mir_meaning.specs.Step.read c) v)) Traps (Gives (map (Rattle.mir_meaning.specs.Step.read d) v)) Traps
+    subst (λ (b : Bool). EndAlike R (cond (are_written c v) (Gives (map (read c) v)) Traps)
+    (cond b (Gives (map (read d) v)) Traps)) (written_near slots saved Alike todo c d h v k)
+    (alike_either R (are_written c v) (Gives (map (read c) v)) Traps (Gives (map (read d) v)) Traps
     (reads_near slots saved Alike todo c d h v k) tt)
 final_near slots saved Alike todo R c d h Unfit e k = tt
 final_near slots saved Alike todo R c d h (Fixes rd n) e k = cc

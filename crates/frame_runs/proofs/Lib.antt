@@ -1,8 +1,10 @@
-pub mod Rows
 pub mod Cores
 pub mod ItemsAlike
 pub mod Fits
-pub mod Saved
 pub mod Blocks
 pub mod Framing
 pub mod FrameFollows
+pub mod Holding
+pub mod Standing
+pub mod Positions
+pub mod FrameStands

@@ -11,7 +11,7 @@ use Rattle.mir_func.specs.Sound.{AllItems, IsSound}
 use Rattle.mir_meaning.specs.State.{State}
 use Rattle.mir_meaning.specs.Align.{ByItems, station_at, First, RunsAlong}
 use Rattle.mir_meaning.specs.Follow.{Follows, IsStart, first_of}
-use Rattle.frame_lower.specs.Rule.{framed_of}
+use Rattle.frame_rule.specs.Rule.{framed_of}
 
 -- code has the form of its opcode: so a return gives x10 to x17 alone
 abbrev pub HasForm : ItemKind → Type 0

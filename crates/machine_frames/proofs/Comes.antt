@@ -32,7 +32,7 @@ use Rattle.machine_steps.proofs.Points.{got, dropped, drop_next}
 use Rattle.machine_steps.proofs.Rows.{acts}
 use Rattle.machine_runs.specs.Runs.{NeverFaults, IsHarmless, FallsTo, past_item, past_end, ComesFrom}
 use Rattle.machine_runs.specs.Runs as runs
-use Rattle.frame_lower.specs.Rule.{slot_offset, size_of, saved_of, framed_items, framed_of, renamed, renamed_code}
+use Rattle.frame_rule.specs.Rule.{slot_offset, size_of, saved_of, framed_items, framed_of, renamed, renamed_code}
 use Rattle.machine_frames.specs.Framing.{ResultsArePhysical, KindReturnsPhysical, IsMadeFrom, FramedComesFrom}
 use Rattle.machine_frames.proofs.Renames.{renamed_row, row_renamed}
 use Rattle.machine_frames.proofs.Framed.{IsAdded, IsFrameCode, adds, stores, loads, prologue_is, epilogue_is, frame_onward, IsFramedItem, own, gives_back, framed_item_is}
@@ -248,17 +248,17 @@ module _ (source f : Function) (resolve fresolve : OperandPair → Option Operan
   origin_same p q e = cc
 
   -- code of the function is code of f, its slots named by their offsets
-  pub own_code : (x : Item) (c : Instruction) (k : Option ℕ) → Rattle.frame_lower.specs.Rule.renamed_kind f.slots x.kind ≡ Code c k →
+  pub own_code : (x : Item) (c : Instruction) (k : Option ℕ) → Rattle.frame_rule.specs.Rule.renamed_kind f.slots x.kind ≡ Code c k →
       (d : Instruction) × (x.kind ≡ Code d k) × (c ≡ renamed_code f.slots d)
   own_code x c k e = by_kind x.kind refl e where
-    by_kind : (z : ItemKind) → x.kind ≡ z → Rattle.frame_lower.specs.Rule.renamed_kind f.slots z ≡ Code c k → (d : Instruction) × (x.kind ≡ Code d k) × (c ≡ renamed_code f.slots d)
+    by_kind : (z : ItemKind) → x.kind ≡ z → Rattle.frame_rule.specs.Rule.renamed_kind f.slots z ≡ Code c k → (d : Instruction) × (x.kind ≡ Code d k) × (c ≡ renamed_code f.slots d)
     by_kind (Code d m) q h = let one : renamed_code f.slots d ≡ c = cc in let two : m ≡ k = cc in (d, q ∙ ap (Code d) two, sym one)
     by_kind (Mark v m) q h = cc
     by_kind (Phi p n) q h = cc
 
-  pub own_exit : (x : Item) → exit_of (Rattle.frame_lower.specs.Rule.renamed_kind f.slots x.kind) ≡ exit_of x.kind
+  pub own_exit : (x : Item) → exit_of (Rattle.frame_rule.specs.Rule.renamed_kind f.slots x.kind) ≡ exit_of x.kind
   own_exit x = by_kind x.kind where
-    by_kind : (z : ItemKind) → exit_of (Rattle.frame_lower.specs.Rule.renamed_kind f.slots z) ≡ exit_of z
+    by_kind : (z : ItemKind) → exit_of (Rattle.frame_rule.specs.Rule.renamed_kind f.slots z) ≡ exit_of z
     by_kind (Code d m) = ap row_exit (row_renamed f.slots d) ∙ renamed_exit f.slots (row_of d)
     by_kind (Mark v m) = refl
     by_kind (Phi p n) = refl

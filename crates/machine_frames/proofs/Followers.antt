@@ -24,7 +24,7 @@ use Rattle.mir_func.specs.Graph.{program_of, framed_program}
 use Rattle.mir_func.specs.SoundFrame.{IsFramed}
 use Rattle.mir_meaning.specs.Follow.{Follows, IsStart, first_of}
 use Rattle.simulation.proofs.Words.{words_follow}
-use Rattle.frame_lower.specs.Rule.{framed_of}
+use Rattle.frame_rule.specs.Rule.{framed_of}
 use Rattle.frame_runs.specs.Runs.{HasForm}
 use Rattle.frame_runs.proofs.FrameFollows.{frame_follows}
 use Rattle.machine_runs.specs.Runs.{start_beside}

@@ -20,7 +20,7 @@ use Rattle.mir_func.specs.Graph.{Here, block_start}
 use Rattle.mir_func.specs.SoundFrame.{body_of, adds_to_pointer, saves, restores, prologue_code, epilogue_code}
 use Rattle.mir_meaning.specs.Align.{position_of}
 use Rattle.mir_meaning.specs.Follow.{rank, next_rank, InOrder}
-use Rattle.frame_lower.specs.Rule.{size_of, saved_of, added, added_all, position_in, prologue, epilogue, renamed, is_final, framed_item, framed_items, framed_block, framed_blocks, framed_of}
+use Rattle.frame_rule.specs.Rule.{size_of, saved_of, added, added_all, position_in, prologue, epilogue, renamed, is_final, framed_item, framed_items, framed_block, framed_blocks, framed_of}
 use Rattle.machine_steps.specs.Laid.{fetched}
 use Rattle.machine_steps.proofs.Points.{StandsAt, stands_at}
 use Rattle.machine_steps.proofs.Motions.{adds_onward}
@@ -122,32 +122,32 @@ pub framed_item_is : (f : Function) (xs : List Item) (k : ℕ) (i : Item) → sl
 framed_item_is f [] k i e = cc
 framed_item_is f (x ∷ xs) k i e =
     by_rest (in_append (framed_item f x) (framed_items f xs) k i e) (λ m h. framed_item_is f xs m i h)
-    where
-      one : (m : ℕ) → k ≡ length (cond (is_final (exit_of x.kind)) (epilogue f x.origin) []) + m → slice_get (renamed f.slots x ∷ []) m ≡ Some i →
-          IsFramedItem f (x ∷ xs) k i
-      one zero ek h =
-          let same : renamed f.slots x ≡ i = cc in
-          own 0 x refl (sym same) (λ no_return. ek ∙ ap (λ (b : Bool). length (cond b (epilogue f x.origin) []) + 0) no_return)
-      one (suc m) ek h = cc
+  where
+    one : (m : ℕ) → k ≡ length (cond (is_final (exit_of x.kind)) (epilogue f x.origin) []) + m → slice_get (renamed f.slots x ∷ []) m ≡ Some i →
+        IsFramedItem f (x ∷ xs) k i
+    one zero ek h =
+        let same : renamed f.slots x ≡ i = cc in
+        own 0 x refl (sym same) (λ no_return. ek ∙ ap (λ (b : Bool). length (cond b (epilogue f x.origin) []) + 0) no_return)
+    one (suc m) ek h = cc
 
-      by_exit : (b : Bool) → is_final (exit_of x.kind) ≡ b → (m : ℕ) → slice_get (cond b (epilogue f x.origin) []) m ≡ Some i → IsFramedItem f (x ∷ xs) k i
-      by_exit true t m h = gives_back 0 x refl (is_final_is (exit_of x.kind) t)
-          (added_item (size_of f) (Before (position_in x.origin)) (epilogue_code (size_of f) (saved_of f)) m i h)
-      by_exit false t m h = cc
+    by_exit : (b : Bool) → is_final (exit_of x.kind) ≡ b → (m : ℕ) → slice_get (cond b (epilogue f x.origin) []) m ≡ Some i → IsFramedItem f (x ∷ xs) k i
+    by_exit true t m h = gives_back 0 x refl (is_final_is (exit_of x.kind) t)
+        (added_item (size_of f) (Before (position_in x.origin)) (epilogue_code (size_of f) (saved_of f)) m i h)
+    by_exit false t m h = cc
 
-      in_item : slice_get (framed_item f x) k ≡ Some i → IsFramedItem f (x ∷ xs) k i
-      in_item h = elim (in_append (cond (is_final (exit_of x.kind)) (epilogue f x.origin) []) (renamed f.slots x ∷ []) k i h) as
-          (λ _. IsFramedItem f (x ∷ xs) k i) [ inl y ↦ by_exit (is_final (exit_of x.kind)) refl k y | inr y ↦ one y.0 y.1 y.2 ]
+    in_item : slice_get (framed_item f x) k ≡ Some i → IsFramedItem f (x ∷ xs) k i
+    in_item h = elim (in_append (cond (is_final (exit_of x.kind)) (epilogue f x.origin) []) (renamed f.slots x ∷ []) k i h) as
+        (λ _. IsFramedItem f (x ∷ xs) k i) [ inl y ↦ by_exit (is_final (exit_of x.kind)) refl k y | inr y ↦ one y.0 y.1 y.2 ]
 
-      later : (m : ℕ) → k ≡ length (framed_item f x) + m → IsFramedItem f xs m i → IsFramedItem f (x ∷ xs) k i
-      later m ek (own n y h same ix) = own (suc n) y h same (λ no_return. (let q = ix no_return in let l = length-append (framed_item f x) (framed_items f (take n xs)) in
-          ek ∙ ap (λ (z : ℕ). length (framed_item f x) + z) q ∙ sym l))
-      later m ek (gives_back n y h final is) = gives_back (suc n) y h final is
+    later : (m : ℕ) → k ≡ length (framed_item f x) + m → IsFramedItem f xs m i → IsFramedItem f (x ∷ xs) k i
+    later m ek (own n y h same ix) = own (suc n) y h same (λ no_return. (let q = ix no_return in let l = length-append (framed_item f x) (framed_items f (take n xs)) in
+        ek ∙ ap (λ (z : ℕ). length (framed_item f x) + z) q ∙ sym l))
+    later m ek (gives_back n y h final is) = gives_back (suc n) y h final is
 
-      by_rest : (slice_get (framed_item f x) k ≡ Some i) ⊎ ((m : ℕ) × (k ≡ length (framed_item f x) + m) × (slice_get (framed_items f xs) m ≡ Some i)) →
-          ((m : ℕ) → slice_get (framed_items f xs) m ≡ Some i → IsFramedItem f xs m i) → IsFramedItem f (x ∷ xs) k i
-      by_rest (inl h) rest = in_item h
-      by_rest (inr h) rest = later h.0 h.1 (rest h.0 h.2)
+    by_rest : (slice_get (framed_item f x) k ≡ Some i) ⊎ ((m : ℕ) × (k ≡ length (framed_item f x) + m) × (slice_get (framed_items f xs) m ≡ Some i)) →
+        ((m : ℕ) → slice_get (framed_items f xs) m ≡ Some i → IsFramedItem f xs m i) → IsFramedItem f (x ∷ xs) k i
+    by_rest (inl h) rest = in_item h
+    by_rest (inr h) rest = later h.0 h.1 (rest h.0 h.2)
 
 -- where an item stands: in the prologue, or in a block
 pub record InPrologue (f : Function) (p : Pos) (i : Item) : Type 0 where
@@ -184,7 +184,7 @@ point_of f p i e = by_index p.block refl where
   in_first : (xs : List Block) → f.blocks ≡ xs → p.block ≡ 0 → drop 0 (framed_blocks f xs) ≡ s.block ∷ s.rest → InPrologue f p i
   in_first [] q z h = cc
   in_first (x ∷ xs) q z h =
-      let same : Rattle.frame_lower.specs.Rule.prologue_block f x ≡ s.block = cc in
+      let same : Rattle.frame_rule.specs.Rule.prologue_block f x ≡ s.block = cc in
       record {
         at = z;
         first = x;
@@ -248,39 +248,39 @@ framed_order f b n [] even h = tt
 framed_order f b n (x ∷ xs) even h =
     subst (InOrder b n) (sym (append_more (cond (is_final (exit_of x.kind)) (epilogue f x.origin) []) (renamed f.slots x) (framed_items f xs)))
     (by_exit (is_final (exit_of x.kind)) (rest x h.0 h.1 (framed_order f b (next_rank x.origin) xs (even_next x.origin) h.2)))
-    where
-      append_more : (es : List Item) (y : Item) (zs : List Item) → (es ++ y ∷ []) ++ zs ≡ es ++ (y ∷ zs)
-      append_more [] y zs = refl
-      append_more (e ∷ es) y zs = ap (λ (ws : List Item). e ∷ ws) (append_more es y zs)
+  where
+    append_more : (es : List Item) (y : Item) (zs : List Item) → (es ++ y ∷ []) ++ zs ≡ es ++ (y ∷ zs)
+    append_more [] y zs = refl
+    append_more (e ∷ es) y zs = ap (λ (ws : List Item). e ∷ ws) (append_more es y zs)
 
-      even_next : (o : Origin) → next_rank o % 2 ≡ 0
-      even_next (Kept p) = omega arith
-      even_next (Before p) = omega arith
+    even_next : (o : Origin) → next_rank o % 2 ≡ 0
+    even_next (Kept p) = omega arith
+    even_next (Before p) = omega arith
 
-      q : ℕ
-      q = (position_of x.origin).item
+    q : ℕ
+    q = (position_of x.origin).item
 
-      rest : (y : Item) → (position_of y.origin).block ≡ b → n ≤ rank y.origin → InOrder b (next_rank y.origin) (framed_items f xs) →
-          (n ≤ 2 * (position_of y.origin).item) × ((position_of y.origin).block ≡ b) × InOrder b (2 * (position_of y.origin).item) (renamed f.slots y ∷ framed_items f xs)
-      rest y home le more = (low y.origin le, home, (home, at_least y.origin, more)) where
-        low : (o : Origin) → n ≤ rank o → n ≤ 2 * (position_of o).item
-        low (Kept p) h = omega (arith, h, even)
-        low (Before p) h = h
+    rest : (y : Item) → (position_of y.origin).block ≡ b → n ≤ rank y.origin → InOrder b (next_rank y.origin) (framed_items f xs) →
+        (n ≤ 2 * (position_of y.origin).item) × ((position_of y.origin).block ≡ b) × InOrder b (2 * (position_of y.origin).item) (renamed f.slots y ∷ framed_items f xs)
+    rest y home le more = (low y.origin le, home, (home, at_least y.origin, more)) where
+      low : (o : Origin) → n ≤ rank o → n ≤ 2 * (position_of o).item
+      low (Kept p) h = omega (arith, h, even)
+      low (Before p) h = h
 
-        at_least : (o : Origin) → 2 * (position_of o).item ≤ rank o
-        at_least (Kept p) = omega arith
-        at_least (Before p) = omega arith
+      at_least : (o : Origin) → 2 * (position_of o).item ≤ rank o
+      at_least (Kept p) = omega arith
+      at_least (Before p) = omega arith
 
-      by_size : (size : ℕ) → (n ≤ 2 * q) × ((position_of x.origin).block ≡ b) × InOrder b (2 * q) (renamed f.slots x ∷ framed_items f xs) →
-          InOrder b n (added_all size (Before (position_in x.origin)) (epilogue_code (size_of f) (saved_of f)) ++ (renamed f.slots x ∷ framed_items f xs))
-      by_size zero r = in_order_less b n (2 * q) (renamed f.slots x ∷ framed_items f xs) r.0 r.2
-      by_size (suc m) r =
-          let e = ap (λ (p : Pos). p.item) (same_position x.origin) in
-          let w : 2 * (position_in x.origin).item ≡ 2 * q = ap (λ (z : ℕ). 2 * z) e in
-          added_order b q n (Before (position_in x.origin)) (epilogue_code (size_of f) (saved_of f)) (renamed f.slots x ∷ framed_items f xs)
-          (ap (λ (p : Pos). p.block) (same_position x.origin) ∙ r.1) w w r.0 r.2
+    by_size : (size : ℕ) → (n ≤ 2 * q) × ((position_of x.origin).block ≡ b) × InOrder b (2 * q) (renamed f.slots x ∷ framed_items f xs) →
+        InOrder b n (added_all size (Before (position_in x.origin)) (epilogue_code (size_of f) (saved_of f)) ++ (renamed f.slots x ∷ framed_items f xs))
+    by_size zero r = in_order_less b n (2 * q) (renamed f.slots x ∷ framed_items f xs) r.0 r.2
+    by_size (suc m) r =
+        let e = ap (λ (p : Pos). p.item) (same_position x.origin) in
+        let w : 2 * (position_in x.origin).item ≡ 2 * q = ap (λ (z : ℕ). 2 * z) e in
+        added_order b q n (Before (position_in x.origin)) (epilogue_code (size_of f) (saved_of f)) (renamed f.slots x ∷ framed_items f xs)
+        (ap (λ (p : Pos). p.block) (same_position x.origin) ∙ r.1) w w r.0 r.2
 
-      by_exit : (z : Bool) → (n ≤ 2 * q) × ((position_of x.origin).block ≡ b) × InOrder b (2 * q) (renamed f.slots x ∷ framed_items f xs) →
-          InOrder b n (cond z (epilogue f x.origin) [] ++ (renamed f.slots x ∷ framed_items f xs))
-      by_exit true r = by_size (size_of f) r
-      by_exit false r = in_order_less b n (2 * q) (renamed f.slots x ∷ framed_items f xs) r.0 r.2
+    by_exit : (z : Bool) → (n ≤ 2 * q) × ((position_of x.origin).block ≡ b) × InOrder b (2 * q) (renamed f.slots x ∷ framed_items f xs) →
+        InOrder b n (cond z (epilogue f x.origin) [] ++ (renamed f.slots x ∷ framed_items f xs))
+    by_exit true r = by_size (size_of f) r
+    by_exit false r = in_order_less b n (2 * q) (renamed f.slots x ∷ framed_items f xs) r.0 r.2

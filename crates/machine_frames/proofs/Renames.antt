@@ -11,7 +11,7 @@ use Rattle.rv64_instr.specs.Instruction.{Instruction}
 use Rattle.rv64_instr.specs.Row.{Row, Fixes, Moves, Sets, Addresses, Loads, Stores, LoadsSlot, StoresSlot, Branches, Jumps, Calls, Returns, Unfit, row_of}
 use Rattle.rv64_instr.specs.Row.{row_by, move_row, immediate_row, object_row, implicit_uses}
 use Rattle.rv64_instr.specs.declared.decoded.Base.TheVariants.{PointedBy, ObjectAt}
-use Rattle.frame_lower.specs.Rule.{slot_offset, renamed_operand, renamed_code}
+use Rattle.frame_rule.specs.Rule.{slot_offset, renamed_operand, renamed_code}
 
 -- a row with its slot named by its offset
 abbrev pub renamed_row : List ℕ → Row → Row

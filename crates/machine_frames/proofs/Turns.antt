@@ -30,14 +30,14 @@ use Rattle.simulation.specs.Words.{IsAddedJump, HasPlainTurns}
 use Rattle.simulation.proofs.Order.{rank_high, same_pos}
 use Rattle.machine_steps.specs.Laid.{fetched}
 use Rattle.machine_steps.proofs.Points.{got, dropped, StandsAt, stands_at}
-use Rattle.frame_lower.specs.Rule.{size_of, saved_of, framed_items, framed_block, framed_blocks, framed_of, renamed, renamed_code, position_in}
+use Rattle.frame_rule.specs.Rule.{size_of, saved_of, framed_items, framed_block, framed_blocks, framed_of, renamed, renamed_code, position_in}
 use Rattle.machine_frames.specs.Framing.{IsMadeFrom, IsInner, FramedHasPlainTurns}
 use Rattle.machine_frames.proofs.Ways.{items_in, image_of, IsHead, head_at, leads_image}
 use Rattle.mir_func.specs.Graph.{from_block}
 use Rattle.mir_meaning.specs.Follow.{Counts, IsMetApart}
 use Rattle.mir_meaning.proofs.Reading.{FoundAt, found, front_item}
 use Rattle.simulation.proofs.Laid.{from_home}
-use Rattle.frame_lower.specs.Rule.{is_final, renamed_kind}
+use Rattle.frame_rule.specs.Rule.{is_final, renamed_kind}
 use Rattle.machine_frames.proofs.Framed.{index_in}
 use Rattle.machine_frames.proofs.Renames.{renamed_row, row_renamed}
 use Rattle.machine_frames.proofs.Framed.{IsAdded, prologue_is, epilogue_is, frame_onward, IsFramedItem, own, gives_back, framed_item_is, InPrologue, InBlock, point_of, same_position, in_order_below}
@@ -204,8 +204,7 @@ module _ (source f : Function) (resolve fresolve : OperandPair → Option Operan
     by_points (inr x) (inr y) =
         let same = same_block p q i j x y b in
         let stands : slice_get (framed_items f x.block.items) q.item ≡ Some j = ap (λ (z : Block). slice_get (framed_items f z.items) q.item) same ∙ y.stands in
-        let m = got f.blocks x.index x.block (dropped f.blocks x.index x.block x.rest x.found) in
-        (
+        let m = got f.blocks x.index x.block (dropped f.blocks x.index x.block x.rest x.found) in (
           home_of source f resolve fresolve made framed p i x ∙ ap (λ (z : Block). z.id) same ∙ sym (home_of source f resolve fresolve made framed q j y),
           elim (cases_lt p.item q.item) as (λ _. (position_of i.origin).item ≤ (position_of j.origin).item) [
             | inl lt ↦

@@ -17,7 +17,7 @@ use Rattle.mir_func.specs.Graph.{Fetch, Here, Silent, Outside, Program, below, b
 use Rattle.mir_func.specs.SoundFrame.{body_of}
 use Rattle.mir_meaning.specs.Align.{position_of, is_code}
 use Rattle.mir_meaning.proofs.Reading.{front_item, front_end, end_index, item_front}
-use Rattle.frame_lower.specs.Rule.{size_of, saved_of, is_final, epilogue, framed_item, framed_items, framed_block, framed_blocks, framed_of, renamed, renamed_kind, renamed_code, added_all, position_in}
+use Rattle.frame_rule.specs.Rule.{size_of, saved_of, is_final, epilogue, framed_item, framed_items, framed_block, framed_blocks, framed_of, renamed, renamed_kind, renamed_code, added_all, position_in}
 use Rattle.machine_frames.proofs.Renames.{renamed_row, row_renamed}
 use Rattle.machine_frames.proofs.Framed.{drop_map, index_in, same_position}
 
@@ -105,9 +105,9 @@ framed_head f x = by_exit (is_final (exit_of x.kind)) where
     by_kind (Phi p n) e = cc
 
   by_code : (o : Rattle.mir_func.specs.declared.position.Origin.Origin) → position_of o ≡ position_of x.origin → (code : List Instruction) → (y : Item) × (rest : List Item) ×
-      (map (Rattle.frame_lower.specs.Rule.added o) code ++ renamed f.slots x ∷ [] ≡ y ∷ rest) × IsHead f x y
+      (map (Rattle.frame_rule.specs.Rule.added o) code ++ renamed f.slots x ∷ [] ≡ y ∷ rest) × IsHead f x y
   by_code o e [] = (renamed f.slots x, [], refl, own_head)
-  by_code o e (c ∷ code) = (Rattle.frame_lower.specs.Rule.added o c, map (Rattle.frame_lower.specs.Rule.added o) code ++ renamed f.slots x ∷ [], refl, record { position = e; code = λ h. refl })
+  by_code o e (c ∷ code) = (Rattle.frame_rule.specs.Rule.added o c, map (Rattle.frame_rule.specs.Rule.added o) code ++ renamed f.slots x ∷ [], refl, record { position = e; code = λ h. refl })
 
   by_size : (n : ℕ) → (y : Item) × (rest : List Item) ×
       (added_all n (Rattle.mir_func.specs.declared.position.Origin.TheVariants.Before (position_in x.origin)) (Rattle.mir_func.specs.SoundFrame.epilogue_code (size_of f) (saved_of f))
@@ -146,8 +146,7 @@ module _ (f : Function) (fresolve : OperandPair → Option OperandPair) where
     by_blocks [] d h = cc
     by_blocks (b ∷ rest) d h =
         let at = drop_at b.items p.item x (front_item b.items p.item b.silent rest x h) in
-        let hd = framed_head f x in
-        (
+        let hd = framed_head f x in (
           hd.0,
           fetch_image p b rest d ∙ ap (λ (is : List Item). front (framed_items f is) b.silent (map (framed_block f) rest)) at.1
               ∙ ap (λ (is : List Item). front (is ++ framed_items f at.0) b.silent (map (framed_block f) rest)) hd.2,

@@ -11,7 +11,7 @@ use Rattle.mir_meaning.specs.Follow.{IsRead, Follows}
 use Rattle.mir_meaning.specs.State.{State}
 use Rattle.code_layout.specs.Headline.{StartsAt, Headline}
 use Rattle.code_layout.specs.Image.{Image}
-use Rattle.frame_lower.specs.Rule.{framed_of}
+use Rattle.frame_rule.specs.Rule.{framed_of}
 use Rattle.frame_runs.specs.Runs.{HasForm}
 use Rattle.machine_steps.specs.Laid.{IsLaidAt}
 use Rattle.machine_runs.specs.Runs.{GivesBackKept, start_beside}

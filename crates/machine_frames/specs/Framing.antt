@@ -11,7 +11,7 @@ use Rattle.mir_func.specs.SoundFrame.{IsFramed}
 use Rattle.mir_func.specs.declared.position.Pos.{Pos}
 use Rattle.mir_meaning.specs.Follow.{IsRead, Shape}
 use Rattle.simulation.specs.Words.{HasPlainTurns}
-use Rattle.frame_lower.specs.Rule.{framed_of}
+use Rattle.frame_rule.specs.Rule.{framed_of}
 use Rattle.machine_runs.specs.Runs.{ComesFrom}
 
 -- what is returned is in physical registers

@@ -196,6 +196,32 @@ fn damaged_lists(rt: HostRuntime) -> Result<(), Fail> {
     Ok(())
 }
 
+/// Sections of one range, of which a number is beyond its bounds: an end at 2^64, and a constant of 2^63.
+const BEYOND: [(&[u8], usize); 2] = [
+    (
+        &[
+            0x1b, 0, 0, 0, 5, 0, 8, 0, 1, 0, 0, 0, 4, 0, 0, 0, 4, 0, 0x80, 0x80, 0x80, 0x80, 0x80,
+            0x80, 0x80, 0x80, 0x80, 2, 1, 0x5a, 0,
+        ],
+        18,
+    ),
+    (
+        &[
+            0x1d, 0, 0, 0, 5, 0, 8, 0, 1, 0, 0, 0, 4, 0, 0, 0, 4, 0, 4, 12, 0x11, 0x80, 0x80, 0x80,
+            0x80, 0x80, 0x80, 0x80, 0x80, 0x80, 1, 0x9f, 0,
+        ],
+        20,
+    ),
+];
+
+/// Addresses are below 2^64, and constants fit 64 bits signed.
+#[test]
+fn numbers_beyond_their_bounds(rt: HostRuntime) {
+    for (bytes, at) in BEYOND {
+        assert_eq!(rt; list_count(bytes), Err(ListFault { at }));
+    }
+}
+
 /// Each proper prefix of a section is wrong from its length on.
 #[test]
 fn prefixes(rt: HostRuntime) {
