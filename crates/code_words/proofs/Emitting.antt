@@ -1,8 +1,8 @@
 -- The words and the entries of an item, by what stands for it.
-use Rattle.std.proofs.Common.{◌≡◌, ℕ, zero, suc, ◌+◌, ◌<◌, Bool, true, false, List, [], ◌∷◌, ◌++◌, length, map, take, get_or, Option, Some, None, refl, sym, ap, inl, inr, ◌∙◌, arith}
+use Rattle.std.proofs.Common.{◌≡◌, ℕ, zero, suc, ◌+◌, ◌<◌, Bool, true, false, List, [], ◌∷◌, ◌++◌, length, map, take, get_or, Option, Some, None, refl, sym, ap, subst, inl, inr, ◌∙◌, arith}
 use Rattle.std.specs.Prelude.{◌⊎◌, ℤ, pos, ◌-ℤ◌, ◌+ℤ◌, option_map, slice_get, slice_index, if◌then◌else◌, option_and_then}
 use Rattle.std.specs.List.{flat_map}
-use Rattle.std.proofs.lemmas.List.{append_assoc, append-nil}
+use Rattle.std.proofs.lemmas.List.{append_assoc, append-nil, get_or_read}
 use Rattle.std.proofs.lemmas.List.Concat.{flat_map-append}
 use Rattle.rv64_instr.specs.declared.op.Op.{Op}
 use Rattle.rv64_instr.specs.declared.op.Op.TheVariants as source
@@ -354,3 +354,18 @@ all_stand l p is k b lt at n i within item =
       address = (λ j. is.base j + slice_index (is.sums j) (index j)) ∙ ap (λ spans. l.base + slice_index (sums_from 0 spans) (items_count (take k blocks) + n)) is.spans
           ∙ ap (λ (x : ℕ). l.base + x) (sum_here l.long blocks k n i here);
     }
+
+-- ---- what holds of each so far
+
+last_or : (j k : ℕ) → j < k + 1 → (j < k) ⊎ (j ≡ k)
+last_or zero zero lt = inr (omega arith)
+last_or zero (suc k) lt = inl (omega arith)
+last_or (suc j) zero lt = absurd (omega arith)
+last_or (suc j) (suc k) lt = elim (last_or j k (omega arith)) as (λ z. (suc j < suc k) ⊎ (suc j ≡ suc k)) [ inl h ↦ inl (omega arith) | inr h ↦ inr (omega arith) ]
+
+pub all_more : {A : Type 0} (P : A → Type 0) (xs : List A) (k : ℕ) (x : A) → k < length xs → x ≡ get_or xs k x →
+    ((j : ℕ) (d : A) → j < k → P (get_or xs j d)) → P x → (j : ℕ) (d : A) → j < k + 1 → P (get_or xs j d)
+all_more P xs k x lt is below here j d less = elim (last_or j k less) as (λ z. P (get_or xs j d)) [
+  | inl l ↦ below j d l
+  | inr e ↦ let same : x ≡ get_or xs j d = get_or_read xs k x lt is d ∙ ap (λ n. get_or xs n d) (sym e) in subst P same here
+]

@@ -100,7 +100,7 @@ le_same base x y = grind (arith, nat_tests, ints)
 ge_same : (base x y : ℕ) → int_le (pos (base + x) -ℤ pos (base + y)) (pos 4094) ≡ nat_le x (y + 4094)
 ge_same base x y = grind (arith, nat_tests, ints)
 
-reach_same : (base a t : ℕ) → is_within (negsuc 4095) (pos 4094) (pos (base + t) -ℤ pos (base + a)) ≡ reaches a t
+pub reach_same : (base a t : ℕ) → is_within (negsuc 4095) (pos 4094) (pos (base + t) -ℤ pos (base + a)) ≡ reaches a t
 reach_same base a t = (λ i. le_same base t a i && ge_same base t a i) ∙ swap (nat_le a (t + 4096)) (nat_le t (a + 4094))
   where
     swap : (x y : Bool) → (x && y) ≡ (y && x)
@@ -156,7 +156,7 @@ blocks_same : (long other : Pos → Bool) → ((q : Pos) → long q ≡ other q)
 blocks_same long other same b [] = refl
 blocks_same long other same b (x ∷ blocks) = λ k. items_same long other same b 0 x.items k + blocks_same long other same (suc b) blocks k
 
-bytes_same : (long other : Pos → Bool) → ((q : Pos) → long q ≡ other q) → (blocks : List Block) (p : Pos) → bytes_before long blocks p ≡ bytes_before other blocks p
+pub bytes_same : (long other : Pos → Bool) → ((q : Pos) → long q ≡ other q) → (blocks : List Block) (p : Pos) → bytes_before long blocks p ≡ bytes_before other blocks p
 bytes_same long other same blocks p =
     λ k. blocks_same long other same 0 (take p.block blocks) k + items_same long other same p.block 0 (take p.item (items_at blocks p.block)) k
 
@@ -174,7 +174,7 @@ same_true p q e =
     parts true false e = absurd cc
     parts false y e = absurd cc
 
-abbrev short_at : Pos → (Pos → Bool) → Pos → Bool
+abbrev pub short_at : Pos → (Pos → Bool) → Pos → Bool
 short_at p long q = cond (is_same p q) false (long q)
 
 short_by : (t : Bool) (was is : Bool) → (t ≡ true → was ≡ false) → (was ≡ true → is ≡ true) → was ≡ true → cond t false is ≡ true
@@ -186,7 +186,7 @@ more_short : (long other : Pos → Bool) (p : Pos) → long p ≡ false → ((q 
 more_short long other p short more q holds =
     short_by (is_same p q) (long q) (other q) (λ e. sym (ap long (same_true p q e)) ∙ short) (more q) holds
 
-short_already : (long : Pos → Bool) (p : Pos) → long p ≡ false → (q : Pos) → short_at p long q ≡ long q
+pub short_already : (long : Pos → Bool) (p : Pos) → long p ≡ false → (q : Pos) → short_at p long q ≡ long q
 short_already long p short q = by_test (is_same p q) refl
   where
     by_test : (t : Bool) → is_same p q ≡ t → cond t false (long q) ≡ long q

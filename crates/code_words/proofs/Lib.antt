@@ -6,3 +6,6 @@ pub mod Least
 pub mod Areas
 pub mod Planned
 pub mod Emitting
+pub mod Encodes
+pub mod Bounds
+pub mod Worded

@@ -1,15 +1,17 @@
 //! The words of a function.
 
-ghost use Rattle.std.specs.Prelude.{◌≡◌, ℕ, Option, ◌<◌, ◌+◌, ◌++◌, ◌^◌, IsTrue, IfSome, IfOk, OnOk, get_or, slice_index, List, length, pos, ◌-ℤ◌};
+ghost use Rattle.std.specs.Prelude.{◌≡◌, ℕ, Option, All, ◌<◌, ◌+◌, ◌++◌, ◌^◌, IsTrue, IfSome, IfOk, OnOk, get_or, slice_index, List, length, pos, ◌-ℤ◌};
 ghost use Rattle.std.specs.List.{flat_map};
 ghost use Rattle.rv64_instr.specs.Row.{row_of};
+ghost use Rattle.rv64_instr.specs.Form.{has_form};
+ghost use Rattle.mir_func.specs.Sound.{AllItems};
 ghost use Rattle.rv64_word.specs.MachineOp.{is_encodable};
 ghost use Rattle.rv64_word.specs.Lowering.{lowered};
 ghost use Rattle.mir_func.specs.declared.item.ItemKind.TheVariants.{Code};
 ghost use Rattle.mir_func.specs.Exits.{row_exit};
 ghost use Rattle.code_words.specs.Rule.{Layout, Site, words_of, words_at, sites_in, word_if, call_words, operation_at, skip_operation};
 ghost use Rattle.code_words.specs.steps.Plans.{IsPlan};
-ghost use Rattle.code_words.specs.steps.Emitted.{StandsAt, AllStandAt, jump_by, inverted_word};
+ghost use Rattle.code_words.specs.steps.Emitted.{StandsAt, AllStandAt, jump_by, inverted_word, KindHasForm, HasForm};
 
 use crate::branch::inverted;
 use crate::code::Words;
@@ -26,7 +28,8 @@ use std::alloc::{AllocError, Global};
 
 /// The words of blocks, by their plan.
 pub fn words(alloc: Global, plan: &Plan, blocks: &[Block]) -> Result<Words, AllocError>
-    ensures { (l : Layout) → IsPlan l plan.now → l.framed.blocks ≡ blocks.now → IfOk result (λ words. words ≡ words_of l) }
+    ensures value { (l : Layout) → IsPlan l plan.now → l.framed.blocks ≡ blocks.now → IfOk result (λ words. words ≡ words_of l) }
+    ensures forms { OnOk result (AllItems HasForm blocks.now) }
 {
     let mut words = Words::new(alloc);
     for (index, block) in blocks.iter().enumerate() {
@@ -42,7 +45,8 @@ pub fn words(alloc: Global, plan: &Plan, blocks: &[Block]) -> Result<Words, Allo
 
 /// Appends the words of items, before the first of which so many stand.
 fn push_block(words: &mut Words, plan: &Plan, first: u32, items: &[Item]) -> Result<(), AllocError>
-    ensures { (l : Layout) (b : ℕ) → IsPlan l plan.now → AllStandAt l plan.now first b items.now →
+    ensures forms { OnOk result (All HasForm items.now) }
+    ensures value { (l : Layout) (b : ℕ) → IsPlan l plan.now → AllStandAt l plan.now first b items.now →
         OnOk result (words.new ≡ words.old ++ flat_map (words_at l) (sites_in b 0 items.now)) }
 {
     for (index, item) in items.iter().enumerate() {
@@ -57,7 +61,8 @@ fn push_item(
     index: usize,
     kind: &ItemKind,
 ) -> Result<(), AllocError>
-    ensures { (l : Layout) (s : Site) → IsPlan l plan.now → StandsAt l plan.now index s → kind.now ≡ s.item.kind →
+    ensures form { KindHasForm kind.now }
+    ensures value { (l : Layout) (s : Site) → IsPlan l plan.now → StandsAt l plan.now index s → kind.now ≡ s.item.kind →
         OnOk result (words.new ≡ words.old ++ words_at l s) }
 {
     match kind {
@@ -74,9 +79,11 @@ fn push_code(
     exit: Exit,
 ) -> Result<(), AllocError>
     requires { exit ≡ row_exit (row_of i.now) }
-    ensures { (l : Layout) (s : Site) (k : Option ℕ) → IsPlan l plan.now → StandsAt l plan.now index s → Code i.now k ≡ s.item.kind →
+    ensures form { IsTrue (has_form i.now.op i.now.operands) }
+    ensures value { (l : Layout) (s : Site) (k : Option ℕ) → IsPlan l plan.now → StandsAt l plan.now index s → Code i.now k ≡ s.item.kind →
         OnOk result (words.new ≡ words.old ++ words_at l s) }
 {
+    let _ = &i.op;
     match plan.span(index) {
         Span::Nothing => Ok(()),
         Span::OneWord | Span::Short(_) => push_one(words, plan, plan.address(index), i, exit),

@@ -6,15 +6,15 @@ use Rattle.code_words.proofs.Planned.{starts_at}
 use Rattle.code_words.proofs.Emitting.{one_word, long_words}
 use Rattle.code_words.proofs.words.push_code.Goals as goal
 
-pub returns-in-OneWord : goal.returns-in-OneWord
-returns-in-OneWord c = λ l s k is at e.
+pub returns-in-OneWord-clause-value : goal.returns-in-OneWord-clause-value
+returns-in-OneWord-clause-value c = λ l s k is at e.
     let i = c.args.i.now in
     let span = c.span.ensures ∙ at.span ∙ ap (span_of l.framed.blocks (l.long s.point)) (sym e) in
     let words = one_word l s.point c.address.result i k c.span.result span c.in-OneWord.is (c.address.ensures.value ∙ at.address) ∙ ap (kind_words l s.point) e in
     subst (λ (ws : List ℕ). OnOk c.push_one.result (c.push_one.new.words ≡ c.args.words.now ++ ws)) words (c.push_one.ensures l is)
 
-pub returns-in-Long : goal.returns-in-Long
-returns-in-Long c = λ l s k is at e.
+pub returns-in-Long-clause-value : goal.returns-in-Long-clause-value
+returns-in-Long-clause-value c = λ l s k is at e.
     let i = c.args.i.now in
     let span = sym c.in-Long.is ∙ c.span.ensures ∙ at.span ∙ ap (span_of l.framed.blocks (l.long s.point)) (sym e) in
     let words = long_words l s.point c.address-in-Long.result c.address-in-Long-2.result i k c.in-Long.target span (c.address-in-Long.ensures.value ∙ at.address)
