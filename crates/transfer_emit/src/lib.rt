@@ -5,4 +5,5 @@
 #![tactic(auto)]
 
 pub mod stand;
+pub mod track;
 pub mod values;
