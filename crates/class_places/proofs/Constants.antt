@@ -20,7 +20,7 @@ use Rattle.class_places.specs.declared.held.Held.{Held}
 use Rattle.class_places.specs.Things.{Settle}
 use Rattle.class_places.specs.Held.{SLOTS_FROM, PLACES, slot_place, Holds}
 use Rattle.class_places.specs.Firsts.{IsFirstBelow, AreFirsts}
-use Rattle.class_places.specs.Start.{IsConstantOf, AreConstantsBelow, AreConstants, constant_past}
+use Rattle.class_places.specs.Start.{IsConstantOf, AreConstantsBelow, AreConstants, constant_past, ConstantsNow}
 use Rattle.class_places.specs.Look.{place_at, place_by, constant_or, place_of}
 use Rattle.class_places.proofs.Starting.{Stands, stands, contained, is_number}
 
@@ -76,12 +76,6 @@ module _ (things : List Tracked) (settled : List ℕ) (class : Classes) (settle 
   constants_more (Part v) o at is step = constants_kept (Part v) at (λ n e. cc) (λ k. step k ∙ ap (λ (z : Option ℤ). constant_past z (slice_index settled i) k (slice_index_or old k None)) is)
 
 -- ---- a place by its class
-
--- a table by class has the constants of numbers, now
-pub record ConstantsNow (things : List Tracked) (class : Classes) (constants : List (Option ℤ)) : Type 0 where
-  pub each : (n : ℕ) → Contains (map thing things) (OfNumber n) → IsSome (slice_index_or constants (class (OfNumber n)) None)
-  pub only : (k : ℕ) (c : ℤ) → slice_index_or constants k None ≡ Some c →
-      IsPlace (spot.Const c) × Contains (map thing things) (OfNumber (word c)) × (class (OfNumber (word c)) ≡ k)
 
 pub constants_now : (things : List Tracked) (class : Classes) (constants : List (Option ℤ)) → AreConstants things class constants → ConstantsNow things class constants
 constants_now things class constants are = record {

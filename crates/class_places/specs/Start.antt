@@ -46,3 +46,9 @@ pub record AreConstantsBelow (things : List Tracked) (i : ℕ) (class : Classes)
 
 abbrev pub AreConstants : List Tracked → Classes → List (Option ℤ) → Type 0
 AreConstants things class constants = AreConstantsBelow things (length things) class constants
+
+-- a table has a constant for the class that each number has now, and no other
+pub record ConstantsNow (things : List Tracked) (class : Classes) (constants : List (Option ℤ)) : Type 0 where
+  pub each : (n : ℕ) → Contains (map thing things) (OfNumber n) → IsSome (slice_index_or constants (class (OfNumber n)) None)
+  pub only : (k : ℕ) (c : ℤ) → slice_index_or constants k None ≡ Some c →
+      IsPlace (Const c) × Contains (map thing things) (OfNumber (word c)) × (class (OfNumber (word c)) ≡ k)

@@ -5,7 +5,7 @@ ghost use Rattle.class_entries.specs.declared.tracked.Tracked.{Tracked};
 ghost use Rattle.class_paths.specs.Classes.{Classes};
 ghost use Rattle.class_places.specs.Things.{Settle};
 ghost use Rattle.class_places.specs.Held.{PLACES};
-ghost use Rattle.class_places.specs.Start.{IsConstantOf, AreConstants, constant_past};
+ghost use Rattle.class_places.specs.Start.{IsConstantOf, ConstantsNow, constant_past};
 ghost use Rattle.class_places.specs.Look.{place_of, place_at, place_by};
 
 use crate::held::SLOTS_FROM;
@@ -25,7 +25,7 @@ pub fn constants(
     requires settled { length settled.now ≡ length things.now }
     requires next { (i : ℕ) → slice_index settled.now i < next }
     ensures count { IfOk result (λ v. length v.items ≡ next) }
-    ensures constants { IfOk result (λ v. (class : Classes) → Settle things.now settled.now class → AreConstants things.now class v.items) }
+    ensures constants { IfOk result (λ v. (class : Classes) → Settle things.now settled.now class → ConstantsNow things.now class v.items) }
 {
     let mut constants = vec![in alloc; None; next]?;
     for i in 0..things.len() {

@@ -29,6 +29,7 @@ use substitution::substitutions::Substitutions;
 const MOST_CLASSES: usize = 1 << 62;
 
 /// What stays as it is over the items of a block.
+#[derive(Drop)]
 pub struct Block<'a> {
     /// Where numbers and pairs stand among the tracked things.
     pub index: &'a Index,

@@ -19,25 +19,24 @@ use std::collections::HashMap;
 /// From so many classes on, memory would have run out.
 const MOST_CLASSES: usize = 1 << 62;
 
-/// The class of each thing where it has a token on every path to the start of a block, and 0 elsewhere.
-pub fn settle(alloc: Global, entry: &BlockEntry) -> Result<Vec<usize>, AllocError>
-    ensures count { IfOk result (λ s. length s.items ≡ length entry.now.classes) }
-    ensures each { IfOk result (λ s. (i : ℕ) → i < length entry.now.classes → slice_index s.items i ≡ settled_at entry.now.classes entry.now.given i) }
+/// The classes of so many things: where a thing has a token on every path to the start of a block, and 0 elsewhere.
+pub fn settle(alloc: Global, entry: &BlockEntry, count: usize) -> Result<Vec<usize>, AllocError>
+    ensures count { IfOk result (λ s. length s.items ≡ count) }
+    ensures each { IfOk result (λ s. (i : ℕ) → i < count → slice_index s.items i ≡ settled_at entry.now.classes entry.now.given i) }
 {
     let classes = entry.classes.as_slice();
     let given = entry.given.as_slice();
-    let mut settled = Vec::new(alloc);
-    for i in 0..classes.len() {
+    let mut settled = Vec::with_capacity(alloc, count)?;
+    for i in 0..count {
         settled.push(settled_at(classes, given, i))?;
     }
     Ok(settled)
 }
 
 fn settled_at(classes: &[u32], given: &[bool], i: usize) -> usize
-    requires { i < length classes.now }
     ensures { result ≡ settled_at classes.now given.now i }
 {
-    if i < given.len() && given[i] {
+    if i < given.len() && given[i] && i < classes.len() {
         classes[i] as usize
     } else {
         0

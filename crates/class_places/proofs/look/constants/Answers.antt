@@ -2,7 +2,7 @@ use Rattle.std.proofs.Common.{◌≡◌, ℕ, length, refl, ◌∙◌, arith, su
 use Rattle.std.specs.Prelude.{Option}
 use Rattle.std.proofs.lemmas.Option.{slice_get_read}
 use Rattle.class_places.specs.Start.{AreConstantsBelow}
-use Rattle.class_places.proofs.Constants.{constants_more}
+use Rattle.class_places.proofs.Constants.{constants_more, constants_now}
 use Rattle.class_places.proofs.look.constants.Goals as goal
 
 pub loop-i-preserved : goal.loop-i-preserved
@@ -16,4 +16,5 @@ loop-i-preserved c = record {
 pub returns-clause-constants : goal.returns-clause-constants
 returns-clause-constants c = λ class settle.
     let all : c.loop-i.i ≡ length c.args.things.now = omega (arith, c.loop-i-test.false, c.loop-i.auto.i-end) in
-    subst (λ (n : ℕ). AreConstantsBelow c.args.things.now n class c.loop-i.constants.items) all (c.loop-i.invariant.constants class settle)
+    constants_now c.args.things.now class c.loop-i.constants.items
+    (subst (λ (n : ℕ). AreConstantsBelow c.args.things.now n class c.loop-i.constants.items) all (c.loop-i.invariant.constants class settle))
