@@ -13,3 +13,5 @@ mod front;
 mod item;
 mod operand;
 mod register;
+#[cfg(test)]
+mod tests;
