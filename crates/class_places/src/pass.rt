@@ -1,6 +1,7 @@
 //! Classes past an item.
 
-ghost use Rattle.std.specs.Prelude.{◌≡◌, ◌<◌, ◌≤◌, ◌+◌, ◌^◌, ℕ, List, Some, OnOk, length, slice_get, slice_index, cond, nat_eq};
+ghost use Rattle.std.specs.Prelude.{◌≡◌, ◌<◌, ◌≤◌, ◌+◌, ◌^◌, ℕ, List, Some, OnOk, length, slice_get, slice_index, cond};
+ghost use Rattle.std.specs.Prelude.{nat_eq};
 ghost use Rattle.std.specs.HashMap.{get};
 ghost use Rattle.rv64_instr.specs.Row.{row_of};
 ghost use Rattle.mir_meaning.specs.Step.{defined as defined_by};
@@ -9,7 +10,8 @@ ghost use Rattle.mir_func.specs.declared.item.ItemKind.TheVariants.{Code, Mark, 
 ghost use Rattle.mir_func.specs.Resolve.{resolve};
 ghost use Rattle.mir_func.specs.Variables.{overlaps, do_meet};
 ghost use Rattle.class_entries.specs.declared.tracked.Tracked.{Tracked};
-ghost use Rattle.class_places.specs.Held.{pair_class, resolved_class, value_class, at_class, place_class, operand_class, part_past, Passes};
+ghost use Rattle.class_places.specs.Held.{pair_class, resolved_class, value_class, at_class, place_class};
+ghost use Rattle.class_places.specs.Held.{operand_class, part_past, Passes};
 ghost use Rattle.class_places.specs.Things.{is_key};
 
 use crate::held::{Held, PLACES, SLOTS_FROM, slot_place};
@@ -63,7 +65,8 @@ impl Held {
 
     /// The class of what a mark assigns.
     fn value(&self, block: &Block, value: &MarkValue) -> usize
-        ensures { result ≡ value_class block.now.index.now block.now.settled.now (resolve block.now.subs.now) self.now value.now }
+        ensures { result ≡ value_class block.now.index.now block.now.settled.now (resolve block.now.subs.now) self.now
+            value.now }
     {
         match value {
             MarkValue::Nothing => 0,
@@ -94,7 +97,13 @@ impl Held {
     }
 
     /// Gives the pair of an operand a class, where it defines a register.
-    fn give_operand(&mut self, call: bool, k: DebugNumber, o: usize, operand: &Operand) -> Result<(), AllocError>
+    fn give_operand(
+        &mut self,
+        call: bool,
+        k: DebugNumber,
+        o: usize,
+        operand: &Operand,
+    ) -> Result<(), AllocError>
         ensures pairs { OnOk result ((q : ℕ × ℕ) → get is_key self.new.pairs q
             ≡ cond (is_key (k, o) q) (operand_class self.old.places.items (defined_by call (Some operand.now)) (get is_key self.old.pairs q)) (get is_key self.old.pairs q)) }
         ensures places { self.new.places ≡ self.old.places }
@@ -125,7 +134,12 @@ impl Held {
         Ok(())
     }
 
-    fn pass_code(&mut self, block: &Block, instr: &Instr, number: Option<DebugNumber>) -> Result<(), AllocError>
+    fn pass_code(
+        &mut self,
+        block: &Block,
+        instr: &Instr,
+        number: Option<DebugNumber>,
+    ) -> Result<(), AllocError>
         requires count { length self.old.places.items ≡ PLACES }
         ensures passes { OnOk result ((things : List Tracked)
             → Passes block.now.variables.now things block.now.index.now block.now.settled.now (resolve block.now.subs.now) self.old self.new (Code instr.now number)) }
@@ -154,7 +168,12 @@ impl Held {
         mark(&mut self.parts, block.variables, variable, class);
     }
 
-    fn pass_phi(&mut self, block: &Block, place: Option<Place>, k: DebugNumber) -> Result<(), AllocError>
+    fn pass_phi(
+        &mut self,
+        block: &Block,
+        place: Option<Place>,
+        k: DebugNumber,
+    ) -> Result<(), AllocError>
         ensures passes { OnOk result ((things : List Tracked)
             → Passes block.now.variables.now things block.now.index.now block.now.settled.now (resolve block.now.subs.now) self.old self.new (Phi place k)) }
         ensures places { self.new.places ≡ self.old.places }

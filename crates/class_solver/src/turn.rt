@@ -1,6 +1,8 @@
-//! Turns and sweeps. In its turn a block is visited if it is marked; where its entry changes, those after it are marked.
+//! Turns and sweeps. In its turn a block is visited if it is marked; where its entry changes, those after it are
+//! marked.
 
-ghost use Rattle.std.specs.Prelude.{◌≡◌, ◌⊎◌, ℕ, ◌<◌, ◌≤◌, length, slice_get, slice_index_or, IfOk, All, cond, true, false, IsTrue, Contains};
+ghost use Rattle.std.specs.Prelude.{◌≡◌, ◌⊎◌, ℕ, ◌<◌, ◌≤◌, length, slice_get, slice_index_or, IfOk, All, cond, true};
+ghost use Rattle.std.specs.Prelude.{false, IsTrue, Contains};
 ghost use Rattle.mir_func.specs.Graph.{Program};
 ghost use Rattle.class_entries.specs.declared.tracked.Tracked.{Tracked};
 ghost use Rattle.class_solver.specs.Joining.{IsKnown};

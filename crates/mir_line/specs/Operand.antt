@@ -69,14 +69,16 @@ argument_part (Some part) = expressions.PartOfArgument part
 -- an expression behind `DW_OP_LLVM_arg, 0`
 abbrev pub argument_expression : List Lexeme → Expression
 argument_expression (lexemes.Close ∷ ts) = expressions.Argument
-argument_expression (lexemes.Comma ∷ lexemes.Word words.Fragment t ∷ lexemes.Comma ∷ lexemes.Integer o ∷ lexemes.Comma ∷ lexemes.Integer s ∷ lexemes.Close ∷ ts) = argument_part (part_of o s)
+argument_expression (lexemes.Comma ∷ lexemes.Word words.Fragment t ∷ lexemes.Comma ∷ lexemes.Integer o ∷ lexemes.Comma ∷ lexemes.Integer s ∷ lexemes.Close ∷
+    ts) = argument_part (part_of o s)
 argument_expression ts = expressions.Other
 
 -- what an expression says, behind its opening bracket
 unfoldable pub expression_of : List Lexeme → Expression
 expression_of (lexemes.Close ∷ ts) = expressions.Empty
 expression_of (lexemes.Word words.Argument t ∷ lexemes.Comma ∷ lexemes.Integer n ∷ ts) = if is_zero n then argument_expression ts else expressions.Other
-expression_of (lexemes.Word words.Fragment t ∷ lexemes.Comma ∷ lexemes.Integer o ∷ lexemes.Comma ∷ lexemes.Integer s ∷ lexemes.Close ∷ ts) = plain_part (part_of o s)
+expression_of (lexemes.Word words.Fragment t ∷ lexemes.Comma ∷ lexemes.Integer o ∷ lexemes.Comma ∷ lexemes.Integer s ∷ lexemes.Close ∷ ts) =
+    plain_part (part_of o s)
 expression_of ts = expressions.Other
 
 -- an expression, behind its opening bracket

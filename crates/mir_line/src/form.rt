@@ -30,8 +30,8 @@ pub enum Expression {
     Empty,
     /// `!DIExpression(DW_OP_LLVM_arg, 0)`.
     Argument,
-    /// `!DIExpression(DW_OP_LLVM_fragment, O, S)` where the bits from O on are whole bytes that a part of a variable may
-    /// have.
+    /// `!DIExpression(DW_OP_LLVM_fragment, O, S)` where the bits from O on are whole bytes that a part of a variable
+    /// may have.
     Part(Fragment),
     /// The same with `DW_OP_LLVM_arg, 0, ` before it.
     PartOfArgument(Fragment),

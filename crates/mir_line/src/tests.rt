@@ -9,50 +9,23 @@ use std::test::Fail;
 /// operand, the number that the item gives, or its location. `+` and `*` stand before implicit registers that are read
 /// and set.
 const LINES: &[(&str, &str)] = &[
-    (
-        "",
-        "passed",
-    ),
-    (
-        "\t ; only a comment",
-        "passed",
-    ),
+    ("", "passed"),
+    ("\t ; only a comment", "passed"),
     (
         "    successors: %bb.1(0x7c000000), %bb.2(0x04000000) ^",
         "passed",
     ),
-    (
-        "    liveins: $x10, $x11",
-        "passed",
-    ),
-    (
-        "  bb.0:",
-        "label 0",
-    ),
+    ("    liveins: $x10, $x11", "passed"),
+    ("  bb.0:", "label 0"),
     (
         "  bb.007.while.body (%ir-block.4, address-taken):",
         "label 7",
     ),
-    (
-        "  bb.1073741824 (a):",
-        "label beyond",
-    ),
-    (
-        "  bb.3 (align 4",
-        "BadLine",
-    ),
-    (
-        "  bb.3: $x10",
-        "BadLine",
-    ),
-    (
-        "  bb.3.:",
-        "BadLine",
-    ),
-    (
-        "  bb.3 ADDI",
-        "ADDI",
-    ),
+    ("  bb.1073741824 (a):", "label beyond"),
+    ("  bb.3 (align 4", "BadLine"),
+    ("  bb.3: $x10", "BadLine"),
+    ("  bb.3.:", "BadLine"),
+    ("  bb.3 ADDI", "ADDI"),
     (
         "    renamable $x9 = ADDI $x0, 0, debug-instr-number 1 ; a comment",
         "x9 = ADDI; x0; 0; number 1",
@@ -145,10 +118,7 @@ const LINES: &[(&str, &str)] = &[
         "    DBG_INSTR_REF !1073741824, !DIExpression((), x), dbg-instr-ref(1073741823, 0)",
         "DBG_INSTR_REF; !beyond; expression; pair 1073741823 0; exceeds",
     ),
-    (
-        "    DBG_PHI %5, 3, 64",
-        "DBG_PHI; %5; 3; 64",
-    ),
+    ("    DBG_PHI %5, 3, 64", "DBG_PHI; %5; 3; 64"),
     (
         "    DBG_VALUE 340282366920938463463374607431768211455, $noreg, !4, !DIExpression()",
         "DBG_VALUE; large; noreg; !4; empty",
@@ -157,38 +127,14 @@ const LINES: &[(&str, &str)] = &[
         "    DBG_VALUE $noreg, $noreg, !4, !DIExpression(DW_OP_constu, 340282366920938463463374607431768211456)",
         "DBG_VALUE; noreg; noreg; !4; expression; exceeds",
     ),
-    (
-        "    $x10 = ADDI implicit implicit $x10, -0x1",
-        "BadLine",
-    ),
-    (
-        "    $x10 = ADDI implicit implicit-def $x10, 1",
-        "BadLine",
-    ),
-    (
-        "    $x10 $x11 = ADD",
-        "BadLine",
-    ),
-    (
-        "    $x10 = renamable",
-        "BadLine",
-    ),
-    (
-        "    $x10, = ADD",
-        "BadLine",
-    ),
-    (
-        "    $x10 = ADDI $x10 1",
-        "BadLine",
-    ),
-    (
-        "    $x10 = ADDI $x10, 1,",
-        "BadLine",
-    ),
-    (
-        "    PseudoRET debug-location !5, implicit $x10",
-        "BadLine",
-    ),
+    ("    $x10 = ADDI implicit implicit $x10, -0x1", "BadLine"),
+    ("    $x10 = ADDI implicit implicit-def $x10, 1", "BadLine"),
+    ("    $x10 $x11 = ADD", "BadLine"),
+    ("    $x10 = renamable", "BadLine"),
+    ("    $x10, = ADD", "BadLine"),
+    ("    $x10 = ADDI $x10 1", "BadLine"),
+    ("    $x10 = ADDI $x10, 1,", "BadLine"),
+    ("    PseudoRET debug-location !5, implicit $x10", "BadLine"),
     (
         "    PseudoRET debug-location !5, debug-location !5",
         "BadLine",
@@ -201,46 +147,16 @@ const LINES: &[(&str, &str)] = &[
         "    PseudoRET debug-location !DILocation(line: 5, line: 5, scope: !3)",
         "BadLine",
     ),
-    (
-        "    PseudoCALL target-flags(riscv-call) 5, csr",
-        "BadLine",
-    ),
-    (
-        "    CFI_INSTRUCTION x 16",
-        "BadLine",
-    ),
-    (
-        "    DBG_VALUE double 0.0, $noreg",
-        "BadByte",
-    ),
-    (
-        "    $x10 = ADDI %fixed-stack.0, 1",
-        "BadLine",
-    ),
-    (
-        "    $x10 = ADDI $x10 (tied-def 0), 1",
-        "x10 = ADDI; x10; 1",
-    ),
-    (
-        "    $x10 = ADDI $x10 (0), 1",
-        "BadLine",
-    ),
-    (
-        "    $x10 = ADDI %5:gpr(s64), 1",
-        "BadLine",
-    ),
-    (
-        "    $x10 = ADDI $x10, ^1",
-        "BadByte",
-    ),
-    (
-        "    PseudoCALL @\"g",
-        "UnclosedString",
-    ),
-    (
-        "    _add $x10",
-        "BadLine",
-    ),
+    ("    PseudoCALL target-flags(riscv-call) 5, csr", "BadLine"),
+    ("    CFI_INSTRUCTION x 16", "BadLine"),
+    ("    DBG_VALUE double 0.0, $noreg", "BadByte"),
+    ("    $x10 = ADDI %fixed-stack.0, 1", "BadLine"),
+    ("    $x10 = ADDI $x10 (tied-def 0), 1", "x10 = ADDI; x10; 1"),
+    ("    $x10 = ADDI $x10 (0), 1", "BadLine"),
+    ("    $x10 = ADDI %5:gpr(s64), 1", "BadLine"),
+    ("    $x10 = ADDI $x10, ^1", "BadByte"),
+    ("    PseudoCALL @\"g", "UnclosedString"),
+    ("    _add $x10", "BadLine"),
 ];
 
 /// Appends a number, and the word `beyond` for one above the limit.
@@ -294,21 +210,12 @@ fn push_expression(
 }
 
 /// Appends a word and a number.
-fn push_numbered(
-    alloc: Global,
-    text: &mut String,
-    word: &str,
-    n: u32,
-) -> Result<(), AllocError> {
+fn push_numbered(alloc: Global, text: &mut String, word: &str, n: u32) -> Result<(), AllocError> {
     text.push_str(word)?;
     push_number(alloc, text, n)
 }
 
-fn push_operand(
-    alloc: Global,
-    text: &mut String,
-    operand: &OperandForm,
-) -> Result<(), AllocError> {
+fn push_operand(alloc: Global, text: &mut String, operand: &OperandForm) -> Result<(), AllocError> {
     match operand {
         OperandForm::Register(form) => push_register(alloc, text, *form),
         OperandForm::Integer(Some(i)) => text.push_str(format!(in alloc; "{i}")?.as_str()),

@@ -2,7 +2,8 @@
 use Rattle.std.specs.Prelude.{ℕ, codes, List}
 use Rattle.refusal.specs.declared.kind.RefusalKind.{RefusalKind}
 use Rattle.refusal.specs.declared.kind.RefusalKind.TheVariants.{BadByte, UnclosedString, BadDocument, BadLine, UnknownOpcode, BadOperands, UnknownBlock}
-use Rattle.refusal.specs.declared.kind.RefusalKind.TheVariants.{DuplicateBlock, DuplicateNumber, VirtualRegister, StackPointerUse, StackObject, TooMany, BlockEnd}
+use Rattle.refusal.specs.declared.kind.RefusalKind.TheVariants.{DuplicateBlock, DuplicateNumber, VirtualRegister, StackPointerUse, StackObject, TooMany}
+use Rattle.refusal.specs.declared.kind.RefusalKind.TheVariants.{BlockEnd}
 
 -- the number of a kind
 abbrev pub number_of : RefusalKind → ℕ

@@ -13,8 +13,12 @@ loop-r-preserved c =
     let old = c.args.places.now in
     let r = c.loop-r.r in
     elim c.if-is_caller_saved.branch [
-      | then-is_caller_saved w ↦ record { places = subst (RenewedBelow saved next old (r + 1)) (sym w.places-is)
-          (renewed_set saved next old r c.loop-r.places c.loop-r.invariant.places (omega arith) (sym c.is_caller_saved.ensures ∙ w.if-is_caller_saved.true)) }
-      | else-is_caller_saved w ↦ record { places = subst (RenewedBelow saved next old (r + 1)) (sym w.places-is)
-          (renewed_kept saved next old r c.loop-r.places c.loop-r.invariant.places (sym c.is_caller_saved.ensures ∙ w.if-is_caller_saved.false)) }
+      | then-is_caller_saved w ↦ record {
+        places = subst (RenewedBelow saved next old (r + 1)) (sym w.places-is)
+            (renewed_set saved next old r c.loop-r.places c.loop-r.invariant.places (omega arith) (sym c.is_caller_saved.ensures ∙ w.if-is_caller_saved.true));
+      }
+      | else-is_caller_saved w ↦ record {
+        places = subst (RenewedBelow saved next old (r + 1)) (sym w.places-is)
+            (renewed_kept saved next old r c.loop-r.places c.loop-r.invariant.places (sym c.is_caller_saved.ensures ∙ w.if-is_caller_saved.false));
+      }
     ]

@@ -5,5 +5,6 @@ use Rattle.class_places.proofs.held.renew.Given as goal
 
 abbrev pub invariant-loop-r : goal.invariant-loop-r
 invariant-loop-r l = record {
-  places : (j : ℕ) → get_or l.places j 0 ≡ cond (nat_lt j l.r) (cond (list_any (λ q. nat_eq j q) caller_saved) (l.next + j) (get_or l.initial.places j 0)) (get_or l.initial.places j 0);
+  places : (j : ℕ) → get_or l.places j 0 ≡ cond (nat_lt j l.r) (cond (list_any (λ q. nat_eq j q) caller_saved) (l.next + j) (get_or l.initial.places j 0))
+      (get_or l.initial.places j 0);
 }

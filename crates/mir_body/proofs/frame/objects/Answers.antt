@@ -14,8 +14,8 @@ loop-entry-preserved c =
     let named = c.args.named.now in
     record {
       read = one_more (objects_behind named) (with_object named) (λ s e es. refl) (λ s. refl) c.args.entries.now c.loop-entry.entry-index c.entry-item.result
-      c.loop-entry.laid (objects_of named c.args.entries.now) c.lay.new.laid c.loop-entry-test.true c.entry-item.is c.loop-entry.invariant.read
-      c.in_ok-lay.ensures.laid;
+          c.loop-entry.laid (objects_of named c.args.entries.now) c.lay.new.laid c.loop-entry-test.true c.entry-item.is c.loop-entry.invariant.read
+          c.in_ok-lay.ensures.laid;
       bound = omega (arith, c.in_ok-lay.ensures.bound, c.loop-entry.invariant.bound);
     }
 

@@ -7,7 +7,8 @@ use Rattle.transfer_emit.specs.Stands.{IsBlockAt}
 use Rattle.transfer_emit.proofs.Standing.{fetch_block}
 use Rattle.transfer_emit.proofs.stand.Stand.advance.Goals as goal
 
-fetched : (blocks : List Block) (b k a j : ℕ) (items : List Item) (i : Item) → IsBlockAt blocks b items → k < length items → i ≡ get_or items k i → a ≡ b → j ≡ k →
+fetched : (blocks : List Block) (b k a j : ℕ) (items : List Item) (i : Item) → IsBlockAt blocks b items → k < length items → i ≡ get_or items k i → a ≡ b →
+    j ≡ k →
     fetch_in (drop a blocks) j ≡ Here i
 fetched blocks b k a j items i at within is block item =
     subst (λ (z : ℕ). fetch_in (drop z blocks) j ≡ Here i) (sym block)
