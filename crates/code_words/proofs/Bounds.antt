@@ -60,7 +60,7 @@ items_small : (long : Pos → Bool) (b n : ℕ) (items : List Item) → items_si
 items_small long b n [] = omega arith
 items_small long b n (i ∷ items) = omega (arith, kind_small (long (pos_in b n)) i.kind, sum_by-cons item_count i items, items_small long b (suc n) items)
 
-before_small : (long : Pos → Bool) (m : ℕ) (blocks : List Block) (b c n : ℕ) →
+pub before_small : (long : Pos → Bool) (m : ℕ) (blocks : List Block) (b c n : ℕ) →
     blocks_size long m (take b blocks) + items_size long c 0 (take n (items_at blocks b)) ≤ 4 * count_of blocks
 before_small long m [] zero c zero = omega arith
 before_small long m [] zero c (suc n) = omega arith

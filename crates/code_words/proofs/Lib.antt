@@ -8,4 +8,6 @@ pub mod Planned
 pub mod Emitting
 pub mod Encodes
 pub mod Bounds
+pub mod Fits
 pub mod Worded
+pub mod Stand

@@ -1,6 +1,5 @@
 -- All code of a settled layout has its words.
-use Rattle.std.proofs.Common.{◌≡◌, ℕ, zero, suc, ◌+◌, ◌%◌, ◌<◌, ◌≤◌, Bool, true, false, cond, List, [], ◌∷◌, length, drop, get_or, nat_eq, Option, Some, None}
-use Rattle.std.proofs.Common.{refl, sym, ap, subst, inl, inr, ◌∙◌, arith}
+use Rattle.std.proofs.Common.{◌≡◌, ℕ, zero, suc, ◌+◌, ◌%◌, ◌^◌, ◌<◌, ◌≤◌, Bool, true, false, cond, List, [], ◌∷◌, length, drop, get_or, nat_eq, Option, Some, None, refl, sym, ap, subst, inl, inr, ◌∙◌, arith}
 use Rattle.std.specs.Prelude.{ℤ, pos, negsuc, ◌-ℤ◌, ◌⊎◌, IsTrue, IsSome, All, Contains, slice_get, option_map}
 use Rattle.rv64_instr.specs.declared.op.Op.{Op}
 use Rattle.rv64_instr.specs.declared.op.Op.TheVariants as source
@@ -28,9 +27,9 @@ use Rattle.mir_func.specs.Graph.{Here, fetch_in}
 use Rattle.mir_func.specs.Objects.{object_of, offset_of, offset_or_zero}
 use Rattle.mir_func.specs.Sound.{AllItems, HasBytes, SlotIn, SlotsIn, ObjectIn, ObjectsIn}
 use Rattle.mir_func.specs.SoundFrame.{own_size, slot_offsets, IsFramed, HasPhysical, IsPhysical}
-use Rattle.code_words.specs.Counts.{count_of}
+use Rattle.code_words.specs.Counts.{MAX_BASE, count_of}
 use Rattle.code_words.specs.Inverted.{jump_to}
-use Rattle.code_words.specs.Laid.{FormWorded, IsWorded}
+use Rattle.code_words.specs.Laid.{FormWorded, IsWorded, IsFit}
 use Rattle.code_words.specs.Long.{IsBranchTo, with_short, reaches_in, IsClosed}
 use Rattle.code_words.specs.Rule.{Layout, row_form, items_at, bytes_before, address_in, start_of, offset_to, object_offset, operation_at, skip_operation}
 use Rattle.code_words.specs.Rule.{jump_operation}
@@ -39,6 +38,7 @@ use Rattle.code_words.proofs.Areas.{object_within, end_small}
 use Rattle.code_words.proofs.Bounds.{bytes_aligned, bytes_small}
 use Rattle.code_words.proofs.Emitting.{inv, skipped}
 use Rattle.code_words.proofs.Encodes.{HasWord, OffsetFits, offset, place, code_word}
+use Rattle.code_words.proofs.Fits.{fit}
 use Rattle.code_words.proofs.Least.{short_at, short_already, bytes_same}
 use Rattle.code_words.proofs.Settled.{item_at, in_range, target_point}
 
@@ -246,3 +246,12 @@ module _ (l : Layout) (s : Sound l) where
 
   pub worded : IsWorded l
   worded p i c k at is = row_worded p i c k at is (row_of c) refl (l.long p) refl
+
+  pub code_fits : IsFit l
+  code_fits p i c k at is = fit c.op c.operands (of_kind p i c k at is KindHasForm s.forms)
+
+  pub addresses_fit : l.base < MAX_BASE → (p : Pos) → address_in l p + 8 < 2 ^ 64
+  addresses_fit low p =
+      let bytes = bytes_small l.long l.framed.blocks p in
+      let few = s.few in
+      omega (arith, bytes, few, low)

@@ -1,7 +1,7 @@
 -- The machine code of a function as contracts see it, and what it keeps.
-use Rattle.std.specs.Prelude.{◌≡◌, ℕ, ◌+◌, ◌*◌, ◌%◌, ◌<◌, Bool, false, cond, List, [], ◌∷◌, drop, length, Option, IsSome, All}
+use Rattle.std.specs.Prelude.{◌≡◌, ℕ, ◌+◌, ◌*◌, ◌%◌, ◌^◌, ◌<◌, Bool, false, cond, List, [], ◌∷◌, drop, length, Option, IsSome, All}
 use Rattle.rv64_instr.specs.Instruction.{Instruction}
-use Rattle.rv64_instr.specs.Row.{row_of}
+use Rattle.rv64_instr.specs.Row.{Unfit, row_of}
 use Rattle.rv64_instr.specs.Parts.{is_call}
 use Rattle.mir_func.specs.declared.item.Item.{Item}
 use Rattle.mir_func.specs.declared.item.ItemKind.{ItemKind}
@@ -58,6 +58,11 @@ abbrev pub IsWorded : Layout → Type 0
 IsWorded l = (p : Pos) (i : Item) (c : Instruction) (k : Option ℕ) → fetch_in (drop p.block l.framed.blocks) p.item ≡ Here i → i.kind ≡ Code c k →
     FormWorded l (address_in l p) c (row_form (l.long p) (row_of c))
 
+-- all code of the layout has the form of an instruction
+abbrev pub IsFit : Layout → Type 0
+IsFit l = (p : Pos) (i : Item) (c : Instruction) (k : Option ℕ) → fetch_in (drop p.block l.framed.blocks) p.item ≡ Here i → i.kind ≡ Code c k →
+    row_of c ≡ Unfit → ⊥
+
 -- the machine code is that of the function from its first address on, by the rule: with the least set of long branches
 pub record IsCodeOf (f : FramedFunction) (base : ℕ) (c : LaidCode) : Type 0 where
   pub layout : Layout
@@ -65,6 +70,8 @@ pub record IsCodeOf (f : FramedFunction) (base : ℕ) (c : LaidCode) : Type 0 wh
   pub from : layout.base ≡ base
   pub settled : IsSettled layout
   pub worded : IsWorded layout
+  pub fit : IsFit layout
+  pub small : (p : Pos) → address_in layout p + 8 < 2 ^ 64
   pub entries : c.entries ≡ entries_of layout
   pub words : c.words ≡ words_of layout
   pub framed : c.framed ≡ f

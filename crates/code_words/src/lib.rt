@@ -7,6 +7,7 @@
 pub mod branch;
 pub mod code;
 mod entries;
+pub mod laws;
 pub mod layout;
 mod objects;
 mod plan;

@@ -1,0 +1,98 @@
+-- Operands that have the form of an opcode make an instruction.
+use Rattle.std.proofs.Common.{◌≡◌, ℕ, zero, suc, List, ◌∷◌}
+use Rattle.std.specs.Prelude.{IsTrue, ℤ, ◌&&◌}
+use Rattle.std.specs.List.{list_all}
+use Rattle.rv64_instr.specs.declared.op.Op.{Op}
+use Rattle.rv64_instr.specs.declared.op.Op.TheVariants.{Registers, Immediate, Lui, Branch, Load, Store, Copy, PseudoBr, PseudoCall, PseudoRet}
+use Rattle.rv64_instr.specs.declared.op.RegisterOp.{RegisterOp}
+use Rattle.rv64_instr.specs.declared.op.ImmediateOp.{ImmediateOp}
+use Rattle.rv64_instr.specs.declared.op.ImmediateOp.TheVariants.{Addi, Slti, Sltiu, Xori, Ori, Andi, Slli, Srli, Srai, Addiw, Slliw, Srliw, Sraiw}
+use Rattle.rv64_instr.specs.declared.op.BranchOp.{BranchOp}
+use Rattle.rv64_instr.specs.declared.op.LoadOp.{LoadOp}
+use Rattle.rv64_instr.specs.declared.op.StoreOp.{StoreOp}
+use Rattle.rv64_instr.specs.declared.operand.Operand.{Operand}
+use Rattle.rv64_instr.specs.declared.operand.Operand.TheVariants.{Def, Use, Imm, Slot, Object, Block, Symbol, Mask}
+use Rattle.rv64_instr.specs.Arithmetic.{word}
+use Rattle.rv64_instr.specs.Form.{is_addi, is_immediate, is_implicit, fits_registers, fits_immediate, fits_upper, fits_branch, fits_load, fits_store, fits_copy, fits_jump, fits_call, has_form}
+use Rattle.rv64_instr.specs.Row.{Unfit, move_row, add_row, immediate_row, object_row, registers_row, number_row, upper_row, branch_row, load_row, store_row, copy_row, jump_row, call_row, row_by}
+
+moves_fit : (rd rs : ℕ) → move_row rd rs ≡ Unfit → ⊥
+moves_fit rd zero e = cc
+moves_fit rd (suc r) e = cc
+
+adds_fit : (rd a n : ℕ) → add_row rd a n ≡ Unfit → ⊥
+adds_fit rd zero n e = cc
+adds_fit rd (suc r) zero e = cc
+adds_fit rd (suc r) (suc n) e = cc
+
+numbers_fit : (op : ImmediateOp) (rd a n : ℕ) → immediate_row op rd a n ≡ Unfit → ⊥
+numbers_fit Addi rd a n e = adds_fit rd a n e
+numbers_fit Slti rd a n e = cc
+numbers_fit Sltiu rd a n e = cc
+numbers_fit Xori rd a n e = cc
+numbers_fit Ori rd a n e = cc
+numbers_fit Andi rd a n e = cc
+numbers_fit Slli rd a n e = cc
+numbers_fit Srli rd a n e = cc
+numbers_fit Srai rd a n e = cc
+numbers_fit Addiw rd a n e = cc
+numbers_fit Slliw rd a n e = cc
+numbers_fit Srliw rd a n e = cc
+numbers_fit Sraiw rd a n e = cc
+
+registers_fit : (op : RegisterOp) (operands : List Operand) → IsTrue (fits_registers operands) → registers_row op operands ≡ Unfit → ⊥
+registers_fit op (Def rd ∷ Use a ∷ Use b ∷ rest) form e = cc
+registers_fit op operands form e = absurd cc
+
+object_fit : (op : ImmediateOp) (rd n : ℕ) (i : ℤ) (rest : List Operand) → IsTrue (is_addi op && is_immediate op i && list_all is_implicit rest) → object_row op rd n (word i) ≡ Unfit → ⊥
+object_fit Addi rd n i rest form e = cc
+object_fit op rd n i rest form e = absurd cc
+
+immediate_fit : (op : ImmediateOp) (operands : List Operand) → IsTrue (fits_immediate op operands) → number_row op operands ≡ Unfit → ⊥
+immediate_fit op (Def rd ∷ Use a ∷ Imm i ∷ rest) form e = numbers_fit op rd a (word i) e
+immediate_fit op (Def rd ∷ Object n ∷ Imm i ∷ rest) form e = object_fit op rd n i rest form e
+immediate_fit op operands form e = absurd cc
+
+upper_fit : (operands : List Operand) → IsTrue (fits_upper operands) → upper_row operands ≡ Unfit → ⊥
+upper_fit (Def rd ∷ Imm i ∷ rest) form e = cc
+upper_fit operands form e = absurd cc
+
+branch_fit : (op : BranchOp) (operands : List Operand) → IsTrue (fits_branch operands) → branch_row op operands ≡ Unfit → ⊥
+branch_fit op (Use a ∷ Use b ∷ Block n ∷ rest) form e = cc
+branch_fit op operands form e = absurd cc
+
+load_fit : (op : LoadOp) (operands : List Operand) → IsTrue (fits_load op operands) → load_row op operands ≡ Unfit → ⊥
+load_fit op (Def rd ∷ Use base ∷ Imm i ∷ rest) form e = cc
+load_fit op (Def rd ∷ Slot n ∷ Imm i ∷ rest) form e = cc
+load_fit op (Def rd ∷ Object n ∷ Imm i ∷ rest) form e = cc
+load_fit op operands form e = absurd cc
+
+store_fit : (op : StoreOp) (operands : List Operand) → IsTrue (fits_store op operands) → store_row op operands ≡ Unfit → ⊥
+store_fit op (Use rs ∷ Use base ∷ Imm i ∷ rest) form e = cc
+store_fit op (Use rs ∷ Slot n ∷ Imm i ∷ rest) form e = cc
+store_fit op (Use rs ∷ Object n ∷ Imm i ∷ rest) form e = cc
+store_fit op operands form e = absurd cc
+
+copy_fit : (operands : List Operand) → IsTrue (fits_copy operands) → copy_row operands ≡ Unfit → ⊥
+copy_fit (Def rd ∷ Use rs ∷ rest) form e = moves_fit rd rs e
+copy_fit operands form e = absurd cc
+
+jump_fit : (operands : List Operand) → IsTrue (fits_jump operands) → jump_row operands ≡ Unfit → ⊥
+jump_fit (Block n ∷ rest) form e = cc
+jump_fit operands form e = absurd cc
+
+call_fit : (operands : List Operand) → IsTrue (fits_call operands) → call_row operands ≡ Unfit → ⊥
+call_fit (Symbol name ∷ Mask ∷ rest) form e = cc
+call_fit operands form e = absurd cc
+
+pub fit : (op : Op) (operands : List Operand) → IsTrue (has_form op operands) → row_by op operands ≡ Unfit → ⊥
+fit (Registers op) operands form e = registers_fit op operands form e
+fit (Immediate op) operands form e = immediate_fit op operands form e
+fit Lui operands form e = upper_fit operands form e
+fit (Branch op) operands form e = branch_fit op operands form e
+fit (Load op) operands form e = load_fit op operands form e
+fit (Store op) operands form e = store_fit op operands form e
+fit Copy operands form e = copy_fit operands form e
+fit PseudoBr operands form e = jump_fit operands form e
+fit PseudoCall operands form e = call_fit operands form e
+fit PseudoRet operands form e = cc
