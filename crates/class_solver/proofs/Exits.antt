@@ -1,5 +1,6 @@
 -- What a block hands on: the entry's classes and bits, changed one after the other.
-use Rattle.std.proofs.Common.{◌≡◌, ℕ, zero, suc, ◌<◌, ◌≤◌, List, [], ◌∷◌, ◌++◌, length, Bool, true, false, cond, refl, sym, ap, ◌∙◌, arith, eqb, ltb-true, ltb-false}
+use Rattle.std.proofs.Common.{◌≡◌, ℕ, zero, suc, ◌<◌, ◌≤◌, List, [], ◌∷◌, ◌++◌, length, Bool, true, false, cond, refl, sym, ap, ◌∙◌, arith, eqb, ltb-true}
+use Rattle.std.proofs.Common.{ltb-false}
 use Rattle.std.specs.Prelude.{slice_index, slice_index_or, slice_set, nat_eq, nat_lt}
 use Rattle.std.proofs.lemmas.List.{get_or_past, get_or-set_same, get_or-set_other}
 use Rattle.std.proofs.Math.ListN.{length-set}
@@ -32,7 +33,8 @@ within_at n (c ∷ cs) (suc k) d (a, b, h) less = within_at n cs k d h (omega ar
 pub past_none : (cs : List ℕ) (gs : List Bool) → ArePast cs gs [] cs gs
 past_none cs gs = record { long = refl; bits = refl; class = λ i h. refl; bit = λ i h. refl }
 
-set_is : {A : Type 0} (xs : List A) (t : ℕ) (v d : A) (i : ℕ) → t < length xs → slice_index_or (slice_set xs t v) i d ≡ cond (nat_eq t i) v (slice_index_or xs i d)
+set_is : {A : Type 0} (xs : List A) (t : ℕ) (v d : A) (i : ℕ) → t < length xs →
+    slice_index_or (slice_set xs t v) i d ≡ cond (nat_eq t i) v (slice_index_or xs i d)
 set_is xs t v d i less = by_case (eqb t i) refl where
   by_case : (z : Bool) → eqb t i ≡ z → slice_index_or (slice_set xs t v) i d ≡ cond z v (slice_index_or xs i d)
   by_case true e = ap (λ (k : ℕ). slice_index_or (slice_set xs t v) k d) (sym (eqb-true t i e)) ∙ get_or-set_same xs t v d less
@@ -42,7 +44,8 @@ cond_ap : {A B : Type 0} (f : A → B) (z : Bool) (a b : A) → cond z (f a) (f 
 cond_ap f true a b = refl
 cond_ap f false a b = refl
 
-pub past_next : (cs : List ℕ) (gs : List Bool) (changes : List Change) (classes : List ℕ) (given : List Bool) (c : Change) → length gs ≡ length cs → c.thing < length cs →
+pub past_next : (cs : List ℕ) (gs : List Bool) (changes : List Change) (classes : List ℕ) (given : List Bool) (c : Change) → length gs ≡ length cs →
+    c.thing < length cs →
     ArePast cs gs changes classes given →
     ArePast cs gs (changes ++ c ∷ []) (slice_set classes c.thing (class_past (length cs) cs c.source)) (slice_set given c.thing (bit_past gs c.source))
 past_next cs gs changes classes given c long less p = record {
@@ -64,7 +67,8 @@ beyond n s [] i h far = refl
 beyond n s (c ∷ cs) i (a, b, h) far =
     beyond n (cond (nat_eq c.thing i) c.source s) cs i h far ∙ ap (λ (z : Bool). cond z c.source s) (ne_eqb c.thing i (λ e. absurd (omega arith)))
 
-pub past_all : (e : BlockEntry) (changes : List Change) (classes : List ℕ) (given : List Bool) → length e.given ≡ length e.classes → AreWithin (length e.classes) changes →
+pub past_all : (e : BlockEntry) (changes : List Change) (classes : List ℕ) (given : List Bool) → length e.given ≡ length e.classes →
+    AreWithin (length e.classes) changes →
     ArePast e.classes e.given changes classes given → IsPast (record { entry = e; changes = changes }) classes given
 past_all e changes classes given long within p = record {
   long = p.long;
@@ -72,7 +76,8 @@ past_all e changes classes given long within p = record {
   class = class;
   bit = λ i. bit i (nat_lt i (length e.given)) refl;
 } where
-  class_by : (i : ℕ) (z : Bool) → nat_lt i (length e.classes) ≡ z → slice_index classes i ≡ class_past (length e.classes) e.classes (source_from (Was i) changes i)
+  class_by : (i : ℕ) (z : Bool) → nat_lt i (length e.classes) ≡ z →
+      slice_index classes i ≡ class_past (length e.classes) e.classes (source_from (Was i) changes i)
   class_by i true h = p.class i (ltb-true i (length e.classes) h)
   class_by i false h =
       let far = ltb-false i (length e.classes) h in

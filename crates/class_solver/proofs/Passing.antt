@@ -83,7 +83,8 @@ one_past n m cs xs t Nameless (Was j) few fa fb one e = one 0 (suc j) e
 one_past n m cs xs t Nameless (New l q) few fa fb one e = absurd (omega (arith, e))
 one_past n m cs xs t Nameless Nameless few fa fb one e = refl
 
-pub given_past : (m : ℕ) (gs : List Bool) (xs : List Tracked) (t : Tokens) (a : Source) → ((i : ℕ) → slice_index_or gs i false ≡ true → IsSome (token_at xs (suc i) t)) →
+pub given_past : (m : ℕ) (gs : List Bool) (xs : List Tracked) (t : Tokens) (a : Source) → ((i : ℕ) → slice_index_or gs i false ≡ true →
+    IsSome (token_at xs (suc i) t)) →
     bit_past gs a ≡ true → IsSome (told xs m t a)
 given_past m gs xs t (Was j) h e = h j e
 given_past m gs xs t (New k r) h e = refl
@@ -104,9 +105,15 @@ pub record Missing (g : Program) (b : ℕ) (f : ℕ → Tokens → Option Token)
   pub none : f steps tokens ≡ None
 
 pub apart_past : (n m : ℕ) (t : Tokens) (g : Program) (p : ℕ) (cs : List ℕ) (xs : List Tracked) (a b : Source) → PathTo g p m t →
-    ((x y : ℕ) → (class_in cs x ≡ class_in cs y → ⊥) → Apart g p (λ k u. token_at xs x u) (λ k u. token_at xs y u)) → (class_past n cs a ≡ class_past n cs b → ⊥) →
+    ((x y : ℕ) → (class_in cs x ≡ class_in cs y → ⊥) → Apart g p (λ k u. token_at xs x u) (λ k u. token_at xs y u)) →
+    (class_past n cs a ≡ class_past n cs b → ⊥) →
     Apart g p (λ k u. told xs k u a) (λ k u. told xs k u b)
-apart_past n m t g p cs xs (Was i) (Was j) path w d = let r = w (suc i) (suc j) d in record { steps = r.steps; tokens = r.tokens; path = r.path; differ = r.differ }
+apart_past n m t g p cs xs (Was i) (Was j) path w d = let r = w (suc i) (suc j) d in record {
+  steps = r.steps;
+  tokens = r.tokens;
+  path = r.path;
+  differ = r.differ;
+}
 apart_past n m t g p cs xs (Was i) (New k r) path w d =
     record { steps = m; tokens = t; path = path; differ = λ e. not_new m k r _ (old_at g p m t xs (suc i) path) e }
 apart_past n m t g p cs xs (Was i) Nameless path w d = let r = w (suc i) 0 d in record { steps = r.steps; tokens = r.tokens; path = r.path; differ = r.differ }
@@ -150,7 +157,8 @@ finer_past n m cs ds Nameless (Was j) few fa fb one e = one 0 (suc j) e
 finer_past n m cs ds Nameless (New l q) few fa fb one e = absurd (omega (arith, e))
 finer_past n m cs ds Nameless Nameless few fa fb one e = refl
 
-pub less_past : (gs hs : List Bool) (a : Source) → ((i : ℕ) → slice_index_or gs i false ≡ true → slice_index_or hs i false ≡ true) → bit_past gs a ≡ true → bit_past hs a ≡ true
+pub less_past : (gs hs : List Bool) (a : Source) → ((i : ℕ) → slice_index_or gs i false ≡ true → slice_index_or hs i false ≡ true) → bit_past gs a ≡ true →
+    bit_past hs a ≡ true
 less_past gs hs (Was j) h e = h j e
 less_past gs hs (New k r) h e = refl
 less_past gs hs Nameless h e = e

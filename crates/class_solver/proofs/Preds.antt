@@ -1,5 +1,6 @@
 -- Predecessors, noted one after the other.
-use Rattle.std.proofs.Common.{◌≡◌, ℕ, ◌+◌, ◌<◌, List, [], ◌∷◌, ◌++◌, length, Bool, true, false, Some, refl, sym, ap, ◌∙◌, subst, inl, inr, arith, eqb, ltb-true, ltb-false, length-append}
+use Rattle.std.proofs.Common.{◌≡◌, ℕ, ◌+◌, ◌<◌, List, [], ◌∷◌, ◌++◌, length, Bool, true, false, Some, refl, sym, ap, ◌∙◌, subst, inl, inr, arith, eqb}
+use Rattle.std.proofs.Common.{ltb-true, ltb-false, length-append}
 use Rattle.std.specs.Prelude.{◌⊎◌, ◌↔◌, slice_index_or, slice_set, slice_get, nat_lt, Contains}
 use Rattle.std.proofs.lemmas.Bool.{eqb-true, eqb-false}
 use Rattle.std.proofs.lemmas.List.{get_or-set_same, get_or-set_other, get_or_default, get_or_append_left}
@@ -31,7 +32,8 @@ set_noted preds w block xs less is c p = by_case (eqb c w) refl where
   is_at : xs ≡ preds_at preds w
   is_at = is ∙ get_or_default preds w xs [] less
 
-  by_case : (z : Bool) → eqb c w ≡ z → Contains (preds_at (slice_set preds w (xs ++ block ∷ [])) c) p ↔ (Contains (preds_at preds c) p ⊎ ((p ≡ block) × (c ≡ w)))
+  by_case : (z : Bool) → eqb c w ≡ z → Contains (preds_at (slice_set preds w (xs ++ block ∷ [])) c) p ↔ (Contains (preds_at preds c) p ⊎ ((p ≡ block)
+      × (c ≡ w)))
   by_case true e =
       let same = eqb-true c w e in
       let new : preds_at (slice_set preds w (xs ++ block ∷ [])) c ≡ xs ++ block ∷ [] =
@@ -82,26 +84,31 @@ noting_more block ways k old new xs less is n = record {
   older c p (inl h) = inl h
   older c p (inr (e, (j, l, s))) = inr (e, (j, omega arith, s))
 
-  there : (c p : ℕ) → Contains (preds_at new c) p ⊎ ((p ≡ block) × (c ≡ w)) → Contains (preds_at old c) p ⊎ ((p ≡ block) × ((j : ℕ) × (j < k + 1) × (slice_index_or ways j 0 ≡ c)))
+  there : (c p : ℕ) → Contains (preds_at new c) p ⊎ ((p ≡ block) × (c ≡ w)) → Contains (preds_at old c) p ⊎ ((p ≡ block) × ((j : ℕ) × (j < k + 1)
+      × (slice_index_or ways j 0 ≡ c)))
   there c p (inl h) = older c p ((n.noted c p).0 h)
   there c p (inr (e, same)) = inr (e, (k, omega arith, sym same))
 
-  last : (c p : ℕ) → p ≡ block → (j : ℕ) → j < k + 1 → slice_index_or ways j 0 ≡ c → (z : Bool) → nat_lt j k ≡ z → Contains (preds_at new c) p ⊎ ((p ≡ block) × (c ≡ w))
+  last : (c p : ℕ) → p ≡ block → (j : ℕ) → j < k + 1 → slice_index_or ways j 0 ≡ c → (z : Bool) → nat_lt j k ≡ z →
+      Contains (preds_at new c) p ⊎ ((p ≡ block) × (c ≡ w))
   last c p e j l s true h = inl ((n.noted c p).1 (inr (e, (j, ltb-true j k h, s))))
   last c p e j l s false h = let same : k ≡ j = omega (arith, ltb-false j k h) in inr (e, sym s ∙ ap (λ (i : ℕ). slice_index_or ways i 0) (sym same))
 
-  back : (c p : ℕ) → Contains (preds_at old c) p ⊎ ((p ≡ block) × ((j : ℕ) × (j < k + 1) × (slice_index_or ways j 0 ≡ c))) → Contains (preds_at new c) p ⊎ ((p ≡ block) × (c ≡ w))
+  back : (c p : ℕ) → Contains (preds_at old c) p ⊎ ((p ≡ block) × ((j : ℕ) × (j < k + 1) × (slice_index_or ways j 0 ≡ c))) →
+      Contains (preds_at new c) p ⊎ ((p ≡ block) × (c ≡ w))
   back c p (inl h) = inl ((n.noted c p).1 (inl h))
   back c p (inr (e, (j, l, s))) = last c p e j l s (nat_lt j k) refl
 
 pub noting_all : (block : ℕ) (ways : List ℕ) (k : ℕ) (old new : List (List ℕ)) → length ways ≡ k → Noting block ways k old new → (c p : ℕ) →
     Contains (preds_at new c) p ↔ (Contains (preds_at old c) p ⊎ ((p ≡ block) × Contains ways c))
 noting_all block ways k old new all n c p = (λ h. there ((n.noted c p).0 h), λ h. (n.noted c p).1 (back h)) where
-  there : Contains (preds_at old c) p ⊎ ((p ≡ block) × ((j : ℕ) × (j < k) × (slice_index_or ways j 0 ≡ c))) → Contains (preds_at old c) p ⊎ ((p ≡ block) × Contains ways c)
+  there : Contains (preds_at old c) p ⊎ ((p ≡ block) × ((j : ℕ) × (j < k) × (slice_index_or ways j 0 ≡ c))) →
+      Contains (preds_at old c) p ⊎ ((p ≡ block) × Contains ways c)
   there (inl h) = inl h
   there (inr (e, (j, l, s))) = inr (e, (j, omega (arith, all), get_or_default ways j c 0 (omega (arith, all)) ∙ s))
 
-  back : Contains (preds_at old c) p ⊎ ((p ≡ block) × Contains ways c) → Contains (preds_at old c) p ⊎ ((p ≡ block) × ((j : ℕ) × (j < k) × (slice_index_or ways j 0 ≡ c)))
+  back : Contains (preds_at old c) p ⊎ ((p ≡ block) × Contains ways c) → Contains (preds_at old c) p ⊎ ((p ≡ block) × ((j : ℕ) × (j < k)
+      × (slice_index_or ways j 0 ≡ c)))
   back (inl h) = inl h
   back (inr (e, (j, l, s))) = inr (e, (j, omega (arith, all), get_or_default ways j 0 c l ∙ s))
 
@@ -110,20 +117,24 @@ pub record SoFarPreds (flows : List Flow) (k : ℕ) (preds : List (List ℕ)) : 
   pub long : length preds ≡ length flows
   pub each : (c p : ℕ) → Contains (preds_at preds c) p ↔ ((p < k) × ((f : Flow) × (slice_get flows p ≡ Some f) × Contains f.ways c))
 
-pub preds_begin : (flows : List Flow) (preds : List (List ℕ)) → length preds ≡ length flows → ((c q : ℕ) → Contains (preds_at preds c) q → ⊥) → SoFarPreds flows 0 preds
+pub preds_begin : (flows : List Flow) (preds : List (List ℕ)) → length preds ≡ length flows → ((c q : ℕ) → Contains (preds_at preds c) q → ⊥) →
+    SoFarPreds flows 0 preds
 preds_begin flows preds long none = record { long = long; each = λ c p. (λ h. absurd (none c p h), λ h. absurd (omega (arith, h.0))) }
 
 pub preds_more : (flows : List Flow) (k : ℕ) (old new : List (List ℕ)) (f : Flow) → slice_get flows k ≡ Some f → length new ≡ length old →
-    ((c p : ℕ) → Contains (preds_at new c) p ↔ (Contains (preds_at old c) p ⊎ ((p ≡ k) × Contains f.ways c))) → SoFarPreds flows k old → SoFarPreds flows (k + 1) new
+    ((c p : ℕ) → Contains (preds_at new c) p ↔ (Contains (preds_at old c) p ⊎ ((p ≡ k) × Contains f.ways c))) → SoFarPreds flows k old →
+    SoFarPreds flows (k + 1) new
 preds_more flows k old new f at long noted s = record {
   long = long ∙ s.long;
   each = λ c p. (λ h. there c p ((noted c p).0 h), λ h. (noted c p).1 (back c p h));
 } where
-  there : (c p : ℕ) → Contains (preds_at old c) p ⊎ ((p ≡ k) × Contains f.ways c) → (p < k + 1) × ((f : Flow) × (slice_get flows p ≡ Some f) × Contains f.ways c)
+  there : (c p : ℕ) → Contains (preds_at old c) p ⊎ ((p ≡ k) × Contains f.ways c) → (p < k + 1) × ((f : Flow)
+      × (slice_get flows p ≡ Some f) × Contains f.ways c)
   there c p (inl h) = let (less, rest) = (s.each c p).0 h in (omega arith, rest)
   there c p (inr (e, way)) = (omega (arith, e), (f, ap (slice_get flows) e ∙ at, way))
 
-  last : (c p : ℕ) (q : Flow) → p < k + 1 → slice_get flows p ≡ Some q → Contains q.ways c → (z : Bool) → nat_lt p k ≡ z → Contains (preds_at old c) p ⊎ ((p ≡ k) × Contains f.ways c)
+  last : (c p : ℕ) (q : Flow) → p < k + 1 → slice_get flows p ≡ Some q → Contains q.ways c → (z : Bool) → nat_lt p k ≡ z →
+      Contains (preds_at old c) p ⊎ ((p ≡ k) × Contains f.ways c)
   last c p q less here way true h = inl ((s.each c p).1 (ltb-true p k h, (q, here, way)))
   last c p q less here way false h =
       let same : p ≡ k = omega (arith, ltb-false p k h) in

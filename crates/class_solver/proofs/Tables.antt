@@ -1,5 +1,6 @@
 -- A turn of a block keeps the table.
-use Rattle.std.proofs.Common.{◌≡◌, ℕ, zero, suc, ◌+◌, ◌<◌, ◌≤◌, List, [], ◌∷◌, ◌++◌, length, Some, Bool, true, false, cond, not, refl, sym, ap, ◌∙◌, subst, inl, inr, arith, eqb, ltb-true, ltb-false}
+use Rattle.std.proofs.Common.{◌≡◌, ℕ, zero, suc, ◌+◌, ◌<◌, ◌≤◌, List, [], ◌∷◌, ◌++◌, length, Some, Bool, true, false, cond, not, refl, sym, ap, ◌∙◌, subst}
+use Rattle.std.proofs.Common.{inl, inr, arith, eqb, ltb-true, ltb-false}
 use Rattle.std.specs.Prelude.{◌⊎◌, slice_index, slice_index_or, slice_get, slice_set, nat_eq, nat_lt, Contains}
 use Rattle.std.specs.List.{list_all}
 use Rattle.std.proofs.lemmas.Bool.{false≢true, eqb-true, eqb-false, eq-eqb, ne_eqb}
@@ -53,7 +54,8 @@ abbrev pub Falls : (t : Hand → Bool) (flows : List Flow) (old : List BlockEntr
 Falls t flows old b e = (o : BlockEntry) (f : Flow) → slice_get old b ≡ Some o → o.reached ≡ true → slice_get flows b ≡ Some f →
     t (record { entry = e; changes = f.changes }) ≡ true → t (record { entry = o; changes = f.changes }) ≡ true
 
-pub all_fall : (t : Hand → Bool) (start : BlockEntry) (flows : List Flow) (old : List BlockEntry) (b : ℕ) (e : BlockEntry) (c : ℕ) (ps : List ℕ) → b < length old →
+pub all_fall : (t : Hand → Bool) (start : BlockEntry) (flows : List Flow) (old : List BlockEntry) (b : ℕ) (e : BlockEntry) (c : ℕ) (ps : List ℕ) →
+    b < length old →
     e.reached ≡ true → Falls t flows old b e → list_all t (handed start flows (slice_set old b e) c ps) ≡ true → list_all t (handed start flows old c ps) ≡ true
 all_fall t start flows old b e c ps less r falls all = by_case (list_all t (handed start flows old c ps)) refl where
   one : ((c ≡ 0) × (t (record { entry = start; changes = [] }) ≡ false)) ⊎ ((h : Handing flows old ps) × (t (hand_from h) ≡ false)) → ⊥
@@ -63,9 +65,11 @@ all_fall t start flows old b e c ps less r falls all = by_case (list_all t (hand
     by_block true same =
         let is = eqb-true h.block b same in
         let new = hand_passes t start flows (slice_set old b e) c ps h.block e h.flow h.among (here_set old b e h.block less is) h.here r all in
-        false≢true (sym f ∙ falls h.entry h.flow (subst (λ (k : ℕ). slice_get old k ≡ Some h.entry) is h.known) h.reached (subst (λ (k : ℕ). slice_get flows k ≡ Some h.flow) is h.here) new)
+        false≢true (sym f ∙ falls h.entry h.flow (subst (λ (k : ℕ). slice_get old k ≡ Some h.entry) is h.known) h.reached (subst (λ (k : ℕ).
+            slice_get flows k ≡ Some h.flow) is h.here) new)
     by_block false other =
-        false≢true (sym f ∙ hand_passes t start flows (slice_set old b e) c ps h.block h.entry h.flow h.among (there_set old b e h.entry h.block (eqb-false h.block b other) h.known)
+        false≢true (sym f ∙ hand_passes t start flows (slice_set old b e) c ps h.block h.entry h.flow h.among (there_set old b e h.entry h.block
+            (eqb-false h.block b other) h.known)
         h.here h.reached all)
 
   by_case : (z : Bool) → list_all t (handed start flows old c ps) ≡ z → list_all t (handed start flows old c ps) ≡ true
@@ -81,18 +85,21 @@ same_hands flows old b e (p ∷ ps) less none =
     get_set_other old b e p (λ same. none (0, omega arith, same)) in
     (λ z. hand_by (other z) (slice_get flows p) ++ same_hands flows old b e ps less (λ (k, l, is). none (suc k, omega arith, is)) z)
 
-pub same_handed : (start : BlockEntry) (flows : List Flow) (old : List BlockEntry) (b : ℕ) (e : BlockEntry) (c : ℕ) (ps : List ℕ) → b < length old → (Contains ps b → ⊥) →
+pub same_handed : (start : BlockEntry) (flows : List Flow) (old : List BlockEntry) (b : ℕ) (e : BlockEntry) (c : ℕ) (ps : List ℕ) → b < length old →
+    (Contains ps b → ⊥) →
     handed start flows (slice_set old b e) c ps ≡ handed start flows old c ps
 same_handed start flows old b e c ps less none = ap (λ (z : List Hand). first_hand start c ++ z) (same_hands flows old b e ps less none)
 
 -- ---- the join is known
 
-off_past : (n : ℕ) (cs : List ℕ) (gs : List Bool) (s : Source) → ((i : ℕ) → slice_index cs i ≡ 0 → slice_index_or gs i false ≡ false) → class_past n cs s ≡ 0 → bit_past gs s ≡ false
+off_past : (n : ℕ) (cs : List ℕ) (gs : List Bool) (s : Source) → ((i : ℕ) → slice_index cs i ≡ 0 → slice_index_or gs i false ≡ false) →
+    class_past n cs s ≡ 0 → bit_past gs s ≡ false
 off_past n cs gs (Was j) h e = h j e
 off_past n cs gs (New k r) h e = absurd (omega (arith, e))
 off_past n cs gs Nameless h e = refl
 
-hand_off : (h : Hand) (i : ℕ) → ((j : ℕ) → slice_index h.entry.classes j ≡ 0 → slice_index_or h.entry.given j false ≡ false) → agree (suc i) 0 h ≡ true → hand_bit h i ≡ false
+hand_off : (h : Hand) (i : ℕ) → ((j : ℕ) → slice_index h.entry.classes j ≡ 0 → slice_index_or h.entry.given j false ≡ false) → agree (suc i) 0 h ≡ true →
+    hand_bit h i ≡ false
 hand_off h i off e = off_past (length h.entry.classes) h.entry.classes h.entry.given (source_at h.changes (suc i)) off (eqb-true _ _ e)
 
 pub join_known : (n : ℕ) (start : BlockEntry) (flows : List Flow) (entries : List BlockEntry) (b : ℕ) (ps : List ℕ) (e : BlockEntry) → IsKnown n start →
@@ -110,13 +117,16 @@ join_known n start flows entries b ps e known shaped j r = record {
       list_all (λ h. hand_bit h i) (handed start flows entries b ps) ≡ true → ⊥
   off_in i none (inl (first, x)) all =
       let agreed = start_passes (agree (suc i) 0) start flows entries b ps first (sym (j.one (suc i) 0) ∙ eq-eqb _ _ none) in
-      false≢true (sym (hand_off (record { entry = start; changes = [] }) i known.off agreed) ∙ start_passes (λ h. hand_bit h i) start flows entries b ps first all)
+      false≢true (sym (hand_off (record { entry = start; changes = [] }) i known.off agreed)
+      ∙ start_passes (λ h. hand_bit h i) start flows entries b ps first all)
   off_in i none (inr (h, x)) all =
-      let agreed = hand_passes (agree (suc i) 0) start flows entries b ps h.block h.entry h.flow h.among h.known h.here h.reached (sym (j.one (suc i) 0) ∙ eq-eqb _ _ none) in
+      let agreed = hand_passes (agree (suc i) 0) start flows entries b ps h.block h.entry h.flow h.among h.known h.here h.reached (sym (j.one (suc i) 0)
+      ∙ eq-eqb _ _ none) in
       let set = hand_passes (λ q. hand_bit q i) start flows entries b ps h.block h.entry h.flow h.among h.known h.here h.reached all in
       false≢true (sym (hand_off (hand_from h) i (shaped_known n h.entry (shaped h.block h.entry h.known) h.reached).off agreed) ∙ set)
 
-  off_by : (i : ℕ) → i < n → slice_index e.classes i ≡ 0 → (z : Bool) → list_all (λ h. hand_bit h i) (handed start flows entries b ps) ≡ z → slice_index_or e.given i false ≡ false
+  off_by : (i : ℕ) → i < n → slice_index e.classes i ≡ 0 → (z : Bool) → list_all (λ h. hand_bit h i) (handed start flows entries b ps) ≡ z →
+      slice_index_or e.given i false ≡ false
   off_by i less none true all = absurd (off_in i none some all)
   off_by i less none false all = j.bit i less ∙ all
 
@@ -162,14 +172,16 @@ module _ (n : ℕ) (start : BlockEntry) (flows : List Flow) (preds : List (List 
   never_falls : Falls (λ h. false) flows old b e
   never_falls o f at ro is absent = absent
 
-  refined_by : (c : ℕ) (x : BlockEntry) → IsRefined n (handed start flows old c (preds_at preds c)) x → IsRefined n (handed start flows (slice_set old b e) c (preds_at preds c)) x
+  refined_by : (c : ℕ) (x : BlockEntry) → IsRefined n (handed start flows old c (preds_at preds c)) x →
+      IsRefined n (handed start flows (slice_set old b e) c (preds_at preds c)) x
   refined_by c x f = record {
     reached = λ h. some_hands _ (not_all (list_all (λ q. false) (handed start flows (slice_set old b e) c (preds_at preds c))) refl (no_hands _ (f.reached h)));
     one = λ y z all. f.one y z (all_fall (agree y z) start flows old b e c (preds_at preds c) here r (agree_falls y z) all);
     bit = λ i h all. f.bit i h (all_fall (λ q. hand_bit q i) start flows old b e c (preds_at preds c) here r (bit_falls i) all);
   } where
     not_all : (z : Bool) → list_all (λ q. false) (handed start flows (slice_set old b e) c (preds_at preds c)) ≡ z →
-        list_all (λ q. false) (handed start flows old c (preds_at preds c)) ≡ false → list_all (λ q. false) (handed start flows (slice_set old b e) c (preds_at preds c)) ≡ false
+        list_all (λ q. false) (handed start flows old c (preds_at preds c)) ≡ false → list_all (λ q. false)
+        (handed start flows (slice_set old b e) c (preds_at preds c)) ≡ false
     not_all true all before = absurd (false≢true (sym before ∙ all_fall (λ q. false) start flows old b e c (preds_at preds c) here r never_falls all))
     not_all false all before = all
 
@@ -191,7 +203,8 @@ module _ (n : ℕ) (start : BlockEntry) (flows : List Flow) (preds : List (List 
     settled = λ c x at clean. settled c x at (marks c clean) (eqb c b) refl;
     refined = λ c x at rx. refined c x at rx (eqb c b) refl;
   } where
-    by : (P : BlockEntry → Type 0) (c : ℕ) (x : BlockEntry) → slice_get (slice_set old b e) c ≡ Some x → P e → ((o : BlockEntry) → slice_get old c ≡ Some o → P o) → P x
+    by : (P : BlockEntry → Type 0) (c : ℕ) (x : BlockEntry) → slice_get (slice_set old b e) c ≡ Some x → P e → ((o : BlockEntry) →
+        slice_get old c ≡ Some o → P o) → P x
     by P c x at new old_ones = by_case (eqb c b) refl where
       by_case : (z : Bool) → eqb c b ≡ z → P x
       by_case true same = subst P (set_here old b e x c here (eqb-true c b same) at) new
@@ -219,7 +232,8 @@ module _ (n : ℕ) (start : BlockEntry) (flows : List Flow) (preds : List (List 
     refined c x at rx false other = refined_by c x (t.refined c x (set_there old b e x c (eqb-false c b other) at) rx)
 
   -- which is proven
-  pub changed_proven : (g : Program) (xs : List Tracked) → length xs ≡ n → Facts g xs start flows preds → AreProven g xs old → AreProven g xs (slice_set old b e)
+  pub changed_proven : (g : Program) (xs : List Tracked) → length xs ≡ n → Facts g xs start flows preds → AreProven g xs old →
+      AreProven g xs (slice_set old b e)
   changed_proven g xs is facts proven c x at rx = by_case (eqb c b) refl where
     shaped_xs : (c : ℕ) (x : BlockEntry) → slice_get old c ≡ Some x → IsShaped (length xs) x
     shaped_xs c x at = subst (λ (m : ℕ). IsShaped m x) (sym is) (t.shaped c x at)
@@ -229,7 +243,8 @@ module _ (n : ℕ) (start : BlockEntry) (flows : List Flow) (preds : List (List 
         let here_now = eqb-true c b same in
         subst (IsProven g xs c) (set_here old b e x c here here_now at)
         (subst (λ (k : ℕ). IsProven g xs k e) (sym here_now)
-        (join_proven g xs start flows preds facts old shaped_xs b e proven (subst (λ (m : ℕ). IsJoin m (handed start flows old b (preds_at preds b)) e) (sym is) join) r))
+        (join_proven g xs start flows preds facts old shaped_xs b e proven (subst (λ (m : ℕ). IsJoin m (handed start flows old b (preds_at preds b)) e)
+        (sym is) join) r))
     by_case false other = proven c x (set_there old b e x c (eqb-false c b other) at) rx
 
   -- and heavier
@@ -246,8 +261,10 @@ module _ (n : ℕ) (start : BlockEntry) (flows : List Flow) (preds : List (List 
 
 -- ---- a turn
 
-pub changed_turn : (n : ℕ) (start : BlockEntry) (flows : List Flow) (preds : List (List ℕ)) (old new : List BlockEntry) (before after : List Bool) (b : ℕ) (f : Flow) →
-    IsKnown n start → length start.classes ≡ n → AreSoundFlows n flows → ArePredecessors flows preds → IsTable n start flows preds old before → b < length flows → 0 < n →
+pub changed_turn : (n : ℕ) (start : BlockEntry) (flows : List Flow) (preds : List (List ℕ)) (old new : List BlockEntry) (before after : List Bool) (b : ℕ)
+    (f : Flow) →
+    IsKnown n start → length start.classes ≡ n → AreSoundFlows n flows → ArePredecessors flows preds → IsTable n start flows preds old before →
+    b < length flows → 0 < n →
     Visited start flows preds old new b true → slice_get flows b ≡ Some f → length after ≡ length flows →
     ((c : ℕ) → slice_index_or after c true ≡ false → ((c ≡ b) ⊎ (slice_index_or before c true ≡ false)) × (Contains f.ways c → ⊥)) →
     Turned n start flows preds old new before after b true
@@ -256,7 +273,10 @@ changed_turn n start flows preds old new before after b f known is sound are_pre
     let no_way : (c : ℕ) → (Contains f.ways c → ⊥) → Contains (preds_at preds c) b → ⊥ =
     λ c none among. let (f', at', way) = (are_preds.each c b).0 among in none (subst (λ (q : Flow). Contains q.ways c) (same_flow f' f (sym at' ∙ at)) way) in
     subst (λ (q : List BlockEntry). Turned n start flows preds old q before after b true) (sym set) (record {
-      table = changed_table n start flows preds old before known sound are_preds t b e less j r after long (λ c clean. ((marks c clean).0, no_way c (marks c clean).1));
+      table = changed_table n start flows preds old before known sound are_preds t b e less j r after long (λ c clean. (
+        (marks c clean).0,
+        no_way c (marks c clean).1,
+      ));
       proven = changed_proven n start flows preds old before known sound are_preds t b e less j r;
       heavier = λ z. changed_heavier n start flows preds old before known sound are_preds t b e less j r some differ;
       same = λ z. absurd (false≢true (sym z));
@@ -267,7 +287,8 @@ changed_turn n start flows preds old new before after b f known is sound are_pre
       same_flow p q e = cc
 
 pub unchanged_turn : (n : ℕ) (start : BlockEntry) (flows : List Flow) (preds : List (List ℕ)) (old new : List BlockEntry) (before after : List Bool) (b : ℕ) →
-    length start.classes ≡ n → IsTable n start flows preds old before → b < length flows → Visited start flows preds old new b false → after ≡ slice_set before b false →
+    length start.classes ≡ n → IsTable n start flows preds old before → b < length flows → Visited start flows preds old new b false →
+    after ≡ slice_set before b false →
     Turned n start flows preds old new before after b false
 unchanged_turn n start flows preds old new before after b is t less (same, (e, join, how)) set =
     let j = subst (λ (m : ℕ). IsJoin m (handed start flows old b (preds_at preds b)) e) is join in
@@ -290,10 +311,15 @@ unchanged_turn n start flows preds old new before after b is t less (same, (e, j
     })) where
       fewer : (c : ℕ) → slice_index_or before c true ≡ false → (z : Bool) → eqb c b ≡ z → slice_index_or (slice_set before b false) c true ≡ false
       fewer c clean true is_b =
-          ap (λ (k : ℕ). slice_index_or (slice_set before b false) k true) (eqb-true c b is_b) ∙ get_or-set_same before b false true (omega (arith, t.marks, less))
+          ap (λ (k : ℕ). slice_index_or (slice_set before b false) k true) (eqb-true c b is_b) ∙ get_or-set_same before b false true (omega (
+            arith,
+            t.marks,
+            less,
+          ))
       fewer c clean false other = get_or-set_other before b c false true (eqb-false c b other) ∙ clean
 
-      settled_here : IsJoin n (handed start flows old b (preds_at preds b)) e → (e.reached ≡ false) ⊎ (slice_get old b ≡ Some e) → (x : BlockEntry) → slice_get old b ≡ Some x →
+      settled_here : IsJoin n (handed start flows old b (preds_at preds b)) e → (e.reached ≡ false) ⊎ (slice_get old b ≡ Some e) → (x : BlockEntry) →
+          slice_get old b ≡ Some x →
           IsSettled n (handed start flows old b (preds_at preds b)) x
       settled_here j (inl unknown) x at =
           let empty : not (nat_eq (length (handed start flows old b (preds_at preds b))) 0) ≡ false = sym j.reached ∙ unknown in

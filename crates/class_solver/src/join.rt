@@ -30,7 +30,8 @@ pub fn empty_join(alloc: Global, things: usize) -> Result<BlockEntry, AllocError
 pub fn join(alloc: Global, joined: BlockEntry, exit: &Exit) -> Result<BlockEntry, AllocError>
     requires few { length joined.classes < 4294967295 }
     requires long { length exit.now.classes.items ≡ length joined.classes }
-    ensures { IfOk result (λ e. (hands : List Hand) (h : Hand) → IsJoin (length joined.classes) hands joined → IsPast h exit.now.classes.items exit.now.given.items
+    ensures { IfOk result (λ e. (hands : List Hand) (h : Hand) → IsJoin (length joined.classes) hands joined →
+        IsPast h exit.now.classes.items exit.now.given.items
         → IsJoin (length joined.classes) (hands ++ h ∷ []) e) }
 {
     let classes = meet(alloc, joined.classes.as_slice(), exit.classes.as_slice())?;
@@ -45,7 +46,8 @@ pub fn join(alloc: Global, joined: BlockEntry, exit: &Exit) -> Result<BlockEntry
 /// Which bits are set in both.
 fn both(alloc: Global, a: &[bool], b: &[bool]) -> Result<Vec<bool>, AllocError>
     ensures long { IfOk result (λ c. length c.items ≡ min (length a.now) (length b.now)) }
-    ensures set { IfOk result (λ c. (i : ℕ) → slice_index_or c.items i false ≡ (slice_index_or a.now i false && slice_index_or b.now i false)) }
+    ensures set { IfOk result (λ c. (i : ℕ) →
+        slice_index_or c.items i false ≡ (slice_index_or a.now i false && slice_index_or b.now i false)) }
 {
     a.iter().zip(b).map(|(x, y)| *x && *y).collect(alloc)
 }

@@ -37,7 +37,8 @@ fn none(alloc: Global, blocks: usize) -> Result<Vec<Ways>, AllocError>
 /// The predecessors of each block.
 pub fn predecessors(alloc: Global, flows: &[Flow]) -> Result<Vec<Ways>, AllocError>
     requires few { length flows.now < 4294967296 }
-    requires within { (b : ℕ) (f : Flow) → slice_get flows.now b ≡ Some f → (c : ℕ) → Contains f.ways c → c < length flows.now }
+    requires within { (b : ℕ) (f : Flow) → slice_get flows.now b ≡ Some f → (c : ℕ) → Contains f.ways c →
+        c < length flows.now }
     ensures { IfOk result (λ preds. ArePredecessors flows.now preds.items) }
 {
     let mut preds = none(alloc, flows.len())?;
@@ -47,7 +48,8 @@ pub fn predecessors(alloc: Global, flows: &[Flow]) -> Result<Vec<Ways>, AllocErr
     Ok(preds)
 }
 
-/// The blocks, those that are reached in reverse post-order of a walk in depth from the first one: a block comes after its
+/// The blocks, those that are reached in reverse post-order of a walk in depth from the first one: a block comes
+/// after its
 /// predecessors, but for loops.
 pub fn order(alloc: Global, flows: &[Flow]) -> Result<Vec<u32>, AllocError>
     requires few { length flows.now < 4294967296 }

@@ -1,6 +1,7 @@
 //! The entries of all blocks.
 
-ghost use Rattle.std.specs.Prelude.{◌≡◌, ℕ, ◌+◌, ◌*◌, ◌<◌, ◌≤◌, length, slice_get, slice_index_or, IfOk, All, Contains, List, Some, true, false, []};
+ghost use Rattle.std.specs.Prelude.{◌≡◌, ℕ, ◌+◌, ◌*◌, ◌<◌, ◌≤◌, length, slice_get, slice_index_or, IfOk, All};
+ghost use Rattle.std.specs.Prelude.{Contains, List, Some, true, false, []};
 ghost use Rattle.mir_func.specs.Graph.{Program};
 ghost use Rattle.class_entries.specs.declared.tracked.Tracked.{Tracked};
 ghost use Rattle.class_entries.specs.declared.entry.BlockEntry.{BlockEntry};
@@ -41,11 +42,13 @@ fn settle(
     requires known { IsKnown (length start.now.classes) start.now }
     requires sound { AreSoundFlows (length start.now.classes) flows.now }
     requires preds { ArePredecessors flows.now preds.now }
-    requires table { IsTable (length start.now.classes) start.now flows.now preds.now entries.old.items dirty.old.items }
+    requires table { IsTable (length start.now.classes) start.now flows.now preds.now entries.old.items
+        dirty.old.items }
     requires order { All (λ b. b < length flows.now) order.now }
     requires all { (b : ℕ) → b < length flows.now → Contains order.now b }
     ensures { IfOk result (λ sweeps.
-        Settled (length start.now.classes) start.now flows.now preds.now entries.old.items entries.new.items dirty.new.items sweeps) }
+        Settled (length start.now.classes) start.now flows.now preds.now entries.old.items entries.new.items
+        dirty.new.items sweeps) }
 {
     let mut sweeps = 1u64;
     while sweep(alloc, start, flows, preds, order, entries, dirty)? {
@@ -57,7 +60,8 @@ fn settle(
 /// No path is known to lead to any block.
 fn unreached(alloc: Global, blocks: usize) -> Result<Vec<BlockEntry>, AllocError>
     ensures long { IfOk result (λ entries. length entries.items ≡ blocks) }
-    ensures each { IfOk result (λ entries. (b : ℕ) (e : BlockEntry) → slice_get entries.items b ≡ Some e → e ≡ record { reached = false; classes = []; given = [] }) }
+    ensures each { IfOk result (λ entries. (b : ℕ) (e : BlockEntry) → slice_get entries.items b ≡ Some e →
+        e ≡ record { reached = false; classes = []; given = [] }) }
 {
     let mut entries = Vec::with_capacity(alloc, blocks)?;
     for _ in 0..blocks {
@@ -82,7 +86,8 @@ fn all_marked(alloc: Global, blocks: usize) -> Result<Vec<bool>, AllocError>
     Ok(dirty)
 }
 
-/// The entries of all blocks of a program with these flows, over as many tracked things as the start has. At the start of
+/// The entries of all blocks of a program with these flows, over as many tracked things as the start has. At the
+/// start of
 /// each block two things have one class exactly where on every path to it they have one token or both none.
 pub fn solve(alloc: Global, start: &BlockEntry, flows: &[Flow]) -> Result<Solved, AllocError>
     requires few { length start.now.classes < 4294967295 }
@@ -90,7 +95,8 @@ pub fn solve(alloc: Global, start: &BlockEntry, flows: &[Flow]) -> Result<Solved
     requires some { 0 < length start.now.classes }
     requires known { IsKnown (length start.now.classes) start.now }
     requires sound { AreSoundFlows (length start.now.classes) flows.now }
-    ensures exact { IfOk result (λ s. (g : Program) (xs : List Tracked) → length xs ≡ length start.now.classes → AreFlows g xs flows.now → IsStart xs start.now →
+    ensures exact { IfOk result (λ s. (g : Program) (xs : List Tracked) → length xs ≡ length start.now.classes →
+        AreFlows g xs flows.now → IsStart xs start.now →
         (b : ℕ) (e : BlockEntry) → slice_get s.entries b ≡ Some e → IsEntry g xs b e) }
     ensures long { IfOk result (λ s. length s.entries ≡ length flows.now) }
     ensures sweeps { IfOk result (λ s. s.sweeps ≤ 2 * length start.now.classes * length flows.now + 1) }

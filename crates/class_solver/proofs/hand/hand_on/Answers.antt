@@ -21,7 +21,10 @@ class_past-requires-clause-within c =
 
 pub bit_past-requires : goal.bit_past-requires
 bit_past-requires c =
-    record { within = rw (c.as_slice-in-loop-change-2.ensures, c.requires.known.bits) ((inside _ _ _ _ c.requires.within c.loop-change-test.true c.change-item.is).1) }
+    record {
+      within = rw (c.as_slice-in-loop-change-2.ensures, c.requires.known.bits)
+          ((inside _ _ _ _ c.requires.within c.loop-change-test.true c.change-item.is).1);
+    }
 
 pub index_mut-requires : goal.index_mut-requires
 index_mut-requires c =
@@ -29,7 +32,13 @@ index_mut-requires c =
 
 pub index_mut-requires-in-loop-change : goal.index_mut-requires-in-loop-change
 index_mut-requires-in-loop-change c =
-    omega (arith, (inside _ _ _ _ c.requires.within c.loop-change-test.true c.change-item.is).0, c.loop-change.given.ok.0, c.loop-change.invariant.bits, c.requires.known.bits)
+    omega (
+      arith,
+      (inside _ _ _ _ c.requires.within c.loop-change-test.true c.change-item.is).0,
+      c.loop-change.given.ok.0,
+      c.loop-change.invariant.bits,
+      c.requires.known.bits,
+    )
 
 pub loop-change-preserved : goal.loop-change-preserved
 loop-change-preserved c =
@@ -44,4 +53,5 @@ loop-change-preserved c =
 pub returns : goal.returns
 returns c =
     past_all c.args.entry.now c.args.changes.now _ _ c.requires.known.bits c.requires.within
-    (subst (λ (z : List Change). ArePast c.args.entry.now.classes c.args.entry.now.given z c.loop-change.classes.items c.loop-change.given.items) (take_all _ _ (omega arith)) c.loop-change.invariant)
+    (subst (λ (z : List Change). ArePast c.args.entry.now.classes c.args.entry.now.given z c.loop-change.classes.items c.loop-change.given.items)
+    (take_all _ _ (omega arith)) c.loop-change.invariant)

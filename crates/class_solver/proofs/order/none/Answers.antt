@@ -7,7 +7,8 @@ use Rattle.class_solver.proofs.order.none.Goals as goal
 none_in : (q : ℕ) → Contains [] q → ⊥
 none_in q (k, less, is) = absurd (omega arith)
 
-more : (preds : List (List ℕ)) (xs : List ℕ) → xs ≡ [] → ((c q : ℕ) → Contains (preds_at preds c) q → ⊥) → (c q : ℕ) → Contains (preds_at (preds ++ xs ∷ []) c) q → ⊥
+more : (preds : List (List ℕ)) (xs : List ℕ) → xs ≡ [] → ((c q : ℕ) → Contains (preds_at preds c) q → ⊥) → (c q : ℕ) →
+    Contains (preds_at (preds ++ xs ∷ []) c) q → ⊥
 more preds xs empty h c q =
     at_push preds xs [] c (λ z. Contains z q → ⊥) (λ less. h c q) (λ here. subst (λ (z : List ℕ). Contains z q → ⊥) (sym empty) (none_in q)) (λ far. none_in q)
 

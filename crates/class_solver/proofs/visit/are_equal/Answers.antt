@@ -13,8 +13,11 @@ not_not false e = sym e
 
 same : (a b : BlockEntry) (r : Bool) → a.reached ≡ b.reached → a.classes ≡ b.classes → r ≡ pointwise beq a.given b.given → IsTrue r ↔ (a ≡ b)
 same a b r e f g =
-    let bits = pointwise_decides booleans_Decides a.given b.given in
-    (λ h. let given = bits.0 (sym g ∙ h) in (λ z. record { reached = e z; classes = f z; given = given z }), λ h. g ∙ bits.1 (ap (λ (x : BlockEntry). x.given) h))
+    let bits = pointwise_decides booleans_Decides a.given b.given in (
+      λ h. let given = bits.0 (sym g ∙ h) in (λ z. record { reached = e z; classes = f z; given = given z }),
+      λ h. g
+          ∙ bits.1 (ap (λ (x : BlockEntry). x.given) h),
+    )
 
 pub returns : goal.returns
 returns c =

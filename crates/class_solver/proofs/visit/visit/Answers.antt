@@ -7,7 +7,8 @@ use Rattle.class_solver.specs.Hands.{ArePredecessors, preds_at}
 use Rattle.std.proofs.lemmas.List.{get_or_default}
 use Rattle.class_solver.proofs.visit.visit.Goals as goal
 
-inside : (flows : List Flow) (preds : List (List ℕ)) (b : ℕ) (ps : List ℕ) (k d : ℕ) → ArePredecessors flows preds → ps ≡ slice_index_or preds b ps → b < length preds →
+inside : (flows : List Flow) (preds : List (List ℕ)) (b : ℕ) (ps : List ℕ) (k d : ℕ) → ArePredecessors flows preds → ps ≡ slice_index_or preds b ps →
+    b < length preds →
     k < length ps → slice_index_or ps k d < length flows
 inside flows preds b ps k d a is less h =
     let p = slice_index_or ps k d in
