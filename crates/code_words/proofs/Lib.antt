@@ -1,0 +1,11 @@
+pub mod Sites
+pub mod Tables
+pub mod Growing
+pub mod Settled
+pub mod Least
+pub mod Areas
+pub mod Planned
+pub mod Emitting
+pub mod Encodes
+pub mod Bounds
+pub mod Worded

@@ -1,0 +1,35 @@
+use Rattle.std.proofs.Common.{◌≡◌, ap, sym, subst, refl, ◌∙◌}
+use Rattle.mir_func.specs.Function.{FramedFunction}
+use Rattle.mir_func.specs.Sound.{AllItems}
+use Rattle.mir_func.specs.SoundFrame.{IsFramed}
+use Rattle.code_words.specs.Rule.{Layout}
+use Rattle.code_words.specs.steps.Emitted.{HasForm}
+use Rattle.code_words.proofs.Worded.{Sound, worded}
+use Rattle.code_words.proofs.layout.lay_out.Goals as goal
+
+pub returns : goal.returns
+returns c =
+    let of = c.in_ok-plan.ensures in
+    let f : FramedFunction = c.args.framed in
+    let l : Layout = record { framed = f; base = c.args.base; long = of.long } in
+    let same : c.as_slice-blocks.result.now ≡ f.blocks = c.as_slice-blocks.ensures ∙ ap (λ (g : FramedFunction). g.blocks) c.framed.view_is in
+    let sound : Sound l = record {
+      framed = subst IsFramed c.framed.view_is c.framed.invariant;
+      forms = subst (AllItems HasForm) same c.in_ok-words.ensures.forms;
+      few = c.requires.items;
+      aligned = c.requires.aligned;
+      closed = of.settled.closed;
+    } in
+    record {
+      laid = record {
+        layout = l;
+        of = refl;
+        from = refl;
+        settled = of.settled;
+        worded = worded l sound;
+        entries = c.in_ok-entries.ensures l of.plan (sym same);
+        words = c.in_ok-words.ensures.value l of.plan (sym same);
+        framed = refl;
+        base_kept = refl;
+      };
+    }

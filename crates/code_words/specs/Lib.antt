@@ -1,0 +1,7 @@
+pub mod Inverted
+pub mod Rule
+pub mod Long
+pub mod Listed
+pub mod Counts
+pub mod Laid
+pub mod steps
