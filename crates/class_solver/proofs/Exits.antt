@@ -33,8 +33,8 @@ within_at n (c ∷ cs) (suc k) d (a, b, h) less = within_at n cs k d h (omega ar
 pub past_none : (cs : List ℕ) (gs : List Bool) → ArePast cs gs [] cs gs
 past_none cs gs = record { long = refl; bits = refl; class = λ i h. refl; bit = λ i h. refl }
 
-set_is : {A : Type 0} (xs : List A) (t : ℕ) (v d : A) (i : ℕ) → t < length xs → slice_index_or (slice_set xs t v) i d ≡ cond (nat_eq t i) v (slice_index_or xs
-    i d)
+set_is : {A : Type 0} (xs : List A) (t : ℕ) (v d : A) (i : ℕ) → t < length xs →
+    slice_index_or (slice_set xs t v) i d ≡ cond (nat_eq t i) v (slice_index_or xs i d)
 set_is xs t v d i less = by_case (eqb t i) refl where
   by_case : (z : Bool) → eqb t i ≡ z → slice_index_or (slice_set xs t v) i d ≡ cond z v (slice_index_or xs i d)
   by_case true e = ap (λ (k : ℕ). slice_index_or (slice_set xs t v) k d) (sym (eqb-true t i e)) ∙ get_or-set_same xs t v d less
@@ -76,8 +76,8 @@ past_all e changes classes given long within p = record {
   class = class;
   bit = λ i. bit i (nat_lt i (length e.given)) refl;
 } where
-  class_by : (i : ℕ) (z : Bool) → nat_lt i (length e.classes) ≡ z → slice_index classes i ≡ class_past (length e.classes) e.classes (source_from (Was i)
-      changes i)
+  class_by : (i : ℕ) (z : Bool) → nat_lt i (length e.classes) ≡ z →
+      slice_index classes i ≡ class_past (length e.classes) e.classes (source_from (Was i) changes i)
   class_by i true h = p.class i (ltb-true i (length e.classes) h)
   class_by i false h =
       let far = ltb-false i (length e.classes) h in

@@ -19,8 +19,8 @@ hands_push flows entries (q ∷ ps) p =
     ap (λ (z : List Hand). hand_of flows entries q ++ z) (hands_push flows entries ps p)
     ∙ sym (append_assoc (hand_of flows entries q) (hands_of flows entries ps) (hand_of flows entries p))
 
-pub joined_more : (n : ℕ) (start : BlockEntry) (flows : List Flow) (entries : List BlockEntry) (b : ℕ) (ps : List ℕ) (k : ℕ) (joined next e : BlockEntry) (f :
-    Flow) →
+pub joined_more : (n : ℕ) (start : BlockEntry) (flows : List Flow) (entries : List BlockEntry) (b : ℕ) (ps : List ℕ) (k : ℕ) (joined next e : BlockEntry)
+    (f : Flow) →
     k < length ps → slice_index_or ps k 0 < length entries → slice_index_or ps k 0 < length flows → e ≡ slice_index_or entries (slice_index_or ps k 0) e →
     f ≡ slice_index_or flows (slice_index_or ps k 0) f → IsJoin n (handed start flows entries b (take k ps)) joined →
     ((hands : List Hand) → IsJoin (length joined.classes) hands joined → IsJoin (length joined.classes) (hands ++ hand_by (Some e) (Some f)) next) →

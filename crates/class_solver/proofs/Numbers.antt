@@ -1,6 +1,6 @@
 -- Numbers by first appearance: the class of a pair is its place among the pairs met.
-use Rattle.std.proofs.Common.{◌≡◌, ℕ, zero, suc, ◌+◌, ◌<◌, ◌≤◌, List, [], ◌∷◌, ◌++◌, length, Bool, true, false, cond, refl, sym, ap, ◌∙◌, subst, inl, inr, eqb}
-use Rattle.std.proofs.Common.{arith, get_or, length-append, ltb-true, ltb-false}
+use Rattle.std.proofs.Common.{◌≡◌, ℕ, zero, suc, ◌+◌, ◌<◌, ◌≤◌, List, [], ◌∷◌, ◌++◌, length, Bool, true, false, cond, refl, sym, ap, ◌∙◌, subst, inl, inr}
+use Rattle.std.proofs.Common.{eqb, arith, get_or, length-append, ltb-true, ltb-false}
 use Rattle.std.specs.Prelude.{◌⊎◌, slice_index, nat_eq, nat_lt, not, ◌&&◌, ◌||◌}
 use Rattle.std.specs.List.{position_or_len, list_any}
 use Rattle.std.proofs.lemmas.List.Folds.{position_or_len_push}
@@ -111,8 +111,8 @@ so_far_next a b i K L c r s is here less =
       bound (inl (h, e)) = omega (arith, e, s.few)
       bound (inr (h, e)) = omega (arith, e, s.few)
 
-      old : (j : ℕ) → j < i → (slice_index (c ++ r ∷ []) j ≡ place (slice_index a j, slice_index b j) (met K k)) × (slice_index (c ++
-          r ∷ []) j < length (met K k))
+      old : (j : ℕ) → j < i → (slice_index (c ++ r ∷ []) j ≡ place (slice_index a j, slice_index b j) (met K k))
+          × (slice_index (c ++ r ∷ []) j < length (met K k))
       old j h =
           let (at, within) = s.at j h in
           let same = get_or_append_left c (r ∷ []) 0 j (omega (arith, s.long)) in

@@ -105,15 +105,14 @@ pub record Missing (g : Program) (b : ℕ) (f : ℕ → Tokens → Option Token)
   pub none : f steps tokens ≡ None
 
 pub apart_past : (n m : ℕ) (t : Tokens) (g : Program) (p : ℕ) (cs : List ℕ) (xs : List Tracked) (a b : Source) → PathTo g p m t →
-    ((x y : ℕ) → (class_in cs x ≡ class_in cs y → ⊥) → Apart g p (λ k u. token_at xs x u) (λ k u. token_at xs y u)) → (class_past n cs a ≡ class_past n cs b →
-    ⊥) →
+    ((x y : ℕ) → (class_in cs x ≡ class_in cs y → ⊥) → Apart g p (λ k u. token_at xs x u) (λ k u. token_at xs y u)) →
+    (class_past n cs a ≡ class_past n cs b → ⊥) →
     Apart g p (λ k u. told xs k u a) (λ k u. told xs k u b)
 apart_past n m t g p cs xs (Was i) (Was j) path w d = let r = w (suc i) (suc j) d in record {
   steps = r.steps;
   tokens = r.tokens;
   path = r.path;
-  differ =
-      r.differ;
+  differ = r.differ;
 }
 apart_past n m t g p cs xs (Was i) (New k r) path w d =
     record { steps = m; tokens = t; path = path; differ = λ e. not_new m k r _ (old_at g p m t xs (suc i) path) e }

@@ -1,6 +1,6 @@
 -- Predecessors, noted one after the other.
-use Rattle.std.proofs.Common.{◌≡◌, ℕ, ◌+◌, ◌<◌, List, [], ◌∷◌, ◌++◌, length, Bool, true, false, Some, refl, sym, ap, ◌∙◌, subst, inl, inr, arith, eqb, ltb-true}
-use Rattle.std.proofs.Common.{ltb-false, length-append}
+use Rattle.std.proofs.Common.{◌≡◌, ℕ, ◌+◌, ◌<◌, List, [], ◌∷◌, ◌++◌, length, Bool, true, false, Some, refl, sym, ap, ◌∙◌, subst, inl, inr, arith, eqb}
+use Rattle.std.proofs.Common.{ltb-true, ltb-false, length-append}
 use Rattle.std.specs.Prelude.{◌⊎◌, ◌↔◌, slice_index_or, slice_set, slice_get, nat_lt, Contains}
 use Rattle.std.proofs.lemmas.Bool.{eqb-true, eqb-false}
 use Rattle.std.proofs.lemmas.List.{get_or-set_same, get_or-set_other, get_or_default, get_or_append_left}
@@ -32,8 +32,8 @@ set_noted preds w block xs less is c p = by_case (eqb c w) refl where
   is_at : xs ≡ preds_at preds w
   is_at = is ∙ get_or_default preds w xs [] less
 
-  by_case : (z : Bool) → eqb c w ≡ z → Contains (preds_at (slice_set preds w (xs ++ block ∷ [])) c) p ↔ (Contains (preds_at preds c) p ⊎ ((p ≡ block) ×
-      (c ≡ w)))
+  by_case : (z : Bool) → eqb c w ≡ z → Contains (preds_at (slice_set preds w (xs ++ block ∷ [])) c) p ↔ (Contains (preds_at preds c) p ⊎ ((p ≡ block)
+      × (c ≡ w)))
   by_case true e =
       let same = eqb-true c w e in
       let new : preds_at (slice_set preds w (xs ++ block ∷ [])) c ≡ xs ++ block ∷ [] =
@@ -84,8 +84,8 @@ noting_more block ways k old new xs less is n = record {
   older c p (inl h) = inl h
   older c p (inr (e, (j, l, s))) = inr (e, (j, omega arith, s))
 
-  there : (c p : ℕ) → Contains (preds_at new c) p ⊎ ((p ≡ block) × (c ≡ w)) → Contains (preds_at old c) p ⊎ ((p ≡ block) × ((j : ℕ) × (j < k + 1) ×
-      (slice_index_or ways j 0 ≡ c)))
+  there : (c p : ℕ) → Contains (preds_at new c) p ⊎ ((p ≡ block) × (c ≡ w)) → Contains (preds_at old c) p ⊎ ((p ≡ block) × ((j : ℕ) × (j < k + 1)
+      × (slice_index_or ways j 0 ≡ c)))
   there c p (inl h) = older c p ((n.noted c p).0 h)
   there c p (inr (e, same)) = inr (e, (k, omega arith, sym same))
 
@@ -107,8 +107,8 @@ noting_all block ways k old new all n c p = (λ h. there ((n.noted c p).0 h), λ
   there (inl h) = inl h
   there (inr (e, (j, l, s))) = inr (e, (j, omega (arith, all), get_or_default ways j c 0 (omega (arith, all)) ∙ s))
 
-  back : Contains (preds_at old c) p ⊎ ((p ≡ block) × Contains ways c) → Contains (preds_at old c) p ⊎ ((p ≡ block) × ((j : ℕ) × (j < k) ×
-      (slice_index_or ways j 0 ≡ c)))
+  back : Contains (preds_at old c) p ⊎ ((p ≡ block) × Contains ways c) → Contains (preds_at old c) p ⊎ ((p ≡ block) × ((j : ℕ) × (j < k)
+      × (slice_index_or ways j 0 ≡ c)))
   back (inl h) = inl h
   back (inr (e, (j, l, s))) = inr (e, (j, omega (arith, all), get_or_default ways j 0 c l ∙ s))
 
@@ -128,8 +128,8 @@ preds_more flows k old new f at long noted s = record {
   long = long ∙ s.long;
   each = λ c p. (λ h. there c p ((noted c p).0 h), λ h. (noted c p).1 (back c p h));
 } where
-  there : (c p : ℕ) → Contains (preds_at old c) p ⊎ ((p ≡ k) × Contains f.ways c) → (p < k + 1) × ((f : Flow) × (slice_get flows p ≡ Some f) ×
-      Contains f.ways c)
+  there : (c p : ℕ) → Contains (preds_at old c) p ⊎ ((p ≡ k) × Contains f.ways c) → (p < k + 1) × ((f : Flow)
+      × (slice_get flows p ≡ Some f) × Contains f.ways c)
   there c p (inl h) = let (less, rest) = (s.each c p).0 h in (omega arith, rest)
   there c p (inr (e, way)) = (omega (arith, e), (f, ap (slice_get flows) e ∙ at, way))
 

@@ -1,6 +1,6 @@
 -- What a visit tells apart a path tells apart, and in the end what is never split is one on every path.
-use Rattle.std.proofs.Common.{◌≡◌, ℕ, zero, suc, ◌<◌, ◌≤◌, List, [], ◌∷◌, length, Option, Some, None, Bool, true, false, cond, not, refl, sym, ap, ◌∙◌, subst}
-use Rattle.std.proofs.Common.{inl, inr, arith, ltb-true, ltb-false}
+use Rattle.std.proofs.Common.{◌≡◌, ℕ, zero, suc, ◌<◌, ◌≤◌, List, [], ◌∷◌, length, Option, Some, None, Bool, true, false, cond, not, refl, sym, ap, ◌∙◌}
+use Rattle.std.proofs.Common.{subst, inl, inr, arith, ltb-true, ltb-false}
 use Rattle.std.specs.Prelude.{◌⊎◌, slice_index, slice_index_or, slice_get, nat_eq, nat_lt, IsSome, is_some, Contains, ◌&&◌}
 use Rattle.std.specs.List.{list_all}
 use Rattle.std.proofs.lemmas.Bool.{eqb-true, eqb-false, eq-eqb, false≢true, and_parts, ne_eqb}
@@ -63,8 +63,7 @@ failing t flows entries (p ∷ ps) e =
           record { block = p; entry = x; flow = f; among = contains_here p ps; known = a; here = b; reached = r },
           fails (t (record {
             entry = x;
-            changes =
-                f.changes;
+            changes = f.changes;
           })) q,
         ) where
           fails : (z : Bool) → (z && true) ≡ false → z ≡ false
@@ -84,8 +83,7 @@ failing t flows entries (p ∷ ps) e =
               among = contains_later h.block p ps h.among;
               known = h.known;
               here = h.here;
-              reached =
-                  h.reached;
+              reached = h.reached;
             },
             f,
           )
@@ -121,8 +119,8 @@ pub start_passes : (t : Hand → Bool) (start : BlockEntry) (flows : List Flow) 
 start_passes t start flows entries zero ps z all = (and_parts _ _ all).0
 start_passes t start flows entries (suc b) ps z all = absurd (omega arith)
 
-pub hand_passes : (t : Hand → Bool) (start : BlockEntry) (flows : List Flow) (entries : List BlockEntry) (b : ℕ) (ps : List ℕ) (q : ℕ) (x : BlockEntry) (f :
-    Flow) →
+pub hand_passes : (t : Hand → Bool) (start : BlockEntry) (flows : List Flow) (entries : List BlockEntry) (b : ℕ) (ps : List ℕ) (q : ℕ) (x : BlockEntry)
+    (f : Flow) →
     Contains ps q → slice_get entries q ≡ Some x → slice_get flows q ≡ Some f → x.reached ≡ true →
     list_all t (handed start flows entries b ps) ≡ true → t (record { entry = x; changes = f.changes }) ≡ true
 hand_passes t start flows entries zero ps q x f is a c r all = passing t flows entries ps q x f is a c r ((and_parts _ _ all).1)
@@ -198,16 +196,16 @@ module _ (g : Program) (xs : List Tracked) (start : BlockEntry) (flows : List Fl
   within h = (facts.are_sound h.block h.flow h.here).0
 
   by_apart : (b : ℕ) (x y : ℕ) → AreProven g xs entries →
-      ((b ≡ 0) × (agree x y (record { entry = start; changes = [] }) ≡ false)) ⊎ ((h : Handing flows entries (preds_at preds b)) ×
-      (agree x y (hand_from h) ≡ false)) →
+      ((b ≡ 0) × (agree x y (record { entry = start; changes = [] }) ≡ false)) ⊎ ((h : Handing flows entries (preds_at preds b))
+      × (agree x y (hand_from h) ≡ false)) →
       Differ g xs b x y
   by_apart b x y proven (inl (first, e)) =
       subst (λ (z : ℕ). Differ g xs z x y) (sym first) (
         0,
         entry_tokens,
         begin,
-        λ same. absurd (eqb-false (class_in start.classes x) (class_in start.classes y) (sym (start_agrees start x y) ∙
-            e) ((facts.is_start.one x y).1 same)),
+        λ same. absurd (eqb-false (class_in start.classes x) (class_in start.classes y) (sym (start_agrees start x y) ∙ e)
+            ((facts.is_start.one x y).1 same)),
       )
   by_apart b x y proven (inr (h, e)) =
       let p = proven h.block h.entry h.known h.reached in
@@ -218,8 +216,8 @@ module _ (g : Program) (xs : List Tracked) (start : BlockEntry) (flows : List Fl
       (eqb-false _ _ e))
 
   by_missing : (b i : ℕ) → AreProven g xs entries →
-      ((b ≡ 0) × (hand_bit (record { entry = start; changes = [] }) i ≡ false)) ⊎ ((h : Handing flows entries (preds_at preds b)) ×
-      (hand_bit (hand_from h) i ≡ false)) →
+      ((b ≡ 0) × (hand_bit (record { entry = start; changes = [] }) i ≡ false)) ⊎ ((h : Handing flows entries (preds_at preds b))
+      × (hand_bit (hand_from h) i ≡ false)) →
       Lacks g xs b (suc i)
   by_missing b i proven (inl (first, e)) =
       subst (λ (z : ℕ). Lacks g xs z (suc i)) (sym first)
@@ -232,8 +230,12 @@ module _ (g : Program) (xs : List Tracked) (start : BlockEntry) (flows : List Fl
       (λ j off. lacking p n t path j (nat_lt j (length xs)) refl off) e) where
         lacking : (p : IsProven g xs h.block h.entry) (n : ℕ) (t : Tokens) → PathTo g h.block n t → (j : ℕ) (z : Bool) → nat_lt j (length xs) ≡ z →
             slice_index_or h.entry.given j false ≡ false → Missing g h.block (λ k u. token_at xs (suc j) u)
-        lacking p n t path j true less off = let (m, w, q, none) = p.off j (ltb-true j (length xs) less) off in
-            record { steps = m; tokens = w; path = q; none = none }
+        lacking p n t path j true less off = let (m, w, q, none) = p.off j (ltb-true j (length xs) less) off in record {
+          steps = m;
+          tokens = w;
+          path = q;
+          none = none;
+        }
         lacking p n t path j false less off = record { steps = n; tokens = t; path = path; none = beyond_none xs j t (ltb-false j (length xs) less) }
 
   by_reached : (b : ℕ) → AreProven g xs entries → ((b ≡ 0) × (false ≡ false)) ⊎ ((h : Handing flows entries (preds_at preds b)) × (false ≡ false)) →
@@ -293,8 +295,8 @@ module _ (g : Program) (xs : List Tracked) (start : BlockEntry) (flows : List Fl
       record {
         known_here = s.reached (some_hands _ (nonempty (list_all (λ q. false) (handed start flows entries b (preds_at preds b))) refl among h.known_here));
         one = λ y z same.
-            let agreed = hand_passes (agree y z) start flows entries b (preds_at preds b) c.block x c.flow among at c.here h.known_here (s.one y z (eq-eqb _ _
-            same)) in
+            let agreed = hand_passes (agree y z) start flows entries b (preds_at preds b) c.block x c.flow among at c.here h.known_here (s.one y z
+                (eq-eqb _ _ same)) in
             c.told y
             ∙ one_past (length x.classes) c.steps x.classes xs c.tokens (source_at c.flow.changes y) (source_at c.flow.changes z)
             (λ i. subst (λ (n : ℕ). slice_index x.classes i ≤ n) (sym k.classes) (k.few i)) (source_fit (length xs) c.flow.changes y w)
@@ -318,11 +320,13 @@ module _ (g : Program) (xs : List Tracked) (start : BlockEntry) (flows : List Fl
     found None e = absurd (some_here entries b e (omega (arith, long, slice_get_within flows b f at)))
 
   step : (b m : ℕ) (e : BlockEntry) (t : Tokens) → length entries ≡ length flows → IsSettled (length xs) (handed start flows entries b (preds_at preds b)) e →
-      ((p k : ℕ) (u : Tokens) (x : BlockEntry) → PathTo g p k u → k < m → slice_get entries p ≡ Some x → Tells x u) → Begins xs b t ⊎ Comes g xs flows b m t →
-      Tells e t
+      ((p k : ℕ) (u : Tokens) (x : BlockEntry) → PathTo g p k u → k < m → slice_get entries p ≡ Some x → Tells x u) →
+      Begins xs b t ⊎ Comes g xs flows b m t → Tells e t
   step b m e t long s before (inl begins) = at_start b e t s begins
-  step b m e t long s before (inr c) = let (x, at) = there long c.block c.flow c.here in at_way b m e t s c x at (before c.block c.steps c.tokens x c.path
-      c.fewer at)
+  step b m e t long s before (inr c) = let (
+    x,
+    at,
+  ) = there long c.block c.flow c.here in at_way b m e t s c x at (before c.block c.steps c.tokens x c.path c.fewer at)
 
   tells_within : AllSettled → length entries ≡ length flows → (fuel b n : ℕ) (t : Tokens) (e : BlockEntry) → PathTo g b n t → n < fuel →
       slice_get entries b ≡ Some e →

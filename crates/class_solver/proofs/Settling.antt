@@ -15,8 +15,8 @@ use Rattle.class_solver.proofs.Weights.{light, light_table}
 use Rattle.class_solver.proofs.Proven.{exact}
 
 -- so many sweeps were begun
-pub record Settling (n : ℕ) (start : BlockEntry) (flows : List Flow) (preds : List (List ℕ)) (old new : List BlockEntry) (dirty : List Bool) (sweeps : ℕ) :
-    Type 0 where
+pub record Settling (n : ℕ) (start : BlockEntry) (flows : List Flow) (preds : List (List ℕ)) (old new : List BlockEntry) (dirty : List Bool)
+    (sweeps : ℕ) : Type 0 where
   pub table : IsTable n start flows preds new dirty
   pub proven : (g : Program) (xs : List Tracked) → length xs ≡ n → Facts g xs start flows preds → AreProven g xs old → AreProven g xs new
   pub few : sweeps ≤ weight_of new + 1
@@ -35,8 +35,8 @@ settling_goes_on n start flows preds old now new dirty after sweeps more changed
   few = omega (arith, le, s.few, w.heavier e);
 }
 
-pub settling_ends : (n : ℕ) (start : BlockEntry) (flows : List Flow) (preds : List (List ℕ)) (old now new : List BlockEntry) (dirty after : List Bool) (sweeps
-    : ℕ) (changed : Bool) →
+pub settling_ends : (n : ℕ) (start : BlockEntry) (flows : List Flow) (preds : List (List ℕ)) (old now new : List BlockEntry) (dirty after : List Bool)
+    (sweeps : ℕ) (changed : Bool) →
     changed ≡ false → Settling n start flows preds old now dirty sweeps → Swept n start flows preds now new after changed →
     Settled n start flows preds old new after sweeps
 settling_ends n start flows preds old now new dirty after sweeps changed e s w = record {
@@ -62,8 +62,11 @@ unknown : BlockEntry
 unknown = record { reached = false; classes = []; given = [] }
 
 pub first_table : (n : ℕ) (start : BlockEntry) (flows : List Flow) (preds : List (List ℕ)) (entries : List BlockEntry) (dirty : List Bool) →
-    length entries ≡ length flows → length dirty ≡ length flows → ((b : ℕ) (e : BlockEntry) → slice_get entries b ≡ Some e →
-    e ≡ record { reached = false; classes = []; given = [] }) →
+    length entries ≡ length flows → length dirty ≡ length flows → ((b : ℕ) (e : BlockEntry) → slice_get entries b ≡ Some e → e ≡ record {
+      reached = false;
+      classes = [];
+      given = [];
+    }) →
     ((b : ℕ) → slice_index_or dirty b true ≡ true) → IsTable n start flows preds entries dirty
 first_table n start flows preds entries dirty long marks each all = record {
   long = long;
@@ -71,8 +74,7 @@ first_table n start flows preds entries dirty long marks each all = record {
   shaped = λ b e at. let is = each b e at in inr (
     ap (λ (z : BlockEntry). z.reached) is,
     ap (λ (z : BlockEntry). z.classes) is,
-    ap (λ (z : BlockEntry).
-        z.given) is,
+    ap (λ (z : BlockEntry). z.given) is,
   );
   numbered = λ b e at r. absurd (never b e at r);
   settled = λ b e at clean. absurd (false≢true (sym clean ∙ all b));
@@ -87,8 +89,11 @@ first_proven g xs entries each b e at r = absurd (false≢true (sym (ap (λ (z :
 
 -- in the end all is exact
 pub settled_is_exact : (n : ℕ) (start : BlockEntry) (flows : List Flow) (preds : List (List ℕ)) (old new : List BlockEntry) (after : List Bool) (sweeps : ℕ) →
-    AreSoundFlows n flows → ArePredecessors flows preds → ((b : ℕ) (e : BlockEntry) → slice_get old b ≡ Some e →
-    e ≡ record { reached = false; classes = []; given = [] }) →
+    AreSoundFlows n flows → ArePredecessors flows preds → ((b : ℕ) (e : BlockEntry) → slice_get old b ≡ Some e → e ≡ record {
+      reached = false;
+      classes = [];
+      given = [];
+    }) →
     Settled n start flows preds old new after sweeps → (g : Program) (xs : List Tracked) → length xs ≡ n → AreFlows g xs flows → IsStart xs start →
     (b : ℕ) (e : BlockEntry) → slice_get new b ≡ Some e → IsEntry g xs b e
 settled_is_exact n start flows preds old new after sweeps sound are_preds each s g xs is are_flows is_start b e at =

@@ -34,8 +34,8 @@ marked_more ways k old new less m = record {
       let apart = eqb-false c (slice_index_or ways k 0) other in
       let (clean, none) = m.marked c (sym (get_or-set_other new (slice_index_or ways k 0) c true true apart) ∙ e) in
       (clean, λ j far is. in_turn c j far is none apart (nat_lt j k) refl) where
-        in_turn : (c j : ℕ) → j < k + 1 → slice_index_or ways j 0 ≡ c → ((j : ℕ) → j < k → slice_index_or ways j 0 ≡ c → ⊥) → (c ≡ slice_index_or ways k 0 →
-            ⊥) →
+        in_turn : (c j : ℕ) → j < k + 1 → slice_index_or ways j 0 ≡ c → ((j : ℕ) → j < k → slice_index_or ways j 0 ≡ c → ⊥) →
+            (c ≡ slice_index_or ways k 0 → ⊥) →
             (z : Bool) → nat_lt j k ≡ z → ⊥
         in_turn c j far is none apart true h = none j (ltb-true j k h) is
         in_turn c j far is none apart false h =
@@ -48,8 +48,8 @@ marked_all ways k old new far m c e =
     (clean, λ (j, less, is). none j (omega arith) (get_or_default ways j 0 c less ∙ is))
 
 -- ---- so many blocks have had their turn
-pub record Sweeping (n : ℕ) (start : BlockEntry) (flows : List Flow) (preds : List (List ℕ)) (old new : List BlockEntry) (dirty : List Bool) (order : List ℕ)
-    (k : ℕ)
+pub record Sweeping (n : ℕ) (start : BlockEntry) (flows : List Flow) (preds : List (List ℕ)) (old new : List BlockEntry) (dirty : List Bool)
+    (order : List ℕ) (k : ℕ)
     (changed : Bool) : Type 0 where
   pub table : IsTable n start flows preds new dirty
   pub proven : (g : Program) (xs : List Tracked) → length xs ≡ n → Facts g xs start flows preds → AreProven g xs old → AreProven g xs new
@@ -67,8 +67,8 @@ sweep_begins n start flows preds old dirty order t = record {
   clean = λ e j less. absurd (omega arith);
 }
 
-pub sweep_turns : (n : ℕ) (start : BlockEntry) (flows : List Flow) (preds : List (List ℕ)) (old now next : List BlockEntry) (before after : List Bool) (order :
-    List ℕ) (k : ℕ)
+pub sweep_turns : (n : ℕ) (start : BlockEntry) (flows : List Flow) (preds : List (List ℕ)) (old now next : List BlockEntry) (before after : List Bool)
+    (order : List ℕ) (k : ℕ)
     (b : ℕ) (changed turned : Bool) → b ≡ slice_index_or order k 0 →
     Sweeping n start flows preds old now before order k changed → Turned n start flows preds now next before after b turned →
     Sweeping n start flows preds old next after order (k + 1) (cond turned true changed)
@@ -92,8 +92,8 @@ sweep_turns n start flows preds old now next before after order k b changed fals
       let same : k ≡ j = omega (arith, ltb-false j k h) in
       ap (λ (i : ℕ). slice_index_or after (slice_index_or order i 0) true) (sym same) ∙ ap (λ (i : ℕ). slice_index_or after i true) (sym here) ∙ t.unmarked refl
 
-pub sweep_ends : (n : ℕ) (start : BlockEntry) (flows : List Flow) (preds : List (List ℕ)) (old new : List BlockEntry) (dirty : List Bool) (order : List ℕ) (k :
-    ℕ) (changed : Bool) →
+pub sweep_ends : (n : ℕ) (start : BlockEntry) (flows : List Flow) (preds : List (List ℕ)) (old new : List BlockEntry) (dirty : List Bool) (order : List ℕ)
+    (k : ℕ) (changed : Bool) →
     length order ≤ k → ((b : ℕ) → b < length flows → Contains order b) → Sweeping n start flows preds old new dirty order k changed →
     Swept n start flows preds old new dirty changed
 sweep_ends n start flows preds old new dirty order k changed far all s = record {

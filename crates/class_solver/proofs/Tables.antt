@@ -1,6 +1,6 @@
 -- A turn of a block keeps the table.
-use Rattle.std.proofs.Common.{◌≡◌, ℕ, zero, suc, ◌+◌, ◌<◌, ◌≤◌, List, [], ◌∷◌, ◌++◌, length, Some, Bool, true, false, cond, not, refl, sym, ap, ◌∙◌, subst, inl}
-use Rattle.std.proofs.Common.{inr, arith, eqb, ltb-true, ltb-false}
+use Rattle.std.proofs.Common.{◌≡◌, ℕ, zero, suc, ◌+◌, ◌<◌, ◌≤◌, List, [], ◌∷◌, ◌++◌, length, Some, Bool, true, false, cond, not, refl, sym, ap, ◌∙◌, subst}
+use Rattle.std.proofs.Common.{inl, inr, arith, eqb, ltb-true, ltb-false}
 use Rattle.std.specs.Prelude.{◌⊎◌, slice_index, slice_index_or, slice_get, slice_set, nat_eq, nat_lt, Contains}
 use Rattle.std.specs.List.{list_all}
 use Rattle.std.proofs.lemmas.Bool.{false≢true, eqb-true, eqb-false, eq-eqb, ne_eqb}
@@ -65,11 +65,11 @@ all_fall t start flows old b e c ps less r falls all = by_case (list_all t (hand
     by_block true same =
         let is = eqb-true h.block b same in
         let new = hand_passes t start flows (slice_set old b e) c ps h.block e h.flow h.among (here_set old b e h.block less is) h.here r all in
-        false≢true (sym f ∙ falls h.entry h.flow (subst (λ (k : ℕ). slice_get old k ≡ Some h.entry) is h.known) h.reached (subst (λ (k : ℕ). slice_get flows k
-        ≡ Some h.flow) is h.here) new)
+        false≢true (sym f ∙ falls h.entry h.flow (subst (λ (k : ℕ). slice_get old k ≡ Some h.entry) is h.known) h.reached (subst (λ (k : ℕ).
+            slice_get flows k ≡ Some h.flow) is h.here) new)
     by_block false other =
-        false≢true (sym f ∙ hand_passes t start flows (slice_set old b e) c ps h.block h.entry h.flow h.among (there_set old b e h.entry h.block (eqb-false
-        h.block b other) h.known)
+        false≢true (sym f ∙ hand_passes t start flows (slice_set old b e) c ps h.block h.entry h.flow h.among (there_set old b e h.entry h.block
+            (eqb-false h.block b other) h.known)
         h.here h.reached all)
 
   by_case : (z : Bool) → list_all t (handed start flows old c ps) ≡ z → list_all t (handed start flows old c ps) ≡ true
@@ -92,8 +92,8 @@ same_handed start flows old b e c ps less none = ap (λ (z : List Hand). first_h
 
 -- ---- the join is known
 
-off_past : (n : ℕ) (cs : List ℕ) (gs : List Bool) (s : Source) → ((i : ℕ) → slice_index cs i ≡ 0 → slice_index_or gs i false ≡ false) → class_past n cs s ≡ 0 →
-    bit_past gs s ≡ false
+off_past : (n : ℕ) (cs : List ℕ) (gs : List Bool) (s : Source) → ((i : ℕ) → slice_index cs i ≡ 0 → slice_index_or gs i false ≡ false) →
+    class_past n cs s ≡ 0 → bit_past gs s ≡ false
 off_past n cs gs (Was j) h e = h j e
 off_past n cs gs (New k r) h e = absurd (omega (arith, e))
 off_past n cs gs Nameless h e = refl
@@ -117,11 +117,11 @@ join_known n start flows entries b ps e known shaped j r = record {
       list_all (λ h. hand_bit h i) (handed start flows entries b ps) ≡ true → ⊥
   off_in i none (inl (first, x)) all =
       let agreed = start_passes (agree (suc i) 0) start flows entries b ps first (sym (j.one (suc i) 0) ∙ eq-eqb _ _ none) in
-      false≢true (sym (hand_off (record { entry = start; changes = [] }) i known.off agreed) ∙ start_passes (λ h. hand_bit h i) start flows entries b ps first
-      all)
+      false≢true (sym (hand_off (record { entry = start; changes = [] }) i known.off agreed)
+      ∙ start_passes (λ h. hand_bit h i) start flows entries b ps first all)
   off_in i none (inr (h, x)) all =
-      let agreed = hand_passes (agree (suc i) 0) start flows entries b ps h.block h.entry h.flow h.among h.known h.here h.reached (sym (j.one (suc i) 0) ∙
-      eq-eqb _ _ none) in
+      let agreed = hand_passes (agree (suc i) 0) start flows entries b ps h.block h.entry h.flow h.among h.known h.here h.reached (sym (j.one (suc i) 0)
+      ∙ eq-eqb _ _ none) in
       let set = hand_passes (λ q. hand_bit q i) start flows entries b ps h.block h.entry h.flow h.among h.known h.here h.reached all in
       false≢true (sym (hand_off (hand_from h) i (shaped_known n h.entry (shaped h.block h.entry h.known) h.reached).off agreed) ∙ set)
 
@@ -180,8 +180,8 @@ module _ (n : ℕ) (start : BlockEntry) (flows : List Flow) (preds : List (List 
     bit = λ i h all. f.bit i h (all_fall (λ q. hand_bit q i) start flows old b e c (preds_at preds c) here r (bit_falls i) all);
   } where
     not_all : (z : Bool) → list_all (λ q. false) (handed start flows (slice_set old b e) c (preds_at preds c)) ≡ z →
-        list_all (λ q. false) (handed start flows old c (preds_at preds c)) ≡ false → list_all (λ q. false) (handed start flows (slice_set old b e) c (preds_at
-        preds c)) ≡ false
+        list_all (λ q. false) (handed start flows old c (preds_at preds c)) ≡ false → list_all (λ q. false)
+        (handed start flows (slice_set old b e) c (preds_at preds c)) ≡ false
     not_all true all before = absurd (false≢true (sym before ∙ all_fall (λ q. false) start flows old b e c (preds_at preds c) here r never_falls all))
     not_all false all before = all
 
@@ -203,8 +203,8 @@ module _ (n : ℕ) (start : BlockEntry) (flows : List Flow) (preds : List (List 
     settled = λ c x at clean. settled c x at (marks c clean) (eqb c b) refl;
     refined = λ c x at rx. refined c x at rx (eqb c b) refl;
   } where
-    by : (P : BlockEntry → Type 0) (c : ℕ) (x : BlockEntry) → slice_get (slice_set old b e) c ≡ Some x → P e → ((o : BlockEntry) → slice_get old c ≡ Some o →
-        P o) → P x
+    by : (P : BlockEntry → Type 0) (c : ℕ) (x : BlockEntry) → slice_get (slice_set old b e) c ≡ Some x → P e → ((o : BlockEntry) →
+        slice_get old c ≡ Some o → P o) → P x
     by P c x at new old_ones = by_case (eqb c b) refl where
       by_case : (z : Bool) → eqb c b ≡ z → P x
       by_case true same = subst P (set_here old b e x c here (eqb-true c b same) at) new
@@ -243,8 +243,8 @@ module _ (n : ℕ) (start : BlockEntry) (flows : List Flow) (preds : List (List 
         let here_now = eqb-true c b same in
         subst (IsProven g xs c) (set_here old b e x c here here_now at)
         (subst (λ (k : ℕ). IsProven g xs k e) (sym here_now)
-        (join_proven g xs start flows preds facts old shaped_xs b e proven (subst (λ (m : ℕ). IsJoin m (handed start flows old b (preds_at preds b)) e) (sym
-        is) join) r))
+        (join_proven g xs start flows preds facts old shaped_xs b e proven (subst (λ (m : ℕ). IsJoin m (handed start flows old b (preds_at preds b)) e)
+        (sym is) join) r))
     by_case false other = proven c x (set_there old b e x c (eqb-false c b other) at) rx
 
   -- and heavier
@@ -261,8 +261,8 @@ module _ (n : ℕ) (start : BlockEntry) (flows : List Flow) (preds : List (List 
 
 -- ---- a turn
 
-pub changed_turn : (n : ℕ) (start : BlockEntry) (flows : List Flow) (preds : List (List ℕ)) (old new : List BlockEntry) (before after : List Bool) (b : ℕ) (f :
-    Flow) →
+pub changed_turn : (n : ℕ) (start : BlockEntry) (flows : List Flow) (preds : List (List ℕ)) (old new : List BlockEntry) (before after : List Bool) (b : ℕ)
+    (f : Flow) →
     IsKnown n start → length start.classes ≡ n → AreSoundFlows n flows → ArePredecessors flows preds → IsTable n start flows preds old before →
     b < length flows → 0 < n →
     Visited start flows preds old new b true → slice_get flows b ≡ Some f → length after ≡ length flows →
@@ -275,8 +275,7 @@ changed_turn n start flows preds old new before after b f known is sound are_pre
     subst (λ (q : List BlockEntry). Turned n start flows preds old q before after b true) (sym set) (record {
       table = changed_table n start flows preds old before known sound are_preds t b e less j r after long (λ c clean. (
         (marks c clean).0,
-        no_way c (marks c
-            clean).1,
+        no_way c (marks c clean).1,
       ));
       proven = changed_proven n start flows preds old before known sound are_preds t b e less j r;
       heavier = λ z. changed_heavier n start flows preds old before known sound are_preds t b e less j r some differ;

@@ -1,6 +1,6 @@
 -- A change makes an entry heavier: it has more classes, or fewer bits are set.
-use Rattle.std.proofs.Common.{◌≡◌, ℕ, zero, suc, ◌+◌, ◌-◌, ◌*◌, ◌<◌, ◌≤◌, List, [], ◌∷◌, length, Some, Bool, true, false, cond, refl, sym, ap, ◌∙◌, subst, inl}
-use Rattle.std.proofs.Common.{inr, arith, mul-suc, ltb-true, ltb-false}
+use Rattle.std.proofs.Common.{◌≡◌, ℕ, zero, suc, ◌+◌, ◌-◌, ◌*◌, ◌<◌, ◌≤◌, List, [], ◌∷◌, length, Some, Bool, true, false, cond, refl, sym, ap, ◌∙◌, subst}
+use Rattle.std.proofs.Common.{inl, inr, arith, mul-suc, ltb-true, ltb-false}
 use Rattle.std.specs.Prelude.{◌⊎◌, max, slice_index, slice_index_or, slice_get, slice_set, nat_lt}
 use Rattle.std.proofs.lemmas.Bool.{false≢true}
 use Rattle.class_entries.specs.declared.entry.BlockEntry.{BlockEntry}
@@ -44,8 +44,8 @@ pub record Beside (a b : ℕ → ℕ) (i n k : ℕ) (cs ds : List ℕ) : Type 0 
   pub so_far : (k < n) ⊎ ((k ≡ n) × ((x : ℕ) → x ≤ i → a x ≡ b x))
 
 -- the first of each is passed
-passed_used : (a b : ℕ → ℕ) (i n k : ℕ) (c d : ℕ) (cs ds : List ℕ) → Beside a b i n k (c ∷ cs) (d ∷ ds) → (c ≡ n) → (e : ℕ) → e < suc n →
-    (x : ℕ) × (x ≤ suc i) × (a x ≡ e)
+passed_used : (a b : ℕ → ℕ) (i n k : ℕ) (c d : ℕ) (cs ds : List ℕ) → Beside a b i n k (c ∷ cs) (d ∷ ds) → (c ≡ n) → (e : ℕ) → e < suc n → (x : ℕ)
+    × (x ≤ suc i) × (a x ≡ e)
 passed_used a b i n k c d cs ds s new e less = by_case (nat_lt e n) refl where
   by_case : (z : Bool) → nat_lt e n ≡ z → (x : ℕ) × (x ≤ suc i) × (a x ≡ e)
   by_case true h = let (x, far, is) = s.used e (ltb-true e n h) in (x, omega arith, is)
@@ -67,8 +67,8 @@ up_to i P h last x le = by_case (nat_lt x (suc i)) refl where
   by_case false e = let same : suc i ≡ x = omega (arith, ltb-false x (suc i) e) in subst P same last
 
 -- a class that was there before is one that was there before on the coarser side too
-was_there : (a b : ℕ → ℕ) (i n k c d : ℕ) (cs ds : List ℕ) → Beside a b i n k (c ∷ cs) (d ∷ ds) → c < n → (d < k) × ((k ≡ n) × ((x : ℕ) → x ≤ i → a x ≡ b x) →
-    c ≡ d)
+was_there : (a b : ℕ → ℕ) (i n k c d : ℕ) (cs ds : List ℕ) → Beside a b i n k (c ∷ cs) (d ∷ ds) → c < n → (d < k) × ((k ≡ n) × ((x : ℕ) → x ≤ i →
+    a x ≡ b x) → c ≡ d)
 was_there a b i n k c d cs ds s old =
     let (x, far, is) = s.used c old in
     let here = at_here a i c cs s.at_a in
@@ -206,12 +206,12 @@ heavier n e o m l ke ko re ro pe po f differ = by_case (finer_or_same (class_in 
         zero_only x le = omega arith
 
       we : weight e ≡ (m - 1) + count_off e.given
-      we = ap (λ (z : Bool). cond z (classes_from 1 e.classes + count_off e.given) 0) re ∙ ap (λ (z : ℕ). z + count_off e.given) (numbered_count 1 e.classes m
-          pe)
+      we = ap (λ (z : Bool). cond z (classes_from 1 e.classes + count_off e.given) 0) re ∙ ap (λ (z : ℕ). z + count_off e.given)
+          (numbered_count 1 e.classes m pe)
 
       wo : weight o ≡ (l - 1) + count_off o.given
-      wo = ap (λ (z : Bool). cond z (classes_from 1 o.classes + count_off o.given) 0) ro ∙ ap (λ (z : ℕ). z + count_off o.given) (numbered_count 1 o.classes l
-          po)
+      wo = ap (λ (z : Bool). cond z (classes_from 1 o.classes + count_off o.given) 0) ro ∙ ap (λ (z : ℕ). z + count_off o.given)
+          (numbered_count 1 o.classes l po)
 
       by_case : MoreOrSame (class_in e.classes) (class_in o.classes) 0 1 1 m l e.classes o.classes →
           (count_off o.given < count_off e.given) ⊎ ((count_off o.given ≡ count_off e.given) × (e.given ≡ o.given)) → weight o < weight e
@@ -223,17 +223,17 @@ heavier n e o m l ke ko re ro pe po f differ = by_case (finer_or_same (class_in 
 
 -- a block that a path is known to lead to weighs something
 pub heavy : (n : ℕ) (e : BlockEntry) (m : ℕ) → 0 < n → IsKnown n e → e.reached ≡ true → IsNumbered 1 e.classes m → 0 < weight e
-heavy n e m some k r p = by_lists e.classes e.given (ap (λ (z : Bool). cond z (classes_from 1 e.classes + count_off e.given) 0) r) k.classes k.bits (k.off 0) p
-  where
-    by_lists : (cs : List ℕ) (gs : List Bool) → weight e ≡ classes_from 1 cs + count_off gs → length cs ≡ n → length gs ≡ n →
-        (slice_index cs 0 ≡ 0 → slice_index_or gs 0 false ≡ false) → IsNumbered 1 cs m → 0 < weight e
-    by_lists [] gs w lc lg off p = absurd (omega (arith, lc))
-    by_lists (c ∷ cs) [] w lc lg off p = absurd (omega (arith, lg))
-    by_lists (c ∷ cs) (z ∷ gs) w lc lg off (inl (less, p)) =
-        let not_set = off (omega arith) in
-        omega (arith, w, ap (λ (q : Bool). cond q (count_off gs) (suc (count_off gs))) not_set)
-    by_lists (c ∷ cs) (z ∷ gs) w lc lg off (inr (same, p)) =
-        omega (arith, w, numbered_count 1 (c ∷ cs) m (inr (same, p)), numbered_grows 2 cs m p)
+heavy n e m some k r p = by_lists e.classes e.given (ap (λ (z : Bool). cond z (classes_from 1 e.classes + count_off e.given) 0) r) k.classes k.bits
+    (k.off 0) p where
+  by_lists : (cs : List ℕ) (gs : List Bool) → weight e ≡ classes_from 1 cs + count_off gs → length cs ≡ n → length gs ≡ n →
+      (slice_index cs 0 ≡ 0 → slice_index_or gs 0 false ≡ false) → IsNumbered 1 cs m → 0 < weight e
+  by_lists [] gs w lc lg off p = absurd (omega (arith, lc))
+  by_lists (c ∷ cs) [] w lc lg off p = absurd (omega (arith, lg))
+  by_lists (c ∷ cs) (z ∷ gs) w lc lg off (inl (less, p)) =
+      let not_set = off (omega arith) in
+      omega (arith, w, ap (λ (q : Bool). cond q (count_off gs) (suc (count_off gs))) not_set)
+  by_lists (c ∷ cs) (z ∷ gs) w lc lg off (inr (same, p)) =
+      omega (arith, w, numbered_count 1 (c ∷ cs) m (inr (same, p)), numbered_grows 2 cs m p)
 
 pub light : (n : ℕ) (e : BlockEntry) → IsShaped n e → (e.reached ≡ true → (m : ℕ) × IsNumbered 1 e.classes m) → weight e ≤ 2 * n
 light n e (inl (r, k)) num =

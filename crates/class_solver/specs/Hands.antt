@@ -1,6 +1,6 @@
 -- What the predecessors of a block hand on to it, and what a table of entries knows.
-use Rattle.std.specs.Prelude.{◌≡◌, ◌≢◌, ◌↔◌, ◌⊎◌, ℕ, zero, suc, ◌<◌, List, [], ◌∷◌, ◌++◌, length, slice_get, slice_index_or, slice_set, Bool, true, false, cond}
-use Rattle.std.specs.Prelude.{Option, None, Some, Contains}
+use Rattle.std.specs.Prelude.{◌≡◌, ◌≢◌, ◌↔◌, ◌⊎◌, ℕ, zero, suc, ◌<◌, List, [], ◌∷◌, ◌++◌, length, slice_get, slice_index_or, slice_set, Bool, true, false}
+use Rattle.std.specs.Prelude.{cond, Option, None, Some, Contains}
 use Rattle.class_entries.specs.declared.entry.BlockEntry.{BlockEntry}
 use Rattle.class_solver.specs.declared.flow.Flow.{Flow}
 use Rattle.class_solver.specs.Joining.{Hand, AreWithin, IsKnown, IsJoin}

@@ -101,8 +101,8 @@ abbrev pub AllClean : List Bool → Type 0
 AllClean dirty = (c : ℕ) → c < length dirty → slice_index_or dirty c true ≡ false
 
 -- a sweep over all blocks: where nothing changed, all are settled
-pub record Swept (n : ℕ) (start : BlockEntry) (flows : List Flow) (preds : List (List ℕ)) (old new : List BlockEntry) (after : List Bool) (changed : Bool) :
-    Type 0 where
+pub record Swept (n : ℕ) (start : BlockEntry) (flows : List Flow) (preds : List (List ℕ)) (old new : List BlockEntry) (after : List Bool)
+    (changed : Bool) : Type 0 where
   pub table : IsTable n start flows preds new after
   pub proven : (g : Program) (xs : List Tracked) → length xs ≡ n → Facts g xs start flows preds → AreProven g xs old → AreProven g xs new
   pub heavier : changed ≡ true → weight_of old < weight_of new
@@ -110,8 +110,8 @@ pub record Swept (n : ℕ) (start : BlockEntry) (flows : List Flow) (preds : Lis
   pub clean : changed ≡ false → AllClean after
 
 -- sweeps were made until nothing changed
-pub record Settled (n : ℕ) (start : BlockEntry) (flows : List Flow) (preds : List (List ℕ)) (old new : List BlockEntry) (after : List Bool) (sweeps : ℕ) : Type
-    0 where
+pub record Settled (n : ℕ) (start : BlockEntry) (flows : List Flow) (preds : List (List ℕ)) (old new : List BlockEntry) (after : List Bool)
+    (sweeps : ℕ) : Type 0 where
   pub table : IsTable n start flows preds new after
   pub proven : (g : Program) (xs : List Tracked) → length xs ≡ n → Facts g xs start flows preds → AreProven g xs old → AreProven g xs new
   pub clean : AllClean after

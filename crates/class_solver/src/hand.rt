@@ -22,11 +22,8 @@ pub fn hand_on(alloc: Global, entry: &BlockEntry, changes: &[Change]) -> Result<
     requires few { length entry.now.classes < 4294967295 }
     requires known { IsKnown (length entry.now.classes) entry.now }
     requires within { AreWithin (length entry.now.classes) changes.now }
-    ensures { IfOk result (λ x. IsPast (record {
-      entry = entry.now;
-      changes =
-          changes.now;
-    }) x.classes.items x.given.items) }
+    ensures { IfOk result (λ x.
+        IsPast (record { entry = entry.now; changes = changes.now }) x.classes.items x.given.items) }
 {
     let mut classes = widened(alloc, entry.classes.as_slice())?;
     let mut given = Vec::from_slice(alloc, entry.given.as_slice())?;

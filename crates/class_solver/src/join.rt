@@ -46,8 +46,8 @@ pub fn join(alloc: Global, joined: BlockEntry, exit: &Exit) -> Result<BlockEntry
 /// Which bits are set in both.
 fn both(alloc: Global, a: &[bool], b: &[bool]) -> Result<Vec<bool>, AllocError>
     ensures long { IfOk result (λ c. length c.items ≡ min (length a.now) (length b.now)) }
-    ensures set { IfOk result (λ c. (i : ℕ) → slice_index_or c.items i false ≡ (slice_index_or a.now i false &&
-        slice_index_or b.now i false)) }
+    ensures set { IfOk result (λ c. (i : ℕ) →
+        slice_index_or c.items i false ≡ (slice_index_or a.now i false && slice_index_or b.now i false)) }
 {
     a.iter().zip(b).map(|(x, y)| *x && *y).collect(alloc)
 }

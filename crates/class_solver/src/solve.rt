@@ -1,7 +1,7 @@
 //! The entries of all blocks.
 
-ghost use Rattle.std.specs.Prelude.{◌≡◌, ℕ, ◌+◌, ◌*◌, ◌<◌, ◌≤◌, length, slice_get, slice_index_or, IfOk, All, Contains};
-ghost use Rattle.std.specs.Prelude.{List, Some, true, false, []};
+ghost use Rattle.std.specs.Prelude.{◌≡◌, ℕ, ◌+◌, ◌*◌, ◌<◌, ◌≤◌, length, slice_get, slice_index_or, IfOk, All};
+ghost use Rattle.std.specs.Prelude.{Contains, List, Some, true, false, []};
 ghost use Rattle.mir_func.specs.Graph.{Program};
 ghost use Rattle.class_entries.specs.declared.tracked.Tracked.{Tracked};
 ghost use Rattle.class_entries.specs.declared.entry.BlockEntry.{BlockEntry};
@@ -42,11 +42,13 @@ fn settle(
     requires known { IsKnown (length start.now.classes) start.now }
     requires sound { AreSoundFlows (length start.now.classes) flows.now }
     requires preds { ArePredecessors flows.now preds.now }
-    requires table { IsTable (length start.now.classes) start.now flows.now preds.now entries.old.items dirty.old.items }
+    requires table { IsTable (length start.now.classes) start.now flows.now preds.now entries.old.items
+        dirty.old.items }
     requires order { All (λ b. b < length flows.now) order.now }
     requires all { (b : ℕ) → b < length flows.now → Contains order.now b }
     ensures { IfOk result (λ sweeps.
-        Settled (length start.now.classes) start.now flows.now preds.now entries.old.items entries.new.items dirty.new.items sweeps) }
+        Settled (length start.now.classes) start.now flows.now preds.now entries.old.items entries.new.items
+        dirty.new.items sweeps) }
 {
     let mut sweeps = 1u64;
     while sweep(alloc, start, flows, preds, order, entries, dirty)? {
@@ -84,8 +86,9 @@ fn all_marked(alloc: Global, blocks: usize) -> Result<Vec<bool>, AllocError>
     Ok(dirty)
 }
 
-/// The entries of all blocks of a program with these flows, over as many tracked things as the start has. At the start
-/// of each block two things have one class exactly where on every path to it they have one token or both none.
+/// The entries of all blocks of a program with these flows, over as many tracked things as the start has. At the
+/// start of
+/// each block two things have one class exactly where on every path to it they have one token or both none.
 pub fn solve(alloc: Global, start: &BlockEntry, flows: &[Flow]) -> Result<Solved, AllocError>
     requires few { length start.now.classes < 4294967295 }
     requires few_blocks { length flows.now < 4294967296 }

@@ -1,8 +1,8 @@
 //! Turns and sweeps. In its turn a block is visited if it is marked; where its entry changes, those after it are
 //! marked.
 
-ghost use Rattle.std.specs.Prelude.{◌≡◌, ◌⊎◌, ℕ, ◌<◌, ◌≤◌, length, slice_get, slice_index_or, IfOk, All, cond, true};
-ghost use Rattle.std.specs.Prelude.{false, IsTrue, Contains};
+ghost use Rattle.std.specs.Prelude.{◌≡◌, ◌⊎◌, ℕ, ◌<◌, ◌≤◌, length, slice_get, slice_index_or, IfOk, All, cond};
+ghost use Rattle.std.specs.Prelude.{true, false, IsTrue, Contains};
 ghost use Rattle.mir_func.specs.Graph.{Program};
 ghost use Rattle.class_entries.specs.declared.tracked.Tracked.{Tracked};
 ghost use Rattle.class_solver.specs.Joining.{IsKnown};
@@ -41,10 +41,12 @@ fn turn(
     requires known { IsKnown (length start.now.classes) start.now }
     requires sound { AreSoundFlows (length start.now.classes) flows.now }
     requires preds { ArePredecessors flows.now preds.now }
-    requires table { IsTable (length start.now.classes) start.now flows.now preds.now entries.old.items dirty.old.items }
+    requires table { IsTable (length start.now.classes) start.now flows.now preds.now entries.old.items
+        dirty.old.items }
     requires block { block < length flows.now }
     ensures { IfOk result (λ changed.
-        Turned (length start.now.classes) start.now flows.now preds.now entries.old.items entries.new.items dirty.old.items dirty.new.items block changed) }
+        Turned (length start.now.classes) start.now flows.now preds.now entries.old.items entries.new.items
+        dirty.old.items dirty.new.items block changed) }
 {
     if !dirty[block] {
         return Ok(false);
@@ -79,11 +81,13 @@ pub fn sweep(
     requires known { IsKnown (length start.now.classes) start.now }
     requires sound { AreSoundFlows (length start.now.classes) flows.now }
     requires preds { ArePredecessors flows.now preds.now }
-    requires table { IsTable (length start.now.classes) start.now flows.now preds.now entries.old.items dirty.old.items }
+    requires table { IsTable (length start.now.classes) start.now flows.now preds.now entries.old.items
+        dirty.old.items }
     requires order { All (λ b. b < length flows.now) order.now }
     requires all { (b : ℕ) → b < length flows.now → Contains order.now b }
     ensures { IfOk result (λ changed.
-        Swept (length start.now.classes) start.now flows.now preds.now entries.old.items entries.new.items dirty.new.items changed) }
+        Swept (length start.now.classes) start.now flows.now preds.now entries.old.items entries.new.items
+        dirty.new.items changed) }
 {
     let mut changed = false;
     for b in order {

@@ -1,7 +1,7 @@
 //! A visit of a block: its entry becomes the join of what its predecessors hand on now.
 
-ghost use Rattle.std.specs.Prelude.{◌≡◌, ◌↔◌, ℕ, ◌<◌, List, ◌++◌, Some, length, slice_set, slice_index_or, IfOk, IfErr};
-ghost use Rattle.std.specs.Prelude.{OnErr, All, IsTrue, true, false, [], ◌≤◌};
+ghost use Rattle.std.specs.Prelude.{◌≡◌, ◌↔◌, ℕ, ◌<◌, List, ◌++◌, Some, length, slice_set, slice_index_or, IfOk};
+ghost use Rattle.std.specs.Prelude.{IfErr, OnErr, All, IsTrue, true, false, [], ◌≤◌};
 ghost use Rattle.class_solver.specs.Joining.{IsKnown, AreWithin, IsJoin, Hand};
 ghost use Rattle.class_solver.specs.Hands.{IsShaped, AreSoundFlows, handed, preds_at, first_hand, hand_by};
 ghost use Rattle.class_solver.specs.Hands.{ArePredecessors, Visited};
@@ -63,8 +63,8 @@ fn joined(
     requires shaped { All (IsShaped (length start.now.classes)) entries.now }
     requires long { length entries.now ≡ length flows.now }
     requires within { All (λ p. p < length flows.now) predecessors.now }
-    ensures { IfOk result (λ e. IsJoin (length start.now.classes) (handed start.now flows.now entries.now block
-        predecessors.now) e) }
+    ensures { IfOk result (λ e.
+        IsJoin (length start.now.classes) (handed start.now flows.now entries.now block predecessors.now) e) }
 {
     let mut joined = first_join(alloc, start, block)?;
     for p in predecessors {
@@ -102,8 +102,8 @@ pub fn visit(
     requires shaped { All (IsShaped (length start.now.classes)) entries.old.items }
     requires long { length entries.old.items ≡ length flows.now }
     requires block { block < length flows.now }
-    ensures { IfOk result (λ changed. Visited start.now flows.now preds.now entries.old.items entries.new.items block
-        changed) }
+    ensures { IfOk result (λ changed.
+        Visited start.now flows.now preds.now entries.old.items entries.new.items block changed) }
 {
     let entry = joined(
         alloc,

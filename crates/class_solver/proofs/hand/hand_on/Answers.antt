@@ -22,8 +22,8 @@ class_past-requires-clause-within c =
 pub bit_past-requires : goal.bit_past-requires
 bit_past-requires c =
     record {
-      within = rw (c.as_slice-in-loop-change-2.ensures, c.requires.known.bits) ((inside _ _ _ _ c.requires.within c.loop-change-test.true
-          c.change-item.is).1);
+      within = rw (c.as_slice-in-loop-change-2.ensures, c.requires.known.bits)
+          ((inside _ _ _ _ c.requires.within c.loop-change-test.true c.change-item.is).1);
     }
 
 pub index_mut-requires : goal.index_mut-requires
@@ -53,5 +53,5 @@ loop-change-preserved c =
 pub returns : goal.returns
 returns c =
     past_all c.args.entry.now c.args.changes.now _ _ c.requires.known.bits c.requires.within
-    (subst (λ (z : List Change). ArePast c.args.entry.now.classes c.args.entry.now.given z c.loop-change.classes.items c.loop-change.given.items) (take_all _ _
-    (omega arith)) c.loop-change.invariant)
+    (subst (λ (z : List Change). ArePast c.args.entry.now.classes c.args.entry.now.given z c.loop-change.classes.items c.loop-change.given.items)
+    (take_all _ _ (omega arith)) c.loop-change.invariant)

@@ -11,8 +11,8 @@ pub loop-block-preserved : goal.loop-block-preserved
 loop-block-preserved c =
     let e = c.in_ok-push.ensures.items in (
       ap length e ∙ length-append c.loop-block.order.items _ ∙ ap (λ (z : ℕ). z + 1) c.loop-block.invariant.0,
-      subst (λ (z : List ℕ). (k d : ℕ) → k < c.loop-block.block + 1 → slice_index_or z k d ≡ k) (sym e) (next c.loop-block.order.items c.loop-block.block
-          c.loop-block.invariant.0 c.loop-block.invariant.1),
+      subst (λ (z : List ℕ). (k d : ℕ) → k < c.loop-block.block + 1 → slice_index_or z k d ≡ k) (sym e)
+          (next c.loop-block.order.items c.loop-block.block c.loop-block.invariant.0 c.loop-block.invariant.1),
     )
 
 pub returns-clause-within : goal.returns-clause-within

@@ -15,8 +15,8 @@ same : (a b : BlockEntry) (r : Bool) → a.reached ≡ b.reached → a.classes �
 same a b r e f g =
     let bits = pointwise_decides booleans_Decides a.given b.given in (
       λ h. let given = bits.0 (sym g ∙ h) in (λ z. record { reached = e z; classes = f z; given = given z }),
-      λ h. g ∙
-          bits.1 (ap (λ (x : BlockEntry). x.given) h),
+      λ h. g
+          ∙ bits.1 (ap (λ (x : BlockEntry). x.given) h),
     )
 
 pub returns : goal.returns
