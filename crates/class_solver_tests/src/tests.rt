@@ -1,5 +1,5 @@
-//! Entries of small graphs, worked out by hand. In each of them thing 0 is a number, things 1 and 2 are registers, and all
-//! others have no token at the start.
+//! Entries of small graphs, worked out by hand. In each of them thing 0 is a number, things 1 and 2 are registers, and
+//! all others have no token at the start.
 
 ghost use Rattle.std.specs.Prelude.{◌≡◌, ℕ, ◌<◌, ◌≤◌, false, length, IsTrue, Contains, slice_get, Some};
 ghost use Rattle.class_solver.specs.Joining.{IsKnown, SourceWithin, AreWithin};
@@ -173,8 +173,8 @@ fn irreducible(alloc: Global) -> Result<List<Flow>, AllocError> {
     Ok(flows)
 }
 
-/// Block 0 gives all things from 2 on what thing 1 has, and block 1 is a loop that hands them down and makes a new token
-/// for thing 1: each sweep parts one of them from the rest.
+/// Block 0 gives all things from 2 on what thing 1 has, and block 1 is a loop that hands them down and makes a new
+/// token for thing 1: each sweep parts one of them from the rest.
 fn chain(alloc: Global) -> Result<List<Flow>, AllocError> {
     let first = Source::Was(1);
     let mut flows = List::new(alloc);

@@ -144,7 +144,8 @@ module _ (source : Function) (f : FramedFunction) (resolve fresolve : OperandPai
           }) m n stop
               (level_filled f framed fresolve image laid t m stands) i here ic.code ic.number ic.kind code harmless
               (is_filled f framed fresolve image laid t.core m) (shown.code.events ∙ shown.agrees.events) e
-          | inr never ↦ absurd (never s' (aligns_at S (First (position_of i.origin)) (position_of i.origin) since s s' aligned ∙ ap position_of eo) written stop)
+          | inr never ↦ absurd (never s' (aligns_at S (First (position_of i.origin)) (position_of i.origin) since s s' aligned ∙
+          ap position_of eo) written stop)
         ]
 
       pub one_met : OneStep f fresolve image laid t m →
@@ -192,7 +193,8 @@ module _ (source : Function) (f : FramedFunction) (resolve fresolve : OperandPai
         agree_on m k t s' stands.beside.events shown cont,
         λ n e. (let one = one_machine k n (sym cont ∙ e) in
             subst (λ (z : Machine). StageAt z s' Same) one
-            (second t u i j x (ap (line_at image.lines) counter ∙ at_j) oj (aligns_at S (First (position_of i.origin)) (position_of i.origin) since s s' aligned)
+            (second t u i j x (ap (line_at image.lines) counter ∙ at_j) oj (aligns_at S (First (position_of i.origin)) (position_of i.origin) since s s'
+            aligned)
             shown bk
             cont_x l (lands u went) (along_next u went))),
       )
