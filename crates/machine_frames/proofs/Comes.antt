@@ -1,10 +1,12 @@
 -- A function with its frame comes from the source.
-use Rattle.std.proofs.Common.{◌≡◌, ◌⊎◌, ℕ, zero, suc, ◌+◌, ◌*◌, ◌<◌, ◌≤◌, ℤ, List, [], ◌∷◌, drop, map, length, All, Contains, slice_get, Option, Some, None, Bool, true, false}
+use Rattle.std.proofs.Common.{◌≡◌, ◌⊎◌, ℕ, zero, suc, ◌+◌, ◌*◌, ◌<◌, ◌≤◌, ℤ, List, [], ◌∷◌, drop, map, length, All, Contains, slice_get, Option, Some, None}
+use Rattle.std.proofs.Common.{Bool, true, false}
 use Rattle.std.proofs.Common.{cond, nat_eq, is_some, IsSome, refl, sym, ap, ◌∙◌, subst, inl, inr, arith}
 use Rattle.std.proofs.lemmas.List.Elements.{All-contains}
 use Rattle.rv64_instr.specs.Instruction.{Instruction}
 use Rattle.rv64_instr.specs.Parts.{is_call}
-use Rattle.rv64_instr.specs.Row.{Row, Fixes, Moves, Sets, Addresses, Loads, Stores, LoadsSlot, StoresSlot, Branches, Jumps, Calls, Returns, Unfit, add_row, row_of}
+use Rattle.rv64_instr.specs.Row.{Row, Fixes, Moves, Sets, Addresses, Loads, Stores, LoadsSlot, StoresSlot, Branches, Jumps, Calls, Returns, Unfit, add_row}
+use Rattle.rv64_instr.specs.Row.{row_of}
 use Rattle.rv64_instr.specs.Arithmetic.{word}
 use Rattle.mir_func.specs.declared.block.Block.{Block}
 use Rattle.mir_func.specs.declared.entry.OperandPair.{OperandPair}
@@ -22,9 +24,11 @@ use Rattle.mir_func.specs.Graph.{Fetch, Here, Silent, Outside, Program, below, b
 use Rattle.mir_func.specs.Sound.{ids_of}
 use Rattle.mir_func.specs.SoundFrame.{IsFramed}
 use Rattle.mir_meaning.specs.Align.{position_of, is_code}
-use Rattle.mir_meaning.specs.Follow.{class_of, Class, Return, Odd, MayAdd, ItemHasClass, HasClass, RowFits, KindFits, rank, next_rank, InOrder, Among, none, same, left, Shape}
+use Rattle.mir_meaning.specs.Follow.{class_of, Class, Return, Odd, MayAdd, ItemHasClass, HasClass, RowFits, KindFits, rank, next_rank, InOrder, Among, none}
+use Rattle.mir_meaning.specs.Follow.{same, left, Shape}
 use Rattle.mir_meaning.specs.State.{Core, State, content}
-use Rattle.mir_meaning.specs.Step.{Outcome, Falls, Goes, Gives, Traps, Asks, Breaks, Faulted, act, does, read, numbered, with_core, do_item, do_fetch, moved, step}
+use Rattle.mir_meaning.specs.Step.{Outcome, Falls, Goes, Gives, Traps, Asks, Breaks, Faulted, act, does, read, numbered, with_core, do_item, do_fetch, moved}
+use Rattle.mir_meaning.specs.Step.{step}
 use Rattle.mir_meaning.proofs.Reading.{found_in, front_item}
 use Rattle.simulation.proofs.Order.{rank_high}
 use Rattle.machine_steps.specs.Laid.{fetched}
@@ -35,7 +39,8 @@ use Rattle.machine_runs.specs.Runs as runs
 use Rattle.frame_rule.specs.Rule.{slot_offset, size_of, saved_of, framed_items, framed_of, renamed, renamed_code}
 use Rattle.machine_frames.specs.Framing.{ResultsArePhysical, KindReturnsPhysical, IsMadeFrom, FramedComesFrom}
 use Rattle.machine_frames.proofs.Renames.{renamed_row, row_renamed}
-use Rattle.machine_frames.proofs.Framed.{IsAdded, IsFrameCode, adds, stores, loads, prologue_is, epilogue_is, frame_onward, IsFramedItem, own, gives_back, framed_item_is}
+use Rattle.machine_frames.proofs.Framed.{IsAdded, IsFrameCode, adds, stores, loads, prologue_is, epilogue_is, frame_onward, IsFramedItem, own, gives_back}
+use Rattle.machine_frames.proofs.Framed.{framed_item_is}
 use Rattle.machine_frames.proofs.Framed.{InPrologue, InBlock, point_of, same_position, in_order_get, in_order_below, framed_order}
 
 -- ---- rows
@@ -204,7 +209,8 @@ module _ (source f : Function) (resolve fresolve : OperandPair → Option Operan
         ap (λ (x : Fetch). moved src.enter s.pos (do_fetch src x s.core)) here ∙ ap (λ (x : ItemKind). moved src.enter s.pos (do_item src x s.core)) ek in
         let physical = subst KindReturnsPhysical ek (of_source q i f) in
         return_goes (row_of c) s.core kinds physical w
-        (with_traps j (act (row_of c) s.core) (Rattle.simulation.proofs.Outcomes.faults_traps src.enter s.pos (with_core j (act (row_of c) s.core)) (sym go ∙ e))) where
+        (with_traps j (act (row_of c) s.core) (Rattle.simulation.proofs.Outcomes.faults_traps src.enter s.pos (with_core j (act (row_of c) s.core)) (sym go ∙
+        e))) where
           of_source : (q : Pos) (i : Item) → src.fetch q ≡ Here i → KindReturnsPhysical i.kind
           of_source q i e = by_blocks (from_block source.blocks q.block) refl e where
             by_blocks : (bs : List Block) → from_block source.blocks q.block ≡ bs → fetch_in bs q.item ≡ Here i → KindReturnsPhysical i.kind
@@ -251,7 +257,8 @@ module _ (source f : Function) (resolve fresolve : OperandPair → Option Operan
   pub own_code : (x : Item) (c : Instruction) (k : Option ℕ) → Rattle.frame_rule.specs.Rule.renamed_kind f.slots x.kind ≡ Code c k →
       (d : Instruction) × (x.kind ≡ Code d k) × (c ≡ renamed_code f.slots d)
   own_code x c k e = by_kind x.kind refl e where
-    by_kind : (z : ItemKind) → x.kind ≡ z → Rattle.frame_rule.specs.Rule.renamed_kind f.slots z ≡ Code c k → (d : Instruction) × (x.kind ≡ Code d k) × (c ≡ renamed_code f.slots d)
+    by_kind : (z : ItemKind) → x.kind ≡ z → Rattle.frame_rule.specs.Rule.renamed_kind f.slots z ≡ Code c k →
+        (d : Instruction) × (x.kind ≡ Code d k) × (c ≡ renamed_code f.slots d)
     by_kind (Code d m) q h = let one : renamed_code f.slots d ≡ c = cc in let two : m ≡ k = cc in (d, q ∙ ap (Code d) two, sym one)
     by_kind (Mark v m) q h = cc
     by_kind (Phi p n) q h = cc
@@ -263,7 +270,8 @@ module _ (source f : Function) (resolve fresolve : OperandPair → Option Operan
     by_kind (Mark v m) = refl
     by_kind (Phi p n) = refl
 
-  pub fits_before : (b : Block) (x : Item) (d : Instruction) (k : Option ℕ) (q : Pos) → x.kind ≡ Code d k → x.origin ≡ Before q → KindFits src x.kind b.silent x.origin →
+  pub fits_before : (b : Block) (x : Item) (d : Instruction) (k : Option ℕ) (q : Pos) → x.kind ≡ Code d k → x.origin ≡ Before q →
+      KindFits src x.kind b.silent x.origin →
       MayAdd (row_of d) q.item b.silent
   fits_before b x d k q ek eo h = subst (RowFits src (row_of d) b.silent) eo (subst (λ (z : ItemKind). KindFits src z b.silent x.origin) ek h)
 
@@ -276,7 +284,8 @@ module _ (source f : Function) (resolve fresolve : OperandPair → Option Operan
       | inr blk ↦ by_item blk (framed_item_is f blk.block.items p.item i blk.stands)
     ] where
       by_item : (blk : InBlock f p i) → IsFramedItem f blk.block.items p.item i → IsHarmless (row_of c) ⊎ NeverFaults src q
-      by_item blk (gives_back n x at final is) = inl (subst (λ (x : Instruction). IsHarmless (row_of x)) (code_same is.instruction None c k (sym is.kind ∙ kind))
+      by_item blk (gives_back n x at final is) = inl (subst (λ (x : Instruction). IsHarmless (row_of x)) (code_same is.instruction None c k (sym is.kind
+          ∙ kind))
           (frame_harmless is.instruction (epilogue_is (size_of f) (saved_of f) is.instruction is.member)))
       by_item blk (own n x at made_of ix) =
           let o = of_f blk.index blk.block blk.rest blk.found n x at in
@@ -352,7 +361,8 @@ module _ (source f : Function) (resolve fresolve : OperandPair → Option Operan
     branch_kept : (p : Pos) (i : Item) (n : ℕ) (blk : InBlock f p i) → exit_of i.kind ≡ Perhaps n → IsFramedItem f blk.block.items p.item i →
         (q : Pos) × (i.origin ≡ Kept q)
     branch_kept p i n blk exit (gives_back m x at fin is) =
-        let bad : Onward ≡ Perhaps n = sym (frame_onward is.instruction (epilogue_is (size_of f) (saved_of f) is.instruction is.member)) ∙ ap exit_of (sym is.kind) ∙ exit in cc
+        let bad : Onward ≡ Perhaps n = sym (frame_onward is.instruction (epilogue_is (size_of f) (saved_of f) is.instruction is.member))
+        ∙ ap exit_of (sym is.kind) ∙ exit in cc
     branch_kept p i n blk exit (own m x at made_of ix) =
         let o = of_f blk.index blk.block blk.rest blk.found m x at in
         let ex : exit_of x.kind ≡ Perhaps n = sym (own_exit x) ∙ ap (λ (z : Item). exit_of z.kind) (sym made_of) ∙ exit in
@@ -364,7 +374,8 @@ module _ (source f : Function) (resolve fresolve : OperandPair → Option Operan
           by_kind x o (Code d m) ek ex = by_origin x.origin refl where
             by_origin : (w : Origin) → x.origin ≡ w → (q : Pos) × (x.origin ≡ Kept q)
             by_origin (Kept q) eo = (q, eo)
-            by_origin (Before q) eo = absurd (branch_not_added (row_of d) q.item blk.block.silent n (ap exit_of (sym ek) ∙ ex) (fits_before blk.block x d m q ek eo o.fits))
+            by_origin (Before q) eo = absurd (branch_not_added (row_of d) q.item blk.block.silent n (ap exit_of (sym ek)
+                ∙ ex) (fits_before blk.block x d m q ek eo o.fits))
 
     apart_at : (p q : Pos) (i j : Item) (n : ℕ) → fetched (framed_of f) p ≡ Here i → exit_of i.kind ≡ Perhaps n → FallsTo (framed_of f) (below p) q →
         fetched (framed_of f) q ≡ Here j → is_code j.kind ≡ true → position_of j.origin ≡ position_of i.origin → ⊥
@@ -392,9 +403,11 @@ module _ (source f : Function) (resolve fresolve : OperandPair → Option Operan
         by_way (inl k) =
             let kept = branch_kept p i n a exit (framed_item_is f a.block.items p.item i a.stands) in
             let m = got f.blocks a.index a.block (dropped f.blocks a.index a.block a.rest a.found) in
-            let stands : slice_get (framed_items f a.block.items) q.item ≡ Some j = ap (λ (z : Block). slice_get (framed_items f z.items) q.item) blocks ∙ b.stands in
+            let stands : slice_get (framed_items f a.block.items) q.item ≡ Some j = ap (λ (z : Block). slice_get (framed_items f z.items) q.item) blocks
+            ∙ b.stands in
             let lt = k.1 in
-            let below_it = in_order_below a.block.id 0 (framed_items f a.block.items) (block_order a.block m) p.item q.item i j a.stands stands (omega (arith, lt)) in
+            let below_it = in_order_below a.block.id 0 (framed_items f a.block.items) (block_order a.block m) p.item q.item i j a.stands stands (omega
+            (arith, lt)) in
             let up = rank_high j.origin in
             let two : next_rank i.origin ≡ 2 * kept.0.item + 2 = ap next_rank kept.1 in
             let item : (position_of j.origin).item ≡ kept.0.item = ap (λ (z : Pos). z.item) (eq ∙ ap position_of kept.1) in

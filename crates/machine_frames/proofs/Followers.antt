@@ -1,5 +1,6 @@
 -- The image in which a function that follows the source lies, with its frame, meets the headline.
-use Rattle.std.proofs.Common.{◌≡◌, ℕ, zero, suc, ◌+◌, ◌<◌, ◌≤◌, List, [], ◌∷◌, All, Option, Some, None, Bool, true, false, cond, IsTrue, ◌&&◌, nat_eq, nat_le, nat_lt, refl, sym, ap, ◌∙◌}
+use Rattle.std.proofs.Common.{◌≡◌, ℕ, zero, suc, ◌+◌, ◌<◌, ◌≤◌, List, [], ◌∷◌, All, Option, Some, None, Bool, true, false, cond, IsTrue, ◌&&◌, nat_eq, nat_le}
+use Rattle.std.proofs.Common.{nat_lt, refl, sym, ap, ◌∙◌}
 use Rattle.std.proofs.Common.{subst, arith, leb-true}
 use Rattle.std.specs.List.{list_all}
 use Rattle.std.proofs.lemmas.Bool.{and_parts}
@@ -98,7 +99,8 @@ pub made_from : (source f : Function) (resolve fresolve : OperandPair → Option
 made_from source f resolve fresolve h = record {
   read = h.read;
   returns = All-weaker (λ (b : Block). All (λ (i : Item). HasForm i.kind) b.items) (λ (b : Block). All (λ (i : Item). KindReturnsPhysical i.kind) b.items)
-      (λ b a. All-weaker (λ (i : Item). HasForm i.kind) (λ (i : Item). KindReturnsPhysical i.kind) (λ i x. kind_returns i.kind x) b.items a) source.blocks h.source_form;
+      (λ b a. All-weaker (λ (i : Item). HasForm i.kind) (λ (i : Item). KindReturnsPhysical i.kind) (λ i x. kind_returns i.kind x) b.items a) source.blocks
+      h.source_form;
   sound = h.sound;
   shape = h.follows.shape;
 }

@@ -1,5 +1,6 @@
 -- What the items of a function with its frame are: those of the prologue, those of the function, and those of epilogues.
-use Rattle.std.proofs.Common.{◌≡◌, ◌⊎◌, ℕ, zero, suc, ◌+◌, ◌*◌, ◌%◌, ◌<◌, ◌≤◌, ℤ, pos, ◌-ℤ◌, List, [], ◌∷◌, ◌++◌, drop, take, map, length, length-append, All, Contains, slice_get}
+use Rattle.std.proofs.Common.{◌≡◌, ◌⊎◌, ℕ, zero, suc, ◌+◌, ◌*◌, ◌%◌, ◌<◌, ◌≤◌, ℤ, pos, ◌-ℤ◌, List, [], ◌∷◌, ◌++◌, drop, take, map, length, length-append, All}
+use Rattle.std.proofs.Common.{Contains, slice_get}
 use Rattle.std.proofs.Common.{slice_index_or, Option, Some, None, Bool, true, false, cond, refl, sym, ap, ◌∙◌, subst, inl, inr, arith}
 use Rattle.std.specs.List.{flat_map}
 use Rattle.rv64_instr.specs.Instruction.{Instruction}
@@ -20,7 +21,8 @@ use Rattle.mir_func.specs.Graph.{Here, block_start}
 use Rattle.mir_func.specs.SoundFrame.{body_of, adds_to_pointer, saves, restores, prologue_code, epilogue_code}
 use Rattle.mir_meaning.specs.Align.{position_of}
 use Rattle.mir_meaning.specs.Follow.{rank, next_rank, InOrder}
-use Rattle.frame_rule.specs.Rule.{size_of, saved_of, added, added_all, position_in, prologue, epilogue, renamed, is_final, framed_item, framed_items, framed_block, framed_blocks, framed_of}
+use Rattle.frame_rule.specs.Rule.{size_of, saved_of, added, added_all, position_in, prologue, epilogue, renamed, is_final, framed_item, framed_items}
+use Rattle.frame_rule.specs.Rule.{framed_block, framed_blocks, framed_of}
 use Rattle.machine_steps.specs.Laid.{fetched}
 use Rattle.machine_steps.proofs.Points.{StandsAt, stands_at}
 use Rattle.machine_steps.proofs.Motions.{adds_onward}
@@ -140,7 +142,8 @@ framed_item_is f (x ∷ xs) k i e =
         (λ _. IsFramedItem f (x ∷ xs) k i) [ inl y ↦ by_exit (is_final (exit_of x.kind)) refl k y | inr y ↦ one y.0 y.1 y.2 ]
 
     later : (m : ℕ) → k ≡ length (framed_item f x) + m → IsFramedItem f xs m i → IsFramedItem f (x ∷ xs) k i
-    later m ek (own n y h same ix) = own (suc n) y h same (λ no_return. (let q = ix no_return in let l = length-append (framed_item f x) (framed_items f (take n xs)) in
+    later m ek (own n y h same ix) = own (suc n) y h same (λ no_return. (let q = ix no_return in let l = length-append (framed_item f x) (framed_items f
+        (take n xs)) in
         ek ∙ ap (λ (z : ℕ). length (framed_item f x) + z) q ∙ sym l))
     later m ek (gives_back n y h final is) = gives_back (suc n) y h final is
 
@@ -237,11 +240,16 @@ in_order_below b n (z ∷ xs) h zero (suc l) x y e g lt =
 in_order_below b n (z ∷ xs) h (suc k) zero x y e g lt = absurd (omega (arith, lt))
 in_order_below b n (z ∷ xs) h (suc k) (suc l) x y e g lt = in_order_below b (next_rank z.origin) xs h.2 k l x y e g (omega (arith, lt))
 
-added_order : (b q n : ℕ) (o : Origin) (code : List Instruction) (ys : List Item) → (position_of o).block ≡ b → next_rank o ≡ 2 * q → rank o ≡ 2 * q → n ≤ 2 * q →
+added_order : (b q n : ℕ) (o : Origin) (code : List Instruction) (ys : List Item) → (position_of o).block ≡ b → next_rank o ≡ 2 * q → rank o ≡ 2 * q →
+    n ≤ 2 * q →
     InOrder b (2 * q) ys → InOrder b n (map (added o) code ++ ys)
 added_order b q n o [] ys home next here le h = in_order_less b n (2 * q) ys le h
-added_order b q n o (c ∷ code) ys home next here le h =
-    (home, omega (arith, le, here), subst (λ (m : ℕ). InOrder b m (map (added o) code ++ ys)) (sym next) (added_order b q (2 * q) o code ys home next here (omega arith) h))
+added_order b q n o (c ∷ code) ys home next here le h = (
+  home,
+  omega (arith, le, here),
+  subst (λ (m : ℕ). InOrder b m (map (added o) code ++ ys)) (sym next) (added_order b q (2 * q) o code ys home next here
+      (omega arith) h),
+)
 
 pub framed_order : (f : Function) (b n : ℕ) (xs : List Item) → n % 2 ≡ 0 → InOrder b n xs → InOrder b n (framed_items f xs)
 framed_order f b n [] even h = tt
@@ -261,7 +269,8 @@ framed_order f b n (x ∷ xs) even h =
     q = (position_of x.origin).item
 
     rest : (y : Item) → (position_of y.origin).block ≡ b → n ≤ rank y.origin → InOrder b (next_rank y.origin) (framed_items f xs) →
-        (n ≤ 2 * (position_of y.origin).item) × ((position_of y.origin).block ≡ b) × InOrder b (2 * (position_of y.origin).item) (renamed f.slots y ∷ framed_items f xs)
+        (n ≤ 2 * (position_of y.origin).item) × ((position_of y.origin).block ≡ b)
+        × InOrder b (2 * (position_of y.origin).item) (renamed f.slots y ∷ framed_items f xs)
     rest y home le more = (low y.origin le, home, (home, at_least y.origin, more)) where
       low : (o : Origin) → n ≤ rank o → n ≤ 2 * (position_of o).item
       low (Kept p) h = omega (arith, h, even)

@@ -1,5 +1,6 @@
 -- A function with its frame has plain turns.
-use Rattle.std.proofs.Common.{◌≡◌, ◌⊎◌, ℕ, zero, suc, ◌+◌, ◌*◌, ◌<◌, ◌≤◌, List, [], ◌∷◌, ◌++◌, drop, take, map, length, All, Contains, slice_get, Option, Some, None, Bool, true, false}
+use Rattle.std.proofs.Common.{◌≡◌, ◌⊎◌, ℕ, zero, suc, ◌+◌, ◌*◌, ◌<◌, ◌≤◌, List, [], ◌∷◌, ◌++◌, drop, take, map, length, All, Contains, slice_get, Option}
+use Rattle.std.proofs.Common.{Some, None, Bool, true, false}
 use Rattle.std.proofs.Common.{cond, nat_eq, refl, sym, ap, ◌∙◌, subst, inl, inr, arith}
 use Rattle.std.proofs.lemmas.Bool.{cases_lt}
 use Rattle.std.proofs.lemmas.List.Elements.{All-contains, All-head, All-tail}
@@ -40,7 +41,8 @@ use Rattle.simulation.proofs.Laid.{from_home}
 use Rattle.frame_rule.specs.Rule.{is_final, renamed_kind}
 use Rattle.machine_frames.proofs.Framed.{index_in}
 use Rattle.machine_frames.proofs.Renames.{renamed_row, row_renamed}
-use Rattle.machine_frames.proofs.Framed.{IsAdded, prologue_is, epilogue_is, frame_onward, IsFramedItem, own, gives_back, framed_item_is, InPrologue, InBlock, point_of, same_position, in_order_below}
+use Rattle.machine_frames.proofs.Framed.{IsAdded, prologue_is, epilogue_is, frame_onward, IsFramedItem, own, gives_back, framed_item_is, InPrologue, InBlock}
+use Rattle.machine_frames.proofs.Framed.{point_of, same_position, in_order_below}
 use Rattle.machine_frames.proofs.Comes.{IsOf, of_f, own_code, own_exit, fits_before, code_same, block_order, silent_never, home_of, index_of_home}
 
 jump_always : (k : ItemKind) → is_jump k ≡ true → (n : ℕ) × (exit_of k ≡ Always n)
@@ -74,7 +76,8 @@ onward_always : {x : Exit} {n : ℕ} → x ≡ Onward → x ≡ Always n → ⊥
 onward_always {n = n} a b = let bad : Onward ≡ Always n = sym a ∙ b in cc
 
 -- nothing stands after a jump
-ends_last : (xs : List Item) → EndsWell xs → (k l : ℕ) (x y : Item) (n : ℕ) → slice_get xs k ≡ Some x → exit_of x.kind ≡ Always n → slice_get xs l ≡ Some y → k < l → ⊥
+ends_last : (xs : List Item) → EndsWell xs → (k l : ℕ) (x y : Item) (n : ℕ) → slice_get xs k ≡ Some x → exit_of x.kind ≡ Always n →
+    slice_get xs l ≡ Some y → k < l → ⊥
 ends_last [] h k l x y n e ex g lt = cc
 ends_last (z ∷ xs) h zero zero x y n e ex g lt = omega (arith, lt)
 ends_last (z ∷ xs) h zero (suc l) x y n e ex g lt =
@@ -100,7 +103,8 @@ added_of : (o : Origin) → waits_at false o ≡ true → (q : Pos) × (o ≡ Be
 added_of (Kept p) e = cc
 added_of (Before p) e = (p, refl)
 
-module _ (source f : Function) (resolve fresolve : OperandPair → Option OperandPair) (made : IsMadeFrom source f resolve fresolve) (framed : IsFramed (framed_of f)) where
+module _ (source f : Function) (resolve fresolve : OperandPair →
+    Option OperandPair) (made : IsMadeFrom source f resolve fresolve) (framed : IsFramed (framed_of f)) where
   abbrev G : Program
   G = framed_program (framed_of f).blocks fresolve
 
@@ -152,12 +156,14 @@ module _ (source f : Function) (resolve fresolve : OperandPair → Option Operan
     | inr blk ↦ blk
   ]
 
-  home : (p q : Pos) (i j : Item) → IsInner p → IsInner q → G.fetch p ≡ Here i → G.fetch q ≡ Here j → (position_of i.origin).block ≡ (position_of j.origin).block →
+  home : (p q : Pos) (i j : Item) → IsInner p → IsInner q → G.fetch p ≡ Here i → G.fetch q ≡ Here j →
+      (position_of i.origin).block ≡ (position_of j.origin).block →
       p.block ≡ q.block
   home p q i j hp hq e g eq =
       let a = inner_block p i hp e in
       let b = inner_block q j hq g in
-      let ids : a.block.id ≡ b.block.id = sym (home_of source f resolve fresolve made framed p i a) ∙ eq ∙ home_of source f resolve fresolve made framed q j b in
+      let ids : a.block.id ≡ b.block.id = sym (home_of source f resolve fresolve made framed p i a) ∙ eq
+      ∙ home_of source f resolve fresolve made framed q j b in
       a.at ∙ ap suc (index_of_home source f resolve fresolve made framed p q i j a b ids) ∙ sym b.at
 
   same_block : (p q : Pos) (i j : Item) (a : InBlock f p i) (b : InBlock f q j) → p.block ≡ q.block → a.block ≡ b.block
@@ -208,7 +214,8 @@ module _ (source f : Function) (resolve fresolve : OperandPair → Option Operan
           home_of source f resolve fresolve made framed p i x ∙ ap (λ (z : Block). z.id) same ∙ sym (home_of source f resolve fresolve made framed q j y),
           elim (cases_lt p.item q.item) as (λ _. (position_of i.origin).item ≤ (position_of j.origin).item) [
             | inl lt ↦
-                let k = in_order_below x.block.id 0 (framed_items f x.block.items) (block_order source f resolve fresolve made framed x.block m) p.item q.item i j x.stands stands lt in
+                let k = in_order_below x.block.id 0 (framed_items f x.block.items) (block_order source f resolve fresolve made framed x.block m) p.item
+                q.item i j x.stands stands lt in
                 let up = rank_high j.origin in
                 let low = next_low i.origin in
                 omega (arith, k, up, low)
@@ -295,8 +302,12 @@ module _ (source f : Function) (resolve fresolve : OperandPair → Option Operan
       (position_of x.origin).item ≡ b.silent → (q : Pos) × (x.origin ≡ Before q) × (IsSlotStore (row_of d) ⊎ (is_jump_row (row_of d) ≡ true))
   end_code b x o d k ek at = by_origin x.origin refl where
     by_origin : (w : Origin) → x.origin ≡ w → (q : Pos) × (x.origin ≡ Before q) × (IsSlotStore (row_of d) ⊎ (is_jump_row (row_of d) ≡ true))
-    by_origin (Before q) eo =
-        (q, eo, end_row (row_of d) q.item b.silent (ap (λ (w : Origin). (position_of w).item) (sym eo) ∙ at) (fits_before source f resolve fresolve made b x d k q ek eo o.fits))
+    by_origin (Before q) eo = (
+      q,
+      eo,
+      end_row (row_of d) q.item b.silent (ap (λ (w : Origin). (position_of w).item) (sym eo)
+          ∙ at) (fits_before source f resolve fresolve made b x d k q ek eo o.fits),
+    )
     by_origin (Kept q) eo =
         let h = subst (RowFits src (row_of d) b.silent) eo (subst (λ (z : ItemKind). KindFits src z b.silent x.origin) ek o.fits) in
         let i = has_item (row_of d) (src.fetch q) h in
@@ -522,7 +533,8 @@ module _ (source f : Function) (resolve fresolve : OperandPair → Option Operan
 
       at_q : image_of f pf ≡ q
       at_q = same_pos (image_of f pf) q
-          (home (image_of f pf) q head.0 j (omega arith) inner_q head.1 g (ap (λ (w : Pos). w.block) (head.2.position ∙ ap (λ (w : Item). position_of w.origin) (sym c.is))))
+          (home (image_of f pf) q head.0 j (omega arith) inner_q head.1 g (ap (λ (w : Pos). w.block) (head.2.position
+          ∙ ap (λ (w : Item). position_of w.origin) (sym c.is))))
           (ap (λ (bs : List Block). index_in f (items_in bs) c.index) fd.at ∙ sym c.place)
     way (inl l) =
         let block_y : (position_of hd.0.origin).block ≡ (position_of j.origin).block =
@@ -533,7 +545,8 @@ module _ (source f : Function) (resolve fresolve : OperandPair → Option Operan
           | inr ge ↦
               let o = order q r j hd.0 g hd.1 (sym blocks) ge in
               let below_x : next_rank z.1.origin ≤ rank c.item.origin =
-              in_order_below b.id 0 b.items (All-contains (λ (w : Block). InOrder w.id 0 w.items) f.blocks b made.shape.order member) z.0.item c.index z.1 c.item
+              in_order_below b.id 0 b.items (All-contains (λ (w : Block). InOrder w.id 0 w.items) f.blocks b made.shape.order member) z.0.item c.index z.1
+              c.item
               (front_item b.items z.0.item b.silent fd.rest z.1
               (ap (λ (bs : List Block). fetch_in bs z.0.item) (sym (ap (from_block f.blocks) l.0 ∙ fd.at)) ∙ z.2.0)) c.stands l.1 in
               let up = rank_high c.item.origin in

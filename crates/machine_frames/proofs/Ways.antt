@@ -1,5 +1,6 @@
 -- A path of a function is one of the function with its frame.
-use Rattle.std.proofs.Common.{◌≡◌, ◌⊎◌, ℕ, zero, suc, ◌+◌, ◌<◌, ◌≤◌, List, [], ◌∷◌, ◌++◌, drop, take, map, length, length-append, All, Contains, slice_get, Option, Some, None}
+use Rattle.std.proofs.Common.{◌≡◌, ◌⊎◌, ℕ, zero, suc, ◌+◌, ◌<◌, ◌≤◌, List, [], ◌∷◌, ◌++◌, drop, take, map, length, length-append, All, Contains, slice_get}
+use Rattle.std.proofs.Common.{Option, Some, None}
 use Rattle.std.proofs.Common.{Bool, true, false, cond, nat_eq, refl, sym, ap, ◌∙◌, subst, inl, inr, arith, append-nil}
 use Rattle.rv64_instr.specs.Instruction.{Instruction}
 use Rattle.rv64_instr.specs.Row.{Row, Fixes, Moves, Sets, Addresses, Loads, Stores, LoadsSlot, StoresSlot, Branches, Jumps, Calls, Returns, Unfit, row_of}
@@ -13,11 +14,13 @@ use Rattle.mir_func.specs.declared.item.ItemKind.TheVariants.{Code, Mark, Phi}
 use Rattle.mir_func.specs.declared.position.Pos.{Pos}
 use Rattle.mir_func.specs.Exits.{row_exit, exit_of}
 use Rattle.mir_func.specs.Function.{Function}
-use Rattle.mir_func.specs.Graph.{Fetch, Here, Silent, Outside, Program, below, block_start, end_of, front, fetch_in, from_block, index_of, program_of, framed_program, Edge, FetchEdge, KindEdge, RowEdge, Leads, stay, go}
+use Rattle.mir_func.specs.Graph.{Fetch, Here, Silent, Outside, Program, below, block_start, end_of, front, fetch_in, from_block, index_of, program_of}
+use Rattle.mir_func.specs.Graph.{framed_program, Edge, FetchEdge, KindEdge, RowEdge, Leads, stay, go}
 use Rattle.mir_func.specs.SoundFrame.{body_of}
 use Rattle.mir_meaning.specs.Align.{position_of, is_code}
 use Rattle.mir_meaning.proofs.Reading.{front_item, front_end, end_index, item_front}
-use Rattle.frame_rule.specs.Rule.{size_of, saved_of, is_final, epilogue, framed_item, framed_items, framed_block, framed_blocks, framed_of, renamed, renamed_kind, renamed_code, added_all, position_in}
+use Rattle.frame_rule.specs.Rule.{size_of, saved_of, is_final, epilogue, framed_item, framed_items, framed_block, framed_blocks, framed_of, renamed}
+use Rattle.frame_rule.specs.Rule.{renamed_kind, renamed_code, added_all, position_in}
 use Rattle.machine_frames.proofs.Renames.{renamed_row, row_renamed}
 use Rattle.machine_frames.proofs.Framed.{drop_map, index_in, same_position}
 
@@ -104,16 +107,24 @@ framed_head f x = by_exit (is_final (exit_of x.kind)) where
     by_kind (Mark v m) e = cc
     by_kind (Phi p n) e = cc
 
-  by_code : (o : Rattle.mir_func.specs.declared.position.Origin.Origin) → position_of o ≡ position_of x.origin → (code : List Instruction) → (y : Item) × (rest : List Item) ×
+  by_code : (o : Rattle.mir_func.specs.declared.position.Origin.Origin) → position_of o ≡ position_of x.origin → (code : List Instruction) →
+      (y : Item) × (rest : List Item) ×
       (map (Rattle.frame_rule.specs.Rule.added o) code ++ renamed f.slots x ∷ [] ≡ y ∷ rest) × IsHead f x y
   by_code o e [] = (renamed f.slots x, [], refl, own_head)
-  by_code o e (c ∷ code) = (Rattle.frame_rule.specs.Rule.added o c, map (Rattle.frame_rule.specs.Rule.added o) code ++ renamed f.slots x ∷ [], refl, record { position = e; code = λ h. refl })
+  by_code o e (c ∷ code) = (
+    Rattle.frame_rule.specs.Rule.added o c,
+    map (Rattle.frame_rule.specs.Rule.added o) code ++ renamed f.slots x ∷ [],
+    refl,
+    record { position = e; code = λ h. refl },
+  )
 
   by_size : (n : ℕ) → (y : Item) × (rest : List Item) ×
-      (added_all n (Rattle.mir_func.specs.declared.position.Origin.TheVariants.Before (position_in x.origin)) (Rattle.mir_func.specs.SoundFrame.epilogue_code (size_of f) (saved_of f))
+      (added_all n (Rattle.mir_func.specs.declared.position.Origin.TheVariants.Before (position_in x.origin)) (Rattle.mir_func.specs.SoundFrame.epilogue_code
+      (size_of f) (saved_of f))
       ++ renamed f.slots x ∷ [] ≡ y ∷ rest) × IsHead f x y
   by_size zero = (renamed f.slots x, [], refl, own_head)
-  by_size (suc n) = by_code (Rattle.mir_func.specs.declared.position.Origin.TheVariants.Before (position_in x.origin)) (same_position x.origin) (Rattle.mir_func.specs.SoundFrame.epilogue_code (size_of f) (saved_of f))
+  by_size (suc n) = by_code (Rattle.mir_func.specs.declared.position.Origin.TheVariants.Before (position_in x.origin)) (same_position x.origin)
+      (Rattle.mir_func.specs.SoundFrame.epilogue_code (size_of f) (saved_of f))
 
   by_exit : (b : Bool) → (y : Item) × (rest : List Item) × (cond b (epilogue f x.origin) [] ++ renamed f.slots x ∷ [] ≡ y ∷ rest) × IsHead f x y
   by_exit true = by_size (size_of f)
@@ -135,14 +146,16 @@ module _ (f : Function) (fresolve : OperandPair → Option OperandPair) where
   fetch_image : (p : Pos) (b : Block) (rest : List Block) → from_block f.blocks p.block ≡ b ∷ rest →
       G.fetch (image_of f p) ≡ front (framed_items f (drop p.item b.items)) b.silent (map (framed_block f) rest)
   fetch_image p b rest e =
-      ap (λ (bs : List Block). fetch_in bs (image_of f p).item) (later f (index_of f.blocks p.block) ∙ ap (map (framed_block f)) (drop_index f.blocks p.block ∙ e))
+      ap (λ (bs : List Block). fetch_in bs (image_of f p).item) (later f (index_of f.blocks p.block)
+      ∙ ap (map (framed_block f)) (drop_index f.blocks p.block ∙ e))
       ∙ ap (λ (bs : List Block). front (drop (index_in f (items_in bs) p.item) (framed_items f b.items)) b.silent (map (framed_block f) rest)) e
       ∙ ap (λ (is : List Item). front is b.silent (map (framed_block f) rest)) (items_from b p.item)
 
   -- at the image of an item stands something of its position
   pub head_at : (p : Pos) (x : Item) → fp.fetch p ≡ Here x → (y : Item) × (G.fetch (image_of f p) ≡ Here y) × IsHead f x y
   head_at p x e = by_blocks (from_block f.blocks p.block) refl e where
-    by_blocks : (bs : List Block) → from_block f.blocks p.block ≡ bs → fetch_in bs p.item ≡ Here x → (y : Item) × (G.fetch (image_of f p) ≡ Here y) × IsHead f x y
+    by_blocks : (bs : List Block) → from_block f.blocks p.block ≡ bs → fetch_in bs p.item ≡ Here x →
+        (y : Item) × (G.fetch (image_of f p) ≡ Here y) × IsHead f x y
     by_blocks [] d h = cc
     by_blocks (b ∷ rest) d h =
         let at = drop_at b.items p.item x (front_item b.items p.item b.silent rest x h) in
@@ -177,7 +190,8 @@ module _ (f : Function) (fresolve : OperandPair → Option OperandPair) where
         single = ap (λ (z : Bool). length ((cond z (epilogue f x.origin) [] ++ renamed f.slots x ∷ []) ++ [])) no_return
 
   -- one edge
-  row_way : (r : Row) (p q : Pos) (x y : Item) → RowEdge (λ n. n) r p q → (below (image_of f p) ≡ image_of f (below p)) → RowEdge G.enter (renamed_row f.slots r) (image_of f p) (image_of f q)
+  row_way : (r : Row) (p q : Pos) (x y : Item) → RowEdge (λ n. n) r p q → (below (image_of f p) ≡ image_of f (below p)) →
+      RowEdge G.enter (renamed_row f.slots r) (image_of f p) (image_of f q)
   row_way (Branches op a b t) p q x y (inl e) bi = inl (ap (image_of f) e ∙ sym (start_image t))
   row_way (Branches op a b t) p q x y (inr e) bi = inr (ap (image_of f) e ∙ sym bi)
   row_way (Jumps t) p q x y e bi = ap (image_of f) e ∙ sym (start_image t)
@@ -215,7 +229,8 @@ module _ (f : Function) (fresolve : OperandPair → Option OperandPair) where
 
   kind_way : (k : ItemKind) (p q : Pos) (x : Item) → KindEdge (λ n. n) k p q → (below (image_of f p) ≡ image_of f (below p)) →
       KindEdge G.enter (renamed_kind f.slots k) (image_of f p) (image_of f q)
-  kind_way (Code c n) p q x e bi = subst (λ (r : Row). RowEdge G.enter r (image_of f p) (image_of f q)) (sym (row_renamed f.slots c)) (row_way (row_of c) p q x x e bi)
+  kind_way (Code c n) p q x e bi = subst (λ (r : Row). RowEdge G.enter r (image_of f p) (image_of f q)) (sym (row_renamed f.slots c)) (row_way (row_of c) p q
+      x x e bi)
   kind_way (Mark v m) p q x e bi = ap (image_of f) e ∙ sym bi
   kind_way (Phi r n) p q x e bi = ap (image_of f) e ∙ sym bi
 
@@ -238,7 +253,8 @@ module _ (f : Function) (fresolve : OperandPair → Option OperandPair) where
         let no_return = kind_not_final x.kind p q h in
         let at : G.fetch (image_of f p) ≡ Here (renamed f.slots x) = fetch_image p b rest d
         ∙ ap (λ (is : List Item). front (framed_items f is) b.silent (map (framed_block f) rest)) di
-        ∙ ap (λ (z : Bool). front ((cond z (epilogue f x.origin) [] ++ renamed f.slots x ∷ []) ++ framed_items f xs) b.silent (map (framed_block f) rest)) no_return in
+        ∙ ap (λ (z : Bool). front ((cond z (epilogue f x.origin) [] ++ renamed f.slots x ∷ []) ++ framed_items f xs) b.silent (map (framed_block f) rest))
+        no_return in
         subst (λ (z : Fetch). FetchEdge G.enter z (image_of f p) (image_of f q)) (sym at)
         (kind_way x.kind p q x h (below_image p b rest x d at_x no_return))
 

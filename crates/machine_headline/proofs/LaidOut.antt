@@ -1,5 +1,6 @@
 -- The image of a function that follows a source, with its frame and laid out, meets the headline.
-use Rattle.std.proofs.Common.{◌≡◌, ℕ, zero, suc, ◌+◌, ◌*◌, ◌^◌, ◌<◌, ◌≤◌, Option, Some, None, IsSome, IfSome, Bool, true, false, refl, sym, ap, ◌∙◌, subst, arith}
+use Rattle.std.proofs.Common.{◌≡◌, ℕ, zero, suc, ◌+◌, ◌*◌, ◌^◌, ◌<◌, ◌≤◌, Option, Some, None, IsSome, IfSome, Bool, true, false, refl, sym, ap, ◌∙◌, subst}
+use Rattle.std.proofs.Common.{arith}
 use Rattle.rv64_instr.specs.declared.op.ImmediateOp.{ImmediateOp}
 use Rattle.rv64_instr.specs.declared.op.ImmediateOp.TheVariants.{Addi}
 use Rattle.rv64_instr.specs.Arithmetic.{word}
@@ -22,7 +23,8 @@ use Rattle.code_layout.specs.Headline.{StartsAt}
 use Rattle.code_layout.specs.Image.{Image}
 use Rattle.code_words.specs.Counts.{MAX_WORDS, MAX_BASE, count_of}
 use Rattle.code_words.specs.Laid.{IsWorded}
-use Rattle.code_words.specs.Rule.{Layout, Form, Nothing, OneWord, CallSite, LongBranch, row_form, form_of, address_in, offset_to, object_offset, operation_at, bytes_before}
+use Rattle.code_words.specs.Rule.{Layout, Form, Nothing, OneWord, CallSite, LongBranch, row_form, form_of, address_in, offset_to, object_offset, operation_at}
+use Rattle.code_words.specs.Rule.{bytes_before}
 use Rattle.code_words.proofs.Bounds.{bytes_small}
 use Rattle.frame_rule.specs.Rule.{size_of, framed_of}
 use Rattle.frame_rule.proofs.Framed.{is_framed}
@@ -74,14 +76,16 @@ module _ (l : Layout) (low : l.base < MAX_BASE) (few : count_of l.framed.blocks 
   one_fit a c h e =
       let offset = offset_to l a (row_exit (row_of c)) in
       let object = object_offset l.framed (object_named (row_of c)) in
-      let m = if_some (λ (m : MachineOp). (x : ℕ) → machine_row x m ≡ placed (at_offset x (offset_to l a (row_exit (row_of c)))) (object_offset l.framed (object_named (row_of c))) (row_of c))
+      let m = if_some (λ (m : MachineOp). (x : ℕ) →
+      machine_row x m ≡ placed (at_offset x (offset_to l a (row_exit (row_of c)))) (object_offset l.framed (object_named (row_of c))) (row_of c))
       (operation_at l a c) h (lowered_acts offset object c) in
       word_fit m.0.op a m.0 (m.1 a ∙ ap (placed (at_offset a (offset_to l a (row_exit (row_of c)))) (object_offset l.framed (object_named (row_of c)))) e)
 
   has_all : HasAllWords l
   has_all = record {
     words = λ p i c k e kind. form_worded (address_in l p) c (row_form (l.long p) (row_of c)) (worded p i c k e kind);
-    fits = λ p i c k e kind u. one_fit (address_in l p) c (subst (Rattle.code_words.specs.Laid.FormWorded l (address_in l p) c) (ap (row_form (l.long p)) u) (worded p i c k e kind)) u;
+    fits = λ p i c k e kind u. one_fit (address_in l p) c (subst (Rattle.code_words.specs.Laid.FormWorded l (address_in l p) c) (ap (row_form (l.long p)) u)
+        (worded p i c k e kind)) u;
     small = λ p. (let b = bytes_small l.long l.framed.blocks p in omega (arith, b, low, few));
   }
 

@@ -1,5 +1,6 @@
 -- Addresses go up by the sizes of items, and sites stand one behind the other.
-use Rattle.std.proofs.Common.{◌≡◌, ℕ, zero, suc, ◌+◌, ◌*◌, ◌<◌, ◌≤◌, List, [], ◌∷◌, ◌++◌, drop, take, map, length, slice_get, Option, Some, None, Bool, true, false, refl, sym, ap, ◌∙◌}
+use Rattle.std.proofs.Common.{◌≡◌, ℕ, zero, suc, ◌+◌, ◌*◌, ◌<◌, ◌≤◌, List, [], ◌∷◌, ◌++◌, drop, take, map, length, slice_get, Option, Some, None, Bool, true}
+use Rattle.std.proofs.Common.{false, refl, sym, ap, ◌∙◌}
 use Rattle.std.proofs.Common.{subst, arith}
 use Rattle.mir_func.specs.declared.block.Block.{Block}
 use Rattle.mir_func.specs.declared.item.Item.{Item}
@@ -27,7 +28,7 @@ items_more long b m (suc n) (x ∷ xs) i e =
     let z : suc m + n ≡ m + suc n = omega arith in
     ap (λ (k : ℕ). size_of (long (pos_in b m)) x + k) more
     ∙ (let k : size_of (long (pos_in b m)) x + (items_size long b (suc m) (take n xs) + size_of (long (pos_in b (suc m + n))) i)
-        ≡ (size_of (long (pos_in b m)) x + items_size long b (suc m) (take n xs)) + size_of (long (pos_in b (suc m + n))) i = omega arith in k)
+    ≡ (size_of (long (pos_in b m)) x + items_size long b (suc m) (take n xs)) + size_of (long (pos_in b (suc m + n))) i = omega arith in k)
     ∙ ap (λ (k : ℕ). (size_of (long (pos_in b m)) x + items_size long b (suc m) (take n xs)) + size_of (long (pos_in b k)) i) z
 
 blocks_more : (long : Pos → Bool) (m b : ℕ) (bs : List Block) (c : Block) → slice_get bs b ≡ Some c →
@@ -47,7 +48,7 @@ blocks_more long m (suc b) (x ∷ bs) c e =
     let z : suc m + b ≡ m + suc b = omega arith in
     ap (λ (k : ℕ). items_size long m 0 x.items + k) more
     ∙ (let k : items_size long m 0 x.items + (blocks_size long (suc m) (take b bs) + items_size long (suc m + b) 0 c.items)
-        ≡ (items_size long m 0 x.items + blocks_size long (suc m) (take b bs)) + items_size long (suc m + b) 0 c.items = omega arith in k)
+    ≡ (items_size long m 0 x.items + blocks_size long (suc m) (take b bs)) + items_size long (suc m + b) 0 c.items = omega arith in k)
     ∙ ap (λ (k : ℕ). (items_size long m 0 x.items + blocks_size long (suc m) (take b bs)) + items_size long k 0 c.items) z
 
 items_at_is : (bs : List Block) (b : ℕ) (c : Block) → slice_get bs b ≡ Some c → items_at bs b ≡ c.items
@@ -104,8 +105,7 @@ module _ (l : Layout) where
       let z : n + 0 ≡ n = omega arith in
       let here : slice_get c.items n ≡ Some x = ap (slice_get c.items) (sym z) ∙ at 0 x refl in
       let next : (j : ℕ) → n + suc j ≡ suc n + j = λ j. omega arith in
-      let w : n + suc (length xs) ≡ suc n + length xs = omega arith in
-      (
+      let w : n + suc (length xs) ≡ suc n + length xs = omega arith in (
         refl,
         subst (λ (a : ℕ). Chained a (sites_in b (suc n) xs ++ ss)) (address_next b n c x e here)
             (chain_items b c e (suc n) xs (λ j i g. ap (slice_get c.items) (sym (next j)) ∙ at (suc j) i g) ss
@@ -137,4 +137,5 @@ module _ (l : Layout) where
   pub chained : Chained l.base (sites_of l.framed)
   chained =
       let own : (j : ℕ) → j ≡ 0 + j = λ j. omega arith in
-      subst (λ (a : ℕ). Chained a (sites_of l.framed)) first_address (chain_blocks 0 l.framed.blocks (λ j c g. ap (slice_get l.framed.blocks) (sym (own j)) ∙ g))
+      subst (λ (a : ℕ). Chained a (sites_of l.framed)) first_address (chain_blocks 0 l.framed.blocks (λ j c g. ap (slice_get l.framed.blocks) (sym (own j)) ∙
+      g))

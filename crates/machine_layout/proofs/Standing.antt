@@ -1,5 +1,6 @@
 -- What stands in an image at the address of an item: its words, and its lines.
-use Rattle.std.proofs.Common.{◌≡◌, ⊎_elim, ◌⊎◌, ℕ, zero, suc, ◌+◌, ◌*◌, ◌<◌, ◌≤◌, ◌^◌, List, [], ◌∷◌, ◌++◌, drop, map, length, slice_get, append_assoc, Option, Some, None, Bool}
+use Rattle.std.proofs.Common.{◌≡◌, ⊎_elim, ◌⊎◌, ℕ, zero, suc, ◌+◌, ◌*◌, ◌<◌, ◌≤◌, ◌^◌, List, [], ◌∷◌, ◌++◌, drop, map, length, slice_get, append_assoc}
+use Rattle.std.proofs.Common.{Option, Some, None, Bool}
 use Rattle.std.proofs.Common.{true, false, cond, nat_eq, IsSome, refl, sym, ap, ◌∙◌, subst, inl, inr, eq-eqb, ne_eqb, arith}
 use Rattle.std.specs.List.{flat_map}
 use Rattle.std.specs.Int.{w32, to_le_bytes}
@@ -20,7 +21,8 @@ use Rattle.mir_func.specs.Successors.{pos_in}
 use Rattle.code_layout.specs.Image.{CodeLine, Image, line_at, word_at}
 use Rattle.code_layout.proofs.Fetching.{word_here}
 use Rattle.code_words.specs.Listed.{Line, line, form_lines, kind_lines, lines_at, lines_of}
-use Rattle.code_words.specs.Rule.{Layout, Form, Nothing, OneWord, CallSite, LongBranch, form_of, form_size, size_of, address_in, operation_at, skip_operation, jump_operation}
+use Rattle.code_words.specs.Rule.{Layout, Form, Nothing, OneWord, CallSite, LongBranch, form_of, form_size, size_of, address_in, operation_at, skip_operation}
+use Rattle.code_words.specs.Rule.{jump_operation}
 use Rattle.code_words.specs.Rule.{call_words, word_if, form_words, kind_words, words_at, words_of, Site, sites_in, sites_from, sites_of}
 use Rattle.machine_steps.specs.Laid.{fetched}
 use Rattle.machine_layout.specs.Images.{code_line, FormHasWords, HasAllWords, IsImageOf}
@@ -47,7 +49,8 @@ bytes_past (w ∷ ws) more rest =
 -- lines that don't stand at an address
 line_past : (ls more : List CodeLine) (x : ℕ) → ((k : ℕ) (l : CodeLine) → slice_get ls k ≡ Some l → l.address ≡ x → ⊥) → line_at (ls ++ more) x ≡ line_at more x
 line_past [] more x h = refl
-line_past (l ∷ ls) more x h = ap (λ (b : Bool). cond b (Some l) (line_at (ls ++ more) x)) (ne_eqb l.address x (h 0 l refl)) ∙ line_past ls more x (λ k m e. h (suc k) m e)
+line_past (l ∷ ls) more x h = ap (λ (b : Bool). cond b (Some l) (line_at (ls ++ more) x)) (ne_eqb l.address x (h 0 l refl))
+    ∙ line_past ls more x (λ k m e. h (suc k) m e)
 
 map_append : (xs ys : List Line) → map code_line (xs ++ ys) ≡ map code_line xs ++ map code_line ys
 map_append [] ys = refl
@@ -100,7 +103,10 @@ module _ (l : Layout) (image : Image) (has : HasAllWords l) where
       (4 * length (form_words l a c x) ≡ form_size x) ×
       ((k : ℕ) (y : CodeLine) → slice_get (map code_line (form_lines l.framed a o c x)) k ≡ Some y → y.address < a + form_size x)
   form_sized a c o Nothing h = (refl, λ k y e. cc)
-  form_sized a c o OneWord h = ((let k = one_word (operation_at l a c) h in let q : 4 * length (word_if (operation_at l a c)) ≡ 4 = omega (arith, k) in q), by_index) where
+  form_sized a c o OneWord h = (
+    (let k = one_word (operation_at l a c) h in let q : 4 * length (word_if (operation_at l a c)) ≡ 4 = omega (arith, k) in q),
+    by_index,
+  ) where
     by_index : (k : ℕ) (y : CodeLine) → slice_get (map code_line (form_lines l.framed a o c OneWord)) k ≡ Some y → y.address < a + 4
     by_index zero y e = let q = one_line _ y e in omega (arith, q)
     by_index (suc k) y e = cc

@@ -11,7 +11,8 @@ use Rattle.mir_func.specs.Graph.{Here}
 use Rattle.mir_func.specs.Objects.{area_of}
 use Rattle.code_layout.specs.Image.{CodeLine, Image}
 use Rattle.code_words.specs.Listed.{Line, lines_of}
-use Rattle.code_words.specs.Rule.{Layout, Form, Nothing, OneWord, CallSite, LongBranch, form_of, address_in, operation_at, skip_operation, jump_operation, words_of}
+use Rattle.code_words.specs.Rule.{Layout, Form, Nothing, OneWord, CallSite, LongBranch, form_of, address_in, operation_at, skip_operation, jump_operation}
+use Rattle.code_words.specs.Rule.{words_of}
 use Rattle.machine_steps.specs.Laid.{fetched, IsLaidAt}
 
 -- a line of the listing as the image has it

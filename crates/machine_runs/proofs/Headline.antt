@@ -36,7 +36,8 @@ use Rattle.machine_steps.proofs.Sites.{step_lands}
 use Rattle.machine_runs.specs.Runs.{FallsTo, ComesFrom, start_beside, RunsBeside}
 use Rattle.machine_runs.proofs.Sources.{IsWritten, aligns_written}
 use Rattle.machine_runs.proofs.Late.{IsFilled}
-use Rattle.mir_meaning.specs.Step.{Outcome, Falls, Goes, Gives, Traps, Asks, Breaks, act, does, with_core, numbered, moved, do_item, answered, slot_loaded, is_fault, address_at}
+use Rattle.mir_meaning.specs.Step.{Outcome, Falls, Goes, Gives, Traps, Asks, Breaks, act, does, with_core, numbered, moved, do_item, answered, slot_loaded}
+use Rattle.mir_meaning.specs.Step.{is_fault, address_at}
 use Rattle.mir_meaning.specs.State.{Reply, writes_frame}
 use Rattle.mir_func.specs.Exits.{row_exit}
 use Rattle.rv64_instr.specs.Row.{Fixes, Moves, Sets, Addresses, Loads, Stores, LoadsSlot, StoresSlot, Branches, Jumps, Calls, Returns, Unfit}
@@ -138,7 +139,8 @@ module _ (source : Function) (f : FramedFunction) (resolve fresolve : OperandPai
   Met m s since o = MetAt source f resolve fresolve image framed from beside laid lists s0 start m s since o
 
   -- the alignment counts as the function's does
-  aligned_as : (s s' : State) (p q : Pos) (since since_g : Since) → Counts source f resolve fresolve image framed from beside laid lists s0 start s p since since_g →
+  aligned_as : (s s' : State) (p q : Pos) (since since_g : Since) →
+      Counts source f resolve fresolve image framed from beside laid lists s0 start s p since since_g →
       (since_g ≡ After → (s.pos ≡ q → ⊥) ⊎ (since ≡ since_g)) → Aligns S (First q) q since_g s s' → Aligns S (First q) q since s s'
   aligned_as s s' p q since since_g (inl e) ne a = subst (λ (z : Since). Aligns S (First q) q z s s') (sym e) a
   aligned_as s s' p q since since_g (inr (e, eg, apart)) ne a = elim (ne eg) as (λ _. Aligns S (First q) q since s s') [
@@ -154,7 +156,8 @@ module _ (source : Function) (f : FramedFunction) (resolve fresolve : OperandPai
     | inr same ↦ subst (λ (z : Since). FailsBefore S (First q) q z s) (sym same) a
   ]
 
-  differs : (s : State) (p q : Pos) (i : Item) (since since_g : Since) → Counts source f resolve fresolve image framed from beside laid lists s0 start s p since since_g →
+  differs : (s : State) (p q : Pos) (i : Item) (since since_g : Since) →
+      Counts source f resolve fresolve image framed from beside laid lists s0 start s p since since_g →
       FallsTo f p q → fetched f q ≡ Here i → is_code i.kind ≡ true → since_g ≡ After → (s.pos ≡ position_of i.origin → ⊥) ⊎ (since ≡ since_g)
   differs s p q i since since_g (inl e) ft here code eg = inr e
   differs s p q i since since_g (inr (e, eg', apart)) ft here code eg = inl (λ z. apart q i ft here code (sym z))
@@ -194,7 +197,8 @@ module _ (source : Function) (f : FramedFunction) (resolve fresolve : OperandPai
         subst (λ (o : Origin). Met m s since o) (sym same) (elim owed as (λ _. Met m s since i.origin) [
           | inl a ↦
               let w = aligns_written S (First q) q since_g s a.0 a.1 written in
-              let r = one_met source f resolve fresolve image framed from beside laid lists nothing s0 start same_objects t' s since_g m i here code z.along z.stands
+              let r = one_met source f resolve fresolve image framed from beside laid lists nothing s0 start same_objects t' s since_g m i here code z.along
+              z.stands
               a.0 w a.1 a.2 one in
               inr (a.0, aligned_as s a.0 t.pos q since since_g counts ne a.1, r.0, r.1)
           | inr e ↦ inl (fails_as s t.pos q since since_g counts ne e)
@@ -204,7 +208,8 @@ module _ (source : Function) (f : FramedFunction) (resolve fresolve : OperandPai
         subst (λ (o : Origin). Met m s since o) (sym same) (elim owed as (λ _. Met m s since (Before q)) [
           | inl a ↦
               let w = aligns_written S (First q) q since_g s a.0 a.1 written in
-              let r = two_met source f resolve fresolve image framed from beside laid lists nothing s0 start same_objects t' s since_g m i here code z.along z.stands
+              let r = two_met source f resolve fresolve image framed from beside laid lists nothing s0 start same_objects t' s since_g m i here code z.along
+              z.stands
               a.0 w a.1 a.2 j at_j oj b exit two in
               inr (a.0, aligned_as s a.0 t.pos q since since_g counts ne a.1, r.0, r.1)
           | inr e ↦ inl (fails_as s t.pos q since since_g counts ne e)
@@ -279,7 +284,8 @@ module _ (source : Function) (f : FramedFunction) (resolve fresolve : OperandPai
       by_origin : (o : Origin) → i.origin ≡ o → StageAt n s (since_of (waits_at false o))
       by_origin (Kept p) eo = dead stop
       by_origin (Before p) eo = elim (from.added h'.pos i ic.code ic.number p here ic.kind eo) as (λ _. StageAt n s Same) [
-        | inl harmless ↦ late_step source f resolve fresolve image framed from beside laid lists s0 start s h' m n stop z.stands i here ic.code ic.number ic.kind code
+        | inl harmless ↦ late_step source f resolve fresolve image framed from beside laid lists s0 start s h' m n stop z.stands i here ic.code ic.number
+            ic.kind code
             harmless full' events' e
         | inr never ↦ absurd (never s (place ∙ ap position_of eo) written stop)
       ]
@@ -305,7 +311,8 @@ module _ (source : Function) (f : FramedFunction) (resolve fresolve : OperandPai
     two_late j at_j (over u x went cont at same k) place = (
       agree_late m s shown_events (λ v e. ends_no_step v x (sym cont ∙ e)),
       λ n e. subst (λ (y : Machine). StageAt y s Same) (one_machine x n (sym cont ∙ e))
-          (late u stop k (lands_next u went) (filled_by source f resolve fresolve image framed from beside laid lists s0 start h'.core u.core same full') (same.events ∙ events')),
+          (late u stop k (lands_next u went) (filled_by source f resolve fresolve image framed from beside laid lists s0 start h'.core u.core same full')
+          (same.events ∙ events')),
     )
     two_late j at_j (through u y x went cont counter bk cont_x same k) place = (
       agree_late m s shown_events (λ v e. ends_no_step v y (sym cont ∙ e)),
@@ -357,7 +364,8 @@ module _ (source : Function) (f : FramedFunction) (resolve fresolve : OperandPai
   -- wherever the machine's run has come beside the source's
   pub stage_along : {m : Machine} {s : State} {since : Since} → MachineAlong S image M0 s0 m s since → StageAt m s since × IsWritten s.core
   stage_along at_start = (
-    level (start_beside s0) Start begin (g_start source f resolve fresolve image framed from beside laid lists nothing s0 start same_objects) (first_lands f framed)
+    level (start_beside s0) Start begin (g_start source f resolve fresolve image framed from beside laid lists nothing s0 start same_objects) (first_lands f
+        framed)
         (inl refl),
     written_start,
   )
@@ -368,7 +376,8 @@ module _ (source : Function) (f : FramedFunction) (resolve fresolve : OperandPai
       elim (meet m s since l before.0 before.1 line) as (λ _. StageAt m' s' (since_of (waits_at false l.origin)) × IsWritten s'.core) [
         | inl fails ↦ absurd (aligns_not_fails S (First p) p refl since s s' aligned fails)
         | inr r ↦ (
-          subst (λ (z : State). StageAt m' z (since_of (waits_at false l.origin))) (aligns_once S (First p) p refl since s r.0 s' r.1 aligned) (r.3 m' continues),
+          subst (λ (z : State). StageAt m' z (since_of (waits_at false l.origin))) (aligns_once S (First p) p refl since s r.0 s' r.1 aligned) (r.3 m'
+              continues),
           w,
         )
       ]

@@ -42,7 +42,8 @@ module _ (f : FramedFunction) (framed : IsFramed f) (resolve : OperandPair → O
   some_one a b e = cc
 
   -- the machine is level with it too
-  pub level_filled : (t : State) (m : Machine) → Level f resolve image laid t m → Level f resolve image laid (record { pos = t.pos; core = filled f t.core m }) m
+  pub level_filled : (t : State) (m : Machine) → Level f resolve image laid t m →
+      Level f resolve image laid (record { pos = t.pos; core = filled f t.core m }) m
   level_filled t m level = record {
     beside = record {
       room = level.beside.room;
@@ -87,7 +88,8 @@ module _ (f : FramedFunction) (framed : IsFramed f) (resolve : OperandPair → O
   loads_quietly rd c None h full = cc
   loads_quietly rd c (Some v) h full = (set_register rd v c, refl, refl, full)
 
-  stores_filled : (n v : ℕ) (slots : ℕ → Option ℕ) → ((o : ℕ) → IsSlotOffset f o → IsSome (slots o)) → (o : ℕ) → IsSlotOffset f o → IsSome (updated n (Some v) slots o)
+  stores_filled : (n v : ℕ) (slots : ℕ → Option ℕ) → ((o : ℕ) → IsSlotOffset f o → IsSome (slots o)) → (o : ℕ) → IsSlotOffset f o →
+      IsSome (updated n (Some v) slots o)
   stores_filled n v slots h o is = by_test (nat_eq o n) where
     by_test : (b : Bool) → IsSome (cond b (Some v) (slots o))
     by_test true = refl

@@ -90,101 +90,108 @@ module _ (source : Function) (f : FramedFunction) (resolve fresolve : OperandPai
     places = λ v place l. absurd (nothing v m.counter place l);
   }
 
-  pub agree_on : (m k : Machine) (t s : State) → m.events ≡ t.core.events → ShownAt t s → machine_step image m ≡ Continues k → MachineAgrees S image lists M0 m s
-  agree_on m k t s events shown cont = agree m t s events shown (λ v e. absurd (ends_no_step v k (sym cont ∙ e))) (λ v e. absurd (ends_no_step v k (sym cont ∙ e)))
+  pub agree_on : (m k : Machine) (t s : State) → m.events ≡ t.core.events → ShownAt t s → machine_step image m ≡ Continues k →
+      MachineAgrees S image lists M0 m s
+  agree_on m k t s events shown cont = agree m t s events shown (λ v e. absurd (ends_no_step v k (sym cont
+      ∙ e))) (λ v e. absurd (ends_no_step v k (sym cont ∙ e)))
 
   -- at code at which the function with its frame stands, aligned with the source
   module _ (t s : State) (since : Since) (m : Machine) (i : Item) (here : fetched f t.pos ≡ Here i) (code : is_code i.kind ≡ true)
       (along : AlongWords source f resolve fresolve image framed from beside laid lists s0 start t s since) (stands : Level f fresolve image laid t m)
-      (s' : State) (written : IsWritten s'.core) (aligned : Aligns S (First (position_of i.origin)) (position_of i.origin) since s s') (shown : ShownAt t s') where
-    ic : IsCode i
-    ic = as_code i code
+      (s' : State) (written : IsWritten s'.core) (aligned : Aligns S (First (position_of i.origin)) (position_of i.origin) since s s') (shown : ShownAt t s')
+    where
+      ic : IsCode i
+      ic = as_code i code
 
-    first_stops : step G t ≡ Faulted → step S s' ≡ Faulted
-    first_stops e = shown.agrees.faults (faults_alike G shown.first t ic.code ic.number i ic.kind here shown.pos shown.code e)
+      first_stops : step G t ≡ Faulted → step S s' ≡ Faulted
+      first_stops e = shown.agrees.faults (faults_alike G shown.first t ic.code ic.number i ic.kind here shown.pos shown.code e)
 
-    first_returns : (v : List ℕ) → step G t ≡ Returned v → step S s' ≡ Returned v
-    first_returns v e = shown.agrees.returns v (returns_alike G shown.first t ic.code ic.number i ic.kind here shown.pos shown.code v e)
+      first_returns : (v : List ℕ) → step G t ≡ Returned v → step S s' ≡ Returned v
+      first_returns v e = shown.agrees.returns v (returns_alike G shown.first t ic.code ic.number i ic.kind here shown.pos shown.code v e)
 
-    station : station_at ByWords G t.pos ≡ Some (station_of ByWords i)
-    station = code_station ByWords G t.pos i here code
+      station : station_at ByWords G t.pos ≡ Some (station_of ByWords i)
+      station = code_station ByWords G t.pos i here code
 
-    along_next : (u : State) → step G t ≡ Went u →
-        AlongWords source f resolve fresolve image framed from beside laid lists s0 start u s' (since_of (waits_at false i.origin))
-    along_next u went = met (station_of ByWords i) along station aligned went
+      along_next : (u : State) → step G t ≡ Went u →
+          AlongWords source f resolve fresolve image framed from beside laid lists s0 start u s' (since_of (waits_at false i.origin))
+      along_next u went = met (station_of ByWords i) along station aligned went
 
-    lands : (u : State) → step G t ≡ Went u → Lands f u.pos
-    lands u went = step_lands f framed fresolve image laid t m stands i here ic.code ic.number ic.kind u went
+      lands : (u : State) → step G t ≡ Went u → Lands f u.pos
+      lands u went = step_lands f framed fresolve image laid t m stands i here ic.code ic.number ic.kind u went
 
-    kept_there : (v : List ℕ) → step G t ≡ Returned v → All (λ r. register m r ≡ register M0 r) KEPT
-    kept_there v ret =
-        let r = along_run S G (station_at ByWords G) First s0 (start_beside s0) along in
-        All-weaker (λ (r : ℕ). read t.core r ≡ read s0.core r) (λ (r : ℕ). register m r ≡ register M0 r)
-        (λ r e. stands.beside.regs r ∙ e ∙ sym (g_start.beside.regs r)) KEPT (beside.keeps s0 start r.0 t v r.1 ret)
+      kept_there : (v : List ℕ) → step G t ≡ Returned v → All (λ r. register m r ≡ register M0 r) KEPT
+      kept_there v ret =
+          let r = along_run S G (station_at ByWords G) First s0 (start_beside s0) along in
+          All-weaker (λ (r : ℕ). read t.core r ≡ read s0.core r) (λ (r : ℕ). register m r ≡ register M0 r)
+          (λ r e. stands.beside.regs r ∙ e ∙ sym (g_start.beside.regs r)) KEPT (beside.keeps s0 start r.0 t v r.1 ret)
 
-    -- it stopped: the source is about to, and the machine goes on
-    goes_late : (n : Machine) → step G t ≡ Faulted → machine_step image m ≡ Continues n → StageAt n s' (since_of (waits_at false i.origin))
-    goes_late n flt e = by_origin i.origin refl where
-      stop : step S s' ≡ Faulted
-      stop = first_stops flt
+      -- it stopped: the source is about to, and the machine goes on
+      goes_late : (n : Machine) → step G t ≡ Faulted → machine_step image m ≡ Continues n → StageAt n s' (since_of (waits_at false i.origin))
+      goes_late n flt e = by_origin i.origin refl where
+        stop : step S s' ≡ Faulted
+        stop = first_stops flt
 
-      h : State
-      h = record { pos = t.pos; core = filled f t.core m }
+        h : State
+        h = record { pos = t.pos; core = filled f t.core m }
 
-      by_origin : (o : Origin) → i.origin ≡ o → StageAt n s' (since_of (waits_at false o))
-      by_origin (Kept q) eo = dead stop
-      by_origin (Before q) eo = elim (from.added t.pos i ic.code ic.number q here ic.kind eo) as (λ _. StageAt n s' Same) [
-        | inl harmless ↦ late_step source f resolve fresolve image framed from beside laid lists s0 start s' (record { pos = t.pos; core = filled f t.core m }) m n stop
-            (level_filled f framed fresolve image laid t m stands) i here ic.code ic.number ic.kind code harmless
-            (is_filled f framed fresolve image laid t.core m) (shown.code.events ∙ shown.agrees.events) e
-        | inr never ↦ absurd (never s' (aligns_at S (First (position_of i.origin)) (position_of i.origin) since s s' aligned ∙ ap position_of eo) written stop)
-      ]
+        by_origin : (o : Origin) → i.origin ≡ o → StageAt n s' (since_of (waits_at false o))
+        by_origin (Kept q) eo = dead stop
+        by_origin (Before q) eo = elim (from.added t.pos i ic.code ic.number q here ic.kind eo) as (λ _. StageAt n s' Same) [
+          | inl harmless ↦ late_step source f resolve fresolve image framed from beside laid lists s0 start s' (record {
+            pos = t.pos;
+            core = filled f t.core m;
+          }) m n stop
+              (level_filled f framed fresolve image laid t m stands) i here ic.code ic.number ic.kind code harmless
+              (is_filled f framed fresolve image laid t.core m) (shown.code.events ∙ shown.agrees.events) e
+          | inr never ↦ absurd (never s' (aligns_at S (First (position_of i.origin)) (position_of i.origin) since s s' aligned ∙ ap position_of eo) written stop)
+        ]
 
-    pub one_met : OneStep f fresolve image laid t m →
-        MachineAgrees S image lists M0 m s' × ((n : Machine) → machine_step image m ≡ Continues n → StageAt n s' (since_of (waits_at false i.origin)))
-    one_met (goes u x went cont l) = (
-      agree_on m x t s' stands.beside.events shown cont,
-      λ n e. (let same = one_machine x n (sym cont ∙ e) in
-          level u (since_of (waits_at false i.origin)) (along_next u went) (subst (Level f fresolve image laid u) same l) (lands u went) (inl refl)),
-    )
-    one_met (gives v ret ends) = (
-      agree m t s' stands.beside.events shown (λ w e. first_returns v ret ∙ ap Returned (one_result v w (sym ends ∙ e))) (λ w e. kept_there v ret),
-      λ n e. absurd (gives_no_step v n (sym ends ∙ e)),
-    )
-    one_met (waits w a) = (
-      agree m t s' stands.beside.events shown (λ v e. absurd (waits_no_end v (sym a ∙ e))) (λ v e. absurd (waits_no_end v (sym a ∙ e))),
-      λ n e. absurd (waits_no_step n (sym a ∙ e)),
-    )
-    one_met (faults flt never) = (
-      agree m t s' stands.beside.events shown (λ v e. absurd (never v e)) (λ v e. absurd (never v e)),
-      λ n e. goes_late n flt e,
-    )
+      pub one_met : OneStep f fresolve image laid t m →
+          MachineAgrees S image lists M0 m s' × ((n : Machine) → machine_step image m ≡ Continues n → StageAt n s' (since_of (waits_at false i.origin)))
+      one_met (goes u x went cont l) = (
+        agree_on m x t s' stands.beside.events shown cont,
+        λ n e. (let same = one_machine x n (sym cont ∙ e) in
+            level u (since_of (waits_at false i.origin)) (along_next u went) (subst (Level f fresolve image laid u) same l) (lands u went) (inl refl)),
+      )
+      one_met (gives v ret ends) = (
+        agree m t s' stands.beside.events shown (λ w e. first_returns v ret ∙ ap Returned (one_result v w (sym ends ∙ e))) (λ w e. kept_there v ret),
+        λ n e. absurd (gives_no_step v n (sym ends ∙ e)),
+      )
+      one_met (waits w a) = (
+        agree m t s' stands.beside.events shown (λ v e. absurd (waits_no_end v (sym a ∙ e))) (λ v e. absurd (waits_no_end v (sym a ∙ e))),
+        λ n e. absurd (waits_no_step n (sym a ∙ e)),
+      )
+      one_met (faults flt never) = (
+        agree m t s' stands.beside.events shown (λ v e. absurd (never v e)) (λ v e. absurd (never v e)),
+        λ n e. goes_late n flt e,
+      )
 
-    apart_below : (b : ℕ) → exit_of i.kind ≡ Perhaps b → (p : Pos) → p ≡ below t.pos → (q : Pos) (j : Item) → FallsTo f p q → fetched f q ≡ Here j →
-        is_code j.kind ≡ true → position_of j.origin ≡ s'.pos → ⊥
-    apart_below b exit p pe q j ft fj cj e =
-        from.apart t.pos q i j b here exit (subst (λ (x : Pos). FallsTo f x q) pe ft) fj cj
-        (e ∙ aligns_at S (First (position_of i.origin)) (position_of i.origin) since s s' aligned)
+      apart_below : (b : ℕ) → exit_of i.kind ≡ Perhaps b → (p : Pos) → p ≡ below t.pos → (q : Pos) (j : Item) → FallsTo f p q → fetched f q ≡ Here j →
+          is_code j.kind ≡ true → position_of j.origin ≡ s'.pos → ⊥
+      apart_below b exit p pe q j ft fj cj e =
+          from.apart t.pos q i j b here exit (subst (λ (x : Pos). FallsTo f x q) pe ft) fj cj
+          (e ∙ aligns_at S (First (position_of i.origin)) (position_of i.origin) since s s' aligned)
 
-    pub two_met : (j : CodeLine) → line_at image.lines (m.counter + 4) ≡ Some j → j.origin ≡ i.origin → (b : ℕ) → exit_of i.kind ≡ Perhaps b →
-        TwoSteps f fresolve image laid t m →
-        MachineAgrees S image lists M0 m s' × ((n : Machine) → machine_step image m ≡ Continues n → StageAt n s' Same)
-    two_met j at_j oj b exit (over u x went cont place same l) = (
-      agree_on m x t s' stands.beside.events shown cont,
-      λ n e. (let one = one_machine x n (sym cont ∙ e) in
-          subst (λ (z : Machine). StageAt z s' Same) one (by_origin i.origin refl)),
-    ) where
-      counts : (o : Origin) → i.origin ≡ o → (Same ≡ since_of (waits_at false o)) ⊎ ((Same ≡ Same) × (since_of (waits_at false o) ≡ After) ×
-          ((q : Pos) (j : Item) → FallsTo f u.pos q → fetched f q ≡ Here j → is_code j.kind ≡ true → position_of j.origin ≡ s'.pos → ⊥))
-      counts (Before q) eo = inl refl
-      counts (Kept q) eo = inr (refl, refl, apart_below b exit u.pos place)
+      pub two_met : (j : CodeLine) → line_at image.lines (m.counter + 4) ≡ Some j → j.origin ≡ i.origin → (b : ℕ) → exit_of i.kind ≡ Perhaps b →
+          TwoSteps f fresolve image laid t m →
+          MachineAgrees S image lists M0 m s' × ((n : Machine) → machine_step image m ≡ Continues n → StageAt n s' Same)
+      two_met j at_j oj b exit (over u x went cont place same l) = (
+        agree_on m x t s' stands.beside.events shown cont,
+        λ n e. (let one = one_machine x n (sym cont ∙ e) in
+            subst (λ (z : Machine). StageAt z s' Same) one (by_origin i.origin refl)),
+      ) where
+        counts : (o : Origin) → i.origin ≡ o → (Same ≡ since_of (waits_at false o)) ⊎ ((Same ≡ Same) × (since_of (waits_at false o) ≡ After) ×
+            ((q : Pos) (j : Item) → FallsTo f u.pos q → fetched f q ≡ Here j → is_code j.kind ≡ true → position_of j.origin ≡ s'.pos → ⊥))
+        counts (Before q) eo = inl refl
+        counts (Kept q) eo = inr (refl, refl, apart_below b exit u.pos place)
 
-      by_origin : (o : Origin) → i.origin ≡ o → StageAt x s' Same
-      by_origin o eo = level u (since_of (waits_at false i.origin)) (along_next u went) l (lands u went) (counts i.origin refl)
-    two_met j at_j oj b exit (through u k x went cont counter bk cont_x same l) = (
-      agree_on m k t s' stands.beside.events shown cont,
-      λ n e. (let one = one_machine k n (sym cont ∙ e) in
-          subst (λ (z : Machine). StageAt z s' Same) one
-          (second t u i j x (ap (line_at image.lines) counter ∙ at_j) oj (aligns_at S (First (position_of i.origin)) (position_of i.origin) since s s' aligned) shown bk
-          cont_x l (lands u went) (along_next u went))),
-    )
+        by_origin : (o : Origin) → i.origin ≡ o → StageAt x s' Same
+        by_origin o eo = level u (since_of (waits_at false i.origin)) (along_next u went) l (lands u went) (counts i.origin refl)
+      two_met j at_j oj b exit (through u k x went cont counter bk cont_x same l) = (
+        agree_on m k t s' stands.beside.events shown cont,
+        λ n e. (let one = one_machine k n (sym cont ∙ e) in
+            subst (λ (z : Machine). StageAt z s' Same) one
+            (second t u i j x (ap (line_at image.lines) counter
+            ∙ at_j) oj (aligns_at S (First (position_of i.origin)) (position_of i.origin) since s s' aligned) shown bk
+            cont_x l (lands u went) (along_next u went))),
+      )

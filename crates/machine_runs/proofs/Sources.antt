@@ -1,5 +1,6 @@
 -- Steps from equal places, and physical registers that stay written.
-use Rattle.std.proofs.Common.{◌≡◌, ℕ, zero, suc, ◌<◌, List, [], ◌∷◌, map, Option, Some, None, Bool, true, false, cond, IsSome, refl, sym, ap, ◌∙◌, subst, inl, inr, eqb}
+use Rattle.std.proofs.Common.{◌≡◌, ℕ, zero, suc, ◌<◌, List, [], ◌∷◌, map, Option, Some, None, Bool, true, false, cond, IsSome, refl, sym, ap, ◌∙◌, subst, inl}
+use Rattle.std.proofs.Common.{inr, eqb}
 use Rattle.rv64_instr.specs.declared.operand.Operand.{Operand}
 use Rattle.rv64_instr.specs.declared.place.Place.{Place}
 use Rattle.rv64_instr.specs.declared.place.Place.TheVariants.{Register, Slot, Const}
@@ -14,7 +15,8 @@ use Rattle.mir_func.specs.declared.item.ItemKind.{ItemKind}
 use Rattle.mir_func.specs.declared.item.ItemKind.TheVariants.{Code, Mark, Phi}
 use Rattle.mir_func.specs.Graph.{Fetch, Here, Silent, Outside, Program, below, block_start}
 use Rattle.mir_meaning.specs.State.{Core, State, Reply, content, put, put_all, writes_frame}
-use Rattle.mir_meaning.specs.Step.{Went, Returned, Faulted, Outcome, Falls, Goes, Gives, Traps, Asks, Breaks, act, does, are_written, is_fault, address_at, answered}
+use Rattle.mir_meaning.specs.Step.{Went, Returned, Faulted, Outcome, Falls, Goes, Gives, Traps, Asks, Breaks, act, does, are_written, is_fault, address_at}
+use Rattle.mir_meaning.specs.Step.{answered}
 use Rattle.mir_meaning.specs.Step.{slot_loaded, numbered, with_core, do_item, do_fetch, moved, step, read, run}
 use Rattle.mir_meaning.specs.Align.{Arrives, here, onward, Since, Start, Same, After, Aligns, Along, begin, other, met, Station}
 use Rattle.mir_meaning.specs.Effects.{SameWorld, EndAlike, AreHeldAlike, OnCore, held_in}
@@ -40,7 +42,8 @@ held_alike c d h (Register r) = ap (λ (regs : ℕ → Option ℕ). content regs
 held_alike c d h (Slot n) = ap (λ (slots : ℕ → Option ℕ). slots n) (sym h.slots)
 held_alike c d h (Const z) = refl
 
-module _ (g : Program) (s t : State) (i : Instruction) (k : Option ℕ) (x : Item) (kind : x.kind ≡ Code i k) (at : g.fetch t.pos ≡ Here x) (place : s.pos ≡ t.pos)
+module _ (g : Program) (s t : State) (i : Instruction) (k : Option ℕ) (x : Item) (kind : x.kind ≡ Code i k) (at : g.fetch t.pos ≡ Here x) (place : s.pos ≡
+    t.pos)
     (same : SameCode t.core s.core) where
   abbrev by : Core → Outcome
   by c = with_core (numbered g.sees_pointer (is_call (row_of i)) k i.operands) (act (row_of i) c)

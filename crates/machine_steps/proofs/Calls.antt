@@ -1,5 +1,6 @@
 -- A call beside the machine's, and what a number of code changes.
-use Rattle.std.proofs.Common.{◌≡◌, ℕ, ◌+◌, ◌%◌, ◌^◌, ◌<◌, List, [], ◌∷◌, map, All, Option, Some, None, Bool, true, false, cond, nat_eq, ◌||◌, refl, sym, ap, ◌∙◌}
+use Rattle.std.proofs.Common.{◌≡◌, ℕ, ◌+◌, ◌%◌, ◌^◌, ◌<◌, List, [], ◌∷◌, map, All, Option, Some, None, Bool, true, false, cond, nat_eq, ◌||◌, refl, sym, ap}
+use Rattle.std.proofs.Common.{◌∙◌}
 use Rattle.std.proofs.Common.{subst}
 use Rattle.std.proofs.lemmas.List.Elements.{All-head, All-tail}
 use Rattle.rv64_instr.specs.declared.operand.Operand.{Operand}
@@ -63,7 +64,13 @@ module _ (f : FramedFunction) (framed : IsFramed f) (c : Core) (m : Machine) (h 
         script = rest;
         events = Called name args ∷ c.events;
       })
-      (past 8 (record m { regs = set_all_in caller_saved r.regs m.regs; memory = written m.memory r.writes; script = rest; events = Called name args ∷ m.events }))
+      (past 8 (record m {
+        regs = set_all_in caller_saved r.regs m.regs;
+        memory = written m.memory r.writes;
+        script = rest;
+        events = Called name args ∷
+            m.events;
+      }))
   beside_answered name args r rest is out = record {
     room = h.room;
     top = h.top;
@@ -91,7 +98,13 @@ module _ (f : FramedFunction) (framed : IsFramed f) (c : Core) (m : Machine) (h 
           script = rs;
           events = Called name args ∷ c.events;
         })))
-        (Continues (past 8 (record m { regs = set_all_in caller_saved r.regs m.regs; memory = written m.memory r.writes; script = rs; events = Called name args ∷ m.events })))
+        (Continues (past 8 (record m {
+          regs = set_all_in caller_saved r.regs m.regs;
+          memory = written m.memory r.writes;
+          script = rs;
+          events = Called name
+              args ∷ m.events;
+        })))
     by_fault true e = tt
     by_fault false e = (
       past 8 (record m { regs = set_all_in caller_saved r.regs m.regs; memory = written m.memory r.writes; script = rs; events = Called name args ∷ m.events }),
@@ -104,7 +117,8 @@ module _ (f : FramedFunction) (framed : IsFramed f) (c : Core) (m : Machine) (h 
   pub calls : (name args : List ℕ) → IsInRange c → FollowsCall f m (does (Calls name args) c) (answered name (map (register m) args) m m.script)
   unfolding does
   calls name args range =
-      subst (λ (rs : List Reply). FollowsCall f m (source.answered name (map (read c) args) c c.script) (answered name (map (register m) args) m rs)) (sym h.script)
+      subst (λ (rs : List Reply). FollowsCall f m (source.answered name (map (read c) args) c c.script) (answered name (map (register m) args) m rs)) (sym
+      h.script)
       (subst (λ (vs : List ℕ). FollowsCall f m (source.answered name (map (read c) args) c c.script) (answered name vs m c.script)) (sym (contents args))
       (call_by name (map (read c) args) c.script range.script))
 

@@ -160,13 +160,19 @@ module _ (f : FramedFunction) where
     leaves : exit_of k ≡ Final → PointerMotion p k
 
   module _ (framed : IsFramed f) where
-    in_body : (p : Pos) (i : Item) (s : StandsAt f p i) (b : ℕ) → (f.size ≡ 0 → ⊥) → p.block ≡ suc b → Motion f.size i.kind (slice_get s.block.items (suc p.item)) →
+    in_body : (p : Pos) (i : Item) (s : StandsAt f p i) (b : ℕ) → (f.size ≡ 0 → ⊥) → p.block ≡ suc b →
+        Motion f.size i.kind (slice_get s.block.items (suc p.item)) →
         fetched f p ≡ Here i → PointerMotion p i.kind
     in_body p i s b ne at (motion.keeps goes leave next) e =
         keeps leave (item_down p i e (λ z _. omega (arith, z, at)) goes) (below_down p i s next) goes
     in_body p i s b ne at (motion.raises l kind next final) e =
-        let goes : exit_of i.kind ≡ Onward = ap exit_of kind ∙ Rattle.machine_steps.proofs.Motions.adds_onward (Rattle.rv64_instr.specs.Arithmetic.word (pos f.size)) in
-        raises kind ne (item_down p i e (λ z _. omega (arith, z, at)) (Rattle.machine_steps.proofs.Motions.onward_not (exit_of i.kind) goes)) (below_up p i s l next final)
+        let goes : exit_of i.kind ≡ Onward = ap exit_of kind
+        ∙ Rattle.machine_steps.proofs.Motions.adds_onward (Rattle.rv64_instr.specs.Arithmetic.word (pos f.size)) in
+        raises kind ne (item_down p i e (λ z _. omega (
+          arith,
+          z,
+          at,
+        )) (Rattle.machine_steps.proofs.Motions.onward_not (exit_of i.kind) goes)) (below_up p i s l next final)
     in_body p i s b ne at (motion.ends final leave) e = leaves final
 
     moves_of : (size : ℕ) (blocks : List Block) → All (λ (b : Block). GivesBack (epilogue_code size f.saved) b.items) blocks → (b : Block) → Contains blocks b →
@@ -187,7 +193,8 @@ module _ (f : FramedFunction) where
       by_item (Some i) e = Rattle.machine_steps.proofs.Motions.onward_not (exit_of i.kind) (h k i e)
 
     -- by the frame's size
-    without : (blocks : List Block) → f.blocks ≡ blocks → f.size ≡ 0 → HasFrame 0 f.saved blocks → (p : Pos) (i : Item) → fetched f p ≡ Here i → PointerMotion p i.kind
+    without : (blocks : List Block) → f.blocks ≡ blocks → f.size ≡ 0 → HasFrame 0 f.saved blocks → (p : Pos) (i : Item) → fetched f p ≡ Here i →
+        PointerMotion p i.kind
     without [] eb es h p i e = absurd h
     without (pro ∷ bs) eb es h p i e = by_index p.block refl
       where
@@ -255,7 +262,8 @@ module _ (f : FramedFunction) where
         lowered_by f (block_start (suc n)) ≡ f.size
     start_of_body [] eb z es h n = absurd h
     start_of_body (pro ∷ bs) eb z es h n = down (block_start (suc n)) (left (nat_eq (suc n) 0 && nat_eq 0 0) (fetch_returns (fetched f (block_start (suc n))))
-        (not_start (block_start (suc n)) (λ b _. omega (arith, b))) (ap (λ (x : List Block). fetch_returns (fetch_in (drop (suc n) x) 0)) eb ∙ by_block (drop n bs) refl))
+        (not_start (block_start (suc n)) (λ b _. omega (arith, b))) (ap (λ (x : List Block). fetch_returns (fetch_in (drop (suc n) x) 0)) eb
+        ∙ by_block (drop n bs) refl))
       where
         by_block : (x : List Block) → drop n bs ≡ x → fetch_returns (fetch_in x 0) ≡ false
         by_block [] e = refl

@@ -258,7 +258,8 @@ module _ (f : FramedFunction) (framed : IsFramed f) (c : Core) (m : Machine) (h 
         let s = framed.small in
         let r = h.room in
         let x = offset_of f.objects n in
-        let k : (register m 2 + ((f.size - area_of f.objects + x) + offset) % 2 ^ 64) % 2 ^ 64 ≡ ((c.entry + (2 ^ 64 - c.area) + c.objects n) % 2 ^ 64 + offset) % 2 ^ 64 =
+        let k : (register m 2 + ((f.size - area_of f.objects + x) + offset) % 2 ^ 64) % 2 ^ 64 ≡ ((c.entry + (2 ^ 64 - c.area) + c.objects n) % 2 ^ 64 +
+        offset) % 2 ^ 64 =
         omega (arith, p, e, a, b, s, r) in k
 
     object_bytes : (n offset w : ℕ) → HasBytes f.objects n (offset + w) → touches_frame c.entry c.area (address_at c (ObjectAt n) offset) w ≡ false
@@ -392,7 +393,8 @@ module _ (f : FramedFunction) (framed : IsFramed f) (c : Core) (m : Machine) (h 
       (λ e. object_bytes q n offset (load_width op) o) (object_pointed q n offset)
   rows target (Stores op rs (PointedBy r) offset) w k range p s o =
       store_by target (address_at c (PointedBy r) offset) (store_width op) (read c rs) (address_of m r offset) (register m rs)
-      (touches_frame c.entry c.area (address_at c (PointedBy r) offset) (store_width op)) (λ e. e) (ap (λ (x : ℕ). (x + offset) % 2 ^ 64) (h.regs r)) (h.regs rs)
+      (touches_frame c.entry c.area (address_at c (PointedBy r) offset) (store_width op)) (λ e. e) (ap (λ (x : ℕ). (x + offset) % 2 ^ 64) (h.regs r)) (h.regs
+      rs)
   rows target (Stores op rs (ObjectAt n) offset) w k range p s o =
       let q = p tt in
       store_by target (address_at c (ObjectAt n) offset) (store_width op) (read c rs)
