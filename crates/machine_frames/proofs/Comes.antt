@@ -284,8 +284,8 @@ module _ (source f : Function) (resolve fresolve : OperandPair → Option Operan
       | inr blk ↦ by_item blk (framed_item_is f blk.block.items p.item i blk.stands)
     ] where
       by_item : (blk : InBlock f p i) → IsFramedItem f blk.block.items p.item i → IsHarmless (row_of c) ⊎ NeverFaults src q
-      by_item blk (gives_back n x at final is) = inl (subst (λ (x : Instruction). IsHarmless (row_of x)) (code_same is.instruction None c k (sym is.kind ∙
-          kind))
+      by_item blk (gives_back n x at final is) = inl (subst (λ (x : Instruction). IsHarmless (row_of x)) (code_same is.instruction None c k (sym is.kind
+          ∙ kind))
           (frame_harmless is.instruction (epilogue_is (size_of f) (saved_of f) is.instruction is.member)))
       by_item blk (own n x at made_of ix) =
           let o = of_f blk.index blk.block blk.rest blk.found n x at in
@@ -361,8 +361,8 @@ module _ (source f : Function) (resolve fresolve : OperandPair → Option Operan
     branch_kept : (p : Pos) (i : Item) (n : ℕ) (blk : InBlock f p i) → exit_of i.kind ≡ Perhaps n → IsFramedItem f blk.block.items p.item i →
         (q : Pos) × (i.origin ≡ Kept q)
     branch_kept p i n blk exit (gives_back m x at fin is) =
-        let bad : Onward ≡ Perhaps n = sym (frame_onward is.instruction (epilogue_is (size_of f) (saved_of f) is.instruction is.member)) ∙
-        ap exit_of (sym is.kind) ∙ exit in cc
+        let bad : Onward ≡ Perhaps n = sym (frame_onward is.instruction (epilogue_is (size_of f) (saved_of f) is.instruction is.member))
+        ∙ ap exit_of (sym is.kind) ∙ exit in cc
     branch_kept p i n blk exit (own m x at made_of ix) =
         let o = of_f blk.index blk.block blk.rest blk.found m x at in
         let ex : exit_of x.kind ≡ Perhaps n = sym (own_exit x) ∙ ap (λ (z : Item). exit_of z.kind) (sym made_of) ∙ exit in
@@ -374,8 +374,8 @@ module _ (source f : Function) (resolve fresolve : OperandPair → Option Operan
           by_kind x o (Code d m) ek ex = by_origin x.origin refl where
             by_origin : (w : Origin) → x.origin ≡ w → (q : Pos) × (x.origin ≡ Kept q)
             by_origin (Kept q) eo = (q, eo)
-            by_origin (Before q) eo = absurd (branch_not_added (row_of d) q.item blk.block.silent n (ap exit_of (sym ek) ∙
-                ex) (fits_before blk.block x d m q ek eo o.fits))
+            by_origin (Before q) eo = absurd (branch_not_added (row_of d) q.item blk.block.silent n (ap exit_of (sym ek)
+                ∙ ex) (fits_before blk.block x d m q ek eo o.fits))
 
     apart_at : (p q : Pos) (i j : Item) (n : ℕ) → fetched (framed_of f) p ≡ Here i → exit_of i.kind ≡ Perhaps n → FallsTo (framed_of f) (below p) q →
         fetched (framed_of f) q ≡ Here j → is_code j.kind ≡ true → position_of j.origin ≡ position_of i.origin → ⊥
@@ -403,13 +403,11 @@ module _ (source f : Function) (resolve fresolve : OperandPair → Option Operan
         by_way (inl k) =
             let kept = branch_kept p i n a exit (framed_item_is f a.block.items p.item i a.stands) in
             let m = got f.blocks a.index a.block (dropped f.blocks a.index a.block a.rest a.found) in
-            let stands : slice_get (framed_items f a.block.items) q.item ≡ Some j = ap (λ (z : Block). slice_get (framed_items f z.items) q.item) blocks ∙
-            b.stands in
+            let stands : slice_get (framed_items f a.block.items) q.item ≡ Some j = ap (λ (z : Block). slice_get (framed_items f z.items) q.item) blocks
+            ∙ b.stands in
             let lt = k.1 in
-            let below_it = in_order_below a.block.id 0 (framed_items f a.block.items) (block_order a.block m) p.item q.item i j a.stands stands (omega (
-              arith,
-              lt,
-            )) in
+            let below_it = in_order_below a.block.id 0 (framed_items f a.block.items) (block_order a.block m) p.item q.item i j a.stands stands (omega
+            (arith, lt)) in
             let up = rank_high j.origin in
             let two : next_rank i.origin ≡ 2 * kept.0.item + 2 = ap next_rank kept.1 in
             let item : (position_of j.origin).item ≡ kept.0.item = ap (λ (z : Pos). z.item) (eq ∙ ap position_of kept.1) in

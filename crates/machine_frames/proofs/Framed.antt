@@ -142,8 +142,8 @@ framed_item_is f (x ∷ xs) k i e =
         (λ _. IsFramedItem f (x ∷ xs) k i) [ inl y ↦ by_exit (is_final (exit_of x.kind)) refl k y | inr y ↦ one y.0 y.1 y.2 ]
 
     later : (m : ℕ) → k ≡ length (framed_item f x) + m → IsFramedItem f xs m i → IsFramedItem f (x ∷ xs) k i
-    later m ek (own n y h same ix) = own (suc n) y h same (λ no_return. (let q = ix no_return in
-        let l = length-append (framed_item f x) (framed_items f (take n xs)) in
+    later m ek (own n y h same ix) = own (suc n) y h same (λ no_return. (let q = ix no_return in let l = length-append (framed_item f x) (framed_items f
+        (take n xs)) in
         ek ∙ ap (λ (z : ℕ). length (framed_item f x) + z) q ∙ sym l))
     later m ek (gives_back n y h final is) = gives_back (suc n) y h final is
 
@@ -269,8 +269,8 @@ framed_order f b n (x ∷ xs) even h =
     q = (position_of x.origin).item
 
     rest : (y : Item) → (position_of y.origin).block ≡ b → n ≤ rank y.origin → InOrder b (next_rank y.origin) (framed_items f xs) →
-        (n ≤ 2 * (position_of y.origin).item) × ((position_of y.origin).block ≡ b) × InOrder b (2 * (position_of y.origin).item) (renamed f.slots y ∷
-        framed_items f xs)
+        (n ≤ 2 * (position_of y.origin).item) × ((position_of y.origin).block ≡ b)
+        × InOrder b (2 * (position_of y.origin).item) (renamed f.slots y ∷ framed_items f xs)
     rest y home le more = (low y.origin le, home, (home, at_least y.origin, more)) where
       low : (o : Origin) → n ≤ rank o → n ≤ 2 * (position_of o).item
       low (Kept p) h = omega (arith, h, even)

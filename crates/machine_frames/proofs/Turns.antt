@@ -1,6 +1,6 @@
 -- A function with its frame has plain turns.
-use Rattle.std.proofs.Common.{◌≡◌, ◌⊎◌, ℕ, zero, suc, ◌+◌, ◌*◌, ◌<◌, ◌≤◌, List, [], ◌∷◌, ◌++◌, drop, take, map, length, All, Contains, slice_get, Option, Some}
-use Rattle.std.proofs.Common.{None, Bool, true, false}
+use Rattle.std.proofs.Common.{◌≡◌, ◌⊎◌, ℕ, zero, suc, ◌+◌, ◌*◌, ◌<◌, ◌≤◌, List, [], ◌∷◌, ◌++◌, drop, take, map, length, All, Contains, slice_get, Option}
+use Rattle.std.proofs.Common.{Some, None, Bool, true, false}
 use Rattle.std.proofs.Common.{cond, nat_eq, refl, sym, ap, ◌∙◌, subst, inl, inr, arith}
 use Rattle.std.proofs.lemmas.Bool.{cases_lt}
 use Rattle.std.proofs.lemmas.List.Elements.{All-contains, All-head, All-tail}
@@ -76,8 +76,8 @@ onward_always : {x : Exit} {n : ℕ} → x ≡ Onward → x ≡ Always n → ⊥
 onward_always {n = n} a b = let bad : Onward ≡ Always n = sym a ∙ b in cc
 
 -- nothing stands after a jump
-ends_last : (xs : List Item) → EndsWell xs → (k l : ℕ) (x y : Item) (n : ℕ) → slice_get xs k ≡ Some x → exit_of x.kind ≡ Always n → slice_get xs l ≡ Some y →
-    k < l → ⊥
+ends_last : (xs : List Item) → EndsWell xs → (k l : ℕ) (x y : Item) (n : ℕ) → slice_get xs k ≡ Some x → exit_of x.kind ≡ Always n →
+    slice_get xs l ≡ Some y → k < l → ⊥
 ends_last [] h k l x y n e ex g lt = cc
 ends_last (z ∷ xs) h zero zero x y n e ex g lt = omega (arith, lt)
 ends_last (z ∷ xs) h zero (suc l) x y n e ex g lt =
@@ -103,8 +103,8 @@ added_of : (o : Origin) → waits_at false o ≡ true → (q : Pos) × (o ≡ Be
 added_of (Kept p) e = cc
 added_of (Before p) e = (p, refl)
 
-module _ (source f : Function) (resolve fresolve : OperandPair → Option OperandPair) (made : IsMadeFrom source f resolve fresolve) (framed : IsFramed
-    (framed_of f)) where
+module _ (source f : Function) (resolve fresolve : OperandPair →
+    Option OperandPair) (made : IsMadeFrom source f resolve fresolve) (framed : IsFramed (framed_of f)) where
   abbrev G : Program
   G = framed_program (framed_of f).blocks fresolve
 
@@ -162,8 +162,8 @@ module _ (source f : Function) (resolve fresolve : OperandPair → Option Operan
   home p q i j hp hq e g eq =
       let a = inner_block p i hp e in
       let b = inner_block q j hq g in
-      let ids : a.block.id ≡ b.block.id = sym (home_of source f resolve fresolve made framed p i a) ∙ eq ∙
-      home_of source f resolve fresolve made framed q j b in
+      let ids : a.block.id ≡ b.block.id = sym (home_of source f resolve fresolve made framed p i a) ∙ eq
+      ∙ home_of source f resolve fresolve made framed q j b in
       a.at ∙ ap suc (index_of_home source f resolve fresolve made framed p q i j a b ids) ∙ sym b.at
 
   same_block : (p q : Pos) (i j : Item) (a : InBlock f p i) (b : InBlock f q j) → p.block ≡ q.block → a.block ≡ b.block
@@ -214,8 +214,8 @@ module _ (source f : Function) (resolve fresolve : OperandPair → Option Operan
           home_of source f resolve fresolve made framed p i x ∙ ap (λ (z : Block). z.id) same ∙ sym (home_of source f resolve fresolve made framed q j y),
           elim (cases_lt p.item q.item) as (λ _. (position_of i.origin).item ≤ (position_of j.origin).item) [
             | inl lt ↦
-                let k = in_order_below x.block.id 0 (framed_items f x.block.items) (block_order source f resolve fresolve made framed x.block m) p.item q.item
-                i j x.stands stands lt in
+                let k = in_order_below x.block.id 0 (framed_items f x.block.items) (block_order source f resolve fresolve made framed x.block m) p.item
+                q.item i j x.stands stands lt in
                 let up = rank_high j.origin in
                 let low = next_low i.origin in
                 omega (arith, k, up, low)
@@ -305,8 +305,8 @@ module _ (source f : Function) (resolve fresolve : OperandPair → Option Operan
     by_origin (Before q) eo = (
       q,
       eo,
-      end_row (row_of d) q.item b.silent (ap (λ (w : Origin). (position_of w).item) (sym eo) ∙
-          at) (fits_before source f resolve fresolve made b x d k q ek eo o.fits),
+      end_row (row_of d) q.item b.silent (ap (λ (w : Origin). (position_of w).item) (sym eo)
+          ∙ at) (fits_before source f resolve fresolve made b x d k q ek eo o.fits),
     )
     by_origin (Kept q) eo =
         let h = subst (RowFits src (row_of d) b.silent) eo (subst (λ (z : ItemKind). KindFits src z b.silent x.origin) ek o.fits) in
@@ -533,8 +533,8 @@ module _ (source f : Function) (resolve fresolve : OperandPair → Option Operan
 
       at_q : image_of f pf ≡ q
       at_q = same_pos (image_of f pf) q
-          (home (image_of f pf) q head.0 j (omega arith) inner_q head.1 g (ap (λ (w : Pos). w.block) (head.2.position ∙
-          ap (λ (w : Item). position_of w.origin) (sym c.is))))
+          (home (image_of f pf) q head.0 j (omega arith) inner_q head.1 g (ap (λ (w : Pos). w.block) (head.2.position
+          ∙ ap (λ (w : Item). position_of w.origin) (sym c.is))))
           (ap (λ (bs : List Block). index_in f (items_in bs) c.index) fd.at ∙ sym c.place)
     way (inl l) =
         let block_y : (position_of hd.0.origin).block ≡ (position_of j.origin).block =

@@ -113,8 +113,7 @@ framed_head f x = by_exit (is_final (exit_of x.kind)) where
   by_code o e [] = (renamed f.slots x, [], refl, own_head)
   by_code o e (c ∷ code) = (
     Rattle.frame_rule.specs.Rule.added o c,
-    map (Rattle.frame_rule.specs.Rule.added o) code ++
-        renamed f.slots x ∷ [],
+    map (Rattle.frame_rule.specs.Rule.added o) code ++ renamed f.slots x ∷ [],
     refl,
     record { position = e; code = λ h. refl },
   )
@@ -147,8 +146,8 @@ module _ (f : Function) (fresolve : OperandPair → Option OperandPair) where
   fetch_image : (p : Pos) (b : Block) (rest : List Block) → from_block f.blocks p.block ≡ b ∷ rest →
       G.fetch (image_of f p) ≡ front (framed_items f (drop p.item b.items)) b.silent (map (framed_block f) rest)
   fetch_image p b rest e =
-      ap (λ (bs : List Block). fetch_in bs (image_of f p).item) (later f (index_of f.blocks p.block) ∙ ap (map (framed_block f)) (drop_index f.blocks p.block ∙
-      e))
+      ap (λ (bs : List Block). fetch_in bs (image_of f p).item) (later f (index_of f.blocks p.block)
+      ∙ ap (map (framed_block f)) (drop_index f.blocks p.block ∙ e))
       ∙ ap (λ (bs : List Block). front (drop (index_in f (items_in bs) p.item) (framed_items f b.items)) b.silent (map (framed_block f) rest)) e
       ∙ ap (λ (is : List Item). front is b.silent (map (framed_block f) rest)) (items_from b p.item)
 
@@ -230,8 +229,8 @@ module _ (f : Function) (fresolve : OperandPair → Option OperandPair) where
 
   kind_way : (k : ItemKind) (p q : Pos) (x : Item) → KindEdge (λ n. n) k p q → (below (image_of f p) ≡ image_of f (below p)) →
       KindEdge G.enter (renamed_kind f.slots k) (image_of f p) (image_of f q)
-  kind_way (Code c n) p q x e bi = subst (λ (r : Row). RowEdge G.enter r (image_of f p) (image_of f q)) (sym (row_renamed f.slots c)) (row_way (row_of c) p q x
-      x e bi)
+  kind_way (Code c n) p q x e bi = subst (λ (r : Row). RowEdge G.enter r (image_of f p) (image_of f q)) (sym (row_renamed f.slots c)) (row_way (row_of c) p q
+      x x e bi)
   kind_way (Mark v m) p q x e bi = ap (image_of f) e ∙ sym bi
   kind_way (Phi r n) p q x e bi = ap (image_of f) e ∙ sym bi
 
@@ -254,8 +253,8 @@ module _ (f : Function) (fresolve : OperandPair → Option OperandPair) where
         let no_return = kind_not_final x.kind p q h in
         let at : G.fetch (image_of f p) ≡ Here (renamed f.slots x) = fetch_image p b rest d
         ∙ ap (λ (is : List Item). front (framed_items f is) b.silent (map (framed_block f) rest)) di
-        ∙ ap (λ (z : Bool). front ((cond z (epilogue f x.origin) [] ++ renamed f.slots x ∷ []) ++
-        framed_items f xs) b.silent (map (framed_block f) rest)) no_return in
+        ∙ ap (λ (z : Bool). front ((cond z (epilogue f x.origin) [] ++ renamed f.slots x ∷ []) ++ framed_items f xs) b.silent (map (framed_block f) rest))
+        no_return in
         subst (λ (z : Fetch). FetchEdge G.enter z (image_of f p) (image_of f q)) (sym at)
         (kind_way x.kind p q x h (below_image p b rest x d at_x no_return))
 

@@ -46,8 +46,8 @@ use Rattle.code_layout.specs.MachineStep.{answered, machine_step}
 use Rattle.code_layout.specs.MachineStep as machine
 use Rattle.code_words.specs.Inverted.{inverted, inverted_op, inverted_branch, skip_of, jump_to, over_bytes}
 use Rattle.code_words.specs.Listed.{line, by_pointer, listed, form_lines, kind_lines, lines_at}
-use Rattle.code_words.specs.Rule.{Layout, Form, Nothing, OneWord, CallSite, LongBranch, row_form, form_of, form_size, size_of, items_at, address_in, offset_to}
-use Rattle.code_words.specs.Rule.{object_offset, operation_at, skip_operation}
+use Rattle.code_words.specs.Rule.{Layout, Form, Nothing, OneWord, CallSite, LongBranch, row_form, form_of, form_size, size_of, items_at, address_in}
+use Rattle.code_words.specs.Rule.{offset_to, object_offset, operation_at, skip_operation}
 use Rattle.code_words.specs.Rule.{jump_operation, word_if, form_words, kind_words, words_at, added_before, Site, sites_of}
 use Rattle.code_words.proofs.Sites.{site_from}
 use Rattle.code_words.proofs.Settled as settled
@@ -365,8 +365,8 @@ module _ (l : Layout) (image : Image) (has : HasAllWords l) (is : IsImageOf l im
       (site_from 0 l.framed.blocks p.block p.item _ p.block i (settled.item_at l.framed.blocks p.block p.item i e) refl own)
 
   -- a block and an index
-  block_at : (p : Pos) (i : Item) → fetched l.framed p ≡ Here i → (c : Block) × (slice_get l.framed.blocks p.block ≡ Some c) ×
-      (slice_get c.items p.item ≡ Some i)
+  block_at : (p : Pos) (i : Item) → fetched l.framed p ≡ Here i → (c : Block) × (slice_get l.framed.blocks p.block ≡ Some c)
+      × (slice_get c.items p.item ≡ Some i)
   block_at p i e =
       let s = Rattle.machine_steps.proofs.Points.stands_at l.framed p i e in
       (s.block, Rattle.machine_steps.proofs.Points.dropped l.framed.blocks p.block s.block s.rest s.found, s.at)
@@ -438,13 +438,13 @@ module _ (l : Layout) (image : Image) (has : HasAllWords l) (is : IsImageOf l im
 
     exits : (n : ℕ) → (row_exit (row_of c) ≡ Perhaps n) ⊎ (row_exit (row_of c) ≡ Always n) →
         at_offset (address_in l p) (offset_to l (address_in l p) (row_exit (row_of c))) ≡ start_of l.framed image (λ q. address_in l q) (target_of (row_of c))
-    exits n h = elim h as (λ _. at_offset (address_in l p) (offset_to l (address_in l p) (row_exit (row_of c))) ≡ start_of l.framed image (λ q. address_in l q)
-        (target_of (row_of c))) [
-          | inl e ↦ ap (λ (x : Exit). at_offset (address_in l p) (offset_to l (address_in l p) x)) e ∙
-              leads_to (address_in l p) _ (small p) (small (block_start (suc (index_of (Rattle.mir_func.specs.SoundFrame.body_of l.framed.blocks) n))))
+    exits n h = elim h as (λ _. at_offset (address_in l p) (offset_to l (address_in l p) (row_exit (row_of c))) ≡ start_of l.framed image (λ q. address_in l
+        q) (target_of (row_of c))) [
+          | inl e ↦ ap (λ (x : Exit). at_offset (address_in l p) (offset_to l (address_in l p) x)) e
+              ∙ leads_to (address_in l p) _ (small p) (small (block_start (suc (index_of (Rattle.mir_func.specs.SoundFrame.body_of l.framed.blocks) n))))
               ∙ ap (λ (z : ℕ). start_of l.framed image (λ q. address_in l q) z) (sym (exit_target (row_of c) n h))
-          | inr e ↦ ap (λ (x : Exit). at_offset (address_in l p) (offset_to l (address_in l p) x)) e ∙
-              leads_to (address_in l p) _ (small p) (small (block_start (suc (index_of (Rattle.mir_func.specs.SoundFrame.body_of l.framed.blocks) n))))
+          | inr e ↦ ap (λ (x : Exit). at_offset (address_in l p) (offset_to l (address_in l p) x)) e
+              ∙ leads_to (address_in l p) _ (small p) (small (block_start (suc (index_of (Rattle.mir_func.specs.SoundFrame.body_of l.framed.blocks) n))))
               ∙ ap (λ (z : ℕ). start_of l.framed image (λ q. address_in l q) z) (sym (exit_target (row_of c) n h))
         ]
 
@@ -455,23 +455,25 @@ module _ (l : Layout) (image : Image) (has : HasAllWords l) (is : IsImageOf l im
         let y : CodeLine = code_line (line (address_in l p) i.origin (listed l.framed c)) in
         let fits = if_some (λ (m : MachineOp). IsTrue (is_encodable m)) (operation_at l (address_in l p) c) o.0
         (lowered_fits (offset_to l (address_in l p) (row_exit (row_of c))) (object_offset l.framed (object_named (row_of c))) c) o.1 in
-        let acts = if_some (λ (m : MachineOp). (x : ℕ) → machine_row x m ≡ placed (at_offset x (offset_to l (address_in l p) (row_exit (row_of c))))
-        (object_offset l.framed (object_named (row_of c))) (row_of c))
+        let acts = if_some (λ (m : MachineOp). (x : ℕ) →
+        machine_row x m ≡ placed (at_offset x (offset_to l (address_in l p) (row_exit (row_of c)))) (object_offset l.framed (object_named (row_of c)))
+        (row_of c))
         (operation_at l (address_in l p) c) o.0
         (lowered_acts (offset_to l (address_in l p) (row_exit (row_of c))) (object_offset l.framed (object_named (row_of c))) c) o.1 in
-        let row = acts (address_in l p) ∙ same_place (row_of c) _ (start_of l.framed image (λ q. address_in l q) (target_of (row_of c))) (object_offset
-        l.framed (object_named (row_of c))) exits
+        let row = acts (address_in l p)
+        ∙ same_place (row_of c) _ (start_of l.framed image (λ q. address_in l q) (target_of (row_of c))) (object_offset l.framed (object_named (row_of
+        c))) exits
         ∙ ap (λ (z : ℕ). placed (start_of l.framed image (λ q. address_in l q) (target_of (row_of c))) z (row_of c)) (same_object l.framed (object_named
         (row_of c))) in
-        let at_it : line_at image.lines (address_in l p) ≡ Some y = lines OneWord f (address_in l p) (omega arith) ∙
-        line_first y st.others (address_in l p) refl in
+        let at_it : line_at image.lines (address_in l p) ≡ Some y = lines OneWord f (address_in l p) (omega arith)
+        ∙ line_first y st.others (address_in l p) refl in
         record {
           line = y;
           stands = at_it;
           origin = refl;
           next = next OneWord f;
-          step = λ m e. do_word m (address_in l p) y o.0 st.more (start_of l.framed image (λ q. address_in l q) (target_of (row_of c))) (object_place l.framed
-              (object_named (row_of c))) (row_of c) e
+          step = λ m e. do_word m (address_in l p) y o.0 st.more (start_of l.framed image (λ q. address_in l q) (target_of (row_of c))) (object_place
+              l.framed (object_named (row_of c))) (row_of c) e
               (no_call_listed l.framed c fit none) at_it (text OneWord f ∙ ap (λ (z : Option MachineOp). bytes (word_if z) ++ st.more) o.1) fits row w;
         }
 
@@ -479,8 +481,8 @@ module _ (l : Layout) (image : Image) (has : HasAllWords l) (is : IsImageOf l im
     call_site name args e =
         let f : form_of (l.long p) (Code c k) ≡ CallSite = ap (row_form (l.long p)) e in
         let y : CodeLine = code_line (line (address_in l p) i.origin (listed l.framed c)) in
-        let at_it : line_at image.lines (address_in l p) ≡ Some y = lines CallSite f (address_in l p) (omega arith) ∙
-        line_first y st.others (address_in l p) refl in
+        let at_it : line_at image.lines (address_in l p) ≡ Some y = lines CallSite f (address_in l p) (omega arith)
+        ∙ line_first y st.others (address_in l p) refl in
         record {
           line = y;
           stands = at_it;
@@ -494,12 +496,11 @@ module _ (l : Layout) (image : Image) (has : HasAllWords l) (is : IsImageOf l im
         let f : form_of (l.long p) (Code c k) ≡ OneWord = ap (row_form (l.long p)) e in
         let ret = returns_op c.op c.operands results e in
         let y : CodeLine = code_line (line (address_in l p) i.origin (listed l.framed c)) in
-        let at_it : line_at image.lines (address_in l p) ≡ Some y = lines OneWord f (address_in l p) (omega arith) ∙
-        line_first y st.others (address_in l p) refl in
+        let at_it : line_at image.lines (address_in l p) ≡ Some y = lines OneWord f (address_in l p) (omega arith)
+        ∙ line_first y st.others (address_in l p) refl in
         let o : operation_at l (address_in l p) c ≡ Some return_op =
         ap (λ (x : Op). lowered (offset_to l (address_in l p) (row_exit (row_of c))) (object_offset l.framed (object_named (row_of c))) (record {
-          op =
-              x;
+          op = x;
           operands = c.operands;
         })) ret.0 in
         let t : drop (address_in l p) image.text ≡ to_le_bytes w32 (word_of return_op) ++ st.more =
@@ -551,8 +552,8 @@ module _ (l : Layout) (image : Image) (has : HasAllWords l) (is : IsImageOf l im
         let acts1 = if_some (λ (m : MachineOp). (x : ℕ) → machine_row x m ≡ placed (at_offset x (pos 8)) 0 (row_of (inverted_branch c))) (skip_operation c) so.0
         (lowered_acts (pos 8) 0 (inverted_branch c)) so.1 in
         let offset2 = offset_to l (address_in l p + 4) (Always n) in
-        let fits2 = if_some (λ (m : MachineOp). IsTrue (is_encodable m)) (jump_operation l (address_in l p) n) jo.0 (lowered_fits (offset_to l (address_in l p
-        + 4) (Always n)) 0 (jump_to n)) jo.1 in
+        let fits2 = if_some (λ (m : MachineOp). IsTrue (is_encodable m)) (jump_operation l (address_in l p) n) jo.0 (lowered_fits (offset_to l (address_in l
+        p + 4) (Always n)) 0 (jump_to n)) jo.1 in
         let acts2 = if_some (λ (m : MachineOp). (x : ℕ) → machine_row x m ≡ placed (at_offset x (offset_to l (address_in l p + 4) (Always n))) 0 (Jumps n))
         (jump_operation l (address_in l p) n) jo.0 (lowered_acts (offset_to l (address_in l p + 4) (Always n)) 0 (jump_to n)) jo.1 in
         let t1 : drop (address_in l p) image.text ≡ to_le_bytes w32 (word_of so.0) ++ (bytes (word_of jo.0 ∷ []) ++ st.more) =
@@ -560,8 +561,8 @@ module _ (l : Layout) (image : Image) (has : HasAllWords l) (is : IsImageOf l im
         ∙ ap (λ (z : Option MachineOp). bytes ((word_of so.0 ∷ []) ++ word_if z) ++ st.more) jo.1 in
         let t2 : drop (address_in l p + 4) image.text ≡ to_le_bytes w32 (word_of jo.0) ++ st.more =
         sym (Rattle.std.proofs.lemmas.List.drop-drop 4 (address_in l p) image.text) ∙ ap (drop 4) t1 in
-        let at1 : line_at image.lines (address_in l p) ≡ Some y1 = lines (LongBranch n) f (address_in l p) (omega arith) ∙
-        line_first y1 (y2 ∷ st.others) (address_in l p) refl in
+        let at1 : line_at image.lines (address_in l p) ≡ Some y1 = lines (LongBranch n) f (address_in l p) (omega arith)
+        ∙ line_first y1 (y2 ∷ st.others) (address_in l p) refl in
         let at2 : line_at image.lines (address_in l p + 4) ≡ Some y2 = lines (LongBranch n) f (address_in l p + 4) (omega arith)
         ∙ line_second y1 y2 st.others (address_in l p + 4) (λ q. omega (arith, q)) refl in
         record {
@@ -575,8 +576,11 @@ module _ (l : Layout) (image : Image) (has : HasAllWords l) (is : IsImageOf l im
           step = λ m g. do_word m (address_in l p) y1 so.0 (bytes (word_of jo.0 ∷ []) ++ st.more) (at_offset (address_in l p) (pos 8)) 0 (Branches (inverted
               op) ra rb n) g inv.1 at1 t1 fits1
               (acts1 (address_in l p) ∙ ap (placed (at_offset (address_in l p) (pos 8)) 0) inv.0) tt
-              ∙ skips op ra rb (at_offset (address_in l p) (pos 8)) m (let q : (address_in l p + 8 % 2 ^ 64) % 2 ^ 64 ≡ m.counter + 8 = omega (arith, s, g) in
-              q);
+              ∙ skips op ra rb (at_offset (address_in l p) (pos 8)) m (let q : (address_in l p + 8 % 2 ^ 64) % 2 ^ 64 ≡ m.counter + 8 = omega (
+                arith,
+                s,
+                g,
+              ) in q);
           jump_step = λ m g. do_word m (address_in l p + 4) y2 jo.0 st.more to 0 (Jumps n) g refl at2 t2 fits2
               (acts2 (address_in l p + 4) ∙ ap (λ (x : ℕ). placed x 0 (Jumps n)) (leads_to (address_in l p + 4) to (omega (arith, s))
               (small (block_start (suc (index_of (Rattle.mir_func.specs.SoundFrame.body_of l.framed.blocks) n)))))) tt
@@ -611,10 +615,10 @@ module _ (l : Layout) (image : Image) (has : HasAllWords l) (is : IsImageOf l im
   debug_next p i e plain = next_address p i e ∙ no_size i.kind refl plain where
     no_size : (k : ItemKind) → i.kind ≡ k → is_code k ≡ false → address_in l p + size_of (l.long p) i ≡ address_in l p
     no_size (Code c n) q h = cc
-    no_size (Mark v m) q h = ap (λ (k : ItemKind). address_in l p + form_size (form_of (l.long p) k)) q ∙ (let z : address_in l p + 0 ≡ address_in l p =
-        omega arith in z)
-    no_size (Phi r n) q h = ap (λ (k : ItemKind). address_in l p + form_size (form_of (l.long p) k)) q ∙ (let z : address_in l p + 0 ≡ address_in l p =
-        omega arith in z)
+    no_size (Mark v m) q h = ap (λ (k : ItemKind). address_in l p + form_size (form_of (l.long p) k)) q
+        ∙ (let z : address_in l p + 0 ≡ address_in l p = omega arith in z)
+    no_size (Phi r n) q h = ap (λ (k : ItemKind). address_in l p + form_size (form_of (l.long p) k)) q
+        ∙ (let z : address_in l p + 0 ≡ address_in l p = omega arith in z)
 
   end_next : (p : Pos) (k n : ℕ) → fetched l.framed p ≡ Silent k n → address_in l (block_start (suc p.block)) ≡ address_in l p
   end_next p k n e = by_blocks (drop p.block l.framed.blocks) refl e where

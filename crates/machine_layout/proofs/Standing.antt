@@ -1,6 +1,6 @@
 -- What stands in an image at the address of an item: its words, and its lines.
-use Rattle.std.proofs.Common.{◌≡◌, ⊎_elim, ◌⊎◌, ℕ, zero, suc, ◌+◌, ◌*◌, ◌<◌, ◌≤◌, ◌^◌, List, [], ◌∷◌, ◌++◌, drop, map, length, slice_get, append_assoc, Option}
-use Rattle.std.proofs.Common.{Some, None, Bool}
+use Rattle.std.proofs.Common.{◌≡◌, ⊎_elim, ◌⊎◌, ℕ, zero, suc, ◌+◌, ◌*◌, ◌<◌, ◌≤◌, ◌^◌, List, [], ◌∷◌, ◌++◌, drop, map, length, slice_get, append_assoc}
+use Rattle.std.proofs.Common.{Option, Some, None, Bool}
 use Rattle.std.proofs.Common.{true, false, cond, nat_eq, IsSome, refl, sym, ap, ◌∙◌, subst, inl, inr, eq-eqb, ne_eqb, arith}
 use Rattle.std.specs.List.{flat_map}
 use Rattle.std.specs.Int.{w32, to_le_bytes}
@@ -49,8 +49,8 @@ bytes_past (w ∷ ws) more rest =
 -- lines that don't stand at an address
 line_past : (ls more : List CodeLine) (x : ℕ) → ((k : ℕ) (l : CodeLine) → slice_get ls k ≡ Some l → l.address ≡ x → ⊥) → line_at (ls ++ more) x ≡ line_at more x
 line_past [] more x h = refl
-line_past (l ∷ ls) more x h = ap (λ (b : Bool). cond b (Some l) (line_at (ls ++ more) x)) (ne_eqb l.address x (h 0 l refl)) ∙
-    line_past ls more x (λ k m e. h (suc k) m e)
+line_past (l ∷ ls) more x h = ap (λ (b : Bool). cond b (Some l) (line_at (ls ++ more) x)) (ne_eqb l.address x (h 0 l refl))
+    ∙ line_past ls more x (λ k m e. h (suc k) m e)
 
 map_append : (xs ys : List Line) → map code_line (xs ++ ys) ≡ map code_line xs ++ map code_line ys
 map_append [] ys = refl
@@ -104,8 +104,7 @@ module _ (l : Layout) (image : Image) (has : HasAllWords l) where
       ((k : ℕ) (y : CodeLine) → slice_get (map code_line (form_lines l.framed a o c x)) k ≡ Some y → y.address < a + form_size x)
   form_sized a c o Nothing h = (refl, λ k y e. cc)
   form_sized a c o OneWord h = (
-    (let k = one_word (operation_at l a c) h in let q : 4 * length (word_if (operation_at l a c)) ≡ 4 = omega (arith, k) in
-        q),
+    (let k = one_word (operation_at l a c) h in let q : 4 * length (word_if (operation_at l a c)) ≡ 4 = omega (arith, k) in q),
     by_index,
   ) where
     by_index : (k : ℕ) (y : CodeLine) → slice_get (map code_line (form_lines l.framed a o c OneWord)) k ≡ Some y → y.address < a + 4

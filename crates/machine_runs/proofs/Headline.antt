@@ -139,8 +139,8 @@ module _ (source : Function) (f : FramedFunction) (resolve fresolve : OperandPai
   Met m s since o = MetAt source f resolve fresolve image framed from beside laid lists s0 start m s since o
 
   -- the alignment counts as the function's does
-  aligned_as : (s s' : State) (p q : Pos) (since since_g : Since) → Counts source f resolve fresolve image framed from beside laid lists s0 start s p since
-      since_g →
+  aligned_as : (s s' : State) (p q : Pos) (since since_g : Since) →
+      Counts source f resolve fresolve image framed from beside laid lists s0 start s p since since_g →
       (since_g ≡ After → (s.pos ≡ q → ⊥) ⊎ (since ≡ since_g)) → Aligns S (First q) q since_g s s' → Aligns S (First q) q since s s'
   aligned_as s s' p q since since_g (inl e) ne a = subst (λ (z : Since). Aligns S (First q) q z s s') (sym e) a
   aligned_as s s' p q since since_g (inr (e, eg, apart)) ne a = elim (ne eg) as (λ _. Aligns S (First q) q since s s') [
@@ -156,8 +156,8 @@ module _ (source : Function) (f : FramedFunction) (resolve fresolve : OperandPai
     | inr same ↦ subst (λ (z : Since). FailsBefore S (First q) q z s) (sym same) a
   ]
 
-  differs : (s : State) (p q : Pos) (i : Item) (since since_g : Since) → Counts source f resolve fresolve image framed from beside laid lists s0 start s p
-      since since_g →
+  differs : (s : State) (p q : Pos) (i : Item) (since since_g : Since) →
+      Counts source f resolve fresolve image framed from beside laid lists s0 start s p since since_g →
       FallsTo f p q → fetched f q ≡ Here i → is_code i.kind ≡ true → since_g ≡ After → (s.pos ≡ position_of i.origin → ⊥) ⊎ (since ≡ since_g)
   differs s p q i since since_g (inl e) ft here code eg = inr e
   differs s p q i since since_g (inr (e, eg', apart)) ft here code eg = inl (λ z. apart q i ft here code (sym z))

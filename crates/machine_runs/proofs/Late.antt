@@ -42,11 +42,8 @@ module _ (f : FramedFunction) (framed : IsFramed f) (resolve : OperandPair → O
   some_one a b e = cc
 
   -- the machine is level with it too
-  pub level_filled : (t : State) (m : Machine) → Level f resolve image laid t m → Level f resolve image laid (record {
-    pos = t.pos;
-    core =
-        filled f t.core m;
-  }) m
+  pub level_filled : (t : State) (m : Machine) → Level f resolve image laid t m →
+      Level f resolve image laid (record { pos = t.pos; core = filled f t.core m }) m
   level_filled t m level = record {
     beside = record {
       room = level.beside.room;

@@ -92,8 +92,8 @@ module _ (source : Function) (f : FramedFunction) (resolve fresolve : OperandPai
 
   pub agree_on : (m k : Machine) (t s : State) → m.events ≡ t.core.events → ShownAt t s → machine_step image m ≡ Continues k →
       MachineAgrees S image lists M0 m s
-  agree_on m k t s events shown cont = agree m t s events shown (λ v e. absurd (ends_no_step v k (sym cont ∙ e))) (λ v e. absurd (ends_no_step v k (sym cont ∙
-      e)))
+  agree_on m k t s events shown cont = agree m t s events shown (λ v e. absurd (ends_no_step v k (sym cont
+      ∙ e))) (λ v e. absurd (ends_no_step v k (sym cont ∙ e)))
 
   -- at code at which the function with its frame stands, aligned with the source
   module _ (t s : State) (since : Since) (m : Machine) (i : Item) (here : fetched f t.pos ≡ Here i) (code : is_code i.kind ≡ true)
@@ -139,13 +139,11 @@ module _ (source : Function) (f : FramedFunction) (resolve fresolve : OperandPai
         by_origin (Before q) eo = elim (from.added t.pos i ic.code ic.number q here ic.kind eo) as (λ _. StageAt n s' Same) [
           | inl harmless ↦ late_step source f resolve fresolve image framed from beside laid lists s0 start s' (record {
             pos = t.pos;
-            core =
-                filled f t.core m;
+            core = filled f t.core m;
           }) m n stop
               (level_filled f framed fresolve image laid t m stands) i here ic.code ic.number ic.kind code harmless
               (is_filled f framed fresolve image laid t.core m) (shown.code.events ∙ shown.agrees.events) e
-          | inr never ↦ absurd (never s' (aligns_at S (First (position_of i.origin)) (position_of i.origin) since s s' aligned ∙
-          ap position_of eo) written stop)
+          | inr never ↦ absurd (never s' (aligns_at S (First (position_of i.origin)) (position_of i.origin) since s s' aligned ∙ ap position_of eo) written stop)
         ]
 
       pub one_met : OneStep f fresolve image laid t m →
@@ -193,8 +191,7 @@ module _ (source : Function) (f : FramedFunction) (resolve fresolve : OperandPai
         agree_on m k t s' stands.beside.events shown cont,
         λ n e. (let one = one_machine k n (sym cont ∙ e) in
             subst (λ (z : Machine). StageAt z s' Same) one
-            (second t u i j x (ap (line_at image.lines) counter ∙ at_j) oj (aligns_at S (First (position_of i.origin)) (position_of i.origin) since s s'
-            aligned)
-            shown bk
+            (second t u i j x (ap (line_at image.lines) counter
+            ∙ at_j) oj (aligns_at S (First (position_of i.origin)) (position_of i.origin) since s s' aligned) shown bk
             cont_x l (lands u went) (along_next u went))),
       )

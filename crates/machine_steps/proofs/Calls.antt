@@ -68,8 +68,8 @@ module _ (f : FramedFunction) (framed : IsFramed f) (c : Core) (m : Machine) (h 
         regs = set_all_in caller_saved r.regs m.regs;
         memory = written m.memory r.writes;
         script = rest;
-        events =
-            Called name args ∷ m.events;
+        events = Called name args ∷
+            m.events;
       }))
   beside_answered name args r rest is out = record {
     room = h.room;
@@ -102,8 +102,8 @@ module _ (f : FramedFunction) (framed : IsFramed f) (c : Core) (m : Machine) (h 
           regs = set_all_in caller_saved r.regs m.regs;
           memory = written m.memory r.writes;
           script = rs;
-          events =
-              Called name args ∷ m.events;
+          events = Called name
+              args ∷ m.events;
         })))
     by_fault true e = tt
     by_fault false e = (

@@ -77,8 +77,8 @@ and_false false b e = refl
 
 -- a byte of the frame, and one of a stack object
 pub is_in_frame : (entry area a : ℕ) → entry ≤ a + FRAME_ROOM → a + area < entry → in_frame entry area a ≡ true
-is_in_frame entry area a lo hi = and_true (nat_le entry (a + FRAME_ROOM)) (nat_lt (a + area) entry) (le-leb entry (a + FRAME_ROOM) lo) (lt-ltb (a + area) entry
-    hi)
+is_in_frame entry area a lo hi = and_true (nat_le entry (a + FRAME_ROOM)) (nat_lt (a + area) entry) (le-leb entry (a + FRAME_ROOM) lo) (lt-ltb (a + area)
+    entry hi)
 
 pub is_above : (entry area a : ℕ) → entry ≤ a + area → in_frame entry area a ≡ false
 is_above entry area a lo = and_false (nat_le entry (a + FRAME_ROOM)) (nat_lt (a + area) entry) (le-ltb (a + area) entry lo)

@@ -166,10 +166,13 @@ module _ (f : FramedFunction) where
     in_body p i s b ne at (motion.keeps goes leave next) e =
         keeps leave (item_down p i e (λ z _. omega (arith, z, at)) goes) (below_down p i s next) goes
     in_body p i s b ne at (motion.raises l kind next final) e =
-        let goes : exit_of i.kind ≡ Onward = ap exit_of kind ∙ Rattle.machine_steps.proofs.Motions.adds_onward (Rattle.rv64_instr.specs.Arithmetic.word (pos
-        f.size)) in
-        raises kind ne (item_down p i e (λ z _. omega (arith, z, at)) (Rattle.machine_steps.proofs.Motions.onward_not (exit_of i.kind) goes)) (below_up p i s l
-        next final)
+        let goes : exit_of i.kind ≡ Onward = ap exit_of kind
+        ∙ Rattle.machine_steps.proofs.Motions.adds_onward (Rattle.rv64_instr.specs.Arithmetic.word (pos f.size)) in
+        raises kind ne (item_down p i e (λ z _. omega (
+          arith,
+          z,
+          at,
+        )) (Rattle.machine_steps.proofs.Motions.onward_not (exit_of i.kind) goes)) (below_up p i s l next final)
     in_body p i s b ne at (motion.ends final leave) e = leaves final
 
     moves_of : (size : ℕ) (blocks : List Block) → All (λ (b : Block). GivesBack (epilogue_code size f.saved) b.items) blocks → (b : Block) → Contains blocks b →
@@ -259,8 +262,8 @@ module _ (f : FramedFunction) where
         lowered_by f (block_start (suc n)) ≡ f.size
     start_of_body [] eb z es h n = absurd h
     start_of_body (pro ∷ bs) eb z es h n = down (block_start (suc n)) (left (nat_eq (suc n) 0 && nat_eq 0 0) (fetch_returns (fetched f (block_start (suc n))))
-        (not_start (block_start (suc n)) (λ b _. omega (arith, b))) (ap (λ (x : List Block). fetch_returns (fetch_in (drop (suc n) x) 0)) eb ∙
-        by_block (drop n bs) refl))
+        (not_start (block_start (suc n)) (λ b _. omega (arith, b))) (ap (λ (x : List Block). fetch_returns (fetch_in (drop (suc n) x) 0)) eb
+        ∙ by_block (drop n bs) refl))
       where
         by_block : (x : List Block) → drop n bs ≡ x → fetch_returns (fetch_in x 0) ≡ false
         by_block [] e = refl

@@ -27,8 +27,8 @@ use Rattle.machine_steps.proofs.Points.{PointerMotion, keeps, lowers, raises, le
 use Rattle.machine_steps.proofs.Lands.{next_index}
 use Rattle.machine_steps.proofs.Sites.{at_code}
 
-module _ (f : FramedFunction) (framed : IsFramed f) (resolve : OperandPair → Option OperandPair) (image : Image) (laid : IsLaidAt f image) (t : State) (m :
-    Machine)
+module _ (f : FramedFunction) (framed : IsFramed f) (resolve : OperandPair →
+    Option OperandPair) (image : Image) (laid : IsLaidAt f image) (t : State) (m : Machine)
     (level : Level f resolve image laid t m) where
   h : Beside f t.core m
   h = level.beside

@@ -32,11 +32,11 @@ first x rest h = All-head IsPhysical x rest h
 
 uses_physical : (os : List Operand) → All IsPhysical os → All Low (implicit_uses os)
 uses_physical [] h = none
-uses_physical (ImplicitUse r ∷ rest) h = by_test (nat_eq r 2) (first (ImplicitUse r) rest h) (uses_physical rest (All-tail IsPhysical (ImplicitUse r) rest h))
-  where
-    by_test : (b : Bool) → r < 32 → All Low (implicit_uses rest) → All Low (cond b (implicit_uses rest) (r ∷ implicit_uses rest))
-    by_test true here more = more
-    by_test false here more = All-cons Low r (implicit_uses rest) here more
+uses_physical (ImplicitUse r ∷ rest) h = by_test (nat_eq r 2) (first (ImplicitUse r) rest h) (uses_physical rest (All-tail IsPhysical (ImplicitUse r) rest
+    h)) where
+      by_test : (b : Bool) → r < 32 → All Low (implicit_uses rest) → All Low (cond b (implicit_uses rest) (r ∷ implicit_uses rest))
+      by_test true here more = more
+      by_test false here more = All-cons Low r (implicit_uses rest) here more
 uses_physical (Def r ∷ rest) h = uses_physical rest (All-tail IsPhysical (Def r) rest h)
 uses_physical (Use r ∷ rest) h = uses_physical rest (All-tail IsPhysical (Use r) rest h)
 uses_physical (ImplicitDef r ∷ rest) h = uses_physical rest (All-tail IsPhysical (ImplicitDef r) rest h)
@@ -73,13 +73,13 @@ reads_by (Registers op) (Def rd ∷ Use a ∷ Use b ∷ rest) h =
 reads_by (Immediate op) (Def rd ∷ Use a ∷ Imm i ∷ rest) h = immediate_physical op rd a (word i) (second (Def rd) (Use a) (Imm i ∷ rest) h)
 reads_by (Immediate op) (Def rd ∷ Object n ∷ Imm i ∷ rest) h = object_physical op rd n (word i)
 reads_by Lui (Def rd ∷ Imm i ∷ rest) h = none
-reads_by (Branch op) (Use a ∷ Use b ∷ Block target ∷ rest) h = two a b (first (Use a) (Use b ∷ Block target ∷ rest) h) (second (Use a) (Use b) (Block target ∷
-    rest) h)
+reads_by (Branch op) (Use a ∷ Use b ∷ Block target ∷ rest) h = two a b (first (Use a) (Use b ∷ Block target ∷ rest) h) (second (Use a) (Use b) (Block target
+    ∷ rest) h)
 reads_by (Load op) (Def rd ∷ Use base ∷ Imm i ∷ rest) h = one base (second (Def rd) (Use base) (Imm i ∷ rest) h)
 reads_by (Load op) (Def rd ∷ Slot n ∷ rest) h = none
 reads_by (Load op) (Def rd ∷ Object n ∷ Imm i ∷ rest) h = none
-reads_by (Store op) (Use rs ∷ Use base ∷ Imm i ∷ rest) h = two rs base (first (Use rs) (Use base ∷ Imm i ∷ rest) h) (second (Use rs) (Use base) (Imm i ∷ rest)
-    h)
+reads_by (Store op) (Use rs ∷ Use base ∷ Imm i ∷ rest) h = two rs base (first (Use rs) (Use base ∷ Imm i ∷ rest) h) (second (Use rs) (Use base) (Imm i ∷
+    rest) h)
 reads_by (Store op) (Use rs ∷ Slot n ∷ rest) h = one rs (first (Use rs) (Slot n ∷ rest) h)
 reads_by (Store op) (Use rs ∷ Object n ∷ Imm i ∷ rest) h = one rs (first (Use rs) (Object n ∷ Imm i ∷ rest) h)
 reads_by Copy (Def rd ∷ Use rs ∷ rest) h = move_physical rd rs (second (Def rd) (Use rs) rest h)

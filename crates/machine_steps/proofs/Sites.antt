@@ -42,8 +42,8 @@ use Rattle.mir_func.specs.Sound.{TargetsIn, ids_of}
 use Rattle.mir_meaning.specs.Step.{Went, Returned, Faulted, Waits, Lost}
 use Rattle.simulation.specs.Words.{SameCode}
 
-module _ (f : FramedFunction) (framed : IsFramed f) (resolve : OperandPair → Option OperandPair) (image : Image) (laid : IsLaidAt f image) (t : State) (m :
-    Machine)
+module _ (f : FramedFunction) (framed : IsFramed f) (resolve : OperandPair →
+    Option OperandPair) (image : Image) (laid : IsLaidAt f image) (t : State) (m : Machine)
     (level : Level f resolve image laid t m) (i : Item) (here : fetched f t.pos ≡ Here i) (c : Instruction) (k : Option ℕ) (kind : i.kind ≡ Code c k) where
   abbrev r : Row
   r = row_of c
@@ -99,8 +99,8 @@ module _ (f : FramedFunction) (framed : IsFramed f) (resolve : OperandPair → O
   falls_pointer : (d : Core) → does r t.core ≡ Falls d → IsPointerAt f (below t.pos) d
   falls_pointer d g = by_motion motion where
     by_motion : PointerMotion f t.pos (Code c k) → IsPointerAt f (below t.pos) d
-    by_motion (keeps leave here_at next on) = kept_pointer (below t.pos) d (on_falls (SamePointer t.core) (does r t.core) d (row_keeps t.core r leave) g) (next
-        ∙ sym here_at)
+    by_motion (keeps leave here_at next on) = kept_pointer (below t.pos) d (on_falls (SamePointer t.core) (does r t.core) d (row_keeps t.core r leave) g)
+        (next ∙ sym here_at)
     by_motion (lowers e ne here_at next) =
         let z = not_zero f.size ne in
         let p = level.pointer ∙ ap (λ (x : ℕ). t.core.entry - x) here_at in
@@ -108,8 +108,8 @@ module _ (f : FramedFunction) (framed : IsFramed f) (resolve : OperandPair → O
         ap (λ (x : ℕ). (x + word (pos 0 -ℤ pos f.size)) % 2 ^ 64) p
         ∙ (let q : t.core.entry - 0 ≡ t.core.entry = omega arith in ap (λ (x : ℕ). (x + word (pos 0 -ℤ pos f.size)) % 2 ^ 64) q)
         ∙ lowers_to t.core.entry f.size z.0 z.1 framed.small h.room h.top in
-        set_two ((read t.core 2 + word (pos 0 -ℤ pos f.size)) % 2 ^ 64) f.size (below t.pos) d (adds_row (pos 0 -ℤ pos f.size) (code_of (adds_to_pointer (pos 0
-        -ℤ pos f.size)) e)) g value next
+        set_two ((read t.core 2 + word (pos 0 -ℤ pos f.size)) % 2 ^ 64) f.size (below t.pos) d (adds_row (pos 0 -ℤ pos f.size) (code_of (adds_to_pointer (pos
+        0 -ℤ pos f.size)) e)) g value next
     by_motion (raises e ne here_at next) =
         let p = level.pointer ∙ ap (λ (x : ℕ). t.core.entry - x) here_at in
         let q : t.core.entry ≡ t.core.entry - 0 = omega arith in
@@ -122,8 +122,8 @@ module _ (f : FramedFunction) (framed : IsFramed f) (resolve : OperandPair → O
   goes_pointer : (n q : ℕ) (d : Core) → does r t.core ≡ Goes n d → IsPointerAt f (block_start (suc q)) d
   goes_pointer n q d g = by_motion motion where
     by_motion : PointerMotion f t.pos (Code c k) → IsPointerAt f (block_start (suc q)) d
-    by_motion (keeps leave here_at next on) = kept_pointer (block_start (suc q)) d (on_goes (SamePointer t.core) (does r t.core) n d (row_keeps t.core r leave)
-        g)
+    by_motion (keeps leave here_at next on) = kept_pointer (block_start (suc q)) d (on_goes (SamePointer t.core) (does r t.core) n d (row_keeps t.core r
+        leave) g)
         (start_down f framed q ∙ sym here_at)
     by_motion (lowers e ne here_at next) =
         let bad : Falls (set_register 2 ((read t.core 2 + word (pos 0 -ℤ pos f.size)) % 2 ^ 64) t.core) ≡ Goes n d =
@@ -142,8 +142,8 @@ module _ (f : FramedFunction) (framed : IsFramed f) (resolve : OperandPair → O
   stepped = step_item (framed_run f resolve image laid) t i (with_core named (does r t.core)) here
       (ap (λ (x : ItemKind). do_item (framed_run f resolve image laid) x t.core) kind ∙ ap (with_core named) done)
 
-  steps_as : (x : Outcome) → does r t.core ≡ x → step (framed_run f resolve image laid) t ≡ moved (framed_run f resolve image laid).enter t.pos (with_core
-      named x)
+  steps_as : (x : Outcome) → does r t.core ≡ x →
+      step (framed_run f resolve image laid) t ≡ moved (framed_run f resolve image laid).enter t.pos (with_core named x)
   steps_as x e = stepped ∙ ap (λ (o : Outcome). moved (framed_run f resolve image laid).enter t.pos (with_core named o)) e
 
   named_pointer : (n : Option ℕ) (p : Pos) (d : Core) → IsPointerAt f p d → IsPointerAt f p (numbered false (is_call r) n c.operands d)
@@ -205,8 +205,8 @@ module _ (f : FramedFunction) (framed : IsFramed f) (resolve : OperandPair → O
   at_branch : (op : BranchOp) (a b n : ℕ) → r ≡ Branches op a b n → HasTwoWords f image laid.address t.pos i op a b n → AtCode f resolve image laid t m i
   unfolding does
   at_branch op a b n e w = double w.line w.jump_line (line_is w.line w.stands)
-      (ap (λ (x : ℕ). Rattle.code_layout.specs.Image.line_at image.lines (x + 4)) level.counter ∙ w.jump_stands) w.origin w.jump_origin n (ap exit_of kind ∙
-      ap row_exit e)
+      (ap (λ (x : ℕ). Rattle.code_layout.specs.Image.line_at image.lines (x + 4)) level.counter ∙ w.jump_stands) w.origin w.jump_origin n (ap exit_of kind
+      ∙ ap row_exit e)
       (by_taken (taken op (read t.core a) (read t.core b)) (ap (λ (x : Row). does x t.core) e)
       (w.step m level.counter ∙ ap (λ (z : Bool). Continues (cond z (past 4 m) (past 8 m)))
       (ap (λ (x : ℕ). taken op x (register m b)) (h.regs a) ∙ ap (taken op (read t.core a)) (h.regs b)))) where
@@ -275,17 +275,17 @@ module _ (f : FramedFunction) (framed : IsFramed f) (resolve : OperandPair → O
         subst (λ (z : State). Lands f z.pos) same (below_lands f framed t.pos i here (λ l. falls_stays r t.core d g (subst (λ (z : ItemKind). Leaves (exit_of
         z)) kind l)))
     by_next (Goes b d) g s =
-        let made : Went (start_state b d) ≡ Went u = sym (ap (λ (o : Outcome). moved (framed_run f resolve image laid).enter t.pos (with_core named o)) g) ∙
-        s in
+        let made : Went (start_state b d) ≡ Went u = sym (ap (λ (o : Outcome). moved (framed_run f resolve image laid).enter t.pos (with_core named o)) g)
+        ∙ s in
         let same : start_state b d ≡ u = cc in
         let targets = subst (TargetsIn (ids_of (body_of f.blocks))) kind
         (of_item f (λ (j : Item). TargetsIn (ids_of (body_of f.blocks)) j.kind) framed.targets t.pos i here) in
         subst (λ (z : State). Lands f z.pos) same (target_lands f framed b (goes_into (ids_of (body_of f.blocks)) r t.core b d targets g))
-    by_next (Gives v) g s = let bad : Returned v ≡ Went u = sym (ap (λ (o : Outcome). moved (framed_run f resolve image laid).enter t.pos (with_core named o))
-        g) ∙ s in cc
-    by_next Traps g s = let bad : Faulted ≡ Went u = sym (ap (λ (o : Outcome). moved (framed_run f resolve image laid).enter t.pos (with_core named o)) g) ∙
-        s in cc
-    by_next Asks g s = let bad : Waits ≡ Went u = sym (ap (λ (o : Outcome). moved (framed_run f resolve image laid).enter t.pos (with_core named o)) g) ∙ s in
-        cc
-    by_next Breaks g s = let bad : Lost ≡ Went u = sym (ap (λ (o : Outcome). moved (framed_run f resolve image laid).enter t.pos (with_core named o)) g) ∙ s in
-        cc
+    by_next (Gives v) g s = let bad : Returned v ≡ Went u = sym (ap (λ (o : Outcome). moved (framed_run f resolve image laid).enter t.pos (with_core named
+        o)) g) ∙ s in cc
+    by_next Traps g s = let bad : Faulted ≡ Went u = sym (ap (λ (o : Outcome). moved (framed_run f resolve image laid).enter t.pos (with_core named o)) g)
+        ∙ s in cc
+    by_next Asks g s = let bad : Waits ≡ Went u = sym (ap (λ (o : Outcome). moved (framed_run f resolve image laid).enter t.pos (with_core named o)) g)
+        ∙ s in cc
+    by_next Breaks g s = let bad : Lost ≡ Went u = sym (ap (λ (o : Outcome). moved (framed_run f resolve image laid).enter t.pos (with_core named o)) g)
+        ∙ s in cc

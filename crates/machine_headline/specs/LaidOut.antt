@@ -1,0 +1,34 @@
+-- The headline of a function that follows a source, lowered to its frame and laid out.
+use Rattle.std.specs.Prelude.{◌≡◌, ℕ, ◌<◌, ◌≤◌, Option}
+use Rattle.rv64_instr.specs.declared.place.Place.{Place}
+use Rattle.mir_func.specs.declared.entry.OperandPair.{OperandPair}
+use Rattle.mir_func.specs.declared.variable.VarId.{VarId}
+use Rattle.mir_func.specs.Function.{Function}
+use Rattle.mir_func.specs.Limits.{MAX_FRAME}
+use Rattle.mir_func.specs.Sound.{AllItems}
+use Rattle.mir_func.specs.SoundFrame.{HasPhysical}
+use Rattle.code_layout.specs.Headline.{Headline}
+use Rattle.code_layout.specs.Image.{Image}
+use Rattle.code_words.specs.Counts.{MAX_WORDS, MAX_BASE, count_of}
+use Rattle.code_words.specs.Laid.{IsWorded}
+use Rattle.code_words.specs.Rule.{Layout}
+use Rattle.frame_rule.specs.Rule.{size_of, framed_of}
+use Rattle.machine_frames.specs.Followers.{IsFollower}
+use Rattle.machine_layout.specs.Images.{IsImageOf}
+
+-- an image of the function with its frame, as it is laid out
+pub record IsImageOfFunction (f : Function) (image : Image) : Type 0 where
+  pub layout : Layout
+  pub framed : layout.framed ≡ framed_of f
+  pub low : layout.base < MAX_BASE
+  pub few : count_of layout.framed.blocks < MAX_WORDS
+  pub worded : IsWorded layout
+  pub laid : IsImageOf layout image
+
+-- The image of each function that follows a source meets the headline of this source, for lists that give nothing: wherever the machine
+-- comes, the source comes along, with the same events and results, and what a function gives back is as at entry; and the machine stops
+-- nowhere but at a return, or at a call that has no answer.
+abbrev pub ImagesMeetTheHeadline : Type 0
+ImagesMeetTheHeadline = (source f : Function) (resolve fresolve : OperandPair → Option OperandPair) (image : Image) →
+    IsFollower source f resolve fresolve → AllItems (λ i. HasPhysical i.kind) f.blocks → size_of f ≤ MAX_FRAME → IsImageOfFunction f image →
+    Headline source resolve image (λ (v : VarId) (a : ℕ) (place : Place). ⊥)
