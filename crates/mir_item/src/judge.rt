@@ -50,8 +50,7 @@ fn entries_of(alloc: Global, forms: &[OperandForm]) -> Result<Vec<SlotId>, Alloc
 /// An item with the location of its line and the stack entries that the line names.
 fn item_of(alloc: Global, line: &ItemForm, kind: ItemKind) -> Result<Judged, JudgeError>
     ensures ok { IfOk result (λ item. item_of line.now (Ok kind) ≡ Ok item) }
-    ensures refused { (refusal : RefusalKind) → result ≡ Err (Refused refusal) →
-        item_of line.now (Ok kind) ≡ Err refusal }
+    ensures refused { (why : RefusalKind) → result ≡ Err (Refused why) → item_of line.now (Ok kind) ≡ Err why }
 {
     let entries = entries_of(alloc, line.operands.as_slice())?;
     Ok(Judged::Item(JudgedItem {
@@ -120,8 +119,7 @@ fn has_no_frame(line: &ItemForm) -> bool
 #[tactic(auto, unfolding(crate::specs::Judge::judged))]
 pub fn judge(alloc: Global, line: &ItemForm, meta: &Metadata) -> Result<Judged, JudgeError>
     ensures ok { IfOk result (λ item. judged meta.now line.now ≡ Ok item) }
-    ensures refused { (refusal : RefusalKind) → result ≡ Err (Refused refusal) →
-        judged meta.now line.now ≡ Err refusal }
+    ensures refused { (why : RefusalKind) → result ≡ Err (Refused why) → judged meta.now line.now ≡ Err why }
 {
     match opcode_of(line.opcode.as_slice()) {
         Some(Opcode::Code(op)) => judge_code(alloc, op, line),
