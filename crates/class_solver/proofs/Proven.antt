@@ -296,7 +296,7 @@ module _ (g : Program) (xs : List Tracked) (start : BlockEntry) (flows : List Fl
         known_here = s.reached (some_hands _ (nonempty (list_all (λ q. false) (handed start flows entries b (preds_at preds b))) refl among h.known_here));
         one = λ y z same.
             let agreed = hand_passes (agree y z) start flows entries b (preds_at preds b) c.block x c.flow among at c.here h.known_here (s.one y z
-                (eq-eqb _ _ same)) in
+            (eq-eqb _ _ same)) in
             c.told y
             ∙ one_past (length x.classes) c.steps x.classes xs c.tokens (source_at c.flow.changes y) (source_at c.flow.changes z)
             (λ i. subst (λ (n : ℕ). slice_index x.classes i ≤ n) (sym k.classes) (k.few i)) (source_fit (length xs) c.flow.changes y w)

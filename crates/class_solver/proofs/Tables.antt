@@ -66,10 +66,10 @@ all_fall t start flows old b e c ps less r falls all = by_case (list_all t (hand
         let is = eqb-true h.block b same in
         let new = hand_passes t start flows (slice_set old b e) c ps h.block e h.flow h.among (here_set old b e h.block less is) h.here r all in
         false≢true (sym f ∙ falls h.entry h.flow (subst (λ (k : ℕ). slice_get old k ≡ Some h.entry) is h.known) h.reached (subst (λ (k : ℕ).
-            slice_get flows k ≡ Some h.flow) is h.here) new)
+        slice_get flows k ≡ Some h.flow) is h.here) new)
     by_block false other =
         false≢true (sym f ∙ hand_passes t start flows (slice_set old b e) c ps h.block h.entry h.flow h.among (there_set old b e h.entry h.block
-            (eqb-false h.block b other) h.known)
+        (eqb-false h.block b other) h.known)
         h.here h.reached all)
 
   by_case : (z : Bool) → list_all t (handed start flows old c ps) ≡ z → list_all t (handed start flows old c ps) ≡ true

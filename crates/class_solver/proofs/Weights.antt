@@ -225,15 +225,15 @@ heavier n e o m l ke ko re ro pe po f differ = by_case (finer_or_same (class_in 
 pub heavy : (n : ℕ) (e : BlockEntry) (m : ℕ) → 0 < n → IsKnown n e → e.reached ≡ true → IsNumbered 1 e.classes m → 0 < weight e
 heavy n e m some k r p = by_lists e.classes e.given (ap (λ (z : Bool). cond z (classes_from 1 e.classes + count_off e.given) 0) r) k.classes k.bits
     (k.off 0) p where
-  by_lists : (cs : List ℕ) (gs : List Bool) → weight e ≡ classes_from 1 cs + count_off gs → length cs ≡ n → length gs ≡ n →
-      (slice_index cs 0 ≡ 0 → slice_index_or gs 0 false ≡ false) → IsNumbered 1 cs m → 0 < weight e
-  by_lists [] gs w lc lg off p = absurd (omega (arith, lc))
-  by_lists (c ∷ cs) [] w lc lg off p = absurd (omega (arith, lg))
-  by_lists (c ∷ cs) (z ∷ gs) w lc lg off (inl (less, p)) =
-      let not_set = off (omega arith) in
-      omega (arith, w, ap (λ (q : Bool). cond q (count_off gs) (suc (count_off gs))) not_set)
-  by_lists (c ∷ cs) (z ∷ gs) w lc lg off (inr (same, p)) =
-      omega (arith, w, numbered_count 1 (c ∷ cs) m (inr (same, p)), numbered_grows 2 cs m p)
+      by_lists : (cs : List ℕ) (gs : List Bool) → weight e ≡ classes_from 1 cs + count_off gs → length cs ≡ n → length gs ≡ n →
+          (slice_index cs 0 ≡ 0 → slice_index_or gs 0 false ≡ false) → IsNumbered 1 cs m → 0 < weight e
+      by_lists [] gs w lc lg off p = absurd (omega (arith, lc))
+      by_lists (c ∷ cs) [] w lc lg off p = absurd (omega (arith, lg))
+      by_lists (c ∷ cs) (z ∷ gs) w lc lg off (inl (less, p)) =
+          let not_set = off (omega arith) in
+          omega (arith, w, ap (λ (q : Bool). cond q (count_off gs) (suc (count_off gs))) not_set)
+      by_lists (c ∷ cs) (z ∷ gs) w lc lg off (inr (same, p)) =
+          omega (arith, w, numbered_count 1 (c ∷ cs) m (inr (same, p)), numbered_grows 2 cs m p)
 
 pub light : (n : ℕ) (e : BlockEntry) → IsShaped n e → (e.reached ≡ true → (m : ℕ) × IsNumbered 1 e.classes m) → weight e ≤ 2 * n
 light n e (inl (r, k)) num =

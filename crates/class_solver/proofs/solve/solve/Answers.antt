@@ -16,7 +16,7 @@ returns-clause-exact c =
     let preds = subst (λ (z : List (List ℕ)). ArePredecessors c.args.flows.now z) (sym c.as_slice.ensures.value) c.in_ok-preds.ensures in
     λ g xs is flows start b e at.
     settled_is_exact _ c.args.start.now c.args.flows.now c.as_slice.result.now c.in_ok-entries.entries.items c.settle.new.entries.items
-        c.settle.new.dirty.items c.in_ok-sweeps.sweeps
+    c.settle.new.dirty.items c.in_ok-sweeps.sweeps
     c.requires.sound preds c.in_ok-entries.ensures.each c.in_ok-sweeps.ensures g xs is flows start b e
     (subst (λ (z : List BlockEntry). slice_get z b ≡ Some e) c.from.ensures at)
 

@@ -28,7 +28,7 @@ pub returns-then-not-changed : goal.returns-then-not-changed
 returns-then-not-changed c =
     unchanged_turn _ _ _ _ _ _ _ _ _ refl c.requires.table c.requires.block
     (subst (Visited c.args.start.now c.args.flows.now c.args.preds.now c.args.entries.now.items c.visit.new.entries.items c.args.block)
-        c.if-not-changed.true c.in_ok-changed.ensures) refl
+    c.if-not-changed.true c.in_ok-changed.ensures) refl
 
 marks : (before after : List Bool) (b : ℕ) (ways ws : List ℕ) → ws ≡ ways →
     ((c : ℕ) → slice_index_or after c true ≡ false → (slice_index_or (slice_set before b false) c true ≡ false) × (Contains ws c → ⊥)) →
@@ -44,7 +44,7 @@ returns c =
     let ways = c.as_slice.ensures ∙ ap (λ (z : Flow). z.ways) (sym c.index-flows-block.is) in
     changed_turn _ _ _ _ _ _ _ _ _ f c.requires.known refl c.requires.sound c.requires.preds c.requires.table c.requires.block c.requires.some
     (subst (Visited c.args.start.now c.args.flows.now c.args.preds.now c.args.entries.now.items c.visit.new.entries.items c.args.block)
-        c.if-not-changed.false c.in_ok-changed.ensures)
+    c.if-not-changed.false c.in_ok-changed.ensures)
     (at_block c.args.flows.now c.args.block f c.requires.block c.index-flows-block.is)
     (c.mark.ensures.long ∙ length-set c.args.dirty.now.items c.args.block false ∙ c.requires.table.marks)
     (marks c.args.dirty.now.items c.mark.new.dirty.items c.args.block f.ways c.as_slice.result.now ways c.mark.ensures.marked)

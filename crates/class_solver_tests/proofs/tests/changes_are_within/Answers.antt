@@ -14,7 +14,7 @@ loop-change-preserved c =
     let more = take_more c.args.changes.now c.loop-change.change-index c.change-item.result c.loop-change-test.true in
     let e = more ∙ ap (λ (z : Change). take c.loop-change.change-index c.args.changes.now ++ z ∷ []) (sym c.change-item.is) in
     subst (AreWithin c.args.things) (sym e) (push c.args.things _ c.change-item.result c.loop-change.invariant (omega arith)
-        (c.if-not-source_is_within.ensures refl))
+    (c.if-not-source_is_within.ensures refl))
 
 pub returns : goal.returns
 returns c = λ yes. subst (AreWithin c.args.things) (take_all _ c.args.changes.now (omega arith)) c.loop-change.invariant

@@ -25,7 +25,7 @@ loop-flow-preserved c =
     let f = c.flow-item.result in
     let changes = subst (AreWithin c.args.things) c.as_slice.ensures (c.if-not-changes_are_within.ensures refl) in
     let ways = subst (λ (z : List ℕ). (d : ℕ) → Contains z d → d < length c.args.flows.now) c.as_slice-in-loop-flow.ensures
-        (c.if-not-ways_are_within.ensures refl) in
+    (c.if-not-ways_are_within.ensures refl) in
     more c.args.things c.args.flows.now c.loop-flow.flow-index f c.loop-flow-test.true c.flow-item.is (changes, ways) c.loop-flow.invariant
 
 pub returns : goal.returns
