@@ -146,8 +146,8 @@ fn new(index: u32) -> Source {
     }
 }
 
-/// Block 0 is followed by 1 and 2, and both by 3. Thing 3 gets what thing 1 has in block 1, and in block 2 what thing 2
-/// has; thing 4 gets a token in block 1 alone; thing 5 gets what thing 1 has in both.
+/// Block 0 is followed by 1 and 2, and both by 3. Thing 3 gets what thing 1 has in block 1, and in block 2 what thing
+/// 2 has; thing 4 gets a token in block 1 alone; thing 5 gets what thing 1 has in both.
 fn diamond(alloc: Global) -> Result<List<Flow>, AllocError> {
     let mut flows = List::new(alloc);
     flows.push(flow(alloc, &[], &[1, 2])?)?;
