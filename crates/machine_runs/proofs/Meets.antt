@@ -143,7 +143,8 @@ module _ (source : Function) (f : FramedFunction) (resolve fresolve : OperandPai
           }) m n stop
               (level_filled f framed fresolve image laid t m stands) i here ic.code ic.number ic.kind code harmless
               (is_filled f framed fresolve image laid t.core m) (shown.code.events ∙ shown.agrees.events) e
-          | inr never ↦ absurd (never s' (aligns_at S (First (position_of i.origin)) (position_of i.origin) since s s' aligned ∙ ap position_of eo) written stop)
+          | inr never ↦ absurd (never s' (aligns_at S (First (position_of i.origin)) (position_of i.origin) since s s' aligned ∙
+              ap position_of eo) written stop)
         ]
 
       pub one_met : OneStep f fresolve image laid t m →
