@@ -22,4 +22,5 @@ loop-token-preserved c =
 
 pub returns : goal.returns
 unfolding none
-returns c = all_single c.args.line.now c.args.start c.loop-token.end c.args.tokens.now c.loop-token.token-index none c.loop-token-test.false c.loop-token.invariant
+returns c = all_single c.args.line.now c.args.start c.loop-token.end c.args.tokens.now c.loop-token.token-index none c.loop-token-test.false
+    c.loop-token.invariant

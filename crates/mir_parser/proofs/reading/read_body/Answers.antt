@@ -15,7 +15,8 @@ returns-in-Some c =
     let body = c.loop-line.body in
     let here = c.line-item.result in
     let said : behind_line meta body c.as_slice.result.now ≡ Err c.in-Some.kind =
-    subst (λ (x : Option RefusalKind). Reads (Ok x) c.take_line.new.body (behind_line meta body c.as_slice.result.now)) c.in-Some.is c.in_ok-cause.ensures.read in
+    subst (λ (x : Option RefusalKind). Reads (Ok x) c.take_line.new.body (behind_line meta body c.as_slice.result.now)) c.in-Some.is
+    c.in_ok-cause.ensures.read in
     stopped meta c.args.lines.now c.loop-line.line-index here body c.in-Some.kind c.loop-line-test.true c.line-item.is c.loop-line.invariant.read
     (ap (behind_line meta body) (sym c.as_slice.ensures) ∙ said)
 
@@ -25,7 +26,8 @@ loop-line-preserved c =
     let body = c.loop-line.body in
     let here = c.line-item.result in
     let said : behind_line meta body c.as_slice.result.now ≡ Ok c.take_line.new.body =
-    subst (λ (x : Option RefusalKind). Reads (Ok x) c.take_line.new.body (behind_line meta body c.as_slice.result.now)) c.in_default.is c.in_ok-cause.ensures.read in
+    subst (λ (x : Option RefusalKind). Reads (Ok x) c.take_line.new.body (behind_line meta body c.as_slice.result.now)) c.in_default.is
+    c.in_ok-cause.ensures.read in
     record {
       read = goes_on meta c.args.lines.now c.loop-line.line-index here body c.take_line.new.body c.loop-line-test.true c.line-item.is
           c.loop-line.invariant.read (ap (behind_line meta body) (sym c.as_slice.ensures) ∙ said);
