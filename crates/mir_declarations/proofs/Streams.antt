@@ -27,20 +27,14 @@ module _ (lines : List Line) (at : ℕ) (here : Line) (ps : List Piece) where
       ap (λ (r : List Line). before_lines ps 0 None (stream_from at r)) (sym parts) ∙ read
 
   -- a line with a fault
-  pub stopped : (kind : RefusalKind) → at < length lines → here ≡ get_or lines at here → before_lines ps 0 None (stream_from at (drop at lines)) ≡ stream_of
-      lines
+  pub stopped : (kind : RefusalKind) → at < length lines → here ≡ get_or lines at here →
+      before_lines ps 0 None (stream_from at (drop at lines)) ≡ stream_of lines
       → (read_of here).fault ≡ Some kind
-      → record {
-        pieces = ps ++ map (piece_of at here.number) (read_of here).tokens;
-        fault = Some (record {
-          line = here.number;
-          kind =
-              kind;
-        });
-      } ≡ stream_of lines
+      → record { pieces = ps ++ map (piece_of at here.number) (read_of here).tokens; fault = Some (record { line = here.number; kind = kind }) } ≡
+      stream_of lines
   stopped kind lt is read fault =
-      ap (λ (f : Option RefusalKind). before_lines ps 0 None (before_lines (map (piece_of at here.number) (read_of here).tokens) here.number f others)) (sym
-      fault)
+      ap (λ (f : Option RefusalKind). before_lines ps 0 None (before_lines (map (piece_of at here.number) (read_of here).tokens) here.number f
+      others)) (sym fault)
       ∙ at_line lt is read
 
   -- a line without one
