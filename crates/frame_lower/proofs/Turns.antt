@@ -62,4 +62,5 @@ saved_next from xs i x offset ys zs l e so_far at more =
     let n : length (take i xs) ≡ i = length-take-le i xs (omega (arith, l)) in
     let o : offset ≡ from + 8 * length (take i xs) = omega (arith, n, at) in
     more ∙ ap (λ (w : List SavedRegister). w ++ record { register = x; offset = offset } ∷ []) so_far
-    ∙ ap (λ (m : ℕ). saved_places from (take i xs) ++ record { register = x; offset = m } ∷ []) o ∙ sym (saved_turn from (take i xs) x) ∙ ap (saved_places from) (sym one)
+    ∙ ap (λ (m : ℕ). saved_places from (take i xs) ++ record { register = x; offset = m } ∷ []) o
+    ∙ sym (saved_turn from (take i xs) x) ∙ ap (saved_places from) (sym one)
