@@ -2,6 +2,7 @@ pub mod Cores
 pub mod ItemsAlike
 pub mod Fits
 pub mod Blocks
+pub mod FrameCode
 pub mod Framing
 pub mod FrameFollows
 pub mod Holding
