@@ -85,7 +85,8 @@ fn pass_item(
 ) -> Result<(), AllocError>
     requires plain { IsPlain item.now }
     requires listed { All MayBeListed places.old }
-    ensures noted { OnOk result ((t : Tokens) → Tracks tracker.old t → Notes tracker.old.variable t item.now places.old places.new) }
+    ensures noted { OnOk result ((t : Tokens) → Tracks tracker.old t →
+        Notes tracker.old.variable t item.now places.old places.new) }
     ensures tracks { OnOk result (Passes tracker.old tracker.new index item.now.kind) }
     ensures variable { tracker.new.variable ≡ tracker.old.variable }
     ensures listed { OnOk result (All MayBeListed places.new) }
@@ -99,7 +100,8 @@ fn pass_item(
 /// Notes the variable's place before an instruction.
 fn note_place(places: &mut Places, tracker: &Tracker, item: &Item) -> Result<(), AllocError>
     requires { All MayBeListed places.old }
-    ensures noted { OnOk result ((t : Tokens) → Tracks tracker.now t → Notes tracker.now.variable t item.now places.old places.new) }
+    ensures noted { OnOk result ((t : Tokens) → Tracks tracker.now t →
+        Notes tracker.now.variable t item.now places.old places.new) }
     ensures listed { OnOk result (All MayBeListed places.new) }
     ensures few { OnOk result (length places.new ≤ length places.old + 1) }
 {

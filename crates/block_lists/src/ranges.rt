@@ -47,8 +47,8 @@ fn ranges_from_start(alloc: Global, places: &[Option<Place>]) -> Result<Ranges, 
     Ok(ranges)
 }
 
-/// The run that goes on after a word: the same one, up to the word's end, or a new one, if any. The range of the one that
-/// was current is appended where it ends.
+/// The run that goes on after a word: the same one, up to the word's end, or a new one, if any. The range of the one
+/// that was current is appended where it ends.
 fn pass_word(
     ranges: &mut Ranges,
     current: Option<Run>,
@@ -56,7 +56,8 @@ fn pass_word(
     place: Option<Place>,
 ) -> Result<Option<Run>, AllocError>
     requires { address < 2 ^ 63 }
-    ensures { IfOk result (λ after. (rest : List (Option Place)) → ranges.new ++ ranges_from (address + 4) after rest ≡ ranges.old ++ ranges_from address current (place ∷ rest)) }
+    ensures { IfOk result (λ after. (rest : List (Option Place)) → ranges.new ++
+        ranges_from (address + 4) after rest ≡ ranges.old ++ ranges_from address current (place ∷ rest)) }
 {
     match place {
         None => {

@@ -114,7 +114,9 @@ impl Tracker {
     /// Gives the number that an instruction carries the token of the register that the instruction sets.
     fn pass_number(&mut self, k: DebugNumber, instr: &Instr) -> Result<(), AllocError>
         ensures none { defined false (slice_get instr.now.operands 0) ≡ None → self.new ≡ self.old }
-        ensures some { OnOk result ((rd : ℕ) → defined false (slice_get instr.now.operands 0) ≡ Some rd → (q : ℕ) → number_at self.new.numbers q ≡ cond (nat_eq q k) (token_at self.old.regs rd) (number_at self.old.numbers q)) }
+        ensures some { OnOk result ((rd : ℕ) → defined false (slice_get instr.now.operands 0) ≡ Some rd → (q : ℕ) →
+            number_at self.new.numbers q ≡ cond (nat_eq q k) (token_at self.old.regs rd) (number_at self.old.numbers
+            q)) }
         ensures regs { self.new.regs ≡ self.old.regs }
         ensures variable { self.new.variable ≡ self.old.variable }
         ensures value { self.new.value ≡ self.old.value }
@@ -248,7 +250,8 @@ fn set_number(
 
 fn entry_regs() -> [Option<Token>; REGISTERS]
     ensures count { length result ≡ 32 }
-    ensures entries { (r : ℕ) → register_at result r ≡ cond (nat_lt r 32 && not (nat_eq r 2)) (Some (Token.Entry r)) None }
+    ensures entries { (r : ℕ) → register_at result r ≡ cond (nat_lt r 32 && not (nat_eq r 2)) (Some (Token.Entry r))
+        None }
 {
     let mut regs = [None; REGISTERS];
     for r in 0..REGISTERS {

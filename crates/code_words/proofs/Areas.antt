@@ -22,7 +22,8 @@ up_from o m sound e =
     omega (arith, e, reach_up o.align m few.0)
 
 -- each ends by the end of the last one
-pub grows : (m : ℕ) (objects : List Object) → AreLaidFrom m objects → ((k : ℕ) (d : Object) → k < length objects → IsSoundObject (get_or objects k d)) → m ≤ end_from m objects
+pub grows : (m : ℕ) (objects : List Object) → AreLaidFrom m objects → ((k : ℕ) (d : Object) → k < length objects → IsSoundObject (get_or objects k d)) →
+    m ≤ end_from m objects
 grows m [] laid sound = omega arith
 grows m (o ∷ objects) laid sound =
     omega (arith, up_from o m (sound 0 o (omega arith)) laid.0, grows (o.offset + o.size) objects laid.1 (λ k d lt. sound (suc k) d (omega arith)))

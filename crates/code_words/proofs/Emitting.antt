@@ -1,5 +1,6 @@
 -- The words and the entries of an item, by what stands for it.
-use Rattle.std.proofs.Common.{◌≡◌, ℕ, zero, suc, ◌+◌, ◌<◌, Bool, true, false, List, [], ◌∷◌, ◌++◌, length, map, take, get_or, Option, Some, None, refl, sym, ap, subst, inl, inr, ◌∙◌, arith}
+use Rattle.std.proofs.Common.{◌≡◌, ℕ, zero, suc, ◌+◌, ◌<◌, Bool, true, false, List, [], ◌∷◌, ◌++◌, length, map, take, get_or, Option, Some, None, refl, sym, ap}
+use Rattle.std.proofs.Common.{subst, inl, inr, ◌∙◌, arith}
 use Rattle.std.specs.Prelude.{◌⊎◌, ℤ, pos, ◌-ℤ◌, ◌+ℤ◌, option_map, slice_get, slice_index, if◌then◌else◌, option_and_then}
 use Rattle.std.specs.List.{flat_map}
 use Rattle.std.proofs.lemmas.List.{append_assoc, append-nil, get_or_read}
@@ -21,7 +22,8 @@ use Rattle.rv64_word.specs.declared.machine_op.MachineOp.{MachineOp}
 use Rattle.rv64_word.specs.declared.word_op.WordOp.{WordOp}
 use Rattle.rv64_word.specs.declared.word_op.WordOp.TheVariants.{Registers, Immediate, Lui, Branch, Load, Store, Jal, Jalr}
 use Rattle.rv64_word.specs.MachineOp.{is_encodable}
-use Rattle.rv64_word.specs.Lowering.{lowered, fields_of, register_fields, immediate_fields, object_fields, upper_fields, branch_fields, load_fields, store_fields, copy_fields, jump_fields, in_range, machine_op}
+use Rattle.rv64_word.specs.Lowering.{lowered, fields_of, register_fields, immediate_fields, object_fields, upper_fields, branch_fields, load_fields}
+use Rattle.rv64_word.specs.Lowering.{store_fields, copy_fields, jump_fields, in_range, machine_op}
 use Rattle.mir_func.specs.declared.block.Block.{Block}
 use Rattle.mir_func.specs.declared.item.Item.{Item}
 use Rattle.mir_func.specs.declared.item.ItemKind.{ItemKind}
@@ -33,7 +35,8 @@ use Rattle.code_words.specs.declared.span.Span.{Span}
 use Rattle.code_words.specs.declared.span.Span.TheVariants.{Nothing, OneWord, CallSite, Short, Long}
 use Rattle.code_words.specs.Inverted.{inverted, inverted_op}
 use Rattle.code_words.specs.Rule as rule
-use Rattle.code_words.specs.Rule.{Layout, Site, Form, form_of, row_form, form_words, form_entries, kind_words, words_at, entries_at, address_in, start_of, operation_at, skip_operation, jump_operation, word_if, call_words, entry, added_before, items_at, sites_in, sites_from}
+use Rattle.code_words.specs.Rule.{Layout, Site, Form, form_of, row_form, form_words, form_entries, kind_words, words_at, entries_at, address_in, start_of}
+use Rattle.code_words.specs.Rule.{operation_at, skip_operation, jump_operation, word_if, call_words, entry, added_before, items_at, sites_in, sites_from}
 use Rattle.code_words.specs.steps.Places.{items_count, first_of}
 use Rattle.code_words.specs.steps.Spans.{row_span, span_of, site_span, sums_from}
 use Rattle.code_words.specs.steps.Plans.{IsPlan}
@@ -46,7 +49,8 @@ use Rattle.code_words.specs.steps.Emitted.{AllStandAt, inverted_word, jump_by}
 pub inv : MachineOp → MachineOp
 inv m = record m { op = inverted_word m.op }
 
-branch_inverted : (op : BranchOp) (operands : List Operand) (offset : ℤ) → branch_fields (inverted op) operands offset ≡ option_map inv (branch_fields op operands offset)
+branch_inverted : (op : BranchOp) (operands : List Operand) (offset : ℤ) → branch_fields (inverted op) operands offset ≡ option_map inv (branch_fields op
+    operands offset)
 unfolding inv
 branch_inverted op (Use a ∷ Use b ∷ OfBlock n ∷ rest) offset = refl
 branch_inverted op operands offset = refl
@@ -120,7 +124,8 @@ op_inverted source.PseudoBr operands offset = jump_kept operands offset
 op_inverted source.PseudoCall operands offset = refl
 op_inverted source.PseudoRet operands offset = refl
 
-branch_format : (op : BranchOp) (rd rs1 rs2 : ℕ) (imm : ℤ) → is_encodable (machine_op (Branch (inverted op)) rd rs1 rs2 imm) ≡ is_encodable (machine_op (Branch op) rd rs1 rs2 imm)
+branch_format : (op : BranchOp) (rd rs1 rs2 : ℕ) (imm : ℤ) → is_encodable (machine_op (Branch (inverted op)) rd rs1 rs2 imm) ≡ is_encodable (machine_op (Branch
+    op) rd rs1 rs2 imm)
 branch_format Beq rd rs1 rs2 imm = refl
 branch_format Bne rd rs1 rs2 imm = refl
 branch_format Blt rd rs1 rs2 imm = refl
@@ -128,7 +133,8 @@ branch_format Bge rd rs1 rs2 imm = refl
 branch_format Bltu rd rs1 rs2 imm = refl
 branch_format Bgeu rd rs1 rs2 imm = refl
 
-word_format : (op : WordOp) (rd rs1 rs2 : ℕ) (imm : ℤ) → is_encodable (machine_op (inverted_word op) rd rs1 rs2 imm) ≡ is_encodable (machine_op op rd rs1 rs2 imm)
+word_format : (op : WordOp) (rd rs1 rs2 : ℕ) (imm : ℤ) → is_encodable (machine_op (inverted_word op) rd rs1 rs2 imm) ≡ is_encodable (machine_op op rd rs1 rs2
+    imm)
 word_format (Branch op) rd rs1 rs2 imm = branch_format op rd rs1 rs2 imm
 word_format (Registers op) rd rs1 rs2 imm = refl
 word_format (Immediate op) rd rs1 rs2 imm = refl
@@ -146,7 +152,10 @@ ranged : (m : MachineOp) → in_range (inv m) ≡ option_map inv (in_range m)
 unfolding inv
 ranged m = ap (λ (z : Bool). if z then Some (inv m) else None) (inverted_format m) ∙ mapped (is_encodable m)
   where
-    mapped : (z : Bool) → (if z then Some (record m { op = inverted_word m.op }) else None) ≡ option_map (λ (x : MachineOp). record x { op = inverted_word x.op }) (if z then Some m else None)
+    mapped : (z : Bool) → (if z then Some (record m { op = inverted_word m.op }) else None) ≡ option_map (λ (x : MachineOp). record x {
+      op =
+          inverted_word x.op;
+    }) (if z then Some m else None)
     mapped true = refl
     mapped false = refl
 
@@ -166,7 +175,8 @@ skip_none i e = ap (option_map inv) e ∙ sym (skipped i)
 
 -- ---- words by what stands there
 
-one_of : (blocks : List Block) (long : Bool) (row : Row) (s : Span) → s ≡ row_span blocks long row → (s ≡ OneWord) ⊎ ((t : ℕ) × (s ≡ Short t)) → row_form long row ≡ rule.OneWord
+one_of : (blocks : List Block) (long : Bool) (row : Row) (s : Span) → s ≡ row_span blocks long row → (s ≡ OneWord) ⊎ ((t : ℕ) × (s ≡ Short t)) →
+    row_form long row ≡ rule.OneWord
 one_of blocks long (Fixes rd n) s e is = refl
 one_of blocks long (Moves rd rs) s e is = refl
 one_of blocks long (Sets rd op a b) s e is = refl
@@ -236,7 +246,8 @@ call_of blocks long (Jumps target) e = absurd cc
 call_of blocks long (Returns results) e = absurd cc
 call_of blocks long Unfit e = absurd cc
 
-one_kind : (blocks : List Block) (long : Bool) (kind : ItemKind) (s : Span) → s ≡ span_of blocks long kind → (s ≡ OneWord) ⊎ ((t : ℕ) × (s ≡ Short t)) → form_of long kind ≡ rule.OneWord
+one_kind : (blocks : List Block) (long : Bool) (kind : ItemKind) (s : Span) → s ≡ span_of blocks long kind → (s ≡ OneWord) ⊎ ((t : ℕ) × (s ≡ Short t)) →
+    form_of long kind ≡ rule.OneWord
 one_kind blocks long (Code i k) s e is = one_of blocks long (row_of i) s e is
 one_kind blocks long (Mark v m) s e (inl is) = absurd cc
 one_kind blocks long (Mark v m) s e (inr is) = let f : s ≡ Short is.0 = is.1 in absurd cc
@@ -269,7 +280,8 @@ none_kind blocks long (Code i k) e = absurd (row_something blocks long (row_of i
 none_kind blocks long (Mark v m) e = refl
 none_kind blocks long (Phi p k) e = refl
 
-pub one_entry : (l : Layout) (s : Site) (a : ℕ) (x : Span) → x ≡ site_span l.framed.blocks l.long s → (x ≡ OneWord) ⊎ ((t : ℕ) × (x ≡ Short t)) → a ≡ address_in l s.point →
+pub one_entry : (l : Layout) (s : Site) (a : ℕ) (x : Span) → x ≡ site_span l.framed.blocks l.long s → (x ≡ OneWord) ⊎ ((t : ℕ) × (x ≡ Short t)) →
+    a ≡ address_in l s.point →
     entry a 4 s.item.origin s.point false ∷ [] ≡ entries_at l s
 one_entry l s a x e is at =
     ap (λ (y : ℕ). entry y 4 s.item.origin s.point false ∷ []) at
@@ -284,7 +296,8 @@ call_entry l s a e at =
 pub no_entry : (l : Layout) (s : Site) → Nothing ≡ site_span l.framed.blocks l.long s → [] ≡ entries_at l s
 no_entry l s e = sym (ap (form_entries (address_in l s.point) s.item.origin s.point) (none_kind l.framed.blocks (l.long s.point) s.item.kind e))
 
-long_kind : (blocks : List Block) (long : Bool) (kind : ItemKind) (t : ℕ) → Long t ≡ span_of blocks long kind → (n : ℕ) × (form_of long kind ≡ rule.LongBranch n)
+long_kind : (blocks : List Block) (long : Bool) (kind : ItemKind) (t : ℕ) → Long t ≡ span_of blocks long kind →
+    (n : ℕ) × (form_of long kind ≡ rule.LongBranch n)
 long_kind blocks long (Code i k) t e = let is = long_of blocks long (row_of i) t e in (is.block, is.form)
 long_kind blocks long (Mark v m) t e = absurd cc
 long_kind blocks long (Phi p k) t e = absurd cc
@@ -309,7 +322,8 @@ sites_in_more b m (x ∷ items) (suc k) j i lt is e =
 mapped_one : {A : Type 0} (f : Site → List A) (xs : List Site) (s : Site) → flat_map f (xs ++ s ∷ []) ≡ flat_map f xs ++ f s
 mapped_one f xs s = flat_map-append f xs (s ∷ []) ∙ ap (λ t. flat_map f xs ++ t) (append-nil (f s))
 
-pub block_turn : {A : Type 0} (f : Site → List A) (b : ℕ) (items : List Item) (k : ℕ) (i : Item) (start acc new : List A) → k < length items → i ≡ get_or items k i →
+pub block_turn : {A : Type 0} (f : Site → List A) (b : ℕ) (items : List Item) (k : ℕ) (i : Item) (start acc new : List A) → k < length items →
+    i ≡ get_or items k i →
     acc ≡ start ++ flat_map f (sites_in b 0 (take k items)) → new ≡ acc ++ f (record { point = pos_in b k; item = i }) →
     new ≡ start ++ flat_map f (sites_in b 0 (take (k + 1) items))
 block_turn f b items k i start acc new lt is e turn =
@@ -345,13 +359,15 @@ pub all_stand : (l : Layout) (p : Plan) → IsPlan l p → (k : ℕ) (b : Block)
 all_stand l p is k b lt at n i within item =
     let blocks = l.framed.blocks in
     let first : slice_index p.table.firsts k ≡ items_count (take k blocks) =
-    ap (λ (fs : List ℕ). slice_index fs k) is.table.firsts ∙ first_at 0 k blocks (omega arith) ∙ (let z : 0 + items_count (take k blocks) ≡ items_count (take k blocks) = omega arith in z) in
+    ap (λ (fs : List ℕ). slice_index fs k) is.table.firsts ∙ first_at 0 k blocks (omega arith) ∙ (let z : 0 + items_count (take k blocks) ≡ items_count (take k
+    blocks) = omega arith in z) in
     let index : slice_index p.table.firsts k + n ≡ items_count (take k blocks) + n = omega (arith, first) in
     let here : slice_get (items_at blocks k) n ≡ Some i = ap (λ (xs : List Item). slice_get xs n) (at_index blocks k b lt at) ∙ got b.items n i within item in
     let site = site_from 0 blocks k n (items_count (take k blocks) + n) k i here refl (omega arith) in
     record {
       span = (λ j. get_or (is.spans j) (index j) Nothing) ∙ span_got (site_span blocks l.long) (sites_from 0 blocks) (items_count (take k blocks) + n) _ site;
-      address = (λ j. is.base j + slice_index (is.sums j) (index j)) ∙ ap (λ spans. l.base + slice_index (sums_from 0 spans) (items_count (take k blocks) + n)) is.spans
+      address = (λ j. is.base j + slice_index (is.sums j) (index j)) ∙ ap (λ spans. l.base + slice_index (sums_from 0 spans) (items_count (take k blocks) + n))
+          is.spans
           ∙ ap (λ (x : ℕ). l.base + x) (sum_here l.long blocks k n i here);
     }
 
@@ -361,7 +377,11 @@ last_or : (j k : ℕ) → j < k + 1 → (j < k) ⊎ (j ≡ k)
 last_or zero zero lt = inr (omega arith)
 last_or zero (suc k) lt = inl (omega arith)
 last_or (suc j) zero lt = absurd (omega arith)
-last_or (suc j) (suc k) lt = elim (last_or j k (omega arith)) as (λ z. (suc j < suc k) ⊎ (suc j ≡ suc k)) [ inl h ↦ inl (omega arith) | inr h ↦ inr (omega arith) ]
+last_or (suc j) (suc k) lt = elim (last_or j k (omega arith)) as (λ z. (suc j < suc k) ⊎ (suc j ≡ suc k)) [
+  | inl h ↦ inl (omega arith)
+  | inr h ↦ inr (omega
+      arith)
+]
 
 pub all_more : {A : Type 0} (P : A → Type 0) (xs : List A) (k : ℕ) (x : A) → k < length xs → x ≡ get_or xs k x →
     ((j : ℕ) (d : A) → j < k → P (get_or xs j d)) → P x → (j : ℕ) (d : A) → j < k + 1 → P (get_or xs j d)

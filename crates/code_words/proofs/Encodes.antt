@@ -1,5 +1,6 @@
 -- Each instruction of a function with its frame has its word.
-use Rattle.std.proofs.Common.{◌≡◌, ℕ, zero, suc, ◌+◌, ◌-◌, ◌%◌, ◌<◌, ◌≤◌, Bool, true, false, List, ◌∷◌, Option, Some, None, refl, sym, ap, subst, inl, inr, ◌∙◌, arith}
+use Rattle.std.proofs.Common.{◌≡◌, ℕ, zero, suc, ◌+◌, ◌-◌, ◌%◌, ◌<◌, ◌≤◌, Bool, true, false, List, ◌∷◌, Option, Some, None, refl, sym, ap, subst, inl, inr, ◌∙◌}
+use Rattle.std.proofs.Common.{arith}
 use Rattle.std.specs.Prelude.{◌⊎◌, ◌&&◌, ℤ, pos, negsuc, ◌-ℤ◌, ◌+ℤ◌, IsTrue, All, Contains, option_and_then, if◌then◌else◌}
 use Rattle.std.specs.List.{list_all}
 use Rattle.std.proofs.lemmas.Bool.Decides.{nat_tests}
@@ -36,7 +37,8 @@ use Rattle.mir_func.specs.Exits.{row_exit}
 use Rattle.mir_func.specs.Objects.{offset_of}
 use Rattle.mir_func.specs.Sound.{SlotIn, ObjectIn, HasBytes}
 use Rattle.mir_func.specs.SoundFrame.{IsPhysical}
-use Rattle.rv64_instr.specs.Form.{is_within, has_12_bits, is_immediate, is_addi, is_implicit, fits_registers, fits_immediate, fits_upper, fits_branch, fits_load, fits_store, fits_copy, fits_jump, has_form}
+use Rattle.rv64_instr.specs.Form.{is_within, has_12_bits, is_immediate, is_addi, is_implicit, fits_registers, fits_immediate, fits_upper, fits_branch}
+use Rattle.rv64_instr.specs.Form.{fits_load, fits_store, fits_copy, fits_jump, has_form}
 use Rattle.rv64_word.specs.MachineOp.{fits, is_encodable, is_even}
 
 -- ---- offsets
@@ -138,7 +140,8 @@ in_format m f e h = subst (λ (x : Format). IsTrue (fits x m)) (sym e) h
 
 register_encodes : (op : RegisterOp) (rd a b : ℕ) → rd < 32 → a < 32 → b < 32 → encodes (machine_op (Registers op) rd a b (pos 0))
 register_encodes op rd a b r s t =
-    in_format (machine_op (Registers op) rd a b (pos 0)) format.Register (register_format op) (is_fit format.Register (machine_op (Registers op) rd a b (pos 0)) (r, s, t, refl))
+    in_format (machine_op (Registers op) rd a b (pos 0)) format.Register (register_format op) (is_fit format.Register (machine_op (Registers op) rd a b (pos
+    0)) (r, s, t, refl))
 
 immediate_encodes : (op : ImmediateOp) (rd a : ℕ) (i : ℤ) → rd < 32 → a < 32 → IsTrue (is_immediate op i) → encodes (machine_op (Immediate op) rd a 0 i)
 immediate_encodes Addi rd a i r s h = is_fit format.Immediate (machine_op (Immediate Addi) rd a 0 i) (r, s, refl, h)
@@ -163,7 +166,8 @@ store_encodes : (op : StoreOp) (a b : ℕ) (i : ℤ) → a < 32 → b < 32 → I
 store_encodes op a b i s t h =
     in_format (machine_op (Store op) 0 a b i) format.Store (store_format op) (is_fit format.Store (machine_op (Store op) 0 a b i) (refl, s, t, h))
 
-branch_encodes : (op : BranchOp) (a b : ℕ) (i : ℤ) → a < 32 → b < 32 → IsTrue (is_within (negsuc 4095) (pos 4094) i) → IsTrue (is_even i) → encodes (machine_op (Branch op) 0 a b i)
+branch_encodes : (op : BranchOp) (a b : ℕ) (i : ℤ) → a < 32 → b < 32 → IsTrue (is_within (negsuc 4095) (pos 4094) i) → IsTrue (is_even i) →
+    encodes (machine_op (Branch op) 0 a b i)
 branch_encodes op a b i s t h e =
     in_format (machine_op (Branch op) 0 a b i) format.Branch (branch_format op) (is_fit format.Branch (machine_op (Branch op) 0 a b i) (refl, s, t, h, e))
 
@@ -227,12 +231,15 @@ jump_word (OfBlock n ∷ rest) offset object form fit =
     with_word offset object (instruction source.PseudoBr (OfBlock n ∷ rest)) (machine_op Jal 0 0 0 offset) refl (jump_encodes offset fit.0 fit.1)
 jump_word operands offset object form fit = absurd cc
 
-upper_word : (operands : List Operand) (offset : ℤ) (object : ℕ) → IsTrue (fits_upper operands) → Physical operands → HasWord offset object (instruction source.Lui operands)
+upper_word : (operands : List Operand) (offset : ℤ) (object : ℕ) → IsTrue (fits_upper operands) → Physical operands →
+    HasWord offset object (instruction source.Lui operands)
 upper_word (Def rd ∷ Imm i ∷ rest) offset object form physical =
-    with_word offset object (instruction source.Lui (Def rd ∷ Imm i ∷ rest)) (machine_op Lui rd 0 0 i) refl (upper_encodes rd i (physical 0 Mask (omega arith)) (left _ _ form))
+    with_word offset object (instruction source.Lui (Def rd ∷ Imm i ∷ rest)) (machine_op Lui rd 0 0 i) refl (upper_encodes rd i (physical 0 Mask (omega arith))
+    (left _ _ form))
 upper_word operands offset object form physical = absurd cc
 
-copy_word : (operands : List Operand) (offset : ℤ) (object : ℕ) → IsTrue (fits_copy operands) → Physical operands → HasWord offset object (instruction source.Copy operands)
+copy_word : (operands : List Operand) (offset : ℤ) (object : ℕ) → IsTrue (fits_copy operands) → Physical operands →
+    HasWord offset object (instruction source.Copy operands)
 copy_word (Def rd ∷ Use rs ∷ rest) offset object form physical =
     with_word offset object (instruction source.Copy (Def rd ∷ Use rs ∷ rest)) (machine_op (Immediate Addi) rd rs 0 (pos 0)) refl
     (immediate_encodes Addi rd rs (pos 0) (physical 0 Mask (omega arith)) (physical 1 Mask (omega arith)) refl)
@@ -264,14 +271,17 @@ module _ (slots : List ℕ) (objects : List Object) (own : ℕ) (low : (n : ℕ)
   place None = 0
   place (Some n) = own + offset_of objects n
 
-  object_word : (op : ImmediateOp) (rd n : ℕ) (i : ℤ) (rest : List Operand) (offset : ℤ) → IsTrue (is_addi op && is_immediate op i && list_all is_implicit rest) → rd < 32 →
+  object_word : (op : ImmediateOp) (rd n : ℕ) (i : ℤ) (rest : List Operand) (offset : ℤ) →
+      IsTrue (is_addi op && is_immediate op i && list_all is_implicit rest) → rd < 32 →
       ObjectIn objects (row_of (instruction (source.Immediate op) (Def rd ∷ OfObject n ∷ Imm i ∷ rest))) →
-      HasWord offset (place (object_named (row_of (instruction (source.Immediate op) (Def rd ∷ OfObject n ∷ Imm i ∷ rest))))) (instruction (source.Immediate op) (Def rd ∷ OfObject n ∷ Imm i ∷ rest))
+      HasWord offset (place (object_named (row_of (instruction (source.Immediate op) (Def rd ∷ OfObject n ∷ Imm i ∷ rest))))) (instruction (source.Immediate
+      op) (Def rd ∷ OfObject n ∷ Imm i ∷ rest))
   object_word Addi rd n i rest offset form r inside =
       let range : IsTrue (has_12_bits i) = left (has_12_bits i) (list_all is_implicit rest) form in
       with_word offset (own + offset_of objects n) (instruction (source.Immediate Addi) (Def rd ∷ OfObject n ∷ Imm i ∷ rest))
       (machine_op (Immediate Addi) rd 2 0 (pos (own + offset_of objects n) +ℤ i)) refl
-      (immediate_encodes Addi rd 2 (pos (own + offset_of objects n) +ℤ i) r (omega arith) (object_sum (own + offset_of objects n) i (room n (word i) inside) range))
+      (immediate_encodes Addi rd 2 (pos (own + offset_of objects n) +ℤ i) r (omega arith) (object_sum (own + offset_of objects n) i (room n (word i) inside)
+      range))
   object_word op rd n i rest offset form r inside = absurd cc
 
   immediate_word : (op : ImmediateOp) (operands : List Operand) (offset : ℤ) → IsTrue (fits_immediate op operands) → Physical operands →
@@ -280,7 +290,8 @@ module _ (slots : List ℕ) (objects : List Object) (own : ℕ) (low : (n : ℕ)
   immediate_word op (Def rd ∷ Use a ∷ Imm i ∷ rest) offset form physical inside =
       with_word offset _ (instruction (source.Immediate op) (Def rd ∷ Use a ∷ Imm i ∷ rest)) (machine_op (Immediate op) rd a 0 i) refl
       (immediate_encodes op rd a i (physical 0 Mask (omega arith)) (physical 1 Mask (omega arith)) (left _ _ form))
-  immediate_word op (Def rd ∷ OfObject n ∷ Imm i ∷ rest) offset form physical inside = object_word op rd n i rest offset form (physical 0 Mask (omega arith)) inside
+  immediate_word op (Def rd ∷ OfObject n ∷ Imm i ∷ rest) offset form physical inside = object_word op rd n i rest offset form (physical 0 Mask (omega arith))
+      inside
   immediate_word op operands offset form physical inside = absurd cc
 
   load_word : (op : LoadOp) (operands : List Operand) (offset : ℤ) → IsTrue (fits_load op operands) → Physical operands →

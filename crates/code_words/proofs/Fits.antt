@@ -13,8 +13,10 @@ use Rattle.rv64_instr.specs.declared.op.StoreOp.{StoreOp}
 use Rattle.rv64_instr.specs.declared.operand.Operand.{Operand}
 use Rattle.rv64_instr.specs.declared.operand.Operand.TheVariants.{Def, Use, Imm, Slot, Object, Block, Symbol, Mask}
 use Rattle.rv64_instr.specs.Arithmetic.{word}
-use Rattle.rv64_instr.specs.Form.{is_addi, is_immediate, is_implicit, fits_registers, fits_immediate, fits_upper, fits_branch, fits_load, fits_store, fits_copy, fits_jump, fits_call, has_form}
-use Rattle.rv64_instr.specs.Row.{Unfit, move_row, add_row, immediate_row, object_row, registers_row, number_row, upper_row, branch_row, load_row, store_row, copy_row, jump_row, call_row, row_by}
+use Rattle.rv64_instr.specs.Form.{is_addi, is_immediate, is_implicit, fits_registers, fits_immediate, fits_upper, fits_branch, fits_load, fits_store, fits_copy}
+use Rattle.rv64_instr.specs.Form.{fits_jump, fits_call, has_form}
+use Rattle.rv64_instr.specs.Row.{Unfit, move_row, add_row, immediate_row, object_row, registers_row, number_row, upper_row, branch_row, load_row, store_row}
+use Rattle.rv64_instr.specs.Row.{copy_row, jump_row, call_row, row_by}
 
 moves_fit : (rd rs : ℕ) → move_row rd rs ≡ Unfit → ⊥
 moves_fit rd zero e = cc
@@ -44,7 +46,8 @@ registers_fit : (op : RegisterOp) (operands : List Operand) → IsTrue (fits_reg
 registers_fit op (Def rd ∷ Use a ∷ Use b ∷ rest) form e = cc
 registers_fit op operands form e = absurd cc
 
-object_fit : (op : ImmediateOp) (rd n : ℕ) (i : ℤ) (rest : List Operand) → IsTrue (is_addi op && is_immediate op i && list_all is_implicit rest) → object_row op rd n (word i) ≡ Unfit → ⊥
+object_fit : (op : ImmediateOp) (rd n : ℕ) (i : ℤ) (rest : List Operand) → IsTrue (is_addi op && is_immediate op i && list_all is_implicit rest) →
+    object_row op rd n (word i) ≡ Unfit → ⊥
 object_fit Addi rd n i rest form e = cc
 object_fit op rd n i rest form e = absurd cc
 

@@ -1,5 +1,6 @@
 -- A round, as the loop makes it, and the sums of spans.
-use Rattle.std.proofs.Common.{◌≡◌, ℕ, zero, suc, ◌+◌, ◌<◌, ◌≤◌, Bool, true, false, cond, List, [], ◌∷◌, ◌++◌, length, take, drop, set, get_or, refl, sym, ap, subst, ◌∙◌, arith}
+use Rattle.std.proofs.Common.{◌≡◌, ℕ, zero, suc, ◌+◌, ◌<◌, ◌≤◌, Bool, true, false, cond, List, [], ◌∷◌, ◌++◌, length, take, drop, set, get_or, refl, sym, ap}
+use Rattle.std.proofs.Common.{subst, ◌∙◌, arith}
 use Rattle.std.specs.Prelude.{slice_index}
 use Rattle.std.proofs.lemmas.List.{drop_all, drop_more, append_assoc, set_at, get_or_at, take_all, append-nil, take_more, length-take-le}
 use Rattle.std.proofs.lemmas.List.Sums.{sum_by-cons, sum_by-append}
@@ -88,7 +89,8 @@ made_none sums spans = refl
 
 pub made_all : (sums : List ℕ) (spans : List Span) (k : ℕ) → length spans ≤ k → made sums spans k ≡ grown_from sums 0 spans
 made_all sums spans k le =
-    ap (λ (t : List Span). grown_from sums 0 t ++ drop k spans) (take_all k spans le) ∙ ap (λ (t : List Span). grown_from sums 0 spans ++ t) (drop_all k spans le)
+    ap (λ (t : List Span). grown_from sums 0 t ++ drop k spans) (take_all k spans le) ∙ ap (λ (t : List Span). grown_from sums 0 spans ++
+    t) (drop_all k spans le)
     ∙ append-nil (grown_from sums 0 spans)
 
 -- what the loop keeps

@@ -1,5 +1,6 @@
 -- What the rounds make long is the least closed set.
-use Rattle.std.proofs.Common.{◌≡◌, ℕ, zero, suc, ◌+◌, ◌<◌, ◌≤◌, Bool, true, false, cond, not, ◌&&◌, ◌||◌, List, [], ◌∷◌, length, take, drop, nat_eq, Some, refl, sym, ap, inl, inr, ◌∙◌, arith}
+use Rattle.std.proofs.Common.{◌≡◌, ℕ, zero, suc, ◌+◌, ◌<◌, ◌≤◌, Bool, true, false, cond, not, ◌&&◌, ◌||◌, List, [], ◌∷◌, length, take, drop, nat_eq, Some, refl}
+use Rattle.std.proofs.Common.{sym, ap, inl, inr, ◌∙◌, arith}
 use Rattle.std.specs.Prelude.{◌⊎◌, sum_by, slice_get, option_map, pos, negsuc, ◌-ℤ◌, nat_le, int_le}
 use Rattle.std.proofs.lemmas.Bool.{eqb-true}
 use Rattle.std.proofs.lemmas.Bool.Decides.{nat_tests}
@@ -65,7 +66,8 @@ module _ (long other : Pos → Bool) (more : (q : Pos) → long q ≡ true → o
       omega (arith, sum_by-cons (site_size long) s (take j sites), sum_by-cons (site_size other) s (take j sites), site_grows s, sum_grows sites j)
 
   further_apart : (sites : List Site) (i j : ℕ) → i ≤ j →
-      sum_by (site_size long) (take j sites) + sum_by (site_size other) (take i sites) ≤ sum_by (site_size other) (take j sites) + sum_by (site_size long) (take i sites)
+      sum_by (site_size long) (take j sites) + sum_by (site_size other) (take i sites) ≤ sum_by (site_size other) (take j sites) + sum_by (site_size long)
+      (take i sites)
   further_apart sites zero j le = omega (arith, sum_grows sites j)
   further_apart [] (suc i) zero le = absurd (omega arith)
   further_apart [] (suc i) (suc j) le = omega arith
@@ -142,7 +144,8 @@ module _ (blocks : List Block) (long other : Pos → Bool) (more : (q : Pos) →
       let few : n ≤ length (items_at blocks b) = omega (arith, in_range (items_at blocks b) n i at) in
       let t = suc (index_of (body_of blocks) m) in
       apart_by (items_count (take b blocks) + n) (items_count (take t blocks) + 0)
-      (bytes_before long blocks (pos_in b n)) (bytes_before long blocks (target_point blocks m)) (bytes_before other blocks (pos_in b n)) (bytes_before other blocks (target_point blocks m))
+      (bytes_before long blocks (pos_in b n)) (bytes_before long blocks (target_point blocks m)) (bytes_before other blocks (pos_in b n)) (bytes_before other
+      blocks (target_point blocks m))
       (bytes_at long blocks b n few) (bytes_at long blocks t 0 (omega arith)) (bytes_at other blocks b n few) (bytes_at other blocks t 0 (omega arith))
       (order (items_count (take b blocks) + n) (items_count (take t blocks) + 0)) far
 
@@ -152,11 +155,13 @@ items_same : (long other : Pos → Bool) → ((q : Pos) → long q ≡ other q) 
 items_same long other same b n [] = refl
 items_same long other same b n (i ∷ items) = λ k. size_of (same (pos_in b n) k) i + items_same long other same b (suc n) items k
 
-blocks_same : (long other : Pos → Bool) → ((q : Pos) → long q ≡ other q) → (b : ℕ) (blocks : List Block) → blocks_size long b blocks ≡ blocks_size other b blocks
+blocks_same : (long other : Pos → Bool) → ((q : Pos) → long q ≡ other q) → (b : ℕ) (blocks : List Block) →
+    blocks_size long b blocks ≡ blocks_size other b blocks
 blocks_same long other same b [] = refl
 blocks_same long other same b (x ∷ blocks) = λ k. items_same long other same b 0 x.items k + blocks_same long other same (suc b) blocks k
 
-pub bytes_same : (long other : Pos → Bool) → ((q : Pos) → long q ≡ other q) → (blocks : List Block) (p : Pos) → bytes_before long blocks p ≡ bytes_before other blocks p
+pub bytes_same : (long other : Pos → Bool) → ((q : Pos) → long q ≡ other q) → (blocks : List Block) (p : Pos) →
+    bytes_before long blocks p ≡ bytes_before other blocks p
 bytes_same long other same blocks p =
     λ k. blocks_same long other same 0 (take p.block blocks) k + items_same long other same p.block 0 (take p.item (items_at blocks p.block)) k
 
@@ -182,7 +187,8 @@ short_by true was is none more holds = let e : was ≡ false = none refl in absu
 short_by false was is none more holds = more holds
 
 -- what is long so far is long too where a branch is short that was short
-more_short : (long other : Pos → Bool) (p : Pos) → long p ≡ false → ((q : Pos) → long q ≡ true → other q ≡ true) → (q : Pos) → long q ≡ true → short_at p other q ≡ true
+more_short : (long other : Pos → Bool) (p : Pos) → long p ≡ false → ((q : Pos) → long q ≡ true → other q ≡ true) → (q : Pos) → long q ≡ true →
+    short_at p other q ≡ true
 more_short long other p short more q holds =
     short_by (is_same p q) (long q) (other q) (λ e. sym (ap long (same_true p q e)) ∙ short) (more q) holds
 
@@ -222,10 +228,12 @@ pub record IsFar (blocks : List Block) (long : Pos → Bool) (p : Pos) : Type 0 
   pub goes : exit_of item.kind ≡ Perhaps target
   pub unreached : reaches (bytes_before long blocks p) (bytes_before long blocks (target_point blocks target)) ≡ false
 
-fetch_is_far : (blocks : List Block) (long : Pos → Bool) (p : Pos) (f : Fetch) → fetch_in (drop p.block blocks) p.item ≡ f → fetch_far blocks long p f ≡ true → IsFar blocks long p
+fetch_is_far : (blocks : List Block) (long : Pos → Bool) (p : Pos) (f : Fetch) → fetch_in (drop p.block blocks) p.item ≡ f → fetch_far blocks long p f ≡ true →
+    IsFar blocks long p
 fetch_is_far blocks long p (Here i) at e = kind_is_far i i.kind refl at e
   where
-    kind_is_far : (x : Item) (kind : ItemKind) → x.kind ≡ kind → fetch_in (drop p.block blocks) p.item ≡ Here x → kind_far blocks long p kind ≡ true → IsFar blocks long p
+    kind_is_far : (x : Item) (kind : ItemKind) → x.kind ≡ kind → fetch_in (drop p.block blocks) p.item ≡ Here x → kind_far blocks long p kind ≡ true →
+        IsFar blocks long p
     kind_is_far x (Code c k) is here holds =
         let found = row_branch blocks long p (row_of c) holds in
         record { item = x; stands = here; target = found.0; goes = ap exit_of is ∙ found.1; unreached = found.2 }
@@ -294,7 +302,8 @@ row_is_branch Unfit m e = absurd cc
 -- the span and the reach of a conditional branch
 pub record IsBranchKind (blocks : List Block) (kind : ItemKind) (m : ℕ) : Type 0 where
   pub span : (long : Bool) → span_of blocks long kind ≡ cond long (Long (first_of blocks m)) (Short (first_of blocks m))
-  pub far : (long : Pos → Bool) (p : Pos) → kind_far blocks long p kind ≡ not (reaches (bytes_before long blocks p) (bytes_before long blocks (target_point blocks m)))
+  pub far : (long : Pos → Bool) (p : Pos) → kind_far blocks long p kind ≡ not (reaches (bytes_before long blocks p) (bytes_before long blocks (target_point
+      blocks m)))
 
 pub kind_is_branch : (blocks : List Block) (kind : ItemKind) (m : ℕ) → exit_of kind ≡ Perhaps m → IsBranchKind blocks kind m
 kind_is_branch blocks (Code c k) m e =
@@ -313,11 +322,13 @@ steady_far blocks long p m i steady stands goes short far =
     let site : Site = record { point = p; item = i } in
     let at : slice_get (sites_from 0 blocks) (items_count (take p.block blocks) + p.item) ≡ Some site =
     site_from 0 blocks p.block p.item (items_count (take p.block blocks) + p.item) p.block i (item_at blocks p.block p.item i stands) refl (omega arith) in
-    let found = λ (z : Pos → Bool). slice_get-map (site_span blocks z) (sites_from 0 blocks) (items_count (take p.block blocks) + p.item) ∙ ap (option_map (site_span blocks z)) at in
+    let found = λ (z : Pos → Bool). slice_get-map (site_span blocks z) (sites_from 0 blocks) (items_count (take p.block blocks) + p.item) ∙
+    ap (option_map (site_span blocks z)) at in
     let both : Some (site_span blocks (next_long blocks long) site) ≡ Some (site_span blocks long site) =
     sym (found (next_long blocks long)) ∙ ap (λ (t : List Span). slice_get t (items_count (take p.block blocks) + p.item)) steady ∙ found long in
     let same : site_span blocks (next_long blocks long) site ≡ site_span blocks long site = cc in
-    differ (first_of blocks m) (sym ((kind.span (next_long blocks long p)) ∙ ap (λ (z : Bool). cond z (Long (first_of blocks m)) (Short (first_of blocks m))) next) ∙ same
+    differ (first_of blocks m) (sym ((kind.span (next_long blocks long p)) ∙ ap (λ (z : Bool). cond z (Long (first_of blocks m)) (Short (first_of blocks m)))
+    next) ∙ same
     ∙ (kind.span (long p) ∙ ap (λ (z : Bool). cond z (Long (first_of blocks m)) (Short (first_of blocks m))) short))
   where
     differ : (n : ℕ) → Long n ≡ Short n → ⊥
@@ -330,7 +341,8 @@ steady_closed f base long steady p m branch far = by_test (long p) refl
     by_test : (t : Bool) → long p ≡ t → t ≡ true
     by_test true e = refl
     by_test false e =
-        let near = sym (reach_same base (bytes_before (short_at p long) f.blocks p) (bytes_before (short_at p long) f.blocks (target_point f.blocks m))) ∙ far in
+        let near = sym (reach_same base (bytes_before (short_at p long) f.blocks p) (bytes_before (short_at p long) f.blocks (target_point f.blocks m))) ∙
+        far in
         let same = bytes_same (short_at p long) long (short_already long p e) f.blocks in
         absurd (steady_far f.blocks long p m branch.item steady branch.stands branch.goes e
         ((λ i. reaches (sym (same p) i) (sym (same (target_point f.blocks m)) i)) ∙ near))

@@ -47,7 +47,13 @@ items_counted (i ∷ items) = omega (arith, kind_counts i.kind, sum_by-cons item
 pub few_items : (blocks : List Block) → items_count blocks ≤ count_of blocks
 few_items [] = omega arith
 few_items (b ∷ blocks) =
-    omega (arith, sum_by-cons (λ (x : Block). length x.items) b blocks, sum_by-cons (λ (x : Block). sum_by item_count x.items) b blocks, items_counted b.items, few_items blocks)
+    omega (
+      arith,
+      sum_by-cons (λ (x : Block). length x.items) b blocks,
+      sum_by-cons (λ (x : Block). sum_by item_count x.items) b blocks,
+      items_counted b.items,
+      few_items blocks,
+    )
 
 pub spans_length : (blocks : List Block) (long : Pos → Bool) → length (spans_of blocks long) ≡ items_count blocks
 spans_length blocks long = length-map (sites_from 0 blocks) (site_span blocks long) ∙ length_from 0 blocks

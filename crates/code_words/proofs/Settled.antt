@@ -3,7 +3,8 @@
 -- What a round makes long is what doesn't reach in the layout so far (`rounded`). It is in every closed set that has what is long
 -- so far: a branch that doesn't reach doesn't either where more is long, since the more stands between two points the further apart
 -- they are (`apart`). At the end a round changes nothing, so each short branch reaches, and the set is closed itself.
-use Rattle.std.proofs.Common.{◌≡◌, ℕ, zero, suc, ◌+◌, ◌<◌, Bool, true, false, cond, not, ◌||◌, List, [], ◌∷◌, ◌++◌, length, map, take, drop, Some, refl, sym, ap, subst, inl, inr, ◌∙◌, arith}
+use Rattle.std.proofs.Common.{◌≡◌, ℕ, zero, suc, ◌+◌, ◌<◌, Bool, true, false, cond, not, ◌||◌, List, [], ◌∷◌, ◌++◌, length, map, take, drop, Some, refl, sym}
+use Rattle.std.proofs.Common.{ap, subst, inl, inr, ◌∙◌, arith}
 use Rattle.std.specs.Prelude.{◌⊎◌, slice_get, slice_index}
 use Rattle.std.proofs.lemmas.List.Sums.{sum_by-cons, sum_by-take-le}
 use Rattle.rv64_instr.specs.Row.{Row, Fixes, Moves, Sets, Addresses, Loads, Stores, LoadsSlot, StoresSlot, Branches, Jumps, Calls, Returns, Unfit, row_of}
@@ -55,7 +56,8 @@ either_part : (xs ys : List Site) (k : ℕ) (s : Site) → slice_get (xs ++ ys) 
     (slice_get xs k ≡ Some s) ⊎ ((j : ℕ) × (k ≡ length xs + j) × (slice_get ys j ≡ Some s))
 either_part [] ys k s e = inr (k, omega arith, e)
 either_part (x ∷ xs) ys zero s e = inl e
-either_part (x ∷ xs) ys (suc k) s e = elim (either_part xs ys k s e) as (λ z. (slice_get (x ∷ xs) (suc k) ≡ Some s) ⊎ ((j : ℕ) × (suc k ≡ length (x ∷ xs) + j) × (slice_get ys j ≡ Some s)))
+either_part (x ∷ xs) ys (suc k) s e = elim (either_part xs ys k s e) as (λ z. (slice_get (x ∷ xs) (suc k) ≡ Some s) ⊎ ((j : ℕ) ×
+    (suc k ≡ length (x ∷ xs) + j) × (slice_get ys j ≡ Some s)))
     [ inl h ↦ inl h | inr h ↦ inr (h.0, omega (arith, h.1), h.2) ]
 
 in_block : (b n k : ℕ) (items : List Item) (s : Site) → slice_get (sites_in b n items) k ≡ Some s →
@@ -80,7 +82,16 @@ placed m [] k s e = absurd cc
 placed m (x ∷ blocks) k s e = elim (either_part (sites_in m 0 x.items) (sites_from (suc m) blocks) k s e) as (λ z. IsPlaced m (x ∷ blocks) k s) [
   | inl h ↦
       let here = in_block m 0 k x.items s h in
-      record { block = 0; index = here.0; counted = m; is = omega arith; point = here.2; item = subst (λ (j : ℕ). slice_get x.items j ≡ Some s.item) (let e : k ≡ here.0 = omega (arith, here.1) in e) here.3; rank = omega (arith, here.1) }
+      record {
+        block = 0;
+        index = here.0;
+        counted = m;
+        is = omega arith;
+        point = here.2;
+        item = subst (λ (j : ℕ). slice_get x.items j ≡ Some s.item) (let e : k
+            ≡ here.0 = omega (arith, here.1) in e) here.3;
+        rank = omega (arith, here.1);
+      }
   | inr h ↦
       let below = placed (suc m) blocks h.0 s h.2 in
       record {
@@ -103,7 +114,13 @@ count_within : (blocks : List Block) (b n : ℕ) (i : Item) → slice_get (items
 count_within [] b n i e = absurd cc
 count_within (x ∷ blocks) zero n i e = omega (arith, in_range x.items n i e, sum_by-cons (λ (y : Block). length y.items) x blocks)
 count_within (x ∷ blocks) (suc b) n i e =
-    omega (arith, count_within blocks b n i e, sum_by-cons (λ (y : Block). length y.items) x blocks, sum_by-cons (λ (y : Block). length y.items) x (take b blocks))
+    omega (
+      arith,
+      count_within blocks b n i e,
+      sum_by-cons (λ (y : Block). length y.items) x blocks,
+      sum_by-cons (λ (y : Block). length y.items) x (take b
+          blocks),
+    )
 
 -- the sum at an item, and the one at a target
 pub sum_here : (long : Pos → Bool) (blocks : List Block) (b n : ℕ) (i : Item) → slice_get (items_at blocks b) n ≡ Some i →
@@ -115,9 +132,11 @@ sum_here long blocks b n i e =
 abbrev pub target_point : List Block → ℕ → Pos
 target_point blocks n = block_start (suc (index_of (body_of blocks) n))
 
-pub sum_there : (long : Pos → Bool) (blocks : List Block) (n : ℕ) → slice_index (sums_from 0 (spans_of blocks long)) (first_of blocks n) ≡ bytes_before long blocks (target_point blocks n)
+pub sum_there : (long : Pos → Bool) (blocks : List Block) (n : ℕ) → slice_index (sums_from 0 (spans_of blocks long)) (first_of blocks n) ≡ bytes_before long
+    blocks (target_point blocks n)
 sum_there long blocks n =
-    sum_before long blocks (suc (index_of (body_of blocks) n)) 0 (first_of blocks n) (omega arith) (omega arith) (sum_by-take-le (λ (x : Block). length x.items) blocks (suc (index_of (body_of blocks) n)))
+    sum_before long blocks (suc (index_of (body_of blocks) n)) 0 (first_of blocks n) (omega arith) (omega arith) (sum_by-take-le (λ (x : Block). length
+    x.items) blocks (suc (index_of (body_of blocks) n)))
 
 -- ---- what a round makes
 
@@ -190,7 +209,8 @@ module _ (blocks : List Block) (long : Pos → Bool) where
   next_at s k at =
       let b : s.point.block ≡ at.block = ap (λ (p : Pos). p.block) at.point ∙ (let e : at.counted ≡ at.block = omega (arith, at.is) in e) in
       let n : s.point.item ≡ at.index = ap (λ (p : Pos). p.item) at.point in
-      ap (λ (f : Fetch). long s.point || fetch_far blocks long s.point f) ((λ i. fetch_in (drop (b i) blocks) (n i)) ∙ fetched blocks at.block at.index s.item at.item)
+      ap (λ (f : Fetch). long s.point || fetch_far blocks long s.point f) ((λ i. fetch_in (drop (b i) blocks) (n i)) ∙
+      fetched blocks at.block at.index s.item at.item)
 
   bytes_of : (s : Site) (k : ℕ) (at : IsPlaced 0 blocks k s) → slice_index (sums_from 0 (spans_of blocks long)) k ≡ bytes_before long blocks s.point
   bytes_of s k at =

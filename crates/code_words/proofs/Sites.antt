@@ -2,7 +2,8 @@
 --
 -- The items of a function are those of its blocks, one after the other, so the item at a point is the one at an index: how many
 -- items stand before its block, and its index there. The bytes before a point are the sum of the sizes before that index.
-use Rattle.std.proofs.Common.{◌≡◌, ℕ, zero, suc, ◌+◌, ◌<◌, ◌≤◌, Bool, true, false, List, [], ◌∷◌, ◌++◌, length, map, take, get_or, Some, refl, sym, ap, ◌∙◌, arith}
+use Rattle.std.proofs.Common.{◌≡◌, ℕ, zero, suc, ◌+◌, ◌<◌, ◌≤◌, Bool, true, false, List, [], ◌∷◌, ◌++◌, length, map, take, get_or, Some, refl, sym, ap, ◌∙◌}
+use Rattle.std.proofs.Common.{arith}
 use Rattle.std.specs.Prelude.{sum_by, slice_get, slice_index}
 use Rattle.std.proofs.lemmas.List.{take-append-le, length-append, length-map, take-map, append-nil, append_assoc}
 use Rattle.std.proofs.lemmas.List.Sums.{sum_by-cons, sum_by-append}
@@ -47,10 +48,18 @@ kind_sized blocks long (Phi p k) = refl
 pub sized : (blocks : List Block) (long : Pos → Bool) (s : Site) → span_size (site_span blocks long s) ≡ site_size long s
 sized blocks long s = kind_sized blocks (long s.point) s.item.kind
 
-pub spans_sum : (blocks : List Block) (long : Pos → Bool) (sites : List Site) → sum_by span_size (map (site_span blocks long) sites) ≡ sum_by (site_size long) sites
+pub spans_sum : (blocks : List Block) (long : Pos → Bool) (sites : List Site) → sum_by span_size (map (site_span blocks long) sites) ≡ sum_by (site_size long)
+    sites
 spans_sum blocks long [] = refl
 spans_sum blocks long (s ∷ sites) =
-    omega (arith, sum_by-cons span_size (site_span blocks long s) (map (site_span blocks long) sites), sum_by-cons (site_size long) s sites, spans_sum blocks long sites, sized blocks long s)
+    omega (
+      arith,
+      sum_by-cons span_size (site_span blocks long s) (map (site_span blocks long) sites),
+      sum_by-cons (site_size long) s sites,
+      spans_sum blocks
+          long sites,
+      sized blocks long s,
+    )
 
 pub items_sum : (long : Pos → Bool) (b n : ℕ) (items : List Item) → items_size long b n items ≡ sum_by (site_size long) (sites_in b n items)
 items_sum long b n [] = refl
@@ -60,7 +69,13 @@ items_sum long b n (i ∷ items) =
 pub blocks_sum : (long : Pos → Bool) (b : ℕ) (blocks : List Block) → blocks_size long b blocks ≡ sum_by (site_size long) (sites_from b blocks)
 blocks_sum long b [] = refl
 blocks_sum long b (block ∷ blocks) =
-    omega (arith, sum_by-append (site_size long) (sites_in b 0 block.items) (sites_from (suc b) blocks), items_sum long b 0 block.items, blocks_sum long (suc b) blocks)
+    omega (
+      arith,
+      sum_by-append (site_size long) (sites_in b 0 block.items) (sites_from (suc b) blocks),
+      items_sum long b 0 block.items,
+      blocks_sum long (suc
+          b) blocks,
+    )
 
 -- ---- places
 
@@ -71,7 +86,14 @@ length_in b n (i ∷ items) = omega (arith, length_in b (suc n) items)
 pub length_from : (b : ℕ) (blocks : List Block) → length (sites_from b blocks) ≡ items_count blocks
 length_from b [] = refl
 length_from b (block ∷ blocks) =
-    omega (arith, length-append (sites_in b 0 block.items) (sites_from (suc b) blocks), length_in b 0 block.items, length_from (suc b) blocks, sum_by-cons (λ (x : Block). length x.items) block blocks)
+    omega (
+      arith,
+      length-append (sites_in b 0 block.items) (sites_from (suc b) blocks),
+      length_in b 0 block.items,
+      length_from (suc b) blocks,
+      sum_by-cons (λ
+          (x : Block). length x.items) block blocks,
+    )
 
 take_in : (b n k : ℕ) (items : List Item) → take k (sites_in b n items) ≡ sites_in b n (take k items)
 take_in b n zero items = refl

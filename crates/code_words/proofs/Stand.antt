@@ -1,5 +1,6 @@
 -- The entries of a layout stand one after the other to the end of its words, each at an item.
-use Rattle.std.proofs.Common.{◌≡◌, ℕ, suc, ◌+◌, ◌*◌, ◌%◌, ◌<◌, Bool, true, false, List, [], ◌∷◌, ◌++◌, length, take, drop, Option, Some, None, refl, sym, ap, subst, ◌∙◌, arith}
+use Rattle.std.proofs.Common.{◌≡◌, ℕ, suc, ◌+◌, ◌*◌, ◌%◌, ◌<◌, Bool, true, false, List, [], ◌∷◌, ◌++◌, length, take, drop, Option, Some, None, refl, sym, ap}
+use Rattle.std.proofs.Common.{subst, ◌∙◌, arith}
 use Rattle.std.specs.Prelude.{sum_by, slice_get, IsSome, All}
 use Rattle.std.specs.List.{flat_map}
 use Rattle.std.proofs.lemmas.List.{length-append, take_all}
@@ -21,7 +22,8 @@ use Rattle.code_words.specs.declared.code.Entry.{Entry}
 use Rattle.code_words.specs.Counts.{MAX_BASE, count_of}
 use Rattle.code_words.specs.Laid.{StandFrom, IsOfItem, IsCode, is_call_kind, FormWorded, IsWorded}
 use Rattle.code_words.specs.Rule as rule
-use Rattle.code_words.specs.Rule.{Layout, Site, Form, form_of, form_size, row_form, form_words, form_entries, kind_words, words_at, entries_at, address_in, word_if, entry, added_before, bytes_before, sites_from, sites_of, words_of, entries_of}
+use Rattle.code_words.specs.Rule.{Layout, Site, Form, form_of, form_size, row_form, form_words, form_entries, kind_words, words_at, entries_at, address_in}
+use Rattle.code_words.specs.Rule.{word_if, entry, added_before, bytes_before, sites_from, sites_of, words_of, entries_of}
 use Rattle.code_words.proofs.Bounds.{before_small}
 use Rattle.code_words.proofs.Settled.{placed, fetched, in_range}
 use Rattle.code_words.proofs.Sites.{site_size, bytes_at, blocks_sum}
@@ -59,7 +61,13 @@ form_length : (l : Layout) (a : ℕ) (c : Instruction) (f : Form) → FormWorded
 form_length l a c rule.Nothing h some = absurd (some refl)
 form_length l a c rule.OneWord h some = omega (arith, some_length _ h)
 form_length l a c rule.CallSite h some = omega arith
-form_length l a c (rule.LongBranch n) h some = omega (arith, some_length _ h.0, some_length _ h.1, length-append (word_if (rule.skip_operation c)) (word_if (rule.jump_operation l a n)))
+form_length l a c (rule.LongBranch n) h some = omega (
+  arith,
+  some_length _ h.0,
+  some_length _ h.1,
+  length-append (word_if (rule.skip_operation c)) (word_if
+      (rule.jump_operation l a n)),
+)
 
 row_something : (b : Bool) (row : Row) → row_form b row ≡ rule.Nothing → ⊥
 row_something b (Fixes rd n) e = cc
@@ -77,14 +85,16 @@ row_something b (Calls name args) e = cc
 row_something b (Returns results) e = cc
 row_something b Unfit e = cc
 
-kind_length : (l : Layout) (p : Pos) (kind : ItemKind) → ((c : Instruction) (k : Option ℕ) → kind ≡ Code c k → FormWorded l (address_in l p) c (row_form (l.long p) (row_of c))) →
+kind_length : (l : Layout) (p : Pos) (kind : ItemKind) → ((c : Instruction) (k : Option ℕ) → kind ≡ Code c k →
+    FormWorded l (address_in l p) c (row_form (l.long p) (row_of c))) →
     4 * length (kind_words l p kind) ≡ form_size (form_of (l.long p) kind)
 kind_length l p (Code c k) has = form_length l (address_in l p) c (row_form (l.long p) (row_of c)) (has c k refl) (row_something (l.long p) (row_of c))
 kind_length l p (Mark v m) has = omega arith
 kind_length l p (Phi r k) has = omega arith
 
 words_length : (l : Layout) (sites : List Site) →
-    ((j : ℕ) (s : Site) → slice_get sites j ≡ Some s → (c : Instruction) (k : Option ℕ) → s.item.kind ≡ Code c k → FormWorded l (address_in l s.point) c (row_form (l.long s.point) (row_of c))) →
+    ((j : ℕ) (s : Site) → slice_get sites j ≡ Some s → (c : Instruction) (k : Option ℕ) → s.item.kind ≡ Code c k →
+    FormWorded l (address_in l s.point) c (row_form (l.long s.point) (row_of c))) →
     4 * length (flat_map (words_at l) sites) ≡ sum_by (site_size l.long) sites
 words_length l [] each = omega arith
 words_length l (s ∷ sites) each =
@@ -98,7 +108,8 @@ words_length l (s ∷ sites) each =
 
 -- ---- of a layout
 
-site_address : (l : Layout) (k : ℕ) (s : Site) → slice_get (sites_of l.framed) k ≡ Some s → address_in l s.point ≡ l.base + sum_by (site_size l.long) (take k (sites_of l.framed))
+site_address : (l : Layout) (k : ℕ) (s : Site) → slice_get (sites_of l.framed) k ≡ Some s →
+    address_in l s.point ≡ l.base + sum_by (site_size l.long) (take k (sites_of l.framed))
 site_address l k s e =
     let at = placed 0 l.framed.blocks k s e in
     let here = in_range _ at.index s.item at.item in
@@ -109,7 +120,8 @@ site_address l k s e =
 pub stands : (l : Layout) → StandFrom l.base (entries_of l) (l.base + sum_by (site_size l.long) (sites_of l.framed))
 stands l = stand_sites l (sites_of l.framed) l.base (site_address l)
 
-fetched_site : (l : Layout) (k : ℕ) (s : Site) → slice_get (sites_of l.framed) k ≡ Some s → fetch_in (drop s.point.block l.framed.blocks) s.point.item ≡ Here s.item
+fetched_site : (l : Layout) (k : ℕ) (s : Site) → slice_get (sites_of l.framed) k ≡ Some s →
+    fetch_in (drop s.point.block l.framed.blocks) s.point.item ≡ Here s.item
 fetched_site l k s e =
     let at = placed 0 l.framed.blocks k s e in
     let point : s.point ≡ pos_in at.block at.index = at.point ∙ (let z : at.counted ≡ at.block = omega (arith, at.is) in ap (λ (b : ℕ). pos_in b at.index) z) in
@@ -144,7 +156,8 @@ module _ (f : FramedFunction) (i : Item) (p : Pos) (at : fetch_in (drop p.block 
   row_items a o long (LoadsSlot rd n) e = only a 4 o false e
   row_items a o long (StoresSlot rs n) e = only a 4 o false e
   row_items a o true (Branches op x y n) e =
-      All-cons (IsOfItem f) (entry a 4 (added_before o) p false) (entry (a + 4) 4 o p false ∷ []) (one_of a 4 (added_before o) false e) (only (a + 4) 4 o false e)
+      All-cons (IsOfItem f) (entry a 4 (added_before o) p false) (entry (a + 4) 4 o p false ∷ []) (one_of a 4 (added_before o) false e) (only (a + 4) 4 o false
+      e)
   row_items a o false (Branches op x y n) e = only a 4 o false e
   row_items a o long (Jumps target) e = only a 4 o false e
   row_items a o long (Calls name args) e = only a 8 o true e

@@ -1,5 +1,6 @@
 -- How many items stand before a block, found by the block's number.
-use Rattle.std.proofs.Common.{◌≡◌, ℕ, suc, ◌+◌, ◌<◌, ◌≤◌, Bool, true, false, cond, List, [], ◌∷◌, ◌++◌, length, take, drop, get_or, nat_eq, Some, None, refl, sym, ap, ◌∙◌, arith}
+use Rattle.std.proofs.Common.{◌≡◌, ℕ, suc, ◌+◌, ◌<◌, ◌≤◌, Bool, true, false, cond, List, [], ◌∷◌, ◌++◌, length, take, drop, get_or, nat_eq, Some, None, refl}
+use Rattle.std.proofs.Common.{sym, ap, ◌∙◌, arith}
 use Rattle.std.specs.Prelude.{slice_index}
 use Rattle.std.proofs.lemmas.List.{drop_more, drop_all, take_all, append_assoc}
 use Rattle.std.proofs.lemmas.List.Sums.{sum_by-cons}
@@ -16,7 +17,8 @@ at_front xs k x lt is = drop_more xs k x lt ∙ ap (λ y. y ∷ drop (k + 1) xs)
 -- ---- the loop over blocks
 
 pub firsts_turn : (blocks : List Block) (k n : ℕ) (b : Block) (firsts : List ℕ) → k < length blocks → b ≡ get_or blocks k b →
-    firsts ++ firsts_from n (drop k blocks) ≡ firsts_from 0 blocks → (firsts ++ n ∷ []) ++ firsts_from (n + length b.items) (drop (k + 1) blocks) ≡ firsts_from 0 blocks
+    firsts ++ firsts_from n (drop k blocks) ≡ firsts_from 0 blocks → (firsts ++ n ∷ []) ++ firsts_from (n + length b.items) (drop (k + 1) blocks) ≡ firsts_from
+    0 blocks
 firsts_turn blocks k n b firsts lt is e =
     append_assoc firsts (n ∷ []) (firsts_from (n + length b.items) (drop (k + 1) blocks))
     ∙ ap (λ (t : List Block). firsts ++ firsts_from n t) (sym (at_front blocks k b lt is)) ∙ e
@@ -36,7 +38,8 @@ pub record IsFound (k i : ℕ) (blocks : List Block) (n : ℕ) : Type 0 where
   pub index : i ≡ k + index_of blocks n
   pub within : index_of blocks n < length blocks
 
-found_by : (t : Bool) (k i : ℕ) (b : Block) (blocks : List Block) (n : ℕ) → nat_eq b.id n ≡ t → (index_in (suc k) blocks n ≡ Some i → IsFound (suc k) i blocks n) →
+found_by : (t : Bool) (k i : ℕ) (b : Block) (blocks : List Block) (n : ℕ) → nat_eq b.id n ≡ t → (index_in (suc k) blocks n ≡ Some i →
+    IsFound (suc k) i blocks n) →
     index_in k (b ∷ blocks) n ≡ Some i → IsFound k i (b ∷ blocks) n
 found_by true k i b blocks n t more e =
     let index : index_of (b ∷ blocks) n ≡ 0 = ap (λ (z : Bool). cond z 0 (suc (index_of blocks n))) t in
@@ -52,7 +55,8 @@ pub found : (k i : ℕ) (blocks : List Block) (n : ℕ) → index_in k blocks n 
 found k i [] n e = absurd cc
 found k i (b ∷ blocks) n e = found_by (nat_eq b.id n) k i b blocks n refl (found (suc k) i blocks n) e
 
-missing_by : (t : Bool) (k : ℕ) (b : Block) (blocks : List Block) (n : ℕ) → nat_eq b.id n ≡ t → (index_in (suc k) blocks n ≡ None → index_of blocks n ≡ length blocks) →
+missing_by : (t : Bool) (k : ℕ) (b : Block) (blocks : List Block) (n : ℕ) → nat_eq b.id n ≡ t → (index_in (suc k) blocks n ≡ None →
+    index_of blocks n ≡ length blocks) →
     index_in k (b ∷ blocks) n ≡ None → index_of (b ∷ blocks) n ≡ suc (length blocks)
 missing_by true k b blocks n t more e =
     let here : Some k ≡ None = ap (λ (z : Bool). cond z (Some k) (index_in (suc k) blocks n)) (sym t) ∙ e in absurd cc

@@ -1,5 +1,6 @@
 -- All code of a settled layout has its words.
-use Rattle.std.proofs.Common.{◌≡◌, ℕ, zero, suc, ◌+◌, ◌%◌, ◌^◌, ◌<◌, ◌≤◌, Bool, true, false, cond, List, [], ◌∷◌, length, drop, get_or, nat_eq, Option, Some, None, refl, sym, ap, subst, inl, inr, ◌∙◌, arith}
+use Rattle.std.proofs.Common.{◌≡◌, ℕ, zero, suc, ◌+◌, ◌%◌, ◌^◌, ◌<◌, ◌≤◌, Bool, true, false, cond, List, [], ◌∷◌, length, drop, get_or, nat_eq, Option, Some}
+use Rattle.std.proofs.Common.{None, refl, sym, ap, subst, inl, inr, ◌∙◌, arith}
 use Rattle.std.specs.Prelude.{ℤ, pos, negsuc, ◌-ℤ◌, ◌⊎◌, IsTrue, IsSome, All, Contains, slice_get, option_map}
 use Rattle.rv64_instr.specs.declared.op.Op.{Op}
 use Rattle.rv64_instr.specs.declared.op.Op.TheVariants as source
@@ -8,7 +9,8 @@ use Rattle.rv64_instr.specs.declared.operand.Operand.{Operand}
 use Rattle.rv64_instr.specs.declared.operand.Operand.TheVariants.{Symbol, Mask, Block as OfBlock}
 use Rattle.rv64_instr.specs.Form.{is_within, has_form, fits_call}
 use Rattle.rv64_instr.specs.Instruction.{Instruction}
-use Rattle.rv64_instr.specs.Row.{Row, Fixes, Moves, Sets, Addresses, Loads, Stores, LoadsSlot, StoresSlot, Branches, Jumps, Calls, Returns, Unfit, row_of, row_by, implicit_uses}
+use Rattle.rv64_instr.specs.Row.{Row, Fixes, Moves, Sets, Addresses, Loads, Stores, LoadsSlot, StoresSlot, Branches, Jumps, Calls, Returns, Unfit, row_of}
+use Rattle.rv64_instr.specs.Row.{row_by, implicit_uses}
 use Rattle.rv64_word.specs.declared.machine_op.MachineOp.{MachineOp}
 use Rattle.rv64_word.specs.MachineRow.{object_named}
 use Rattle.rv64_word.specs.MachineOp.{is_even}
@@ -30,7 +32,8 @@ use Rattle.code_words.specs.Counts.{MAX_BASE, count_of}
 use Rattle.code_words.specs.Inverted.{jump_to}
 use Rattle.code_words.specs.Laid.{FormWorded, IsWorded, IsFit}
 use Rattle.code_words.specs.Long.{IsBranchTo, with_short, reaches_in, IsClosed}
-use Rattle.code_words.specs.Rule.{Layout, row_form, items_at, bytes_before, address_in, start_of, offset_to, object_offset, operation_at, skip_operation, jump_operation}
+use Rattle.code_words.specs.Rule.{Layout, row_form, items_at, bytes_before, address_in, start_of, offset_to, object_offset, operation_at, skip_operation}
+use Rattle.code_words.specs.Rule.{jump_operation}
 use Rattle.code_words.specs.steps.Emitted.{HasForm, KindHasForm}
 use Rattle.code_words.proofs.Areas.{object_within, end_small}
 use Rattle.code_words.proofs.Bounds.{bytes_aligned, bytes_small}
@@ -94,7 +97,8 @@ no_object : (n bytes : ℕ) → HasBytes [] n bytes → 0 + offset_of [] n + byt
 no_object n bytes has = let e : None ≡ Some has.0 = has.1 in absurd cc
 
 jump_has_word : (n : ℕ) (offset : ℤ) → IsTrue (is_within (negsuc 1048575) (pos 1048574) offset) → IsTrue (is_even offset) → HasWord offset 0 (jump_to n)
-jump_has_word n offset near even = code_word [] [] 0 no_slot no_object source.PseudoBr (OfBlock n ∷ []) offset refl (only_block n) tt tt (near, even) (λ e. differ e)
+jump_has_word n offset near even = code_word [] [] 0 no_slot no_object source.PseudoBr (OfBlock n ∷ []) offset refl (only_block n) tt tt (near, even) (λ e.
+    differ e)
   where
     differ : source.PseudoBr ≡ source.PseudoCall → ⊥
     differ e = cc
@@ -131,7 +135,8 @@ module _ (l : Layout) (s : Sound l) where
       omega (arith, at.1, here, size, own)
 
   -- a short branch reaches
-  reach_true : (p : Pos) (n : ℕ) → IsBranchTo l.framed p n → l.long p ≡ false → IsTrue (is_within (negsuc 4095) (pos 4094) (pos (start_of l n) -ℤ pos (address_in l p)))
+  reach_true : (p : Pos) (n : ℕ) → IsBranchTo l.framed p n → l.long p ≡ false → IsTrue (is_within (negsuc 4095) (pos 4094) (pos (start_of l n) -ℤ pos
+      (address_in l p)))
   reach_true p n branch short = by_test (reaches_in (with_short p l) p n) refl
     where
       same : (q : Pos) → bytes_before (short_at p l.long) l.framed.blocks q ≡ bytes_before l.long l.framed.blocks q
@@ -160,7 +165,8 @@ module _ (l : Layout) (s : Sound l) where
       ] in
       o.near bounds.0 bounds.1
 
-  exit_fits : (p : Pos) (i : Item) → fetch_in (drop p.block l.framed.blocks) p.item ≡ Here i → (e : Exit) → exit_of i.kind ≡ e → ((n : ℕ) → e ≡ Perhaps n → l.long p ≡ false) →
+  exit_fits : (p : Pos) (i : Item) → fetch_in (drop p.block l.framed.blocks) p.item ≡ Here i → (e : Exit) → exit_of i.kind ≡ e → ((n : ℕ) → e ≡ Perhaps n →
+      l.long p ≡ false) →
       OffsetFits e (offset_to l (address_in l p) e)
   exit_fits p i at Onward is short = tt
   exit_fits p i at Final is short = tt
@@ -172,7 +178,8 @@ module _ (l : Layout) (s : Sound l) where
   jump_worded p n =
       let here = aligned_at p in
       let even : (address_in l p + 4) % 4 ≡ 0 = omega (arith, here) in
-      let w = jump_has_word n (pos (start_of l n) -ℤ pos (address_in l p + 4)) (near n (address_in l p + 4) p (inr refl) even) (even_to n (address_in l p + 4) even) in
+      let w = jump_has_word n (pos (start_of l n) -ℤ pos (address_in l p + 4)) (near n (address_in l p + 4) p (inr refl) even) (even_to n (address_in l p + 4)
+      even) in
       some_of w.operation w.is
 
   -- ---- each code
@@ -192,7 +199,8 @@ module _ (l : Layout) (s : Sound l) where
     of_kind : (P : ItemKind → Type 0) → AllItems (λ x. P x.kind) l.framed.blocks → P (Code c k)
     of_kind P all = subst P is (all_at (λ x. P x.kind) l.framed.blocks all p.block p.item i (item_at l.framed.blocks p.block p.item i at))
 
-    has_word_at : (offset : ℤ) → OffsetFits (row_exit (row_of c)) offset → (c.op ≡ source.PseudoCall → ⊥) → HasWord offset (object_offset l.framed (object_named (row_of c))) c
+    has_word_at : (offset : ℤ) → OffsetFits (row_exit (row_of c)) offset → (c.op ≡ source.PseudoCall → ⊥) →
+        HasWord offset (object_offset l.framed (object_named (row_of c))) c
     has_word_at offset fit other =
         code_has_word c offset (of_kind KindHasForm s.forms) (of_kind HasPhysical s.framed.physical) (of_kind (SlotsIn (slot_offsets l.framed)) s.framed.slots)
         (of_kind (ObjectsIn l.framed.objects) s.framed.objects) fit other
@@ -215,7 +223,8 @@ module _ (l : Layout) (s : Sound l) where
 
     skip_worded : (op : BranchOp) (a b n : ℕ) → row_of c ≡ Branches op a b n → IsSome (skip_operation c)
     skip_worded op a b n e =
-        let w = has_word_at (pos 8) (subst (λ (x : Exit). OffsetFits x (pos 8)) (sym (ap row_exit e)) (refl, refl)) (no_call (Branches op a b n) e [] (λ name args h. cc)) in
+        let w = has_word_at (pos 8) (subst (λ (x : Exit). OffsetFits x (pos 8)) (sym (ap row_exit e)) (refl, refl)) (no_call (Branches op a b n) e [] (λ name
+        args h. cc)) in
         let zero_at : object_offset l.framed (object_named (row_of c)) ≡ 0 = ap (λ (row : Row). object_offset l.framed (object_named row)) e in
         let found : lowered (pos 8) 0 c ≡ Some w.operation = ap (λ (o : ℕ). lowered (pos 8) o c) (sym zero_at) ∙ w.is in
         some_of (inv w.operation) (skipped c ∙ ap (option_map inv) found)

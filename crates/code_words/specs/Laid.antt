@@ -11,7 +11,8 @@ use Rattle.mir_func.specs.Function.{FramedFunction}
 use Rattle.mir_func.specs.Graph.{Here, fetch_in}
 use Rattle.code_words.specs.declared.code.Entry.{Entry}
 use Rattle.code_words.specs.Counts.{MAX_WORDS, MAX_BASE}
-use Rattle.code_words.specs.Rule.{Layout, Form, Nothing, OneWord, CallSite, LongBranch, row_form, address_in, operation_at, skip_operation, jump_operation, entries_of, words_of}
+use Rattle.code_words.specs.Rule.{Layout, Form, Nothing, OneWord, CallSite, LongBranch, row_form, address_in, operation_at, skip_operation, jump_operation}
+use Rattle.code_words.specs.Rule.{entries_of, words_of}
 use Rattle.code_words.specs.Long.{IsSettled}
 
 -- the machine code of a function: its first address, its words, what stands where, and the function with its frame

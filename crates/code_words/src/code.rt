@@ -27,8 +27,8 @@ pub type Entries = List<Entry>;
 pub type Words = List<u32>;
 
 /// The machine code of a function. Its entries stand one after the other from its first address, a multiple of 4 below
-/// 2^32, to the end of its words, which are fewer than 262,144, and at the point of each the function has an item, which
-/// is a call exactly where the entry is one.
+/// 2^32, to the end of its words, which are fewer than 262,144, and at the point of each the function has an item,
+/// which is a call exactly where the entry is one.
 #[derive(Debug, Drop)]
 pub struct Code {
     /// The address where it begins.
@@ -50,5 +50,11 @@ impl Model for Code {
 
     ghost view = { λ c. record { base = c.base; words = c.words; entries = c.entries; framed = c.framed } };
 
-    ghost invariant = { λ c. IsCode (record { base = c.base; words = c.words; entries = c.entries; framed = c.framed }) };
+    ghost invariant = { λ c. IsCode (record {
+      base = c.base;
+      words = c.words;
+      entries = c.entries;
+      framed =
+          c.framed;
+    }) };
 }

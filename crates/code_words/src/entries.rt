@@ -21,7 +21,8 @@ use std::alloc::{AllocError, Global};
 pub fn entries(alloc: Global, plan: &Plan, blocks: &[Block]) -> Result<Entries, AllocError>
     requires blocks { length blocks.now < 2 ^ 32 }
     requires items { items_count blocks.now < 2 ^ 32 }
-    ensures { (l : Layout) → IsPlan l plan.now → l.framed.blocks ≡ blocks.now → IfOk result (λ entries. entries ≡ entries_of l) }
+    ensures { (l : Layout) → IsPlan l plan.now → l.framed.blocks ≡ blocks.now →
+        IfOk result (λ entries. entries ≡ entries_of l) }
 {
     let mut entries = Entries::new(alloc);
     for (index, block) in blocks.iter().enumerate() {
@@ -59,7 +60,8 @@ fn push_item(
     point: &Point,
     origin: &Origin,
 ) -> Result<(), AllocError>
-    ensures { (l : Layout) (s : Site) → StandsAt l plan.now index s → point.now ≡ point_of s.point → origin.now ≡ s.item.origin →
+    ensures { (l : Layout) (s : Site) → StandsAt l plan.now index s → point.now ≡ point_of s.point →
+        origin.now ≡ s.item.origin →
         OnOk result (entries.new ≡ entries.old ++ entries_at l s) }
 {
     let address = plan.address(index);

@@ -7,6 +7,7 @@ ghost use Rattle.code_words.specs.Long.{IsSettled};
 
 /// Of a function and its first address one layout at most is settled.
 pub fn one_layout()
-    ensures { (f : FramedFunction) (base : ℕ) (long other : Pos → Bool) → IsSettled (record { framed = f; base = base; long = long }) →
+    ensures { (f : FramedFunction) (base : ℕ) (long other : Pos → Bool) →
+        IsSettled (record { framed = f; base = base; long = long }) →
         IsSettled (record { framed = f; base = base; long = other }) → (p : Pos) → long p ≡ other p }
 {}

@@ -68,7 +68,8 @@ fn area(objects: &[Object]) -> u64
 fn offsets(alloc: Global, objects: &[Object], own: u32) -> Result<BTreeMap<u32, u32>, AllocError>
     requires own { own ≤ MAX_FRAME }
     requires objects { All (λ o. o.offset ≤ MAX_FRAME) objects.now }
-    ensures { IfOk result (λ offsets. (n : ℕ) → get nat_cmp offsets n ≡ option_map (λ o. own + o.offset) (object_of objects.now n)) }
+    ensures { IfOk result (λ offsets. (n : ℕ) → get nat_cmp offsets n ≡ option_map (λ o. own + o.offset) (object_of
+        objects.now n)) }
 {
     let mut offsets = BTreeMap::new(alloc);
     let mut index = objects.len();

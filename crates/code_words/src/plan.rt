@@ -1,6 +1,7 @@
 //! Where everything of a function stands.
 
-ghost use Rattle.std.specs.Prelude.{◌≡◌, ◌+◌, ◌<◌, ◌^◌, length, slice_index, slice_get, Option, Some, option_map, get_or, IfOk};
+ghost use Rattle.std.specs.Prelude.{◌≡◌, ◌+◌, ◌<◌, ◌^◌, length, slice_index, slice_get, Option, Some, option_map};
+ghost use Rattle.std.specs.Prelude.{get_or, IfOk};
 ghost use Rattle.mir_func.specs.Limits.{MAX_BLOCKS};
 ghost use Rattle.code_words.specs.Counts.{MAX_WORDS, count_of};
 ghost use Rattle.code_words.specs.Rule.{Layout, offset_to, start_of};

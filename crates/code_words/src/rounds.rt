@@ -58,7 +58,8 @@ fn grow(spans: &mut Vec<Span>, sums: &[u32]) -> bool
 
 /// The target of a short branch that doesn't reach.
 fn far(span: Span, index: usize, sums: &[u32]) -> Option<u32>
-    ensures grows { MatchOption result (grown sums.now index span ≡ span) (λ t. (span ≡ Short t) × (grown sums.now index span ≡ Long t)) }
+    ensures grows { MatchOption result (grown sums.now index span ≡ span) (λ t. (span ≡ Short t) ×
+        (grown sums.now index span ≡ Long t)) }
 {
     match span {
         Span::Short(target) => {

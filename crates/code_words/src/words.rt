@@ -1,6 +1,7 @@
 //! The words of a function.
 
-ghost use Rattle.std.specs.Prelude.{◌≡◌, ℕ, Option, All, ◌<◌, ◌+◌, ◌++◌, ◌^◌, IsTrue, IfSome, IfOk, OnOk, get_or, slice_index, List, length, pos, ◌-ℤ◌};
+ghost use Rattle.std.specs.Prelude.{◌≡◌, ℕ, Option, All, ◌<◌, ◌+◌, ◌++◌, ◌^◌, IsTrue, IfSome, IfOk, OnOk, get_or};
+ghost use Rattle.std.specs.Prelude.{slice_index, List, length, pos, ◌-ℤ◌};
 ghost use Rattle.std.specs.List.{flat_map};
 ghost use Rattle.rv64_instr.specs.Row.{row_of};
 ghost use Rattle.rv64_instr.specs.Form.{has_form};
@@ -9,7 +10,8 @@ ghost use Rattle.rv64_word.specs.MachineOp.{is_encodable};
 ghost use Rattle.rv64_word.specs.Lowering.{lowered};
 ghost use Rattle.mir_func.specs.declared.item.ItemKind.TheVariants.{Code};
 ghost use Rattle.mir_func.specs.Exits.{row_exit};
-ghost use Rattle.code_words.specs.Rule.{Layout, Site, words_of, words_at, sites_in, word_if, call_words, operation_at, skip_operation};
+ghost use Rattle.code_words.specs.Rule.{Layout, Site, words_of, words_at, sites_in, word_if, call_words, operation_at};
+ghost use Rattle.code_words.specs.Rule.{skip_operation};
 ghost use Rattle.code_words.specs.steps.Plans.{IsPlan};
 ghost use Rattle.code_words.specs.steps.Emitted.{StandsAt, AllStandAt, jump_by, inverted_word, KindHasForm, HasForm};
 
@@ -28,7 +30,8 @@ use std::alloc::{AllocError, Global};
 
 /// The words of blocks, by their plan.
 pub fn words(alloc: Global, plan: &Plan, blocks: &[Block]) -> Result<Words, AllocError>
-    ensures value { (l : Layout) → IsPlan l plan.now → l.framed.blocks ≡ blocks.now → IfOk result (λ words. words ≡ words_of l) }
+    ensures value { (l : Layout) → IsPlan l plan.now → l.framed.blocks ≡ blocks.now →
+        IfOk result (λ words. words ≡ words_of l) }
     ensures forms { OnOk result (AllItems HasForm blocks.now) }
 {
     let mut words = Words::new(alloc);
@@ -80,7 +83,8 @@ fn push_code(
 ) -> Result<(), AllocError>
     requires { exit ≡ row_exit (row_of i.now) }
     ensures form { IsTrue (has_form i.now.op i.now.operands) }
-    ensures value { (l : Layout) (s : Site) (k : Option ℕ) → IsPlan l plan.now → StandsAt l plan.now index s → Code i.now k ≡ s.item.kind →
+    ensures value { (l : Layout) (s : Site) (k : Option ℕ) → IsPlan l plan.now → StandsAt l plan.now index s →
+        Code i.now k ≡ s.item.kind →
         OnOk result (words.new ≡ words.old ++ words_at l s) }
 {
     let _ = &i.op;
@@ -106,7 +110,8 @@ fn push_one(
 ) -> Result<(), AllocError>
     requires exit { exit ≡ row_exit (row_of i.now) }
     requires low { address < 2 ^ 33 }
-    ensures { (l : Layout) → IsPlan l plan.now → OnOk result (words.new ≡ words.old ++ word_if (operation_at l address i.now)) }
+    ensures { (l : Layout) → IsPlan l plan.now → OnOk result (words.new ≡ words.old ++
+        word_if (operation_at l address i.now)) }
 {
     let object = plan.objects.of(object_named(i));
     push_word(words, lower(i, plan.offset(address, exit), object))
@@ -123,7 +128,8 @@ fn push_call(words: &mut Words) -> Result<(), AllocError>
 fn push_long(words: &mut Words, address: u64, target: u64, i: &Instr) -> Result<(), AllocError>
     requires low { address < 2 ^ 33 }
     requires target { target < 2 ^ 33 }
-    ensures { OnOk result (words.new ≡ words.old ++ (word_if (skip_operation i.now) ++ word_if (jump_by (pos target -ℤ pos (address + 4))))) }
+    ensures { OnOk result (words.new ≡ words.old ++ (word_if (skip_operation i.now) ++
+        word_if (jump_by (pos target -ℤ pos (address + 4))))) }
 {
     push_word(words, skip(i))?;
     push_word(words, jump(distance(address + 4, target)))

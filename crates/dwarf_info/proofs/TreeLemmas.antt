@@ -1,7 +1,8 @@
 -- The tree's spelling by its parts, how long it is, and that a table of offsets serves for the offsets themselves.
 use Rattle.std.specs.Prelude.{All, IfSome}
 use Rattle.std.specs.List.{flat_map, AllByRecursion}
-use Rattle.std.proofs.Common.{◌≡◌, ℕ, ◌+◌, ◌<◌, ◌≤◌, Bool, true, false, Option, Some, None, List, [], ◌∷◌, ◌++◌, length, take, drop, map, arith, ap, subst, sym, ◌∙◌, refl, length-append, append_assoc}
+use Rattle.std.proofs.Common.{◌≡◌, ℕ, ◌+◌, ◌<◌, ◌≤◌, Bool, true, false, Option, Some, None, List, [], ◌∷◌, ◌++◌, length, take, drop, map, arith, ap, subst, sym}
+use Rattle.std.proofs.Common.{◌∙◌, refl, length-append, append_assoc}
 use Rattle.std.proofs.lemmas.List.{take-append-drop}
 use Rattle.std.proofs.lemmas.List.Concat.{flat_map-append}
 use Rattle.std.proofs.lemmas.List.Elements.{recursion_from_All}
@@ -11,7 +12,8 @@ use Rattle.dwarf_info.specs.declared.unit.BaseEntry.{BaseEntry}
 use Rattle.dwarf_info.specs.declared.unit.VariableEntry.{VariableEntry}
 use Rattle.dwarf_info.specs.declared.unit.FunctionEntry.{FunctionEntry}
 use Rattle.dwarf_info.specs.declared.unit.Unit.{Unit as CompilationUnit}
-use Rattle.dwarf_info.specs.Entries.{named, entry, base_type, variable, variable_by, subprogram, compile_unit, type_offset, function, function_of, tree, tree_of, header, spelling, HasType, HasTypes}
+use Rattle.dwarf_info.specs.Entries.{named, entry, base_type, variable, variable_by, subprogram, compile_unit, type_offset, function, function_of, tree}
+use Rattle.dwarf_info.specs.Entries.{tree_of, header, spelling, HasType, HasTypes}
 use Rattle.dwarf_info.specs.steps.Parts.{type_bytes, variable_bytes, function_bytes, in_table, AreOffsets}
 
 flat_map-map : {X Y : Type 0} (g : Y → List ℕ) (f : X → Y) (xs : List X) → flat_map g (map f xs) ≡ flat_map (λ x. g (f x)) xs

@@ -8,7 +8,10 @@ use Rattle.dwarf_info.specs.declared.kind.Kind.TheVariants.{CompileUnit, Subprog
 use Rattle.dwarf_info.specs.declared.kind.Form.{Form}
 use Rattle.dwarf_info.specs.declared.kind.Form.TheVariants.{Address, Data1, Data2, Data4, Text, Reference, SectionOffset, LocationList}
 use Rattle.dwarf_info.specs.declared.kind.Attribute.{Attribute}
-use Rattle.dwarf_info.specs.Standard.{DW_TAG_formal_parameter, DW_TAG_compile_unit, DW_TAG_base_type, DW_TAG_subprogram, DW_TAG_variable, DW_CHILDREN_no, DW_CHILDREN_yes, DW_AT_location, DW_AT_name, DW_AT_byte_size, DW_AT_stmt_list, DW_AT_low_pc, DW_AT_high_pc, DW_AT_language, DW_AT_comp_dir, DW_AT_encoding, DW_AT_type, DW_AT_loclists_base, DW_FORM_addr, DW_FORM_data1, DW_FORM_data2, DW_FORM_data4, DW_FORM_ref4, DW_FORM_sec_offset, DW_FORM_loclistx}
+use Rattle.dwarf_info.specs.Standard.{DW_TAG_formal_parameter, DW_TAG_compile_unit, DW_TAG_base_type, DW_TAG_subprogram, DW_TAG_variable, DW_CHILDREN_no}
+use Rattle.dwarf_info.specs.Standard.{DW_CHILDREN_yes, DW_AT_location, DW_AT_name, DW_AT_byte_size, DW_AT_stmt_list, DW_AT_low_pc, DW_AT_high_pc}
+use Rattle.dwarf_info.specs.Standard.{DW_AT_language, DW_AT_comp_dir, DW_AT_encoding, DW_AT_type, DW_AT_loclists_base, DW_FORM_addr, DW_FORM_data1}
+use Rattle.dwarf_info.specs.Standard.{DW_FORM_data2, DW_FORM_data4, DW_FORM_ref4, DW_FORM_sec_offset, DW_FORM_loclistx}
 
 -- the number of a form (section 7.5.6)
 abbrev pub form_number : Form → ℕ

@@ -11,7 +11,5 @@ pub mod constants;
 pub mod entry;
 pub mod kind;
 pub mod size;
-#[cfg(test)]
-mod tests;
 pub mod unit;
 pub mod write;

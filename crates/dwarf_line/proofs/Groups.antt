@@ -1,7 +1,8 @@
 -- What is read up to a copy is the spelling of one row, and what is read up to an end is that of an end:
 -- first a register with its opcode, then the address, then the closing opcode, then all of them, each in both directions.
 use Rattle.std.specs.Prelude.{pos, ◌-ℤ◌, ◌⊎◌, ◌&&◌, not, IsTrue}
-use Rattle.std.proofs.Common.{◌≡◌, ◌≢◌, ℕ, suc, ◌-◌, ◌^◌, ◌<◌, ◌≤◌, Bool, true, false, cond, eqb, List, [], ◌∷◌, ◌++◌, length, Option, Some, None, Result, Ok, Err, arith, ap, subst, sym, ◌∙◌, refl, inl, inr, append_assoc, eq-eqb, eqb-true}
+use Rattle.std.proofs.Common.{◌≡◌, ◌≢◌, ℕ, suc, ◌-◌, ◌^◌, ◌<◌, ◌≤◌, Bool, true, false, cond, eqb, List, [], ◌∷◌, ◌++◌, length, Option, Some, None, Result, Ok}
+use Rattle.std.proofs.Common.{Err, arith, ap, subst, sym, ◌∙◌, refl, inl, inr, append_assoc, eq-eqb, eqb-true}
 use Rattle.std.proofs.lemmas.Bool.{eqb-false, ne_eqb, cases_Bool}
 use Rattle.dwarf_base.specs.Leb.{uleb_of, sleb_of}
 use Rattle.dwarf_line.specs.declared.table.Row.{Row}

@@ -1,7 +1,8 @@
 -- A section is read exactly where it is that of a table, and then its sequences are read.
 use Rattle.std.specs.Prelude.{All, MatchResult}
 use Rattle.std.specs.List.{AllByRecursion}
-use Rattle.std.proofs.Common.{◌≡◌, ℕ, ◌+◌, ◌-◌, ◌^◌, ◌<◌, true, List, [], ◌∷◌, ◌++◌, length, Result, Ok, Err, arith, ap, subst, sym, ◌∙◌, refl, append_assoc, length-append}
+use Rattle.std.proofs.Common.{◌≡◌, ℕ, ◌+◌, ◌-◌, ◌^◌, ◌<◌, true, List, [], ◌∷◌, ◌++◌, length, Result, Ok, Err, arith, ap, subst, sym, ◌∙◌, refl, append_assoc}
+use Rattle.std.proofs.Common.{length-append}
 use Rattle.std.proofs.lemmas.List.Elements.{recursion_from_All, All-from_recursion}
 use Rattle.dwarf_line.specs.declared.table.FileEntry.{FileEntry}
 use Rattle.dwarf_line.specs.declared.table.Row.{Row}
@@ -9,7 +10,8 @@ use Rattle.dwarf_line.specs.declared.table.Sequence.{Sequence}
 use Rattle.dwarf_line.specs.declared.table.LineTable.{LineTable}
 use Rattle.dwarf_line.specs.Table.{HasRows, IsSequence, IsName, IsNamed, IsNumbered, IsRow, HasRange}
 use Rattle.dwarf_line.specs.Spelling.{tables, rows_to, set_address, registers_at, program, header, spelling}
-use Rattle.dwarf_line.specs.Reading.{behind_header, Rows, start_at, Program, NoSequence, NextSequence, ProgramFault, InStart, InRows, InLaterSequence, SectionFault, InHeader, InProgram, FirstFault, IsSection}
+use Rattle.dwarf_line.specs.Reading.{behind_header, Rows, start_at, Program, NoSequence, NextSequence, ProgramFault, InStart, InRows, InLaterSequence}
+use Rattle.dwarf_line.specs.Reading.{SectionFault, InHeader, InProgram, FirstFault, IsSection}
 use Rattle.dwarf_line.specs.declared.read.ReadError.{ReadError}
 use Rattle.dwarf_line.specs.declared.read.ReadError.TheVariants.{Memory, Left}
 use Rattle.dwarf_line.specs.steps.Gives.{Faults, Reads}

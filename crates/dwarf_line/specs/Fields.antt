@@ -1,6 +1,7 @@
 -- The fields of a section, read from the left: a value and the bytes behind it, or, where a field is wrong, how many bytes are left
 -- from its first one on.
-use Rattle.std.specs.Prelude.{ℕ, zero, suc, ℤ, pos, negsuc, ◌+◌, ◌-◌, ◌+ℤ◌, ◌-ℤ◌, ◌^◌, Option, Some, None, Result, Ok, Err, List, [], ◌∷◌, length, take, drop, ◌==◌, nat_eq, nat_lt, if◌then◌else◌}
+use Rattle.std.specs.Prelude.{ℕ, zero, suc, ℤ, pos, negsuc, ◌+◌, ◌-◌, ◌+ℤ◌, ◌-ℤ◌, ◌^◌, Option, Some, None, Result, Ok, Err, List, [], ◌∷◌, length, take, drop}
+use Rattle.std.specs.Prelude.{◌==◌, nat_eq, nat_lt, if◌then◌else◌}
 use Rattle.std.specs.Option.{ok_or}
 use Rattle.std.specs.List.{starts_with}
 use Rattle.std.specs.Int.{Width, byte_len, from_le_bytes}

@@ -1,5 +1,6 @@
 -- A line number table's section read from the left, field by field (DWARF 5 sections 6.2.4 and 6.2.5), and where its first wrong field is.
-use Rattle.std.specs.Prelude.{◌≡◌, ◌≢◌, ℕ, zero, suc, ◌+◌, ◌-◌, ◌^◌, ◌<◌, Bool, true, false, Option, Some, None, Result, Ok, Err, List, [], ◌∷◌, length, ◌==◌, nat_lt, All, ◌&&◌, if◌then◌else◌}
+use Rattle.std.specs.Prelude.{◌≡◌, ◌≢◌, ℕ, zero, suc, ◌+◌, ◌-◌, ◌^◌, ◌<◌, Bool, true, false, Option, Some, None, Result, Ok, Err, List, [], ◌∷◌, length, ◌==◌}
+use Rattle.std.specs.Prelude.{nat_lt, All, ◌&&◌, if◌then◌else◌}
 use Rattle.std.specs.Int.{w16, w32, w64}
 use Rattle.dwarf_base.specs.Standard.{VERSION, ADDRESS_SIZE, SEGMENT_SELECTOR_SIZE, LENGTH_LIMIT}
 use Rattle.dwarf_line.specs.declared.table.Row.{Row}
@@ -8,7 +9,8 @@ use Rattle.dwarf_line.specs.declared.table.LineTable.{LineTable}
 use Rattle.dwarf_line.specs.declared.read.Advance.{Advance}
 use Rattle.dwarf_line.specs.declared.read.Group.{Group}
 use Rattle.dwarf_line.specs.declared.read.Group.TheVariants.{Copied, Ended}
-use Rattle.dwarf_line.specs.Standard.{instruction_fields, directory_format, file_format, DW_LNS_copy, DW_LNS_advance_pc, DW_LNS_advance_line, DW_LNS_set_file, DW_LNS_set_column, EXTENDED_OPCODE, DW_LNE_end_sequence, DW_LNE_set_address}
+use Rattle.dwarf_line.specs.Standard.{instruction_fields, directory_format, file_format, DW_LNS_copy, DW_LNS_advance_pc, DW_LNS_advance_line, DW_LNS_set_file}
+use Rattle.dwarf_line.specs.Standard.{DW_LNS_set_column, EXTENDED_OPCODE, DW_LNE_end_sequence, DW_LNE_set_address}
 use Rattle.dwarf_line.specs.Table.{HasNames, IsSequence, Fits}
 use Rattle.dwarf_line.specs.Spelling.{registers_at, spelling}
 use Rattle.dwarf_line.specs.Fields.{◌>>=◌, constants_at, number_at, uleb_at, advanced_at, line_at, behind_text}

@@ -8,7 +8,8 @@ use Rattle.dwarf_line.specs.declared.table.FileEntry.{FileEntry}
 use Rattle.dwarf_line.specs.declared.table.Row.{Row}
 use Rattle.dwarf_line.specs.declared.table.Sequence.{Sequence}
 use Rattle.dwarf_line.specs.declared.table.LineTable.{LineTable}
-use Rattle.dwarf_line.specs.Standard.{DW_LNS_copy, DW_LNS_advance_pc, DW_LNS_advance_line, DW_LNS_set_file, DW_LNS_set_column, EXTENDED_OPCODE, DW_LNE_end_sequence, DW_LNE_set_address}
+use Rattle.dwarf_line.specs.Standard.{DW_LNS_copy, DW_LNS_advance_pc, DW_LNS_advance_line, DW_LNS_set_file, DW_LNS_set_column, EXTENDED_OPCODE}
+use Rattle.dwarf_line.specs.Standard.{DW_LNE_end_sequence, DW_LNE_set_address}
 use Rattle.dwarf_line.specs.Standard.{instruction_fields, directory_format, file_format}
 
 -- a text: its bytes, and a zero byte (section 7.5.5)

@@ -13,6 +13,4 @@ pub mod read;
 pub mod row;
 pub mod size;
 pub mod table;
-#[cfg(test)]
-mod tests;
 pub mod write;

@@ -9,10 +9,14 @@ use Rattle.dwarf_loclists.specs.declared.range.Location.{Location}
 use Rattle.dwarf_loclists.specs.declared.range.Location.TheVariants.{Whole, Parts}
 use Rattle.dwarf_loclists.specs.declared.range.Range.{Range}
 
+-- the greatest offset of a doubleword of the frame from x2, in bytes
+abbrev pub MAX_OFFSET : ℕ
+MAX_OFFSET = 2024
+
 -- where a value can be listed: x1 to x31 but the stack pointer, a doubleword of the frame, or a constant
 abbrev pub IsListed : Place → Type 0
 IsListed (Register r) = (1 ≤ r) × (r ≤ 31) × (r ≢ 2)
-IsListed (Slot offset) = (offset % 8 ≡ 0) × (offset ≤ 2024)
+IsListed (Slot offset) = (offset % 8 ≡ 0) × (offset ≤ MAX_OFFSET)
 IsListed (Const c) = Unit {0}
 
 -- a piece of a variable, whose bytes up to this one are told: it begins there or later, and has 1 to 8 bytes at a place

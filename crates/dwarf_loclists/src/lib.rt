@@ -17,5 +17,3 @@ pub mod reader;
 pub mod reading;
 pub mod section;
 mod split;
-#[cfg(test)]
-mod tests;

@@ -1,5 +1,5 @@
 -- The third law of passes, the debug rule: marks, phis, numbers and substitutions stay, or their loss is told.
-use Rattle.std.specs.Prelude.{◌≡◌, ◌⊎◌, ℕ, ◌<◌, ◌≤◌, suc, List, [], ◌∷◌, ◌++◌, Option, Some, None, All, Contains}
+use Rattle.std.specs.Prelude.{◌≡◌, ◌⊎◌, ℕ, ◌<◌, ◌≤◌, suc, List, [], ◌∷◌, ◌++◌, Option, Some, None, Bool, not, ◌&&◌, All, Contains}
 use Rattle.rv64_instr.specs.declared.place.Place.{Place}
 use Rattle.rv64_instr.specs.declared.place.Place.TheVariants.{Register, Slot, Const}
 use Rattle.rv64_instr.specs.Instruction.{Instruction}
@@ -26,7 +26,8 @@ use Rattle.follow_law.specs.Change.{Change}
 use Rattle.follow_law.specs.Order.{IsInOrder}
 use Rattle.follow_law.specs.Rule.{Rule, IsCopy, IsJump, number_lost, mark_lost, register_lost, item, item_before, first_operand, StandsAt, numbers_on}
 use Rattle.follow_law.specs.Rule.{Has}
-use Rattle.follow_law.specs.Causes.{HasCause, IsFirstCause, IsRemoved}
+use Rattle.mir_meaning.specs.Align.{is_code, is_jump}
+use Rattle.follow_law.specs.Causes.{HasCause, IsFirstCause, IsFewer, IsRemoved}
 
 -- what becomes of what is lost: it is gone, or it stays and gives nothing, or it is a register that stays unspilled
 pub data Fate : Type 0 where
@@ -44,6 +45,10 @@ fate NoScratch = Unspilled
 fate CallNamed = Unspilled
 fate EntryLoop = Unspilled
 fate NoSlot = Unspilled
+
+-- code that is no jump
+abbrev pub is_other_code : ItemKind → Bool
+is_other_code kind = is_code kind && not (is_jump kind)
 
 module _ (rule : Rule) (c : Change) where
   -- the item at a place has no such loss
@@ -96,17 +101,19 @@ module _ (rule : Rule) (c : Change) where
         Becomes at (item (Code i None) o l) (item (Code j None) o l ∷ [])
     -- a jump stays with its number, perhaps where another branch stood
     jump_stays : {i j : Instruction} {k : Option ℕ} {o o' : Origin} {l l' : Loc} → IsJump (row_of i) → IsJump (row_of j) →
-        Becomes at (item (Code i k) o l) (item (Code j k) o' l' ∷ [])
-    -- code is gone that has no number and gets none; or that has one and defines nothing, with an entry if the pass says so
+        ((n : ℕ) → k ≡ Some n → IsUnlost at (number_lost n)) → Becomes at (item (Code i k) o l) (item (Code j k) o' l' ∷ [])
+    -- code is gone that has no number and gets none; or that has one and defines nothing, with an entry if the pass says so, and less
+    -- code has its origin, or less that is no jump: a jump may have taken it
     code_goes : {i : Instruction} {o : Origin} {l : Loc} → ((k : ℕ) → rule.numbers c at k → ⊥) → Becomes at (item (Code i None) o l) []
-    idle_goes : {i : Instruction} {k : ℕ} {o : Origin} {l : Loc} → sets (row_of i) ≡ [] → Becomes at (item (Code i (Some k)) o l) []
+    idle_goes : {i : Instruction} {k : ℕ} {o : Origin} {l : Loc} → sets (row_of i) ≡ [] → IsFewer c is_code o ⊎ IsFewer c is_other_code o →
+        Becomes at (item (Code i (Some k)) o l) []
     -- code is gone with the number that it has or got
     number_goes : {i : Instruction} {n : Option ℕ} {o : Origin} {l : Loc} (k : ℕ) (why : Reason) → fate why ≡ Gone → Has rule c at n k →
         rule.loses c at (number_lost k why) → Becomes at (item (Code i n) o l) []
     -- a copy was removed, and another pair stands for its number; or a phi of its number is there for it, which gives
     -- nothing where its place is wrong
     substituted : {i : Instruction} {n : Option ℕ} {o : Origin} {l : Loc} (k : ℕ) (e : Entry) → IsCopy (row_of i) → IsRemoved c o →
-        Has rule c at n k → entry_of c.new_subs (first_operand k) ≡ Some e → Becomes at (item (Code i n) o l) []
+        Has rule c at n k → entry_of c.new_subs (first_operand k) ≡ Some e → IsUnlost at (number_lost k) → Becomes at (item (Code i n) o l) []
     salvaged : {i : Instruction} {n : Option ℕ} {k : ℕ} {o : Origin} {l : Loc} {p : Place} → IsCopy (row_of i) → IsRemoved c o →
         Has rule c at n k → rule.salvages c at p → IsUnlost at (number_lost k) → Becomes at (item (Code i n) o l) (item_before (Phi (Some p) k) o ∷ [])
     salvaged_wrong : {i : Instruction} {n : Option ℕ} {k : ℕ} {o : Origin} {l : Loc} {p : Place} → IsCopy (row_of i) → IsRemoved c o →

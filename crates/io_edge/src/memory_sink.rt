@@ -1,6 +1,7 @@
 //! A sink over memory.
 
-ghost use Rattle.std.specs.Prelude.{◌≡◌, ◌<◌, ◌≤◌, ◌-◌, ◌++◌, ◌↔◌, ◌⊎◌, ℕ, [], Some, length, take, min, IfOk, OnErr, IsErr};
+ghost use Rattle.std.specs.Prelude.{◌≡◌, ◌<◌, ◌≤◌, ◌-◌, ◌++◌, ◌↔◌, ◌⊎◌, ℕ, [], Some, length, take, min, IfOk, OnErr};
+ghost use Rattle.std.specs.Prelude.{IsErr};
 ghost use Rattle.io_edge.specs.Faults.{CountRose};
 ghost use Rattle.io_edge.specs.Told.{Appends};
 ghost use Rattle.io_edge.specs.Calls.{no_calls, IsToFail, after_call, after_fault};
@@ -65,7 +66,12 @@ impl Sink for MemorySink {
 
         // What each answer leaves.
         ensures count { IfOk result (λ n. n ≡ min (length bytes.now) (self.old.room - length self.old.written)) }
-        ensures ok { IfOk result (λ n. self.new ≡ record { written = self.old.written ++ take n bytes.now; room = self.old.room; calls = after_call self.old.calls }) }
+        ensures ok { IfOk result (λ n. self.new ≡ record {
+          written = self.old.written ++ take n bytes.now;
+          room =
+              self.old.room;
+          calls = after_call self.old.calls;
+        }) }
         ensures err { OnErr result (self.new ≡ record self.old { calls = after_fault self.old.calls }) }
 
         // What each sink promises.

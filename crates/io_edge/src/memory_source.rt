@@ -57,7 +57,11 @@ impl Source for MemorySource {
         // What each answer leaves.
         ensures count { IfOk result (λ n. n ≡ min (length buf.old) (length self.old.left)) }
         ensures filled { IfOk result (λ n. buf.new ≡ take n self.old.left ++ drop n buf.old) }
-        ensures ok { IfOk result (λ n. self.new ≡ record { left = drop n self.old.left; calls = after_call self.old.calls }) }
+        ensures ok { IfOk result (λ n. self.new ≡ record {
+          left = drop n self.old.left;
+          calls =
+              after_call self.old.calls;
+        }) }
         ensures err { OnErr result (self.new ≡ record self.old { calls = after_fault self.old.calls }) }
         ensures unfilled { OnErr result (buf.new ≡ buf.old) }
 

@@ -1,6 +1,7 @@
 //! Reading a source to its end.
 
-ghost use Rattle.std.specs.Prelude.{◌≡◌, ◌≢◌, ◌+◌, ◌^◌, ◌<◌, ◌≤◌, ℕ, length, take, drop, ◌⊎◌, IfOk, IfErr, OnOk, OnErr, IfSome, IsErr, IsErrOf};
+ghost use Rattle.std.specs.Prelude.{◌≡◌, ◌≢◌, ◌+◌, ◌^◌, ◌<◌, ◌≤◌, ℕ, length, take, drop, ◌⊎◌, IfOk, IfErr, OnOk, OnErr};
+ghost use Rattle.std.specs.Prelude.{IfSome, IsErr, IsErrOf};
 ghost use Rattle.io_edge.specs.declared.reading.ReadError.TheVariants.{Failed, Memory};
 ghost use Rattle.io_edge.specs.Faults.{CountRose};
 ghost use Rattle.io_edge.specs.Reading.{AnswersFor};
@@ -96,7 +97,8 @@ fn read_more<S: Source>(
     ensures kept { take filled bytes.new.items ≡ take filled bytes.old.items }
     ensures within { IfOk result (λ n. filled + n ≤ length bytes.new.items) }
     ensures most { length bytes.new.items ≤ most }
-    ensures takes { IfOk result (λ n. Takes (S.left input.old) (S.left input.new) (take n (drop filled bytes.new.items))) }
+    ensures takes { IfOk result (λ n. Takes (S.left input.old) (S.left input.new) (take n (drop filled
+        bytes.new.items))) }
     ensures end { result ≡ Ok 0 → IsAtEnd (S.left input.new) }
     ensures steady { OnOk result (S.faults input.new ≡ S.faults input.old) }
     ensures unread { OnErr result (S.left input.new ≡ S.left input.old) }

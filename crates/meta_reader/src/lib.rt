@@ -14,8 +14,8 @@ mod kind;
 mod line;
 pub mod metadata;
 pub mod node;
-mod number;
+pub mod number;
 #[cfg(test)]
 mod tests;
-mod text;
-mod token;
+pub mod text;
+pub mod token;

@@ -13,7 +13,8 @@ abbrev pub next : ℕ → List ℕ → Line
 next last text = record { number = last + 1; text = text }
 
 module _ (s : Scan) (last : ℕ) (rest line behind text : List ℕ) (cut : lines rest ≡ line ∷ lines behind) (without_spaces : text ≡ trimmed line) where
-  one_line : scan s last (numbered (last + 1) (lines rest)) ≡ scan_or_stop s (fault s (next last text)) (scan (step s (next last text)) (last + 1) (numbered (last + 1 + 1) (lines behind)))
+  one_line : scan s last (numbered (last + 1) (lines rest)) ≡ scan_or_stop s (fault s (next last text)) (scan (step s (next last text)) (last + 1) (numbered
+      (last + 1 + 1) (lines behind)))
   unfolding scan
   one_line =
       ap (λ (texts : List (List ℕ)). scan s last (numbered (last + 1) texts)) cut
@@ -21,13 +22,16 @@ module _ (s : Scan) (last : ℕ) (rest line behind text : List ℕ) (cut : lines
 
   -- a line that shows a fault ends it
   pub stops : (bad : Option ℕ) → bad ≡ fault s (next last text) → is_some bad ≡ true → found s bad ≡ scan s last (numbered (last + 1) (lines rest))
-  stops (Some n) is some = sym (one_line ∙ ap (λ (b : Option ℕ). scan_or_stop s b (scan (step s (next last text)) (last + 1) (numbered (last + 1 + 1) (lines behind)))) (sym is))
+  stops (Some n) is some = sym (one_line ∙ ap (λ (b : Option ℕ). scan_or_stop s b (scan (step s (next last text)) (last + 1) (numbered (last + 1 + 1) (lines
+      behind)))) (sym is))
   stops None is some = absurd cc
 
   -- a line that shows none is taken
-  pub goes_on : (bad : Option ℕ) → bad ≡ fault s (next last text) → is_some bad ≡ false → scan (step s (next last text)) (last + 1) (numbered (last + 1 + 1) (lines behind)) ≡ scan s last (numbered (last + 1) (lines rest))
+  pub goes_on : (bad : Option ℕ) → bad ≡ fault s (next last text) → is_some bad ≡ false →
+      scan (step s (next last text)) (last + 1) (numbered (last + 1 + 1) (lines behind)) ≡ scan s last (numbered (last + 1) (lines rest))
   goes_on (Some n) is some = absurd cc
-  goes_on None is some = sym (one_line ∙ ap (λ (b : Option ℕ). scan_or_stop s b (scan (step s (next last text)) (last + 1) (numbered (last + 1 + 1) (lines behind)))) (sym is))
+  goes_on None is some = sym (one_line ∙ ap (λ (b : Option ℕ). scan_or_stop s b (scan (step s (next last text)) (last + 1) (numbered (last + 1 + 1) (lines
+      behind)))) (sym is))
 
 -- the end of a text
 pub ends : (s : Scan) (last : ℕ) (rest : List ℕ) → length rest ≡ 0 → found s (fault_at_end s s.function last) ≡ scan s last (numbered (last + 1) (lines rest))

@@ -1,5 +1,6 @@
 -- The scan gives the documents.
-use Rattle.std.proofs.Common.{◌≡◌, ℕ, suc, ◌+◌, Bool, true, false, not, cond, ltb, List, [], ◌∷◌, ◌++◌, length, take, Option, Some, None, refl, sym, ap, ◌∙◌, append_assoc, arith, inl, inr}
+use Rattle.std.proofs.Common.{◌≡◌, ℕ, suc, ◌+◌, Bool, true, false, not, cond, ltb, List, [], ◌∷◌, ◌++◌, length, take, Option, Some, None, refl, sym, ap, ◌∙◌}
+use Rattle.std.proofs.Common.{append_assoc, arith, inl, inr}
 use Rattle.std.specs.List.{prefix_len}
 use Rattle.std.specs.Str.Lines.{lines}
 use Rattle.std.proofs.lemmas.Bool.{lt-ltb, le-ltb, cases_lt}
@@ -11,7 +12,8 @@ use Rattle.mir_frame.specs.declared.open_function.OpenFunction.{OpenFunction}
 use Rattle.mir_frame.specs.declared.scan.Scan.{Scan}
 use Rattle.mir_frame.specs.Key.{is_close, is_passed, opens_block, opens_function}
 use Rattle.mir_frame.specs.Lines.{numbered, lines_of}
-use Rattle.mir_frame.specs.Documents.{lines_under, inside, is_closed, is_fault, is_complete, first_fault, fault_or, function_document, function_from, block_from, stops, documents_from, documents_of}
+use Rattle.mir_frame.specs.Documents.{lines_under, inside, is_closed, is_fault, is_complete, first_fault, fault_or, function_document, function_from}
+use Rattle.mir_frame.specs.Documents.{block_from, stops, documents_from, documents_of}
 use Rattle.mir_frame.specs.Scan.{scan, scan_or_stop, start, just_opened, taken, can_close, can_not_take, closed_at}
 use Rattle.mir_frame.proofs.OneFunction.{opened_with, taken-is, can_not_take-is, can_close-is, closed_at-is}
 
@@ -31,7 +33,8 @@ abbrev goes_past : Line → Bool
 goes_past line = not (is_close line.text)
 
 module _ (line : Line) (others : List Line) where
-  front_len : (closes : Bool) → is_close line.text ≡ closes → prefix_len (λ l. not (is_close l.text)) (line ∷ others) ≡ cond (not closes) (1 + prefix_len (λ l. not (is_close l.text)) others) 0
+  front_len : (closes : Bool) → is_close line.text ≡ closes → prefix_len (λ l. not (is_close l.text)) (line ∷ others) ≡ cond (not closes) (1 + prefix_len (λ l.
+      not (is_close l.text)) others) 0
   front_len closes is = ap (λ (b : Bool). cond (not b) (1 + prefix_len (λ l. not (is_close l.text)) others) 0) is
 
   pub inside-close : is_close line.text ≡ true → inside (line ∷ others) ≡ []
@@ -68,17 +71,20 @@ join meta functions d = record { meta = meta ++ d.meta; functions = functions ++
 abbrev read_so_far : List Line → List FunctionDocument → Option ℕ → Documents
 read_so_far meta functions bad = record { meta = meta; functions = functions; bad = bad }
 
-nothing_more : (meta : List Line) (functions : List FunctionDocument) (bad : Option ℕ) → read_so_far meta functions bad ≡ join meta functions (read_so_far [] [] bad)
+nothing_more : (meta : List Line) (functions : List FunctionDocument) (bad : Option ℕ) → read_so_far meta functions bad ≡ join meta functions (read_so_far []
+    [] bad)
 nothing_more meta functions bad =
     let m = sym (append-nil meta) in
     let f = sym (append-nil functions) in
     λ i. read_so_far (m i) (f i) bad
 
 -- a line more was read, or is read
-line_more : (meta : List Line) (functions : List FunctionDocument) (line : Line) (m : List Line) (f : List FunctionDocument) (bad : Option ℕ) → join (meta ++ line ∷ []) functions (read_so_far m f bad) ≡ join meta functions (read_so_far (line ∷ m) f bad)
+line_more : (meta : List Line) (functions : List FunctionDocument) (line : Line) (m : List Line) (f : List FunctionDocument) (bad : Option ℕ) →
+    join (meta ++ line ∷ []) functions (read_so_far m f bad) ≡ join meta functions (read_so_far (line ∷ m) f bad)
 line_more meta functions line m f bad = let e = append_assoc meta (line ∷ []) m in λ i. read_so_far (e i) (functions ++ f) bad
 
-function_more : (meta : List Line) (functions : List FunctionDocument) (g : FunctionDocument) (m : List Line) (f : List FunctionDocument) (bad : Option ℕ) → join meta (functions ++ g ∷ []) (read_so_far m f bad) ≡ join meta functions (read_so_far m (g ∷ f) bad)
+function_more : (meta : List Line) (functions : List FunctionDocument) (g : FunctionDocument) (m : List Line) (f : List FunctionDocument) (bad : Option ℕ) →
+    join meta (functions ++ g ∷ []) (read_so_far m f bad) ≡ join meta functions (read_so_far m (g ∷ f) bad)
 function_more meta functions g m f bad = let e = append_assoc functions (g ∷ []) f in λ i. read_so_far (meta ++ m) (e i) bad
 
 -- ---- documents from their parts
@@ -90,7 +96,8 @@ block_with inner closed last others = cond closed (record others { meta = inner 
 -- a function with these lines, where the text or the function ends
 abbrev whole_function : ℕ → List Line → ℕ → Bool → Documents → Documents
 whole_function opened ls last closed others =
-    cond (is_complete ls) (cond closed (record others { functions = function_document opened ls (opened + length ls + 1) ∷ others.functions }) (stops last)) (stops opened)
+    cond (is_complete ls) (cond closed (record others { functions = function_document opened ls (opened + length ls + 1) ∷ others.functions }) (stops last))
+    (stops opened)
 
 -- the function whose lines so far are `e`
 abbrev function_with : ℕ → List Line → List Line → List Line → Bool → Documents → Documents
@@ -105,23 +112,30 @@ function_from-is opened ls others = refl
 
 -- the scan and the documents agree from each state on
 record Agrees (last : ℕ) (ls : List Line) : Type 0 where
-  outside : (had : Bool) (meta : List Line) (functions : List FunctionDocument) → scan (outside_state had meta functions) last ls ≡ join meta functions (documents_from 0 had ls)
-  block : (meta : List Line) (functions : List FunctionDocument) → scan (block_state meta functions) last ls ≡ join meta functions (block_from last ls (documents_from (suc (length (inside ls))) true ls))
+  outside : (had : Bool) (meta : List Line) (functions : List FunctionDocument) → scan (outside_state had meta functions) last ls ≡ join meta functions
+      (documents_from 0 had ls)
+  block : (meta : List Line) (functions : List FunctionDocument) → scan (block_state meta functions) last ls ≡ join meta functions (block_from last ls
+      (documents_from (suc (length (inside ls))) true ls))
   function : (had : Bool) (opened : ℕ) (e : List Line) (meta : List Line) (functions : List FunctionDocument) → last ≡ opened + length e
-      → scan (function_state had (opened_with opened e) meta functions) last ls ≡ join meta functions (function_rest opened e ls (documents_from (suc (length (inside ls))) had ls))
+      → scan (function_state had (opened_with opened e) meta functions) last ls ≡ join meta functions (function_rest opened e ls (documents_from (suc (length
+      (inside ls))) had ls))
 
 -- ---- the end of a text
 
-block_end : (last : ℕ) (meta : List Line) (functions : List FunctionDocument) (others : Documents) → read_so_far meta functions (Some last) ≡ join meta functions (block_from last [] others)
+block_end : (last : ℕ) (meta : List Line) (functions : List FunctionDocument) (others : Documents) →
+    read_so_far meta functions (Some last) ≡ join meta functions (block_from last [] others)
 unfolding block_from is_closed inside
 block_end last meta functions others = ap (λ (n : ℕ). read_so_far meta functions (Some n)) (omega arith) ∙ nothing_more meta functions (Some (last + 0))
 
-function_end : (opened last : ℕ) (e : List Line) (meta : List Line) (functions : List FunctionDocument) (others : Documents) (complete : Bool) → last ≡ opened + length e → is_complete e ≡ complete
+function_end : (opened last : ℕ) (e : List Line) (meta : List Line) (functions : List FunctionDocument) (others : Documents) (complete : Bool) →
+    last ≡ opened + length e → is_complete e ≡ complete
     → read_so_far meta functions (cond complete (Some last) (Some opened)) ≡ join meta functions (cond complete (stops (opened + length e)) (stops opened))
-function_end opened last e meta functions others true at is = ap (λ (n : ℕ). read_so_far meta functions (Some n)) at ∙ nothing_more meta functions (Some (opened + length e))
+function_end opened last e meta functions others true at is = ap (λ (n : ℕ). read_so_far meta functions (Some n)) at ∙
+    nothing_more meta functions (Some (opened + length e))
 function_end opened last e meta functions others false at is = nothing_more meta functions (Some opened)
 
-function_rest-end : (opened : ℕ) (e : List Line) (others : Documents) → function_rest opened e [] others ≡ cond (is_complete e) (stops (opened + length e)) (stops opened)
+function_rest-end : (opened : ℕ) (e : List Line) (others : Documents) → function_rest opened e [] others ≡ cond (is_complete e) (stops (opened + length e))
+    (stops opened)
 unfolding is_closed inside first_fault
 function_rest-end opened e others = ap (λ (ls : List Line). cond (is_complete ls) (stops (opened + length ls)) (stops opened)) (append-nil e)
 
@@ -145,7 +159,8 @@ module _ (last : ℕ) (line : Line) (others : List Line) (at : line.number ≡ l
   outside_line : (had : Bool) (meta : List Line) (functions : List FunctionDocument) (passed block function : Bool)
       → scan_or_stop (outside_state had meta functions)
       (cond passed None (cond block (cond had (Some line.number) None) (cond function None (Some line.number))))
-      (scan (cond passed (outside_state had meta functions) (cond block (block_state meta functions) (cond function (function_state had (just_opened line.number) meta functions) (outside_state had meta functions)))) line.number others)
+      (scan (cond passed (outside_state had meta functions) (cond block (block_state meta functions) (cond function (function_state had (just_opened
+      line.number) meta functions) (outside_state had meta functions)))) line.number others)
       ≡ join meta functions
       (cond passed (documents_from 0 had others)
       (cond block (cond had (stops line.number) (block_from line.number others (documents_from (suc (length (inside others))) true others)))
@@ -168,7 +183,8 @@ module _ (last : ℕ) (line : Line) (others : List Line) (at : line.number ≡ l
   block_line meta functions true is =
       let none = inside-close line others is in
       let closed = is_closed-close line others is in
-      let parts : block_with [] true (last + length (line ∷ others)) (documents_from 0 true others) ≡ block_with (inside (line ∷ others)) (is_closed (line ∷ others)) (last + length (line ∷ others)) (documents_from (length (inside (line ∷ others))) true others) =
+      let parts : block_with [] true (last + length (line ∷ others)) (documents_from 0 true others) ≡ block_with (inside (line ∷ others)) (is_closed (line ∷
+      others)) (last + length (line ∷ others)) (documents_from (length (inside (line ∷ others))) true others) =
       sym (λ i. block_with (none i) (closed i) (last + length (line ∷ others)) (documents_from (length (none i)) true others)) in
       later.outside true meta functions ∙ ap (join meta functions) parts
   block_line meta functions false is =
@@ -176,12 +192,15 @@ module _ (last : ℕ) (line : Line) (others : List Line) (at : line.number ≡ l
       let closed = is_closed-other line others is in
       let d = documents_from (suc (length (inside others))) true others in
       let count : last + length (line ∷ others) ≡ line.number + length others = omega arith in
-      let parts : block_with (inside (line ∷ others)) (is_closed (line ∷ others)) (last + length (line ∷ others)) (documents_from (length (inside (line ∷ others))) true others) ≡ block_with (line ∷ inside others) (is_closed others) (line.number + length others) d =
+      let parts : block_with (inside (line ∷ others)) (is_closed (line ∷ others)) (last + length (line ∷ others)) (documents_from (length (inside (line ∷
+      others))) true others) ≡ block_with (line ∷ inside others) (is_closed others) (line.number + length others) d =
       λ i. block_with (more i) (closed i) (count i) (documents_from (length (more i)) true others) in
       later.block (meta ++ line ∷ []) functions ∙ moved (is_closed others) ∙ ap (join meta functions) (sym parts)
     where
-      moved : (closed : Bool) → join (meta ++ line ∷ []) functions (block_with (inside others) closed (line.number + length others) (documents_from (suc (length (inside others))) true others))
-          ≡ join meta functions (block_with (line ∷ inside others) closed (line.number + length others) (documents_from (suc (length (inside others))) true others))
+      moved : (closed : Bool) → join (meta ++ line ∷ []) functions (block_with (inside others) closed (line.number + length others) (documents_from (suc
+          (length (inside others))) true others))
+          ≡ join meta functions (block_with (line ∷ inside others) closed (line.number + length others) (documents_from (suc (length (inside others))) true
+          others))
       moved true = line_more meta functions line (inside others ++ (documents_from (suc (length (inside others))) true others).meta) _ _
       moved false = line_more meta functions line (inside others) [] _
 
@@ -189,8 +208,12 @@ module _ (last : ℕ) (line : Line) (others : List Line) (at : line.number ≡ l
 
   -- the line that closes it
   closing_line : (had : Bool) (opened : ℕ) (e : List Line) (meta : List Line) (functions : List FunctionDocument) (complete : Bool)
-      → scan_or_stop (function_state had (opened_with opened e) meta functions) (cond complete None (Some opened)) (scan (outside_state had meta (functions ++ closed_at (opened_with opened e) line.number ∷ [])) line.number others)
-      ≡ join meta functions (cond complete (record (documents_from 0 had others) { functions = function_document opened e line.number ∷ (documents_from 0 had others).functions }) (stops opened))
+      → scan_or_stop (function_state had (opened_with opened e) meta functions) (cond complete None (Some opened)) (scan (outside_state had meta (functions ++
+      closed_at (opened_with opened e) line.number ∷ [])) line.number others)
+      ≡ join meta functions (cond complete (record (documents_from 0 had others) {
+        functions = function_document opened e line.number ∷ (documents_from 0 had
+            others).functions;
+      }) (stops opened))
   closing_line had opened e meta functions true =
       let d = documents_from 0 had others in
       later.outside had meta (functions ++ closed_at (opened_with opened e) line.number ∷ [])
@@ -201,7 +224,10 @@ module _ (last : ℕ) (line : Line) (others : List Line) (at : line.number ≡ l
   -- its documents, where no line of it is left
   closing_rest : (had : Bool) (opened : ℕ) (e : List Line) → last ≡ opened + length e → is_close line.text ≡ true
       → function_rest opened e (line ∷ others) (documents_from (suc (length (inside (line ∷ others)))) had (line ∷ others))
-      ≡ cond (is_complete e) (record (documents_from 0 had others) { functions = function_document opened e line.number ∷ (documents_from 0 had others).functions }) (stops opened)
+      ≡ cond (is_complete e) (record (documents_from 0 had others) {
+        functions = function_document opened e line.number ∷ (documents_from 0 had
+            others).functions;
+      }) (stops opened)
   unfolding documents_from first_fault
   closing_rest had opened e count is =
       let none = inside-close line others is in
@@ -209,55 +235,71 @@ module _ (last : ℕ) (line : Line) (others : List Line) (at : line.number ≡ l
       let whole = append-nil e in
       let d = documents_from 0 had others in
       let number : opened + length e + 1 ≡ line.number = omega arith in
-      let one : function_with opened e (inside (line ∷ others)) (line ∷ others) (is_closed (line ∷ others)) (documents_from (length (inside (line ∷ others))) had others) ≡ function_with opened e [] (line ∷ others) true d =
+      let one : function_with opened e (inside (line ∷ others)) (line ∷ others) (is_closed (line ∷ others)) (documents_from (length (inside (line ∷ others)))
+      had others) ≡ function_with opened e [] (line ∷ others) true d =
       λ i. function_with opened e (none i) (line ∷ others) (closed i) (documents_from (length (none i)) had others) in
-      one ∙ (λ i. cond (is_complete (whole i)) (record d { functions = function_document opened (whole i) (opened + length (whole i) + 1) ∷ d.functions }) (stops opened))
+      one ∙ (λ i. cond (is_complete (whole i)) (record d { functions = function_document opened (whole i) (opened + length (whole i) + 1) ∷ d.functions })
+      (stops opened))
       ∙ ap (λ (n : ℕ). cond (is_complete e) (record d { functions = function_document opened e n ∷ d.functions }) (stops opened)) number
 
   -- a line of it
-  inner_line : (had : Bool) (opened : ℕ) (e : List Line) (meta : List Line) (functions : List FunctionDocument) → last ≡ opened + length e → is_close line.text ≡ false
+  inner_line : (had : Bool) (opened : ℕ) (e : List Line) (meta : List Line) (functions : List FunctionDocument) → last ≡ opened + length e →
+      is_close line.text ≡ false
       → (faulty : Bool) → is_fault e line ≡ faulty
-      → scan_or_stop (function_state had (opened_with opened e) meta functions) (cond faulty (Some line.number) None) (scan (function_state had (opened_with opened (e ++ line ∷ [])) meta functions) line.number others)
+      → scan_or_stop (function_state had (opened_with opened e) meta functions) (cond faulty (Some line.number) None) (scan (function_state had (opened_with
+      opened (e ++ line ∷ [])) meta functions) line.number others)
       ≡ join meta functions (function_rest opened e (line ∷ others) (documents_from (suc (length (inside (line ∷ others)))) had (line ∷ others)))
   unfolding documents_from first_fault
   inner_line had opened e meta functions count is true faulty =
       let more = inside-other line others is in
       let closed = is_closed-other line others is in
-      let one : function_with opened e (inside (line ∷ others)) (line ∷ others) (is_closed (line ∷ others)) (documents_from (length (inside (line ∷ others))) had others) ≡ function_with opened e (line ∷ inside others) (line ∷ others) (is_closed others) (documents_from (suc (length (inside others))) had others) =
+      let one : function_with opened e (inside (line ∷ others)) (line ∷ others) (is_closed (line ∷ others)) (documents_from (length (inside (line ∷ others)))
+      had others) ≡ function_with opened e (line ∷ inside others) (line ∷ others) (is_closed others) (documents_from (suc (length (inside others))) had
+      others) =
       λ i. function_with opened e (more i) (line ∷ others) (closed i) (documents_from (length (more i)) had others) in
       let d = documents_from (suc (length (inside others))) had others in
       let stopped : function_with opened e (line ∷ inside others) (line ∷ others) (is_closed others) d ≡ stops line.number =
-      ap (λ (b : Bool). fault_or (cond b (Some line.number) (first_fault (e ++ line ∷ []) (inside others))) (whole_function opened (e ++ line ∷ inside others) (opened + length (e ++ line ∷ others)) (is_closed others) d)) faulty in
+      ap (λ (b : Bool). fault_or (cond b (Some line.number) (first_fault (e ++ line ∷ []) (inside others))) (whole_function opened (e ++
+      line ∷ inside others) (opened + length (e ++ line ∷ others)) (is_closed others) d)) faulty in
       nothing_more meta functions (Some line.number) ∙ ap (join meta functions) (sym (one ∙ stopped))
   inner_line had opened e meta functions count is false faulty =
       let more = inside-other line others is in
       let closed = is_closed-other line others is in
-      let one : function_with opened e (inside (line ∷ others)) (line ∷ others) (is_closed (line ∷ others)) (documents_from (length (inside (line ∷ others))) had others) ≡ function_with opened e (line ∷ inside others) (line ∷ others) (is_closed others) (documents_from (suc (length (inside others))) had others) =
+      let one : function_with opened e (inside (line ∷ others)) (line ∷ others) (is_closed (line ∷ others)) (documents_from (length (inside (line ∷ others)))
+      had others) ≡ function_with opened e (line ∷ inside others) (line ∷ others) (is_closed others) (documents_from (suc (length (inside others))) had
+      others) =
       λ i. function_with opened e (more i) (line ∷ others) (closed i) (documents_from (length (more i)) had others) in
       let d = documents_from (suc (length (inside others))) had others in
       let inner = append_assoc e (line ∷ []) (inside others) in
       let all = append_assoc e (line ∷ []) others in
-      let passed : function_with opened e (line ∷ inside others) (line ∷ others) (is_closed others) d ≡ fault_or (first_fault (e ++ line ∷ []) (inside others)) (whole_function opened (e ++ line ∷ inside others) (opened + length (e ++ line ∷ others)) (is_closed others) d) =
-      ap (λ (b : Bool). fault_or (cond b (Some line.number) (first_fault (e ++ line ∷ []) (inside others))) (whole_function opened (e ++ line ∷ inside others) (opened + length (e ++ line ∷ others)) (is_closed others) d)) faulty in
-      let regrouped : function_rest opened (e ++ line ∷ []) others d ≡ fault_or (first_fault (e ++ line ∷ []) (inside others)) (whole_function opened (e ++ line ∷ inside others) (opened + length (e ++ line ∷ others)) (is_closed others) d) =
+      let passed : function_with opened e (line ∷ inside others) (line ∷ others) (is_closed others) d ≡ fault_or (first_fault (e ++
+      line ∷ []) (inside others)) (whole_function opened (e ++ line ∷ inside others) (opened + length (e ++ line ∷ others)) (is_closed others) d) =
+      ap (λ (b : Bool). fault_or (cond b (Some line.number) (first_fault (e ++ line ∷ []) (inside others))) (whole_function opened (e ++
+      line ∷ inside others) (opened + length (e ++ line ∷ others)) (is_closed others) d)) faulty in
+      let regrouped : function_rest opened (e ++ line ∷ []) others d ≡ fault_or (first_fault (e ++ line ∷ []) (inside others)) (whole_function opened (e ++
+      line ∷ inside others) (opened + length (e ++ line ∷ others)) (is_closed others) d) =
       λ i. fault_or (first_fault (e ++ line ∷ []) (inside others)) (whole_function opened (inner i) (opened + length (all i)) (is_closed others) d) in
       later.function had opened (e ++ line ∷ []) meta functions (omega (arith, length_push e line))
       ∙ ap (join meta functions) (regrouped ∙ sym passed ∙ sym one)
 
   -- a line of the function, or the one that closes it
-  function_line : (had : Bool) (opened : ℕ) (e : List Line) (meta : List Line) (functions : List FunctionDocument) → last ≡ opened + length e → (closes : Bool) → is_close line.text ≡ closes
+  function_line : (had : Bool) (opened : ℕ) (e : List Line) (meta : List Line) (functions : List FunctionDocument) → last ≡ opened + length e →
+      (closes : Bool) → is_close line.text ≡ closes
       → scan_or_stop (function_state had (opened_with opened e) meta functions)
       (cond closes (cond (can_close (opened_with opened e)) None (Some opened)) (cond (can_not_take (opened_with opened e) line.text) (Some line.number) None))
-      (scan (cond closes (outside_state had meta (functions ++ closed_at (opened_with opened e) line.number ∷ [])) (function_state had (taken (opened_with opened e) line) meta functions)) line.number others)
+      (scan (cond closes (outside_state had meta (functions ++ closed_at (opened_with opened e) line.number ∷ [])) (function_state had (taken (opened_with
+      opened e) line) meta functions)) line.number others)
       ≡ join meta functions (function_rest opened e (line ∷ others) (documents_from (suc (length (inside (line ∷ others)))) had (line ∷ others)))
   function_line had opened e meta functions count true is =
-      ap (λ (b : Bool). scan_or_stop (function_state had (opened_with opened e) meta functions) (cond b None (Some opened)) (scan (outside_state had meta (functions ++ closed_at (opened_with opened e) line.number ∷ [])) line.number others)) (can_close-is opened e)
+      ap (λ (b : Bool). scan_or_stop (function_state had (opened_with opened e) meta functions) (cond b None (Some opened)) (scan (outside_state had meta
+      (functions ++ closed_at (opened_with opened e) line.number ∷ [])) line.number others)) (can_close-is opened e)
       ∙ closing_line had opened e meta functions (is_complete e)
       ∙ ap (join meta functions) (sym (closing_rest had opened e count is))
   function_line had opened e meta functions count false is =
       let fault = can_not_take-is opened e line in
       let state = taken-is opened e line in
-      (λ i. scan_or_stop (function_state had (opened_with opened e) meta functions) (cond (fault i) (Some line.number) None) (scan (function_state had (state i) meta functions) line.number others))
+      (λ i. scan_or_stop (function_state had (opened_with opened e) meta functions) (cond (fault i) (Some line.number) None) (scan (function_state had (state
+      i) meta functions) line.number others))
       ∙ inner_line had opened e meta functions count is (is_fault e line) refl
 
   at_line : Agrees last (line ∷ others)

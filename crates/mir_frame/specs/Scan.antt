@@ -60,7 +60,16 @@ can_close f = not (length f.name == 0) && f.has_body
 
 -- the function once it is closed
 abbrev pub closed_at : OpenFunction → ℕ → FunctionDocument
-closed_at f closed = record { opened = f.opened; closed = closed; name = f.name; stack = f.stack; fixed = f.fixed; substitutions = f.substitutions; body = f.body }
+closed_at f closed = record {
+  opened = f.opened;
+  closed = closed;
+  name = f.name;
+  stack = f.stack;
+  fixed = f.fixed;
+  substitutions = f.substitutions;
+  body =
+      f.body;
+}
 
 -- ---- the scan
 

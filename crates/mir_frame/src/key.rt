@@ -2,7 +2,8 @@
 
 ghost use Rattle.std.specs.Prelude.{◌≡◌};
 ghost use Rattle.std.specs.List.{prefix_len};
-ghost use Rattle.mir_frame.specs.Key.{is_close, opens_block, opens_function, is_passed, is_plain, is_key_byte, key_of, heading};
+ghost use Rattle.mir_frame.specs.Key.{is_close, opens_block, opens_function, is_passed, is_plain, is_key_byte, key_of};
+ghost use Rattle.mir_frame.specs.Key.{heading};
 
 /// A key at the start of a function's line.
 #[derive(Clone, Copy, Debug, PartialEq, Eq)]

@@ -97,7 +97,11 @@ impl OpenFunction {
 
     /// Appends a line to those of the key under which it stands.
     fn keep(&mut self, alloc: Global, number: u32, text: &[u8]) -> Result<(), AllocError>
-        ensures { OnOk result (self.new ≡ with_line self.old self.old.key (record { number = number; text = text.now })) }
+        ensures { OnOk result (self.new ≡ with_line self.old self.old.key (record {
+          number = number;
+          text =
+              text.now;
+        })) }
     {
         match self.key {
             Key::Name => self.name.push(line_of(alloc, number, text)?),

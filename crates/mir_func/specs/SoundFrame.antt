@@ -6,7 +6,8 @@ use Rattle.rv64_instr.specs.declared.op.ImmediateOp.TheVariants.{Addi}
 use Rattle.rv64_instr.specs.declared.op.LoadOp.TheVariants.{Ld}
 use Rattle.rv64_instr.specs.declared.op.StoreOp.TheVariants.{Sd}
 use Rattle.rv64_instr.specs.declared.operand.Operand.{Operand}
-use Rattle.rv64_instr.specs.declared.operand.Operand.TheVariants.{Def, Use, ImplicitDef, ImplicitUse, Imm, Slot, Object as OfObject, Block as OfBlock, Symbol, Mask}
+use Rattle.rv64_instr.specs.declared.operand.Operand.TheVariants.{Def, Use, ImplicitDef, ImplicitUse, Imm, Slot, Object as OfObject, Block as OfBlock, Symbol}
+use Rattle.rv64_instr.specs.declared.operand.Operand.TheVariants.{Mask}
 use Rattle.rv64_instr.specs.declared.place.Place.{Place}
 use Rattle.rv64_instr.specs.declared.place.Place.TheVariants.{Register, Slot as InSlot, Const}
 use Rattle.rv64_instr.specs.Instruction.{Instruction}

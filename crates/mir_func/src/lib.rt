@@ -20,6 +20,4 @@ mod sound;
 mod sound_objects;
 pub mod strip;
 pub mod successors;
-#[cfg(test)]
-mod tests;
 pub mod variable;

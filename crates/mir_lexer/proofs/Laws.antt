@@ -15,7 +15,8 @@ pub spans_of : (line : List ℕ) (answer : Result (List Token) LexError) → Giv
 spans_of line (Ok ts) exact = tokens-placed line ts exact
 spans_of line (Err e) exact = tt
 
-pub longest_of : (line : List ℕ) (answer : Result (List Token) LexError) → Gives answer (tokens_of line) → IfOk answer (λ ts. AllByRecursion (IsLongest line) ts)
+pub longest_of : (line : List ℕ) (answer : Result (List Token) LexError) → Gives answer (tokens_of line) →
+    IfOk answer (λ ts. AllByRecursion (IsLongest line) ts)
 longest_of line (Ok ts) exact = tokens-longest line ts exact
 longest_of line (Err e) exact = tt
 
@@ -24,7 +25,8 @@ bad_byte_at line errors.Memory at exact is = absurd cc
 bad_byte_at line (errors.BadByte k) at exact is = tokens-bad line at (rw (← is) exact)
 bad_byte_at line (errors.UnclosedString k) at exact is = absurd cc
 
-pub bad_byte_of : (line : List ℕ) (answer : Result (List Token) LexError) (at : ℕ) → Gives answer (tokens_of line) → answer ≡ Err (errors.BadByte at) → BeginsNothing line at
+pub bad_byte_of : (line : List ℕ) (answer : Result (List Token) LexError) (at : ℕ) → Gives answer (tokens_of line) → answer ≡ Err (errors.BadByte at) →
+    BeginsNothing line at
 bad_byte_of line (Ok ts) at exact is = absurd cc
 bad_byte_of line (Err e) at exact is = bad_byte_at line e at exact cc
 
@@ -33,6 +35,7 @@ fault_of line errors.Memory at exact is = absurd cc
 fault_of line (errors.BadByte k) at exact is = absurd cc
 fault_of line (errors.UnclosedString k) at exact is = tokens-alone line at (rw (← is) exact)
 
-pub unclosed_of : (line : List ℕ) (answer : Result (List Token) LexError) (at : ℕ) → Gives answer (tokens_of line) → answer ≡ Err (errors.UnclosedString at) → IsUnclosed line at
+pub unclosed_of : (line : List ℕ) (answer : Result (List Token) LexError) (at : ℕ) → Gives answer (tokens_of line) → answer ≡ Err (errors.UnclosedString at) →
+    IsUnclosed line at
 unclosed_of line (Ok ts) at exact is = absurd cc
 unclosed_of line (Err e) at exact is = fault_of line e at exact cc

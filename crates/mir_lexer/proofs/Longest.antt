@@ -1,5 +1,6 @@
 -- Each token of a line is the longest at its place, and at a byte that begins none nothing is a token.
-use Rattle.std.proofs.Common.{◌≡◌, ℕ, zero, suc, ◌+◌, ◌-◌, ◌<◌, ◌≤◌, ◌==◌, ◌||◌, Bool, true, false, cond, List, [], ◌∷◌, length, take, drop, Option, Some, None, Result, Ok, Err, refl, sym, ap, subst, ◌∙◌, arith}
+use Rattle.std.proofs.Common.{◌≡◌, ℕ, zero, suc, ◌+◌, ◌-◌, ◌<◌, ◌≤◌, ◌==◌, ◌||◌, Bool, true, false, cond, List, [], ◌∷◌, length, take, drop, Option, Some, None}
+use Rattle.std.proofs.Common.{Result, Ok, Err, refl, sym, ap, subst, ◌∙◌, arith}
 use Rattle.std.specs.Prelude.{slice_range}
 use Rattle.std.specs.List.{prefix_len, position, AllByRecursion}
 use Rattle.std.specs.Char.{is_ascii_digit}
@@ -42,17 +43,21 @@ module _ (at : ℕ) where
 
   symbol-here : (after : List ℕ) → BadHere at (symbol_at at after)
   symbol-here [] = bad-here
-  symbol-here (b ∷ bs) = choice (b == 34) (quoted Symbol at (at + 1) 34 bs) (marked Symbol at (prefix_len is_symbol_byte (b ∷ bs))) (closed-here Symbol (at + 1) (position (λ b. b == 34) bs)) (marked-here Symbol (prefix_len is_symbol_byte (b ∷ bs)))
+  symbol-here (b ∷ bs) = choice (b == 34) (quoted Symbol at (at + 1) 34 bs) (marked Symbol at (prefix_len is_symbol_byte (b ∷ bs))) (closed-here Symbol (at +
+      1) (position (λ b. b == 34) bs)) (marked-here Symbol (prefix_len is_symbol_byte (b ∷ bs)))
 
   token_at-here : (first : ℕ) (after : List ℕ) → BadHere at (token_at at first after)
   unfolding token_at
   token_at-here first after =
       choice (is_word_start first) (token Word at (1 + prefix_len is_word_byte after)) _ (token-here Word _)
-      (choice (is_ascii_digit first) _ _ (choice (hexadecimal_len first after == 0) (token Integer at (1 + prefix_len is_ascii_digit after)) (token Integer at (2 + hexadecimal_len first after)) (token-here Integer _) (token-here Integer _))
-      (choice (first == 45) _ _ (choice (prefix_len is_ascii_digit after == 0) (token (Single 45) at 1) (token Integer at (1 + prefix_len is_ascii_digit after)) (token-here (Single 45) 1) (token-here Integer _))
+      (choice (is_ascii_digit first) _ _ (choice (hexadecimal_len first after == 0) (token Integer at (1 + prefix_len is_ascii_digit after)) (token Integer at
+      (2 + hexadecimal_len first after)) (token-here Integer _) (token-here Integer _))
+      (choice (first == 45) _ _ (choice (prefix_len is_ascii_digit after == 0) (token (Single 45) at 1) (token Integer at (1 + prefix_len is_ascii_digit
+      after)) (token-here (Single 45) 1) (token-here Integer _))
       (choice (first == 36) _ _ (marked-here Register (prefix_len is_word_byte after))
       (choice (first == 37) _ _ (marked-here Percent (prefix_len is_word_byte after))
-      (choice (first == 33) _ _ (choice _ (marked Kind at (word_len after)) (marked Node at (prefix_len is_ascii_digit after)) (marked-here Kind (word_len after)) (marked-here Node (prefix_len is_ascii_digit after)))
+      (choice (first == 33) _ _ (choice _ (marked Kind at (word_len after)) (marked Node at (prefix_len is_ascii_digit after)) (marked-here Kind (word_len
+      after)) (marked-here Node (prefix_len is_ascii_digit after)))
       (choice (first == 64 || first == 38) _ _ (symbol-here after)
       (choice (is_quote first) _ _ (closed-here Text at (position (λ b. b == first) after))
       (choice (is_single first) (token (Single first) at 1) (Err (BadByte at)) (token-here (Single first) 1) bad-here))))))))
@@ -90,11 +95,19 @@ token_holds line at b bs place (Ok t) is =
     let past = none_past line at b bs place t.end (omega (arith, s.1)) (let e = ap (end_of at) is in omega arith) in
     let text : spells t.class (b ∷ take (t.end - (at + 1)) bs) ≡ true = subst (Spelled at b bs) is (token_at-spelled at b bs) in
     let spelled : spells t.class (slice_range line at t.end) ≡ true = ap (spells t.class) (range_is line at b bs place t.end s.1) ∙ text in
-    record { spelled = subst (λ (n : ℕ). spells t.class (slice_range line n t.end) ≡ true) (sym s.0) spelled; longest = subst (λ (n : ℕ). NoneReaches line n t.end) (sym s.0) past }
+    record {
+      spelled = subst (λ (n : ℕ). spells t.class (slice_range line n t.end) ≡ true) (sym s.0) spelled;
+      longest =
+          subst (λ (n : ℕ). NoneReaches line n t.end) (sym s.0) past;
+    }
 token_holds line at b bs place (Err (BadByte k)) is =
     let f = behind_front line at b bs place in
     let here = token_at-here at b bs k is in
-    subst (BeginsNothing line) (sym here) (record { within = omega (arith, f.2); nothing = none_past line at b bs place at (omega arith) (let e = ap (end_of at) is in omega arith) })
+    subst (BeginsNothing line) (sym here) (record {
+      within = omega (arith, f.2);
+      nothing = none_past line at b bs place at (omega arith) (let e =
+          ap (end_of at) is in omega arith);
+    })
 token_holds line at b bs place (Err (UnclosedString k)) is = tt
 token_holds line at b bs place (Err Memory) is = tt
 
@@ -113,7 +126,8 @@ module _ (line : List ℕ) where
   followed_by-holds t (Err (UnclosedString k)) here later = later
   followed_by-holds t (Err Memory) here later = later
 
-  and_then-holds : (there : Result Token LexError) (next : Token → Result (List Token) LexError) → TokenHolds line there → ((t : Token) → Holds line (next t)) → Holds line (and_then there (λ t. followed_by t (next t)))
+  and_then-holds : (there : Result Token LexError) (next : Token → Result (List Token) LexError) → TokenHolds line there → ((t : Token) →
+      Holds line (next t)) → Holds line (and_then there (λ t. followed_by t (next t)))
   and_then-holds (Ok t) next here later = followed_by-holds t (next t) here (later t)
   and_then-holds (Err (BadByte k)) next here later = here
   and_then-holds (Err (UnclosedString k)) next here later = here
@@ -130,7 +144,8 @@ module _ (line : List ℕ) where
   from_place (b ∷ bs) at zero place =
       let f = behind_front line at b bs place in
       either (is_blank b) (tokens_from (at + 1) 0 bs) _ (from_place bs (at + 1) 0 f.0)
-      (and_then-holds (token_at at b bs) (λ t. tokens_from (at + 1) (t.end - (at + 1)) bs) (token_holds line at b bs place _ refl) (λ t. from_place bs (at + 1) (t.end - (at + 1)) f.0))
+      (and_then-holds (token_at at b bs) (λ t. tokens_from (at + 1) (t.end - (at + 1)) bs) (token_holds line at b bs place _ refl) (λ t. from_place bs (at + 1)
+      (t.end - (at + 1)) f.0))
 
 pub tokens-hold : (line : List ℕ) → Holds line (tokens_of line)
 tokens-hold line = from_place line line 0 0 refl

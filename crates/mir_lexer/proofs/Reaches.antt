@@ -1,5 +1,6 @@
 -- No token at a place is longer than the one that is read there.
-use Rattle.std.proofs.Common.{◌≡◌, ℕ, zero, suc, ◌+◌, ◌<◌, ◌≤◌, ◌==◌, ◌&&◌, ◌||◌, Bool, true, false, not, cond, List, [], ◌∷◌, length, take, Result, Ok, Err, refl, sym, subst, arith, inl, inr, ◌⊎◌}
+use Rattle.std.proofs.Common.{◌≡◌, ℕ, zero, suc, ◌+◌, ◌<◌, ◌≤◌, ◌==◌, ◌&&◌, ◌||◌, Bool, true, false, not, cond, List, [], ◌∷◌, length, take, Result, Ok, Err}
+use Rattle.std.proofs.Common.{refl, sym, subst, arith, inl, inr, ◌⊎◌}
 use Rattle.std.specs.Prelude.{codes}
 use Rattle.std.specs.List.{prefix_len, position_or_len, list_all, list_any, AllByRecursion}
 use Rattle.std.specs.Char.{is_ascii_digit, is_ascii_hexdigit}
@@ -54,15 +55,18 @@ word-le (x ∷ xs) (suc n) le is =
 abbrev EndsAtFirst : ℕ → ℕ → ℕ → Type 0
 EndsAtFirst n first len = (n ≡ first + 1) × (first < len)
 
-closed-le-step : (here : Bool) (n first len : ℕ) (bs : List ℕ) (rest : Bool) → length bs ≡ n → (rest ≡ true → EndsAtFirst n first len) → cond here (length bs == 0) rest ≡ true → EndsAtFirst (suc n) (cond (not here) (1 + first) 0) (suc len)
+closed-le-step : (here : Bool) (n first len : ℕ) (bs : List ℕ) (rest : Bool) → length bs ≡ n → (rest ≡ true → EndsAtFirst n first len) →
+    cond here (length bs == 0) rest ≡ true → EndsAtFirst (suc n) (cond (not here) (1 + first) 0) (suc len)
 closed-le-step true n first len bs rest count later is = let e : length bs ≡ 0 = eqb-true _ 0 is in (omega arith, omega arith)
 closed-le-step false n first len bs rest count later is = let h = later is in (omega (arith, h.0), omega (arith, h.1))
 
-closed-le : (quote : ℕ) (xs : List ℕ) (n : ℕ) → n ≤ length xs → is_closed_by quote (take n xs) ≡ true → EndsAtFirst n (position_or_len (λ b. b == quote) xs) (length xs)
+closed-le : (quote : ℕ) (xs : List ℕ) (n : ℕ) → n ≤ length xs → is_closed_by quote (take n xs) ≡ true →
+    EndsAtFirst n (position_or_len (λ b. b == quote) xs) (length xs)
 closed-le quote xs zero le is = absurd cc
 closed-le quote [] (suc n) le is = absurd (omega arith)
 closed-le quote (x ∷ xs) (suc n) le is =
-    closed-le-step (x == quote) n (position_or_len (λ b. b == quote) xs) (length xs) (take n xs) (is_closed_by quote (take n xs)) (length-take-le n xs (omega arith)) (λ rest. closed-le quote xs n (omega arith) rest) is
+    closed-le-step (x == quote) n (position_or_len (λ b. b == quote) xs) (length xs) (take n xs) (is_closed_by quote (take n xs)) (length-take-le n xs (omega
+    arith)) (λ rest. closed-le quote xs n (omega arith) rest) is
 
 -- ---- the end of what is read
 
@@ -76,7 +80,8 @@ token-end class at len = refl
 marked-end : (class : Class) (at run : ℕ) → 0 < run → end_of at (marked class at run) ≡ at + (1 + run)
 marked-end class at run more = let some : run ≡ 0 → ⊥ = λ e. omega arith in rw (ne_eqb run 0 some) refl
 
-quoted-end : (class : Class) (at open_at quote : ℕ) (after : List ℕ) → position_or_len (λ b. b == quote) after < length after → end_of at (quoted class at open_at quote after) ≡ open_at + 2 + position_or_len (λ b. b == quote) after
+quoted-end : (class : Class) (at open_at quote : ℕ) (after : List ℕ) → position_or_len (λ b. b == quote) after < length after →
+    end_of at (quoted class at open_at quote after) ≡ open_at + 2 + position_or_len (λ b. b == quote) after
 quoted-end class at open_at quote after lt = rw (lt-ltb _ _ lt) refl
 
 module _ (at : ℕ) (after : List ℕ) (n : ℕ) (le : n ≤ length after) where
@@ -119,7 +124,8 @@ module _ (at : ℕ) (after : List ℕ) (n : ℕ) (le : n ≤ length after) where
   text_reaches_single is = let h = closed-le 39 after n le is in omega (arith, h.0, quoted-end Text at at 39 after h.1)
 
 -- behind `@` and `&`
-symbol_at-reaches : (at : ℕ) (after : List ℕ) (n : ℕ) → n ≤ length after → (is_run is_symbol_byte (take n after) || is_quoted_name (take n after)) ≡ true → at + n + 1 ≤ end_of at (symbol_at at after)
+symbol_at-reaches : (at : ℕ) (after : List ℕ) (n : ℕ) → n ≤ length after → (is_run is_symbol_byte (take n after) || is_quoted_name (take n after)) ≡ true →
+    at + n + 1 ≤ end_of at (symbol_at at after)
 symbol_at-reaches at after zero le is = absurd cc
 symbol_at-reaches at [] (suc n) le is = absurd (omega arith)
 symbol_at-reaches at (b ∷ bs) (suc n) le is =
@@ -128,7 +134,8 @@ symbol_at-reaches at (b ∷ bs) (suc n) le is =
       | inr name ↦ quoted_name name
     ]
   where
-    bare : (double : Bool) → (b == 34) ≡ double → is_run is_symbol_byte (take (suc n) (b ∷ bs)) ≡ true → at + suc n + 1 ≤ end_of at (cond double (quoted Symbol at (at + 1) 34 bs) (marked Symbol at (prefix_len is_symbol_byte (b ∷ bs))))
+    bare : (double : Bool) → (b == 34) ≡ double → is_run is_symbol_byte (take (suc n) (b ∷ bs)) ≡ true →
+        at + suc n + 1 ≤ end_of at (cond double (quoted Symbol at (at + 1) 34 bs) (marked Symbol at (prefix_len is_symbol_byte (b ∷ bs))))
     bare true e run =
         let w = both (is_symbol_byte b) (list_all is_symbol_byte (take n bs)) run in
         let f : is_symbol_byte 34 ≡ true = subst (λ (x : ℕ). is_symbol_byte x ≡ true) (eqb-true b 34 e) w.0 in
@@ -165,11 +172,13 @@ among P b (c ∷ cs) is all =
 
 minus_at_least : (at : ℕ) (after : List ℕ) → at + 1 ≤ end_of at (minus_at at after)
 minus_at_least at after =
-    elim (prefix_len is_ascii_digit after == 0) as (λ z. at + 1 ≤ end_of at (cond z (token (Single 45) at 1) (token Integer at (1 + prefix_len is_ascii_digit after)))) [ true ↦ omega arith | false ↦ omega arith ]
+    elim (prefix_len is_ascii_digit after == 0) as (λ z. at + 1 ≤ end_of at (cond z (token (Single 45) at 1) (token Integer at (1 + prefix_len is_ascii_digit
+    after)))) [ true ↦ omega arith | false ↦ omega arith ]
 
 integer_at_least : (at first : ℕ) (after : List ℕ) → at + 1 ≤ end_of at (integer_at at first after)
 integer_at_least at first after =
-    elim (hexadecimal_len first after == 0) as (λ z. at + 1 ≤ end_of at (cond z (token Integer at (1 + prefix_len is_ascii_digit after)) (token Integer at (2 + hexadecimal_len first after)))) [ true ↦ omega arith | false ↦ omega arith ]
+    elim (hexadecimal_len first after == 0) as (λ z. at + 1 ≤ end_of at (cond z (token Integer at (1 + prefix_len is_ascii_digit after)) (token Integer at (2 +
+    hexadecimal_len first after)))) [ true ↦ omega arith | false ↦ omega arith ]
 
 same_either : (b : Bool) (n : ℕ) → cond b n n ≡ n
 same_either true n = refl
@@ -184,7 +193,8 @@ hexadecimal_or_digits first (b ∷ bs) = by_x (b == 120) refl
     by_x true e = inr (subst (λ (c : ℕ). prefix_len is_ascii_digit (c ∷ bs) ≡ 0) (sym (eqb-true b 120 e)) refl)
     by_x false e = inl (same_either (first == 48) 0)
 
-digits_reach : (at first : ℕ) (after : List ℕ) (n : ℕ) → n ≤ length after → list_all is_ascii_digit (take n after) ≡ true → at + n + 1 ≤ end_of at (integer_at at first after)
+digits_reach : (at first : ℕ) (after : List ℕ) (n : ℕ) → n ≤ length after → list_all is_ascii_digit (take n after) ≡ true →
+    at + n + 1 ≤ end_of at (integer_at at first after)
 digits_reach at first after n le is =
     let h = all-le is_ascii_digit after n le is in
     elim (hexadecimal_or_digits first after) [
@@ -192,7 +202,8 @@ digits_reach at first after n le is =
       | inr none ↦ let least = integer_at_least at first after in omega arith
     ]
 
-hexadecimal_reaches : (at first : ℕ) (after : List ℕ) (n : ℕ) → n ≤ length after → (first == 48) ≡ true → is_hexadecimal (take n after) ≡ true → at + n + 1 ≤ end_of at (integer_at at first after)
+hexadecimal_reaches : (at first : ℕ) (after : List ℕ) (n : ℕ) → n ≤ length after → (first == 48) ≡ true → is_hexadecimal (take n after) ≡ true →
+    at + n + 1 ≤ end_of at (integer_at at first after)
 hexadecimal_reaches at first after zero le zero_is is = absurd cc
 hexadecimal_reaches at first [] (suc n) le zero_is is = absurd (omega arith)
 hexadecimal_reaches at first (b ∷ bs) (suc n) le zero_is is =
@@ -205,8 +216,40 @@ hexadecimal_reaches at first (b ∷ bs) (suc n) le zero_is is =
 single_reaches : (at : ℕ) (after : List ℕ) (first : ℕ) → is_single first ≡ true → at + 1 ≤ end_of at (token_at at first after)
 unfolding token_at
 single_reaches at after first is =
-    among (λ b. at + 1 ≤ end_of at (token_at at b after)) first (codes "=,():{}[]<>|+-") is
-    (omega arith, (omega arith, (omega arith, (omega arith, (omega arith, (omega arith, (omega arith, (omega arith, (omega arith, (omega arith, (omega arith, (omega arith, (omega arith, (minus_at_least at after, tt))))))))))))))
+    among (λ b. at + 1 ≤ end_of at (token_at at b after)) first (codes "=,():{}[]<>|+-") is (
+      omega arith,
+      (
+        omega arith,
+        (
+          omega arith,
+          (
+            omega arith,
+            (
+              omega arith,
+              (
+                omega arith,
+                (
+                  omega arith,
+                  (
+                    omega arith,
+                    (
+                      omega arith,
+                      (
+                        omega arith,
+                        (
+                          omega arith,
+                          (omega arith, (omega arith, (minus_at_least at after, tt))),
+                        ),
+                      ),
+                    ),
+                  ),
+                ),
+              ),
+            ),
+          ),
+        ),
+      ),
+    )
 
 kind_reaches : (at : ℕ) (after : List ℕ) (n : ℕ) → n ≤ length after → is_word (take n after) ≡ true → at + n + 1 ≤ end_of at (metadata_at at after)
 kind_reaches at after zero le is = absurd cc
@@ -223,7 +266,8 @@ abbrev Reaches : ℕ → List ℕ → ℕ → ℕ → Type 0
 Reaches at after n first = at + n + 1 ≤ end_of at (token_at at first after)
 
 -- a text at a place that is a token is no longer than the token that is read there
-pub reaches : (class : Class) (at first : ℕ) (after : List ℕ) (n : ℕ) → n ≤ length after → spells class (first ∷ take n after) ≡ true → at + n + 1 ≤ end_of at (token_at at first after)
+pub reaches : (class : Class) (at first : ℕ) (after : List ℕ) (n : ℕ) → n ≤ length after → spells class (first ∷ take n after) ≡ true →
+    at + n + 1 ≤ end_of at (token_at at first after)
 unfolding token_at
 reaches Word at first after n le is = word_reaches at after n le first is
 reaches Register at first after n le is =
@@ -245,7 +289,8 @@ reaches Symbol at first after n le is =
       | inr e ↦ subst (Reaches at after n) (sym (eqb-true first 38 e)) (symbol_at-reaches at after n le w.1)
     ]
 reaches Integer at first after n le is =
-    elim (one_of (is_ascii_digit first && (list_all is_ascii_digit (take n after) || (first == 48 && is_hexadecimal (take n after)))) (first == 45 && is_run is_ascii_digit (take n after)) is) [
+    elim (one_of (is_ascii_digit first && (list_all is_ascii_digit (take n after) || (first == 48 && is_hexadecimal (take n after)))) (first ==
+    45 && is_run is_ascii_digit (take n after)) is) [
       | inl number ↦
           let w = both (is_ascii_digit first) (list_all is_ascii_digit (take n after) || (first == 48 && is_hexadecimal (take n after))) number in
           let digit : is_ascii_digit first ≡ true = w.0 in

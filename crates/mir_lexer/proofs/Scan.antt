@@ -1,5 +1,6 @@
 -- Reading a line from left to right, as a loop does.
-use Rattle.std.proofs.Common.{◌≡◌, ℕ, zero, suc, ◌+◌, ◌-◌, ◌<◌, ◌≤◌, true, false, List, [], ◌∷◌, ◌++◌, length, get_or, take, drop, Result, Ok, Err, refl, sym, ap, ◌∙◌, append_assoc, arith}
+use Rattle.std.proofs.Common.{◌≡◌, ℕ, zero, suc, ◌+◌, ◌-◌, ◌<◌, ◌≤◌, true, false, List, [], ◌∷◌, ◌++◌, length, get_or, take, drop, Result, Ok, Err, refl, sym}
+use Rattle.std.proofs.Common.{ap, ◌∙◌, append_assoc, arith}
 use Rattle.std.proofs.lemmas.List.{append-nil, drop_more, drop_all, take_rest, drop-drop, length-drop}
 use Rattle.mir_lexer.specs.declared.fault.LexError.{LexError}
 use Rattle.mir_lexer.specs.declared.fault.LexError.TheVariants as errors
@@ -63,8 +64,10 @@ passes_token front at line t lt blank read =
     let inside = t.end - (at + 1) in
     let now : token_at at (get_or line at 0) (drop (at + 1) line) ≡ Ok t = sym (there at line) ∙ read in
     let goes : tokens_from (at + 1) inside (drop (at + 1) line) ≡ tokens_from t.end 0 (drop t.end line) =
-    skips (at + 1) inside (drop (at + 1) line) (omega (arith, spans.2)) ∙ rw drop-drop (ap (λ (n : ℕ). tokens_from n 0 (drop n line)) (omega (arith, spans.1))) in
-    let one : behind front (tokens_from at 0 (drop at line)) ≡ behind front (followed_by t (tokens_from (at + 1) inside (drop (at + 1) line))) = rw (drop_more line at 0 lt, blank, now) refl in
+    skips (at + 1) inside (drop (at + 1) line) (omega (arith, spans.2)) ∙ rw drop-drop (ap (λ (n : ℕ). tokens_from n 0 (drop n line)) (omega (arith, spans.1)))
+    in
+    let one : behind front (tokens_from at 0 (drop at line)) ≡ behind front (followed_by t (tokens_from (at + 1) inside (drop (at + 1) line))) =
+    rw (drop_more line at 0 lt, blank, now) refl in
     one ∙ ap (λ (r : Result (List Token) LexError). behind front (followed_by t r)) goes ∙ behind-followed_by front t (tokens_from t.end 0 (drop t.end line))
 
 -- a fault

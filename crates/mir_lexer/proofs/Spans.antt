@@ -1,5 +1,6 @@
 -- Where the token at the front ends.
-use Rattle.std.proofs.Common.{◌≡◌, ℕ, ◌+◌, ◌<◌, ◌≤◌, ◌==◌, Bool, true, false, ◌||◌, cond, ltb, List, [], ◌∷◌, length, Some, None, Result, Ok, Err, refl, subst, arith}
+use Rattle.std.proofs.Common.{◌≡◌, ℕ, ◌+◌, ◌<◌, ◌≤◌, ◌==◌, Bool, true, false, ◌||◌, cond, ltb, List, [], ◌∷◌, length, Some, None, Result, Ok, Err, refl, subst}
+use Rattle.std.proofs.Common.{arith}
 use Rattle.std.specs.List.{prefix_len, position_or_len}
 use Rattle.std.specs.Char.{is_ascii_digit, is_ascii_hexdigit}
 use Rattle.std.proofs.lemmas.List.Sums.{prefix_len-le-length}
@@ -27,19 +28,24 @@ token-spans : (class : Class) (at len last : ℕ) → 0 < len → at + len ≤ l
 token-spans class at len last more fits = (refl, omega arith, fits)
 
 marked-spans : (class : Class) (at run last : ℕ) → at + run + 1 ≤ last → SpansIfThere at last (marked class at run)
-marked-spans class at run last fits = either at last (run == 0) (Err _) (token class at (1 + run)) tt (token-spans class at (1 + run) last (omega arith) (omega arith))
+marked-spans class at run last fits = either at last (run == 0) (Err _) (token class at (1 + run)) tt (token-spans class at (1 + run) last (omega arith) (omega
+    arith))
 
 closed-spans : (class : Class) (at open_at quote : ℕ) (after : List ℕ) (last : ℕ) → at ≤ open_at → open_at + length after + 1 ≤ last
-    → (b : Bool) → ltb (position_or_len (λ b. b == quote) after) (length after) ≡ b → SpansIfThere at last (closed class at open_at (cond b (Some (position_or_len (λ b. b == quote) after)) None))
-closed-spans class at open_at quote after last le fits true e = let lt : position_or_len (λ b. b == quote) after < length after = ltb-true _ _ e in (refl, omega arith, omega arith)
+    → (b : Bool) → ltb (position_or_len (λ b. b == quote) after) (length after) ≡ b → SpansIfThere at last (closed class at open_at (cond b (Some
+    (position_or_len (λ b. b == quote) after)) None))
+closed-spans class at open_at quote after last le fits true e = let lt : position_or_len (λ b. b == quote) after < length after = ltb-true _ _ e in
+    (refl, omega arith, omega arith)
 closed-spans class at open_at quote after last le fits false e = tt
 
-quoted-spans : (class : Class) (at open_at quote : ℕ) (after : List ℕ) (last : ℕ) → at ≤ open_at → open_at + length after + 1 ≤ last → SpansIfThere at last (quoted class at open_at quote after)
+quoted-spans : (class : Class) (at open_at quote : ℕ) (after : List ℕ) (last : ℕ) → at ≤ open_at → open_at + length after + 1 ≤ last →
+    SpansIfThere at last (quoted class at open_at quote after)
 quoted-spans class at open_at quote after last le fits = closed-spans class at open_at quote after last le fits _ refl
 
 word_len-le : (bs : List ℕ) → word_len bs ≤ length bs
 word_len-le [] = omega arith
-word_len-le (b ∷ bs) = let h = prefix_len-le-length is_word_byte bs in elim (is_word_start b) as (λ z. cond z (1 + prefix_len is_word_byte bs) 0 ≤ length (b ∷ bs)) [ true ↦ omega arith | false ↦ omega arith ]
+word_len-le (b ∷ bs) = let h = prefix_len-le-length is_word_byte bs in elim (is_word_start b) as (λ z. cond z (1 + prefix_len is_word_byte bs) 0 ≤ length (b ∷
+    bs)) [ true ↦ omega arith | false ↦ omega arith ]
 
 metadata-spans : (at : ℕ) (after : List ℕ) (last : ℕ) → at + length after + 1 ≤ last → SpansIfThere at last (metadata_at at after)
 metadata-spans at after last fits =
@@ -51,7 +57,8 @@ symbol-spans : (at : ℕ) (after : List ℕ) (last : ℕ) → at + length after 
 symbol-spans at [] last fits = tt
 symbol-spans at (b ∷ bs) last fits =
     let d = prefix_len-le-length is_symbol_byte (b ∷ bs) in
-    either at last (b == 34) _ _ (quoted-spans Symbol at (at + 1) 34 bs last (omega arith) (omega arith)) (marked-spans Symbol at (prefix_len is_symbol_byte (b ∷ bs)) last (omega arith))
+    either at last (b == 34) _ _ (quoted-spans Symbol at (at + 1) 34 bs last (omega arith) (omega arith)) (marked-spans Symbol at (prefix_len is_symbol_byte (b
+    ∷ bs)) last (omega arith))
 
 hexadecimal_len-le : (first b : ℕ) (bs : List ℕ) → hexadecimal_len first (b ∷ bs) ≤ length bs
 hexadecimal_len-le first b bs =
@@ -66,19 +73,23 @@ integer-spans at first [] last fits = token-spans Integer at 1 last (omega arith
 integer-spans at first (b ∷ bs) last fits =
     let d = prefix_len-le-length is_ascii_digit (b ∷ bs) in
     let h = hexadecimal_len-le first b bs in
-    either at last (hexadecimal_len first (b ∷ bs) == 0) (token Integer at (1 + prefix_len is_ascii_digit (b ∷ bs))) (token Integer at (2 + hexadecimal_len first (b ∷ bs))) (token-spans Integer at (1 + prefix_len is_ascii_digit (b ∷ bs)) last (omega arith) (omega arith)) (token-spans Integer at (2 + hexadecimal_len first (b ∷ bs)) last (omega arith) (omega arith))
+    either at last (hexadecimal_len first (b ∷ bs) == 0) (token Integer at (1 + prefix_len is_ascii_digit (b ∷ bs))) (token Integer at (2 + hexadecimal_len
+    first (b ∷ bs))) (token-spans Integer at (1 + prefix_len is_ascii_digit (b ∷ bs)) last (omega arith) (omega arith)) (token-spans Integer at (2 +
+    hexadecimal_len first (b ∷ bs)) last (omega arith) (omega arith))
 
 minus-spans : (at : ℕ) (after : List ℕ) (last : ℕ) → at + length after + 1 ≤ last → SpansIfThere at last (minus_at at after)
 minus-spans at after last fits =
     let d = prefix_len-le-length is_ascii_digit after in
-    either at last (prefix_len is_ascii_digit after == 0) (token (Single 45) at 1) (token Integer at (1 + prefix_len is_ascii_digit after)) (token-spans (Single 45) at 1 last (omega arith) (omega arith)) (token-spans Integer at (1 + prefix_len is_ascii_digit after) last (omega arith) (omega arith))
+    either at last (prefix_len is_ascii_digit after == 0) (token (Single 45) at 1) (token Integer at (1 + prefix_len is_ascii_digit after)) (token-spans
+    (Single 45) at 1 last (omega arith) (omega arith)) (token-spans Integer at (1 + prefix_len is_ascii_digit after) last (omega arith) (omega arith))
 
 -- the token at the front begins there, and ends within the line
 pub token_at-spans : (at first : ℕ) (after : List ℕ) (last : ℕ) → at + length after + 1 ≤ last → SpansIfThere at last (token_at at first after)
 unfolding token_at
 token_at-spans at first after last fits =
     let w = prefix_len-le-length is_word_byte after in
-    either at last (is_word_start first) (token Word at (1 + prefix_len is_word_byte after)) _ (token-spans Word at (1 + prefix_len is_word_byte after) last (omega arith) (omega arith))
+    either at last (is_word_start first) (token Word at (1 + prefix_len is_word_byte after)) _ (token-spans Word at (1 + prefix_len is_word_byte after) last
+    (omega arith) (omega arith))
     (either at last (is_ascii_digit first) _ _ (integer-spans at first after last fits)
     (either at last (first == 45) _ _ (minus-spans at after last fits)
     (either at last (first == 36) _ _ (marked-spans Register at (prefix_len is_word_byte after) last (omega arith))

@@ -1,5 +1,6 @@
 -- What is read at a place is a token of its class.
-use Rattle.std.proofs.Common.{◌≡◌, ℕ, suc, ◌+◌, ◌-◌, ◌<◌, ◌==◌, ◌&&◌, ◌||◌, Bool, true, false, not, cond, ltb, List, [], ◌∷◌, length, take, Some, None, Result, Ok, Err, refl, sym, subst, arith}
+use Rattle.std.proofs.Common.{◌≡◌, ℕ, suc, ◌+◌, ◌-◌, ◌<◌, ◌==◌, ◌&&◌, ◌||◌, Bool, true, false, not, cond, ltb, List, [], ◌∷◌, length, take, Some, None, Result}
+use Rattle.std.proofs.Common.{Ok, Err, refl, sym, subst, arith}
 use Rattle.std.specs.List.{prefix_len, position_or_len, list_all}
 use Rattle.std.specs.Char.{is_ascii_digit, is_ascii_hexdigit}
 use Rattle.std.proofs.lemmas.Bool.{eqb-true, eqb-false, eq-eqb, ltb-true}
@@ -21,7 +22,8 @@ Spelled at first after (Err e) = Unit {0}
 
 -- ---- runs
 
-all-step : (here : Bool) (k : ℕ) (x : ℕ) (xs : List ℕ) (p : ℕ → Bool) → p x ≡ here → list_all p (take k xs) ≡ true → list_all p (take (cond here (1 + k) 0) (x ∷ xs)) ≡ true
+all-step : (here : Bool) (k : ℕ) (x : ℕ) (xs : List ℕ) (p : ℕ → Bool) → p x ≡ here → list_all p (take k xs) ≡ true →
+    list_all p (take (cond here (1 + k) 0) (x ∷ xs)) ≡ true
 all-step true k x xs p is rest = let e : 1 + k ≡ suc k = omega arith in rw (e, is) rest
 all-step false k x xs p is rest = refl
 
@@ -38,7 +40,8 @@ run-take p xs some =
     let len = length-take-le (prefix_len p xs) xs (prefix_len-le-length p xs) in
     run-of p (take (prefix_len p xs) xs) (omega (arith, eqb-false _ _ some)) (all-take p xs)
 
-word-step : (start : Bool) (x : ℕ) (xs : List ℕ) → is_word_start x ≡ start → (cond start (1 + prefix_len is_word_byte xs) 0 == 0) ≡ false → is_word (take (cond start (1 + prefix_len is_word_byte xs) 0) (x ∷ xs)) ≡ true
+word-step : (start : Bool) (x : ℕ) (xs : List ℕ) → is_word_start x ≡ start → (cond start (1 + prefix_len is_word_byte xs) 0 == 0) ≡ false →
+    is_word (take (cond start (1 + prefix_len is_word_byte xs) 0) (x ∷ xs)) ≡ true
 word-step true x xs is some = let e : 1 + prefix_len is_word_byte xs ≡ suc (prefix_len is_word_byte xs) = omega arith in rw (e, is) (all-take is_word_byte xs)
 word-step false x xs is some = absurd cc
 
@@ -51,7 +54,8 @@ closed-step : (here : Bool) (quote x : ℕ) (xs : List ℕ) (k : ℕ) → (x == 
 closed-step true quote x xs k is later lt = rw is refl
 closed-step false quote x xs k is later lt = let e : 1 + k + 1 ≡ suc (k + 1) = omega arith in rw (e, is) (later (omega arith))
 
-closed-take : (quote : ℕ) (xs : List ℕ) → position_or_len (λ b. b == quote) xs < length xs → is_closed_by quote (take (position_or_len (λ b. b == quote) xs + 1) xs) ≡ true
+closed-take : (quote : ℕ) (xs : List ℕ) → position_or_len (λ b. b == quote) xs < length xs →
+    is_closed_by quote (take (position_or_len (λ b. b == quote) xs + 1) xs) ≡ true
 closed-take quote [] lt = absurd (omega arith)
 closed-take quote (x ∷ xs) lt = closed-step (x == quote) quote x xs (position_or_len (λ b. b == quote) xs) refl (λ l. closed-take quote xs l) lt
 
@@ -65,8 +69,10 @@ module _ (at first : ℕ) (after : List ℕ) where
   token-spelled : (class : Class) (run : ℕ) → spells class (first ∷ take run after) ≡ true → Spelled at first after (token class at (1 + run))
   token-spelled class run is = let e : at + (1 + run) - (at + 1) ≡ run = omega arith in rw e is
 
-  marked-spelled : (class : Class) (run : ℕ) → ((run == 0) ≡ false → spells class (first ∷ take run after) ≡ true) → Spelled at first after (marked class at run)
-  marked-spelled class run is = by_test (Spelled at first after) (run == 0) (Err (BadByte at)) (token class at (1 + run)) (λ _. tt) (λ some. token-spelled class run (is some))
+  marked-spelled : (class : Class) (run : ℕ) → ((run == 0) ≡ false → spells class (first ∷ take run after) ≡ true) →
+      Spelled at first after (marked class at run)
+  marked-spelled class run is = by_test (Spelled at first after) (run == 0) (Err (BadByte at)) (token class at (1 + run)) (λ _. tt) (λ some. token-spelled
+      class run (is some))
 
 or_right : (a b : Bool) → b ≡ true → (a || b) ≡ true
 or_right true b is = refl
@@ -74,8 +80,14 @@ or_right false b is = is
 
 -- what is closed by the next quote
 closed-spelled : (at first : ℕ) (after : List ℕ) (class : Class) (open_at quote : ℕ) (behind : List ℕ)
-    → (position_or_len (λ b. b == quote) behind < length behind → Spelled at first after (Ok (record { class = class; start = at; end = open_at + 2 + position_or_len (λ b. b == quote) behind })))
-    → (found : Bool) → ltb (position_or_len (λ b. b == quote) behind) (length behind) ≡ found → Spelled at first after (closed class at open_at (cond found (Some (position_or_len (λ b. b == quote) behind)) None))
+    → (position_or_len (λ b. b == quote) behind < length behind → Spelled at first after (Ok (record {
+      class = class;
+      start = at;
+      end =
+          open_at + 2 + position_or_len (λ b. b == quote) behind;
+    })))
+    → (found : Bool) → ltb (position_or_len (λ b. b == quote) behind) (length behind) ≡ found →
+    Spelled at first after (closed class at open_at (cond found (Some (position_or_len (λ b. b == quote) behind)) None))
 closed-spelled at first after class open_at quote behind is true e = is (ltb-true _ _ e)
 closed-spelled at first after class open_at quote behind is false e = tt
 
@@ -93,20 +105,25 @@ symbol-spelled at first (b ∷ bs) mark =
     let e : at + 1 + 2 + position_or_len (λ c. c == 34) bs - (at + 1) ≡ suc (position_or_len (λ c. c == 34) bs + 1) = omega arith in
     let name : (b == 34 && is_closed_by 34 (take (position_or_len (λ c. c == 34) bs + 1) bs)) ≡ true = rw double (closed-take 34 bs lt) in
     rw (e, mark) (or_right _ _ name)) _ refl)
-    (λ _. marked-spelled at first (b ∷ bs) Symbol (prefix_len is_symbol_byte (b ∷ bs)) (λ some. let run = run-take is_symbol_byte (b ∷ bs) some in rw (mark, run) refl))
+    (λ _. marked-spelled at first (b ∷ bs) Symbol (prefix_len is_symbol_byte (b ∷ bs)) (λ some. let run = run-take is_symbol_byte (b ∷ bs) some in
+    rw (mark, run) refl))
 
-hexadecimal-spelled : (first : ℕ) (after : List ℕ) → (hexadecimal_len first after == 0) ≡ false → (first == 48 && is_hexadecimal (take (1 + hexadecimal_len first after) after)) ≡ true
+hexadecimal-spelled : (first : ℕ) (after : List ℕ) → (hexadecimal_len first after == 0) ≡ false →
+    (first == 48 && is_hexadecimal (take (1 + hexadecimal_len first after) after)) ≡ true
 hexadecimal-spelled first [] some = absurd cc
 hexadecimal-spelled first (b ∷ bs) some = by_tests (first == 48) (b == 120) refl refl some
   where
-    by_tests : (z x : Bool) → (first == 48) ≡ z → (b == 120) ≡ x → (cond z (cond x (prefix_len is_ascii_hexdigit bs) 0) 0 == 0) ≡ false → (z && is_hexadecimal (take (1 + cond z (cond x (prefix_len is_ascii_hexdigit bs) 0) 0) (b ∷ bs))) ≡ true
-    by_tests true true z_is x_is more = let e : 1 + prefix_len is_ascii_hexdigit bs ≡ suc (prefix_len is_ascii_hexdigit bs) = omega arith in rw (e, x_is) (run-take is_ascii_hexdigit bs more)
+    by_tests : (z x : Bool) → (first == 48) ≡ z → (b == 120) ≡ x → (cond z (cond x (prefix_len is_ascii_hexdigit bs) 0) 0 == 0) ≡ false →
+        (z && is_hexadecimal (take (1 + cond z (cond x (prefix_len is_ascii_hexdigit bs) 0) 0) (b ∷ bs))) ≡ true
+    by_tests true true z_is x_is more = let e : 1 + prefix_len is_ascii_hexdigit bs ≡ suc (prefix_len is_ascii_hexdigit bs) = omega arith in
+        rw (e, x_is) (run-take is_ascii_hexdigit bs more)
     by_tests true false z_is x_is more = absurd cc
     by_tests false x z_is x_is more = absurd cc
 
 integer-spelled : (at first : ℕ) (after : List ℕ) → is_ascii_digit first ≡ true → Spelled at first after (integer_at at first after)
 integer-spelled at first after digit =
-    by_test (Spelled at first after) (hexadecimal_len first after == 0) (token Integer at (1 + prefix_len is_ascii_digit after)) (token Integer at (2 + hexadecimal_len first after))
+    by_test (Spelled at first after) (hexadecimal_len first after == 0) (token Integer at (1 + prefix_len is_ascii_digit after)) (token Integer at (2 +
+    hexadecimal_len first after))
     (λ _. token-spelled at first after Integer (prefix_len is_ascii_digit after) (let all = all-take is_ascii_digit after in rw (digit, all) refl))
     (λ some.
     let e : at + (2 + hexadecimal_len first after) - (at + 1) ≡ 1 + hexadecimal_len first after = omega arith in
@@ -129,12 +146,20 @@ pub token_at-spelled : (at first : ℕ) (after : List ℕ) → Spelled at first 
 unfolding token_at
 token_at-spelled at first after =
     let P = λ (r : Result Token LexError). Spelled at first after r in
-    by_test P (is_word_start first) (token Word at (1 + prefix_len is_word_byte after)) _ (λ start. token-spelled at first after Word (prefix_len is_word_byte after) (rw start (all-take is_word_byte after)))
+    by_test P (is_word_start first) (token Word at (1 + prefix_len is_word_byte after)) _ (λ start. token-spelled at first after Word (prefix_len is_word_byte
+    after) (rw start (all-take is_word_byte after)))
     (λ _. by_test P (is_ascii_digit first) (integer_at at first after) _ (λ digit. integer-spelled at first after digit)
-    (λ _. by_test P (first == 45) (minus_at at after) _ (λ is. subst (λ (f : ℕ). Spelled at f after (minus_at at after)) (sym (eqb-true first 45 is)) (minus-spelled at after))
-    (λ _. by_test P (first == 36) (marked Register at (prefix_len is_word_byte after)) _ (λ is. subst (λ (f : ℕ). Spelled at f after (marked Register at (prefix_len is_word_byte after))) (sym (eqb-true first 36 is)) (marked-spelled at 36 after Register (prefix_len is_word_byte after) (λ some. run-take is_word_byte after some)))
-    (λ _. by_test P (first == 37) (marked Percent at (prefix_len is_word_byte after)) _ (λ is. subst (λ (f : ℕ). Spelled at f after (marked Percent at (prefix_len is_word_byte after))) (sym (eqb-true first 37 is)) (marked-spelled at 37 after Percent (prefix_len is_word_byte after) (λ some. run-take is_word_byte after some)))
-    (λ _. by_test P (first == 33) (metadata_at at after) _ (λ is. subst (λ (f : ℕ). Spelled at f after (metadata_at at after)) (sym (eqb-true first 33 is)) (metadata-spelled at after))
+    (λ _. by_test P (first == 45) (minus_at at after) _ (λ is. subst (λ (f : ℕ). Spelled at f after (minus_at at after)) (sym (eqb-true first 45 is))
+    (minus-spelled at after))
+    (λ _. by_test P (first == 36) (marked Register at (prefix_len is_word_byte after)) _ (λ is. subst (λ (f : ℕ). Spelled at f after (marked Register at
+    (prefix_len is_word_byte after))) (sym (eqb-true first 36 is)) (marked-spelled at 36 after Register (prefix_len is_word_byte after) (λ some. run-take
+    is_word_byte after some)))
+    (λ _. by_test P (first == 37) (marked Percent at (prefix_len is_word_byte after)) _ (λ is. subst (λ (f : ℕ). Spelled at f after (marked Percent at
+    (prefix_len is_word_byte after))) (sym (eqb-true first 37 is)) (marked-spelled at 37 after Percent (prefix_len is_word_byte after) (λ some. run-take
+    is_word_byte after some)))
+    (λ _. by_test P (first == 33) (metadata_at at after) _ (λ is. subst (λ (f : ℕ). Spelled at f after (metadata_at at after)) (sym (eqb-true first 33 is))
+    (metadata-spelled at after))
     (λ _. by_test P (first == 64 || first == 38) (symbol_at at after) _ (λ is. symbol-spelled at first after is)
     (λ _. by_test P (is_quote first) (quoted Text at at first after) _ (λ is. text-spelled at first after is)
-    (λ _. by_test P (is_single first) (token (Single first) at 1) (Err (BadByte at)) (λ is. let e : at + 1 - (at + 1) ≡ 0 = omega arith in let same = eq-eqb first first refl in rw (e, same, is) refl) (λ _. tt)))))))))
+    (λ _. by_test P (is_single first) (token (Single first) at 1) (Err (BadByte at)) (λ is. let e : at + 1 - (at + 1) ≡ 0 = omega arith in
+    let same = eq-eqb first first refl in rw (e, same, is) refl) (λ _. tt)))))))))

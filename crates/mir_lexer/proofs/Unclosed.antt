@@ -1,5 +1,6 @@
 -- Where reading says that a quote isn't closed, it opens a text that nothing closes.
-use Rattle.std.proofs.Common.{◌≡◌, ℕ, zero, suc, ◌+◌, ◌-◌, ◌<◌, ◌==◌, ◌||◌, Bool, true, false, not, cond, ltb, List, [], ◌∷◌, length, get_or, drop, Some, None, Result, Ok, Err, IsTrue, refl, sym, ap, subst, ◌∙◌, arith}
+use Rattle.std.proofs.Common.{◌≡◌, ℕ, zero, suc, ◌+◌, ◌-◌, ◌<◌, ◌==◌, ◌||◌, Bool, true, false, not, cond, ltb, List, [], ◌∷◌, length, get_or, drop, Some, None}
+use Rattle.std.proofs.Common.{Result, Ok, Err, IsTrue, refl, sym, ap, subst, ◌∙◌, arith}
 use Rattle.std.specs.List.{prefix_len, position_or_len}
 use Rattle.std.specs.Char.{is_ascii_digit}
 use Rattle.std.proofs.lemmas.Bool.{ltb-false, eqb-true, eq-eqb}
@@ -37,11 +38,13 @@ module _ (line : List ℕ) where
   marked-alone class at run = choice (run == 0) (Err (BadByte at)) (token class at (1 + run)) (bad-alone at) (token-alone class at (1 + run))
 
   -- a quote that is closed is none, and one that isn't stands at `open_at`
-  closed-alone : (class : Class) (at open_at len : ℕ) (found : Bool) → (found ≡ false → IsUnclosed line open_at) → Alone line (closed class at open_at (cond found (Some len) None))
+  closed-alone : (class : Class) (at open_at len : ℕ) (found : Bool) → (found ≡ false → IsUnclosed line open_at) →
+      Alone line (closed class at open_at (cond found (Some len) None))
   closed-alone class at open_at len true lone = λ k e. absurd cc
   closed-alone class at open_at len false lone = λ k e. let same : open_at ≡ k = cc in subst (IsUnclosed line) same (lone refl)
 
-  quoted-alone : (class : Class) (at open_at quote : ℕ) (after : List ℕ) → open_at < length line → IsTrue (is_quote quote) → get_or line open_at 0 ≡ quote → after ≡ drop (open_at + 1) line → Alone line (quoted class at open_at quote after)
+  quoted-alone : (class : Class) (at open_at quote : ℕ) (after : List ℕ) → open_at < length line → IsTrue (is_quote quote) → get_or line open_at 0 ≡ quote →
+      after ≡ drop (open_at + 1) line → Alone line (quoted class at open_at quote after)
   quoted-alone class at open_at quote after within is here place =
       let p = λ (b : ℕ). b == quote in
       let len = ap length place in
@@ -53,14 +56,16 @@ module _ (line : List ℕ) where
         quote = subst (λ (x : ℕ). IsTrue (is_quote x)) (sym here) is;
         alone = λ i behind below same.
             let passes = prefix_len_passes (λ b. not (b == quote)) after (i - (open_at + 1)) 0 (omega arith) in
-            let moved : get_or after (i - (open_at + 1)) 0 ≡ get_or line i 0 = ap (λ (x : List ℕ). get_or x (i - (open_at + 1)) 0) place ∙ get_or-drop (open_at + 1) line (i - (open_at + 1)) 0 ∙ ap (λ (n : ℕ). get_or line n 0) (omega arith) in
+            let moved : get_or after (i - (open_at + 1)) 0 ≡ get_or line i 0 = ap (λ (x : List ℕ). get_or x (i - (open_at + 1)) 0) place ∙
+            get_or-drop (open_at + 1) line (i - (open_at + 1)) 0 ∙ ap (λ (n : ℕ). get_or line n 0) (omega arith) in
             let equal : (get_or after (i - (open_at + 1)) 0 == quote) ≡ true = eq-eqb _ _ (moved ∙ same ∙ here) in
             let f : not true ≡ true = ap not (sym equal) ∙ passes in
             cc;
       })
 
   metadata-alone : (at : ℕ) (after : List ℕ) → Alone line (metadata_at at after)
-  metadata-alone at after = choice _ (marked Kind at (word_len after)) (marked Node at (prefix_len is_ascii_digit after)) (marked-alone Kind at (word_len after)) (marked-alone Node at (prefix_len is_ascii_digit after))
+  metadata-alone at after = choice _ (marked Kind at (word_len after)) (marked Node at (prefix_len is_ascii_digit after)) (marked-alone Kind at (word_len
+      after)) (marked-alone Node at (prefix_len is_ascii_digit after))
 
   symbol-alone : (at : ℕ) (after : List ℕ) → after ≡ drop (at + 1) line → Alone line (symbol_at at after)
   symbol-alone at [] place = bad-alone at
@@ -71,10 +76,12 @@ module _ (line : List ℕ) where
       (λ _. marked-alone Symbol at (prefix_len is_symbol_byte (b ∷ bs)))
 
   integer-alone : (at first : ℕ) (after : List ℕ) → Alone line (integer_at at first after)
-  integer-alone at first after = choice (hexadecimal_len first after == 0) (token Integer at (1 + prefix_len is_ascii_digit after)) (token Integer at (2 + hexadecimal_len first after)) (token-alone Integer at _) (token-alone Integer at _)
+  integer-alone at first after = choice (hexadecimal_len first after == 0) (token Integer at (1 + prefix_len is_ascii_digit after)) (token Integer at (2 +
+      hexadecimal_len first after)) (token-alone Integer at _) (token-alone Integer at _)
 
   minus-alone : (at : ℕ) (after : List ℕ) → Alone line (minus_at at after)
-  minus-alone at after = choice (prefix_len is_ascii_digit after == 0) (token (Single 45) at 1) (token Integer at (1 + prefix_len is_ascii_digit after)) (token-alone (Single 45) at 1) (token-alone Integer at _)
+  minus-alone at after = choice (prefix_len is_ascii_digit after == 0) (token (Single 45) at 1) (token Integer at (1 + prefix_len is_ascii_digit after))
+      (token-alone (Single 45) at 1) (token-alone Integer at _)
 
   token_at-alone : (at first : ℕ) (after : List ℕ) → first ∷ after ≡ drop at line → Alone line (token_at at first after)
   unfolding token_at
@@ -95,7 +102,8 @@ module _ (line : List ℕ) where
   followed_by-alone t (Ok ts) alone = λ k e. absurd cc
   followed_by-alone t (Err x) alone = alone
 
-  and_then-alone : (there : Result Token LexError) (next : Token → Result (List Token) LexError) → Alone line there → ((t : Token) → Alone line (next t)) → Alone line (and_then there next)
+  and_then-alone : (there : Result Token LexError) (next : Token → Result (List Token) LexError) → Alone line there → ((t : Token) → Alone line (next t)) →
+      Alone line (and_then there next)
   and_then-alone (Ok t) next alone others = others t
   and_then-alone (Err x) next alone others = λ k e. alone k cc
 

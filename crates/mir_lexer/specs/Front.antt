@@ -43,7 +43,8 @@ hexadecimal_len first (b ∷ bs) = if first == 48 then (if b == 120 then prefix_
 
 -- from a digit on: `0x` and hexadecimal digits, or digits
 abbrev pub integer_at : ℕ → ℕ → List ℕ → Result Token LexError
-integer_at at first after = if hexadecimal_len first after == 0 then token Integer at (1 + prefix_len is_ascii_digit after) else token Integer at (2 + hexadecimal_len first after)
+integer_at at first after = if hexadecimal_len first after == 0 then token Integer at (1 + prefix_len is_ascii_digit after) else
+    token Integer at (2 + hexadecimal_len first after)
 
 -- behind `-`: digits make an integer
 abbrev pub minus_at : ℕ → List ℕ → Result Token LexError

@@ -1,7 +1,8 @@
 //! The token at the front of what is left of a line.
 
 ghost use Rattle.std.specs.Prelude.{◌≡◌, ◌+◌, ◌<◌, ◌^◌, length, IfOk};
-ghost use Rattle.mir_lexer.specs.Front.{token, marked, quoted, metadata_at, symbol_at, hexadecimal_len, integer_at, minus_at, token_at};
+ghost use Rattle.mir_lexer.specs.Front.{token, marked, quoted, metadata_at, symbol_at, hexadecimal_len, integer_at};
+ghost use Rattle.mir_lexer.specs.Front.{minus_at, token_at};
 
 use crate::bytes::{
     digits, hexadecimal_digits, is_single, position, symbol_bytes, word, word_bytes,

@@ -3,8 +3,8 @@
 ghost use Rattle.mir_meaning.specs.Effects.{EffectsHold};
 ghost use Rattle.mir_meaning.specs.Itself.{SourceFollowsItself};
 
-/// What `effect`, `uses` and `defines` say of an instruction holds of each of its runs: what it doesn't define stays, what
-/// it does depends on what it uses alone, and so for what it sets, moves and fixes, and for pure code.
+/// What `effect`, `uses` and `defines` say of an instruction holds of each of its runs: what it doesn't define stays,
+/// what it does depends on what it uses alone, and so for what it sets, moves and fixes, and for pure code.
 pub fn effects_hold()
     ensures { EffectsHold }
 {}

@@ -376,8 +376,3 @@ fn is_call(i: &Instr) -> bool
         _ => false,
     }
 }
-
-#[cfg(test)]
-mod build;
-#[cfg(test)]
-mod tests;

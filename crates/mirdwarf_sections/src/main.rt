@@ -4,11 +4,8 @@
 #![tactic(auto)]
 
 mod example;
-mod listable;
 mod section;
 mod sized;
-mod table;
-mod types;
 
 use crate::example::{Example, pieces, whole};
 use crate::section::{abbreviations, entries, lines, location_lists, text};

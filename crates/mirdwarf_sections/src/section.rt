@@ -1,9 +1,9 @@
 //! The sections, by their writers.
 
-use crate::listable::are_listable;
-use crate::table::{are_named, are_names, are_sequences};
-use crate::types::have_types;
 use anyhow::{Context, bail};
+use checked_sections::listable::are_listable;
+use checked_sections::table::{are_named, are_names, are_sequences};
+use checked_sections::types::have_types;
 use dwarf_info::abbreviation::write_abbrev;
 use dwarf_info::size::info_size;
 use dwarf_info::unit::Unit;

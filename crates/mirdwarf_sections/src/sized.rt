@@ -2,11 +2,11 @@
 
 ghost use Rattle.std.specs.Prelude.{◌≤◌};
 
-use crate::listable::are_listable;
 use crate::section::{lines, location_lists};
-use crate::table::are_sequences;
-use crate::types::have_types;
 use anyhow::{Context, bail};
+use checked_sections::listable::are_listable;
+use checked_sections::table::are_sequences;
+use checked_sections::types::have_types;
 use dwarf_info::size::info_size;
 use dwarf_info::unit::{BaseEntry, FunctionEntry, Unit, VariableEntry};
 use dwarf_info::write::write_info;

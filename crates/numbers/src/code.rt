@@ -27,8 +27,8 @@ impl BlockId {
     }
 }
 
-/// What names a frame slot of eight bytes: the N of `%stack.N`, or in a function with its frame the slot's offset from x2 in
-/// bytes.
+/// What names a frame slot of eight bytes: the N of `%stack.N`, or in a function with its frame the slot's offset from
+/// x2 in bytes.
 #[derive(Clone, Copy, Debug, PartialEq, Eq, PartialOrd, Ord)]
 pub struct SlotId(pub u32);
 

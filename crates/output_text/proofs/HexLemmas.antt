@@ -21,7 +21,8 @@ byte_one x y r s e =
     let low : hex_digit (x % 16) ≡ hex_digit (y % 16) = cc in
     (halves_one x y high low, (let tails : r ≡ s = cc in tails))
 
-address_parts : (a : ℕ) (r : List ℕ) → address_text a ++ r ≡ hex_byte (a / 2 ^ 24) ++ (hex_byte (a / 2 ^ 16 % 256) ++ (hex_byte (a / 2 ^ 8 % 256) ++ (hex_byte (a % 256) ++ r)))
+address_parts : (a : ℕ) (r : List ℕ) → address_text a ++ r ≡ hex_byte (a / 2 ^ 24) ++ (hex_byte (a / 2 ^ 16 % 256) ++ (hex_byte (a / 2 ^ 8 % 256) ++
+    (hex_byte (a % 256) ++ r)))
 address_parts a r = refl
 
 from_bytes : (a b : ℕ) → a / 2 ^ 24 ≡ b / 2 ^ 24 → a / 2 ^ 16 % 256 ≡ b / 2 ^ 16 % 256 → a / 2 ^ 8 % 256 ≡ b / 2 ^ 8 % 256 → a % 256 ≡ b % 256 → a ≡ b
@@ -79,7 +80,8 @@ after_byte p column bytes = cond p (10 ∷ hex_lines 0 bytes) (hex_lines (column
 abbrev BytesOne : List ℕ → List ℕ → Type 0
 BytesOne a b = (column : ℕ) (r s : List ℕ) → length a ≡ length b → hex_lines column a ++ r ≡ hex_lines column b ++ s → (a ≡ b) × (r ≡ s)
 
-after_one : (p : Bool) (a b : List ℕ) → BytesOne a b → (column : ℕ) (r s : List ℕ) → length a ≡ length b → after_byte p column a ++ r ≡ after_byte p column b ++ s → (a ≡ b) × (r ≡ s)
+after_one : (p : Bool) (a b : List ℕ) → BytesOne a b → (column : ℕ) (r s : List ℕ) → length a ≡ length b →
+    after_byte p column a ++ r ≡ after_byte p column b ++ s → (a ≡ b) × (r ≡ s)
 after_one true a b more column r s same e = let tails : hex_lines 0 a ++ r ≡ hex_lines 0 b ++ s = cc in more 0 r s same tails
 after_one false a b more column r s same e = more (column + 1) r s same e
 

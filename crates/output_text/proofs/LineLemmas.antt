@@ -15,8 +15,10 @@ use Rattle.mir_printer.proofs.Symbols.{is_plain, digit_one, quoted_one, quoted_h
 use Rattle.mir_printer.proofs.Operands.{number_one}
 use Rattle.mir_printer.proofs.Items.{item_line_one}
 use Rattle.output_text.specs.Hex.{hex_lines, address_text}
-use Rattle.output_text.specs.Output.{ItemLine, ListedVariable, section_text, name_byte, name_text, function_line, inlined_text, variable_line, substitution_line, position_text, origin_text, start_text, item_line, block_line, pair_text, ListedObject, object_line}
-use Rattle.output_text.specs.Shown.{HasNumbersAt, IsPrintableOrigin, IsPrintableLine, IsPrintableVariable, IsPrintableEntry, declared_by, HasNumbers, IsPrintableObject}
+use Rattle.output_text.specs.Output.{ItemLine, ListedVariable, section_text, name_byte, name_text, function_line, inlined_text, variable_line}
+use Rattle.output_text.specs.Output.{substitution_line, position_text, origin_text, start_text, item_line, block_line, pair_text, ListedObject, object_line}
+use Rattle.output_text.specs.Shown.{HasNumbersAt, IsPrintableOrigin, IsPrintableLine, IsPrintableVariable, IsPrintableEntry, declared_by, HasNumbers}
+use Rattle.output_text.specs.Shown.{IsPrintableObject}
 use Rattle.output_text.proofs.HexLemmas.{address_one, address_heads, bytes_one}
 
 -- ---- sections
@@ -26,8 +28,10 @@ section_parts a b c d e f rest = simp append_assoc
 
 pub section_one : (name a b r s : List ℕ) → IsNumber (length a) → IsNumber (length b) → section_text name a ++ r ≡ section_text name b ++ s → (a ≡ b) × (r ≡ s)
 section_one name a b r s small other e =
-    let whole = sym (section_parts (codes "section ") name (codes " ") (decimal (length a)) (10 ∷ []) (hex_lines 0 a) r) ∙ (e ∙ section_parts (codes "section ") name (codes " ") (decimal (length b)) (10 ∷ []) (hex_lines 0 b) s) in
-    let size = number_one (length a) (length b) (10 ∷ (hex_lines 0 a ++ r)) (10 ∷ (hex_lines 0 b ++ s)) small other refl refl (front_one (codes "section " ++ name ++ codes " ") _ _ whole) in
+    let whole = sym (section_parts (codes "section ") name (codes " ") (decimal (length a)) (10 ∷ []) (hex_lines 0 a) r) ∙ (e ∙
+    section_parts (codes "section ") name (codes " ") (decimal (length b)) (10 ∷ []) (hex_lines 0 b) s) in
+    let size = number_one (length a) (length b) (10 ∷ (hex_lines 0 a ++ r)) (10 ∷ (hex_lines 0 b ++ s)) small other refl refl (front_one (codes "section " ++
+    name ++ codes " ") _ _ whole) in
     bytes_one a b 0 r s size.0 (front_one (10 ∷ []) (hex_lines 0 a ++ r) (hex_lines 0 b ++ s) size.1)
 
 -- ---- names
@@ -87,23 +91,27 @@ before_feed = record { one = name_one; begins = λ x r s e. feed_begins (nat_eq 
 function_parts : (a b c d e f g rest : List ℕ) → (a ++ b ++ c ++ d ++ e ++ f ++ g) ++ rest ≡ a ++ (b ++ (c ++ (d ++ (e ++ (f ++ (g ++ rest))))))
 function_parts a b c d e f g rest = simp append_assoc
 
-pub function_line_one : (a b : List ℕ) (low high other another : ℕ) (r s : List ℕ) → function_line a low high ++ r ≡ function_line b other another ++ s → (a ≡ b) × (low ≡ other) × (high ≡ another) × (r ≡ s)
+pub function_line_one : (a b : List ℕ) (low high other another : ℕ) (r s : List ℕ) → function_line a low high ++ r ≡ function_line b other another ++ s →
+    (a ≡ b) × (low ≡ other) × (high ≡ another) × (r ≡ s)
 function_line_one a b low high other another r s e =
     let whole = sym (function_parts (codes "function ") (name_text a) (codes " ") (address_text low) (codes " ") (address_text high) (10 ∷ []) r)
     ∙ (e ∙ function_parts (codes "function ") (name_text b) (codes " ") (address_text other) (codes " ") (address_text another) (10 ∷ []) s) in
-    let name = spelled_one name_byte 32 before_space a b (address_text low ++ (codes " " ++ (address_text high ++ (10 ∷ r)))) (address_text other ++ (codes " " ++ (address_text another ++ (10 ∷ s)))) (front_one (codes "function ") _ _ whole) in
+    let name = spelled_one name_byte 32 before_space a b (address_text low ++ (codes " " ++ (address_text high ++ (10 ∷ r)))) (address_text other ++
+    (codes " " ++ (address_text another ++ (10 ∷ s)))) (front_one (codes "function ") _ _ whole) in
     let first = address_one low other (codes " " ++ (address_text high ++ (10 ∷ r))) (codes " " ++ (address_text another ++ (10 ∷ s))) name.1 in
     let second = address_one high another (10 ∷ r) (10 ∷ s) (front_one (codes " ") _ _ first.1) in
     (name.0, first.0, second.0, front_one (10 ∷ []) r s second.1)
 
 -- ---- a variable's line
 
-inlined_one : (a b : Option ℕ) (r s : List ℕ) → IfSome a IsNumber → IfSome b IsNumber → inlined_text a ++ (codes " " ++ r) ≡ inlined_text b ++ (codes " " ++ s) → (a ≡ b) × (r ≡ s)
+inlined_one : (a b : Option ℕ) (r s : List ℕ) → IfSome a IsNumber → IfSome b IsNumber → inlined_text a ++ (codes " " ++ r) ≡ inlined_text b ++ (codes " " ++
+    s) → (a ≡ b) × (r ≡ s)
 inlined_one None None r s small other e = (refl, front_one (codes " - ") r s e)
 inlined_one None (Some n) r s small other e = absurd (apart 45 33 (codes " " ++ r) (decimal n ++ (codes " " ++ s)) refl (front_one (codes " ") _ _ e))
 inlined_one (Some m) None r s small other e = absurd (apart 33 45 (decimal m ++ (codes " " ++ r)) (codes " " ++ s) refl (front_one (codes " ") _ _ e))
 inlined_one (Some m) (Some n) r s small other e =
-    let found = number_one m n (codes " " ++ r) (codes " " ++ s) small other refl refl (front_one (codes " !") (decimal m ++ (codes " " ++ r)) (decimal n ++ (codes " " ++ s)) e) in
+    let found = number_one m n (codes " " ++ r) (codes " " ++ s) small other refl refl (front_one (codes " !") (decimal m ++ (codes " " ++ r)) (decimal n ++
+    (codes " " ++ s)) e) in
     (ap (λ (k : ℕ). Some k) found.0, front_one (codes " ") r s found.1)
 
 inlined_stops : (o : Option ℕ) (r : List ℕ) → (t : List ℕ) × (inlined_text o ++ r ≡ 32 ∷ t)
@@ -113,7 +121,8 @@ inlined_stops (Some n) r = (codes "!" ++ (decimal n ++ r), refl)
 variable_parts : (a b c d e f g h rest : List ℕ) → (a ++ b ++ c ++ d ++ e ++ f ++ g ++ h) ++ rest ≡ a ++ (b ++ (c ++ (d ++ (e ++ (f ++ (g ++ (h ++ rest)))))))
 variable_parts a b c d e f g h rest = simp append_assoc
 
-node_one : (m n : ℕ) (a b : Option ℕ) (r s : List ℕ) → IsNumber m → IsNumber n → IfSome a IsNumber → IfSome b IsNumber → decimal m ++ (inlined_text a ++ (codes " " ++ r)) ≡ decimal n ++ (inlined_text b ++ (codes " " ++ s)) →
+node_one : (m n : ℕ) (a b : Option ℕ) (r s : List ℕ) → IsNumber m → IsNumber n → IfSome a IsNumber → IfSome b IsNumber →
+    decimal m ++ (inlined_text a ++ (codes " " ++ r)) ≡ decimal n ++ (inlined_text b ++ (codes " " ++ s)) →
     (m ≡ n) × (a ≡ b) × (r ≡ s)
 node_one m n None None r s small other is others e =
     let node = number_one m n _ _ small other refl refl e in let rest = inlined_one None None r s is others node.1 in (node.0, rest.0, rest.1)
@@ -124,12 +133,16 @@ node_one m n (Some j) None r s small other is others e =
 node_one m n (Some j) (Some k) r s small other is others e =
     let node = number_one m n _ _ small other refl refl e in let rest = inlined_one (Some j) (Some k) r s is others node.1 in (node.0, rest.0, rest.1)
 
-pub variable_line_one : (v w : ListedVariable) (r s : List ℕ) → IsPrintableVariable v → IsPrintableVariable w → variable_line v ++ r ≡ variable_line w ++ s → (v ≡ w) × (r ≡ s)
+pub variable_line_one : (v w : ListedVariable) (r s : List ℕ) → IsPrintableVariable v → IsPrintableVariable w → variable_line v ++ r ≡ variable_line w ++ s →
+    (v ≡ w) × (r ≡ s)
 variable_line_one v w r s is others e =
-    let whole = sym (variable_parts (codes "variable ") (decimal v.list) (codes " !") (decimal v.variable.node) (inlined_text v.variable.inlined_at) (codes " ") (name_text v.name) (10 ∷ []) r)
-    ∙ (e ∙ variable_parts (codes "variable ") (decimal w.list) (codes " !") (decimal w.variable.node) (inlined_text w.variable.inlined_at) (codes " ") (name_text w.name) (10 ∷ []) s) in
+    let whole = sym (variable_parts (codes "variable ") (decimal v.list) (codes " !") (decimal v.variable.node) (inlined_text v.variable.inlined_at) (codes
+    " ") (name_text v.name) (10 ∷ []) r)
+    ∙ (e ∙ variable_parts (codes "variable ") (decimal w.list) (codes " !") (decimal w.variable.node) (inlined_text w.variable.inlined_at) (codes " ")
+    (name_text w.name) (10 ∷ []) s) in
     let list = number_one v.list w.list _ _ is.list others.list refl refl (front_one (codes "variable ") _ _ whole) in
-    let node = node_one v.variable.node w.variable.node v.variable.inlined_at w.variable.inlined_at (name_text v.name ++ (10 ∷ r)) (name_text w.name ++ (10 ∷ s)) is.node others.node is.inlined_at others.inlined_at
+    let node = node_one v.variable.node w.variable.node v.variable.inlined_at w.variable.inlined_at (name_text v.name ++ (10 ∷ r)) (name_text w.name ++
+    (10 ∷ s)) is.node others.node is.inlined_at others.inlined_at
     (front_one (codes " !") _ _ list.1) in
     let name = spelled_one name_byte 10 before_feed v.name w.name r s node.2 in
     let variable : v.variable ≡ w.variable = λ k. record { node = node.0 k; inlined_at = node.1 k; fragment = (is.whole ∙ sym others.whole) k } in
@@ -182,9 +195,11 @@ object_line_one x y r s is others e =
 position_parts : (a b c d e rest : List ℕ) → (a ++ b ++ c ++ d ++ e) ++ rest ≡ a ++ (b ++ (c ++ (d ++ (e ++ rest))))
 position_parts a b c d e rest = simp append_assoc
 
-position_one : (sign : List ℕ) (p q : Pos) (r s : List ℕ) → HasNumbersAt p → HasNumbersAt q → position_text sign p ++ r ≡ position_text sign q ++ s → (p ≡ q) × (r ≡ s)
+position_one : (sign : List ℕ) (p q : Pos) (r s : List ℕ) → HasNumbersAt p → HasNumbersAt q → position_text sign p ++ r ≡ position_text sign q ++ s →
+    (p ≡ q) × (r ≡ s)
 position_one sign p q r s is others e =
-    let whole = sym (position_parts sign (decimal p.block) (codes ".") (decimal p.item) (codes " ") r) ∙ (e ∙ position_parts sign (decimal q.block) (codes ".") (decimal q.item) (codes " ") s) in
+    let whole = sym (position_parts sign (decimal p.block) (codes ".") (decimal p.item) (codes " ") r) ∙ (e ∙
+    position_parts sign (decimal q.block) (codes ".") (decimal q.item) (codes " ") s) in
     let block = number_one p.block q.block _ _ is.0 others.0 refl refl (front_one sign _ _ whole) in
     let item = number_one p.item q.item (codes " " ++ r) (codes " " ++ s) is.1 others.1 refl refl (front_one (codes ".") _ _ block.1) in
     (λ k. record { block = block.0 k; item = item.0 k }, front_one (codes " ") r s item.1)
@@ -214,9 +229,11 @@ start_one (Some m) None r s is others e = absurd (no_address m r s is e)
 line_parts : (a b c d rest : List ℕ) → (a ++ b ++ c ++ d) ++ rest ≡ a ++ (b ++ (c ++ (d ++ rest)))
 line_parts a b c d rest = simp append_assoc
 
-pub line_one : (inlined : ℕ → Option ℕ) (l m : ItemLine) (r s : List ℕ) → IsPrintableLine inlined l → IsPrintableLine inlined m → item_line l ++ r ≡ item_line m ++ s → (l ≡ m) × (r ≡ s)
+pub line_one : (inlined : ℕ → Option ℕ) (l m : ItemLine) (r s : List ℕ) → IsPrintableLine inlined l → IsPrintableLine inlined m →
+    item_line l ++ r ≡ item_line m ++ s → (l ≡ m) × (r ≡ s)
 line_one inlined l m r s is others e =
-    let whole = sym (line_parts (start_text l.address) (origin_text l.item.origin) (item_text l.item) (10 ∷ []) r) ∙ (e ∙ line_parts (start_text m.address) (origin_text m.item.origin) (item_text m.item) (10 ∷ []) s) in
+    let whole = sym (line_parts (start_text l.address) (origin_text l.item.origin) (item_text l.item) (10 ∷ []) r) ∙ (e ∙
+    line_parts (start_text m.address) (origin_text m.item.origin) (item_text m.item) (10 ∷ []) s) in
     let start = start_one l.address m.address _ _ is.address others.address whole in
     let origin = origin_one l.item.origin m.item.origin _ _ is.origin others.origin start.1 in
     let item = item_line_one (declared_by inlined) l.item m.item is.item others.item r s origin.1 in

@@ -9,8 +9,10 @@ use Rattle.mir_func.specs.declared.position.Origin.TheVariants.{Kept, Before}
 use Rattle.mir_printer.specs.Spelling.{item_text}
 use Rattle.mir_printer.specs.Printable.{IsNumber}
 use Rattle.output_text.specs.Hex.{address_text}
-use Rattle.output_text.specs.Output.{ItemLine, ListedBlock, ListedFunction, Output, section_text, function_line, variable_line, substitution_line, origin_text, start_text, item_line, block_line, block_text, function_text, spelling, object_line}
-use Rattle.output_text.specs.Shown.{IsPrintableLine, IsPrintableVariable, IsPrintableEntry, IsPrintableBlock, IsPrintableFunction, IsPrintableOutput, Shows, IsPrintableObject}
+use Rattle.output_text.specs.Output.{ItemLine, ListedBlock, ListedFunction, Output, section_text, function_line, variable_line, substitution_line, origin_text}
+use Rattle.output_text.specs.Output.{start_text, item_line, block_line, block_text, function_text, spelling, object_line}
+use Rattle.output_text.specs.Shown.{IsPrintableLine, IsPrintableVariable, IsPrintableEntry, IsPrintableBlock, IsPrintableFunction, IsPrintableOutput, Shows}
+use Rattle.output_text.specs.Shown.{IsPrintableObject}
 use Rattle.output_text.proofs.HexLemmas.{address_heads}
 use Rattle.output_text.proofs.LineLemmas.{section_one, function_line_one, variable_line_one, substitution_line_one, line_one, block_line_one, object_line_one}
 
@@ -31,10 +33,12 @@ after_many {A} Good text begins After is (x ∷ xs) r all after =
 
 begins_many : {A : Type 0} (Good : A → Type 0) (text : A → List ℕ) (begins : List ℕ → Bool) (After : List ℕ → Type 0) → Tells Good text begins After →
     (x : A) (xs : List A) (r : List ℕ) → All Good (x ∷ xs) → begins (flat_map text (x ∷ xs) ++ r) ≡ true
-begins_many Good text begins After is x xs r all = ap begins (append_assoc (text x) (flat_map text xs) r) ∙ is.begin x (flat_map text xs ++ r) (All-head Good x xs all)
+begins_many Good text begins After is x xs r all = ap begins (append_assoc (text x) (flat_map text xs) r) ∙ is.begin x (flat_map text xs ++
+    r) (All-head Good x xs all)
 
 many_one : {A : Type 0} (Good : A → Type 0) (text : A → List ℕ) (begins : List ℕ → Bool) (After : List ℕ → Type 0) → Tells Good text begins After →
-    (xs ys : List A) (r s : List ℕ) → All Good xs → All Good ys → begins r ≡ false → begins s ≡ false → After r → After s → flat_map text xs ++ r ≡ flat_map text ys ++ s → (xs ≡ ys) × (r ≡ s)
+    (xs ys : List A) (r s : List ℕ) → All Good xs → All Good ys → begins r ≡ false → begins s ≡ false → After r → After s →
+    flat_map text xs ++ r ≡ flat_map text ys ++ s → (xs ≡ ys) × (r ≡ s)
 many_one Good text begins After is [] [] r s all others stop stops after afters e = (refl, e)
 many_one Good text begins After is [] (y ∷ ys) r s all others stop stops after afters e =
     let both : false ≡ true = sym stop ∙ (ap begins e ∙ begins_many Good text begins After is y ys s others) in absurd cc
@@ -53,7 +57,8 @@ many_one Good text begins After is (x ∷ xs) (y ∷ ys) r s all others stop sto
 none_passes : {A : Type 0} (Good : A → Type 0) (text : A → List ℕ) (test : List ℕ → Bool) → ((x : A) (r : List ℕ) → Good x → test (text x ++ r) ≡ false) →
     (xs : List A) (r : List ℕ) → All Good xs → test r ≡ false → test (flat_map text xs ++ r) ≡ false
 none_passes Good text test none [] r all fails = fails
-none_passes Good text test none (x ∷ xs) r all fails = ap test (append_assoc (text x) (flat_map text xs) r) ∙ none x (flat_map text xs ++ r) (All-head Good x xs all)
+none_passes Good text test none (x ∷ xs) r all fails = ap test (append_assoc (text x) (flat_map text xs) r) ∙ none x (flat_map text xs ++
+    r) (All-head Good x xs all)
 
 -- ---- how texts begin
 
@@ -101,11 +106,13 @@ start_other (Some a) b rest small high = placed_other a b rest small high
 
 line_begins : (inlined : ℕ → Option ℕ) (l : ItemLine) (r : List ℕ) → IsPrintableLine inlined l → begins_line (item_line l ++ r) ≡ true
 line_begins inlined l r is =
-    ap begins_line (line_parts (start_text l.address) (origin_text l.item.origin) (item_text l.item) (10 ∷ []) r) ∙ start_begins l.address l.item.origin (item_text l.item ++ (10 ∷ r)) is.address
+    ap begins_line (line_parts (start_text l.address) (origin_text l.item.origin) (item_text l.item) (10 ∷ []) r) ∙
+    start_begins l.address l.item.origin (item_text l.item ++ (10 ∷ r)) is.address
 
 line_other : (inlined : ℕ → Option ℕ) (b : ℕ) → 102 < b → (l : ItemLine) (r : List ℕ) → IsPrintableLine inlined l → begins_with b (item_line l ++ r) ≡ false
 line_other inlined b high l r is =
-    ap (begins_with b) (line_parts (start_text l.address) (origin_text l.item.origin) (item_text l.item) (10 ∷ []) r) ∙ start_other l.address b (origin_text l.item.origin ++ (item_text l.item ++ (10 ∷ r))) is.address high
+    ap (begins_with b) (line_parts (start_text l.address) (origin_text l.item.origin) (item_text l.item) (10 ∷ []) r) ∙
+    start_other l.address b (origin_text l.item.origin ++ (item_text l.item ++ (10 ∷ r))) is.address high
 
 lines_tell : (inlined : ℕ → Option ℕ) → Tells (IsPrintableLine inlined) item_line begins_line Anything
 lines_tell inlined = record {
@@ -140,14 +147,17 @@ substitutions_tell = record {
 abbrev EndsLines : List ℕ → Type 0
 EndsLines t = begins_line t ≡ false
 
-block_parts : (id : ℕ) (lines : List ItemLine) (r : List ℕ) → block_text (record { id = id; lines = lines }) ++ r ≡ block_line id ++ (flat_map item_line lines ++ r)
+block_parts : (id : ℕ) (lines : List ItemLine) (r : List ℕ) → block_text (record { id = id; lines = lines }) ++ r ≡ block_line id ++
+    (flat_map item_line lines ++ r)
 block_parts id lines r = append_assoc (block_line id) (flat_map item_line lines) r
 
-block_one : (inlined : ℕ → Option ℕ) (b c : ListedBlock) (r s : List ℕ) → IsPrintableBlock inlined b → IsPrintableBlock inlined c → EndsLines r → EndsLines s → block_text b ++ r ≡ block_text c ++ s → (b ≡ c) × (r ≡ s)
+block_one : (inlined : ℕ → Option ℕ) (b c : ListedBlock) (r s : List ℕ) → IsPrintableBlock inlined b → IsPrintableBlock inlined c → EndsLines r → EndsLines s →
+    block_text b ++ r ≡ block_text c ++ s → (b ≡ c) × (r ≡ s)
 block_one inlined b c r s is others stop stops e =
     let whole = sym (block_parts b.id b.lines r) ∙ (e ∙ block_parts c.id c.lines s) in
     let id = block_line_one b.id c.id _ _ is.id others.id whole in
-    let lines = many_one (IsPrintableLine inlined) item_line begins_line Anything (lines_tell inlined) b.lines c.lines r s is.lines others.lines stop stops tt tt id.1 in
+    let lines = many_one (IsPrintableLine inlined) item_line begins_line Anything (lines_tell inlined) b.lines c.lines r s is.lines others.lines stop stops tt
+    tt id.1 in
     (λ k. record { id = id.0 k; lines = lines.0 k }, lines.1)
 
 blocks_tell : (inlined : ℕ → Option ℕ) → Tells (IsPrintableBlock inlined) block_text (begins_with 98) EndsLines
@@ -210,20 +220,37 @@ module _ (inlined : ℕ → Option ℕ) where
       (none_passes (IsPrintableLine inlined) item_line (begins_with 111) (line_other inlined 111 (omega arith)) f.prologue (from_blocks f r) is.prologue
       (none_passes (IsPrintableBlock inlined) block_text (begins_with 111) (λ b r is. refl) f.blocks r is.blocks end.objects)))
 
-  function_one : (f g : ListedFunction) (r s : List ℕ) → IsPrintableFunction inlined f → IsPrintableFunction inlined g → EndsFunction r → EndsFunction s → function_text f ++ r ≡ function_text g ++ s → (f ≡ g) × (r ≡ s)
+  function_one : (f g : ListedFunction) (r s : List ℕ) → IsPrintableFunction inlined f → IsPrintableFunction inlined g → EndsFunction r → EndsFunction s →
+      function_text f ++ r ≡ function_text g ++ s → (f ≡ g) × (r ≡ s)
   function_one f g r s is others end ends e =
       let whole = sym (function_is f r) ∙ (e ∙ function_is g s) in
       let head = function_line_one f.name g.name f.low f.high g.low g.high _ _ whole in
       let objects = many_one IsPrintableObject object_line (begins_with 111) Anything objects_tell f.objects g.objects (from_variables f r)
       (from_variables g s) is.objects others.objects (no_objects f r is end) (no_objects g s others ends) tt tt head.3 in
-      let variables = many_one IsPrintableVariable variable_line (begins_with 118) Anything variables_tell f.variables g.variables (from_substitutions f r) (from_substitutions g s) is.variables others.variables
+      let variables = many_one IsPrintableVariable variable_line (begins_with 118) Anything variables_tell f.variables g.variables (from_substitutions f r)
+      (from_substitutions g s) is.variables others.variables
       (no_variables f r is end) (no_variables g s others ends) tt tt objects.1 in
-      let substitutions = many_one IsPrintableEntry substitution_line (begins_with 115) Anything substitutions_tell f.substitutions g.substitutions (from_prologue f r) (from_prologue g s) is.substitutions others.substitutions
+      let substitutions = many_one IsPrintableEntry substitution_line (begins_with 115) Anything substitutions_tell f.substitutions g.substitutions
+      (from_prologue f r) (from_prologue g s) is.substitutions others.substitutions
       (no_substitutions f r is end) (no_substitutions g s others ends) tt tt variables.1 in
-      let prologue = many_one (IsPrintableLine inlined) item_line begins_line Anything (lines_tell inlined) f.prologue g.prologue (from_blocks f r) (from_blocks g s) is.prologue others.prologue
+      let prologue = many_one (IsPrintableLine inlined) item_line begins_line Anything (lines_tell inlined) f.prologue g.prologue (from_blocks f r)
+      (from_blocks g s) is.prologue others.prologue
       (no_lines f r is end) (no_lines g s others ends) tt tt substitutions.1 in
-      let blocks = many_one (IsPrintableBlock inlined) block_text (begins_with 98) EndsLines (blocks_tell inlined) f.blocks g.blocks r s is.blocks others.blocks end.blocks ends.blocks end.lines ends.lines prologue.1 in
-      (λ k. record { name = head.0 k; low = head.1 k; high = head.2 k; objects = objects.0 k; variables = variables.0 k; substitutions = substitutions.0 k; prologue = prologue.0 k; blocks = blocks.0 k }, blocks.1)
+      let blocks = many_one (IsPrintableBlock inlined) block_text (begins_with 98) EndsLines (blocks_tell inlined) f.blocks g.blocks r s is.blocks
+      others.blocks end.blocks ends.blocks end.lines ends.lines prologue.1 in (
+        λ k. record {
+          name = head.0 k;
+          low = head.1 k;
+          high = head.2 k;
+          objects = objects.0 k;
+          variables = variables.0 k;
+          substitutions =
+              substitutions.0 k;
+          prologue = prologue.0 k;
+          blocks = blocks.0 k;
+        },
+        blocks.1,
+      )
 
   functions_tell : Tells (IsPrintableFunction inlined) function_text begins_function EndsFunction
   functions_tell = record {
@@ -239,7 +266,8 @@ module _ (inlined : ℕ → Option ℕ) where
       let text = section_one (codes ".text") o.text p.text _ _ is.text others.text (sym left ∙ (e ∙ right)) in
       let lists = section_one (codes ".debug_loclists") o.loclists p.loclists _ _ is.loclists others.loclists text.1 in
       let end : EndsFunction [] = record { lines = refl; blocks = refl; objects = refl; variables = refl; substitutions = refl } in
-      let functions = many_one (IsPrintableFunction inlined) function_text begins_function EndsFunction functions_tell o.functions p.functions [] [] is.functions others.functions refl refl end end lists.1 in
+      let functions = many_one (IsPrintableFunction inlined) function_text begins_function EndsFunction functions_tell o.functions p.functions [] []
+      is.functions others.functions refl refl end end lists.1 in
       λ k. record { text = text.0 k; loclists = lists.0 k; functions = functions.0 k }
     where
       output_parts : (a b c : List ℕ) → a ++ b ++ c ≡ a ++ (b ++ (c ++ []))

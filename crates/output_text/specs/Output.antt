@@ -111,7 +111,8 @@ abbrev pub block_text : ListedBlock → List ℕ
 block_text b = block_line b.id ++ flat_map item_line b.lines
 
 abbrev pub function_text : ListedFunction → List ℕ
-function_text f = function_line f.name f.low f.high ++ flat_map object_line f.objects ++ flat_map variable_line f.variables ++ flat_map substitution_line f.substitutions
+function_text f = function_line f.name f.low f.high ++ flat_map object_line f.objects ++ flat_map variable_line f.variables ++
+    flat_map substitution_line f.substitutions
     ++ flat_map item_line f.prologue ++ flat_map block_text f.blocks
 
 abbrev pub spelling : Output → List ℕ

@@ -6,5 +6,6 @@ ghost use Rattle.output_text.specs.Shown.{Shows};
 
 /// A text shows at most one output.
 pub fn one_reading()
-    ensures { (inlined : ℕ → Option ℕ) (text : List ℕ) (o p : Output) → Shows inlined text o → Shows inlined text p → o ≡ p }
+    ensures { (inlined : ℕ → Option ℕ) (text : List ℕ) (o p : Output) → Shows inlined text o → Shows inlined text p →
+        o ≡ p }
 {}

@@ -3,7 +3,8 @@ use Rattle.std.specs.Prelude.{◌≡◌, ℕ, List}
 use Rattle.rv64_instr.specs.Row as row
 use Rattle.rv64_instr.specs.Row.{Row}
 use Rattle.rv64_instr.specs.declared.decoded.Decoded.{Decoded}
-use Rattle.rv64_instr.specs.declared.decoded.Decoded.TheVariants.{Fixes, Moves, Sets, Addresses, Loads, Stores, LoadsSlot, StoresSlot, Branches, Jumps, Calls, Returns}
+use Rattle.rv64_instr.specs.declared.decoded.Decoded.TheVariants.{Fixes, Moves, Sets, Addresses, Loads, Stores, LoadsSlot, StoresSlot, Branches, Jumps, Calls}
+use Rattle.rv64_instr.specs.declared.decoded.Decoded.TheVariants.{Returns}
 
 -- the row is the one that code sees so
 abbrev pub Shows : Decoded → Row → Type 0

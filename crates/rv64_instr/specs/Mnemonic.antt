@@ -90,3 +90,16 @@ mnemonic_of PseudoRet = codes "PseudoRET"
 abbrev pub Names : List ℕ → Option Op → Type 0
 Names text (Some op) = text ≡ mnemonic_of op
 Names text None = (op : Op) → text ≡ mnemonic_of op → ⊥
+
+-- the text is the opcode's name, or no name of a branch, a load or a store
+abbrev pub NamesByPlace : List ℕ → Option Op → Type 0
+NamesByPlace text (Some op) = text ≡ mnemonic_of op
+NamesByPlace text None =
+    ((op : BranchOp) → text ≡ branch_name op → ⊥) × ((op : LoadOp) → text ≡ load_name op → ⊥) × ((op : StoreOp) → text ≡ store_name op → ⊥)
+
+-- the text is the opcode's name, or no name of another one
+abbrev pub NamesByValue : List ℕ → Option Op → Type 0
+NamesByValue text (Some op) = text ≡ mnemonic_of op
+NamesByValue text None =
+    ((op : RegisterOp) → text ≡ register_name op → ⊥) × ((op : ImmediateOp) → text ≡ immediate_name op → ⊥) × (text ≡ mnemonic_of Lui → ⊥) ×
+    (text ≡ mnemonic_of Copy → ⊥) × (text ≡ mnemonic_of PseudoBr → ⊥) × (text ≡ mnemonic_of PseudoCall → ⊥) × (text ≡ mnemonic_of PseudoRet → ⊥)

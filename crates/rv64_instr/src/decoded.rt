@@ -2,17 +2,8 @@
 
 ghost use Rattle.std.specs.Prelude.{◌≡◌, IsTrue};
 ghost use Rattle.rv64_instr.specs.Arithmetic.{word};
-ghost use Rattle.rv64_instr.specs.Form.{
-  fits_registers,
-  fits_immediate,
-  fits_upper,
-  fits_branch,
-  fits_load,
-  fits_store,
-  fits_copy,
-  fits_jump,
-  fits_call,
-};
+ghost use Rattle.rv64_instr.specs.Form.{fits_registers, fits_immediate, fits_upper, fits_branch};
+ghost use Rattle.rv64_instr.specs.Form.{fits_load, fits_store, fits_copy, fits_jump, fits_call};
 ghost use Rattle.rv64_instr.specs.Row.{
   row_of,
   registers_row,

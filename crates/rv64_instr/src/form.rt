@@ -2,17 +2,9 @@
 
 ghost use Rattle.std.specs.Prelude.{◌≡◌};
 ghost use Rattle.std.specs.List.{list_all};
+ghost use Rattle.rv64_instr.specs.Form.{has_form, fits_registers, fits_immediate, fits_upper, fits_branch};
+ghost use Rattle.rv64_instr.specs.Form.{fits_load, fits_store, fits_copy, fits_jump, fits_call};
 ghost use Rattle.rv64_instr.specs.Form.{
-  has_form,
-  fits_registers,
-  fits_immediate,
-  fits_upper,
-  fits_branch,
-  fits_load,
-  fits_store,
-  fits_copy,
-  fits_jump,
-  fits_call,
   is_immediate,
   has_12_bits,
   is_addi,

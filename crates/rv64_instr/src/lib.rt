@@ -14,5 +14,3 @@ pub mod parts;
 pub mod place;
 pub mod reg;
 pub mod start;
-#[cfg(test)]
-mod tests;

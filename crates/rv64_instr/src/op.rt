@@ -1,7 +1,8 @@
 //! Opcodes, each in the class of those whose operands stand alike, and their names.
 
 ghost use Rattle.std.specs.Prelude.{◌≡◌, Some, IfSome};
-ghost use Rattle.rv64_instr.specs.Mnemonic.{mnemonic_of, register_name, immediate_name, branch_name, load_name, store_name, Names};
+ghost use Rattle.rv64_instr.specs.Mnemonic.{mnemonic_of, register_name, immediate_name, branch_name, load_name};
+ghost use Rattle.rv64_instr.specs.Mnemonic.{store_name, Names, NamesByPlace, NamesByValue};
 
 /// An operation on two registers (RISC-V Unprivileged ISA, RV32I and RV64I, "Integer Register-Register Operations").
 #[derive(Clone, Copy, Debug, PartialEq, Eq)]
@@ -216,6 +217,16 @@ impl Op {
 fn named(text: &[u8]) -> Option<Op>
     ensures { Names text.now result }
 {
+    match named_by_place(text) {
+        Some(op) => Some(op),
+        None => named_by_value(text),
+    }
+}
+
+/// The opcode of a name in MIR that is no branch's, no load's and no store's.
+fn named_by_value(text: &[u8]) -> Option<Op>
+    ensures { NamesByValue text.now result }
+{
     match text {
         b"ADD" => Some(Op::Registers(RegisterOp::Add)),
         b"SUB" => Some(Op::Registers(RegisterOp::Sub)),
@@ -245,6 +256,20 @@ fn named(text: &[u8]) -> Option<Op>
         b"SLLIW" => Some(Op::Immediate(ImmediateOp::Slliw)),
         b"SRLIW" => Some(Op::Immediate(ImmediateOp::Srliw)),
         b"SRAIW" => Some(Op::Immediate(ImmediateOp::Sraiw)),
+        b"LUI" => Some(Op::Lui),
+        b"COPY" => Some(Op::Copy),
+        b"PseudoBR" => Some(Op::PseudoBr),
+        b"PseudoCALL" => Some(Op::PseudoCall),
+        b"PseudoRET" => Some(Op::PseudoRet),
+        _ => None,
+    }
+}
+
+/// The opcode of a branch, a load or a store.
+fn named_by_place(text: &[u8]) -> Option<Op>
+    ensures { NamesByPlace text.now result }
+{
+    match text {
         b"BEQ" => Some(Op::Branch(BranchOp::Beq)),
         b"BNE" => Some(Op::Branch(BranchOp::Bne)),
         b"BLT" => Some(Op::Branch(BranchOp::Blt)),
@@ -262,11 +287,6 @@ fn named(text: &[u8]) -> Option<Op>
         b"SH" => Some(Op::Store(StoreOp::Sh)),
         b"SW" => Some(Op::Store(StoreOp::Sw)),
         b"SD" => Some(Op::Store(StoreOp::Sd)),
-        b"LUI" => Some(Op::Lui),
-        b"COPY" => Some(Op::Copy),
-        b"PseudoBR" => Some(Op::PseudoBr),
-        b"PseudoCALL" => Some(Op::PseudoCall),
-        b"PseudoRET" => Some(Op::PseudoRet),
         _ => None,
     }
 }

@@ -6,16 +6,21 @@ use Rattle.mir_func.specs.declared.item.Item.{Item}
 use Rattle.mir_meaning.specs.State.{State, Core, assigned}
 use Rattle.mir_meaning.specs.Step.{Went, Returned, Faulted, Lost, Outcome, Falls, Goes, Gives, Traps, Asks, Breaks, moved, do_item, do_fetch, step}
 use Rattle.mir_func.specs.Graph.{Fetch, Here, Silent, Outside, below, block_start}
-use Rattle.mir_meaning.specs.Align.{position_of, is_code, Station, Count, station_of, end_station, IsOrigin, here, Since, Start, Same, After, since_of, Aligns, Along, begin, other, met, Agrees, RunsAlong}
+use Rattle.mir_meaning.specs.Align.{position_of, is_code, Station, Count, station_of, end_station, IsOrigin, here, Since, Start, Same, After, since_of, Aligns}
+use Rattle.mir_meaning.specs.Align.{Along, begin, other, met, Agrees, RunsAlong}
 use Rattle.simulation.specs.Sides.{IsPastItems, since_item, ShowsSame, Does}
-use Rattle.simulation.specs.Added.{Standing, Opening, Level, Ahead, Owing, MayCome, DoAlike, MayOpen, LeadsIn, IsFree, AddedRelation, ended, both, before, opening, entering, behind, passed, added, paired, Begins, opens, level, AddedFollows}
+use Rattle.simulation.specs.Added.{Standing, Opening, Level, Ahead, Owing, MayCome, DoAlike, MayOpen, LeadsIn, IsFree, AddedRelation, ended, both, before}
+use Rattle.simulation.specs.Added.{opening, entering, behind, passed, added, paired, Begins, opens, level, AddedFollows}
 use Rattle.mir_meaning.proofs.Alignment.{went_once, aligns_at, aligns_once, aligns_not_fails}
 use Rattle.mir_meaning.proofs.Outcomes.{step_item, step_end}
 use Rattle.simulation.proofs.Refinement.{since_not_start}
-use Rattle.simulation.proofs.Stations.{code_station, debug_station, end_is_station, code_is_some, code_is, debug_is_none, IsStationOf, of_item, of_end, station_is_of, no_end_stations, not_past_items}
+use Rattle.simulation.proofs.Stations.{code_station, debug_station, end_is_station, code_is_some, code_is, debug_is_none, IsStationOf, of_item, of_end}
+use Rattle.simulation.proofs.Stations.{station_is_of, no_end_stations, not_past_items}
 use Rattle.simulation.proofs.Outcomes.{both_return, both_fault, alike_gives, alike_traps}
 use Rattle.simulation.proofs.Stops.{aligns_reaches}
-use Rattle.simulation.proofs.Joined.{Addition, AtHome, FaultAt, IsReady, Joins, JoinsAt, Now, Owed, at_home, dynamic_at, home_at, in_block, join_after, join_ahead, join_behind, join_code, join_free, join_opened, may_begun, moves_to, past_g, ready, shown, stands_begun, static_at, fs, gs, OriginOfF, Seen, Stands}
+use Rattle.simulation.proofs.Joined.{Addition, AtHome, FaultAt, IsReady, Joins, JoinsAt, Now, Owed, at_home, dynamic_at, home_at, in_block, join_after}
+use Rattle.simulation.proofs.Joined.{join_ahead, join_behind, join_code, join_free, join_opened, may_begun, moves_to, past_g, ready, shown, stands_begun}
+use Rattle.simulation.proofs.Joined.{static_at, fs, gs, OriginOfF, Seen, Stands}
 
 module _ (addition : Addition) where
   open addition use {count, src, sides, relation, facts, follows}

@@ -1,5 +1,6 @@
 -- What a pass gives for code that it takes out though it may trap: a function's shape lets g idle where the source stops.
-use Rattle.std.proofs.Common.{◌≡◌, ℕ, ◌*◌, ◌<◌, ◌≤◌, List, [], ◌∷◌, map, All, Option, Some, None, Bool, true, false, cond, refl, sym, ap, ◌∙◌, subst, inl, inr, ◌⊎◌, arith}
+use Rattle.std.proofs.Common.{◌≡◌, ℕ, ◌*◌, ◌<◌, ◌≤◌, List, [], ◌∷◌, map, All, Option, Some, None, Bool, true, false, cond, refl, sym, ap, ◌∙◌, subst, inl, inr}
+use Rattle.std.proofs.Common.{◌⊎◌, arith}
 use Rattle.std.proofs.lemmas.List.Elements.{All-cons, All-head, All-tail, All-nil}
 use Rattle.rv64_instr.specs.Row.{Row, Fixes, Loads, Stores, LoadsSlot, StoresSlot, Branches, Jumps, Calls, Returns, row_of}
 use Rattle.rv64_instr.specs.Access.{reads}
@@ -14,7 +15,8 @@ use Rattle.mir_func.specs.declared.item.ItemKind.{ItemKind}
 use Rattle.mir_func.specs.declared.item.ItemKind.TheVariants.{Code, Mark, Phi}
 use Rattle.mir_meaning.specs.State.{Reply, Core, State, assigned, writes_frame}
 use Rattle.mir_func.specs.Variables.{is_same, overlaps}
-use Rattle.mir_meaning.specs.Step.{Outcome, Falls, Goes, Gives, Traps, Asks, Breaks, read, answered, slot_loaded, does, are_written, act, with_core, numbered, do_item}
+use Rattle.mir_meaning.specs.Step.{Outcome, Falls, Goes, Gives, Traps, Asks, Breaks, read, answered, slot_loaded, does, are_written, act, with_core, numbered}
+use Rattle.mir_meaning.specs.Step.{do_item}
 use Rattle.rv64_instr.specs.Parts.{is_call}
 use Rattle.mir_func.specs.Graph.{Program, Fetch, Here, Silent, Outside}
 use Rattle.mir_meaning.specs.Align.{position_of, Count, Since}

@@ -1,5 +1,6 @@
 -- A change in place: f beside g, and f goes past what g lacks.
-use Rattle.std.proofs.Common.{◌≡◌, ℕ, zero, suc, ◌+◌, ◌-◌, ◌*◌, ◌<◌, ◌≤◌, List, [], ◌∷◌, length, All, Option, Some, Bool, true, false, refl, sym, ap, ◌∙◌, subst, inl, inr, ◌⊎◌, arith}
+use Rattle.std.proofs.Common.{◌≡◌, ℕ, zero, suc, ◌+◌, ◌-◌, ◌*◌, ◌<◌, ◌≤◌, List, [], ◌∷◌, length, All, Option, Some, Bool, true, false, refl, sym, ap, ◌∙◌}
+use Rattle.std.proofs.Common.{subst, inl, inr, ◌⊎◌, arith}
 use Rattle.std.proofs.lemmas.Bool.{cases_lt}
 use Rattle.mir_func.specs.declared.position.Pos.{Pos}
 use Rattle.mir_func.specs.declared.position.Origin.{Origin}
@@ -11,10 +12,12 @@ use Rattle.mir_func.specs.Graph.{Here, Silent, below, block_start}
 use Rattle.mir_meaning.specs.Align.{position_of, is_code, Station, moves_on, waits_at, station_of, IsOrigin, Since, Same, After, since_of}
 use Rattle.mir_meaning.specs.Follow.{rank, next_rank, InOrder}
 use Rattle.simulation.specs.Sides.{ShowsSame, since_item}
-use Rattle.simulation.specs.Refinement.{waiting, Walk, there, on, past, IsDoomed, faults, later, later_past, Passes, FaultsAt, Lingers, IsStuck, doomed, halted, IsStuckFrom}
+use Rattle.simulation.specs.Refinement.{waiting, Walk, there, on, past, IsDoomed, faults, later, later_past, Passes, FaultsAt, Lingers, IsStuck, doomed, halted}
+use Rattle.simulation.specs.Refinement.{IsStuckFrom}
 use Rattle.simulation.specs.InPlace.{FallsOrTraps, IsIdleAt, MayTrap, ended, both, taken, passed, added, paired}
 use Rattle.mir_meaning.proofs.Outcomes.{step_item}
-use Rattle.simulation.proofs.Order.{cases_pos, rank_high, rank_next, same_pos, IsDone, done_more, waits_after, waits_until, done_code, IsNoLater, IsFrom, IsUntil, from_less, until_more, may_pass}
+use Rattle.simulation.proofs.Order.{cases_pos, rank_high, rank_next, same_pos, IsDone, done_more, waits_after, waits_until, done_code, IsNoLater, IsFrom}
+use Rattle.simulation.proofs.Order.{IsUntil, from_less, until_more, may_pass}
 use Rattle.simulation.proofs.Between.{Change, fs, gs, Seen, IsNext, first_from, next_station}
 use Rattle.simulation.proofs.Idle.{lingers_past, shows_idle}
 use Rattle.simulation.proofs.Stations.{code_station, debug_station, IsStationOf, of_item, of_end, station_is_of, not_past_items}

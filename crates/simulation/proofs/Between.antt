@@ -1,5 +1,6 @@
 -- How g goes on in a change in place: its steps between stations, and its next station.
-use Rattle.std.proofs.Common.{◌≡◌, ℕ, zero, suc, ◌+◌, ◌*◌, ◌<◌, ◌≤◌, List, [], ◌∷◌, length, Option, Some, None, true, false, refl, sym, ap, ◌∙◌, subst, inl, inr, arith}
+use Rattle.std.proofs.Common.{◌≡◌, ℕ, zero, suc, ◌+◌, ◌*◌, ◌<◌, ◌≤◌, List, [], ◌∷◌, length, Option, Some, None, true, false, refl, sym, ap, ◌∙◌, subst, inl}
+use Rattle.std.proofs.Common.{inr, arith}
 use Rattle.std.proofs.lemmas.Bool.{cases_Bool}
 use Rattle.mir_func.specs.declared.position.Pos.{Pos}
 use Rattle.mir_func.specs.declared.position.Origin.{Origin}
@@ -14,7 +15,8 @@ use Rattle.simulation.specs.Refinement.{Passes, still, pass}
 use Rattle.simulation.specs.InPlace.{View, ended, both, taken, passed, added, paired, InPlace}
 use Rattle.mir_meaning.proofs.Edges.{step_edge, goes_to_start}
 use Rattle.simulation.proofs.Order.{rank_high, rank_low, rank_next, IsNoLater, no_later, IsFrom}
-use Rattle.simulation.proofs.Stations.{not_code, debug_below, end_is_station, code_is_some, IsStationOf, of_item, of_end, station_is_of, not_by_ends, not_past_items}
+use Rattle.simulation.proofs.Stations.{not_code, debug_below, end_is_station, code_is_some, IsStationOf, of_item, of_end, station_is_of, not_by_ends}
+use Rattle.simulation.proofs.Stations.{not_past_items}
 
 -- the first code ahead in g's block is at a rank or after it
 abbrev pub IsFirstFrom : ℕ → List Item → Type 0

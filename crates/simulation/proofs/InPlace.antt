@@ -6,7 +6,8 @@ use Rattle.mir_func.specs.declared.item.Item.{Item}
 use Rattle.mir_meaning.specs.State.{State, Core}
 use Rattle.mir_meaning.specs.Step.{Went, Returned, Faulted, Lost, Outcome, Falls, Goes, Gives, Traps, Asks, Breaks, moved, do_item, do_fetch, step}
 use Rattle.mir_func.specs.Graph.{Fetch, Here, Silent, Outside, below, block_start}
-use Rattle.mir_meaning.specs.Align.{position_of, is_code, Station, Count, moves_on, waits_at, station_of, end_station, Since, After, since_of, AnyOrigin, RunsAlong}
+use Rattle.mir_meaning.specs.Align.{position_of, is_code, Station, Count, moves_on, waits_at, station_of, end_station, Since, After, since_of, AnyOrigin}
+use Rattle.mir_meaning.specs.Align.{RunsAlong}
 use Rattle.mir_meaning.specs.Follow.{rank, next_rank, InOrder}
 use Rattle.simulation.specs.Sides.{Relation, IsPastItems, since_item}
 use Rattle.simulation.specs.Refinement.{waiting, Walk, there, on, later, still, IsStuck, IsStuckFrom, Meets, Refines}
@@ -14,11 +15,13 @@ use Rattle.simulation.specs.InPlace.{DoAlike, ended, both, taken, passed, added,
 use Rattle.mir_meaning.proofs.Alignment.{went_once}
 use Rattle.mir_meaning.proofs.Outcomes.{step_item, step_end}
 use Rattle.simulation.proofs.Refinement.{still_follows}
-use Rattle.simulation.proofs.Order.{done_next, rank_high, rank_low, rank_next, same_pos, done_more, waits_after, done_self, waits_until, done_code, IsNoLater, no_later, from_less, until_more, until_next, from_next}
+use Rattle.simulation.proofs.Order.{done_next, rank_high, rank_low, rank_next, same_pos, done_more, waits_after, done_self, waits_until, done_code, IsNoLater}
+use Rattle.simulation.proofs.Order.{no_later, from_less, until_more, until_next, from_next}
 use Rattle.simulation.proofs.Outcomes.{both_return, both_fault, alike_gives, alike_traps}
 use Rattle.simulation.proofs.Between.{Change, fs, gs, Seen, IsNext}
 use Rattle.simulation.proofs.Beside.{Beside, at_start, dynamic_at, static_at, IsReady, ready}
-use Rattle.simulation.proofs.Stations.{not_code, code_station, debug_station, end_is_station, code_is_some, code_is, debug_is_none, IsStationOf, of_item, of_end, station_is_of, no_end_stations, not_by_ends, not_past_items, falls_stays}
+use Rattle.simulation.proofs.Stations.{not_code, code_station, debug_station, end_is_station, code_is_some, code_is, debug_is_none, IsStationOf, of_item}
+use Rattle.simulation.proofs.Stations.{of_end, station_is_of, no_end_stations, not_by_ends, not_past_items, falls_stays}
 
 module _ (change : Change) where
   open change use {count, src, sides, relation, place, facts}

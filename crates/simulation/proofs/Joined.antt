@@ -5,9 +5,11 @@ use Rattle.mir_func.specs.declared.item.Item.{Item}
 use Rattle.mir_meaning.specs.State.{State, Core}
 use Rattle.mir_meaning.specs.Step.{Went, Falls, do_item, step}
 use Rattle.mir_func.specs.Graph.{Program, below, block_start}
-use Rattle.mir_meaning.specs.Align.{position_of, is_code, Station, Count, station_at, IsOrigin, Since, Start, Same, After, Aligns, AnyOrigin, Along, other, FailsBefore, RunsAlong}
+use Rattle.mir_meaning.specs.Align.{position_of, is_code, Station, Count, station_at, IsOrigin, Since, Start, Same, After, Aligns, AnyOrigin, Along, other}
+use Rattle.mir_meaning.specs.Align.{FailsBefore, RunsAlong}
 use Rattle.simulation.specs.Sides.{Sides, since_item, ShowsSame}
-use Rattle.simulation.specs.Added.{Standing, Opening, Level, Ahead, Owing, MayCome, IsPlain, MayStand, IsQuiet, View, ended, both, before, opening, entering, behind, passed, added, paired, Adds, AddedRelation, IsFree}
+use Rattle.simulation.specs.Added.{Standing, Opening, Level, Ahead, Owing, MayCome, IsPlain, MayStand, IsQuiet, View, ended, both, before, opening, entering}
+use Rattle.simulation.specs.Added.{behind, passed, added, paired, Adds, AddedRelation, IsFree}
 use Rattle.mir_meaning.proofs.Alignment.{aligns_at, aligns_once, aligns_not_fails}
 use Rattle.mir_meaning.proofs.Edges.{step_edge}
 use Rattle.mir_meaning.proofs.Outcomes.{step_item}

@@ -4,8 +4,11 @@ use Rattle.mir_func.specs.declared.position.Pos.{Pos}
 use Rattle.mir_meaning.specs.State.{State}
 use Rattle.mir_meaning.specs.Step.{Went, Faulted, step}
 use Rattle.mir_func.specs.Graph.{Program}
-use Rattle.mir_meaning.specs.Align.{Station, IsOrigin, Arrives, here, onward, ArrivesLater, Since, Start, Same, After, since_of, Aligns, AnyOrigin, Along, begin, other, met, Fails, fails_here, fails_on, FailsLater, FailsBefore, Agrees, RunsAlong}
-use Rattle.simulation.specs.Refinement.{waiting, MayPass, gone, early, late, Walk, there, on, past, IsDoomed, faults, later, later_past, Passes, still, pass, FaultsAt, Lingers, stays, goes_by, waits_by, Halts, IsStuck, doomed, halted, IsStuckFrom, Meets, Refines, RefinementFollows}
+use Rattle.mir_meaning.specs.Align.{Station, IsOrigin, Arrives, here, onward, ArrivesLater, Since, Start, Same, After, since_of, Aligns, AnyOrigin, Along}
+use Rattle.mir_meaning.specs.Align.{begin, other, met, Fails, fails_here, fails_on, FailsLater, FailsBefore, Agrees, RunsAlong}
+use Rattle.simulation.specs.Refinement.{waiting, MayPass, gone, early, late, Walk, there, on, past, IsDoomed, faults, later, later_past, Passes, still, pass}
+use Rattle.simulation.specs.Refinement.{FaultsAt, Lingers, stays, goes_by, waits_by, Halts, IsStuck, doomed, halted, IsStuckFrom, Meets, Refines}
+use Rattle.simulation.specs.Refinement.{RefinementFollows}
 use Rattle.simulation.proofs.Order.{cases_pos}
 use Rattle.mir_meaning.proofs.Alignment.{aligns_at, aligns_once, aligns_fewer, aligns_not_fails, fails_before_fewer}
 

@@ -1,5 +1,6 @@
 -- What is rewired follows what its function followed with blocks' ends as stations.
-use Rattle.std.proofs.Common.{◌≡◌, ℕ, zero, suc, ◌+◌, ◌-◌, ◌*◌, ◌<◌, ◌≤◌, List, [], ◌∷◌, Option, Some, None, Bool, true, false, refl, sym, ap, ◌∙◌, subst, inl, inr, ◌⊎◌, le_trans, arith}
+use Rattle.std.proofs.Common.{◌≡◌, ℕ, zero, suc, ◌+◌, ◌-◌, ◌*◌, ◌<◌, ◌≤◌, List, [], ◌∷◌, Option, Some, None, Bool, true, false, refl, sym, ap, ◌∙◌, subst, inl}
+use Rattle.std.proofs.Common.{inr, ◌⊎◌, le_trans, arith}
 use Rattle.std.proofs.lemmas.Bool.{cases_lt, cases_Bool}
 use Rattle.mir_func.specs.declared.position.Pos.{Pos}
 use Rattle.mir_func.specs.declared.position.Origin.{Origin}
@@ -7,7 +8,8 @@ use Rattle.mir_func.specs.declared.item.Item.{Item}
 use Rattle.mir_meaning.specs.State.{State, Core}
 use Rattle.mir_meaning.specs.Step.{Went, Returned, Faulted, Lost, Outcome, Falls, Goes, Gives, Traps, Asks, Breaks, moved, do_item, do_fetch, step}
 use Rattle.mir_func.specs.Graph.{Program, Fetch, Here, Silent, Outside, below, block_start, FetchEdge}
-use Rattle.mir_meaning.specs.Align.{position_of, is_code, Station, ByItems, ByEnds, moves_on, waits_at, station_of, Since, After, since_of, AnyOrigin, RunsAlong}
+use Rattle.mir_meaning.specs.Align.{position_of, is_code, Station, ByItems, ByEnds, moves_on, waits_at, station_of, Since, After, since_of, AnyOrigin}
+use Rattle.mir_meaning.specs.Align.{RunsAlong}
 use Rattle.mir_meaning.specs.Follow.{rank, next_rank, InOrder}
 use Rattle.simulation.specs.Sides.{since_item, ShowsSame}
 use Rattle.simulation.specs.Refinement.{waiting, Walk, there, on, IsDoomed, later, Passes, still, pass, Meets}
@@ -16,8 +18,10 @@ use Rattle.mir_meaning.proofs.Alignment.{went_once}
 use Rattle.mir_meaning.proofs.Edges.{step_edge}
 use Rattle.mir_meaning.proofs.Outcomes.{step_item}
 use Rattle.simulation.proofs.Refinement.{IsDoomedFrom, refines_or_doomed, still_follows}
-use Rattle.simulation.proofs.Order.{done_next, rank_next, same_pos, IsDone, done_more, waits_after, done_self, waits_until, done_code, IsUntil, until_more, until_here}
-use Rattle.simulation.proofs.Stations.{not_code, debug_below, code_station, debug_station, end_is_station, code_is_some, code_is, debug_is_none, IsStationOf, of_item, of_end, station_is_of, not_past_items, falls_stays}
+use Rattle.simulation.proofs.Order.{done_next, rank_next, same_pos, IsDone, done_more, waits_after, done_self, waits_until, done_code, IsUntil, until_more}
+use Rattle.simulation.proofs.Order.{until_here}
+use Rattle.simulation.proofs.Stations.{not_code, debug_below, code_station, debug_station, end_is_station, code_is_some, code_is, debug_is_none, IsStationOf}
+use Rattle.simulation.proofs.Stations.{of_item, of_end, station_is_of, not_past_items, falls_stays}
 use Rattle.simulation.proofs.Outcomes.{both_return, both_fault}
 use Rattle.simulation.proofs.Bypassed.{Rewiring, fs, gs, To, AllDone, ends_f, ends_g, leaves, not_waiting, reaches}
 

@@ -9,7 +9,8 @@ use Rattle.mir_meaning.specs.State.{Core}
 use Rattle.mir_meaning.specs.Step.{Falls, does, act, with_core, numbered, do_item}
 use Rattle.rv64_instr.specs.Parts.{is_call}
 use Rattle.mir_func.specs.Graph.{Program, Fetch, Here, Silent, Outside, below, KindEdge}
-use Rattle.mir_meaning.specs.Align.{is_code, is_jump, is_jump_row, Station, Count, ByItems, ByEnds, ByWords, moves_on, station_of, item_station, end_station, fetch_station, station_at}
+use Rattle.mir_meaning.specs.Align.{is_code, is_jump, is_jump_row, Station, Count, ByItems, ByEnds, ByWords, moves_on, station_of, item_station, end_station}
+use Rattle.mir_meaning.specs.Align.{fetch_station, station_at}
 use Rattle.simulation.specs.Sides.{IsPastItems}
 
 module _ (count : Count) (h : Program) (p : Pos) where

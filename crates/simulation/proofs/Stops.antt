@@ -4,7 +4,8 @@ use Rattle.mir_func.specs.declared.position.Pos.{Pos}
 use Rattle.mir_meaning.specs.State.{State}
 use Rattle.mir_meaning.specs.Step.{Went, Faulted, step}
 use Rattle.mir_func.specs.Graph.{Program, Here, block_start, Edge, Leads}
-use Rattle.mir_meaning.specs.Align.{Station, IsOrigin, Arrives, here, onward, ArrivesLater, Since, Start, Same, After, Aligns, Fails, fails_here, fails_on, FailsLater, FailsBefore}
+use Rattle.mir_meaning.specs.Align.{Station, IsOrigin, Arrives, here, onward, ArrivesLater, Since, Start, Same, After, Aligns, Fails, fails_here, fails_on}
+use Rattle.mir_meaning.specs.Align.{FailsLater, FailsBefore}
 use Rattle.mir_func.specs.declared.block.Block.{Block}
 use Rattle.mir_func.specs.declared.item.Item.{Item}
 use Rattle.mir_meaning.specs.Follow.{first_of, OnRow, GoesTo, Shape}

@@ -35,7 +35,17 @@ code_trans c d e a b = record {
 
 numbered_code : (sp call : Bool) (k : Option ℕ) (os : List Operand) (c : Core) → SameCode (numbered sp call k os c) c
 numbered_code sp call None os c = same_code c
-numbered_code sp call (Some k) os c = record { entry = refl; area = refl; objects = refl; regs = refl; slots = refl; memory = refl; script = refl; events = refl }
+numbered_code sp call (Some k) os c = record {
+  entry = refl;
+  area = refl;
+  objects = refl;
+  regs = refl;
+  slots = refl;
+  memory = refl;
+  script = refl;
+  events =
+      refl;
+}
 
 module _ (g : Program) where
   abbrev gs : Pos → Option Station

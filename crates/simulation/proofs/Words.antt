@@ -7,7 +7,8 @@ use Rattle.mir_func.specs.declared.item.Item.{Item}
 use Rattle.mir_meaning.specs.State.{State}
 use Rattle.mir_meaning.specs.Step.{Went, step}
 use Rattle.mir_func.specs.Graph.{Program, Fetch, Here, Silent, Outside}
-use Rattle.mir_meaning.specs.Align.{position_of, is_code, is_jump, waits_at, Station, ByItems, ByWords, station_of, item_station, fetch_station, station_at, Since, Same, After, since_of, Aligns, First, Along, begin, other, met, FailsBefore, Agrees, RunsAlong}
+use Rattle.mir_meaning.specs.Align.{position_of, is_code, is_jump, waits_at, Station, ByItems, ByWords, station_of, item_station, fetch_station, station_at}
+use Rattle.mir_meaning.specs.Align.{Since, Same, After, since_of, Aligns, First, Along, begin, other, met, FailsBefore, Agrees, RunsAlong}
 use Rattle.simulation.specs.Words.{SameCode, Shown, RunsByWords, IsAddedJump, HasPlainTurns, WordsFollow}
 use Rattle.mir_meaning.proofs.Alignment.{aligns_at, aligns_once, aligns_not_fails}
 use Rattle.simulation.proofs.Order.{cases_pos}

@@ -1,10 +1,12 @@
 -- A register that is written stays so along a run; so a source doesn't fault where it returns physical registers.
-use Rattle.std.proofs.Common.{◌≡◌, ℕ, zero, suc, ◌<◌, List, [], ◌∷◌, map, All, Option, Some, None, Bool, true, false, cond, nat_eq, nat_le, is_some, ◌&&◌, refl, sym, ap, ◌∙◌, subst, inl, inr, arith}
+use Rattle.std.proofs.Common.{◌≡◌, ℕ, zero, suc, ◌<◌, List, [], ◌∷◌, map, All, Option, Some, None, Bool, true, false, cond, nat_eq, nat_le, is_some, ◌&&◌, refl}
+use Rattle.std.proofs.Common.{sym, ap, ◌∙◌, subst, inl, inr, arith}
 use Rattle.std.specs.List.{list_all}
 use Rattle.std.proofs.lemmas.Bool.{cases_eq, and_parts, leb-true}
 use Rattle.std.proofs.lemmas.List.Elements.{All-cons, All-head, All-tail, All-nil}
 use Rattle.rv64_instr.specs.declared.op.Op.{Op}
-use Rattle.rv64_instr.specs.declared.op.Op.TheVariants.{Registers, Immediate, Lui, Branch as BranchOn, Load, Store as StoreOf, Copy, PseudoBr, PseudoCall, PseudoRet}
+use Rattle.rv64_instr.specs.declared.op.Op.TheVariants.{Registers, Immediate, Lui, Branch as BranchOn, Load, Store as StoreOf, Copy, PseudoBr, PseudoCall}
+use Rattle.rv64_instr.specs.declared.op.Op.TheVariants.{PseudoRet}
 use Rattle.rv64_instr.specs.declared.op.ImmediateOp.{ImmediateOp}
 use Rattle.rv64_instr.specs.declared.op.ImmediateOp.TheVariants.{Addi}
 use Rattle.rv64_instr.specs.declared.operand.Operand.{Operand}
@@ -12,7 +14,8 @@ use Rattle.rv64_instr.specs.declared.operand.Operand.TheVariants.{Def, Use, Impl
 use Rattle.rv64_instr.specs.Instruction.{Instruction}
 use Rattle.rv64_instr.specs.Form.{is_result, has_form}
 use Rattle.rv64_instr.specs.Arithmetic.{word}
-use Rattle.rv64_instr.specs.Row.{Row, Fixes, Moves, Sets, Addresses, Loads, Stores, LoadsSlot, StoresSlot, Branches, Jumps, Calls, Returns, Unfit, row_of, row_by, implicit_uses, move_row, immediate_row, object_row}
+use Rattle.rv64_instr.specs.Row.{Row, Fixes, Moves, Sets, Addresses, Loads, Stores, LoadsSlot, StoresSlot, Branches, Jumps, Calls, Returns, Unfit, row_of}
+use Rattle.rv64_instr.specs.Row.{row_by, implicit_uses, move_row, immediate_row, object_row}
 use Rattle.rv64_instr.specs.Access.{caller_saved, reads}
 use Rattle.mir_func.specs.declared.object.Object as stack_object
 use Rattle.mir_func.specs.declared.position.Pos.{Pos}
@@ -20,7 +23,8 @@ use Rattle.mir_func.specs.declared.item.Item.{Item}
 use Rattle.mir_func.specs.declared.item.ItemKind.{ItemKind}
 use Rattle.mir_func.specs.declared.item.ItemKind.TheVariants.{Code, Mark, Phi}
 use Rattle.mir_meaning.specs.State.{Reply, Core, State, content, put, put_all, writes_frame}
-use Rattle.mir_meaning.specs.Step.{Went, Outcome, Falls, Goes, Gives, Traps, Asks, Breaks, moved, read, set_register, answered, slot_loaded, does, are_written, act, with_core, numbered, do_item, do_fetch, step}
+use Rattle.mir_meaning.specs.Step.{Went, Outcome, Falls, Goes, Gives, Traps, Asks, Breaks, moved, read, set_register, answered, slot_loaded, does, are_written}
+use Rattle.mir_meaning.specs.Step.{act, with_core, numbered, do_item, do_fetch, step}
 use Rattle.rv64_instr.specs.Parts.{is_call}
 use Rattle.mir_func.specs.Graph.{Program, Fetch, Here, Silent, Outside}
 use Rattle.mir_meaning.specs.Align.{Arrives, here, onward}
@@ -205,7 +209,8 @@ row_returns g (Mark v m) c has low e = low
 row_returns g (Phi p n) c has low e = low
 
 -- so from a start, the source doesn't fault where it has a return
-pub returns_never_fault : (src : Program) (stack : List stack_object.Object) (first : ℕ) (s0 : State) → IsStart stack first s0 → (p : Pos) (i : Item) → src.fetch p ≡ Here i →
+pub returns_never_fault : (src : Program) (stack : List stack_object.Object) (first : ℕ) (s0 : State) → IsStart stack first s0 → (p : Pos) (i : Item) →
+    src.fetch p ≡ Here i →
     OnRow HasPhysicalResults i.kind → FaultsAt src s0 p → ⊥
 returns_never_fault src stack first s0 start p i fi low (s, comes, st) =
     row_returns src i.kind s.core (λ r lt. let k = start.regs r lt in run_written src (λ q. ⊥) p comes r k.0 k.1) low

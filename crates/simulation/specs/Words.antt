@@ -5,7 +5,8 @@ use Rattle.mir_func.specs.declared.item.Item.{Item}
 use Rattle.mir_meaning.specs.State.{Core, State}
 use Rattle.mir_meaning.specs.Step.{Went, step}
 use Rattle.mir_func.specs.Graph.{Here, Program, Leads}
-use Rattle.mir_meaning.specs.Align.{position_of, is_code, is_jump, waits_at, Station, ByItems, ByWords, station_at, Since, Aligns, First, Along, FailsBefore, Agrees, RunsAlong}
+use Rattle.mir_meaning.specs.Align.{position_of, is_code, is_jump, waits_at, Station, ByItems, ByWords, station_at, Since, Aligns, First, Along, FailsBefore}
+use Rattle.mir_meaning.specs.Align.{Agrees, RunsAlong}
 use Rattle.mir_meaning.specs.Follow.{OnRow}
 use Rattle.rv64_instr.specs.Parts.{IsSlotStore}
 

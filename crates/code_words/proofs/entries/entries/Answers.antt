@@ -15,7 +15,8 @@ loop-index-preserved c = λ l is same.
     let lt : k < length l.framed.blocks = subst (λ (t : List Block). k < length t) (sym same) c.loop-index-test.true in
     let at : b ≡ get_or l.framed.blocks k b = subst (λ (t : List Block). b ≡ get_or t k b) (sym same) c.index-blocks-index.is in
     let stand : AllStandAt l c.args.plan.now (slice_index c.args.plan.now.table.firsts k) k c.as_slice.result.now =
-    subst (λ (xs : List Item). AllStandAt l c.args.plan.now (slice_index c.args.plan.now.table.firsts k) k xs) (sym c.as_slice.ensures) (all_stand l c.args.plan.now is k b lt at) in
+    subst (λ (xs : List Item). AllStandAt l c.args.plan.now (slice_index c.args.plan.now.table.firsts k) k xs) (sym c.as_slice.ensures) (all_stand l
+    c.args.plan.now is k b lt at) in
     all_turn (entries_at l) c.args.blocks.now k b c.loop-index.entries c.push_block.new.entries c.loop-index-test.true c.index-blocks-index.is
     (c.loop-index.invariant l is same)
     (c.in_ok-push_block.ensures l stand ∙ ap (λ (xs : List Item). c.loop-index.entries ++ flat_map (entries_at l) (sites_in k 0 xs)) c.as_slice.ensures)

@@ -16,7 +16,8 @@ loop-index-preserved c =
           c.index.result.now w.in-Some.target c.loop-index.invariant lt c.index.ensures w.in-Some.ensures.grows items)
       | in_default w ↦
           let items : c.match-far.spans.items ≡ c.loop-index.spans.items = ap (λ (v : Vec Span Global). v.items) w.spans-is in
-          made_stays c.args.sums.now c.args.spans.now.items c.loop-index.spans.items c.match-far.spans.items c.loop-index.index c.loop-index.found c.match-far.found
+          made_stays c.args.sums.now c.args.spans.now.items c.loop-index.spans.items c.match-far.spans.items c.loop-index.index c.loop-index.found
+          c.match-far.found
           c.index.result.now c.loop-index.invariant lt c.index.ensures w.in_default.ensures.grows items w.found-is
     ]
 

@@ -28,7 +28,8 @@ loop-alloc-preserved c =
     record {
       sums = c.in_ok-sums-2.ensures ∙ ap (sums_from 0) c.as_slice-in-loop-alloc-2.ensures;
       few = omega (arith, few, ap length made, same_length c.loop-alloc.sums 0 c.loop-alloc.spans);
-      rounds = more_rounds c.args.spans.now c.loop-alloc.spans c.grow.new.spans.items c.loop-alloc.sums c.loop-alloc.invariant.rounds c.loop-alloc.invariant.sums made;
+      rounds = more_rounds c.args.spans.now c.loop-alloc.spans c.grow.new.spans.items c.loop-alloc.sums c.loop-alloc.invariant.rounds
+          c.loop-alloc.invariant.sums made;
     }
 
 pub returns-clause-settles : goal.returns-clause-settles
@@ -37,7 +38,8 @@ returns-clause-settles c =
     let made : c.grow.new.spans.items ≡ grown_from c.loop-alloc.sums 0 c.loop-alloc.spans =
     c.grow.ensures.round ∙ (λ i. grown_from (c.as_slice-in-loop-alloc.ensures i) 0 (before i)) in
     let same : c.grow.new.spans.items ≡ c.loop-alloc.spans = c.grow.ensures.steady c.loop-alloc-test.false ∙ before in
-    steady_round c.args.spans.now c.loop-alloc.spans c.grow.new.spans.items c.loop-alloc.sums c.loop-alloc.invariant.rounds c.loop-alloc.invariant.sums made same
+    steady_round c.args.spans.now c.loop-alloc.spans c.grow.new.spans.items c.loop-alloc.sums c.loop-alloc.invariant.rounds c.loop-alloc.invariant.sums made
+    same
 
 pub returns-clause-sums : goal.returns-clause-sums
 returns-clause-sums c =

@@ -7,7 +7,8 @@ use Rattle.code_words.proofs.words.push_block.Goals as goal
 
 pub loop-index-preserved : goal.loop-index-preserved
 loop-index-preserved c = record {
-  forms = all_more HasForm c.args.items.now c.loop-index.index c.index-items-index.result c.loop-index-test.true c.index-items-index.is c.loop-index.invariant.forms c.push_item.ensures.form;
+  forms = all_more HasForm c.args.items.now c.loop-index.index c.index-items-index.result c.loop-index-test.true c.index-items-index.is
+      c.loop-index.invariant.forms c.push_item.ensures.form;
   value = λ l b is stand.
       let k = c.loop-index.index in
       let i = c.index-items-index.result in

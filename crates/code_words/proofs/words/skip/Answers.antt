@@ -10,5 +10,6 @@ returns c =
     let m = c.in_ok-operation.operation in
     record {
       value = ap (λ (op : WordOp). Some (record m { op = op })) c.inverted_op-operation.ensures ∙ skip_some c.args.i.now m c.in_ok-operation.ensures.value;
-      encodable = subst IsTrue (sym (ap (λ (op : WordOp). is_encodable (record m { op = op })) c.inverted_op-operation.ensures ∙ inverted_format m)) c.in_ok-operation.ensures.encodable;
+      encodable = subst IsTrue (sym (ap (λ (op : WordOp). is_encodable (record m { op = op })) c.inverted_op-operation.ensures ∙
+          inverted_format m)) c.in_ok-operation.ensures.encodable;
     }

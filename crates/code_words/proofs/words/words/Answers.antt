@@ -10,7 +10,8 @@ use Rattle.code_words.proofs.words.words.Goals as goal
 
 pub loop-index-preserved : goal.loop-index-preserved
 loop-index-preserved c = record {
-  forms = all_more (λ (x : Block). All HasForm x.items) c.args.blocks.now c.loop-index.index c.index-blocks-index.result c.loop-index-test.true c.index-blocks-index.is c.loop-index.invariant.forms (subst (All HasForm) c.as_slice.ensures c.in_ok-push_block.ensures.forms);
+  forms = all_more (λ (x : Block). All HasForm x.items) c.args.blocks.now c.loop-index.index c.index-blocks-index.result c.loop-index-test.true
+      c.index-blocks-index.is c.loop-index.invariant.forms (subst (All HasForm) c.as_slice.ensures c.in_ok-push_block.ensures.forms);
   value = λ l is same.
       let k = c.loop-index.index in
       let b = c.index-blocks-index.result in
@@ -21,5 +22,6 @@ loop-index-preserved c = record {
       (subst (λ (n : ℕ). AllStandAt l c.args.plan.now n k b.items) (sym c.first.ensures) (all_stand l c.args.plan.now is k b lt at)) in
       all_turn (words_at l) c.args.blocks.now k b c.loop-index.words c.push_block.new.words c.loop-index-test.true c.index-blocks-index.is
       (c.loop-index.invariant.value l is same)
-      (c.in_ok-push_block.ensures.value l k is stand ∙ ap (λ (xs : List Item). c.loop-index.words ++ flat_map (words_at l) (sites_in k 0 xs)) c.as_slice.ensures);
+      (c.in_ok-push_block.ensures.value l k is stand ∙ ap (λ (xs : List Item). c.loop-index.words ++
+      flat_map (words_at l) (sites_in k 0 xs)) c.as_slice.ensures);
 }

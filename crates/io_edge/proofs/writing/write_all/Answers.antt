@@ -5,11 +5,19 @@ use Rattle.io_edge.proofs.writing.write_all.Goals as goal
 
 moves_front : (all done rest : List ℕ) (n : ℕ) → all ≡ done ++ rest → all ≡ (done ++ take n rest) ++ take (length rest - n) (drop n rest)
 moves_front all done rest n split =
-    split ∙ ap (λ l. done ++ l) (sym (take-append-drop n rest)) ∙ sym (append_assoc done (take n rest) (drop n rest)) ∙ ap (λ l. (done ++ take n rest) ++ l) (sym (take_rest rest n))
+    split ∙ ap (λ l. done ++ l) (sym (take-append-drop n rest)) ∙ sym (append_assoc done (take n rest) (drop n rest)) ∙ ap (λ l. (done ++ take n rest) ++
+    l) (sym (take_rest rest n))
 
 pub loop-rest-preserved : goal.loop-rest-preserved
 loop-rest-preserved g c =
     let (steady, (done, split, appended)) = c.loop-rest.invariant in
     let rest = c.loop-rest.rest.now in
-    let n = c.in_ok-count.count in
-    (c.in_ok-count.ensures.steady ∙ steady, (done ++ take n rest, moves_front _ done rest n split, Appends-more _ _ _ done (take n rest) appended c.in_ok-count.ensures.appends))
+    let n = c.in_ok-count.count in (
+      c.in_ok-count.ensures.steady ∙ steady,
+      (
+        done ++ take n rest,
+        moves_front _ done rest n split,
+        Appends-more _ _ _ done (take n rest) appended
+            c.in_ok-count.ensures.appends,
+      ),
+    )

@@ -9,12 +9,14 @@ loop-rest-init c = record { counted = omega arith; read = rw c.new-scan.ensures 
 
 pub returns-then-is_some : goal.returns-then-is_some
 returns-then-is_some c =
-    let here = stops c.loop-rest.scan c.loop-rest.last c.loop-rest.rest.now c.first_line.result.0.now c.first_line.result.1.now c.trimmed-line.result.now c.first_line.ensures.cut c.trimmed-line.ensures in
+    let here = stops c.loop-rest.scan c.loop-rest.last c.loop-rest.rest.now c.first_line.result.0.now c.first_line.result.1.now c.trimmed-line.result.now
+    c.first_line.ensures.cut c.trimmed-line.ensures in
     c.found.ensures ∙ here c.fault-bad.result c.fault-bad.ensures (sym c.if-is_some.ensures) ∙ c.loop-rest.invariant.read
 
 pub loop-rest-preserved : goal.loop-rest-preserved
 loop-rest-preserved c =
-    let here = goes_on c.loop-rest.scan c.loop-rest.last c.loop-rest.rest.now c.first_line.result.0.now c.first_line.result.1.now c.trimmed-line.result.now c.first_line.ensures.cut c.trimmed-line.ensures in
+    let here = goes_on c.loop-rest.scan c.loop-rest.last c.loop-rest.rest.now c.first_line.result.0.now c.first_line.result.1.now c.trimmed-line.result.now
+    c.first_line.ensures.cut c.trimmed-line.ensures in
     record {
       counted = omega (arith, c.first_line.ensures.shorter);
       read = rw c.in_ok-take.ensures (here c.fault-bad.result c.fault-bad.ensures (sym c.if-is_some.ensures) ∙ c.loop-rest.invariant.read);

@@ -6,4 +6,5 @@ pub returns : goal.returns
 returns c =
     let named : c.as_slice-2.result.now ≡ c.args.f.now.name = cc in
     let all : c.as_slice.result.now ≡ c.args.f.now.blocks = cc in
-    compiles_ok c.compile_block.result c.args.f.now c.as_slice-2.result.now c.as_slice.result.now c.block-item.result c.requires named all c.block-item.is c.compile_block.ensures
+    compiles_ok c.compile_block.result c.args.f.now c.as_slice-2.result.now c.as_slice.result.now c.block-item.result c.requires named all c.block-item.is
+    c.compile_block.ensures

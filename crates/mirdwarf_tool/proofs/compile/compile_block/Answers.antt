@@ -37,7 +37,8 @@ returns c =
       lists = lists;
       located = located;
       section = section;
-      written = written_as c.args.name.now block lists c.as_slice-3.result.now c.as_slice-4.result.now c.as_slice-2.result.now c.in_ok-text.text code bytes printed c.in_ok-text.ensures;
+      written = written_as c.args.name.now block lists c.as_slice-3.result.now c.as_slice-4.result.now c.as_slice-2.result.now c.in_ok-text.text code bytes
+          printed c.in_ok-text.ensures;
     }
 
 pub section_of-requires-clause-whole : goal.section_of-requires-clause-whole

@@ -20,7 +20,14 @@ settle-requires c =
     let blocks = c.args.framed.now.blocks in
     let few : count_of blocks < 262144 = c.requires.items in
     let same : c.as_slice-2.result.now ≡ blocks = c.as_slice-2.ensures ∙ ap (λ (f : FramedFunction). f.blocks) c.framed.view_is in
-    omega (arith, ap length (c.in_ok-spans.ensures ∙ ap (λ (b : List Block). spans_of b (λ p. false)) same), spans_length blocks (λ p. false), few_items blocks, few)
+    omega (
+      arith,
+      ap length (c.in_ok-spans.ensures ∙ ap (λ (b : List Block). spans_of b (λ p. false)) same),
+      spans_length blocks (λ p. false),
+      few_items
+          blocks,
+      few,
+    )
 
 pub returns : goal.returns
 returns c =

@@ -1,0 +1,13 @@
+use Rattle.std.proofs.Common.{subst, sym, rules}
+use Rattle.std.proofs.lemmas.List.{take_all}
+use Rattle.std.proofs.lemmas.List.Elements.{All-more, All-same}
+use Rattle.dwarf_info.specs.Entries.{HasType}
+use Rattle.checked_sections.proofs.types.have_type.Goals as goal
+
+pub loop-variable-preserved : goal.loop-variable-preserved
+loop-variable-preserved c =
+    let has : HasType c.args.count c.variable-item.result = search (rules, c.has_type.ensures, c.if-not-has_type.ensures, c.if-not-has_type.false) in
+    All-more (HasType c.args.count) _ _ _ c.loop-variable-test.true c.loop-variable.invariant (subst (HasType c.args.count) c.variable-item.is has)
+
+pub returns : goal.returns
+returns c = λ _. All-same (HasType c.args.count) _ _ (sym (take_all _ _ c.loop-variable-test.false)) c.loop-variable.invariant

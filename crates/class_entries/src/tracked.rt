@@ -1,0 +1,25 @@
+//! What is tracked along paths.
+
+use lists::List;
+use mir_func::entry::OperandPair;
+use mir_func::variable::VarId;
+use numbers::code::SlotId;
+use rv64_instr::reg::Reg;
+
+/// Something that has a token along a path, or none.
+#[derive(Clone, Copy, Debug, PartialEq, Eq)]
+pub enum Tracked {
+    /// A register. x0 and x2 aren't tracked: x0 is the number 0, and x2 never has a token.
+    Register(Reg),
+    /// A frame slot, by its offset from x2 in bytes.
+    Slot(SlotId),
+    /// An operand of the instruction with a debug instruction number.
+    Pair(OperandPair),
+    /// A part of a variable.
+    Part(VarId),
+    /// A number modulo 2^64, which has a token of its own everywhere.
+    Number(u64),
+}
+
+/// Tracked things, each once.
+pub type TrackedItems = List<Tracked>;

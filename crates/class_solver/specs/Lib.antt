@@ -1,0 +1,5 @@
+pub mod Numbering
+pub mod Joining
+pub mod Hands
+pub mod Flows
+pub mod Invariants

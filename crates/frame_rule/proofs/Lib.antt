@@ -1,0 +1,6 @@
+pub mod Rows
+pub mod Saved
+pub mod Offsets
+pub mod Parts
+pub mod Ends
+pub mod Framed

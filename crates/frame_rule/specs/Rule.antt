@@ -1,0 +1,169 @@
+-- The function with its frame, as one equation on plain functions (RISC-V ELF psABI, "Integer Calling Convention").
+--
+-- The frame lies below the stack pointer at entry: from x2 up the slots in declared order, eight bytes each, then the saved
+-- registers, up to a multiple of 16, and above them the stack objects. A prologue before the first block makes the frame and saves
+-- registers, and an epilogue right before each return restores them and gives the frame back. Nothing else is added, and what is
+-- there stays: only slots are named by their offsets from x2.
+use Rattle.std.specs.Prelude.{ℕ, zero, suc, ◌+◌, ◌*◌, Bool, true, false, cond, nat_eq, List, [], ◌∷◌, ◌++◌, map, length, filter, Option, Some, None}
+use Rattle.std.specs.List.{flat_map, list_any}
+use Rattle.rv64_instr.specs.declared.operand.Operand.{Operand}
+use Rattle.rv64_instr.specs.declared.operand.Operand.TheVariants.{Def, Use, ImplicitDef, ImplicitUse, Imm, Slot, Object as OfObject, Block as OfBlock, Symbol}
+use Rattle.rv64_instr.specs.declared.operand.Operand.TheVariants.{Mask}
+use Rattle.rv64_instr.specs.declared.place.Place.{Place}
+use Rattle.rv64_instr.specs.declared.place.Place.TheVariants.{Register, Slot as InSlot, Const}
+use Rattle.rv64_instr.specs.Instruction.{Instruction}
+use Rattle.rv64_instr.specs.Row.{row_of}
+use Rattle.rv64_instr.specs.Access.{sets}
+use Rattle.mir_func.specs.declared.block.Block.{Block}
+use Rattle.mir_func.specs.declared.exit.Exit.{Exit}
+use Rattle.mir_func.specs.declared.exit.Exit.TheVariants.{Onward, Perhaps, Always, Final}
+use Rattle.mir_func.specs.declared.framed.SavedRegister.{SavedRegister}
+use Rattle.mir_func.specs.declared.framed.SlotPlace.{SlotPlace}
+use Rattle.mir_func.specs.declared.item.Item.{Item}
+use Rattle.mir_func.specs.declared.item.ItemKind.{ItemKind}
+use Rattle.mir_func.specs.declared.item.ItemKind.TheVariants.{Code, Mark, Phi}
+use Rattle.mir_func.specs.declared.location.Loc.TheVariants.{Absent}
+use Rattle.mir_func.specs.declared.position.Origin.{Origin}
+use Rattle.mir_func.specs.declared.position.Origin.TheVariants.{Kept, Before}
+use Rattle.mir_func.specs.declared.position.Pos.{Pos}
+use Rattle.mir_func.specs.Exits.{exit_of}
+use Rattle.mir_func.specs.Function.{Function, FramedFunction}
+use Rattle.mir_func.specs.Graph.{block_start}
+use Rattle.mir_func.specs.Objects.{up_to, area_of}
+use Rattle.mir_func.specs.SoundFrame.{SAVED, prologue_code, epilogue_code}
+
+-- ---- where slots and saved registers lie
+
+-- how many doublewords a frame's part has before the slot of a number, in declared order
+abbrev pub slots_before : List ℕ → ℕ → ℕ
+slots_before [] n = 0
+slots_before (s ∷ slots) n = cond (nat_eq s n) 0 (suc (slots_before slots n))
+
+-- the offset from x2 of the slot of a number, in bytes
+abbrev pub slot_offset : List ℕ → ℕ → ℕ
+slot_offset slots n = 8 * slots_before slots n
+
+-- slots from an offset on, one doubleword each
+abbrev pub slot_places : ℕ → List ℕ → List SlotPlace
+slot_places o [] = []
+slot_places o (s ∷ slots) = record { slot = s; offset = o } ∷ slot_places (o + 8) slots
+
+-- registers from an offset on, one doubleword each
+abbrev pub saved_places : ℕ → List ℕ → List SavedRegister
+saved_places o [] = []
+saved_places o (r ∷ rs) = record { register = r; offset = o } ∷ saved_places (o + 8) rs
+
+-- code sets the register: a call sets the caller-saved ones
+abbrev pub sets_register : ℕ → ItemKind → Bool
+sets_register r (Code i k) = list_any (nat_eq r) (sets (row_of i))
+sets_register r (Mark v m) = false
+sets_register r (Phi p k) = false
+
+-- some code of the blocks sets the register, be it reached or not
+abbrev pub is_set : List Block → ℕ → Bool
+is_set blocks r = list_any (λ b. list_any (λ i. sets_register r i.kind) b.items) blocks
+
+-- the registers that are saved, ascending: those of the registers to be given back that some code sets
+abbrev pub saved_registers : List Block → List ℕ
+saved_registers blocks = filter (is_set blocks) SAVED
+
+abbrev pub saved_of : Function → List SavedRegister
+saved_of f = saved_places (8 * length f.slots) (saved_registers f.blocks)
+
+-- the bytes of slots and saved registers
+abbrev pub own_size_of : Function → ℕ
+own_size_of f = up_to 16 (8 * (length f.slots + length (saved_registers f.blocks)))
+
+-- the bytes of the frame
+abbrev pub size_of : Function → ℕ
+size_of f = own_size_of f + area_of f.objects
+
+-- ---- what is added
+
+-- code that is added with this origin: it has no number and no debug location
+abbrev pub added : Origin → Instruction → Item
+added o i = record { kind = Code i None; origin = o; loc = Absent }
+
+-- code that is added where there is a frame, and none where there is none
+abbrev pub added_all : (size : ℕ) → Origin → List Instruction → List Item
+added_all zero o code = []
+added_all (suc n) o code = map (added o) code
+
+abbrev pub position_in : Origin → Pos
+position_in (Kept p) = p
+position_in (Before p) = p
+
+-- before the first block's first position
+abbrev pub prologue : Function → (first : ℕ) → List Item
+prologue f first = added_all (size_of f) (Before (block_start first)) (prologue_code (size_of f) (saved_of f))
+
+-- before the position of a return
+abbrev pub epilogue : Function → Origin → List Item
+epilogue f o = added_all (size_of f) (Before (position_in o)) (epilogue_code (size_of f) (saved_of f))
+
+-- ---- what stays
+
+abbrev pub renamed_operand : List ℕ → Operand → Operand
+renamed_operand slots (Slot n) = Slot (slot_offset slots n)
+renamed_operand slots (Def r) = Def r
+renamed_operand slots (Use r) = Use r
+renamed_operand slots (ImplicitDef r) = ImplicitDef r
+renamed_operand slots (ImplicitUse r) = ImplicitUse r
+renamed_operand slots (Imm i) = Imm i
+renamed_operand slots (OfObject n) = OfObject n
+renamed_operand slots (OfBlock n) = OfBlock n
+renamed_operand slots (Symbol name) = Symbol name
+renamed_operand slots Mask = Mask
+
+abbrev pub renamed_code : List ℕ → Instruction → Instruction
+renamed_code slots i = record { op = i.op; operands = map (renamed_operand slots) i.operands }
+
+abbrev pub renamed_place : List ℕ → Option Place → Option Place
+renamed_place slots None = None
+renamed_place slots (Some (InSlot n)) = Some (InSlot (slot_offset slots n))
+renamed_place slots (Some (Register r)) = Some (Register r)
+renamed_place slots (Some (Const c)) = Some (Const c)
+
+abbrev pub renamed_kind : List ℕ → ItemKind → ItemKind
+renamed_kind slots (Code i k) = Code (renamed_code slots i) k
+renamed_kind slots (Mark v m) = Mark v m
+renamed_kind slots (Phi p k) = Phi (renamed_place slots p) k
+
+abbrev pub renamed : List ℕ → Item → Item
+renamed slots i = record { kind = renamed_kind slots i.kind; origin = i.origin; loc = i.loc }
+
+-- ---- the function with its frame
+
+abbrev pub is_final : Exit → Bool
+is_final Final = true
+is_final Onward = false
+is_final (Perhaps n) = false
+is_final (Always n) = false
+
+-- an item: before a return stands the epilogue
+abbrev pub framed_item : Function → Item → List Item
+framed_item f i = cond (is_final (exit_of i.kind)) (epilogue f i.origin) [] ++ renamed f.slots i ∷ []
+
+abbrev pub framed_items : Function → List Item → List Item
+framed_items f items = flat_map (framed_item f) items
+
+abbrev pub framed_block : Function → Block → Block
+framed_block f b = record { id = b.id; items = framed_items f b.items; silent = b.silent }
+
+-- the block of the prologue has the number and the silent index of the one after it
+abbrev pub prologue_block : Function → Block → Block
+prologue_block f b = record { id = b.id; items = prologue f b.id; silent = b.silent }
+
+abbrev pub framed_blocks : Function → List Block → List Block
+framed_blocks f [] = []
+framed_blocks f (b ∷ bs) = prologue_block f b ∷ framed_block f b ∷ map (framed_block f) bs
+
+abbrev pub framed_of : Function → FramedFunction
+framed_of f = record {
+  name = f.name;
+  size = size_of f;
+  offsets = slot_places 0 f.slots;
+  saved = saved_of f;
+  objects = f.objects;
+  blocks = framed_blocks f f.blocks;
+}

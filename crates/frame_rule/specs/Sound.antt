@@ -1,0 +1,11 @@
+-- What lowering makes of a sound function.
+use Rattle.std.specs.Prelude.{◌≤◌}
+use Rattle.mir_func.specs.Function.{Function}
+use Rattle.mir_func.specs.Limits.{MAX_FRAME}
+use Rattle.mir_func.specs.Sound.{AllItems, IsSound}
+use Rattle.mir_func.specs.SoundFrame.{HasPhysical, IsFramed}
+use Rattle.frame_rule.specs.Rule.{size_of, framed_of}
+
+-- a sound function without virtual registers, and with a frame that isn't too large, is with its frame a function with its frame
+abbrev pub LoweredIsFramed : Type 0
+LoweredIsFramed = (f : Function) → IsSound f → AllItems (λ i. HasPhysical i.kind) f.blocks → size_of f ≤ MAX_FRAME → IsFramed (framed_of f)

@@ -1,0 +1,10 @@
+pub mod Cores
+pub mod ItemsAlike
+pub mod Fits
+pub mod Blocks
+pub mod Framing
+pub mod FrameFollows
+pub mod Holding
+pub mod Standing
+pub mod Positions
+pub mod FrameStands

@@ -1,0 +1,80 @@
+-- The text of a function. (LLVM, Machine IR (MIR) Format Reference Manual, "High Level Structure"; the stack and the
+-- substitutions stand as YAML lists of maps.)
+use Rattle.std.specs.Prelude.{ℕ, Bool, true, false, cond, ◌&&◌, ◌||◌, nat_eq, nat_le, List, [], ◌∷◌, ◌++◌, codes}
+use Rattle.std.specs.List.{flat_map, list_all}
+use Rattle.std.specs.Fmt.{decimal}
+use Rattle.mir_func.specs.Function.{Function}
+use Rattle.mir_func.specs.declared.object.Object.{Object}
+use Rattle.mir_func.specs.declared.entry.OperandPair.{OperandPair}
+use Rattle.mir_func.specs.declared.entry.Entry.{Entry}
+use Rattle.mir_func.specs.declared.block.Block.{Block}
+use Rattle.mir_func.specs.declared.item.Item.{Item}
+use Rattle.mir_printer.specs.Spelling.{quoted_byte, item_text}
+
+-- a letter or `_`
+abbrev pub is_name_start : ℕ → Bool
+is_name_start b = (nat_le 65 b && nat_le b 90) || (nat_le 97 b && nat_le b 122) || nat_eq b 95
+
+-- a letter, a digit, `_` or `.`
+abbrev pub is_name_byte : ℕ → Bool
+is_name_byte b = is_name_start b || (nat_le 48 b && nat_le b 57) || nat_eq b 46
+
+-- a name that needs no quotes
+abbrev pub is_plain_name : List ℕ → Bool
+is_plain_name [] = false
+is_plain_name (b ∷ bs) = is_name_start b && list_all is_name_byte bs
+
+-- a name in double quotes
+abbrev pub quoted_text : List ℕ → List ℕ
+quoted_text name = 34 ∷ [] ++ flat_map quoted_byte name ++ 34 ∷ []
+
+-- the name of a function, in double quotes unless it begins with a letter or `_` and goes on with letters, digits, `_` and `.`
+abbrev pub name_text : List ℕ → List ℕ
+name_text name = cond (is_plain_name name) name (quoted_text name)
+
+-- the line of a frame slot
+abbrev pub slot_line : ℕ → List ℕ
+slot_line n = codes "  - { id: " ++ decimal n ++ (codes ", size: 8 }" ++ 10 ∷ [])
+
+-- the line of a stack object
+abbrev pub object_line : Object → List ℕ
+object_line o = codes "  - { id: " ++ decimal o.id ++ codes ", size: " ++ decimal o.size ++ codes ", alignment: " ++ decimal o.align ++ (codes " }" ++ 10 ∷ [])
+
+abbrev pub is_nothing : {A : Type 0} → List A → Bool
+is_nothing [] = true
+is_nothing (x ∷ xs) = false
+
+-- the stack, slots before objects, unless there is neither
+abbrev pub stack_text : List ℕ → List Object → List ℕ
+stack_text slots objects =
+    cond (is_nothing slots && is_nothing objects) [] (codes "stack:" ++ 10 ∷ [] ++ flat_map slot_line slots ++ flat_map object_line objects)
+
+-- a pair behind the words for its number and its operand
+abbrev pub pair_text : List ℕ → List ℕ → OperandPair → List ℕ
+pair_text number operand p = number ++ decimal p.number ++ operand ++ decimal p.operand
+
+-- the line of a substitution
+unfoldable pub entry_line : Entry → List ℕ
+entry_line e = pair_text (codes "  - { srcinst: ") (codes ", srcop: ") e.src ++ pair_text (codes ", dstinst: ") (codes ", dstop: ") e.dst
+    ++ codes ", subreg: " ++ decimal e.subreg ++ (codes " }" ++ 10 ∷ [])
+
+-- substitutions, below the line of their key
+unfoldable pub some_substitutions : List Entry → List ℕ
+some_substitutions entries = codes "debugValueSubstitutions:" ++ 10 ∷ [] ++ flat_map entry_line entries
+
+-- the substitutions, unless there are none
+abbrev pub substitutions_text : List Entry → List ℕ
+substitutions_text entries = cond (is_nothing entries) [] (some_substitutions entries)
+
+-- the line of an item
+abbrev pub item_line : Item → List ℕ
+item_line i = codes "    " ++ item_text i ++ 10 ∷ []
+
+-- a block: its label, and its items
+abbrev pub block_text : Block → List ℕ
+block_text b = codes "  bb." ++ decimal b.id ++ (codes ":" ++ 10 ∷ []) ++ flat_map item_line b.items
+
+-- The text of a function and its substitutions.
+unfoldable pub func_text : Function → List Entry → List ℕ
+func_text f entries = codes "---" ++ 10 ∷ [] ++ codes "name: " ++ name_text f.name ++ 10 ∷ [] ++ stack_text f.slots f.objects ++ substitutions_text entries
+    ++ (codes "body: |" ++ 10 ∷ []) ++ flat_map block_text f.blocks ++ (codes "..." ++ 10 ∷ [])

@@ -1,0 +1,5 @@
+use Rattle.machine_frames.proofs.Comes.{framed_comes_from}
+use Rattle.machine_frames.proofs.laws.framed_comes_from.Goals as goal
+
+pub returns : goal.returns
+returns c = framed_comes_from

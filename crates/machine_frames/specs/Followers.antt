@@ -1,0 +1,34 @@
+-- From a function that follows a source to the machine: with its frame, and laid out.
+use Rattle.std.specs.Prelude.{◌≡◌, ℕ, Option, true}
+use Rattle.rv64_instr.specs.declared.place.Place.{Place}
+use Rattle.mir_func.specs.declared.entry.OperandPair.{OperandPair}
+use Rattle.mir_func.specs.declared.variable.VarId.{VarId}
+use Rattle.mir_func.specs.Function.{Function}
+use Rattle.mir_func.specs.Graph.{framed_program}
+use Rattle.mir_func.specs.Sound.{AllItems, IsSound}
+use Rattle.mir_func.specs.SoundFrame.{IsFramed}
+use Rattle.mir_meaning.specs.Follow.{IsRead, Follows}
+use Rattle.mir_meaning.specs.State.{State}
+use Rattle.code_layout.specs.Headline.{StartsAt, Headline}
+use Rattle.code_layout.specs.Image.{Image}
+use Rattle.frame_rule.specs.Rule.{framed_of}
+use Rattle.frame_runs.specs.Runs.{HasForm}
+use Rattle.machine_steps.specs.Laid.{IsLaidAt}
+use Rattle.machine_runs.specs.Runs.{GivesBackKept, start_beside}
+
+-- f follows the source, which is as it was read. Both are made of instructions that have their form
+pub record IsFollower (source f : Function) (resolve fresolve : OperandPair → Option OperandPair) : Type 0 where
+  pub read : IsRead source.blocks
+  pub source_form : AllItems (λ i. HasForm i.kind) source.blocks
+  pub form : AllItems (λ i. HasForm i.kind) f.blocks
+  pub sound : IsSound f
+  pub objects : f.objects ≡ source.objects
+  pub follows : Follows source.objects source.blocks f.blocks resolve fresolve
+
+-- The image in which a function that follows the source lies, with its frame, meets the headline, for lists that give nothing. What is to
+-- be kept is given back.
+abbrev pub FollowersMeetTheHeadline : Type 0
+FollowersMeetTheHeadline = (source f : Function) (resolve fresolve : OperandPair → Option OperandPair) (image : Image) →
+    IsFollower source f resolve fresolve → IsFramed (framed_of f) →
+    ((s : State) → StartsAt source s → GivesBackKept (framed_program (framed_of f).blocks fresolve) (start_beside s)) → IsLaidAt (framed_of f) image →
+    Headline source resolve image (λ (v : VarId) (a : ℕ) (place : Place). ⊥)

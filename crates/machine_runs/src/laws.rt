@@ -1,0 +1,8 @@
+//! Laws of the machine's runs: each is the contract of a function that does nothing.
+
+ghost use Rattle.machine_runs.specs.Runs.{LaidCodeMeetsTheHeadline};
+
+/// The image in which a function with its frame lies meets the headline, for lists that give nothing.
+pub fn laid_code_meets_the_headline()
+    ensures { LaidCodeMeetsTheHeadline }
+{}

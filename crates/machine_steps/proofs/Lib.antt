@@ -1,0 +1,11 @@
+pub mod Memory
+pub mod Objects
+pub mod Rows
+pub mod Calls
+pub mod Registers
+pub mod Motions
+pub mod Points
+pub mod Pointers
+pub mod Sites
+pub mod Lands
+pub mod Quiet

@@ -1,0 +1,34 @@
+-- The machine beside a function with its frame: the same registers, the same memory but for the frame's bytes, and the frame's slots in them.
+use Rattle.std.specs.Prelude.{◌≡◌, ℕ, ◌+◌, ◌-◌, ◌^◌, ◌<◌, ◌≤◌, Option, Some, None, false, IsSome}
+use Rattle.mir_func.specs.Function.{FramedFunction}
+use Rattle.mir_func.specs.Limits.{FRAME_ROOM}
+use Rattle.mir_func.specs.Objects.{area_of, offset_of}
+use Rattle.mir_func.specs.SoundFrame.{own_size, IsSlotOffset}
+use Rattle.mir_meaning.specs.State.{Core, content, spelled, in_frame}
+use Rattle.mir_meaning.specs.Step.{read}
+use Rattle.code_layout.specs.Machine.{Machine, register}
+
+-- the lowest address of the frame
+abbrev pub frame_low : FramedFunction → Core → ℕ
+frame_low f c = c.entry - f.size
+
+-- how far above x2 a stack object begins, and 0 where there is none
+abbrev pub object_place : FramedFunction → (object : Option ℕ) → ℕ
+object_place f None = 0
+object_place f (Some n) = own_size f + offset_of f.objects n
+
+-- the machine beside a core of the function with its frame. A slot that is written has its content in the frame's bytes
+pub record Beside (f : FramedFunction) (c : Core) (m : Machine) : Type 0 where
+  pub room : FRAME_ROOM ≤ c.entry
+  pub top : c.entry < 2 ^ 64
+  pub area : c.area ≡ area_of f.objects
+  pub objects : (n : ℕ) → c.objects n ≡ offset_of f.objects n
+  pub written : (r : ℕ) → r < 32 → IsSome (content c.regs r)
+  pub same_entry : m.entry ≡ c.entry
+  pub same_area : m.area ≡ c.area
+  pub regs : (r : ℕ) → register m r ≡ read c r
+  pub memory : (a : ℕ) → in_frame c.entry c.area a ≡ false → m.memory a ≡ c.memory a
+  pub bytes : (a : ℕ) → m.memory a < 256
+  pub slots : (o v : ℕ) → IsSlotOffset f o → c.slots o ≡ Some v → v ≡ spelled m.memory (frame_low f c + o) 8
+  pub script : m.script ≡ c.script
+  pub events : m.events ≡ c.events

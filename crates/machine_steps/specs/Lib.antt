@@ -1,0 +1,4 @@
+pub mod Beside
+pub mod Laid
+pub mod Pointer
+pub mod Steps

@@ -1,0 +1,35 @@
+-- How far x2 lies below its content at entry, by the position alone.
+use Rattle.std.specs.Prelude.{◌≡◌, ℕ, ◌-◌, Bool, true, false, cond, ◌&&◌, ◌||◌, nat_eq}
+use Rattle.mir_func.specs.declared.exit.Exit.{Exit}
+use Rattle.mir_func.specs.declared.exit.Exit.TheVariants.{Onward, Perhaps, Always, Final}
+use Rattle.mir_func.specs.declared.position.Pos.{Pos}
+use Rattle.mir_func.specs.Exits.{exit_of}
+use Rattle.mir_func.specs.Function.{FramedFunction}
+use Rattle.mir_func.specs.Graph.{Fetch, Here, Silent, Outside}
+use Rattle.mir_meaning.specs.State.{Core}
+use Rattle.mir_meaning.specs.Step.{read}
+use Rattle.machine_steps.specs.Laid.{fetched}
+
+abbrev pub is_final : Exit → Bool
+is_final Onward = false
+is_final (Perhaps n) = false
+is_final (Always n) = false
+is_final Final = true
+
+-- a return stands there
+abbrev pub fetch_returns : Fetch → Bool
+fetch_returns (Here i) = is_final (exit_of i.kind)
+fetch_returns (Silent k n) = false
+fetch_returns Outside = false
+
+-- x2 is as at entry: before the prologue, and at a return
+abbrev pub is_as_at_entry : FramedFunction → Pos → Bool
+is_as_at_entry f p = (nat_eq p.block 0 && nat_eq p.item 0) || fetch_returns (fetched f p)
+
+-- how many bytes x2 lies below its content at entry
+abbrev pub lowered_by : FramedFunction → Pos → ℕ
+lowered_by f p = cond (is_as_at_entry f p) 0 f.size
+
+-- and x2 is there
+abbrev pub IsPointerAt : FramedFunction → Pos → Core → Type 0
+IsPointerAt f p c = read c 2 ≡ c.entry - lowered_by f p

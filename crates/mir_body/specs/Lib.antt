@@ -1,0 +1,5 @@
+pub mod Met
+pub mod Limits
+pub mod Body
+pub mod Closing
+pub mod Frame

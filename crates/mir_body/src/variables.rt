@@ -1,0 +1,64 @@
+//! Parts of variables that were met.
+
+ghost use Rattle.std.specs.Prelude.{◌≡◌, [], OnOk, OnErr};
+ghost use Rattle.mir_func.specs.Variables.{is_same, is_same_node, are_same_bytes};
+ghost use Rattle.mir_body.specs.Met.{is_known, known};
+
+use lists::List;
+use mir_func::variable::{Fragment, VarId};
+use numbers::metadata::NodeId;
+use std::alloc::AllocError;
+
+/// Parts of variables, each once, in the order in which they were met first.
+pub type Variables = List<VarId>;
+
+/// Whether two nodes that may be there are the same.
+fn is_same_node(one: Option<NodeId>, other: Option<NodeId>) -> bool
+    ensures { result ≡ is_same_node one other }
+{
+    match (one, other) {
+        (None, None) => true,
+        (Some(one), Some(other)) => one.number() == other.number(),
+        _ => false,
+    }
+}
+
+/// Whether two parts are the same bytes.
+fn are_same_bytes(one: Option<Fragment>, other: Option<Fragment>) -> bool
+    ensures { result ≡ are_same_bytes one other }
+{
+    match (one, other) {
+        (None, None) => true,
+        (Some(one), Some(other)) => {
+            one.offset() == other.offset() && one.length() == other.length()
+        }
+        _ => false,
+    }
+}
+
+/// Whether two are the same part of one variable.
+fn is_same(one: &VarId, other: &VarId) -> bool
+    ensures { result ≡ is_same one.now other.now }
+{
+    one.node.number() == other.node.number()
+        && is_same_node(one.inlined_at, other.inlined_at)
+        && are_same_bytes(one.fragment, other.fragment)
+}
+
+/// Whether a part was met.
+fn is_known(variable: &VarId, variables: &[VarId]) -> bool
+    ensures { result ≡ is_known variable.now variables.now }
+{
+    variables.iter().any(|other| is_same(variable, other))
+}
+
+/// Meets a part. A refused call changes nothing.
+pub fn meet(variables: &mut Variables, variable: &VarId) -> Result<(), AllocError>
+    ensures ok { OnOk result (variables.new ≡ known variable.now variables.old) }
+    ensures err { OnErr result (variables.new ≡ variables.old) }
+{
+    if is_known(variable, variables.as_slice()) {
+        return Ok(());
+    }
+    variables.push(*variable)
+}

@@ -1,0 +1,4 @@
+pub mod Number
+pub mod Word
+pub mod Register
+pub mod Sentence

@@ -1,0 +1,3 @@
+pub mod Stands
+pub mod Covered
+pub mod Turning
