@@ -14,4 +14,6 @@ mod plan;
 mod rounds;
 mod span;
 mod table;
+#[cfg(test)]
+mod tests;
 mod words;
