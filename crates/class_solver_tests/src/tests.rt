@@ -173,8 +173,8 @@ fn irreducible(alloc: Global) -> Result<List<Flow>, AllocError> {
     Ok(flows)
 }
 
-/// Block 0 gives all things from 2 on what thing 1 has, and block 1 is a loop that hands them down and makes a new token
-/// for thing 1: each sweep parts one of them from the rest.
+/// Block 0 gives all things from 2 on what thing 1 has, and block 1 is a loop that hands them down and makes a new
+/// token for thing 1: each sweep parts one of them from the rest.
 fn chain(alloc: Global) -> Result<List<Flow>, AllocError> {
     let first = Source::Was(1);
     let mut flows = List::new(alloc);
