@@ -1,14 +1,39 @@
 -- What is known at the start of a block gives classes. A thing's class is that of the first one like it in the list, and two
 -- that are alike on all paths have one class and one bit.
-use Rattle.std.proofs.Common.{◌≡◌, ◌≢◌, ℕ, zero, suc, ◌+◌, ◌<◌, List, [], ◌∷◌, map, length, get_or, arith, refl, sym, ◌∙◌, ap, subst, inl, inr, eqb-true, eq-eqb, true, false, lit<}
-use Rattle.std.specs.Prelude.{◌↔◌, Contains, Option, Some, None, IsSome, IsTrue, Bool, cond, ◌&&◌, nat_eq, slice_get, slice_index, slice_index_or, ◌⊎◌}
+use Rattle.std.proofs.Common.{
+  ◌≡◌,
+  ◌≢◌,
+  ℕ,
+  zero,
+  suc,
+  ◌<◌,
+  List,
+  [],
+  ◌∷◌,
+  map,
+  length,
+  get_or,
+  arith,
+  refl,
+  sym,
+  ◌∙◌,
+  ap,
+  subst,
+  inl,
+  inr,
+  eqb-true,
+  eq-eqb,
+  true,
+  false,
+}
+use Rattle.std.specs.Prelude.{Contains, Option, Some, None, IsSome, IsTrue, Bool, cond, ◌&&◌, nat_eq, slice_get, slice_index}
 use Rattle.std.proofs.lemmas.Bool.{and_parts, and_from}
-use Rattle.std.proofs.lemmas.Bool.Decides.{nat_tests, eqb_tells}
-use Rattle.std.proofs.lemmas.Option.{slice_get-get_or, slice_get_within, get_or_from_slice_get}
+use Rattle.std.proofs.lemmas.Bool.Decides.{eqb_tells}
+use Rattle.std.proofs.lemmas.Option.{slice_get-get_or, slice_get_within}
 use Rattle.mir_func.specs.declared.variable.VarId.{VarId}
 use Rattle.mir_func.specs.Variables.{is_same}
 use Rattle.mir_func.specs.Graph.{Program, block_start}
-use Rattle.mir_meaning.specs.Token.{Token, Tokens, Path}
+use Rattle.mir_meaning.specs.Token.{Token}
 use Rattle.mir_meaning.proofs.Assignments.{same_refl, same_is}
 use Rattle.path_tokens.specs.Pullback as path
 use Rattle.path_tokens.specs.Pullback.{InRegister, InSlot, OfPair, OfVariable, OfNumber, token_of, Share}
@@ -22,7 +47,7 @@ use Rattle.class_paths.specs.Wanted.{AreThingsOf}
 use Rattle.class_paths.proofs.Known.{path_bare, pointer}
 use Rattle.class_places.specs.Things.{AreThings, Settle, settled_at}
 use Rattle.class_places.specs.Entering.{EntriesGiveClasses}
-use Rattle.class_places.proofs.Starting.{Stands, stands, contained}
+use Rattle.class_places.proofs.Starting.{stands, contained}
 
 -- ---- one thing
 
@@ -95,14 +120,15 @@ found (x ∷ xs) [] y count k z e is = absurd (let no : 0 ≡ suc (length xs) = 
 found (x ∷ xs) (c ∷ cs) y count k z e is =
     let less : length cs ≡ length xs = let l : suc (length cs) ≡ suc (length xs) = count in omega (arith, l) in
     by_test (λ j at. found xs cs y less j z at is) (is_thing (thing x) y) refl k e where
-  by_test : ((j : ℕ) → slice_get xs j ≡ Some z → Found xs cs y (class_in xs cs y)) → (b : Bool) → is_thing (thing x) y ≡ b → (k : ℕ) → slice_get (x ∷ xs) k ≡ Some z →
-      Found (x ∷ xs) (c ∷ cs) y (cond b c (class_in xs cs y))
-  by_test more true h k e = record { index = 0; item = x; at = refl; is = is_one (thing x) y h; class_is = refl }
-  by_test more false h zero e =
-      let same : x ≡ z = cc in
-      let on : is_thing (thing x) y ≡ true = ap (λ (w : Tracked). is_thing (thing w) y) same ∙ (ap (λ (w : path.Tracked). is_thing w y) is ∙ is_itself y) in
-      cc
-  by_test more false h (suc k) e = found_later x xs c cs y (class_in xs cs y) (more k e)
+      by_test : ((j : ℕ) → slice_get xs j ≡ Some z → Found xs cs y (class_in xs cs y)) → (b : Bool) → is_thing (thing x) y ≡ b → (k : ℕ) →
+          slice_get (x ∷ xs) k ≡ Some z →
+          Found (x ∷ xs) (c ∷ cs) y (cond b c (class_in xs cs y))
+      by_test more true h k e = record { index = 0; item = x; at = refl; is = is_one (thing x) y h; class_is = refl }
+      by_test more false h zero e =
+          let same : x ≡ z = cc in
+          let on : is_thing (thing x) y ≡ true = ap (λ (w : Tracked). is_thing (thing w) y) same ∙ (ap (λ (w : path.Tracked). is_thing w y) is ∙ is_itself y) in
+          cc
+      by_test more false h (suc k) e = found_later x xs c cs y (class_in xs cs y) (more k e)
 
 -- ---- at the start of a block
 
@@ -149,8 +175,8 @@ module _ (g : Program) (variables : List VarId) (things : List Tracked) (b : ℕ
       let given_y : IsGiven g b (thing x) → IsGiven g b (thing y) = λ h n t p. subst IsSome (alike n t p) (h n t p) in
       let given_x : IsGiven g b (thing y) → IsGiven g b (thing x) = λ h n t p. subst IsSome (sym (alike n t p)) (h n t p) in
       let bits : a.bit ≡ c.bit = one_bit a.bit c.bit
-          (λ h. (classes.bit j y c.bit hy c.bit_at).1 (given_y ((classes.bit i x a.bit hx a.bit_at).0 h)))
-          (λ h. (classes.bit i x a.bit hx a.bit_at).1 (given_x ((classes.bit j y c.bit hy c.bit_at).0 h))) in
+      (λ h. (classes.bit j y c.bit hy c.bit_at).1 (given_y ((classes.bit i x a.bit hx a.bit_at).0 h)))
+      (λ h. (classes.bit i x a.bit hx a.bit_at).1 (given_x ((classes.bit j y c.bit hy c.bit_at).0 h))) in
       a.settles ∙ ((λ z. cond (bits z) (same z) 0) ∙ sym c.settles)
 
   none_settled : (i : ℕ) (x : Tracked) → slice_get things i ≡ Some x → HasNone g b (thing x) → slice_index settled i ≡ 0
@@ -188,7 +214,8 @@ module _ (g : Program) (variables : List VarId) (things : List Tracked) (b : ℕ
   register_settled i r here = elim (eqb_tells r 2) [
     | inl two ↦ none_settled i (Register r) here (subst (λ (z : ℕ). HasNone g b (InRegister z)) (sym two.1) pointer_none)
         ∙ sym (ap (λ (z : Bool). cond z 0 (cond (nat_eq r 0) (class_in things settled (OfNumber 0)) (class_in things settled (InRegister r)))) two.0)
-    | inr other ↦ not_two ∙ sym (ap (λ (z : Bool). cond z 0 (cond (nat_eq r 0) (class_in things settled (OfNumber 0)) (class_in things settled (InRegister r)))) other.0)
+    | inr other ↦ not_two ∙ sym (ap (λ (z : Bool). cond z 0 (cond (nat_eq r 0) (class_in things settled (OfNumber 0)) (class_in things settled
+        (InRegister r)))) other.0)
   ] where
     not_two : slice_index settled i ≡ cond (nat_eq r 0) (class_in things settled (OfNumber 0)) (class_in things settled (InRegister r))
     not_two = elim (eqb_tells r 0) [
@@ -197,7 +224,8 @@ module _ (g : Program) (variables : List VarId) (things : List Tracked) (b : ℕ
           alike_settled i f.index (Register r) f.item here f.at
           (λ n t p. ap (λ (z : ℕ). token_of (InRegister z) t) none.1 ∙ ap (λ (z : path.Tracked). token_of z t) (sym f.is)) ∙ (f.class_is
           ∙ sym (ap (λ (z : Bool). cond z (class_in things settled (OfNumber 0)) (class_in things settled (InRegister r))) none.0))
-      | inr some ↦ found_is i (Register r) here ∙ sym (ap (λ (z : Bool). cond z (class_in things settled (OfNumber 0)) (class_in things settled (InRegister r))) some.0)
+      | inr some ↦ found_is i (Register r) here ∙ sym (ap (λ (z : Bool). cond z (class_in things settled (OfNumber 0)) (class_in things settled
+          (InRegister r))) some.0)
     ]
 
   settled_is : (i : ℕ) (x : Tracked) → slice_get things i ≡ Some x → slice_index settled i ≡ class_of (thing x)
@@ -278,17 +306,21 @@ module _ (g : Program) (variables : List VarId) (things : List Tracked) (b : ℕ
       let a = at i z hz in
       let alike : AreAlike g b (thing z) (thing w) = λ n t p. let k = share n t p in az n t p ∙ (k.1 ∙ (sym k.2 ∙ sym (aw n t p))) in
       let given : IsGiven g b (thing z) = λ n t p. let k = share n t p in
-          let is : token_of (thing z) t ≡ Some k.0 = az n t p ∙ k.1 in subst IsSome (sym is) refl in
+      let is : token_of (thing z) t ≡ Some k.0 = az n t p ∙ k.1 in subst IsSome (sym is) refl in
       let on : a.bit ≡ true = (classes.bit i z a.bit hz a.bit_at).1 given in
       let class_is : class_of x ≡ a.class = sym sz ∙ (a.settles ∙ ap (λ (q : Bool). cond q a.class 0) on) in
       let same : class_of x ≡ class_of y = sym sz ∙ (alike_settled i j z w hz hw alike ∙ sw) in
       (same, λ none. shares_some x y share (λ n t p. sym (az n t p) ∙ (classes.nothing i a.class z hz a.class_at).0 (sym class_is ∙ none) n t p))
 
   pub classes_at_start : (class : Classes) × AreClasses g (block_start 0) (block_start b) known class × Settle things settled class
-  classes_at_start = (class_of, record {
-    reached = reached;
-    one = λ x y kx ky. (one_to x y (sort x kx) (sort y ky), one_from x y (sort x kx) (sort y ky));
-  }, settle)
+  classes_at_start = (
+    class_of,
+    record {
+      reached = reached;
+      one = λ x y kx ky. (one_to x y (sort x kx) (sort y ky), one_from x y (sort x kx) (sort y ky));
+    },
+    settle,
+  )
 
 pub entries_give_classes : EntriesGiveClasses
 entries_give_classes g variables things b e settled are of is on count each =

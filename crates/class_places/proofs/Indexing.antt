@@ -1,12 +1,12 @@
 -- An index gets one more thing.
 use Rattle.std.proofs.Common.{◌≡◌, ℕ, ◌+◌, ◌<◌, List, arith, refl, sym, ◌∙◌, ap, subst, inl, inr, eqb-true, eq-eqb}
-use Rattle.std.specs.Prelude.{Option, Some, None, IsSome, Bool, true, false, cond, ◌⊎◌, ◌&&◌, nat_eq, slice_get}
+use Rattle.std.specs.Prelude.{Option, Some, IsSome, Bool, true, false, cond, nat_eq, slice_get}
 use Rattle.std.specs.HashMap.{get}
 use Rattle.std.proofs.lemmas.Bool.{and_parts, and_from}
-use Rattle.std.proofs.lemmas.Bool.Decides.{nat_tests, eqb_tells}
+use Rattle.std.proofs.lemmas.Bool.Decides.{eqb_tells}
 use Rattle.mir_func.specs.declared.entry.OperandPair.{OperandPair}
 use Rattle.class_entries.specs.declared.tracked.Tracked.{Tracked}
-use Rattle.class_entries.specs.declared.tracked.Tracked.TheVariants.{Register, Slot, Pair, Part, Number}
+use Rattle.class_entries.specs.declared.tracked.Tracked.TheVariants.{Pair, Number}
 use Rattle.class_places.specs.declared.index.Index.{Index}
 use Rattle.class_places.specs.Things.{is_key, IndexesBelow}
 
@@ -19,7 +19,8 @@ some_if false i o h = h
 
 module _ (things : List Tracked) (i : ℕ) (old new : Index) where
   -- a thing that the index needs not find
-  pub index_other : (x : Tracked) → slice_get things i ≡ Some x → ((c : ℕ) → x ≡ Number c → ⊥) → ((k o : ℕ) → x ≡ Pair (record { number = k; operand = o }) → ⊥) →
+  pub index_other : (x : Tracked) → slice_get things i ≡ Some x → ((c : ℕ) → x ≡ Number c → ⊥) → ((k o : ℕ) → x ≡ Pair (record { number = k; operand = o }) →
+      ⊥) →
       ((c : ℕ) → get nat_eq new.numbers c ≡ get nat_eq old.numbers c) → ((q : ℕ × ℕ) → get is_key new.pairs q ≡ get is_key old.pairs q) →
       IndexesBelow i things old → IndexesBelow (i + 1) things new
   index_other x at no_number no_pair numbers pairs are = record {
@@ -31,11 +32,13 @@ module _ (things : List Tracked) (i : ℕ) (old new : Index) where
   } where
     below : (j : ℕ) → j < i + 1 → (j ≡ i → ⊥) → j < i
     below j lt ne = omega (arith, lt, ne)
+
     is_thing : (j : ℕ) → j ≡ i → (y : Tracked) → slice_get things j ≡ Some y → x ≡ y
     is_thing j is y e = let both : Some x ≡ Some y = sym at ∙ (ap (slice_get things) (sym is) ∙ e) in cc
 
   pub index_number : (c : ℕ) → slice_get things i ≡ Some (Number c) →
-      ((q : ℕ) → get nat_eq new.numbers q ≡ cond (nat_eq c q) (Some i) (get nat_eq old.numbers q)) → ((q : ℕ × ℕ) → get is_key new.pairs q ≡ get is_key old.pairs q) →
+      ((q : ℕ) → get nat_eq new.numbers q ≡ cond (nat_eq c q) (Some i) (get nat_eq old.numbers q)) → ((q : ℕ × ℕ) →
+      get is_key new.pairs q ≡ get is_key old.pairs q) →
       IndexesBelow i things old → IndexesBelow (i + 1) things new
   index_number c at numbers pairs are = record {
     numbers = λ q j e. found q j (sym (numbers q) ∙ e);
@@ -50,6 +53,7 @@ module _ (things : List Tracked) (i : ℕ) (old new : Index) where
           (omega (arith, same), ap (slice_get things) (sym same) ∙ (at ∙ ap (λ (z : ℕ). Some (Number z)) h.1))
       | inr h ↦ let k = are.numbers q j (subst (λ (z : Bool). cond z (Some i) (get nat_eq old.numbers q) ≡ Some j) h.0 e) in (omega (arith, k.0), k.1)
     ]
+
     each : (q j : ℕ) → j < i + 1 → slice_get things j ≡ Some (Number q) → IsSome (cond (nat_eq c q) (Some i) (get nat_eq old.numbers q))
     each q j lt e = elim (eqb_tells c q) [
       | inl h ↦ subst (λ (z : Bool). IsSome (cond z (Some i) (get nat_eq old.numbers q))) (sym h.0) refl
@@ -60,6 +64,7 @@ module _ (things : List Tracked) (i : ℕ) (old new : Index) where
         | inl h ↦ absurd (ne (let both : Some (Number c) ≡ Some (Number q) = sym at ∙ (ap (slice_get things) (sym h.1) ∙ e) in cc))
         | inr h ↦ omega (arith, lt, h.1)
       ]
+
     before : (k o j : ℕ) → j < i + 1 → slice_get things j ≡ Some (Pair (record { number = k; operand = o })) → j < i
     before k o j lt e = elim (eqb_tells j i) [
       | inl h ↦ absurd (let both : Some (Number c) ≡ Some (Pair (record { number = k; operand = o })) = sym at ∙ (ap (slice_get things) (sym h.1) ∙ e) in cc)
@@ -78,8 +83,10 @@ module _ (things : List Tracked) (i : ℕ) (old new : Index) where
   } where
     same_key : (m p : ℕ) → is_key (k, o) (m, p) ≡ true → (k ≡ m) × (o ≡ p)
     same_key m p e = let both = and_parts (nat_eq k m) (nat_eq o p) e in (eqb-true k m both.0, eqb-true o p both.1)
+
     is_same_key : (m p : ℕ) → k ≡ m → o ≡ p → is_key (k, o) (m, p) ≡ true
     is_same_key m p e f = and_from (nat_eq k m) (nat_eq o p) (eq-eqb k m e) (eq-eqb o p f)
+
     found : (m p j : ℕ) (b : Bool) → is_key (k, o) (m, p) ≡ b → cond b (Some i) (get is_key old.pairs (m, p)) ≡ Some j →
         (j < i + 1) × (slice_get things j ≡ Some (Pair (record { number = m; operand = p })))
     found m p j true at_key e =
@@ -87,6 +94,7 @@ module _ (things : List Tracked) (i : ℕ) (old new : Index) where
         let h = same_key m p at_key in
         (omega (arith, same), ap (slice_get things) (sym same) ∙ (at ∙ (λ z. Some (Pair (record { number = h.0 z; operand = h.1 z })))))
     found m p j false at_key e = let h = are.pairs m p j e in (omega (arith, h.0), h.1)
+
     each : (m p j : ℕ) → j < i + 1 → slice_get things j ≡ Some (Pair (record { number = m; operand = p })) → (b : Bool) → is_key (k, o) (m, p) ≡ b →
         IsSome (cond b (Some i) (get is_key old.pairs (m, p)))
     each m p j lt e true at_key = refl
@@ -95,12 +103,13 @@ module _ (things : List Tracked) (i : ℕ) (old new : Index) where
       apart m p j lt e off = elim (eqb_tells j i) [
         | inl h ↦ absurd (
             let both : Some (Pair (record { number = k; operand = o })) ≡ Some (Pair (record { number = m; operand = p })) =
-                sym at ∙ (ap (slice_get things) (sym h.1) ∙ e) in
+            sym at ∙ (ap (slice_get things) (sym h.1) ∙ e) in
             let pair : record { number = k; operand = o } ≡ record { number = m; operand = p } = pair_of both in
             let on : is_key (k, o) (m, p) ≡ true = is_same_key m p (ap (λ (z : OperandPair). z.number) pair) (ap (λ (z : OperandPair). z.operand) pair) in
             cc)
         | inr h ↦ omega (arith, lt, h.1)
       ]
+
     before : (c j : ℕ) → j < i + 1 → slice_get things j ≡ Some (Number c) → j < i
     before c j lt e = elim (eqb_tells j i) [
       | inl h ↦ absurd (let both : Some (Pair (record { number = k; operand = o })) ≡ Some (Number c) = sym at ∙ (ap (slice_get things) (sym h.1) ∙ e) in cc)

@@ -41,7 +41,11 @@ impl Held {
     pub fn place(&self, i: usize) -> usize
         ensures { result ≡ slice_index self.now.places.items i }
     {
-        if i < self.places.len() { self.places[i] } else { 0 }
+        if i < self.places.len() {
+            self.places[i]
+        } else {
+            0
+        }
     }
 
     /// The class of a register.
@@ -54,7 +58,8 @@ impl Held {
     /// Gives a register a class. A write of x2 takes every slot's class away.
     pub fn put(&mut self, rd: Reg, class: usize)
         requires { PLACES ≤ length self.old.places.items }
-        ensures places { (i : ℕ) → slice_index self.new.places.items i ≡ put rd class (slice_index self.old.places.items) i }
+        ensures places { (i : ℕ) → slice_index self.new.places.items i ≡ put rd class
+            (slice_index self.old.places.items) i }
         ensures count { length self.new.places.items ≡ length self.old.places.items }
         ensures pairs { self.new.pairs ≡ self.old.pairs }
         ensures parts { self.new.parts ≡ self.old.parts }
@@ -88,7 +93,8 @@ impl Held {
     pub fn put_new(&mut self, rd: Reg)
         requires count { PLACES ≤ length self.old.places.items }
         requires few { self.old.next < 2 ^ 62 }
-        ensures places { (i : ℕ) → slice_index self.new.places.items i ≡ put rd (self.old.next + rd) (slice_index self.old.places.items) i }
+        ensures places { (i : ℕ) → slice_index self.new.places.items i ≡ put rd (self.old.next + rd)
+            (slice_index self.old.places.items) i }
         ensures count { length self.new.places.items ≡ length self.old.places.items }
         ensures pairs { self.new.pairs ≡ self.old.pairs }
         ensures parts { self.new.parts ≡ self.old.parts }
@@ -117,7 +123,8 @@ impl Held {
 fn renew(places: &mut [usize], next: usize)
     requires count { PLACES ≤ length places.old }
     requires few { next < 2 ^ 62 }
-    ensures { (i : ℕ) → slice_index places.new i ≡ cond (list_any (λ q. nat_eq i q) caller_saved) (next + i) (slice_index places.old i) }
+    ensures { (i : ℕ) → slice_index places.new i ≡ cond (list_any (λ q. nat_eq i q) caller_saved) (next + i)
+        (slice_index places.old i) }
 {
     for r in 0..SLOTS_FROM {
         if is_caller_saved(r) {

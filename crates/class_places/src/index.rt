@@ -1,6 +1,21 @@
 //! Where tracked things stand in their list.
 
-ghost use Rattle.std.specs.Prelude.{◌≡◌, ◌<◌, ◌+◌, ◌++◌, ◌∷◌, [], List, take, IfOk, OnOk, length, slice_get, Some, slice_index};
+ghost use Rattle.std.specs.Prelude.{
+  ◌≡◌,
+  ◌<◌,
+  ◌+◌,
+  ◌++◌,
+  ◌∷◌,
+  [],
+  List,
+  take,
+  IfOk,
+  OnOk,
+  length,
+  slice_get,
+  Some,
+  slice_index,
+};
 ghost use Rattle.std.specs.HashMap.{get};
 ghost use Rattle.class_entries.specs.declared.tracked.Tracked.{Tracked};
 ghost use Rattle.class_places.specs.Held.{class_at, number_class};
@@ -37,7 +52,8 @@ pub fn index_of(alloc: Global, things: &[Tracked]) -> Result<Index, AllocError>
 impl Index {
     /// Adds a thing that stands at an index.
     fn add(&mut self, i: usize, thing: Tracked) -> Result<(), AllocError>
-        ensures { OnOk result ((things : List Tracked) → slice_get things i ≡ Some thing → IndexesBelow i things self.old → IndexesBelow (i + 1) things self.new) }
+        ensures { OnOk result ((things : List Tracked) → slice_get things i ≡ Some thing →
+            IndexesBelow i things self.old → IndexesBelow (i + 1) things self.new) }
     {
         match thing {
             Tracked::Number(c) => {

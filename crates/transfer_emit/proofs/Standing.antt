@@ -1,6 +1,6 @@
 -- The walk goes on past an item: what it knows before the item tells what holds below it.
-use Rattle.std.proofs.Common.{◌≡◌, ◌≢◌, ℕ, zero, suc, ◌+◌, ◌<◌, ◌≤◌, List, [], ◌∷◌, map, length, drop, get_or, arith, refl, sym, ◌∙◌, ap, subst, inl, inr, true, false}
-use Rattle.std.specs.Prelude.{◌↔◌, ℤ, Option, Some, None, IsSome, IsTrue, Bool, slice_get, slice_index, slice_index_or}
+use Rattle.std.proofs.Common.{◌≡◌, ℕ, zero, suc, ◌+◌, ◌<◌, List, [], ◌∷◌, map, length, drop, arith, refl, sym, ◌∙◌, ap, subst, inr, true, false}
+use Rattle.std.specs.Prelude.{ℤ, Option, Some, None, IsSome, slice_get, slice_index, slice_index_or}
 use Rattle.rv64_instr.specs.Row.{Row, Fixes, Moves, Sets, Addresses, Loads, Stores, LoadsSlot, StoresSlot, Branches, Jumps, Calls, Returns, Unfit, row_of}
 use Rattle.mir_func.specs.declared.block.Block.{Block}
 use Rattle.mir_func.specs.declared.entry.OperandPair.{OperandPair}
@@ -9,7 +9,7 @@ use Rattle.mir_func.specs.declared.item.ItemKind.{ItemKind}
 use Rattle.mir_func.specs.declared.item.ItemKind.TheVariants.{Code, Mark, Phi}
 use Rattle.mir_func.specs.declared.position.Pos.{Pos}
 use Rattle.mir_func.specs.Exits.{exit_of, row_exit}
-use Rattle.mir_func.specs.Graph.{Program, Fetch, Here, below, block_start, front, fetch_in, Edge, FetchEdge, KindEdge, RowEdge}
+use Rattle.mir_func.specs.Graph.{Program, Fetch, Here, below, block_start, front, fetch_in, FetchEdge, KindEdge, RowEdge}
 use Rattle.mir_func.specs.Resolve.{resolve}
 use Rattle.mir_func.specs.Successors.{pos_in}
 use Rattle.path_tokens.specs.Pullback.{Tracked, OfNumber, Was, back}
@@ -17,17 +17,16 @@ use Rattle.class_entries.specs.declared.tracked.Tracked.{Tracked as Thing}
 use Rattle.rv64_instr.specs.Arithmetic.{word}
 use Rattle.class_entries.specs.declared.entry.BlockEntry.{BlockEntry}
 use Rattle.class_entries.specs.Entry.{thing, IsEntry}
-use Rattle.class_paths.specs.Classes.{Classes, IsKnown, IsReached, AreClasses, AreFresh, class_back}
+use Rattle.class_paths.specs.Classes.{Classes, IsReached, AreClasses, AreFresh, class_back}
 use Rattle.class_paths.proofs.Passing.{classes_pass_items, paths_come_from_above}
 use Rattle.class_places.specs.declared.index.Index.{Index}
-use Rattle.class_places.specs.declared.held.Held.{Held}
 use Rattle.class_places.specs.Things.{Settle, settled_at}
 use Rattle.class_places.specs.Held.{Holds, Passes}
 use Rattle.class_places.specs.Start.{ConstantsNow}
 use Rattle.class_places.proofs.Entering.{entries_give_classes}
 use Rattle.transfer_emit.specs.declared.values.Values.{Values}
 use Rattle.transfer_emit.specs.declared.stand.Stand.{Stand}
-use Rattle.transfer_emit.specs.Stands.{program, AreValuesOf, Reaches, Stands, Falls, IsBlockAt}
+use Rattle.transfer_emit.specs.Stands.{program, AreValuesOf, Stands, Falls, IsBlockAt}
 
 -- ---- what stands at a position
 
@@ -121,13 +120,15 @@ module _ (blocks : List Block) (v : Values) (index : Index) (are : AreValuesOf b
   not_first e = let i : 0 ≡ s.item + 1 = ap (λ (z : Pos). z.item) e in omega (arith, i)
 
   -- no path leads below what no path leads to
-  pub stays_unreached : (after : Stand) → Stands blocks v index s → s.reached ≡ false → after.reached ≡ false → after.block ≡ s.block → after.item ≡ s.item + 1 →
+  pub stays_unreached : (after : Stand) → Stands blocks v index s → s.reached ≡ false → after.reached ≡ false → after.block ≡ s.block →
+      after.item ≡ s.item + 1 →
       Stands blocks v index after
   stays_unreached after stands off off_after block next = record {
     reached = λ on. absurd (let both : true ≡ false = sym on ∙ off_after in cc);
     unreached = λ e path. stands.unreached off (paths_come_from_above g (block_start 0) here not_first (at_below after block next path)).0;
   } where
-    at_below : (after : Stand) → after.block ≡ s.block → after.item ≡ s.item + 1 → IsReached g (block_start 0) (pos_in after.block after.item) → IsReached g (block_start 0) (below here)
+    at_below : (after : Stand) → after.block ≡ s.block → after.item ≡ s.item + 1 → IsReached g (block_start 0) (pos_in after.block after.item) →
+        IsReached g (block_start 0) (below here)
     at_below after block next path = subst (λ (z : Pos). IsReached g (block_start 0) z) (λ i. record { block = block i; item = next i }) path
 
   -- nor below an item that control doesn't go below from
@@ -136,7 +137,8 @@ module _ (blocks : List Block) (v : Values) (index : Index) (are : AreValuesOf b
   leaves_unreached after fetch stops off_after block next = record {
     reached = λ on. absurd (let both : true ≡ false = sym on ∙ off_after in cc);
     unreached = λ e path.
-        let below_is : IsReached g (block_start 0) (below here) = subst (λ (z : Pos). IsReached g (block_start 0) z) (λ i. record { block = block i; item = next i }) path in
+        let below_is : IsReached g (block_start 0) (below here) = subst (λ (z : Pos). IsReached g (block_start 0) z)
+        (λ i. record { block = block i; item = next i }) path in
         let edge = (paths_come_from_above g (block_start 0) here not_first below_is).1 in
         stops (kind_falls g.enter here item.kind (subst (λ (f : Fetch). FetchEdge g.enter f here (below here)) fetch edge));
   }
@@ -157,12 +159,14 @@ module _ (blocks : List Block) (v : Values) (index : Index) (are : AreValuesOf b
       } in
       let classes = classes_pass_items g (block_start 0) here (map thing v.things.now) r.class fresh item not_first r.classes fetch edge knows new in
       let held = passes r.class r.held knows in
-      let now = constants_stay v.things.now r.class class s.constants.items (λ n. ap (class_back r.class fresh) (number_stays (resolve v.subs.now) item.kind n)) r.constants in
+      let now = constants_stay v.things.now r.class class s.constants.items (λ n. ap (class_back r.class fresh) (number_stays
+      (resolve v.subs.now) item.kind n)) r.constants in
       record {
         reached = λ e. record {
           class = class;
           held = subst (λ z. Holds v.variables.now v.things.now index z.items after.held class) (sym settled) held;
-          classes = subst (λ (z : Pos). AreClasses g (block_start 0) z (map thing v.things.now) class) (sym (λ i. record { block = block i; item = next i })) classes;
+          classes = subst (λ (z : Pos). AreClasses g (block_start 0) z (map thing v.things.now) class) (sym
+              (λ i. record { block = block i; item = next i })) classes;
           constants = subst (λ z. ConstantsNow v.things.now class z.items) (sym constants) now;
         };
         unreached = λ off. absurd (let both : true ≡ false = sym on_after ∙ off in cc);
@@ -170,7 +174,8 @@ module _ (blocks : List Block) (v : Values) (index : Index) (are : AreValuesOf b
 
 -- ---- the start of a block
 
-pub enters : (blocks : List Block) (v : Values) (index : Index) → AreValuesOf blocks v → (s : Stand) (e : BlockEntry) → slice_get v.entries.now s.block ≡ Some e →
+pub enters : (blocks : List Block) (v : Values) (index : Index) → AreValuesOf blocks v → (s : Stand) (e : BlockEntry) →
+    slice_get v.entries.now s.block ≡ Some e →
     s.item ≡ 0 → s.reached ≡ e.reached → length s.settled.items ≡ length v.things.now →
     ((i : ℕ) → i < length v.things.now → slice_index s.settled.items i ≡ settled_at e.classes e.given i) →
     ((class : Classes) → Settle v.things.now s.settled.items class → Holds v.variables.now v.things.now index s.settled.items s.held class) →
@@ -180,7 +185,7 @@ enters blocks v index are s e at first same count each held constants = record {
       let reached = sym same ∙ on in
       let all = (is.classes (is.reached.0 reached)).classes_for_all in
       let c = entries_give_classes g v.variables.now v.things.now s.block e s.settled.items are.things are.of is reached (count ∙ sym all)
-          (λ i lt. each i (omega (arith, lt, all))) in
+      (λ i lt. each i (omega (arith, lt, all))) in
       record {
         class = c.0;
         held = held c.0 c.2;
@@ -194,5 +199,6 @@ enters blocks v index are s e at first same count each held constants = record {
 } where
   g : Program
   g = program blocks v.subs.now
+
   is : IsEntry g v.things.now s.block e
   is = are.entries s.block e at

@@ -38,19 +38,31 @@ pub struct Stand {
 }
 
 /// The walk before the first item of a block.
-pub fn enter(alloc: Global, values: &Values, index: &Index, block: usize) -> Result<Stand, AllocError>
+pub fn enter(
+    alloc: Global,
+    values: &Values,
+    index: &Index,
+    block: usize,
+) -> Result<Stand, AllocError>
     requires block { block < length values.now.entries.now }
     requires things { AreThings values.now.variables.now values.now.things.now }
     requires variables { length values.now.variables.now ≤ length values.now.things.now }
     requires index { Indexes values.now.things.now index.now }
-    ensures stands { IfOk result (λ s. (blocks : List Block) → AreValuesOf blocks values.now → Stands blocks values.now index.now s) }
+    ensures stands { IfOk result (λ s. (blocks : List Block) → AreValuesOf blocks values.now →
+        Stands blocks values.now index.now s) }
     ensures block { IfOk result (λ s. s.block ≡ block) }
     ensures item { IfOk result (λ s. s.item ≡ 0) }
     ensures fits { IfOk result (λ s. Fits s values.now) }
 {
     let entry = &values.entries[block];
     let settled = settle(alloc, entry, values.things.len())?;
-    let held = start(alloc, values.things, values.variables, index, settled.as_slice())?;
+    let held = start(
+        alloc,
+        values.things,
+        values.variables,
+        index,
+        settled.as_slice(),
+    )?;
     let constants = constants(alloc, values.things, settled.as_slice(), held.next)?;
     Ok(Stand {
         block,
@@ -79,7 +91,8 @@ impl Stand {
     fn pass(&mut self, values: &Values, index: &Index, item: &Item) -> Result<(), AllocError>
         requires few { self.old.item < 2 ^ 63 }
         requires fits { Fits self.old values.now }
-        ensures stands { OnOk result ((blocks : List Block) → AreValuesOf blocks values.now → (program blocks values.now.subs.now).fetch (pos_in self.old.block self.old.item) ≡ Here item.now
+        ensures stands { OnOk result ((blocks : List Block) → AreValuesOf blocks values.now →
+            (program blocks values.now.subs.now).fetch (pos_in self.old.block self.old.item) ≡ Here item.now
             → Stands blocks values.now index.now self.old → Stands blocks values.now index.now self.new) }
         ensures block { OnOk result (self.new.block ≡ self.old.block) }
         ensures item { OnOk result (self.new.item ≡ self.old.item + 1) }
@@ -94,17 +107,30 @@ impl Stand {
             self.item += 1;
             return Ok(());
         }
-        pass_held(&mut self.held, values, index, self.settled.as_slice(), &item.kind)?;
+        pass_held(
+            &mut self.held,
+            values,
+            index,
+            self.settled.as_slice(),
+            &item.kind,
+        )?;
         self.item += 1;
         Ok(())
     }
 
     /// Passes the items of its block up to an index.
-    fn advance(&mut self, values: &Values, index: &Index, items: &[Item], to: usize) -> Result<(), AllocError>
+    fn advance(
+        &mut self,
+        values: &Values,
+        index: &Index,
+        items: &[Item],
+        to: usize,
+    ) -> Result<(), AllocError>
         requires within { to ≤ length items.now }
         requires ahead { self.old.item ≤ to }
         requires fits { Fits self.old values.now }
-        ensures stands { OnOk result ((blocks : List Block) → AreValuesOf blocks values.now → IsBlockAt blocks self.old.block items.now
+        ensures stands { OnOk result ((blocks : List Block) → AreValuesOf blocks values.now →
+            IsBlockAt blocks self.old.block items.now
             → Stands blocks values.now index.now self.old → Stands blocks values.now index.now self.new) }
         ensures block { OnOk result (self.new.block ≡ self.old.block) }
         ensures item { OnOk result (self.new.item ≡ to) }
@@ -118,10 +144,17 @@ impl Stand {
 }
 
 /// Passes an item that control goes below from.
-fn pass_held(held: &mut Held, values: &Values, index: &Index, settled: &[usize], kind: &ItemKind) -> Result<(), AllocError>
+fn pass_held(
+    held: &mut Held,
+    values: &Values,
+    index: &Index,
+    settled: &[usize],
+    kind: &ItemKind,
+) -> Result<(), AllocError>
     requires places { length held.old.places.items ≡ PLACES }
     requires parts { length held.old.parts.items ≡ length values.now.variables.now }
-    ensures passes { OnOk result (Passes values.now.variables.now values.now.things.now index.now settled.now (resolve values.now.subs.now) held.old held.new kind.now) }
+    ensures passes { OnOk result (Passes values.now.variables.now values.now.things.now index.now settled.now
+        (resolve values.now.subs.now) held.old held.new kind.now) }
     ensures places { OnOk result (length held.new.places.items ≡ PLACES) }
     ensures parts { OnOk result (length held.new.parts.items ≡ length values.now.variables.now) }
 {
@@ -150,7 +183,8 @@ pub fn move_to(
     requires index { Indexes values.now.things.now index.now }
     requires within { item ≤ length items.now }
     requires fits { Fits stand values.now }
-    ensures stands { IfOk result (λ s. (blocks : List Block) → AreValuesOf blocks values.now → IsBlockAt blocks block items.now
+    ensures stands { IfOk result (λ s. (blocks : List Block) → AreValuesOf blocks values.now →
+        IsBlockAt blocks block items.now
         → Stands blocks values.now index.now stand → Stands blocks values.now index.now s) }
     ensures block { IfOk result (λ s. s.block ≡ block) }
     ensures item { IfOk result (λ s. s.item ≡ item) }

@@ -1,4 +1,4 @@
-use Rattle.std.proofs.Common.{◌≡◌, ℕ, ◌+◌, List, get_or, arith, sym, ◌∙◌, subst}
+use Rattle.std.proofs.Common.{ℕ, ◌+◌, arith, sym, ◌∙◌, subst}
 use Rattle.std.specs.Prelude.{nat_eq}
 use Rattle.std.specs.List.{list_any}
 use Rattle.rv64_instr.specs.Access.{caller_saved}
@@ -13,8 +13,12 @@ loop-r-preserved c =
     let old = c.args.places.now in
     let r = c.loop-r.r in
     elim c.if-is_caller_saved.branch [
-      | then-is_caller_saved w ↦ record { places = subst (RenewedBelow saved next old (r + 1)) (sym w.places-is)
-          (renewed_set saved next old r c.loop-r.places c.loop-r.invariant.places (omega arith) (sym c.is_caller_saved.ensures ∙ w.if-is_caller_saved.true)) }
-      | else-is_caller_saved w ↦ record { places = subst (RenewedBelow saved next old (r + 1)) (sym w.places-is)
-          (renewed_kept saved next old r c.loop-r.places c.loop-r.invariant.places (sym c.is_caller_saved.ensures ∙ w.if-is_caller_saved.false)) }
+      | then-is_caller_saved w ↦ record {
+        places = subst (RenewedBelow saved next old (r + 1)) (sym w.places-is)
+            (renewed_set saved next old r c.loop-r.places c.loop-r.invariant.places (omega arith) (sym c.is_caller_saved.ensures ∙ w.if-is_caller_saved.true));
+      }
+      | else-is_caller_saved w ↦ record {
+        places = subst (RenewedBelow saved next old (r + 1)) (sym w.places-is)
+            (renewed_kept saved next old r c.loop-r.places c.loop-r.invariant.places (sym c.is_caller_saved.ensures ∙ w.if-is_caller_saved.false));
+      }
     ]

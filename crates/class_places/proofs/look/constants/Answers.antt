@@ -1,5 +1,4 @@
 use Rattle.std.proofs.Common.{◌≡◌, ℕ, length, refl, ◌∙◌, arith, subst}
-use Rattle.std.specs.Prelude.{Option}
 use Rattle.std.proofs.lemmas.Option.{slice_get_read}
 use Rattle.class_places.specs.Start.{AreConstantsBelow}
 use Rattle.class_places.proofs.Constants.{constants_more, constants_now}
@@ -8,9 +7,11 @@ use Rattle.class_places.proofs.look.constants.Goals as goal
 pub loop-i-preserved : goal.loop-i-preserved
 loop-i-preserved c = record {
   count = c.set_constant.ensures.count ∙ c.loop-i.invariant.count;
-  constants = λ class settle. constants_more c.args.things.now c.args.settled.now class settle c.loop-i.i c.loop-i.constants.items c.set_constant.new.constants.items
+  constants = λ class settle. constants_more c.args.things.now c.args.settled.now class settle c.loop-i.i c.loop-i.constants.items
+      c.set_constant.new.constants.items
       (c.loop-i.invariant.constants class settle) c.index-things-i.result c.constant_of.result
-      (slice_get_read c.args.things.now _ c.loop-i.i c.index-things-i.result refl c.loop-i-test.true c.index-things-i.is) c.constant_of.ensures c.set_constant.ensures.constants;
+      (slice_get_read c.args.things.now _ c.loop-i.i c.index-things-i.result refl c.loop-i-test.true c.index-things-i.is) c.constant_of.ensures
+      c.set_constant.ensures.constants;
 }
 
 pub returns-clause-constants : goal.returns-clause-constants

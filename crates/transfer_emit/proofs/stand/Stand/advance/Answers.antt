@@ -1,4 +1,4 @@
-use Rattle.std.proofs.Common.{◌≡◌, ◌<◌, ◌≤◌, ◌+◌, ℕ, List, length, drop, get_or, refl, sym, ◌∙◌, ap, arith, subst}
+use Rattle.std.proofs.Common.{◌≡◌, ◌<◌, ◌+◌, ℕ, List, length, drop, get_or, refl, sym, ◌∙◌, ap, arith, subst}
 use Rattle.std.proofs.lemmas.Option.{slice_get_read}
 use Rattle.mir_func.specs.declared.block.Block.{Block}
 use Rattle.mir_func.specs.declared.item.Item.{Item}
@@ -7,7 +7,8 @@ use Rattle.transfer_emit.specs.Stands.{IsBlockAt}
 use Rattle.transfer_emit.proofs.Standing.{fetch_block}
 use Rattle.transfer_emit.proofs.stand.Stand.advance.Goals as goal
 
-fetched : (blocks : List Block) (b k a j : ℕ) (items : List Item) (i : Item) → IsBlockAt blocks b items → k < length items → i ≡ get_or items k i → a ≡ b → j ≡ k →
+fetched : (blocks : List Block) (b k a j : ℕ) (items : List Item) (i : Item) → IsBlockAt blocks b items → k < length items → i ≡ get_or items k i → a ≡ b →
+    j ≡ k →
     fetch_in (drop a blocks) j ≡ Here i
 fetched blocks b k a j items i at within is block item =
     subst (λ (z : ℕ). fetch_in (drop z blocks) j ≡ Here i) (sym block)
