@@ -1,8 +1,8 @@
 -- A number's token on a path is that of a number which an item gives, or of 0. By induction over the path: what has it after an
 -- item had it before, or the item gives it.
-use Rattle.std.proofs.Common.{◌≡◌, ◌≢◌, ℕ, zero, suc, List, [], ◌∷◌, refl, sym, ap, ◌∙◌, subst, inl, inr, arith}
+use Rattle.std.proofs.Common.{◌≡◌, ℕ, zero, suc, List, [], ◌∷◌, refl, sym, ap, ◌∙◌, subst, inl, inr, arith}
 use Rattle.std.proofs.lemmas.Bool.Decides.{nat_tests, eqb_tells}
-use Rattle.std.specs.Prelude.{Option, Some, None, Contains, Bool, true, false, cond, nat_lt, not, ◌&&◌, nat_eq, slice_get, ◌⊎◌}
+use Rattle.std.specs.Prelude.{Option, Some, None, Contains, Bool, true, false, cond, nat_lt, not, ◌&&◌, nat_eq, ◌⊎◌}
 use Rattle.rv64_instr.specs.Instruction.{Instruction}
 use Rattle.rv64_instr.specs.Row.{Row, Fixes, Moves, Sets, Addresses, Loads, Stores, LoadsSlot, StoresSlot, Branches, Jumps, Calls, Returns, Unfit, row_of}
 use Rattle.mir_func.specs.declared.entry.OperandPair.{OperandPair}
@@ -13,11 +13,10 @@ use Rattle.mir_func.specs.declared.item.ItemKind.TheVariants.{Code, Mark, Phi}
 use Rattle.mir_func.specs.Variables.{is_same, overlaps}
 use Rattle.mir_meaning.proofs.Assignments.{same_is}
 use Rattle.mir_func.specs.declared.position.Pos.{Pos}
-use Rattle.mir_func.specs.declared.item.Item.{Item}
 use Rattle.mir_func.specs.Graph.{Program, Fetch, Here, Silent, Outside}
-use Rattle.mir_meaning.specs.Token.{Token, Entry, Made, Fixed, Tokens, Path, begin, onward, after_fetch, entry_tokens, sets_pointer}
-use Rattle.path_tokens.specs.Pullback.{Tracked, InRegister, InSlot, OfPair, OfVariable, OfNumber, token_of, token_back, Back, Was, New, Nameless, back}
-use Rattle.path_tokens.specs.Pullback.{put_back, back_register, slot_stored, back_row, back_code, back_value, back_mark}
+use Rattle.mir_meaning.specs.Token.{Entry, Fixed, Tokens, Path, begin, onward, after_fetch, entry_tokens, sets_pointer}
+use Rattle.path_tokens.specs.Pullback.{Tracked, InRegister, InSlot, OfPair, OfVariable, OfNumber, token_of, token_back, Back, Was, New, Nameless, back,
+    put_back, back_register, slot_stored, back_row, back_code, back_value, back_mark}
 use Rattle.path_tokens.proofs.Backwards.{tokens_pull_back}
 use Rattle.class_paths.specs.Classes.{IsKnown, KnowsRow, KnowsItem}
 use Rattle.class_paths.specs.Wanted.{AreThingsOf}

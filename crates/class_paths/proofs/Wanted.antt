@@ -1,5 +1,5 @@
 -- The first place by classes is wanted: a place sits with a variable exactly where they have one class.
-use Rattle.std.proofs.Common.{◌≡◌, ◌≢◌, ℕ, List, refl, sym, ap, ◌∙◌, subst}
+use Rattle.std.proofs.Common.{◌≡◌, ℕ, List, refl, sym, ◌∙◌}
 use Rattle.std.specs.Prelude.{Option, Some, None, Contains}
 use Rattle.rv64_instr.specs.declared.place.Place.{Place}
 use Rattle.rv64_instr.specs.declared.place.Place.TheVariants.{Register, Slot, Const}
@@ -7,9 +7,9 @@ use Rattle.rv64_instr.specs.Arithmetic.{word}
 use Rattle.mir_func.specs.declared.position.Pos.{Pos}
 use Rattle.mir_func.specs.declared.variable.VarId.{VarId}
 use Rattle.mir_func.specs.Graph.{Program}
-use Rattle.mir_meaning.specs.Token.{Token, Fixed, Tokens, Path, IsPlace, Precedes, IsWanted, NoneIsWanted, SitsIn, place_token, variable_token}
-use Rattle.path_tokens.specs.Pullback.{Tracked, InSlot, OfVariable, OfNumber, token_of, Share}
-use Rattle.class_paths.specs.Classes.{Classes, IsKnown, HaveOneClass, ShareOnPaths, AreClasses}
+use Rattle.mir_meaning.specs.Token.{Fixed, Tokens, IsPlace, SitsIn, place_token, variable_token}
+use Rattle.path_tokens.specs.Pullback.{Tracked, InSlot, OfVariable, token_of}
+use Rattle.class_paths.specs.Classes.{Classes, IsKnown, ShareOnPaths, AreClasses}
 use Rattle.class_paths.specs.Wanted.{thing_at, HasItsClass, IsFirstByClass, IsWantedOrNone, AreThingsOf, FirstByClassIsWanted, UnmarkedIsNowhere}
 use Rattle.class_paths.proofs.Known.{path_knows, path_bare, slot, variable}
 

@@ -1,5 +1,5 @@
 -- The place that is wanted for a part of a variable, by classes.
-use Rattle.std.specs.Prelude.{◌≡◌, ℕ, List, Contains, Option, Some, None}
+use Rattle.std.specs.Prelude.{◌≡◌, List, Contains, Option, Some, None}
 use Rattle.rv64_instr.specs.declared.place.Place.{Place}
 use Rattle.rv64_instr.specs.declared.place.Place.TheVariants.{Register, Slot, Const}
 use Rattle.rv64_instr.specs.Arithmetic.{word}
@@ -7,8 +7,8 @@ use Rattle.mir_func.specs.declared.position.Pos.{Pos}
 use Rattle.mir_func.specs.declared.variable.VarId.{VarId}
 use Rattle.mir_func.specs.declared.item.Item.{Item}
 use Rattle.mir_func.specs.Graph.{Program, Here}
-use Rattle.mir_meaning.specs.Token.{Fixed, Tokens, Path, IsPlace, Precedes, IsWanted, NoneIsWanted}
-use Rattle.path_tokens.specs.Pullback.{Tracked, InRegister, InSlot, OfVariable, OfNumber, token_of}
+use Rattle.mir_meaning.specs.Token.{IsPlace, Precedes, IsWanted, NoneIsWanted}
+use Rattle.path_tokens.specs.Pullback.{Tracked, InRegister, InSlot, OfVariable, OfNumber}
 use Rattle.class_paths.specs.Classes.{Classes, IsKnown, HaveOneClass, AreClasses, KnowsItem}
 
 -- what a place holds: a constant's number modulo 2^64

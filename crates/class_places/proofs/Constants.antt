@@ -1,30 +1,52 @@
 -- A table of numbers by their classes gets one more thing, and the place of a class is the first one by classes.
-use Rattle.std.proofs.Common.{◌≡◌, ◌≢◌, ℕ, zero, suc, ◌+◌, ◌-◌, ◌*◌, ◌/◌, ◌%◌, ◌<◌, ◌≤◌, List, [], ◌∷◌, map, length, get_or, arith, refl, sym, ◌∙◌, ap, subst}
-use Rattle.std.proofs.Common.{inl, inr, eqb-true, eq-eqb, ne_eqb, lt-ltb, lit<}
-use Rattle.std.specs.Prelude.{ℤ, pos, negsuc, Contains, Option, Some, None, IsSome, Bool, true, false, cond, nat_eq, nat_lt, slice_get, slice_index}
-use Rattle.std.specs.Prelude.{slice_index_or, ◌⊎◌}
+use Rattle.std.proofs.Common.{
+  ◌≡◌,
+  ◌≢◌,
+  ℕ,
+  ◌+◌,
+  ◌-◌,
+  ◌*◌,
+  ◌<◌,
+  ◌≤◌,
+  List,
+  map,
+  length,
+  arith,
+  refl,
+  sym,
+  ◌∙◌,
+  ap,
+  subst,
+  inl,
+  inr,
+  eqb-true,
+  eq-eqb,
+  lt-ltb,
+  lit<,
+}
+use Rattle.std.specs.Prelude.{ℤ, Contains, Option, Some, None, IsSome, Bool, true, false, cond, nat_eq, nat_lt, slice_get, slice_index, slice_index_or}
 use Rattle.std.proofs.lemmas.Bool.{cases_lt}
-use Rattle.std.proofs.lemmas.Bool.Decides.{nat_tests, eqb_tells}
+use Rattle.std.proofs.lemmas.Bool.Decides.{nat_tests}
 use Rattle.std.proofs.lemmas.Option.{slice_get_within}
 use Rattle.rv64_instr.specs.Arithmetic.{word}
 use Rattle.rv64_instr.specs.declared.place.Place.{Place}
 use Rattle.rv64_instr.specs.declared.place.Place.TheVariants as spot
 use Rattle.mir_func.specs.declared.variable.VarId.{VarId}
 use Rattle.mir_meaning.specs.Token.{IsPlace, Precedes}
-use Rattle.path_tokens.specs.Pullback.{InRegister, InSlot, OfPair, OfVariable, OfNumber}
+use Rattle.path_tokens.specs.Pullback.{InSlot, OfVariable, OfNumber}
 use Rattle.class_entries.specs.declared.tracked.Tracked.{Tracked}
 use Rattle.class_entries.specs.declared.tracked.Tracked.TheVariants.{Register, Slot, Pair, Part, Number}
 use Rattle.class_entries.specs.Entry.{thing}
-use Rattle.class_paths.specs.Classes.{Classes, HaveOneClass}
-use Rattle.class_paths.specs.Wanted.{thing_at, HasItsClass, IsFirstByClass}
+use Rattle.class_paths.specs.Classes.{Classes}
+use Rattle.class_paths.specs.Wanted.{HasItsClass, IsFirstByClass}
 use Rattle.class_places.specs.declared.index.Index.{Index}
 use Rattle.class_places.specs.declared.held.Held.{Held}
 use Rattle.class_places.specs.Things.{Settle}
-use Rattle.class_places.specs.Held.{SLOTS_FROM, PLACES, slot_place, Holds}
+use Rattle.class_places.specs.Held.{slot_place, Holds}
 use Rattle.class_places.specs.Firsts.{IsFirstBelow, AreFirsts}
 use Rattle.class_places.specs.Start.{IsConstantOf, AreConstantsBelow, AreConstants, constant_past, ConstantsNow}
-use Rattle.class_places.specs.Look.{place_at, place_by, constant_or, place_of}
-use Rattle.class_places.proofs.Starting.{Stands, stands, contained, is_number}
+use Rattle.class_places.specs.Look.{place_by, constant_or, place_of}
+use Rattle.class_places.proofs.Starting.{stands, contained, is_number}
 
 module _ (things : List Tracked) (settled : List ℕ) (class : Classes) (settle : Settle things settled class) (i : ℕ) (old new : List (Option ℤ))
     (below : AreConstantsBelow things i class old) where
@@ -77,14 +99,14 @@ module _ (things : List Tracked) (settled : List ℕ) (class : Classes) (settle 
       ((k : ℕ) → slice_index_or new k None ≡ constant_past o (slice_index settled i) k (slice_index_or old k None)) → AreConstantsBelow things (i + 1) class new
   constants_more (Number n) (Some c) at is step = constants_number n c at is.0 is.1 step
   constants_more (Number n) None at is step = absurd (is refl)
-  constants_more (Register r) o at is step = constants_kept (Register r) at (λ n e. cc) (λ k. step k ∙
-      ap (λ (z : Option ℤ). constant_past z (slice_index settled i) k (slice_index_or old k None)) is)
-  constants_more (Slot n) o at is step = constants_kept (Slot n) at (λ m e. cc) (λ k. step k ∙ ap (λ (z : Option ℤ). constant_past z (slice_index settled i) k
-      (slice_index_or old k None)) is)
-  constants_more (Pair q) o at is step = constants_kept (Pair q) at (λ n e. cc) (λ k. step k ∙ ap (λ (z : Option ℤ). constant_past z (slice_index settled i) k
-      (slice_index_or old k None)) is)
-  constants_more (Part v) o at is step = constants_kept (Part v) at (λ n e. cc) (λ k. step k ∙ ap (λ (z : Option ℤ). constant_past z (slice_index settled i) k
-      (slice_index_or old k None)) is)
+  constants_more (Register r) o at is step = constants_kept (Register r) at (λ n e. cc) (λ k. step k
+      ∙ ap (λ (z : Option ℤ). constant_past z (slice_index settled i) k (slice_index_or old k None)) is)
+  constants_more (Slot n) o at is step = constants_kept (Slot n) at (λ m e. cc) (λ k. step k
+      ∙ ap (λ (z : Option ℤ). constant_past z (slice_index settled i) k (slice_index_or old k None)) is)
+  constants_more (Pair q) o at is step = constants_kept (Pair q) at (λ n e. cc) (λ k. step k
+      ∙ ap (λ (z : Option ℤ). constant_past z (slice_index settled i) k (slice_index_or old k None)) is)
+  constants_more (Part v) o at is step = constants_kept (Part v) at (λ n e. cc) (λ k. step k
+      ∙ ap (λ (z : Option ℤ). constant_past z (slice_index settled i) k (slice_index_or old k None)) is)
 
 -- ---- a place by its class
 
@@ -134,8 +156,8 @@ module _ (variables : List VarId) (things : List Tracked) (index : Index) (settl
       named = (
         lt,
         (λ e. let p = first.0 in omega (arith, p, e)),
-        (λ e. some (sym first.2 ∙ (ap (slice_index h.places.items) e ∙ (holds.registers 2 (lit< tt) ∙
-            holds.pointer)))),
+        (λ e. some (sym first.2 ∙ (ap (slice_index h.places.items) e
+            ∙ (holds.registers 2 (lit< tt) ∙ holds.pointer)))),
       );
       known = lt;
       one = (sym first.2 ∙ holds.registers k lt, some);
@@ -172,15 +194,15 @@ module _ (variables : List VarId) (things : List Tracked) (index : Index) (settl
       IsFirstByClass (map thing things) class v (place_by o)
   at_first some none None first = nowhere some none first
   at_first some none (Some k) first = elim (cases_lt k 32) [
-    | inl lt ↦ subst (λ (z : Bool). IsFirstByClass (map thing things) class v (Some (cond z (spot.Register k) (spot.Slot (8 * (k - 32)))))) (sym (lt-ltb k 32
-        lt)) (at_register k some none first lt)
+    | inl lt ↦ subst (λ (z : Bool). IsFirstByClass (map thing things) class v (Some (cond z (spot.Register k) (spot.Slot (8 * (k - 32)))))) (sym
+        (lt-ltb k 32 lt)) (at_register k some none first lt)
     | inr le ↦ let no : nat_lt k 32 ≡ false = grind (arith, nat_tests, le) in
-        subst (λ (z : Bool). IsFirstByClass (map thing things) class v (Some (cond z (spot.Register k) (spot.Slot (8 * (k - 32)))))) (sym no) (at_slot k some
-        none first le)
+        subst (λ (z : Bool). IsFirstByClass (map thing things) class v (Some (cond z (spot.Register k) (spot.Slot (8 * (k - 32)))))) (sym no)
+        (at_slot k some none first le)
   ]
 
-  at_constant : own ≢ 0 → (o : Option ℤ) → slice_index_or constants own None ≡ o → IsFirstByClass (map thing things) class v (constant_or o (place_by
-      (slice_index_or firsts own None)))
+  at_constant : own ≢ 0 → (o : Option ℤ) → slice_index_or constants own None ≡ o →
+      IsFirstByClass (map thing things) class v (constant_or o (place_by (slice_index_or firsts own None)))
   at_constant some (Some c) e =
       let o = now.only own c e in
       (record { named = o.0; known = o.1; one = (sym o.2, some) }, before) where

@@ -1,15 +1,39 @@
 -- What is known at the start of a block gives classes. A thing's class is that of the first one like it in the list, and two
 -- that are alike on all paths have one class and one bit.
-use Rattle.std.proofs.Common.{◌≡◌, ◌≢◌, ℕ, zero, suc, ◌+◌, ◌<◌, List, [], ◌∷◌, map, length, get_or, arith, refl, sym, ◌∙◌, ap, subst, inl, inr, eqb-true}
-use Rattle.std.proofs.Common.{eq-eqb, true, false, lit<}
-use Rattle.std.specs.Prelude.{◌↔◌, Contains, Option, Some, None, IsSome, IsTrue, Bool, cond, ◌&&◌, nat_eq, slice_get, slice_index, slice_index_or, ◌⊎◌}
+use Rattle.std.proofs.Common.{
+  ◌≡◌,
+  ◌≢◌,
+  ℕ,
+  zero,
+  suc,
+  ◌<◌,
+  List,
+  [],
+  ◌∷◌,
+  map,
+  length,
+  get_or,
+  arith,
+  refl,
+  sym,
+  ◌∙◌,
+  ap,
+  subst,
+  inl,
+  inr,
+  eqb-true,
+  eq-eqb,
+  true,
+  false,
+}
+use Rattle.std.specs.Prelude.{Contains, Option, Some, None, IsSome, IsTrue, Bool, cond, ◌&&◌, nat_eq, slice_get, slice_index}
 use Rattle.std.proofs.lemmas.Bool.{and_parts, and_from}
-use Rattle.std.proofs.lemmas.Bool.Decides.{nat_tests, eqb_tells}
-use Rattle.std.proofs.lemmas.Option.{slice_get-get_or, slice_get_within, get_or_from_slice_get}
+use Rattle.std.proofs.lemmas.Bool.Decides.{eqb_tells}
+use Rattle.std.proofs.lemmas.Option.{slice_get-get_or, slice_get_within}
 use Rattle.mir_func.specs.declared.variable.VarId.{VarId}
 use Rattle.mir_func.specs.Variables.{is_same}
 use Rattle.mir_func.specs.Graph.{Program, block_start}
-use Rattle.mir_meaning.specs.Token.{Token, Tokens, Path}
+use Rattle.mir_meaning.specs.Token.{Token}
 use Rattle.mir_meaning.proofs.Assignments.{same_refl, same_is}
 use Rattle.path_tokens.specs.Pullback as path
 use Rattle.path_tokens.specs.Pullback.{InRegister, InSlot, OfPair, OfVariable, OfNumber, token_of, Share}
@@ -23,7 +47,7 @@ use Rattle.class_paths.specs.Wanted.{AreThingsOf}
 use Rattle.class_paths.proofs.Known.{path_bare, pointer}
 use Rattle.class_places.specs.Things.{AreThings, Settle, settled_at}
 use Rattle.class_places.specs.Entering.{EntriesGiveClasses}
-use Rattle.class_places.proofs.Starting.{Stands, stands, contained}
+use Rattle.class_places.proofs.Starting.{stands, contained}
 
 -- ---- one thing
 
@@ -190,8 +214,8 @@ module _ (g : Program) (variables : List VarId) (things : List Tracked) (b : ℕ
   register_settled i r here = elim (eqb_tells r 2) [
     | inl two ↦ none_settled i (Register r) here (subst (λ (z : ℕ). HasNone g b (InRegister z)) (sym two.1) pointer_none)
         ∙ sym (ap (λ (z : Bool). cond z 0 (cond (nat_eq r 0) (class_in things settled (OfNumber 0)) (class_in things settled (InRegister r)))) two.0)
-    | inr other ↦ not_two ∙ sym (ap (λ (z : Bool). cond z 0 (cond (nat_eq r 0) (class_in things settled (OfNumber 0)) (class_in things settled (InRegister
-        r)))) other.0)
+    | inr other ↦ not_two ∙ sym (ap (λ (z : Bool). cond z 0 (cond (nat_eq r 0) (class_in things settled (OfNumber 0)) (class_in things settled
+        (InRegister r)))) other.0)
   ] where
     not_two : slice_index settled i ≡ cond (nat_eq r 0) (class_in things settled (OfNumber 0)) (class_in things settled (InRegister r))
     not_two = elim (eqb_tells r 0) [
@@ -200,8 +224,8 @@ module _ (g : Program) (variables : List VarId) (things : List Tracked) (b : ℕ
           alike_settled i f.index (Register r) f.item here f.at
           (λ n t p. ap (λ (z : ℕ). token_of (InRegister z) t) none.1 ∙ ap (λ (z : path.Tracked). token_of z t) (sym f.is)) ∙ (f.class_is
           ∙ sym (ap (λ (z : Bool). cond z (class_in things settled (OfNumber 0)) (class_in things settled (InRegister r))) none.0))
-      | inr some ↦ found_is i (Register r) here ∙ sym (ap (λ (z : Bool). cond z (class_in things settled (OfNumber 0)) (class_in things settled (InRegister
-          r))) some.0)
+      | inr some ↦ found_is i (Register r) here ∙ sym (ap (λ (z : Bool). cond z (class_in things settled (OfNumber 0)) (class_in things settled
+          (InRegister r))) some.0)
     ]
 
   settled_is : (i : ℕ) (x : Tracked) → slice_get things i ≡ Some x → slice_index settled i ≡ class_of (thing x)

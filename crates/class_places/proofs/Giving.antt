@@ -1,7 +1,6 @@
 -- A loop over operands gives pairs their registers' classes.
-use Rattle.std.proofs.Common.{◌≡◌, ℕ, ◌+◌, ◌<◌, ◌≤◌, List, length, get_or, arith, refl, sym, ◌∙◌, ap, subst, inl, inr, eqb-true, eq-eqb, ne_eqb}
+use Rattle.std.proofs.Common.{◌≡◌, ℕ, ◌+◌, ◌<◌, ◌≤◌, List, length, get_or, arith, refl, sym, ◌∙◌, ap, inl, inr, eq-eqb, ne_eqb}
 use Rattle.std.specs.Prelude.{Option, Some, None, Bool, true, false, cond, ◌&&◌, nat_eq, nat_lt, slice_get}
-use Rattle.std.specs.HashMap.{get}
 use Rattle.std.proofs.lemmas.Bool.Decides.{nat_tests, eqb_tells}
 use Rattle.std.proofs.lemmas.Option.{slice_get_past, slice_get_read}
 use Rattle.rv64_instr.specs.declared.operand.Operand.{Operand}
@@ -31,8 +30,8 @@ module _ (call : Bool) (k : ℕ) (operands : List Operand) (places : List ℕ) (
     | inr h ↦
         let off : is_key (k, i) (m, p) ≡ false = ap (λ (z : Bool). nat_eq k m && z) (ne_eqb i p (λ e. h.1 (sym e))) ∙ and_false (nat_eq k m) in
         step (m, p) ∙ (ap (λ (z : Bool). cond z (operand_class places (defined call (Some operand)) (now (m, p))) (now (m, p))) off
-        ∙ (below m p ∙ ap (λ (z : Bool). cond (nat_eq k m && z) (operand_class places (defined call (slice_get operands p)) (old (m, p))) (old (m, p))) (other
-        p h.1)))
+        ∙ (below m p ∙ ap (λ (z : Bool). cond (nat_eq k m && z) (operand_class places (defined call (slice_get operands p)) (old (m, p))) (old (m, p)))
+        (other p h.1)))
   ] where
     other : (p : ℕ) → (p ≡ i → ⊥) → nat_lt p i ≡ nat_lt p (i + 1)
     other p ne = grind (arith, nat_tests)
@@ -45,8 +44,8 @@ module _ (call : Bool) (k : ℕ) (operands : List Operand) (places : List ℕ) (
         let on : nat_lt p (i + 1) ≡ true = grind (arith, nat_tests, e) in
         let was : nat_lt p i ≡ false = grind (arith, nat_tests, e) in
         let key : is_key (k, i) (m, p) ≡ nat_eq k m = ap (λ (z : Bool). nat_eq k m && z) (eq-eqb i p (sym e)) ∙ and_true (nat_eq k m) in
-        let before : now (m, p) ≡ old (m, p) = below m p ∙ ap (λ (z : Bool). cond z (operand_class places (defined call (slice_get operands p)) (old (m, p)))
-        (old (m, p)))
+        let before : now (m, p) ≡ old (m, p) = below m p ∙ ap (λ (z : Bool). cond z (operand_class places (defined call (slice_get operands p)) (old
+        (m, p))) (old (m, p)))
         (ap (λ (z : Bool). nat_eq k m && z) was ∙ and_false (nat_eq k m)) in
         let at_operand : Some operand ≡ slice_get operands p = sym item ∙ ap (slice_get operands) (sym e) in
         step (m, p) ∙ (ap (λ (z : Bool). cond z (operand_class places (defined call (Some operand)) (now (m, p))) (now (m, p))) key

@@ -1,12 +1,12 @@
 -- An index gets one more thing.
 use Rattle.std.proofs.Common.{◌≡◌, ℕ, ◌+◌, ◌<◌, List, arith, refl, sym, ◌∙◌, ap, subst, inl, inr, eqb-true, eq-eqb}
-use Rattle.std.specs.Prelude.{Option, Some, None, IsSome, Bool, true, false, cond, ◌⊎◌, ◌&&◌, nat_eq, slice_get}
+use Rattle.std.specs.Prelude.{Option, Some, IsSome, Bool, true, false, cond, nat_eq, slice_get}
 use Rattle.std.specs.HashMap.{get}
 use Rattle.std.proofs.lemmas.Bool.{and_parts, and_from}
-use Rattle.std.proofs.lemmas.Bool.Decides.{nat_tests, eqb_tells}
+use Rattle.std.proofs.lemmas.Bool.Decides.{eqb_tells}
 use Rattle.mir_func.specs.declared.entry.OperandPair.{OperandPair}
 use Rattle.class_entries.specs.declared.tracked.Tracked.{Tracked}
-use Rattle.class_entries.specs.declared.tracked.Tracked.TheVariants.{Register, Slot, Pair, Part, Number}
+use Rattle.class_entries.specs.declared.tracked.Tracked.TheVariants.{Pair, Number}
 use Rattle.class_places.specs.declared.index.Index.{Index}
 use Rattle.class_places.specs.Things.{is_key, IndexesBelow}
 

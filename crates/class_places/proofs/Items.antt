@@ -1,6 +1,29 @@
 -- Classes past an item are held: of code, of a mark, of a phi.
-use Rattle.std.proofs.Common.{◌≡◌, ◌≢◌, ℕ, zero, suc, ◌+◌, ◌-◌, ◌*◌, ◌<◌, ◌≤◌, List, [], ◌∷◌, map, length, get_or, arith, refl, sym, ◌∙◌, ap, subst, inl, inr}
-use Rattle.std.proofs.Common.{eqb-true, eq-eqb, ne_eqb, lit<}
+use Rattle.std.proofs.Common.{
+  ◌≡◌,
+  ◌≢◌,
+  ℕ,
+  ◌+◌,
+  ◌-◌,
+  ◌*◌,
+  ◌<◌,
+  ◌≤◌,
+  List,
+  map,
+  length,
+  arith,
+  refl,
+  sym,
+  ◌∙◌,
+  ap,
+  subst,
+  inl,
+  inr,
+  eqb-true,
+  eq-eqb,
+  ne_eqb,
+  lit<,
+}
 use Rattle.std.specs.Prelude.{Contains, Option, Some, None, Bool, true, false, cond, ◌&&◌, nat_eq, slice_get, slice_index}
 use Rattle.std.specs.HashMap.{get}
 use Rattle.std.proofs.lemmas.Option.{slice_get-get_or, slice_get_within, get_or_from_slice_get}
@@ -15,23 +38,43 @@ use Rattle.mir_func.specs.declared.entry.OperandPair.{OperandPair}
 use Rattle.mir_func.specs.declared.variable.VarId.{VarId}
 use Rattle.mir_func.specs.declared.variable.MarkValue.{MarkValue}
 use Rattle.mir_func.specs.declared.variable.MarkValue.TheVariants.{Nothing, Constant, At, Pair}
-use Rattle.mir_func.specs.declared.item.ItemKind.{ItemKind}
-use Rattle.mir_func.specs.declared.item.ItemKind.TheVariants.{Code, Mark, Phi}
+use Rattle.mir_func.specs.declared.item.ItemKind.TheVariants.{Code}
 use Rattle.mir_func.specs.Variables.{is_same, overlaps}
 use Rattle.mir_meaning.specs.Step.{defined}
 use Rattle.path_tokens.specs.Pullback as path
-use Rattle.path_tokens.specs.Pullback.{InRegister, InSlot, OfPair, OfVariable, OfNumber, Back, Was, New, Nameless, put_back, back_register, back_slot, back_row}
-use Rattle.path_tokens.specs.Pullback.{given_back, back_code, back_value, back_pair, back_place, back_mark, back_phi, back}
+use Rattle.path_tokens.specs.Pullback.{
+  InRegister,
+  InSlot,
+  OfPair,
+  OfVariable,
+  OfNumber,
+  Back,
+  Was,
+  New,
+  Nameless,
+  put_back,
+  back_register,
+  back_slot,
+  back_row,
+  given_back,
+  back_code,
+  back_value,
+  back_pair,
+  back_place,
+  back_mark,
+  back_phi,
+  back,
+}
 use Rattle.class_entries.specs.declared.tracked.Tracked.{Tracked}
 use Rattle.class_entries.specs.Entry.{thing}
-use Rattle.class_paths.specs.Classes.{Classes, IsKnown, KnowsRow, KnowsPair, KnowsValue, KnowsPlace, DefinePhysical, KnowsItem, class_back}
+use Rattle.class_paths.specs.Classes.{Classes, IsKnown, KnowsRow, KnowsPair, KnowsValue, KnowsPlace, DefinePhysical, class_back}
 use Rattle.class_paths.proofs.Passing.{Knows, known_back}
-use Rattle.class_paths.proofs.Known.{StaysBare, IsBare, pointer, bare_stays}
+use Rattle.class_paths.proofs.Known.{StaysBare, pointer, bare_stays}
 use Rattle.class_places.specs.declared.index.Index.{Index}
 use Rattle.class_places.specs.declared.held.Held.{Held}
 use Rattle.class_places.specs.Things.{is_key}
-use Rattle.class_places.specs.Held.{SLOTS_FROM, PLACES, slot_place, class_at, number_class, given_or, pair_class, Holds, Passes, places_past, part_past}
-use Rattle.class_places.specs.Held.{resolved_class, value_class, at_class, place_class, operand_class}
+use Rattle.class_places.specs.Held.{SLOTS_FROM, PLACES, slot_place, class_at, number_class, given_or, pair_class, Holds, places_past, part_past}
+use Rattle.class_places.specs.Held.{resolved_class, value_class, place_class, operand_class}
 use Rattle.class_places.proofs.Rows.{Before, register_past, slot_past, slots_known_past}
 
 key_apart : (k o m p : ℕ) → is_key (k, o) (m, p) ≡ cond (nat_eq k m) (nat_eq o p) false
@@ -60,8 +103,7 @@ module _ (variables : List VarId) (things : List Tracked) (index : Index) (settl
     slots = holds.slots;
     offsets = holds.offsets;
     slots_known = holds.slots_known;
-    numbers =
-        holds.numbers;
+    numbers = holds.numbers;
     pointer = holds.pointer;
   }
 
@@ -153,12 +195,10 @@ module _ (variables : List VarId) (things : List Tracked) (index : Index) (settl
           ap (λ (z : Option ℕ). given_or z start) (pairs m o)
           ∙ (ap (λ (z : Bool). given_or (cond z (operand_class k.places.items d (get is_key h.pairs (m, o))) (get is_key h.pairs (m, o))) start) e
           ∙ at (nat_eq m n)) where
-            at : (z : Bool) → given_or (cond z (operand_class k.places.items (defined (is_call (row_of i)) (slice_get i.operands o)) (get is_key h.pairs (
-              m,
-              o,
-            ))) (get is_key h.pairs (m, o))) start
-                ≡ class_back class fresh (cond z (given_back 0 (row_of i) (defined (is_call (row_of i)) (slice_get i.operands o)) (OfPair m o)) (Was (OfPair m
-                o)))
+            at : (z : Bool) → given_or (cond z (operand_class k.places.items (defined (is_call (row_of i)) (slice_get i.operands o)) (get is_key h.pairs
+                (m, o))) (get is_key h.pairs (m, o))) start
+                ≡ class_back class fresh (cond z (given_back 0 (row_of i) (defined (is_call (row_of i)) (slice_get i.operands o)) (OfPair m o)) (Was
+                (OfPair m o)))
             at true = by_operand (defined (is_call (row_of i)) (slice_get i.operands o)) (physical o)
             at false = holds.pairs m o c
 
@@ -238,8 +278,8 @@ module _ (variables : List VarId) (things : List Tracked) (index : Index) (settl
     zero = holds.zero;
     pointer = holds.pointer;
   } where
-    part_is : (j : ℕ) (w : VarId) → slice_get variables j ≡ Some w → slice_get k.parts.items j ≡ Some (class_back class fresh (back_mark resolve v m
-        (OfVariable w)))
+    part_is : (j : ℕ) (w : VarId) → slice_get variables j ≡ Some w →
+        slice_get k.parts.items j ≡ Some (class_back class fresh (back_mark resolve v m (OfVariable w)))
     part_is j w e =
         let within : j < length k.parts.items = omega (arith, slice_get_within variables j w e, count) in
         let old : slice_index h.parts.items j ≡ class (OfVariable w) = get_or_from_slice_get h.parts.items j (class (OfVariable w)) 0 (holds.parts j w e) in
@@ -247,7 +287,8 @@ module _ (variables : List VarId) (things : List Tracked) (index : Index) (settl
         parts j w e
         ∙ (ap (part_past v (value_class index settled resolve h m) w) old
         ∙ (ap (λ (z : ℕ). part_past v z w (class (OfVariable w))) (value_is resolve m knows)
-        ∙ (ap (λ (z : ℕ). cond (is_same w v) (class_back class fresh (back_value resolve m)) z) (sym (class_if (overlaps w v) Nameless (Was (OfVariable w))))
+        ∙ (ap (λ (z : ℕ). cond (is_same w v) (class_back class fresh (back_value resolve m)) z) (sym (class_if (overlaps w v) Nameless (Was
+        (OfVariable w))))
         ∙ sym (class_if (is_same w v) (back_value resolve m) (cond (overlaps w v) Nameless (Was (OfVariable w))))))) in
         slice_get-get_or k.parts.items j 0 within ∙ ap (λ (z : ℕ). Some z) new
 
@@ -297,16 +338,14 @@ module _ (variables : List VarId) (things : List Tracked) (index : Index) (settl
     by_tests m o c false b = holds.pairs m o c
 
     tests_are : (m o : ℕ) → is_key (n, 0) (m, o) ≡ cond (nat_eq m n) (nat_eq o 0) false
-    tests_are m o = key_apart n 0 m o ∙ (ap (λ (z : Bool). cond z (nat_eq 0 o) false) (eq_swap n m) ∙
-        ap (λ (z : Bool). cond (nat_eq m n) z false) (eq_swap 0 o))
+    tests_are m o = key_apart n 0 m o ∙ (ap (λ (z : Bool). cond z (nat_eq 0 o) false) (eq_swap n m)
+        ∙ ap (λ (z : Bool). cond (nat_eq m n) z false) (eq_swap 0 o))
 
     pair_is : (m o : ℕ) → Contains known (OfPair m o) → pair_class index settled k m o ≡ class_back class fresh (back_phi p n (OfPair m o))
     pair_is m o c =
         ap (λ (z : Option ℕ). given_or z (class_at settled (get is_key index.pairs (m, o)))) (pairs (m, o))
-        ∙ (ap (λ (z : Bool). given_or (cond z (Some (place_class index settled h p)) (get is_key h.pairs (m, o))) (class_at settled (get is_key index.pairs (
-          m,
-          o,
-        )))) (tests_are m o)
+        ∙ (ap (λ (z : Bool). given_or (cond z (Some (place_class index settled h p)) (get is_key h.pairs (m, o))) (class_at settled (get is_key index.pairs
+        (m, o)))) (tests_are m o)
         ∙ by_tests m o c (nat_eq m n) (nat_eq o 0))
 
   -- code with a number, in its two steps: the places, and then the pairs
@@ -323,9 +362,9 @@ module _ (variables : List VarId) (things : List Tracked) (index : Index) (settl
       (kparts ∙ parts) (knext ∙ ap (λ (z : ℕ). z + 32) next) n
       (λ m o. given m o
       ∙ (ap (λ q. cond (nat_eq n m) (operand_class mid.places.items (defined call (slice_get operands o)) (get is_key q (m, o))) (get is_key q (m, o))) pairs
-      ∙ (ap (λ z. cond (nat_eq n m) (operand_class z.items (defined call (slice_get operands o)) (get is_key h.pairs (m, o))) (get is_key h.pairs (m, o))) (sym
-      kplaces)
-      ∙ (ap (λ (z : Bool). cond (nat_eq n m) (operand_class k.places.items (defined z (slice_get operands o)) (get is_key h.pairs (m, o))) (get is_key h.pairs
-      (m, o))) calls
+      ∙ (ap (λ z. cond (nat_eq n m) (operand_class z.items (defined call (slice_get operands o)) (get is_key h.pairs (m, o))) (get is_key h.pairs (m, o)))
+      (sym kplaces)
+      ∙ (ap (λ (z : Bool). cond (nat_eq n m) (operand_class k.places.items (defined z (slice_get operands o)) (get is_key h.pairs (m, o)))
+      (get is_key h.pairs (m, o))) calls
       ∙ ap (λ (z : List Operand). cond (nat_eq n m) (operand_class k.places.items (defined (is_call (row_of i)) (slice_get z o)) (get is_key h.pairs (m, o)))
       (get is_key h.pairs (m, o))) same))))

@@ -1,6 +1,6 @@
 -- Steps of loops over the places.
-use Rattle.std.proofs.Common.{◌≡◌, ◌≢◌, ℕ, ◌+◌, ◌<◌, ◌≤◌, List, length, get_or, arith, refl, sym, ◌∙◌, ap, subst, inl, inr, get_or-set_same, get_or-set_other}
-use Rattle.std.specs.Prelude.{Bool, true, false, cond, nat_eq, nat_lt, slice_set}
+use Rattle.std.proofs.Common.{◌≡◌, ℕ, ◌+◌, ◌<◌, List, length, get_or, arith, refl, sym, ◌∙◌, ap, subst, inl, inr, get_or-set_same, get_or-set_other}
+use Rattle.std.specs.Prelude.{Bool, true, false, cond, nat_lt, slice_set}
 use Rattle.std.proofs.lemmas.Bool.{cases_lt}
 use Rattle.std.proofs.lemmas.Bool.Decides.{nat_tests, eqb_tells}
 
@@ -23,8 +23,8 @@ at_this a b r = let k : nat_lt r r ≡ false = grind (arith, nat_tests) in rw k 
 module _ (saved : ℕ → Bool) (next : ℕ) (old : List ℕ) (r : ℕ) (places : List ℕ) (renewed : RenewedBelow saved next old r places) where
   pub renewed_set : r < length places → saved r ≡ true → RenewedBelow saved next old (r + 1) (slice_set places r (next + r))
   renewed_set room on j = elim (eqb_tells j r) [
-    | inl h ↦ subst (λ (z : ℕ). get_or (slice_set places r (next + r)) z 0 ≡ cond (nat_lt z (r + 1)) (cond (saved z) (next + z) (get_or old z 0)) (get_or old z
-        0)) (sym h.1)
+    | inl h ↦ subst (λ (z : ℕ). get_or (slice_set places r (next + r)) z 0 ≡ cond (nat_lt z (r + 1)) (cond (saved z) (next + z) (get_or old z 0))
+        (get_or old z 0)) (sym h.1)
         (get_or-set_same places r (next + r) 0 room ∙
         sym (at_next (cond (saved r) (next + r) (get_or old r 0)) (get_or old r 0) r ∙ ap (λ (z : Bool). cond z (next + r) (get_or old r 0)) on))
     | inr h ↦ get_or-set_other places r j (next + r) 0 h.1 ∙ (renewed j ∙ below_next (cond (saved j) (next + j) (get_or old j 0)) (get_or old j 0) j r h.1)

@@ -1,17 +1,52 @@
 -- Places past code: registers and slots have the classes by what stood before the code. By the row.
-use Rattle.std.proofs.Common.{◌≡◌, ◌≢◌, ℕ, zero, suc, ◌+◌, ◌-◌, ◌*◌, ◌/◌, ◌%◌, ◌<◌, ◌≤◌, List, [], ◌∷◌, map, length, get_or, arith, refl, sym, ◌∙◌, ap, subst}
-use Rattle.std.proofs.Common.{inl, inr, eqb-true, eq-eqb, ne_eqb, lt-ltb}
-use Rattle.std.specs.Prelude.{Contains, Option, Some, None, Bool, true, false, cond, ◌||◌, nat_eq, nat_lt}
+use Rattle.std.proofs.Common.{
+  ◌≡◌,
+  ◌≢◌,
+  ℕ,
+  zero,
+  suc,
+  ◌+◌,
+  ◌-◌,
+  ◌*◌,
+  ◌<◌,
+  ◌≤◌,
+  List,
+  arith,
+  refl,
+  sym,
+  ◌∙◌,
+  ap,
+  subst,
+  inl,
+  inr,
+  eqb-true,
+  eq-eqb,
+  ne_eqb,
+  lt-ltb,
+}
+use Rattle.std.specs.Prelude.{Contains, Bool, true, false, cond, ◌||◌, nat_eq, nat_lt}
 use Rattle.std.specs.List.{list_any}
 use Rattle.std.proofs.lemmas.Bool.Decides.{nat_tests, eqb_tells}
 use Rattle.rv64_instr.specs.Row.{Row, Fixes, Moves, Sets, Addresses, Loads, Stores, LoadsSlot, StoresSlot, Branches, Jumps, Calls, Returns, Unfit}
 use Rattle.rv64_instr.specs.Access.{caller_saved}
-use Rattle.mir_meaning.specs.Token.{sets_pointer}
 use Rattle.path_tokens.specs.Pullback as path
-use Rattle.path_tokens.specs.Pullback.{InRegister, InSlot, OfPair, OfVariable, OfNumber, Back, Was, New, Nameless, put_back, back_register, slot_stored}
-use Rattle.path_tokens.specs.Pullback.{back_slot}
+use Rattle.path_tokens.specs.Pullback.{
+  InRegister,
+  InSlot,
+  OfPair,
+  OfVariable,
+  OfNumber,
+  Back,
+  Was,
+  New,
+  Nameless,
+  put_back,
+  back_register,
+  slot_stored,
+  back_slot,
+}
 use Rattle.class_paths.specs.Classes.{Classes, KnowsRow, class_back}
-use Rattle.class_places.specs.Things.{IsOffset, MAX_OFFSET}
+use Rattle.class_places.specs.Things.{IsOffset}
 use Rattle.class_places.specs.Held.{SLOTS_FROM, PLACES, slot_place, put, places_past}
 
 -- ---- a register that is put
@@ -31,8 +66,8 @@ put_here rd c places lt some apart = grind (arith, nat_tests)
 pub put_above : (rd c : ℕ) (places : ℕ → ℕ) (i : ℕ) → 32 ≤ i → put rd c places i ≡ cond (nat_eq rd 2) 0 (places i)
 put_above rd c places i le = grind (arith, nat_tests)
 
-cond_class : (class : Classes) (fresh : ℕ → ℕ) (b : Bool) (x y : Back) → class_back class fresh (cond b x y) ≡ cond b (class_back class fresh x) (class_back
-    class fresh y)
+cond_class : (class : Classes) (fresh : ℕ → ℕ) (b : Bool) (x y : Back) →
+    class_back class fresh (cond b x y) ≡ cond b (class_back class fresh x) (class_back class fresh y)
 cond_class class fresh true x y = refl
 cond_class class fresh false x y = refl
 
@@ -80,8 +115,8 @@ module _ (things : List path.Tracked) (class : Classes) (number : ℕ → ℕ) (
 
     by_test : (t : Bool) → nat_eq (suc r) (suc rd) ≡ t → put (suc rd) c places (suc r) ≡ of (cond t (cond (nat_eq rd 1) Nameless b) (Was (InRegister (suc r))))
     by_test true h = at_pointer (nat_eq rd 1) refl (eqb-true (suc r) (suc rd) h)
-    by_test false h = put_other (suc rd) c places (suc r) lt (λ s. let on : nat_eq (suc r) (suc rd) ≡ true = eq-eqb (suc r) (suc rd) s in
-        cc) ∙ is.registers (suc r) lt
+    by_test false h = put_other (suc rd) c places (suc r) lt (λ s. let on : nat_eq (suc r) (suc rd) ≡ true = eq-eqb (suc r) (suc rd) s in cc)
+        ∙ is.registers (suc r) lt
 
   pub register_past : (row : Row) (r : ℕ) → KnowsRow things row → r < 32 → places_past number next row places r ≡ of (back_register 0 row r)
   register_past (Fixes rd c) r k lt = put_is rd (number c) (Was (OfNumber c)) r lt (λ e. is.numbers c k)
@@ -167,8 +202,8 @@ module _ (things : List path.Tracked) (class : Classes) (number : ℕ → ℕ) (
         subst (λ (z : ℕ). Contains things (InSlot z)) (sym same) k.1
     | inr h ↦ is.slots_known i le (λ none. some (ap (λ (z : Bool). cond z (cond (nat_lt i PLACES) (places rs) 0) (places i)) h.0 ∙ none))
   ]
-  slots_known_past (Calls name args) i k le some = is.slots_known i le (λ none. some (ap (λ (z : Bool). cond z (next + i) (places i)) (saved_below i le) ∙
-      none))
+  slots_known_past (Calls name args) i k le some = is.slots_known i le (λ none. some (ap (λ (z : Bool). cond z (next + i) (places i)) (saved_below i le)
+      ∙ none))
   slots_known_past (Stores op rs base offset) i k le some = is.slots_known i le some
   slots_known_past (Branches op a b target) i k le some = is.slots_known i le some
   slots_known_past (Jumps target) i k le some = is.slots_known i le some

@@ -1,14 +1,11 @@
 -- Classes at the start of a block are held: each thing's class is placed where the thing stands.
-use Rattle.std.proofs.Common.{◌≡◌, ◌≢◌, ℕ, zero, suc, ◌+◌, ◌-◌, ◌*◌, ◌/◌, ◌%◌, ◌<◌, ◌≤◌, List, [], ◌∷◌, map, length, take, get_or, arith, refl, sym, ◌∙◌, ap}
-use Rattle.std.proofs.Common.{subst, inl, inr, eqb-true, eq-eqb, ne_eqb, lt-ltb}
-use Rattle.std.specs.Prelude.{Contains, Option, Some, None, IsSome, Bool, true, false, cond, ◌&&◌, nat_eq, nat_lt, slice_get, slice_index, ◌⊎◌}
+use Rattle.std.proofs.Common.{◌≡◌, ◌≢◌, ℕ, ◌+◌, ◌-◌, ◌*◌, ◌<◌, ◌≤◌, List, map, length, arith, refl, sym, ◌∙◌, ap, subst, inl, inr, eqb-true, eq-eqb, lt-ltb}
+use Rattle.std.specs.Prelude.{Contains, Option, Some, None, IsSome, Bool, true, false, cond, nat_eq, nat_lt, slice_get, slice_index}
 use Rattle.std.specs.Option.{option_map}
 use Rattle.std.specs.HashMap.{get}
-use Rattle.std.proofs.lemmas.Bool.{and_parts, and_from, cases_lt}
+use Rattle.std.proofs.lemmas.Bool.{and_parts, and_from}
 use Rattle.std.proofs.lemmas.Bool.Decides.{nat_tests, eqb_tells}
 use Rattle.std.proofs.lemmas.Option.{slice_get-get_or, slice_get_within, get_or_from_slice_get, slice_get-map}
-use Rattle.std.proofs.lemmas.List.{length-map, get_or-take}
-use Rattle.mir_func.specs.declared.entry.OperandPair.{OperandPair}
 use Rattle.mir_func.specs.declared.variable.VarId.{VarId}
 use Rattle.path_tokens.specs.Pullback as path
 use Rattle.path_tokens.specs.Pullback.{InRegister, InSlot, OfPair, OfVariable, OfNumber}
@@ -19,7 +16,7 @@ use Rattle.class_paths.specs.Classes.{Classes, IsKnown}
 use Rattle.class_places.specs.declared.index.Index.{Index}
 use Rattle.class_places.specs.declared.held.Held.{Held}
 use Rattle.class_places.specs.Things.{AreThings, Indexes, IsOffset, Settle, is_key}
-use Rattle.class_places.specs.Held.{SLOTS_FROM, PLACES, slot_place, class_at, number_class, given_or, pair_class, Holds}
+use Rattle.class_places.specs.Held.{PLACES, slot_place, class_at, number_class, given_or, Holds}
 use Rattle.class_places.specs.Start.{stands_at, PlacedBelow}
 
 -- ---- things of a list
@@ -78,8 +75,8 @@ is_pair (Number c) k o e = cc
 
 stands_register : (x : Tracked) (p : ℕ) → p < 32 → stands_at x p ≡ true → x ≡ Register p
 stands_register (Register r) p lt e = let is : p ≡ r = eqb-true p r (and_parts (nat_eq p r) (nat_lt p 32) e).0 in ap Register (sym is)
-stands_register (Slot n) p lt e = let is : p ≡ slot_place n = eqb-true p (slot_place n) (and_parts (nat_eq p (slot_place n)) (nat_lt p 286) e).0 in
-    absurd (omega (arith, is, lt))
+stands_register (Slot n) p lt e = let is : p ≡ slot_place n = eqb-true p (slot_place n) (and_parts (nat_eq p (slot_place n)) (nat_lt p 286) e).0 in absurd
+    (omega (arith, is, lt))
 stands_register (Pair q) p lt e = cc
 stands_register (Part v) p lt e = cc
 stands_register (Number c) p lt e = cc
@@ -95,10 +92,10 @@ stands_slot (Number c) p le e = cc
 
 module _ (things : List Tracked) (settled : List ℕ) (i : ℕ) (x : Tracked) (at : slice_get things i ≡ Some x)
     (slots : (j n : ℕ) → slice_get things j ≡ Some (Slot n) → IsOffset n) (places new : List ℕ)
-    (step : (p : ℕ) → slice_index new p ≡ cond (stands_at x p) (slice_index settled i) (slice_index places p)) (below : PlacedBelow things settled i places)
-  where
-    on : (p : ℕ) → stands_at x p ≡ true → slice_index new p ≡ slice_index settled i
-    on p e = step p ∙ ap (λ (z : Bool). cond z (slice_index settled i) (slice_index places p)) e
+    (step : (p : ℕ) → slice_index new p ≡ cond (stands_at x p) (slice_index settled i) (slice_index places p))
+    (below : PlacedBelow things settled i places) where
+  on : (p : ℕ) → stands_at x p ≡ true → slice_index new p ≡ slice_index settled i
+  on p e = step p ∙ ap (λ (z : Bool). cond z (slice_index settled i) (slice_index places p)) e
 
     off : (p : ℕ) → stands_at x p ≡ false → slice_index new p ≡ slice_index places p
     off p e = step p ∙ ap (λ (z : Bool). cond z (slice_index settled i) (slice_index places p)) e
@@ -120,14 +117,29 @@ module _ (things : List Tracked) (settled : List ℕ) (i : ℕ) (x : Tracked) (a
             let both : true ≡ false = sym yes ∙ (ap (λ (z : Tracked). stands_at z r) (sym this) ∙ h) in
             cc
 
-    slot_more : (class : Classes) → Settle things settled class → (j n : ℕ) → j < i + 1 → slice_get things j ≡ Some (Slot n) → slot_place n < 286 →
-        slice_index new (slot_place n) ≡ class (InSlot n)
-    slot_more class settle j n lt e within = by_test (stands_at x (slot_place n)) refl where
-      same_slot : (m : ℕ) → x ≡ Slot m → slot_place n ≡ slot_place m → m ≡ n
-      same_slot m this is =
-          let a = slots j n e in
-          let b = slots i m (at ∙ ap (λ (z : Tracked). Some z) this) in
-          omega (arith, a.0, b.0, is)
+  slot_more : (class : Classes) → Settle things settled class → (j n : ℕ) → j < i + 1 → slice_get things j ≡ Some (Slot n) → slot_place n < 286 →
+      slice_index new (slot_place n) ≡ class (InSlot n)
+  slot_more class settle j n lt e within = by_test (stands_at x (slot_place n)) refl where
+    same_slot : (m : ℕ) → x ≡ Slot m → slot_place n ≡ slot_place m → m ≡ n
+    same_slot m this is =
+        let a = slots j n e in
+        let b = slots i m (at ∙ ap (λ (z : Tracked). Some z) this) in
+        omega (arith, a.0, b.0, is)
+
+    by_test : (b : Bool) → stands_at x (slot_place n) ≡ b → slice_index new (slot_place n) ≡ class (InSlot n)
+    by_test true h =
+        let s = stands_slot x (slot_place n) (omega arith) h in
+        on (slot_place n) h ∙ (settle.each i x at ∙ (ap (λ (z : Tracked). class (thing z)) s.1 ∙ ap (λ (z : ℕ). class (InSlot z)) (same_slot s.0 s.1 s.2)))
+    by_test false h = off (slot_place n) h ∙ below.slots class settle j n (earlier j lt not_this) e within where
+      not_this : j ≡ i → ⊥
+      not_this is =
+          let same : Some (Slot n) ≡ Some x = sym e ∙ (ap (slice_get things) is ∙ at) in
+          let this : x ≡ Slot n = cc in
+          let yes : stands_at (Slot n) (slot_place n) ≡ true =
+          and_from (nat_eq (slot_place n) (slot_place n)) (nat_lt (slot_place n) 286) (eq-eqb (slot_place n) (slot_place n) refl) (lt-ltb
+          (slot_place n) 286 within) in
+          let both : true ≡ false = sym yes ∙ (ap (λ (z : Tracked). stands_at z (slot_place n)) (sym this) ∙ h) in
+          cc
 
       by_test : (b : Bool) → stands_at x (slot_place n) ≡ b → slice_index new (slot_place n) ≡ class (InSlot n)
       by_test true h =
@@ -187,11 +199,8 @@ module _ (variables : List VarId) (things : List Tracked) (index : Index) (settl
   pair_is k o h =
       let s = stands things (OfPair k o) h in
       let at : slice_get things s.index ≡ Some (Pair (record { number = k; operand = o })) = s.at ∙ ap (λ (z : Tracked). Some z) (is_pair s.item k o s.is) in
-      pair_at k o (get is_key index.pairs (k, o)) refl (indexes.each_pair k o s.index (slice_get_within things s.index (Pair (record {
-        number = k;
-        operand =
-            o;
-      })) at) at)
+      pair_at k o (get is_key index.pairs (k, o)) refl (indexes.each_pair k o s.index (slice_get_within things s.index (Pair
+      (record { number = k; operand = o })) at) at)
 
   module _ (places : List ℕ) (placed : PlacedBelow things settled (length things) places) (h : Held) (count : length h.places.items ≡ PLACES)
       (fixed : (p : ℕ) → slice_index h.places.items p ≡ cond (nat_eq p 2) 0 (cond (nat_eq p 0) (number_class index settled 0) (slice_index places p)))

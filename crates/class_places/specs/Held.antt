@@ -1,10 +1,29 @@
 -- Classes between two items of a block, and what an item does to them.
-use Rattle.std.specs.Prelude.{◌≡◌, ◌≢◌, ℕ, ◌+◌, ◌-◌, ◌*◌, ◌/◌, ◌<◌, ◌≤◌, List, length, map, Contains, Option, Some, None, Bool, cond, nat_eq, nat_lt, slice_get}
-use Rattle.std.specs.Prelude.{slice_index}
+use Rattle.std.specs.Prelude.{
+  ◌≡◌,
+  ◌≢◌,
+  ℕ,
+  ◌+◌,
+  ◌-◌,
+  ◌*◌,
+  ◌/◌,
+  ◌<◌,
+  ◌≤◌,
+  List,
+  length,
+  map,
+  Contains,
+  Option,
+  Some,
+  None,
+  cond,
+  nat_eq,
+  nat_lt,
+  slice_get,
+  slice_index,
+}
 use Rattle.std.specs.List.{list_any}
-use Rattle.std.specs.declared.hash.FoldHasher.{FoldHasher}
-use Rattle.std.specs.declared.hash.BuildHasherDefault.{BuildHasherDefault}
-use Rattle.std.specs.HashMap.{HashMap, get}
+use Rattle.std.specs.HashMap.{get}
 use Rattle.rv64_instr.specs.Row.{Row, Fixes, Moves, Sets, Addresses, Loads, Stores, LoadsSlot, StoresSlot, Branches, Jumps, Calls, Returns, Unfit}
 use Rattle.rv64_instr.specs.Access.{caller_saved}
 use Rattle.rv64_instr.specs.Arithmetic.{word}

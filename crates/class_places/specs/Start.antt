@@ -1,6 +1,29 @@
 -- Where things stand among the places, and which classes are those of numbers.
-use Rattle.std.specs.Prelude.{◌≡◌, ◌≢◌, ℕ, ◌<◌, ◌≤◌, ◌&&◌, ℤ, List, length, map, Contains, Option, Some, None, IsSome, Bool, false, cond, nat_eq, nat_lt}
-use Rattle.std.specs.Prelude.{slice_get, slice_index, slice_index_or}
+use Rattle.std.specs.Prelude.{
+  ◌≡◌,
+  ◌≢◌,
+  ℕ,
+  ◌<◌,
+  ◌≤◌,
+  ◌&&◌,
+  ℤ,
+  List,
+  length,
+  map,
+  Contains,
+  Option,
+  Some,
+  None,
+  IsSome,
+  Bool,
+  false,
+  cond,
+  nat_eq,
+  nat_lt,
+  slice_get,
+  slice_index,
+  slice_index_or,
+}
 use Rattle.rv64_instr.specs.declared.place.Place.TheVariants.{Const}
 use Rattle.rv64_instr.specs.Arithmetic.{word}
 use Rattle.mir_meaning.specs.Token.{IsPlace}

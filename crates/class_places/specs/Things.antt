@@ -1,9 +1,6 @@
 -- Tracked things, where they stand in their list, and the classes that they have at the start of a block.
-use Rattle.std.specs.Prelude.{◌≡◌, ◌↔◌, ℕ, ◌<◌, ◌≤◌, ◌%◌, List, length, map, Option, Some, None, IsSome, Bool, false, cond, nat_eq, ◌&&◌, slice_get}
-use Rattle.std.specs.Prelude.{slice_index, slice_index_or}
-use Rattle.std.specs.declared.hash.FoldHasher.{FoldHasher}
-use Rattle.std.specs.declared.hash.BuildHasherDefault.{BuildHasherDefault}
-use Rattle.std.specs.HashMap.{HashMap, get}
+use Rattle.std.specs.Prelude.{◌≡◌, ℕ, ◌<◌, ◌≤◌, ◌%◌, List, length, Some, IsSome, Bool, false, cond, nat_eq, ◌&&◌, slice_get, slice_index, slice_index_or}
+use Rattle.std.specs.HashMap.{get}
 use Rattle.mir_func.specs.declared.variable.VarId.{VarId}
 use Rattle.path_tokens.specs.Pullback.{InRegister, OfNumber}
 use Rattle.class_entries.specs.declared.tracked.Tracked.{Tracked}

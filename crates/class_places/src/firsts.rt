@@ -20,8 +20,8 @@ fn add(firsts: &mut [Option<usize>], class: usize, i: usize)
     requires { class < length firsts.old }
     ensures kept { (c : ℕ) → c ≢ class → slice_index_or firsts.new c None ≡ slice_index_or firsts.old c None }
     ensures first { slice_index_or firsts.old class None ≡ None → slice_index_or firsts.new class None ≡ Some i }
-    ensures later { slice_index_or firsts.old class None ≢ None → slice_index_or firsts.new class None ≡ slice_index_or
-        firsts.old class None }
+    ensures later { slice_index_or firsts.old class None ≢ None →
+        slice_index_or firsts.new class None ≡ slice_index_or firsts.old class None }
 {
     if firsts[class].is_none() {
         firsts[class] = Some(i);

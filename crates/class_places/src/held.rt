@@ -58,8 +58,8 @@ impl Held {
     /// Gives a register a class. A write of x2 takes every slot's class away.
     pub fn put(&mut self, rd: Reg, class: usize)
         requires { PLACES ≤ length self.old.places.items }
-        ensures places { (i : ℕ) → slice_index self.new.places.items i ≡ put rd class (slice_index
-            self.old.places.items) i }
+        ensures places { (i : ℕ) → slice_index self.new.places.items i ≡ put rd class
+            (slice_index self.old.places.items) i }
         ensures count { length self.new.places.items ≡ length self.old.places.items }
         ensures pairs { self.new.pairs ≡ self.old.pairs }
         ensures parts { self.new.parts ≡ self.old.parts }
@@ -93,8 +93,8 @@ impl Held {
     pub fn put_new(&mut self, rd: Reg)
         requires count { PLACES ≤ length self.old.places.items }
         requires few { self.old.next < 2 ^ 62 }
-        ensures places { (i : ℕ) → slice_index self.new.places.items i ≡ put rd (self.old.next + rd) (slice_index
-            self.old.places.items) i }
+        ensures places { (i : ℕ) → slice_index self.new.places.items i ≡ put rd (self.old.next + rd)
+            (slice_index self.old.places.items) i }
         ensures count { length self.new.places.items ≡ length self.old.places.items }
         ensures pairs { self.new.pairs ≡ self.old.pairs }
         ensures parts { self.new.parts ≡ self.old.parts }

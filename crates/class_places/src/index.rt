@@ -1,7 +1,21 @@
 //! Where tracked things stand in their list.
 
-ghost use Rattle.std.specs.Prelude.{◌≡◌, ◌<◌, ◌+◌, ◌++◌, ◌∷◌, [], List, take, IfOk, OnOk, length, slice_get, Some};
-ghost use Rattle.std.specs.Prelude.{slice_index};
+ghost use Rattle.std.specs.Prelude.{
+  ◌≡◌,
+  ◌<◌,
+  ◌+◌,
+  ◌++◌,
+  ◌∷◌,
+  [],
+  List,
+  take,
+  IfOk,
+  OnOk,
+  length,
+  slice_get,
+  Some,
+  slice_index,
+};
 ghost use Rattle.std.specs.HashMap.{get};
 ghost use Rattle.class_entries.specs.declared.tracked.Tracked.{Tracked};
 ghost use Rattle.class_places.specs.Held.{class_at, number_class};

@@ -12,3 +12,5 @@ pub mod look;
 pub mod pass;
 pub mod row;
 pub mod start;
+#[cfg(test)]
+mod tests;

@@ -1,7 +1,25 @@
 //! The first place of a part of a variable, by its class.
 
-ghost use Rattle.std.specs.Prelude.{◌≡◌, ◌<◌, ◌≤◌, ◌+◌, ◌*◌, ◌-◌, ℕ, List, Some, None, Option, IfOk, IfSome, length};
-ghost use Rattle.std.specs.Prelude.{slice_get, slice_index, slice_index_or, cond};
+ghost use Rattle.std.specs.Prelude.{
+  ◌≡◌,
+  ◌<◌,
+  ◌≤◌,
+  ◌+◌,
+  ◌*◌,
+  ◌-◌,
+  ℕ,
+  List,
+  Some,
+  None,
+  Option,
+  IfOk,
+  IfSome,
+  length,
+  slice_get,
+  slice_index,
+  slice_index_or,
+  cond,
+};
 ghost use Rattle.class_entries.specs.declared.tracked.Tracked.{Tracked};
 ghost use Rattle.class_paths.specs.Classes.{Classes};
 ghost use Rattle.class_places.specs.Things.{Settle};
@@ -39,8 +57,8 @@ pub fn constants(
 /// Gives a class a constant, if there is one.
 fn set_constant(constants: &mut Vec<Option<i64>>, class: usize, c: Option<i64>)
     requires { class < length constants.old.items }
-    ensures constants { (k : ℕ) → slice_index_or constants.new.items k None ≡ constant_past c class k (slice_index_or
-        constants.old.items k None) }
+    ensures constants { (k : ℕ) → slice_index_or constants.new.items k None ≡ constant_past c class k
+        (slice_index_or constants.old.items k None) }
     ensures count { length constants.new.items ≡ length constants.old.items }
 {
     match c {

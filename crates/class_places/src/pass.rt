@@ -1,7 +1,21 @@
 //! Classes past an item.
 
-ghost use Rattle.std.specs.Prelude.{◌≡◌, ◌<◌, ◌≤◌, ◌+◌, ◌^◌, ℕ, List, Some, OnOk, length, slice_get, slice_index, cond};
-ghost use Rattle.std.specs.Prelude.{nat_eq};
+ghost use Rattle.std.specs.Prelude.{
+  ◌≡◌,
+  ◌<◌,
+  ◌≤◌,
+  ◌+◌,
+  ◌^◌,
+  ℕ,
+  List,
+  Some,
+  OnOk,
+  length,
+  slice_get,
+  slice_index,
+  cond,
+  nat_eq,
+};
 ghost use Rattle.std.specs.HashMap.{get};
 ghost use Rattle.rv64_instr.specs.Row.{row_of};
 ghost use Rattle.mir_meaning.specs.Step.{defined as defined_by};
@@ -10,8 +24,16 @@ ghost use Rattle.mir_func.specs.declared.item.ItemKind.TheVariants.{Code, Mark, 
 ghost use Rattle.mir_func.specs.Resolve.{resolve};
 ghost use Rattle.mir_func.specs.Variables.{overlaps, do_meet};
 ghost use Rattle.class_entries.specs.declared.tracked.Tracked.{Tracked};
-ghost use Rattle.class_places.specs.Held.{pair_class, resolved_class, value_class, at_class, place_class};
-ghost use Rattle.class_places.specs.Held.{operand_class, part_past, Passes};
+ghost use Rattle.class_places.specs.Held.{
+  pair_class,
+  resolved_class,
+  value_class,
+  at_class,
+  place_class,
+  operand_class,
+  part_past,
+  Passes,
+};
 ghost use Rattle.class_places.specs.Things.{is_key};
 
 use crate::held::{Held, PLACES, SLOTS_FROM, slot_place};
@@ -65,8 +87,8 @@ impl Held {
 
     /// The class of what a mark assigns.
     fn value(&self, block: &Block, value: &MarkValue) -> usize
-        ensures { result ≡ value_class block.now.index.now block.now.settled.now (resolve block.now.subs.now) self.now
-            value.now }
+        ensures { result ≡ value_class block.now.index.now block.now.settled.now
+            (resolve block.now.subs.now) self.now value.now }
     {
         match value {
             MarkValue::Nothing => 0,
@@ -105,7 +127,8 @@ impl Held {
         operand: &Operand,
     ) -> Result<(), AllocError>
         ensures pairs { OnOk result ((q : ℕ × ℕ) → get is_key self.new.pairs q
-            ≡ cond (is_key (k, o) q) (operand_class self.old.places.items (defined_by call (Some operand.now)) (get is_key self.old.pairs q)) (get is_key self.old.pairs q)) }
+            ≡ cond (is_key (k, o) q) (operand_class self.old.places.items (defined_by call (Some operand.now))
+            (get is_key self.old.pairs q)) (get is_key self.old.pairs q)) }
         ensures places { self.new.places ≡ self.old.places }
         ensures parts { self.new.parts ≡ self.old.parts }
         ensures next { self.new.next ≡ self.old.next }
@@ -123,7 +146,8 @@ impl Held {
     /// Gives the pair of each defining operand of code with a number its register's class.
     fn give(&mut self, call: bool, k: DebugNumber, operands: &[Operand]) -> Result<(), AllocError>
         ensures pairs { OnOk result ((m o : ℕ) → get is_key self.new.pairs (m, o)
-            ≡ cond (nat_eq k m) (operand_class self.old.places.items (defined_by call (slice_get operands.now o)) (get is_key self.old.pairs (m, o))) (get is_key self.old.pairs (m, o))) }
+            ≡ cond (nat_eq k m) (operand_class self.old.places.items (defined_by call (slice_get operands.now o))
+            (get is_key self.old.pairs (m, o))) (get is_key self.old.pairs (m, o))) }
         ensures places { self.new.places ≡ self.old.places }
         ensures parts { self.new.parts ≡ self.old.parts }
         ensures next { self.new.next ≡ self.old.next }
@@ -142,7 +166,8 @@ impl Held {
     ) -> Result<(), AllocError>
         requires count { length self.old.places.items ≡ PLACES }
         ensures passes { OnOk result ((things : List Tracked)
-            → Passes block.now.variables.now things block.now.index.now block.now.settled.now (resolve block.now.subs.now) self.old self.new (Code instr.now number)) }
+            → Passes block.now.variables.now things block.now.index.now block.now.settled.now
+            (resolve block.now.subs.now) self.old self.new (Code instr.now number)) }
         ensures count { OnOk result (length self.new.places.items ≡ PLACES) }
         ensures parts { OnOk result (self.new.parts ≡ self.old.parts) }
     {
@@ -160,7 +185,8 @@ impl Held {
     fn pass_mark(&mut self, block: &Block, variable: &VarId, value: &MarkValue)
         requires count { length self.old.parts.items ≡ length block.now.variables.now }
         ensures passes { (things : List Tracked)
-            → Passes block.now.variables.now things block.now.index.now block.now.settled.now (resolve block.now.subs.now) self.old self.new (Mark variable.now value.now) }
+            → Passes block.now.variables.now things block.now.index.now block.now.settled.now
+            (resolve block.now.subs.now) self.old self.new (Mark variable.now value.now) }
         ensures places { self.new.places ≡ self.old.places }
         ensures count { length self.new.parts.items ≡ length block.now.variables.now }
     {
@@ -175,7 +201,8 @@ impl Held {
         k: DebugNumber,
     ) -> Result<(), AllocError>
         ensures passes { OnOk result ((things : List Tracked)
-            → Passes block.now.variables.now things block.now.index.now block.now.settled.now (resolve block.now.subs.now) self.old self.new (Phi place k)) }
+            → Passes block.now.variables.now things block.now.index.now block.now.settled.now
+            (resolve block.now.subs.now) self.old self.new (Phi place k)) }
         ensures places { self.new.places ≡ self.old.places }
         ensures parts { self.new.parts ≡ self.old.parts }
     {
@@ -189,7 +216,8 @@ impl Held {
         requires places { length self.old.places.items ≡ PLACES }
         requires parts { length self.old.parts.items ≡ length block.now.variables.now }
         ensures passes { OnOk result ((things : List Tracked)
-            → Passes block.now.variables.now things block.now.index.now block.now.settled.now (resolve block.now.subs.now) self.old self.new kind.now) }
+            → Passes block.now.variables.now things block.now.index.now block.now.settled.now
+            (resolve block.now.subs.now) self.old self.new kind.now) }
         ensures places { OnOk result (length self.new.places.items ≡ PLACES) }
         ensures parts { OnOk result (length self.new.parts.items ≡ length block.now.variables.now) }
     {

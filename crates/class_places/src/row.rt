@@ -16,7 +16,8 @@ impl Held {
         requires count { length self.old.places.items ≡ PLACES }
         requires few { self.old.next < 2 ^ 62 }
         ensures places { (i : ℕ) → slice_index self.new.places.items i
-            ≡ places_past (number_class index.now settled.now) self.old.next (row_of instr.now) (slice_index self.old.places.items) i }
+            ≡ places_past (number_class index.now settled.now) self.old.next (row_of instr.now)
+            (slice_index self.old.places.items) i }
         ensures count { length self.new.places.items ≡ PLACES }
         ensures pairs { self.new.pairs ≡ self.old.pairs }
         ensures parts { self.new.parts ≡ self.old.parts }

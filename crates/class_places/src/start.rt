@@ -1,7 +1,25 @@
 //! Classes at the start of a block.
 
-ghost use Rattle.std.specs.Prelude.{◌≡◌, ◌<◌, ◌≤◌, ◌+◌, ℕ, List, Some, None, Option, IfOk, length, slice_get};
-ghost use Rattle.std.specs.Prelude.{slice_index, slice_index_or, cond, nat_eq, nat_lt, ◌&&◌};
+ghost use Rattle.std.specs.Prelude.{
+  ◌≡◌,
+  ◌<◌,
+  ◌≤◌,
+  ◌+◌,
+  ℕ,
+  List,
+  Some,
+  None,
+  Option,
+  IfOk,
+  length,
+  slice_get,
+  slice_index,
+  slice_index_or,
+  cond,
+  nat_eq,
+  nat_lt,
+  ◌&&◌,
+};
 ghost use Rattle.class_entries.specs.declared.tracked.Tracked.{Tracked};
 ghost use Rattle.class_paths.specs.Classes.{Classes};
 ghost use Rattle.class_places.specs.Things.{AreThings, Indexes, IsOffset, Settle, settled_at};
@@ -23,8 +41,8 @@ const MOST_CLASSES: usize = 1 << 62;
 /// The classes of so many things: where a thing has a token on every path to the start of a block, and 0 elsewhere.
 pub fn settle(alloc: Global, entry: &BlockEntry, count: usize) -> Result<Vec<usize>, AllocError>
     ensures count { IfOk result (λ s. length s.items ≡ count) }
-    ensures each { IfOk result (λ s. (i : ℕ) → i < count → slice_index s.items i ≡ settled_at entry.now.classes
-        entry.now.given i) }
+    ensures each { IfOk result (λ s. (i : ℕ) → i < count →
+        slice_index s.items i ≡ settled_at entry.now.classes entry.now.given i) }
 {
     let classes = entry.classes.as_slice();
     let given = entry.given.as_slice();
@@ -130,8 +148,8 @@ fn place(places: &mut Vec<usize>, things: &[Tracked], settled: &[usize])
 /// Gives a thing's place a class, if it has one.
 fn set_place(places: &mut Vec<usize>, thing: &Tracked, class: usize)
     requires { length places.old.items ≡ PLACES }
-    ensures places { (p : ℕ) → slice_index places.new.items p ≡ cond (stands_at thing.now p) class (slice_index
-        places.old.items p) }
+    ensures places { (p : ℕ) → slice_index places.new.items p ≡ cond (stands_at thing.now p) class
+        (slice_index places.old.items p) }
     ensures count { length places.new.items ≡ PLACES }
 {
     match thing {
@@ -146,8 +164,8 @@ fn set_place(places: &mut Vec<usize>, thing: &Tracked, class: usize)
 /// Sets what stands at an index, if it is below an end.
 fn set_within(places: &mut Vec<usize>, i: usize, end: usize, class: usize)
     requires { end ≤ length places.old.items }
-    ensures places { (p : ℕ) → slice_index places.new.items p ≡ cond (nat_eq p i && nat_lt p end) class (slice_index
-        places.old.items p) }
+    ensures places { (p : ℕ) → slice_index places.new.items p ≡ cond (nat_eq p i && nat_lt p end) class
+        (slice_index places.old.items p) }
     ensures count { length places.new.items ≡ length places.old.items }
 {
     if i < end {

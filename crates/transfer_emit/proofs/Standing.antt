@@ -1,7 +1,6 @@
 -- The walk goes on past an item: what it knows before the item tells what holds below it.
-use Rattle.std.proofs.Common.{◌≡◌, ◌≢◌, ℕ, zero, suc, ◌+◌, ◌<◌, ◌≤◌, List, [], ◌∷◌, map, length, drop, get_or, arith, refl, sym, ◌∙◌, ap, subst, inl, inr, true}
-use Rattle.std.proofs.Common.{false}
-use Rattle.std.specs.Prelude.{◌↔◌, ℤ, Option, Some, None, IsSome, IsTrue, Bool, slice_get, slice_index, slice_index_or}
+use Rattle.std.proofs.Common.{◌≡◌, ℕ, zero, suc, ◌+◌, ◌<◌, List, [], ◌∷◌, map, length, drop, arith, refl, sym, ◌∙◌, ap, subst, inr, true, false}
+use Rattle.std.specs.Prelude.{ℤ, Option, Some, None, IsSome, slice_get, slice_index, slice_index_or}
 use Rattle.rv64_instr.specs.Row.{Row, Fixes, Moves, Sets, Addresses, Loads, Stores, LoadsSlot, StoresSlot, Branches, Jumps, Calls, Returns, Unfit, row_of}
 use Rattle.mir_func.specs.declared.block.Block.{Block}
 use Rattle.mir_func.specs.declared.entry.OperandPair.{OperandPair}
@@ -10,7 +9,7 @@ use Rattle.mir_func.specs.declared.item.ItemKind.{ItemKind}
 use Rattle.mir_func.specs.declared.item.ItemKind.TheVariants.{Code, Mark, Phi}
 use Rattle.mir_func.specs.declared.position.Pos.{Pos}
 use Rattle.mir_func.specs.Exits.{exit_of, row_exit}
-use Rattle.mir_func.specs.Graph.{Program, Fetch, Here, below, block_start, front, fetch_in, Edge, FetchEdge, KindEdge, RowEdge}
+use Rattle.mir_func.specs.Graph.{Program, Fetch, Here, below, block_start, front, fetch_in, FetchEdge, KindEdge, RowEdge}
 use Rattle.mir_func.specs.Resolve.{resolve}
 use Rattle.mir_func.specs.Successors.{pos_in}
 use Rattle.path_tokens.specs.Pullback.{Tracked, OfNumber, Was, back}
@@ -18,17 +17,16 @@ use Rattle.class_entries.specs.declared.tracked.Tracked.{Tracked as Thing}
 use Rattle.rv64_instr.specs.Arithmetic.{word}
 use Rattle.class_entries.specs.declared.entry.BlockEntry.{BlockEntry}
 use Rattle.class_entries.specs.Entry.{thing, IsEntry}
-use Rattle.class_paths.specs.Classes.{Classes, IsKnown, IsReached, AreClasses, AreFresh, class_back}
+use Rattle.class_paths.specs.Classes.{Classes, IsReached, AreClasses, AreFresh, class_back}
 use Rattle.class_paths.proofs.Passing.{classes_pass_items, paths_come_from_above}
 use Rattle.class_places.specs.declared.index.Index.{Index}
-use Rattle.class_places.specs.declared.held.Held.{Held}
 use Rattle.class_places.specs.Things.{Settle, settled_at}
 use Rattle.class_places.specs.Held.{Holds, Passes}
 use Rattle.class_places.specs.Start.{ConstantsNow}
 use Rattle.class_places.proofs.Entering.{entries_give_classes}
 use Rattle.transfer_emit.specs.declared.values.Values.{Values}
 use Rattle.transfer_emit.specs.declared.stand.Stand.{Stand}
-use Rattle.transfer_emit.specs.Stands.{program, AreValuesOf, Reaches, Stands, Falls, IsBlockAt}
+use Rattle.transfer_emit.specs.Stands.{program, AreValuesOf, Stands, Falls, IsBlockAt}
 
 -- ---- what stands at a position
 
@@ -139,11 +137,8 @@ module _ (blocks : List Block) (v : Values) (index : Index) (are : AreValuesOf b
   leaves_unreached after fetch stops off_after block next = record {
     reached = λ on. absurd (let both : true ≡ false = sym on ∙ off_after in cc);
     unreached = λ e path.
-        let below_is : IsReached g (block_start 0) (below here) = subst (λ (z : Pos). IsReached g (block_start 0) z) (λ i. record {
-          block = block i;
-          item =
-              next i;
-        }) path in
+        let below_is : IsReached g (block_start 0) (below here) = subst (λ (z : Pos). IsReached g (block_start 0) z)
+        (λ i. record { block = block i; item = next i }) path in
         let edge = (paths_come_from_above g (block_start 0) here not_first below_is).1 in
         stops (kind_falls g.enter here item.kind (subst (λ (f : Fetch). FetchEdge g.enter f here (below here)) fetch edge));
   }
@@ -164,17 +159,14 @@ module _ (blocks : List Block) (v : Values) (index : Index) (are : AreValuesOf b
       } in
       let classes = classes_pass_items g (block_start 0) here (map thing v.things.now) r.class fresh item not_first r.classes fetch edge knows new in
       let held = passes r.class r.held knows in
-      let now = constants_stay v.things.now r.class class s.constants.items (λ n. ap (class_back r.class fresh) (number_stays (resolve v.subs.now) item.kind
-      n)) r.constants in
+      let now = constants_stay v.things.now r.class class s.constants.items (λ n. ap (class_back r.class fresh) (number_stays
+      (resolve v.subs.now) item.kind n)) r.constants in
       record {
         reached = λ e. record {
           class = class;
           held = subst (λ z. Holds v.variables.now v.things.now index z.items after.held class) (sym settled) held;
-          classes = subst (λ (z : Pos). AreClasses g (block_start 0) z (map thing v.things.now) class) (sym (λ i. record {
-            block = block i;
-            item =
-                next i;
-          })) classes;
+          classes = subst (λ (z : Pos). AreClasses g (block_start 0) z (map thing v.things.now) class) (sym
+              (λ i. record { block = block i; item = next i })) classes;
           constants = subst (λ z. ConstantsNow v.things.now class z.items) (sym constants) now;
         };
         unreached = λ off. absurd (let both : true ≡ false = sym on_after ∙ off in cc);

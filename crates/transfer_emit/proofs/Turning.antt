@@ -1,8 +1,6 @@
 -- Ranges past an address: they ascend, say what they said, and the new location from the address on.
-use Rattle.std.proofs.Common.{◌≡◌, ◌≢◌, ℕ, zero, suc, ◌+◌, ◌<◌, ◌≤◌, List, [], ◌∷◌, ◌++◌, arith, refl, sym, ◌∙◌, ap, subst, inl, inr, true, false, lt-ltb}
-use Rattle.std.proofs.Common.{append_assoc, append-nil}
-use Rattle.std.specs.Prelude.{Option, Some, None, Bool, cond, ◌&&◌, nat_le, nat_lt, All, ◌⊎◌}
-use Rattle.std.proofs.lemmas.Bool.{cases_lt}
+use Rattle.std.proofs.Common.{◌≡◌, ◌≢◌, ℕ, suc, ◌<◌, ◌≤◌, List, [], ◌∷◌, ◌++◌, arith, refl, sym, ◌∙◌, ap, subst, true, false, append-nil}
+use Rattle.std.specs.Prelude.{Option, Some, None, Bool, cond, ◌&&◌, nat_le, nat_lt, All}
 use Rattle.std.proofs.lemmas.Bool.Decides.{nat_tests}
 use Rattle.std.proofs.lemmas.List.Elements.{All-nil, All-cons, All-head, All-tail, All-append}
 use Rattle.dwarf_loclists.specs.declared.range.Location.{Location}
@@ -10,8 +8,8 @@ use Rattle.dwarf_loclists.specs.declared.range.Range.{Range}
 use Rattle.dwarf_loclists.specs.Ranges.{Ascend, location_in}
 use Rattle.transfer_emit.specs.declared.track.Open.{Open}
 use Rattle.transfer_emit.specs.declared.track.Track.{Track}
-use Rattle.transfer_emit.specs.Covered.{range, located, closed, opened, covered, Turns, stays, turns, AscendTo, IsTrackTo}
-use Rattle.transfer_emit.specs.Turning.{SaysOn, TurnsSayOn, TracksAreRanges}
+use Rattle.transfer_emit.specs.Covered.{range, located, closed, opened, covered, stays, turns, AscendTo}
+use Rattle.transfer_emit.specs.Turning.{TurnsSayOn, TracksAreRanges}
 
 -- ---- what ranges say at an address
 
@@ -121,8 +119,8 @@ grow_ends m n (x ∷ xs) le ends = All-cons (λ (r : Range). r.hi ≤ n) x xs (l
 covered_end : (xs : List Range) (o : Option Open) (a : ℕ) → AscendTo xs o a → EndBy a (xs ++ closed o a)
 covered_end xs None a up = subst (EndBy a) (sym (append-nil xs)) (strict_ends a xs up.1)
 covered_end xs (Some o) a up =
-    All-append (λ (r : Range). r.hi ≤ a) xs (range o.lo a o.location ∷ []) (grow_ends o.lo a xs (let h = up.1 in
-    omega (arith, h)) (before_end xs (range o.lo (suc o.lo) o.location) up.0))
+    All-append (λ (r : Range). r.hi ≤ a) xs (range o.lo a o.location ∷ []) (grow_ends o.lo a xs (let h = up.1 in omega (arith, h)) (before_end xs
+    (range o.lo (suc o.lo) o.location) up.0))
     (All-cons (λ (r : Range). r.hi ≤ a) (range o.lo a o.location) [] (omega arith) (All-nil (λ (r : Range). r.hi ≤ a)))
 
 covered_up : (xs : List Range) (o : Option Open) (a : ℕ) → AscendTo xs o a → Ascend (xs ++ closed o a)
@@ -159,7 +157,8 @@ turned_to : (xs : List Range) (o : Option Open) (n : Option Location) (a b : ℕ
     AscendTo (xs ++ closed o a) (opened a n) b
 turned_to xs o None a b less up differs = (covered_up xs o a up, later_ends a b (xs ++ closed o a) less (covered_end xs o a up))
 turned_to xs None (Some m) a b less up differs = (
-  ascend_more (xs ++ []) (range a (suc a) m) (covered_up xs None a up) (omega arith) (subst (All (λ (r : Range). r.hi < a)) (sym (append-nil xs)) up.1),
+  ascend_more (xs ++ []) (range a (suc a) m) (covered_up xs None a up) (omega arith) (subst (All (λ (r : Range). r.hi < a)) (sym
+      (append-nil xs)) up.1),
   less,
 )
 turned_to xs (Some o) (Some m) a b less up differs =
@@ -193,8 +192,7 @@ turns_say_on t u a b o up less (stays same ranges present) =
     let says = says_by t u a b o t.ranges t.present ranges present (
       stays_to t.ranges t.present a b less up,
       (λ x lt. stays_before t.ranges t.present a b x less lt),
-      (λ x le lt. stays_here t.ranges t.present a b x up le lt
-          ∙ same),
+      (λ x le lt. stays_here t.ranges t.present a b x up le lt ∙ same),
     ) in
     record { track = says.0; before = says.1; here = says.2 }
 turns_say_on t u a b o up less (turns differs ranges present) =

@@ -5,17 +5,15 @@ use Rattle.mir_func.specs.declared.entry.Entry.{Entry}
 use Rattle.mir_func.specs.declared.exit.Exit.{Exit}
 use Rattle.mir_func.specs.declared.exit.Exit.TheVariants.{Onward, Perhaps, Always, Final}
 use Rattle.mir_func.specs.declared.item.Item.{Item}
-use Rattle.mir_func.specs.declared.variable.VarId.{VarId}
 use Rattle.mir_func.specs.Graph.{Program, block_start, framed_program}
 use Rattle.mir_func.specs.Resolve.{resolve}
 use Rattle.mir_func.specs.Successors.{pos_in}
-use Rattle.class_entries.specs.declared.tracked.Tracked.{Tracked}
 use Rattle.class_entries.specs.declared.entry.BlockEntry.{BlockEntry}
 use Rattle.class_entries.specs.Entry.{thing, IsEntry}
 use Rattle.class_paths.specs.Classes.{Classes, AreClasses, IsReached}
 use Rattle.class_paths.specs.Wanted.{AreThingsOf}
 use Rattle.class_places.specs.declared.index.Index.{Index}
-use Rattle.class_places.specs.Things.{AreThings, Indexes}
+use Rattle.class_places.specs.Things.{AreThings}
 use Rattle.class_places.specs.Held.{PLACES, Holds}
 use Rattle.class_places.specs.Start.{ConstantsNow}
 use Rattle.transfer_emit.specs.declared.values.Values.{Values}

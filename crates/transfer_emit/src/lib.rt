@@ -1,7 +1,7 @@
-//! The location lists of a function: at each address of its code where each of its variables is. One forward walk over
-//! the entries of the code carries the classes of places and of parts of variables from item to item; before each
-//! entry a variable's place is looked up by its class, and a range is written where what is found there differs from
-//! what was found before. Ranges go on across blocks and over the words of a call and of a long branch.
+//! What the location lists of a function are made of. A walk carries the classes of places and of parts of variables
+//! from item to item of a block, from what is known at the block's start; before each item a variable's place is looked
+//! up by its class. The ranges of a variable grow with the walk: where its location differs from what was found before,
+//! the open range ends and another begins. Ranges go on across blocks.
 #![tactic(auto)]
 
 pub mod stand;

@@ -1,6 +1,25 @@
-use Rattle.std.proofs.Common.{◌≡◌, ◌≢◌, ◌<◌, ◌≤◌, ◌+◌, ℕ, None, Some, List, length, get_or, arith, refl, subst, sym, ◌∙◌, inl, inr, get_or-set_same}
-use Rattle.std.proofs.Common.{get_or-set_other}
-use Rattle.std.specs.Prelude.{Option, slice_set, Bool, cond}
+use Rattle.std.proofs.Common.{
+  ◌≡◌,
+  ◌<◌,
+  ◌≤◌,
+  ◌+◌,
+  ℕ,
+  None,
+  Some,
+  List,
+  length,
+  get_or,
+  arith,
+  refl,
+  subst,
+  sym,
+  ◌∙◌,
+  inl,
+  inr,
+  get_or-set_same,
+  get_or-set_other,
+}
+use Rattle.std.specs.Prelude.{Option, slice_set}
 use Rattle.std.proofs.lemmas.Bool.Decides.{eqb_tells}
 use Rattle.class_places.specs.Firsts.{IsFirstBelow}
 use Rattle.class_places.proofs.firsts.empty.Goals as goal
@@ -13,8 +32,8 @@ left_on : (places : List ℕ) (firsts : List (Option ℕ)) (i : ℕ) → get_or 
     Left places (slice_set firsts (get_or places i 0) None) (i + 1)
 left_on places firsts i room left c k e = elim (eqb_tells c (get_or places i 0)) [
   | inl h ↦ absurd (
-      let none : get_or (slice_set firsts (get_or places i 0) None) (get_or places i 0) None ≡ None =
-      get_or-set_same firsts (get_or places i 0) None None room in
+      let none : get_or (slice_set firsts (get_or places i 0) None) (get_or places i 0) None ≡ None = get_or-set_same firsts
+      (get_or places i 0) None None room in
       let some : get_or (slice_set firsts (get_or places i 0) None) (get_or places i 0) None ≡ Some k =
       subst (λ (z : ℕ). get_or (slice_set firsts (get_or places i 0) None) z None ≡ Some k) h.1 e in
       cc)
@@ -45,8 +64,8 @@ pub loop-i-init : goal.loop-i-init
 loop-i-init c = first_left c.args.places.now c.args.firsts.now c.requires.filled
 
 pub loop-i-preserved : goal.loop-i-preserved
-loop-i-preserved c = left_on c.args.places.now c.loop-i.firsts c.loop-i.i (omega (arith, c.requires.room c.loop-i.i c.loop-i-test.true, c.loop-i.auto.firsts))
-    c.loop-i.invariant
+loop-i-preserved c = left_on c.args.places.now c.loop-i.firsts c.loop-i.i (omega
+    (arith, c.requires.room c.loop-i.i c.loop-i-test.true, c.loop-i.auto.firsts)) c.loop-i.invariant
 
 pub returns : goal.returns
 returns c = none_left c.args.places.now c.loop-i.firsts c.loop-i.i c.loop-i-test.false c.loop-i.invariant

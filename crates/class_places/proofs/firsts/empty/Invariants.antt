@@ -1,4 +1,4 @@
-use Rattle.std.proofs.Common.{◌≡◌, ◌≢◌, ◌<◌, ◌≤◌, ℕ, length, get_or, None, Some}
+use Rattle.std.proofs.Common.{◌≡◌, ◌<◌, ◌≤◌, ℕ, length, get_or, None, Some}
 use Rattle.class_places.proofs.firsts.empty.Given as goal
 
 abbrev pub invariant-loop-i : goal.invariant-loop-i

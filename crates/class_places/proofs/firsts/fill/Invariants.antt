@@ -1,4 +1,4 @@
-use Rattle.std.proofs.Common.{◌≡◌, ◌≢◌, ◌<◌, ℕ, length, get_or, None}
+use Rattle.std.proofs.Common.{ℕ, get_or, None}
 use Rattle.class_places.specs.Firsts.{IsFirstBelow}
 use Rattle.class_places.proofs.firsts.fill.Given as goal
 

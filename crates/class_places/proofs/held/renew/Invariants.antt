@@ -1,4 +1,4 @@
-use Rattle.std.proofs.Common.{◌≡◌, ◌≤◌, ◌+◌, ℕ, length, cond, nat_lt, nat_eq, get_or}
+use Rattle.std.proofs.Common.{◌≡◌, ◌+◌, ℕ, cond, nat_lt, nat_eq, get_or}
 use Rattle.std.specs.List.{list_any}
 use Rattle.rv64_instr.specs.Access.{caller_saved}
 use Rattle.class_places.proofs.held.renew.Given as goal

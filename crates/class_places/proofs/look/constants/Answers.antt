@@ -1,5 +1,4 @@
 use Rattle.std.proofs.Common.{◌≡◌, ℕ, length, refl, ◌∙◌, arith, subst}
-use Rattle.std.specs.Prelude.{Option}
 use Rattle.std.proofs.lemmas.Option.{slice_get_read}
 use Rattle.class_places.specs.Start.{AreConstantsBelow}
 use Rattle.class_places.proofs.Constants.{constants_more, constants_now}

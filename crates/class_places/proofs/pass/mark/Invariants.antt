@@ -7,7 +7,7 @@ use Rattle.class_places.proofs.pass.mark.Given as goal
 abbrev pub invariant-loop-j : goal.invariant-loop-j
 invariant-loop-j l = record {
   count : length l.parts.items ≡ length l.variables;
-  done : (i : ℕ) (w : VarId) → i < l.j → slice_get l.variables i ≡ Some w → get_or l.parts.items i 0 ≡ part_past l.variable l.class w (get_or
-      l.initial.parts.items i 0);
+  done : (i : ℕ) (w : VarId) → i < l.j → slice_get l.variables i ≡ Some w →
+      get_or l.parts.items i 0 ≡ part_past l.variable l.class w (get_or l.initial.parts.items i 0);
   left : (i : ℕ) → l.j ≤ i → get_or l.parts.items i 0 ≡ get_or l.initial.parts.items i 0;
 }

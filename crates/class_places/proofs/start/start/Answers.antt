@@ -18,11 +18,8 @@ returns-clause-holds c = λ class settle.
     c.place.new.places.items c.place.ensures.placed
     (record { places = c.set_fixed.new.places; pairs = c.new.result; parts = c.in_ok-from_slice.field-0; next = c.in_ok-next_after.field-0 })
     c.set_fixed.ensures.count
-    (λ p. c.set_fixed.ensures.places p ∙ ap (λ (z : ℕ). cond (nat_eq p 2) 0 (cond (nat_eq p 0) z (slice_index c.place.new.places.items p)))
-    c.number_class.ensures)
+    (λ p. c.set_fixed.ensures.places p ∙ ap (λ (z : ℕ). cond (nat_eq p 2) 0 (cond (nat_eq p 0) z
+    (slice_index c.place.new.places.items p))) c.number_class.ensures)
     (λ q. ap (λ es. lookup (is_key q) es) c.new.ensures.empty)
-    (λ j lt. first_so_many (length c.args.variables.now) c.args.settled.now c.in_ok-from_slice.field-0.items j lt (omega (
-      arith,
-      c.requires.variables,
-      c.requires.settled,
-    )) c.in_ok-from_slice.ensures.items) c.in_ok-next_after.ensures
+    (λ j lt. first_so_many (length c.args.variables.now) c.args.settled.now c.in_ok-from_slice.field-0.items j lt (omega
+    (arith, c.requires.variables, c.requires.settled)) c.in_ok-from_slice.ensures.items) c.in_ok-next_after.ensures

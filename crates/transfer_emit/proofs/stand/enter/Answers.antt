@@ -1,5 +1,5 @@
-use Rattle.std.proofs.Common.{◌≡◌, ℕ, List, refl, sym, ◌∙◌, ap, subst, get_or}
-use Rattle.std.proofs.lemmas.Option.{slice_get_read, slice_get-get_or, get_or_from_slice_get}
+use Rattle.std.proofs.Common.{ℕ, List, refl, subst, get_or}
+use Rattle.std.proofs.lemmas.Option.{slice_get-get_or}
 use Rattle.class_paths.specs.Classes.{Classes}
 use Rattle.class_places.specs.Things.{Settle}
 use Rattle.class_places.specs.Held.{Holds}

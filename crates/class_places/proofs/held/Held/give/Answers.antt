@@ -1,5 +1,5 @@
-use Rattle.std.proofs.Common.{◌≡◌, ℕ, List, refl, ap, sym, ◌∙◌, subst}
-use Rattle.std.specs.Prelude.{Option, Some, cond}
+use Rattle.std.proofs.Common.{ap, ◌∙◌}
+use Rattle.std.specs.Prelude.{Some, cond}
 use Rattle.std.specs.HashMap.{get}
 use Rattle.mir_meaning.specs.Step.{defined}
 use Rattle.class_places.specs.Things.{is_key}
@@ -12,8 +12,8 @@ loop-o-preserved c =
     let inv = c.loop-o.invariant in
     let give = c.in_ok-give_operand.ensures in
     record {
-      pairs = given_more c.args.call c.args.k c.args.operands.now c.args.self.now.places.items (get is_key c.args.self.now.pairs) c.loop-o.o
-          c.index-operands-o.result
+      pairs = given_more c.args.call c.args.k c.args.operands.now c.args.self.now.places.items
+          (get is_key c.args.self.now.pairs) c.loop-o.o c.index-operands-o.result
           (get is_key c.loop-o.self.pairs) (get is_key c.give_operand.new.self.pairs) c.loop-o-test.true c.index-operands-o.is inv.pairs
           (λ q. give.pairs q ∙ ap (λ p. cond (is_key (c.args.k, c.loop-o.o) q) (operand_class p.items (defined c.args.call (Some c.index-operands-o.result))
           (get is_key c.loop-o.self.pairs q)) (get is_key c.loop-o.self.pairs q)) inv.places);

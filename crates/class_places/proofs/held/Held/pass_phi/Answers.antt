@@ -1,7 +1,6 @@
-use Rattle.std.proofs.Common.{◌≡◌, ℕ, refl, ap, sym, ◌∙◌}
-use Rattle.std.specs.Prelude.{Option, Some, cond}
+use Rattle.std.proofs.Common.{ℕ, refl, ap, ◌∙◌}
+use Rattle.std.specs.Prelude.{Some, cond}
 use Rattle.std.specs.HashMap.{get}
-use Rattle.class_places.specs.declared.held.Held.{Held}
 use Rattle.class_places.specs.Things.{is_key}
 use Rattle.class_places.proofs.Items.{phi_holds}
 use Rattle.class_places.proofs.held.Held.pass_phi.Goals as goal
