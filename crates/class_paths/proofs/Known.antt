@@ -15,8 +15,28 @@ use Rattle.mir_meaning.proofs.Assignments.{same_is}
 use Rattle.mir_func.specs.declared.position.Pos.{Pos}
 use Rattle.mir_func.specs.Graph.{Program, Fetch, Here, Silent, Outside}
 use Rattle.mir_meaning.specs.Token.{Entry, Fixed, Tokens, Path, begin, onward, after_fetch, entry_tokens, sets_pointer}
-use Rattle.path_tokens.specs.Pullback.{Tracked, InRegister, InSlot, OfPair, OfVariable, OfNumber, token_of, token_back, Back, Was, New, Nameless, back,
-    put_back, back_register, slot_stored, back_row, back_code, back_value, back_mark}
+use Rattle.path_tokens.specs.Pullback.{
+  Tracked,
+  InRegister,
+  InSlot,
+  OfPair,
+  OfVariable,
+  OfNumber,
+  token_of,
+  token_back,
+  Back,
+  Was,
+  New,
+  Nameless,
+  back,
+  put_back,
+  back_register,
+  slot_stored,
+  back_row,
+  back_code,
+  back_value,
+  back_mark,
+}
 use Rattle.path_tokens.proofs.Backwards.{tokens_pull_back}
 use Rattle.class_paths.specs.Classes.{IsKnown, KnowsRow, KnowsItem}
 use Rattle.class_paths.specs.Wanted.{AreThingsOf}

@@ -22,11 +22,36 @@ use Rattle.mir_func.specs.Graph.{Program, Fetch, Here, Silent, Outside, below, b
 use Rattle.mir_meaning.specs.Step.{defined}
 use Rattle.mir_meaning.specs.Token.{Tokens, Path, begin, onward, after_fetch, after_item, sets_pointer}
 use Rattle.path_tokens.specs.Pullback.{Tracked, InRegister, InSlot, OfPair, OfVariable, OfNumber, token_of, Back, Was, New, Nameless, back, Share, BacksShare}
-use Rattle.path_tokens.specs.Pullback.{put_back, back_register, slot_stored, back_row, given_back, back_place, back_pair, back_value, back_code, back_mark,
-    back_phi}
+use Rattle.path_tokens.specs.Pullback.{
+  put_back,
+  back_register,
+  slot_stored,
+  back_row,
+  given_back,
+  back_place,
+  back_pair,
+  back_value,
+  back_code,
+  back_mark,
+  back_phi,
+}
 use Rattle.path_tokens.proofs.Sharing.{sharing_pulls_back}
-use Rattle.class_paths.specs.Classes.{Classes, IsKnown, ShareOnPaths, AreClasses, class_back, AreFresh, KnowsRow, KnowsPair, KnowsValue, KnowsPlace,
-    DefinePhysical, KnowsItem, ClassesPassItems, PathsComeFromAbove}
+use Rattle.class_paths.specs.Classes.{
+  Classes,
+  IsKnown,
+  ShareOnPaths,
+  AreClasses,
+  class_back,
+  AreFresh,
+  KnowsRow,
+  KnowsPair,
+  KnowsValue,
+  KnowsPlace,
+  DefinePhysical,
+  KnowsItem,
+  ClassesPassItems,
+  PathsComeFromAbove,
+}
 
 -- ---- only the item above leads below
 
@@ -260,8 +285,12 @@ module _ (g : Program) (start p : Pos) (item : Item) (here : g.fetch p ≡ Here 
 
 pub classes_pass_items : ClassesPassItems
 classes_pass_items g start p things class fresh item first are here edge knows new = record {
-  reached = (suc are.reached.0, after_item g.resolve are.reached.0 item.kind are.reached.1, path_on g start p item here edge first are.reached.0
-      are.reached.1 are.reached.2);
+  reached = (
+    suc are.reached.0,
+    after_item g.resolve are.reached.0 item.kind are.reached.1,
+    path_on g start p item here edge first are.reached.0
+        are.reached.1 are.reached.2,
+  );
   one = λ x y kx ky.
       let kb = known_back things g.resolve item.kind x knows kx in
       let kc = known_back things g.resolve item.kind y knows ky in

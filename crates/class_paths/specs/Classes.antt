@@ -105,7 +105,7 @@ KnowsItem things resolve (Phi p k) = KnowsPlace things p
 abbrev pub ClassesPassItems : Type 0
 ClassesPassItems = (g : Program) (start p : Pos) (things : List Tracked) (class : Classes) (fresh : ℕ → ℕ) (item : Item) →
     (start ≡ below p → ⊥) → AreClasses g start p things class → g.fetch p ≡ Here item → Edge g p (below p) → KnowsItem things g.resolve item.kind →
-        AreFresh things class fresh →
+    AreFresh things class fresh →
     AreClasses g start (below p) things (λ x. class_back class fresh (back g.resolve 0 item.kind x))
 
 -- No path leads below what no path leads to, and none below an item that control doesn't go below from.
