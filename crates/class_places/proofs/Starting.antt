@@ -97,25 +97,25 @@ module _ (things : List Tracked) (settled : List ℕ) (i : ℕ) (x : Tracked) (a
   on : (p : ℕ) → stands_at x p ≡ true → slice_index new p ≡ slice_index settled i
   on p e = step p ∙ ap (λ (z : Bool). cond z (slice_index settled i) (slice_index places p)) e
 
-    off : (p : ℕ) → stands_at x p ≡ false → slice_index new p ≡ slice_index places p
-    off p e = step p ∙ ap (λ (z : Bool). cond z (slice_index settled i) (slice_index places p)) e
+  off : (p : ℕ) → stands_at x p ≡ false → slice_index new p ≡ slice_index places p
+  off p e = step p ∙ ap (λ (z : Bool). cond z (slice_index settled i) (slice_index places p)) e
 
-    earlier : (j : ℕ) → j < i + 1 → (j ≡ i → ⊥) → j < i
-    earlier j lt ne = omega (arith, lt, ne)
+  earlier : (j : ℕ) → j < i + 1 → (j ≡ i → ⊥) → j < i
+  earlier j lt ne = omega (arith, lt, ne)
 
-    register_more : (class : Classes) → Settle things settled class → (j r : ℕ) → j < i + 1 → slice_get things j ≡ Some (Register r) → r < 32 →
-        slice_index new r ≡ class (InRegister r)
-    register_more class settle j r lt e r32 = by_test (stands_at x r) refl where
-      by_test : (b : Bool) → stands_at x r ≡ b → slice_index new r ≡ class (InRegister r)
-      by_test true h = on r h ∙ (settle.each i x at ∙ ap (λ (z : Tracked). class (thing z)) (stands_register x r r32 h))
-      by_test false h = off r h ∙ below.registers class settle j r (earlier j lt not_this) e r32 where
-        not_this : j ≡ i → ⊥
-        not_this is =
-            let same : Some (Register r) ≡ Some x = sym e ∙ (ap (slice_get things) is ∙ at) in
-            let this : x ≡ Register r = cc in
-            let yes : stands_at (Register r) r ≡ true = and_from (nat_eq r r) (nat_lt r 32) (eq-eqb r r refl) (lt-ltb r 32 r32) in
-            let both : true ≡ false = sym yes ∙ (ap (λ (z : Tracked). stands_at z r) (sym this) ∙ h) in
-            cc
+  register_more : (class : Classes) → Settle things settled class → (j r : ℕ) → j < i + 1 → slice_get things j ≡ Some (Register r) → r < 32 →
+      slice_index new r ≡ class (InRegister r)
+  register_more class settle j r lt e r32 = by_test (stands_at x r) refl where
+    by_test : (b : Bool) → stands_at x r ≡ b → slice_index new r ≡ class (InRegister r)
+    by_test true h = on r h ∙ (settle.each i x at ∙ ap (λ (z : Tracked). class (thing z)) (stands_register x r r32 h))
+    by_test false h = off r h ∙ below.registers class settle j r (earlier j lt not_this) e r32 where
+      not_this : j ≡ i → ⊥
+      not_this is =
+          let same : Some (Register r) ≡ Some x = sym e ∙ (ap (slice_get things) is ∙ at) in
+          let this : x ≡ Register r = cc in
+          let yes : stands_at (Register r) r ≡ true = and_from (nat_eq r r) (nat_lt r 32) (eq-eqb r r refl) (lt-ltb r 32 r32) in
+          let both : true ≡ false = sym yes ∙ (ap (λ (z : Tracked). stands_at z r) (sym this) ∙ h) in
+          cc
 
   slot_more : (class : Classes) → Settle things settled class → (j n : ℕ) → j < i + 1 → slice_get things j ≡ Some (Slot n) → slot_place n < 286 →
       slice_index new (slot_place n) ≡ class (InSlot n)
@@ -141,31 +141,16 @@ module _ (things : List Tracked) (settled : List ℕ) (i : ℕ) (x : Tracked) (a
           let both : true ≡ false = sym yes ∙ (ap (λ (z : Tracked). stands_at z (slot_place n)) (sym this) ∙ h) in
           cc
 
-      by_test : (b : Bool) → stands_at x (slot_place n) ≡ b → slice_index new (slot_place n) ≡ class (InSlot n)
-      by_test true h =
-          let s = stands_slot x (slot_place n) (omega arith) h in
-          on (slot_place n) h ∙ (settle.each i x at ∙ (ap (λ (z : Tracked). class (thing z)) s.1 ∙ ap (λ (z : ℕ). class (InSlot z)) (same_slot s.0 s.1 s.2)))
-      by_test false h = off (slot_place n) h ∙ below.slots class settle j n (earlier j lt not_this) e within where
-        not_this : j ≡ i → ⊥
-        not_this is =
-            let same : Some (Slot n) ≡ Some x = sym e ∙ (ap (slice_get things) is ∙ at) in
-            let this : x ≡ Slot n = cc in
-            let yes : stands_at (Slot n) (slot_place n) ≡ true =
-            and_from (nat_eq (slot_place n) (slot_place n)) (nat_lt (slot_place n) 286) (eq-eqb (slot_place n) (slot_place n) refl) (lt-ltb (slot_place n) 286
-            within) in
-            let both : true ≡ false = sym yes ∙ (ap (λ (z : Tracked). stands_at z (slot_place n)) (sym this) ∙ h) in
-            cc
-
-    pub placed_more : PlacedBelow things settled (i + 1) new
-    placed_more = record {
-      registers = register_more;
-      slots = slot_more;
-      others = λ p le some. by_test p le some (stands_at x p) refl;
-    } where
-      by_test : (p : ℕ) → 32 ≤ p → slice_index new p ≢ 0 → (b : Bool) → stands_at x p ≡ b →
-          (n : ℕ) × (j : ℕ) × (slice_get things j ≡ Some (Slot n)) × (p ≡ slot_place n)
-      by_test p le some true h = let s = stands_slot x p le h in (s.0, i, at ∙ ap (λ (z : Tracked). Some z) s.1, s.2)
-      by_test p le some false h = below.others p le (λ none. some (off p h ∙ none))
+  pub placed_more : PlacedBelow things settled (i + 1) new
+  placed_more = record {
+    registers = register_more;
+    slots = slot_more;
+    others = λ p le some. by_test p le some (stands_at x p) refl;
+  } where
+    by_test : (p : ℕ) → 32 ≤ p → slice_index new p ≢ 0 → (b : Bool) → stands_at x p ≡ b →
+        (n : ℕ) × (j : ℕ) × (slice_get things j ≡ Some (Slot n)) × (p ≡ slot_place n)
+    by_test p le some true h = let s = stands_slot x p le h in (s.0, i, at ∙ ap (λ (z : Tracked). Some z) s.1, s.2)
+    by_test p le some false h = below.others p le (λ none. some (off p h ∙ none))
 
 pub placed_none : (things : List Tracked) (settled places : List ℕ) → ((p : ℕ) → slice_index places p ≡ 0) → PlacedBelow things settled 0 places
 placed_none things settled places empty = record {

@@ -8,3 +8,5 @@ mod body;
 mod name;
 pub mod print;
 mod stack;
+#[cfg(test)]
+mod tests;

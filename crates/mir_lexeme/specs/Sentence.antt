@@ -18,8 +18,10 @@ node_of text = limited (drop 1 text)
 
 -- the kind of a node
 unfoldable pub kind_of : List ℕ → Lexeme
-kind_of text = if bytes_eq text (codes "!DIExpression") then lexemes.Expression else (if bytes_eq text (codes "!DILocation") then lexemes.InlineLocation else
-    lexemes.Other)
+kind_of text =
+    if bytes_eq text (codes "!DIExpression") then lexemes.Expression
+    else (if bytes_eq text (codes "!DILocation") then lexemes.InlineLocation
+    else lexemes.Other)
 
 -- a byte that is a token by itself
 abbrev pub single_of : ℕ → Lexeme

@@ -11,4 +11,6 @@ mod number;
 mod register;
 pub mod sentence;
 pub mod symbol;
+#[cfg(test)]
+mod tests;
 mod word;

@@ -69,8 +69,8 @@ argument_part (Some part) = expressions.PartOfArgument part
 -- an expression behind `DW_OP_LLVM_arg, 0`
 abbrev pub argument_expression : List Lexeme → Expression
 argument_expression (lexemes.Close ∷ ts) = expressions.Argument
-argument_expression (lexemes.Comma ∷ lexemes.Word words.Fragment t ∷ lexemes.Comma ∷ lexemes.Integer o ∷ lexemes.Comma ∷ lexemes.Integer s ∷ lexemes.Close ∷
-    ts) = argument_part (part_of o s)
+argument_expression (lexemes.Comma ∷ lexemes.Word words.Fragment t ∷ lexemes.Comma ∷ lexemes.Integer o ∷ lexemes.Comma ∷ lexemes.Integer s
+    ∷ lexemes.Close ∷ ts) = argument_part (part_of o s)
 argument_expression ts = expressions.Other
 
 -- what an expression says, behind its opening bracket

@@ -30,7 +30,7 @@ pub enum Expression {
     Empty,
     /// `!DIExpression(DW_OP_LLVM_arg, 0)`.
     Argument,
-    /// `!DIExpression(DW_OP_LLVM_fragment, O, S)` where the bits from O on are whole bytes that a part of a variable
+    /// `!DIExpression(DW_OP_LLVM_fragment, O, S)` where the S bits from O on are whole bytes that a part of a variable
     /// may have.
     Part(Fragment),
     /// The same with `DW_OP_LLVM_arg, 0, ` before it.

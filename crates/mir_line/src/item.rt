@@ -135,8 +135,8 @@ fn some_operands<'a>(
     line: &[u8],
     lexemes: &'a [Lexeme],
 ) -> Result<Option<(OperandForms, &'a [Lexeme])>, AllocError>
-    ensures { IfOk result (λ read. Gives (λ x. (x.0, x.1.now)) read (operands_at line.now (length lexemes.now)
-        lexemes.now)) }
+    ensures { IfOk result (λ read.
+        Gives (λ x. (x.0, x.1.now)) read (operands_at line.now (length lexemes.now) lexemes.now)) }
 {
     let mut found = List::new(alloc);
     let mut rest = lexemes;

@@ -55,7 +55,8 @@ const LINES: &[(&str, &str)] = &[
         "ADJCALLSTACKDOWN; 0; 0; *x2; +x2; at 14",
     ),
     (
-        "    PseudoCALL target-flags(riscv-call) @g, csr_ilp32_lp64, implicit-def dead $x1, implicit $x10, debug-instr-number 5, debug-location !24",
+        "    PseudoCALL target-flags(riscv-call) @g, csr_ilp32_lp64, implicit-def dead $x1, implicit $x10, \
+         debug-instr-number 5, debug-location !24",
         "PseudoCALL; @g; mask; *x1; +x10; number 5; at 24",
     ),
     (
@@ -168,24 +169,40 @@ fn push_number(alloc: Global, text: &mut String, n: u32) -> Result<(), AllocErro
     }
 }
 
-fn push_register(alloc: Global, text: &mut String, form: RegisterForm) -> Result<(), AllocError> {
-    text.push_str(match form.flag {
+/// The words and the number of a register.
+fn register_parts(name: RegisterName) -> (&'static str, Option<u32>) {
+    match name {
+        RegisterName::Physical(r) => ("x", Some(r.number())),
+        RegisterName::Absent => ("noreg", None),
+        RegisterName::Other => ("other", None),
+        RegisterName::Virtual(n) => ("%", Some(n)),
+    }
+}
+
+fn flag_mark(flag: Flag) -> &'static str {
+    match flag {
         Flag::Plain => "",
         Flag::Implicit => "+",
         Flag::ImplicitDef => "*",
-    })?;
-    match form.name {
-        RegisterName::Physical(r) => {
-            text.push_str("x")?;
-            push_number(alloc, text, r.number())
-        }
-        RegisterName::Absent => text.push_str("noreg"),
-        RegisterName::Other => text.push_str("other"),
-        RegisterName::Virtual(n) => {
-            text.push_str("%")?;
-            push_number(alloc, text, n)
-        }
     }
+}
+
+/// Appends words, and a number behind them where there is one.
+fn push_parts(
+    alloc: Global,
+    text: &mut String,
+    parts: (&str, Option<u32>),
+) -> Result<(), AllocError> {
+    text.push_str(parts.0)?;
+    match parts.1 {
+        Some(n) => push_number(alloc, text, n),
+        None => Ok(()),
+    }
+}
+
+fn push_register(alloc: Global, text: &mut String, form: RegisterForm) -> Result<(), AllocError> {
+    text.push_str(flag_mark(form.flag))?;
+    push_parts(alloc, text, register_parts(form.name))
 }
 
 fn push_expression(

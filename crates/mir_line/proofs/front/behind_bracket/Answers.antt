@@ -10,8 +10,8 @@ returns-in-None c =
 pub loop-at-preserved : goal.loop-at-preserved
 loop-at-preserved c = record {
   shallow = omega (arith, c.in-Some.ensures.bound, c.loop-at.invariant.shallow);
-  read = goes_on c.args.lexemes.now c.loop-at.at c.loop-at.inner c.in-Some.more c.index-lexemes-at.result c.index-lexemes-at.result c.loop-at-test.true
-      c.index-lexemes-at.is
+  read = goes_on c.args.lexemes.now c.loop-at.at c.loop-at.inner c.in-Some.more c.index-lexemes-at.result c.index-lexemes-at.result
+      c.loop-at-test.true c.index-lexemes-at.is
       c.in-Some.ensures.value c.loop-at.invariant.read;
 }
 
