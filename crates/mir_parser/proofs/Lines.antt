@@ -1,16 +1,14 @@
 -- The lines of a body are read one after the other.
-use Rattle.std.proofs.Common.{◌≡◌, ℕ, ◌+◌, ◌<◌, ◌≤◌, Bool, true, false, List, [], ◌∷◌, length, get_or, drop, Option, Some}
+use Rattle.std.proofs.Common.{◌≡◌, ℕ, ◌+◌, ◌<◌, ◌≤◌, false, List, ◌∷◌, length, get_or, drop, Option, Some}
 use Rattle.std.proofs.Common.{None, Result, Ok, Err, refl, sym, ap, ◌∙◌, rules}
 use Rattle.std.specs.Prelude.{IfOk, IsNone, is_none}
 use Rattle.std.specs.declared.alloc.AllocError.{AllocError}
 use Rattle.std.proofs.lemmas.List.{drop_more, drop_all}
-use Rattle.refusal.specs.declared.first.Refusal.{Refusal}
 use Rattle.refusal.specs.declared.kind.RefusalKind.{RefusalKind}
 use Rattle.meta_reader.specs.Maps.{Maps}
 use Rattle.mir_lexer.specs.declared.line.Line.{Line}
 use Rattle.mir_func.specs.declared.block.Block.{Block}
 use Rattle.mir_line.specs.declared.form.ItemForm.{ItemForm}
-use Rattle.mir_item.specs.declared.judged.Judged.{Judged}
 use Rattle.mir_item.specs.declared.judged.Judged.TheVariants as judged_as
 use Rattle.mir_item.specs.declared.judged.JudgedItem.{JudgedItem}
 use Rattle.mir_item.specs.Judge.{judged}

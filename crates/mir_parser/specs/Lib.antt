@@ -1,2 +1,4 @@
 pub mod Reading
 pub mod Objects
+pub mod Closing
+pub mod Program

@@ -1,4 +1,4 @@
-use Rattle.std.proofs.Common.{◌≡◌, ℕ, List, [], Option, Some, None, Result, Ok, Err, sym, ap, subst, ◌∙◌, rules}
+use Rattle.std.proofs.Common.{◌≡◌, [], Option, Ok, Err, sym, ap, subst, ◌∙◌, rules}
 use Rattle.refusal.specs.declared.kind.RefusalKind.{RefusalKind}
 use Rattle.mir_lexer.specs.declared.line.Line.{Line}
 use Rattle.mir_parser.specs.Reading.{behind_line, Reads}

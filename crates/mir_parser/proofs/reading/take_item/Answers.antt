@@ -1,4 +1,4 @@
-use Rattle.std.proofs.Common.{◌≡◌, false, Result, Ok, ap, ◌∙◌}
+use Rattle.std.proofs.Common.{◌≡◌, false, Ok, ap, ◌∙◌}
 use Rattle.std.specs.Prelude.{is_none, not}
 use Rattle.mir_item.specs.declared.judged.Judged.{Judged}
 use Rattle.mir_parser.proofs.Lines.{said_item}

@@ -1,0 +1,175 @@
+//! A function where its document closes.
+
+ghost use Rattle.std.specs.Prelude.{◌≡◌, ◌≤◌, All, IfOk, IsTrue, length};
+ghost use Rattle.std.specs.List.{list_all};
+ghost use Rattle.mir_body.specs.Body.{and_last};
+ghost use Rattle.mir_body.specs.Frame.{IsStackEntry};
+ghost use Rattle.mir_parser.specs.Closing.{is_entry, are_entries, entry_ids, parts_of, Closes};
+
+use crate::error::ParseError;
+use crate::objects::{blocks_as, blocks_stay};
+use lists::List;
+use mir_body::body::Body;
+use mir_body::closing::{all_met, blocks_go_to};
+use mir_body::frame::{object_ids, objects, slots};
+use mir_body::met::Met;
+use mir_declarations::declarations::Declarations;
+use mir_declarations::stack::StackEntry;
+use mir_func::block::{Block, Blocks};
+use mir_func::func::{Func, FuncError, SlotIds};
+use mir_func::object::Objects;
+use refusal::first::Refusal;
+use refusal::kind::RefusalKind;
+use rv64_instr::name::Name;
+use std::alloc::{AllocError, Global};
+use substitution::substitutions::Substitutions;
+
+/// A function that a document stands for, with the substitutions of its debug instruction numbers.
+#[derive(Drop)]
+pub struct Parsed {
+    /// The function.
+    pub func: Func,
+    /// Its substitutions.
+    pub subs: Substitutions,
+}
+
+/// What a function is made of beside its name.
+#[derive(Drop)]
+pub struct Parts {
+    pub slots: SlotIds,
+    pub objects: Objects,
+    pub blocks: Blocks,
+}
+
+/// Whether a stack entry keeps what every one keeps that was read.
+fn is_entry(entry: &StackEntry) -> bool
+    ensures { result ≡ is_entry entry.now }
+{
+    entry.size <= 1_073_741_823 && 0 < entry.align && entry.align <= 16
+}
+
+/// Whether each stack entry keeps that.
+fn each_is_entry(entries: &[StackEntry]) -> bool
+    ensures { result ≡ list_all is_entry entries.now }
+{
+    entries.iter().all(|entry| is_entry(entry))
+}
+
+/// Whether stack entries keep what those keep that were read.
+fn are_entries(entries: &[StackEntry]) -> bool
+    ensures value { result ≡ are_entries entries.now }
+    ensures few { IsTrue result → length entries.now ≤ 224 }
+    ensures each { IsTrue result → All IsStackEntry entries.now }
+{
+    entries.len() <= 224 && each_is_entry(entries)
+}
+
+/// The numbers of stack entries.
+fn entry_ids(alloc: Global, entries: &[StackEntry]) -> Result<Met, AllocError>
+    ensures { IfOk result (λ ids. ids ≡ entry_ids entries.now) }
+{
+    let mut ids = Met::new(alloc);
+    for entry in entries {
+        ids.meet(u64::from(entry.id.number()))?;
+    }
+    Ok(ids)
+}
+
+/// Blocks with one more, if it is there.
+fn and_last(mut before: Blocks, last: Option<Block>) -> Result<Blocks, AllocError>
+    ensures { IfOk result (λ blocks. blocks ≡ and_last before last) }
+{
+    if let Some(block) = last {
+        before.push(block)?;
+    }
+    Ok(before)
+}
+
+/// The parts of a function of these stack entries and blocks, where code names these entries as objects. There are none
+/// where an access leaves its object.
+fn parts_of(
+    alloc: Global,
+    named: &Met,
+    entries: &[StackEntry],
+    blocks: &[Block],
+) -> Result<Option<Parts>, AllocError>
+    ensures { IfOk result (λ parts. parts ≡ parts_of named.now entries.now blocks.now) }
+{
+    if !are_entries(entries) {
+        return Ok(None);
+    }
+    let laid = objects(alloc, named, entries)?;
+    let ids = object_ids(alloc, named, entries)?;
+    let blocks = blocks_as(alloc, &ids, blocks)?;
+    if !blocks_stay(laid.objects.as_slice(), blocks.as_slice()) {
+        return Ok(None);
+    }
+    let slots = slots(alloc, named, entries)?;
+    Ok(Some(Parts {
+        slots,
+        objects: laid.objects,
+        blocks,
+    }))
+}
+
+/// The refusal of the closing line.
+fn refused(line: u32, kind: RefusalKind) -> ParseError
+    ensures { result ≡ ParseError.Refused (record { line = line; kind = kind }) }
+{
+    ParseError::Refused(Refusal { line, kind })
+}
+
+/// The function of declarations and a body, where both are read and the function closes at a line. Refused there are
+/// `UnknownBlock`, `StackObject` and `BlockEnd`.
+pub fn close(
+    alloc: Global,
+    line: u32,
+    declared: Declarations,
+    body: Body,
+) -> Result<Parsed, ParseError>
+    ensures { Closes line declared body result }
+{
+    let Body {
+        before,
+        last,
+        entries,
+        items: _,
+        ids,
+        codes: _,
+        numbers: _,
+        constants: _,
+        objects,
+        variables: _,
+    } = body;
+    let blocks = and_last(before, last)?;
+    if !blocks_go_to(&ids, blocks.as_slice()) {
+        return Err(refused(line, RefusalKind::UnknownBlock));
+    }
+    let known = entry_ids(alloc, declared.stack.as_slice())?;
+    if !all_met(&known, entries.as_slice()) {
+        return Err(refused(line, RefusalKind::StackObject));
+    }
+    let Some(parts) = parts_of(
+        alloc,
+        &objects,
+        declared.stack.as_slice(),
+        blocks.as_slice(),
+    )?
+    else {
+        return Err(refused(line, RefusalKind::StackObject));
+    };
+    match Func::new(
+        alloc,
+        declared.name,
+        parts.slots,
+        parts.objects,
+        parts.blocks,
+    ) {
+        Ok(func) => Ok(Parsed {
+            func,
+            subs: declared.substitutions,
+        }),
+        Err(FuncError::Unsound) => Err(refused(line, RefusalKind::BlockEnd)),
+        Err(FuncError::Memory) => Err(ParseError::Memory),
+    }
+}
