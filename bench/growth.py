@@ -3,6 +3,7 @@
 
   bench/growth.py lex      crates/mirdwarf_bench/out/mirdwarf_bench, on texts of 1, 2 and 4 MiB
   bench/growth.py compile  crates/mirdwarf/out/mirdwarf, on functions of 1,000 to 8,000 items
+  bench/growth.py read     crates/mirdwarf_reading/out/mirdwarf_reading, on functions, blocks, functions of a text and keys of an entry
   bench/growth.py sections crates/mirdwarf_sections/out/mirdwarf_sections, on sections of 1,000 to 8,000 parts
 
 Build the program first by `rt run` in its crate's folder. Each line has the input's size, the count and its growth.
@@ -51,6 +52,26 @@ def one_block(items):
     return head + b"".join(lines) + b"    PseudoRET implicit $x10\n...\n"
 
 
+def blocks(number):
+    """A function of blocks of eight items, among them accesses of a slot and of an object."""
+    head = b"---\nname: f\nstack:\n  - { id: 0, size: 8 }\n  - { id: 1, size: 24, alignment: 8 }\nbody: |\n"
+    lines = []
+    for n in range(number):
+        lines.append(b"  bb.%d:\n    SD $x10, %%stack.0, 0\n    $x11 = LD %%stack.0, 0\n    $x12 = ADDI %%stack.1, 0\n" % n)
+        lines.append(b"    $x13 = LW $x12, 4\n    SW $x13, %stack.1, 8\n    $x10 = ADD $x10, $x13\n")
+        lines.append(b"    BEQ $x10, $x0, %%bb.%d\n    PseudoBR %%bb.%d\n" % (n // 2, (n + 1) % number))
+    return head + b"".join(lines) + b"...\n"
+
+
+def functions(number):
+    return b"".join(blocks(16).replace(b"name: f", b"name: f%d" % n) for n in range(number))
+
+
+def entry_keys(number):
+    keys = b", ".join(b"k%d: 1" % n for n in range(number))
+    return b"---\nname: f\nstack:\n  - { id: 0, size: 8, " + keys + b" }\nbody: |\n  bb.0:\n    PseudoRET\n...\n"
+
+
 def table(name, program, words, sizes, make):
     print(name)
     before = None
@@ -86,6 +107,13 @@ def main():
         program, sizes = "crates/mirdwarf_bench/out/mirdwarf_bench", [n << 20 for n in (1, 2, 4)]
         table("functions of one line, by bytes", program, [], sizes, one_line_functions)
         table("one long line, by bytes", program, [], sizes, one_long_line)
+    elif what == ["read"]:
+        program = "crates/mirdwarf_reading/out/mirdwarf_reading"
+        table("one block, by items", program, [], (1000, 2000, 4000, 8000), one_block)
+        table("one function, by blocks of eight items", program, [], (128, 256, 512, 1024), blocks)
+        table("functions of sixteen blocks, by functions", program, [], (32, 64, 128, 256), functions)
+        table("one long line, by bytes", program, [], [n << 18 for n in (1, 2, 4)], one_long_line)
+        table("one stack entry, by its keys", program, [], (500, 1000, 2000, 4000), entry_keys)
     elif what == ["sections"]:
         for kind, steps in SECTIONS.items():
             for step, (call, before) in steps.items():
