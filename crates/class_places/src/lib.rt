@@ -12,5 +12,3 @@ pub mod look;
 pub mod pass;
 pub mod row;
 pub mod start;
-#[cfg(test)]
-mod tests;

@@ -6,5 +6,3 @@
 pub mod constants;
 pub mod front;
 pub mod leb;
-#[cfg(test)]
-mod tests;

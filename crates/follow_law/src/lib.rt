@@ -11,5 +11,3 @@ pub mod compose;
 pub mod loss;
 pub mod nops;
 pub mod pass;
-#[cfg(test)]
-mod tests;

@@ -8,5 +8,3 @@ mod body;
 mod name;
 pub mod print;
 mod stack;
-#[cfg(test)]
-mod tests;

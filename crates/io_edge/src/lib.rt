@@ -19,6 +19,4 @@ pub mod sink;
 pub mod source;
 pub mod std_sink;
 pub mod std_source;
-#[cfg(test)]
-mod tests;
 pub mod writing;

@@ -15,7 +15,5 @@ mod line;
 pub mod metadata;
 pub mod node;
 pub mod number;
-#[cfg(test)]
-mod tests;
 pub mod text;
 pub mod token;

@@ -11,6 +11,4 @@ mod key;
 mod open_function;
 pub mod parts;
 mod scan;
-#[cfg(test)]
-mod tests;
 mod text;

@@ -11,6 +11,4 @@ mod number;
 mod register;
 pub mod sentence;
 pub mod symbol;
-#[cfg(test)]
-mod tests;
 mod word;

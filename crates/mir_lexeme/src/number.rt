@@ -1,23 +1,10 @@
 //! Numbers in the text.
 
 ghost use Rattle.std.specs.Prelude.{◌≡◌, ◌+◌, ◌*◌, ◌^◌, ◌<◌, ◌≤◌, SomeIff};
-ghost use Rattle.std.specs.Char.{digit_value};
 ghost use Rattle.mir_lexeme.specs.Number.{BEYOND, narrow_value, limited, unsigned, negated, sized, number_of};
 
 use crate::lexeme::{BEYOND, Number};
-
-/// The value of a digit, where letters go on from 10, and 36 for another byte.
-pub fn digit_value(byte: u8) -> u8
-    ensures value { result ≡ digit_value byte }
-    ensures bound { result ≤ 36 }
-{
-    match byte {
-        b'0'..=b'9' => byte - b'0',
-        b'A'..=b'Z' => byte - b'A' + 10,
-        b'a'..=b'z' => byte - b'a' + 10,
-        _ => 36,
-    }
-}
+use meta_reader::number::digit_value;
 
 /// The number that a digit behind others makes, unless it is 2^128 or more.
 fn longer(base: u128, value: u128, digit: u8) -> Option<u128>

@@ -13,5 +13,3 @@ mod front;
 pub mod lexer;
 pub mod line;
 pub mod parts;
-#[cfg(test)]
-mod tests;

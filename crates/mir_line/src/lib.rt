@@ -13,5 +13,3 @@ mod front;
 mod item;
 mod operand;
 mod register;
-#[cfg(test)]
-mod tests;

@@ -259,6 +259,3 @@ fn of_jump(operands: &[Operand], offset: i64) -> MachineOp
         _ => unreachable!(),
     }
 }
-
-#[cfg(test)]
-mod tests;

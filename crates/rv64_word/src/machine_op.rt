@@ -164,6 +164,3 @@ fn is_even(i: i64) -> bool
 {
     i.cast_unsigned() % 2 == 0
 }
-
-#[cfg(test)]
-mod tests;

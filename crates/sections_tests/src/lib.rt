@@ -4,6 +4,8 @@
 #[cfg(test)]
 mod info;
 #[cfg(test)]
+mod leb128;
+#[cfg(test)]
 mod line;
 #[cfg(test)]
 mod loclists;

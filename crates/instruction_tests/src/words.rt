@@ -1,10 +1,13 @@
-use super::*;
-use crate::word_op::WordOp::*;
+//! Words both ways, against those of an assembler.
+
 use rv64_instr::op::BranchOp::*;
 use rv64_instr::op::ImmediateOp::*;
 use rv64_instr::op::LoadOp::*;
 use rv64_instr::op::RegisterOp::*;
 use rv64_instr::op::StoreOp::*;
+use rv64_word::machine_op::{MachineOp, decode, encode};
+use rv64_word::word_op::WordOp;
+use rv64_word::word_op::WordOp::*;
 use std::test::Fail;
 
 /// An operation, rd, rs1, rs2, the immediate and the word that `llvm-mc` of LLVM 14 writes for them.

@@ -2,16 +2,16 @@
 
 ghost use Rattle.std.specs.Prelude.{◌<◌};
 
-use crate::bytes::{Bytes, CallNumbers};
-use crate::fault::Failed;
-use crate::memory_sink::MemorySink;
-use crate::memory_source::MemorySource;
-use crate::reading::{ReadError, read_all};
-use crate::sink::Sink;
-use crate::source::Source;
-use crate::std_sink::StdSink;
-use crate::std_source::StdSource;
-use crate::writing::write_all;
+use io_edge::bytes::{Bytes, CallNumbers};
+use io_edge::fault::Failed;
+use io_edge::memory_sink::MemorySink;
+use io_edge::memory_source::MemorySource;
+use io_edge::reading::{ReadError, read_all};
+use io_edge::sink::Sink;
+use io_edge::source::Source;
+use io_edge::std_sink::StdSink;
+use io_edge::std_source::StdSource;
+use io_edge::writing::write_all;
 use std::alloc::{AllocError, Global};
 use std::io;
 use std::io::{ErrorKind, Read, Write};

@@ -1,5 +1,7 @@
-use crate::frame::documents;
-use crate::parts::Documents;
+//! The documents of texts, and the first line that can't stand where it does.
+
+use mir_frame::frame::documents;
+use mir_frame::parts::Documents;
 use mir_lexer::line::Lines;
 use std::alloc::Global;
 use std::process::Abort;

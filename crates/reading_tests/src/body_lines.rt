@@ -1,5 +1,7 @@
-use crate::body::body_line;
-use crate::form::{BodyLine, Expression, ItemForm, LineError, OperandForm, RegisterForm};
+//! What lines of a body say by the grammar.
+
+use mir_line::body::body_line;
+use mir_line::form::{BodyLine, Expression, ItemForm, LineError, OperandForm, RegisterForm};
 use mir_func::location::Loc;
 use mir_lexeme::lexeme::{BEYOND, Flag, RegisterName};
 use std::alloc::{AllocError, Global};

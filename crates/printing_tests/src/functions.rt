@@ -1,4 +1,6 @@
-use crate::print::print_func;
+//! The documents of functions.
+
+use func_printer::print::print_func;
 use lists::List;
 use mir_func::block::{Block, Blocks};
 use mir_func::entry::{Entry, OperandPair};

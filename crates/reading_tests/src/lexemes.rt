@@ -1,10 +1,12 @@
-use crate::lexeme::Lexeme::{
+//! What tokens stand for.
+
+use mir_lexeme::lexeme::Lexeme::{
     Block, Close, Colon, Comma, Equals, Expression, InlineLocation, Integer, Node, Open, Other,
     Register, Slot,
 };
-use crate::lexeme::Number::{Fits, Large, Wide};
-use crate::lexeme::{BEYOND, Lexeme, RegisterName};
-use crate::sentence::lexemes;
+use mir_lexeme::lexeme::Number::{Fits, Large, Wide};
+use mir_lexeme::lexeme::{BEYOND, Lexeme, RegisterName};
+use mir_lexeme::sentence::lexemes;
 use mir_lexer::fault::LexError;
 use mir_lexer::lexer::tokens;
 use numbers::code::{BlockId, SlotId};

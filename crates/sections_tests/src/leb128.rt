@@ -1,7 +1,7 @@
 //! The examples of the standard.
 
-use crate::front::{split_sleb, split_u32, split_uleb};
-use crate::leb::{sleb, uleb};
+use dwarf_base::front::{split_sleb, split_u32, split_uleb};
+use dwarf_base::leb::{sleb, uleb};
 
 #[test]
 fn unsigned_numbers(rt: HostRuntime) {

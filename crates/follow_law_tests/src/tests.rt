@@ -4,10 +4,10 @@ ghost use Rattle.follow_law.specs.Code.{SeesCodeAlone};
 ghost use Rattle.follow_law.specs.Tests.{IsWatching, NothingIsWrong};
 ghost use Rattle.follow_law.specs.Sizes.{greatest, greatest_number, most_numbers, numbers_in, numbers_of};
 
-use crate::compose::{Nothing, Then};
-use crate::loss::{Loss, Losses, Lost, Reason};
-use crate::nops::NopPass;
-use crate::pass::{Pass, debug_items_change_no_code};
+use follow_law::compose::{Nothing, Then};
+use follow_law::loss::{Loss, Losses, Lost, Reason};
+use follow_law::nops::NopPass;
+use follow_law::pass::{Pass, debug_items_change_no_code};
 use lists::List;
 use mir_func::block::{Block, Blocks};
 use mir_func::func::Func;

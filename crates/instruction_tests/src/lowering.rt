@@ -1,13 +1,17 @@
-use super::*;
-use crate::machine_op::encode;
+//! Words of instructions, against those of an assembler.
+
 use numbers::code::{BlockId, ObjectId, SlotId};
+use rv64_instr::instr::Instr;
 use rv64_instr::op::BranchOp::*;
 use rv64_instr::op::ImmediateOp::*;
 use rv64_instr::op::LoadOp::*;
+use rv64_instr::op::Op;
 use rv64_instr::op::RegisterOp::*;
 use rv64_instr::op::StoreOp::*;
-use rv64_instr::operand::Operands;
+use rv64_instr::operand::{Operand, Operands};
 use rv64_instr::reg::{Reg, physical};
+use rv64_word::lowering::{lower, object_named};
+use rv64_word::machine_op::encode;
 use std::test::Fail;
 
 /// An operand by its number, or none.

@@ -1,5 +1,7 @@
-use crate::metadata::{Metadata, read_meta};
+//! Lines of metadata as tools write them, and lines at the edges of what is read.
+
 use lists::List;
+use meta_reader::metadata::{Metadata, read_meta};
 use mir_lexer::line::{Line, Lines};
 use numbers::metadata::NodeId;
 use std::alloc::{AllocError, Global};

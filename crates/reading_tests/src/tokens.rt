@@ -1,9 +1,11 @@
-use crate::comment::{before_comment, before_memory_operands};
-use crate::fault::LexError;
-use crate::lexer::tokens;
-use crate::line::Line;
-use crate::parts::Class::{Integer, Kind, Node, Percent, Register, Single, Symbol, Text, Word};
-use crate::parts::{Class, Token};
+//! The tokens of lines, and where comments and memory operands begin.
+
+use mir_lexer::comment::{before_comment, before_memory_operands};
+use mir_lexer::fault::LexError;
+use mir_lexer::lexer::tokens;
+use mir_lexer::line::Line;
+use mir_lexer::parts::Class::{Integer, Kind, Node, Percent, Register, Single, Symbol, Text, Word};
+use mir_lexer::parts::{Class, Token};
 use lists::List;
 use std::test::Fail;
 
