@@ -1,7 +1,7 @@
--- A function with its frame comes from the source.
-use Rattle.std.proofs.Common.{◌≡◌, ◌⊎◌, ℕ, zero, suc, ◌+◌, ◌*◌, ◌<◌, ◌≤◌, ℤ, List, [], ◌∷◌, drop, map, length, All, Contains, slice_get, Option, Some, None}
-use Rattle.std.proofs.Common.{Bool, true, false}
-use Rattle.std.proofs.Common.{cond, nat_eq, is_some, IsSome, refl, sym, ap, ◌∙◌, subst, inl, inr, arith}
+-- What stands in a function with its frame, and where it comes from in the source.
+use Rattle.std.proofs.Common.{◌≡◌, ◌⊎◌, ℕ, zero, suc, ◌+◌, ◌*◌, ◌<◌, ◌≤◌, List, [], ◌∷◌, drop, map, length, All, Contains, slice_get, Option, Some, None}
+use Rattle.std.proofs.Common.{true}
+use Rattle.std.proofs.Common.{IsSome, refl, sym, ap, ◌∙◌, subst, inl, inr, arith}
 use Rattle.std.proofs.lemmas.List.Elements.{All-contains}
 use Rattle.rv64_instr.specs.Instruction.{Instruction}
 use Rattle.rv64_instr.specs.Parts.{is_call}
@@ -11,7 +11,7 @@ use Rattle.rv64_instr.specs.Arithmetic.{word}
 use Rattle.mir_func.specs.declared.block.Block.{Block}
 use Rattle.mir_func.specs.declared.entry.OperandPair.{OperandPair}
 use Rattle.mir_func.specs.declared.exit.Exit.{Exit}
-use Rattle.mir_func.specs.declared.exit.Exit.TheVariants.{Onward, Perhaps, Always, Final}
+use Rattle.mir_func.specs.declared.exit.Exit.TheVariants.{Onward, Perhaps, Final}
 use Rattle.mir_func.specs.declared.item.Item.{Item}
 use Rattle.mir_func.specs.declared.item.ItemKind.{ItemKind}
 use Rattle.mir_func.specs.declared.item.ItemKind.TheVariants.{Code, Mark, Phi}
@@ -19,29 +19,29 @@ use Rattle.mir_func.specs.declared.position.Origin.{Origin}
 use Rattle.mir_func.specs.declared.position.Origin.TheVariants.{Kept, Before}
 use Rattle.mir_func.specs.declared.position.Pos.{Pos}
 use Rattle.mir_func.specs.Exits.{row_exit, exit_of}
-use Rattle.mir_func.specs.Function.{Function, FramedFunction}
-use Rattle.mir_func.specs.Graph.{Fetch, Here, Silent, Outside, Program, below, block_start, end_of, front, fetch_in, from_block, program_of}
+use Rattle.mir_func.specs.Function.{Function}
+use Rattle.mir_func.specs.Graph.{Fetch, Here, Silent, Outside, Program, below, front, fetch_in, from_block, program_of}
 use Rattle.mir_func.specs.Sound.{ids_of}
 use Rattle.mir_func.specs.SoundFrame.{IsFramed}
 use Rattle.mir_meaning.specs.Align.{position_of, is_code}
-use Rattle.mir_meaning.specs.Follow.{class_of, Class, Return, Odd, MayAdd, ItemHasClass, HasClass, RowFits, KindFits, rank, next_rank, InOrder, Among, none}
-use Rattle.mir_meaning.specs.Follow.{same, left, Shape}
-use Rattle.mir_meaning.specs.State.{Core, State, content}
+use Rattle.mir_meaning.specs.Follow.{class_of, Class, Return, Odd, MayAdd, ItemHasClass, HasClass, RowFits, KindFits, next_rank, InOrder, Among, none}
+use Rattle.mir_meaning.specs.Follow.{same, left}
+use Rattle.mir_meaning.specs.State.{Core, content}
 use Rattle.mir_meaning.specs.Step.{Outcome, Falls, Goes, Gives, Traps, Asks, Breaks, Faulted, act, does, read, numbered, with_core, do_item, do_fetch, moved}
 use Rattle.mir_meaning.specs.Step.{step}
 use Rattle.mir_meaning.proofs.Reading.{found_in, front_item}
 use Rattle.simulation.proofs.Order.{rank_high}
 use Rattle.machine_steps.specs.Laid.{fetched}
-use Rattle.machine_steps.proofs.Points.{got, dropped, drop_next}
+use Rattle.machine_steps.proofs.Points.{got, dropped}
 use Rattle.machine_steps.proofs.Rows.{acts}
-use Rattle.machine_runs.specs.Runs.{NeverFaults, IsHarmless, FallsTo, past_item, past_end, ComesFrom}
+use Rattle.machine_runs.specs.Runs.{NeverFaults, IsHarmless, FallsTo, past_item, past_end}
 use Rattle.machine_runs.specs.Runs as runs
 use Rattle.frame_rule.specs.Rule.{slot_offset, size_of, saved_of, framed_items, framed_of, renamed, renamed_code}
-use Rattle.machine_frames.specs.Framing.{ResultsArePhysical, KindReturnsPhysical, IsMadeFrom, FramedComesFrom}
+use Rattle.machine_frames.specs.Framing.{ResultsArePhysical, KindReturnsPhysical, IsMadeFrom}
 use Rattle.machine_frames.proofs.Renames.{renamed_row, row_renamed}
-use Rattle.machine_frames.proofs.Framed.{IsAdded, IsFrameCode, adds, stores, loads, prologue_is, epilogue_is, frame_onward, IsFramedItem, own, gives_back}
+use Rattle.machine_frames.proofs.Framed.{IsFrameCode, adds, stores, loads, prologue_is, epilogue_is, frame_onward, IsFramedItem, own, gives_back}
 use Rattle.machine_frames.proofs.Framed.{framed_item_is}
-use Rattle.machine_frames.proofs.Framed.{InPrologue, InBlock, point_of, same_position, in_order_get, in_order_below, framed_order}
+use Rattle.machine_frames.proofs.Framed.{InPrologue, InBlock, point_of, in_order_get, in_order_below, framed_order}
 
 -- ---- rows
 
@@ -276,8 +276,8 @@ module _ (source f : Function) (resolve fresolve : OperandPair → Option Operan
   fits_before b x d k q ek eo h = subst (RowFits src (row_of d) b.silent) eo (subst (λ (z : ItemKind). KindFits src z b.silent x.origin) ek h)
 
   module _ (framed : IsFramed (framed_of f)) where
-    added_at : (p : Pos) (i : Item) (c : Instruction) (k : Option ℕ) (q : Pos) → fetched (framed_of f) p ≡ Here i → i.kind ≡ Code c k → i.origin ≡ Before q →
-        IsHarmless (row_of c) ⊎ NeverFaults src q
+    pub added_at : (p : Pos) (i : Item) (c : Instruction) (k : Option ℕ) (q : Pos) → fetched (framed_of f) p ≡ Here i → i.kind ≡ Code c k →
+        i.origin ≡ Before q → IsHarmless (row_of c) ⊎ NeverFaults src q
     added_at p i c k q e kind origin = elim (point_of f p i e) as (λ _. IsHarmless (row_of c) ⊎ NeverFaults src q) [
       | inl pro ↦ inl (subst (λ (x : Instruction). IsHarmless (row_of x)) (code_same pro.is.instruction None c k (sym pro.is.kind ∙ kind))
           (frame_harmless pro.is.instruction (prologue_is (size_of f) (saved_of f) pro.is.instruction pro.is.member)))
@@ -297,7 +297,7 @@ module _ (source f : Function) (resolve fresolve : OperandPair → Option Operan
             | inr z ↦ inr (no_item src q (silent_never blk.block o.member q (ap (λ (w : Origin). (position_of w).block) (sym eo) ∙ o.home) z))
           ]
 
-    returns_at : (p : Pos) (i : Item) → fetched (framed_of f) p ≡ Here i → exit_of i.kind ≡ Final → NeverFaults src (position_of i.origin)
+    pub returns_at : (p : Pos) (i : Item) → fetched (framed_of f) p ≡ Here i → exit_of i.kind ≡ Final → NeverFaults src (position_of i.origin)
     returns_at p i e final = elim (point_of f p i e) as (λ _. NeverFaults src (position_of i.origin)) [
       | inl pro ↦ absurd (not_onward (ap exit_of (sym pro.is.kind) ∙ final)
           (frame_onward pro.is.instruction (prologue_is (size_of f) (saved_of f) pro.is.instruction pro.is.member)))
@@ -328,7 +328,7 @@ module _ (source f : Function) (resolve fresolve : OperandPair → Option Operan
     -- ---- the order
 
     -- the way goes down the text
-    falls_down : {p q : Pos} → FallsTo (framed_of f) p q → ((q.block ≡ p.block) × (p.item ≤ q.item)) ⊎ (p.block < q.block)
+    pub falls_down : {p q : Pos} → FallsTo (framed_of f) p q → ((q.block ≡ p.block) × (p.item ≤ q.item)) ⊎ (p.block < q.block)
     falls_down runs.here = inl (refl, omega arith)
     falls_down (past_item {p} {q} i h plain rest) = elim (falls_down rest) as (λ _. ((q.block ≡ p.block) × (p.item ≤ q.item)) ⊎ (p.block < q.block)) [
       | inl k ↦ inl (k.0, (let a = k.1 in omega (arith, a)))
@@ -358,7 +358,7 @@ module _ (source f : Function) (resolve fresolve : OperandPair → Option Operan
         made.sound.blocks_apart a.index b.index b.block.id (id_at f.blocks a.index a.block (dropped f.blocks a.index a.block a.rest a.found) ∙ ap Some e)
         (id_at f.blocks b.index b.block (dropped f.blocks b.index b.block b.rest b.found))
 
-    branch_kept : (p : Pos) (i : Item) (n : ℕ) (blk : InBlock f p i) → exit_of i.kind ≡ Perhaps n → IsFramedItem f blk.block.items p.item i →
+    pub branch_kept : (p : Pos) (i : Item) (n : ℕ) (blk : InBlock f p i) → exit_of i.kind ≡ Perhaps n → IsFramedItem f blk.block.items p.item i →
         (q : Pos) × (i.origin ≡ Kept q)
     branch_kept p i n blk exit (gives_back m x at fin is) =
         let bad : Onward ≡ Perhaps n = sym (frame_onward is.instruction (epilogue_is (size_of f) (saved_of f) is.instruction is.member))
@@ -377,7 +377,7 @@ module _ (source f : Function) (resolve fresolve : OperandPair → Option Operan
             by_origin (Before q) eo = absurd (branch_not_added (row_of d) q.item blk.block.silent n (ap exit_of (sym ek)
                 ∙ ex) (fits_before blk.block x d m q ek eo o.fits))
 
-    apart_at : (p q : Pos) (i j : Item) (n : ℕ) → fetched (framed_of f) p ≡ Here i → exit_of i.kind ≡ Perhaps n → FallsTo (framed_of f) (below p) q →
+    pub apart_at : (p q : Pos) (i j : Item) (n : ℕ) → fetched (framed_of f) p ≡ Here i → exit_of i.kind ≡ Perhaps n → FallsTo (framed_of f) (below p) q →
         fetched (framed_of f) q ≡ Here j → is_code j.kind ≡ true → position_of j.origin ≡ position_of i.origin → ⊥
     apart_at p q i j n e exit way g code eq = by_points (point_of f p i e) (point_of f q j g) where
       by_points : InPrologue f p i ⊎ InBlock f p i → InPrologue f q j ⊎ InBlock f q j → ⊥
@@ -412,9 +412,3 @@ module _ (source f : Function) (resolve fresolve : OperandPair → Option Operan
             let two : next_rank i.origin ≡ 2 * kept.0.item + 2 = ap next_rank kept.1 in
             let item : (position_of j.origin).item ≡ kept.0.item = ap (λ (z : Pos). z.item) (eq ∙ ap position_of kept.1) in
             omega (arith, below_it, up, two, item)
-
-    pub comes_from : ComesFrom src (framed_of f)
-    comes_from = record { added = added_at; returns = returns_at; apart = apart_at }
-
-pub framed_comes_from : FramedComesFrom
-framed_comes_from source f resolve fresolve made framed = comes_from source f resolve fresolve made framed

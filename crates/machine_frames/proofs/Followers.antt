@@ -1,6 +1,6 @@
 -- The image in which a function that follows the source lies, with its frame, meets the headline.
-use Rattle.std.proofs.Common.{◌≡◌, ℕ, zero, suc, ◌+◌, ◌<◌, ◌≤◌, List, [], ◌∷◌, All, Option, Some, None, Bool, true, false, cond, IsTrue, ◌&&◌, nat_eq, nat_le}
-use Rattle.std.proofs.Common.{nat_lt, refl, sym, ap, ◌∙◌}
+use Rattle.std.proofs.Common.{◌≡◌, ℕ, zero, suc, ◌<◌, ◌≤◌, List, [], ◌∷◌, All, Option, Bool, true, false, cond, IsTrue, nat_eq, nat_le}
+use Rattle.std.proofs.Common.{sym}
 use Rattle.std.proofs.Common.{subst, arith, leb-true}
 use Rattle.std.specs.List.{list_all}
 use Rattle.std.proofs.lemmas.Bool.{and_parts}
@@ -11,18 +11,19 @@ use Rattle.rv64_instr.specs.declared.op.ImmediateOp.{ImmediateOp}
 use Rattle.rv64_instr.specs.declared.op.ImmediateOp.TheVariants.{Addi}
 use Rattle.rv64_instr.specs.declared.operand.Operand.{Operand}
 use Rattle.rv64_instr.specs.declared.operand.Operand.TheVariants.{Def, Use, ImplicitDef, ImplicitUse, Imm, Slot, Object, Block as BlockOperand, Symbol, Mask}
+use Rattle.rv64_instr.specs.declared.place.Place.{Place}
 use Rattle.rv64_instr.specs.Arithmetic.{word}
 use Rattle.rv64_instr.specs.Form.{has_form, is_result}
-use Rattle.rv64_instr.specs.Row.{Row, row_by, move_row, immediate_row, object_row, implicit_uses}
+use Rattle.rv64_instr.specs.Row.{row_by, move_row, immediate_row, object_row, implicit_uses}
 use Rattle.mir_func.specs.declared.block.Block.{Block}
 use Rattle.mir_func.specs.declared.entry.OperandPair.{OperandPair}
 use Rattle.mir_func.specs.declared.item.Item.{Item}
 use Rattle.mir_func.specs.declared.item.ItemKind.{ItemKind}
 use Rattle.mir_func.specs.declared.item.ItemKind.TheVariants.{Code, Mark, Phi}
 use Rattle.mir_func.specs.declared.object.Object.{Object as StackObject}
+use Rattle.mir_func.specs.declared.variable.VarId.{VarId}
 use Rattle.mir_func.specs.Function.{Function}
 use Rattle.mir_func.specs.Graph.{program_of, framed_program}
-use Rattle.mir_func.specs.SoundFrame.{IsFramed}
 use Rattle.mir_meaning.specs.Follow.{Follows, IsStart, first_of}
 use Rattle.simulation.proofs.Words.{words_follow}
 use Rattle.frame_rule.specs.Rule.{framed_of}
@@ -32,7 +33,7 @@ use Rattle.machine_runs.specs.Runs.{start_beside}
 use Rattle.machine_runs.proofs.Headline.{laid_code_meets_the_headline}
 use Rattle.machine_frames.specs.Framing.{ResultsArePhysical, KindReturnsPhysical, IsMadeFrom, IsInner}
 use Rattle.machine_frames.specs.Followers.{IsFollower, FollowersMeetTheHeadline}
-use Rattle.machine_frames.proofs.Comes.{comes_from}
+use Rattle.machine_frames.proofs.Quiet.{comes_from}
 use Rattle.machine_frames.proofs.Turns.{plain_turns}
 
 -- ---- what a return gives is in x10 to x17
@@ -105,10 +106,10 @@ made_from source f resolve fresolve h = record {
   shape = h.follows.shape;
 }
 
-pub followers_meet_the_headline : FollowersMeetTheHeadline
-followers_meet_the_headline source f resolve fresolve image h framed gives_back laid =
+pub followers_meet_the_headline : (lists : VarId → (address : ℕ) → Place → Type 0) → FollowersMeetTheHeadline lists
+followers_meet_the_headline lists source f resolve fresolve image h framed gives_back laid wanted =
     let made = made_from source f resolve fresolve h in
-    laid_code_meets_the_headline source (framed_of f) resolve fresolve image framed h.objects (comes_from source f resolve fresolve made framed)
+    laid_code_meets_the_headline lists source (framed_of f) resolve fresolve image framed h.objects (comes_from source f resolve fresolve made framed)
     (record {
       follows = λ s start. words_follow IsInner (program_of true source.blocks resolve) (framed_program (framed_of f).blocks fresolve) s (start_beside s)
           (frame_follows source.blocks f resolve fresolve h.sound h.form
@@ -116,4 +117,4 @@ followers_meet_the_headline source f resolve fresolve image h framed gives_back 
           (subst (λ (os : List StackObject). IsStart os (first_of source.blocks) s) (sym h.objects) start))
           (plain_turns source f resolve fresolve made framed);
       keeps = gives_back;
-    }) laid
+    }) laid wanted

@@ -1,24 +1,22 @@
 -- What the items of a function with its frame are: those of the prologue, those of the function, and those of epilogues.
-use Rattle.std.proofs.Common.{◌≡◌, ◌⊎◌, ℕ, zero, suc, ◌+◌, ◌*◌, ◌%◌, ◌<◌, ◌≤◌, ℤ, pos, ◌-ℤ◌, List, [], ◌∷◌, ◌++◌, drop, take, map, length, length-append, All}
+use Rattle.std.proofs.Common.{◌≡◌, ◌⊎◌, ℕ, zero, suc, ◌+◌, ◌*◌, ◌%◌, ◌<◌, ◌≤◌, ℤ, pos, ◌-ℤ◌, List, [], ◌∷◌, ◌++◌, drop, take, map, length, length-append}
 use Rattle.std.proofs.Common.{Contains, slice_get}
-use Rattle.std.proofs.Common.{slice_index_or, Option, Some, None, Bool, true, false, cond, refl, sym, ap, ◌∙◌, subst, inl, inr, arith}
-use Rattle.std.specs.List.{flat_map}
+use Rattle.std.proofs.Common.{Some, None, Bool, true, false, cond, refl, sym, ap, ◌∙◌, subst, inl, inr, arith}
 use Rattle.rv64_instr.specs.Instruction.{Instruction}
-use Rattle.rv64_instr.specs.Row.{Row, add_row, row_of}
+use Rattle.rv64_instr.specs.Row.{row_of}
 use Rattle.mir_func.specs.declared.exit.Exit.{Exit}
 use Rattle.mir_func.specs.declared.exit.Exit.TheVariants.{Onward, Perhaps, Always, Final}
 use Rattle.mir_func.specs.declared.block.Block.{Block}
 use Rattle.mir_func.specs.declared.framed.SavedRegister.{SavedRegister}
 use Rattle.mir_func.specs.declared.item.Item.{Item}
-use Rattle.mir_func.specs.declared.item.ItemKind.{ItemKind}
-use Rattle.mir_func.specs.declared.item.ItemKind.TheVariants.{Code, Mark, Phi}
+use Rattle.mir_func.specs.declared.item.ItemKind.TheVariants.{Code}
 use Rattle.mir_func.specs.declared.position.Origin.{Origin}
 use Rattle.mir_func.specs.declared.position.Origin.TheVariants.{Kept, Before}
 use Rattle.mir_func.specs.declared.position.Pos.{Pos}
 use Rattle.mir_func.specs.Exits.{row_exit, exit_of}
-use Rattle.mir_func.specs.Function.{Function, FramedFunction}
+use Rattle.mir_func.specs.Function.{Function}
 use Rattle.mir_func.specs.Graph.{Here, block_start}
-use Rattle.mir_func.specs.SoundFrame.{body_of, adds_to_pointer, saves, restores, prologue_code, epilogue_code}
+use Rattle.mir_func.specs.SoundFrame.{adds_to_pointer, saves, restores, prologue_code, epilogue_code}
 use Rattle.mir_meaning.specs.Align.{position_of}
 use Rattle.mir_meaning.specs.Follow.{rank, next_rank, InOrder}
 use Rattle.frame_rule.specs.Rule.{size_of, saved_of, added, added_all, position_in, prologue, epilogue, renamed, is_final, framed_item, framed_items}

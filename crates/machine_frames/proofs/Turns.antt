@@ -1,107 +1,49 @@
 -- A function with its frame has plain turns.
-use Rattle.std.proofs.Common.{◌≡◌, ◌⊎◌, ℕ, zero, suc, ◌+◌, ◌*◌, ◌<◌, ◌≤◌, List, [], ◌∷◌, ◌++◌, drop, take, map, length, All, Contains, slice_get, Option}
-use Rattle.std.proofs.Common.{Some, None, Bool, true, false}
-use Rattle.std.proofs.Common.{cond, nat_eq, refl, sym, ap, ◌∙◌, subst, inl, inr, arith}
+use Rattle.std.proofs.Common.{◌≡◌, ◌⊎◌, ℕ, suc, ◌<◌, ◌≤◌, List, [], ◌∷◌, drop, Contains, slice_get, Option}
+use Rattle.std.proofs.Common.{Some, true, false}
+use Rattle.std.proofs.Common.{refl, sym, ap, ◌∙◌, subst, inl, inr, arith}
 use Rattle.std.proofs.lemmas.Bool.{cases_lt}
-use Rattle.std.proofs.lemmas.List.Elements.{All-contains, All-head, All-tail}
+use Rattle.std.proofs.lemmas.List.Elements.{All-contains}
 use Rattle.rv64_instr.specs.Instruction.{Instruction}
 use Rattle.rv64_instr.specs.Parts.{IsSlotStore}
 use Rattle.rv64_instr.specs.Row.{Row, Fixes, Moves, Sets, Addresses, Loads, Stores, LoadsSlot, StoresSlot, Branches, Jumps, Calls, Returns, Unfit, row_of}
 use Rattle.mir_func.specs.declared.block.Block.{Block}
 use Rattle.mir_func.specs.declared.entry.OperandPair.{OperandPair}
-use Rattle.mir_func.specs.declared.exit.Exit.{Exit}
-use Rattle.mir_func.specs.declared.exit.Exit.TheVariants.{Onward, Perhaps, Always, Final}
+use Rattle.mir_func.specs.declared.exit.Exit.TheVariants.{Onward, Always, Final}
 use Rattle.mir_func.specs.declared.item.Item.{Item}
 use Rattle.mir_func.specs.declared.item.ItemKind.{ItemKind}
 use Rattle.mir_func.specs.declared.item.ItemKind.TheVariants.{Code, Mark, Phi}
 use Rattle.mir_func.specs.declared.position.Origin.{Origin}
 use Rattle.mir_func.specs.declared.position.Origin.TheVariants.{Kept, Before}
 use Rattle.mir_func.specs.declared.position.Pos.{Pos}
-use Rattle.mir_func.specs.Exits.{row_exit, exit_of}
+use Rattle.mir_func.specs.Exits.{exit_of}
 use Rattle.mir_func.specs.Function.{Function}
-use Rattle.mir_func.specs.Graph.{Fetch, Here, Silent, Outside, Program, below, block_start, end_of, front, fetch_in, program_of, framed_program, Leads}
-use Rattle.mir_func.specs.Sound.{EndsWell, MayFollow, IsJumpAtMost}
+use Rattle.mir_func.specs.Graph.{Fetch, Here, Silent, Outside, Program, below, block_start, fetch_in, program_of, framed_program, Leads}
+use Rattle.mir_func.specs.Sound.{EndsWell}
 use Rattle.mir_func.specs.SoundFrame.{body_of, IsFramed}
-use Rattle.mir_meaning.specs.Align.{position_of, is_code, is_jump, is_jump_row, waits_at}
-use Rattle.mir_meaning.specs.Follow.{OnRow, MayAdd, KindFits, RowFits, HasClass, rank, next_rank, InOrder}
-use Rattle.mir_meaning.specs.State.{Core, State}
+use Rattle.mir_meaning.specs.Align.{position_of, is_code, is_jump, is_jump_row}
+use Rattle.mir_meaning.specs.Follow.{OnRow, KindFits, RowFits, HasClass, rank, next_rank, InOrder}
+use Rattle.mir_meaning.specs.State.{State}
 use Rattle.mir_meaning.specs.Step.{Outcome, Falls, Goes, Gives, Traps, Asks, Breaks, Went, do_fetch, moved, step}
 use Rattle.mir_meaning.proofs.Reading.{item_front}
 use Rattle.simulation.specs.Words.{IsAddedJump, HasPlainTurns}
 use Rattle.simulation.proofs.Order.{rank_high, same_pos}
-use Rattle.machine_steps.specs.Laid.{fetched}
 use Rattle.machine_steps.proofs.Points.{got, dropped, StandsAt, stands_at}
-use Rattle.frame_rule.specs.Rule.{size_of, saved_of, framed_items, framed_block, framed_blocks, framed_of, renamed, renamed_code, position_in}
+use Rattle.frame_rule.specs.Rule.{size_of, saved_of, framed_items, framed_of, renamed, renamed_code}
 use Rattle.machine_frames.specs.Framing.{IsMadeFrom, IsInner, FramedHasPlainTurns}
 use Rattle.machine_frames.proofs.Ways.{items_in, image_of, IsHead, head_at, leads_image}
 use Rattle.mir_func.specs.Graph.{from_block}
-use Rattle.mir_meaning.specs.Follow.{Counts, IsMetApart}
+use Rattle.mir_meaning.specs.Follow.{IsMetApart}
 use Rattle.mir_meaning.proofs.Reading.{FoundAt, found, front_item}
 use Rattle.simulation.proofs.Laid.{from_home}
 use Rattle.frame_rule.specs.Rule.{is_final, renamed_kind}
 use Rattle.machine_frames.proofs.Framed.{index_in}
 use Rattle.machine_frames.proofs.Renames.{renamed_row, row_renamed}
-use Rattle.machine_frames.proofs.Framed.{IsAdded, prologue_is, epilogue_is, frame_onward, IsFramedItem, own, gives_back, framed_item_is, InPrologue, InBlock}
+use Rattle.machine_frames.proofs.Framed.{prologue_is, epilogue_is, frame_onward, IsFramedItem, own, gives_back, framed_item_is, InPrologue, InBlock}
 use Rattle.machine_frames.proofs.Framed.{point_of, same_position, in_order_below}
-use Rattle.machine_frames.proofs.Comes.{IsOf, of_f, own_code, own_exit, fits_before, code_same, block_order, silent_never, home_of, index_of_home}
-
-jump_always : (k : ItemKind) → is_jump k ≡ true → (n : ℕ) × (exit_of k ≡ Always n)
-jump_always (Mark v m) e = cc
-jump_always (Phi p n) e = cc
-jump_always (Code c n) e = by_row (row_of c) e where
-  by_row : (r : Row) → is_jump_row r ≡ true → (n : ℕ) × (row_exit r ≡ Always n)
-  by_row (Jumps t) e = (t, refl)
-  by_row _ e = cc
-
-always_jump : (k : ItemKind) (n : ℕ) → exit_of k ≡ Always n → is_jump k ≡ true
-always_jump (Mark v m) n e = cc
-always_jump (Phi p k) n e = cc
-always_jump (Code c k) n e = by_row (row_of c) e where
-  by_row : (r : Row) → row_exit r ≡ Always n → is_jump_row r ≡ true
-  by_row (Jumps t) e = refl
-  by_row (Fixes rd m) e = cc
-  by_row (Moves rd rs) e = cc
-  by_row (Sets rd op a b) e = cc
-  by_row (Addresses rd m o) e = cc
-  by_row (Loads rd op b o) e = cc
-  by_row (Stores op rs b o) e = cc
-  by_row (LoadsSlot rd m) e = cc
-  by_row (StoresSlot rs m) e = cc
-  by_row (Branches op a b t) e = cc
-  by_row (Calls name args) e = cc
-  by_row (Returns results) e = cc
-  by_row Unfit e = cc
-
-onward_always : {x : Exit} {n : ℕ} → x ≡ Onward → x ≡ Always n → ⊥
-onward_always {n = n} a b = let bad : Onward ≡ Always n = sym a ∙ b in cc
-
--- nothing stands after a jump
-ends_last : (xs : List Item) → EndsWell xs → (k l : ℕ) (x y : Item) (n : ℕ) → slice_get xs k ≡ Some x → exit_of x.kind ≡ Always n →
-    slice_get xs l ≡ Some y → k < l → ⊥
-ends_last [] h k l x y n e ex g lt = cc
-ends_last (z ∷ xs) h zero zero x y n e ex g lt = omega (arith, lt)
-ends_last (z ∷ xs) h zero (suc l) x y n e ex g lt =
-    let same : z ≡ x = cc in
-    let none : xs ≡ [] = subst (λ (w : Exit). MayFollow w xs) (ap (λ (w : Item). exit_of w.kind) same ∙ ex) h.0 in
-    let bad : None ≡ Some y = ap (λ (ws : List Item). slice_get ws l) (sym none) ∙ g in
-    cc
-ends_last (z ∷ xs) h (suc k) zero x y n e ex g lt = omega (arith, lt)
-ends_last (z ∷ xs) h (suc k) (suc l) x y n e ex g lt = ends_last xs h.1 k l x y n e ex g (omega (arith, lt))
-
--- a list has an element at each lower index
-lower : (xs : List Item) (k l : ℕ) (x : Item) → slice_get xs k ≡ Some x → l < k → (y : Item) × (slice_get xs l ≡ Some y)
-lower [] k l x e lt = cc
-lower (z ∷ xs) zero l x e lt = absurd (omega (arith, lt))
-lower (z ∷ xs) (suc k) zero x e lt = (z, refl)
-lower (z ∷ xs) (suc k) (suc l) x e lt = lower xs k l x e (omega (arith, lt))
-
-next_low : (o : Origin) → 2 * (position_of o).item ≤ next_rank o
-next_low (Kept p) = omega arith
-next_low (Before p) = omega arith
-
-added_of : (o : Origin) → waits_at false o ≡ true → (q : Pos) × (o ≡ Before q)
-added_of (Kept p) e = cc
-added_of (Before p) e = (p, refl)
+use Rattle.machine_frames.proofs.Comes.{IsOf, of_f, own_code, own_exit, fits_before, block_order, silent_never, home_of, index_of_home}
+use Rattle.machine_frames.proofs.Ends.{jump_always, onward_always, ends_last, lower, next_low, added_of, jump_may, end_row, final_row, row_goes}
+use Rattle.machine_frames.proofs.Ends.{store_code, counts_code}
 
 module _ (source f : Function) (resolve fresolve : OperandPair →
     Option OperandPair) (made : IsMadeFrom source f resolve fresolve) (framed : IsFramed (framed_of f)) where
@@ -235,13 +177,6 @@ module _ (source f : Function) (resolve fresolve : OperandPair →
     pos : Pos
     before : i.origin ≡ Before pos
 
-  jump_may : (r : Row) (k silent n : ℕ) → row_exit r ≡ Always n → MayAdd r k silent → k ≡ silent
-  jump_may (Jumps t) k silent n e h = h
-  jump_may (Fixes rd m) k silent n e h = cc
-  jump_may (LoadsSlot rd m) k silent n e h = cc
-  jump_may (StoresSlot rs m) k silent n e h = cc
-  jump_may _ k silent n e h = absurd h
-
   end_jump : (p : Pos) (i : Item) → G.fetch p ≡ Here i → IsAddedJump i → IsEndJump p i
   end_jump p i e j = by_item (framed_item_is f b.block.items p.item i b.stands) where
     b : InBlock f p i
@@ -276,22 +211,6 @@ module _ (source f : Function) (resolve fresolve : OperandPair →
             before = w.1;
           }
 
-  -- code at the end of a block stores a slot or jumps
-  end_row : (r : Row) (k silent : ℕ) → k ≡ silent → MayAdd r k silent → IsSlotStore r ⊎ (is_jump_row r ≡ true)
-  end_row (StoresSlot rs n) k silent e h = inl tt
-  end_row (Jumps t) k silent e h = inr refl
-  end_row (Fixes rd n) k silent e h = absurd (omega (arith, e, h))
-  end_row (LoadsSlot rd n) k silent e h = absurd (omega (arith, e, h))
-  end_row (Moves rd rs) k silent e h = absurd h
-  end_row (Sets rd op a b) k silent e h = absurd h
-  end_row (Addresses rd n o) k silent e h = absurd h
-  end_row (Loads rd op base o) k silent e h = absurd h
-  end_row (Stores op rs base o) k silent e h = absurd h
-  end_row (Branches op a b t) k silent e h = absurd h
-  end_row (Calls name args) k silent e h = absurd h
-  end_row (Returns results) k silent e h = absurd h
-  end_row Unfit k silent e h = absurd h
-
   has_item : (r : Row) (x : Fetch) → HasClass r x → (i : Item) × (x ≡ Here i)
   has_item r (Here i) h = (i, refl)
   has_item r (Silent k n) h = absurd h
@@ -313,38 +232,6 @@ module _ (source f : Function) (resolve fresolve : OperandPair →
         let i = has_item (row_of d) (src.fetch q) h in
         absurd (silent_never source f resolve fresolve made b o.member q (ap (λ (w : Origin). (position_of w).block) (sym eo) ∙ o.home)
         (ap (λ (w : Origin). (position_of w).item) (sym eo) ∙ at) i.0 i.1)
-
-  final_row : (r : Row) → row_exit r ≡ Final → IsSlotStore r ⊎ (is_jump_row r ≡ true) → ⊥
-  final_row (Returns results) e (inl h) = h
-  final_row (Returns results) e (inr h) = cc
-  final_row Unfit e (inl h) = h
-  final_row Unfit e (inr h) = cc
-  final_row (Fixes rd n) e h = cc
-  final_row (Moves rd rs) e h = cc
-  final_row (Sets rd op a b) e h = cc
-  final_row (Addresses rd n o) e h = cc
-  final_row (Loads rd op base o) e h = cc
-  final_row (Stores op rs base o) e h = cc
-  final_row (LoadsSlot rd n) e h = cc
-  final_row (StoresSlot rs n) e h = cc
-  final_row (Branches op a b t) e h = cc
-  final_row (Jumps t) e h = cc
-  final_row (Calls name args) e h = cc
-
-  row_goes : (r : Row) → IsSlotStore r ⊎ (is_jump_row r ≡ true) → is_final (row_exit r) ≡ false
-  row_goes (StoresSlot rs n) h = refl
-  row_goes (Jumps t) h = refl
-  row_goes (Fixes rd n) h = refl
-  row_goes (Moves rd rs) h = refl
-  row_goes (Sets rd op a b) h = refl
-  row_goes (Addresses rd n o) h = refl
-  row_goes (Loads rd op base o) h = refl
-  row_goes (Stores op rs base o) h = refl
-  row_goes (LoadsSlot rd n) h = refl
-  row_goes (Branches op a b t) h = refl
-  row_goes (Calls name args) h = refl
-  row_goes (Returns results) h = absurd (final_row (Returns results) refl h)
-  row_goes Unfit h = absurd (final_row Unfit refl h)
 
   -- code that stands at the position of an added jump in its block is an item of f
   record IsEndCode (q : Pos) (j : Item) (b : Block) : Type 0 where
@@ -454,16 +341,6 @@ module _ (source f : Function) (resolve fresolve : OperandPair →
         | inl s ↦ inl (subst (OnRow IsSlotStore) (sym k) (subst IsSlotStore (sym (row_renamed f.slots c.code)) (store_named (row_of c.code) s)))
         | inr t ↦ inr (ap is_jump k ∙ ap is_jump_row (row_renamed f.slots c.code) ∙ jump_named (row_of c.code) t)
       ]
-
-  store_code : (k : ItemKind) → OnRow IsSlotStore k → is_code k ≡ true
-  store_code (Code c n) h = refl
-  store_code (Mark v m) h = absurd h
-  store_code (Phi p n) h = absurd h
-
-  counts_code : (k : ItemKind) → OnRow Counts k → is_code k ≡ true
-  counts_code (Code c n) h = refl
-  counts_code (Mark v m) h = absurd h
-  counts_code (Phi p n) h = absurd h
 
   stores : (p q : Pos) (i j : Item) → q.block ≡ p.block → G.fetch p ≡ Here i → IsAddedJump i → G.fetch q ≡ Here j → OnRow IsSlotStore j.kind →
       position_of j.origin ≡ position_of i.origin →

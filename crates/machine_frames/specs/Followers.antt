@@ -1,5 +1,5 @@
 -- From a function that follows a source to the machine: with its frame, and laid out.
-use Rattle.std.specs.Prelude.{◌≡◌, ℕ, Option, true}
+use Rattle.std.specs.Prelude.{◌≡◌, ℕ, Option}
 use Rattle.rv64_instr.specs.declared.place.Place.{Place}
 use Rattle.mir_func.specs.declared.entry.OperandPair.{OperandPair}
 use Rattle.mir_func.specs.declared.variable.VarId.{VarId}
@@ -14,6 +14,7 @@ use Rattle.code_layout.specs.Image.{Image}
 use Rattle.frame_rule.specs.Rule.{framed_of}
 use Rattle.frame_runs.specs.Runs.{HasForm}
 use Rattle.machine_steps.specs.Laid.{IsLaidAt}
+use Rattle.machine_runs.specs.Lists.{GiveWanted, IsPointAt}
 use Rattle.machine_runs.specs.Runs.{GivesBackKept, start_beside}
 
 -- f follows the source, which is as it was read. Both are made of instructions that have their form
@@ -25,10 +26,10 @@ pub record IsFollower (source f : Function) (resolve fresolve : OperandPair → 
   pub objects : f.objects ≡ source.objects
   pub follows : Follows source.objects source.blocks f.blocks resolve fresolve
 
--- The image in which a function that follows the source lies, with its frame, meets the headline, for lists that give nothing. What is to
--- be kept is given back.
-abbrev pub FollowersMeetTheHeadline : Type 0
-FollowersMeetTheHeadline = (source f : Function) (resolve fresolve : OperandPair → Option OperandPair) (image : Image) →
+-- The image in which a function that follows the source lies, with its frame, meets the headline, for lists that give only wanted places.
+-- What is to be kept is given back.
+abbrev pub FollowersMeetTheHeadline : (lists : VarId → (address : ℕ) → Place → Type 0) → Type 0
+FollowersMeetTheHeadline lists = (source f : Function) (resolve fresolve : OperandPair → Option OperandPair) (image : Image) →
     IsFollower source f resolve fresolve → IsFramed (framed_of f) →
-    ((s : State) → StartsAt source s → GivesBackKept (framed_program (framed_of f).blocks fresolve) (start_beside s)) → IsLaidAt (framed_of f) image →
-    Headline source resolve image (λ (v : VarId) (a : ℕ) (place : Place). ⊥)
+    ((s : State) → StartsAt source s → GivesBackKept (framed_program (framed_of f).blocks fresolve) (start_beside s)) → (laid : IsLaidAt (framed_of f) image) →
+    GiveWanted (framed_program (framed_of f).blocks fresolve) (IsPointAt (framed_of f) laid.address) lists → Headline source resolve image lists

@@ -3,6 +3,8 @@
 ghost use Rattle.machine_frames.specs.Followers.{FollowersMeetTheHeadline};
 ghost use Rattle.machine_frames.specs.Framing.{FramedComesFrom, FramedHasPlainTurns};
 
+use code_layout::laws::LocationLists;
+
 /// What stands in a function with its frame comes from the source as the machine's run needs it.
 pub fn framed_comes_from()
     ensures { FramedComesFrom }
@@ -14,7 +16,7 @@ pub fn framed_has_plain_turns()
 {}
 
 /// The image in which a function that follows a source lies, with its frame, meets the headline, for lists that give
-/// nothing.
-pub fn followers_meet_the_headline()
-    ensures { FollowersMeetTheHeadline }
+/// only wanted places.
+pub fn followers_meet_the_headline<L: LocationLists>()
+    ensures { FollowersMeetTheHeadline L.gives }
 {}

@@ -1,41 +1,40 @@
 -- The image of a function that follows a source, with its frame and laid out, meets the headline.
-use Rattle.std.proofs.Common.{◌≡◌, ℕ, zero, suc, ◌+◌, ◌*◌, ◌^◌, ◌<◌, ◌≤◌, Option, Some, None, IsSome, IfSome, Bool, true, false, refl, sym, ap, ◌∙◌, subst}
+use Rattle.std.proofs.Common.{◌≡◌, ℕ, zero, suc, ◌<◌, Option, Some, None, IsSome, IfSome, refl, sym, ap, ◌∙◌, subst}
 use Rattle.std.proofs.Common.{arith}
 use Rattle.rv64_instr.specs.declared.op.ImmediateOp.{ImmediateOp}
 use Rattle.rv64_instr.specs.declared.op.ImmediateOp.TheVariants.{Addi}
+use Rattle.rv64_instr.specs.declared.place.Place.{Place}
 use Rattle.rv64_instr.specs.Arithmetic.{word}
 use Rattle.rv64_instr.specs.Instruction.{Instruction}
 use Rattle.rv64_instr.specs.Row.{Row, Unfit, immediate_row, row_of}
 use Rattle.rv64_word.specs.declared.machine_op.MachineOp.{MachineOp}
 use Rattle.rv64_word.specs.declared.word_op.WordOp.{WordOp}
 use Rattle.rv64_word.specs.declared.word_op.WordOp.TheVariants.{Registers, Immediate, Lui, Branch, Load, Store, Jal, Jalr}
-use Rattle.rv64_word.specs.MachineRow.{MachineRow, Does, row_as, link_row, machine_row, placed, at_offset, object_named}
+use Rattle.rv64_word.specs.MachineRow.{Does, row_as, link_row, machine_row, placed, at_offset, object_named}
 use Rattle.rv64_word.proofs.Words.{lowered_acts}
-use Rattle.mir_func.specs.declared.item.Item.{Item}
-use Rattle.mir_func.specs.declared.item.ItemKind.TheVariants.{Code}
-use Rattle.mir_func.specs.declared.object.Object.{Object}
 use Rattle.mir_func.specs.declared.position.Pos.{Pos}
+use Rattle.mir_func.specs.declared.variable.VarId.{VarId}
 use Rattle.mir_func.specs.Exits.{row_exit}
-use Rattle.mir_func.specs.Function.{Function, FramedFunction}
-use Rattle.mir_func.specs.Graph.{Here, framed_program}
+use Rattle.mir_func.specs.Function.{FramedFunction}
 use Rattle.mir_meaning.specs.State.{State}
+use Rattle.mir_meaning.proofs.Reading.{follows_itself}
 use Rattle.code_layout.specs.Headline.{StartsAt}
 use Rattle.code_layout.specs.Image.{Image}
 use Rattle.code_words.specs.Counts.{MAX_WORDS, MAX_BASE, count_of}
 use Rattle.code_words.specs.Laid.{IsWorded}
-use Rattle.code_words.specs.Rule.{Layout, Form, Nothing, OneWord, CallSite, LongBranch, row_form, form_of, address_in, offset_to, object_offset, operation_at}
-use Rattle.code_words.specs.Rule.{bytes_before}
+use Rattle.code_words.specs.Rule.{Layout, Form, Nothing, OneWord, CallSite, LongBranch, row_form, address_in, offset_to, object_offset, operation_at}
 use Rattle.code_words.proofs.Bounds.{bytes_small}
-use Rattle.frame_rule.specs.Rule.{size_of, framed_of}
 use Rattle.frame_rule.proofs.Framed.{is_framed}
 use Rattle.frame_runs.specs.Stands.{IsEntered}
 use Rattle.frame_runs.proofs.FrameStands.{frame_gives_back}
-use Rattle.machine_steps.specs.Laid.{fetched, IsLaidAt}
-use Rattle.machine_frames.specs.Followers.{IsFollower}
+use Rattle.machine_steps.specs.Laid.{IsLaidAt}
 use Rattle.machine_frames.proofs.Followers.{followers_meet_the_headline}
 use Rattle.machine_layout.specs.Images.{FormHasWords, HasAllWords, IsImageOf}
-use Rattle.machine_layout.proofs.Laid.{images_are_laid}
-use Rattle.machine_headline.specs.LaidOut.{IsImageOfFunction, ImagesMeetTheHeadline}
+use Rattle.machine_layout.proofs.Laid.{images_are_laid, images_addresses}
+use Rattle.machine_runs.specs.Lists.{IsPointAt}
+use Rattle.machine_headline.specs.Entries.{IsEntryAt}
+use Rattle.machine_headline.specs.LaidOut.{ImagesMeetTheHeadline, SourcesMeetTheHeadline}
+use Rattle.machine_headline.proofs.Entries.{entries_are_points}
 
 -- a word does the row of some instruction
 immediate_fit : (op : ImmediateOp) (rd a n : ℕ) → immediate_row op rd a n ≡ Unfit → ⊥
@@ -89,13 +88,26 @@ module _ (l : Layout) (low : l.base < MAX_BASE) (few : count_of l.framed.blocks 
     small = λ p. (let b = bytes_small l.long l.framed.blocks p in omega (arith, b, low, few));
   }
 
-pub images_meet_the_headline : ImagesMeetTheHeadline
-images_meet_the_headline source f resolve fresolve image h physical small is =
+-- where the function lies in its image, an entry of the layout begins at each address of a point
+record IsLaidBy (l : Layout) (f : FramedFunction) (image : Image) : Type 0 where
+  laid : IsLaidAt f image
+  entries : (a : ℕ) (p : Pos) → IsPointAt f laid.address a p → IsEntryAt l a p
+
+laid_by : (l : Layout) (image : Image) → HasAllWords l → IsImageOf l image → IsLaidBy l l.framed image
+laid_by l image has is = record {
+  laid = images_are_laid l image has is;
+  entries = λ a p at. (entries_are_points l a p).1
+      (subst (λ (address : Pos → ℕ). IsPointAt l.framed address a p) (λ t q. images_addresses l image has is q t) at);
+}
+
+pub images_meet_the_headline : (lists : VarId → (address : ℕ) → Place → Type 0) → ImagesMeetTheHeadline lists
+images_meet_the_headline lists source f resolve fresolve image h physical small is wanted =
     let framed = is_framed f h.sound small physical in
-    let laid = images_are_laid is.layout image (has_all is.layout is.low is.few is.worded) is.laid in
-    followers_meet_the_headline source f resolve fresolve image h framed
+    let by = subst (λ (x : FramedFunction). IsLaidBy is.layout x image) is.framed
+    (laid_by is.layout image (has_all is.layout is.low is.few is.worded) is.laid) in
+    followers_meet_the_headline lists source f resolve fresolve image h framed
     (λ s start n t results run ret. frame_gives_back f fresolve h.sound small s.core (entered s start) n t results run ret)
-    (subst (λ (x : FramedFunction). IsLaidAt x image) is.framed laid) where
+    by.laid (λ v a place given p at. wanted v a place given p (by.entries a p at)) where
       entered : (s : State) → StartsAt source s → IsEntered s.core
       entered s start = record {
         pointer = start.pointer;
@@ -103,3 +115,14 @@ images_meet_the_headline source f resolve fresolve image h physical small is =
         top = (let w = start.regs 2 (omega arith) in let e : Some w.0 ≡ Some s.core.entry = sym w.1 ∙ start.pointer in let q : w.0 ≡ s.core.entry = cc in
             let k = w.2 in omega (arith, q, k));
       }
+
+pub sources_meet_the_headline : (lists : VarId → (address : ℕ) → Place → Type 0) → SourcesMeetTheHeadline lists
+sources_meet_the_headline lists source resolve image read form physical sound small is wanted =
+    images_meet_the_headline lists source source resolve resolve image (record {
+      read = read;
+      source_form = form;
+      form = form;
+      sound = sound;
+      objects = refl;
+      follows = follows_itself source.blocks read resolve source.objects;
+    }) physical small is wanted

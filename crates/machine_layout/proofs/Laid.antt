@@ -640,3 +640,9 @@ module _ (l : Layout) (image : Image) (has : HasAllWords l) (is : IsImageOf l im
 
 pub images_are_laid : ImagesAreLaid
 images_are_laid l image has is = laid l image has is
+
+-- each point is at the layout's address
+pub images_addresses : (l : Layout) (image : Image) (has : HasAllWords l) (is : IsImageOf l image) (p : Pos) →
+    (images_are_laid l image has is).address p ≡ address_in l p
+unfolding images_are_laid laid
+images_addresses l image has is p = refl

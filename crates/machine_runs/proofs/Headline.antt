@@ -4,7 +4,7 @@ use Rattle.rv64_instr.specs.Instruction.{Instruction}
 use Rattle.rv64_instr.specs.Row.{Row, row_of}
 use Rattle.rv64_instr.specs.declared.place.Place.{Place}
 use Rattle.mir_func.specs.declared.entry.OperandPair.{OperandPair}
-use Rattle.mir_func.specs.declared.exit.Exit.TheVariants.{Final}
+use Rattle.mir_func.specs.declared.exit.Exit.TheVariants.{Perhaps, Final}
 use Rattle.mir_func.specs.declared.item.Item.{Item}
 use Rattle.mir_func.specs.declared.item.ItemKind.{ItemKind}
 use Rattle.mir_func.specs.declared.item.ItemKind.TheVariants.{Code}
@@ -14,12 +14,12 @@ use Rattle.mir_func.specs.declared.position.Pos.{Pos}
 use Rattle.mir_func.specs.declared.variable.VarId.{VarId}
 use Rattle.mir_func.specs.Exits.{exit_of}
 use Rattle.mir_func.specs.Function.{Function, FramedFunction}
-use Rattle.mir_func.specs.Graph.{Here, Program, program_of}
+use Rattle.mir_func.specs.Graph.{Here, Program, below, block_start, program_of, framed_program}
 use Rattle.mir_func.specs.SoundFrame.{IsFramed}
 use Rattle.mir_meaning.specs.Align.{position_of, is_code, waits_at, ByWords, station_of, Since, Start, Same, After, since_of, First, Aligns}
 use Rattle.mir_meaning.specs.Align.{begin, FailsBefore}
 use Rattle.mir_meaning.specs.State.{Core, State}
-use Rattle.mir_meaning.specs.Step.{Went, Returned, Faulted, read, step}
+use Rattle.mir_meaning.specs.Step.{Returned, read, step}
 use Rattle.simulation.specs.Words.{Shown}
 use Rattle.simulation.proofs.Order.{cases_pos}
 use Rattle.simulation.proofs.Stations.{code_station}
@@ -35,7 +35,6 @@ use Rattle.machine_steps.proofs.Quiet.{steps_beside}
 use Rattle.machine_steps.proofs.Sites.{step_lands}
 use Rattle.machine_runs.specs.Runs.{FallsTo, ComesFrom, start_beside, RunsBeside}
 use Rattle.machine_runs.proofs.Sources.{IsWritten, aligns_written}
-use Rattle.machine_runs.proofs.Late.{IsFilled}
 use Rattle.mir_meaning.specs.Step.{Outcome, Falls, Goes, Gives, Traps, Asks, Breaks, act, does, with_core, numbered, moved, do_item, answered, slot_loaded}
 use Rattle.mir_meaning.specs.Step.{is_fault, address_at}
 use Rattle.mir_meaning.specs.State.{Reply, writes_frame}
@@ -43,13 +42,19 @@ use Rattle.mir_func.specs.Exits.{row_exit}
 use Rattle.rv64_instr.specs.Row.{Fixes, Moves, Sets, Addresses, Loads, Stores, LoadsSlot, StoresSlot, Branches, Jumps, Calls, Returns, Unfit}
 use Rattle.rv64_instr.specs.Arithmetic.{taken, load_width, store_width}
 use Rattle.machine_runs.proofs.Stages.{falls_to, one_machine, IsCode, as_code, g, AlongWords, Counts, Stage, level, second, late, late_second, dead, MetAt}
+use Rattle.machine_runs.proofs.Stages.{IsCarried, IsQuiet, falls_on, long_branch}
+use Rattle.machine_runs.proofs.Telling.{code_tells, held_by}
+use Rattle.machine_runs.specs.Lists.{GiveWanted, IsPointAt, at_code, at_jump}
+use Rattle.machine_places.proofs.Known.{known_step}
+use Rattle.simulation.proofs.Turns.{same_code}
+use Rattle.machine_steps.specs.Pointer.{IsPointerAt}
 use Rattle.machine_runs.proofs.Stages.{Settled, settle, SettledLate, settle_late, filled_by, late_step}
 use Rattle.mir_func.specs.Objects.{area_of}
 use Rattle.mir_meaning.proofs.Alignment.{aligns_once, aligns_not_fails}
 use Rattle.code_layout.specs.Headline.{AlignsWith, MachineAlong, at_start, after_step, Headline}
 use Rattle.machine_steps.proofs.Lands.{first_lands}
 use Rattle.machine_runs.specs.Runs.{LaidCodeMeetsTheHeadline}
-use Rattle.machine_runs.proofs.Meets.{ends_no_step, waits_no_step, waits_no_end, agree_on, one_met, two_met, g_start}
+use Rattle.machine_runs.proofs.Meets.{ends_no_step, waits_no_step, waits_no_end, agree_on, one_met, two_met, g_start, HeldAt, held_shown}
 use Rattle.mir_meaning.proofs.Outcomes.{step_item}
 use Rattle.machine_runs.proofs.Stops.{stops_well}
 
@@ -121,8 +126,9 @@ one_line a b e = cc
 
 module _ (source : Function) (f : FramedFunction) (resolve fresolve : OperandPair → Option OperandPair) (image : Image) (framed : IsFramed f)
     (from : ComesFrom (program_of true source.blocks resolve) f) (beside : RunsBeside source f resolve fresolve) (laid : IsLaidAt f image)
-    (lists : VarId → (address : ℕ) → Place → Type 0) (nothing : (v : VarId) (a : ℕ) (place : Place) → lists v a place → ⊥) (s0 : State)
-    (start : StartsAt source s0) (same_objects : f.objects ≡ source.objects) where
+    (lists : VarId → (address : ℕ) → Place → Type 0)
+    (wanted : GiveWanted (framed_program f.blocks fresolve) (IsPointAt f laid.address) lists) (s0 : State) (start : StartsAt source s0)
+    (same_objects : f.objects ≡ source.objects) where
   abbrev S : Program
   S = program_of true source.blocks resolve
 
@@ -197,7 +203,7 @@ module _ (source : Function) (f : FramedFunction) (resolve fresolve : OperandPai
         subst (λ (o : Origin). Met m s since o) (sym same) (elim owed as (λ _. Met m s since i.origin) [
           | inl a ↦
               let w = aligns_written S (First q) q since_g s a.0 a.1 written in
-              let r = one_met source f resolve fresolve image framed from beside laid lists nothing s0 start same_objects t' s since_g m i here code z.along
+              let r = one_met source f resolve fresolve image framed from beside laid lists wanted s0 start same_objects t' s since_g m i here code z.along
               z.stands
               a.0 w a.1 a.2 one in
               inr (a.0, aligned_as s a.0 t.pos q since since_g counts ne a.1, r.0, r.1)
@@ -208,40 +214,108 @@ module _ (source : Function) (f : FramedFunction) (resolve fresolve : OperandPai
         subst (λ (o : Origin). Met m s since o) (sym same) (elim owed as (λ _. Met m s since (Before q)) [
           | inl a ↦
               let w = aligns_written S (First q) q since_g s a.0 a.1 written in
-              let r = two_met source f resolve fresolve image framed from beside laid lists nothing s0 start same_objects t' s since_g m i here code z.along
+              let r = two_met source f resolve fresolve image framed from beside laid lists wanted s0 start same_objects t' s since_g m i here code z.along
               z.stands
-              a.0 w a.1 a.2 j at_j oj b exit two in
+              a.0 w a.1 a.2 l0 j at0 o0 at_j oj b exit two in
               inr (a.0, aligned_as s a.0 t.pos q since since_g counts ne a.1, r.0, r.1)
           | inr e ↦ inl (fails_as s t.pos q since since_g counts ne e)
         ])
 
   second_met : (m : Machine) (s : State) (l : CodeLine) → (t u : State) (i : Item) (j : CodeLine) (n : Machine) → line_at image.lines m.counter ≡ Some j →
-      j.origin ≡ i.origin → s.pos ≡ position_of i.origin → Shown S G s0 (start_beside s0) t s → Beside f t.core m → machine_step image m ≡ Continues n →
-      Level f fresolve image laid u n → Lands f u.pos →
+      j.origin ≡ i.origin → s.pos ≡ position_of i.origin → Shown S G s0 (start_beside s0) t s → Beside f t.core m → IsPointerAt f t.pos t.core →
+      IsPointAt f laid.address m.counter t.pos → machine_step image m ≡ Continues n → Level f fresolve image laid u n → Lands f u.pos →
       AlongWords source f resolve fresolve image framed from beside laid lists s0 start u s (since_of (waits_at false i.origin)) →
       line_at image.lines m.counter ≡ Some l → Met m s Same l.origin
-  second_met m s l t u i j n at_j oj place shown bk cont stands lands along line =
+  second_met m s l t u i j n at_j oj place shown bk pointer at cont stands lands along line =
       let same : l.origin ≡ i.origin = ap (λ (x : CodeLine). x.origin) (one_line l j (sym line ∙ at_j)) ∙ oj in
       subst (λ (o : Origin). Met m s Same o) (sym same) (inr (
         s,
         inl (place, refl),
-        agree_on source f resolve fresolve image framed from beside laid lists nothing s0 start same_objects m n t s bk.events shown cont,
+        agree_on source f resolve fresolve image framed from beside laid lists wanted s0 start same_objects m n t s bk.events shown
+            (held_shown source f resolve fresolve image framed from beside laid lists wanted s0 start same_objects m t s shown bk pointer at) cont,
         λ k e. subst (λ (x : Machine). StageAt x s (since_of (waits_at false i.origin))) (one_machine n k (sym cont ∙ e))
             (level u (since_of (waits_at false i.origin)) along stands lands (inl refl)),
       ))
 
   -- what is owed past a stop of the function with its frame
-  agree_late : (m : Machine) (s : State) → m.events ≡ s.core.events → ((v : List ℕ) → machine_step image m ≡ Ends v → ⊥) → MachineAgrees S image lists M0 m s
-  agree_late m s events never = record {
-    events = events;
-    returns = λ v e. absurd (never v e);
-    kept = λ v e. absurd (never v e);
-    places = λ v place k. absurd (nothing v m.counter place k);
-  }
+  agree_late : (m : Machine) (s : State) → m.events ≡ s.core.events →
+      HeldAt source f resolve fresolve image framed from beside laid lists wanted s0 start same_objects m s →
+      ((v : List ℕ) → machine_step image m ≡ Ends v → ⊥) → MachineAgrees S image lists M0 m s
+  agree_late m s events held never =
+      record { events = events; returns = λ v e. absurd (never v e); kept = λ v e. absurd (never v e); places = held }
 
-  late_met : (m : Machine) (s : State) (l : CodeLine) → IsWritten s.core → (h : State) → step S s ≡ Faulted → Level f fresolve image laid h m → Lands f h.pos →
-      IsFilled f h.core → h.core.events ≡ s.core.events → line_at image.lines m.counter ≡ Some l → Met m s Same l.origin
-  late_met m s l written h stop stands lands full events line = by_code (steps_beside f framed fresolve image laid h' m z.stands i here code) where
+  -- at code past a stop
+  module _ (m : Machine) (s h : State) (i : Item) (here : fetched f h.pos ≡ Here i) (code : is_code i.kind ≡ true) (written : IsWritten s.core)
+      (stands : Level f fresolve image laid h m)
+      (carried : s.pos ≡ position_of i.origin → IsCarried source f resolve fresolve image framed from beside laid lists s0 start h s) where
+    ic : IsCode i
+    ic = as_code i code
+
+    module _ (place : s.pos ≡ position_of i.origin) where
+      c : IsCarried source f resolve fresolve image framed from beside laid lists s0 start h s
+      c = carried place
+
+      held : HeldAt source f resolve fresolve image framed from beside laid lists wanted s0 start same_objects m s
+      held = held_by f framed fresolve image laid lists wanted h h.core m s c.known c.told (same_code h.core) stands.beside stands.pointer
+          (at_code i here code stands.counter)
+
+      no_return : (v : List ℕ) → step G h ≡ Returned v → ⊥
+      no_return v ret = from.returns h.pos i here (step_final G h i ic.code ic.number v here ic.kind ret) s place written c.stops
+
+      -- past the position the source has stopped
+      onward : (n : Machine) → machine_step image m ≡ Continues n → StageAt n s (since_of (waits_at false i.origin))
+      onward n e = by_origin i.origin refl where
+        by_origin : (o : Origin) → i.origin ≡ o → StageAt n s (since_of (waits_at false o))
+        by_origin (Kept p) eo = dead c.stops
+        by_origin (Before p) eo = elim (from.added h.pos i ic.code ic.number p here ic.kind eo) as (λ _. StageAt n s Same) [
+          | inl harmless ↦ late_step source f resolve fresolve image framed from beside laid lists s0 start s h m n c stands i here ic.code ic.number ic.kind
+              code (eo ∙ ap Before (sym (place ∙ ap position_of eo))) harmless e
+          | inr never ↦ absurd (never s (place ∙ ap position_of eo) written c.stops)
+        ]
+
+      events : m.events ≡ s.core.events
+      events = stands.beside.events ∙ c.events
+
+      pub one_late : OneStep f fresolve image laid h m →
+          MachineAgrees S image lists M0 m s × ((n : Machine) → machine_step image m ≡ Continues n → StageAt n s (since_of (waits_at false i.origin)))
+      one_late (goes u x went cont k) = (agree_late m s events held (λ v e. ends_no_step v x (sym cont ∙ e)), onward)
+      one_late (gives v ret ends) = absurd (no_return v ret)
+      one_late (waits w a) = (agree_late m s events held (λ v e. waits_no_end v (sym a ∙ e)), λ n e. absurd (waits_no_step n (sym a ∙ e)))
+      one_late (faults flt never) = (agree_late m s events held never, onward)
+
+      -- over the branch the source's position is past
+      over_quiet : (b : ℕ) → exit_of i.kind ≡ Perhaps b → (p : Pos) → p ≡ below h.pos →
+          IsQuiet source f resolve fresolve image framed from beside laid lists s0 start p s
+      over_quiet b exit p at q r d j down here_d on here_j code_j same =
+          absurd (from.apart h.pos r i j b here exit (subst (λ (z : Pos). FallsTo f z r) at (falls_on down on)) here_j code_j (same ∙ place))
+
+      pub two_late : (l j : CodeLine) → line_at image.lines m.counter ≡ Some l → l.origin ≡ Before (position_of i.origin) →
+          line_at image.lines (m.counter + 4) ≡ Some j → j.origin ≡ i.origin → (b : ℕ) → exit_of i.kind ≡ Perhaps b → TwoSteps f fresolve image laid h m →
+          MachineAgrees S image lists M0 m s × ((n : Machine) → machine_step image m ≡ Continues n → StageAt n s Same)
+      two_late l j at_l ol at_j oj b exit (over u x went cont at same k) = (
+        agree_late m s events held (λ v e. ends_no_step v x (sym cont ∙ e)),
+        λ n e. subst (λ (y : Machine). StageAt y s Same) (one_machine x n (sym cont ∙ e)) (late u (record {
+          stops = c.stops;
+          full = filled_by source f resolve fresolve image framed from beside laid lists s0 start h.core u.core same c.full;
+          events = same.events ∙ c.events;
+          known = known_step G (block_start 0) h u c.known went;
+          told = λ v y t. c.told v y (code_tells G h u i ic.code ic.number here ic.kind went v y t);
+        }) k (step_lands f framed fresolve image laid h m stands i here ic.code ic.number ic.kind u went) (over_quiet b exit u.pos at)),
+      )
+      two_late l j at_l ol at_j oj b exit (through u y x went cont counter bk cont_x same k) = (
+        agree_late m s events held (λ v e. ends_no_step v y (sym cont ∙ e)),
+        λ n e. subst (λ (w : Machine). StageAt w s Same) (one_machine y n (sym cont ∙ e))
+            (late_second h j x c (ap (line_at image.lines) counter ∙ at_j) (λ p eo. from.kept h.pos p i b here exit (sym oj ∙ eo)) bk stands.pointer
+            (at_jump i b here exit
+            (long_branch source f resolve fresolve image framed from beside laid lists s0 start h.pos i l b here exit
+            (ap (line_at image.lines) (sym stands.counter) ∙ at_l) ol)
+            (counter ∙ ap (λ (z : ℕ). z + 4) stands.counter)) cont_x),
+      )
+
+  late_met : (m : Machine) (s : State) (l : CodeLine) → IsWritten s.core → (h : State) →
+      IsCarried source f resolve fresolve image framed from beside laid lists s0 start h s → Level f fresolve image laid h m → Lands f h.pos →
+      IsQuiet source f resolve fresolve image framed from beside laid lists s0 start h.pos s → line_at image.lines m.counter ≡ Some l → Met m s Same l.origin
+  late_met m s l written h carried stands lands quiet line = by_code (steps_beside f framed fresolve image laid h' m z.stands i here code) where
     z : SettledLate source f resolve fresolve image framed from beside laid lists s0 start lands.place h m
     z = settle_late source f resolve fresolve image framed from beside laid lists s0 start lands.settles h m refl stands
 
@@ -260,35 +334,15 @@ module _ (source : Function) (f : FramedFunction) (resolve fresolve : OperandPai
     q : Pos
     q = position_of i.origin
 
-    ic : IsCode i
-    ic = as_code i code
-
-    full' : IsFilled f h'.core
-    full' = filled_by source f resolve fresolve image framed from beside laid lists s0 start h.core h'.core z.code full
-
-    events' : h'.core.events ≡ s.core.events
-    events' = z.code.events ∙ events
-
-    shown_events : m.events ≡ s.core.events
-    shown_events = z.stands.beside.events ∙ events'
-
-    lands_next : (u : State) → step G h' ≡ Went u → Lands f u.pos
-    lands_next u went = step_lands f framed fresolve image laid h' m z.stands i here ic.code ic.number ic.kind u went
-
-    no_return : s.pos ≡ q → (v : List ℕ) → step G h' ≡ Returned v → ⊥
-    no_return place v ret = from.returns h'.pos i here (step_final G h' i ic.code ic.number v here ic.kind ret) s place written stop
-
-    -- past the position the source has stopped
-    onward : s.pos ≡ q → (n : Machine) → machine_step image m ≡ Continues n → StageAt n s (since_of (waits_at false i.origin))
-    onward place n e = by_origin i.origin refl where
-      by_origin : (o : Origin) → i.origin ≡ o → StageAt n s (since_of (waits_at false o))
-      by_origin (Kept p) eo = dead stop
-      by_origin (Before p) eo = elim (from.added h'.pos i ic.code ic.number p here ic.kind eo) as (λ _. StageAt n s Same) [
-        | inl harmless ↦ late_step source f resolve fresolve image framed from beside laid lists s0 start s h' m n stop z.stands i here ic.code ic.number
-            ic.kind code
-            harmless full' events' e
-        | inr never ↦ absurd (never s (place ∙ ap position_of eo) written stop)
-      ]
+    carried' : s.pos ≡ position_of i.origin → IsCarried source f resolve fresolve image framed from beside laid lists s0 start h' s
+    carried' place = record {
+      stops = carried.stops;
+      full = filled_by source f resolve fresolve image framed from beside laid lists s0 start h.core h'.core z.code carried.full;
+      events = z.code.events ∙ carried.events;
+      known = z.known carried.known;
+      told = λ v x e. carried.told v x
+          (z.told (λ r d down here_d on. quiet r lands.place d lands.item down here_d on lands.stands lands.code (sym place)) v x e);
+    }
 
     -- another position comes: the source stops before it
     by_place : (o : Origin) → position_of o ≡ q →
@@ -296,66 +350,47 @@ module _ (source : Function) (f : FramedFunction) (resolve fresolve : OperandPai
         Met m s Same o
     by_place o eq here_too = elim (cases_pos s.pos (position_of o)) as (λ _. Met m s Same o) [
       | inl e ↦ (let r = here_too (e ∙ eq) in inr (s, inl (e, refl), r.0, r.1))
-      | inr ne ↦ inl (ne, inl stop)
+      | inr ne ↦ inl (ne, inl carried.stops)
     ]
-
-    one_late : OneStep f fresolve image laid h' m → s.pos ≡ q →
-        MachineAgrees S image lists M0 m s × ((n : Machine) → machine_step image m ≡ Continues n → StageAt n s (since_of (waits_at false i.origin)))
-    one_late (goes u x went cont k) place = (agree_late m s shown_events (λ v e. ends_no_step v x (sym cont ∙ e)), onward place)
-    one_late (gives v ret ends) place = absurd (no_return place v ret)
-    one_late (waits w a) place = (agree_late m s shown_events (λ v e. waits_no_end v (sym a ∙ e)), λ n e. absurd (waits_no_step n (sym a ∙ e)))
-    one_late (faults flt never) place = (agree_late m s shown_events never, onward place)
-
-    two_late : (j : CodeLine) → line_at image.lines (m.counter + 4) ≡ Some j → TwoSteps f fresolve image laid h' m → s.pos ≡ q →
-        MachineAgrees S image lists M0 m s × ((n : Machine) → machine_step image m ≡ Continues n → StageAt n s Same)
-    two_late j at_j (over u x went cont at same k) place = (
-      agree_late m s shown_events (λ v e. ends_no_step v x (sym cont ∙ e)),
-      λ n e. subst (λ (y : Machine). StageAt y s Same) (one_machine x n (sym cont ∙ e))
-          (late u stop k (lands_next u went) (filled_by source f resolve fresolve image framed from beside laid lists s0 start h'.core u.core same full')
-          (same.events ∙ events')),
-    )
-    two_late j at_j (through u y x went cont counter bk cont_x same k) place = (
-      agree_late m s shown_events (λ v e. ends_no_step v y (sym cont ∙ e)),
-      λ n e. subst (λ (w : Machine). StageAt w s Same) (one_machine y n (sym cont ∙ e))
-          (late_second h' u j x stop (ap (line_at image.lines) counter ∙ at_j) bk events' cont_x k (lands_next u went)
-          (filled_by source f resolve fresolve image framed from beside laid lists s0 start h'.core u.core same full') (same.events ∙ events')),
-    )
 
     by_code : AtCode f fresolve image laid h' m i → Met m s Same l.origin
     by_code (single l0 at0 o0 one) =
         let same : l.origin ≡ i.origin = ap (λ (x : CodeLine). x.origin) (one_line l l0 (sym line ∙ at0)) ∙ o0 in
-        subst (λ (o : Origin). Met m s Same o) (sym same) (by_place i.origin refl (one_late one))
+        subst (λ (o : Origin). Met m s Same o) (sym same) (by_place i.origin refl (λ place. one_late m s h' i here code written z.stands carried' place one))
     by_code (double l0 j at0 at_j o0 oj b exit two) =
         let same : l.origin ≡ Before q = ap (λ (x : CodeLine). x.origin) (one_line l l0 (sym line ∙ at0)) ∙ o0 in
-        subst (λ (o : Origin). Met m s Same o) (sym same) (by_place (Before q) refl (two_late j at_j two))
+        subst (λ (o : Origin). Met m s Same o) (sym same)
+        (by_place (Before q) refl (λ place. two_late m s h' i here code written z.stands carried' place l0 j at0 o0 at_j oj b exit two))
 
-  late_second_met : (m : Machine) (s : State) (l : CodeLine) (h u : State) (j : CodeLine) (n : Machine) → step S s ≡ Faulted →
-      line_at image.lines m.counter ≡ Some j → Beside f h.core m → h.core.events ≡ s.core.events → machine_step image m ≡ Continues n →
-      Level f fresolve image laid u n → Lands f u.pos → IsFilled f u.core → u.core.events ≡ s.core.events → line_at image.lines m.counter ≡ Some l →
-      Met m s Same l.origin
-  late_second_met m s l h u j n stop at_j bk events cont stands lands full events_u line =
+  late_second_met : (m : Machine) (s : State) (l : CodeLine) (h : State) (j : CodeLine) (n : Machine) →
+      IsCarried source f resolve fresolve image framed from beside laid lists s0 start h s → line_at image.lines m.counter ≡ Some j →
+      ((p : Pos) → j.origin ≡ Before p → ⊥) → Beside f h.core m → IsPointerAt f h.pos h.core → IsPointAt f laid.address m.counter h.pos →
+      machine_step image m ≡ Continues n → line_at image.lines m.counter ≡ Some l → Met m s Same l.origin
+  late_second_met m s l h j n carried at_j kept bk pointer at cont line =
       elim (cases_pos s.pos (position_of l.origin)) as (λ _. Met m s Same l.origin) [
         | inl e ↦ inr (
           s,
           inl (e, refl),
-          agree_late m s (bk.events ∙ events) (λ v x. ends_no_step v n (sym cont ∙ x)),
-          λ k x. subst (λ (w : Machine). StageAt w s (since_of (waits_at false l.origin))) (one_machine n k (sym cont ∙ x)) (by_origin l.origin),
+          agree_late m s (bk.events ∙ carried.events)
+              (held_by f framed fresolve image laid lists wanted h h.core m s carried.known carried.told (same_code h.core) bk pointer at)
+              (λ v x. ends_no_step v n (sym cont ∙ x)),
+          λ k x. by_origin k l.origin refl,
         )
-        | inr ne ↦ inl (ne, inl stop)
+        | inr ne ↦ inl (ne, inl carried.stops)
       ] where
-        by_origin : (o : Origin) → StageAt n s (since_of (waits_at false o))
-        by_origin (Kept p) = dead stop
-        by_origin (Before p) = late u stop stands lands full events_u
+        by_origin : (k : Machine) (o : Origin) → l.origin ≡ o → StageAt k s (since_of (waits_at false o))
+        by_origin k (Kept p) eo = dead carried.stops
+        by_origin k (Before p) eo = absurd (kept p (ap (λ (x : CodeLine). x.origin) (one_line j l (sym at_j ∙ line)) ∙ eo))
 
   -- at each line
   pub meet : (m : Machine) (s : State) (since : Since) (l : CodeLine) → StageAt m s since → IsWritten s.core → line_at image.lines m.counter ≡ Some l →
       Met m s since l.origin
   meet m s since l (level t since_g along stands lands counts) w line = level_met m s since l w t since_g along stands lands counts line
-  meet m s since l (second t u i j n at_j oj place shown bk cont stands lands along) w line =
-      second_met m s l t u i j n at_j oj place shown bk cont stands lands along line
-  meet m s since l (late h stop stands lands full events) w line = late_met m s l w h stop stands lands full events line
-  meet m s since l (late_second h u j n stop at_j bk events cont stands lands full events_u) w line =
-      late_second_met m s l h u j n stop at_j bk events cont stands lands full events_u line
+  meet m s since l (second t u i j n at_j oj place shown bk pointer at cont stands lands along) w line =
+      second_met m s l t u i j n at_j oj place shown bk pointer at cont stands lands along line
+  meet m s since l (late h carried stands lands quiet) w line = late_met m s l w h carried stands lands quiet line
+  meet m s since l (late_second h j n carried at_j kept bk pointer at cont) w line =
+      late_second_met m s l h j n carried at_j kept bk pointer at cont line
   meet m s since l (dead stop) w line = inl (inl stop)
 
   written_start : IsWritten s0.core
@@ -364,7 +399,7 @@ module _ (source : Function) (f : FramedFunction) (resolve fresolve : OperandPai
   -- wherever the machine's run has come beside the source's
   pub stage_along : {m : Machine} {s : State} {since : Since} → MachineAlong S image M0 s0 m s since → StageAt m s since × IsWritten s.core
   stage_along at_start = (
-    level (start_beside s0) Start begin (g_start source f resolve fresolve image framed from beside laid lists nothing s0 start same_objects) (first_lands f
+    level (start_beside s0) Start begin (g_start source f resolve fresolve image framed from beside laid lists wanted s0 start same_objects) (first_lands f
         framed)
         (inl refl),
     written_start,
@@ -393,10 +428,10 @@ module _ (source : Function) (f : FramedFunction) (resolve fresolve : OperandPai
         | inr r ↦ inl (r.0, r.1, r.2)
       ]
 
-pub laid_code_meets_the_headline : LaidCodeMeetsTheHeadline
-laid_code_meets_the_headline source f resolve fresolve image framed same_objects from beside laid = record {
+pub laid_code_meets_the_headline : (lists : VarId → (address : ℕ) → Place → Type 0) → LaidCodeMeetsTheHeadline lists
+laid_code_meets_the_headline lists source f resolve fresolve image framed same_objects from beside laid wanted = record {
   area = laid.area ∙ ap area_of same_objects;
   agrees = λ s0 start m s since l along line.
-      agrees_along source f resolve fresolve image framed from beside laid (λ v a place. ⊥) (λ v a place h. h) s0 start same_objects m s since l along line;
+      agrees_along source f resolve fresolve image framed from beside laid lists wanted s0 start same_objects m s since l along line;
   stops = λ s0 start m comes. stops_well f framed image laid (machine_start image s0) (sym laid.low) m comes;
 }

@@ -13,7 +13,7 @@ use Rattle.mir_func.specs.Function.{FramedFunction}
 use Rattle.mir_func.specs.Graph.{Here, below}
 use Rattle.mir_func.specs.Sound.{SlotIn, SlotsIn}
 use Rattle.mir_func.specs.SoundFrame.{HasPhysical, slot_offsets, IsSlotOffset, IsFramed}
-use Rattle.mir_meaning.specs.State.{Core, State, updated, spelled}
+use Rattle.mir_meaning.specs.State.{Core, State, IsInRange, updated, spelled}
 use Rattle.mir_meaning.specs.Step.{Falls, Went, does, read, numbered, with_core, do_item, step, slot_loaded, set_register}
 use Rattle.mir_meaning.proofs.InRange.{spelled_below}
 use Rattle.mir_meaning.proofs.Outcomes.{step_item}
@@ -33,18 +33,18 @@ use Rattle.machine_runs.specs.Runs.{IsHarmless}
 abbrev pub IsFilled : FramedFunction → Core → Type 0
 IsFilled f c = (o : ℕ) → IsSlotOffset f o → IsSome (c.slots o)
 
--- a core as the frame's bytes have it: with each slot's content as it is in memory
-abbrev pub filled : FramedFunction → Core → Machine → Core
-filled f c m = record c { slots = λ o. Some (spelled m.memory (frame_low f c + o) 8) }
+-- a core as the frame's bytes have it: with each slot's content as it is in memory. It tells what another one, e, tells
+abbrev pub filled : FramedFunction → (c e : Core) → Machine → Core
+filled f c e m = record c { slots = λ o. Some (spelled m.memory (frame_low f c + o) 8); pairs = e.pairs; marks = e.marks }
 
 module _ (f : FramedFunction) (framed : IsFramed f) (resolve : OperandPair → Option OperandPair) (image : Image) (laid : IsLaidAt f image) where
   some_one : (a b : ℕ) → Some a ≡ Some b → b ≡ a
   some_one a b e = cc
 
   -- the machine is level with it too
-  pub level_filled : (t : State) (m : Machine) → Level f resolve image laid t m →
-      Level f resolve image laid (record { pos = t.pos; core = filled f t.core m }) m
-  level_filled t m level = record {
+  pub level_filled : (t : State) (e : Core) (m : Machine) → Level f resolve image laid t m → IsInRange e →
+      Level f resolve image laid (record { pos = t.pos; core = filled f t.core e m }) m
+  level_filled t e m level in_range = record {
     beside = record {
       room = level.beside.room;
       top = level.beside.top;
@@ -56,25 +56,25 @@ module _ (f : FramedFunction) (framed : IsFramed f) (resolve : OperandPair → O
       regs = level.beside.regs;
       memory = level.beside.memory;
       bytes = level.beside.bytes;
-      slots = λ o v is e. some_one (spelled m.memory (frame_low f t.core + o) 8) v e;
+      slots = λ o v is h. some_one (spelled m.memory (frame_low f t.core + o) 8) v h;
       script = level.beside.script;
       events = level.beside.events;
     };
     range = record {
       regs = level.range.regs;
-      slots = λ o v e. (let q = some_one (spelled m.memory (frame_low f t.core + o) 8) v e in
+      slots = λ o v h. (let q = some_one (spelled m.memory (frame_low f t.core + o) 8) v h in
           subst (λ (x : ℕ). x < 2 ^ 64) (sym q) (spelled_below m.memory level.beside.bytes 8 (frame_low f t.core + o)));
       memory = level.range.memory;
       script = level.range.script;
-      pairs = level.range.pairs;
-      marks = level.range.marks;
+      pairs = in_range.pairs;
+      marks = in_range.marks;
     };
     pointer = level.pointer;
     counter = level.counter;
   }
 
-  pub is_filled : (c : Core) (m : Machine) → IsFilled f (filled f c m)
-  is_filled c m o is = refl
+  pub is_filled : (c e : Core) (m : Machine) → IsFilled f (filled f c e m)
+  is_filled c e m o is = refl
 
   -- such code falls through, shows nothing, and leaves slots written
   record GoesQuietly (r : Row) (c : Core) : Type 0 where
@@ -117,6 +117,7 @@ module _ (f : FramedFunction) (framed : IsFramed f) (resolve : OperandPair → O
   pub record StepsQuietly (t : State) : Type 0 where
     pub next : State
     pub went : step (framed_run f resolve image laid) t ≡ Went next
+    pub at : next.pos ≡ below t.pos
     pub events : next.core.events ≡ t.core.events
     pub slots : IsFilled f next.core
 
@@ -134,6 +135,7 @@ module _ (f : FramedFunction) (framed : IsFramed f) (resolve : OperandPair → O
         went = step_item (framed_run f resolve image laid) t i (Falls d) here
             (ap (λ (x : ItemKind). do_item (framed_run f resolve image laid) x t.core) kind
             ∙ ap (with_core (numbered false (is_call (row_of c)) k c.operands)) (acts (row_of c) t.core level.beside.written physical ∙ q.falls));
+        at = refl;
         events = code.events ∙ q.events;
         slots = λ o is. subst (λ (slots : ℕ → Option ℕ). IsSome (slots o)) (sym code.slots) (q.slots o is);
       }

@@ -1,6 +1,6 @@
 -- At each line that the machine comes to: the source comes to the line's origin and both agree, or it stops before it; and the machine's
 -- next state stands beside the source again.
-use Rattle.std.proofs.Common.{◌≡◌, ◌⊎◌, ℕ, ◌+◌, List, All, Option, Some, true, false, refl, sym, ap, ◌∙◌, subst, inl, inr}
+use Rattle.std.proofs.Common.{◌≡◌, ◌⊎◌, ℕ, ◌+◌, List, All, Option, Some, true, false, is_some, refl, sym, ap, ◌∙◌, subst, inl, inr}
 use Rattle.std.proofs.lemmas.List.Elements.{All-weaker}
 use Rattle.rv64_instr.specs.declared.place.Place.{Place}
 use Rattle.mir_func.specs.declared.entry.OperandPair.{OperandPair}
@@ -12,9 +12,9 @@ use Rattle.mir_func.specs.declared.position.Pos.{Pos}
 use Rattle.mir_func.specs.declared.variable.VarId.{VarId}
 use Rattle.mir_func.specs.Exits.{exit_of}
 use Rattle.mir_func.specs.Function.{Function, FramedFunction}
-use Rattle.mir_func.specs.Graph.{Here, Program, below, program_of}
+use Rattle.mir_func.specs.Graph.{Here, Program, below, block_start, program_of, framed_program}
 use Rattle.mir_func.specs.SoundFrame.{IsFramed}
-use Rattle.mir_meaning.specs.Align.{position_of, is_code, waits_at, ByWords, station_of, station_at, Since, Same, After, since_of, First, Aligns}
+use Rattle.mir_meaning.specs.Align.{position_of, is_code, waits_at, ByItems, ByWords, station_of, station_at, Since, Same, After, since_of, First, Aligns}
 use Rattle.mir_meaning.specs.Align.{met}
 use Rattle.mir_meaning.specs.State.{State}
 use Rattle.mir_meaning.specs.Step.{Went, Returned, Faulted, read, step}
@@ -32,8 +32,12 @@ use Rattle.machine_steps.proofs.Sites.{step_lands}
 use Rattle.machine_runs.specs.Runs.{FallsTo, ComesFrom, start_beside, RunsBeside}
 use Rattle.machine_runs.proofs.Sources.{IsWritten, returns_alike, faults_alike, along_run}
 use Rattle.machine_runs.proofs.Late.{filled, level_filled, is_filled}
-use Rattle.machine_runs.proofs.Stages.{one_machine, IsCode, as_code, AlongWords, Stage, level, second, dead, MetAt}
-use Rattle.machine_runs.proofs.Stages.{late_step}
+use Rattle.machine_runs.proofs.Stages.{one_machine, IsCode, as_code, AlongWords, IsCarried, Stage, level, second, dead, MetAt, late_step, long_branch}
+use Rattle.machine_runs.proofs.Telling.{known_along, known_filled, Held, held_by}
+use Rattle.machine_runs.specs.Lists.{GiveWanted, IsPointAt, at_code, at_jump}
+use Rattle.machine_places.proofs.Known.{Known, known_start}
+use Rattle.machine_steps.specs.Beside.{Beside}
+use Rattle.machine_steps.specs.Pointer.{IsPointerAt}
 use Rattle.machine_steps.proofs.Quiet.{starts_beside}
 use Rattle.mir_func.specs.declared.object.Object.{Object}
 use Rattle.mir_meaning.specs.Follow.{IsStart, first_of}
@@ -55,8 +59,9 @@ one_result v w e = cc
 
 module _ (source : Function) (f : FramedFunction) (resolve fresolve : OperandPair → Option OperandPair) (image : Image) (framed : IsFramed f)
     (from : ComesFrom (program_of true source.blocks resolve) f) (beside : RunsBeside source f resolve fresolve) (laid : IsLaidAt f image)
-    (lists : VarId → (address : ℕ) → Place → Type 0) (nothing : (v : VarId) (a : ℕ) (place : Place) → lists v a place → ⊥) (s0 : State)
-    (start : StartsAt source s0) (same_objects : f.objects ≡ source.objects) where
+    (lists : VarId → (address : ℕ) → Place → Type 0)
+    (wanted : GiveWanted (framed_program f.blocks fresolve) (IsPointAt f laid.address) lists) (s0 : State) (start : StartsAt source s0)
+    (same_objects : f.objects ≡ source.objects) where
   abbrev pub S : Program
   S = program_of true source.blocks resolve
 
@@ -79,20 +84,33 @@ module _ (source : Function) (f : FramedFunction) (resolve fresolve : OperandPai
   g_start = starts_beside f framed fresolve image laid (first_of source.blocks) s0
       (subst (λ (os : List Object). IsStart os (first_of source.blocks) s0) (sym same_objects) start)
 
+  -- each place that a list gives at the machine's counter holds the value of its part's newest assignment
+  abbrev pub HeldAt : Machine → State → Type 0
+  HeldAt m s = Held f framed fresolve image laid lists wanted m s
+
+  -- what is known at the start
+  pub known_first : Known G (block_start 0) (start_beside s0)
+  known_first = known_start G (start_beside s0) (λ r lt. (let w = start.regs r lt in ap is_some w.1)) g_start.range
+
+  -- where the function with its frame is shown, what it told when it was there first is known, and the source's
+  pub held_shown : (m : Machine) (t s : State) → ShownAt t s → Beside f t.core m → IsPointerAt f t.pos t.core → IsPointAt f laid.address m.counter t.pos →
+      HeldAt m s
+  held_shown m t s shown bk pointer at =
+      held_by f framed fresolve image laid lists wanted shown.first t.core m s
+      (known_along S G (station_at ByItems G) First s0 (start_beside s0) shown.along known_first)
+      shown.agrees.told shown.code bk (subst (λ (p : Pos). IsPointerAt f p t.core) (sym shown.pos) pointer)
+      (subst (λ (p : Pos). IsPointAt f laid.address m.counter p) (sym shown.pos) at)
+
   -- what is owed beside a core of the function with its frame
-  pub agree : (m : Machine) (t s : State) → m.events ≡ t.core.events → ShownAt t s →
+  pub agree : (m : Machine) (t s : State) → m.events ≡ t.core.events → ShownAt t s → HeldAt m s →
       ((results : List ℕ) → machine_step image m ≡ Ends results → step S s ≡ Returned results) →
       ((results : List ℕ) → machine_step image m ≡ Ends results → All (λ r. register m r ≡ register M0 r) KEPT) → MachineAgrees S image lists M0 m s
-  agree m t s events shown returns kept = record {
-    events = events ∙ shown.code.events ∙ shown.agrees.events;
-    returns = returns;
-    kept = kept;
-    places = λ v place l. absurd (nothing v m.counter place l);
-  }
+  agree m t s events shown held returns kept =
+      record { events = events ∙ shown.code.events ∙ shown.agrees.events; returns = returns; kept = kept; places = held }
 
-  pub agree_on : (m k : Machine) (t s : State) → m.events ≡ t.core.events → ShownAt t s → machine_step image m ≡ Continues k →
+  pub agree_on : (m k : Machine) (t s : State) → m.events ≡ t.core.events → ShownAt t s → HeldAt m s → machine_step image m ≡ Continues k →
       MachineAgrees S image lists M0 m s
-  agree_on m k t s events shown cont = agree m t s events shown (λ v e. absurd (ends_no_step v k (sym cont
+  agree_on m k t s events shown held cont = agree m t s events shown held (λ v e. absurd (ends_no_step v k (sym cont
       ∙ e))) (λ v e. absurd (ends_no_step v k (sym cont ∙ e)))
 
   -- at code at which the function with its frame stands, aligned with the source
@@ -102,6 +120,9 @@ module _ (source : Function) (f : FramedFunction) (resolve fresolve : OperandPai
     where
       ic : IsCode i
       ic = as_code i code
+
+      held : HeldAt m s'
+      held = held_shown m t s' shown stands.beside stands.pointer (at_code i here code stands.counter)
 
       first_stops : step G t ≡ Faulted → step S s' ≡ Faulted
       first_stops e = shown.agrees.faults (faults_alike G shown.first t ic.code ic.number i ic.kind here shown.pos shown.code e)
@@ -128,42 +149,52 @@ module _ (source : Function) (f : FramedFunction) (resolve fresolve : OperandPai
       -- it stopped: the source is about to, and the machine goes on
       goes_late : (n : Machine) → step G t ≡ Faulted → machine_step image m ≡ Continues n → StageAt n s' (since_of (waits_at false i.origin))
       goes_late n flt e = by_origin i.origin refl where
-        stop : step S s' ≡ Faulted
-        stop = first_stops flt
+        place : s'.pos ≡ position_of i.origin
+        place = aligns_at S (First (position_of i.origin)) (position_of i.origin) since s s' aligned
 
-        h : State
-        h = record { pos = t.pos; core = filled f t.core m }
+        carried : IsCarried source f resolve fresolve image framed from beside laid lists s0 start (record {
+          pos = t.pos;
+          core = filled f t.core shown.first.core m;
+        }) s'
+        carried = record {
+          stops = first_stops flt;
+          full = is_filled f framed fresolve image laid t.core shown.first.core m;
+          events = shown.code.events ∙ shown.agrees.events;
+          known = known_filled f framed fresolve image laid shown.first t m
+              (known_along S G (station_at ByItems G) First s0 (start_beside s0) shown.along known_first) shown.pos shown.code stands;
+          told = shown.agrees.told;
+        }
 
         by_origin : (o : Origin) → i.origin ≡ o → StageAt n s' (since_of (waits_at false o))
-        by_origin (Kept q) eo = dead stop
+        by_origin (Kept q) eo = dead (first_stops flt)
         by_origin (Before q) eo = elim (from.added t.pos i ic.code ic.number q here ic.kind eo) as (λ _. StageAt n s' Same) [
           | inl harmless ↦ late_step source f resolve fresolve image framed from beside laid lists s0 start s' (record {
             pos = t.pos;
-            core = filled f t.core m;
-          }) m n stop
-              (level_filled f framed fresolve image laid t m stands) i here ic.code ic.number ic.kind code harmless
-              (is_filled f framed fresolve image laid t.core m) (shown.code.events ∙ shown.agrees.events) e
-          | inr never ↦ absurd (never s' (aligns_at S (First (position_of i.origin)) (position_of i.origin) since s s' aligned ∙
-              ap position_of eo) written stop)
+            core = filled f t.core shown.first.core m;
+          }) m n carried
+              (level_filled f framed fresolve image laid t shown.first.core m stands
+              (known_along S G (station_at ByItems G) First s0 (start_beside s0) shown.along known_first).range)
+              i here ic.code ic.number ic.kind code (eo ∙ ap Before (sym (place ∙ ap position_of eo))) harmless e
+          | inr never ↦ absurd (never s' (place ∙ ap position_of eo) written (first_stops flt))
         ]
 
       pub one_met : OneStep f fresolve image laid t m →
           MachineAgrees S image lists M0 m s' × ((n : Machine) → machine_step image m ≡ Continues n → StageAt n s' (since_of (waits_at false i.origin)))
       one_met (goes u x went cont l) = (
-        agree_on m x t s' stands.beside.events shown cont,
+        agree_on m x t s' stands.beside.events shown held cont,
         λ n e. (let same = one_machine x n (sym cont ∙ e) in
             level u (since_of (waits_at false i.origin)) (along_next u went) (subst (Level f fresolve image laid u) same l) (lands u went) (inl refl)),
       )
       one_met (gives v ret ends) = (
-        agree m t s' stands.beside.events shown (λ w e. first_returns v ret ∙ ap Returned (one_result v w (sym ends ∙ e))) (λ w e. kept_there v ret),
+        agree m t s' stands.beside.events shown held (λ w e. first_returns v ret ∙ ap Returned (one_result v w (sym ends ∙ e))) (λ w e. kept_there v ret),
         λ n e. absurd (gives_no_step v n (sym ends ∙ e)),
       )
       one_met (waits w a) = (
-        agree m t s' stands.beside.events shown (λ v e. absurd (waits_no_end v (sym a ∙ e))) (λ v e. absurd (waits_no_end v (sym a ∙ e))),
+        agree m t s' stands.beside.events shown held (λ v e. absurd (waits_no_end v (sym a ∙ e))) (λ v e. absurd (waits_no_end v (sym a ∙ e))),
         λ n e. absurd (waits_no_step n (sym a ∙ e)),
       )
       one_met (faults flt never) = (
-        agree m t s' stands.beside.events shown (λ v e. absurd (never v e)) (λ v e. absurd (never v e)),
+        agree m t s' stands.beside.events shown held (λ v e. absurd (never v e)) (λ v e. absurd (never v e)),
         λ n e. goes_late n flt e,
       )
 
@@ -173,11 +204,11 @@ module _ (source : Function) (f : FramedFunction) (resolve fresolve : OperandPai
           from.apart t.pos q i j b here exit (subst (λ (x : Pos). FallsTo f x q) pe ft) fj cj
           (e ∙ aligns_at S (First (position_of i.origin)) (position_of i.origin) since s s' aligned)
 
-      pub two_met : (j : CodeLine) → line_at image.lines (m.counter + 4) ≡ Some j → j.origin ≡ i.origin → (b : ℕ) → exit_of i.kind ≡ Perhaps b →
-          TwoSteps f fresolve image laid t m →
+      pub two_met : (l j : CodeLine) → line_at image.lines m.counter ≡ Some l → l.origin ≡ Before (position_of i.origin) →
+          line_at image.lines (m.counter + 4) ≡ Some j → j.origin ≡ i.origin → (b : ℕ) → exit_of i.kind ≡ Perhaps b → TwoSteps f fresolve image laid t m →
           MachineAgrees S image lists M0 m s' × ((n : Machine) → machine_step image m ≡ Continues n → StageAt n s' Same)
-      two_met j at_j oj b exit (over u x went cont place same l) = (
-        agree_on m x t s' stands.beside.events shown cont,
+      two_met l j at_l ol at_j oj b exit (over u x went cont place same on) = (
+        agree_on m x t s' stands.beside.events shown held cont,
         λ n e. (let one = one_machine x n (sym cont ∙ e) in
             subst (λ (z : Machine). StageAt z s' Same) one (by_origin i.origin refl)),
       ) where
@@ -187,12 +218,16 @@ module _ (source : Function) (f : FramedFunction) (resolve fresolve : OperandPai
         counts (Kept q) eo = inr (refl, refl, apart_below b exit u.pos place)
 
         by_origin : (o : Origin) → i.origin ≡ o → StageAt x s' Same
-        by_origin o eo = level u (since_of (waits_at false i.origin)) (along_next u went) l (lands u went) (counts i.origin refl)
-      two_met j at_j oj b exit (through u k x went cont counter bk cont_x same l) = (
-        agree_on m k t s' stands.beside.events shown cont,
+        by_origin o eo = level u (since_of (waits_at false i.origin)) (along_next u went) on (lands u went) (counts i.origin refl)
+      two_met l j at_l ol at_j oj b exit (through u k x went cont counter bk cont_x same on) = (
+        agree_on m k t s' stands.beside.events shown held cont,
         λ n e. (let one = one_machine k n (sym cont ∙ e) in
             subst (λ (z : Machine). StageAt z s' Same) one
             (second t u i j x (ap (line_at image.lines) counter
-            ∙ at_j) oj (aligns_at S (First (position_of i.origin)) (position_of i.origin) since s s' aligned) shown bk
-            cont_x l (lands u went) (along_next u went))),
+            ∙ at_j) oj (aligns_at S (First (position_of i.origin)) (position_of i.origin) since s s' aligned) shown bk stands.pointer
+            (at_jump i b here exit
+            (long_branch source f resolve fresolve image framed from beside laid lists s0 start t.pos i l b here exit
+            (ap (line_at image.lines) (sym stands.counter) ∙ at_l) ol)
+            (counter ∙ ap (λ (z : ℕ). z + 4) stands.counter))
+            cont_x on (lands u went) (along_next u went))),
       )

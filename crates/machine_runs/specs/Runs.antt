@@ -8,7 +8,9 @@ use Rattle.mir_func.specs.declared.exit.Exit.TheVariants.{Perhaps, Final}
 use Rattle.mir_func.specs.declared.position.Pos.{Pos}
 use Rattle.mir_func.specs.declared.position.Origin.TheVariants.{Before}
 use Rattle.mir_func.specs.declared.item.Item.{Item}
-use Rattle.mir_func.specs.declared.item.ItemKind.TheVariants.{Code}
+use Rattle.mir_func.specs.declared.item.ItemKind.{ItemKind}
+use Rattle.mir_func.specs.declared.item.ItemKind.TheVariants.{Code, Mark, Phi}
+use Rattle.mir_func.specs.declared.variable.MarkValue.TheVariants.{Nothing}
 use Rattle.mir_func.specs.declared.variable.VarId.{VarId}
 use Rattle.mir_func.specs.Exits.{exit_of}
 use Rattle.mir_func.specs.Function.{Function, FramedFunction}
@@ -21,6 +23,7 @@ use Rattle.simulation.specs.Words.{RunsByWords}
 use Rattle.code_layout.specs.Image.{Image}
 use Rattle.code_layout.specs.Headline.{StartsAt, KEPT, Headline}
 use Rattle.machine_steps.specs.Laid.{fetched, IsLaidAt}
+use Rattle.machine_runs.specs.Lists.{GiveWanted, IsPointAt}
 
 -- where physical registers are written, the source doesn't stop on a frame fault at the position
 abbrev pub NeverFaults : Program → Pos → Type 0
@@ -48,6 +51,12 @@ pub data FallsTo (f : FramedFunction) : Pos → Pos → Type 0 where
   past_item : {p q : Pos} (i : Item) → fetched f p ≡ Here i → is_code i.kind ≡ false → FallsTo f (below p) q → FallsTo f p q
   past_end : {p q : Pos} (k n : ℕ) → fetched f p ≡ Silent k n → FallsTo f (block_start (suc p.block)) q → FallsTo f p q
 
+-- an item that gives no variable a value
+abbrev pub AssignsNothing : ItemKind → Type 0
+AssignsNothing (Code c k) = Unit {0}
+AssignsNothing (Mark v m) = m ≡ Nothing
+AssignsNothing (Phi p k) = Unit {0}
+
 -- what the places of a function with its frame have to do with its source
 pub record ComesFrom (src : Program) (f : FramedFunction) : Type 0 where
   -- code that was added before a position is such, or the source never stops on a frame fault there
@@ -58,6 +67,11 @@ pub record ComesFrom (src : Program) (f : FramedFunction) : Type 0 where
   -- the next code below a conditional branch comes from another position
   pub apart : (p q : Pos) (i j : Item) (n : ℕ) → fetched f p ≡ Here i → exit_of i.kind ≡ Perhaps n → FallsTo f (below p) q → fetched f q ≡ Here j →
       is_code j.kind ≡ true → position_of j.origin ≡ position_of i.origin → ⊥
+  -- no conditional branch was added
+  pub kept : (p q : Pos) (i : Item) (n : ℕ) → fetched f p ≡ Here i → exit_of i.kind ≡ Perhaps n → i.origin ≡ Before q → ⊥
+  -- from what was added before a position down to the next code that comes from it no variable gets a value
+  pub quiet : (p q r o : Pos) (i d j : Item) → fetched f p ≡ Here i → i.origin ≡ Before o → FallsTo f (below p) q → fetched f q ≡ Here d →
+      FallsTo f q r → fetched f r ≡ Here j → is_code j.kind ≡ true → position_of j.origin ≡ o → AssignsNothing d.kind
 
 -- a run of the function with its frame gives back what is to be kept
 abbrev pub GivesBackKept : Program → State → Type 0
@@ -74,8 +88,8 @@ pub record RunsBeside (source : Function) (f : FramedFunction) (resolve fresolve
       RunsByWords (program_of true source.blocks resolve) (framed_program f.blocks fresolve) s (start_beside s)
   pub keeps : (s : State) → StartsAt source s → GivesBackKept (framed_program f.blocks fresolve) (start_beside s)
 
--- The image in which such a function lies meets the headline, for lists that give nothing.
-abbrev pub LaidCodeMeetsTheHeadline : Type 0
-LaidCodeMeetsTheHeadline = (source : Function) (f : FramedFunction) (resolve fresolve : OperandPair → Option OperandPair) (image : Image) →
+-- The image in which such a function lies meets the headline, for lists that give only wanted places.
+abbrev pub LaidCodeMeetsTheHeadline : (lists : VarId → (address : ℕ) → Place → Type 0) → Type 0
+LaidCodeMeetsTheHeadline lists = (source : Function) (f : FramedFunction) (resolve fresolve : OperandPair → Option OperandPair) (image : Image) →
     IsFramed f → f.objects ≡ source.objects → ComesFrom (program_of true source.blocks resolve) f → RunsBeside source f resolve fresolve →
-    IsLaidAt f image → Headline source resolve image (λ (v : VarId) (a : ℕ) (place : Place). ⊥)
+    (laid : IsLaidAt f image) → GiveWanted (framed_program f.blocks fresolve) (IsPointAt f laid.address) lists → Headline source resolve image lists

@@ -1,0 +1,124 @@
+-- How blocks end: jumps and returns, and code that was added at the end of a block.
+use Rattle.std.proofs.Common.{◌≡◌, ◌⊎◌, ℕ, zero, suc, ◌*◌, ◌<◌, ◌≤◌, List, [], ◌∷◌, slice_get}
+use Rattle.std.proofs.Common.{Some, None, true, false}
+use Rattle.std.proofs.Common.{refl, sym, ap, ◌∙◌, subst, inl, inr, arith}
+use Rattle.rv64_instr.specs.Parts.{IsSlotStore}
+use Rattle.rv64_instr.specs.Row.{Row, Fixes, Moves, Sets, Addresses, Loads, Stores, LoadsSlot, StoresSlot, Branches, Jumps, Calls, Returns, Unfit, row_of}
+use Rattle.mir_func.specs.declared.exit.Exit.{Exit}
+use Rattle.mir_func.specs.declared.exit.Exit.TheVariants.{Onward, Always, Final}
+use Rattle.mir_func.specs.declared.item.Item.{Item}
+use Rattle.mir_func.specs.declared.item.ItemKind.{ItemKind}
+use Rattle.mir_func.specs.declared.item.ItemKind.TheVariants.{Code, Mark, Phi}
+use Rattle.mir_func.specs.declared.position.Origin.{Origin}
+use Rattle.mir_func.specs.declared.position.Origin.TheVariants.{Kept, Before}
+use Rattle.mir_func.specs.declared.position.Pos.{Pos}
+use Rattle.mir_func.specs.Exits.{row_exit, exit_of}
+use Rattle.mir_func.specs.Sound.{EndsWell, MayFollow}
+use Rattle.mir_meaning.specs.Align.{position_of, is_code, is_jump, is_jump_row, waits_at}
+use Rattle.mir_meaning.specs.Follow.{OnRow, MayAdd, next_rank}
+use Rattle.mir_meaning.specs.Follow.{Counts}
+use Rattle.frame_rule.specs.Rule.{is_final}
+
+pub jump_always : (k : ItemKind) → is_jump k ≡ true → (n : ℕ) × (exit_of k ≡ Always n)
+jump_always (Mark v m) e = cc
+jump_always (Phi p n) e = cc
+jump_always (Code c n) e = by_row (row_of c) e where
+  by_row : (r : Row) → is_jump_row r ≡ true → (n : ℕ) × (row_exit r ≡ Always n)
+  by_row (Jumps t) e = (t, refl)
+  by_row _ e = cc
+
+pub onward_always : {x : Exit} {n : ℕ} → x ≡ Onward → x ≡ Always n → ⊥
+onward_always {n = n} a b = let bad : Onward ≡ Always n = sym a ∙ b in cc
+
+-- nothing stands after a jump
+pub ends_last : (xs : List Item) → EndsWell xs → (k l : ℕ) (x y : Item) (n : ℕ) → slice_get xs k ≡ Some x → exit_of x.kind ≡ Always n →
+    slice_get xs l ≡ Some y → k < l → ⊥
+ends_last [] h k l x y n e ex g lt = cc
+ends_last (z ∷ xs) h zero zero x y n e ex g lt = omega (arith, lt)
+ends_last (z ∷ xs) h zero (suc l) x y n e ex g lt =
+    let same : z ≡ x = cc in
+    let none : xs ≡ [] = subst (λ (w : Exit). MayFollow w xs) (ap (λ (w : Item). exit_of w.kind) same ∙ ex) h.0 in
+    let bad : None ≡ Some y = ap (λ (ws : List Item). slice_get ws l) (sym none) ∙ g in
+    cc
+ends_last (z ∷ xs) h (suc k) zero x y n e ex g lt = omega (arith, lt)
+ends_last (z ∷ xs) h (suc k) (suc l) x y n e ex g lt = ends_last xs h.1 k l x y n e ex g (omega (arith, lt))
+
+-- a list has an element at each lower index
+pub lower : (xs : List Item) (k l : ℕ) (x : Item) → slice_get xs k ≡ Some x → l < k → (y : Item) × (slice_get xs l ≡ Some y)
+lower [] k l x e lt = cc
+lower (z ∷ xs) zero l x e lt = absurd (omega (arith, lt))
+lower (z ∷ xs) (suc k) zero x e lt = (z, refl)
+lower (z ∷ xs) (suc k) (suc l) x e lt = lower xs k l x e (omega (arith, lt))
+
+pub next_low : (o : Origin) → 2 * (position_of o).item ≤ next_rank o
+next_low (Kept p) = omega arith
+next_low (Before p) = omega arith
+
+pub added_of : (o : Origin) → waits_at false o ≡ true → (q : Pos) × (o ≡ Before q)
+added_of (Kept p) e = cc
+added_of (Before p) e = (p, refl)
+
+pub jump_may : (r : Row) (k silent n : ℕ) → row_exit r ≡ Always n → MayAdd r k silent → k ≡ silent
+jump_may (Jumps t) k silent n e h = h
+jump_may (Fixes rd m) k silent n e h = cc
+jump_may (LoadsSlot rd m) k silent n e h = cc
+jump_may (StoresSlot rs m) k silent n e h = cc
+jump_may _ k silent n e h = absurd h
+
+-- code at the end of a block stores a slot or jumps
+pub end_row : (r : Row) (k silent : ℕ) → k ≡ silent → MayAdd r k silent → IsSlotStore r ⊎ (is_jump_row r ≡ true)
+end_row (StoresSlot rs n) k silent e h = inl tt
+end_row (Jumps t) k silent e h = inr refl
+end_row (Fixes rd n) k silent e h = absurd (omega (arith, e, h))
+end_row (LoadsSlot rd n) k silent e h = absurd (omega (arith, e, h))
+end_row (Moves rd rs) k silent e h = absurd h
+end_row (Sets rd op a b) k silent e h = absurd h
+end_row (Addresses rd n o) k silent e h = absurd h
+end_row (Loads rd op base o) k silent e h = absurd h
+end_row (Stores op rs base o) k silent e h = absurd h
+end_row (Branches op a b t) k silent e h = absurd h
+end_row (Calls name args) k silent e h = absurd h
+end_row (Returns results) k silent e h = absurd h
+end_row Unfit k silent e h = absurd h
+
+pub final_row : (r : Row) → row_exit r ≡ Final → IsSlotStore r ⊎ (is_jump_row r ≡ true) → ⊥
+final_row (Returns results) e (inl h) = h
+final_row (Returns results) e (inr h) = cc
+final_row Unfit e (inl h) = h
+final_row Unfit e (inr h) = cc
+final_row (Fixes rd n) e h = cc
+final_row (Moves rd rs) e h = cc
+final_row (Sets rd op a b) e h = cc
+final_row (Addresses rd n o) e h = cc
+final_row (Loads rd op base o) e h = cc
+final_row (Stores op rs base o) e h = cc
+final_row (LoadsSlot rd n) e h = cc
+final_row (StoresSlot rs n) e h = cc
+final_row (Branches op a b t) e h = cc
+final_row (Jumps t) e h = cc
+final_row (Calls name args) e h = cc
+
+pub row_goes : (r : Row) → IsSlotStore r ⊎ (is_jump_row r ≡ true) → is_final (row_exit r) ≡ false
+row_goes (StoresSlot rs n) h = refl
+row_goes (Jumps t) h = refl
+row_goes (Fixes rd n) h = refl
+row_goes (Moves rd rs) h = refl
+row_goes (Sets rd op a b) h = refl
+row_goes (Addresses rd n o) h = refl
+row_goes (Loads rd op base o) h = refl
+row_goes (Stores op rs base o) h = refl
+row_goes (LoadsSlot rd n) h = refl
+row_goes (Branches op a b t) h = refl
+row_goes (Calls name args) h = refl
+row_goes (Returns results) h = absurd (final_row (Returns results) refl h)
+row_goes Unfit h = absurd (final_row Unfit refl h)
+
+pub store_code : (k : ItemKind) → OnRow IsSlotStore k → is_code k ≡ true
+store_code (Code c n) h = refl
+store_code (Mark v m) h = absurd h
+store_code (Phi p n) h = absurd h
+
+pub counts_code : (k : ItemKind) → OnRow Counts k → is_code k ≡ true
+counts_code (Code c n) h = refl
+counts_code (Mark v m) h = absurd h
+counts_code (Phi p n) h = absurd h
