@@ -4,6 +4,7 @@
   bench/growth.py lex      crates/mirdwarf_bench/out/mirdwarf_bench, on texts of 1, 2 and 4 MiB
   bench/growth.py compile  crates/mirdwarf/out/mirdwarf, on functions of 1,000 to 8,000 items
   bench/growth.py read     crates/mirdwarf_reading/out/mirdwarf_reading, on functions, blocks, functions of a text and keys of an entry
+  bench/growth.py layout   crates/mirdwarf_layout/out/mirdwarf_layout over crates/mirdwarf_reading/out/mirdwarf_reading, on items, blocks and slots
   bench/growth.py sections crates/mirdwarf_sections/out/mirdwarf_sections, on sections of 1,000 to 8,000 parts
 
 Build the program first by `rt run` in its crate's folder. Each line has the input's size, the count and its growth.
@@ -63,6 +64,13 @@ def blocks(number):
     return head + b"".join(lines) + b"...\n"
 
 
+def slots(number):
+    """A function of 4,000 stores to and loads from so many slots in turn."""
+    entries = b"".join(b"  - { id: %d, size: 8 }\n" % n for n in range(number))
+    lines = b"".join(b"    SD $x10, %%stack.%d, 0\n    $x11 = LD %%stack.%d, 0\n" % (n % number, (n * 7) % number) for n in range(4000))
+    return b"---\nname: f\nstack:\n" + entries + b"body: |\n  bb.0:\n" + lines + b"    PseudoRET\n...\n"
+
+
 def functions(number):
     return b"".join(blocks(16).replace(b"name: f", b"name: f%d" % n) for n in range(number))
 
@@ -79,6 +87,17 @@ def table(name, program, words, sizes, make):
         instructions = count(os.path.join(TOP, program), words, make(size))
         print("  %9d  %13d  %s" % (size, instructions, "%.3f" % (instructions / before) if before else ""))
         before = instructions
+
+
+def over(name, program, base, sizes, make):
+    """A table of the instructions that a program has more than another at the same input."""
+    print(name)
+    last = None
+    for size in sizes:
+        text = make(size)
+        instructions = count(os.path.join(TOP, program), [], text) - count(os.path.join(TOP, base), [], text)
+        print("  %9d  %13d  %s" % (size, instructions, "%.3f" % (instructions / last) if last else ""))
+        last = instructions
 
 
 # Of each kind of section: the steps, the call that each adds, and the step before it.
@@ -114,6 +133,11 @@ def main():
         table("functions of sixteen blocks, by functions", program, [], (32, 64, 128, 256), functions)
         table("one long line, by bytes", program, [], [n << 18 for n in (1, 2, 4)], one_long_line)
         table("one stack entry, by its keys", program, [], (500, 1000, 2000, 4000), entry_keys)
+    elif what == ["layout"]:
+        program, base = "crates/mirdwarf_layout/out/mirdwarf_layout", "crates/mirdwarf_reading/out/mirdwarf_reading"
+        over("one block, by items", program, base, (1000, 2000, 4000, 8000), one_block)
+        over("one function, by blocks of eight items", program, base, (128, 256, 512, 1024), blocks)
+        over("8,001 items, by slots", program, base, (28, 56, 112, 224), slots)
     elif what == ["sections"]:
         for kind, steps in SECTIONS.items():
             for step, (call, before) in steps.items():

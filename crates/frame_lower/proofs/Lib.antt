@@ -1,1 +1,6 @@
 pub mod Turns
+pub mod Forms
+pub mod Offsets
+pub mod Areas
+pub mod Kept
+pub mod Made

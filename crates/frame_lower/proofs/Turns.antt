@@ -1,11 +1,10 @@
 -- One more place, at the end of a list of places.
-use Rattle.std.proofs.Common.{◌≡◌, ℕ, zero, suc, ◌+◌, ◌*◌, List, [], ◌∷◌, ◌++◌, ◌<◌, length, filter, take, get_or, slice_get, Some, Bool, true, false, cond}
-use Rattle.std.proofs.Common.{eq-eqb, ne_eqb, refl, sym, ap, ◌∙◌, arith}
+use Rattle.std.proofs.Common.{◌≡◌, ℕ, suc, ◌+◌, ◌*◌, List, [], ◌∷◌, ◌++◌, ◌<◌, length, take, get_or}
+use Rattle.std.proofs.Common.{sym, ap, ◌∙◌, arith}
 use Rattle.mir_func.specs.declared.framed.SavedRegister.{SavedRegister}
 use Rattle.mir_func.specs.declared.framed.SlotPlace.{SlotPlace}
 use Rattle.std.proofs.lemmas.List.{take_more, length-take-le}
-use Rattle.mir_func.specs.Sound.{AreApart}
-use Rattle.frame_rule.specs.Rule.{slots_before, slot_places, saved_places}
+use Rattle.frame_rule.specs.Rule.{slot_places, saved_places}
 
 pub slots_turn : (o : ℕ) (xs : List ℕ) (x : ℕ) → slot_places o (xs ++ x ∷ []) ≡ slot_places o xs ++ record { slot = x; offset = o + 8 * length xs } ∷ []
 slots_turn o [] x = let e : o ≡ o + 8 * 0 = omega arith in λ i. record { slot = x; offset = e i } ∷ []
@@ -22,26 +21,6 @@ saved_turn o (y ∷ ys) x =
     let e : (o + 8) + 8 * length ys ≡ o + 8 * suc (length ys) = omega arith in
     ap (λ (z : List SavedRegister). record { register = y; offset = o } ∷ z) w
     ∙ ap (λ (n : ℕ). record { register = y; offset = o } ∷ (saved_places (o + 8) ys ++ record { register = x; offset = n } ∷ [])) e
-
-pub kept_turn : (p : ℕ → Bool) (xs : List ℕ) (x : ℕ) → filter p (xs ++ x ∷ []) ≡ filter p xs ++ cond (p x) (x ∷ []) []
-kept_turn p [] x = by_test (p x) where
-  by_test : (b : Bool) → cond b (x ∷ []) [] ≡ cond b (x ∷ []) []
-  by_test b = refl
-kept_turn p (y ∷ ys) x = by_test (p y) (kept_turn p ys x) where
-  by_test : (b : Bool) → filter p (ys ++ x ∷ []) ≡ filter p ys ++ cond (p x) (x ∷ []) [] →
-      cond b (y ∷ filter p (ys ++ x ∷ [])) (filter p (ys ++ x ∷ [])) ≡ cond b (y ∷ filter p ys) (filter p ys) ++ cond (p x) (x ∷ []) []
-  by_test true e = ap (λ (z : List ℕ). y ∷ z) e
-  by_test false e = e
-
--- a number of a list of different numbers stands at one place
-pub before_is : (slots : List ℕ) → AreApart slots → (i n : ℕ) → slice_get slots i ≡ Some n → slots_before slots n ≡ i
-before_is [] apart zero n e = cc
-before_is [] apart (suc i) n e = cc
-before_is (s ∷ slots) apart zero n e = let w : s ≡ n = cc in ap (λ (b : Bool). cond b 0 (suc (slots_before slots n))) (eq-eqb s n w)
-before_is (s ∷ slots) apart (suc i) n e =
-    let later : AreApart slots = λ j k m x y. (let w = apart (suc j) (suc k) m x y in omega (arith, w)) in
-    let ne : s ≡ n → ⊥ = λ w. (let z = apart 0 (suc i) n (ap Some w) e in omega (arith, z)) in
-    ap (λ (b : Bool). cond b 0 (suc (slots_before slots n))) (ne_eqb s n ne) ∙ ap suc (before_is slots later i n e)
 
 -- ---- what loops have after one more element
 

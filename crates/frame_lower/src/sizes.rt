@@ -1,0 +1,41 @@
+//! How many bytes a frame has.
+
+ghost use Rattle.std.specs.Prelude.{◌≡◌, ◌≤◌, ◌+◌, ◌*◌, length, All};
+ghost use Rattle.mir_func.specs.Limits.{MAX_SLOTS};
+ghost use Rattle.mir_func.specs.Objects.{up_to, AreLaidFrom, area_of};
+ghost use Rattle.mir_func.specs.Sound.{IsSoundObject};
+
+use mir_func::object::{Object, up_to};
+
+/// The greatest size of a frame, in bytes: what one `ADDI` lowers x2 by, and a multiple of 16.
+pub const MAX_FRAME: u64 = 2_032;
+
+/// What the size of a frame is a multiple of, in bytes (RISC-V ELF psABI, "Integer Calling Convention").
+const ALIGNMENT: u64 = 16;
+
+/// The size in bytes of a frame with so many slots and saved registers, and these stack objects.
+pub fn size(count: usize, objects: &[Object]) -> u64
+    requires count { count ≤ 1024 }
+    requires few { length objects.now ≤ MAX_SLOTS }
+    requires each { All IsSoundObject objects.now }
+    requires laid { AreLaidFrom 0 objects.now }
+    ensures { result ≡ up_to 16 (8 * count) + area_of objects.now }
+{
+    up_to(ALIGNMENT, 8 * count as u64) + area(objects)
+}
+
+/// How many bytes stack objects take together.
+fn area(objects: &[Object]) -> u64
+    requires few { length objects.now ≤ MAX_SLOTS }
+    requires each { All IsSoundObject objects.now }
+    requires laid { AreLaidFrom 0 objects.now }
+    ensures value { result ≡ area_of objects.now }
+    ensures small { result ≤ 549755813888 }
+{
+    let count = objects.len();
+    if count == 0 {
+        return 0;
+    }
+    let last = &objects[count - 1];
+    up_to(ALIGNMENT, last.offset + u64::from(last.size))
+}
