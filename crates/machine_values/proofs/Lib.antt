@@ -1,0 +1,12 @@
+pub mod Blocks
+pub mod Changing
+pub mod Each
+pub mod Framing
+pub mod Gathering
+pub mod Keys
+pub mod Own
+pub mod Paths
+pub mod Quiet
+pub mod Solving
+pub mod Starting
+pub mod Walking

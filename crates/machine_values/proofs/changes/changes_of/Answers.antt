@@ -1,0 +1,18 @@
+use Rattle.mir_func.specs.Resolve.{resolve}
+use Rattle.machine_values.proofs.Own.{own_classes, own_settles, own_tell, changes_are}
+use Rattle.machine_values.proofs.changes.changes_of.Goals as goal
+
+pub pass_items-requires-clause-walked : goal.pass_items-requires-clause-walked
+pass_items-requires-clause-walked c =
+    let t = c.args.tracking.now in
+    record {
+      class = own_classes t.things.now;
+      holds = c.in_ok-held.ensures.holds (own_classes t.things.now) (own_settles t.variables.now t.things.now c.requires.things c.requires.tracked
+          t.settled.now c.requires.own);
+      tells = own_tell t.variables.now t.things.now c.requires.things c.requires.tracked (resolve t.subs.now);
+    }
+
+pub returns-clause-tells : goal.returns-clause-tells
+returns-clause-tells c =
+    changes_are c.args.tracking.now c.args.items.now c.pass_items.new.held c.changes.result c.requires.tracked c.in_ok-pass_items.ensures.walked
+    c.changes.ensures.changes c.changes.ensures.within
