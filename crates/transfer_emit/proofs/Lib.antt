@@ -1,2 +1,5 @@
 pub mod Standing
 pub mod Turning
+pub mod Saying
+pub mod Looking
+pub mod Walking

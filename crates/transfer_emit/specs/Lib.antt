@@ -1,3 +1,5 @@
 pub mod Stands
 pub mod Covered
 pub mod Turning
+pub mod Lists
+pub mod steps

@@ -1,12 +1,13 @@
 //! The ranges of one variable, as the walk writes them.
 
-ghost use Rattle.std.specs.Prelude.{◌≡◌, ◌++◌, ◌∷◌, [], ℕ, Some, None, Option, IfOk, IsTrue, ◌↔◌};
+ghost use Rattle.std.specs.Prelude.{◌≡◌, ◌++◌, ◌∷◌, [], ℕ, Some, None, Option, IfOk, OnOk, IsTrue, ◌↔◌};
 ghost use Rattle.dwarf_loclists.specs.declared.range.Location.{Location};
 ghost use Rattle.transfer_emit.specs.Covered.{covered, located, opened, closed, Turns};
 ghost use Rattle.transfer_emit.specs.Turning.{TurnsSayOn, TracksAreRanges};
 
 use dwarf_loclists::range::{Location, Range, Ranges};
 use std::alloc::{AllocError, Global};
+use std::mem;
 
 /// Where a variable is from an address on.
 #[derive(Debug, Drop)]
@@ -50,6 +51,20 @@ impl Track {
             ranges,
             present: open_at(address, location),
         })
+    }
+
+    /// The same in place. After an error the ranges are lost.
+    pub fn turn_to(
+        &mut self,
+        alloc: Global,
+        address: u64,
+        location: Option<Location>,
+    ) -> Result<(), AllocError>
+        ensures { OnOk result (Turns self.old address location self.new) }
+    {
+        let before = mem::replace(self, Track::new(alloc));
+        *self = before.turn(address, location)?;
+        Ok(())
     }
 
     /// The ranges, the open one up to an address.

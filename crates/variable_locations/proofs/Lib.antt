@@ -1,0 +1,3 @@
+pub mod Gathering
+pub mod Locating
+pub mod Giving

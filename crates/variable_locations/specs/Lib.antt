@@ -1,0 +1,4 @@
+pub mod Groups
+pub mod Wanted
+pub mod Gives
+pub mod steps
