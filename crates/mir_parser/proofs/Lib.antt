@@ -1,2 +1,16 @@
 pub mod Lines
 pub mod Functions
+pub mod Lists
+pub mod Lexemes
+pub mod Forms
+pub mod Operands
+pub mod Judged
+pub mod Items
+pub mod Bodies
+pub mod Stack
+pub mod Entries
+pub mod Frames
+pub mod Renamed
+pub mod Printed
+pub mod Sound
+pub mod Soundness

@@ -1,6 +1,5 @@
 -- What is judged where a function closes.
-use Rattle.std.specs.Prelude.{◌≡◌, ℕ, Bool, ◌&&◌, nat_le, nat_lt, if◌then◌else◌, is_some, List, [], ◌∷◌, length, Option, Some, None, Result, Ok, Err}
-use Rattle.std.specs.List.{list_all}
+use Rattle.std.specs.Prelude.{◌≡◌, ℕ, ◌≤◌, Bool, ◌&&◌, if◌then◌else◌, is_some, List, [], ◌∷◌, All, length, Option, Some, None, Result, Ok, Err}
 use Rattle.refusal.specs.declared.first.Refusal.{Refusal}
 use Rattle.refusal.specs.declared.kind.RefusalKind.{RefusalKind}
 use Rattle.refusal.specs.declared.kind.RefusalKind.TheVariants.{UnknownBlock, StackObject, BlockEnd}
@@ -9,7 +8,7 @@ use Rattle.meta_reader.specs.Maps.{Maps}
 use Rattle.mir_frame.specs.declared.parts.FunctionDocument.{FunctionDocument}
 use Rattle.mir_func.specs.declared.block.Block.{Block}
 use Rattle.mir_func.specs.Function.{Function}
-use Rattle.mir_func.specs.Sound.{IsSound}
+use Rattle.mir_func.specs.Sound.{EndsWell, LastCloses}
 use Rattle.mir_declarations.specs.declared.declarations.Declarations.{Declarations}
 use Rattle.mir_declarations.specs.declared.stack.StackEntry.{StackEntry}
 use Rattle.mir_declarations.specs.Declarations.{declarations_of}
@@ -17,7 +16,7 @@ use Rattle.mir_body.specs.declared.body.Body.{Body}
 use Rattle.mir_body.specs.Met.{met}
 use Rattle.mir_body.specs.Body.{blocks_of}
 use Rattle.mir_body.specs.Closing.{blocks_go_to, all_met}
-use Rattle.mir_body.specs.Frame.{slots_of, objects_of, ids_of_objects}
+use Rattle.mir_body.specs.Frame.{IsStackEntry, slots_of, objects_of, ids_of_objects}
 use Rattle.mir_parser.specs.declared.closing.Parts.{Parts}
 use Rattle.mir_parser.specs.declared.closing.Parsed.{Parsed}
 use Rattle.mir_parser.specs.declared.error.ParseError.{ParseError}
@@ -34,12 +33,9 @@ ids_behind ids (e ∷ es) = ids_behind (met e.id ids) es
 abbrev pub entry_ids : List StackEntry → List ℕ
 entry_ids es = ids_behind [] es
 
--- what every stack entry keeps that was read
-abbrev pub is_entry : StackEntry → Bool
-is_entry e = nat_le e.size 1073741823 && (nat_lt 0 e.align && nat_le e.align 16)
-
-abbrev pub are_entries : List StackEntry → Bool
-are_entries es = nat_le (length es) 224 && list_all is_entry es
+-- what the stack entries keep that a document declares: there are few, and each has a size and an alignment within the limits
+abbrev pub AreEntries : List StackEntry → Type 0
+AreEntries es = (length es ≤ 224) × All IsStackEntry es
 
 -- what a function is made of beside its name
 abbrev pub laid_out : List ℕ → List StackEntry → List Block → Parts
@@ -55,7 +51,7 @@ stays parts = blocks_stay parts.objects parts.blocks
 
 -- the parts of a function, unless an access leaves its object
 abbrev pub parts_of : List ℕ → List StackEntry → List Block → Option Parts
-parts_of named es blocks = if are_entries es && stays (laid_out named es blocks) then Some (laid_out named es blocks) else None
+parts_of named es blocks = if stays (laid_out named es blocks) then Some (laid_out named es blocks) else None
 
 -- Why a function can't close: a branch goes to no block, or a stack entry that is named isn't declared, or an access leaves its object.
 abbrev pub closing_cause : Declarations → Body → Option RefusalKind
@@ -73,15 +69,19 @@ function_of d body = record {
   blocks = blocks_as (ids_of_objects body.objects d.stack) (blocks_of body);
 }
 
--- The refusal at the closing line: a cause, or the last rule. Where all other rules are kept, what may still be wrong with the
--- function is how its blocks end.
+-- Blocks end well: each ends with no branch, a return, a jump, a conditional branch, or a conditional branch and a jump, and control doesn't
+-- fall out of the last one.
+abbrev pub EndWell : List Block → Type 0
+EndWell blocks = All (λ b. EndsWell b.items) blocks × LastCloses blocks
+
+-- The refusal at the closing line: a cause, or else that its blocks don't end well.
 abbrev pub ClosesWith : ℕ → Refusal → Option RefusalKind → Function → Type 0
 ClosesWith line r (Some cause) f = r ≡ record { line = line; kind = cause }
-ClosesWith line r None f = (r ≡ record { line = line; kind = BlockEnd }) × (IsSound f → ⊥)
+ClosesWith line r None f = (r ≡ record { line = line; kind = BlockEnd }) × (EndWell f.blocks → ⊥)
 
 -- What a call answers where declarations and a body close at a line.
 abbrev pub Closes : ℕ → Declarations → Body → Result Parsed ParseError → Type 0
-Closes line d body (Ok p) = (closing_cause d body ≡ None) × (p.func ≡ function_of d body) × (p.subs ≡ d.substitutions)
+Closes line d body (Ok p) = (closing_cause d body ≡ None) × (p.func ≡ function_of d body) × (p.subs ≡ d.substitutions) × EndWell (function_of d body).blocks
 Closes line d body (Err errors.Memory) = Unit {0}
 Closes line d body (Err (errors.Refused r)) = ClosesWith line r (closing_cause d body) (function_of d body)
 

@@ -1,3 +1,4 @@
+pub mod Limited
 pub mod Reading
 pub mod Objects
 pub mod Closing

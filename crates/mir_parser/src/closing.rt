@@ -1,10 +1,13 @@
 //! A function where its document closes.
 
-ghost use Rattle.std.specs.Prelude.{◌≡◌, ◌≤◌, All, IfOk, IsTrue, length};
-ghost use Rattle.std.specs.List.{list_all};
+ghost use Rattle.std.specs.Prelude.{◌≡◌, IfOk, IfSome, IsNone, Ok};
+ghost use Rattle.meta_reader.specs.Maps.{Maps};
+ghost use Rattle.mir_frame.specs.declared.parts.FunctionDocument.{FunctionDocument};
+ghost use Rattle.mir_func.specs.Sound.{IsSound};
+ghost use Rattle.mir_declarations.specs.Declarations.{declarations_of};
 ghost use Rattle.mir_body.specs.Body.{and_last};
-ghost use Rattle.mir_body.specs.Frame.{IsStackEntry};
-ghost use Rattle.mir_parser.specs.Closing.{is_entry, are_entries, entry_ids, parts_of, Closes};
+ghost use Rattle.mir_parser.specs.Reading.{body_of};
+ghost use Rattle.mir_parser.specs.Closing.{AreEntries, entry_ids, parts_of, Closes};
 
 use crate::error::ParseError;
 use crate::objects::{blocks_as, blocks_stay};
@@ -41,29 +44,6 @@ pub struct Parts {
     pub blocks: Blocks,
 }
 
-/// Whether a stack entry keeps what every one keeps that was read.
-fn is_entry(entry: &StackEntry) -> bool
-    ensures { result ≡ is_entry entry.now }
-{
-    entry.size <= 1_073_741_823 && 0 < entry.align && entry.align <= 16
-}
-
-/// Whether each stack entry keeps that.
-fn each_is_entry(entries: &[StackEntry]) -> bool
-    ensures { result ≡ list_all is_entry entries.now }
-{
-    entries.iter().all(|entry| is_entry(entry))
-}
-
-/// Whether stack entries keep what those keep that were read.
-fn are_entries(entries: &[StackEntry]) -> bool
-    ensures value { result ≡ are_entries entries.now }
-    ensures few { IsTrue result → length entries.now ≤ 224 }
-    ensures each { IsTrue result → All IsStackEntry entries.now }
-{
-    entries.len() <= 224 && each_is_entry(entries)
-}
-
 /// The numbers of stack entries.
 fn entry_ids(alloc: Global, entries: &[StackEntry]) -> Result<Met, AllocError>
     ensures { IfOk result (λ ids. ids ≡ entry_ids entries.now) }
@@ -93,11 +73,9 @@ fn parts_of(
     entries: &[StackEntry],
     blocks: &[Block],
 ) -> Result<Option<Parts>, AllocError>
+    requires { AreEntries entries.now }
     ensures { IfOk result (λ parts. parts ≡ parts_of named.now entries.now blocks.now) }
 {
-    if !are_entries(entries) {
-        return Ok(None);
-    }
     let laid = objects(alloc, named, entries)?;
     let ids = object_ids(alloc, named, entries)?;
     let blocks = blocks_as(alloc, &ids, blocks)?;
@@ -119,6 +97,32 @@ fn refused(line: u32, kind: RefusalKind) -> ParseError
     ParseError::Refused(Refusal { line, kind })
 }
 
+/// The function of a name and of parts, and `None` where these make no sound one.
+fn function(alloc: Global, name: Name, parts: Parts) -> Result<Option<Func>, AllocError>
+    ensures some { IfOk result (λ func. IfSome func (λ f. f ≡ record {
+      name = name;
+      slots = parts.slots;
+      objects = parts.objects;
+      blocks = parts.blocks;
+    })) }
+    ensures sound { IfOk result (λ func. IfSome func (λ f. IsSound f)) }
+    ensures none { IfOk result (λ func. IsNone func → IsSound (record {
+      name = name;
+      slots = parts.slots;
+      objects = parts.objects;
+      blocks = parts.blocks;
+    }) → ⊥) }
+{
+    match Func::new(alloc, name, parts.slots, parts.objects, parts.blocks) {
+        Ok(func) => {
+            let _ = &func.blocks;
+            Ok(Some(func))
+        }
+        Err(FuncError::Unsound) => Ok(None),
+        Err(FuncError::Memory) => Err(AllocError),
+    }
+}
+
 /// The function of declarations and a body, where both are read and the function closes at a line. Refused there are
 /// `UnknownBlock`, `StackObject` and `BlockEnd`.
 pub fn close(
@@ -127,7 +131,9 @@ pub fn close(
     declared: Declarations,
     body: Body,
 ) -> Result<Parsed, ParseError>
-    ensures { Closes line declared body result }
+    requires { AreEntries declared.stack }
+    ensures { (meta : Maps) (doc : FunctionDocument) →
+        declarations_of doc ≡ Ok declared → body_of meta doc.body ≡ Ok body → Closes line declared body result }
 {
     let Body {
         before,
@@ -158,18 +164,11 @@ pub fn close(
     else {
         return Err(refused(line, RefusalKind::StackObject));
     };
-    match Func::new(
-        alloc,
-        declared.name,
-        parts.slots,
-        parts.objects,
-        parts.blocks,
-    ) {
-        Ok(func) => Ok(Parsed {
+    match function(alloc, declared.name, parts)? {
+        Some(func) => Ok(Parsed {
             func,
             subs: declared.substitutions,
         }),
-        Err(FuncError::Unsound) => Err(refused(line, RefusalKind::BlockEnd)),
-        Err(FuncError::Memory) => Err(ParseError::Memory),
+        None => Err(refused(line, RefusalKind::BlockEnd)),
     }
 }

@@ -2,7 +2,10 @@
 
 ghost use Rattle.std.specs.Prelude.{◌≡◌, IfOk};
 ghost use Rattle.mir_declarations.specs.Declarations.{declarations_of};
-ghost use Rattle.mir_parser.specs.Closing.{IsRefused, ParsesParts, Parses};
+ghost use Rattle.meta_reader.specs.Maps.{Maps};
+ghost use Rattle.mir_frame.specs.declared.parts.FunctionDocument.{FunctionDocument};
+ghost use Rattle.mir_parser.specs.Reading.{body_of};
+ghost use Rattle.mir_parser.specs.Closing.{AreEntries, IsRefused, ParsesParts, Parses};
 
 use crate::closing::{Parsed, close};
 use crate::error::ParseError;
@@ -19,7 +22,8 @@ fn declared(
     alloc: Global,
     document: &FunctionDocument,
 ) -> Result<Result<Declarations, Refusal>, AllocError>
-    ensures { IfOk result (λ read. read ≡ declarations_of document.now) }
+    ensures read { IfOk result (λ read. read ≡ declarations_of document.now) }
+    ensures entries { IfOk result (λ read. IfOk read (λ d. AreEntries d.stack)) }
 {
     match read_declarations(alloc, document) {
         Ok(declared) => Ok(Ok(declared)),
@@ -42,7 +46,9 @@ fn put_together(
     declared: Result<Declarations, Refusal>,
     body: Result<Body, Refusal>,
 ) -> Result<Parsed, ParseError>
-    ensures { ParsesParts line declared body result }
+    requires { IfOk declared (λ d. AreEntries d.stack) }
+    ensures { (meta : Maps) (doc : FunctionDocument) → declarations_of doc ≡ declared → body_of meta doc.body ≡ body →
+        ParsesParts line declared body result }
 {
     match declared {
         Ok(declared) => match body {
