@@ -1,0 +1,16 @@
+//! The output of the compiler as text: the bytes of five sections, and a listing of each function with its lines.
+//!
+//! An output has one text, and a text shows one output, so what is proved of what a text shows is proved of what a
+//! reader finds in it. A long branch is listed as the two instructions that it becomes: a line that skips, and the
+//! jump below it.
+#![tactic(auto)]
+
+pub mod hex;
+mod line;
+mod listing;
+pub mod output;
+pub mod print;
+pub mod reading;
+mod section;
+#[cfg(test)]
+mod tests;

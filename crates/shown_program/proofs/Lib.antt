@@ -1,0 +1,10 @@
+pub mod Forms
+pub mod Images
+pub mod Raising
+pub mod Operands
+pub mod Shown
+pub mod Framing
+pub mod Sizes
+pub mod Lying
+pub mod Places
+pub mod Settling

@@ -1,0 +1,5 @@
+pub mod Frame
+pub mod Program
+pub mod Listing
+pub mod Laws
+pub mod Settled
