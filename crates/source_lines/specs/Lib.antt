@@ -1,0 +1,5 @@
+pub mod Files
+pub mod Lines
+pub mod Program
+pub mod Table
+pub mod steps

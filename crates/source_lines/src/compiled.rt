@@ -1,0 +1,13 @@
+//! Functions with their machine code.
+
+use code_words::code::Code;
+use mir_func::func::Func;
+
+/// A function as it was read, and its machine code.
+#[derive(Clone, Copy)]
+pub struct Compiled<'a> {
+    /// The function as it was read.
+    pub source: &'a Func,
+    /// Its machine code.
+    pub code: &'a Code,
+}
