@@ -87,6 +87,7 @@ pub fn solve(
     subs: &Substitutions,
 ) -> Result<MachineValues, AllocError>
     ensures things { IfOk result (λ v. AreThings v.variables v.things) }
+    ensures fewer { IfOk result (λ v. length v.variables ≤ length v.things) }
     ensures all { IfOk result (λ v. AreThingsOf (framed_program framed.now.blocks (resolve subs.now))
         (map thing v.things)) }
     ensures entries { IfOk result (λ v. (b : ℕ) (e : BlockEntry) → slice_get v.entries b ≡ Some e →

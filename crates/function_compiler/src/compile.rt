@@ -1,0 +1,63 @@
+//! The compiling of one function.
+
+ghost use Rattle.std.specs.Prelude.{◌≡◌, ◌<◌, ◌≤◌, ◌%◌, All, IfOk, IsErrOf, length};
+ghost use Rattle.mir_func.specs.Graph.{block_start, framed_program};
+ghost use Rattle.mir_func.specs.Limits.{MAX_FRAME};
+ghost use Rattle.mir_func.specs.Resolve.{resolve};
+ghost use Rattle.mir_func.specs.Sound.{AllItems};
+ghost use Rattle.mir_func.specs.SoundFrame.{HasPhysical};
+ghost use Rattle.frame_rule.specs.Rule.{size_of, framed_of};
+ghost use Rattle.code_words.specs.Counts.{MAX_WORDS, MAX_BASE, count_of};
+ghost use Rattle.code_words.specs.Laid.{IsCodeOf};
+ghost use Rattle.dwarf_loclists.specs.Ranges.{Ascend};
+ghost use Rattle.transfer_emit.specs.Lists.{AreListsOf};
+ghost use Rattle.unit_entries.specs.Variables.{variables_of_function};
+
+use crate::location_lists::location_lists;
+use code_words::code::Code;
+use dwarf_loclists::range::RangeLists;
+use frame_layout::code::{CodeError, code_of};
+use mir_func::func::Func;
+use std::alloc::Global;
+use substitution::substitutions::Substitutions;
+use unit_entries::variables::{VarIds, variables};
+
+/// A function that is compiled.
+#[derive(Debug, Drop)]
+pub struct CompiledFunction {
+    /// Its machine code, with the function with its frame.
+    pub code: Code,
+    /// Its variables, each as a whole, by the first mark of any of their parts.
+    pub variables: VarIds,
+    /// A location list for each of them, in their order.
+    pub lists: RangeLists,
+}
+
+/// A function from an address on, a multiple of 4. What it can't compile is as `code_of` says.
+pub fn compile_function(
+    alloc: Global,
+    f: &Func,
+    subs: &Substitutions,
+    base: u64,
+) -> Result<CompiledFunction, CodeError>
+    requires aligned { base % 4 ≡ 0 }
+    requires low { base < MAX_BASE }
+    ensures code { IfOk result (λ c. IsCodeOf (framed_of f.now) base c.code) }
+    ensures variables { IfOk result (λ c. c.variables ≡ variables_of_function f.now.blocks) }
+    ensures lists { IfOk result (λ c.
+        AreListsOf (framed_program (framed_of f.now).blocks (resolve subs.now)) (block_start 0) c.code.entries
+        c.variables c.lists) }
+    ensures ascend { IfOk result (λ c. All Ascend c.lists) }
+    ensures not_physical { IsErrOf result CodeError.Virtual → AllItems (λ i. HasPhysical i.kind) f.now.blocks → ⊥ }
+    ensures too_large { IsErrOf result CodeError.FrameTooLarge → MAX_FRAME < size_of f.now }
+    ensures too_long { IsErrOf result CodeError.TooLong → MAX_WORDS ≤ count_of (framed_of f.now).blocks }
+{
+    let code = code_of(alloc, f, base)?;
+    let variables = variables(alloc, f.blocks.as_slice())?;
+    let lists = location_lists(alloc, variables.as_slice(), subs, &code)?;
+    Ok(CompiledFunction {
+        code,
+        variables,
+        lists,
+    })
+}

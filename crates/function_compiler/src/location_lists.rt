@@ -1,0 +1,54 @@
+//! Where the variables of a function are.
+
+ghost use Rattle.std.specs.Prelude.{◌≡◌, ◌≤◌, All, IfOk, length};
+ghost use Rattle.mir_func.specs.Graph.{block_start, framed_program};
+ghost use Rattle.mir_func.specs.Resolve.{resolve};
+ghost use Rattle.dwarf_loclists.specs.Ranges.{Ascend};
+ghost use Rattle.transfer_emit.specs.Lists.{AreListsOf};
+
+use code_words::code::Code;
+use dwarf_loclists::range::RangeLists;
+use machine_values::values::{MachineValues, solve};
+use mir_func::framed::Framed;
+use mir_func::variable::VarId;
+use std::alloc::{AllocError, Global};
+use substitution::substitutions::Substitutions;
+use transfer_emit::ranges::all_ranges;
+use transfer_emit::values::Values;
+
+/// The location lists of variables over the machine code of a function, in the variables' order: at the address of each
+/// byte of code the location that is wanted for the variable there, by all paths of the function with its frame, and
+/// none elsewhere. Marks see through the substitutions.
+pub fn location_lists(
+    alloc: Global,
+    variables: &[VarId],
+    subs: &Substitutions,
+    code: &Code,
+) -> Result<RangeLists, AllocError>
+    ensures exact { IfOk result (λ lists.
+        AreListsOf (framed_program code.now.framed.blocks (resolve subs.now)) (block_start 0) code.now.entries
+        variables.now lists) }
+    ensures ascend { IfOk result (All Ascend) }
+{
+    let MachineValues {
+        variables: parts,
+        things,
+        entries,
+        sweeps: _,
+    } = solve(alloc, framed_of(code), subs)?;
+    let values = Values {
+        variables: parts.as_slice(),
+        things: things.as_slice(),
+        entries: entries.as_slice(),
+        subs,
+    };
+    let lists = all_ranges(alloc, &values, variables, code)?;
+    Ok(lists)
+}
+
+/// The function with its frame.
+fn framed_of(code: &Code) -> &Framed
+    ensures { result.now ≡ code.now.framed }
+{
+    &code.framed
+}
