@@ -1,11 +1,11 @@
 //! Tests: classes past a copy, a call and marks of overlapping parts.
 
+use class_entries::entry::{Bits, BlockEntry, Numbers};
+use class_entries::tracked::Tracked;
 use class_places::held::{Held, PLACES};
 use class_places::index::{index_of, number_class};
 use class_places::pass::Block;
 use class_places::start::settle;
-use class_entries::entry::{Bits, BlockEntry, Numbers};
-use class_entries::tracked::Tracked;
 use mir_func::entry::OperandPair;
 use mir_func::item::ItemKind;
 use mir_func::variable::{Fragment, MarkValue, VarId};

@@ -151,8 +151,7 @@ fn prints_calls(rt: HostRuntime) -> Result<(), Fail> {
         Operand::ImplicitUse(reg(10)?),
     ];
     let call = code(alloc, Op::PseudoCall, &call, Some(DebugNumber(9)))?;
-    let text =
-        "PseudoCALL @f.1$_-, mask, implicit-def $x1, implicit $x10, debug-instr-number 9";
+    let text = "PseudoCALL @f.1$_-, mask, implicit-def $x1, implicit $x10, debug-instr-number 9";
     prints(&rt, alloc, &call, text)?;
     let call = [symbol(alloc, b"a \"\\\x1f\xff~")?, Operand::Mask];
     let call = code(alloc, Op::PseudoCall, &call, None)?;

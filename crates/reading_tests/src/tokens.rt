@@ -1,12 +1,12 @@
 //! The tokens of lines, and where comments and memory operands begin.
 
+use lists::List;
 use mir_lexer::comment::{before_comment, before_memory_operands};
 use mir_lexer::fault::LexError;
 use mir_lexer::lexer::tokens;
 use mir_lexer::line::Line;
 use mir_lexer::parts::Class::{Integer, Kind, Node, Percent, Register, Single, Symbol, Text, Word};
 use mir_lexer::parts::{Class, Token};
-use lists::List;
 use std::test::Fail;
 
 /// Lines, most of them written by llc, with the class and the text of each token before memory operands.
