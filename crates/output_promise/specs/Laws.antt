@@ -1,0 +1,56 @@
+-- What holds of each output that compiling makes.
+use Rattle.std.specs.Prelude.{◌≡◌, ℕ, ◌<◌, ◌≤◌, List, All}
+use Rattle.std.specs.List.{flat_map}
+use Rattle.std.specs.Int.{w32, to_le_bytes}
+use Rattle.mir_func.specs.Graph.{block_start, framed_program}
+use Rattle.mir_func.specs.Limits.{MAX_FRAME}
+use Rattle.mir_func.specs.Resolve.{resolve}
+use Rattle.code_words.specs.Counts.{MAX_WORDS, MAX_BASE, count_of}
+use Rattle.code_words.specs.Laid.{LaidCode, IsCodeOf}
+use Rattle.frame_rule.specs.Rule.{size_of, framed_of}
+use Rattle.dwarf_loclists.specs.declared.range.Range.{Range}
+use Rattle.transfer_emit.specs.Lists.{AreListsOf}
+use Rattle.unit_entries.specs.Variables.{variables_of_function}
+use Rattle.compiled_text.specs.declared.output.ListedFunction.{ListedFunction}
+use Rattle.shown_program.specs.Listing.{listing_of}
+use Rattle.compiled_text.specs.declared.output.Output.{Output}
+use Rattle.output_promise.specs.Compiled.{bytes_of, IsCompiledFunction, IsCompiledProgram}
+use Rattle.output_promise.specs.Promise.{variable_lines, Promises, IsExact, AreLaidOut, ListsSources}
+use Rattle.output_promise.specs.Source.{SourceFunction, IsSourceFunction}
+use Rattle.output_promise.specs.Words.{HaveWords}
+
+-- the sources are as functions are that are read, and this is their output
+pub record AreCompiledTo (names : ℕ → List ℕ) (sources : List SourceFunction) (o : Output) : Type 0 where
+  pub read : All IsSourceFunction sources
+  pub compiled : IsCompiledProgram names sources o
+
+-- It keeps the promise of its sources: the machine does what they do, and what its lists give holds values of newest assignments.
+abbrev pub CompiledPromises : Type 0
+CompiledPromises = (names : ℕ → List ℕ) (sources : List SourceFunction) (o : Output) → AreCompiledTo names sources o → Promises sources o
+
+-- Its lists are exact.
+abbrev pub CompiledIsExact : Type 0
+CompiledIsExact = (names : ℕ → List ℕ) (sources : List SourceFunction) (o : Output) → AreCompiledTo names sources o → IsExact o
+
+-- Its functions lie one after the other, and in each its lines.
+abbrev pub CompiledIsLaidOut : Type 0
+CompiledIsLaidOut = (names : ℕ → List ℕ) (sources : List SourceFunction) (o : Output) → AreCompiledTo names sources o → AreLaidOut names sources o
+
+-- Its lines show the sources with their frames.
+abbrev pub CompiledListsSources : Type 0
+CompiledListsSources = (names : ℕ → List ℕ) (sources : List SourceFunction) (o : Output) → AreCompiledTo names sources o → ListsSources sources o
+
+-- At its lines stand the bytes of their instructions.
+abbrev pub CompiledHasWords : Type 0
+CompiledHasWords = (names : ℕ → List ℕ) (sources : List SourceFunction) (o : Output) → AreCompiledTo names sources o → HaveWords o
+
+-- What the code of a compiler makes of a source is compiled of it: its machine code from an address on, the lists of its variables over
+-- the code's entries, and the listing of the code's layout.
+abbrev pub CodesAreCompiled : Type 0
+CodesAreCompiled = (names : ℕ → List ℕ) (source : SourceFunction) (base first : ℕ) (f : ListedFunction) (code : LaidCode) (lists : List (List Range)) →
+    (is : IsCodeOf (framed_of source.function) base code) → base < MAX_BASE → count_of (framed_of source.function).blocks < MAX_WORDS →
+    size_of source.function ≤ MAX_FRAME →
+    AreListsOf (framed_program (framed_of source.function).blocks (resolve source.substitutions)) (block_start 0) code.entries
+    (variables_of_function source.function.blocks) lists →
+    f ≡ listing_of is.layout (variable_lines names first (variables_of_function source.function.blocks)) source.substitutions →
+    (c : IsCompiledFunction names source base first f) × (bytes_of c.layout ≡ flat_map (to_le_bytes w32) code.words) × (c.lists ≡ lists)

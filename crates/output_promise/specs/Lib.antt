@@ -1,0 +1,5 @@
+pub mod Source
+pub mod Promise
+pub mod Words
+pub mod Compiled
+pub mod Laws
