@@ -3,7 +3,7 @@ use Rattle.std.specs.Prelude.{slice_index_or}
 use Rattle.std.proofs.lemmas.List.{take_more, take_all}
 use Rattle.class_solver.specs.declared.flow.Change.{Change}
 use Rattle.class_solver.specs.Joining.{SourceWithin, AreWithin}
-use Rattle.class_solver_tests.proofs.tests.changes_are_within.Goals as goal
+use Rattle.class_tests.proofs.solver.changes_are_within.Goals as goal
 
 push : (n : ℕ) (cs : List Change) (c : Change) → AreWithin n cs → c.thing < n → SourceWithin n c.source → AreWithin n (cs ++ c ∷ [])
 push n [] c h a b = (a, b, tt)

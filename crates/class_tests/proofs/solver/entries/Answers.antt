@@ -1,6 +1,6 @@
 use Rattle.std.proofs.Common.{refl, subst, ℕ}
 use Rattle.class_solver.specs.Hands.{AreSoundFlows}
-use Rattle.class_solver_tests.proofs.tests.entries.Goals as goal
+use Rattle.class_tests.proofs.solver.entries.Goals as goal
 
 pub solve-requires-clause-sound : goal.solve-requires-clause-sound
 solve-requires-clause-sound c =

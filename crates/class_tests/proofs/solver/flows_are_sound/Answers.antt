@@ -3,7 +3,7 @@ use Rattle.std.specs.Prelude.{slice_get, slice_index_or, nat_lt, Contains}
 use Rattle.std.proofs.lemmas.Option.{slice_get_within, slice_get-get_or}
 use Rattle.class_solver.specs.declared.flow.Flow.{Flow}
 use Rattle.class_solver.specs.Joining.{AreWithin}
-use Rattle.class_solver_tests.proofs.tests.flows_are_sound.Goals as goal
+use Rattle.class_tests.proofs.solver.flows_are_sound.Goals as goal
 
 abbrev Sound : ℕ → ℕ → Flow → Type 0
 Sound n blocks f = AreWithin n f.changes × ((c : ℕ) → Contains f.ways c → c < blocks)

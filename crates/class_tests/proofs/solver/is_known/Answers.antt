@@ -3,7 +3,7 @@ use Rattle.std.specs.Prelude.{slice_index, slice_index_or, nat_lt}
 use Rattle.std.proofs.lemmas.List.{get_or_past}
 use Rattle.class_entries.specs.declared.entry.BlockEntry.{BlockEntry}
 use Rattle.class_solver.specs.Joining.{IsKnown}
-use Rattle.class_solver_tests.proofs.tests.is_known.Goals as goal
+use Rattle.class_tests.proofs.solver.is_known.Goals as goal
 
 abbrev Possible : List ℕ → List Bool → ℕ → Type 0
 Possible cs gs j = (slice_index cs j ≤ length cs) × (slice_index cs j ≡ 0 → slice_index_or gs j false ≡ false)

@@ -1,7 +1,7 @@
 use Rattle.std.proofs.Common.{◌≡◌, ◌+◌, ◌<◌, ◌≤◌, ℕ, List, length, Bool, true, false, refl, sym, ap, ◌∙◌, subst, arith, ltb-true, ltb-false}
 use Rattle.std.specs.Prelude.{slice_index_or, nat_lt, Contains}
 use Rattle.std.proofs.lemmas.List.{get_or_default}
-use Rattle.class_solver_tests.proofs.tests.ways_are_within.Goals as goal
+use Rattle.class_tests.proofs.solver.ways_are_within.Goals as goal
 
 more : (xs : List ℕ) (n i : ℕ) → i < length xs → slice_index_or xs i 0 < n → ((k d : ℕ) → k < i → slice_index_or xs k d < n) → (k d : ℕ) → k < i + 1
     → slice_index_or xs k d < n

@@ -8,7 +8,7 @@ use Rattle.follow_law.specs.Change.{Change, change}
 use Rattle.follow_law.specs.Rule.{IsNow}
 use Rattle.follow_law.specs.Causes.{Comes, begins, goes_on, IsDefinition, IsWrong, removed, unnamed, unset, overwritten}
 use Rattle.follow_law.specs.Nops.{nop_rule}
-use Rattle.follow_law.proofs.tests.nothing_is_wrong_without_a_change.Goals as goal
+use Rattle.follow_law_tests.proofs.tests.nothing_is_wrong_without_a_change.Goals as goal
 
 -- a path that begins nowhere leads nowhere
 nowhere : {f : Program} {B S : Pos → Type 0} (q : Pos) → ((p : Pos) → B p → ⊥) → Comes f B S q → ⊥

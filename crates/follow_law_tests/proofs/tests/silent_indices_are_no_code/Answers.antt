@@ -11,7 +11,7 @@ use Rattle.mir_func.specs.declared.item.Item.{Item}
 use Rattle.mir_func.specs.declared.item.ItemKind.TheVariants.{Code}
 use Rattle.mir_func.specs.Function.{Function}
 use Rattle.mir_func.specs.Sound.{items_of}
-use Rattle.follow_law.proofs.tests.silent_indices_are_no_code.Goals as goal
+use Rattle.follow_law_tests.proofs.tests.silent_indices_are_no_code.Goals as goal
 
 abbrev nop : Item
 nop = record {
