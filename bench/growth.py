@@ -5,6 +5,7 @@
   bench/growth.py compile  crates/mirdwarf/out/mirdwarf, on functions of 1,000 to 8,000 items
   bench/growth.py read     crates/mirdwarf_reading/out/mirdwarf_reading, on functions, blocks, functions of a text and keys of an entry
   bench/growth.py layout   crates/mirdwarf_layout/out/mirdwarf_layout over crates/mirdwarf_reading/out/mirdwarf_reading, on items, blocks and slots
+  bench/growth.py locations crates/mirdwarf_locations/out/mirdwarf_locations over crates/mirdwarf_reading/out/mirdwarf_reading, on blocks, items and variables
   bench/growth.py sections crates/mirdwarf_sections/out/mirdwarf_sections, on sections of 1,000 to 8,000 parts
 
 Build the program first by `rt run` in its crate's folder. Each line has the input's size, the count and its growth.
@@ -69,6 +70,36 @@ def slots(number):
     entries = b"".join(b"  - { id: %d, size: 8 }\n" % n for n in range(number))
     lines = b"".join(b"    SD $x10, %%stack.%d, 0\n    $x11 = LD %%stack.%d, 0\n" % (n % number, (n * 7) % number) for n in range(4000))
     return b"---\nname: f\nstack:\n" + entries + b"body: |\n  bb.0:\n" + lines + b"    PseudoRET\n...\n"
+
+
+def located(blocks, items, variables):
+    """A function of so many blocks and items over so many variables and 64 slots. Some blocks end with a branch up, some with one down."""
+    registers = (5, 6, 7, 8, 9, 10, 11, 12, 13, 14, 15, 18, 19, 20, 21, 28)
+    entries = b"".join(b"  - { id: %d, size: 8 }\n" % n for n in range(64))
+    lines, number, marks = [], 0, 0
+    for block in range(blocks):
+        lines.append(b"  bb.%d:\n" % block)
+        for n in range(items * block // blocks, items * (block + 1) // blocks - 1):
+            to, one, other = (registers[(n * step + n // 16) % 16] for step in (3, 5, 7))
+            variable, slot, kind = 4 + marks % variables, n * 11 % 64, (n + n // 8) % 8
+            if kind < 2 and number < 4096:
+                number += 1
+                lines.append(b"    $x%d = ADD $x%d, $x%d, debug-instr-number %d\n" % (to, one, other, number))
+            elif kind < 4 and number:
+                marks += 1
+                lines.append(b"    DBG_INSTR_REF !%d, !DIExpression(DW_OP_LLVM_arg, 0), dbg-instr-ref(%d, 0)\n" % (variable, number))
+            elif kind == 4:
+                marks += 1
+                lines.append(b"    DBG_VALUE $x%d, $noreg, !%d, !DIExpression()\n" % (one, variable))
+            elif kind == 5:
+                lines.append(b"    SD $x%d, %%stack.%d, 0\n" % (one, slot))
+            elif kind == 6:
+                lines.append(b"    $x%d = LD %%stack.%d, 0\n" % (to, slot))
+            else:
+                lines.append(b"    $x%d = COPY $x%d\n" % (to, one))
+        to = max(0, block - 1 - block % 7) if block % 3 == 0 else min(blocks - 1, block + 1 + block % 5)
+        lines.append(b"    BNE $x10, $x11, %%bb.%d\n" % to if block < blocks - 1 else b"    PseudoRET\n")
+    return b"---\nname: f\nstack:\n" + entries + b"body: |\n" + b"".join(lines) + b"...\n"
 
 
 def functions(number):
@@ -138,6 +169,12 @@ def main():
         over("one block, by items", program, base, (1000, 2000, 4000, 8000), one_block)
         over("one function, by blocks of eight items", program, base, (128, 256, 512, 1024), blocks)
         over("8,001 items, by slots", program, base, (28, 56, 112, 224), slots)
+    elif what == ["locations"]:
+        program, base = "crates/mirdwarf_locations/out/mirdwarf_locations", "crates/mirdwarf_reading/out/mirdwarf_reading"
+        over("8,192 items, 256 variables, by blocks", program, base, (64, 128, 256, 512, 1024), lambda n: located(n, 8192, 256))
+        over("one block, 256 variables, by items", program, base, (1024, 2048, 4096, 8192), lambda n: located(1, n, 256))
+        over("1,024 blocks, 256 variables, by items", program, base, (2048, 4096, 8192), lambda n: located(1024, n, 256))
+        over("1,024 blocks of eight items, by variables", program, base, (16, 32, 64, 128, 256, 512, 1024), lambda n: located(1024, 8192, n))
     elif what == ["sections"]:
         for kind, steps in SECTIONS.items():
             for step, (call, before) in steps.items():
