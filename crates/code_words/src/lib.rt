@@ -9,7 +9,7 @@ pub mod code;
 mod entries;
 pub mod laws;
 pub mod layout;
-mod objects;
+pub mod objects;
 mod plan;
 mod rounds;
 mod span;

@@ -1,0 +1,5 @@
+pub mod Variables
+pub mod Listing
+pub mod Printable
+pub mod Laws
+pub mod steps

@@ -1,0 +1,11 @@
+//! The listing of a function that is laid out: its lines, by the entries of its code, and the lines of its variables.
+#![tactic(auto)]
+
+mod branch;
+pub mod laws;
+mod lines;
+pub mod listing;
+mod lowered;
+#[cfg(test)]
+mod tests;
+pub mod variables;
