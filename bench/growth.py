@@ -4,6 +4,7 @@
   bench/growth.py lex      crates/mirdwarf_bench/out/mirdwarf_bench, on texts of 1, 2 and 4 MiB
   bench/growth.py compile  crates/mirdwarf/out/mirdwarf, on functions of 1,000 to 8,000 items
   bench/growth.py read     crates/mirdwarf_reading/out/mirdwarf_reading, on functions, blocks, functions of a text and keys of an entry
+  bench/growth.py strip    crates/mirdwarf/out/mirdwarf, on functions of 1,024 blocks and 8,192 items, with its peak memory
   bench/growth.py layout   crates/mirdwarf_layout/out/mirdwarf_layout over crates/mirdwarf_reading/out/mirdwarf_reading, on items, blocks and slots
   bench/growth.py locations crates/mirdwarf_locations/out/mirdwarf_locations over crates/mirdwarf_reading/out/mirdwarf_reading, on blocks, items and variables
   bench/growth.py sections crates/mirdwarf_sections/out/mirdwarf_sections, on sections of 1,000 to 8,000 parts
@@ -106,6 +107,37 @@ def functions(number):
     return b"".join(blocks(16).replace(b"name: f", b"name: f%d" % n) for n in range(number))
 
 
+def metadata():
+    """64 locations from !10 on, and 1,024 variables from !100 on."""
+    lines = [b"  !%d = !DILocation(line: %d, column: %d, scope: !3)\n" % (10 + n, n + 2, n % 40 + 1) for n in range(64)]
+    lines.extend(b"  !%d = !DILocalVariable(name: \"v%d\", scope: !3, file: !1, line: %d, type: !2)\n" % (100 + n, n, n + 1) for n in range(1024))
+    return b"--- |\n" + b"".join(lines) + b"...\n"
+
+
+def debug_blocks():
+    """1,024 blocks of eight items: a numbered sum and its mark, marks of a register and of a constant, a phi, and accesses of 224 slots."""
+    lines = []
+    for n in range(1024):
+        a, b, c = (5 + (n + k) % 3 for k in range(3))
+        at = b", debug-location !%d\n" % (10 + n % 64)
+        lines.append(b"  bb.%d:\n" % n)
+        lines.append(b"    $x%d = ADD $x%d, $x%d, debug-instr-number %d" % (a, b, c, n + 1) + at)
+        lines.append(b"    DBG_INSTR_REF !%d, !DIExpression(DW_OP_LLVM_arg, 0), dbg-instr-ref(%d, 0)" % (100 + n, n + 1) + at)
+        lines.append(b"    DBG_VALUE $x%d, $noreg, !%d, !DIExpression()" % (b, 100 + n * 7 % 1024) + at)
+        lines.append(b"    DBG_VALUE %d, $noreg, !%d, !DIExpression()" % (n % 100, 100 + n * 5 % 1024) + at)
+        lines.append(b"    DBG_PHI $x%d, %d\n" % (c, 1025 + n))
+        lines.append(b"    SD $x%d, %%stack.%d, 0" % (a, n % 224) + at)
+        lines.append(b"    $x%d = LD %%stack.%d, 0" % (b, n * 3 % 224) + at)
+        lines.append((b"    BEQ $x%d, $x0, %%bb.%d" % (c, n // 2) if n < 1023 else b"    PseudoRET implicit $x10") + at)
+    return b"".join(lines)
+
+
+def large_functions(number):
+    slots = b"".join(b"  - { id: %d, size: 8 }\n" % n for n in range(224))
+    body = b"stack:\n" + slots + b"body: |\n" + debug_blocks() + b"...\n"
+    return metadata() + b"".join(b"---\nname: f%d\n" % n + body for n in range(number))
+
+
 def entry_keys(number):
     keys = b", ".join(b"k%d: 1" % n for n in range(number))
     return b"---\nname: f\nstack:\n  - { id: 0, size: 8, " + keys + b" }\nbody: |\n  bb.0:\n    PseudoRET\n...\n"
@@ -118,6 +150,25 @@ def table(name, program, words, sizes, make):
         instructions = count(os.path.join(TOP, program), words, make(size))
         print("  %9d  %13d  %s" % (size, instructions, "%.3f" % (instructions / before) if before else ""))
         before = instructions
+
+
+def by_bytes(name, program, words, sizes, make):
+    """A table with the bytes of each input, the instructions for each of them, and the peak of memory."""
+    program = os.path.join(TOP, program)
+    print(name)
+    before = None
+    for size in sizes:
+        text = make(size)
+        instructions = count(program, words, text)
+        growth = "%.3f" % (instructions / before) if before else ""
+        print("  %9d  %9d bytes  %13d  %d a byte  %d KiB  %s" % (size, len(text), instructions, instructions // len(text), peak(program, words, text), growth))
+        before = instructions
+
+
+def peak(program, words, text):
+    """The greatest memory of a run, in KiB."""
+    run = subprocess.run(["/usr/bin/time", "-f", "%M", program, *words], input=text, stdout=subprocess.DEVNULL, stderr=subprocess.PIPE)
+    return int(run.stderr.split()[-1])
 
 
 def over(name, program, base, sizes, make):
@@ -164,6 +215,8 @@ def main():
         table("functions of sixteen blocks, by functions", program, [], (32, 64, 128, 256), functions)
         table("one long line, by bytes", program, [], [n << 18 for n in (1, 2, 4)], one_long_line)
         table("one stack entry, by its keys", program, [], (500, 1000, 2000, 4000), entry_keys)
+    elif what == ["strip"]:
+        by_bytes("functions of 1,024 blocks, by functions", "crates/mirdwarf/out/mirdwarf", ["strip"], (1, 2, 4, 8, 16), large_functions)
     elif what == ["layout"]:
         program, base = "crates/mirdwarf_layout/out/mirdwarf_layout", "crates/mirdwarf_reading/out/mirdwarf_reading"
         over("one block, by items", program, base, (1000, 2000, 4000, 8000), one_block)

@@ -2,10 +2,11 @@
 //! the contract of the call that it makes; no contract can say what the host gives and takes.
 #![tactic(auto)]
 
+use command_line::fault::Fault;
 use io_edge::std_sink::StdSink;
 use io_edge::std_source::StdSource;
-use mirdwarf_tool::driver::{mirdwarf, tell};
-use mirdwarf_tool::fault::Fault;
+use mirdwarf_tool::driver::mirdwarf;
+use mirdwarf_tool::telling::tell;
 use std::io::Write;
 use std::process::ExitCode;
 use std::{env, io};

@@ -1,5 +1,5 @@
--- A function that a text in the first form stands for has one block of plain items.
-use Rattle.std.specs.Prelude.{Some, None, IsSome, if◌then◌else◌, pos, All, Bool, true, false, ◌&&◌, ◌||◌, nat_eq, nat_lt}
+-- The items of a block that is compiled today are plain.
+use Rattle.std.specs.Prelude.{Option, Some, None, IsSome, if◌then◌else◌, pos, All, Bool, true, false, ◌&&◌, ◌||◌, nat_eq, nat_lt}
 use Rattle.std.specs.List.{list_all, list_any}
 use Rattle.std.proofs.Common.{◌≡◌, ℕ, zero, suc, ◌<◌, List, [], ◌∷◌, length, arith, ap, sym, ◌∙◌, refl, inl, inr}
 use Rattle.std.proofs.lemmas.Bool.Decides.{nat_tests, eqb_tells}
@@ -14,26 +14,16 @@ use Rattle.rv64_word.specs.declared.machine_op.MachineOp.{MachineOp}
 use Rattle.rv64_word.specs.declared.word_op.WordOp.TheVariants.{Registers, Immediate}
 use Rattle.rv64_word.specs.MachineOp.{is_encodable}
 use Rattle.rv64_word.specs.Lowering.{in_range, machine_op}
+use Rattle.mir_func.specs.Parts.{Bytes}
+use Rattle.mir_printer.specs.Printable.{inlined_at}
 use Rattle.mir_meaning.specs.Step.{defined}
-use Rattle.first_form.specs.declared.line.Line.{Line}
-use Rattle.first_form.specs.declared.line.Statement.{Statement}
-use Rattle.first_form.specs.declared.line.Statement.TheVariants.{AddImmediate, Add, Value, Reference, Return}
-use Rattle.first_form.specs.FirstForm.{is_allowed, is_target, is_source, is_immediate, is_small_or_none, kind_of, items_from, item_of}
+use Rattle.mirdwarf_tool.specs.Built.{is_target, is_source, is_immediate, is_small_or_none, is_built_variable, is_built_value, is_no_part}
+use Rattle.mirdwarf_tool.specs.Built.{is_small, is_same_node, is_built_loc}
+use Rattle.mirdwarf_tool.proofs.Statements.{Statement, Line, AddImmediate, Add, Assign, Return, is_allowed, is_fit, kind_of, items_from, item_of}
+use Rattle.mirdwarf_tool.proofs.Statements.{both_left, both_right, both}
 use Rattle.code_layout.specs.Headline.{KEPT}
 use Rattle.code_layout.specs.Straight.{IsSpare}
 use Rattle.block_lists.specs.Code.{IsPlain, IsPlainKind, IsLaidOutRow, DefinesFirst}
-
-pub both_left : (a b : Bool) → (a && b) ≡ true → a ≡ true
-both_left true b e = refl
-both_left false b e = cc
-
-pub both_right : (a b : Bool) → (a && b) ≡ true → b ≡ true
-both_right true b e = e
-both_right false b e = cc
-
-both : (a b : Bool) → a ≡ true → b ≡ true → (a && b) ≡ true
-both true b h e = e
-both false b h e = cc
 
 target_below : (r : ℕ) → is_target r ≡ true → r < 32
 target_below r h = grind (arith, nat_tests)
@@ -79,8 +69,12 @@ by_test false m e = cc
 has_word : (m : MachineOp) → is_encodable m ≡ true → IsSome (in_range m)
 has_word m e = by_test (is_encodable m) m e
 
-pub plain_kind : (s : Statement) → is_allowed s ≡ true → IsPlainKind (kind_of s)
-plain_kind (AddImmediate to from i k) h =
+no_part : (f : Option Bytes) → is_no_part f ≡ true → f ≡ None
+no_part None h = refl
+no_part (Some b) h = absurd cc
+
+pub plain_kind : (inlined : Option ℕ) (s : Statement) → is_allowed inlined s ≡ true → IsPlainKind (kind_of s)
+plain_kind inlined (AddImmediate to from i k) h =
     let front = both_left (is_target to && is_source from && is_immediate i) (is_small_or_none k) h in
     let registers = both_left (is_target to && is_source from) (is_immediate i) front in
     let target = both_left (is_target to) (is_source from) registers in
@@ -94,7 +88,7 @@ plain_kind (AddImmediate to from i k) h =
       add_row to from (word i) to_below (target_spare to target) from_below,
       three (Def to) (Use from) (Imm i) refl refl,
     )
-plain_kind (Add to left right k) h =
+plain_kind inlined (Add to left right k) h =
     let front = both_left (is_target to && is_source left && is_source right) (is_small_or_none k) h in
     let two = both_left (is_target to && is_source left) (is_source right) front in
     let target = both_left (is_target to) (is_source left) two in
@@ -108,17 +102,19 @@ plain_kind (Add to left right k) h =
       (to_below, target_spare to target),
       three (Def to) (Use left) (Use right) refl refl,
     )
-plain_kind (Value r v) h = refl
-plain_kind (Reference v k o) h = refl
-plain_kind (Return None) h = (refl, tt, λ o. refl)
-plain_kind (Return (Some r)) h = (refl, tt, λ o. refl)
+plain_kind inlined (Assign v m) h = no_part v.fragment (both_left (is_no_part v.fragment) (is_small v.node)
+    (both_left (is_no_part v.fragment && is_small v.node) (is_same_node v.inlined_at inlined)
+    (both_left (is_no_part v.fragment && is_small v.node && is_same_node v.inlined_at inlined) (is_small_or_none v.inlined_at)
+    (both_left (is_built_variable inlined v) (is_built_value m) h))))
+plain_kind inlined (Return None k) h = (refl, tt, λ o. refl)
+plain_kind inlined (Return (Some r) k) h = (refl, tt, λ o. refl)
 
-pub plain_items : (n : ℕ) (lines : List Line) → list_all (λ l. is_allowed l.statement) lines ≡ true → All IsPlain (items_from n lines)
-plain_items n [] h = All-nil IsPlain
-plain_items n (l ∷ ls) h =
-    All-cons IsPlain (item_of n l) (items_from (suc n) ls) (plain_kind l.statement
-    (both_left (is_allowed l.statement) (list_all (λ l. is_allowed l.statement) ls) h))
-    (plain_items (suc n) ls (both_right (is_allowed l.statement) (list_all (λ l. is_allowed l.statement) ls) h))
+pub plain_items : (inlined : ℕ → Option ℕ) (n : ℕ) (lines : List Line) → list_all (is_fit inlined) lines ≡ true → All IsPlain (items_from n lines)
+plain_items inlined n [] h = All-nil IsPlain
+plain_items inlined n (l ∷ ls) h =
+    All-cons IsPlain (item_of n l) (items_from (suc n) ls) (plain_kind (inlined_at inlined l.loc) l.statement
+    (both_left (is_allowed (inlined_at inlined l.loc) l.statement) (is_built_loc l.loc) (both_left (is_fit inlined l) (list_all (is_fit inlined) ls) h)))
+    (plain_items inlined (suc n) ls (both_right (is_fit inlined l) (list_all (is_fit inlined) ls) h))
 
 pub length-items_from : (n : ℕ) (lines : List Line) → length (items_from n lines) ≡ length lines
 length-items_from n [] = refl

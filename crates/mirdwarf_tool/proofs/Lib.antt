@@ -1,8 +1,12 @@
+pub mod Statements
 pub mod FirstLemmas
 pub mod StraightLemmas
 pub mod PrintableLemmas
+pub mod Pieces
+pub mod OneProgram
+pub mod AnswerLemmas
 pub mod RunLemmas
-pub mod VariablesLemmas
+pub mod OneBlockLemmas
 pub mod ListingLemmas
 pub mod PromiseLemmas
 pub mod FrameLemmas

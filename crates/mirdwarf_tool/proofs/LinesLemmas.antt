@@ -42,11 +42,12 @@ lines_same a (i ∷ items) =
     ap (λ (t : List CodeLine). t ++ flat_map line_shown (listed_items (cond (is_code i.kind) (a + 4) a) items)) (line_same a i.origin i.kind)
     ∙ ap (λ (t : List CodeLine). line_of (Some a) i.origin i.kind ++ t) (lines_same (cond (is_code i.kind) (a + 4) a) items)
 
-abbrev pub listing : (name : List ℕ) → Block → ListedFunction
-listing name block = listing_of name (length (code_of block.items)) (variables_of [] block.items) block
+abbrev pub listing : (names : ℕ → List ℕ) (name : List ℕ) → Block → ListedFunction
+listing names name block = listing_of names name (length (code_of block.items)) (variables_of [] block.items) block
 
-pub image_same : (name : List ℕ) (block : Block) (lists : List (List Range)) → image_of (output_of name block lists) (listing name block) ≡ block_image block
-image_same name block lists =
+pub image_same : (names : ℕ → List ℕ) (name : List ℕ) (block : Block) (lists : List (List Range)) →
+    image_of (output_of names name block lists) (listing names name block) ≡ block_image block
+image_same names name block lists =
     let lines : flat_map line_shown (listed_items 0 block.items ++ []) ≡ straight.lines_of 0 block.items =
     ap (flat_map line_shown) (append-nil (listed_items 0 block.items)) ∙ lines_same 0 block.items in
     λ k. record { text = code_of block.items; low = 0; area = 0; lines = lines k }
@@ -149,9 +150,9 @@ lines_lie (marks {i = i} {items = items} {words = words} {v = v} {m = m} kind re
     (λ (x : ItemKind). cond (is_code x) (a + 4) a + length (flat_map (to_le_bytes w32) words)) (sym kind)))
 
 -- a block is laid out so
-pub block_laid_out : (name : List ℕ) (block : Block) → IsStraightImage block (block_image block) → LinesLie 0 (lines_of (listing name block))
-    (length (code_of block.items))
-block_laid_out name block is =
+pub block_laid_out : (names : ℕ → List ℕ) (name : List ℕ) (block : Block) → IsStraightImage block (block_image block) →
+    LinesLie 0 (lines_of (listing names name block)) (length (code_of block.items))
+block_laid_out names name block is =
     let end : length (code_of block.items) ≡ length (flat_map (to_le_bytes w32) is.words) = ap length is.text in
     subst (λ (ls : List ItemLine). LinesLie 0 ls (length (code_of block.items))) (sym (append-nil (listed_items 0 block.items)))
     (lines_lie is.straight 0 (length (code_of block.items)) (omega (arith, end)))
@@ -160,16 +161,16 @@ no_line : (n : ℕ) (l : ItemLine) → slice_get [] n ≡ Some l → ⊥
 no_line n l e = cc
 
 -- a line stands in the one block
-in_block : (name : List ℕ) (block : Block) (b n : ℕ) (lb : ListedBlock) (l : ItemLine) → slice_get (blocks_of (listing name block)) b ≡ Some lb →
-    slice_get lb.lines n ≡ Some l →
+in_block : (names : ℕ → List ℕ) (name : List ℕ) (block : Block) (b n : ℕ) (lb : ListedBlock) (l : ItemLine) →
+    slice_get (blocks_of (listing names name block)) b ≡ Some lb → slice_get lb.lines n ≡ Some l →
     (b ≡ 1) × (slice_get (listed_items 0 block.items) n ≡ Some l)
-in_block name block zero n lb l e within =
+in_block names name block zero n lb l e within =
     let same : record { id = block.id; lines = [] } ≡ lb = cc in
     absurd (no_line n l (ap (λ (x : ListedBlock). slice_get x.lines n) same ∙ within))
-in_block name block (suc zero) n lb l e within =
+in_block names name block (suc zero) n lb l e within =
     let same : record { id = block.id; lines = listed_items 0 block.items } ≡ lb = cc in
     (refl, ap (λ (x : ListedBlock). slice_get x.lines n) same ∙ within)
-in_block name block (suc (suc b)) n lb l e within = absurd cc
+in_block names name block (suc (suc b)) n lb l e within = absurd cc
 
 -- a byte of a word is one of its four
 in_word : (k : ItemKind) (a x : ℕ) → is_code k ≡ true → past_item a k ≡ cond (is_code k) (a + 4) a → x < past_item a k → x < a + 4
@@ -192,10 +193,10 @@ items_long (marks {i = i} kind rest) zero a j at =
     (subst (λ (x : ItemKind). past_item a x ≡ cond (is_code x) (a + 4) a) (sym kind) refl)
 items_long (marks kind rest) (suc m) a j at = items_long rest m a j at
 
-pub point_of : (name : List ℕ) (block : Block) → IsStraightImage block (block_image block) → (a : ℕ) (p : Pos) → IsListedAt (listing name block) a p →
-    IsPointOf 1 block.items a p
-point_of name block is a p at =
-    let place = in_block name block p.block p.item at.block at.line at.stands at.listed in
+pub point_of : (names : ℕ → List ℕ) (name : List ℕ) (block : Block) → IsStraightImage block (block_image block) →
+    (a : ℕ) (p : Pos) → IsListedAt (listing names name block) a p → IsPointOf 1 block.items a p
+point_of names name block is a p at =
+    let place = in_block names name block p.block p.item at.block at.line at.stands at.listed in
     let found = has_item block.items 0 p.item at.first at.line place.1 at.begins in
     let long = items_long is.straight p.item at.first found.item found.stands in
     let within = subst (λ (k : ItemKind). a < past_item at.first k) found.kind at.within in
@@ -211,14 +212,14 @@ point_of name block is a p at =
     }
 
 -- and back
-pub listed_at : (name : List ℕ) (block : Block) → IsStraightImage block (block_image block) → (a : ℕ) (p : Pos) → IsPointOf 1 block.items a p →
-    IsListedAt (listing name block) a p
-listed_at name block is a p point =
+pub listed_at : (names : ℕ → List ℕ) (name : List ℕ) (block : Block) → IsStraightImage block (block_image block) →
+    (a : ℕ) (p : Pos) → IsPointOf 1 block.items a p → IsListedAt (listing names name block) a p
+listed_at names name block is a p point =
     let line = line_listed block.items 0 point.number point.item point.stands point.code in
     let long = items_long is.straight point.number (address_at 0 block.items point.number) point.item point.stands in
     let end : past_item (address_at 0 block.items point.number) point.item.kind ≡ address_at 0 block.items point.number + 4 =
     long ∙ ap (λ (b : Bool). cond b (address_at 0 block.items point.number + 4) (address_at 0 block.items point.number)) point.code in
-    let at : IsListedAt (listing name block) a (record { block = 1; item = point.number }) = record {
+    let at : IsListedAt (listing names name block) a (record { block = 1; item = point.number }) = record {
       block = record { id = block.id; lines = listed_items 0 block.items };
       line = record { address = Some (address_at 0 block.items point.number); item = point.item };
       first = address_at 0 block.items point.number;
@@ -228,4 +229,4 @@ listed_at name block is a p point =
       from = point.from;
       within = omega (arith, point.within, end);
     } in
-    subst (IsListedAt (listing name block) a) (sym point.position) at
+    subst (IsListedAt (listing names name block) a) (sym point.position) at

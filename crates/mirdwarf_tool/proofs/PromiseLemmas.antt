@@ -25,7 +25,7 @@ use Rattle.dwarf_loclists.proofs.OneReading.{entered, spelling_one}
 use Rattle.code_layout.specs.Straight.{Holds, GiveHeldAt, GiveHeld}
 use Rattle.code_layout.specs.Exact.{IsFirst, GiveFirstIf, GiveFirst}
 use Rattle.output_text.specs.Output.{ListedVariable, Output}
-use Rattle.mirdwarf_tool.specs.Listing.{variable_name, listed_variables, listing_of, output_with}
+use Rattle.mirdwarf_tool.specs.Listing.{variable_lines, listing_of, output_with}
 use Rattle.block_lists.specs.Code.{IsPlain}
 use Rattle.block_lists.specs.Ranges.{IsOfWhole}
 use Rattle.block_lists.specs.Variables.{whole, IsWhole, variables_of}
@@ -191,27 +191,27 @@ has_list (x ∷ vs) (r ∷ lists) zero v each e = record { ranges = r; at = refl
 has_list (x ∷ vs) (r ∷ lists) (suc k) v each e = let more = has_list vs lists k v (omega (arith, each)) e in record { ranges = more.ranges; at = more.at }
 
 -- the line of a variable, and back
-line_at : (vs : List VarId) (j k : ℕ) (v : VarId) → slice_get vs k ≡ Some v → slice_get (listed_variables j vs) k ≡ Some
-    (record { list = j + k; variable = v; name = variable_name v.node })
-line_at [] j k v e = absurd cc
-line_at (x ∷ vs) j zero v e =
+line_at : (names : ℕ → List ℕ) (vs : List VarId) (j k : ℕ) (v : VarId) → slice_get vs k ≡ Some v → slice_get (variable_lines names j vs) k ≡ Some
+    (record { list = j + k; variable = v; name = names v.node })
+line_at names [] j k v e = absurd cc
+line_at names (x ∷ vs) j zero v e =
     let same : x ≡ v = cc in
     let at : j ≡ j + 0 = omega arith in
-    ap (λ (y : VarId). Some (record { list = j; variable = y; name = variable_name y.node })) same
-    ∙ ap (λ (n : ℕ). Some (record { list = n; variable = v; name = variable_name v.node })) at
-line_at (x ∷ vs) j (suc k) v e =
+    ap (λ (y : VarId). Some (record { list = j; variable = y; name = names y.node })) same
+    ∙ ap (λ (n : ℕ). Some (record { list = n; variable = v; name = names v.node })) at
+line_at names (x ∷ vs) j (suc k) v e =
     let at : (j + 1) + k ≡ j + suc k = omega arith in
-    line_at vs (j + 1) k v e ∙ ap (λ (n : ℕ). Some (record { list = n; variable = v; name = variable_name v.node })) at
+    line_at names vs (j + 1) k v e ∙ ap (λ (n : ℕ). Some (record { list = n; variable = v; name = names v.node })) at
 
-variable_at : (vs : List VarId) (j k : ℕ) (line : ListedVariable) → slice_get (listed_variables j vs) k ≡ Some line →
+variable_at : (names : ℕ → List ℕ) (vs : List VarId) (j k : ℕ) (line : ListedVariable) → slice_get (variable_lines names j vs) k ≡ Some line →
     (slice_get vs k ≡ Some line.variable) × (line.list ≡ j + k)
-variable_at [] j k line e = absurd cc
-variable_at (x ∷ vs) j zero line e =
-    let same : record { list = j; variable = x; name = variable_name x.node } ≡ line = cc in
+variable_at names [] j k line e = absurd cc
+variable_at names (x ∷ vs) j zero line e =
+    let same : record { list = j; variable = x; name = names x.node } ≡ line = cc in
     let at : j ≡ j + 0 = omega arith in
     (ap (λ (l : ListedVariable). Some l.variable) same, sym (ap (λ (l : ListedVariable). l.list) same) ∙ at)
-variable_at (x ∷ vs) j (suc k) line e =
-    let found = variable_at vs (j + 1) k line e in
+variable_at names (x ∷ vs) j (suc k) line e =
+    let found = variable_at names vs (j + 1) k line e in
     let at : (j + 1) + k ≡ j + suc k = omega arith in
     (found.0, found.1 ∙ at)
 
@@ -238,16 +238,16 @@ no_part (r ∷ ranges) x n part whole e = by (nat_le r.lo x && nat_lt x r.hi) (n
 
 -- ---- the variables of a block along its walk
 
-module _ (name code : List ℕ) (block : Block) (lists : List (List Range)) (plain : All IsPlain block.items) (are : AreLists block.items lists)
-    (section : IsSection (spelling lists) lists) where
+module _ (names : ℕ → List ℕ) (name code : List ℕ) (block : Block) (lists : List (List Range)) (plain : All IsPlain block.items)
+    (are : AreLists block.items lists) (section : IsSection (spelling lists) lists) where
   abbrev variables : List VarId
   variables = variables_of [] block.items
 
   abbrev output : Output
-  output = output_with name code (spelling lists) (variables_of [] block.items) block
+  output = output_with names name code (spelling lists) (variables_of [] block.items) block
 
   abbrev given : VarId → ℕ → Place → Type 0
-  given = Gives output (listing_of name (length code) (variables_of [] block.items) block)
+  given = Gives output (listing_of names name (length code) (variables_of [] block.items) block)
 
   -- the list that is given, with its number
   record ByNumber (v : VarId) (x : ℕ) (p : Place) : Type 0 where
@@ -257,10 +257,10 @@ module _ (name code : List ℕ) (block : Block) (lists : List (List Range)) (pla
     list : slice_get lists number ≡ Some ranges
     found : Some p ≡ place_in ranges x
 
-  by_place : (v : VarId) (x : ℕ) (p : Place) → IsWhole v → (g : Gives output (listing_of name (length code) (variables_of [] block.items) block) v x p) →
+  by_place : (v : VarId) (x : ℕ) (p : Place) → IsWhole v → (g : Gives output (listing_of names name (length code) (variables_of [] block.items) block) v x p) →
       PlaceAt (spelling lists) g.line.list x (Some p) → ByNumber v x p
   by_place v x p whole g place =
-      let at = variable_at variables 0 g.number g.line g.stands in
+      let at = variable_at names variables 0 g.number g.line g.stands in
       let zeroth : 0 + g.number ≡ g.number = omega arith in
       let there = place.located in
       let same : there.lists ≡ lists = one_section (spelling lists) there.lists lists there.section section in
@@ -297,8 +297,8 @@ module _ (name code : List ℕ) (block : Block) (lists : List (List Range)) (pla
       let zeroth : 0 + k ≡ k = omega arith in
       record {
         number = k;
-        line = record { list = k; variable = v; name = variable_name v.node };
-        stands = line_at variables 0 k v named ∙ ap (λ (n : ℕ). Some (record { list = n; variable = v; name = variable_name v.node })) zeroth;
+        line = record { list = k; variable = v; name = names v.node };
+        stands = line_at names variables 0 k v named ∙ ap (λ (n : ℕ). Some (record { list = n; variable = v; name = names v.node })) zeroth;
         named = sym (is_whole v whole);
         given = subst (λ (f : Option Bytes). GivesPart (spelling lists) k x f p) (sym whole) (record {
           location = location_in ranges x;

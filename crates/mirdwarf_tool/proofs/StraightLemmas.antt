@@ -1,4 +1,4 @@
--- The items of a text in the first form run straight to their return.
+-- The items of a block that is compiled today run straight to their return.
 use Rattle.std.specs.Prelude.{Option, Some, None, IsSome, IfSome, IsTrue, pos, All, Bool, true, false, ◌&&◌, not, cond, nat_eq}
 use Rattle.std.specs.List.{flat_map, list_all}
 use Rattle.std.specs.Int.{w32, to_le_bytes}
@@ -17,23 +17,22 @@ use Rattle.rv64_word.specs.MachineOp.{is_encodable, word_of}
 use Rattle.rv64_word.specs.MachineRow.{Does, placed, at_offset}
 use Rattle.rv64_word.specs.Lowering.{in_range, machine_op}
 use Rattle.rv64_word.proofs.Words.{ActsAs, lowered_acts, lowered_fits}
+use Rattle.mir_printer.specs.Printable.{inlined_at}
 use Rattle.mir_func.specs.declared.location.Loc.{Loc}
 use Rattle.mir_func.specs.declared.position.Origin.TheVariants.{Kept}
 use Rattle.mir_func.specs.declared.item.Item.{Item}
 use Rattle.mir_func.specs.declared.item.ItemKind.{ItemKind}
 use Rattle.mir_func.specs.declared.item.ItemKind.TheVariants.{Code, Mark, Phi}
 use Rattle.mir_func.specs.declared.block.Block.{Block}
-use Rattle.first_form.specs.declared.line.Line.{Line}
-use Rattle.first_form.specs.declared.line.Statement.{Statement}
-use Rattle.first_form.specs.declared.line.Statement.TheVariants.{AddImmediate, Add, Value, Reference, Return}
-use Rattle.first_form.specs.FirstForm.{is_allowed, is_target, is_source, is_result, is_immediate, is_small_or_none, is_return, ends_in_return, kind_of}
-use Rattle.first_form.specs.FirstForm.{items_from, loc_of}
 use Rattle.code_layout.specs.MachineStep.{return_word}
 use Rattle.code_layout.specs.Straight.{IsSpare, IsStraight, IsStraightImage, IsWordOf, returns, goes_on, marks}
 use Rattle.code_layout.specs.Straight as straight
 use Rattle.block_lists.specs.Code.{code_bytes, code_of, operation_of, word_bytes}
 use Rattle.mirdwarf_tool.specs.Listing.{block_image}
-use Rattle.mirdwarf_tool.proofs.FirstLemmas.{both_left, both_right, source_below, target_spare, plain_kind}
+use Rattle.mirdwarf_tool.specs.Built.{is_target, is_source, is_result, is_immediate, is_small_or_none, is_built_loc}
+use Rattle.mirdwarf_tool.proofs.Statements.{Statement, Line, AddImmediate, Add, Assign, Return, is_allowed, is_fit, is_return, ends_in_return, kind_of}
+use Rattle.mirdwarf_tool.proofs.Statements.{items_from, both_left, both_right}
+use Rattle.mirdwarf_tool.proofs.FirstLemmas.{source_below, target_spare, plain_kind}
 
 abbrev word_in : Option MachineOp → List ℕ
 word_in None = []
@@ -105,59 +104,59 @@ physical : (b : Bool) (r : ℕ) → r < 32 → All (λ q. q < 32) (cond b [] (r 
 physical true r below = All-nil (λ (q : ℕ). q < 32)
 physical false r below = All-cons (λ (q : ℕ). q < 32) r [] below (All-nil (λ (q : ℕ). q < 32))
 
-straight_last : (n : ℕ) (s : Statement) (loc : Loc) → is_allowed s ≡ true → is_return s ≡ true → IsStraight 0 n (own n s loc ∷ []) (words_in (kind_of s) ++ [])
-straight_last n (Return None) loc h r =
-    subst (λ (w : ℕ). IsStraight 0 n (own n (Return None) loc ∷ []) (w ∷ [])) (sym return_spelled) (returns refl refl refl (All-nil (λ (q : ℕ). q < 32)))
-straight_last n (Return (Some x)) loc h r =
-    subst (λ (w : ℕ). IsStraight 0 n (own n (Return (Some x)) loc ∷ []) (w ∷ [])) (sym return_spelled)
-    (returns refl refl refl (physical (nat_eq x 2) x (result_below x h)))
-straight_last n (AddImmediate to from i k) loc h r = absurd cc
-straight_last n (Add to left right k) loc h r = absurd cc
-straight_last n (Value x v) loc h r = absurd cc
-straight_last n (Reference v k o) loc h r = absurd cc
+straight_last : (inlined : Option ℕ) (n : ℕ) (s : Statement) (loc : Loc) → is_allowed inlined s ≡ true → is_return s ≡ true →
+    IsStraight 0 n (own n s loc ∷ []) (words_in (kind_of s) ++ [])
+straight_last inlined n (Return None k) loc h r =
+    subst (λ (w : ℕ). IsStraight 0 n (own n (Return None k) loc ∷ []) (w ∷ [])) (sym return_spelled) (returns refl refl refl (All-nil (λ (q : ℕ). q < 32)))
+straight_last inlined n (Return (Some x) k) loc h r =
+    subst (λ (w : ℕ). IsStraight 0 n (own n (Return (Some x) k) loc ∷ []) (w ∷ [])) (sym return_spelled)
+    (returns refl refl refl (physical (nat_eq x 2) x (result_below x (both_left (is_result x) (is_small_or_none k) h))))
+straight_last inlined n (AddImmediate to from i k) loc h r = absurd cc
+straight_last inlined n (Add to left right k) loc h r = absurd cc
+straight_last inlined n (Assign v m) loc h r = absurd cc
 
-straight_next : (n : ℕ) (s : Statement) (loc : Loc) (items : List Item) (words : List ℕ) → is_allowed s ≡ true → not (is_return s) ≡ true → IsStraight 0
-    (suc n) items words
-    → IsStraight 0 n (own n s loc ∷ items) (words_in (kind_of s) ++ words)
-straight_next n (AddImmediate to from i k) loc items words h r rest =
+straight_next : (inlined : Option ℕ) (n : ℕ) (s : Statement) (loc : Loc) (items : List Item) (words : List ℕ) → is_allowed inlined s ≡ true →
+    not (is_return s) ≡ true → IsStraight 0 (suc n) items words → IsStraight 0 n (own n s loc ∷ items) (words_in (kind_of s) ++ words)
+straight_next inlined n (AddImmediate to from i k) loc items words h r rest =
     let front = both_left (is_target to && is_source from && is_immediate i) (is_small_or_none k) h in
     let registers = both_left (is_target to && is_source from) (is_immediate i) front in
     let spare = target_spare to (both_left (is_target to) (is_source from) registers) in
     let from_below = source_below from (both_right (is_target to) (is_source from) registers) in
-    let plain = plain_kind (AddImmediate to from i k) h in
+    let plain = plain_kind inlined (AddImmediate to from i k) h in
     on_word n (own n (AddImmediate to from i k) loc) (in_range (machine_op (word_op.Immediate Addi) to from 0 i)) items words refl refl refl plain.0
     (immediate_plain to from (word i) spare from_below) rest
-straight_next n (Add to left right k) loc items words h r rest =
+straight_next inlined n (Add to left right k) loc items words h r rest =
     let front = both_left (is_target to && is_source left && is_source right) (is_small_or_none k) h in
     let two = both_left (is_target to && is_source left) (is_source right) front in
     let spare = target_spare to (both_left (is_target to) (is_source left) two) in
     let left_below = source_below left (both_right (is_target to) (is_source left) two) in
     let right_below = source_below right (both_right (is_target to && is_source left) (is_source right) front) in
-    let plain = plain_kind (Add to left right k) h in
+    let plain = plain_kind inlined (Add to left right k) h in
     on_word n (own n (Add to left right k) loc) (in_range (machine_op (word_op.Registers Sum) to left right (pos 0))) items words refl refl refl plain.0
     (spare, left_below, right_below) rest
-straight_next n (Value x v) loc items words h r rest = marks refl rest
-straight_next n (Reference v k o) loc items words h r rest = marks refl rest
-straight_next n (Return x) loc items words h r rest = absurd cc
+straight_next inlined n (Assign v m) loc items words h r rest = marks refl rest
+straight_next inlined n (Return x k) loc items words h r rest = absurd cc
 
-straight_items : (n : ℕ) (lines : List Line) → list_all (λ l. is_allowed l.statement) lines ≡ true → ends_in_return lines ≡ true → IsStraight 0 n
-    (items_from n lines) (words_of (items_from n lines))
-straight_items n [] h ends = absurd cc
-straight_items n (l ∷ []) h ends = straight_last n l.statement (loc_of l.located) (both_left (is_allowed l.statement) true h) ends
-straight_items n (l ∷ m ∷ ls) h ends =
-    straight_next n l.statement (loc_of l.located) (items_from (suc n) (m ∷ ls)) (words_of (items_from (suc n) (m ∷ ls)))
-    (both_left (is_allowed l.statement) (list_all (λ l. is_allowed l.statement) (m ∷ ls)) h)
+straight_items : (inlined : ℕ → Option ℕ) (n : ℕ) (lines : List Line) → list_all (is_fit inlined) lines ≡ true → ends_in_return lines ≡ true →
+    IsStraight 0 n (items_from n lines) (words_of (items_from n lines))
+straight_items inlined n [] h ends = absurd cc
+straight_items inlined n (l ∷ []) h ends =
+    straight_last (inlined_at inlined l.loc) n l.statement l.loc
+    (both_left (is_allowed (inlined_at inlined l.loc) l.statement) (is_built_loc l.loc) (both_left (is_fit inlined l) true h)) ends
+straight_items inlined n (l ∷ m ∷ ls) h ends =
+    straight_next (inlined_at inlined l.loc) n l.statement l.loc (items_from (suc n) (m ∷ ls)) (words_of (items_from (suc n) (m ∷ ls)))
+    (both_left (is_allowed (inlined_at inlined l.loc) l.statement) (is_built_loc l.loc)
+    (both_left (is_fit inlined l) (list_all (is_fit inlined) (m ∷ ls)) h))
     (both_left (not (is_return l.statement)) (ends_in_return (m ∷ ls)) ends)
-    (straight_items (suc n) (m ∷ ls) (both_right (is_allowed l.statement) (list_all (λ l. is_allowed l.statement) (m ∷ ls)) h)
+    (straight_items inlined (suc n) (m ∷ ls) (both_right (is_fit inlined l) (list_all (is_fit inlined) (m ∷ ls)) h)
     (both_right (not (is_return l.statement)) (ends_in_return (m ∷ ls)) ends))
 
-pub straight_image : (lines : List Line) (block : Block) → block.id ≡ 0 → block.items ≡ items_from 0 lines → list_all
-    (λ l. is_allowed l.statement) lines ≡ true → ends_in_return lines ≡ true
-    → IsStraightImage block (block_image block)
-straight_image lines block id items h ends = record {
+pub straight_image : (inlined : ℕ → Option ℕ) (lines : List Line) (block : Block) → block.id ≡ 0 → block.items ≡ items_from 0 lines →
+    list_all (is_fit inlined) lines ≡ true → ends_in_return lines ≡ true → IsStraightImage block (block_image block)
+straight_image inlined lines block id items h ends = record {
   words = words_of block.items;
   straight = subst (λ (b : ℕ). IsStraight b 0 block.items (words_of block.items)) (sym id)
-      (subst (λ (xs : List Item). IsStraight 0 0 xs (words_of xs)) (sym items) (straight_items 0 lines h ends));
+      (subst (λ (xs : List Item). IsStraight 0 0 xs (words_of xs)) (sym items) (straight_items inlined 0 lines h ends));
   low = refl;
   area = refl;
   text = code_by_words block.items;

@@ -84,9 +84,9 @@ has_word text f a i (Some m) e some plain bytes = record {
   stands = bytes ∙ ap word_bytes e;
 }
 
-pub block_words : (name : List ℕ) (block : Block) (lists : List (List Range)) → All IsPlain block.items → HaveWordsOf (output_of name block lists)
-    (listing name block)
-block_words name block lists plain n l a i k at here kind =
+pub block_words : (names : ℕ → List ℕ) (name : List ℕ) (block : Block) (lists : List (List Range)) → All IsPlain block.items →
+    HaveWordsOf (output_of names name block lists) (listing names name block)
+block_words names name block lists plain n l a i k at here kind =
     let line : slice_get (listed_items 0 block.items) n ≡ Some l =
     ap (λ (ls : List ItemLine). slice_get ls n) (sym (append-nil (listed_items 0 block.items))) ∙ at in
     let found = has_item block.items 0 n a l line here in
@@ -95,5 +95,5 @@ block_words name block lists plain n l a i k at here kind =
     let bytes : take 4 (drop a (code_of block.items)) ≡ word_bytes (operation_of i) =
     ap (λ (x : ℕ). take 4 (drop x (code_of block.items))) found.address
     ∙ (code_at block.items plain [] n found.item found.stands found.code ∙ ap code_bytes code) in
-    subst (λ (call : Bool). HasBytes call (code_of block.items) (listing name block) a i) (sym (laid_out_no_call (row_of i) is.1))
-    (has_word (code_of block.items) (listing name block) a i (operation_of i) refl is.0 is.1 bytes)
+    subst (λ (call : Bool). HasBytes call (code_of block.items) (listing names name block) a i) (sym (laid_out_no_call (row_of i) is.1))
+    (has_word (code_of block.items) (listing names name block) a i (operation_of i) refl is.0 is.1 bytes)

@@ -1,11 +1,11 @@
 pub mod Limits
-pub mod Status
-pub mod Fault
-pub mod Command
 pub mod Listing
+pub mod Told
+pub mod Built
 pub mod Frame
 pub mod Promise
 pub mod Words
 pub mod Compiled
 pub mod Stream
+pub mod Answer
 pub mod Run

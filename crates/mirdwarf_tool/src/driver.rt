@@ -1,19 +1,18 @@
 //! The run of a command.
 
-ghost use Rattle.std.specs.Prelude.{◌≡◌, ◌≢◌, ◌≤◌, ◌↔◌, ◌⊎◌, IfOk, OnOk, OnErr, IfErr, IsErrOf, map, string_bytes};
-ghost use Rattle.mirdwarf_tool.specs.Command.{IsCommand};
-ghost use Rattle.mirdwarf_tool.specs.Fault.{line_of, status_of};
-ghost use Rattle.mirdwarf_tool.specs.Run.{Accepts, IsTooLong, IsNotBuilt, Finishes};
-ghost use Rattle.mirdwarf_tool.specs.Run.{KeepsHeadline, WroteExactly, WroteWords};
-ghost use Rattle.mirdwarf_tool.specs.Run.{IsCutOff, IsInForm, Explains, ReadingEnds, MayBeInForm};
+ghost use Rattle.std.specs.Prelude.{◌≡◌, ◌≢◌, ◌≤◌, ◌↔◌, ◌⊎◌, IfOk, OnOk, IfErr, IsErrOf, map, string_bytes};
+ghost use Rattle.command_line.specs.Command.{words_of};
+ghost use Rattle.command_line.specs.Fault.{line_of};
+ghost use Rattle.mirdwarf_tool.specs.Run.{AreCommand, AnswersInput, Finishes, IsCutOff, TellsRefusal, IsAnswerable};
+ghost use Rattle.mirdwarf_tool.specs.Run.{KeepsHeadline, WroteExactly, WroteWords, Explains, ReadingEnds};
 ghost use Rattle.mirdwarf_tool.specs.Stream.{change, MetFault, IsTold};
 
-use crate::command::is_command;
-use crate::compile::compile;
-use crate::fault::Fault;
-use crate::status::Status;
-use first_form::reading::read;
-use io_edge::reading::read_all;
+use crate::answer::answer;
+use crate::telling::tell;
+use command_line::command::{Command, parse};
+use command_line::fault::Fault;
+use command_line::status::Status;
+use io_edge::reading::{ReadError, read_all};
 use io_edge::sink::Sink;
 use io_edge::source::Source;
 use io_edge::writing::write_all;
@@ -21,10 +20,11 @@ use mir_printer::text::Text;
 use std::alloc::Global;
 
 /// The most bytes that an input may have.
-const LIMIT: usize = 16_777_216;
+pub const LIMIT: usize = 16_777_216;
 
-/// Runs the command that the words are: reads the input to its end, and writes the sections and the listing of the
-/// function that its text stands for. A fault is told by a line on `faults`.
+/// Runs the command that the words are: reads the input to its end, and writes what the command asks for. `compile
+/// --passes=none` writes the sections and the listing of the function that the text stands for, `strip` the functions
+/// without their debug items. A fault is told by a line on `faults`.
 pub fn mirdwarf<S: Source, K: Sink, E: Sink>(
     alloc: Global,
     words: &[String],
@@ -32,28 +32,28 @@ pub fn mirdwarf<S: Source, K: Sink, E: Sink>(
     output: &mut K,
     faults: &mut E,
 ) -> Status
-    // When each status comes. `Memory` may come at any growth.
-    ensures done { result ≡ Status.Done →
-        Finishes (change S.left S.faults input.old input.new) (change K.written K.faults output.old output.new) }
-    ensures refused { result ≡ Status.Refused →
-        IsTooLong (change S.left S.faults input.old input.new)
-        ⊎ IsNotBuilt (change S.left S.faults input.old input.new) }
-    ensures usage { (result ≡ Status.Usage) ↔ (IsCommand (map string_bytes words.now) → ⊥) }
+    // When each status comes, and what stands on the streams then. `Memory` may come at any growth.
+    ensures done { result ≡ Status.Done → Finishes (map string_bytes words.now)
+        (change S.left S.faults input.old input.new) (change K.written K.faults output.old output.new) }
+    ensures refused { result ≡ Status.Refused → TellsRefusal (map string_bytes words.now)
+        (change S.left S.faults input.old input.new) (change E.written E.faults faults.old faults.new) }
+    ensures usage { (result ≡ Status.Usage) ↔ (AreCommand (map string_bytes words.now) → ⊥) }
     ensures read_fault { result ≡ Status.ReadFault → MetFault (change S.left S.faults input.old input.new) }
     ensures write_fault { result ≡ Status.WriteFault → MetFault (change K.written K.faults output.old output.new) }
 
     // The machine on the written code runs along with the source that was read, and the written lists tell the truth.
-    ensures headline { result ≡ Status.Done →
+    ensures headline { result ≡ Status.Done → map string_bytes words.now ≡ words_of Command.Compile →
         KeepsHeadline (change S.left S.faults input.old input.new) (change K.written K.faults output.old output.new) }
     // The lists say the place of a variable's value wherever the value is in one on every path, and nothing elsewhere.
-    ensures exact { result ≡ Status.Done →
+    ensures exact { result ≡ Status.Done → map string_bytes words.now ≡ words_of Command.Compile →
         WroteExactly (change S.left S.faults input.old input.new) (change K.written K.faults output.old output.new) }
     // At each line that is written stand the bytes of its instruction.
-    ensures words { result ≡ Status.Done →
+    ensures words { result ≡ Status.Done → map string_bytes words.now ≡ words_of Command.Compile →
         WroteWords (change S.left S.faults input.old input.new) (change K.written K.faults output.old output.new) }
 
-    // A text in the first form is compiled, unless a fault is met or memory runs out.
-    ensures complete { IsCommand (map string_bytes words.now) → IsInForm (S.left input.old) →
+    // A text that the command answers is answered, unless a fault is met or memory runs out.
+    ensures complete { (command : Command) → map string_bytes words.now ≡ words_of command →
+        IsAnswerable command (S.left input.old) →
         ¬ MetFault (change S.left S.faults input.old input.new) →
         ¬ MetFault (change K.written K.faults output.old output.new) →
         (result ≡ Status.Done) ⊎ (result ≡ Status.Memory) }
@@ -61,16 +61,11 @@ pub fn mirdwarf<S: Source, K: Sink, E: Sink>(
     // What else it leaves: nothing is read where the words are no command, and nothing is written but at the end.
     ensures unread { result ≡ Status.Usage → input.new ≡ input.old }
     ensures unwritten { result ≢ Status.Done → result ≢ Status.WriteFault → output.new ≡ output.old }
-    ensures cut_off { result ≡ Status.WriteFault →
-        IsCutOff (change S.left S.faults input.old input.new) (change K.written K.faults output.old output.new) }
+    ensures cut_off { result ≡ Status.WriteFault → IsCutOff (map string_bytes words.now)
+        (change S.left S.faults input.old input.new) (change K.written K.faults output.old output.new) }
 
     // What it tells.
     ensures quiet { result ≡ Status.Done → faults.new ≡ faults.old }
-    ensures tells_refusal { result ≡ Status.Refused →
-        (IsTooLong (change S.left S.faults input.old input.new)
-        × IsTold (change E.written E.faults faults.old faults.new) (line_of Fault.TooLong))
-        ⊎ (IsNotBuilt (change S.left S.faults input.old input.new)
-        × IsTold (change E.written E.faults faults.old faults.new) (line_of Fault.NotBuilt)) }
     ensures tells_usage { result ≡ Status.Usage →
         IsTold (change E.written E.faults faults.old faults.new) (line_of Fault.Usage) }
     ensures tells_memory { result ≡ Status.Memory →
@@ -91,16 +86,6 @@ pub fn mirdwarf<S: Source, K: Sink, E: Sink>(
     }
 }
 
-/// Tells of a fault by its line, as far as the sink takes it, and gives the status of a run that ends so.
-pub fn tell<E: Sink>(fault: Fault, faults: &mut E) -> Status
-    ensures status { result ≡ status_of fault }
-    ensures line { IsTold (change E.written E.faults faults.old faults.new) (line_of fault) }
-    ensures counts { E.faults faults.old ≤ E.faults faults.new }
-{
-    let _ = write_all(faults, fault.line().as_bytes());
-    fault.status()
-}
-
 /// All but the telling of a fault.
 fn run<S: Source, K: Sink>(
     alloc: Global,
@@ -108,41 +93,35 @@ fn run<S: Source, K: Sink>(
     input: &mut S,
     output: &mut K,
 ) -> Result<(), Fault>
-    ensures done { OnOk result
-        (Finishes (change S.left S.faults input.old input.new) (change K.written K.faults output.old output.new)) }
-    ensures command { OnOk result (IsCommand (map string_bytes words.now)) }
+    ensures done { OnOk result (Finishes (map string_bytes words.now)
+        (change S.left S.faults input.old input.new) (change K.written K.faults output.old output.new)) }
     ensures err { IfErr result (Explains (map string_bytes words.now)
         (change S.left S.faults input.old input.new) (change K.written K.faults output.old output.new)) }
     ensures unread { IsErrOf result Fault.Usage → input.new ≡ input.old }
     ensures unwritten { IfErr result (λ fault. fault ≢ Fault.Write → output.new ≡ output.old) }
-    ensures complete { IsInForm (S.left input.old) → IfErr result MayBeInForm }
     ensures input_counts { S.faults input.old ≤ S.faults input.new }
     ensures output_counts { K.faults output.old ≤ K.faults output.new }
 {
-    if !is_command(words) {
+    let Some(command) = parse(words) else {
         return Err(Fault::Usage);
-    }
-    let text = compiled(alloc, input)?;
+    };
+    let text = answered(alloc, command, input)?;
     match write_all(output, text.as_slice()) {
         Ok(()) => Ok(()),
         Err(_) => Err(Fault::Write),
     }
 }
 
-/// What is to be written of an input.
-fn compiled<S: Source>(alloc: Global, input: &mut S) -> Result<Text, Fault>
-    ensures ok { IfOk result (Accepts (change S.left S.faults input.old input.new)) }
-    ensures err { IfErr result (ReadingEnds (change S.left S.faults input.old input.new)) }
-    ensures complete { IsInForm (S.left input.old) → IfErr result MayBeInForm }
+/// What a command is to write of an input.
+fn answered<S: Source>(alloc: Global, command: Command, input: &mut S) -> Result<Text, Fault>
+    ensures ok { IfOk result (AnswersInput command (change S.left S.faults input.old input.new)) }
+    ensures err { IfErr result (ReadingEnds command (change S.left S.faults input.old input.new)) }
     ensures counts { S.faults input.old ≤ S.faults input.new }
 {
-    let text = read_all(alloc, input, LIMIT)?;
-    let f = read(alloc, text.as_slice())?;
-    match f {
-        None => Err(Fault::NotBuilt),
-        Some(f) => Ok(compile(alloc, &f)?),
+    match read_all(alloc, input, LIMIT) {
+        Ok(text) => answer(alloc, command, text.as_slice()),
+        Err(ReadError::Failed) => Err(Fault::Read),
+        Err(ReadError::TooLong) => Err(Fault::TooLong),
+        Err(ReadError::Memory) => Err(Fault::Memory),
     }
 }
-
-#[cfg(test)]
-mod tests;

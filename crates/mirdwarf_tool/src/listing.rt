@@ -5,10 +5,12 @@ ghost use Rattle.std.specs.Fmt.{decimal};
 ghost use Rattle.std.specs.List.{flat_map};
 ghost use Rattle.output_text.specs.Output.{name_text, name_byte, function_line, function_text, variable_line};
 ghost use Rattle.output_text.specs.Output.{inlined_text, origin_text, position_text, start_text, block_line, item_line};
-ghost use Rattle.mirdwarf_tool.specs.Listing.{variable_name, variable_listed, listed_variables};
+ghost use Rattle.mirdwarf_tool.specs.Listing.{variable_listed, variable_lines};
+ghost use Rattle.mirdwarf_tool.specs.Told.{names_by};
 ghost use Rattle.mirdwarf_tool.specs.Listing.{start_of, item_listed, listed_items, listing_of};
 
 use block_lists::code::is_code;
+use meta_reader::metadata::Metadata;
 use mir_func::block::Block;
 use mir_func::item::Item;
 use mir_func::position::{Origin, Pos};
@@ -27,15 +29,17 @@ pub fn push_listing(
     text: &mut Text,
     name: &[u8],
     size: u32,
+    meta: &Metadata,
     variables: &[VarId],
     block: &Block,
 ) -> Result<(), AllocError>
     requires items { length block.now.items < 2 ^ 16 }
     requires variables { length variables.now < 2 ^ 16 }
-    ensures { OnOk result (text.new ≡ text.old ++ function_text (listing_of name.now size variables.now block.now)) }
+    ensures { OnOk result (text.new ≡ text.old ++
+        function_text (listing_of (names_by meta.now) name.now size variables.now block.now)) }
 {
     push_function(text, name, size)?;
-    push_variables(text, variables)?;
+    push_variables(text, meta, variables)?;
     push_block(text, block.id)?;
     push_items(text, block.items.as_slice())
 }
@@ -72,24 +76,31 @@ fn push_name_byte(text: &mut Text, b: u8) -> Result<(), AllocError>
     }
 }
 
-fn push_variables(text: &mut Text, variables: &[VarId]) -> Result<(), AllocError>
+fn push_variables(text: &mut Text, meta: &Metadata, variables: &[VarId]) -> Result<(), AllocError>
     requires { length variables.now < 2 ^ 16 }
-    ensures { OnOk result (text.new ≡ text.old ++ flat_map variable_line (listed_variables 0 variables.now)) }
+    ensures { OnOk result (text.new ≡ text.old ++
+        flat_map variable_line (variable_lines (names_by meta.now) 0 variables.now)) }
 {
     for (k, variable) in variables.iter().enumerate() {
-        push_variable(text, k as u32, variable)?;
+        push_variable(text, meta, k as u32, variable)?;
     }
     Ok(())
 }
 
-fn push_variable(text: &mut Text, k: u32, variable: &VarId) -> Result<(), AllocError>
-    ensures { OnOk result (text.new ≡ text.old ++ variable_line (variable_listed variable_name k variable.now)) }
+fn push_variable(
+    text: &mut Text,
+    meta: &Metadata,
+    k: u32,
+    variable: &VarId,
+) -> Result<(), AllocError>
+    ensures { OnOk result (text.new ≡ text.old ++
+        variable_line (variable_listed (names_by meta.now) k variable.now)) }
 {
     push_numbered(text, "variable ", k)?;
     push_numbered(text, " !", variable.node.number())?;
     push_inlined(text, variable.inlined_at)?;
     text.push(b' ')?;
-    push_str(text, variable_name(variable.node.number()))?;
+    push_variable_name(text, meta, variable.node)?;
     text.push(b'\n')
 }
 
@@ -102,11 +113,14 @@ fn push_inlined(text: &mut Text, inlined_at: Option<NodeId>) -> Result<(), Alloc
     }
 }
 
-/// The variable's name in the fixed metadata.
-fn variable_name(node: u32) -> &'static str
-    ensures { result.now ≡ variable_name node }
+/// Appends the variable's name, as far as the metadata has one.
+fn push_variable_name(text: &mut Text, meta: &Metadata, node: NodeId) -> Result<(), AllocError>
+    ensures { OnOk result (text.new ≡ text.old ++ name_text (names_by meta.now node)) }
 {
-    if node == 6 { "a" } else { "v" }
+    match meta.variable(node) {
+        None => Ok(()),
+        Some(variable) => push_name(text, variable.name.as_slice()),
+    }
 }
 
 fn push_block(text: &mut Text, id: BlockId) -> Result<(), AllocError>

@@ -8,6 +8,7 @@ use Rattle.dwarf_loclists.specs.Spelling.{spelling}
 use Rattle.block_lists.specs.Code.{code_of}
 use Rattle.block_lists.specs.Variables.{variables_of}
 use Rattle.block_lists.specs.Lists.{AreLists, IsListFor}
+use Rattle.mirdwarf_tool.specs.Told.{names_by}
 use Rattle.mirdwarf_tool.proofs.SectionLemmas.{lists_whole}
 use Rattle.mirdwarf_tool.proofs.ShownLemmas.{written_as}
 use Rattle.mirdwarf_tool.proofs.compile.compile_block.Goals as goal
@@ -37,8 +38,8 @@ returns c =
       lists = lists;
       located = located;
       section = section;
-      written = written_as c.args.name.now block lists c.as_slice-3.result.now c.as_slice-4.result.now c.as_slice-2.result.now c.in_ok-text.text code bytes
-          printed c.in_ok-text.ensures;
+      written = written_as (names_by c.args.meta.now) c.args.name.now block lists c.as_slice-3.result.now c.as_slice-4.result.now
+          c.as_slice-2.result.now c.in_ok-text.text code bytes printed c.in_ok-text.ensures;
     }
 
 pub section_of-requires-clause-whole : goal.section_of-requires-clause-whole

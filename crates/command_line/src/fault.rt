@@ -1,0 +1,91 @@
+//! Why a run didn't come to its end.
+
+ghost use Rattle.std.specs.Prelude.{◌≡◌};
+ghost use Rattle.command_line.specs.Fault.{input_line, name_of, status_of};
+ghost use Rattle.command_line.specs.declared.fault.Fault.TheVariants.{Memory};
+
+use crate::status::Status;
+use refusal::first::Refusal;
+use std::alloc::AllocError;
+use thiserror::Error;
+
+/// Why a run didn't come to its end.
+#[derive(Clone, Copy, Debug, PartialEq, Eq, Error)]
+pub enum Fault {
+    /// The words are no command.
+    #[error("the words are no command")]
+    Usage,
+    /// Reading the input failed.
+    #[error("reading failed")]
+    Read,
+    /// The input has more bytes than the limit.
+    #[error("more bytes than the limit")]
+    TooLong,
+    /// A line of the input is refused.
+    #[error("line {} is refused: {}", .0.line, .0.kind.name())]
+    Refused(Refusal),
+    /// The input has no function.
+    #[error("no function")]
+    NoFunction,
+    /// A function of the input isn't of the kind that is compiled yet.
+    #[error("no function that is compiled yet")]
+    NotBuilt,
+    /// Writing the output failed.
+    #[error("writing failed")]
+    Write,
+    /// Memory ran out.
+    #[error("out of memory")]
+    Memory,
+}
+
+impl From<AllocError> for Fault {
+    ghost from_gives = { λ _ fault. fault ≡ Memory };
+
+    fn from(_: AllocError) -> Fault {
+        Fault::Memory
+    }
+}
+
+impl Fault {
+    /// The line of the input at which it stands, counted from 1; 0 for a refusal of the whole input, and none for what
+    /// is no refusal.
+    pub fn input_line(self) -> Option<u32>
+        ensures { result ≡ input_line self }
+    {
+        match self {
+            Fault::Refused(refusal) => Some(refusal.line),
+            Fault::TooLong | Fault::NoFunction | Fault::NotBuilt => Some(0),
+            Fault::Usage | Fault::Read | Fault::Write | Fault::Memory => None,
+        }
+    }
+
+    /// Its name.
+    pub fn name(self) -> &'static str
+        ensures { result.now ≡ name_of self }
+    {
+        match self {
+            Fault::Usage => "usage",
+            Fault::Read => "read",
+            Fault::TooLong => "TooLong",
+            Fault::Refused(refusal) => refusal.kind.name(),
+            Fault::NoFunction => "NoFunction",
+            Fault::NotBuilt => "NotBuilt",
+            Fault::Write => "write",
+            Fault::Memory => "memory",
+        }
+    }
+
+    /// The status of a run that ends so.
+    pub fn status(self) -> Status
+        ensures { result ≡ status_of self }
+    {
+        match self {
+            Fault::Usage => Status::Usage,
+            Fault::Read => Status::ReadFault,
+            Fault::TooLong | Fault::Refused(_) | Fault::NoFunction | Fault::NotBuilt =>
+                Status::Refused,
+            Fault::Write => Status::WriteFault,
+            Fault::Memory => Status::Memory,
+        }
+    }
+}

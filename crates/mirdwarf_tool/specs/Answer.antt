@@ -1,0 +1,84 @@
+-- What a command writes of a text, or why it refuses it.
+use Rattle.std.specs.Prelude.{◌≡◌, ◌≢◌, ℕ, true, false, List, [], Ok, Err}
+use Rattle.refusal.specs.declared.first.Refusal.{Refusal}
+use Rattle.mir_parser.specs.declared.program.Program.{Program}
+use Rattle.mir_parser.specs.declared.error.ParseError.TheVariants as errors
+use Rattle.mir_parser.specs.Program.{ReadsText}
+use Rattle.strip_text.specs.StripText.{stripped_text}
+use Rattle.command_line.specs.declared.command.Command.{Command}
+use Rattle.command_line.specs.declared.command.Command.TheVariants.{Compile, Strip}
+use Rattle.command_line.specs.declared.fault.Fault.{Fault}
+use Rattle.command_line.specs.declared.fault.Fault.TheVariants.{Usage, Read, TooLong, Refused, NoFunction, NotBuilt, Write, Memory}
+use Rattle.mirdwarf_tool.specs.Built.{is_built}
+use Rattle.mirdwarf_tool.specs.Compiled.{CompilesProgram}
+
+-- a text stands for a program with a function
+pub record HasFunctions (text : List ℕ) (program : Program) : Type 0 where
+  pub reads : ReadsText text (Ok program)
+  pub some : program.functions ≢ []
+
+-- what a command writes of a program
+abbrev pub Answers : Command → Program → (output : List ℕ) → Type 0
+Answers Compile program output = CompilesProgram program output
+Answers Strip program output = output ≡ stripped_text program.functions
+
+-- the programs of which it writes something
+abbrev pub IsAnswered : Command → Program → Type 0
+IsAnswered Compile program = is_built program ≡ true
+IsAnswered Strip program = Unit {0}
+
+-- a text stands for a program without a function
+pub record HasNoFunction (text : List ℕ) : Type 0 where
+  pub program : Program
+  pub reads : ReadsText text (Ok program)
+  pub no_one : program.functions ≡ []
+
+-- a text stands for a program with a function, and this is what a command writes of it
+pub record AnswersText (command : Command) (text output : List ℕ) : Type 0 where
+  pub program : Program
+  pub has : HasFunctions text program
+  pub answers : Answers command program output
+
+-- a line of a text is refused
+abbrev pub IsRefusedAt : (text : List ℕ) → Refusal → Type 0
+IsRefusedAt text r = ReadsText text (Err (errors.Refused r))
+
+-- why no program is read
+abbrev pub RefusesProgram : (text : List ℕ) → Fault → Type 0
+RefusesProgram text (Refused r) = IsRefusedAt text r
+RefusesProgram text Memory = Unit {0}
+RefusesProgram text NoFunction = ⊥
+RefusesProgram text NotBuilt = ⊥
+RefusesProgram text Usage = ⊥
+RefusesProgram text Read = ⊥
+RefusesProgram text TooLong = ⊥
+RefusesProgram text Write = ⊥
+
+-- why a command writes nothing of a program
+abbrev pub RefusesToWrite : Command → Program → Fault → Type 0
+RefusesToWrite Compile program NotBuilt = is_built program ≡ false
+RefusesToWrite Strip program NotBuilt = ⊥
+RefusesToWrite command program Memory = Unit {0}
+RefusesToWrite command program (Refused r) = ⊥
+RefusesToWrite command program NoFunction = ⊥
+RefusesToWrite command program Usage = ⊥
+RefusesToWrite command program Read = ⊥
+RefusesToWrite command program TooLong = ⊥
+RefusesToWrite command program Write = ⊥
+
+-- a text stands for a program with a function, of which a command writes nothing
+pub record HoldsBack (command : Command) (text : List ℕ) (fault : Fault) : Type 0 where
+  pub program : Program
+  pub has : HasFunctions text program
+  pub refused : RefusesToWrite command program fault
+
+-- why a command writes nothing of a text
+abbrev pub RefusesText : Command → (text : List ℕ) → Fault → Type 0
+RefusesText command text (Refused r) = IsRefusedAt text r
+RefusesText command text NoFunction = HasNoFunction text
+RefusesText command text NotBuilt = HoldsBack command text NotBuilt
+RefusesText command text Memory = Unit {0}
+RefusesText command text Usage = ⊥
+RefusesText command text Read = ⊥
+RefusesText command text TooLong = ⊥
+RefusesText command text Write = ⊥

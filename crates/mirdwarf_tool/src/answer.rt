@@ -1,0 +1,66 @@
+//! What a command writes of a text.
+
+ghost use Rattle.std.specs.Prelude.{◌≡◌, ◌^◌, ◌<◌, length, Ok, IfOk, IfErr};
+ghost use Rattle.mirdwarf_tool.specs.Answer.{Answers, AnswersText};
+ghost use Rattle.mirdwarf_tool.specs.Answer.{RefusesText, RefusesProgram, RefusesToWrite};
+ghost use Rattle.mirdwarf_tool.specs.Compiled.{CompilesProgram};
+ghost use Rattle.mir_parser.specs.Program.{ReadsText};
+
+use crate::built::is_built;
+use crate::compile::compile;
+use command_line::command::Command;
+use command_line::fault::Fault;
+use mir_parser::error::ParseError;
+use mir_parser::program::{Program, read_program};
+use mir_printer::text::Text;
+use std::alloc::Global;
+use strip_text::strip_text::strip_text;
+
+/// What a command is to write of a text.
+pub fn answer(alloc: Global, command: Command, text: &[u8]) -> Result<Text, Fault>
+    requires { length text.now < 2 ^ 31 }
+    ensures ok { IfOk result (AnswersText command text.now) }
+    ensures err { IfErr result (RefusesText command text.now) }
+{
+    let program = read(alloc, text)?;
+    if program.functions.is_empty() {
+        return Err(Fault::NoFunction);
+    }
+    written(alloc, command, &program)
+}
+
+/// The program of a text.
+fn read(alloc: Global, text: &[u8]) -> Result<Program, Fault>
+    requires { length text.now < 2 ^ 31 }
+    ensures ok { IfOk result (λ program. ReadsText text.now (Ok program)) }
+    ensures err { IfErr result (RefusesProgram text.now) }
+{
+    match read_program(alloc, text) {
+        Ok(program) => Ok(program),
+        Err(ParseError::Refused(refusal)) => Err(Fault::Refused(refusal)),
+        Err(ParseError::Memory) => Err(Fault::Memory),
+    }
+}
+
+/// What a command writes of a program.
+fn written(alloc: Global, command: Command, program: &Program) -> Result<Text, Fault>
+    ensures ok { IfOk result (Answers command program.now) }
+    ensures err { IfErr result (RefusesToWrite command program.now) }
+{
+    match command {
+        Command::Compile => compiled(alloc, program),
+        Command::Strip => Ok(strip_text(alloc, program.functions.as_slice())?),
+    }
+}
+
+/// The sections and the listing of a program.
+fn compiled(alloc: Global, program: &Program) -> Result<Text, Fault>
+    ensures ok { IfOk result (CompilesProgram program.now) }
+    ensures err { IfErr result (RefusesToWrite Command.Compile program.now) }
+{
+    if is_built(alloc, program)? {
+        Ok(compile(alloc, program)?)
+    } else {
+        Err(Fault::NotBuilt)
+    }
+}
