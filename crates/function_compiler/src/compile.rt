@@ -1,6 +1,6 @@
 //! The compiling of one function.
 
-ghost use Rattle.std.specs.Prelude.{◌≡◌, ◌<◌, ◌≤◌, ◌%◌, All, IfOk, IsErrOf, length};
+ghost use Rattle.std.specs.Prelude.{◌≡◌, ◌<◌, ◌≤◌, ◌%◌, All, IfOk, OnOk, IsErrOf, length};
 ghost use Rattle.mir_func.specs.Graph.{block_start, framed_program};
 ghost use Rattle.mir_func.specs.Limits.{MAX_FRAME};
 ghost use Rattle.mir_func.specs.Resolve.{resolve};
@@ -43,6 +43,8 @@ pub fn compile_function(
     requires aligned { base % 4 ≡ 0 }
     requires low { base < MAX_BASE }
     ensures code { IfOk result (λ c. IsCodeOf (framed_of f.now) base c.code) }
+    ensures fits { OnOk result (size_of f.now ≤ MAX_FRAME) }
+    ensures few { OnOk result (count_of (framed_of f.now).blocks < MAX_WORDS) }
     ensures variables { IfOk result (λ c. c.variables ≡ variables_of_function f.now.blocks) }
     ensures lists { IfOk result (λ c.
         AreListsOf (framed_program (framed_of f.now).blocks (resolve subs.now)) (block_start 0) c.code.entries

@@ -1,0 +1,5 @@
+pub mod Few
+pub mod Listed
+pub mod Located
+pub mod Behind
+pub mod Pushed

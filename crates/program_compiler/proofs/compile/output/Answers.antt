@@ -1,0 +1,21 @@
+use Rattle.std.proofs.Common.{◌≡◌, ℕ, ◌+◌, ◌*◌, ◌<◌, ◌≤◌, List, length, map, sym, ap, ◌∙◌, arith, rules}
+use Rattle.std.proofs.lemmas.List.{length-map}
+use Rattle.mir_parser.specs.declared.closing.Parsed.{Parsed}
+use Rattle.source_lines.specs.declared.compiled.Compiled.{Compiled}
+use Rattle.program_compiler.proofs.Behind.{coded_length}
+use Rattle.program_compiler.proofs.Listed.{program_few}
+use Rattle.program_compiler.proofs.compile.output.Goals as goal
+
+pub with_code-requires : goal.with_code-requires
+with_code-requires c =
+    let many = coded_length 0 _ _ c.requires.made.coded in
+    let same = length-map c.args.program.now.functions (λ (p : Parsed). p.func) in
+    search (rules, many, same)
+
+pub info-requires : goal.info-requires
+info-requires c =
+    let same : map (λ (x : Compiled). x.source.now) c.as_slice-compiled.result.now ≡ map (λ (p : Parsed). p.func) c.args.program.now.functions =
+    search rules in
+    let few = program_few c.args.program.now.meta c.as_slice-compiled.result.now c.args.program.now.functions same c.requires.read.functions in
+    let functions = c.requires.read.few in
+    omega (arith, few, functions)

@@ -1,0 +1,101 @@
+//! The sections of a program.
+
+ghost use Rattle.std.specs.Prelude.{◌≡◌, ◌-◌, ◌<◌, ◌≤◌, ◌^◌, All, IfOk, IsErrOf, length, map};
+ghost use Rattle.dwarf_info.specs.Entries.{spelling as entries_spelling};
+ghost use Rattle.dwarf_line.specs.Spelling.{spelling as rows_spelling};
+ghost use Rattle.dwarf_loclists.specs.Spelling.{spelling as lists_spelling};
+ghost use Rattle.dwarf_loclists.specs.Ranges.{Ascend, ArePlaces};
+ghost use Rattle.dwarf_loclists.specs.Reading.{IsSection};
+ghost use Rattle.program_compiler.specs.Program.{SECTION_LIMIT};
+ghost use Rattle.program_compiler.specs.steps.Made.{AreWritable};
+ghost use Rattle.source_lines.specs.Program.{MAX_FUNCTIONS, table_of};
+ghost use Rattle.unit_entries.specs.Unit.{program_variables, unit_of};
+
+use crate::compile::CompileError;
+use code_words::code::Code;
+use compiled_text::output::Bytes;
+use dwarf_info::size::info_size;
+use dwarf_info::write::write_info;
+use dwarf_line::size::line_size;
+use dwarf_line::write::write_line;
+use dwarf_loclists::range::RangeLists;
+use dwarf_loclists::section::{lists_size, write_lists};
+use meta_reader::metadata::Metadata;
+use mir_parser::closing::Parsed;
+use source_lines::compiled::Compiled;
+use source_lines::line_table::line_table;
+use std::alloc::{AllocError, Global};
+use unit_entries::unit::make_unit;
+
+/// The functions with their machine code.
+pub fn with_code<'a>(
+    alloc: Global,
+    functions: &'a [Parsed],
+    codes: &'a [Code],
+) -> Result<Vec<Compiled<'a>>, AllocError>
+    requires { length functions.now ≡ length codes.now }
+    ensures sources { IfOk result (λ compiled.
+        map (λ c. c.source.now) compiled.items ≡ map (λ p. p.func) functions.now) }
+    ensures codes { IfOk result (λ compiled. map (λ c. c.code.now) compiled.items ≡ codes.now) }
+{
+    let mut compiled = Vec::new(alloc);
+    for index in 0..functions.len() {
+        compiled.push(Compiled {
+            source: &functions[index].func,
+            code: &codes[index],
+        })?;
+    }
+    Ok(compiled)
+}
+
+/// The section `.debug_info` of functions with so many bytes of code.
+pub fn info(
+    alloc: Global,
+    functions: &[Compiled],
+    meta: &Metadata,
+    text_len: u32,
+) -> Result<Bytes, CompileError>
+    requires { length (program_variables functions.now) < 2 ^ 32 - 2 }
+    ensures bytes { IfOk result (λ bytes. bytes ≡ entries_spelling (unit_of meta.now text_len functions.now)) }
+    ensures small { IfOk result (λ bytes. length bytes < SECTION_LIMIT) }
+    ensures large { IsErrOf result CompileError.SectionTooLarge →
+        SECTION_LIMIT ≤ length (entries_spelling (unit_of meta.now text_len functions.now)) }
+    ensures no_frame { IsErrOf result CompileError.FrameTooLarge → ⊥ }
+{
+    let unit = make_unit(alloc, functions, meta, text_len)?;
+    if info_size(&unit).is_none() {
+        return Err(CompileError::SectionTooLarge);
+    }
+    Ok(write_info(alloc, &unit)?)
+}
+
+/// The section `.debug_line` of functions.
+pub fn rows(alloc: Global, functions: &[Compiled], meta: &Metadata) -> Result<Bytes, CompileError>
+    requires { length functions.now ≤ MAX_FUNCTIONS }
+    ensures bytes { IfOk result (λ bytes. bytes ≡ rows_spelling (table_of meta.now functions.now)) }
+    ensures small { IfOk result (λ bytes. length bytes < SECTION_LIMIT) }
+    ensures large { IsErrOf result CompileError.SectionTooLarge →
+        SECTION_LIMIT ≤ length (rows_spelling (table_of meta.now functions.now)) }
+    ensures no_frame { IsErrOf result CompileError.FrameTooLarge → ⊥ }
+{
+    let table = line_table(alloc, functions, meta)?;
+    if line_size(&table).is_none() {
+        return Err(CompileError::SectionTooLarge);
+    }
+    Ok(write_line(alloc, &table)?)
+}
+
+/// The section `.debug_loclists` of lists.
+pub fn loclists(alloc: Global, lists: &RangeLists) -> Result<Bytes, CompileError>
+    requires { AreWritable lists.now }
+    ensures section { IfOk result (λ bytes. IsSection bytes lists.now) }
+    ensures small { IfOk result (λ bytes. length bytes < SECTION_LIMIT) }
+    ensures large { IsErrOf result CompileError.SectionTooLarge →
+        SECTION_LIMIT ≤ length (lists_spelling lists.now) }
+    ensures no_frame { IsErrOf result CompileError.FrameTooLarge → ⊥ }
+{
+    if lists_size(lists).is_none() {
+        return Err(CompileError::SectionTooLarge);
+    }
+    Ok(write_lists(alloc, lists)?)
+}
