@@ -1,0 +1,52 @@
+-- Values that a mark told of a place, and that the place keeps.
+use Rattle.std.specs.Prelude.{◌≡◌, ℕ, false, Some}
+use Rattle.rv64_instr.specs.declared.place.Place.{Place}
+use Rattle.rv64_instr.specs.declared.place.Place.TheVariants.{Register, Slot, Const}
+use Rattle.rv64_instr.specs.Parts.{defines_of}
+use Rattle.rv64_instr.specs.Row.{Row, row_of}
+use Rattle.mir_func.specs.declared.position.Pos.{Pos}
+use Rattle.mir_func.specs.declared.variable.VarId.{VarId}
+use Rattle.mir_func.specs.declared.variable.MarkValue.{MarkValue}
+use Rattle.mir_func.specs.declared.item.Item.{Item}
+use Rattle.mir_func.specs.declared.item.ItemKind.{ItemKind}
+use Rattle.mir_func.specs.declared.item.ItemKind.TheVariants.{Code, Mark, Phi}
+use Rattle.mir_func.specs.Graph.{Program, Here, Edge, below, block_start}
+use Rattle.mir_func.specs.Variables.{is_same, overlaps}
+use Rattle.mir_meaning.specs.Token.{IsPlace, Sits, SitsIn, NoneIsWanted, mark_token, place_token, sets_pointer}
+
+-- code leaves a place alone: it doesn't set it, nor the stack pointer over a frame slot. A constant is always left alone
+abbrev pub LeavesPlace : Row → Place → Type 0
+LeavesPlace row (Register r) = defines_of row (Register r) ≡ false
+LeavesPlace row (Slot n) = (defines_of row (Slot n) ≡ false) × (sets_pointer row ≡ false)
+LeavesPlace row (Const c) = Unit {0}
+
+-- an item leaves a part of a variable and a place alone: it marks no part that overlaps, nor the part itself
+abbrev pub LeavesAlone : VarId → Place → ItemKind → Type 0
+LeavesAlone v place (Code i k) = LeavesPlace (row_of i) place
+LeavesAlone v place (Mark w m) = (is_same v w ≡ false) × (overlaps v w ≡ false)
+LeavesAlone v place (Phi p k) = Unit {0}
+
+-- from one position down to another control goes item by item, and each leaves the part and the place alone
+pub data IsKept (g : Program) (v : VarId) (place : Place) (q : Pos) : Pos → Type 0 where
+  here : IsKept g v place q q
+  down : {p : Pos} (item : Item) → g.fetch p ≡ Here item → Edge g p (below p) → LeavesAlone v place item.kind → IsKept g v place q (below p) →
+      IsKept g v place q p
+
+-- a mark at a position tells a part of a variable a value that sits in a place, and from below it to another position the place keeps it
+pub record IsToldAndKept (g : Program) (start : ℕ) (v : VarId) (place : Place) (p q : Pos) : Type 0 where
+  pub value : MarkValue
+  pub mark : Item
+  pub marks : mark.kind ≡ Mark v value
+  pub stands : g.fetch p ≡ Here mark
+  pub sits : Sits g (block_start start) (mark_token g.resolve value) (place_token (Some place)) p
+  pub edge : Edge g p (below p)
+  pub kept : IsKept g v place q (below p)
+
+-- While a place keeps what a mark told of it, the value of the marked part sits there.
+abbrev pub KeptValuesSit : Type 0
+KeptValuesSit = (g : Program) (start : ℕ) (v : VarId) (place : Place) (p q : Pos) → IsToldAndKept g start v place p q → SitsIn g (block_start start) v place q
+
+-- So it can't be that no place is wanted for the part there: exact lists name one at each address of the position.
+abbrev pub KeptValuesAreWanted : Type 0
+KeptValuesAreWanted = (g : Program) (start : ℕ) (v : VarId) (place : Place) (p q : Pos) → IsPlace place → IsToldAndKept g start v place p q →
+    NoneIsWanted g (block_start start) v q → ⊥
