@@ -4,6 +4,8 @@
 #[cfg(test)]
 mod joins;
 #[cfg(test)]
+mod points;
+#[cfg(test)]
 mod ranges;
 #[cfg(test)]
 mod text;

@@ -1,0 +1,70 @@
+//! Where a variable is at single points.
+
+use crate::text::function_of;
+use frame_lower::lower::lower;
+use frame_lower::physical::is_physical;
+use machine_values::values::solve;
+use mir_func::variable::VarId;
+use numbers::metadata::NodeId;
+use rv64_instr::place::Place;
+use std::alloc::Global;
+use std::test::Fail;
+use transfer_emit::values::Values;
+use value_queries::variable::first_place;
+
+/// The variable of all bodies.
+const V: VarId = VarId {
+    node: NodeId(4),
+    inlined_at: None,
+    fragment: None,
+};
+
+/// The number of the register where it is before an item: 64 for a number or a slot, and 0 where it is nowhere.
+fn register_at(alloc: Global, body: &str, block: usize, item: usize) -> Result<u32, Fail> {
+    let parsed = function_of(alloc, "", body)?;
+    if !is_physical(&parsed.func) {
+        return Err(Fail::from("virtual registers"));
+    }
+    let framed = lower(alloc, &parsed.func)?;
+    let known = solve(alloc, &framed, &parsed.subs)?;
+    let values = Values {
+        variables: known.variables.as_slice(),
+        things: known.things.as_slice(),
+        entries: known.entries.as_slice(),
+        subs: &parsed.subs,
+    };
+    let blocks = framed.blocks.as_slice();
+    if block >= blocks.len() || item > blocks[block].items.len() {
+        return Err(Fail::from("no such point"));
+    }
+    match first_place(alloc, &values, blocks, &V, block, item)? {
+        Some(Place::Register(r)) => Ok(r.number()),
+        Some(Place::Slot(_)) | Some(Place::Const(_)) => Ok(64),
+        None => Ok(0),
+    }
+}
+
+/// Two paths meet again. The prologue is block 0.
+const JOIN: &str =
+    "  bb.0:\n    DBG_VALUE $x10, $noreg, !4, !DIExpression()\n    $x12 = COPY $x10\n    BEQ $x11, $x0, %bb.2\n  \
+    bb.1:\n    $x10 = ADDI $x10, 1\n    $x13 = COPY $x12\n    PseudoBR %bb.3\n  bb.2:\n    $x13 = COPY $x10\n  \
+    bb.3:\n    $x12 = ADDI $x0, 5\n    PseudoRET implicit $x13\n";
+
+#[test]
+fn first_places(rt: HostRuntime) -> Result<(), Fail> {
+    for (block, item, wanted) in [
+        // before the mark, behind it, and behind the copy
+        (1, 0, 0),
+        (1, 1, 10),
+        (1, 2, 10),
+        // where x10 was set again
+        (2, 0, 10),
+        (2, 1, 12),
+        // where both paths meet, and where x12 was set
+        (4, 0, 12),
+        (4, 1, 13),
+    ] {
+        assert_eq!(rt; register_at(rt.alloc(), JOIN, block, item)?, wanted);
+    }
+    Ok(())
+}

@@ -1,0 +1,25 @@
+-- What was looked up where the walk stands are the places that are wanted at the position that was asked for.
+use Rattle.std.proofs.Common.{◌≡◌, ℕ, List, length, subst}
+use Rattle.std.specs.Prelude.{Option}
+use Rattle.rv64_instr.specs.declared.place.Place.{Place}
+use Rattle.mir_func.specs.declared.block.Block.{Block}
+use Rattle.mir_func.specs.declared.position.Pos.{Pos}
+use Rattle.mir_func.specs.Graph.{block_start}
+use Rattle.mir_func.specs.Successors.{pos_in}
+use Rattle.class_places.specs.declared.index.Index.{Index}
+use Rattle.variable_locations.specs.Wanted.{AreWantedPlaces}
+use Rattle.transfer_emit.specs.declared.stand.Stand.{Stand}
+use Rattle.transfer_emit.specs.declared.values.Values.{Values}
+use Rattle.transfer_emit.specs.Stands.{program, AreValuesOf, Stands}
+use Rattle.transfer_emit.specs.steps.Places.{ArePlacesAt}
+use Rattle.transfer_emit.proofs.Looking.{places_wanted}
+
+at_position : (s : Stand) (b i : ℕ) → s.block ≡ b → s.item ≡ i → pos_in s.block s.item ≡ pos_in b i
+at_position s b i eb ei = λ k. pos_in (eb k) (ei k)
+
+pub wanted_at : (blocks : List Block) (v : Values) (index : Index) (s : Stand) (found : List (Option Place)) (b i : ℕ) → AreValuesOf blocks v →
+    Stands blocks v index s → length found ≡ length v.variables.now → ArePlacesAt s found → s.block ≡ b → s.item ≡ i →
+    AreWantedPlaces (program blocks v.subs.now) (block_start 0) (pos_in b i) v.variables.now found
+wanted_at blocks v index s found b i are stands count at eb ei =
+    subst (λ (p : Pos). AreWantedPlaces (program blocks v.subs.now) (block_start 0) p v.variables.now found) (at_position s b i eb ei)
+    (places_wanted blocks v index are s stands found count at)

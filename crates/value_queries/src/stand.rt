@@ -1,0 +1,51 @@
+//! The walk before an item, and a part among the parts that are marked.
+
+ghost use Rattle.std.specs.Prelude.{◌≡◌, ◌<◌, ◌≤◌, Contains, IfOk, IfSome, IsNone, List, Some, length, slice_get};
+ghost use Rattle.mir_func.specs.declared.block.Block.{Block};
+ghost use Rattle.class_places.specs.Things.{AreThings, Indexes};
+ghost use Rattle.transfer_emit.specs.Stands.{AreValuesOf, Stands, Fits};
+
+use class_places::index::Index;
+use mir_func::block::Block;
+use mir_func::variable::VarId;
+use std::alloc::{AllocError, Global};
+use transfer_emit::stand::{Stand, enter, move_to};
+use transfer_emit::values::Values;
+
+/// The walk before an item of a block, or behind its last one.
+pub fn stand_before(
+    alloc: Global,
+    values: &Values,
+    index: &Index,
+    blocks: &[Block],
+    block: usize,
+    item: usize,
+) -> Result<Stand, AllocError>
+    requires things { AreThings values.now.variables.now values.now.things.now }
+    requires parts { length values.now.variables.now ≤ length values.now.things.now }
+    requires entries { length values.now.entries.now ≡ length blocks.now }
+    requires index { Indexes values.now.things.now index.now }
+    requires block { block < length blocks.now }
+    requires item { (b : Block) → slice_get blocks.now block ≡ Some b → item ≤ length b.items }
+    ensures stands { IfOk result (λ s. AreValuesOf blocks.now values.now → Stands blocks.now values.now index.now s) }
+    ensures block { IfOk result (λ s. s.block ≡ block) }
+    ensures item { IfOk result (λ s. s.item ≡ item) }
+    ensures fits { IfOk result (λ s. Fits s values.now) }
+{
+    let items = blocks[block].items.as_slice();
+    let stand = enter(alloc, values, index, block)?;
+    Ok(move_to(alloc, values, index, stand, block, items, item)?)
+}
+
+/// Where a part stands among parts, and none where it is none of them.
+pub fn index_in(parts: &[VarId], part: &VarId) -> Option<usize>
+    ensures some { IfSome result (λ j. slice_get parts.now j ≡ Some part.now) }
+    ensures none { IsNone result → Contains parts.now part.now → ⊥ }
+{
+    for j in 0..parts.len() {
+        if parts[j] == *part {
+            return Some(j);
+        }
+    }
+    None
+}

@@ -1,0 +1,74 @@
+//! Where a part of a variable is.
+
+ghost use Rattle.std.specs.Prelude.{◌≡◌, ◌<◌, ◌≤◌, IfOk, Some, length, slice_get};
+ghost use Rattle.mir_func.specs.declared.block.Block.{Block};
+ghost use Rattle.mir_func.specs.declared.position.Pos.{Pos};
+ghost use Rattle.mir_func.specs.Graph.{Program, block_start};
+ghost use Rattle.mir_func.specs.Successors.{pos_in};
+ghost use Rattle.class_places.specs.Things.{AreThings};
+ghost use Rattle.transfer_emit.specs.Stands.{AreValuesOf, Fits, program};
+ghost use Rattle.transfer_emit.specs.steps.Places.{ArePlacesAt};
+ghost use Rattle.variable_locations.specs.Wanted.{AreWantedPlaces, IsWantedPlace};
+
+use crate::stand::{index_in, stand_before};
+use class_places::index::index_of;
+use mir_func::block::Block;
+use mir_func::variable::VarId;
+use rv64_instr::place::Place;
+use std::alloc::{AllocError, Global};
+use transfer_emit::places::look_up;
+use transfer_emit::stand::Stand;
+use transfer_emit::values::Values;
+
+/// The first place in which the value of a part of a variable sits on every path to an item of a block, or behind its
+/// last one: a number, else the lowest register, else the lowest slot. None exactly where it sits in none. It walks
+/// from the start of the block. Memory is all that it may run out of.
+pub fn first_place(
+    alloc: Global,
+    values: &Values,
+    blocks: &[Block],
+    part: &VarId,
+    block: usize,
+    item: usize,
+) -> Result<Option<Place>, AllocError>
+    requires things { AreThings values.now.variables.now values.now.things.now }
+    requires parts { length values.now.variables.now ≤ length values.now.things.now }
+    requires entries { length values.now.entries.now ≡ length blocks.now }
+    requires block { block < length blocks.now }
+    requires item { (b : Block) → slice_get blocks.now block ≡ Some b → item ≤ length b.items }
+    ensures wanted { IfOk result (λ place. AreValuesOf blocks.now values.now →
+        IsWantedPlace (program blocks.now values.now.subs.now) (block_start 0) part.now (pos_in block item) place) }
+{
+    let index = index_of(alloc, values.things)?;
+    let stand = stand_before(alloc, values, &index, blocks, block, item)?;
+    let places = places_at(alloc, values, &stand)?;
+    Ok(place_of(values.variables, places.as_slice(), part))
+}
+
+/// The places of all parts where the walk stands.
+fn places_at(
+    alloc: Global,
+    values: &Values,
+    stand: &Stand,
+) -> Result<Vec<Option<Place>>, AllocError>
+    requires { Fits stand.now values.now }
+    ensures count { IfOk result (λ places. length places.items ≡ length values.now.variables.now) }
+    ensures places { IfOk result (λ places. ArePlacesAt stand.now places.items) }
+{
+    let mut firsts = Vec::new(alloc);
+    let mut places = vec![in alloc; None; values.variables.len()]?;
+    look_up(stand, &mut firsts, &mut places)?;
+    Ok(places)
+}
+
+/// The place of a part among those of all parts. A part that isn't marked has none.
+fn place_of(parts: &[VarId], places: &[Option<Place>], part: &VarId) -> Option<Place>
+    requires { length parts.now ≡ length places.now }
+    ensures { (g : Program) (start : Pos) (p : Pos) → AreWantedPlaces g start p parts.now places.now →
+        IsWantedPlace g start part.now p result }
+{
+    match index_in(parts, part) {
+        None => None,
+        Some(j) => places[j],
+    }
+}
