@@ -27,9 +27,12 @@ pub enum Fault {
     /// The input has no function.
     #[error("no function")]
     NoFunction,
-    /// A function of the input isn't of the kind that is compiled yet.
-    #[error("no function that is compiled yet")]
-    NotBuilt,
+    /// The frame of a function would have more than 2,032 bytes.
+    #[error("a frame is too large")]
+    FrameTooLarge,
+    /// A section of the output would have 2^31 bytes or more.
+    #[error("a section is too large")]
+    SectionTooLarge,
     /// Writing the output failed.
     #[error("writing failed")]
     Write,
@@ -54,7 +57,8 @@ impl Fault {
     {
         match self {
             Fault::Refused(refusal) => Some(refusal.line),
-            Fault::TooLong | Fault::NoFunction | Fault::NotBuilt => Some(0),
+            Fault::TooLong | Fault::NoFunction => Some(0),
+            Fault::FrameTooLarge | Fault::SectionTooLarge => Some(0),
             Fault::Usage | Fault::Read | Fault::Write | Fault::Memory => None,
         }
     }
@@ -69,7 +73,8 @@ impl Fault {
             Fault::TooLong => "TooLong",
             Fault::Refused(refusal) => refusal.kind.name(),
             Fault::NoFunction => "NoFunction",
-            Fault::NotBuilt => "NotBuilt",
+            Fault::FrameTooLarge => "FrameTooLarge",
+            Fault::SectionTooLarge => "SectionTooLarge",
             Fault::Write => "write",
             Fault::Memory => "memory",
         }
@@ -82,8 +87,8 @@ impl Fault {
         match self {
             Fault::Usage => Status::Usage,
             Fault::Read => Status::ReadFault,
-            Fault::TooLong | Fault::Refused(_) | Fault::NoFunction | Fault::NotBuilt =>
-                Status::Refused,
+            Fault::TooLong | Fault::Refused(_) | Fault::NoFunction => Status::Refused,
+            Fault::FrameTooLarge | Fault::SectionTooLarge => Status::Refused,
             Fault::Write => Status::WriteFault,
             Fault::Memory => Status::Memory,
         }

@@ -8,9 +8,12 @@ use refusal::kind::RefusalKind;
 use std::test::Fail;
 
 /// Words of a command line, and the command that they are.
-const ROWS: [(&str, Option<Command>); 8] = [
+const ROWS: [(&str, Option<Command>); 11] = [
     ("compile --passes=none", Some(Command::Compile)),
+    ("listing --passes=none", Some(Command::Listing)),
     ("strip", Some(Command::Strip)),
+    ("listing", None),
+    ("compile --passes=", None),
     ("", None),
     ("compile", None),
     ("strip --passes=none", None),
@@ -45,7 +48,20 @@ fn faults_tell(rt: HostRuntime) -> Result<(), Fail> {
         (refused, Some(237), "TooMany", Status::Refused, 1),
         (Fault::TooLong, Some(0), "TooLong", Status::Refused, 1),
         (Fault::NoFunction, Some(0), "NoFunction", Status::Refused, 1),
-        (Fault::NotBuilt, Some(0), "NotBuilt", Status::Refused, 1),
+        (
+            Fault::FrameTooLarge,
+            Some(0),
+            "FrameTooLarge",
+            Status::Refused,
+            1,
+        ),
+        (
+            Fault::SectionTooLarge,
+            Some(0),
+            "SectionTooLarge",
+            Status::Refused,
+            1,
+        ),
     ];
     for (fault, line, name, status, number) in rows {
         assert_eq!(rt; fault.input_line(), line);

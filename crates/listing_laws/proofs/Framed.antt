@@ -1,15 +1,14 @@
 -- The items of a function with its frame are printable: those that were there keep their numbers but for slots, which are named by
 -- small offsets, and those that were added have small ones.
-use Rattle.std.proofs.Common.{◌≡◌, ℕ, zero, suc, ◌+◌, ◌*◌, ◌<◌, ◌≤◌, ◌^◌, ℤ, pos, negsuc, Bool, true, false, ◌&&◌, cond, nat_eq, List, [], ◌∷◌, ◌++◌, length, map}
-use Rattle.std.proofs.Common.{Option, Some, None, refl, ap, sym, subst, ◌∙◌, arith}
-use Rattle.std.specs.Prelude.{All, IfSome, ◌-ℤ◌, Contains, nat_lt}
+use Rattle.std.proofs.Common.{◌≡◌, ℕ, zero, suc, ◌<◌, ◌≤◌, ◌^◌, ℤ, pos, negsuc, Bool, true, false, ◌&&◌, cond, nat_eq, List, [], ◌∷◌, ◌++◌, length, map}
+use Rattle.std.proofs.Common.{Option, Some, None, refl, sym, subst, ◌∙◌, arith}
+use Rattle.std.specs.Prelude.{All, ◌-ℤ◌, Contains, nat_lt}
 use Rattle.std.proofs.lemmas.Bool.{and_parts, ltb-true}
 use Rattle.std.specs.List.{flat_map, list_all}
 use Rattle.std.proofs.lemmas.Bool.Decides.{nat_tests}
 use Rattle.std.proofs.lemmas.Int.{ints}
-use Rattle.std.proofs.lemmas.List.Elements.{All-cons, All-nil, All-head, All-tail, All-append, All-map, All-contains}
-use Rattle.rv64_instr.specs.declared.op.Op.TheVariants.{Immediate, Load, Store}
-use Rattle.rv64_instr.specs.declared.op.ImmediateOp.TheVariants.{Addi}
+use Rattle.std.proofs.lemmas.List.{length-append}
+use Rattle.std.proofs.lemmas.List.Elements.{All-cons, All-nil, All-head, All-tail, All-append, All-contains, All-weaker}
 use Rattle.rv64_instr.specs.declared.operand.Operand.{Operand}
 use Rattle.rv64_instr.specs.declared.operand.Operand.TheVariants.{Def, Use, ImplicitDef, ImplicitUse, Imm, Slot, Object, Block as OfBlock, Symbol, Mask}
 use Rattle.rv64_instr.specs.declared.place.Place.{Place}
@@ -25,24 +24,26 @@ use Rattle.mir_func.specs.declared.item.ItemKind.TheVariants.{Code, Mark, Phi}
 use Rattle.mir_func.specs.declared.location.Loc.{Loc}
 use Rattle.mir_func.specs.declared.position.Origin.{Origin}
 use Rattle.mir_func.specs.declared.position.Origin.TheVariants.{Kept, Before}
+use Rattle.mir_func.specs.declared.object.Object as func
 use Rattle.mir_func.specs.Function.{Function}
 use Rattle.mir_func.specs.Graph.{block_start}
-use Rattle.mir_func.specs.Sound.{AllItems, OriginIn}
-use Rattle.mir_func.specs.SoundFrame.{SAVED, adds_to_pointer, saves, restores, prologue_code, epilogue_code, slot_offsets, IsSlotOffset, IsFramed}
+use Rattle.mir_func.specs.Limits.{MAX_NUMBER}
+use Rattle.mir_func.specs.Sound.{AllItems, OriginIn, items_of}
+use Rattle.mir_func.specs.SoundFrame.{SAVED, adds_to_pointer, saves, restores, prologue_code, epilogue_code, IsSlotOffset, IsFramed}
 use Rattle.frame_lower.proofs.Forms.{form_same}
-use Rattle.frame_rule.specs.Rule.{slots_before, slot_offset, added, added_all, position_in, prologue, epilogue, renamed_operand, renamed_code, renamed_place}
-use Rattle.frame_rule.specs.Rule.{renamed_kind, renamed, is_final, framed_item, framed_items, framed_block, prologue_block, framed_blocks, framed_of, size_of}
+use Rattle.frame_rule.specs.Rule.{slots_before, slot_offset, added, added_all, position_in, epilogue, renamed_operand, renamed_place}
+use Rattle.frame_rule.specs.Rule.{renamed_kind, renamed, is_final, framed_item, framed_block, prologue_block, framed_blocks, framed_of, size_of}
 use Rattle.frame_rule.specs.Rule.{saved_of}
 use Rattle.frame_runs.specs.Runs.{HasForm as KindForm}
 use Rattle.mir_func.specs.Exits.{exit_of}
-use Rattle.code_words.specs.steps.Emitted.{HasForm, KindHasForm}
-use Rattle.mir_printer.specs.Printable.{IsNumber, IsSigned, HasNumbers, IsPrintablePlace, IsPrintableValue, IsPrintableLoc, IsPrintableVariable}
+use Rattle.code_words.specs.steps.Emitted.{KindHasForm}
+use Rattle.mir_body.specs.Limits.{MAX_ITEMS}
+use Rattle.mir_printer.specs.Printable.{IsNumber, IsSigned, HasNumbers, IsPrintablePlace}
 use Rattle.mir_printer.specs.Printable.{IsPrintableKind, IsPrintable}
-use Rattle.compiled_text.specs.Shown.{IsPrintableOrigin, declared_by}
+use Rattle.compiled_text.specs.Shown.{IsPrintableOrigin}
 use Rattle.function_listing.specs.Printable.{IsPrintableFramedKind, IsPrintableFramedItem, IsPrintableFramedBlock, IsPrintableFramed}
 use Rattle.reading_laws.specs.Read.{declared_in, IsReadFunction}
-use Rattle.listing_laws.specs.Laws.{HasNumbers as BlockHasNumbers, HasSmallNumbers, inlined_in, ReadFunctionsArePrintable}
-use Rattle.mir_func.specs.Sound.{IsSound}
+use Rattle.listing_laws.specs.Laws.{inlined_in, ReadFunctionsArePrintable}
 
 -- ---- numbers
 
@@ -89,7 +90,28 @@ unmapped P (s ∷ ss) all =
     All-cons (λ (x : SavedRegister). P x.offset) s ss (All-head P s.offset (map (λ x. x.offset) ss) all)
     (unmapped P ss (All-tail P s.offset (map (λ x. x.offset) ss) all))
 
-module _ (meta : Maps) (f : Function) (read : IsReadFunction meta f) (small : HasSmallNumbers f) (framed : IsFramed (framed_of f)) where
+-- ---- the numbers of a function that was read have 32 bits
+
+-- those of a block: its number and its silent index
+record BlockHasNumbers (b : Block) : Type 0 where
+  id : IsNumber b.id
+  silent : IsNumber b.silent
+
+number : (n : ℕ) → n ≤ MAX_NUMBER → IsNumber n
+number n small = omega (arith, small)
+
+blocks_small : (bs : List Block) → length (items_of bs) ≤ MAX_ITEMS → All (λ b. b.id ≤ MAX_NUMBER) bs → All (λ b. b.silent ≡ length b.items) bs →
+    All BlockHasNumbers bs
+blocks_small [] few ids silent = All-nil BlockHasNumbers
+blocks_small (b ∷ bs) few ids silent =
+    let both = length-append b.items (items_of bs) in
+    let here = All-head (λ (x : Block). x.silent ≡ length x.items) b bs silent in
+    All-cons BlockHasNumbers b bs
+    (record { id = number b.id (All-head (λ (x : Block). x.id ≤ MAX_NUMBER) b bs ids); silent = omega (arith, few, both, here) })
+    (blocks_small bs (omega (arith, few, both)) (All-tail (λ (x : Block). x.id ≤ MAX_NUMBER) b bs ids)
+    (All-tail (λ (x : Block). x.silent ≡ length x.items) b bs silent))
+
+module _ (meta : Maps) (f : Function) (read : IsReadFunction meta f) (framed : IsFramed (framed_of f)) where
   abbrev inlined : ℕ → Option ℕ
   inlined = inlined_in meta
 
@@ -300,7 +322,11 @@ module _ (meta : Maps) (f : Function) (read : IsReadFunction meta f) (small : Ha
       (all_blocks (b ∷ bs) known)
 
   fits : IsPrintableFramed inlined (framed_of f)
-  fits = record { objects = small.objects; blocks = blocks_fit f.blocks (blocks_known f.blocks small.blocks read.form read.printable read.sound.origins) }
+  fits = record {
+    objects = All-weaker (λ (o : func.Object). o.id ≤ MAX_NUMBER) (λ (o : func.Object). IsNumber o.id) (λ o small. number o.id small) f.objects read.objects;
+    blocks = blocks_fit f.blocks (blocks_known f.blocks (blocks_small f.blocks read.few_items read.ids read.read.silent) read.form read.printable
+        read.sound.origins);
+  }
 
 pub printable : ReadFunctionsArePrintable
-printable meta f read small framed = fits meta f read small framed
+printable meta f read framed = fits meta f read framed

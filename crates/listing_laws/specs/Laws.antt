@@ -1,31 +1,19 @@
 -- The function with its frame, of a function that was read, is printable.
-use Rattle.std.specs.Prelude.{ℕ, Option, All}
+use Rattle.std.specs.Prelude.{ℕ, Option}
 use Rattle.meta_reader.specs.Maps.{Maps}
 use Rattle.meta_reader.specs.Metadata.{location_at}
-use Rattle.mir_func.specs.declared.block.Block.{Block}
 use Rattle.mir_func.specs.Function.{Function}
 use Rattle.mir_func.specs.SoundFrame.{IsFramed}
 use Rattle.mir_item.specs.Debug.{inlined_at_node}
-use Rattle.mir_printer.specs.Printable.{IsNumber}
 use Rattle.frame_rule.specs.Rule.{framed_of}
 use Rattle.reading_laws.specs.Read.{IsReadFunction}
 use Rattle.function_listing.specs.Printable.{IsPrintableFramed}
-
--- a block's number and its silent index have 32 bits
-pub record HasNumbers (b : Block) : Type 0 where
-  pub id : IsNumber b.id
-  pub silent : IsNumber b.silent
-
--- so do those of all blocks, and the numbers of stack objects
-pub record HasSmallNumbers (f : Function) : Type 0 where
-  pub objects : All (λ o. IsNumber o.id) f.objects
-  pub blocks : All HasNumbers f.blocks
 
 -- at which node the node of a location is inlined, by the metadata
 abbrev pub inlined_in : Maps → ℕ → Option ℕ
 inlined_in meta n = inlined_at_node (location_at meta n)
 
--- With its frame a function that was read, whose numbers have 32 bits, is printable.
+-- With its frame a function that was read is printable.
 abbrev pub ReadFunctionsArePrintable : Type 0
-ReadFunctionsArePrintable = (meta : Maps) (f : Function) → IsReadFunction meta f → HasSmallNumbers f → IsFramed (framed_of f) →
+ReadFunctionsArePrintable = (meta : Maps) (f : Function) → IsReadFunction meta f → IsFramed (framed_of f) →
     IsPrintableFramed (inlined_in meta) (framed_of f)

@@ -2,8 +2,7 @@
 
 ghost use Rattle.listing_laws.specs.Laws.{ReadFunctionsArePrintable};
 
-/// A function that was read is printable with its frame, where its numbers have 32 bits: so are the listings of its
-/// layouts.
+/// A function that was read is printable with its frame: so are the listings of its layouts.
 pub fn read_functions_are_printable()
     ensures { ReadFunctionsArePrintable }
 {}

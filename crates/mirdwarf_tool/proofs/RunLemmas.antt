@@ -1,35 +1,48 @@
 -- Why a run ended as it did.
-use Rattle.std.specs.Prelude.{◌⊎◌, true, false, Option, Some}
+use Rattle.std.specs.Prelude.{◌⊎◌, Option, Some}
 use Rattle.std.proofs.Common.{◌≡◌, ℕ, List, [], ◌∷◌, ◌+◌, ap, sym, ◌∙◌, refl, subst, inr, arith}
 use Rattle.io_edge.specs.Told.{Takes, TakesCount}
 use Rattle.io_edge.proofs.ToldLemmas.{Takes-told, TakesCount-told}
 use Rattle.command_line.specs.declared.command.Command.{Command}
-use Rattle.command_line.specs.declared.command.Command.TheVariants.{Compile, Strip}
+use Rattle.command_line.specs.declared.command.Command.TheVariants.{Compile, Listing, Strip}
 use Rattle.command_line.specs.Command.{words_of}
 use Rattle.command_line.specs.declared.fault.Fault.{Fault}
-use Rattle.command_line.specs.declared.fault.Fault.TheVariants.{Usage, Read, TooLong, Refused, NoFunction, NotBuilt, Write, Memory}
+use Rattle.command_line.specs.declared.fault.Fault.TheVariants.{Usage, Read, TooLong, Refused, NoFunction, FrameTooLarge, SectionTooLarge, Write, Memory}
 use Rattle.command_line.specs.declared.status.Status.TheVariants as status
 use Rattle.command_line.specs.Fault.{status_of, line_of}
 use Rattle.mir_parser.specs.declared.program.Program.{Program}
-use Rattle.output_text.specs.Output.{Output}
-use Rattle.output_text.specs.Shown.{OfShown}
+use Rattle.compiled_text.specs.declared.output.Output.{Output}
+use Rattle.output_laws.proofs.Functions.{printable}
+use Rattle.output_promise.specs.Laws.{AreCompiledTo}
+use Rattle.program_compiler.specs.Program.{sources_of, names_of, HasSections}
+use Rattle.reading_laws.proofs.Texts.{programs_are_as_read}
 use Rattle.mirdwarf_tool.specs.Limits.{INPUT_LIMIT}
-use Rattle.mirdwarf_tool.specs.Told.{inlined_by, names_by}
-use Rattle.mirdwarf_tool.specs.Promise.{SourceFunction, unsubstituted, AreLaidOut, Promises, ListsSources}
-use Rattle.mirdwarf_tool.specs.Compiled.{CompilesProgram}
+use Rattle.mirdwarf_tool.specs.Compiled.{IsCompiledText}
 use Rattle.mirdwarf_tool.specs.Answer.{HasFunctions, Answers, IsAnswered, RefusesToWrite, RefusesText}
-use Rattle.mirdwarf_tool.specs.Run.{Finishes, sources_of, HasWritten, KeepsHeadline, WroteExactly, WroteWords, Explains, IsTooLong}
+use Rattle.mirdwarf_tool.specs.Run.{Finishes, HasWritten, Explains, IsTooLong}
 use Rattle.mirdwarf_tool.specs.Run.{Refuses, RefusesRead, ReadingEnded, TellsRefusal, IsAnswerable, HasRead}
 use Rattle.mirdwarf_tool.specs.Stream.{Change, MetFault, IsReadWhole, IsWrittenWhole, IsTold}
 use Rattle.mirdwarf_tool.proofs.OneProgram.{program_not_refused, programs_one}
+use Rattle.mirdwarf_tool.proofs.Sentences.{compiled_to, of_shown}
 
 -- ---- the words
+
+-- the first byte of the first word
+abbrev first_byte : List (List ℕ) → ℕ
+first_byte [] = 0
+first_byte ([] ∷ words) = 0
+first_byte ((b ∷ word) ∷ words) = b
 
 -- the command of words
 one_command : (a b : Command) → words_of a ≡ words_of b → a ≡ b
 one_command Compile Compile e = refl
+one_command Compile Listing e = absurd (let no : 99 ≡ 108 = ap first_byte e in omega (arith, no))
 one_command Compile Strip e = cc
+one_command Listing Compile e = absurd (let no : 108 ≡ 99 = ap first_byte e in omega (arith, no))
+one_command Listing Listing e = refl
+one_command Listing Strip e = absurd (let no : 108 ≡ 115 = ap first_byte e in omega (arith, no))
 one_command Strip Compile e = cc
+one_command Strip Listing e = absurd (let no : 115 ≡ 108 = ap first_byte e in omega (arith, no))
 one_command Strip Strip e = refl
 
 -- ---- what is compiled
@@ -41,7 +54,7 @@ record Compiled (input output : Change) : Type 0 where
   program : Program
   has : HasFunctions text program
   bytes : List ℕ
-  compiles : CompilesProgram program bytes
+  compiles : IsCompiledText program bytes
   written : IsWrittenWhole output bytes
 
 compiled : (words : List (List ℕ)) (input output : Change) → Finishes words input output → words ≡ words_of Compile → Compiled input output
@@ -58,54 +71,23 @@ compiled words input output is asked =
       written = is.written;
     }
 
-sources_same : (program : Program) (bytes : List ℕ) (is : CompilesProgram program bytes) →
-    unsubstituted is.parsed.func ∷ [] ≡ sources_of program.functions
-sources_same program bytes is =
-    (λ j. record { function = is.parsed.func; substitutions = sym is.bare j } ∷ []) ∙ ap sources_of (sym is.one)
-
-module _ (program : Program) (bytes : List ℕ) (P : List SourceFunction → Output → Type 0) (is : CompilesProgram program bytes) where
-  of_sources : OfShown (inlined_by program.meta) (P (unsubstituted is.parsed.func ∷ [])) bytes → OfShown (inlined_by program.meta)
-      (P (sources_of program.functions)) bytes
-  of_sources shown =
-      subst (λ (ss : List SourceFunction). OfShown (inlined_by program.meta) (P ss) bytes) (sources_same program bytes is) shown
-
-has_written : (input output : Change) → Compiled input output → HasWritten input output
-has_written input output is = record {
-  text = is.text;
-  read = is.read;
-  program = is.program;
-  has = is.has;
-  bytes = is.bytes;
-  written = is.written;
-  laid_out = of_sources is.program is.bytes (AreLaidOut (names_by is.program.meta)) is.compiles is.compiles.compiles.laid_out;
-}
-
-kept : (input output : Change) → Compiled input output → KeepsHeadline input output
-unfolding has_written
-kept input output is =
-    record { wrote = has_written input output is; headline = of_sources is.program is.bytes Promises is.compiles is.compiles.compiles.promise }
-
-exactly : (input output : Change) → Compiled input output → WroteExactly input output
-unfolding has_written
-exactly input output is =
+-- what holds of each output that is a compilation of a program that was read holds of what was written
+pub has_written : (P : Program → Output → Type 0) →
+    ((program : Program) (o : Output) → AreCompiledTo (names_of program.meta) (sources_of program.functions) o → HasSections program o → P program o) →
+    (words : List (List ℕ)) (input output : Change) → Finishes words input output → words ≡ words_of Compile → HasWritten P input output
+has_written P holds words input output finished asked =
+    let is = compiled words input output finished asked in
+    let read = programs_are_as_read is.text is.program is.has.reads in
     record {
-      wrote = has_written input output is;
-      listed = of_sources is.program is.bytes ListsSources is.compiles is.compiles.compiles.listed;
-      exact = is.compiles.compiles.exact;
+      text = is.text;
+      read = is.read;
+      program = is.program;
+      has = is.has;
+      bytes = is.bytes;
+      written = is.written;
+      shown = of_shown printable is.program is.bytes read is.compiles (P is.program)
+          (holds is.program is.compiles.output (compiled_to is.program is.compiles.output read is.compiles.is) is.compiles.is.sections);
     }
-
-by_words : (input output : Change) → Compiled input output → WroteWords input output
-unfolding has_written
-by_words input output is = record { wrote = has_written input output is; words = is.compiles.compiles.words }
-
-pub headline_kept : (words : List (List ℕ)) (input output : Change) → Finishes words input output → words ≡ words_of Compile → KeepsHeadline input output
-headline_kept words input output is asked = kept input output (compiled words input output is asked)
-
-pub wrote_exactly : (words : List (List ℕ)) (input output : Change) → Finishes words input output → words ≡ words_of Compile → WroteExactly input output
-wrote_exactly words input output is asked = exactly input output (compiled words input output is asked)
-
-pub wrote_words : (words : List (List ℕ)) (input output : Change) → Finishes words input output → words ≡ words_of Compile → WroteWords input output
-wrote_words words input output is asked = by_words input output (compiled words input output is asked)
 
 -- ---- the fault by the status
 
@@ -115,7 +97,8 @@ is_usage Read e = cc
 is_usage TooLong e = cc
 is_usage (Refused r) e = cc
 is_usage NoFunction e = cc
-is_usage NotBuilt e = cc
+is_usage FrameTooLarge e = cc
+is_usage SectionTooLarge e = cc
 is_usage Write e = cc
 is_usage Memory e = cc
 
@@ -125,7 +108,8 @@ is_read Read e = refl
 is_read TooLong e = cc
 is_read (Refused r) e = cc
 is_read NoFunction e = cc
-is_read NotBuilt e = cc
+is_read FrameTooLarge e = cc
+is_read SectionTooLarge e = cc
 is_read Write e = cc
 is_read Memory e = cc
 
@@ -135,7 +119,8 @@ is_write Read e = cc
 is_write TooLong e = cc
 is_write (Refused r) e = cc
 is_write NoFunction e = cc
-is_write NotBuilt e = cc
+is_write FrameTooLarge e = cc
+is_write SectionTooLarge e = cc
 is_write Write e = refl
 is_write Memory e = cc
 
@@ -145,7 +130,8 @@ is_memory Read e = cc
 is_memory TooLong e = cc
 is_memory (Refused r) e = cc
 is_memory NoFunction e = cc
-is_memory NotBuilt e = cc
+is_memory FrameTooLarge e = cc
+is_memory SectionTooLarge e = cc
 is_memory Write e = cc
 is_memory Memory e = refl
 
@@ -155,7 +141,8 @@ not_done Read e = cc
 not_done TooLong e = cc
 not_done (Refused r) e = cc
 not_done NoFunction e = cc
-not_done NotBuilt e = cc
+not_done FrameTooLarge e = cc
+not_done SectionTooLarge e = cc
 not_done Write e = cc
 not_done Memory e = cc
 
@@ -171,7 +158,8 @@ pub refusal : (words : List (List ℕ)) (input output faults : Change) (fault : 
 refusal words input output faults TooLong e ended told = tells words input faults TooLong ended ended.ended told
 refusal words input output faults (Refused r) e ended told = tells words input faults (Refused r) ended ended.ended told
 refusal words input output faults NoFunction e ended told = tells words input faults NoFunction ended ended.ended told
-refusal words input output faults NotBuilt e ended told = tells words input faults NotBuilt ended ended.ended told
+refusal words input output faults FrameTooLarge e ended told = tells words input faults FrameTooLarge ended ended.ended told
+refusal words input output faults SectionTooLarge e ended told = tells words input faults SectionTooLarge ended ended.ended told
 refusal words input output faults Usage e ended told = absurd cc
 refusal words input output faults Read e ended told = absurd cc
 refusal words input output faults Write e ended told = absurd cc
@@ -180,22 +168,15 @@ refusal words input output faults Memory e ended told = absurd cc
 -- ---- what is answered isn't refused
 
 writes_or_memory : (command : Command) (program : Program) (fault : Fault) → IsAnswered command program → RefusesToWrite command program fault → fault ≡ Memory
-writes_or_memory Compile program NotBuilt built refused = absurd (let both : true ≡ false = sym built ∙ refused in cc)
-writes_or_memory Compile program (Refused r) built refused = absurd refused
-writes_or_memory Compile program NoFunction built refused = absurd refused
-writes_or_memory Compile program Memory built refused = refl
-writes_or_memory Compile program Usage built refused = absurd refused
-writes_or_memory Compile program Read built refused = absurd refused
-writes_or_memory Compile program TooLong built refused = absurd refused
-writes_or_memory Compile program Write built refused = absurd refused
-writes_or_memory Strip program NotBuilt built refused = absurd refused
-writes_or_memory Strip program (Refused r) built refused = absurd refused
-writes_or_memory Strip program NoFunction built refused = absurd refused
-writes_or_memory Strip program Memory built refused = refl
-writes_or_memory Strip program Usage built refused = absurd refused
-writes_or_memory Strip program Read built refused = absurd refused
-writes_or_memory Strip program TooLong built refused = absurd refused
-writes_or_memory Strip program Write built refused = absurd refused
+writes_or_memory command program FrameTooLarge answered refused = absurd (answered.frames refused)
+writes_or_memory command program SectionTooLarge answered refused = absurd (answered.sections refused)
+writes_or_memory command program Memory answered refused = refl
+writes_or_memory command program (Refused r) answered refused = absurd refused
+writes_or_memory command program NoFunction answered refused = absurd refused
+writes_or_memory command program Usage answered refused = absurd refused
+writes_or_memory command program Read answered refused = absurd refused
+writes_or_memory command program TooLong answered refused = absurd refused
+writes_or_memory command program Write answered refused = absurd refused
 
 answered_or_memory : (command : Command) (text : List ℕ) (program : Program) (fault : Fault) → HasFunctions text program → IsAnswered command program →
     RefusesText command text fault → fault ≡ Memory
@@ -203,9 +184,12 @@ answered_or_memory command text program (Refused r) has answered refused = absur
 answered_or_memory command text program NoFunction has answered refused =
     let same : program ≡ refused.program = programs_one text program refused.program has.reads refused.reads in
     absurd (has.some (ap (λ (p : Program). p.functions) same ∙ refused.no_one))
-answered_or_memory command text program NotBuilt has answered refused =
+answered_or_memory command text program FrameTooLarge has answered refused =
     let same : refused.program ≡ program = programs_one text refused.program program refused.has.reads has.reads in
-    writes_or_memory command program NotBuilt answered (subst (λ (p : Program). RefusesToWrite command p NotBuilt) same refused.refused)
+    writes_or_memory command program FrameTooLarge answered (subst (λ (p : Program). RefusesToWrite command p FrameTooLarge) same refused.refused)
+answered_or_memory command text program SectionTooLarge has answered refused =
+    let same : refused.program ≡ program = programs_one text refused.program program refused.has.reads has.reads in
+    writes_or_memory command program SectionTooLarge answered (subst (λ (p : Program). RefusesToWrite command p SectionTooLarge) same refused.refused)
 answered_or_memory command text program Memory has answered refused = refl
 answered_or_memory command text program Usage has answered refused = absurd refused
 answered_or_memory command text program Read has answered refused = absurd refused
@@ -243,5 +227,7 @@ complete command words input output (Refused r) asked form no_read no_write expl
     absurd (let no : Refused r ≡ Memory = not_refused command words input (Refused r) asked form explains explains.ended in cc)
 complete command words input output NoFunction asked form no_read no_write explains =
     absurd (let no : NoFunction ≡ Memory = not_refused command words input NoFunction asked form explains explains.ended in cc)
-complete command words input output NotBuilt asked form no_read no_write explains =
-    absurd (let no : NotBuilt ≡ Memory = not_refused command words input NotBuilt asked form explains explains.ended in cc)
+complete command words input output FrameTooLarge asked form no_read no_write explains =
+    absurd (let no : FrameTooLarge ≡ Memory = not_refused command words input FrameTooLarge asked form explains explains.ended in cc)
+complete command words input output SectionTooLarge asked form no_read no_write explains =
+    absurd (let no : SectionTooLarge ≡ Memory = not_refused command words input SectionTooLarge asked form explains explains.ended in cc)

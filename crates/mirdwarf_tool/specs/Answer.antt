@@ -1,16 +1,16 @@
 -- What a command writes of a text, or why it refuses it.
-use Rattle.std.specs.Prelude.{◌≡◌, ◌≢◌, ℕ, true, false, List, [], Ok, Err}
+use Rattle.std.specs.Prelude.{◌≡◌, ◌≢◌, ℕ, Bool, true, false, List, [], Ok, Err}
 use Rattle.refusal.specs.declared.first.Refusal.{Refusal}
 use Rattle.mir_parser.specs.declared.program.Program.{Program}
 use Rattle.mir_parser.specs.declared.error.ParseError.TheVariants as errors
 use Rattle.mir_parser.specs.Program.{ReadsText}
+use Rattle.program_compiler.specs.Program.{HasLargeFrame, HasLargeSection}
 use Rattle.strip_text.specs.StripText.{stripped_text}
 use Rattle.command_line.specs.declared.command.Command.{Command}
-use Rattle.command_line.specs.declared.command.Command.TheVariants.{Compile, Strip}
+use Rattle.command_line.specs.declared.command.Command.TheVariants.{Compile, Listing, Strip}
 use Rattle.command_line.specs.declared.fault.Fault.{Fault}
-use Rattle.command_line.specs.declared.fault.Fault.TheVariants.{Usage, Read, TooLong, Refused, NoFunction, NotBuilt, Write, Memory}
-use Rattle.mirdwarf_tool.specs.Built.{is_built}
-use Rattle.mirdwarf_tool.specs.Compiled.{CompilesProgram}
+use Rattle.command_line.specs.declared.fault.Fault.TheVariants.{Usage, Read, TooLong, Refused, NoFunction, FrameTooLarge, SectionTooLarge, Write, Memory}
+use Rattle.mirdwarf_tool.specs.Compiled.{IsCompiledText, IsListingText}
 
 -- a text stands for a program with a function
 pub record HasFunctions (text : List ℕ) (program : Program) : Type 0 where
@@ -19,13 +19,25 @@ pub record HasFunctions (text : List ℕ) (program : Program) : Type 0 where
 
 -- what a command writes of a program
 abbrev pub Answers : Command → Program → (output : List ℕ) → Type 0
-Answers Compile program output = CompilesProgram program output
+Answers Compile program output = IsCompiledText program output
+Answers Listing program output = IsListingText program output
 Answers Strip program output = output ≡ stripped_text program.functions
 
--- the programs of which it writes something
-abbrev pub IsAnswered : Command → Program → Type 0
-IsAnswered Compile program = is_built program ≡ true
-IsAnswered Strip program = Unit {0}
+-- the commands that compile
+abbrev pub is_compiling : Command → Bool
+is_compiling Compile = true
+is_compiling Listing = true
+is_compiling Strip = false
+
+-- the program is too large for a command that compiles: it has a frame or a section above the limit
+pub record IsTooLargeFor (command : Command) (large : Type 0) : Type 0 where
+  pub compiles : is_compiling command ≡ true
+  pub is : large
+
+-- the programs of which a command writes something
+pub record IsAnswered (command : Command) (program : Program) : Type 0 where
+  pub frames : IsTooLargeFor command (HasLargeFrame program.functions) → ⊥
+  pub sections : IsTooLargeFor command (HasLargeSection program) → ⊥
 
 -- a text stands for a program without a function
 pub record HasNoFunction (text : List ℕ) : Type 0 where
@@ -48,16 +60,29 @@ abbrev pub RefusesProgram : (text : List ℕ) → Fault → Type 0
 RefusesProgram text (Refused r) = IsRefusedAt text r
 RefusesProgram text Memory = Unit {0}
 RefusesProgram text NoFunction = ⊥
-RefusesProgram text NotBuilt = ⊥
+RefusesProgram text FrameTooLarge = ⊥
+RefusesProgram text SectionTooLarge = ⊥
 RefusesProgram text Usage = ⊥
 RefusesProgram text Read = ⊥
 RefusesProgram text TooLong = ⊥
 RefusesProgram text Write = ⊥
 
+-- why a program has no output
+abbrev pub RefusesToCompile : Program → Fault → Type 0
+RefusesToCompile program FrameTooLarge = HasLargeFrame program.functions
+RefusesToCompile program SectionTooLarge = HasLargeSection program
+RefusesToCompile program Memory = Unit {0}
+RefusesToCompile program (Refused r) = ⊥
+RefusesToCompile program NoFunction = ⊥
+RefusesToCompile program Usage = ⊥
+RefusesToCompile program Read = ⊥
+RefusesToCompile program TooLong = ⊥
+RefusesToCompile program Write = ⊥
+
 -- why a command writes nothing of a program
 abbrev pub RefusesToWrite : Command → Program → Fault → Type 0
-RefusesToWrite Compile program NotBuilt = is_built program ≡ false
-RefusesToWrite Strip program NotBuilt = ⊥
+RefusesToWrite command program FrameTooLarge = IsTooLargeFor command (HasLargeFrame program.functions)
+RefusesToWrite command program SectionTooLarge = IsTooLargeFor command (HasLargeSection program)
 RefusesToWrite command program Memory = Unit {0}
 RefusesToWrite command program (Refused r) = ⊥
 RefusesToWrite command program NoFunction = ⊥
@@ -76,7 +101,8 @@ pub record HoldsBack (command : Command) (text : List ℕ) (fault : Fault) : Typ
 abbrev pub RefusesText : Command → (text : List ℕ) → Fault → Type 0
 RefusesText command text (Refused r) = IsRefusedAt text r
 RefusesText command text NoFunction = HasNoFunction text
-RefusesText command text NotBuilt = HoldsBack command text NotBuilt
+RefusesText command text FrameTooLarge = HoldsBack command text FrameTooLarge
+RefusesText command text SectionTooLarge = HoldsBack command text SectionTooLarge
 RefusesText command text Memory = Unit {0}
 RefusesText command text Usage = ⊥
 RefusesText command text Read = ⊥

@@ -1,11 +1,6 @@
 pub mod Limits
-pub mod Listing
-pub mod Told
-pub mod Built
-pub mod Frame
-pub mod Promise
-pub mod Words
 pub mod Compiled
+pub mod Promise
 pub mod Stream
 pub mod Answer
 pub mod Run

@@ -1,18 +1,20 @@
 -- What a run of the command did to its input, its output and its faults.
-use Rattle.std.specs.Prelude.{◌≡◌, ℕ, ◌+◌, ◌≤◌, List, length, map, Option, Some}
-use Rattle.mir_parser.specs.declared.closing.Parsed.{Parsed}
+use Rattle.std.specs.Prelude.{◌≡◌, ℕ, ◌+◌, ◌≤◌, List, length, Option, Some}
+use Rattle.compiled_text.specs.declared.output.Output.{Output}
+use Rattle.compiled_text.specs.Shown.{OfShown}
+use Rattle.listing_laws.specs.Laws.{inlined_in}
 use Rattle.mir_parser.specs.declared.program.Program.{Program}
 use Rattle.command_line.specs.declared.command.Command.{Command}
 use Rattle.command_line.specs.declared.fault.Fault.{Fault}
-use Rattle.command_line.specs.declared.fault.Fault.TheVariants.{Usage, Read, TooLong, Refused, NoFunction, NotBuilt, Write, Memory}
+use Rattle.command_line.specs.declared.fault.Fault.TheVariants.{Usage, Read, TooLong, Refused, NoFunction, FrameTooLarge, SectionTooLarge, Write, Memory}
 use Rattle.command_line.specs.Command.{words_of}
 use Rattle.command_line.specs.Fault.{line_of}
 use Rattle.mirdwarf_tool.specs.Limits.{INPUT_LIMIT}
 use Rattle.mirdwarf_tool.specs.Answer.{HasFunctions, AnswersText, IsAnswered, RefusesText}
-use Rattle.output_text.specs.Shown.{OfShown}
-use Rattle.mirdwarf_tool.specs.Promise.{SourceFunction, AreLaidOut, Promises, IsExact, ListsSources}
-use Rattle.mirdwarf_tool.specs.Told.{inlined_by, names_by}
-use Rattle.mirdwarf_tool.specs.Words.{HaveWords}
+use Rattle.output_promise.specs.Promise.{AreLaidOut, Promises, IsExact, ListsSources}
+use Rattle.output_promise.specs.Words.{HaveWords}
+use Rattle.program_compiler.specs.Program.{sources_of, names_of, HasSections}
+use Rattle.mirdwarf_tool.specs.Promise.{AllGiveBack, AllStopWell}
 use Rattle.mirdwarf_tool.specs.Stream.{Change, MetFault, IsReadWhole, IsReadFor, IsWrittenWhole, IsWrittenInPart, IsTold}
 
 -- the words are those of a command
@@ -63,7 +65,8 @@ abbrev pub Refuses : Command → (input : Change) → Fault → Type 0
 Refuses command input TooLong = IsTooLong input
 Refuses command input (Refused r) = RefusesRead command input (Refused r)
 Refuses command input NoFunction = RefusesRead command input NoFunction
-Refuses command input NotBuilt = RefusesRead command input NotBuilt
+Refuses command input FrameTooLarge = RefusesRead command input FrameTooLarge
+Refuses command input SectionTooLarge = RefusesRead command input SectionTooLarge
 Refuses command input Usage = ⊥
 Refuses command input Read = ⊥
 Refuses command input Write = ⊥
@@ -86,39 +89,51 @@ pub record IsAnswerable (command : Command) (left : Option (List ℕ)) : Type 0 
   pub has : HasFunctions text program
   pub answered : IsAnswered command program
 
--- the functions of a program that was read
-abbrev pub sources_of : List Parsed → List SourceFunction
-sources_of functions = map (λ p. record { function = p.func; substitutions = p.subs }) functions
-
--- a text was read that stands for a program with a function, and bytes were written that show each of its functions laid out.
--- What they leave out its metadata tells: the names of variables, and at which node each node of a location is inlined
-pub record HasWritten (input output : Change) : Type 0 where
+-- a text was read that stands for a program with a function, bytes were written, and this holds of every output that they show (there is one)
+pub record HasWritten (P : Program → Output → Type 0) (input output : Change) : Type 0 where
   pub text : List ℕ
   pub read : HasRead input text
   pub program : Program
   pub has : HasFunctions text program
   pub bytes : List ℕ
   pub written : IsWrittenWhole output bytes
-  pub laid_out : OfShown (inlined_by program.meta) (AreLaidOut (names_by program.meta) (sources_of program.functions)) bytes
+  pub shown : OfShown (inlined_in program.meta) (P program) bytes
 
 -- the headline holds of what was read and what was written, for each function: from every start, for every script and number of
 -- steps, the machine on the code that the bytes show stands where their lines say the source stands, with the source's events
 -- and result, and each place that their section gives for a variable holds its newest assignment
-pub record KeepsHeadline (input output : Change) : Type 0 where
-  pub wrote : HasWritten input output
-  pub headline : OfShown (inlined_by wrote.program.meta) (Promises (sources_of wrote.program.functions)) wrote.bytes
+abbrev pub KeepsHeadline : (input output : Change) → Type 0
+KeepsHeadline input output = HasWritten (λ p. Promises (sources_of p.functions)) input output
 
--- the bytes show the functions that were read, and their section gives each variable the place that is wanted at the address of
--- each byte of a line that they show, and none exactly where none is wanted
-pub record WroteExactly (input output : Change) : Type 0 where
-  pub wrote : HasWritten input output
-  pub listed : OfShown (inlined_by wrote.program.meta) (ListsSources (sources_of wrote.program.functions)) wrote.bytes
-  pub exact : OfShown (inlined_by wrote.program.meta) IsExact wrote.bytes
+-- at each return of a function the registers that it is to keep are as at its start
+abbrev pub KeepsRegisters : (input output : Change) → Type 0
+KeepsRegisters input output = HasWritten (λ p. AllGiveBack (sources_of p.functions)) input output
 
--- the bytes show the bytes of its instruction at each line that has an address
-pub record WroteWords (input output : Change) : Type 0 where
-  pub wrote : HasWritten input output
-  pub words : OfShown (inlined_by wrote.program.meta) HaveWords wrote.bytes
+-- the machine on a function's code stops nowhere but at a return, or where it waits for an answer
+abbrev pub StopsAtReturns : (input output : Change) → Type 0
+StopsAtReturns input output = HasWritten (λ p. AllStopWell (sources_of p.functions)) input output
+
+-- the section of lists gives each part of a variable the place that is wanted at the address of each byte of a line that is shown, and none
+-- exactly where none is wanted; and it gives none at any other address
+abbrev pub WroteExactly : (input output : Change) → Type 0
+WroteExactly input output = HasWritten (λ p. IsExact) input output
+
+-- the functions that were read are shown one after the other, in each its lines from its first address to its end, with its name, its stack
+-- objects and its variables, whose lists are numbered over all functions and whose names the metadata tells
+abbrev pub WroteLaidOut : (input output : Change) → Type 0
+WroteLaidOut input output = HasWritten (λ p. AreLaidOut (names_of p.meta) (sources_of p.functions)) input output
+
+-- the lines show the functions that were read, each with its frame, and their substitutions
+abbrev pub WroteSources : (input output : Change) → Type 0
+WroteSources input output = HasWritten (λ p. ListsSources (sources_of p.functions)) input output
+
+-- the bytes of its instruction stand at each line that has an address
+abbrev pub WroteWords : (input output : Change) → Type 0
+WroteWords input output = HasWritten (λ p. HaveWords) input output
+
+-- the sections of entries and of lines are those of the program's unit and of its line number table, by the standard's one spelling
+abbrev pub WroteSections : (input output : Change) → Type 0
+WroteSections input output = HasWritten HasSections input output
 
 -- why an input gave nothing to write
 abbrev pub ReadingEnds : Command → (input : Change) → Fault → Type 0
@@ -127,7 +142,8 @@ ReadingEnds command input Memory = Unit {0}
 ReadingEnds command input TooLong = Refuses command input TooLong
 ReadingEnds command input (Refused r) = Refuses command input (Refused r)
 ReadingEnds command input NoFunction = Refuses command input NoFunction
-ReadingEnds command input NotBuilt = Refuses command input NotBuilt
+ReadingEnds command input FrameTooLarge = Refuses command input FrameTooLarge
+ReadingEnds command input SectionTooLarge = Refuses command input SectionTooLarge
 ReadingEnds command input Usage = ⊥
 ReadingEnds command input Write = ⊥
 
@@ -146,4 +162,5 @@ Explains words input output Memory = ReadingEnded words input Memory
 Explains words input output TooLong = ReadingEnded words input TooLong
 Explains words input output (Refused r) = ReadingEnded words input (Refused r)
 Explains words input output NoFunction = ReadingEnded words input NoFunction
-Explains words input output NotBuilt = ReadingEnded words input NotBuilt
+Explains words input output FrameTooLarge = ReadingEnded words input FrameTooLarge
+Explains words input output SectionTooLarge = ReadingEnded words input SectionTooLarge

@@ -3,11 +3,10 @@
 ghost use Rattle.std.specs.Prelude.{◌≡◌, ◌^◌, ◌<◌, length, Ok, IfOk, IfErr};
 ghost use Rattle.mirdwarf_tool.specs.Answer.{Answers, AnswersText};
 ghost use Rattle.mirdwarf_tool.specs.Answer.{RefusesText, RefusesProgram, RefusesToWrite};
-ghost use Rattle.mirdwarf_tool.specs.Compiled.{CompilesProgram};
 ghost use Rattle.mir_parser.specs.Program.{ReadsText};
+ghost use Rattle.reading_laws.specs.Read.{IsReadProgram};
 
-use crate::built::is_built;
-use crate::compile::compile;
+use crate::compiled::{compiled_text, listing_text};
 use command_line::command::Command;
 use command_line::fault::Fault;
 use mir_parser::error::ParseError;
@@ -44,23 +43,13 @@ fn read(alloc: Global, text: &[u8]) -> Result<Program, Fault>
 
 /// What a command writes of a program.
 fn written(alloc: Global, command: Command, program: &Program) -> Result<Text, Fault>
+    requires { IsReadProgram program.now }
     ensures ok { IfOk result (Answers command program.now) }
     ensures err { IfErr result (RefusesToWrite command program.now) }
 {
     match command {
-        Command::Compile => compiled(alloc, program),
+        Command::Compile => compiled_text(alloc, program),
+        Command::Listing => listing_text(alloc, program),
         Command::Strip => Ok(strip_text(alloc, program.functions.as_slice())?),
-    }
-}
-
-/// The sections and the listing of a program.
-fn compiled(alloc: Global, program: &Program) -> Result<Text, Fault>
-    ensures ok { IfOk result (CompilesProgram program.now) }
-    ensures err { IfErr result (RefusesToWrite Command.Compile program.now) }
-{
-    if is_built(alloc, program)? {
-        Ok(compile(alloc, program)?)
-    } else {
-        Err(Fault::NotBuilt)
     }
 }

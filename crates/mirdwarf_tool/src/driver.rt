@@ -4,7 +4,8 @@ ghost use Rattle.std.specs.Prelude.{◌≡◌, ◌≢◌, ◌≤◌, ◌↔◌, 
 ghost use Rattle.command_line.specs.Command.{words_of};
 ghost use Rattle.command_line.specs.Fault.{line_of};
 ghost use Rattle.mirdwarf_tool.specs.Run.{AreCommand, AnswersInput, Finishes, IsCutOff, TellsRefusal, IsAnswerable};
-ghost use Rattle.mirdwarf_tool.specs.Run.{KeepsHeadline, WroteExactly, WroteWords, Explains, ReadingEnds};
+ghost use Rattle.mirdwarf_tool.specs.Run.{KeepsHeadline, KeepsRegisters, StopsAtReturns, WroteExactly, WroteLaidOut};
+ghost use Rattle.mirdwarf_tool.specs.Run.{WroteSources, WroteWords, WroteSections, Explains, ReadingEnds};
 ghost use Rattle.mirdwarf_tool.specs.Stream.{change, MetFault, IsTold};
 
 use crate::answer::answer;
@@ -22,9 +23,10 @@ use std::alloc::Global;
 /// The most bytes that an input may have.
 pub const LIMIT: usize = 16_777_216;
 
-/// Runs the command that the words are: reads the input to its end, and writes what the command asks for. `compile
-/// --passes=none` writes the sections and the listing of the function that the text stands for, `strip` the functions
-/// without their debug items. A fault is told by a line on `faults`.
+/// Runs the command that the words are: reads the input to its end, and writes what the command asks for of the
+/// functions that the text stands for. `compile --passes=none` writes their sections and their listing, `listing
+/// --passes=none` the listing alone, and `strip` the functions without their debug items. A fault is told by a line on
+/// `faults`.
 pub fn mirdwarf<S: Source, K: Sink, E: Sink>(
     alloc: Global,
     words: &[String],
@@ -41,15 +43,31 @@ pub fn mirdwarf<S: Source, K: Sink, E: Sink>(
     ensures read_fault { result ≡ Status.ReadFault → MetFault (change S.left S.faults input.old input.new) }
     ensures write_fault { result ≡ Status.WriteFault → MetFault (change K.written K.faults output.old output.new) }
 
-    // The machine on the written code runs along with the source that was read, and the written lists tell the truth.
+    // What `compile` writes keeps its promise. The machine on the written code runs along with the source that was read,
+    // and the written lists tell the truth.
     ensures headline { result ≡ Status.Done → map string_bytes words.now ≡ words_of Command.Compile →
         KeepsHeadline (change S.left S.faults input.old input.new) (change K.written K.faults output.old output.new) }
+    // At a return the machine gives back the registers that a function is to keep.
+    ensures callee_saved { result ≡ Status.Done → map string_bytes words.now ≡ words_of Command.Compile →
+        KeepsRegisters (change S.left S.faults input.old input.new) (change K.written K.faults output.old output.new) }
+    // It stops nowhere but at a return, or where it waits for an answer.
+    ensures stops { result ≡ Status.Done → map string_bytes words.now ≡ words_of Command.Compile →
+        StopsAtReturns (change S.left S.faults input.old input.new) (change K.written K.faults output.old output.new) }
     // The lists say the place of a variable's value wherever the value is in one on every path, and nothing elsewhere.
     ensures exact { result ≡ Status.Done → map string_bytes words.now ≡ words_of Command.Compile →
         WroteExactly (change S.left S.faults input.old input.new) (change K.written K.faults output.old output.new) }
-    // At each line that is written stand the bytes of its instruction.
+    // Functions, lines, objects and variables stand where they should, with their names.
+    ensures laid_out { result ≡ Status.Done → map string_bytes words.now ≡ words_of Command.Compile →
+        WroteLaidOut (change S.left S.faults input.old input.new) (change K.written K.faults output.old output.new) }
+    // The lines show the functions that were read, with their frames.
+    ensures lists { result ≡ Status.Done → map string_bytes words.now ≡ words_of Command.Compile →
+        WroteSources (change S.left S.faults input.old input.new) (change K.written K.faults output.old output.new) }
+    // At each line with an address stand the bytes of its instruction.
     ensures words { result ≡ Status.Done → map string_bytes words.now ≡ words_of Command.Compile →
         WroteWords (change S.left S.faults input.old input.new) (change K.written K.faults output.old output.new) }
+    // The other sections are those of the program's unit and of its table of lines.
+    ensures sections { result ≡ Status.Done → map string_bytes words.now ≡ words_of Command.Compile →
+        WroteSections (change S.left S.faults input.old input.new) (change K.written K.faults output.old output.new) }
 
     // A text that the command answers is answered, unless a fault is met or memory runs out.
     ensures complete { (command : Command) → map string_bytes words.now ≡ words_of command →

@@ -2,16 +2,14 @@
 //! bytes that the command writes of them.
 //!
 //! The text is read to its end, and stands for a program or is refused at its first bad line. `strip` writes the
-//! functions without their debug items. `compile` lays out a function of one block: each instruction is a word at an
-//! address. A walk over the block gives each value a token where it is made, follows the tokens through copies, and so
-//! finds at each address the first place that holds each variable; where the place changes a range of the variable's
-//! location list ends. Code and lists become sections. All that is written is written at the end: nothing stands on the
-//! output before every byte of it is there.
+//! functions without their debug items. `compile` gives each function its frame and lays its code out from where the
+//! one before it ends. Values are followed over all paths of a function's graph, so that at each address the first
+//! place is known that holds each part of each variable; the ranges of these places are the variable's list. Code,
+//! lists, entries and lines become five sections, with a listing of each function; `listing` writes it alone. All that
+//! is written is one text, which is whole before its first byte stands on the output.
 #![tactic(auto)]
 
 mod answer;
-mod built;
-mod compile;
+mod compiled;
 pub mod driver;
-mod listing;
 pub mod telling;

@@ -8,8 +8,7 @@ use std::alloc::Global;
 use std::process::Abort;
 use std::test::Fail;
 
-/// What stands above the items of a function of one block: a module of LLVM's IR with the debug metadata, and the
-/// function's name.
+/// What stands above the first function's other lines: a module of LLVM's IR with the debug metadata, and its name.
 const HEADER: &[u8] = b"--- |
   define i64 @f(i64 %a) !dbg !3 { ret i64 0 }
   !1 = !DIFile(filename: \"t.c\", directory: \"/d\")
@@ -18,25 +17,38 @@ const HEADER: &[u8] = b"--- |
   !4 = !DILocalVariable(name: \"v\", scope: !3, file: !1, line: 2, type: !2)
   !5 = !DILocation(line: 3, column: 1, scope: !3)
   !6 = !DILocalVariable(name: \"a\", arg: 1, scope: !3, file: !1, line: 1, type: !2)
-  !7 = !DILocation(line: 4, column: 1, scope: !3, inlinedAt: !5)
 ...
 ---
 name: f
-body: |
-  bb.0:
 ";
 
-/// The items of small functions, and what is written of them: a variable, its place lost, two variables that move, a
-/// constant, a variable without a place, a second register, and no variable.
-const ROWS: [(&str, &str); 8] = [
+/// Functions, and the sections and the listing that are written of them: a variable whose value is replaced; a call, a
+/// branch back, a slot, an object and a substitution, with a second function behind; and an object whose address is
+/// taken.
+const COMPILED: [(&str, &str); 3] = [
     (
-        "    DBG_VALUE $x10, $noreg, !4, !DIExpression(), debug-location !5
+        "body: |
+  bb.0:
+    DBG_VALUE $x10, $noreg, !4, !DIExpression(), debug-location !5
     $x10 = ADDI $x10, 1, debug-instr-number 1, debug-location !5
     DBG_INSTR_REF !4, !DIExpression(DW_OP_LLVM_arg, 0), dbg-instr-ref(1, 0), debug-location !5
     PseudoRET implicit $x10, debug-location !5
+...
 ",
         "section .text 8
 1305150067800000
+section .debug_abbrev 83
+011101130503081b081017110112068c01170000022e01030811011206000003
+0500030849130222000004050003080222000005340003084913022200000634
+0003080222000007240003080b0b3e0b000000
+section .debug_info 75
+470000000500010800000000010c00742e63002f640000000000000000000000
+0000080000000c000000076c6f6e670008050266000000000000000000080000
+000576002a000000000000
+section .debug_line 74
+460000000500080029000000010101fb0e0d0001010101000000010000010101
+08012f6400020108020f02742e630000742e6300000009020000000000000000
+05010302010208000101
 section .debug_loclists 22
 12000000050008000100000004000000040008015a00
 function f 00000000 00000008
@@ -49,162 +61,127 @@ block 0
 ",
     ),
     (
-        "    DBG_VALUE $x10, $noreg, !4, !DIExpression()
-    $x10 = ADDI $x10, 1
+        "stack:
+  - { id: 0, size: 8 }
+  - { id: 1, size: 16, alignment: 8 }
+debugValueSubstitutions:
+  - { srcinst: 3, srcop: 0, dstinst: 1, dstop: 5, subreg: 0 }
+body: |
+  bb.0:
+    DBG_VALUE $x10, $noreg, !6, !DIExpression()
+    SD $x10, %stack.0, 0, debug-location !5
+    $x11 = ADDI %stack.1, 8
+  bb.1:
+    PseudoCALL @h, csr_ilp32_lp64, implicit-def dead $x1, implicit $x10, implicit $x11, implicit-def $x10, debug-instr-number 1
+    DBG_INSTR_REF !4, !DIExpression(DW_OP_LLVM_arg, 0), dbg-instr-ref(3, 0)
+    BNE $x10, $x0, %bb.1
+  bb.2:
+    $x10 = LD %stack.0, 0, debug-instr-number 2
+    DBG_INSTR_REF !4, !DIExpression(DW_OP_LLVM_arg, 0), dbg-instr-ref(2, 0)
     PseudoRET implicit $x10
+...
+---
+name: g
+body: |
+  bb.0:
+    DBG_VALUE 7, $noreg, !4, !DIExpression()
+    PseudoRET
+...
 ",
-        "section .text 8
-1305150067800000
-section .debug_loclists 22
-12000000050008000100000004000000040004015a00
-function f 00000000 00000008
-variable 0 !4 - v
+        "section .text 48
+130101fe233411002330a1009305810197000000e7800000e31c05fe03350100
+83308100130101026780000067800000
+section .debug_abbrev 83
+011101130503081b081017110112068c01170000022e01030811011206000003
+0500030849130222000004050003080222000005340003084913022200000634
+0003080222000007240003080b0b3e0b000000
+section .debug_info 107
+670000000500010800000000010c00742e63002f640000000000000000000000
+0000300000000c000000076c6f6e6700080502660000000000000000002c0000
+000361002a000000000576002a00000001000267002c00000000000000040000
+000576002a000000020000
+section .debug_line 100
+600000000500080029000000010101fb0e0d0001010101000000010000010101
+08012f6400020108020f02742e630000742e6300000009020000000000000000
+05010302010500020c037d0102200001010009022c00000000000000037f0102
+04000101
+section .debug_loclists 55
+3300000005000800030000000c0000001d00000023000000040810015a041020
+02720004202c015a0004182c015a00042c300311079f00
+function f 00000000 0000002c
+object 1 16 0
+variable 0 !6 - a
+variable 1 !4 - v
+substitute 3 0 1 5 0
+00000000 <0.0 $x2 = ADDI $x2, -32
+00000004 <0.0 SD $x1, $x2, 8
 block 0
-- =0.0 DBG_VALUE $x10, $noreg, !4, !DIExpression()
-00000000 =0.1 $x10 = ADDI $x10, 1
-00000004 =0.2 PseudoRET implicit $x10
+- =0.0 DBG_VALUE $x10, $noreg, !6, !DIExpression()
+00000008 =0.1 SD $x10, $x2, 0, debug-location !5
+0000000c =0.2 $x11 = ADDI $x2, 24
+block 1
+00000010 =1.0 PseudoCALL @h, mask, implicit-def $x1, implicit $x10, implicit $x11, implicit-def $x10, debug-instr-number 1
+- =1.1 DBG_INSTR_REF !4, !DIExpression(DW_OP_LLVM_arg, 0), dbg-instr-ref(3, 0)
+00000018 =1.2 BNE $x10, $x0, %bb.1
+block 2
+0000001c =2.0 $x10 = LD $x2, 0, debug-instr-number 2
+- =2.1 DBG_INSTR_REF !4, !DIExpression(DW_OP_LLVM_arg, 0), dbg-instr-ref(2, 0)
+00000020 <2.2 $x1 = LD $x2, 8
+00000024 <2.2 $x2 = ADDI $x2, 32
+00000028 =2.2 PseudoRET implicit $x10
+function g 0000002c 00000030
+variable 2 !4 - v
+block 0
+- =0.0 DBG_VALUE 7, $noreg, !4, !DIExpression()
+0000002c =0.1 PseudoRET
 ",
     ),
     (
-        "    DBG_VALUE $x10, $noreg, !4, !DIExpression()
-    DBG_VALUE $x11, $noreg, !6, !DIExpression()
-    $x12 = ADDI $x10, 0, debug-instr-number 1
-    $x10 = ADD $x10, $x11, debug-instr-number 2
-    DBG_INSTR_REF !4, !DIExpression(DW_OP_LLVM_arg, 0), dbg-instr-ref(1, 0), debug-location !5
-    $x11 = ADDI $x0, 7, debug-instr-number 3
-    DBG_INSTR_REF !6, !DIExpression(DW_OP_LLVM_arg, 0), dbg-instr-ref(3, 0)
-    $x12 = ADDI $x10, 0
-    $x10 = ADD $x10, $x11, debug-instr-number 4
-    DBG_INSTR_REF !4, !DIExpression(DW_OP_LLVM_arg, 0), dbg-instr-ref(2, 0)
-    PseudoRET implicit $x10, debug-location !5
+        "stack:
+  - { id: 0, size: 16, alignment: 8 }
+body: |
+  bb.0:
+    $x11 = ADDI %stack.0, 8
+    SD $x10, $x11, 0
+    $x10 = LD %stack.0, 8, debug-instr-number 1
+    DBG_INSTR_REF !4, !DIExpression(DW_OP_LLVM_arg, 0), dbg-instr-ref(1, 0)
+    PseudoRET implicit $x10
+...
 ",
         "section .text 24
-130605003305b50093057000130605003305b50067800000
-section .debug_loclists 49
-2d00000005000800020000000800000018000000040008015a040810015c0414
-18015c0004000c015b040c180311079f00
+130101ff9305810023b0a500033581001301010167800000
+section .debug_abbrev 83
+011101130503081b081017110112068c01170000022e01030811011206000003
+0500030849130222000004050003080222000005340003084913022200000634
+0003080222000007240003080b0b3e0b000000
+section .debug_info 75
+470000000500010800000000010c00742e63002f640000000000000000000000
+0000180000000c000000076c6f6e670008050266000000000000000000180000
+000576002a000000000000
+section .debug_line 72
+440000000500080029000000010101fb0e0d0001010101000000010000010101
+08012f6400020108020f02742e630000742e6300000009020000000000000000
+037f010218000101
+section .debug_loclists 22
+12000000050008000100000004000000041018015a00
 function f 00000000 00000018
+object 0 16 0
 variable 0 !4 - v
-variable 1 !6 - a
+00000000 <0.0 $x2 = ADDI $x2, -16
 block 0
-- =0.0 DBG_VALUE $x10, $noreg, !4, !DIExpression()
-- =0.1 DBG_VALUE $x11, $noreg, !6, !DIExpression()
-00000000 =0.2 $x12 = ADDI $x10, 0, debug-instr-number 1
-00000004 =0.3 $x10 = ADD $x10, $x11, debug-instr-number 2
-- =0.4 DBG_INSTR_REF !4, !DIExpression(DW_OP_LLVM_arg, 0), dbg-instr-ref(1, 0), debug-location !5
-00000008 =0.5 $x11 = ADDI $x0, 7, debug-instr-number 3
-- =0.6 DBG_INSTR_REF !6, !DIExpression(DW_OP_LLVM_arg, 0), dbg-instr-ref(3, 0)
-0000000c =0.7 $x12 = ADDI $x10, 0
-00000010 =0.8 $x10 = ADD $x10, $x11, debug-instr-number 4
-- =0.9 DBG_INSTR_REF !4, !DIExpression(DW_OP_LLVM_arg, 0), dbg-instr-ref(2, 0)
-00000014 =0.10 PseudoRET implicit $x10, debug-location !5
-",
-    ),
-    (
-        "    $x11 = ADDI $x0, -7, debug-instr-number 3
-    DBG_INSTR_REF !4, !DIExpression(DW_OP_LLVM_arg, 0), dbg-instr-ref(3, 0)
-    $x11 = ADDI $x11, 0
-    $x12 = ADDI $x11, 1
-    DBG_INSTR_REF !6, !DIExpression(DW_OP_LLVM_arg, 0), dbg-instr-ref(3, 0)
-    PseudoRET
-",
-        "section .text 16
-930590ff938505001386150067800000
-section .debug_loclists 36
-20000000050008000200000008000000100000000404100311799f00040c1003
-11799f00
-function f 00000000 00000010
-variable 0 !4 - v
-variable 1 !6 - a
-block 0
-00000000 =0.0 $x11 = ADDI $x0, -7, debug-instr-number 3
-- =0.1 DBG_INSTR_REF !4, !DIExpression(DW_OP_LLVM_arg, 0), dbg-instr-ref(3, 0)
-00000004 =0.2 $x11 = ADDI $x11, 0
-00000008 =0.3 $x12 = ADDI $x11, 1
-- =0.4 DBG_INSTR_REF !6, !DIExpression(DW_OP_LLVM_arg, 0), dbg-instr-ref(3, 0)
-0000000c =0.5 PseudoRET
-",
-    ),
-    (
-        "    DBG_INSTR_REF !4, !DIExpression(DW_OP_LLVM_arg, 0), dbg-instr-ref(9, 0)
-    DBG_VALUE $x0, $noreg, !6, !DIExpression()
-    $x10 = ADD $x10, $x0
-    DBG_INSTR_REF !4, !DIExpression(DW_OP_LLVM_arg, 0), dbg-instr-ref(9, 1)
-    PseudoRET
-",
-        "section .text 8
-3305050067800000
-section .debug_loclists 29
-1900000005000800020000000800000009000000000400080311009f00
-function f 00000000 00000008
-variable 0 !4 - v
-variable 1 !6 - a
-block 0
-- =0.0 DBG_INSTR_REF !4, !DIExpression(DW_OP_LLVM_arg, 0), dbg-instr-ref(9, 0)
-- =0.1 DBG_VALUE 0, $noreg, !6, !DIExpression()
-00000000 =0.2 $x10 = ADD $x10, $x0
-- =0.3 DBG_INSTR_REF !4, !DIExpression(DW_OP_LLVM_arg, 0), dbg-instr-ref(9, 1)
-00000004 =0.4 PseudoRET
-",
-    ),
-    (
-        "    $x11 = ADDI $x10, 5, debug-instr-number 1
-    $x12 = ADDI $x11, 0
-    DBG_INSTR_REF !4, !DIExpression(DW_OP_LLVM_arg, 0), dbg-instr-ref(1, 0)
-    $x11 = ADDI $x10, 6
-    $x10 = ADD $x11, $x12
-    PseudoRET implicit $x10
-",
-        "section .text 20
-9305550013860500930565003385c50067800000
-section .debug_loclists 27
-1700000005000800010000000400000004080c015b040c14015c00
-function f 00000000 00000014
-variable 0 !4 - v
-block 0
-00000000 =0.0 $x11 = ADDI $x10, 5, debug-instr-number 1
-00000004 =0.1 $x12 = ADDI $x11, 0
-- =0.2 DBG_INSTR_REF !4, !DIExpression(DW_OP_LLVM_arg, 0), dbg-instr-ref(1, 0)
-00000008 =0.3 $x11 = ADDI $x10, 6
-0000000c =0.4 $x10 = ADD $x11, $x12
-00000010 =0.5 PseudoRET implicit $x10
-",
-    ),
-    (
-        "    DBG_VALUE 7, $noreg, !4, !DIExpression(), debug-location !7
-    DBG_VALUE $x10, $noreg, !4, !DIExpression(), debug-location !DILocation(line: 2, column: 0, scope: !3)
-    PseudoRET
-",
-        "section .text 4
-67800000
-section .debug_loclists 34
-1e000000050008000200000008000000100000000400040311079f0004000401
-5a00
-function f 00000000 00000004
-variable 0 !4 !5 v
-variable 1 !4 - v
-block 0
-- =0.0 DBG_VALUE 7, $noreg, !4, !DIExpression(), debug-location !7
-- =0.1 DBG_VALUE $x10, $noreg, !4, !DIExpression(), debug-location !DILocation(line: 2, column: 0, scope: !3)
-00000000 =0.2 PseudoRET
-",
-    ),
-    (
-        "    PseudoRET
-",
-        "section .text 4
-67800000
-section .debug_loclists 12
-080000000500080000000000
-function f 00000000 00000004
-block 0
-00000000 =0.0 PseudoRET
+00000004 =0.0 $x11 = ADDI $x2, 8
+00000008 =0.1 SD $x10, $x11, 0
+0000000c =0.2 $x10 = LD $x2, 8, debug-instr-number 1
+- =0.3 DBG_INSTR_REF !4, !DIExpression(DW_OP_LLVM_arg, 0), dbg-instr-ref(1, 0)
+00000010 <0.4 $x2 = ADDI $x2, 16
+00000014 =0.4 PseudoRET implicit $x10
 ",
     ),
 ];
 
-/// The words of the commands.
-const COMMAND: &[&str] = &["compile", "--passes=none"];
+const COMPILE: &[&str] = &["compile", "--passes=none"];
+
+const LISTING: &[&str] = &["listing", "--passes=none"];
 
 const STRIP: &[&str] = &["strip"];
 
@@ -213,23 +190,38 @@ const ROOM: usize = 1 << 20;
 
 /// A run that has no fault but those of its words and its text.
 const NO_FAULT: Faulty = Faulty {
-    reads: &[],
+    read: 0,
     room: ROOM,
-    writes: &[],
+    write: 0,
 };
 
-/// Faults of a run: which calls of its input fail, how many bytes its output has room for, and which calls of it fail.
+/// Faults of a run: which call of its input fails, how many bytes its output has room for, and which call of it fails.
+/// No call has the number 0.
+#[derive(Drop)]
 struct Faulty {
-    reads: &'static [u64],
+    read: u64,
     room: usize,
-    writes: &'static [u64],
+    write: u64,
 }
 
 /// The number of a run's status, what stands on its output, and what is told.
-type Ending = (u8, &'static str, &'static str);
+type Ending<'a> = (u8, &'a str, &'a str);
 
-/// Words, items and faults of runs, and how they end.
-const ENDINGS: [(&[&str], &str, Faulty, Ending); 12] = [
+const USAGE: Ending<'static> = (2, "", "mirdwarf: usage\n");
+
+const READ: Ending<'static> = (4, "", "mirdwarf: read\n");
+
+const FRAME: Ending<'static> = (1, "", "mirdwarf: line 0: FrameTooLarge\n");
+
+const RETURN: &str = "body: |\n  bb.0:\n    PseudoRET\n";
+
+/// A return behind an object of 2,032 bytes, and of one byte more.
+const FITS: &str = "stack:\n  - { id: 0, size: 2032 }\nbody: |\n  bb.0:\n    PseudoRET\n";
+
+const LARGE: &str = "stack:\n  - { id: 0, size: 2033 }\nbody: |\n  bb.0:\n    PseudoRET\n";
+
+/// Words, a function and faults of runs, and how they end.
+const ENDINGS: [(&[&str], &str, Faulty, Ending<'static>); 16] = [
     (&[], RETURN, NO_FAULT, USAGE),
     (&["compile"], RETURN, NO_FAULT, USAGE),
     (&["--passes=none", "compile"], RETURN, NO_FAULT, USAGE),
@@ -239,27 +231,45 @@ const ENDINGS: [(&[&str], &str, Faulty, Ending); 12] = [
         NO_FAULT,
         USAGE,
     ),
+    (&["listing"], RETURN, NO_FAULT, USAGE),
+    (&["strip", "--passes=none"], RETURN, NO_FAULT, USAGE),
     (
-        COMMAND,
-        "    $x10 = SUB $x10, $x11\n    PseudoRET\n",
+        COMPILE,
+        "body: |\n  bb.0:\n    $x10 = FROB $x10\n    PseudoRET\n",
         NO_FAULT,
-        NOT_BUILT,
-    ),
-    (
-        COMMAND,
-        "    $x10 = FROB $x10\n    PseudoRET\n",
-        NO_FAULT,
-        (1, "", "mirdwarf: line 15: UnknownOpcode\n"),
+        (1, "", "mirdwarf: line 14: UnknownOpcode\n"),
     ),
     (
         STRIP,
-        "    $x10 = SUB $x10, $x11\n",
+        "body: |\n  bb.0:\n    $x10 = SUB $x10, $x11\n",
         NO_FAULT,
-        (1, "", "mirdwarf: line 16: BlockEnd\n"),
+        (1, "", "mirdwarf: line 15: BlockEnd\n"),
+    ),
+    (
+        LISTING,
+        FITS,
+        NO_FAULT,
+        (
+            0,
+            "function f 00000000 0000000c\nobject 0 2032 0\n00000000 <0.0 $x2 = ADDI $x2, -2032\nblock 0\n00000004 <0.0 $x2 = ADDI $x2, 2032\n00000008 =0.0 PseudoRET\n",
+            "",
+        ),
+    ),
+    (LISTING, LARGE, NO_FAULT, FRAME),
+    (COMPILE, LARGE, NO_FAULT, FRAME),
+    (
+        STRIP,
+        LARGE,
+        NO_FAULT,
+        (
+            0,
+            "---\nname: f\nstack:\n  - { id: 0, size: 2033, alignment: 1 }\nbody: |\n  bb.0:\n    PseudoRET\n...\n",
+            "",
+        ),
     ),
     (
         STRIP,
-        "    DBG_VALUE $x10, $noreg, !4, !DIExpression()\n    PseudoRET implicit $x10, debug-location !5\n",
+        "body: |\n  bb.0:\n    DBG_VALUE $x10, $noreg, !4, !DIExpression()\n    PseudoRET implicit $x10, debug-location !5\n",
         NO_FAULT,
         (
             0,
@@ -268,54 +278,36 @@ const ENDINGS: [(&[&str], &str, Faulty, Ending); 12] = [
         ),
     ),
     (
-        STRIP,
+        COMPILE,
         RETURN,
         Faulty {
-            reads: &[],
-            room: 8,
-            writes: &[],
+            read: 2,
+            room: ROOM,
+            write: 0,
         },
-        (5, "---\nname", "mirdwarf: write\n"),
+        READ,
     ),
     (
-        COMMAND,
+        COMPILE,
         RETURN,
         Faulty {
-            reads: &[2],
+            read: 0,
             room: ROOM,
-            writes: &[],
-        },
-        (4, "", "mirdwarf: read\n"),
-    ),
-    (
-        COMMAND,
-        RETURN,
-        Faulty {
-            reads: &[],
-            room: ROOM,
-            writes: &[1],
+            write: 1,
         },
         (5, "", "mirdwarf: write\n"),
     ),
     (
-        COMMAND,
+        STRIP,
         RETURN,
         Faulty {
-            reads: &[],
-            room: 20,
-            writes: &[],
+            read: 0,
+            room: 8,
+            write: 0,
         },
-        (5, "section .text 4\n6780", "mirdwarf: write\n"),
+        (5, "---\nname", "mirdwarf: write\n"),
     ),
 ];
-
-const RETURN: &str = "    PseudoRET\n";
-
-const USAGE: Ending = (2, "", "mirdwarf: usage\n");
-
-const NOT_BUILT: Ending = (1, "", "mirdwarf: line 0: NotBuilt\n");
-
-const NO_FUNCTION: Ending = (1, "", "mirdwarf: line 0: NoFunction\n");
 
 fn words(alloc: Global, list: &[&str]) -> Result<Vec<String>, Fail> {
     let mut words = Vec::new(alloc);
@@ -325,12 +317,19 @@ fn words(alloc: Global, list: &[&str]) -> Result<Vec<String>, Fail> {
     Ok(words)
 }
 
-/// The text of a function of one block.
-fn text_of(alloc: Global, items: &str) -> Result<Bytes, Fail> {
+/// A text whose first function has these lines below its name.
+fn text_of(alloc: Global, lines: &str) -> Result<Bytes, Fail> {
     let mut bytes = Bytes::from_slice(alloc, HEADER)?;
-    bytes.extend_from_slice(items.as_bytes())?;
-    bytes.extend_from_slice(b"...\n")?;
+    bytes.extend_from_slice(lines.as_bytes())?;
+    if !lines.ends_with("...\n") {
+        bytes.extend_from_slice(b"...\n")?;
+    }
     Ok(bytes)
+}
+
+/// The numbers of the calls that fail: this one.
+fn calls(alloc: Global, number: u64) -> Result<CallNumbers, Fail> {
+    Ok(CallNumbers::from_slice(alloc, &[number])?)
 }
 
 /// Runs words on a text, and gives the number of the status, the output and what was told.
@@ -341,9 +340,8 @@ fn run_on(
     faulty: &Faulty,
 ) -> Result<(u8, MemorySink, MemorySink), Fail> {
     let words = words(alloc, list)?;
-    let mut input = MemorySource::new(text, CallNumbers::from_slice(alloc, faulty.reads)?);
-    let writes = CallNumbers::from_slice(alloc, faulty.writes)?;
-    let mut output = MemorySink::new(alloc, faulty.room, writes)?;
+    let mut input = MemorySource::new(text, calls(alloc, faulty.read)?);
+    let mut output = MemorySink::new(alloc, faulty.room, calls(alloc, faulty.write)?)?;
     let mut faults = MemorySink::new(alloc, ROOM, CallNumbers::new(alloc))?;
     let status = mirdwarf(alloc, &words, &mut input, &mut output, &mut faults);
     Ok((status.number(), output, faults))
@@ -356,7 +354,7 @@ fn ends(
     list: &[&str],
     text: Bytes,
     faulty: &Faulty,
-    want: Ending,
+    want: Ending<'_>,
 ) -> Result<(), Fail> {
     let (status, output, faults) = run_on(alloc, list, text, faulty)?;
     assert_eq!(rt; status, want.0);
@@ -368,9 +366,22 @@ fn ends(
 #[test]
 fn compiles(rt: HostRuntime) -> Result<(), Fail> {
     let alloc = rt.alloc();
-    for (items, output) in ROWS {
-        let text = text_of(alloc, items)?;
-        ends(&rt, alloc, COMMAND, text, &NO_FAULT, (0, output, ""))?;
+    for (lines, output) in COMPILED {
+        let text = text_of(alloc, lines)?;
+        ends(&rt, alloc, COMPILE, text, &NO_FAULT, (0, output, ""))?;
+    }
+    Ok(())
+}
+
+/// The listing alone is what stands behind the sections.
+#[test]
+fn lists(rt: HostRuntime) -> Result<(), Fail> {
+    let alloc = rt.alloc();
+    for (lines, output) in COMPILED {
+        let (status, listing, _) = run_on(alloc, LISTING, text_of(alloc, lines)?, &NO_FAULT)?;
+        assert_eq!(rt; status, 0);
+        assert!(rt; listing.written().starts_with(b"function f 00000000 "));
+        assert!(rt; output.as_bytes().ends_with(listing.written()));
     }
     Ok(())
 }
@@ -378,35 +389,70 @@ fn compiles(rt: HostRuntime) -> Result<(), Fail> {
 #[test]
 fn ends_as_its_faults_say(rt: HostRuntime) -> Result<(), Fail> {
     let alloc = rt.alloc();
-    for (words, items, faulty, want) in &ENDINGS {
-        ends(&rt, alloc, words, text_of(alloc, items)?, faulty, *want)?;
+    for (words, lines, faulty, want) in &ENDINGS {
+        ends(&rt, alloc, words, text_of(alloc, lines)?, faulty, *want)?;
+    }
+    Ok(())
+}
+
+/// A text that is read in four calls, the last of which finds its end.
+#[test]
+fn reads_that_fail_in_turn(rt: HostRuntime) -> Result<(), Fail> {
+    let alloc = rt.alloc();
+    let stripped = (
+        0,
+        "---\nname: f\nbody: |\n  bb.0:\n    PseudoRET\n...\n",
+        "",
+    );
+    for read in 1..6 {
+        let mut text = Bytes::new(alloc);
+        for _ in 0..10_000 {
+            text.extend_from_slice(b"# a comment of some bytes\n")?;
+        }
+        text.extend_from_slice(text_of(alloc, RETURN)?.as_slice())?;
+        let faulty = Faulty {
+            read,
+            room: ROOM,
+            write: 0,
+        };
+        let want = if read < 5 { READ } else { stripped };
+        ends(&rt, alloc, STRIP, text, &faulty, want)?;
+    }
+    Ok(())
+}
+
+/// Whatever room the output has, what stands on it is the front of the text.
+#[test]
+fn writes_that_fail_anywhere(rt: HostRuntime) -> Result<(), Fail> {
+    let alloc = rt.alloc();
+    let (lines, whole) = COMPILED[0];
+    let whole = whole.as_bytes();
+    for room in 0..whole.len() {
+        let faulty = Faulty {
+            read: 0,
+            room,
+            write: 0,
+        };
+        let (status, output, faults) = run_on(alloc, COMPILE, text_of(alloc, lines)?, &faulty)?;
+        assert_eq!(rt; status, 5);
+        assert_eq!(rt; output.written(), &whole[..room]);
+        assert_eq!(rt; faults.written(), "mirdwarf: write\n".as_bytes());
     }
     Ok(())
 }
 
 #[test]
-fn refuses(rt: HostRuntime) -> Result<(), Fail> {
+fn refuses_whole_texts(rt: HostRuntime) -> Result<(), Fail> {
     let alloc = rt.alloc();
-    ends(
-        &rt,
-        alloc,
-        COMMAND,
-        Bytes::new(alloc),
-        &NO_FAULT,
-        NO_FUNCTION,
-    )?;
-    ends(&rt, alloc, STRIP, Bytes::new(alloc), &NO_FAULT, NO_FUNCTION)?;
+    let no_function = (1, "", "mirdwarf: line 0: NoFunction\n");
+    for words in [COMPILE, LISTING, STRIP] {
+        ends(&rt, alloc, words, Bytes::new(alloc), &NO_FAULT, no_function)?;
+    }
     let mut filled = Vec::new(alloc);
     filled.resize(LIMIT + 1, b'#')?;
     let too_long = (1, "", "mirdwarf: line 0: TooLong\n");
-    ends(
-        &rt,
-        alloc,
-        COMMAND,
-        Bytes::from(filled),
-        &NO_FAULT,
-        too_long,
-    )
+    let text = Bytes::from(filled);
+    ends(&rt, alloc, COMPILE, text, &NO_FAULT, too_long)
 }
 
 /// As many items as a text may have: the last of 8,192 is the return.
@@ -414,11 +460,12 @@ fn refuses(rt: HostRuntime) -> Result<(), Fail> {
 fn compiles_as_much_as_it_may(rt: HostRuntime) -> Result<(), Fail> {
     let alloc = rt.alloc();
     let mut text = Bytes::from_slice(alloc, HEADER)?;
+    text.extend_from_slice(b"body: |\n  bb.0:\n")?;
     for _ in 0..8191 {
         text.extend_from_slice(b"    $x10 = ADDI $x10, 1\n")?;
     }
     text.extend_from_slice(b"    PseudoRET\n...\n")?;
-    let (status, output, _) = run_on(alloc, COMMAND, text, &NO_FAULT)?;
+    let (status, output, _) = run_on(alloc, COMPILE, text, &NO_FAULT)?;
     assert_eq!(rt; status, 0);
     assert!(rt; output.written().starts_with(b"section .text 32768\n"));
     assert!(rt; output.written().ends_with(b"00007ffc =0.8191 PseudoRET\n"));

@@ -1,2 +1,5 @@
+pub mod Nodes
+pub mod Numbers
+pub mod Labels
 pub mod Kept
 pub mod Texts

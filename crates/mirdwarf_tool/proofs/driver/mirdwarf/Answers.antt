@@ -1,7 +1,8 @@
 use Rattle.std.proofs.Common.{sym, ◌∙◌, inl, inr}
 use Rattle.std.specs.Prelude.{map, string_bytes}
 use Rattle.mirdwarf_tool.specs.Stream.{change}
-use Rattle.mirdwarf_tool.proofs.RunLemmas.{refusal, complete, headline_kept, wrote_exactly, wrote_words}
+use Rattle.mirdwarf_tool.proofs.RunLemmas.{refusal, complete}
+use Rattle.mirdwarf_tool.proofs.Kept.{headline_kept, registers_kept, stops_at_returns, wrote_exactly, wrote_laid_out, wrote_sources, wrote_words, wrote_sections}
 use Rattle.mirdwarf_tool.proofs.driver.mirdwarf.Goals as goal
 
 pub returns-in-Err-clause-refused : goal.returns-in-Err-clause-refused
@@ -16,14 +17,39 @@ returns-in-Ok-clause-headline g c done =
     headline_kept (map string_bytes c.args.words.now) (change g.S.Source.left g.S.Source.faults c.args.input.now c.run.new.input)
     (change g.K.Sink.written g.K.Sink.faults c.args.output.now c.run.new.output) c.in-Ok.ensures.done
 
+pub returns-in-Ok-clause-callee_saved : goal.returns-in-Ok-clause-callee_saved
+returns-in-Ok-clause-callee_saved g c done =
+    registers_kept (map string_bytes c.args.words.now) (change g.S.Source.left g.S.Source.faults c.args.input.now c.run.new.input)
+    (change g.K.Sink.written g.K.Sink.faults c.args.output.now c.run.new.output) c.in-Ok.ensures.done
+
+pub returns-in-Ok-clause-stops : goal.returns-in-Ok-clause-stops
+returns-in-Ok-clause-stops g c done =
+    stops_at_returns (map string_bytes c.args.words.now) (change g.S.Source.left g.S.Source.faults c.args.input.now c.run.new.input)
+    (change g.K.Sink.written g.K.Sink.faults c.args.output.now c.run.new.output) c.in-Ok.ensures.done
+
 pub returns-in-Ok-clause-exact : goal.returns-in-Ok-clause-exact
 returns-in-Ok-clause-exact g c done =
     wrote_exactly (map string_bytes c.args.words.now) (change g.S.Source.left g.S.Source.faults c.args.input.now c.run.new.input)
     (change g.K.Sink.written g.K.Sink.faults c.args.output.now c.run.new.output) c.in-Ok.ensures.done
 
+pub returns-in-Ok-clause-laid_out : goal.returns-in-Ok-clause-laid_out
+returns-in-Ok-clause-laid_out g c done =
+    wrote_laid_out (map string_bytes c.args.words.now) (change g.S.Source.left g.S.Source.faults c.args.input.now c.run.new.input)
+    (change g.K.Sink.written g.K.Sink.faults c.args.output.now c.run.new.output) c.in-Ok.ensures.done
+
+pub returns-in-Ok-clause-lists : goal.returns-in-Ok-clause-lists
+returns-in-Ok-clause-lists g c done =
+    wrote_sources (map string_bytes c.args.words.now) (change g.S.Source.left g.S.Source.faults c.args.input.now c.run.new.input)
+    (change g.K.Sink.written g.K.Sink.faults c.args.output.now c.run.new.output) c.in-Ok.ensures.done
+
 pub returns-in-Ok-clause-words : goal.returns-in-Ok-clause-words
 returns-in-Ok-clause-words g c done =
     wrote_words (map string_bytes c.args.words.now) (change g.S.Source.left g.S.Source.faults c.args.input.now c.run.new.input)
+    (change g.K.Sink.written g.K.Sink.faults c.args.output.now c.run.new.output) c.in-Ok.ensures.done
+
+pub returns-in-Ok-clause-sections : goal.returns-in-Ok-clause-sections
+returns-in-Ok-clause-sections g c done =
+    wrote_sections (map string_bytes c.args.words.now) (change g.S.Source.left g.S.Source.faults c.args.input.now c.run.new.input)
     (change g.K.Sink.written g.K.Sink.faults c.args.output.now c.run.new.output) c.in-Ok.ensures.done
 
 pub returns-in-Err-clause-complete : goal.returns-in-Err-clause-complete

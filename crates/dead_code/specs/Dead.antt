@@ -1,0 +1,78 @@
+-- Which code is dead, and what is left without it.
+use Rattle.std.specs.Prelude.{◌≡◌, ◌↔◌, ℕ, List, [], ◌∷◌, map, Option, Some, None, Bool, true, false, cond, not, ◌&&◌, ◌||◌}
+use Rattle.rv64_instr.specs.declared.place.Place.{Place}
+use Rattle.rv64_instr.specs.declared.place.Place.TheVariants.{Register}
+use Rattle.rv64_instr.specs.Row.{Row, row_of}
+use Rattle.rv64_instr.specs.Parts.{set_by, is_pure, uses_of, defines_of}
+use Rattle.mir_func.specs.declared.block.Block.{Block}
+use Rattle.mir_func.specs.declared.item.Item.{Item}
+use Rattle.mir_func.specs.declared.item.ItemKind.{ItemKind}
+use Rattle.mir_func.specs.declared.item.ItemKind.TheVariants.{Code, Mark, Phi}
+use Rattle.mir_func.specs.Function.{Function}
+use Rattle.mir_func.specs.Graph.{Program, block_start, program_of}
+use Rattle.mir_func.specs.Successors.{GoesTo}
+use Rattle.mir_meaning.specs.Live.{Live}
+
+-- some places, as a test
+abbrev pub Places : Type 0
+Places = Place → Bool
+
+-- the row sets a place that isn't needed, or x0 alone
+abbrev pub sets_unneeded : Option Place → Row → (needed : Places) → Bool
+sets_unneeded (Some x) r needed = not (needed x)
+sets_unneeded None r needed = defines_of r (Register 0)
+
+-- code is dead where these places are needed behind it: it does nothing but set a place that isn't needed, or x0
+abbrev pub is_dead_row : Row → (needed : Places) → Bool
+is_dead_row r needed = is_pure r && sets_unneeded (set_by r) r needed
+
+abbrev pub is_dead : ItemKind → (needed : Places) → Bool
+is_dead (Code i k) needed = is_dead_row (row_of i) needed
+is_dead (Mark v m) needed = false
+is_dead (Phi p k) needed = false
+
+-- the places that are needed before an item, of those needed behind it: dead code needs nothing, nor do marks and phis
+abbrev pub needed_before : ItemKind → (needed : Places) → Places
+needed_before (Code i k) needed = λ x. cond (is_dead_row (row_of i) needed) (needed x) (uses_of i x || (needed x && not (defines_of (row_of i) x)))
+needed_before (Mark v m) needed = needed
+needed_before (Phi p k) needed = needed
+
+-- the places that are needed before items, of those needed behind them
+abbrev pub needed_at : List Item → (needed : Places) → Places
+needed_at [] needed = needed
+needed_at (i ∷ is) needed = needed_before i.kind (needed_at is needed)
+
+-- the items without dead code
+abbrev pub without_dead : List Item → (needed : Places) → List Item
+without_dead [] needed = []
+without_dead (i ∷ is) needed = cond (is_dead i.kind (needed_at is needed)) (without_dead is needed) (i ∷ without_dead is needed)
+
+-- the places needed at the end of each block, by its number
+abbrev pub Ends : Type 0
+Ends = ℕ → Places
+
+abbrev pub thinned_block : Ends → Block → Block
+thinned_block ends b = record { id = b.id; items = without_dead b.items (ends b.id); silent = b.silent }
+
+-- the function without its dead code
+abbrev pub thinned : Ends → Function → Function
+thinned ends f = record f { blocks = map (thinned_block ends) f.blocks }
+
+-- the function's paths: what pairs stand for is no matter to them
+abbrev pub paths_of : Function → Program
+paths_of f = program_of false f.blocks (λ q. None)
+
+-- the place is live at the end of the block: at the start of some block to which control may go from it
+abbrev pub LiveAtEnd : Function → (block : ℕ) → Place → Type 0
+LiveAtEnd f b x = (n : ℕ) × GoesTo (paths_of f) b n × Live (paths_of f) x (block_start n)
+
+-- a round: the places that are live at blocks' ends are needed there, and dead code goes
+pub record IsRound (f g : Function) : Type 0 where
+  pub ends : Ends
+  pub live : (b : ℕ) (x : Place) → (ends b x ≡ true) ↔ LiveAtEnd f b x
+  pub thins : g ≡ thinned ends f
+
+-- rounds, until one takes nothing out
+pub data IsThinnedOut : Function → Function → Type 0 where
+  over : {f : Function} → IsRound f f → IsThinnedOut f f
+  again : {f h : Function} (g : Function) → IsRound f g → IsThinnedOut g h → IsThinnedOut f h

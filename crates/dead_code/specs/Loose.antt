@@ -1,0 +1,38 @@
+-- Following a source, but for one thing: nothing is asked of slot stores that were added at blocks' ends. A round may take out the one
+-- load of a slot, and the store only goes in a later round.
+use Rattle.std.specs.Prelude.{◌≡◌, List, All, true, false}
+use Rattle.mir_func.specs.declared.position.Pos.{Pos}
+use Rattle.mir_func.specs.declared.block.Block.{Block}
+use Rattle.mir_func.specs.declared.item.Item.{Item}
+use Rattle.mir_func.specs.declared.entry.Entry.{Entry}
+use Rattle.mir_func.specs.Function.{Function}
+use Rattle.mir_func.specs.Graph.{Program, Here, block_start, program_of, Edge, Leads}
+use Rattle.mir_func.specs.Resolve.{resolve}
+use Rattle.mir_meaning.specs.State.{State}
+use Rattle.mir_meaning.specs.Align.{ByItems, station_at, AnyOrigin, RunsAlong}
+use Rattle.mir_meaning.specs.Follow.{Among, InOrder, KindFits, MarkFits, OnRow, GoesTo, first_of, IsStart}
+use Rattle.follow_law.specs.Change.{Change}
+use Rattle.follow_law.specs.Following.{Source, EndsAsSource}
+
+-- the shape of a function that follows a source, but for its stores
+pub record LooseShape (src f : List Block) (srcp fp : Program) : Type 0 where
+  pub among : Among f src
+  pub first : first_of f ≡ first_of src
+  pub back : (q : Pos) → Leads srcp (block_start (first_of src)) q → Edge srcp q (block_start (first_of src)) →
+      (p : Pos) × (i : Item) × (fp.fetch p ≡ Here i) × OnRow (GoesTo (first_of src)) i.kind
+  pub order : All (λ b. InOrder b.id 0 b.items) f
+  pub items : All (λ b. All (λ i. KindFits srcp i.kind b.silent i.origin) b.items) f
+  pub marks : All (λ b. All (λ i. MarkFits i.kind i.origin) b.items) f
+
+-- the function with its substitutions follows the source, but for its stores
+pub record FollowsLoosely (src : Source) (f : Function) (subs : List Entry) : Type 0 where
+  pub objects : f.objects ≡ src.function.objects
+  pub shape : LooseShape src.function.blocks f.blocks (program_of true src.function.blocks (resolve src.subs)) (program_of false f.blocks (resolve subs))
+  pub runs : (s : State) → IsStart src.function.objects (first_of src.function.blocks) s →
+      RunsAlong (program_of true src.function.blocks (resolve src.subs)) (program_of false f.blocks (resolve subs))
+      (station_at ByItems (program_of false f.blocks (resolve subs))) (AnyOrigin (station_at ByItems (program_of false f.blocks (resolve subs)))) s s
+
+-- of whatever source the function followed loosely it follows that source loosely still, with whole ends where they were whole
+pub record KeepsLoosely (c : Change) : Type 0 where
+  pub follows : (src : Source) → FollowsLoosely src c.old c.old_subs → FollowsLoosely src c.new c.new_subs
+  pub ends : (src : Source) → FollowsLoosely src c.old c.old_subs → EndsAsSource src c.old c.old_subs → EndsAsSource src c.new c.new_subs

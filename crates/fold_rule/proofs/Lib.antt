@@ -1,0 +1,2 @@
+mod Tails
+mod Walks

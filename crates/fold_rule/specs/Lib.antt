@@ -1,0 +1,5 @@
+pub mod Turned
+pub mod Tails
+pub mod Reached
+pub mod Rule
+pub mod steps

@@ -1,0 +1,75 @@
+-- Branches and jumps that are sent elsewhere (RISC-V Unprivileged ISA, RV32I, "Conditional Branches").
+use Rattle.std.specs.Prelude.{ℕ, List, [], ◌∷◌, None}
+use Rattle.std.specs.List.{slice_set}
+use Rattle.rv64_instr.specs.declared.op.Op.{Op}
+use Rattle.rv64_instr.specs.declared.op.Op.TheVariants.{Registers, Immediate, Lui, Branch, Load, Store, Copy, PseudoBr, PseudoCall, PseudoRet}
+use Rattle.rv64_instr.specs.declared.op.BranchOp.{BranchOp}
+use Rattle.rv64_instr.specs.declared.op.BranchOp.TheVariants.{Beq, Bne, Blt, Bge, Bltu, Bgeu}
+use Rattle.rv64_instr.specs.declared.operand.Operand.{Operand}
+use Rattle.rv64_instr.specs.declared.operand.Operand.TheVariants.{Block as OfBlock}
+use Rattle.rv64_instr.specs.Instruction.{Instruction}
+use Rattle.mir_func.specs.declared.item.Item.{Item}
+use Rattle.mir_func.specs.declared.item.ItemKind.{ItemKind}
+use Rattle.mir_func.specs.declared.item.ItemKind.TheVariants.{Code, Mark, Phi}
+use Rattle.mir_func.specs.declared.location.Loc.{Loc}
+use Rattle.mir_func.specs.declared.position.Origin.{Origin}
+
+-- the conditional branch that is taken exactly where another isn't
+abbrev pub inverse : BranchOp → BranchOp
+inverse Beq = Bne
+inverse Bne = Beq
+inverse Blt = Bge
+inverse Bge = Blt
+inverse Bltu = Bgeu
+inverse Bgeu = Bltu
+
+-- its opcode. Others stay
+abbrev pub inverse_op : Op → Op
+inverse_op (Branch op) = Branch (inverse op)
+inverse_op (Registers op) = Registers op
+inverse_op (Immediate op) = Immediate op
+inverse_op Lui = Lui
+inverse_op (Load op) = Load op
+inverse_op (Store op) = Store op
+inverse_op Copy = Copy
+inverse_op PseudoBr = PseudoBr
+inverse_op PseudoCall = PseudoCall
+inverse_op PseudoRet = PseudoRet
+
+-- the operands with the block as target: operand 2 of a conditional branch, operand 0 of a jump
+abbrev pub aimed : Op → (block : ℕ) → List Operand → List Operand
+aimed (Branch op) n operands = slice_set operands 2 (OfBlock n)
+aimed PseudoBr n operands = slice_set operands 0 (OfBlock n)
+aimed (Registers op) n operands = operands
+aimed (Immediate op) n operands = operands
+aimed Lui n operands = operands
+aimed (Load op) n operands = operands
+aimed (Store op) n operands = operands
+aimed Copy n operands = operands
+aimed PseudoCall n operands = operands
+aimed PseudoRet n operands = operands
+
+-- the instruction to the block
+abbrev pub to_block : (block : ℕ) → Instruction → Instruction
+to_block n i = record { op = i.op; operands = aimed i.op n i.operands }
+
+-- the inverted branch to the block
+abbrev pub inverse_to : (block : ℕ) → Instruction → Instruction
+inverse_to n i = record { op = inverse_op i.op; operands = aimed i.op n i.operands }
+
+-- a kind with its instruction changed
+abbrev pub with_code : (Instruction → Instruction) → ItemKind → ItemKind
+with_code f (Code i k) = Code (f i) k
+with_code f (Mark v m) = Mark v m
+with_code f (Phi p k) = Phi p k
+
+-- the item sent to a block, and turned round to one
+abbrev pub sent : (block : ℕ) → Item → Item
+sent n x = record x { kind = with_code (to_block n) x.kind }
+
+abbrev pub turned : (block : ℕ) → Item → Item
+turned n x = record x { kind = with_code (inverse_to n) x.kind }
+
+-- `PseudoBR %bb.N`, made for an origin and a debug location
+abbrev pub made_jump : (block : ℕ) → Origin → Loc → Item
+made_jump n o l = record { kind = Code (record { op = PseudoBr; operands = OfBlock n ∷ [] }) None; origin = o; loc = l }

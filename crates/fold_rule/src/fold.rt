@@ -1,0 +1,76 @@
+//! Folding of a function's blocks.
+
+ghost use Rattle.std.specs.Prelude.{◌≡◌, IfOk, OnOk, nat_eq};
+ghost use Rattle.std.specs.HashSet.{contains};
+ghost use Rattle.mir_func.specs.Sound.{AreApart, ids_of};
+ghost use Rattle.fold_ways.specs.Ends.{end_in};
+ghost use Rattle.fold_rule.specs.Rule.{folded_block, folded_blocks, AreFolded};
+
+use crate::reached::reached;
+use crate::tail::{Place, rewrite};
+use fold_ways::ends::ends;
+use fold_ways::leads::leads;
+use mir_func::block::Block;
+use mir_func::position::Pos;
+use numbers::code::BlockId;
+use std::alloc::{AllocError, Global};
+use std::collections::{HashMap, HashSet};
+
+/// Folds the blocks of a function, whose numbers differ.
+pub fn fold_blocks(alloc: Global, blocks: &mut Vec<Block>) -> Result<(), AllocError>
+    requires { AreApart (ids_of blocks.old.items) }
+    ensures { OnOk result (AreFolded blocks.old.items blocks.new.items) }
+{
+    let leads = leads(alloc, blocks.as_slice())?;
+    let ends = ends(alloc, &leads)?;
+    let stays = reached(alloc, blocks.as_slice(), &ends)?;
+    write_anew(alloc, blocks, &ends, &stays)
+}
+
+/// Writes the ends of the blocks that stay anew, and drops the others.
+fn write_anew(
+    alloc: Global,
+    blocks: &mut Vec<Block>,
+    ends: &HashMap<u32, u32>,
+    stays: &HashSet<u32>,
+) -> Result<(), AllocError>
+    ensures { OnOk result (blocks.new.items ≡ folded_blocks (end_in ends.now) (contains nat_eq stays.now) blocks.old.items) }
+{
+    let mut done = Vec::new(alloc);
+    let mut next = None;
+    let mut fall = None;
+    while let Some(b) = blocks.pop() {
+        let id = b.id;
+        if stays.contains(&id.number()) {
+            done.push(folded_block(alloc, b, ends, next, fall)?)?;
+            next = Some(id);
+        }
+        fall = Some(id);
+    }
+    done.reverse();
+    *blocks = done;
+    Ok(())
+}
+
+/// The block with its end written anew, before one among those that stay and one among all.
+fn folded_block(
+    alloc: Global,
+    b: Block,
+    ends: &HashMap<u32, u32>,
+    next: Option<BlockId>,
+    fall: Option<BlockId>,
+) -> Result<Block, AllocError>
+    ensures { IfOk result (λ c. c ≡ folded_block (end_in ends.now) next fall b) }
+{
+    let mut block = b;
+    let at = Place {
+        next,
+        fall,
+        silent: Pos {
+            block: block.id,
+            item: block.silent,
+        },
+    };
+    rewrite(alloc, &mut block.items.items, ends, &at)?;
+    Ok(block)
+}

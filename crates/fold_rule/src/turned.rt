@@ -1,0 +1,123 @@
+//! Branches and jumps that are sent elsewhere.
+
+ghost use Rattle.std.specs.Prelude.{◌≡◌, IfOk};
+ghost use Rattle.std.specs.List.{slice_set};
+ghost use Rattle.rv64_instr.specs.declared.operand.Operand.TheVariants.{Block as OfBlock};
+ghost use Rattle.fold_rule.specs.Turned.{inverse, inverse_op, aimed, to_block, inverse_to, sent, turned, made_jump};
+
+use mir_func::item::{Item, ItemKind};
+use mir_func::location::Loc;
+use mir_func::position::Origin;
+use numbers::code::BlockId;
+use rv64_instr::instr::Instr;
+use rv64_instr::op::{BranchOp, Op};
+use rv64_instr::operand::{Operand, Operands};
+use std::alloc::{AllocError, Global};
+
+/// Sends a branch or a jump to a block.
+pub fn send(x: &mut Item, block: BlockId)
+    ensures { x.new ≡ sent block x.old }
+{
+    if let ItemKind::Code(i, _) = &mut x.kind {
+        aim(i, block);
+    }
+}
+
+/// Turns a conditional branch round, so that it goes to a block exactly where it didn't go elsewhere.
+pub fn turn(x: &mut Item, block: BlockId)
+    ensures { x.new ≡ turned block x.old }
+{
+    if let ItemKind::Code(i, _) = &mut x.kind {
+        aim(i, block);
+        invert(i);
+    }
+}
+
+/// A jump to a block, without number.
+pub fn made_jump(
+    alloc: Global,
+    block: BlockId,
+    origin: Origin,
+    loc: Loc,
+) -> Result<Item, AllocError>
+    ensures { IfOk result (λ j. j ≡ made_jump block origin loc) }
+{
+    let mut operands = Operands::new(alloc);
+    operands.push(Operand::Block(block))?;
+    let jump = Instr {
+        op: Op::PseudoBr,
+        operands,
+    };
+    Ok(Item {
+        kind: ItemKind::Code(jump, None),
+        origin,
+        loc,
+    })
+}
+
+/// Makes a block the target.
+fn aim(i: &mut Instr, block: BlockId)
+    ensures { i.new ≡ to_block block i.old }
+{
+    match i.op {
+        Op::Branch(_) => set_block(&mut i.operands, 2, block),
+        Op::PseudoBr => set_block(&mut i.operands, 0, block),
+        Op::Registers(_)
+        | Op::Immediate(_)
+        | Op::Lui
+        | Op::Load(_)
+        | Op::Store(_)
+        | Op::Copy
+        | Op::PseudoCall
+        | Op::PseudoRet => {}
+    }
+}
+
+/// Makes an operand a block, if there is such an operand.
+fn set_block(operands: &mut Operands, index: usize, block: BlockId)
+    ensures { operands.new ≡ slice_set operands.old index (OfBlock block) }
+{
+    let list = operands.items.as_mut_slice();
+    if index < list.len() {
+        list[index] = Operand::Block(block);
+    }
+}
+
+/// Inverts a conditional branch.
+fn invert(i: &mut Instr)
+    ensures { i.new ≡ record { op = inverse_op i.old.op; operands = i.old.operands } }
+{
+    i.op = inverse_op(i.op);
+}
+
+/// The opcode of the inverted branch. Others stay.
+fn inverse_op(op: Op) -> Op
+    ensures { result ≡ inverse_op op }
+{
+    match op {
+        Op::Branch(branch) => Op::Branch(inverse(branch)),
+        Op::Registers(_)
+        | Op::Immediate(_)
+        | Op::Lui
+        | Op::Load(_)
+        | Op::Store(_)
+        | Op::Copy
+        | Op::PseudoBr
+        | Op::PseudoCall
+        | Op::PseudoRet => op,
+    }
+}
+
+/// The conditional branch that is taken exactly where another isn't.
+fn inverse(op: BranchOp) -> BranchOp
+    ensures { result ≡ inverse op }
+{
+    match op {
+        BranchOp::Beq => BranchOp::Bne,
+        BranchOp::Bne => BranchOp::Beq,
+        BranchOp::Blt => BranchOp::Bge,
+        BranchOp::Bge => BranchOp::Blt,
+        BranchOp::Bltu => BranchOp::Bgeu,
+        BranchOp::Bgeu => BranchOp::Bltu,
+    }
+}

@@ -1,0 +1,5 @@
+pub mod Outcomes
+pub mod Held
+pub mod Told
+pub mod Items
+pub mod Views

@@ -1,0 +1,14 @@
+pub mod Bits
+pub mod Uniting
+pub mod Indices
+pub mod Places
+pub mod Edges
+pub mod Paths
+pub mod Pushed
+pub mod Walking
+pub mod Facts
+pub mod Blocks
+pub mod Visits
+pub mod Answers
+pub mod Ready
+pub mod Stripped

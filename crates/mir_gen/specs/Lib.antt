@@ -1,0 +1,4 @@
+pub mod Draws
+pub mod Items
+pub mod Generator
+pub mod steps

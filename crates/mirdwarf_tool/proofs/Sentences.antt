@@ -1,0 +1,61 @@
+-- The text of a program's output shows it alone, so what holds of the output holds of what the text shows.
+use Rattle.std.proofs.Common.{ℕ, List, subst, inl, inr}
+use Rattle.std.proofs.lemmas.List.Elements.{All-map, All-weaker}
+use Rattle.compiled_text.specs.declared.output.Output.{Output}
+use Rattle.compiled_text.specs.Shown.{Shows, OfShown}
+use Rattle.compiled_text.proofs.OneOutput.{one_reading}
+use Rattle.listing_laws.specs.Laws.{inlined_in}
+use Rattle.meta_reader.specs.Maps.{Maps}
+use Rattle.mir_parser.specs.declared.closing.Parsed.{Parsed}
+use Rattle.mir_parser.specs.declared.program.Program.{Program}
+use Rattle.output_laws.specs.Laws.{OutputsArePrintable}
+use Rattle.output_promise.specs.Laws.{AreCompiledTo}
+use Rattle.output_promise.specs.Promise.{Promises}
+use Rattle.output_promise.specs.Source.{SourceFunction, IsSourceFunction}
+use Rattle.program_compiler.specs.Program.{source_of, sources_of, names_of}
+use Rattle.reading_laws.specs.Read.{IsReadFunction, IsReadProgram}
+use Rattle.mirdwarf_tool.specs.Compiled.{IsOutputOf, IsCompiledText}
+use Rattle.mirdwarf_tool.specs.Promise.{AllGiveBack, AllStopWell}
+
+-- ---- the sources
+
+source_read : (meta : Maps) (p : Parsed) → IsReadFunction meta p.func → IsSourceFunction (source_of p)
+source_read meta p read = record { read = read.read; form = read.form; physical = read.physical; sound = read.sound }
+
+pub compiled_to : (program : Program) (o : Output) → IsReadProgram program → IsOutputOf program o →
+    AreCompiledTo (names_of program.meta) (sources_of program.functions) o
+compiled_to program o read is = record {
+  read = All-map IsSourceFunction source_of program.functions
+      (All-weaker (λ (p : Parsed). IsReadFunction program.meta p.func) (λ p. IsSourceFunction (source_of p)) (source_read program.meta) program.functions read.functions);
+  compiled = is.compiled;
+}
+
+-- ---- what the text shows
+
+module _ (printable : OutputsArePrintable) (program : Program) (text : List ℕ) (read : IsReadProgram program) (is : IsCompiledText program text) where
+  shows : Shows (inlined_in program.meta) text is.output
+  shows = record { spelled = is.spelled; printable = printable program is.output read is.is.compiled is.is.sections }
+
+  pub of_shown : (P : Output → Type 0) → P is.output → OfShown (inlined_in program.meta) P text
+  of_shown P holds = record {
+    output = is.output;
+    shown = shows;
+    every = λ other also. subst P (one_reading (inlined_in program.meta) text is.output other shows also) holds;
+  }
+
+-- ---- parts of the headline
+
+pub gives_back : (sources : List SourceFunction) (o : Output) → Promises sources o → AllGiveBack sources o
+gives_back sources o promises = record {
+  as_many = promises.as_many;
+  each = λ n s f at there s0 starts m state since l along stands results ends. elim ((promises.each n s f at there).agrees s0 starts m state since l along stands) [
+    | inl agrees ↦ inl (agrees.2.kept results ends)
+    | inr fails ↦ inr fails
+  ];
+}
+
+pub stops_well : (sources : List SourceFunction) (o : Output) → Promises sources o → AllStopWell sources o
+stops_well sources o promises = record {
+  as_many = promises.as_many;
+  each = λ n s f at there. (promises.each n s f at there).stops;
+}

@@ -1,0 +1,48 @@
+//! What is written of a program by the commands that compile.
+
+ghost use Rattle.std.specs.Prelude.{◌≡◌, IfOk, IfErr};
+ghost use Rattle.mirdwarf_tool.specs.Answer.{RefusesToCompile};
+ghost use Rattle.mirdwarf_tool.specs.Compiled.{IsOutputOf, IsCompiledText, IsListingText};
+ghost use Rattle.reading_laws.specs.Read.{IsReadProgram};
+
+use command_line::fault::Fault;
+use compiled_text::output::Output;
+use compiled_text::print::{print_listing, print_output};
+use mir_parser::program::Program;
+use mir_printer::text::Text;
+use program_compiler::compile::{CompileError, compile};
+use std::alloc::Global;
+
+/// The sections and the listing of a program.
+pub fn compiled_text(alloc: Global, program: &Program) -> Result<Text, Fault>
+    requires { IsReadProgram program.now }
+    ensures ok { IfOk result (IsCompiledText program.now) }
+    ensures err { IfErr result (RefusesToCompile program.now) }
+{
+    let output = output(alloc, program)?;
+    Ok(print_output(alloc, &output)?)
+}
+
+/// The listing of a program alone.
+pub fn listing_text(alloc: Global, program: &Program) -> Result<Text, Fault>
+    requires { IsReadProgram program.now }
+    ensures ok { IfOk result (IsListingText program.now) }
+    ensures err { IfErr result (RefusesToCompile program.now) }
+{
+    let output = output(alloc, program)?;
+    Ok(print_listing(alloc, output.functions.as_slice())?)
+}
+
+/// The output of a program.
+fn output(alloc: Global, program: &Program) -> Result<Output, Fault>
+    requires { IsReadProgram program.now }
+    ensures ok { IfOk result (IsOutputOf program.now) }
+    ensures err { IfErr result (RefusesToCompile program.now) }
+{
+    match compile(alloc, program) {
+        Ok(output) => Ok(output),
+        Err(CompileError::FrameTooLarge) => Err(Fault::FrameTooLarge),
+        Err(CompileError::SectionTooLarge) => Err(Fault::SectionTooLarge),
+        Err(CompileError::Memory) => Err(Fault::Memory),
+    }
+}

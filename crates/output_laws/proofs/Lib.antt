@@ -1,0 +1,4 @@
+pub mod Variables
+pub mod Functions
+pub mod Listed
+pub mod Lines

@@ -1,0 +1,60 @@
+-- What the line number table of an output tells: from which place of the source each listed line comes.
+use Rattle.std.specs.Prelude.{◌≡◌, ℕ, ◌<◌, ◌≤◌, Some, map, length, slice_get, Contains}
+use Rattle.compiled_text.specs.declared.output.Line.{Line}
+use Rattle.compiled_text.specs.declared.output.Line.TheVariants.{Item, Skip}
+use Rattle.compiled_text.specs.declared.output.ListedFunction.{ListedFunction}
+use Rattle.compiled_text.specs.declared.output.Output.{Output}
+use Rattle.dwarf_line.specs.declared.table.LineTable.{LineTable}
+use Rattle.dwarf_line.specs.declared.table.Row.{Row}
+use Rattle.dwarf_line.specs.Spelling.{spelling}
+use Rattle.line_laws.specs.Laws.{IsNoLine}
+use Rattle.line_laws.specs.Rows.{IsRowAt, GivesLine}
+use Rattle.mir_func.specs.declared.position.Origin.{Origin}
+use Rattle.mir_parser.specs.declared.closing.Parsed.{Parsed}
+use Rattle.mir_parser.specs.declared.program.Program.{Program}
+use Rattle.output_promise.specs.Compiled.{IsCompiledProgram}
+use Rattle.program_compiler.specs.Program.{names_of, sources_of, HasSections}
+use Rattle.reading_laws.specs.Read.{IsReadProgram}
+use Rattle.shown_program.specs.Program.{lines_of, address_of, past_line}
+use Rattle.source_lines.specs.declared.file.SourceFile.{SourceFile}
+use Rattle.source_lines.specs.Files.{unit_file}
+use Rattle.source_lines.specs.Lines.{no_line, scope_line, loc_of, position_of, line_of}
+
+-- where the code of a line comes from
+abbrev pub origin_of : Line → Origin
+origin_of (Item l) = l.item.origin
+origin_of (Skip s) = s.origin
+
+-- a line of a function has a byte at an address
+pub record HasByte (f : ListedFunction) (address : ℕ) (line : Line) : Type 0 where
+  pub stands : Contains (lines_of f) line
+  pub first : ℕ
+  pub begins : address_of line ≡ Some first
+  pub from : first ≤ address
+  pub within : address < past_line first line
+
+-- the unit's file of a program
+abbrev pub file_of : Program → SourceFile
+file_of p = unit_file p.meta (map (λ (f : Parsed). f.func.name) p.functions)
+
+-- A table gives the address of each byte of what is listed of a function the place of the debug location of the first code at or after the byte's
+-- origin, in the origin's block of the function as it was read. Where there is none, or it isn't readable, that is line 0 and column 0 of file 1.
+pub record TellsLinesOf (p : Program) (table : LineTable) (source : Parsed) (f : ListedFunction) : Type 0 where
+  pub gives : (address : ℕ) (line : Line) → HasByte f address line →
+      GivesLine table address (line_of p.meta (file_of p) source.func.blocks (origin_of line))
+  pub none : (address : ℕ) (line : Line) → HasByte f address line → scope_line p.meta (loc_of source.func.blocks (position_of (origin_of line))) ≡ no_line →
+      (row : Row) → IsRowAt table address row → IsNoLine row
+
+-- the section of lines spells a table that does so for each function of the program and what is listed at its place. It gives no address behind the
+-- end of `.text` a row
+pub record TellsLines (p : Program) (o : Output) : Type 0 where
+  pub table : LineTable
+  pub spelled : o.rows ≡ spelling table
+  pub each : (n : ℕ) (source : Parsed) (f : ListedFunction) → slice_get p.functions n ≡ Some source → slice_get o.functions n ≡ Some f →
+      TellsLinesOf p table source f
+  pub beyond : (address : ℕ) → length o.text ≤ address → (row : Row) → IsRowAt table address row → ⊥
+
+-- What is compiled of a program that was read, with its sections, tells its lines.
+abbrev pub OutputsTellLines : Type 0
+OutputsTellLines = (p : Program) (o : Output) → IsReadProgram p → IsCompiledProgram (names_of p.meta) (sources_of p.functions) o → HasSections p o →
+    TellsLines p o

@@ -1,0 +1,5 @@
+//! Tests of whole programs, compiled.
+#![tactic(auto)]
+
+#[cfg(test)]
+mod programs;

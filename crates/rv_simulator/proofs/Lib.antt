@@ -1,0 +1,7 @@
+pub mod Loops
+pub mod Calls
+pub mod Registers
+pub mod Rows
+pub mod Sites
+pub mod Stepping
+pub mod Listed

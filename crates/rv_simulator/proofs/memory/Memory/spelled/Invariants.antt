@@ -1,0 +1,10 @@
+use Rattle.std.proofs.Common.{◌≡◌, ◌<◌, ◌+◌, ◌-◌, ◌*◌, ◌^◌}
+use Rattle.mir_meaning.specs.State.{spelled}
+use Rattle.rv_simulator.specs.Kept.{number_in}
+use Rattle.rv_simulator.proofs.memory.Memory.spelled.Given as goal
+
+abbrev pub invariant-loop-i : goal.invariant-loop-i
+invariant-loop-i l = record {
+  value : l.number ≡ spelled (number_in l.self) (l.address + (l.count - l.i)) l.i;
+  below : l.number < 2 ^ (8 * l.i);
+}

@@ -1,0 +1,13 @@
+use Rattle.std.proofs.Common.{◌≡◌, ℕ, ◌≤◌, ◌-◌, drop, length}
+use Rattle.std.specs.HashMap.{spare}
+use Rattle.mir_meaning.specs.State.{written}
+use Rattle.rv_simulator.specs.Kept.{MemoryHolds, some_writes}
+use Rattle.rv_simulator.proofs.memory.Memory.write.Given as goal
+
+abbrev pub invariant-loop-write : goal.invariant-loop-write
+invariant-loop-write l = record {
+  room : length l.writes - l.write-index ≤ spare l.self-inside.bytes;
+  holds : (held : ℕ → ℕ) → MemoryHolds l.initial.self-inside.bytes.entries held →
+      (now : ℕ → ℕ) × MemoryHolds l.self-inside.bytes.entries now ×
+      (written now (some_writes (drop l.write-index l.writes)) ≡ written held (some_writes l.writes));
+}

@@ -1,0 +1,7 @@
+pub mod Kept
+pub mod Calls
+pub mod Shown
+pub mod Running
+pub mod Machines
+pub mod Values
+pub mod steps

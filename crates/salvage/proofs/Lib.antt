@@ -1,0 +1,13 @@
+pub mod Greatest
+pub mod Found
+pub mod Chosen
+pub mod Placed
+pub mod Kin
+pub mod Edits
+pub mod EditRuns
+pub mod EditPaths
+pub mod EditFollows
+pub mod NumberOff
+pub mod OneMore
+pub mod NumberPhi
+pub mod Follows

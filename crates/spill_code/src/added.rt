@@ -1,0 +1,135 @@
+//! Loads and stores that are added.
+
+ghost use Rattle.std.specs.Prelude.{◌≡◌, ◌++◌, Some, IfOk, OnOk};
+ghost use Rattle.spill_code.specs.Rewrite.{load, store, added, loads, stores, two_loads, loads_before, entry_stores};
+
+use crate::operands::{first_used, other_used};
+use crate::spilling::{Home, Spilling};
+use mir_func::item::{Item, ItemKind, Items};
+use mir_func::location::Loc;
+use mir_func::position::{Origin, Pos};
+use numbers::code::{BlockId, SlotId};
+use rv64_instr::instr::Instr;
+use rv64_instr::op::{LoadOp, Op, StoreOp};
+use rv64_instr::operand::{Operand, Operands};
+use rv64_instr::reg::Reg;
+use std::alloc::{AllocError, Global};
+
+/// `LD r, slot`.
+fn load(alloc: Global, r: Reg, slot: SlotId) -> Result<Instr, AllocError>
+    ensures { IfOk result (λ i. i ≡ load r slot) }
+{
+    let mut operands = Operands::new(alloc);
+    operands.push(Operand::Def(r))?;
+    operands.push(Operand::Slot(slot))?;
+    operands.push(Operand::Imm(0))?;
+    Ok(Instr {
+        op: Op::Load(LoadOp::Ld),
+        operands,
+    })
+}
+
+/// `SD r, slot`.
+fn store(alloc: Global, r: Reg, slot: SlotId) -> Result<Instr, AllocError>
+    ensures { IfOk result (λ i. i ≡ store r slot) }
+{
+    let mut operands = Operands::new(alloc);
+    operands.push(Operand::Use(r))?;
+    operands.push(Operand::Slot(slot))?;
+    operands.push(Operand::Imm(0))?;
+    Ok(Instr {
+        op: Op::Store(StoreOp::Sd),
+        operands,
+    })
+}
+
+/// Code that is added before a position, without number and debug location.
+fn added(p: Pos, i: Instr) -> Item
+    ensures { result ≡ added p i }
+{
+    Item {
+        kind: ItemKind::Code(i, None),
+        origin: Origin::Before(p),
+        loc: Loc::Absent,
+    }
+}
+
+/// Appends a load of the slot, if there is one.
+fn push_load(
+    alloc: Global,
+    p: Pos,
+    r: Reg,
+    slot: Option<SlotId>,
+    items: &mut Items,
+) -> Result<(), AllocError>
+    ensures { OnOk result (items.new ≡ items.old ++ loads p r slot) }
+{
+    match slot {
+        None => Ok(()),
+        Some(n) => items.push(added(p, load(alloc, r, n)?)),
+    }
+}
+
+/// Appends a store into the slot, if there is one.
+pub fn push_store(
+    alloc: Global,
+    p: Pos,
+    r: Reg,
+    slot: Option<SlotId>,
+    items: &mut Items,
+) -> Result<(), AllocError>
+    ensures { OnOk result (items.new ≡ items.old ++ stores p r slot) }
+{
+    match slot {
+        None => Ok(()),
+        Some(n) => items.push(added(p, store(alloc, r, n)?)),
+    }
+}
+
+/// Appends the loads before code at a position.
+pub fn push_loads(
+    alloc: Global,
+    s: &Spilling,
+    p: Pos,
+    operands: &[Operand],
+    items: &mut Items,
+) -> Result<(), AllocError>
+    ensures { OnOk result (items.new ≡ items.old ++ loads_before s.now p operands.now) }
+{
+    match first_used(s.homes.as_slice(), operands) {
+        None => Ok(()),
+        Some(slot) => push_both(alloc, s, p, slot, operands, items),
+    }
+}
+
+/// Appends the load of the first slot, and that of another, if there is one.
+fn push_both(
+    alloc: Global,
+    s: &Spilling,
+    p: Pos,
+    slot: SlotId,
+    operands: &[Operand],
+    items: &mut Items,
+) -> Result<(), AllocError>
+    ensures { OnOk result (items.new ≡ items.old ++ two_loads s.now p operands.now (Some slot)) }
+{
+    items.push(added(p, load(alloc, s.first, slot)?))?;
+    let other = other_used(s.homes.as_slice(), slot, operands);
+    push_load(alloc, p, s.second, other, items)
+}
+
+/// Appends the stores at the start of the first block.
+pub fn push_entry(
+    alloc: Global,
+    block: BlockId,
+    entry: &[Home],
+    items: &mut Items,
+) -> Result<(), AllocError>
+    ensures { OnOk result (items.new ≡ items.old ++ entry_stores block entry.now) }
+{
+    let start = Pos { block, item: 0 };
+    for home in entry {
+        items.push(added(start, store(alloc, home.register, home.slot)?))?;
+    }
+    Ok(())
+}

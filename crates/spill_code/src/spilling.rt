@@ -1,0 +1,43 @@
+//! Which registers live in slots, and which registers stand for them in code.
+
+ghost use Rattle.std.specs.Prelude.{◌≡◌};
+ghost use Rattle.spill_code.specs.Rewrite.{slot_of};
+
+use lists::List;
+use numbers::code::SlotId;
+use rv64_instr::reg::Reg;
+
+/// A spilled register and the slot in which it lives.
+#[derive(Clone, Copy, Debug, PartialEq, Eq)]
+pub struct Home {
+    /// The register.
+    pub register: Reg,
+    /// The slot.
+    pub slot: SlotId,
+}
+
+/// The homes of registers, by ascending registers.
+pub type Homes = List<Home>;
+
+/// The scratch registers and the homes.
+#[derive(Debug, Drop)]
+pub struct Spilling {
+    /// Stands for the first slot that code reads, and for what it defines.
+    pub first: Reg,
+    /// Stands for another slot that it reads.
+    pub second: Reg,
+    /// Where registers live.
+    pub homes: Homes,
+}
+
+/// The slot in which a register lives, if it is spilled.
+pub fn slot_of(homes: &[Home], register: Reg) -> Option<SlotId>
+    ensures { result ≡ slot_of homes.now register }
+{
+    for home in homes {
+        if home.register == register {
+            return Some(home.slot);
+        }
+    }
+    None
+}

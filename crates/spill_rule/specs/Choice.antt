@@ -1,0 +1,127 @@
+-- Which registers are spilled, and into which slots.
+use Rattle.std.specs.Prelude.{ℕ, suc, ◌+◌, ◌-◌, ◌<◌, List, [], ◌∷◌, ◌++◌, map, filter, take, length, Option, Some, None, Bool, true, false, cond, not, ◌&&◌, ◌||◌}
+use Rattle.std.specs.Prelude.{nat_eq, nat_lt}
+use Rattle.std.specs.List.{list_any}
+use Rattle.rv64_instr.specs.Row.{Row, Fixes, Moves, Sets, Addresses, Loads, Stores, LoadsSlot, StoresSlot, Branches, Jumps, Calls, Returns, Unfit, row_of}
+use Rattle.rv64_instr.specs.Parts.{is_call}
+use Rattle.mir_func.specs.declared.position.Origin.{Origin}
+use Rattle.mir_func.specs.declared.position.Origin.TheVariants.{Kept, Before}
+use Rattle.mir_func.specs.declared.item.Item.{Item}
+use Rattle.mir_func.specs.declared.item.ItemKind.{ItemKind}
+use Rattle.mir_func.specs.declared.item.ItemKind.TheVariants.{Code, Mark, Phi}
+use Rattle.mir_func.specs.Function.{Function}
+use Rattle.mir_func.specs.Limits.{MAX_SLOTS}
+use Rattle.mir_func.specs.Sound.{items_of}
+use Rattle.mir_meaning.specs.Follow.{first_of}
+use Rattle.follow_law.specs.declared.loss.Reason.{Reason}
+use Rattle.follow_law.specs.declared.loss.Reason.TheVariants.{NoScratch, CallNamed, EntryLoop, NoSlot}
+use Rattle.follow_law.specs.Causes.{names, is_named, scratch_of}
+use Rattle.follow_law.specs.Sizes.{greatest, calls}
+use Rattle.spill_code.specs.declared.spilling.Home.{Home}
+use Rattle.spill_code.specs.declared.spilling.Spilling.{Spilling}
+use Rattle.spill_code.specs.Rewrite.{spilled_blocks}
+
+-- ---- what prevents it
+
+abbrev pub is_added : Origin → Bool
+is_added (Before p) = true
+is_added (Kept p) = false
+
+-- a call names the register, or code that was added
+abbrev pub binds : ℕ → Item → Bool
+binds r i = names r i.kind && (calls i.kind || is_added i.origin)
+
+abbrev pub is_bound : Function → ℕ → Bool
+is_bound f r = list_any (binds r) (items_of f.blocks)
+
+-- a branch goes to the block
+abbrev pub row_goes : ℕ → Row → Bool
+row_goes n (Branches op a b target) = nat_eq target n
+row_goes n (Jumps target) = nat_eq target n
+row_goes n (Fixes rd m) = false
+row_goes n (Moves rd rs) = false
+row_goes n (Sets rd op a b) = false
+row_goes n (Addresses rd m offset) = false
+row_goes n (Loads rd op base offset) = false
+row_goes n (Stores op rs base offset) = false
+row_goes n (LoadsSlot rd m) = false
+row_goes n (StoresSlot rs m) = false
+row_goes n (Calls name args) = false
+row_goes n (Returns results) = false
+row_goes n Unfit = false
+
+abbrev pub goes : ℕ → ItemKind → Bool
+goes n (Code i k) = row_goes n (row_of i)
+goes n (Mark v m) = false
+goes n (Phi p k) = false
+
+-- some branch goes to the first block
+abbrev pub is_looped : Function → Bool
+is_looped f = list_any (λ i. goes (first_of f.blocks) i.kind) (items_of f.blocks)
+
+-- fewer than two scratch registers are free
+abbrev pub lacks_scratch : Function → Bool
+lacks_scratch f = nat_lt (length (scratch_of f)) 2
+
+-- why a register isn't spilled, whatever the slots: the first reason that applies. `live` says which registers are live into the
+-- first block
+abbrev pub reason_of : Function → (live : ℕ → Bool) → ℕ → Option Reason
+reason_of f live r = cond (lacks_scratch f) (Some NoScratch) (cond (is_bound f r) (Some CallNamed) (cond (live r && is_looped f) (Some EntryLoop) None))
+
+abbrev pub is_free : Option Reason → Bool
+is_free None = true
+is_free (Some why) = false
+
+-- ---- what is spilled
+
+-- of the registers in reserve those that code names and that nothing prevents
+abbrev pub candidates : (reserve : List ℕ) (live : ℕ → Bool) → Function → List ℕ
+candidates reserve live f = filter (λ r. is_named f r && is_free (reason_of f live r)) reserve
+
+-- how many slots there may still be
+abbrev pub room : Function → ℕ
+room f = MAX_SLOTS - (length f.slots + length f.objects)
+
+-- as many as there is room for, the lowest first
+abbrev pub chosen : (reserve : List ℕ) (live : ℕ → Bool) → Function → List ℕ
+chosen reserve live f = take (room f) (candidates reserve live f)
+
+-- a number above all slots, or 0 where there is none
+abbrev pub next_slot : List ℕ → ℕ
+next_slot [] = 0
+next_slot (n ∷ ns) = greatest (n ∷ ns) + 1
+
+-- each in a slot of its own, from a number on
+abbrev pub homes_from : (slot : ℕ) → List ℕ → List Home
+homes_from n [] = []
+homes_from n (r ∷ rs) = record { register = r; slot = n } ∷ homes_from (n + 1) rs
+
+abbrev pub homes_of : (reserve : List ℕ) (live : ℕ → Bool) → Function → List Home
+homes_of reserve live f = homes_from (next_slot f.slots) (chosen reserve live f)
+
+-- the scratch registers; where they lack nothing is spilled
+abbrev pub first_scratch : List ℕ → ℕ
+first_scratch [] = 0
+first_scratch (a ∷ rest) = a
+
+abbrev pub second_scratch : List ℕ → ℕ
+second_scratch [] = 0
+second_scratch (a ∷ rest) = first_scratch rest
+
+abbrev pub spilling_of : (reserve : List ℕ) (live : ℕ → Bool) → Function → Spilling
+spilling_of reserve live f = record {
+  first = first_scratch (scratch_of f);
+  second = second_scratch (scratch_of f);
+  homes = homes_of reserve live f;
+}
+
+-- those that are stored at the start
+abbrev pub entry_of : (live : ℕ → Bool) → List Home → List Home
+entry_of live homes = filter (λ h. live h.register) homes
+
+-- the function with registers of the reserve in slots
+abbrev pub spilled : (reserve : List ℕ) (live : ℕ → Bool) → Function → Function
+spilled reserve live f = record f {
+  slots = f.slots ++ map (λ h. h.slot) (homes_of reserve live f);
+  blocks = spilled_blocks (spilling_of reserve live f) (entry_of live (homes_of reserve live f)) f.blocks;
+}

@@ -1,0 +1,362 @@
+-- Proofs of what a step owes of its rule for code. They stand here, and not in proofs/, since an implementation of a trait cites them;
+-- nothing here is to be believed.
+use Rattle.std.proofs.Common.{◌≡◌, ◌↔◌, ℕ, zero, suc, ◌+◌, ◌<◌, List, [], ◌∷◌, ◌++◌, map, filter, take, drop, length, Contains, Option, Some, None, Bool, true, false}
+use Rattle.std.proofs.Common.{cond, not, ◌&&◌, ◌||◌, nat_eq, nat_lt, refl, sym, ap, ◌∙◌, subst, arith}
+use Rattle.std.specs.List.{list_any, flat_map}
+use Rattle.std.proofs.lemmas.List.{map-append}
+use Rattle.std.proofs.lemmas.List.Concat.{flat_map-cons}
+use Rattle.std.proofs.lemmas.List.Folds.{list_any-append}
+use Rattle.rv64_instr.specs.declared.place.Place.{Place}
+use Rattle.rv64_instr.specs.declared.place.Place.TheVariants.{Register}
+use Rattle.rv64_instr.specs.declared.operand.Operand.{Operand}
+use Rattle.rv64_instr.specs.Instruction.{Instruction}
+use Rattle.mir_func.specs.declared.entry.OperandPair.{OperandPair}
+use Rattle.mir_func.specs.declared.position.Pos.{Pos}
+use Rattle.mir_func.specs.declared.position.Origin.{Origin}
+use Rattle.mir_func.specs.declared.position.Origin.TheVariants.{Kept, Before}
+use Rattle.mir_func.specs.declared.location.Loc.{Loc}
+use Rattle.mir_func.specs.declared.location.Loc.TheVariants.{Absent}
+use Rattle.mir_func.specs.declared.block.Block.{Block}
+use Rattle.mir_func.specs.declared.item.Item.{Item}
+use Rattle.mir_func.specs.declared.item.ItemKind.{ItemKind}
+use Rattle.mir_func.specs.declared.item.ItemKind.TheVariants.{Code, Mark, Phi}
+use Rattle.mir_func.specs.Function.{Function}
+use Rattle.mir_func.specs.Graph.{Program, Fetch, Here, Silent, Outside, below, block_start, end_of, front, fetch_in, from_block, program_of, FetchEdge}
+use Rattle.mir_func.specs.Sound.{items_of}
+use Rattle.mir_meaning.specs.Align.{position_of}
+use Rattle.mir_meaning.specs.Follow.{first_of}
+use Rattle.mir_meaning.specs.Live.{Live, used, later, Uses, Defines}
+use Rattle.follow_law.specs.declared.loss.Reason.TheVariants.{NoScratch, CallNamed, EntryLoop}
+use Rattle.follow_law.specs.Causes.{names, is_named, scratch_of}
+use Rattle.follow_law.specs.Sizes.{calls}
+use Rattle.follow_law.specs.Code.{HasOneResult, SeesCodeAlone, placeless_origin, placeless_item, placeless_block, placeless}
+use Rattle.spill_code.specs.declared.spilling.Home.{Home}
+use Rattle.spill_code.specs.declared.spilling.Spilling.{Spilling}
+use Rattle.spill_code.specs.Rewrite.{added, load, store, loads, two_loads, stores, first_used, other_used, first_defined, spilled_code, code_items, kind_items}
+use Rattle.spill_code.specs.Rewrite.{spilled_place, spilled_item, spilled_items, spilled_block, entry_stores, first_block, spilled_blocks}
+use Rattle.spill_rule.specs.Choice.{is_added, binds, is_bound, goes, is_looped, lacks_scratch, reason_of, is_free, candidates, room, chosen, next_slot, homes_from}
+use Rattle.spill_rule.specs.Choice.{homes_of, first_scratch, second_scratch, spilling_of, entry_of, spilled}
+use Rattle.spill_rule.specs.Rule.{IsLiveIn, Decides, IsSpilled}
+
+-- ---- one result
+
+-- a test that is the same at each of a list's numbers keeps the same of them
+filter_same : (p q : ℕ → Bool) (xs : List ℕ) → ((x : ℕ) → Contains xs x → p x ≡ q x) → filter p xs ≡ filter q xs
+filter_same p q [] h = refl
+filter_same p q (x ∷ xs) h =
+    let here = h x (0, omega arith, refl) in
+    let rest = filter_same p q xs (λ y k. h y (suc k.0, (let lt = k.1 in omega (arith, lt)), k.2)) in
+    λ i. cond (here i) (x ∷ rest i) (rest i)
+
+filter_homes : (p q : ℕ → Bool) (xs : List Home) → ((h : Home) → Contains xs h → p h.register ≡ q h.register) →
+    filter (λ (h : Home). p h.register) xs ≡ filter (λ (h : Home). q h.register) xs
+filter_homes p q [] h = refl
+filter_homes p q (x ∷ xs) h =
+    let here = h x (0, omega arith, refl) in
+    let rest = filter_homes p q xs (λ y k. h y (suc k.0, (let lt = k.1 in omega (arith, lt)), k.2)) in
+    λ i. cond (here i) (x ∷ rest i) (rest i)
+
+from_filter : (p : ℕ → Bool) (xs : List ℕ) (x : ℕ) → Contains (filter p xs) x → Contains xs x
+from_filter p [] x k = k
+from_filter p (y ∷ ys) x k = by_test (p y) k (λ j. from_filter p ys x j) where
+  later : Contains ys x → Contains (y ∷ ys) x
+  later (k, lt, e) = (suc k, omega (arith, lt), e)
+
+  by_test : (z : Bool) → Contains (cond z (y ∷ filter p ys) (filter p ys)) x → (Contains (filter p ys) x → Contains ys x) → Contains (y ∷ ys) x
+  by_test true (zero, lt, e) more = (0, omega arith, e)
+  by_test true (suc k, lt, e) more = later (more (k, omega (arith, lt), e))
+  by_test false k more = later (more k)
+
+from_take : (n : ℕ) (xs : List ℕ) (x : ℕ) → Contains (take n xs) x → Contains xs x
+from_take zero [] x k = k
+from_take zero (y ∷ ys) x (k, lt, e) = absurd (omega (arith, lt))
+from_take (suc n) [] x k = k
+from_take (suc n) (y ∷ ys) x (zero, lt, e) = (0, omega arith, e)
+from_take (suc n) (y ∷ ys) x (suc k, lt, e) = let w = from_take n ys x (k, omega (arith, lt), e) in let lt' = w.1 in (suc w.0, omega (arith, lt'), w.2)
+
+from_homes : (n : ℕ) (rs : List ℕ) (h : Home) → Contains (homes_from n rs) h → Contains rs h.register
+from_homes n [] h (k, lt, e) = absurd (omega (arith, lt))
+from_homes n (r ∷ rs) h (zero, lt, e) = (0, omega arith, ap (λ (z : Home). z.register) e)
+from_homes n (r ∷ rs) h (suc k, lt, e) =
+    let w = from_homes (n + 1) rs h (k, omega (arith, lt), e) in let lt' = w.1 in (suc w.0, omega (arith, lt'), w.2)
+
+module _ (reserve : List ℕ) (f : Function) (live live' : ℕ → Bool) (agree : (r : ℕ) → Contains reserve r → live r ≡ live' r) where
+  candidates_same : candidates reserve live f ≡ candidates reserve live' f
+  candidates_same =
+      filter_same (λ r. is_named f r && is_free (reason_of f live r)) (λ r. is_named f r && is_free (reason_of f live' r)) reserve
+      (λ r k. (let e = agree r k in
+      λ i. is_named f r && is_free (cond (lacks_scratch f) (Some NoScratch) (cond (is_bound f r) (Some CallNamed)
+      (cond (e i && is_looped f) (Some EntryLoop) None)))))
+
+  homes_same : homes_of reserve live f ≡ homes_of reserve live' f
+  homes_same = ap (λ (rs : List ℕ). homes_from (next_slot f.slots) (take (room f) rs)) candidates_same
+
+  entry_same : entry_of live (homes_of reserve live f) ≡ entry_of live' (homes_of reserve live' f)
+  entry_same =
+      ap (entry_of live) homes_same ∙
+      filter_homes live live' (homes_of reserve live' f) (λ h k. agree h.register
+      (from_filter (λ r. is_named f r && is_free (reason_of f live' r)) reserve h.register
+      (from_take (room f) (candidates reserve live' f) h.register (from_homes (next_slot f.slots) (chosen reserve live' f) h k))))
+
+  pub spilled_same : spilled reserve live f ≡ spilled reserve live' f
+  spilled_same =
+      let hs = homes_same in
+      let es = entry_same in
+      λ i. record f {
+        slots = f.slots ++ map (λ (h : Home). h.slot) (hs i);
+        blocks = spilled_blocks (record { first = first_scratch (scratch_of f); second = second_scratch (scratch_of f); homes = hs i }) (es i) f.blocks;
+      }
+
+-- two that decide the same agree
+agreeing : (P : Type 0) (a b : Bool) → (a ≡ true) ↔ P → (b ≡ true) ↔ P → a ≡ b
+agreeing P true true h k = refl
+agreeing P true false h k = sym (k.1 (h.0 refl))
+agreeing P false true h k = h.1 (k.0 refl)
+agreeing P false false h k = refl
+
+pub one_spilled : (reserve : List ℕ) → HasOneResult (IsSpilled reserve)
+one_spilled reserve f g h (live, decides, e) (live', decides', e') =
+    e ∙ spilled_same reserve f live live' (λ r k. agreeing (IsLiveIn f r) (live r) (live' r) (decides r k) (decides' r k)) ∙ sym e'
+
+-- ---- positions don't show in what is live
+
+abbrev placeless_fetch : Fetch → Fetch
+placeless_fetch (Here i) = Here (placeless_item i)
+placeless_fetch (Silent k n) = Silent 0 n
+placeless_fetch Outside = Outside
+
+end_placeless : (k : ℕ) (bs : List Block) → end_of 0 (map placeless_block bs) ≡ placeless_fetch (end_of k bs)
+end_placeless k [] = refl
+end_placeless k (b ∷ bs) = refl
+
+front_placeless : (xs : List Item) (n k : ℕ) (bs : List Block) →
+    front (drop n (map placeless_item xs)) 0 (map placeless_block bs) ≡ placeless_fetch (front (drop n xs) k bs)
+front_placeless [] zero k bs = end_placeless k bs
+front_placeless [] (suc n) k bs = end_placeless k bs
+front_placeless (x ∷ xs) zero k bs = refl
+front_placeless (x ∷ xs) (suc n) k bs = front_placeless xs n k bs
+
+from_placeless : (bs : List Block) (n : ℕ) → from_block (map placeless_block bs) n ≡ map placeless_block (from_block bs n)
+from_placeless [] n = refl
+from_placeless (b ∷ bs) n = by_test (nat_eq b.id n) (from_placeless bs n) where
+  by_test : (z : Bool) → from_block (map placeless_block bs) n ≡ map placeless_block (from_block bs n) →
+      cond z (placeless_block b ∷ map placeless_block bs) (from_block (map placeless_block bs) n) ≡ map placeless_block (cond z (b ∷ bs) (from_block bs n))
+  by_test true more = refl
+  by_test false more = more
+
+fetch_placeless : (bs : List Block) (n : ℕ) → fetch_in (map placeless_block bs) n ≡ placeless_fetch (fetch_in bs n)
+fetch_placeless [] n = refl
+fetch_placeless (b ∷ bs) n = front_placeless b.items n b.silent bs
+
+module _ (blocks : List Block) (resolve : OperandPair → Option OperandPair) where
+  abbrev with_places : Program
+  with_places = program_of false blocks resolve
+
+  abbrev without : Program
+  without = program_of false (map placeless_block blocks) resolve
+
+  at : (p : Pos) → without.fetch p ≡ placeless_fetch (with_places.fetch p)
+  at p = ap (λ (bs : List Block). fetch_in bs p.item) (from_placeless blocks p.block) ∙ fetch_placeless (from_block blocks p.block) p.item
+
+  uses_to : (x : Fetch) (y : Place) → Uses x y → Uses (placeless_fetch x) y
+  uses_to (Here i) y h = h
+  uses_to (Silent k n) y h = h
+  uses_to Outside y h = h
+
+  uses_from : (x : Fetch) (y : Place) → Uses (placeless_fetch x) y → Uses x y
+  uses_from (Here i) y h = h
+  uses_from (Silent k n) y h = h
+  uses_from Outside y h = h
+
+  defines_to : (x : Fetch) (y : Place) → Defines x y → Defines (placeless_fetch x) y
+  defines_to (Here i) y h = h
+  defines_to (Silent k n) y h = h
+  defines_to Outside y h = h
+
+  defines_from : (x : Fetch) (y : Place) → Defines (placeless_fetch x) y → Defines x y
+  defines_from (Here i) y h = h
+  defines_from (Silent k n) y h = h
+  defines_from Outside y h = h
+
+  edge_to : (x : Fetch) (p q : Pos) → FetchEdge (λ n. n) x p q → FetchEdge (λ n. n) (placeless_fetch x) p q
+  edge_to (Here i) p q h = h
+  edge_to (Silent k n) p q h = h
+  edge_to Outside p q h = h
+
+  edge_from : (x : Fetch) (p q : Pos) → FetchEdge (λ n. n) (placeless_fetch x) p q → FetchEdge (λ n. n) x p q
+  edge_from (Here i) p q h = h
+  edge_from (Silent k n) p q h = h
+  edge_from Outside p q h = h
+
+  live_to : (x : Place) {p : Pos} → Live with_places x p → Live without x p
+  live_to x {p = p} (used h) = used (subst (λ (z : Fetch). Uses z x) (sym (at p)) (uses_to (with_places.fetch p) x h))
+  live_to x {p = p} (later {q = q} none edge more) = later
+      (λ d. none (defines_from (with_places.fetch p) x (subst (λ (z : Fetch). Defines z x) (at p) d)))
+      (subst (λ (z : Fetch). FetchEdge (λ n. n) z p q) (sym (at p)) (edge_to (with_places.fetch p) p q edge)) (live_to x more)
+
+  live_from : (x : Place) {p : Pos} → Live without x p → Live with_places x p
+  live_from x {p = p} (used h) = used (uses_from (with_places.fetch p) x (subst (λ (z : Fetch). Uses z x) (at p) h))
+  live_from x {p = p} (later {q = q} none edge more) = later
+      (λ d. none (subst (λ (z : Fetch). Defines z x) (sym (at p)) (defines_to (with_places.fetch p) x d)))
+      (edge_from (with_places.fetch p) p q (subst (λ (z : Fetch). FetchEdge (λ n. n) z p q) (at p) edge)) (live_from x more)
+
+first_placeless : (bs : List Block) → first_of (map placeless_block bs) ≡ first_of bs
+first_placeless [] = refl
+first_placeless (b ∷ bs) = refl
+
+live_in_to : (f : Function) (r : ℕ) → IsLiveIn f r → IsLiveIn (placeless f) r
+live_in_to f r h =
+    subst (λ (n : ℕ). Live (program_of false (placeless f).blocks (λ q. None)) (Register r) (block_start n)) (sym (first_placeless f.blocks))
+    (live_to f.blocks (λ q. None) (Register r) h)
+
+live_in_from : (f : Function) (r : ℕ) → IsLiveIn (placeless f) r → IsLiveIn f r
+live_in_from f r h =
+    live_from f.blocks (λ q. None) (Register r)
+    (subst (λ (n : ℕ). Live (program_of false (placeless f).blocks (λ q. None)) (Register r) (block_start n)) (first_placeless f.blocks) h)
+
+-- ---- nor in what is chosen
+
+any_placeless_in : (test : Item → Bool) → ((i : Item) → test (placeless_item i) ≡ test i) → (xs : List Item) →
+    list_any test (map placeless_item xs) ≡ list_any test xs
+any_placeless_in test same [] = refl
+any_placeless_in test same (x ∷ xs) = let e = same x in let es = any_placeless_in test same xs in λ i. e i || es i
+
+any_placeless : (test : Item → Bool) → ((i : Item) → test (placeless_item i) ≡ test i) → (bs : List Block) →
+    list_any test (items_of (map placeless_block bs)) ≡ list_any test (items_of bs)
+any_placeless test same [] = refl
+any_placeless test same (b ∷ bs) =
+    let e = any_placeless_in test same b.items in
+    let es = any_placeless test same bs in
+    ap (list_any test) (flat_map-cons (λ (c : Block). c.items) (placeless_block b) (map placeless_block bs)) ∙
+    list_any-append test (map placeless_item b.items) (items_of (map placeless_block bs)) ∙ (λ i. e i || es i) ∙
+    sym (list_any-append test b.items (items_of bs)) ∙ ap (list_any test) (sym (flat_map-cons (λ (c : Block). c.items) b bs))
+
+added_placeless : (o : Origin) → is_added (placeless_origin o) ≡ is_added o
+added_placeless (Kept p) = refl
+added_placeless (Before p) = refl
+
+module _ (f : Function) where
+  named_same : (r : ℕ) → is_named (placeless f) r ≡ is_named f r
+  named_same r = any_placeless (λ i. names r i.kind) (λ i. refl) f.blocks
+
+  bound_same : (r : ℕ) → is_bound (placeless f) r ≡ is_bound f r
+  bound_same r = any_placeless (binds r) (λ i. (let e = added_placeless i.origin in λ j. names r i.kind && (calls i.kind || e j))) f.blocks
+
+  looped_same : is_looped (placeless f) ≡ is_looped f
+  looped_same =
+      ap (λ (n : ℕ). list_any (λ (i : Item). goes n i.kind) (items_of (placeless f).blocks)) (first_placeless f.blocks) ∙
+      any_placeless (λ i. goes (first_of f.blocks) i.kind) (λ i. refl) f.blocks
+
+  scratch_same : scratch_of (placeless f) ≡ scratch_of f
+  scratch_same i = take 2 (filter (λ (r : ℕ). not (named_same r i)) (5 ∷ 6 ∷ 7 ∷ 28 ∷ 29 ∷ 30 ∷ 31 ∷ []))
+
+  module _ (reserve : List ℕ) (live : ℕ → Bool) where
+    candidates_placeless : candidates reserve live (placeless f) ≡ candidates reserve live f
+    candidates_placeless i =
+        filter (λ (r : ℕ). named_same r i && is_free (cond (nat_lt (length (scratch_same i)) 2) (Some NoScratch) (cond (bound_same r i) (Some CallNamed)
+        (cond (live r && looped_same i) (Some EntryLoop) None)))) reserve
+
+    homes_placeless : homes_of reserve live (placeless f) ≡ homes_of reserve live f
+    homes_placeless i = homes_from (next_slot f.slots) (take (room f) (candidates_placeless i))
+
+    spilling_placeless : spilling_of reserve live (placeless f) ≡ spilling_of reserve live f
+    spilling_placeless i = record {
+      first = first_scratch (scratch_same i);
+      second = second_scratch (scratch_same i);
+      homes = homes_placeless i;
+    }
+
+-- ---- nor in the code that is made
+
+module _ (s : Spilling) where
+  loads_placeless : (p q : Pos) (r : ℕ) (z : Option ℕ) → map placeless_item (loads p r z) ≡ map placeless_item (loads q r z)
+  loads_placeless p q r None = refl
+  loads_placeless p q r (Some n) = refl
+
+  two_placeless : (p q : Pos) (os : List Operand) (z : Option ℕ) → map placeless_item (two_loads s p os z) ≡ map placeless_item (two_loads s q os z)
+  two_placeless p q os None = refl
+  two_placeless p q os (Some n) =
+      ap (λ (xs : List Item). placeless_item (added p (load s.first n)) ∷ xs) (loads_placeless p q s.second (other_used s.homes n os))
+
+  stores_placeless : (p q : Pos) (r : ℕ) (z : Option ℕ) → map placeless_item (stores p r z) ≡ map placeless_item (stores q r z)
+  stores_placeless p q r None = refl
+  stores_placeless p q r (Some n) = refl
+
+  twice_placeless : (o : Origin) → placeless_origin (placeless_origin o) ≡ placeless_origin o
+  twice_placeless (Kept p) = refl
+  twice_placeless (Before p) = refl
+
+  code_placeless : (i : Instruction) (k : Option ℕ) (o o' : Origin) (l l' : Loc) → placeless_origin o ≡ placeless_origin o' →
+      map placeless_item (code_items s i k o l) ≡ map placeless_item (code_items s i k o' l')
+  code_placeless i k o o' l l' e =
+      map-append placeless_item (two_loads s (position_of o) i.operands (first_used s.homes i.operands)) _ ∙
+      (λ j. two_placeless (position_of o) (position_of o') i.operands (first_used s.homes i.operands) j ++
+      (record { kind = Code (spilled_code s i) k; origin = e j; loc = Absent } ∷
+      stores_placeless (below (position_of o)) (below (position_of o')) s.first (first_defined s.homes i.operands) j)) ∙
+      sym (map-append placeless_item (two_loads s (position_of o') i.operands (first_used s.homes i.operands)) _)
+
+  item_placeless : (x : Item) → map placeless_item (spilled_item s (placeless_item x)) ≡ map placeless_item (spilled_item s x)
+  item_placeless x = by_kind x.kind where
+    by_kind : (k : ItemKind) → map placeless_item (kind_items s k (placeless_origin x.origin) Absent) ≡ map placeless_item (kind_items s k x.origin x.loc)
+    by_kind (Code i n) = code_placeless i n (placeless_origin x.origin) x.origin Absent x.loc (twice_placeless x.origin)
+    by_kind (Mark v m) = ap (λ (o : Origin). record { kind = Mark v m; origin = o; loc = Absent } ∷ []) (twice_placeless x.origin)
+    by_kind (Phi p n) = ap (λ (o : Origin). record { kind = Phi (spilled_place s.homes p) n; origin = o; loc = Absent } ∷ []) (twice_placeless x.origin)
+
+  items_placeless : (xs : List Item) → map placeless_item (spilled_items s (map placeless_item xs)) ≡ map placeless_item (spilled_items s xs)
+  items_placeless [] = refl
+  items_placeless (x ∷ xs) =
+      let e = item_placeless x in
+      let es = items_placeless xs in
+      ap (map placeless_item) (flat_map-cons (spilled_item s) (placeless_item x) (map placeless_item xs)) ∙
+      map-append placeless_item (spilled_item s (placeless_item x)) (spilled_items s (map placeless_item xs)) ∙ (λ i. e i ++ es i) ∙
+      sym (map-append placeless_item (spilled_item s x) (spilled_items s xs)) ∙ ap (map placeless_item) (sym (flat_map-cons (spilled_item s) x xs))
+
+  others_placeless : (bs : List Block) → map placeless_block (map (spilled_block s) (map placeless_block bs)) ≡ map placeless_block (map (spilled_block s) bs)
+  others_placeless [] = refl
+  others_placeless (b ∷ bs) =
+      let e = items_placeless b.items in
+      let es = others_placeless bs in
+      λ i. record { id = b.id; items = e i; silent = 0 } ∷ es i
+
+  blocks_placeless : (entry : List Home) (bs : List Block) →
+      map placeless_block (spilled_blocks s entry (map placeless_block bs)) ≡ map placeless_block (spilled_blocks s entry bs)
+  blocks_placeless entry [] = refl
+  blocks_placeless entry (b ∷ bs) =
+      let e = items_placeless b.items in
+      let es = others_placeless bs in
+      let is : map placeless_item (entry_stores b.id entry ++ spilled_items s (map placeless_item b.items)) ≡
+          map placeless_item (entry_stores b.id entry ++ spilled_items s b.items) =
+      map-append placeless_item (entry_stores b.id entry) (spilled_items s (map placeless_item b.items)) ∙
+      ap (λ (xs : List Item). map placeless_item (entry_stores b.id entry) ++ xs) e ∙
+      sym (map-append placeless_item (entry_stores b.id entry) (spilled_items s b.items)) in
+      λ i. record { id = b.id; items = is i; silent = 0 } ∷ es i
+
+spilled_placeless : (reserve : List ℕ) (live : ℕ → Bool) (f : Function) → placeless (spilled reserve live (placeless f)) ≡ placeless (spilled reserve live f)
+spilled_placeless reserve live f =
+    let hs = homes_placeless f reserve live in
+    let ss = spilling_placeless f reserve live in
+    let first : placeless (spilled reserve live (placeless f)) ≡ placeless (record f {
+      slots = f.slots ++ map (λ (h : Home). h.slot) (homes_of reserve live f);
+      blocks = spilled_blocks (spilling_of reserve live f) (entry_of live (homes_of reserve live f)) (map placeless_block f.blocks);
+    }) = λ i. record f {
+      slots = f.slots ++ map (λ (h : Home). h.slot) (hs i);
+      blocks = map placeless_block (spilled_blocks (ss i) (entry_of live (hs i)) (map placeless_block f.blocks));
+    } in
+    first ∙ (λ i. record f {
+      slots = f.slots ++ map (λ (h : Home). h.slot) (homes_of reserve live f);
+      blocks = blocks_placeless (spilling_of reserve live f) (entry_of live (homes_of reserve live f)) f.blocks i;
+    })
+
+pub same_spilled : (reserve : List ℕ) → SeesCodeAlone (IsSpilled reserve)
+same_spilled reserve f f' g g' alike (live, decides, e) (live', decides', e') =
+    ap placeless e ∙ sym (spilled_placeless reserve live f) ∙ ap placeless (spilled_same reserve (placeless f) live live' agree) ∙
+    ap (λ (h : Function). placeless (spilled reserve live' h)) alike ∙ spilled_placeless reserve live' f' ∙ sym (ap placeless e') where
+      to : (r : ℕ) → IsLiveIn f r → IsLiveIn f' r
+      to r h = live_in_from f' r (subst (λ (z : Function). IsLiveIn z r) alike (live_in_to f r h))
+
+      back : (r : ℕ) → IsLiveIn f' r → IsLiveIn f r
+      back r h = live_in_from f r (subst (λ (z : Function). IsLiveIn z r) (sym alike) (live_in_to f' r h))
+
+      agree : (r : ℕ) → Contains reserve r → live r ≡ live' r
+      agree r k = agreeing (IsLiveIn f r) (live r) (live' r) (decides r k)
+          (λ t. back r ((decides' r k).0 t), λ h. (decides' r k).1 (to r h))

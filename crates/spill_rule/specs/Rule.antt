@@ -1,0 +1,21 @@
+-- The rule for code of spilling.
+use Rattle.std.specs.Prelude.{◌≡◌, ◌↔◌, ℕ, List, Contains, Option, None, Bool, true, false}
+use Rattle.rv64_instr.specs.declared.place.Place.TheVariants.{Register}
+use Rattle.mir_func.specs.Function.{Function}
+use Rattle.mir_func.specs.Graph.{program_of, block_start}
+use Rattle.mir_meaning.specs.Follow.{first_of}
+use Rattle.mir_meaning.specs.Live.{Live}
+use Rattle.follow_law.specs.Code.{CodeRule}
+use Rattle.spill_rule.specs.Choice.{spilled}
+
+-- the register is live into the function's first block
+abbrev pub IsLiveIn : Function → ℕ → Type 0
+IsLiveIn f r = Live (program_of false f.blocks (λ q. None)) (Register r) (block_start (first_of f.blocks))
+
+-- it says so of each register of the reserve
+abbrev pub Decides : (reserve : List ℕ) → Function → (ℕ → Bool) → Type 0
+Decides reserve f live = (r : ℕ) → Contains reserve r → (live r ≡ true) ↔ IsLiveIn f r
+
+-- registers of the reserve in slots
+abbrev pub IsSpilled : (reserve : List ℕ) → CodeRule
+IsSpilled reserve f g = (live : ℕ → Bool) × Decides reserve f live × (g ≡ spilled reserve live f)

@@ -1,0 +1,14 @@
+pub mod Rows
+pub mod Acting
+pub mod Explicit
+pub mod Near
+pub mod Items
+pub mod Places
+pub mod Steps
+pub mod Views
+pub mod Running
+pub mod Paths
+pub mod Shape
+pub mod Apart
+pub mod ShapeOf
+pub mod Following

@@ -1,0 +1,113 @@
+-- What code with other registers does: the same rows, with other registers.
+use Rattle.std.proofs.Common.{◌≡◌, ℕ, zero, suc, List, [], ◌∷◌, map, cond, nat_eq, refl, sym, ap, ◌∙◌}
+use Rattle.rv64_instr.specs.declared.op.Op.{Op}
+use Rattle.rv64_instr.specs.declared.op.Op.TheVariants.{Registers, Immediate, Lui, Branch, Load, Store, Copy, PseudoBr, PseudoCall, PseudoRet}
+use Rattle.rv64_instr.specs.declared.op.ImmediateOp.{ImmediateOp}
+use Rattle.rv64_instr.specs.declared.op.ImmediateOp.TheVariants.{Addi}
+use Rattle.rv64_instr.specs.declared.op.RegisterOp.TheVariants.{Add}
+use Rattle.rv64_instr.specs.declared.operand.Operand.{Operand}
+use Rattle.rv64_instr.specs.declared.operand.Operand.TheVariants.{Def, Use, ImplicitDef, ImplicitUse, Imm, Slot, Object, Block, Symbol, Mask}
+use Rattle.rv64_instr.specs.declared.decoded.Input.{Input}
+use Rattle.rv64_instr.specs.declared.decoded.Input.TheVariants.{Content, Number}
+use Rattle.rv64_instr.specs.declared.decoded.Base.{Base}
+use Rattle.rv64_instr.specs.declared.decoded.Base.TheVariants.{PointedBy, ObjectAt}
+use Rattle.rv64_instr.specs.Arithmetic.{word}
+use Rattle.rv64_instr.specs.Instruction.{Instruction}
+use Rattle.rv64_instr.specs.Row.{Row, Fixes, Moves, Sets, Addresses, Loads, Stores, LoadsSlot, StoresSlot, Branches, Jumps, Calls, Returns, Unfit, row_of}
+use Rattle.rv64_instr.specs.Row.{row_by, move_row, add_row, immediate_row, object_row, implicit_uses}
+use Rattle.spill_code.specs.Rewrite.{renamed_operand, renamed_code}
+
+module _ (at_use at_def : ℕ → ℕ) where
+  abbrev pub renamed_input : Input → Input
+  renamed_input (Content r) = Content (at_use r)
+  renamed_input (Number n) = Number n
+
+  abbrev pub renamed_base : Base → Base
+  renamed_base (PointedBy r) = PointedBy (at_use r)
+  renamed_base (ObjectAt n) = ObjectAt n
+
+  -- the row with other explicit registers
+  abbrev pub renamed_row : Row → Row
+  renamed_row (Fixes rd n) = Fixes (at_def rd) n
+  renamed_row (Moves rd rs) = Moves (at_def rd) (at_use rs)
+  renamed_row (Sets rd op a b) = Sets (at_def rd) op (at_use a) (renamed_input b)
+  renamed_row (Addresses rd n o) = Addresses (at_def rd) n o
+  renamed_row (Loads rd op b o) = Loads (at_def rd) op (renamed_base b) o
+  renamed_row (Stores op rs b o) = Stores op (at_use rs) (renamed_base b) o
+  renamed_row (LoadsSlot rd n) = LoadsSlot (at_def rd) n
+  renamed_row (StoresSlot rs n) = StoresSlot (at_use rs) n
+  renamed_row (Branches op a b t) = Branches op (at_use a) (at_use b) t
+  renamed_row (Jumps t) = Jumps t
+  renamed_row (Calls name args) = Calls name args
+  renamed_row (Returns v) = Returns v
+  renamed_row Unfit = Unfit
+
+  abbrev others : List Operand → List Operand
+  others os = map (renamed_operand at_use at_def) os
+
+  uses_same : (os : List Operand) → implicit_uses (others os) ≡ implicit_uses os
+  uses_same [] = refl
+  uses_same (ImplicitUse r ∷ os) = ap (λ (z : List ℕ). cond (nat_eq r 2) z (r ∷ z)) (uses_same os)
+  uses_same (Def r ∷ os) = uses_same os
+  uses_same (Use r ∷ os) = uses_same os
+  uses_same (ImplicitDef r ∷ os) = uses_same os
+  uses_same (Imm i ∷ os) = uses_same os
+  uses_same (Slot n ∷ os) = uses_same os
+  uses_same (Object n ∷ os) = uses_same os
+  uses_same (Block n ∷ os) = uses_same os
+  uses_same (Symbol n ∷ os) = uses_same os
+  uses_same (Mask ∷ os) = uses_same os
+
+  -- x0 stays x0, and nothing else becomes it
+  pub record KeepsZero : Type 0 where
+    pub zero_stays : at_use 0 ≡ 0
+    pub no_other : (r : ℕ) → at_use (suc r) ≡ 0 → ⊥
+
+  module _ (keeps : KeepsZero) where
+    not_zero : (n : ℕ) → (n ≡ 0 → ⊥) → (m : ℕ) × (n ≡ suc m)
+    not_zero zero ne = absurd (ne refl)
+    not_zero (suc m) ne = (m, refl)
+
+    move_same : (rd rs : ℕ) → move_row (at_def rd) (at_use rs) ≡ renamed_row (move_row rd rs)
+    move_same rd zero = ap (move_row (at_def rd)) keeps.zero_stays
+    move_same rd (suc r) =
+        let w = not_zero (at_use (suc r)) (keeps.no_other r) in
+        ap (move_row (at_def rd)) w.1 ∙ sym (ap (Moves (at_def rd)) w.1)
+
+    add_same : (rd a n : ℕ) → add_row (at_def rd) (at_use a) n ≡ renamed_row (add_row rd a n)
+    add_same rd zero n = ap (λ (z : ℕ). add_row (at_def rd) z n) keeps.zero_stays
+    add_same rd (suc r) zero =
+        let w = not_zero (at_use (suc r)) (keeps.no_other r) in
+        ap (λ (z : ℕ). add_row (at_def rd) z zero) w.1 ∙ sym (ap (Moves (at_def rd)) w.1)
+    add_same rd (suc r) (suc n) =
+        let w = not_zero (at_use (suc r)) (keeps.no_other r) in
+        ap (λ (z : ℕ). add_row (at_def rd) z (suc n)) w.1 ∙ sym (ap (λ (z : ℕ). Sets (at_def rd) Add z (Number (suc n))) w.1)
+
+    immediate_same : (op : ImmediateOp) (rd a n : ℕ) → immediate_row op (at_def rd) (at_use a) n ≡ renamed_row (immediate_row op rd a n)
+    immediate_same Addi rd a n = add_same rd a n
+    immediate_same _ rd a n = refl
+
+    object_same : (op : ImmediateOp) (rd n o : ℕ) → object_row op (at_def rd) n o ≡ renamed_row (object_row op rd n o)
+    object_same Addi rd n o = refl
+    object_same _ rd n o = refl
+
+    by_op : (op : Op) (os : List Operand) → row_by op (others os) ≡ renamed_row (row_by op os)
+    by_op (Registers op) (Def rd ∷ Use a ∷ Use b ∷ rest) = refl
+    by_op (Immediate op) (Def rd ∷ Use a ∷ Imm i ∷ rest) = immediate_same op rd a (word i)
+    by_op (Immediate op) (Def rd ∷ Object n ∷ Imm i ∷ rest) = object_same op rd n (word i)
+    by_op Lui (Def rd ∷ Imm i ∷ rest) = refl
+    by_op (Branch op) (Use a ∷ Use b ∷ Block target ∷ rest) = refl
+    by_op (Load op) (Def rd ∷ Use base ∷ Imm i ∷ rest) = refl
+    by_op (Load op) (Def rd ∷ Slot n ∷ rest) = refl
+    by_op (Load op) (Def rd ∷ Object n ∷ Imm i ∷ rest) = refl
+    by_op (Store op) (Use rs ∷ Use base ∷ Imm i ∷ rest) = refl
+    by_op (Store op) (Use rs ∷ Slot n ∷ rest) = refl
+    by_op (Store op) (Use rs ∷ Object n ∷ Imm i ∷ rest) = refl
+    by_op Copy (Def rd ∷ Use rs ∷ rest) = move_same rd rs
+    by_op PseudoBr (Block target ∷ rest) = refl
+    by_op PseudoCall (Symbol name ∷ rest) = ap (Calls name) (uses_same rest)
+    by_op PseudoRet os = ap Returns (uses_same os)
+    by_op _ _ = refl
+
+    pub row_renamed : (i : Instruction) → row_of (renamed_code at_use at_def i) ≡ renamed_row (row_of i)
+    row_renamed i = by_op i.op i.operands

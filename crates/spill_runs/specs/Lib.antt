@@ -1,0 +1,2 @@
+pub mod MaySpill
+pub mod Follows

@@ -1,0 +1,78 @@
+-- When registers may live in slots: what the chosen registers must satisfy.
+use Rattle.std.specs.Prelude.{◌≡◌, ◌⊎◌, ℕ, ◌<◌, List, [], ◌∷◌, Contains, Some, None, IsTrue, true}
+use Rattle.rv64_instr.specs.declared.operand.Operand.{Operand}
+use Rattle.rv64_instr.specs.declared.operand.Operand.TheVariants.{Def, Use, ImplicitDef, ImplicitUse}
+use Rattle.rv64_instr.specs.declared.place.Place.TheVariants.{Register, Slot, Const}
+use Rattle.rv64_instr.specs.Access.{caller_saved}
+use Rattle.rv64_instr.specs.Form.{has_form}
+use Rattle.rv64_instr.specs.Instruction.{Instruction}
+use Rattle.rv64_instr.specs.Parts.{has_implicit_uses}
+use Rattle.rv64_instr.specs.Row.{row_of}
+use Rattle.mir_func.specs.declared.position.Pos.{Pos}
+use Rattle.mir_func.specs.declared.position.Origin.{Origin}
+use Rattle.mir_func.specs.declared.position.Origin.TheVariants.{Before}
+use Rattle.mir_func.specs.declared.variable.MarkValue.TheVariants.{Nothing, Constant, At, Pair}
+use Rattle.mir_func.specs.declared.item.ItemKind.{ItemKind}
+use Rattle.mir_func.specs.declared.item.ItemKind.TheVariants.{Code, Mark, Phi}
+use Rattle.spill_code.specs.declared.spilling.Spilling.{Spilling}
+use Rattle.spill_code.specs.Rewrite.{slot_of}
+
+-- the registers that explicit operands read, and those that they set
+abbrev pub uses_in : List Operand → List ℕ
+uses_in [] = []
+uses_in (Use r ∷ os) = r ∷ uses_in os
+uses_in (_ ∷ os) = uses_in os
+
+abbrev pub defs_in : List Operand → List ℕ
+defs_in [] = []
+defs_in (Def r ∷ os) = r ∷ defs_in os
+defs_in (_ ∷ os) = defs_in os
+
+-- the registers that implicit operands name
+abbrev pub implicits_in : List Operand → List ℕ
+implicits_in [] = []
+implicits_in (ImplicitDef r ∷ os) = r ∷ implicits_in os
+implicits_in (ImplicitUse r ∷ os) = r ∷ implicits_in os
+implicits_in (_ ∷ os) = implicits_in os
+
+-- neither scratch register
+abbrev pub IsNoScratch : Spilling → ℕ → Type 0
+IsNoScratch s r = (r ≡ s.first → ⊥) × (r ≡ s.second → ⊥)
+
+-- neither spilled nor a scratch register
+abbrev pub IsUntouched : Spilling → ℕ → Type 0
+IsUntouched s r = (slot_of s.homes r ≡ None) × IsNoScratch s r
+
+-- what code must keep: its operands have the form of its opcode, no scratch register is named, and a spilled one by an explicit
+-- operand of kept code alone
+pub record FitsCode (s : Spilling) (i : Instruction) (o : Origin) : Type 0 where
+  pub form : IsTrue (has_form i.op i.operands)
+  pub uses : (r : ℕ) → Contains (uses_in i.operands) r → IsNoScratch s r
+  pub defs : (r : ℕ) → Contains (defs_in i.operands) r → IsNoScratch s r
+  pub implicits : has_implicit_uses (row_of i) ≡ true → (r : ℕ) → Contains (implicits_in i.operands) r → IsUntouched s r
+  pub kept : (p : Pos) → o ≡ Before p → (r : ℕ) → Contains (uses_in i.operands) r ⊎ Contains (defs_in i.operands) r → slot_of s.homes r ≡ None
+
+-- marks ask for no register that goes elsewhere, and phis for no scratch register
+abbrev pub Fits : Spilling → ItemKind → Origin → Type 0
+Fits s (Code i k) o = FitsCode s i o
+Fits s (Mark v Nothing) o = Unit {0}
+Fits s (Mark v (Constant n)) o = Unit {0}
+Fits s (Mark v (At r)) o = IsUntouched s r
+Fits s (Mark v (Pair q)) o = Unit {0}
+Fits s (Phi None k) o = Unit {0}
+Fits s (Phi (Some (Register r)) k) o = IsNoScratch s r
+Fits s (Phi (Some (Slot n)) k) o = Unit {0}
+Fits s (Phi (Some (Const c)) k) o = Unit {0}
+
+-- the registers themselves: calls set the scratch registers and no spilled one, and each home is a slot of its own that the
+-- function didn't have
+pub record AreHomes (s : Spilling) (slots : List ℕ) : Type 0 where
+  pub first : Contains caller_saved s.first
+  pub second : Contains caller_saved s.second
+  pub apart : s.first ≡ s.second → ⊥
+  pub real : (r n : ℕ) → slot_of s.homes r ≡ Some n → r < 32
+  pub kept : (r n : ℕ) → slot_of s.homes r ≡ Some n → Contains caller_saved r → ⊥
+  pub no_zero : slot_of s.homes 0 ≡ None
+  pub no_pointer : slot_of s.homes 2 ≡ None
+  pub own : (q r n : ℕ) → slot_of s.homes q ≡ Some n → slot_of s.homes r ≡ Some n → q ≡ r
+  pub fresh : (r n : ℕ) → slot_of s.homes r ≡ Some n → Contains slots n → ⊥
