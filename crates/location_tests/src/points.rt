@@ -37,10 +37,16 @@ fn register_at(alloc: Global, body: &str, block: usize, item: usize) -> Result<u
     if block >= blocks.len() || item > blocks[block].items.len() {
         return Err(Fail::from("no such point"));
     }
-    match first_place(alloc, &values, blocks, &V, block, item)? {
-        Some(Place::Register(r)) => Ok(r.number()),
-        Some(Place::Slot(_)) | Some(Place::Const(_)) => Ok(64),
-        None => Ok(0),
+    let place = first_place(alloc, &values, blocks, &V, block, item)?;
+    Ok(number_of(place))
+}
+
+fn number_of(place: Option<Place>) -> u32 {
+    match place {
+        Some(Place::Register(r)) => r.number(),
+        Some(Place::Slot(_)) => 64,
+        Some(Place::Const(_)) => 64,
+        None => 0,
     }
 }
 
