@@ -9,9 +9,11 @@ use Rattle.output_promise.proofs.Headline.{compiled_promises}
 use Rattle.output_promise.proofs.IsExact.{compiled_is_exact}
 use Rattle.output_promise.proofs.LaidOut.{compiled_is_laid_out, compiled_lists_sources}
 use Rattle.program_compiler.specs.Program.{sources_of, names_of, HasSections}
+use Rattle.mirdwarf_tool.specs.Lines.{GivesLines}
 use Rattle.mirdwarf_tool.specs.Promise.{AllGiveBack, AllStopWell}
-use Rattle.mirdwarf_tool.specs.Run.{Finishes, KeepsHeadline, KeepsRegisters, StopsAtReturns, WroteExactly, WroteLaidOut, WroteSources, WroteWords, WroteSections}
+use Rattle.mirdwarf_tool.specs.Run.{Finishes, KeepsHeadline, KeepsRegisters, StopsAtReturns, WroteExactly, WroteLaidOut, WroteSources, WroteWords, WroteSections, WroteRows}
 use Rattle.mirdwarf_tool.specs.Stream.{Change}
+use Rattle.mirdwarf_tool.proofs.Lines.{gives_lines}
 use Rattle.mirdwarf_tool.proofs.RunLemmas.{has_written}
 use Rattle.mirdwarf_tool.proofs.Sentences.{gives_back, stops_well}
 
@@ -39,3 +41,6 @@ module _ (words : List (List ℕ)) (input output : Change) (finished : Finishes 
 
   pub wrote_sections : WroteSections input output
   wrote_sections = has_written (HasSections) (λ p o to sections. sections) words input output finished asked
+
+  pub wrote_rows : WroteRows input output
+  wrote_rows = has_written GivesLines (λ p o to sections. gives_lines p o sections) words input output finished asked

@@ -1,6 +1,7 @@
 pub mod Pieces
 pub mod OneProgram
 pub mod Sentences
+pub mod Lines
 pub mod AnswerLemmas
 pub mod RunLemmas
 pub mod Kept

@@ -1,6 +1,7 @@
 pub mod Limits
 pub mod Compiled
 pub mod Promise
+pub mod Lines
 pub mod Stream
 pub mod Answer
 pub mod Run

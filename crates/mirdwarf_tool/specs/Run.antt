@@ -14,6 +14,7 @@ use Rattle.mirdwarf_tool.specs.Answer.{HasFunctions, AnswersText, IsAnswered, Re
 use Rattle.output_promise.specs.Promise.{AreLaidOut, Promises, IsExact, ListsSources}
 use Rattle.output_promise.specs.Words.{HaveWords}
 use Rattle.program_compiler.specs.Program.{sources_of, names_of, HasSections}
+use Rattle.mirdwarf_tool.specs.Lines.{GivesLines}
 use Rattle.mirdwarf_tool.specs.Promise.{AllGiveBack, AllStopWell}
 use Rattle.mirdwarf_tool.specs.Stream.{Change, MetFault, IsReadWhole, IsReadFor, IsWrittenWhole, IsWrittenInPart, IsTold}
 
@@ -134,6 +135,10 @@ WroteWords input output = HasWritten (λ p. HaveWords) input output
 -- the sections of entries and of lines are those of the program's unit and of its line number table, by the standard's one spelling
 abbrev pub WroteSections : (input output : Change) → Type 0
 WroteSections input output = HasWritten HasSections input output
+
+-- the section of lines gives each byte of machine code its line of the source, and no other address one
+abbrev pub WroteRows : (input output : Change) → Type 0
+WroteRows input output = HasWritten GivesLines input output
 
 -- why an input gave nothing to write
 abbrev pub ReadingEnds : Command → (input : Change) → Fault → Type 0

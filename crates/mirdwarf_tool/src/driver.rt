@@ -5,7 +5,7 @@ ghost use Rattle.command_line.specs.Command.{words_of};
 ghost use Rattle.command_line.specs.Fault.{line_of};
 ghost use Rattle.mirdwarf_tool.specs.Run.{AreCommand, AnswersInput, Finishes, IsCutOff, TellsRefusal, IsAnswerable};
 ghost use Rattle.mirdwarf_tool.specs.Run.{KeepsHeadline, KeepsRegisters, StopsAtReturns, WroteExactly, WroteLaidOut};
-ghost use Rattle.mirdwarf_tool.specs.Run.{WroteSources, WroteWords, WroteSections, Explains, ReadingEnds};
+ghost use Rattle.mirdwarf_tool.specs.Run.{WroteSources, WroteWords, WroteSections, WroteRows, Explains, ReadingEnds};
 ghost use Rattle.mirdwarf_tool.specs.Stream.{change, MetFault, IsTold};
 
 use crate::answer::answer;
@@ -68,6 +68,9 @@ pub fn mirdwarf<S: Source, K: Sink, E: Sink>(
     // The other sections are those of the program's unit and of its table of lines.
     ensures sections { result ≡ Status.Done → map string_bytes words.now ≡ words_of Command.Compile →
         WroteSections (change S.left S.faults input.old input.new) (change K.written K.faults output.old output.new) }
+    // The section of lines gives each byte of machine code its line of the source.
+    ensures rows { result ≡ Status.Done → map string_bytes words.now ≡ words_of Command.Compile →
+        WroteRows (change S.left S.faults input.old input.new) (change K.written K.faults output.old output.new) }
 
     // A text that the command answers is answered, unless a fault is met or memory runs out.
     ensures complete { (command : Command) → map string_bytes words.now ≡ words_of command →

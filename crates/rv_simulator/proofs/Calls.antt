@@ -1,6 +1,6 @@
 -- Calls by their operands, and the registers that an answer sets.
-use Rattle.std.proofs.Common.{◌≡◌, ℕ, zero, suc, ◌+◌, ◌%◌, ◌^◌, ◌<◌, List, [], ◌∷◌, length, get_or, drop, map, Option, Some, None, Bool, true, false, ◌&&◌, cond, nat_eq, nat_lt, IsTrue}
-use Rattle.std.proofs.Common.{◌++◌, append_assoc, refl, sym, ap, ◌∙◌, subst, arith}
+use Rattle.std.proofs.Common.{◌≡◌, ℕ, zero, suc, ◌+◌, ◌%◌, ◌^◌, ◌<◌, List, [], ◌∷◌, length, get_or, drop, map, Option, Some, None, Bool, true, false, cond, nat_eq, nat_lt, IsTrue}
+use Rattle.std.proofs.Common.{◌++◌, append_assoc, refl, sym, ap, ◌∙◌, arith}
 use Rattle.std.specs.List.{All, list_all, cons_option}
 use Rattle.std.proofs.Math.Seq.{drop-cons}
 use Rattle.std.proofs.lemmas.Bool.{ltb-true, and_parts}
@@ -19,13 +19,12 @@ use Rattle.rv64_instr.specs.Form.{is_argument, has_form, fits_call}
 use Rattle.rv64_instr.specs.Instruction.{Instruction}
 use Rattle.rv64_instr.specs.Parts.{is_call}
 use Rattle.rv64_instr.specs.Row.{Calls, row_of, row_by, implicit_uses, registers_row, number_row, immediate_row, object_row, add_row, move_row, upper_row}
-use Rattle.rv64_instr.specs.Row.{branch_row, load_row, store_row, copy_row, jump_row, call_row}
+use Rattle.rv64_instr.specs.Row.{branch_row, load_row, store_row, copy_row, jump_row}
 use Rattle.rv64_instr.specs.declared.start.CallEvent.{CallEvent}
-use Rattle.mir_meaning.specs.State.{Called, Reply, written}
 use Rattle.code_layout.specs.Machine.{Machine, register, set_in, set_all_in}
 use Rattle.code_layout.specs.MachineStep.{call_of}
-use Rattle.rv_simulator.specs.Kept.{StandsFor, MemoryHolds, calls_in}
-use Rattle.rv_simulator.specs.Calls.{event_of, reply_of, after_call}
+use Rattle.rv_simulator.specs.Kept.{StandsFor, calls_in}
+use Rattle.rv_simulator.specs.Calls.{event_of}
 use Rattle.rv_simulator.specs.declared.hart.Hart.{Hart}
 use Rattle.rv_simulator.specs.steps.Arguments.{argument_of}
 

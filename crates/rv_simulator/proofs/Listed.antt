@@ -1,5 +1,5 @@
 -- What lists give is a place that can be listed.
-use Rattle.std.proofs.Common.{◌≡◌, ℕ, zero, suc, ◌+◌, ◌≤◌, List, [], ◌∷◌, Option, Some, None, Bool, true, false, ◌&&◌, cond, nat_le, nat_lt, length, refl, sym, ap, ◌∙◌, subst, arith}
+use Rattle.std.proofs.Common.{◌≡◌, ℕ, zero, suc, ◌+◌, ◌≤◌, List, [], ◌∷◌, Option, Some, None, Bool, true, false, ◌&&◌, cond, nat_le, nat_lt, refl, sym, ◌∙◌, subst}
 use Rattle.std.specs.List.{All, slice_get}
 use Rattle.std.proofs.lemmas.List.Elements.{All-head, All-tail}
 use Rattle.rv64_instr.specs.declared.place.Place.{Place}
@@ -7,7 +7,7 @@ use Rattle.dwarf_loclists.specs.declared.range.Part.{Part}
 use Rattle.dwarf_loclists.specs.declared.range.Location.{Location}
 use Rattle.dwarf_loclists.specs.declared.range.Location.TheVariants.{Whole, Parts}
 use Rattle.dwarf_loclists.specs.declared.range.Range.{Range}
-use Rattle.dwarf_loclists.specs.Ranges.{IsListed, IsPiece, ArePieces, IsLocated, ArePlaces, location_in, whole_place, nth_piece}
+use Rattle.dwarf_loclists.specs.Ranges.{IsListed, ArePieces, IsLocated, ArePlaces, location_in, whole_place, nth_piece}
 use Rattle.dwarf_loclists.specs.Reading.{LocationAt, PlaceAt, PieceAt}
 
 located : (ranges : List Range) (address : ℕ) (l : Location) → ArePlaces ranges → location_in ranges address ≡ Some l → IsLocated l

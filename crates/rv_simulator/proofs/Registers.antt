@@ -1,10 +1,9 @@
 -- Registers set.
-use Rattle.std.proofs.Common.{◌≡◌, ◌≢◌, ℕ, zero, suc, ◌<◌, List, length, Bool, cond, refl, sym, ap, ◌∙◌, inl, inr, arith, get_or-set_other, get_or-set_same}
+use Rattle.std.proofs.Common.{◌≡◌, ◌≢◌, ℕ, zero, suc, ◌<◌, List, length, Bool, cond, sym, ap, ◌∙◌, inl, inr, arith, get_or-set_other, get_or-set_same}
 use Rattle.std.specs.Prelude.{slice_index, slice_set}
 use Rattle.std.proofs.lemmas.Bool.{cases_eq, eq-eqb, ne_eqb}
 use Rattle.code_layout.specs.Machine.{Machine, register}
 use Rattle.code_layout.specs.MachineStep.{set_register}
-use Rattle.rv_simulator.specs.Kept.{StandsFor}
 
 -- each register below 32 holds what the list says
 abbrev pub RegistersHold : List ℕ → Machine → Type 0

@@ -1,10 +1,9 @@
 -- What rows do, in the form in which they are done.
-use Rattle.std.proofs.Common.{◌≡◌, ℕ, zero, suc, ◌+◌, ◌%◌, ◌^◌, ◌<◌, List, [], ◌∷◌, length, Bool, true, false, cond, refl, sym, ap, ◌∙◌, subst, arith}
+use Rattle.std.proofs.Common.{◌≡◌, ℕ, zero, suc, ◌+◌, ◌%◌, ◌^◌, ◌<◌, List, ◌∷◌, length, Bool, true, false, cond, refl, sym, ap, ◌∙◌, subst, arith}
 use Rattle.std.specs.Prelude.{slice_index}
 use Rattle.rv64_instr.specs.Arithmetic.{computed}
 use Rattle.rv64_instr.specs.declared.op.ImmediateOp.{ImmediateOp}
 use Rattle.rv64_instr.specs.declared.op.ImmediateOp.TheVariants.{Addi, Slti, Sltiu, Xori, Ori, Andi, Slli, Srli, Srai, Addiw, Slliw, Srliw, Sraiw}
-use Rattle.rv64_instr.specs.declared.op.RegisterOp.{RegisterOp}
 use Rattle.rv64_instr.specs.declared.op.RegisterOp.TheVariants.{Add}
 use Rattle.rv64_instr.specs.Row as row
 use Rattle.code_layout.specs.Machine.{Machine, register}

@@ -1,7 +1,7 @@
 -- Steps of the machine by what stands at its counter.
 use Rattle.std.proofs.Common.{◌≡◌, ℕ, List, [], ◌∷◌, map, Option, Some, None, Result, Ok, Err, Bool, true, false, cond, nat_eq, refl, sym, ap, ◌∙◌, subst}
 use Rattle.std.specs.Result.{IfOk}
-use Rattle.std.proofs.lemmas.Bool.{eqb-true, eq-eqb, ne_eqb}
+use Rattle.std.proofs.lemmas.Bool.{eq-eqb, ne_eqb}
 use Rattle.rv64_instr.specs.Row.{Row, Calls, row_of, implicit_uses}
 use Rattle.rv64_word.specs.declared.machine_op.MachineOp.{MachineOp}
 use Rattle.rv64_word.specs.Decoded.{decoded}
@@ -11,7 +11,7 @@ use Rattle.code_words.specs.declared.code.Entry.{Entry}
 use Rattle.code_words.specs.Laid.{LaidCode}
 use Rattle.code_layout.specs.Image.{CodeLine, Image, line_at, word_at}
 use Rattle.code_layout.specs.Machine.{Machine, register}
-use Rattle.code_layout.specs.MachineStep.{Stepped, Ends, Leaves, machine_step, does_at, does_line, does_word, does_operation, does, answered, call_of, return_word}
+use Rattle.code_layout.specs.MachineStep.{Ends, Leaves, machine_step, does_at, does_line, does_word, does_operation, does, answered, call_of, return_word}
 use Rattle.rv64_instr.specs.Instruction.{Instruction}
 use Rattle.rv64_instr.specs.Parts.{is_call}
 use Rattle.rv64_instr.specs.declared.start.CallEvent.{CallEvent}

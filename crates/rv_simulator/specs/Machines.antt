@@ -1,5 +1,5 @@
 -- A machine as contracts see it, and its start.
-use Rattle.std.specs.Prelude.{◌≡◌, ℕ, ◌<◌, List, [], slice_index}
+use Rattle.std.specs.Prelude.{◌≡◌, ℕ, ◌<◌, [], slice_index}
 use Rattle.rv64_instr.specs.declared.start.Start.{Start}
 use Rattle.mir_func.specs.Objects.{area_of}
 use Rattle.mir_meaning.specs.State.{written}

@@ -1,5 +1,5 @@
 -- How a step of the machine as it is kept ends, as the definitions have it.
-use Rattle.std.specs.Prelude.{◌≡◌, ℕ, List, ◌∷◌, Option, Some, None, false, map}
+use Rattle.std.specs.Prelude.{◌≡◌, ℕ, List, ◌∷◌, Option, Some, None, false}
 use Rattle.rv64_instr.specs.declared.start.CallEvent.{CallEvent}
 use Rattle.mir_meaning.specs.State.{Reply, writes_frame}
 use Rattle.code_layout.specs.Image.{Image, word_at}

@@ -1,5 +1,5 @@
 -- What location lists give in a state of the machine.
-use Rattle.std.specs.Prelude.{◌≡◌, ℕ, ◌*◌, ◌%◌, ◌^◌, List, Option, Some, None, option_map}
+use Rattle.std.specs.Prelude.{◌≡◌, ℕ, ◌*◌, ◌%◌, ◌^◌, List, Option, option_map}
 use Rattle.rv64_instr.specs.declared.place.Place.{Place}
 use Rattle.dwarf_loclists.specs.declared.range.Part.{Part}
 use Rattle.dwarf_loclists.specs.Reading.{PlaceAt, PieceAt}

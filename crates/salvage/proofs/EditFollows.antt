@@ -119,7 +119,7 @@ module _ (E : Edits) (Q : E.Stage → Core → Core → Type 0) (allows : Allows
       order = order_of E old.blocks new.blocks edited shape.order;
       items = each_edited E (λ b i. KindFits srcp i.kind b.silent i.origin)
           (λ a b x y s origin kin h. subst (λ (n : ℕ). KindFits srcp y.kind n y.origin) (sym s)
-              (subst (λ o. KindFits srcp y.kind a.silent o) origin (kin_fits srcp x.kind y.kind kin a.silent x.origin h)))
+          (subst (λ o. KindFits srcp y.kind a.silent o) origin (kin_fits srcp x.kind y.kind kin a.silent x.origin h)))
           (λ k k' b x y how no_code. debug_fits srcp y.kind b.silent y.origin no_code) old.blocks new.blocks edited shape.items;
       stores = meet;
       marks = each_edited E (λ b i. MarkFits i.kind i.origin)
@@ -202,7 +202,7 @@ module _ (E : Edits) (Q : E.Stage → Core → Core → Type 0) (allows : Allows
         stores_on E old.blocks new.blocks edited (resolve subs) (resolve subs') allows.empty allows.falls gone counts
         b.id b.silent
         (λ q j at' here' save' o'. (let origin : j.origin ≡ Before (record { block = a.0.id; item = a.0.silent }) =
-            o' ∙ (λ z. Before (record { block = sym a.2 z; item = sym a.3 z })) in
-            let w = shape.stores a.0 a.1 q j (at' ∙ sym a.2) here' save' origin in
-            subst (λ (n : ℕ). (r : Pos) × (t : Item) × IsMetApart fp q n r t) a.3 w))
+        o' ∙ (λ z. Before (record { block = sym a.2 z; item = sym a.3 z })) in
+        let w = shape.stores a.0 a.1 q j (at' ∙ sym a.2) here' save' origin in
+        subst (λ (n : ℕ). (r : Pos) × (t : Item) × IsMetApart fp q n r t) a.3 w))
         p i at here save o

@@ -64,42 +64,54 @@ module _ (E : Edits) (fs gs : List Block) (edited : BlocksEdited E fs gs) (resol
     by_fetch (Silent j n) at past e =
         let there : g.fetch p' ≡ Silent j n = end_on p p' j n same right at in
         let e' : q ≡ block_start n = subst (λ (z : Fetch). FetchEdge (λ n. n) z p q) at e in
-        let edge : Edge g p' (block_start n) = subst (λ (z : Fetch). FetchEdge (λ n. n) z p' (block_start n)) (sym there) refl in
-        (block_start n, go edge stay, record {
-          block = ap (λ (z : Pos). z.block) (sym e');
-          stage = E.entry n;
-          rest = subst (λ (z : Pos). Edited E (E.entry n) (rest_of fs z) (rest_of gs (block_start n))) (sym e')
-              (starts_edited E fs gs edited false resolve resolve' empty n);
-        })
+        let edge : Edge g p' (block_start n) = subst (λ (z : Fetch). FetchEdge (λ n. n) z p' (block_start n)) (sym there) refl in (
+          block_start n,
+          go edge stay,
+          record {
+            block = ap (λ (z : Pos). z.block) (sym e');
+            stage = E.entry n;
+            rest = subst (λ (z : Pos). Edited E (E.entry n) (rest_of fs z) (rest_of gs (block_start n))) (sym e')
+                (starts_edited E fs gs edited false resolve resolve' empty n);
+          },
+        )
   step_on p q p' k (x ∷ xs) (y ∷ ys) same left right (pair {k' = l} origin kin how rest) e =
       let at = (laid_out false fs resolve).cons p x xs left in
       let at' = (laid_out false gs resolve').cons p' y ys right in
       by_goal at.0 at.1 at'.0 at'.1 (kin_edge x.kind y.kind kin p q p' (subst (λ (z : Fetch). FetchEdge (λ n. n) z p q) at.0 e)) where
         by_goal : f.fetch p ≡ Here x → rest_of fs (below p) ≡ xs → g.fetch p' ≡ Here y → rest_of gs (below p') ≡ ys → GoesAlike (KindEdge (λ n. n) y.kind) p q p' →
             (q' : Pos) × Leads g p' q' × Beside q q'
-        by_goal at more at' more' (inl w) =
-            (below p', go (subst (λ (z : Fetch). FetchEdge (λ n. n) z p' (below p')) (sym at') w.1) stay, record {
-              block = same ∙ ap (λ (z : Pos). z.block) (sym w.0);
-              stage = l;
-              rest = subst (λ (z : Pos). Edited E l (rest_of fs z) (rest_of gs (below p'))) (sym w.0)
-                  (subst (λ (zs : List Item). Edited E l zs (rest_of gs (below p'))) (sym more) (subst (λ (zs : List Item). Edited E l xs zs) (sym more') rest));
-            })
-        by_goal at more at' more' (inr w) =
-            (block_start w.0, go (subst (λ (z : Fetch). FetchEdge (λ n. n) z p' (block_start w.0)) (sym at') w.2) stay, record {
-              block = ap (λ (z : Pos). z.block) (sym w.1);
-              stage = E.entry w.0;
-              rest = subst (λ (z : Pos). Edited E (E.entry w.0) (rest_of fs z) (rest_of gs (block_start w.0))) (sym w.1)
-                  (starts_edited E fs gs edited false resolve resolve' empty w.0);
-            })
+        by_goal at more at' more' (inl w) = (
+          below p',
+          go (subst (λ (z : Fetch). FetchEdge (λ n. n) z p' (below p')) (sym at') w.1) stay,
+          record {
+            block = same ∙ ap (λ (z : Pos). z.block) (sym w.0);
+            stage = l;
+            rest = subst (λ (z : Pos). Edited E l (rest_of fs z) (rest_of gs (below p'))) (sym w.0)
+                (subst (λ (zs : List Item). Edited E l zs (rest_of gs (below p'))) (sym more) (subst (λ (zs : List Item). Edited E l xs zs) (sym more') rest));
+          },
+        )
+        by_goal at more at' more' (inr w) = (
+          block_start w.0,
+          go (subst (λ (z : Fetch). FetchEdge (λ n. n) z p' (block_start w.0)) (sym at') w.2) stay,
+          record {
+            block = ap (λ (z : Pos). z.block) (sym w.1);
+            stage = E.entry w.0;
+            rest = subst (λ (z : Pos). Edited E (E.entry w.0) (rest_of fs z) (rest_of gs (block_start w.0))) (sym w.1)
+                (starts_edited E fs gs edited false resolve resolve' empty w.0);
+          },
+        )
   step_on p q p' k (x ∷ xs) ys same left right (out {k' = l} how rest) e =
       let at = (laid_out false fs resolve).cons p x xs left in
-      let down : q ≡ below p = falls k l x how p q (subst (λ (z : Fetch). FetchEdge (λ n. n) z p q) at.0 e) in
-      (p', stay, record {
-        block = same ∙ ap (λ (z : Pos). z.block) (sym down);
-        stage = l;
-        rest = subst (λ (z : Pos). Edited E l (rest_of fs z) (rest_of gs p')) (sym down)
-            (subst (λ (zs : List Item). Edited E l zs (rest_of gs p')) (sym at.1) (subst (λ (zs : List Item). Edited E l xs zs) (sym right) rest));
-      })
+      let down : q ≡ below p = falls k l x how p q (subst (λ (z : Fetch). FetchEdge (λ n. n) z p q) at.0 e) in (
+        p',
+        stay,
+        record {
+          block = same ∙ ap (λ (z : Pos). z.block) (sym down);
+          stage = l;
+          rest = subst (λ (z : Pos). Edited E l (rest_of fs z) (rest_of gs p')) (sym down)
+              (subst (λ (zs : List Item). Edited E l zs (rest_of gs p')) (sym at.1) (subst (λ (zs : List Item). Edited E l xs zs) (sym right) rest));
+        },
+      )
   step_on p q p' k (x ∷ xs) (y ∷ ys) same left right (put {k' = l} none origin how rest) e =
       let at' = (laid_out false gs resolve').cons p' y ys right in
       let r = step_on p q (below p') l (x ∷ xs) ys same left at'.1 rest e in
@@ -137,7 +149,7 @@ module _ (E : Edits) (fs gs : List Block) (edited : BlocksEdited E fs gs) (resol
   pub stores_on : ((k k' : E.Stage) (x : Item) → E.Out k k' x → OnRow Counts x.kind → ⊥) → ((k k' : E.Stage) (x y : Item) → E.Pair k k' x y → OnRow Counts x.kind → OnRow Counts y.kind) →
       (b : ℕ) (silent : ℕ) →
       ((p : Pos) (i : Item) → p.block ≡ b → f.fetch p ≡ Here i → OnRow IsSlotStore i.kind → i.origin ≡ Before (record { block = b; item = silent }) →
-          (q : Pos) × (j : Item) × IsMetApart f p silent q j) →
+      (q : Pos) × (j : Item) × IsMetApart f p silent q j) →
       (p : Pos) (i : Item) → p.block ≡ b → g.fetch p ≡ Here i → OnRow IsSlotStore i.kind → i.origin ≡ Before (record { block = b; item = silent }) →
       (q : Pos) × (j : Item) × IsMetApart g p silent q j
   stores_on gone counts b silent met p y same at save o = by_blocks (from_block fs p.block) (from_block gs p.block) refl refl (blocks_from E fs gs edited p.block) at where
@@ -167,15 +179,17 @@ module _ (E : Edits) (fs gs : List Block) (edited : BlocksEdited E fs gs) (resol
                 let there : fetch_in (a ∷ cs) q.item ≡ Here j = sym (ap (λ (z : List Block). fetch_in z q.item) in_block) ∙ w.0 in
                 let u = first_of_front (drop q.item a.items) a.silent cs j there in
                 let lt : q.item < (comes_from E a.items c.items items p.item y more e (save_code y.kind save)).index =
-                    subst (λ (n : ℕ). q.item < n) (ap (λ (z : Pos). z.item) is) up.1 in
+                subst (λ (n : ℕ). q.item < n) (ap (λ (z : Pos). z.item) is) up.1 in
                 let r = above_on E a.items c.items items p.item y more e (save_code y.kind save) q.item j u.0 u.1 lt stays in
                 let q' : Pos = record { block = p.block; item = r.0 } in (
                   q',
                   r.1,
-                  (ap (λ (z : List Block). fetch_in z r.0) atg ∙ ap (λ (z : List Item). front z c.silent bs) r.4,
-                  counts r.7.0 r.7.1 j r.1 r.7.2 w.1,
-                  (λ same'. w.2 (ap position_of r.5 ∙ same' ∙ ap (λ (n : ℕ). record { block = n; item = silent }) (sym block_is))),
-                  inl (refl, r.3)),
+                  (
+                    ap (λ (z : List Block). fetch_in z r.0) atg ∙ ap (λ (z : List Item). front z c.silent bs) r.4,
+                    counts r.7.0 r.7.1 j r.1 r.7.2 w.1,
+                    (λ same'. w.2 (ap position_of r.5 ∙ same' ∙ ap (λ (n : ℕ). record { block = n; item = silent }) (sym block_is))),
+                    inl (refl, r.3),
+                  ),
                 )
             by_side (inr leads) =
                 let s = comes_from E a.items c.items items p.item y more e (save_code y.kind save) in
@@ -191,8 +205,10 @@ module _ (E : Edits) (fs gs : List Block) (edited : BlocksEdited E fs gs) (resol
                 let r = reach q on.0 j on.2.stage (rest_of fs q) (rest_of gs on.0) refl refl on.2.rest w.0 stays in (
                   r.0,
                   r.1,
-                  (r.3,
-                  counts r.6.0 r.6.1 j r.1 r.6.2 w.1,
-                  (λ same'. w.2 (ap position_of r.4 ∙ same' ∙ ap (λ (n : ℕ). record { block = n; item = silent }) (sym block_is))),
-                  inr (leads_trans g on.1 r.2)),
+                  (
+                    r.3,
+                    counts r.6.0 r.6.1 j r.1 r.6.2 w.1,
+                    (λ same'. w.2 (ap position_of r.4 ∙ same' ∙ ap (λ (n : ℕ). record { block = n; item = silent }) (sym block_is))),
+                    inr (leads_trans g on.1 r.2),
+                  ),
                 )

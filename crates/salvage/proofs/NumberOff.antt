@@ -241,7 +241,7 @@ module _ (f g : Program) (blind_f : f.sees_pointer ≡ false) (blind_g : g.sees_
               let c'' : Core = numbered f.sees_pointer (is_call (row_of i)) own i.operands c' in
               let d'' : Core = numbered g.sees_pointer (is_call (row_of i)) (Some n) i.operands d' in
               let held : HeldAlike Everywhere c'' d'' =
-                  held_number Everywhere f.sees_pointer g.sees_pointer (is_call (row_of i)) (is_call (row_of i)) own (Some n) i.operands i.operands c' d' (every i c' d' r) in
+              held_number Everywhere f.sees_pointer g.sees_pointer (is_call (row_of i)) (is_call (row_of i)) own (Some n) i.operands i.operands c' d' (every i c' d' r) in
               let value : ℕ → Option ℕ = λ p. given g.sees_pointer (defined (is_call (row_of i)) (slice_get i.operands p)) (d'.pairs n p) d' in
               record {
                 alike = record { held = held; told = told_both c' d' r (tells_of Free c d c' d' same same' h.alike.told) how };
@@ -272,9 +272,9 @@ module _ (f g : Program) (blind_f : f.sees_pointer ≡ false) (blind_g : g.sees_
           by_core c' d' r same same' =
               let value : ℕ → Option ℕ = λ p. given f.sees_pointer (defined (is_call (row_of i)) (slice_get i.operands p)) (c'.pairs k p) c' in
               let here : value 0 ≡ content c'.regs (suc rd) =
-                  ap (λ (x : Option Operand). given f.sees_pointer (defined (is_call (row_of i)) x) (c'.pairs k 0) c') first ∙
-                  ap (λ (x : Option ℕ). given f.sees_pointer x (c'.pairs k 0) c') (defines_it (is_call (row_of i))) ∙
-                  ap (λ (b : Bool). seen b (suc rd) c') blind_f ∙ ap (λ (z : Bool). cond z None (content c'.regs (suc rd))) (ne_eqb (suc rd) 2 far) in
+              ap (λ (x : Option Operand). given f.sees_pointer (defined (is_call (row_of i)) x) (c'.pairs k 0) c') first ∙
+              ap (λ (x : Option ℕ). given f.sees_pointer x (c'.pairs k 0) c') (defines_it (is_call (row_of i))) ∙
+              ap (λ (b : Bool). seen b (suc rd) c') blind_f ∙ ap (λ (z : Bool). cond z None (content c'.regs (suc rd))) (ne_eqb (suc rd) 2 far) in
               let before : (p : ℕ) → d'.pairs n p ≡ d.pairs n p = λ p. ap (λ (z : ℕ → ℕ → Option ℕ). z n p) same'.0 in
               record {
                 alike = record {

@@ -162,9 +162,9 @@ module _ (f g : Program) (blind_f : f.sees_pointer ≡ false) (blind_g : g.sees_
         by_core c' d' r same same' =
             let value : ℕ → Option ℕ = λ p. given f.sees_pointer (defined (is_call (row_of i)) (slice_get i.operands p)) (c'.pairs k p) c' in
             let here : value 0 ≡ content c'.regs (suc rd) =
-                ap (λ (x : Option Operand). given f.sees_pointer (defined (is_call (row_of i)) x) (c'.pairs k 0) c') first ∙
-                ap (λ (x : Option ℕ). given f.sees_pointer x (c'.pairs k 0) c') (defines_it (is_call (row_of i))) ∙
-                ap (λ (b : Bool). seen b (suc rd) c') blind_f ∙ ap (λ (z : Bool). cond z None (content c'.regs (suc rd))) (ne_eqb (suc rd) 2 far) in
+            ap (λ (x : Option Operand). given f.sees_pointer (defined (is_call (row_of i)) x) (c'.pairs k 0) c') first ∙
+            ap (λ (x : Option ℕ). given f.sees_pointer x (c'.pairs k 0) c') (defines_it (is_call (row_of i))) ∙
+            ap (λ (b : Bool). seen b (suc rd) c') blind_f ∙ ap (λ (z : Bool). cond z None (content c'.regs (suc rd))) (ne_eqb (suc rd) 2 far) in
             let after : TellsNoMore (FreeAt Behind) c' d' = tells_of (FreeAt Behind) c d c' d' same same' h.alike.told in
             let rest : (p : ℕ) → d'.pairs k (suc p) ≡ None = λ p. ap (λ (z : ℕ → ℕ → Option ℕ). z k (suc p)) same'.0 ∙ h.rest p in
             record {

@@ -64,8 +64,10 @@ module _ (subs : List Entry) (e : Entry) (whole : e.subreg ≡ 0) (free : entry_
   one_more q = by_end (resolve subs q) refl where
     by_end : (x : Option OperandPair) → resolve subs q ≡ x → ((resolve subs q ≡ Some e.src) × (resolve more q ≡ Some e.dst)) ⊎
         ((resolve subs q ≡ Some e.src → ⊥) × (resolve more q ≡ resolve subs q))
-    by_end None is = inr (λ same. (let bad : ◌≡◌ {A = Option OperandPair} None (Some e.src) = sym is ∙ same in cc),
-        none_still q is (resolve more q) refl ∙ sym is)
+    by_end None is = inr (
+      λ same. (let bad : ◌≡◌ {A = Option OperandPair} None (Some e.src) = sym is ∙ same in cc),
+      none_still q is (resolve more q) refl ∙ sym is,
+    )
     by_end (Some r) is = by_test (is_pair r e.src) refl where
       by_test : (z : Bool) → is_pair r e.src ≡ z → ((resolve subs q ≡ Some e.src) × (resolve more q ≡ Some e.dst)) ⊎
           ((resolve subs q ≡ Some e.src → ⊥) × (resolve more q ≡ resolve subs q))
@@ -74,5 +76,7 @@ module _ (subs : List Entry) (e : Entry) (whole : e.subreg ≡ 0) (free : entry_
           inl (is ∙ ap Some same, ends_resolve more q e.dst (goes_further q r (resolve_ends subs q r is) same))
       by_test false t =
           let ne : r ≡ e.src → ⊥ = λ same. (let bad : true ≡ false = sym (is_pair-same e.src) ∙ ap (λ (p : OperandPair). is_pair p e.src) (sym same) ∙ t in cc) in
-          inr (λ w. (let both : Some r ≡ Some e.src = sym is ∙ w in let same : r ≡ e.src = cc in ne same),
-          ends_resolve more q r (stays_there q r (resolve_ends subs q r is) ne) ∙ sym is)
+          inr (
+            λ w. (let both : Some r ≡ Some e.src = sym is ∙ w in let same : r ≡ e.src = cc in ne same),
+            ends_resolve more q r (stays_there q r (resolve_ends subs q r is) ne) ∙ sym is,
+          )

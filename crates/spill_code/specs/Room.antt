@@ -1,13 +1,22 @@
--- Items whose position has one below it.
-use Rattle.std.specs.Prelude.{◌<◌, ◌+◌, ◌^◌, List}
+-- Code whose store has a position.
+use Rattle.std.specs.Prelude.{◌≡◌, ℕ, ◌<◌, ◌+◌, ◌^◌, List, All, Some}
+use Rattle.mir_func.specs.declared.position.Origin.{Origin}
 use Rattle.mir_func.specs.declared.item.Item.{Item}
+use Rattle.mir_func.specs.declared.item.ItemKind.{ItemKind}
+use Rattle.mir_func.specs.declared.item.ItemKind.TheVariants.{Code, Mark, Phi}
 use Rattle.mir_func.specs.declared.block.Block.{Block}
-use Rattle.mir_func.specs.Sound.{AllItems}
 use Rattle.mir_meaning.specs.Align.{position_of}
+use Rattle.spill_code.specs.declared.spilling.Spilling.{Spilling}
+use Rattle.spill_code.specs.Rewrite.{first_defined}
 
--- the index below the item's position is a number of 32 bits
-abbrev pub HasRoom : Item → Type 0
-HasRoom i = (position_of i.origin).item + 1 < 2 ^ 32
+-- the index below code that sets a spilled register is a number of 32 bits
+abbrev pub KindHasRoom : Spilling → ItemKind → Origin → Type 0
+KindHasRoom s (Code i k) o = (n : ℕ) → first_defined s.homes i.operands ≡ Some n → (position_of o).item + 1 < 2 ^ 32
+KindHasRoom s (Mark v m) o = Unit {0}
+KindHasRoom s (Phi p k) o = Unit {0}
 
-abbrev pub HaveRoom : List Block → Type 0
-HaveRoom blocks = AllItems HasRoom blocks
+abbrev pub HasRoom : Spilling → Item → Type 0
+HasRoom s i = KindHasRoom s i.kind i.origin
+
+abbrev pub HaveRoom : Spilling → List Block → Type 0
+HaveRoom s blocks = All (λ b. All (HasRoom s) b.items) blocks

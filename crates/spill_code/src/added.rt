@@ -70,20 +70,17 @@ fn push_load(
     }
 }
 
-/// Appends a store into the slot, if there is one.
+/// Appends a store into the slot.
 pub fn push_store(
     alloc: Global,
     p: Pos,
     r: Reg,
-    slot: Option<SlotId>,
+    slot: SlotId,
     items: &mut Items,
 ) -> Result<(), AllocError>
-    ensures { OnOk result (items.new ≡ items.old ++ stores p r slot) }
+    ensures { OnOk result (items.new ≡ items.old ++ stores p r (Some slot)) }
 {
-    match slot {
-        None => Ok(()),
-        Some(n) => items.push(added(p, store(alloc, r, n)?)),
-    }
+    items.push(added(p, store(alloc, r, slot)?))
 }
 
 /// Appends the loads before code at a position.

@@ -1,10 +1,10 @@
 //! Blocks whose registers live in slots.
 
-ghost use Rattle.std.specs.Prelude.{◌≡◌, ◌++◌, ◌<◌, ◌^◌, ◌+◌, IfOk, OnOk, All, Some, map};
+ghost use Rattle.std.specs.Prelude.{◌≡◌, ◌++◌, ◌<◌, ◌^◌, ◌+◌, IfOk, OnOk, All, Some, map, ℕ};
 ghost use Rattle.mir_func.specs.Graph.{below};
 ghost use Rattle.mir_meaning.specs.Align.{position_of};
 ghost use Rattle.spill_code.specs.Rewrite.{code_items, kind_items, spilled_item, spilled_items, spilled_block, first_block};
-ghost use Rattle.spill_code.specs.Rewrite.{slot_of, place_in, spilled_place, spilled_blocks};
+ghost use Rattle.spill_code.specs.Rewrite.{slot_of, place_in, spilled_place, spilled_blocks, first_defined};
 ghost use Rattle.spill_code.specs.Room.{HasRoom, HaveRoom};
 
 use crate::added::{push_entry, push_loads, push_store};
@@ -28,7 +28,7 @@ pub fn spilled_blocks(
     entry: &[Home],
     blocks: &[Block],
 ) -> Result<Blocks, AllocError>
-    requires { HaveRoom blocks.now }
+    requires { HaveRoom s.now blocks.now }
     ensures { IfOk result (λ made. made ≡ spilled_blocks s.now entry.now blocks.now) }
 {
     let mut made = Blocks::new(alloc);
@@ -40,7 +40,7 @@ pub fn spilled_blocks(
 }
 
 fn first_block(alloc: Global, s: &Spilling, entry: &[Home], b: &Block) -> Result<Block, AllocError>
-    requires { All HasRoom b.now.items }
+    requires { All (HasRoom s.now) b.now.items }
     ensures { IfOk result (λ made. made ≡ first_block s.now entry.now b.now) }
 {
     let mut items = Items::new(alloc);
@@ -59,7 +59,7 @@ fn push_blocks(
     blocks: &[Block],
     made: &mut Blocks,
 ) -> Result<(), AllocError>
-    requires { HaveRoom blocks.now }
+    requires { HaveRoom s.now blocks.now }
     ensures { OnOk result (made.new ≡ made.old ++ map (spilled_block s.now) blocks.now) }
 {
     for b in blocks {
@@ -69,7 +69,7 @@ fn push_blocks(
 }
 
 fn spilled_block(alloc: Global, s: &Spilling, b: &Block) -> Result<Block, AllocError>
-    requires { All HasRoom b.now.items }
+    requires { All (HasRoom s.now) b.now.items }
     ensures { IfOk result (λ made. made ≡ spilled_block s.now b.now) }
 {
     let mut items = Items::new(alloc);
@@ -87,7 +87,7 @@ fn push_items(
     items: &[Item],
     made: &mut Items,
 ) -> Result<(), AllocError>
-    requires { All HasRoom items.now }
+    requires { All (HasRoom s.now) items.now }
     ensures { OnOk result (made.new ≡ made.old ++ spilled_items s.now items.now) }
 {
     for i in items {
@@ -97,7 +97,7 @@ fn push_items(
 }
 
 fn push_item(alloc: Global, s: &Spilling, i: &Item, made: &mut Items) -> Result<(), AllocError>
-    requires { HasRoom i.now }
+    requires { HasRoom s.now i.now }
     ensures { OnOk result (made.new ≡ made.old ++ spilled_item s.now i.now) }
 {
     match &i.kind {
@@ -125,7 +125,7 @@ fn push_code(
     loc: Loc,
     made: &mut Items,
 ) -> Result<(), AllocError>
-    requires { (position_of origin).item + 1 < 2 ^ 32 }
+    requires { (n : ℕ) → first_defined s.now.homes code.now.operands ≡ Some n → (position_of origin).item + 1 < 2 ^ 32 }
     ensures { OnOk result (made.new ≡ made.old ++ code_items s.now code.now number origin loc) }
 {
     let p = position_of(origin);
@@ -135,8 +135,10 @@ fn push_code(
         origin,
         loc,
     })?;
-    let slot = first_defined(s.homes.as_slice(), code.operands.as_slice());
-    push_store(alloc, below(p), s.first, slot, made)
+    match first_defined(s.homes.as_slice(), code.operands.as_slice()) {
+        None => Ok(()),
+        Some(slot) => push_store(alloc, below(p), s.first, slot, made),
+    }
 }
 
 fn position_of(origin: Origin) -> Pos

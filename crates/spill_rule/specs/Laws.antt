@@ -325,7 +325,7 @@ module _ (s : Spilling) where
       let e = items_placeless b.items in
       let es = others_placeless bs in
       let is : map placeless_item (entry_stores b.id entry ++ spilled_items s (map placeless_item b.items)) ≡
-          map placeless_item (entry_stores b.id entry ++ spilled_items s b.items) =
+      map placeless_item (entry_stores b.id entry ++ spilled_items s b.items) =
       map-append placeless_item (entry_stores b.id entry) (spilled_items s (map placeless_item b.items)) ∙
       ap (λ (xs : List Item). map placeless_item (entry_stores b.id entry) ++ xs) e ∙
       sym (map-append placeless_item (entry_stores b.id entry) (spilled_items s b.items)) in

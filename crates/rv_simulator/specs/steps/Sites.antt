@@ -1,5 +1,5 @@
 -- The instruction at a point.
-use Rattle.std.specs.Prelude.{ℕ, Option, Some, None, drop}
+use Rattle.std.specs.Prelude.{Option, Some, None, drop}
 use Rattle.rv64_instr.specs.Instruction.{Instruction}
 use Rattle.mir_func.specs.declared.item.ItemKind.{ItemKind}
 use Rattle.mir_func.specs.declared.item.ItemKind.TheVariants.{Code, Mark, Phi}

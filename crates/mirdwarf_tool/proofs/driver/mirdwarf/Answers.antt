@@ -2,7 +2,7 @@ use Rattle.std.proofs.Common.{sym, ◌∙◌, inl, inr}
 use Rattle.std.specs.Prelude.{map, string_bytes}
 use Rattle.mirdwarf_tool.specs.Stream.{change}
 use Rattle.mirdwarf_tool.proofs.RunLemmas.{refusal, complete}
-use Rattle.mirdwarf_tool.proofs.Kept.{headline_kept, registers_kept, stops_at_returns, wrote_exactly, wrote_laid_out, wrote_sources, wrote_words, wrote_sections}
+use Rattle.mirdwarf_tool.proofs.Kept.{headline_kept, registers_kept, stops_at_returns, wrote_exactly, wrote_laid_out, wrote_sources, wrote_words, wrote_sections, wrote_rows}
 use Rattle.mirdwarf_tool.proofs.driver.mirdwarf.Goals as goal
 
 pub returns-in-Err-clause-refused : goal.returns-in-Err-clause-refused
@@ -50,6 +50,11 @@ returns-in-Ok-clause-words g c done =
 pub returns-in-Ok-clause-sections : goal.returns-in-Ok-clause-sections
 returns-in-Ok-clause-sections g c done =
     wrote_sections (map string_bytes c.args.words.now) (change g.S.Source.left g.S.Source.faults c.args.input.now c.run.new.input)
+    (change g.K.Sink.written g.K.Sink.faults c.args.output.now c.run.new.output) c.in-Ok.ensures.done
+
+pub returns-in-Ok-clause-rows : goal.returns-in-Ok-clause-rows
+returns-in-Ok-clause-rows g c done =
+    wrote_rows (map string_bytes c.args.words.now) (change g.S.Source.left g.S.Source.faults c.args.input.now c.run.new.input)
     (change g.K.Sink.written g.K.Sink.faults c.args.output.now c.run.new.output) c.in-Ok.ensures.done
 
 pub returns-in-Err-clause-complete : goal.returns-in-Err-clause-complete

@@ -1,8 +1,7 @@
-use Rattle.std.proofs.Common.{◌≡◌, ℕ, ◌+◌, ◌-◌, ◌*◌, ◌/◌, ◌<◌, ◌≤◌, ◌^◌, List, length, drop, get_or, true, Option, Some, None, refl, sym, ap, subst, ◌∙◌, arith}
+use Rattle.std.proofs.Common.{◌≡◌, Option, Some, None, sym, ap, subst, ◌∙◌}
 use Rattle.rv64_instr.specs.Instruction.{Instruction}
 use Rattle.rv64_instr.specs.Parts.{is_call}
 use Rattle.rv64_instr.specs.Row.{row_of}
-use Rattle.mir_func.specs.Function.{FramedFunction}
 use Rattle.code_words.specs.Laid.{LaidCode, IsCode}
 use Rattle.code_layout.specs.MachineStep.{call_of}
 use Rattle.rv_simulator.specs.steps.Sites.{instruction_in}

@@ -1,4 +1,4 @@
-use Rattle.std.proofs.Common.{◌≡◌, ℕ, ◌+◌, ◌*◌, ◌<◌, ◌≤◌, ◌^◌, List, length, drop, true, Some, None, refl, sym, ap, subst, ◌∙◌, arith}
+use Rattle.std.proofs.Common.{ap}
 use Rattle.code_words.specs.Laid.{LaidCode}
 use Rattle.rv_simulator.proofs.Sites.{entry_found}
 use Rattle.rv_simulator.proofs.site.probable_entry.Goals as goal

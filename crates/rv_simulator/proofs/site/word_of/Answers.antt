@@ -1,4 +1,4 @@
-use Rattle.std.proofs.Common.{◌≡◌, ℕ, ◌+◌, ◌-◌, ◌*◌, ◌/◌, ◌<◌, ◌≤◌, ◌^◌, List, length, drop, get_or, true, Option, Some, None, refl, sym, ap, subst, ◌∙◌, arith}
+use Rattle.std.proofs.Common.{◌≡◌, ℕ, ◌-◌, ◌/◌, ◌<◌, ◌^◌, List, length, get_or, Some, refl, sym, ap, subst, ◌∙◌, arith}
 use Rattle.code_words.specs.Laid.{LaidCode, IsCode}
 use Rattle.code_layout.specs.Image.{word_at}
 use Rattle.rv_simulator.proofs.Sites.{word_place, word_shown, no_call_at}

@@ -1,4 +1,4 @@
-use Rattle.std.proofs.Common.{◌≡◌, sym, ap, ◌∙◌, refl}
+use Rattle.std.proofs.Common.{sym, ap, ◌∙◌}
 use Rattle.code_layout.specs.Image.{word_at}
 use Rattle.rv_simulator.proofs.Stepping.{word_step_at, return_step, other_step, operation_step}
 use Rattle.rv_simulator.proofs.word.run_word.Goals as goal

@@ -1,4 +1,4 @@
-use Rattle.std.proofs.Common.{◌≡◌, ℕ, ◌<◌, ◌++◌, drop, map}
+use Rattle.std.proofs.Common.{◌≡◌, ◌<◌, ◌++◌, drop, map}
 use Rattle.std.specs.List.{All}
 use Rattle.rv64_instr.specs.Row.{implicit_uses}
 use Rattle.code_layout.specs.Machine.{Machine, register}

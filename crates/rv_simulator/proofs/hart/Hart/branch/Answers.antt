@@ -1,4 +1,4 @@
-use Rattle.std.proofs.Common.{◌≡◌, ℕ, ◌+◌, ◌%◌, ◌^◌, ◌/◌, ◌*◌, refl, ◌∙◌, ap, sym, subst, arith}
+use Rattle.std.proofs.Common.{ℕ, ◌+◌, ◌%◌, ◌^◌, ◌∙◌, ap, sym}
 use Rattle.rv64_instr.specs.Arithmetic.{taken}
 use Rattle.code_layout.specs.Machine.{register}
 use Rattle.code_layout.specs.MachineStep.{does_row}

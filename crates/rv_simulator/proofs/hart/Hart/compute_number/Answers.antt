@@ -1,4 +1,4 @@
-use Rattle.std.proofs.Common.{◌≡◌, ◌∙◌, ap, sym, subst, arith}
+use Rattle.std.proofs.Common.{◌≡◌, ◌∙◌, ap, arith}
 use Rattle.std.proofs.Common.{◌<◌, ◌^◌}
 use Rattle.rv64_instr.specs.Arithmetic.{computed}
 use Rattle.rv64_instr.specs.declared.op.RegisterOp.{RegisterOp}

@@ -1,4 +1,4 @@
-use Rattle.std.proofs.Common.{◌≡◌, ℕ, ◌+◌, ◌%◌, ◌^◌, ◌/◌, ◌*◌, refl, ◌∙◌, ap, sym, subst, arith}
+use Rattle.std.proofs.Common.{◌≡◌, ℕ, ◌+◌, ◌%◌, ◌^◌, refl, ap, sym, arith}
 use Rattle.rv_simulator.proofs.Rows.{links}
 use Rattle.rv_simulator.proofs.hart.Hart.link.Goals as goal
 

@@ -1,4 +1,4 @@
-use Rattle.std.proofs.Common.{◌≡◌, ℕ, ◌+◌, ◌%◌, ◌^◌, ◌/◌, ◌*◌, refl, ◌∙◌, ap, sym, subst, arith}
+use Rattle.std.proofs.Common.{◌≡◌, ℕ, ◌+◌, ◌%◌, ◌^◌, ◌/◌, ◌*◌, ap, arith}
 use Rattle.rv_simulator.proofs.Rows.{links_to}
 use Rattle.rv_simulator.proofs.hart.Hart.link_to.Goals as goal
 

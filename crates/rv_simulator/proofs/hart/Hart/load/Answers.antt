@@ -1,7 +1,7 @@
-use Rattle.std.proofs.Common.{◌≡◌, ℕ, ◌+◌, ◌%◌, ◌^◌, ◌/◌, ◌*◌, refl, ◌∙◌, ap, sym, subst, arith}
+use Rattle.std.proofs.Common.{◌≡◌, ℕ, ◌+◌, ◌%◌, ◌^◌, refl, ◌∙◌, ap, sym}
 use Rattle.rv64_instr.specs.Arithmetic.{extended, load_width}
 use Rattle.mir_meaning.specs.State.{spelled}
-use Rattle.code_layout.specs.Machine.{register, address_of}
+use Rattle.code_layout.specs.Machine.{address_of}
 use Rattle.code_layout.specs.MachineStep.{does_row}
 use Rattle.rv_simulator.specs.Kept.{number_in}
 use Rattle.rv_simulator.proofs.Rows.{sets}

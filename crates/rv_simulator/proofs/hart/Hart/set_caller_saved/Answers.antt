@@ -1,6 +1,6 @@
 use Rattle.std.proofs.Common.{◌≡◌, ℕ, ◌∙◌, refl, sym, ap, subst, arith, drop}
 use Rattle.rv64_instr.specs.Access.{caller_saved}
-use Rattle.code_layout.specs.Machine.{Machine, set_in, set_all_in}
+use Rattle.code_layout.specs.Machine.{set_in, set_all_in}
 use Rattle.rv_simulator.specs.Kept.{StandsFor}
 use Rattle.rv_simulator.proofs.Calls.{set_all_turn, each_below}
 use Rattle.rv_simulator.proofs.hart.Hart.set_caller_saved.Goals as goal

@@ -1,4 +1,4 @@
-use Rattle.std.proofs.Common.{◌≡◌, ℕ, ◌+◌, ◌%◌, ◌^◌, ◌/◌, ◌*◌, refl, ◌∙◌, ap, sym, subst, arith}
+use Rattle.std.proofs.Common.{◌≡◌, ℕ, ◌+◌, ◌%◌, ◌^◌, refl, ap, subst}
 use Rattle.rv64_instr.specs.Arithmetic.{store_width}
 use Rattle.mir_meaning.specs.State.{low_bytes, stored}
 use Rattle.code_layout.specs.Machine.{register, address_of}

@@ -1,4 +1,4 @@
-use Rattle.std.proofs.Common.{◌≡◌, ℕ, ◌+◌, ap, ◌∙◌}
+use Rattle.std.proofs.Common.{ℕ, ◌+◌, ap}
 use Rattle.mir_meaning.specs.State.{written}
 use Rattle.rv_simulator.specs.Kept.{some_writes, calls_in}
 use Rattle.rv_simulator.proofs.Calls.{next_call}

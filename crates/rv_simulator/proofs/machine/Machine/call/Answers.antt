@@ -1,4 +1,4 @@
-use Rattle.std.proofs.Common.{◌≡◌, ◌<◌, ℕ, Some, sym, ap, subst, ◌∙◌, arith}
+use Rattle.std.proofs.Common.{sym, ap, subst, ◌∙◌, arith}
 use Rattle.rv_simulator.specs.declared.ending.Stepped.TheVariants.{Went}
 use Rattle.rv_simulator.specs.Calls.{reply_of}
 use Rattle.rv_simulator.specs.Machines.{Running}

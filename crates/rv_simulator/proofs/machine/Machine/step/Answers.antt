@@ -1,10 +1,9 @@
-use Rattle.std.proofs.Common.{◌≡◌, ℕ, Some, None, sym, ap, subst, ◌∙◌}
+use Rattle.std.proofs.Common.{sym, subst, ◌∙◌}
 use Rattle.std.specs.Result.{IfOk}
 use Rattle.rv_simulator.specs.declared.ending.Stepped.TheVariants.{Stopped}
 use Rattle.rv_simulator.specs.declared.ending.Stop.TheVariants.{Left}
 use Rattle.rv_simulator.specs.Machines.{Running}
 use Rattle.rv_simulator.specs.Running.{StepsOn, CallsOn}
-use Rattle.rv_simulator.specs.Shown.{entry_at}
 use Rattle.rv_simulator.proofs.Stepping.{steps_left, calls_left, calls_word_if}
 use Rattle.rv_simulator.proofs.machine.Machine.step.Goals as goal
 

@@ -1,0 +1,5 @@
+mod Rows
+mod Tails
+mod Numbers
+mod Blocks
+mod Sound

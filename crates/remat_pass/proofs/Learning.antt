@@ -1,0 +1,64 @@
+-- What is learned and forgotten, by what code sees of a row.
+use Rattle.std.proofs.Common.{◌≡◌, ◌⊎◌, ℕ, List, Option, refl, sym, ap, ◌∙◌, subst}
+use Rattle.rv64_instr.specs.declared.place.Place.{Place}
+use Rattle.rv64_instr.specs.Instruction.{Instruction}
+use Rattle.rv64_instr.specs.Row.{Row, row_of}
+use Rattle.rv64_instr.specs.Row as row
+use Rattle.rv64_instr.specs.Decoded.{Shows}
+use Rattle.rv64_instr.specs.declared.decoded.Decoded.{Decoded}
+use Rattle.rv64_instr.specs.declared.decoded.Decoded.TheVariants.{Fixes, Moves, Sets, Addresses, Loads, Stores, LoadsSlot, StoresSlot, Branches, Jumps, Calls}
+use Rattle.rv64_instr.specs.declared.decoded.Decoded.TheVariants.{Returns}
+use Rattle.mir_func.specs.declared.item.ItemKind.{ItemKind}
+use Rattle.mir_func.specs.declared.item.ItemKind.TheVariants.{Code}
+use Rattle.remat_pass.specs.Known.{Known, learned, forgotten, known_past}
+
+abbrev pub TeachesNothing : Decoded → Type 0
+TeachesNothing (Fixes rd n) = ⊥
+TeachesNothing (StoresSlot rs n) = ⊥
+TeachesNothing (Moves rd rs) = Unit {0}
+TeachesNothing (Sets rd op a b) = Unit {0}
+TeachesNothing (Addresses rd n offset) = Unit {0}
+TeachesNothing (Loads rd op base offset) = Unit {0}
+TeachesNothing (Stores op rs base offset) = Unit {0}
+TeachesNothing (LoadsSlot rd n) = Unit {0}
+TeachesNothing (Branches op a b target) = Unit {0}
+TeachesNothing (Jumps target) = Unit {0}
+TeachesNothing Calls = Unit {0}
+TeachesNothing Returns = Unit {0}
+
+same_by : (d : Decoded) → TeachesNothing d → (r : Row) → Shows d r → (known : Known) (x : Place) → known x ≡ learned r known x
+same_by (Fixes rd n) t r s known x = absurd t
+same_by (StoresSlot rs n) t r s known x = absurd t
+same_by (Moves rd rs) t r s known x = ap (λ (q : Row). learned q known x) (sym s)
+same_by (Sets rd op a b) t r s known x = ap (λ (q : Row). learned q known x) (sym s)
+same_by (Addresses rd n offset) t r s known x = ap (λ (q : Row). learned q known x) (sym s)
+same_by (Loads rd op base offset) t r s known x = ap (λ (q : Row). learned q known x) (sym s)
+same_by (Stores op rs base offset) t r s known x = ap (λ (q : Row). learned q known x) (sym s)
+same_by (LoadsSlot rd n) t r s known x = ap (λ (q : Row). learned q known x) (sym s)
+same_by (Branches op a b target) t r s known x = ap (λ (q : Row). learned q known x) (sym s)
+same_by (Jumps target) t r s known x = ap (λ (q : Row). learned q known x) (sym s)
+same_by Calls t r (name, args, s) known x = ap (λ (q : Row). learned q known x) (sym s)
+same_by Returns t r (results, s) known x = ap (λ (q : Row). learned q known x) (sym s)
+
+-- code of these kinds teaches nothing
+pub learned_same : (now : Decoded) {d : Decoded} → now ≡ d → TeachesNothing d → (known : Known) (r : Row) → Shows now r → (x : Place) →
+    known x ≡ learned r known x
+learned_same now {d} e t known r s x = same_by d t r (subst (λ (z : Decoded). Shows z r) e s) known x
+
+-- a constant definition teaches its number
+pub learned_fixes : (now : Decoded) (rd n : ℕ) → now ≡ Fixes rd n → (known new : Known) → ((x : Place) → new x ≡ learned (row.Fixes rd n) known x) →
+    (r : Row) → Shows now r → (x : Place) → new x ≡ learned r known x
+learned_fixes now rd n e known new h r s x =
+    h x ∙ ap (λ (q : Row). learned q known x) (sym (subst (λ (z : Decoded). Shows z r) e s))
+
+-- debug items teach nothing
+pub past_same : (now : ItemKind) {k : ItemKind} → now ≡ k → (known : Known) → ((x : Place) → known x ≡ known_past k known x) → (x : Place) →
+    known x ≡ known_past now known x
+past_same now {k} e known h x = h x ∙ ap (λ (z : ItemKind). known_past z known x) (sym e)
+
+-- past code: what it sets is forgotten, and what it teaches learned
+pub past_code : (now : ItemKind) (i : Instruction) (k : Option ℕ) → now ≡ Code i k → (old mid new : Known) →
+    ((x : Place) → mid x ≡ forgotten (row_of i) old x) → ((x : Place) → new x ≡ learned (row_of i) mid x) → (x : Place) → new x ≡ known_past now old x
+past_code now i k e old mid new forgot learn x =
+    let one : mid ≡ forgotten (row_of i) old = λ j y. forgot y j in
+    learn x ∙ (ap (λ (known : Known). learned (row_of i) known x) one ∙ ap (λ (z : ItemKind). known_past z old x) (sym e))

@@ -1,0 +1,5 @@
+pub mod Forms
+pub mod Learning
+pub mod Setting
+pub mod InPlaceMap
+pub mod Stripping

@@ -1,0 +1,60 @@
+-- Which places hold which numbers along a block.
+use Rattle.std.specs.Prelude.{ℕ, zero, suc, Bool, true, false, cond, nat_eq, Option, Some, None}
+use Rattle.rv64_instr.specs.declared.place.Place.{Place}
+use Rattle.rv64_instr.specs.declared.place.Place.TheVariants.{Register, Slot, Const}
+use Rattle.rv64_instr.specs.Instruction.{Instruction}
+use Rattle.rv64_instr.specs.Parts.{defines_of}
+use Rattle.rv64_instr.specs.Row.{Row, Fixes, Moves, Sets, Addresses, Loads, Stores, LoadsSlot, StoresSlot, Branches, Jumps, Calls, Returns, Unfit, row_of}
+use Rattle.mir_func.specs.declared.item.ItemKind.{ItemKind}
+use Rattle.mir_func.specs.declared.item.ItemKind.TheVariants.{Code, Mark, Phi}
+
+-- the numbers, modulo 2^64, of places that are known to hold one
+abbrev pub Known : Type 0
+Known = Place → Option ℕ
+
+abbrev pub nothing_known : Known
+nothing_known x = None
+
+-- what is known without what a row sets: sixteen registers at a call, and no slot
+abbrev pub forgotten : Row → Known → Known
+forgotten row known x = cond (defines_of row x) None (known x)
+
+-- what a register holds: x0 holds 0
+abbrev pub number_in : Known → ℕ → Option ℕ
+number_in known zero = Some 0
+number_in known (suc r) = known (Register (suc r))
+
+-- the place holds the number, if there is one
+abbrev pub with_register : ℕ → Option ℕ → Known → Known
+with_register r n known (Register q) = cond (nat_eq r q) n (known (Register q))
+with_register r n known (Slot s) = known (Slot s)
+with_register r n known (Const c) = known (Const c)
+
+abbrev pub with_slot : ℕ → Option ℕ → Known → Known
+with_slot s n known (Register q) = known (Register q)
+with_slot s n known (Slot t) = cond (nat_eq s t) n (known (Slot t))
+with_slot s n known (Const c) = known (Const c)
+
+-- what is known after a row, of which what it sets is forgotten: the number that a constant definition sets, but not of
+-- x0, and the number that is stored into a slot
+abbrev pub learned : Row → Known → Known
+learned (Fixes zero n) known = known
+learned (Fixes (suc rd) n) known = with_register (suc rd) (Some n) known
+learned (StoresSlot rs s) known = with_slot s (number_in known rs) known
+learned (Moves rd rs) known = known
+learned (Sets rd op a b) known = known
+learned (Addresses rd n offset) known = known
+learned (Loads rd op base offset) known = known
+learned (Stores op rs base offset) known = known
+learned (LoadsSlot rd n) known = known
+learned (Branches op a b target) known = known
+learned (Jumps target) known = known
+learned (Calls name args) known = known
+learned (Returns results) known = known
+learned Unfit known = known
+
+-- what is known past code, by its row; debug items change nothing
+abbrev pub known_past : ItemKind → Known → Known
+known_past (Code i k) known = learned (row_of i) (forgotten (row_of i) known)
+known_past (Mark v m) known = known
+known_past (Phi p k) known = known

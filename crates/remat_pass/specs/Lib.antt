@@ -1,0 +1,4 @@
+pub mod Known
+pub mod Remat
+pub mod Table
+pub mod Laws

@@ -1,0 +1,80 @@
+-- The pass that sets constants where they are read, instead of copying or loading them.
+use Rattle.std.specs.Prelude.{◌≡◌, ℕ, zero, suc, ◌+◌, ◌/◌, ◌%◌, ◌^◌, pos, List, [], ◌∷◌, map, filter, Option, Some, None, cond}
+use Rattle.rv64_instr.specs.declared.op.Op.TheVariants.{Immediate, Lui}
+use Rattle.rv64_instr.specs.declared.op.ImmediateOp.TheVariants.{Addi}
+use Rattle.rv64_instr.specs.declared.operand.Operand.{Operand}
+use Rattle.rv64_instr.specs.declared.operand.Operand.TheVariants.{Def, Use, Imm}
+use Rattle.rv64_instr.specs.declared.place.Place.TheVariants.{Slot}
+use Rattle.rv64_instr.specs.Arithmetic.{signed}
+use Rattle.rv64_instr.specs.Form.{has_12_bits, is_implicit}
+use Rattle.rv64_instr.specs.Instruction.{Instruction}
+use Rattle.rv64_instr.specs.Row.{Row, Fixes, Moves, Sets, Addresses, Loads, Stores, LoadsSlot, StoresSlot, Branches, Jumps, Calls, Returns, Unfit, row_of}
+use Rattle.mir_func.specs.declared.item.Item.{Item}
+use Rattle.mir_func.specs.declared.item.ItemKind.{ItemKind}
+use Rattle.mir_func.specs.declared.item.ItemKind.TheVariants.{Code, Mark, Phi}
+use Rattle.mir_func.specs.declared.block.Block.{Block}
+use Rattle.mir_func.specs.Function.{Function}
+use Rattle.follow_law.specs.Code.{CodeRule}
+use Rattle.remat_pass.specs.declared.constant.Constant.{Constant}
+use Rattle.remat_pass.specs.Known.{Known, nothing_known, number_in, known_past}
+
+-- bits 12 to 31, which `LUI` sets (RISC-V Unprivileged ISA, RV32I, "Integer Register-Immediate Instructions")
+abbrev pub upper_part : ℕ → ℕ
+upper_part n = n / 4096 % 1048576
+
+-- the constant definition of a number: `ADDI rd, x0, n` where n has 12 bits, and `LUI` otherwise
+abbrev pub constant_code : (rd n : ℕ) → List Operand → Instruction
+constant_code rd n rest = cond (has_12_bits (signed n))
+    (record { op = Immediate Addi; operands = Def rd ∷ Use 0 ∷ Imm (signed n) ∷ rest })
+    (record { op = Lui; operands = Def rd ∷ Imm (pos (upper_part n)) ∷ rest })
+
+-- a register that is set to a number
+abbrev pub set_to : (rd : ℕ) → Option ℕ → Option Constant
+set_to rd None = None
+set_to rd (Some n) = Some (record { register = rd; number = n })
+
+-- what code sets to a number that is known: copies but those into x0, and slot loads
+abbrev pub constant_set : Known → Row → Option Constant
+constant_set known (Moves zero rs) = None
+constant_set known (Moves (suc rd) rs) = set_to (suc rd) (number_in known rs)
+constant_set known (LoadsSlot rd n) = set_to rd (known (Slot n))
+constant_set known (Fixes rd n) = None
+constant_set known (Sets rd op a b) = None
+constant_set known (Addresses rd n offset) = None
+constant_set known (Loads rd op base offset) = None
+constant_set known (Stores op rs base offset) = None
+constant_set known (StoresSlot rs n) = None
+constant_set known (Branches op a b target) = None
+constant_set known (Jumps target) = None
+constant_set known (Calls name args) = None
+constant_set known (Returns results) = None
+constant_set known Unfit = None
+
+-- the code with the constant definition in its place, and with its implicit operands
+abbrev pub set_or_same : Option Constant → Instruction → Instruction
+set_or_same None i = i
+set_or_same (Some c) i = constant_code c.register c.number (filter is_implicit i.operands)
+
+abbrev pub set_in : Known → ItemKind → ItemKind
+set_in known (Code i k) = Code (set_or_same (constant_set known (row_of i)) i) k
+set_in known (Mark v m) = Mark v m
+set_in known (Phi p k) = Phi p k
+
+-- the items of a block, from the top down
+abbrev pub set_items : Known → List Item → List Item
+set_items known [] = []
+set_items known (i ∷ is) =
+    record i { kind = set_in known i.kind } ∷ set_items (known_past (set_in known i.kind) known) is
+
+abbrev pub set_block : Block → Block
+set_block b = record b { items = set_items nothing_known b.items }
+
+abbrev pub set_blocks : List Block → List Block
+set_blocks blocks = map set_block blocks
+
+-- the function in which constants are set again
+abbrev pub rematerialized : Function → Function
+rematerialized f = record f { blocks = set_blocks f.blocks }
+
+abbrev pub IsRematerialized : CodeRule
+IsRematerialized f g = g ≡ rematerialized f

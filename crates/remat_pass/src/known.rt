@@ -1,0 +1,194 @@
+//! Which places hold which numbers along a block.
+
+ghost use Rattle.std.specs.Prelude.{◌≡◌, cond, None, Some, [], ◌∷◌, OnOk};
+ghost use Rattle.rv64_instr.specs.declared.place.Place.{Place};
+ghost use Rattle.rv64_instr.specs.Row.{Row, Fixes};
+ghost use Rattle.rv64_instr.specs.Decoded.{Shows};
+ghost use Rattle.remat_pass.specs.Known.{number_in, with_slot, forgotten, learned, known_past};
+ghost use Rattle.remat_pass.specs.Remat.{set_to, constant_set};
+ghost use Rattle.remat_pass.specs.Table.{known_by, is_among};
+
+use crate::constant::Constant;
+use mir_func::item::ItemKind;
+use numbers::code::SlotId;
+use rv64_instr::decoded::Decoded;
+use rv64_instr::parts::CALLER_SAVED;
+use rv64_instr::reg::Reg;
+use std::alloc::{AllocError, Global};
+use std::collections::HashMap;
+
+/// The numbers, modulo 2^64, of places that are known to hold one.
+#[derive(Drop)]
+pub struct Known {
+    pub registers: HashMap<u32, u64>,
+    pub slots: HashMap<u32, u64>,
+}
+
+impl Known {
+    /// Nothing is known. It takes no memory.
+    pub fn new(alloc: Global) -> Known
+        ensures { (x : Place) → known_by result.registers result.slots x ≡ None }
+    {
+        Known {
+            registers: HashMap::new(alloc),
+            slots: HashMap::new(alloc),
+        }
+    }
+
+    /// The number in a register: 0 in x0.
+    fn number_in(&self, r: Reg) -> Option<u64>
+        ensures { result ≡ number_in (known_by self.now.registers self.now.slots) r }
+    {
+        if r.number() == 0 {
+            return Some(0);
+        }
+        self.registers.get(&r.number()).copied()
+    }
+
+    /// What code sets to a number that is known: copies but those into x0, and slot loads.
+    pub fn constant_set(&self, decoded: &Decoded) -> Option<Constant>
+        ensures { (row : Row) → Shows decoded.now row →
+            result ≡ constant_set (known_by self.now.registers self.now.slots) row }
+    {
+        match *decoded {
+            Decoded::Moves(rd, rs) => {
+                if rd.number() == 0 {
+                    None
+                } else {
+                    set_to(rd, self.number_in(rs))
+                }
+            }
+            Decoded::LoadsSlot(rd, n) => set_to(rd, self.slots.get(&n.number()).copied()),
+            Decoded::Fixes(_, _)
+            | Decoded::Sets(_, _, _, _)
+            | Decoded::Addresses(_, _, _)
+            | Decoded::Loads(_, _, _, _)
+            | Decoded::Stores(_, _, _, _)
+            | Decoded::StoresSlot(_, _)
+            | Decoded::Branches(_, _, _, _)
+            | Decoded::Jumps(_)
+            | Decoded::Calls
+            | Decoded::Returns => None,
+        }
+    }
+
+    /// Goes past an item: forgets what it sets, and learns what it sets to a number.
+    pub fn pass(&mut self, kind: &ItemKind) -> Result<(), AllocError>
+        ensures { OnOk result ((x : Place) → known_by self.new.registers self.new.slots x
+            ≡ known_past kind.now (known_by self.old.registers self.old.slots) x) }
+    {
+        match kind {
+            ItemKind::Code(i, _) => {
+                let decoded = i.decoded();
+                self.forget(&decoded);
+                self.learn(&decoded)?;
+                Ok(())
+            }
+            ItemKind::Mark(_, _) | ItemKind::Phi(_, _) => Ok(()),
+        }
+    }
+
+    /// Forgets what code sets.
+    fn forget(&mut self, decoded: &Decoded)
+        ensures { (row : Row) → Shows decoded.now row → (x : Place) →
+            known_by self.new.registers self.new.slots x
+            ≡ forgotten row (known_by self.old.registers self.old.slots) x }
+    {
+        match *decoded {
+            Decoded::Fixes(rd, _) => self.remove_register(rd.number()),
+            Decoded::Moves(rd, _) => self.remove_register(rd.number()),
+            Decoded::Sets(rd, _, _, _) => self.remove_register(rd.number()),
+            Decoded::Addresses(rd, _, _) => self.remove_register(rd.number()),
+            Decoded::Loads(rd, _, _, _) => self.remove_register(rd.number()),
+            Decoded::LoadsSlot(rd, _) => self.remove_register(rd.number()),
+            Decoded::StoresSlot(_, n) => self.remove_slot(n.number()),
+            Decoded::Calls => self.remove_registers(&CALLER_SAVED),
+            Decoded::Stores(_, _, _, _)
+            | Decoded::Branches(_, _, _, _)
+            | Decoded::Jumps(_)
+            | Decoded::Returns => {}
+        }
+    }
+
+    /// Learns what code sets to a number.
+    fn learn(&mut self, decoded: &Decoded) -> Result<(), AllocError>
+        ensures { OnOk result ((row : Row) → Shows decoded.now row → (x : Place) →
+            known_by self.new.registers self.new.slots x
+            ≡ learned row (known_by self.old.registers self.old.slots) x) }
+    {
+        match *decoded {
+            Decoded::Fixes(rd, n) => {
+                self.learn_register(rd.number(), n)?;
+                Ok(())
+            }
+            Decoded::StoresSlot(rs, n) => match self.number_in(rs) {
+                None => {
+                    self.remove_slot(n.number());
+                    Ok(())
+                }
+                Some(number) => self.learn_slot(n.number(), number),
+            },
+            Decoded::Moves(_, _)
+            | Decoded::Sets(_, _, _, _)
+            | Decoded::Addresses(_, _, _)
+            | Decoded::Loads(_, _, _, _)
+            | Decoded::LoadsSlot(_, _)
+            | Decoded::Stores(_, _, _, _)
+            | Decoded::Branches(_, _, _, _)
+            | Decoded::Jumps(_)
+            | Decoded::Calls
+            | Decoded::Returns => Ok(()),
+        }
+    }
+
+    fn learn_register(&mut self, r: u32, number: u64) -> Result<(), AllocError>
+        ensures { OnOk result ((x : Place) → known_by self.new.registers self.new.slots x
+            ≡ learned (Fixes r number) (known_by self.old.registers self.old.slots) x) }
+    {
+        if r != 0 {
+            self.registers.insert(r, number)?;
+        }
+        Ok(())
+    }
+
+    fn learn_slot(&mut self, n: u32, number: u64) -> Result<(), AllocError>
+        ensures { OnOk result ((x : Place) → known_by self.new.registers self.new.slots x
+            ≡ with_slot n (Some number) (known_by self.old.registers self.old.slots) x) }
+    {
+        self.slots.insert(n, number)?;
+        Ok(())
+    }
+
+    fn remove_register(&mut self, r: u32)
+        ensures { (x : Place) → known_by self.new.registers self.new.slots x
+            ≡ cond (is_among x (r ∷ [])) None (known_by self.old.registers self.old.slots x) }
+    {
+        let _ = self.registers.remove(&r);
+    }
+
+    fn remove_registers(&mut self, numbers: &[u32])
+        ensures { (x : Place) → known_by self.new.registers self.new.slots x
+            ≡ cond (is_among x numbers.now) None (known_by self.old.registers self.old.slots x) }
+    {
+        for r in numbers {
+            self.remove_register(*r);
+        }
+    }
+
+    fn remove_slot(&mut self, n: u32)
+        ensures { (x : Place) → known_by self.new.registers self.new.slots x
+            ≡ with_slot n None (known_by self.old.registers self.old.slots) x }
+    {
+        let _ = self.slots.remove(&n);
+    }
+}
+
+/// A register that is set to a number.
+fn set_to(register: Reg, number: Option<u64>) -> Option<Constant>
+    ensures { result ≡ set_to register number }
+{
+    match number {
+        None => None,
+        Some(number) => Some(Constant { register, number }),
+    }
+}
