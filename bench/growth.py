@@ -2,7 +2,7 @@
 """Counts the instructions of a built program at inputs that double, with valgrind's callgrind.
 
   bench/growth.py lex      crates/mirdwarf_bench/out/mirdwarf_bench, on texts of 1, 2 and 4 MiB
-  bench/growth.py compile  crates/mirdwarf/out/mirdwarf, on functions of 1,000 to 8,000 items
+  bench/growth.py compile  crates/mirdwarf/out/mirdwarf, on functions of 64 blocks and 512 items, and at the limits
   bench/growth.py read     crates/mirdwarf_reading/out/mirdwarf_reading, on functions, blocks, functions of a text and keys of an entry
   bench/growth.py strip    crates/mirdwarf/out/mirdwarf, on functions of 1,024 blocks and 8,192 items, with its peak memory
   bench/growth.py layout   crates/mirdwarf_layout/out/mirdwarf_layout over crates/mirdwarf_reading/out/mirdwarf_reading, on items, blocks and slots
@@ -105,6 +105,11 @@ def located(blocks, items, variables):
 
 def functions(number):
     return b"".join(blocks(16).replace(b"name: f", b"name: f%d" % n) for n in range(number))
+
+
+def many_located(number):
+    one = located(64, 512, 32)
+    return b"".join(one.replace(b"name: f", b"name: f%d" % n) for n in range(number))
 
 
 def metadata():
@@ -233,7 +238,10 @@ def main():
             for step, (call, before) in steps.items():
                 added(call, kind, step, before, (1000, 2000, 4000, 8000))
     elif what == ["compile"]:
-        table("one block, by items", "crates/mirdwarf/out/mirdwarf", ["compile", "--passes=none"], (1000, 2000, 4000, 8000), one_block)
+        program, words = "crates/mirdwarf/out/mirdwarf", ["compile", "--passes=none"]
+        by_bytes("functions of 64 blocks and 512 items, by functions", program, words, (16, 32, 64, 128, 256), many_located)
+        by_bytes("8,192 items, 256 variables, by blocks", program, words, (256, 512, 1024), lambda n: located(n, 8192, 256))
+        by_bytes("1,024 blocks of eight items, by variables", program, words, (256, 512, 1024), lambda n: located(1024, 8192, n))
     else:
         raise SystemExit(__doc__)
 

@@ -1,14 +1,19 @@
 //! Where a variable is at single points.
 
+ghost use Rattle.std.specs.Prelude.{◌≡◌, ◌≤◌, length};
+ghost use Rattle.class_places.specs.Things.{AreThings};
+
 use crate::text::function_of;
 use frame_lower::lower::lower;
 use frame_lower::physical::is_physical;
-use machine_values::values::solve;
+use machine_values::values::{MachineValues, solve};
+use mir_func::framed::Framed;
 use mir_func::variable::VarId;
 use numbers::metadata::NodeId;
 use rv64_instr::place::Place;
 use std::alloc::Global;
 use std::test::Fail;
+use substitution::substitutions::Substitutions;
 use transfer_emit::values::Values;
 use value_queries::variable::first_place;
 
@@ -19,19 +24,25 @@ const V: VarId = VarId {
     fragment: None,
 };
 
-/// The number of the register where it is before an item: 64 for a number or a slot, and 0 where it is nowhere.
-fn register_at(alloc: Global, body: &str, block: usize, item: usize) -> Result<u32, Fail> {
-    let parsed = function_of(alloc, "", body)?;
-    if !is_physical(&parsed.func) {
-        return Err(Fail::from("virtual registers"));
-    }
-    let framed = lower(alloc, &parsed.func)?;
-    let known = solve(alloc, &framed, &parsed.subs)?;
+/// The number of the register where it is before an item, by what is known of its function's values: 64 for a number
+/// or a slot, and 0 where it is nowhere.
+fn register_by(
+    alloc: Global,
+    framed: &Framed,
+    known: &MachineValues,
+    subs: &Substitutions,
+    block: usize,
+    item: usize,
+) -> Result<u32, Fail>
+    requires things { AreThings known.now.variables known.now.things }
+    requires fewer { length known.now.variables ≤ length known.now.things }
+    requires for_all { length known.now.entries ≡ length framed.now.blocks }
+{
     let values = Values {
         variables: known.variables.as_slice(),
         things: known.things.as_slice(),
         entries: known.entries.as_slice(),
-        subs: &parsed.subs,
+        subs,
     };
     let blocks = framed.blocks.as_slice();
     if block >= blocks.len() || item > blocks[block].items.len() {
@@ -41,12 +52,29 @@ fn register_at(alloc: Global, body: &str, block: usize, item: usize) -> Result<u
     Ok(number_of(place))
 }
 
+/// The same for a body.
+fn register_at(alloc: Global, body: &str, block: usize, item: usize) -> Result<u32, Fail> {
+    let parsed = function_of(alloc, "", body)?;
+    if !is_physical(&parsed.func) {
+        return Err(Fail::from("virtual registers"));
+    }
+    let framed = lower(alloc, &parsed.func)?;
+    let known = solve(alloc, &framed, &parsed.subs)?;
+    register_by(alloc, &framed, &known, &parsed.subs, block, item)
+}
+
 fn number_of(place: Option<Place>) -> u32 {
     match place {
-        Some(Place::Register(r)) => r.number(),
-        Some(Place::Slot(_)) => 64,
-        Some(Place::Const(_)) => 64,
+        Some(place) => number_in(&place),
         None => 0,
+    }
+}
+
+fn number_in(place: &Place) -> u32 {
+    match place {
+        Place::Register(r) => r.number(),
+        Place::Slot(_) => 64,
+        Place::Const(_) => 64,
     }
 }
 
