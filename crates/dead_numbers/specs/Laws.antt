@@ -18,7 +18,8 @@ use Rattle.dead_code.specs.Loose.{KeepsLoosely}
 abbrev pub NumberGoesToCode : (Free : ℕ → Type 0) → Type 0
 NumberGoesToCode Free = (old new : Function) (subs : List Entry) (k n o s : ℕ) → IsSound old → IsSound new → new.objects ≡ old.objects →
     entry_of subs (first_operand k) ≡ None → entry_of subs (record { number = n; operand = o }) ≡ None → (k ≡ n → ⊥) → (s ≡ 2 → ⊥) →
-    BlocksEdited (off_edits (program_of false old.blocks (resolve subs)) (program_of false new.blocks (resolve (subs ++ entry_for k n o ∷ []))) refl refl k n o s Free)
+    BlocksEdited (off_edits (program_of false old.blocks (resolve subs))
+    (program_of false new.blocks (resolve (subs ++ entry_for k n o ∷ []))) refl refl k n o s Free)
     old.blocks new.blocks → KeepsLoosely (change old subs new (subs ++ entry_for k n o ∷ []))
 
 -- number k of a copy of s goes to a phi of s in front of it

@@ -2,7 +2,7 @@
 
 ghost use Rattle.follow_law.specs.Code.{HasOneResult, SeesCodeAlone};
 ghost use Rattle.fold_rule.specs.Rule.{IsFolded};
-ghost use Rattle.fold_laws.specs.Strips.{FoldsStripped};
+ghost use Rattle.fold_laws.specs.Strips.{FoldsStripped, EndsStay};
 
 /// Of one function folding makes one.
 pub fn folding_has_one_result()
@@ -17,4 +17,9 @@ pub fn folding_sees_code_alone()
 /// Folding and leaving out debug items may change places.
 pub fn folding_strips()
     ensures { FoldsStripped }
+{}
+
+/// A block that is bypassed doesn't stay.
+pub fn ends_stay()
+    ensures { EndsStay }
 {}

@@ -4,7 +4,7 @@
 #![tactic(auto)]
 
 pub mod fold;
-mod reached;
+pub mod reached;
 mod tail;
 mod turned;
 pub mod ways;

@@ -36,6 +36,14 @@ pub fn reached(
     Ok(seen)
 }
 
+/// The numbers of the blocks that are reached from the first one as they stand.
+pub fn reached_before(alloc: Global, blocks: &[Block]) -> Result<HashSet<u32>, AllocError>
+    ensures { IfOk result (λ was. (n : ℕ) → IsTrue (contains nat_eq was n) ↔ Reached blocks.now (λ m. m) n) }
+{
+    let own_ends = HashMap::new(alloc);
+    reached(alloc, blocks, &own_ends)
+}
+
 /// Sees a block. Where it is seen for the first time, it waits.
 fn visit(
     seen: &mut HashSet<u32>,

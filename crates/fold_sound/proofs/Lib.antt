@@ -1,4 +1,4 @@
-mod Rows
+pub mod Rows
 mod Tails
 mod Numbers
 mod Blocks

@@ -1,3 +1,5 @@
 pub mod Choice
 pub mod Rule
 pub mod Laws
+pub mod Chosen
+pub mod steps

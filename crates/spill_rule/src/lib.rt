@@ -4,3 +4,6 @@
 //! branch goes; there are as many slots and stack objects as a function may have. Every other one gets a new slot, and
 //! those that are live into the first block are stored there.
 #![tactic(auto)]
+
+pub mod laws;
+pub mod named;

@@ -20,7 +20,8 @@ loop-block-preserved c =
     let i : ℕ = c.loop-block.block in
     let b : Block = c.index-as_slice-block.result in
     let blocks : f.blocks ≡ c.as_slice.result.now = ap (λ (g : Function). g.blocks) (sym c.f.view_is) ∙ sym c.as_slice.ensures in
-    let within : i < length f.blocks = subst (λ (n : ℕ). i < n) (c.len-block-end.ensures ∙ ap (λ (g : Function). length g.blocks) c.f.view_is) c.loop-block-test.true in
+    let within : i < length f.blocks =
+    subst (λ (n : ℕ). i < n) (c.len-block-end.ensures ∙ ap (λ (g : Function). length g.blocks) c.f.view_is) c.loop-block-test.true in
     let is : b ≡ get_or f.blocks i b = c.index-as_slice-block.is ∙ ap (λ (bs : List Block). get_or bs i b) (sym blocks) in
     let at = get_at f.blocks i b within is in
     let id = id_is f.blocks i b at in
@@ -28,7 +29,8 @@ loop-block-preserved c =
       needed = has c.in_ok-live.live.slots c.past_block-needed.result;
       live = λ x. subst (λ (n : ℕ). (has c.in_ok-live.live.slots c.past_block-needed.result x ≡ true) ↔ LiveAtEnd f n x) id
           (c.past_block-needed.ensures x false (λ q. None));
-      is = c.in_ok-judge_items.ensures ∙ ap (λ (is : List Item). verdicts is (has c.in_ok-live.live.slots c.past_block-needed.result)) c.as_slice-in-loop-block.ensures ∙
+      is = c.in_ok-judge_items.ensures ∙
+          ap (λ (is : List Item). verdicts is (has c.in_ok-live.live.slots c.past_block-needed.result)) c.as_slice-in-loop-block.ensures ∙
           ap (λ (z : Block). verdicts z.items (has c.in_ok-live.live.slots c.past_block-needed.result)) (sym c.index-as_slice-block.is);
     } in
     let more : JudgedBlocks f (take i f.blocks ++ b ∷ []) (c.loop-block.dead ++ c.in_ok-judge_items.field-0 ∷ []) =
@@ -42,5 +44,6 @@ returns c =
     let f : Function = c.args.f.now in
     let apart : AreApart (ids_of f.blocks) = subst (λ (g : Function). AreApart (ids_of g.blocks)) c.f.view_is c.f.invariant.blocks_apart in
     all_judged f c.loop-block.dead (subst (λ (bs : List Block). JudgedBlocks f bs c.loop-block.dead)
-    (take_all c.loop-block.block f.blocks (subst (λ (n : ℕ). n ≤ c.loop-block.block) (c.len-block-end.ensures ∙ ap (λ (g : Function). length g.blocks) c.f.view_is)
+    (take_all c.loop-block.block f.blocks (subst (λ (n : ℕ). n ≤ c.loop-block.block)
+    (c.len-block-end.ensures ∙ ap (λ (g : Function). length g.blocks) c.f.view_is)
     c.loop-block-test.false)) c.loop-block.invariant) apart

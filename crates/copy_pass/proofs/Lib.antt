@@ -1,0 +1,3 @@
+mod Lists
+mod Fronts
+pub mod Forms

@@ -1,0 +1,2 @@
+-- The steps of the code, which only proofs need.
+pub mod Any

@@ -1,0 +1,149 @@
+//! Which registers code names.
+
+ghost use Rattle.std.specs.Prelude.{◌≡◌, ◌&&◌};
+ghost use Rattle.std.specs.List.{list_any};
+ghost use Rattle.rv64_instr.specs.Row.{row_of};
+ghost use Rattle.rv64_instr.specs.Parts.{is_call, has_implicit_uses};
+ghost use Rattle.mir_func.specs.Sound.{items_of};
+ghost use Rattle.follow_law.specs.Causes.{is_of_register, names};
+ghost use Rattle.follow_law.specs.Sizes.{calls};
+ghost use Rattle.spill_rule.specs.Choice.{is_added, binds, row_goes, goes};
+ghost use Rattle.spill_rule.specs.steps.Any.{any_item};
+
+use mir_func::block::Block;
+use mir_func::item::{Item, ItemKind};
+use mir_func::position::Origin;
+use numbers::code::BlockId;
+use rv64_instr::decoded::Decoded;
+use rv64_instr::instr::Instr;
+use rv64_instr::operand::Operand;
+use rv64_instr::reg::Reg;
+
+/// Whether some code names the register: by an explicit operand, or by an implicit one of a call or a return.
+pub fn is_named(blocks: &[Block], r: Reg) -> bool
+    ensures { result ≡ any_item (λ i. names r i.kind) blocks.now }
+{
+    blocks.iter().any(|b| is_named_in(b.items.as_slice(), r))
+}
+
+/// Whether a call names the register, or code that was added.
+pub fn is_bound(blocks: &[Block], r: Reg) -> bool
+    ensures { result ≡ any_item (binds r) blocks.now }
+{
+    blocks.iter().any(|b| is_bound_in(b.items.as_slice(), r))
+}
+
+/// Whether a branch goes to the block.
+pub fn has_branch_to(blocks: &[Block], n: BlockId) -> bool
+    ensures { result ≡ any_item (λ i. goes n i.kind) blocks.now }
+{
+    blocks.iter().any(|b| has_branch_in(b.items.as_slice(), n))
+}
+
+fn is_named_in(items: &[Item], r: Reg) -> bool
+    ensures { result ≡ list_any (λ i. names r i.kind) items.now }
+{
+    items.iter().any(|i| names(r, &i.kind))
+}
+
+fn is_bound_in(items: &[Item], r: Reg) -> bool
+    ensures { result ≡ list_any (binds r) items.now }
+{
+    items.iter().any(|i| binds(r, i))
+}
+
+fn has_branch_in(items: &[Item], n: BlockId) -> bool
+    ensures { result ≡ list_any (λ i. goes n i.kind) items.now }
+{
+    items.iter().any(|i| goes(n, &i.kind))
+}
+
+fn binds(r: Reg, i: &Item) -> bool
+    ensures { result ≡ binds r i.now }
+{
+    names(r, &i.kind) && (calls(&i.kind) || is_added(i.origin))
+}
+
+fn is_added(origin: Origin) -> bool
+    ensures { result ≡ is_added origin }
+{
+    match origin {
+        Origin::Before(_) => true,
+        Origin::Kept(_) => false,
+    }
+}
+
+fn calls(kind: &ItemKind) -> bool
+    ensures { result ≡ calls kind.now }
+{
+    match kind {
+        ItemKind::Code(i, _) => is_call(i),
+        ItemKind::Mark(_, _) | ItemKind::Phi(_, _) => false,
+    }
+}
+
+fn is_call(i: &Instr) -> bool
+    ensures { result ≡ is_call (row_of i.now) }
+{
+    matches!(i.decoded(), Decoded::Calls)
+}
+
+fn has_implicit_uses(i: &Instr) -> bool
+    ensures { result ≡ has_implicit_uses (row_of i.now) }
+{
+    matches!(i.decoded(), Decoded::Calls | Decoded::Returns)
+}
+
+fn names(r: Reg, kind: &ItemKind) -> bool
+    ensures { result ≡ names r kind.now }
+{
+    match kind {
+        ItemKind::Code(i, _) => code_names(r, i),
+        ItemKind::Mark(_, _) | ItemKind::Phi(_, _) => false,
+    }
+}
+
+fn code_names(r: Reg, i: &Instr) -> bool
+    ensures { result ≡ list_any (is_of_register (has_implicit_uses (row_of i.now)) r) i.now.operands }
+{
+    let counts = has_implicit_uses(i);
+    i.operands
+        .as_slice()
+        .iter()
+        .any(|operand| is_of_register(counts, r, operand))
+}
+
+/// Whether the operand is the register; an implicit one where such operands count.
+fn is_of_register(counts: bool, r: Reg, operand: &Operand) -> bool
+    ensures { result ≡ is_of_register counts r operand.now }
+{
+    match operand {
+        Operand::Def(s) | Operand::Use(s) => s.number() == r.number(),
+        Operand::ImplicitDef(s) | Operand::ImplicitUse(s) => counts && s.number() == r.number(),
+        Operand::Imm(_)
+        | Operand::Slot(_)
+        | Operand::Object(_)
+        | Operand::Block(_)
+        | Operand::Symbol(_)
+        | Operand::Mask => false,
+    }
+}
+
+fn goes(n: BlockId, kind: &ItemKind) -> bool
+    ensures { result ≡ goes n kind.now }
+{
+    match kind {
+        ItemKind::Code(i, _) => code_goes(n, i),
+        ItemKind::Mark(_, _) | ItemKind::Phi(_, _) => false,
+    }
+}
+
+fn code_goes(n: BlockId, i: &Instr) -> bool
+    ensures { result ≡ row_goes n (row_of i.now) }
+{
+    match i.decoded() {
+        Decoded::Branches(_, _, _, target) => target.number() == n.number(),
+        Decoded::Jumps(target) => target.number() == n.number(),
+        _ => false,
+    }
+}
