@@ -94,7 +94,13 @@ module _ (blocks : List Block) (end : ℕ → ℕ) (ways : ℕ → Option Ways) 
       old ≡ rest ++ n ∷ [] → ways n ≡ Some w → ((m : ℕ) → LeadTo w m → Reached blocks end m) →
       ((q : ℕ) → one q ≡ (seen q || is_number w.branch q)) → some ≡ rest ++ fresh seen w.branch →
       ((q : ℕ) → two q ≡ (one q || is_number w.onward q)) → more ≡ some ++ fresh one w.onward → IsWalk blocks end ways two more
-  goes_on seen one two old rest some more n w walk split at reach now1 add1 now2 add2 = record { right = right; known = known; spread = spread; first = begin } where
+  goes_on seen one two old rest some more n w walk split at reach now1 add1 now2 add2 = record {
+    right = right;
+    known = known;
+    spread = spread;
+    first =
+        begin;
+  } where
     stays1 : (q : ℕ) → seen q ≡ true → one q ≡ true
     stays1 q h = now1 q ∙ or_left (seen q) (is_number w.branch q) h
 
@@ -213,11 +219,12 @@ all_seen blocks end ways seen walk is (onward {b} {n} w r e l) =
 filter_le : (old new b : ℕ → Bool) (ts : List ℕ) → ((q : ℕ) → new q ≡ (old q || b q)) →
     length (filter (λ q. not (new q)) ts) ≤ length (filter (λ q. not (old q)) ts)
 filter_le old new b [] now = omega arith
-filter_le old new b (t ∷ ts) now = rw (now t) (by_test (old t) (b t) (filter (λ q. not (new q)) ts) (filter (λ q. not (old q)) ts) (filter_le old new b ts now)) where
-  by_test : (y z : Bool) (xs ys : List ℕ) → length xs ≤ length ys → length (cond (not (y || z)) (t ∷ xs) xs) ≤ length (cond (not y) (t ∷ ys) ys)
-  by_test true z xs ys le = le
-  by_test false true xs ys le = omega (arith, le)
-  by_test false false xs ys le = omega (arith, le)
+filter_le old new b (t ∷ ts) now = rw (now t) (by_test (old t) (b t) (filter (λ q. not (new q)) ts) (filter (λ q. not (old q)) ts) (filter_le old new b
+    ts now)) where
+      by_test : (y z : Bool) (xs ys : List ℕ) → length xs ≤ length ys → length (cond (not (y || z)) (t ∷ xs) xs) ≤ length (cond (not y) (t ∷ ys) ys)
+      by_test true z xs ys le = le
+      by_test false true xs ys le = omega (arith, le)
+      by_test false false xs ys le = omega (arith, le)
 
 filter_lt : (old new b : ℕ → Bool) (ts : List ℕ) (m : ℕ) → ((q : ℕ) → new q ≡ (old q || b q)) → is_among ts m ≡ true → old m ≡ false → b m ≡ true →
     length (filter (λ q. not (new q)) ts) < length (filter (λ q. not (old q)) ts)

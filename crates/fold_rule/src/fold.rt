@@ -34,7 +34,8 @@ fn write_anew(
     ends: &HashMap<u32, u32>,
     stays: &HashSet<u32>,
 ) -> Result<(), AllocError>
-    ensures { OnOk result (blocks.new.items ≡ folded_blocks (end_in ends.now) (contains nat_eq stays.now) blocks.old.items) }
+    ensures { OnOk result (blocks.new.items
+        ≡ folded_blocks (end_in ends.now) (contains nat_eq stays.now) blocks.old.items) }
 {
     let mut done = Vec::new(alloc);
     let mut next = None;

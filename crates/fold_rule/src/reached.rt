@@ -50,7 +50,8 @@ fn visit(
     waiting: &mut Vec<u32>,
     block: Option<BlockId>,
 ) -> Result<(), AllocError>
-    ensures seen { OnOk result ((q : ℕ) → contains nat_eq seen.new q ≡ (contains nat_eq seen.old q || is_number block q)) }
+    ensures seen { OnOk result ((q : ℕ) → contains nat_eq seen.new q
+        ≡ (contains nat_eq seen.old q || is_number block q)) }
     ensures waiting { OnOk result (waiting.new.items ≡ waiting.old.items ++ fresh (contains nat_eq seen.old) block) }
 {
     if let Some(b) = block {

@@ -44,7 +44,8 @@ pub fn rewrite(
     ends: &HashMap<u32, u32>,
     at: &Place,
 ) -> Result<(), AllocError>
-    ensures { OnOk result (items.new.items ≡ rewritten (end_in ends.now) at.now.next at.now.fall at.now.silent items.old.items) }
+    ensures { OnOk result (items.new.items
+        ≡ rewritten (end_in ends.now) at.now.next at.now.fall at.now.silent items.old.items) }
 {
     let count = onward_count(items.as_slice());
     let mut tail = items.split_off(count)?.into_iter();
@@ -103,7 +104,8 @@ fn push_jump(
     rest: Option<Item>,
     block: BlockId,
 ) -> Result<(), AllocError>
-    ensures { OnOk result (items.new.items ≡ items.old.items ++ if_needed at.now.next block (jump_at_end at.now.silent rest block)) }
+    ensures { OnOk result (items.new.items
+        ≡ items.old.items ++ if_needed at.now.next block (jump_at_end at.now.silent rest block)) }
 {
     let jump = jump_at_end(alloc, at, rest, block)?;
     push_if_needed(items, at, block, jump)
@@ -144,8 +146,9 @@ fn push_branch(
     rest: Option<Item>,
     target: BlockId,
 ) -> Result<(), AllocError>
-    ensures { OnOk result (items.new.items ≡ items.old.items ++ branch_tail_to (end_in ends.now) at.now.next at.now.fall at.now.silent
-        branch rest target (else_way rest at.now.fall)) }
+    ensures { OnOk result (items.new.items ≡ items.old.items
+        ++ branch_tail_to (end_in ends.now) at.now.next at.now.fall at.now.silent branch rest target
+        (else_way rest at.now.fall)) }
 {
     match else_way(&rest, at.fall) {
         Some(m) => {

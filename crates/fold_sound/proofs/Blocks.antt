@@ -77,7 +77,8 @@ module _ (end : ℕ → ℕ) (kept : ℕ → Bool) where
   few_folded [] = omega arith
   few_folded (b ∷ bs) = by_test (kept b.id) (few_folded bs) where
     by_test : (z : Bool) → length (folded_blocks end kept bs) ≤ length bs →
-        length (cond z (folded_block end (first_id (staying kept bs)) (first_id bs) b ∷ folded_blocks end kept bs) (folded_blocks end kept bs)) ≤ suc (length bs)
+        length (cond z (folded_block end (first_id (staying kept bs)) (first_id bs) b ∷ folded_blocks end kept bs) (folded_blocks end kept bs)) ≤ suc
+        (length bs)
     by_test true le = omega (arith, le)
     by_test false le = omega (arith, le)
 
@@ -147,7 +148,8 @@ module _ (ids : List ℕ) where
   end_stays lead to (comes_round h) c = c
   end_stays lead to (goes_on {b} {n} {e} at ne rest) c = end_stays lead to rest (to b n at)
 
-  else_in : (xs : List Item) (fall : Option ℕ) (n : ℕ) → Targets xs → ((k : ℕ) → fall ≡ Some k → Contains ids k) → else_way (first_of xs) fall ≡ Some n → Contains ids n
+  else_in : (xs : List Item) (fall : Option ℕ) (n : ℕ) → Targets xs → ((k : ℕ) → fall ≡ Some k → Contains ids k) → else_way (first_of xs) fall ≡ Some n
+      → Contains ids n
   else_in [] fall n all to e = to n e
   else_in (x ∷ xs) fall n all to e = always_in (exit_of x.kind) n (All-head (λ (i : Item). GoesIn ids (exit_of i.kind)) x xs all) e
 

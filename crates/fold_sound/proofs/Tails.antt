@@ -20,7 +20,8 @@ use Rattle.fold_rule.specs.Turned.{sent, turned, made_jump}
 use Rattle.fold_rule.specs.Tails.{first_of, else_way, ways_by, ways_of, is_number, if_needed, jump_at_end, jump_for_branch, branch_tail, plain_tail}
 use Rattle.fold_rule.specs.Tails.{branch_tail_to, tail_by, rewritten}
 use Rattle.fold_rule.specs.Reached.{LeadTo}
-use Rattle.fold_sound.proofs.Rows.{Leads, GoesIn, kind_targets, leading_slots, leading_objects, sent_pointer, turned_pointer, sent_branch, turned_branch, sent_jump}
+use Rattle.fold_sound.proofs.Rows.{Leads, GoesIn, kind_targets, leading_slots, leading_objects, sent_pointer, turned_pointer, sent_branch}
+use Rattle.fold_sound.proofs.Rows.{turned_branch, sent_jump}
 
 pub none_in : {X : Type 0} (P : X → Type 0) → All P []
 none_in P k d lt = absurd (omega (arith, lt))
@@ -123,7 +124,8 @@ module _ (ids slots : List ℕ) (objects : List Object) (b : Block) where
     by_tests false true s = one_good (sent u x) (good_sent x t u e has_u p)
     by_tests false false true = one_good (turned v x) (good_turned x t v e has_v p)
     by_tests false false false =
-        All-cons Good (sent u x) (jump_at_end silent (first_of xs) v ∷ []) (good_sent x t u e has_u p) (one_good (jump_at_end silent (first_of xs) v) (good_jump xs v h all has_v))
+        All-cons Good (sent u x) (jump_at_end silent (first_of xs) v ∷ []) (good_sent x t u e has_u p) (one_good (jump_at_end silent (first_of xs) v)
+        (good_jump xs v h all has_v))
 
   module _ (end : ℕ → ℕ) (next fall : Option ℕ) where
     pub rewritten_good : (xs : List Item) → EndsWell xs → (fall ≡ None → Closes xs) → All Plain xs →

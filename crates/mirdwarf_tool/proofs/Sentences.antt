@@ -1,5 +1,5 @@
 -- The text of a program's output shows it alone, so what holds of the output holds of what the text shows.
-use Rattle.std.proofs.Common.{ℕ, List, subst, inl, inr}
+use Rattle.std.proofs.Common.{ℕ, List, All, subst, inl, inr}
 use Rattle.std.proofs.lemmas.List.Elements.{All-map, All-weaker}
 use Rattle.compiled_text.specs.declared.output.Output.{Output}
 use Rattle.compiled_text.specs.Shown.{Shows, OfShown}
@@ -22,13 +22,16 @@ use Rattle.mirdwarf_tool.specs.Promise.{AllGiveBack, AllStopWell}
 source_read : (meta : Maps) (p : Parsed) → IsReadFunction meta p.func → IsSourceFunction (source_of p)
 source_read meta p read = record { read = read.read; form = read.form; physical = read.physical; sound = read.sound }
 
+sources_read : (program : Program) → IsReadProgram program → All IsSourceFunction (sources_of program.functions)
+sources_read program read =
+    let each : All (λ p. IsSourceFunction (source_of p)) program.functions =
+    All-weaker (λ (p : Parsed). IsReadFunction program.meta p.func) (λ p. IsSourceFunction (source_of p)) (source_read program.meta)
+    program.functions read.functions in
+    All-map IsSourceFunction source_of program.functions each
+
 pub compiled_to : (program : Program) (o : Output) → IsReadProgram program → IsOutputOf program o →
     AreCompiledTo (names_of program.meta) (sources_of program.functions) o
-compiled_to program o read is = record {
-  read = All-map IsSourceFunction source_of program.functions
-      (All-weaker (λ (p : Parsed). IsReadFunction program.meta p.func) (λ p. IsSourceFunction (source_of p)) (source_read program.meta) program.functions read.functions);
-  compiled = is.compiled;
-}
+compiled_to program o read is = record { read = sources_read program read; compiled = is.compiled }
 
 -- ---- what the text shows
 
@@ -48,10 +51,11 @@ module _ (printable : OutputsArePrintable) (program : Program) (text : List ℕ)
 pub gives_back : (sources : List SourceFunction) (o : Output) → Promises sources o → AllGiveBack sources o
 gives_back sources o promises = record {
   as_many = promises.as_many;
-  each = λ n s f at there s0 starts m state since l along stands results ends. elim ((promises.each n s f at there).agrees s0 starts m state since l along stands) [
-    | inl agrees ↦ inl (agrees.2.kept results ends)
-    | inr fails ↦ inr fails
-  ];
+  each = λ n s f at there s0 starts m state since l along stands results ends.
+      elim ((promises.each n s f at there).agrees s0 starts m state since l along stands) [
+        | inl agrees ↦ inl (agrees.2.kept results ends)
+        | inr fails ↦ inr fails
+      ];
 }
 
 pub stops_well : (sources : List SourceFunction) (o : Output) → Promises sources o → AllStopWell sources o

@@ -43,8 +43,8 @@ pub fn mirdwarf<S: Source, K: Sink, E: Sink>(
     ensures read_fault { result ≡ Status.ReadFault → MetFault (change S.left S.faults input.old input.new) }
     ensures write_fault { result ≡ Status.WriteFault → MetFault (change K.written K.faults output.old output.new) }
 
-    // What `compile` writes keeps its promise. The machine on the written code runs along with the source that was read,
-    // and the written lists tell the truth.
+    // What `compile` writes keeps its promise. The machine on the written code runs along with the source that was
+    // read, and the written lists tell the truth.
     ensures headline { result ≡ Status.Done → map string_bytes words.now ≡ words_of Command.Compile →
         KeepsHeadline (change S.left S.faults input.old input.new) (change K.written K.faults output.old output.new) }
     // At a return the machine gives back the registers that a function is to keep.

@@ -1,5 +1,5 @@
 -- Constant definitions have the form of their opcode.
-use Rattle.std.proofs.Common.{◌≡◌, ℕ, Bool, true, false, ◌&&◌, cond, List, [], ◌∷◌, filter, IsTrue, refl, sym, ap, ◌∙◌}
+use Rattle.std.proofs.Common.{◌≡◌, ℕ, Bool, true, false, ◌&&◌, cond, List, [], ◌∷◌, filter, refl, sym, ap, ◌∙◌}
 use Rattle.std.specs.Prelude.{ℤ, pos}
 use Rattle.std.specs.List.{list_all}
 use Rattle.rv64_instr.specs.declared.op.ImmediateOp.TheVariants.{Addi}

@@ -1,6 +1,6 @@
 -- Constants are set in a function as in it without its debug items: what is known never hangs on a mark, a phi or a
 -- number.
-use Rattle.std.proofs.Common.{◌≡◌, ℕ, List, [], ◌∷◌, map, Option, Some, None, refl, sym, ap, ◌∙◌}
+use Rattle.std.proofs.Common.{◌≡◌, List, [], ◌∷◌, None, refl, ap}
 use Rattle.std.specs.List.{cons_option}
 use Rattle.mir_func.specs.declared.item.Item.{Item}
 use Rattle.mir_func.specs.declared.item.ItemKind.{ItemKind}
@@ -9,9 +9,9 @@ use Rattle.mir_func.specs.declared.location.Loc.{Loc}
 use Rattle.mir_func.specs.declared.position.Origin.{Origin}
 use Rattle.mir_func.specs.declared.block.Block.{Block}
 use Rattle.mir_func.specs.Function.{Function}
-use Rattle.mir_func.specs.Strip.{bare, stripped_items, stripped_block, stripped_blocks, stripped}
+use Rattle.mir_func.specs.Strip.{bare, stripped_items, stripped_blocks, stripped}
 use Rattle.remat_pass.specs.Known.{Known, nothing_known, known_past}
-use Rattle.remat_pass.specs.Remat.{set_in, set_items, set_block, set_blocks, rematerialized}
+use Rattle.remat_pass.specs.Remat.{set_in, set_items, set_blocks, rematerialized}
 
 one_stripped : (known : Known) (k : ItemKind) (o : Origin) (l : Loc) (is : List Item) →
     ((now : Known) → stripped_items (set_items now is) ≡ set_items now (stripped_items is)) →

@@ -1,5 +1,5 @@
 -- The pass that sets constants where they are read, instead of copying or loading them.
-use Rattle.std.specs.Prelude.{◌≡◌, ℕ, zero, suc, ◌+◌, ◌/◌, ◌%◌, ◌^◌, pos, List, [], ◌∷◌, map, filter, Option, Some, None, cond}
+use Rattle.std.specs.Prelude.{◌≡◌, ℕ, zero, suc, ◌/◌, ◌%◌, pos, List, [], ◌∷◌, map, filter, Option, Some, None, cond}
 use Rattle.rv64_instr.specs.declared.op.Op.TheVariants.{Immediate, Lui}
 use Rattle.rv64_instr.specs.declared.op.ImmediateOp.TheVariants.{Addi}
 use Rattle.rv64_instr.specs.declared.operand.Operand.{Operand}

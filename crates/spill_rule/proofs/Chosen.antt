@@ -1,11 +1,13 @@
 -- What the rule chooses may be spilled: the scratch registers are free, homes are slots of their own, no call and no code that was added
 -- names a spilled register, and those that are live at the start are stored there, if no branch goes there.
-use Rattle.std.proofs.Common.{◌≡◌, ◌⊎◌, ◌↔◌, ℕ, zero, suc, ◌+◌, ◌<◌, ◌≤◌, List, [], ◌∷◌, filter, take, length, map, max, All, Contains, Option, Some, None, Bool}
-use Rattle.std.proofs.Common.{true, false, cond, not, ◌&&◌, ◌||◌, nat_eq, nat_lt, nat_le, refl, sym, ap, ◌∙◌, subst, inl, inr, eq-eqb, eqb-true, ne_eqb, lt-ltb, get_or, arith}
+use Rattle.std.proofs.Common.{◌≡◌, ◌⊎◌, ℕ, zero, suc, ◌+◌, ◌<◌, ◌≤◌, List, []}
+use Rattle.std.proofs.Common.{◌∷◌, filter, take, length, All, Contains, Option, Some, None, Bool}
+use Rattle.std.proofs.Common.{true, false, cond, not, ◌&&◌, ◌||◌, nat_eq, nat_le, refl, sym}
+use Rattle.std.proofs.Common.{ap, ◌∙◌, subst, inl, inr, eq-eqb, eqb-true, ne_eqb, lt-ltb, get_or, arith}
 use Rattle.std.specs.List.{list_any, list_all}
 use Rattle.std.specs.Prelude.{IsTrue}
-use Rattle.std.proofs.lemmas.Bool.{cases_eq, cases_lt, and_parts, and_from, or_left, or_right, leb-true}
-use Rattle.std.proofs.lemmas.List.Elements.{All-contains, Contains-append_left, Contains-append_right}
+use Rattle.std.proofs.lemmas.Bool.{cases_lt, and_parts, and_from, or_left, or_right, leb-true}
+use Rattle.std.proofs.lemmas.List.Elements.{Contains-append_left, Contains-append_right}
 use Rattle.std.proofs.lemmas.List.Concat.{flat_map-cons}
 use Rattle.rv64_instr.specs.declared.op.Op.{Op}
 use Rattle.rv64_instr.specs.declared.op.Op.TheVariants.{Registers, Immediate, Lui, Branch, Load, Store, Copy, PseudoBr, PseudoCall, PseudoRet}
@@ -17,22 +19,20 @@ use Rattle.rv64_instr.specs.declared.operand.Operand.TheVariants.{Def, Use, Impl
 use Rattle.rv64_instr.specs.declared.operand.Operand.TheVariants.{Symbol, Mask}
 use Rattle.rv64_instr.specs.declared.place.Place.{Place}
 use Rattle.rv64_instr.specs.declared.place.Place.TheVariants.{Register, Slot, Const}
-use Rattle.rv64_instr.specs.Access.{caller_saved}
 use Rattle.rv64_instr.specs.Form.{has_form, is_result}
 use Rattle.rv64_instr.specs.Instruction.{Instruction}
 use Rattle.rv64_instr.specs.Parts.{has_implicit_uses, is_call}
-use Rattle.rv64_instr.specs.Row.{Row, Branches, Jumps, Calls, Returns, row_of, row_by, immediate_row, object_row, move_row}
+use Rattle.rv64_instr.specs.Row.{Row, Branches, Jumps, row_of, row_by, immediate_row, object_row, move_row}
 use Rattle.mir_func.specs.declared.entry.OperandPair.{OperandPair}
 use Rattle.mir_func.specs.declared.position.Pos.{Pos}
 use Rattle.mir_func.specs.declared.position.Origin.{Origin}
-use Rattle.mir_func.specs.declared.position.Origin.TheVariants.{Kept, Before}
 use Rattle.mir_func.specs.declared.variable.MarkValue.TheVariants.{Nothing, Constant, At, Pair}
 use Rattle.mir_func.specs.declared.block.Block.{Block}
 use Rattle.mir_func.specs.declared.item.Item.{Item}
 use Rattle.mir_func.specs.declared.item.ItemKind.{ItemKind}
 use Rattle.mir_func.specs.declared.item.ItemKind.TheVariants.{Code, Mark, Phi}
 use Rattle.mir_func.specs.Function.{Function}
-use Rattle.mir_func.specs.Graph.{Program, Here, block_start, program_of}
+use Rattle.mir_func.specs.Graph.{Here, program_of}
 use Rattle.mir_func.specs.Sound.{items_of}
 use Rattle.mir_meaning.specs.Follow.{first_of, OnRow, GoesTo}
 use Rattle.mir_meaning.specs.Live.{Live, used, later}
@@ -43,14 +43,15 @@ use Rattle.follow_law.specs.Following.{HasForm}
 use Rattle.spill_code.specs.declared.spilling.Home.{Home}
 use Rattle.spill_code.specs.declared.spilling.Spilling.{Spilling}
 use Rattle.spill_code.specs.Rewrite.{slot_of}
-use Rattle.spill_runs.specs.MaySpill.{uses_in, defs_in, implicits_in, IsNoScratch, IsUntouched, FitsCode, Fits, AreHomes}
+use Rattle.spill_runs.specs.MaySpill.{uses_in, defs_in, implicits_in, IsNoScratch, FitsCode, Fits, AreHomes}
 use Rattle.spill_runs.specs.Follows.{MaySpill}
 use Rattle.spill_runs.proofs.Places.{stands_at, contains_at}
-use Rattle.spill_rule.specs.Choice.{is_added, binds, is_bound, row_goes, goes, is_looped, lacks_scratch, reason_of, is_free, candidates, room, chosen, next_slot}
-use Rattle.spill_rule.specs.Choice.{homes_from, homes_of, first_scratch, second_scratch, spilling_of, entry_of}
+use Rattle.spill_rule.specs.Choice.{is_added, binds, is_bound, row_goes, goes, is_looped}
+use Rattle.spill_rule.specs.Choice.{lacks_scratch, reason_of, is_free, candidates, room, chosen, next_slot}
+use Rattle.spill_rule.specs.Choice.{homes_from, homes_of, spilling_of, entry_of}
 use Rattle.spill_rule.specs.Chosen.{IsReservable, AreDistinct, AsksElsewhere, ChosenMaySpill}
-use Rattle.spill_rule.specs.Rule.{IsLiveIn, Decides}
-use Rattle.spill_rule.proofs.Scratch.{CANDIDATES, kept_by, Two, two, saved, kept_registers, reservable_real, not_small, not_result}
+use Rattle.spill_rule.specs.Rule.{Decides}
+use Rattle.spill_rule.proofs.Scratch.{kept_by, Two, two, saved, kept_registers, reservable_real, not_small, not_result}
 
 -- ---- lists
 

@@ -1,2 +1,4 @@
 pub mod Scratch
 pub mod Chosen
+pub mod Flat
+pub mod RuleFollows

@@ -1,8 +1,9 @@
 -- Proofs of what a step owes of its rule for code. They stand here, and not in proofs/, since an implementation of a trait cites them;
 -- nothing here is to be believed.
-use Rattle.std.proofs.Common.{◌≡◌, ◌↔◌, ℕ, zero, suc, ◌+◌, ◌<◌, List, [], ◌∷◌, ◌++◌, map, filter, take, drop, length, Contains, Option, Some, None, Bool, true, false}
+use Rattle.std.proofs.Common.{◌≡◌, ◌↔◌, ℕ, zero, suc, ◌+◌, List, [], ◌∷◌, ◌++◌}
+use Rattle.std.proofs.Common.{map, filter, take, drop, length, Contains, Option, Some, None, Bool, true, false}
 use Rattle.std.proofs.Common.{cond, not, ◌&&◌, ◌||◌, nat_eq, nat_lt, refl, sym, ap, ◌∙◌, subst, arith}
-use Rattle.std.specs.List.{list_any, flat_map}
+use Rattle.std.specs.List.{list_any}
 use Rattle.std.proofs.lemmas.List.{map-append}
 use Rattle.std.proofs.lemmas.List.Concat.{flat_map-cons}
 use Rattle.std.proofs.lemmas.List.Folds.{list_any-append}
@@ -32,11 +33,12 @@ use Rattle.follow_law.specs.Sizes.{calls}
 use Rattle.follow_law.specs.Code.{HasOneResult, SeesCodeAlone, placeless_origin, placeless_item, placeless_block, placeless}
 use Rattle.spill_code.specs.declared.spilling.Home.{Home}
 use Rattle.spill_code.specs.declared.spilling.Spilling.{Spilling}
-use Rattle.spill_code.specs.Rewrite.{added, load, store, loads, two_loads, stores, first_used, other_used, first_defined, spilled_code, code_items, kind_items}
-use Rattle.spill_code.specs.Rewrite.{spilled_place, spilled_item, spilled_items, spilled_block, entry_stores, first_block, spilled_blocks}
-use Rattle.spill_rule.specs.Choice.{is_added, binds, is_bound, goes, is_looped, lacks_scratch, reason_of, is_free, candidates, room, chosen, next_slot, homes_from}
+use Rattle.spill_code.specs.Rewrite.{added, load, loads, two_loads, stores, first_used, other_used, first_defined, spilled_code, code_items, kind_items}
+use Rattle.spill_code.specs.Rewrite.{spilled_place, spilled_item, spilled_items, spilled_block, entry_stores, spilled_blocks}
+use Rattle.spill_rule.specs.Choice.{is_added, binds, is_bound, goes, is_looped, lacks_scratch}
+use Rattle.spill_rule.specs.Choice.{reason_of, is_free, candidates, room, chosen, next_slot, homes_from}
 use Rattle.spill_rule.specs.Choice.{homes_of, first_scratch, second_scratch, spilling_of, entry_of, spilled}
-use Rattle.spill_rule.specs.Rule.{IsLiveIn, Decides, IsSpilled}
+use Rattle.spill_rule.specs.Rule.{IsLiveIn, IsSpilled}
 
 -- ---- one result
 

@@ -2,4 +2,5 @@ pub mod Choice
 pub mod Rule
 pub mod Laws
 pub mod Chosen
+pub mod Follows
 pub mod steps

@@ -4,13 +4,14 @@ ghost use Rattle.std.specs.Prelude.{◌≡◌, ◌&&◌};
 ghost use Rattle.std.specs.List.{list_any};
 ghost use Rattle.rv64_instr.specs.Row.{row_of};
 ghost use Rattle.rv64_instr.specs.Parts.{is_call, has_implicit_uses};
-ghost use Rattle.mir_func.specs.Sound.{items_of};
-ghost use Rattle.follow_law.specs.Causes.{is_of_register, names};
+ghost use Rattle.mir_meaning.specs.Follow.{first_of};
+ghost use Rattle.follow_law.specs.Causes.{is_of_register, names, is_named};
 ghost use Rattle.follow_law.specs.Sizes.{calls};
-ghost use Rattle.spill_rule.specs.Choice.{is_added, binds, row_goes, goes};
+ghost use Rattle.spill_rule.specs.Choice.{is_added, binds, is_bound, row_goes, goes, is_looped};
 ghost use Rattle.spill_rule.specs.steps.Any.{any_item};
 
 use mir_func::block::Block;
+use mir_func::func::Func;
 use mir_func::item::{Item, ItemKind};
 use mir_func::position::Origin;
 use numbers::code::BlockId;
@@ -20,21 +21,48 @@ use rv64_instr::operand::Operand;
 use rv64_instr::reg::Reg;
 
 /// Whether some code names the register: by an explicit operand, or by an implicit one of a call or a return.
-pub fn is_named(blocks: &[Block], r: Reg) -> bool
+pub fn is_named(f: &Func, r: Reg) -> bool
+    ensures { result ≡ is_named f.now r }
+{
+    names_any(f.blocks.as_slice(), r)
+}
+
+fn names_any(blocks: &[Block], r: Reg) -> bool
     ensures { result ≡ any_item (λ i. names r i.kind) blocks.now }
 {
     blocks.iter().any(|b| is_named_in(b.items.as_slice(), r))
 }
 
 /// Whether a call names the register, or code that was added.
-pub fn is_bound(blocks: &[Block], r: Reg) -> bool
+pub fn is_bound(f: &Func, r: Reg) -> bool
+    ensures { result ≡ is_bound f.now r }
+{
+    binds_any(f.blocks.as_slice(), r)
+}
+
+fn binds_any(blocks: &[Block], r: Reg) -> bool
     ensures { result ≡ any_item (binds r) blocks.now }
 {
     blocks.iter().any(|b| is_bound_in(b.items.as_slice(), r))
 }
 
-/// Whether a branch goes to the block.
-pub fn has_branch_to(blocks: &[Block], n: BlockId) -> bool
+/// Whether some branch goes to the first block.
+pub fn is_looped(f: &Func) -> bool
+    ensures { result ≡ is_looped f.now }
+{
+    goes_to_first(f.blocks.as_slice())
+}
+
+fn goes_to_first(blocks: &[Block]) -> bool
+    ensures { result ≡ any_item (λ i. goes (first_of blocks.now) i.kind) blocks.now }
+{
+    match blocks.split_first() {
+        Some((first, _rest)) => has_branch_to(blocks, first.id),
+        None => false,
+    }
+}
+
+fn has_branch_to(blocks: &[Block], n: BlockId) -> bool
     ensures { result ≡ any_item (λ i. goes n i.kind) blocks.now }
 {
     blocks.iter().any(|b| has_branch_in(b.items.as_slice(), n))

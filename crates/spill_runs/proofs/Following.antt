@@ -38,7 +38,8 @@ use Rattle.spill_runs.proofs.Apart.{main_piece}
 use Rattle.spill_runs.proofs.Paths.{Lies, in_entry, in_item, lies_at, to_g}
 use Rattle.spill_runs.proofs.Rows.{renamed_row}
 use Rattle.spill_runs.proofs.Running.{spilled_runs}
-use Rattle.spill_runs.proofs.Shape.{goes_renamed, order_items, order_entry, each_block, each_item, each_entry, kinds_item, marks_item, renames, spilled_among, first_same}
+use Rattle.spill_runs.proofs.Shape.{goes_renamed, order_items, order_entry, each_block, each_item}
+use Rattle.spill_runs.proofs.Shape.{each_entry, kinds_item, marks_item, renames, spilled_among, first_same}
 use Rattle.spill_runs.proofs.ShapeOf.{stores_new, Part, is_load, is_main, is_store, part_of}
 use Rattle.spill_runs.proofs.Views.{IsGood}
 

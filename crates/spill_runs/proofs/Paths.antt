@@ -14,7 +14,8 @@ use Rattle.mir_func.specs.declared.block.Block.{Block}
 use Rattle.mir_func.specs.declared.item.Item.{Item}
 use Rattle.mir_func.specs.declared.item.ItemKind.{ItemKind}
 use Rattle.mir_func.specs.declared.item.ItemKind.TheVariants.{Code, Mark, Phi}
-use Rattle.mir_func.specs.Graph.{Program, Fetch, Here, Silent, Outside, below, block_start, end_of, front, fetch_in, from_block, program_of, Edge, FetchEdge, KindEdge}
+use Rattle.mir_func.specs.Graph.{Program, Fetch, Here, Silent, Outside, below, block_start}
+use Rattle.mir_func.specs.Graph.{end_of, front, fetch_in, from_block, program_of, Edge, FetchEdge, KindEdge}
 use Rattle.mir_func.specs.Graph.{RowEdge, Leads, stay, go}
 use Rattle.mir_meaning.specs.Align.{position_of}
 use Rattle.mir_meaning.specs.Follow.{first_of}

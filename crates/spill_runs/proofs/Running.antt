@@ -15,7 +15,8 @@ use Rattle.mir_func.specs.declared.item.ItemKind.{ItemKind}
 use Rattle.mir_func.specs.declared.item.ItemKind.TheVariants.{Code, Mark, Phi}
 use Rattle.mir_func.specs.Graph.{Program, Fetch, Here, Silent, below, block_start, end_of, from_block, Edge, FetchEdge, Leads, stay}
 use Rattle.mir_func.specs.Sound.{OriginIn}
-use Rattle.mir_meaning.specs.Align.{position_of, is_code, is_jump, Count, ByEnds, Station, station_of, end_station, moves_on, station_at, IsOrigin, AnyOrigin, RunsAlong}
+use Rattle.mir_meaning.specs.Align.{position_of, is_code, is_jump, Count, ByEnds, Station}
+use Rattle.mir_meaning.specs.Align.{station_of, end_station, moves_on, station_at, IsOrigin, AnyOrigin, RunsAlong}
 use Rattle.mir_meaning.specs.Follow.{InOrder, first_of}
 use Rattle.mir_meaning.specs.Live.{Live, later, Defines}
 use Rattle.mir_meaning.specs.State.{Core, State, content}

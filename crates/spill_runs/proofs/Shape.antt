@@ -24,7 +24,8 @@ use Rattle.simulation.proofs.Order.{rank_low}
 use Rattle.spill_code.specs.declared.spilling.Home.{Home}
 use Rattle.spill_code.specs.declared.spilling.Spilling.{Spilling}
 use Rattle.spill_code.specs.Rewrite.{use_now, def_now, first_used, other_used, first_defined, spilled_code, load, store, added, loads}
-use Rattle.spill_code.specs.Rewrite.{two_loads, stores, code_items, kind_items, spilled_item, spilled_items, spilled_block, entry_stores, first_block, spilled_blocks}
+use Rattle.spill_code.specs.Rewrite.{two_loads, stores, code_items, kind_items, spilled_item}
+use Rattle.spill_code.specs.Rewrite.{spilled_items, spilled_block, entry_stores, first_block, spilled_blocks}
 use Rattle.spill_runs.specs.MaySpill.{uses_in, defs_in, FitsCode, Fits, AreHomes}
 use Rattle.spill_runs.proofs.Explicit.{first_from, used_is, defined_is}
 use Rattle.spill_runs.proofs.Near.{keeps_zero}

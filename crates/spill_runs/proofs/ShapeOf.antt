@@ -29,7 +29,8 @@ use Rattle.simulation.proofs.Laid.{rest_of, laid_out}
 use Rattle.simulation.proofs.Order.{rank_high, same_pos}
 use Rattle.spill_code.specs.declared.spilling.Home.{Home}
 use Rattle.spill_code.specs.declared.spilling.Spilling.{Spilling}
-use Rattle.spill_code.specs.Rewrite.{slot_of, use_now, def_now, first_used, other_used, first_defined, spilled_code, load, store, added, loads, two_loads, stores}
+use Rattle.spill_code.specs.Rewrite.{slot_of, use_now, def_now, first_used, other_used, first_defined}
+use Rattle.spill_code.specs.Rewrite.{spilled_code, load, store, added, loads, two_loads, stores}
 use Rattle.spill_code.specs.Rewrite.{code_items, kind_items, spilled_place, spilled_item, spilled_items, spilled_block, entry_stores, spilled_blocks}
 use Rattle.spill_runs.specs.MaySpill.{FitsCode, AreHomes}
 use Rattle.spill_runs.proofs.Apart.{used_loads, live_use, counts_now, piece_of}

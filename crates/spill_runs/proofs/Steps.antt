@@ -24,7 +24,8 @@ use Rattle.mir_meaning.specs.Effects.{OnCore}
 use Rattle.mir_meaning.specs.Follow.{Plain, class_of, HasClass, ItemHasClass}
 use Rattle.mir_meaning.specs.Live.{Live, used, later, Uses, Defines, KindUses, KindDefines}
 use Rattle.mir_meaning.specs.State.{Core, State}
-use Rattle.mir_meaning.specs.Step.{Outcome, Falls, Goes, Gives, Traps, Asks, Breaks, Went, Faulted, moved, act, does, are_written, with_core, numbered, slot_loaded}
+use Rattle.mir_meaning.specs.Step.{Outcome, Falls, Goes, Gives, Traps, Asks, Breaks, Went}
+use Rattle.mir_meaning.specs.Step.{Faulted, moved, act, does, are_written, with_core, numbered, slot_loaded}
 use Rattle.mir_meaning.specs.Step.{do_item, step}
 use Rattle.mir_meaning.proofs.Edges.{step_edge}
 use Rattle.mir_meaning.proofs.Outcomes.{step_item}

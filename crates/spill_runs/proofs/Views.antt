@@ -33,23 +33,27 @@ use Rattle.mir_meaning.specs.Step.{Outcome, Falls, Goes, Gives, Traps, Asks, Bre
 use Rattle.mir_meaning.proofs.Edges.{step_from_before}
 use Rattle.mir_meaning.proofs.Implicit.{implicit}
 use Rattle.mir_meaning.proofs.Places.{put_same, put_other, contains_head, contains_tail}
-use Rattle.simulation.specs.Added.{Standing, IsPlain, IsQuiet, Opening, Level, Ahead, Owing, MayStand, MayCome, AddedRelation, View, ended, both, before, opening, behind, paired}
+use Rattle.simulation.specs.Added.{Standing, IsPlain, IsQuiet, Opening, Level, Ahead, Owing, MayStand}
+use Rattle.simulation.specs.Added.{MayCome, AddedRelation, View, ended, both, before, opening, behind, paired}
 use Rattle.simulation.specs.Sides.{Sides, since_item, Does, OutcomesAlike}
 use Rattle.simulation.proofs.Laid.{rest_in, rest_of, laid_out}
 use Rattle.simulation.proofs.Order.{cases_waiting}
 use Rattle.simulation.proofs.Stations.{moves_on_less}
 use Rattle.spill_code.specs.declared.spilling.Home.{Home}
 use Rattle.spill_code.specs.declared.spilling.Spilling.{Spilling}
-use Rattle.spill_code.specs.Rewrite.{slot_of, or_else, set_in, use_now, def_now, first_used, other_used, first_defined, spilled_code, load, store, added, loads, stores, two_loads}
+use Rattle.spill_code.specs.Rewrite.{slot_of, or_else, set_in, use_now, def_now, first_used, other_used}
+use Rattle.spill_code.specs.Rewrite.{first_defined, spilled_code, load, store, added, loads, stores, two_loads}
 use Rattle.spill_code.specs.Rewrite.{code_items, kind_items, spilled_item, spilled_items, entry_stores, spilled_blocks}
 use Rattle.spill_runs.specs.MaySpill.{uses_in, defs_in, FitsCode, Fits, AreHomes, IsUntouched}
 use Rattle.spill_runs.proofs.Explicit.{explicit, first_from, other_from, used_is, other_is, defined_is, first_of as first_among}
-use Rattle.spill_runs.proofs.Items.{After as Passed, code_after, after_near, near_on, near_load, near_store, load_does, load_traps, store_does, act_traps, debug_near, debug_now}
+use Rattle.spill_runs.proofs.Items.{After as Passed, code_after, after_near, near_on, near_load, near_store}
+use Rattle.spill_runs.proofs.Items.{load_does, load_traps, store_does, act_traps, debug_near, debug_now}
 use Rattle.spill_runs.proofs.Items.{LoadedFirst, LoadedSecond, loaded_of}
 use Rattle.spill_runs.proofs.Near.{none_in, no_zero_saved, Near, keeps_zero, implicit_sets, reads_implicit}
 use Rattle.spill_runs.proofs.Places.{Stands, stands_at, holds_at, same_stands, order_apart, kept_once, next_code, next_code_at}
 use Rattle.spill_runs.proofs.Rows.{row_renamed}
-use Rattle.spill_runs.proofs.Steps.{falls_edge, goes_edge, debug_edge, live_on, live_used, debug_defines, not_defined, setting_plain, sets_one, plain_quiet, quiet_falls}
+use Rattle.spill_runs.proofs.Steps.{falls_edge, goes_edge, debug_edge, live_on, live_used}
+use Rattle.spill_runs.proofs.Steps.{debug_defines, not_defined, setting_plain, sets_one, plain_quiet, quiet_falls}
 use Rattle.spill_runs.proofs.Steps.{quiet_goes, source_plain, jump_renamed}
 
 -- the stages: at the start, with stores to come; level at an index of the block; ahead at a position; with a second load to come; with all

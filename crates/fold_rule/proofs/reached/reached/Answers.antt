@@ -9,7 +9,8 @@ use Rattle.fold_rule.proofs.reached.reached.Goals as goal
 pub loop-n-init : goal.loop-n-init
 loop-n-init c = begins c.args.blocks.now (end_in c.args.ends.now) (get nat_eq c.in_ok-ways.ways) c.first_id.result (contains nat_eq c.new-seen.result)
     (contains nat_eq c.visit.new.seen) c.visit.new.waiting.items c.first_id.ensures (none_seen c.new-seen.result.keys c.new-seen.ensures.empty)
-    c.in_ok-visit.ensures.seen (c.in_ok-visit.ensures.waiting ∙ ap (λ (z : List ℕ). z ++ fresh (contains nat_eq c.new-seen.result) c.first_id.result) c.new-waiting.ensures.items)
+    c.in_ok-visit.ensures.seen (c.in_ok-visit.ensures.waiting ∙ ap (λ (z : List ℕ). z ++ fresh (contains nat_eq c.new-seen.result) c.first_id.result)
+    c.new-waiting.ensures.items)
 
 pub loop-n-smaller-in-Continue-branch-4 : goal.loop-n-smaller-in-Continue-branch-4
 loop-n-smaller-in-Continue-branch-4 c =
@@ -35,7 +36,8 @@ loop-n-preserved-in-Continue-branch-4 c =
 pub loop-n-preserved : goal.loop-n-preserved
 loop-n-preserved c =
     let out : get nat_eq c.in_ok-ways.ways c.in-Some.n ≡ None = grind arith in
-    goes_nowhere c.args.blocks.now (end_in c.args.ends.now) (get nat_eq c.in_ok-ways.ways) (contains nat_eq c.loop-n.seen) c.loop-n.waiting.items c.pop.new.self.items
+    goes_nowhere c.args.blocks.now (end_in c.args.ends.now) (get nat_eq c.in_ok-ways.ways) (contains nat_eq c.loop-n.seen) c.loop-n.waiting.items
+    c.pop.new.self.items
     c.in-Some.n c.loop-n.invariant c.in-Some.ensures.items out
 
 pub returns : goal.returns

@@ -44,9 +44,11 @@ returns-in-Perhaps c =
     (ap (rewritten (end_in c.args.ends.now) at.next at.fall at.silent) c.in-Some.ensures.items ∙
     ap (λ (z : Exit). tail_by (end_in c.args.ends.now) at.next at.fall at.silent z c.in-Some.x (first_of c.next.new.self.rest.items)
     (rewritten (end_in c.args.ends.now) at.next at.fall at.silent c.next.new.self.rest.items)) (sym c.in-Perhaps.ensures) ∙
-    ap (λ (z : Option Item). branch_tail_to (end_in c.args.ends.now) at.next at.fall at.silent c.in-Some.x z c.in-Perhaps.n (else_way z at.fall)) (sym (first_from c.next.new.self.rest.items c.next-in-Perhaps.result
+    ap (λ (z : Option Item). branch_tail_to (end_in c.args.ends.now) at.next at.fall at.silent c.in-Some.x z c.in-Perhaps.n (else_way z at.fall)) (sym
+    (first_from c.next.new.self.rest.items c.next-in-Perhaps.result
     c.next-in-Perhaps.new.self.rest.items c.next-in-Perhaps.ensures.items (λ e.
-    let k = rw e at c.next-in-Perhaps.ensures.cases in none_left c.next.new.self.rest.items c.next.new.self.rest.len (sym c.next.new.self.rest.ok.0) k.0)))) h) c.push_branch.ensures
+    let k = rw e at c.next-in-Perhaps.ensures.cases in none_left c.next.new.self.rest.items c.next.new.self.rest.len (sym c.next.new.self.rest.ok.0)
+    k.0)))) h) c.push_branch.ensures
 
 pub returns : goal.returns
 returns c =

@@ -10,7 +10,13 @@ pub invariant_of-f : goal.invariant_of-f
 invariant_of-f c =
     let e = c.in_ok-fold_blocks.ensures in
     let i = c.into_vec-blocks.ensures in let k = c.in_ok-copy_blocks.ensures in let s = c.as_slice.ensures in
-    let g : Function = record { name = c.f-inside.inside.0.0; slots = c.f-inside.inside.0.1.0; objects = c.f-inside.inside.0.1.1.0; blocks = c.as_slice.result.now } in
+    let g : Function = record {
+      name = c.f-inside.inside.0.0;
+      slots = c.f-inside.inside.0.1.0;
+      objects = c.f-inside.inside.0.1.1.0;
+      blocks =
+          c.as_slice.result.now;
+    } in
     let same : g ≡ record { name = c.f.inside.name; slots = c.f.inside.slots; objects = c.f.inside.objects; blocks = c.f.inside.blocks } =
     λ i. record {
       name = (c.f-inside.view_is i).name;
@@ -18,4 +24,5 @@ invariant_of-f c =
       objects = (c.f-inside.view_is i).objects;
       blocks = s i;
     } in
-    sound_folded g (subst (λ (h : Function). IsSound h) (sym same) c.f.invariant) c.fold_blocks.new.blocks.items (subst (λ (z : List Block). AreFolded z c.fold_blocks.new.blocks.items) (i ∙ k) e)
+    sound_folded g (subst (λ (h : Function). IsSound h) (sym same) c.f.invariant) c.fold_blocks.new.blocks.items (subst (λ (z : List Block). AreFolded
+    z c.fold_blocks.new.blocks.items) (i ∙ k) e)

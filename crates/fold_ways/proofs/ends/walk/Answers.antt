@@ -17,7 +17,8 @@ loop-n-preserved c =
     let k = goes_from (is_some (told c.args.ends.now c.loop-n.at)) (contains nat_eq c.loop-n.passed c.loop-n.at) (told c.args.leads.now c.loop-n.at) c.in-Some.n
     (sym c.in-Some.ensures) in
     record {
-      chain = rw c.in_ok-push.ensures.items (chain_push (told c.args.leads.now) c.args.from c.loop-n.way.items c.loop-n.at c.in-Some.n c.loop-n.invariant.chain k.1);
+      chain = rw c.in_ok-push.ensures.items (chain_push (told c.args.leads.now) c.args.from c.loop-n.way.items c.loop-n.at c.in-Some.n
+          c.loop-n.invariant.chain k.1);
       passed = rw c.in_ok-push.ensures.items (walked_more (contains nat_eq c.loop-n.passed) (contains nat_eq c.insert.new.self) c.loop-n.way.items c.loop-n.at
           c.loop-n.invariant.passed c.in_ok-insert.ensures.updates.0);
     }

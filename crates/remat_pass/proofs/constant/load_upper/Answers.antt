@@ -1,5 +1,4 @@
-use Rattle.std.proofs.Common.{◌≡◌, ◌∷◌, List, filter, refl, rules}
-use Rattle.rv64_instr.specs.declared.operand.Operand.{Operand}
+use Rattle.std.proofs.Common.{◌≡◌, ◌∷◌, filter, refl, rules}
 use Rattle.rv64_instr.specs.declared.operand.Operand.TheVariants.{Def, Imm}
 use Rattle.rv64_instr.specs.Form.{is_implicit}
 use Rattle.remat_pass.proofs.Forms.{upper_form}

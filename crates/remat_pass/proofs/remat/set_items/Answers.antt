@@ -1,9 +1,8 @@
-use Rattle.std.proofs.Common.{◌≡◌, ◌<◌, ◌∙◌, length, ap, sym, List, subst, arith, get_or}
+use Rattle.std.proofs.Common.{◌≡◌, ◌<◌, ◌∙◌, length, ap, sym, List, subst, get_or}
 use Rattle.mir_func.specs.declared.item.Item.{Item}
-use Rattle.mir_func.specs.declared.item.ItemKind.{ItemKind}
 use Rattle.remat_pass.specs.Table.{known_by}
 use Rattle.remat_pass.specs.Remat.{set_in}
-use Rattle.remat_pass.proofs.Setting.{Setting, setting_begins, setting_goes_on, setting_ends}
+use Rattle.remat_pass.proofs.Setting.{Setting, setting_begins, setting_goes_on}
 use Rattle.remat_pass.proofs.remat.set_items.Goals as goal
 
 pub loop-item-init : goal.loop-item-init

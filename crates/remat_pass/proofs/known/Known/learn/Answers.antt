@@ -1,4 +1,4 @@
-use Rattle.std.proofs.Common.{◌≡◌, ◌⊎◌, inl, inr, ◌∙◌, refl}
+use Rattle.std.proofs.Common.{inl, inr}
 use Rattle.remat_pass.specs.Table.{known_by}
 use Rattle.remat_pass.proofs.Learning.{learned_same, learned_fixes}
 use Rattle.remat_pass.proofs.known.Known.learn.Goals as goal

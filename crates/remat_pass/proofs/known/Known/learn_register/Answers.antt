@@ -1,4 +1,4 @@
-use Rattle.std.proofs.Common.{◌≡◌, refl}
+use Rattle.std.proofs.Common.{refl}
 use Rattle.remat_pass.proofs.known.Known.learn_register.Goals as goal
 
 pub returns-else-r-ne0 : goal.returns-else-r-ne0

@@ -1,4 +1,4 @@
-use Rattle.std.proofs.Common.{◌≡◌, ◌⊎◌, inl, inr, ◌∙◌, refl, ap}
+use Rattle.std.proofs.Common.{inl, inr, refl}
 use Rattle.rv64_instr.specs.Row.{row_of}
 use Rattle.remat_pass.specs.Table.{known_by}
 use Rattle.remat_pass.proofs.Learning.{past_same, past_code}

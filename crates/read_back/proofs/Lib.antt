@@ -1,0 +1,15 @@
+pub mod Lexing
+pub mod Numbers
+pub mod Tokens
+pub mod Registers
+pub mod Symbols
+pub mod Cuts
+pub mod Phrases
+pub mod Lists
+pub mod Debug
+pub mod Attributes
+pub mod Opcodes
+pub mod Items
+pub mod Said
+pub mod Judged
+pub mod Labels

@@ -1,0 +1,107 @@
+-- The form of the line of an item: what stands on it where it is printed.
+use Rattle.std.specs.Prelude.{ℕ, pos, false, not, codes, filter, map, List, [], ◌∷◌, Option, Some, None}
+use Rattle.std.specs.List.{flat_map}
+use Rattle.rv64_instr.specs.declared.operand.Operand.{Operand}
+use Rattle.rv64_instr.specs.declared.operand.Operand.TheVariants.{Def, Use, ImplicitDef as SetsImplicit, ImplicitUse, Imm, Slot, Object, Block, Symbol, Mask}
+use Rattle.rv64_instr.specs.declared.place.Place.{Place}
+use Rattle.rv64_instr.specs.declared.place.Place.TheVariants as place
+use Rattle.rv64_instr.specs.Instruction.{Instruction}
+use Rattle.rv64_instr.specs.Mnemonic.{mnemonic_of}
+use Rattle.mir_func.specs.declared.item.Item.{Item}
+use Rattle.mir_func.specs.declared.item.ItemKind.{ItemKind}
+use Rattle.mir_func.specs.declared.item.ItemKind.TheVariants.{Code, Mark, Phi}
+use Rattle.mir_func.specs.declared.location.Loc.{Loc}
+use Rattle.mir_func.specs.declared.variable.MarkValue.{MarkValue}
+use Rattle.mir_func.specs.declared.variable.MarkValue.TheVariants.{Nothing, Constant, At, Pair}
+use Rattle.mir_func.specs.declared.variable.VarId.{VarId}
+use Rattle.mir_func.specs.Parts.{Bytes}
+use Rattle.mir_lexeme.specs.declared.lexeme.Flag.{Flag}
+use Rattle.mir_lexeme.specs.declared.lexeme.Flag.TheVariants.{Plain, Implicit, ImplicitDef}
+use Rattle.mir_lexeme.specs.declared.lexeme.RegisterName.TheVariants.{Physical, Absent}
+use Rattle.mir_line.specs.declared.form.Expression.{Expression}
+use Rattle.mir_line.specs.declared.form.Expression.TheVariants as expression
+use Rattle.mir_line.specs.declared.form.ItemForm.{ItemForm}
+use Rattle.mir_line.specs.declared.form.OperandForm.{OperandForm}
+use Rattle.mir_line.specs.declared.form.OperandForm.TheVariants as form
+use Rattle.mir_line.specs.declared.form.RegisterForm.{RegisterForm}
+use Rattle.mir_printer.specs.Spelling.{is_definition}
+
+abbrev pub register_form : Flag → ℕ → RegisterForm
+register_form flag r = record { flag = flag; name = Physical r }
+
+-- no register
+abbrev pub no_register : OperandForm
+no_register = form.Register (record { flag = Plain; name = Absent })
+
+abbrev pub operand_form : Operand → OperandForm
+operand_form (Def r) = form.Register (register_form Plain r)
+operand_form (Use r) = form.Register (register_form Plain r)
+operand_form (SetsImplicit r) = form.Register (register_form ImplicitDef r)
+operand_form (ImplicitUse r) = form.Register (register_form Implicit r)
+operand_form (Imm i) = form.Integer (Some i)
+operand_form (Slot n) = form.Slot n
+operand_form (Object n) = form.Slot n
+operand_form (Block n) = form.Block n
+operand_form (Symbol name) = form.Symbol name
+operand_form Mask = form.Mask
+
+-- the register that an operand before the `=` is
+abbrev pub set_register : Operand → List RegisterForm
+set_register (Def r) = register_form Plain r ∷ []
+set_register (Use r) = []
+set_register (SetsImplicit r) = []
+set_register (ImplicitUse r) = []
+set_register (Imm i) = []
+set_register (Slot n) = []
+set_register (Object n) = []
+set_register (Block n) = []
+set_register (Symbol name) = []
+set_register Mask = []
+
+abbrev pub code_form : Instruction → Option ℕ → Loc → ItemForm
+code_form i number loc = record {
+  definitions = flat_map set_register i.operands;
+  opcode = mnemonic_of i.op;
+  operands = map operand_form (filter (λ o. not (is_definition o)) i.operands);
+  number = number;
+  loc = loc;
+  exceeds = false;
+}
+
+-- the line of a debug item sets no register, and its numbers are operands
+abbrev pub debug_form : (opcode : List ℕ) → List OperandForm → Loc → ItemForm
+debug_form opcode operands loc = record { definitions = []; opcode = opcode; operands = operands; number = None; loc = loc; exceeds = false }
+
+abbrev pub plain_expression : Option Bytes → Expression
+plain_expression None = expression.Empty
+plain_expression (Some b) = expression.Part b
+
+abbrev pub argument_expression : Option Bytes → Expression
+argument_expression None = expression.Argument
+argument_expression (Some b) = expression.PartOfArgument b
+
+abbrev pub value_form : OperandForm → VarId → Loc → ItemForm
+value_form value v loc =
+    debug_form (codes "DBG_VALUE") (value ∷ no_register ∷ form.Node v.node ∷ form.Expression (plain_expression v.fragment) ∷ []) loc
+
+abbrev pub mark_form : VarId → MarkValue → Loc → ItemForm
+mark_form v Nothing loc = value_form no_register v loc
+mark_form v (Constant c) loc = value_form (form.Integer (Some c)) v loc
+mark_form v (At r) loc = value_form (form.Register (register_form Plain r)) v loc
+mark_form v (Pair q) loc =
+    debug_form (codes "DBG_INSTR_REF") (form.Node v.node ∷ form.Expression (argument_expression v.fragment) ∷ form.Reference q ∷ []) loc
+
+abbrev pub place_form : Option Place → OperandForm
+place_form None = no_register
+place_form (Some (place.Register r)) = form.Register (register_form Plain r)
+place_form (Some (place.Slot n)) = form.Slot n
+place_form (Some (place.Const c)) = form.Register (register_form Plain 0)
+
+abbrev pub kind_form : ItemKind → Loc → ItemForm
+kind_form (Code i number) loc = code_form i number loc
+kind_form (Mark v m) loc = mark_form v m loc
+kind_form (Phi p k) loc = debug_form (codes "DBG_PHI") (place_form p ∷ form.Integer (Some (pos k)) ∷ []) loc
+
+-- the form of an item
+abbrev pub form_of : Item → ItemForm
+form_of i = kind_form i.kind i.loc

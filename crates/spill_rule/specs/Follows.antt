@@ -1,0 +1,20 @@
+-- What follows a source follows it with the registers that the rule chooses in slots.
+use Rattle.std.specs.Prelude.{ℕ, List, Contains, Option, Bool}
+use Rattle.mir_func.specs.declared.entry.OperandPair.{OperandPair}
+use Rattle.mir_func.specs.declared.object.Object.{Object}
+use Rattle.mir_func.specs.declared.block.Block.{Block}
+use Rattle.mir_func.specs.Function.{Function}
+use Rattle.mir_func.specs.Sound.{AllItems, IsSound}
+use Rattle.mir_meaning.specs.Follow.{Follows, HasWholeEnds}
+use Rattle.follow_law.specs.Following.{HasForm}
+use Rattle.spill_rule.specs.Choice.{spilling_of, spilled}
+use Rattle.spill_rule.specs.Chosen.{IsReservable, AreDistinct, AsksElsewhere}
+use Rattle.spill_rule.specs.Rule.{Decides}
+
+-- a sound function of code in form, whose marks and phis ask elsewhere
+abbrev pub RuleFollows : Type 0
+RuleFollows = (objects : List Object) (src : List Block) (subs fsubs : OperandPair → Option OperandPair) (reserve : List ℕ) (live : ℕ → Bool) (f : Function) →
+    IsSound f → AllItems (λ i. HasForm i.kind) f.blocks → ((r : ℕ) → Contains reserve r → IsReservable r) → AreDistinct reserve → Decides reserve f live →
+    AllItems (λ i. AsksElsewhere (spilling_of reserve live f) i.kind) f.blocks → Follows objects src f.blocks subs fsubs →
+    Follows objects src (spilled reserve live f).blocks subs fsubs ×
+    (HasWholeEnds objects src f.blocks subs fsubs → HasWholeEnds objects src (spilled reserve live f).blocks subs fsubs)
