@@ -1,2 +1,2 @@
 mod Leaving
-mod Keeping
+pub mod Keeping

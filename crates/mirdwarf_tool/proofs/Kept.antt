@@ -13,13 +13,13 @@ use Rattle.output_promise.proofs.IsExact.{compiled_is_exact}
 use Rattle.output_promise.proofs.LaidOut.{compiled_is_laid_out, compiled_lists_sources}
 use Rattle.program_compiler.specs.Program.{sources_of, names_of, HasSections}
 use Rattle.mirdwarf_tool.specs.Lines.{GivesLines}
-use Rattle.mirdwarf_tool.specs.Promise.{AllGiveBack, AllStopWell}
+use Rattle.mirdwarf_tool.specs.Promise.{AllGiveBack, AllStopWell, AllListKept}
 use Rattle.mirdwarf_tool.specs.Run.{Finishes, KeepsHeadline, KeepsRegisters, StopsAtReturns, WroteExactly, WroteLaidOut}
-use Rattle.mirdwarf_tool.specs.Run.{WroteSources, WroteWords, WroteSections, WroteRows}
+use Rattle.mirdwarf_tool.specs.Run.{WroteKept, WroteSources, WroteWords, WroteSections, WroteRows}
 use Rattle.mirdwarf_tool.specs.Stream.{Change}
 use Rattle.mirdwarf_tool.proofs.Lines.{gives_lines}
 use Rattle.mirdwarf_tool.proofs.RunLemmas.{has_written}
-use Rattle.mirdwarf_tool.proofs.Sentences.{gives_back, stops_well}
+use Rattle.mirdwarf_tool.proofs.Sentences.{gives_back, stops_well, lists_kept}
 
 promised : (p : Program) (o : Output) → AreCompiledTo (names_of p.meta) (sources_of p.functions) o → Promises (sources_of p.functions) o
 promised p o to = compiled_promises (names_of p.meta) (sources_of p.functions) o to
@@ -44,6 +44,11 @@ module _ (words : List (List ℕ)) (input output : Change) (finished : Finishes 
   wrote_exactly =
       has_written (λ p. IsExact)
       (λ p o to sections. compiled_is_exact (names_of p.meta) (sources_of p.functions) o to) words input output finished asked
+
+  pub wrote_kept : WroteKept input output
+  wrote_kept =
+      has_written (λ p. AllListKept)
+      (λ p o to sections. lists_kept o (compiled_is_exact (names_of p.meta) (sources_of p.functions) o to)) words input output finished asked
 
   pub wrote_laid_out : WroteLaidOut input output
   wrote_laid_out =

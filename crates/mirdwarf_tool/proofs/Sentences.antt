@@ -1,21 +1,24 @@
 -- The text of a program's output shows it alone, so what holds of the output holds of what the text shows.
 use Rattle.std.proofs.Common.{ℕ, List, All, subst, inl, inr}
 use Rattle.std.proofs.lemmas.List.Elements.{All-map, All-weaker}
+use Rattle.compiled_text.specs.declared.output.ListedFunction.{ListedFunction}
 use Rattle.compiled_text.specs.declared.output.Output.{Output}
 use Rattle.compiled_text.specs.Shown.{Shows, OfShown}
 use Rattle.compiled_text.proofs.OneOutput.{one_reading}
+use Rattle.kept_values.proofs.Keeping.{kept_values_are_wanted}
 use Rattle.listing_laws.specs.Laws.{inlined_in}
 use Rattle.meta_reader.specs.Maps.{Maps}
 use Rattle.mir_parser.specs.declared.closing.Parsed.{Parsed}
 use Rattle.mir_parser.specs.declared.program.Program.{Program}
 use Rattle.output_laws.specs.Laws.{OutputsArePrintable}
 use Rattle.output_promise.specs.Laws.{AreCompiledTo}
-use Rattle.output_promise.specs.Promise.{Promises}
+use Rattle.output_promise.specs.Promise.{Promises, IsExactFor, IsExact}
 use Rattle.output_promise.specs.Source.{SourceFunction, IsSourceFunction}
+use Rattle.shown_program.specs.Program.{program_shown}
 use Rattle.program_compiler.specs.Program.{source_of, sources_of, names_of}
 use Rattle.reading_laws.specs.Read.{IsReadFunction, IsReadProgram}
 use Rattle.mirdwarf_tool.specs.Compiled.{IsOutputOf, IsCompiledText}
-use Rattle.mirdwarf_tool.specs.Promise.{AllGiveBack, AllStopWell}
+use Rattle.mirdwarf_tool.specs.Promise.{AllGiveBack, AllStopWell, ListsKept, AllListKept}
 
 -- ---- the sources
 
@@ -63,3 +66,12 @@ stops_well sources o promises = record {
   as_many = promises.as_many;
   each = λ n s f at there. (promises.each n s f at there).stops;
 }
+
+-- ---- values that are kept
+
+function_lists_kept : (o : Output) (f : ListedFunction) → IsExactFor o f → ListsKept o f
+function_lists_kept o f exact v place p q address named told at none =
+    kept_values_are_wanted (program_shown f) 0 v place p q named told ((exact.gives_none v address q at).0 none)
+
+pub lists_kept : (o : Output) → IsExact o → AllListKept o
+lists_kept o exact = All-weaker (IsExactFor o) (ListsKept o) (function_lists_kept o) o.functions exact

@@ -1,18 +1,26 @@
--- What an output promises of each run of its machine code, whatever its lists say: parts of the headline that stand by themselves.
+-- What an output promises beside the headline and exactness: parts of the headline that stand by themselves, and that values which are kept
+-- stay listed.
 use Rattle.std.specs.Prelude.{◌≡◌, ◌⊎◌, ℕ, true, List, Option, Some, All}
+use Rattle.rv64_instr.specs.declared.place.Place.{Place}
 use Rattle.mir_func.specs.declared.entry.OperandPair.{OperandPair}
+use Rattle.mir_func.specs.declared.position.Pos.{Pos}
+use Rattle.mir_func.specs.declared.variable.VarId.{VarId}
 use Rattle.mir_func.specs.Function.{Function}
 use Rattle.mir_func.specs.Graph.{program_of}
 use Rattle.mir_func.specs.Resolve.{resolve}
 use Rattle.mir_meaning.specs.Align.{Since}
 use Rattle.mir_meaning.specs.State.{State}
+use Rattle.mir_meaning.specs.Token.{IsPlace}
 use Rattle.code_layout.specs.Headline.{FailsBeforeLine, KEPT, MachineAlong, StartsAt}
 use Rattle.code_layout.specs.Image.{CodeLine, Image, line_at}
 use Rattle.code_layout.specs.Machine.{Machine, machine_start, register}
 use Rattle.code_layout.specs.MachineStep.{Comes, Ends, IsWell, machine_step}
+use Rattle.compiled_text.specs.declared.output.ListedFunction.{ListedFunction}
 use Rattle.compiled_text.specs.declared.output.Output.{Output}
+use Rattle.kept_values.specs.Kept.{IsToldAndKept}
+use Rattle.output_promise.specs.Promise.{Gives}
 use Rattle.output_promise.specs.Source.{SourceFunction, OfEach}
-use Rattle.shown_program.specs.Program.{image_of}
+use Rattle.shown_program.specs.Program.{IsListedAt, image_of, program_shown}
 
 -- from every start, for every script and number of machine steps: where the machine on a function's image returns, the return address, the
 -- stack pointer and the callee-saved registers are as they were at the start, unless the source stops on a frame fault before
@@ -33,3 +41,13 @@ AllGiveBack sources o = OfEach (λ s f. GivesBack s.function (resolve s.substitu
 
 abbrev pub AllStopWell : List SourceFunction → Output → Type 0
 AllStopWell sources o = OfEach (λ s f. StopsWell s.function (image_of o f)) sources o.functions
+
+-- a mark of the function that the lines show tells a value that sits in a place, and from there down to a line of the block the place keeps it:
+-- then it can't be that the section gives the marked part no place at an address of the line
+abbrev pub ListsKept : Output → ListedFunction → Type 0
+ListsKept o f = (v : VarId) (place : Place) (p q : Pos) (address : ℕ) → IsPlace place → IsToldAndKept (program_shown f) 0 v place p q →
+    IsListedAt f address q → ((given : Place) → Gives o f v address given → ⊥) → ⊥
+
+-- so it is in each function
+abbrev pub AllListKept : Output → Type 0
+AllListKept o = All (ListsKept o) o.functions

@@ -15,7 +15,7 @@ use Rattle.output_promise.specs.Promise.{AreLaidOut, Promises, IsExact, ListsSou
 use Rattle.output_promise.specs.Words.{HaveWords}
 use Rattle.program_compiler.specs.Program.{sources_of, names_of, HasSections}
 use Rattle.mirdwarf_tool.specs.Lines.{GivesLines}
-use Rattle.mirdwarf_tool.specs.Promise.{AllGiveBack, AllStopWell}
+use Rattle.mirdwarf_tool.specs.Promise.{AllGiveBack, AllStopWell, AllListKept}
 use Rattle.mirdwarf_tool.specs.Stream.{Change, MetFault, IsReadWhole, IsReadFor, IsWrittenWhole, IsWrittenInPart, IsTold}
 
 -- the words are those of a command
@@ -118,6 +118,10 @@ StopsAtReturns input output = HasWritten (λ p. AllStopWell (sources_of p.functi
 -- exactly where none is wanted; and it gives none at any other address
 abbrev pub WroteExactly : (input output : Change) → Type 0
 WroteExactly input output = HasWritten (λ p. IsExact) input output
+
+-- while a place keeps the value that a mark told of it, the section gives the marked part of the variable a place
+abbrev pub WroteKept : (input output : Change) → Type 0
+WroteKept input output = HasWritten (λ p. AllListKept) input output
 
 -- the functions that were read are shown one after the other, in each its lines from its first address to its end, with its name, its stack
 -- objects and its variables, whose lists are numbered over all functions and whose names the metadata tells

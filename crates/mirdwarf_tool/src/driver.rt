@@ -5,7 +5,8 @@ ghost use Rattle.command_line.specs.Command.{words_of};
 ghost use Rattle.command_line.specs.Fault.{line_of};
 ghost use Rattle.mirdwarf_tool.specs.Run.{AreCommand, AnswersInput, Finishes, IsCutOff, TellsRefusal, IsAnswerable};
 ghost use Rattle.mirdwarf_tool.specs.Run.{KeepsHeadline, KeepsRegisters, StopsAtReturns, WroteExactly, WroteLaidOut};
-ghost use Rattle.mirdwarf_tool.specs.Run.{WroteSources, WroteWords, WroteSections, WroteRows, Explains, ReadingEnds};
+ghost use Rattle.mirdwarf_tool.specs.Run.{WroteKept, WroteSources, WroteWords, WroteSections, WroteRows};
+ghost use Rattle.mirdwarf_tool.specs.Run.{Explains, ReadingEnds};
 ghost use Rattle.mirdwarf_tool.specs.Stream.{change, MetFault, IsTold};
 
 use crate::answer::answer;
@@ -56,6 +57,9 @@ pub fn mirdwarf<S: Source, K: Sink, E: Sink>(
     // The lists say the place of a variable's value wherever the value is in one on every path, and nothing elsewhere.
     ensures exact { result ≡ Status.Done → map string_bytes words.now ≡ words_of Command.Compile →
         WroteExactly (change S.left S.faults input.old input.new) (change K.written K.faults output.old output.new) }
+    // While a place keeps the value that a mark told of it, the lists give the variable a place.
+    ensures kept { result ≡ Status.Done → map string_bytes words.now ≡ words_of Command.Compile →
+        WroteKept (change S.left S.faults input.old input.new) (change K.written K.faults output.old output.new) }
     // Functions, lines, objects and variables stand where they should, with their names.
     ensures laid_out { result ≡ Status.Done → map string_bytes words.now ≡ words_of Command.Compile →
         WroteLaidOut (change S.left S.faults input.old input.new) (change K.written K.faults output.old output.new) }

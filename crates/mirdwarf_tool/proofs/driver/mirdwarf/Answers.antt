@@ -2,7 +2,7 @@ use Rattle.std.proofs.Common.{sym, ◌∙◌, inl, inr}
 use Rattle.std.specs.Prelude.{map, string_bytes}
 use Rattle.mirdwarf_tool.specs.Stream.{change}
 use Rattle.mirdwarf_tool.proofs.RunLemmas.{refusal, complete}
-use Rattle.mirdwarf_tool.proofs.Kept.{headline_kept, registers_kept, stops_at_returns, wrote_exactly, wrote_laid_out}
+use Rattle.mirdwarf_tool.proofs.Kept.{headline_kept, registers_kept, stops_at_returns, wrote_exactly, wrote_kept, wrote_laid_out}
 use Rattle.mirdwarf_tool.proofs.Kept.{wrote_sources, wrote_words, wrote_sections, wrote_rows}
 use Rattle.mirdwarf_tool.proofs.driver.mirdwarf.Goals as goal
 
@@ -31,6 +31,11 @@ returns-in-Ok-clause-stops g c done =
 pub returns-in-Ok-clause-exact : goal.returns-in-Ok-clause-exact
 returns-in-Ok-clause-exact g c done =
     wrote_exactly (map string_bytes c.args.words.now) (change g.S.Source.left g.S.Source.faults c.args.input.now c.run.new.input)
+    (change g.K.Sink.written g.K.Sink.faults c.args.output.now c.run.new.output) c.in-Ok.ensures.done
+
+pub returns-in-Ok-clause-kept : goal.returns-in-Ok-clause-kept
+returns-in-Ok-clause-kept g c done =
+    wrote_kept (map string_bytes c.args.words.now) (change g.S.Source.left g.S.Source.faults c.args.input.now c.run.new.input)
     (change g.K.Sink.written g.K.Sink.faults c.args.output.now c.run.new.output) c.in-Ok.ensures.done
 
 pub returns-in-Ok-clause-laid_out : goal.returns-in-Ok-clause-laid_out
