@@ -1,0 +1,5 @@
+//! Tests of reports by their texts.
+#![tactic(auto)]
+
+#[cfg(test)]
+mod tests;

@@ -1,0 +1,5 @@
+//! Tests of made-up functions by their texts.
+#![tactic(auto)]
+
+#[cfg(test)]
+mod tests;
