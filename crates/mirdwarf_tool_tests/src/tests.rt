@@ -399,24 +399,20 @@ fn ends_as_its_faults_say(rt: HostRuntime) -> Result<(), Fail> {
 #[test]
 fn reads_that_fail_in_turn(rt: HostRuntime) -> Result<(), Fail> {
     let alloc = rt.alloc();
-    let stripped = (
-        0,
-        "---\nname: f\nbody: |\n  bb.0:\n    PseudoRET\n...\n",
-        "",
-    );
+    let (lines, whole) = COMPILED[1];
     for read in 1..6 {
         let mut text = Bytes::new(alloc);
         for _ in 0..10_000 {
             text.extend_from_slice(b"# a comment of some bytes\n")?;
         }
-        text.extend_from_slice(text_of(alloc, RETURN)?.as_slice())?;
+        text.extend_from_slice(text_of(alloc, lines)?.as_slice())?;
         let faulty = Faulty {
             read,
             room: ROOM,
             write: 0,
         };
-        let want = if read < 5 { READ } else { stripped };
-        ends(&rt, alloc, STRIP, text, &faulty, want)?;
+        let want = if read < 5 { READ } else { (0, whole, "") };
+        ends(&rt, alloc, COMPILE, text, &faulty, want)?;
     }
     Ok(())
 }
