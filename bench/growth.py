@@ -241,6 +241,7 @@ def main():
         program, words = "crates/mirdwarf/out/mirdwarf", ["compile", "--passes=none"]
         by_bytes("functions of 64 blocks and 512 items, by functions", program, words, (16, 32, 64, 128, 256), many_located)
         by_bytes("8,192 items, 256 variables, by blocks", program, words, (256, 512, 1024), lambda n: located(n, 8192, 256))
+        by_bytes("1,024 blocks, 256 variables, by items", program, words, (2048, 4096, 8192), lambda n: located(1024, n, 256))
         by_bytes("1,024 blocks of eight items, by variables", program, words, (256, 512, 1024), lambda n: located(1024, 8192, n))
     else:
         raise SystemExit(__doc__)
