@@ -3,10 +3,12 @@
 
     bench/gate.py COMMAND..        runs the command, as `rt ci`, and prints the table when it has ended
 
+A run that is interrupted (SIGINT, SIGTERM) is ended, and the table tells of what it had done.
 It looks twice a second at the processes that the command has started, and adds up what each took by the crate that it
 worked on and by what it did. A process that lives for less than half a second may be missed, so each number is a little too low. Linux only."""
 import os
 import re
+import signal
 import subprocess
 import sys
 import time
@@ -50,6 +52,8 @@ def is_below(pid, top, parents):
 def main():
     spent = {}
     run = subprocess.Popen(sys.argv[1:])
+    for it in (signal.SIGINT, signal.SIGTERM):
+        signal.signal(it, lambda *_: run.send_signal(signal.SIGINT))
     while run.poll() is None:
         all_now = {pid: seen(pid) for pid in os.listdir("/proc") if pid.isdigit()}
         parents = {pid: now[2] for pid, now in all_now.items() if now}

@@ -22,7 +22,6 @@ ghost use Rattle.mir_meaning.specs.Step.{defined as defined_by};
 ghost use Rattle.mir_func.specs.declared.variable.VarId.{VarId};
 ghost use Rattle.mir_func.specs.declared.item.ItemKind.TheVariants.{Code, Mark, Phi};
 ghost use Rattle.mir_func.specs.Resolve.{resolve};
-ghost use Rattle.mir_func.specs.Variables.{overlaps, do_meet};
 ghost use Rattle.class_entries.specs.declared.tracked.Tracked.{Tracked};
 ghost use Rattle.class_places.specs.Held.{
   pair_class,
@@ -40,7 +39,8 @@ use crate::held::{Held, PLACES, SLOTS_FROM, slot_place};
 use crate::index::{Index, key, number_class, pair_class};
 use mir_func::entry::OperandPair;
 use mir_func::item::ItemKind;
-use mir_func::variable::{Fragment, MarkValue, VarId};
+use mir_func::variable::{MarkValue, VarId};
+use mir_meaning::operand::defined;
 use numbers::code::DebugNumber;
 use rv64_instr::instr::Instr;
 use rv64_instr::operand::Operand;
@@ -244,61 +244,15 @@ fn mark(parts: &mut Vec<usize>, variables: &[VarId], variable: &VarId, class: us
     }
 }
 
-/// The register that an operand defines. An implicit definition defines on calls alone.
-fn defined(call: bool, operand: &Operand) -> Option<Reg>
-    ensures { result ≡ defined_by call (Some operand.now) }
-{
-    match operand {
-        Operand::Def(r) => Some(*r),
-        Operand::ImplicitDef(r) => { if call { Some(*r) } else { None } }
-        Operand::Use(_)
-        | Operand::ImplicitUse(_)
-        | Operand::Imm(_)
-        | Operand::Slot(_)
-        | Operand::Object(_)
-        | Operand::Block(_)
-        | Operand::Symbol(_)
-        | Operand::Mask => None,
-    }
-}
-
 /// The class of a part past a mark of a part.
 fn part_past(marked: &VarId, class: usize, part: &VarId, old: usize) -> usize
     ensures { result ≡ part_past marked.now class part.now old }
 {
     if *part == *marked {
         class
-    } else if do_overlap(part, marked) {
+    } else if part.overlaps(marked) {
         0
     } else {
         old
     }
-}
-
-/// Whether two parts are of one variable and have a byte in common.
-fn do_overlap(part: &VarId, other: &VarId) -> bool
-    ensures { result ≡ overlaps part.now other.now }
-{
-    part.node == other.node
-        && part.inlined_at == other.inlined_at
-        && do_meet(&part.fragment, &other.fragment)
-}
-
-fn do_meet(part: &Option<Fragment>, other: &Option<Fragment>) -> bool
-    ensures { result ≡ do_meet part.now other.now }
-{
-    match part {
-        None => true,
-        Some(a) => match other {
-            None => true,
-            Some(b) => { a.offset() < end(*b) && b.offset() < end(*a) }
-        },
-    }
-}
-
-/// The byte behind a part's last one.
-fn end(part: Fragment) -> u32
-    ensures { result ≡ part.offset + part.length }
-{
-    part.offset() + part.length()
 }

@@ -14,6 +14,4 @@ mod plan;
 mod rounds;
 mod span;
 mod table;
-#[cfg(test)]
-mod tests;
 mod words;

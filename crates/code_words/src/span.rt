@@ -62,16 +62,16 @@ impl Span {
         match *decoded {
             Decoded::Branches(_, _, _, target) => Span::Short(table.first_of(target)),
             Decoded::Calls => Span::CallSite,
-            Decoded::Fixes(_, _)
-            | Decoded::Moves(_, _)
+            Decoded::Jumps(_)
+            | Decoded::Returns
             | Decoded::Sets(_, _, _, _)
+            | Decoded::Fixes(_, _)
+            | Decoded::Moves(_, _)
             | Decoded::Addresses(_, _, _)
             | Decoded::Loads(_, _, _, _)
-            | Decoded::Stores(_, _, _, _)
             | Decoded::LoadsSlot(_, _)
-            | Decoded::StoresSlot(_, _)
-            | Decoded::Jumps(_)
-            | Decoded::Returns => Span::OneWord,
+            | Decoded::Stores(_, _, _, _)
+            | Decoded::StoresSlot(_, _) => Span::OneWord,
         }
     }
 }

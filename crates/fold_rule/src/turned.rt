@@ -96,15 +96,15 @@ fn inverse_op(op: Op) -> Op
 {
     match op {
         Op::Branch(branch) => Op::Branch(inverse(branch)),
-        Op::Registers(_)
-        | Op::Immediate(_)
+        Op::PseudoBr
+        | Op::PseudoCall
+        | Op::PseudoRet
+        | Op::Copy
         | Op::Lui
         | Op::Load(_)
         | Op::Store(_)
-        | Op::Copy
-        | Op::PseudoBr
-        | Op::PseudoCall
-        | Op::PseudoRet => op,
+        | Op::Immediate(_)
+        | Op::Registers(_) => op,
     }
 }
 

@@ -56,15 +56,15 @@ fn row_words(decoded: &Decoded) -> u32
 {
     match *decoded {
         Decoded::Branches(_, _, _, _) | Decoded::Calls => 2,
-        Decoded::Fixes(_, _)
-        | Decoded::Moves(_, _)
-        | Decoded::Sets(_, _, _, _)
-        | Decoded::Addresses(_, _, _)
-        | Decoded::Loads(_, _, _, _)
+        Decoded::Loads(_, _, _, _)
         | Decoded::Stores(_, _, _, _)
         | Decoded::LoadsSlot(_, _)
         | Decoded::StoresSlot(_, _)
-        | Decoded::Jumps(_)
-        | Decoded::Returns => 1,
+        | Decoded::Addresses(_, _, _)
+        | Decoded::Fixes(_, _)
+        | Decoded::Moves(_, _)
+        | Decoded::Sets(_, _, _, _)
+        | Decoded::Returns
+        | Decoded::Jumps(_) => 1,
     }
 }

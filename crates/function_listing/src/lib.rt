@@ -6,6 +6,4 @@ pub mod laws;
 mod lines;
 pub mod listing;
 mod lowered;
-#[cfg(test)]
-mod tests;
 pub mod variables;

@@ -10,8 +10,6 @@ mod gather;
 mod key;
 mod note;
 mod opening;
-#[cfg(test)]
-mod tests;
 pub mod things;
 pub mod values;
 mod ways;

@@ -1,11 +1,11 @@
 //! Parts of variables that were met.
 
 ghost use Rattle.std.specs.Prelude.{◌≡◌, [], OnOk, OnErr};
-ghost use Rattle.mir_func.specs.Variables.{is_same, is_same_node, are_same_bytes};
+ghost use Rattle.mir_func.specs.Variables.{is_same, is_same_node};
 ghost use Rattle.mir_body.specs.Met.{is_known, known};
 
 use lists::List;
-use mir_func::variable::{Fragment, VarId};
+use mir_func::variable::{VarId, are_same_bytes};
 use numbers::metadata::NodeId;
 use std::alloc::AllocError;
 
@@ -23,26 +23,13 @@ fn is_same_node(one: Option<NodeId>, other: Option<NodeId>) -> bool
     }
 }
 
-/// Whether two parts are the same bytes.
-fn are_same_bytes(one: Option<Fragment>, other: Option<Fragment>) -> bool
-    ensures { result ≡ are_same_bytes one other }
-{
-    match (one, other) {
-        (None, None) => true,
-        (Some(one), Some(other)) => {
-            one.offset() == other.offset() && one.length() == other.length()
-        }
-        _ => false,
-    }
-}
-
 /// Whether two are the same part of one variable.
 fn is_same(one: &VarId, other: &VarId) -> bool
     ensures { result ≡ is_same one.now other.now }
 {
     one.node.number() == other.node.number()
         && is_same_node(one.inlined_at, other.inlined_at)
-        && are_same_bytes(one.fragment, other.fragment)
+        && are_same_bytes(&one.fragment, &other.fragment)
 }
 
 /// Whether a part was met.

@@ -1,6 +1,7 @@
 //! Variables of the program that is debugged, their parts, and what marks assign to them.
 
-ghost use Rattle.std.specs.Prelude.{◌≡◌, IfSome, IsNone, ◌↔◌};
+ghost use Rattle.std.specs.Prelude.{◌≡◌, ◌+◌, ◌<◌, IfSome, IsNone, ◌↔◌};
+ghost use Rattle.mir_func.specs.Variables.{are_same_bytes, do_meet, overlaps};
 
 use crate::entry::OperandPair;
 use crate::limits::{MAX_PART, MAX_PART_END};
@@ -59,6 +60,40 @@ impl Fragment {
     {
         self.length
     }
+
+    /// The byte behind the last one.
+    pub fn end(self) -> u32
+        ensures value { result ≡ self.offset + self.length }
+        ensures behind { self.offset < result }
+    {
+        self.offset + self.length
+    }
+}
+
+/// Whether two parts are the same bytes. The whole is the same as the whole alone.
+pub fn are_same_bytes(part: &Option<Fragment>, other: &Option<Fragment>) -> bool
+    ensures { result ≡ are_same_bytes part.now other.now }
+{
+    match part {
+        None => other.is_none(),
+        Some(a) => match other {
+            None => false,
+            Some(b) => a.offset() == b.offset() && a.length() == b.length(),
+        },
+    }
+}
+
+/// Whether some byte is in both parts. The whole has all bytes.
+pub fn do_meet(part: &Option<Fragment>, other: &Option<Fragment>) -> bool
+    ensures { result ≡ do_meet part.now other.now }
+{
+    match part {
+        None => true,
+        Some(a) => match other {
+            None => true,
+            Some(b) => { a.offset() < b.end() && b.offset() < a.end() }
+        },
+    }
 }
 
 /// A part of a variable of the program that is debugged, in one inlined instance of its function: some of its bytes,
@@ -71,6 +106,17 @@ pub struct VarId {
     pub inlined_at: Option<NodeId>,
     /// The bytes that are meant, and `None` for the whole.
     pub fragment: Option<Fragment>,
+}
+
+impl VarId {
+    /// Whether both are parts of one variable and have a byte in common.
+    pub fn overlaps(&self, other: &VarId) -> bool
+        ensures { result ≡ overlaps self.now other.now }
+    {
+        self.node == other.node
+            && self.inlined_at == other.inlined_at
+            && do_meet(&self.fragment, &other.fragment)
+    }
 }
 
 /// What a mark assigns to its part of a variable.

@@ -4,13 +4,13 @@ ghost use Rattle.std.specs.Prelude.{◌≡◌, ◌≤◌, ◌<◌, ◌+◌, ◌*
 ghost use Rattle.std.specs.Prelude.{ℕ, [], ◌∷◌, List, Option, OnOk, OnErr, IfOk, IsTrue};
 ghost use Rattle.mir_func.specs.declared.variable.VarId.{VarId};
 ghost use Rattle.mir_func.specs.Parts.{Bytes};
-ghost use Rattle.mir_func.specs.Variables.{are_same_bytes, do_meet, low_part};
+ghost use Rattle.mir_func.specs.Variables.{low_part};
 ghost use Rattle.mir_meaning.specs.Step.{part_of};
 ghost use Rattle.mir_semantics.specs.Assigned.{Covers, MarksHold, assigned_in, key_of, part_in, parts_of};
 
 use indexmap::IndexMap;
 use lists::List;
-use mir_func::variable::{Fragment, VarId};
+use mir_func::variable::{Fragment, VarId, are_same_bytes, do_meet};
 use std::alloc::{AllocError, Global};
 use std::marker::Model;
 
@@ -161,40 +161,7 @@ fn covers(part: &Option<Fragment>, other: &Option<Fragment>) -> bool
         None => true,
         Some(a) => match other {
             None => false,
-            Some(b) => { a.offset() <= b.offset() && end(*b) <= end(*a) }
+            Some(b) => { a.offset() <= b.offset() && b.end() <= a.end() }
         },
     }
-}
-
-fn are_same_bytes(part: &Option<Fragment>, other: &Option<Fragment>) -> bool
-    ensures { result ≡ are_same_bytes part.now other.now }
-{
-    match part {
-        None => other.is_none(),
-        Some(a) => match other {
-            None => false,
-            Some(b) => a.offset() == b.offset() && a.length() == b.length(),
-        },
-    }
-}
-
-/// Whether some byte is in both parts. The whole has all bytes.
-fn do_meet(part: &Option<Fragment>, other: &Option<Fragment>) -> bool
-    ensures { result ≡ do_meet part.now other.now }
-{
-    match part {
-        None => true,
-        Some(a) => match other {
-            None => true,
-            Some(b) => { a.offset() < end(*b) && b.offset() < end(*a) }
-        },
-    }
-}
-
-/// The byte behind a part's last one.
-fn end(part: Fragment) -> u32
-    ensures value { result ≡ part.offset + part.length }
-    ensures behind { part.offset < result }
-{
-    part.offset() + part.length()
 }
