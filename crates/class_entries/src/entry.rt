@@ -2,13 +2,13 @@
 
 use lists::List;
 
-/// Class numbers, one for each tracked thing.
+/// Class numbers, one for each tracked thing (LLVM: value numbers, `ValueIDNum`).
 pub type Numbers = List<u32>;
 
 /// Whether there is a token on every path, for each tracked thing.
 pub type Bits = List<bool>;
 
-/// What is known at the start of a block.
+/// What is known at the start of a block (LLVM: the live-in values of InstrRefBasedLDV).
 #[derive(Debug, Drop)]
 pub struct BlockEntry {
     /// Some path leads there.

@@ -6,7 +6,7 @@ use mir_func::variable::VarId;
 use numbers::code::SlotId;
 use rv64_instr::reg::Reg;
 
-/// Something that has a token along a path, or none.
+/// Something that has a token along a path, or none (LLVM: what InstrRefBasedLDV gives value numbers).
 #[derive(Clone, Copy, Debug, PartialEq, Eq)]
 pub enum Tracked {
     /// A register. x0 and x2 aren't tracked: x0 is the number 0, and x2 never has a token.

@@ -15,7 +15,7 @@ pub const SLOTS_FROM: usize = 32;
 /// How many places there are: registers, and doublewords of the frame.
 pub const PLACES: usize = 286;
 
-/// The classes between two items of a block. 0 is that of what has no class.
+/// The classes between two items of a block (LLVM: `MLocTracker`). 0 is that of what has no class.
 #[derive(Drop)]
 pub struct Held {
     /// The class of each place: registers by their numbers, and after them the doublewords of the frame by their

@@ -5,7 +5,7 @@ use mir_func::framed::Framed;
 use mir_func::position::{Origin, Point};
 use std::marker::Model;
 
-/// What stands at an address.
+/// What stands at an address (LLVM: an encoded instruction).
 #[derive(Clone, Copy, Debug, PartialEq, Eq)]
 pub struct Entry {
     /// The address of its first byte.
@@ -26,9 +26,9 @@ pub type Entries = List<Entry>;
 /// Words, in the order of their addresses.
 pub type Words = List<u32>;
 
-/// The machine code of a function. Its entries stand one after the other from its first address, a multiple of 4 below
-/// 2^32, to the end of its words, which are fewer than 262,144, and at the point of each the function has an item,
-/// which is a call exactly where the entry is one.
+/// The machine code of a function (LLVM: a function in the text section). Its entries stand one after the other from
+/// its first address, a multiple of 4 below 2^32, to the end of its words, which are fewer than 262,144, and at the
+/// point of each the function has an item, which is a call exactly where the entry is one.
 #[derive(Debug, Drop)]
 pub struct Code {
     /// The address where it begins.

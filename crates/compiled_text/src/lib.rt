@@ -5,12 +5,12 @@
 //! jump below it.
 #![tactic(auto)]
 
+mod functions;
 pub mod hex;
+pub mod laws;
 mod line;
-mod listing;
 pub mod output;
 pub mod print;
-pub mod reading;
 mod section;
 #[cfg(test)]
 mod tests;

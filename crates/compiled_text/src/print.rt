@@ -3,7 +3,7 @@
 ghost use Rattle.std.specs.Prelude.{◌≡◌, IfOk};
 ghost use Rattle.compiled_text.specs.Output.{spelling, listing_text};
 
-use crate::listing::push_functions;
+use crate::functions::push_functions;
 use crate::output::{ListedFunction, Output};
 use crate::section::push_sections;
 use mir_printer::text::Text;

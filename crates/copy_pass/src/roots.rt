@@ -11,7 +11,7 @@ use rv64_instr::place::Place;
 use rv64_instr::reg::Reg;
 use std::alloc::AllocError;
 
-/// A register that holds the same as another.
+/// A register that holds the same as another (LLVM: an available copy of machine copy propagation).
 #[derive(Clone, Copy, Debug, PartialEq, Eq)]
 pub struct Root {
     /// The register that was set by a copy.

@@ -12,7 +12,7 @@ use Rattle.dwarf_line.specs.declared.read.Group.TheVariants.{Copied, Ended}
 use Rattle.dwarf_line.specs.Table.{IsRow}
 use Rattle.dwarf_line.specs.Spelling.{changing, set_file, set_column, advance_pc, advance_line, end_sequence, row}
 use Rattle.dwarf_line.specs.Fields.{◌>>=◌, constants_at, uleb_at, advanced_at, line_at}
-use Rattle.dwarf_line.specs.Reading.{register_at, advance_at, copied_at, ended_at, closed_at, group_at}
+use Rattle.dwarf_line.specs.FirstFault.{register_at, advance_at, copied_at, ended_at, closed_at, group_at}
 use Rattle.dwarf_line.proofs.Numbers.{uleb_takes, uleb_again, advanced_takes, advanced_again, line_takes, line_again}
 
 -- ---- steps that did not fail

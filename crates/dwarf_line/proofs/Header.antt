@@ -12,7 +12,7 @@ use Rattle.dwarf_line.specs.declared.table.FileEntry.{FileEntry}
 use Rattle.dwarf_line.specs.Standard.{instruction_fields, directory_format, file_format}
 use Rattle.dwarf_line.specs.Spelling.{text, file, program, header}
 use Rattle.dwarf_line.specs.Fields.{◌>>=◌, constants_at, number_at, uleb_at, behind_zero, behind_text}
-use Rattle.dwarf_line.specs.Reading.{behind_dirs, behind_files, behind_tables, behind_header}
+use Rattle.dwarf_line.specs.FirstFault.{behind_dirs, behind_files, behind_tables, behind_header}
 use Rattle.dwarf_line.proofs.Numbers.{uleb_takes, uleb_again}
 use Rattle.dwarf_line.proofs.Groups.{bind_ok, ok_is, not_ok, constants_take, constants_again}
 use Rattle.dwarf_line.proofs.Fixed.{IsBytes, IsBytes-behind, wide16, wide32, number_takes, number_again}

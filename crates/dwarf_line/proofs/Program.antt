@@ -8,7 +8,7 @@ use Rattle.dwarf_line.specs.Table.{Ascend, IsRow}
 use Rattle.std.specs.Int.{w64}
 use Rattle.dwarf_line.specs.Spelling.{row, rows_to, set_address, registers_at}
 use Rattle.dwarf_line.specs.Fields.{constants_at, number_at}
-use Rattle.dwarf_line.specs.Reading.{group_at, Rows, LastRow, NextRow, RowsFault, InRow, InLaterRow, start_at}
+use Rattle.dwarf_line.specs.FirstFault.{group_at, Rows, LastRow, NextRow, RowsFault, InRow, InLaterRow, start_at}
 use Rattle.dwarf_line.proofs.Groups.{bind_ok, ok_is, not_ok, constants_take, group_takes, row_again, end_again}
 use Rattle.dwarf_line.proofs.Fixed.{IsBytes, IsBytes-behind, wide64, number_takes, number_again}
 

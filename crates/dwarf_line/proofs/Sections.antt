@@ -10,8 +10,8 @@ use Rattle.dwarf_line.specs.declared.table.Sequence.{Sequence}
 use Rattle.dwarf_line.specs.declared.table.LineTable.{LineTable}
 use Rattle.dwarf_line.specs.Table.{HasRows, IsSequence, IsName, IsNamed, IsNumbered, IsRow, HasRange}
 use Rattle.dwarf_line.specs.Spelling.{tables, rows_to, set_address, registers_at, program, header, spelling}
-use Rattle.dwarf_line.specs.Reading.{behind_header, Rows, start_at, Program, NoSequence, NextSequence, ProgramFault, InStart, InRows, InLaterSequence}
-use Rattle.dwarf_line.specs.Reading.{SectionFault, InHeader, InProgram, FirstFault, IsSection}
+use Rattle.dwarf_line.specs.FirstFault.{behind_header, Rows, start_at, Program, NoSequence, NextSequence, ProgramFault, InStart, InRows, InLaterSequence}
+use Rattle.dwarf_line.specs.FirstFault.{SectionFault, InHeader, InProgram, FirstFault, IsSection}
 use Rattle.dwarf_line.specs.declared.read.ReadError.{ReadError}
 use Rattle.dwarf_line.specs.declared.read.ReadError.TheVariants.{Memory, Left}
 use Rattle.dwarf_line.specs.steps.Gives.{Faults, Reads}

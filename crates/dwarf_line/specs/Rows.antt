@@ -4,7 +4,7 @@ use Rattle.dwarf_line.specs.declared.table.Row.{Row}
 use Rattle.dwarf_line.specs.declared.table.Sequence.{Sequence}
 use Rattle.dwarf_line.specs.declared.table.LineTable.{LineTable}
 use Rattle.dwarf_line.specs.Spelling.{first_address}
-use Rattle.dwarf_line.specs.Reading.{IsSection}
+use Rattle.dwarf_line.specs.FirstFault.{IsSection}
 
 -- the row of an address: the last one at or before it, where the addresses of rows don't fall
 abbrev pub row_in : List Row → ℕ → Option Row

@@ -8,7 +8,7 @@ use Rattle.dwarf_loclists.specs.declared.range.Location.{Location}
 use Rattle.dwarf_loclists.specs.declared.range.Range.{Range}
 use Rattle.dwarf_loclists.specs.Ranges.{ArePlaces, Are64Bit, IsLocated, HasWords, location_in, whole_place, nth_piece}
 use Rattle.dwarf_loclists.specs.Spelling.{expression, Spells}
-use Rattle.dwarf_loclists.specs.Reading.{IsSection, LocationAt, PlaceAt, PieceAt}
+use Rattle.dwarf_loclists.specs.Grammar.{IsSection, LocationAt, PlaceAt, PieceAt}
 use Rattle.dwarf_loclists.specs.steps.Reader.{AllRead, location_of}
 use Rattle.dwarf_loclists.proofs.Places.{only}
 use Rattle.dwarf_loclists.proofs.WholeLemmas.{all_right}

@@ -10,7 +10,7 @@ use Rattle.dwarf_base.specs.Leb.{uleb_of}
 use Rattle.dwarf_loclists.specs.Ranges.{IsLocated, ArePlaces}
 use Rattle.dwarf_loclists.specs.Spelling.{expression, entry, list_spelling, bodies, offsets_from, header, spelling}
 use Rattle.dwarf_loclists.proofs.OneLocation.{uleb_one, heads_one, tails_one, expression_one}
-use Rattle.dwarf_loclists.specs.Reading.{IsSection}
+use Rattle.dwarf_loclists.specs.Grammar.{IsSection}
 use Rattle.dwarf_loclists.proofs.SpellingLemmas.{length-offsets_from, length-spelling}
 
 -- the two parts of a list, cut at one length

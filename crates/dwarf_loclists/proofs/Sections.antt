@@ -12,7 +12,7 @@ use Rattle.dwarf_base.specs.Leb.{uleb_of}
 use Rattle.dwarf_loclists.specs.declared.range.Range.{Range}
 use Rattle.dwarf_loclists.specs.Ranges.{Ascend, ArePlaces, Are64Bit, IsLocated, HasWords}
 use Rattle.dwarf_loclists.specs.Spelling.{entry, expression, list_spelling, bodies, offsets_from, header, spelling}
-use Rattle.dwarf_loclists.specs.Reading.{IsSection}
+use Rattle.dwarf_loclists.specs.Grammar.{IsSection}
 use Rattle.dwarf_loclists.specs.Fault.{Reaches, onward, FaultAt, after, first_byte, UnitLength, Version, AddressSize, SegmentSelectorSize, OffsetEntryCount}
 use Rattle.dwarf_loclists.specs.Fault.{ListOffset, EntryKind, StartOffset, EndOffset, ExpressionLength, Expression, Nothing}
 use Rattle.dwarf_loclists.specs.steps.Reader.{StandsAt}

@@ -3,7 +3,7 @@
 ghost use Rattle.std.specs.Prelude.{◌≡◌, ◌<◌, ℕ, List, length, IfOk, IfErr};
 ghost use Rattle.dwarf_loclists.specs.declared.range.Range.{Range};
 ghost use Rattle.dwarf_loclists.specs.Fault.{FaultAt};
-ghost use Rattle.dwarf_loclists.specs.Reading.{IsSection, PlaceAt, PieceAt};
+ghost use Rattle.dwarf_loclists.specs.Grammar.{IsSection, PlaceAt, PieceAt};
 
 use crate::fault::ListFault;
 use crate::header::read_header;

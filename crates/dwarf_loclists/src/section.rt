@@ -3,7 +3,7 @@
 ghost use Rattle.std.specs.Prelude.{◌≡◌, ◌+◌, ◌*◌, ◌^◌, ◌<◌, ◌≤◌, ◌++◌, ◌↔◌, length, sum_by, All, OnOk, IfOk, IsNone};
 ghost use Rattle.std.specs.Prelude.{IfSome, ℕ, IsSome};
 ghost use Rattle.dwarf_loclists.specs.Ranges.{ArePlaces, Are64Bit, Ascend, places_of};
-ghost use Rattle.dwarf_loclists.specs.Reading.{IsSection};
+ghost use Rattle.dwarf_loclists.specs.Grammar.{IsSection};
 ghost use Rattle.dwarf_loclists.specs.Spelling.{list_spelling, bodies, offsets_from, header, spelling};
 
 use crate::constants::*;

@@ -38,7 +38,7 @@ pub enum Lost {
     Register(Reg),
 }
 
-/// Something that a pass lost, and why.
+/// Something that a pass lost, and why (LLVM: a dropped debug value).
 #[derive(Clone, Copy, Debug, PartialEq, Eq, PartialOrd, Ord)]
 pub struct Loss {
     /// What.

@@ -14,7 +14,7 @@ use mir_func::framed::Saved;
 use mir_func::func::Func;
 use std::alloc::Global;
 
-/// The frame of a function.
+/// The frame of a function (LLVM: `MachineFrameInfo`).
 #[derive(Drop)]
 pub struct Frame {
     /// Its size in bytes.

@@ -6,7 +6,7 @@ ghost use Rattle.code_words.specs.Rule.{Layout, entries_at, sites_from};
 ghost use Rattle.mir_func.specs.Sound.{AllItems};
 ghost use Rattle.shown_program.specs.Listing.{listing_of, prologue_listed, body_listed, blocks_listed};
 ghost use Rattle.shown_program.specs.Listing.{object_listed};
-ghost use Rattle.function_listing.specs.Listing.{IsLaid};
+ghost use Rattle.function_listing.specs.Laid.{IsLaid};
 ghost use Rattle.function_listing.specs.steps.Entries.{IsLow, IsSource, IsPlaced};
 
 use crate::lines::push_items;

@@ -23,7 +23,7 @@ use rv64_instr::place::Place;
 use std::alloc::{AllocError, Global};
 use std::marker::Model;
 
-/// What is live at the starts of a function's blocks.
+/// What is live at the starts of a function's blocks (LLVM: live-in lists, and live stack slots).
 #[derive(Drop)]
 pub struct Live {
     names: Names,

@@ -9,7 +9,7 @@ use std::marker::Model;
 /// How many words a set has: bits for 256 slots and 4,128 registers.
 const WORDS: usize = 69;
 
-/// A set of places of a function. Which bit is whose only the function's liveness knows.
+/// A set of places of a function (LLVM: `LivePhysRegs`). Which bit is whose only the function's liveness knows.
 #[derive(Drop)]
 pub struct PlaceSet {
     words: [u64; 69],

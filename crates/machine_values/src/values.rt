@@ -30,7 +30,8 @@ use substitution::substitutions::Substitutions;
 /// From so many things or blocks on, memory would have run out.
 const MOST: usize = (1 << 32) - 1;
 
-/// What is known at the start of each block of a function with its frame.
+/// What is known at the start of each block of a function with its frame (LLVM: the live-in values of
+/// InstrRefBasedLDV).
 #[derive(Debug, Drop)]
 pub struct MachineValues {
     /// The parts of variables that its marks assign to, in order of first appearance.

@@ -7,7 +7,7 @@ use lists::List;
 use numbers::code::BlockId;
 use std::alloc::{AllocError, Global};
 
-/// A block of a function.
+/// A block of a function (LLVM: `MachineBasicBlock`).
 #[derive(Debug, Drop)]
 pub struct Block {
     /// The N of `bb.N`.

@@ -12,7 +12,8 @@ pub struct OperandPair {
     pub operand: OperandIndex,
 }
 
-/// A substitution of debug instruction numbers: whoever asks for the value of `src` gets that of `dst`.
+/// A substitution of debug instruction numbers: whoever asks for the value of `src` gets that of `dst` (LLVM:
+/// `debugValueSubstitutions`).
 #[derive(Clone, Copy, Debug, PartialEq, Eq)]
 pub struct Entry {
     /// What is asked for.

@@ -8,7 +8,7 @@ use rv64_instr::name::Name;
 use rv64_instr::reg::Reg;
 use std::marker::Model;
 
-/// Where a frame slot is.
+/// Where a frame slot is (LLVM: the offset of a frame index).
 #[derive(Clone, Copy, Debug, PartialEq, Eq)]
 pub struct SlotPlace {
     /// The slot, by its number in the function without its frame.
@@ -17,7 +17,7 @@ pub struct SlotPlace {
     pub offset: u32,
 }
 
-/// Where a register is saved.
+/// Where a register is saved (LLVM: `CalleeSavedInfo`).
 #[derive(Clone, Copy, Debug, PartialEq, Eq)]
 pub struct SavedRegister {
     /// The register.
@@ -32,9 +32,9 @@ pub type Offsets = List<SlotPlace>;
 /// Saved registers, ascending.
 pub type Saved = List<SavedRegister>;
 
-/// A function with its frame. In its items `Slot(o)` names the eight bytes at x2 plus o. The block with index 0 is
-/// the prologue, without items where there is no frame; its number is that of the next block, and a branch to this
-/// number goes to the next block.
+/// A function with its frame (LLVM: a `MachineFunction` behind prologue and epilogue insertion). In its items
+/// `Slot(o)` names the eight bytes at x2 plus o. The block with index 0 is the prologue, without items where there is
+/// no frame; its number is that of the next block, and a branch to this number goes to the next block.
 #[derive(Debug, Drop)]
 pub struct Framed {
     /// Its name.

@@ -17,7 +17,8 @@ use thiserror::Error;
 /// The numbers of a function's frame slots of eight bytes, in declared order.
 pub type SlotIds = List<SlotId>;
 
-/// A function that is sound: its blocks end as blocks must, and its branch targets and slots are there.
+/// A function that is sound: its blocks end as blocks must, and its branch targets and slots are there (LLVM:
+/// `MachineFunction`).
 #[derive(Debug, Drop)]
 pub struct Func {
     /// Its name.

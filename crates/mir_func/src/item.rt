@@ -11,7 +11,7 @@ use rv64_instr::instr::Instr;
 use rv64_instr::place::Place;
 use std::alloc::{AllocError, Global};
 
-/// What an item is.
+/// What an item is (LLVM: code and debug instructions, `MachineInstr`).
 #[derive(Debug, Drop)]
 pub enum ItemKind {
     /// An instruction, with its debug instruction number where it has one.
@@ -22,7 +22,7 @@ pub enum ItemKind {
     Phi(Option<Place>, DebugNumber),
 }
 
-/// An item of a block.
+/// An item of a block (LLVM: `MachineInstr`).
 #[derive(Debug, Drop)]
 pub struct Item {
     /// What it is.

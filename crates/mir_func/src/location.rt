@@ -2,7 +2,7 @@
 
 use numbers::metadata::NodeId;
 
-/// The debug location that an item carries.
+/// The debug location that an item carries (LLVM: `DebugLoc`).
 #[derive(Clone, Copy, Debug, PartialEq, Eq)]
 pub enum Loc {
     /// None.
@@ -13,7 +13,7 @@ pub enum Loc {
     Inline(InlineLoc),
 }
 
-/// A debug location that is written out.
+/// A debug location that is written out (LLVM: `DILocation`).
 #[derive(Clone, Copy, Debug, PartialEq, Eq)]
 pub struct InlineLoc {
     /// The line in the program that is debugged, from 1, or 0 for none.

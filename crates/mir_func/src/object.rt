@@ -6,7 +6,7 @@ ghost use Rattle.mir_func.specs.Objects.{up_to};
 use lists::List;
 use numbers::code::ObjectId;
 
-/// A stack object: bytes of the frame whose address code may take.
+/// A stack object: bytes of the frame whose address code may take (LLVM: a frame index that is no spill slot).
 #[derive(Clone, Copy, Debug, PartialEq, Eq)]
 pub struct Object {
     /// Its number.

@@ -97,7 +97,7 @@ pub fn do_meet(part: &Option<Fragment>, other: &Option<Fragment>) -> bool
 }
 
 /// A part of a variable of the program that is debugged, in one inlined instance of its function: some of its bytes,
-/// or the whole.
+/// or the whole (LLVM: `DebugVariable`).
 #[derive(Clone, Copy, Debug, PartialEq, Eq)]
 pub struct VarId {
     /// Its `DILocalVariable` node.
@@ -119,7 +119,7 @@ impl VarId {
     }
 }
 
-/// What a mark assigns to its part of a variable.
+/// What a mark assigns to its part of a variable (LLVM: the debug operand of `DBG_VALUE` or `DBG_INSTR_REF`).
 #[derive(Clone, Copy, Debug, PartialEq, Eq)]
 pub enum MarkValue {
     /// No value.

@@ -35,7 +35,7 @@ use Rattle.mir_body.specs.Met.{is_met, met}
 use Rattle.mir_body.specs.Body.{nothing_read, and_last, blocks_of, label_cause, with_label, repeats, block_with, constant_of, object_named}
 use Rattle.mir_body.specs.Body.{with_number, with_constant}
 use Rattle.mir_body.specs.Body.{with_object, with_variable, with_facts, with_item, exceeds, item_cause}
-use Rattle.mir_parser.specs.Reading.{unless, judged_said, item_said, line_said, behind_line, and_then, body_behind, body_of}
+use Rattle.mir_parser.specs.BodyLines.{unless, judged_said, item_said, line_said, behind_line, and_then, body_behind, body_of}
 use Rattle.mir_parser.proofs.Lists.{push_read, apart_push, met_keeps, met_has, met_at, met_new, All-front, All-last}
 
 -- ---- what is met in an item leaves the blocks as they are

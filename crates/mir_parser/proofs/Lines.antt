@@ -14,7 +14,7 @@ use Rattle.mir_item.specs.declared.judged.JudgedItem.{JudgedItem}
 use Rattle.mir_item.specs.Judge.{judged}
 use Rattle.mir_body.specs.declared.body.Body.{Body}
 use Rattle.mir_body.specs.Body.{item_cause, with_item}
-use Rattle.mir_parser.specs.Reading.{unless, judged_said, item_said, behind_line, and_then, body_behind, body_of, Reads}
+use Rattle.mir_parser.specs.BodyLines.{unless, judged_said, item_said, behind_line, and_then, body_behind, body_of, Reads}
 
 in_block : (meta : Maps) (body : Body) (form : ItemForm) (last : Option Block) → is_none last ≡ false →
     item_said meta body last form ≡ judged_said body form.number (judged meta form)

@@ -28,7 +28,7 @@ use Rattle.mir_body.specs.Met.{is_met}
 use Rattle.mir_parser.specs.declared.closing.Parsed.{Parsed}
 use Rattle.mir_parser.specs.declared.closing.Parts.{Parts}
 use Rattle.mir_parser.specs.declared.error.ParseError.TheVariants as errors
-use Rattle.mir_parser.specs.Reading.{body_of}
+use Rattle.mir_parser.specs.BodyLines.{body_of}
 use Rattle.mir_parser.specs.Objects.{item_as, block_as, blocks_as}
 use Rattle.mir_parser.specs.Closing.{entry_ids, AreEntries, laid_out, stays, parts_of, closing_cause, function_of, EndWell, ClosesWith, Closes}
 use Rattle.mir_parser.proofs.Bodies.{IsReadBlock, IsReadBody, ComesFromLine, body_reads}

@@ -22,7 +22,7 @@ use Rattle.mir_parser.specs.declared.closing.Parsed.{Parsed}
 use Rattle.mir_parser.specs.declared.error.ParseError.{ParseError}
 use Rattle.mir_parser.specs.declared.error.ParseError.TheVariants as errors
 use Rattle.mir_parser.specs.Objects.{blocks_as, blocks_stay}
-use Rattle.mir_parser.specs.Reading.{body_of}
+use Rattle.mir_parser.specs.BodyLines.{body_of}
 
 -- the numbers of stack entries, behind those that were met
 unfoldable pub ids_behind : List ℕ → List StackEntry → List ℕ

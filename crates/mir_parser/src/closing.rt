@@ -6,7 +6,7 @@ ghost use Rattle.mir_frame.specs.declared.parts.FunctionDocument.{FunctionDocume
 ghost use Rattle.mir_func.specs.Sound.{IsSound};
 ghost use Rattle.mir_declarations.specs.Declarations.{declarations_of};
 ghost use Rattle.mir_body.specs.Body.{and_last};
-ghost use Rattle.mir_parser.specs.Reading.{body_of};
+ghost use Rattle.mir_parser.specs.BodyLines.{body_of};
 ghost use Rattle.mir_parser.specs.Closing.{AreEntries, entry_ids, parts_of, Closes};
 
 use crate::error::ParseError;

@@ -5,11 +5,11 @@
 //! refused, so the refusal that is told is the first one of the body.
 #![tactic(auto)]
 
+pub mod body;
 pub mod closing;
 pub mod error;
 pub mod objects;
 pub mod parse;
 pub mod program;
-pub mod reading;
 #[cfg(test)]
 mod tests;

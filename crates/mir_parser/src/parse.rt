@@ -4,12 +4,12 @@ ghost use Rattle.std.specs.Prelude.{◌≡◌, IfOk};
 ghost use Rattle.mir_declarations.specs.Declarations.{declarations_of};
 ghost use Rattle.meta_reader.specs.Maps.{Maps};
 ghost use Rattle.mir_frame.specs.declared.parts.FunctionDocument.{FunctionDocument};
-ghost use Rattle.mir_parser.specs.Reading.{body_of};
+ghost use Rattle.mir_parser.specs.BodyLines.{body_of};
 ghost use Rattle.mir_parser.specs.Closing.{AreEntries, IsRefused, ParsesParts, Parses};
 
+use crate::body::read_body;
 use crate::closing::{Parsed, close};
 use crate::error::ParseError;
-use crate::reading::read_body;
 use meta_reader::metadata::Metadata;
 use mir_body::body::Body;
 use mir_declarations::declarations::{DeclarationError, Declarations, read_declarations};

@@ -20,7 +20,8 @@ pub const MAX_FUNCTIONS: usize = 256;
 /// Functions in the order of the text.
 pub type ParsedFunctions = List<Parsed>;
 
-/// What a text stands for: its functions, and the metadata of its IR block.
+/// What a text stands for: its functions, and the metadata of its IR block (LLVM: the machine functions of a module,
+/// `MachineModuleInfo`).
 #[derive(Drop)]
 pub struct Program {
     /// The functions in the order of the text.

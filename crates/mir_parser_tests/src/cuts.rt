@@ -1,6 +1,6 @@
 //! A text that is cut off after each of its lines.
 
-use crate::reading::{read, refused};
+use crate::told::{read, refused};
 use refusal::first::Refusal;
 use refusal::kind::RefusalKind;
 use std::test::Fail;

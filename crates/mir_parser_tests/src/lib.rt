@@ -9,4 +9,4 @@ mod limits;
 #[cfg(test)]
 mod lines;
 #[cfg(test)]
-mod reading;
+mod told;

@@ -1,6 +1,6 @@
 //! Each limit at its number, where the text is read, and one above, where it is refused.
 
-use crate::reading::{read, refused};
+use crate::told::{read, refused};
 use refusal::kind::RefusalKind;
 use std::alloc::{AllocError, Global};
 use std::fmt::Write;

@@ -1,6 +1,6 @@
 //! Lines of a body: what is read of each, and why it is refused.
 
-use crate::reading::{read, refused};
+use crate::told::{read, refused};
 use refusal::kind::RefusalKind;
 use std::test::Fail;
 

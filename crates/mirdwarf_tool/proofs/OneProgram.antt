@@ -17,7 +17,7 @@ use Rattle.mir_parser.specs.declared.closing.Parsed.{Parsed}
 use Rattle.mir_parser.specs.declared.program.Program.{Program}
 use Rattle.mir_parser.specs.declared.error.ParseError.{ParseError}
 use Rattle.mir_parser.specs.declared.error.ParseError.TheVariants as errors
-use Rattle.mir_parser.specs.Reading.{body_of}
+use Rattle.mir_parser.specs.BodyLines.{body_of}
 use Rattle.mir_parser.specs.Closing.{EndWell, closing_cause, function_of, ClosesWith, ParsesParts, Parses}
 use Rattle.mir_parser.specs.Program.{MAX_FUNCTIONS, Goes, too_many, FunctionsFrom, program_of, ReadsText}
 use Rattle.mirdwarf_tool.specs.Answer.{IsRefusedAt}

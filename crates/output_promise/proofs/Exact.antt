@@ -24,7 +24,7 @@ use Rattle.machine_steps.proofs.Points.{of_item}
 use Rattle.dwarf_loclists.specs.declared.range.Range.{Range}
 use Rattle.dwarf_loclists.specs.declared.range.Location.{Location}
 use Rattle.dwarf_loclists.specs.Ranges.{location_in, whole_place, nth_piece}
-use Rattle.dwarf_loclists.specs.Reading.{IsSection, LocationAt}
+use Rattle.dwarf_loclists.specs.Grammar.{IsSection, LocationAt}
 use Rattle.dwarf_loclists.proofs.OneReading.{one_section}
 use Rattle.compiled_text.specs.declared.output.ListedVariable.{ListedVariable}
 use Rattle.compiled_text.specs.declared.output.ListedFunction.{ListedFunction}

@@ -42,7 +42,7 @@ use Rattle.machine_steps.specs.Laid.{fetched}
 use Rattle.machine_steps.proofs.Points.{of_item}
 use Rattle.machine_layout.proofs.Addresses.{Chained, chained}
 use Rattle.dwarf_loclists.specs.declared.range.Range.{Range}
-use Rattle.dwarf_loclists.specs.Reading.{IsSection}
+use Rattle.dwarf_loclists.specs.Grammar.{IsSection}
 use Rattle.compiled_text.specs.declared.output.Line.{Line}
 use Rattle.compiled_text.specs.declared.output.Line.TheVariants.{Item as OfItem, Skip}
 use Rattle.compiled_text.specs.declared.output.ListedBlock.{ListedBlock}

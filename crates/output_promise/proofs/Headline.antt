@@ -21,7 +21,7 @@ use Rattle.machine_runs.proofs.Lists.{exact_give_wanted}
 use Rattle.machine_headline.specs.Entries.{IsEntryAt}
 use Rattle.machine_headline.proofs.LaidOut.{sources_meet_the_headline}
 use Rattle.dwarf_loclists.specs.declared.range.Range.{Range}
-use Rattle.dwarf_loclists.specs.Reading.{IsSection}
+use Rattle.dwarf_loclists.specs.Grammar.{IsSection}
 use Rattle.compiled_text.specs.declared.output.ListedFunction.{ListedFunction}
 use Rattle.compiled_text.specs.declared.output.Output.{Output}
 use Rattle.shown_program.specs.Laws.{IsFormed}

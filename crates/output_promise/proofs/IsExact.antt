@@ -20,7 +20,7 @@ use Rattle.code_layout.specs.Exact.{AreExact}
 use Rattle.code_words.specs.Rule.{entries_of}
 use Rattle.code_words.specs.steps.Emitted.{HasForm, point_of as as_point}
 use Rattle.dwarf_loclists.specs.declared.range.Range.{Range}
-use Rattle.dwarf_loclists.specs.Reading.{IsSection}
+use Rattle.dwarf_loclists.specs.Grammar.{IsSection}
 use Rattle.compiled_text.specs.declared.output.ListedFunction.{ListedFunction}
 use Rattle.compiled_text.specs.declared.output.Output.{Output}
 use Rattle.shown_program.specs.Program.{IsListedAt, blocks_shown, contents}

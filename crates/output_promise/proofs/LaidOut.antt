@@ -6,7 +6,7 @@ use Rattle.mir_func.specs.Function.{FramedFunction}
 use Rattle.mir_func.specs.SoundFrame.{IsFramed}
 use Rattle.frame_rule.proofs.Framed.{is_framed}
 use Rattle.dwarf_loclists.specs.declared.range.Range.{Range}
-use Rattle.dwarf_loclists.specs.Reading.{IsSection}
+use Rattle.dwarf_loclists.specs.Grammar.{IsSection}
 use Rattle.compiled_text.specs.declared.output.ListedFunction.{ListedFunction}
 use Rattle.compiled_text.specs.declared.output.Output.{Output}
 use Rattle.shown_program.specs.Listing.{object_listed}

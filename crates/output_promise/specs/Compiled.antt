@@ -12,7 +12,7 @@ use Rattle.code_words.specs.Long.{IsSettled}
 use Rattle.code_words.specs.Rule.{Layout, entries_of, words_of}
 use Rattle.frame_rule.specs.Rule.{size_of, framed_of}
 use Rattle.dwarf_loclists.specs.declared.range.Range.{Range}
-use Rattle.dwarf_loclists.specs.Reading.{IsSection}
+use Rattle.dwarf_loclists.specs.Grammar.{IsSection}
 use Rattle.transfer_emit.specs.Lists.{AreListsOf}
 use Rattle.compiled_text.specs.declared.output.ListedFunction.{ListedFunction}
 use Rattle.compiled_text.specs.declared.output.Output.{Output}

@@ -5,7 +5,7 @@ use Rattle.mir_func.specs.declared.variable.VarId.{VarId}
 use Rattle.mir_func.specs.Graph.{block_start}
 use Rattle.mir_func.specs.Parts.{Bytes}
 use Rattle.mir_func.specs.Resolve.{resolve}
-use Rattle.dwarf_loclists.specs.Reading.{PlaceAt, PieceAt}
+use Rattle.dwarf_loclists.specs.Grammar.{PlaceAt, PieceAt}
 use Rattle.code_layout.specs.Headline.{Headline}
 use Rattle.code_layout.specs.Exact.{AreExact}
 use Rattle.frame_rule.specs.Rule.{framed_of}

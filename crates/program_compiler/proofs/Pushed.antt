@@ -10,7 +10,7 @@ use Rattle.compiled_text.specs.declared.output.ListedFunction.{ListedFunction}
 use Rattle.compiled_text.specs.declared.output.ListedVariable.{ListedVariable}
 use Rattle.frame_rule.specs.Rule.{framed_of}
 use Rattle.function_compiler.specs.declared.compile.CompiledFunction.{CompiledFunction}
-use Rattle.function_listing.specs.Listing.{IsLaid}
+use Rattle.function_listing.specs.Laid.{IsLaid}
 use Rattle.function_listing.specs.Variables.{variables_listed}
 use Rattle.meta_reader.specs.Maps.{Maps}
 use Rattle.mir_body.specs.Limits.{MAX_ITEMS}

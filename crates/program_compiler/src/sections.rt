@@ -5,7 +5,7 @@ ghost use Rattle.dwarf_info.specs.Entries.{spelling as entries_spelling};
 ghost use Rattle.dwarf_line.specs.Spelling.{spelling as rows_spelling};
 ghost use Rattle.dwarf_loclists.specs.Spelling.{spelling as lists_spelling};
 ghost use Rattle.dwarf_loclists.specs.Ranges.{Ascend, ArePlaces};
-ghost use Rattle.dwarf_loclists.specs.Reading.{IsSection};
+ghost use Rattle.dwarf_loclists.specs.Grammar.{IsSection};
 ghost use Rattle.program_compiler.specs.Program.{SECTION_LIMIT};
 ghost use Rattle.program_compiler.specs.steps.Made.{AreWritable};
 ghost use Rattle.source_lines.specs.Program.{MAX_FUNCTIONS, table_of};

@@ -35,7 +35,7 @@ use Rattle.mir_body.specs.declared.body.Body.{Body}
 use Rattle.mir_body.specs.Body.{nothing_read, label_cause, with_label, item_cause, with_item}
 use Rattle.mir_body.specs.Met.{is_met}
 use Rattle.mir_parser.specs.Objects.{blocks_as}
-use Rattle.mir_parser.specs.Reading.{unless, judged_said, item_said, line_said, behind_line, and_then, body_behind, body_of}
+use Rattle.mir_parser.specs.BodyLines.{unless, judged_said, item_said, line_said, behind_line, and_then, body_behind, body_of}
 use Rattle.mir_parser.proofs.Bodies.{facts_apart}
 use Rattle.mir_parser.proofs.Renamed.{ids_as}
 use Rattle.reading_laws.proofs.Nodes.{Small}

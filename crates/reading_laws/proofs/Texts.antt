@@ -37,7 +37,7 @@ use Rattle.mir_parser.specs.declared.error.ParseError.{ParseError}
 use Rattle.mir_parser.specs.declared.program.Program.{Program}
 use Rattle.mir_parser.specs.Objects.{kind_as, blocks_as}
 use Rattle.mir_parser.specs.Closing.{entry_ids, parts_of, function_of, ParsesParts, Parses}
-use Rattle.mir_parser.specs.Reading.{body_of}
+use Rattle.mir_parser.specs.BodyLines.{body_of}
 use Rattle.mir_parser.specs.Program.{MAX_FUNCTIONS, Goes, too_many, FunctionsFrom, program_of}
 use Rattle.mir_printer.specs.Printable.{IsPrintable}
 use Rattle.mir_parser.specs.Limited.{KindIsLimited, LocIsLimited}

@@ -8,7 +8,7 @@ use crate::operand::Operands;
 use std::alloc::AllocError;
 use std::marker::Model;
 
-/// An instruction whose operands have the form of its opcode, with their immediate in range.
+/// An instruction whose operands have the form of its opcode, with their immediate in range (LLVM: `MachineInstr`).
 #[derive(Debug, Drop)]
 pub struct Instr {
     /// The opcode.

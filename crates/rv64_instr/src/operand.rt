@@ -9,7 +9,7 @@ use smallvec::SmallVec;
 use std::alloc::{AllocError, Global};
 use std::marker::Model;
 
-/// An operand of an instruction.
+/// An operand of an instruction (LLVM: `MachineOperand`).
 #[derive(Debug, Default, Drop)]
 pub enum Operand {
     /// A register that the instruction sets.

@@ -3,7 +3,7 @@
 use crate::reg::Reg;
 use numbers::code::SlotId;
 
-/// A place where a value may be found.
+/// A place where a value may be found (LLVM: a machine location, `LocIdx`).
 #[derive(Clone, Copy, Debug, PartialEq, Eq)]
 pub enum Place {
     /// A register.

@@ -5,7 +5,7 @@ ghost use Rattle.std.specs.Prelude.{◌≡◌, ◌<◌, ◌≤◌, ◌↔◌, If
 use lists::List;
 use std::marker::Model;
 
-/// A register by its number: 0 to 31 are x0 to x31, and 32 to 4,127 are virtual.
+/// A register by its number: 0 to 31 are x0 to x31, and 32 to 4,127 are virtual (LLVM: `MCRegister`, `Register`).
 #[derive(Clone, Copy, Debug, PartialEq, Eq, PartialOrd, Ord)]
 pub struct Reg {
     number: u32,

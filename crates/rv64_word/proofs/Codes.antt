@@ -11,7 +11,7 @@ use Rattle.rv64_instr.specs.declared.op.StoreOp.{StoreOp}
 use Rattle.rv64_word.specs.declared.word_op.WordOp.{WordOp}
 use Rattle.rv64_word.specs.declared.word_op.WordOp.TheVariants as op
 use Rattle.rv64_word.specs.Operation.{encoding_of}
-use Rattle.rv64_word.specs.Listing.{branch_of, load_of, store_of, immediate_of, register_of, word_immediate_of, word_register_of, operation_of}
+use Rattle.rv64_word.specs.Codes.{branch_of, load_of, store_of, immediate_of, register_of, word_immediate_of, word_register_of, operation_of}
 use Rattle.rv64_word.proofs.Operations.{Matches}
 
 -- the codes are the operation's, as far as its format has them

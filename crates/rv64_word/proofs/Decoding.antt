@@ -8,7 +8,7 @@ use Rattle.rv64_word.specs.declared.format.Format.TheVariants.{Register, Immedia
 use Rattle.rv64_word.specs.declared.machine_op.MachineOp.{MachineOp}
 use Rattle.rv64_word.specs.Format.{slices_of, shown, number_of}
 use Rattle.rv64_word.specs.Operation.{encoding_of}
-use Rattle.rv64_word.specs.Listing.{operation_of}
+use Rattle.rv64_word.specs.Codes.{operation_of}
 use Rattle.rv64_word.specs.MachineOp.{value_of, word_of, is_encodable, read_as}
 use Rattle.rv64_word.specs.Decoded.{code, decoded}
 use Rattle.rv64_word.specs.declared.word_op.WordOp.{WordOp}

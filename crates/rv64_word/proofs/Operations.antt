@@ -11,7 +11,7 @@ use Rattle.rv64_word.specs.declared.word_op.Encoding.{Encoding}
 use Rattle.rv64_word.specs.declared.word_op.WordOp.{WordOp}
 use Rattle.rv64_word.specs.declared.word_op.WordOp.TheVariants as op
 use Rattle.rv64_word.specs.Operation.{encoding_of}
-use Rattle.rv64_word.specs.Listing.{operation_of}
+use Rattle.rv64_word.specs.Codes.{operation_of}
 
 -- a word's funct3 and funct7 are those of the operation, as far as the format has them
 abbrev pub Matches : Format → Encoding → (funct3 funct7 : ℕ) → Type 0

@@ -6,7 +6,7 @@ use Rattle.rv64_word.specs.declared.format.Field.TheVariants.{Opcode, Funct3, Fu
 use Rattle.rv64_word.specs.declared.format.Format.TheVariants.{Register}
 use Rattle.rv64_word.specs.declared.machine_op.MachineOp.{MachineOp}
 use Rattle.rv64_word.specs.Format.{slices_of, shown}
-use Rattle.rv64_word.specs.Listing.{operation_of}
+use Rattle.rv64_word.specs.Codes.{operation_of}
 use Rattle.rv64_word.specs.MachineOp.{read_as}
 
 -- a code of a word: the R format has all three, and the others have theirs in the same place

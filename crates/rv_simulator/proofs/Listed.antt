@@ -8,7 +8,7 @@ use Rattle.dwarf_loclists.specs.declared.range.Location.{Location}
 use Rattle.dwarf_loclists.specs.declared.range.Location.TheVariants.{Whole, Parts}
 use Rattle.dwarf_loclists.specs.declared.range.Range.{Range}
 use Rattle.dwarf_loclists.specs.Ranges.{IsListed, ArePieces, IsLocated, ArePlaces, location_in, whole_place, nth_piece}
-use Rattle.dwarf_loclists.specs.Reading.{LocationAt, PlaceAt, PieceAt}
+use Rattle.dwarf_loclists.specs.Grammar.{LocationAt, PlaceAt, PieceAt}
 
 located : (ranges : List Range) (address : ℕ) (l : Location) → ArePlaces ranges → location_in ranges address ≡ Some l → IsLocated l
 located [] address l h e = absurd cc

@@ -2,7 +2,7 @@
 use Rattle.std.specs.Prelude.{◌≡◌, ℕ, ◌*◌, ◌%◌, ◌^◌, List, Option, option_map}
 use Rattle.rv64_instr.specs.declared.place.Place.{Place}
 use Rattle.dwarf_loclists.specs.declared.range.Part.{Part}
-use Rattle.dwarf_loclists.specs.Reading.{PlaceAt, PieceAt}
+use Rattle.dwarf_loclists.specs.Grammar.{PlaceAt, PieceAt}
 use Rattle.code_layout.specs.Machine.{Machine, place_content}
 use Rattle.rv_simulator.specs.declared.value.PartValue.{PartValue}
 

@@ -4,7 +4,7 @@ ghost use Rattle.std.specs.Prelude.{◌≡◌, ◌<◌, ◌^◌, ◌*◌, ◌%�
 ghost use Rattle.rv64_instr.specs.declared.place.Place.{Place};
 ghost use Rattle.dwarf_loclists.specs.declared.range.Range.{Range};
 ghost use Rattle.dwarf_loclists.specs.Fault.{FaultAt};
-ghost use Rattle.dwarf_loclists.specs.Reading.{IsSection};
+ghost use Rattle.dwarf_loclists.specs.Grammar.{IsSection};
 ghost use Rattle.dwarf_loclists.specs.Ranges.{IsListed};
 ghost use Rattle.code_layout.specs.Machine.{Machine as State, place_content};
 ghost use Rattle.rv_simulator.specs.Kept.{StandsFor};

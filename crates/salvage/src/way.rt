@@ -20,7 +20,7 @@ use rv64_instr::place::Place;
 use rv64_instr::reg::Reg;
 use substitution::substitutions::Substitutions;
 
-/// What becomes of the number of a copy that is removed.
+/// What becomes of the number of a copy that is removed (LLVM: salvaging of debug information).
 #[derive(Clone, Copy, Debug, PartialEq, Eq)]
 pub enum Way {
     /// Nothing is needed: its pair has a substitution.

@@ -7,7 +7,7 @@ use lists::List;
 use numbers::code::SlotId;
 use rv64_instr::reg::Reg;
 
-/// A spilled register and the slot in which it lives.
+/// A spilled register and the slot in which it lives (LLVM: the stack slot of a spilled register).
 #[derive(Clone, Copy, Debug, PartialEq, Eq)]
 pub struct Home {
     /// The register.

@@ -10,8 +10,8 @@ use std::alloc::{AllocError, Global};
 use std::collections::HashMap;
 use std::marker::Model;
 
-/// Substitutions of debug instruction numbers, in the order in which they were added. No two have the same
-/// source. A contract sees them as the list of the entries.
+/// Substitutions of debug instruction numbers, in the order in which they were added (LLVM:
+/// `debugValueSubstitutions`). No two have the same source. A contract sees them as the list of the entries.
 #[derive(Drop)]
 pub struct Substitutions {
     entries: Vec<Entry>,

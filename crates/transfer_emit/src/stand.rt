@@ -20,7 +20,7 @@ use mir_func::exit::Exit;
 use mir_func::item::{Item, ItemKind};
 use std::alloc::{AllocError, Global};
 
-/// Where the walk stands, and what it knows there.
+/// Where the walk stands, and what it knows there (LLVM: `TransferTracker`).
 #[derive(Drop)]
 pub struct Stand {
     /// The index of the block.

@@ -1,7 +1,7 @@
 -- What a reader of the code returned, against what is read.
 use Rattle.std.specs.Prelude.{◌≡◌, ℕ, List, Result, Ok, Err}
 use Rattle.dwarf_line.specs.declared.table.Sequence.{Sequence}
-use Rattle.dwarf_line.specs.Reading.{behind_header, Program}
+use Rattle.dwarf_line.specs.FirstFault.{behind_header, Program}
 use Rattle.dwarf_line.specs.declared.read.ReadError.{ReadError}
 use Rattle.dwarf_line.specs.declared.read.ReadError.TheVariants.{Memory, Left}
 

@@ -1,5 +1,5 @@
 use Rattle.std.proofs.Common.{◌≡◌, ◌-◌}
-use Rattle.dwarf_line.specs.Reading.{behind_dirs}
+use Rattle.dwarf_line.specs.FirstFault.{behind_dirs}
 use Rattle.dwarf_line.proofs.read.after_dirs.Given as goal
 
 abbrev pub invariant-loop : goal.invariant-loop

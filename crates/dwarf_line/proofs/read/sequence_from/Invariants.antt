@@ -2,7 +2,7 @@ use Rattle.std.proofs.Common.{ℕ, true, List, ◌++◌, length}
 use Rattle.dwarf_line.specs.declared.table.Row.{Row}
 use Rattle.dwarf_line.specs.Table.{IsRow}
 use Rattle.dwarf_line.specs.Spelling.{registers_at}
-use Rattle.dwarf_line.specs.Reading.{Rows, RowsFault}
+use Rattle.dwarf_line.specs.FirstFault.{Rows, RowsFault}
 use Rattle.dwarf_line.proofs.read.sequence_from.Given as goal
 
 abbrev pub invariant-loop-rows : goal.invariant-loop-rows

@@ -1,6 +1,6 @@
 use Rattle.std.proofs.Common.{ℕ, List, ◌++◌, length}
 use Rattle.dwarf_line.specs.declared.table.Sequence.{Sequence}
-use Rattle.dwarf_line.specs.Reading.{Program, ProgramFault}
+use Rattle.dwarf_line.specs.FirstFault.{Program, ProgramFault}
 use Rattle.dwarf_line.proofs.Fixed.{IsBytes}
 use Rattle.dwarf_line.proofs.read.sequences_of.Given as goal
 

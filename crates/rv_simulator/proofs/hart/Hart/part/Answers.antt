@@ -1,6 +1,6 @@
 use Rattle.std.proofs.Common.{ℕ, ◌*◌, ◌%◌, ◌^◌, Option, Some, None, refl, sym, ap, subst, ◌∙◌}
 use Rattle.dwarf_loclists.specs.declared.range.Part.{Part}
-use Rattle.dwarf_loclists.specs.Reading.{PieceAt}
+use Rattle.dwarf_loclists.specs.Grammar.{PieceAt}
 use Rattle.rv_simulator.specs.declared.value.PartValue.{PartValue}
 use Rattle.rv_simulator.proofs.Listed.{piece_listed}
 use Rattle.rv_simulator.proofs.hart.Hart.part.Goals as goal

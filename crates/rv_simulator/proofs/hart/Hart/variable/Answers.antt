@@ -1,6 +1,6 @@
 use Rattle.std.proofs.Common.{ℕ, Option, Some, None, refl, sym, ap, subst}
 use Rattle.rv64_instr.specs.declared.place.Place.{Place}
-use Rattle.dwarf_loclists.specs.Reading.{PlaceAt}
+use Rattle.dwarf_loclists.specs.Grammar.{PlaceAt}
 use Rattle.rv_simulator.proofs.Listed.{place_listed}
 use Rattle.rv_simulator.proofs.hart.Hart.variable.Goals as goal
 
