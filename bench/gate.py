@@ -53,7 +53,7 @@ def main():
     spent = {}
     run = subprocess.Popen(sys.argv[1:])
     for it in (signal.SIGINT, signal.SIGTERM):
-        signal.signal(it, lambda *_: run.send_signal(signal.SIGINT))
+        signal.signal(it, lambda *_: run.send_signal(signal.SIGTERM))
     while run.poll() is None:
         all_now = {pid: seen(pid) for pid in os.listdir("/proc") if pid.isdigit()}
         parents = {pid: now[2] for pid, now in all_now.items() if now}

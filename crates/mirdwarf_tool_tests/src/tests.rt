@@ -417,6 +417,74 @@ fn reads_that_fail_in_turn(rt: HostRuntime) -> Result<(), Fail> {
     Ok(())
 }
 
+/// A loop that adds up what a call gives, with registers that are saved.
+const LOOP: &[u8] = b"--- |
+  define i64 @sum(i64 %n) !dbg !8 { ret i64 0 }
+  declare i64 @g(i64)
+  !1 = !DIFile(filename: \"sum.c\", directory: \"/src\")
+  !5 = !DIBasicType(name: \"long\", size: 64, encoding: DW_ATE_signed)
+  !8 = distinct !DISubprogram(name: \"sum\", scope: !1, file: !1, line: 2)
+  !11 = !DILocalVariable(name: \"n\", arg: 1, scope: !8, file: !1, line: 2, type: !5)
+  !12 = !DILocalVariable(name: \"s\", scope: !8, file: !1, line: 3, type: !5)
+  !13 = !DILocation(line: 0, scope: !8)
+  !14 = !DILocation(line: 5, column: 10, scope: !8)
+...
+---
+name: sum
+body: |
+  bb.0.entry:
+    DBG_VALUE $x10, $noreg, !11, !DIExpression(), debug-location !13
+    renamable $x8 = COPY killed $x10
+    renamable $x9 = ADDI $x0, 0, debug-instr-number 1
+    DBG_INSTR_REF !12, !DIExpression(DW_OP_LLVM_arg, 0), dbg-instr-ref(1, 0), debug-location !13
+  bb.1.loop:
+    $x10 = COPY renamable $x8, debug-location !14
+    PseudoCALL @g, csr_ilp32_lp64, implicit-def dead $x1, implicit $x10, implicit-def $x10, debug-location !14
+    renamable $x9 = ADD killed renamable $x9, killed renamable $x10, debug-instr-number 2, debug-location !14
+    DBG_INSTR_REF !12, !DIExpression(DW_OP_LLVM_arg, 0), dbg-instr-ref(2, 0), debug-location !13
+    renamable $x8 = ADDI killed renamable $x8, -1, debug-location !14
+    BNE renamable $x8, $x0, %bb.1, debug-location !14
+  bb.2.done:
+    $x10 = COPY killed renamable $x9, debug-location !14
+    PseudoRET implicit $x10, debug-location !14
+...
+";
+
+/// Each call of the input fails in turn, and then each of the output.
+#[test]
+fn calls_that_fail_in_turn(rt: HostRuntime) -> Result<(), Fail> {
+    let alloc = rt.alloc();
+    let text = Bytes::from_slice(alloc, LOOP)?;
+    let (status, whole, _) = run_on(alloc, COMPILE, text, &NO_FAULT)?;
+    assert_eq!(rt; status, 0);
+    for call in 1..4 {
+        let faulty = Faulty {
+            read: call,
+            room: ROOM,
+            write: 0,
+        };
+        let text = Bytes::from_slice(alloc, LOOP)?;
+        let (status, output, _) = run_on(alloc, COMPILE, text, &faulty)?;
+        let fails = call < 3;
+        assert_eq!(rt; status, if fails { 4 } else { 0 });
+        assert_eq!(rt; output.written().is_empty(), fails);
+    }
+    for call in 1..3 {
+        let faulty = Faulty {
+            read: 0,
+            room: ROOM,
+            write: call,
+        };
+        let text = Bytes::from_slice(alloc, LOOP)?;
+        let (status, output, _) = run_on(alloc, COMPILE, text, &faulty)?;
+        let fails = call < 2;
+        assert_eq!(rt; status, if fails { 5 } else { 0 });
+        assert!(rt; whole.written().starts_with(output.written()));
+        assert_eq!(rt; output.written().is_empty(), fails);
+    }
+    Ok(())
+}
+
 /// Whatever room the output has, what stands on it is the front of the text.
 #[test]
 fn writes_that_fail_anywhere(rt: HostRuntime) -> Result<(), Fail> {
