@@ -2,6 +2,6 @@ pub mod Standard
 pub mod Table
 pub mod Spelling
 pub mod Fields
-pub mod Reading
+pub mod FirstFault
 pub mod Rows
 pub mod steps

@@ -1,6 +1,6 @@
 pub mod Standard
 pub mod Ranges
 pub mod Spelling
-pub mod Reading
+pub mod Grammar
 pub mod Fault
 pub mod steps

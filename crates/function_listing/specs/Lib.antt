@@ -1,5 +1,5 @@
 pub mod Variables
-pub mod Listing
+pub mod Laid
 pub mod Printable
 pub mod Laws
 pub mod steps

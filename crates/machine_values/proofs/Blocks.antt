@@ -21,7 +21,7 @@ use Rattle.class_entries.specs.declared.tracked.Tracked.{Tracked}
 use Rattle.class_entries.specs.Entry.{thing, PathTo}
 use Rattle.class_solver.specs.declared.flow.Flow.{Flow}
 use Rattle.class_solver.specs.Flows.{thing_token, token_at, Begins, Comes, GoesOn, AreFlows}
-use Rattle.machine_values.specs.Flowing.{next_id, AreFlowsOf}
+use Rattle.machine_values.specs.steps.Flowing.{next_id, AreFlowsOf}
 use Rattle.machine_values.proofs.Paths.{EndsQuietly, head_id, go_out, from_start, quiet_out, out_way, kind_out, contains_first}
 
 -- ---- blocks by their indices

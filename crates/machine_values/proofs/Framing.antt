@@ -38,10 +38,10 @@ use Rattle.mir_func.specs.SoundFrame.{
 use Rattle.mir_func.specs.Successors.{ways}
 use Rattle.mir_func.proofs.Ways.{IsOut}
 use Rattle.class_places.specs.Things.{IsOffset}
-use Rattle.machine_values.specs.Flowing.{next_id}
-use Rattle.machine_values.specs.Framing.{AreBlocks}
+use Rattle.machine_values.specs.steps.Flowing.{next_id}
+use Rattle.machine_values.specs.steps.Framing.{AreBlocks}
 use Rattle.machine_values.specs.Gathering.{RowHasOffset, PlaceHasOffset, HasOffsets}
-use Rattle.machine_values.specs.Ways.{Indices, enter_by, FindsIds}
+use Rattle.machine_values.specs.steps.Ways.{Indices, enter_by, FindsIds}
 use Rattle.machine_values.proofs.Paths.{way_back, contains_cases, contains_none}
 
 -- ---- lists

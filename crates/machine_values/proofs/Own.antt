@@ -25,7 +25,7 @@ use Rattle.class_solver.specs.declared.flow.Change.{Change}
 use Rattle.class_solver.specs.Joining.{source_from, source_at, AreWithin}
 use Rattle.class_solver.specs.Flows.{thing_token, token_at, told}
 use Rattle.class_solver.proofs.Exits.{beyond}
-use Rattle.machine_values.specs.Flowing.{Tells}
+use Rattle.machine_values.specs.steps.Flowing.{Tells}
 use Rattle.machine_values.specs.Keys.{key_of, is_key}
 use Rattle.machine_values.specs.Walking.{AreTracked, AreOwn, decoded, ClassesTell, Walked, AreChanges}
 use Rattle.machine_values.proofs.Keys.{key_itself, key_tells}

@@ -27,7 +27,7 @@ use Rattle.mir_meaning.specs.Step.{defined}
 use Rattle.path_tokens.specs.Pullback.{Tracked, InRegister, InSlot, OfPair, OfVariable, OfNumber, token_back, Was}
 use Rattle.path_tokens.specs.Pullback.{back, back_row, back_code, back_numbered, given_back}
 use Rattle.path_tokens.proofs.Backwards.{tokens_pull_back}
-use Rattle.machine_values.specs.Flowing.{HasForm}
+use Rattle.machine_values.specs.steps.Flowing.{HasForm}
 use Rattle.machine_values.proofs.Paths.{IsQuiet, QuietPast, EndsQuietly}
 
 -- ---- a jump

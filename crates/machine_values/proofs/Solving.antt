@@ -27,9 +27,9 @@ use Rattle.class_solver.specs.Hands.{AreSoundFlows}
 use Rattle.class_solver.specs.Flows.{AreFlows, IsStart}
 use Rattle.class_places.specs.Things.{AreThings}
 use Rattle.machine_values.specs.declared.changes.Tracking.{Tracking}
-use Rattle.machine_values.specs.Flowing.{HasForm, next_id, AreFlowsOf}
-use Rattle.machine_values.specs.Framing.{AreBlocks}
-use Rattle.machine_values.specs.Ways.{Indices, enter_by, FindsIds, IsFlowAt, FlowsBelow}
+use Rattle.machine_values.specs.steps.Flowing.{HasForm, next_id, AreFlowsOf}
+use Rattle.machine_values.specs.steps.Framing.{AreBlocks}
+use Rattle.machine_values.specs.steps.Ways.{Indices, enter_by, FindsIds, IsFlowAt, FlowsBelow}
 use Rattle.machine_values.proofs.Paths.{EndsQuietly}
 use Rattle.machine_values.proofs.Quiet.{ends_quietly, onward_quietly}
 use Rattle.machine_values.proofs.Blocks.{contains_map, past, flows_are}

@@ -14,7 +14,7 @@ use Rattle.class_entries.specs.Entry.{thing}
 use Rattle.class_solver.specs.Numbering.{class_in}
 use Rattle.class_solver.specs.Flows.{thing_token, token_at, IsStart}
 use Rattle.machine_values.proofs.Blocks.{past}
-use Rattle.machine_values.specs.Starting.{starts_with, own_class}
+use Rattle.machine_values.specs.steps.Starting.{starts_with, own_class}
 use Rattle.machine_values.specs.Walking.{AreTracked}
 
 -- the classes and bits of the first so many things

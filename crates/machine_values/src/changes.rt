@@ -7,7 +7,7 @@ ghost use Rattle.class_entries.specs.Entry.{thing as name_of};
 ghost use Rattle.class_places.specs.Things.{AreThings, Indexes};
 ghost use Rattle.class_places.specs.Held.{PLACES, Holds, Passes, pair_class as pair_class_of};
 ghost use Rattle.class_solver.specs.Joining.{AreWithin};
-ghost use Rattle.machine_values.specs.Flowing.{HasForm, Tells};
+ghost use Rattle.machine_values.specs.steps.Flowing.{HasForm, Tells};
 ghost use Rattle.machine_values.specs.Walking.{AreTracked, decoded, new_of, Walked, AreChanges, AreOwn};
 
 use class_entries::tracked::Tracked;

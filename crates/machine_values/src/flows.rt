@@ -8,9 +8,9 @@ ghost use Rattle.class_paths.specs.Classes.{KnowsItem};
 ghost use Rattle.class_entries.specs.Entry.{thing};
 ghost use Rattle.class_places.specs.Things.{AreThings, Indexes};
 ghost use Rattle.class_solver.specs.Joining.{AreWithin};
-ghost use Rattle.machine_values.specs.Flowing.{HasForm, Tells, next_id};
+ghost use Rattle.machine_values.specs.steps.Flowing.{HasForm, Tells, next_id};
 ghost use Rattle.machine_values.specs.Walking.{AreTracked, AreOwn};
-ghost use Rattle.machine_values.specs.Ways.{enter_by, FlowsBelow, IsFlowAt};
+ghost use Rattle.machine_values.specs.steps.Ways.{enter_by, FlowsBelow, IsFlowAt};
 
 use crate::changes::{Tracking, changes_of};
 use crate::ways::{Indices, ways_of};

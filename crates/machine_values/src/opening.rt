@@ -3,7 +3,7 @@
 ghost use Rattle.std.specs.Prelude.{◌≡◌, ◌<◌, IfOk, length};
 ghost use Rattle.class_solver.specs.Flows.{IsStart};
 ghost use Rattle.machine_values.specs.Walking.{AreTracked};
-ghost use Rattle.machine_values.specs.Starting.{starts_with, own_class};
+ghost use Rattle.machine_values.specs.steps.Starting.{starts_with, own_class};
 
 use class_entries::entry::{Bits, BlockEntry, Numbers};
 use class_entries::tracked::Tracked;

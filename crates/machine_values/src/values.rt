@@ -8,7 +8,7 @@ ghost use Rattle.class_entries.specs.Entry.{thing, IsEntry};
 ghost use Rattle.class_paths.specs.Classes.{KnowsItem};
 ghost use Rattle.class_paths.specs.Wanted.{AreThingsOf};
 ghost use Rattle.mir_func.specs.Sound.{AllItems};
-ghost use Rattle.machine_values.specs.Framing.{AreBlocks};
+ghost use Rattle.machine_values.specs.steps.Framing.{AreBlocks};
 ghost use Rattle.machine_values.specs.Walking.{AreTracked};
 ghost use Rattle.class_places.specs.Things.{AreThings};
 

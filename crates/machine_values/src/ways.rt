@@ -4,7 +4,7 @@ ghost use Rattle.std.specs.Prelude.{◌≡◌, ℕ, ◌<◌, ◌+◌, suc, List,
 ghost use Rattle.std.specs.HashMap.{get};
 ghost use Rattle.mir_func.specs.declared.block.Block.{Block};
 ghost use Rattle.mir_func.specs.Successors.{ways};
-ghost use Rattle.machine_values.specs.Ways.{enter_by, FindsIds};
+ghost use Rattle.machine_values.specs.steps.Ways.{enter_by, FindsIds};
 
 use class_solver::flow::Ways;
 use mir_func::block::Block;

@@ -13,7 +13,7 @@ use Rattle.mir_frame.specs.declared.key.Key.TheVariants.{Name, Stack, FixedStack
 use Rattle.mir_frame.specs.declared.open_function.OpenFunction.{OpenFunction}
 use Rattle.mir_frame.specs.Key.{heading, is_plain, opens_block, opens_function}
 use Rattle.mir_frame.specs.Documents.{same_key, begins, has_key, key_behind, lines_under, function_document, is_fault, is_complete}
-use Rattle.mir_frame.specs.Scan.{has, can_not_take, taken_under, taken, can_close, closed_at}
+use Rattle.mir_frame.specs.steps.Scan.{has, can_not_take, taken_under, taken, can_close, closed_at}
 
 -- the key of the last of some lines, where `before` is that of the line before them
 abbrev pub last_key : Key → List Line → Key

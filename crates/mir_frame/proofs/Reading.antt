@@ -6,7 +6,7 @@ use Rattle.std.proofs.lemmas.List.{nil_from_length}
 use Rattle.mir_lexer.specs.declared.line.Line.{Line}
 use Rattle.mir_frame.specs.declared.scan.Scan.{Scan}
 use Rattle.mir_frame.specs.Lines.{trimmed, numbered}
-use Rattle.mir_frame.specs.Scan.{scan, scan_or_stop, step, fault, fault_at_end, found}
+use Rattle.mir_frame.specs.steps.Scan.{scan, scan_or_stop, step, fault, fault_at_end, found}
 
 -- the next line of a text
 abbrev pub next : ℕ → List ℕ → Line

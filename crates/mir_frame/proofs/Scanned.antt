@@ -14,7 +14,7 @@ use Rattle.mir_frame.specs.Key.{is_close, is_passed, opens_block, opens_function
 use Rattle.mir_frame.specs.Lines.{numbered, lines_of}
 use Rattle.mir_frame.specs.Documents.{lines_under, inside, is_closed, is_fault, is_complete, first_fault, fault_or, function_document, function_from}
 use Rattle.mir_frame.specs.Documents.{block_from, stops, documents_from, documents_of}
-use Rattle.mir_frame.specs.Scan.{scan, scan_or_stop, start, just_opened, taken, can_close, can_not_take, closed_at}
+use Rattle.mir_frame.specs.steps.Scan.{scan, scan_or_stop, start, just_opened, taken, can_close, can_not_take, closed_at}
 use Rattle.mir_frame.proofs.OneFunction.{opened_with, taken-is, can_not_take-is, can_close-is, closed_at-is}
 
 -- ---- the first line of a document

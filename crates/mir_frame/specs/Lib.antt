@@ -1,4 +1,4 @@
 pub mod Lines
 pub mod Key
 pub mod Documents
-pub mod Scan
+pub mod steps

@@ -16,7 +16,7 @@ use Rattle.mir_func.specs.declared.object.Object.{Object}
 use Rattle.mir_func.specs.declared.sound.Declared.{Declared}
 use Rattle.mir_func.specs.Function.{Function}
 use Rattle.mir_func.specs.Limits.{MAX_BLOCKS, MAX_SLOTS}
-use Rattle.mir_func.specs.Checks.{PhiIsApart, IsSoundItem, IsSoundBlock, AreSoundParts, AreSoundObjects}
+use Rattle.mir_func.specs.steps.Checks.{PhiIsApart, IsSoundItem, IsSoundBlock, AreSoundParts, AreSoundObjects}
 use Rattle.mir_func.proofs.Once.{codes_of, IsCode, PhiOff, codes_apart, phis_off, once_from}
 
 -- what `all` answers, both ways

@@ -5,9 +5,9 @@ pub mod Objects
 pub mod Function
 pub mod Exits
 pub mod Sound
-pub mod Checks
 pub mod SoundFrame
 pub mod Graph
 pub mod Resolve
 pub mod Strip
 pub mod Successors
+pub mod steps

@@ -2,7 +2,7 @@
 
 ghost use Rattle.std.specs.Prelude.{◌≡◌, ◌↔◌, ◌+◌, ◌≤◌, IfOk, IsTrue};
 ghost use Rattle.mir_func.specs.Sound.{HasBytes};
-ghost use Rattle.mir_func.specs.Checks.{AreSizes};
+ghost use Rattle.mir_func.specs.steps.Checks.{AreSizes};
 
 use crate::object::{Object, Objects};
 use numbers::code::ObjectId;
@@ -23,7 +23,7 @@ impl Model for ObjectSizes {
 
     ghost Value = { List Object };
 
-    ghost use Rattle.mir_func.specs.Checks.{AreSizes};
+    ghost use Rattle.mir_func.specs.steps.Checks.{AreSizes};
 
     ghost view = { λ s. s.list };
 

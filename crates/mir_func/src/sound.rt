@@ -25,7 +25,7 @@ ghost use Rattle.mir_func.specs.Sound.{
   LastCloses,
   IsSound,
 };
-ghost use Rattle.mir_func.specs.Checks.{PhiIsApart, IsSoundItem, IsSoundBlock, AreSoundParts};
+ghost use Rattle.mir_func.specs.steps.Checks.{PhiIsApart, IsSoundItem, IsSoundBlock, AreSoundParts};
 
 use crate::block::Block;
 use crate::exit::Exit;

@@ -4,7 +4,7 @@ ghost use Rattle.std.specs.Prelude.{◌≡◌, ◌↔◌, ◌≤◌, map, length
 ghost use Rattle.mir_func.specs.Limits.{MAX_SLOTS};
 ghost use Rattle.mir_func.specs.Objects.{ALIGNMENTS, AreLaidFrom};
 ghost use Rattle.mir_func.specs.Sound.{IsSoundObject};
-ghost use Rattle.mir_func.specs.Checks.{AreSoundObjects};
+ghost use Rattle.mir_func.specs.steps.Checks.{AreSoundObjects};
 
 use crate::limits::{ALIGNMENTS, MAX_NUMBER};
 use crate::number_set::Numbers;

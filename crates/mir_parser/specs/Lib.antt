@@ -1,5 +1,5 @@
 pub mod Limited
-pub mod Reading
+pub mod BodyLines
 pub mod Objects
 pub mod Closing
 pub mod Program

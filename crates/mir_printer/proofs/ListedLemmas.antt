@@ -5,7 +5,7 @@ use Rattle.std.proofs.lemmas.List.{append-nil, map-append}
 use Rattle.std.proofs.lemmas.List.Elements.{filter_more}
 use Rattle.rv64_instr.specs.declared.operand.Operand.{Operand}
 use Rattle.mir_printer.specs.Spelling.{comma_separated, definitions_text, operand_text, uses_text}
-use Rattle.mir_printer.specs.Listed.{listed_text, selects, selected_texts, has_any}
+use Rattle.mir_printer.specs.steps.Listed.{listed_text, selects, selected_texts, has_any}
 
 -- what stands before the next text
 abbrev pub next_lead : List ℕ → List (List ℕ) → List ℕ

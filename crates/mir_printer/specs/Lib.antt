@@ -1,4 +1,4 @@
 pub mod Spelling
 pub mod Growth
-pub mod Listed
 pub mod Printable
+pub mod steps

@@ -3,7 +3,7 @@
 ghost use Rattle.std.specs.Prelude.{◌≡◌, ◌++◌, filter, not, OnOk, OnErr, IfOk};
 ghost use Rattle.mir_printer.specs.Growth.{GrownFrom};
 ghost use Rattle.mir_printer.specs.Spelling.{definitions_text, instruction_text, is_definition, number_text, uses_text};
-ghost use Rattle.mir_printer.specs.Listed.{selects, selected_texts, listed_text, has_any};
+ghost use Rattle.mir_printer.specs.steps.Listed.{selects, selected_texts, listed_text, has_any};
 
 use crate::operand::push_operand;
 use crate::text::{Text, push_numbered, push_str};

@@ -2,6 +2,6 @@ pub mod Format
 pub mod Operation
 pub mod MachineOp
 pub mod Decoded
-pub mod Listing
+pub mod Codes
 pub mod MachineRow
 pub mod Lowering

@@ -1,4 +1,4 @@
-use Rattle.machine_values.specs.Ways.{FlowsBelow}
+use Rattle.machine_values.specs.steps.Ways.{FlowsBelow}
 use Rattle.machine_values.proofs.flows.flows_of.Given as goal
 
 abbrev pub invariant-loop-b : goal.invariant-loop-b

@@ -7,7 +7,7 @@ use Rattle.mir_func.specs.Resolve.{resolve}
 use Rattle.class_paths.specs.Wanted.{AreThingsOf}
 use Rattle.class_entries.specs.declared.tracked.Tracked.{Tracked}
 use Rattle.class_entries.specs.Entry.{thing, IsEntry}
-use Rattle.machine_values.specs.Framing.{AreBlocks}
+use Rattle.machine_values.specs.steps.Framing.{AreBlocks}
 use Rattle.machine_values.proofs.Framing.{are_blocks}
 use Rattle.machine_values.proofs.Solving.{things_are}
 use Rattle.machine_values.proofs.values.solve.Goals as goal

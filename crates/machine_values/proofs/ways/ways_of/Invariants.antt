@@ -1,6 +1,6 @@
 use Rattle.std.proofs.Common.{◌≡◌, ◌++◌, drop, map}
 use Rattle.mir_func.specs.Successors.{ways}
-use Rattle.machine_values.specs.Ways.{enter_by}
+use Rattle.machine_values.specs.steps.Ways.{enter_by}
 use Rattle.machine_values.proofs.ways.ways_of.Given as goal
 
 abbrev pub invariant-loop-item : goal.invariant-loop-item

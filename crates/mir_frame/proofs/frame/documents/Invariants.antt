@@ -1,7 +1,7 @@
 use Rattle.std.proofs.Common.{◌≡◌, ◌+◌, ◌≤◌, length}
 use Rattle.std.specs.Str.Lines.{lines}
 use Rattle.mir_frame.specs.Lines.{numbered}
-use Rattle.mir_frame.specs.Scan.{scan}
+use Rattle.mir_frame.specs.steps.Scan.{scan}
 use Rattle.mir_frame.specs.Documents.{documents_of}
 use Rattle.mir_frame.proofs.frame.documents.Given as goal
 

@@ -5,7 +5,7 @@ use Rattle.std.proofs.lemmas.Iterator.{YieldsList-from_map}
 use Rattle.std.proofs.lemmas.Iterator.Adapters.{YieldsList-from_rev_slice, fact_from_collect}
 use Rattle.std.proofs.lemmas.Iterator.Consumers.{YieldsList-at}
 use Rattle.std.proofs.lemmas.Result.{IfOk-weaker}
-use Rattle.mir_func.specs.Checks.{AreSizes}
+use Rattle.mir_func.specs.steps.Checks.{AreSizes}
 use Rattle.mir_func.proofs.Laid.{size_pair, sizes_found}
 use Rattle.mir_func.proofs.object_sizes.sizes_of.Goals as goal
 

@@ -1,6 +1,6 @@
 use Rattle.std.proofs.Common.{◌≡◌, ◌<◌, ◌++◌, ◌∙◌, sym, ap, take, length, get_or, true, false, append_assoc}
 use Rattle.mir_printer.specs.Spelling.{operand_text}
-use Rattle.mir_printer.specs.Listed.{selects, selected_texts, listed_text, has_any}
+use Rattle.mir_printer.specs.steps.Listed.{selects, selected_texts, listed_text, has_any}
 use Rattle.mir_printer.proofs.ListedLemmas.{next_lead, listed_text-snoc, selected_texts-taken, selected_texts-left, next_lead-snoc, has_any-snoc}
 use Rattle.mir_printer.proofs.instruction.push_operands.Goals as goal
 use Rattle.mir_printer.proofs.instruction.push_operands.Goals.{then-is_selected+in_ok-push_str+in_ok-push_operand, else-is_selected}

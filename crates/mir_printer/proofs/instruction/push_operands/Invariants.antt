@@ -1,5 +1,5 @@
 use Rattle.std.proofs.Common.{◌≡◌, ◌++◌, take}
-use Rattle.mir_printer.specs.Listed.{selected_texts, listed_text, has_any}
+use Rattle.mir_printer.specs.steps.Listed.{selected_texts, listed_text, has_any}
 use Rattle.mir_printer.proofs.ListedLemmas.{next_lead}
 use Rattle.mir_printer.proofs.instruction.push_operands.Given as goal
 

@@ -9,7 +9,7 @@ use Rattle.mir_func.specs.Successors.{ways}
 use Rattle.class_solver.specs.declared.flow.Flow.{Flow}
 use Rattle.class_solver.specs.Joining.{AreWithin}
 use Rattle.machine_values.specs.declared.changes.Tracking.{Tracking}
-use Rattle.machine_values.specs.Flowing.{HasForm, Tells, next_id}
+use Rattle.machine_values.specs.steps.Flowing.{HasForm, Tells, next_id}
 
 -- indices by numbers
 abbrev pub Indices : Type 0

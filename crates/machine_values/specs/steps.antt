@@ -1,0 +1,4 @@
+pub mod Flowing
+pub mod Framing
+pub mod Starting
+pub mod Ways
