@@ -234,7 +234,7 @@ fn after_files(count: u64, bytes: &[u8]) -> Result<&[u8], ReadError>
 }
 
 /// What is behind the tables.
-#[tactic(auto, unfolding(crate::specs::Reading::behind_tables))]
+#[tactic(auto, unfolding(crate::specs::FirstFault::behind_tables))]
 fn after_tables(bytes: &[u8]) -> Result<&[u8], ReadError>
     ensures { Gives (λ x. x.now) result (behind_tables bytes.now) }
 {
@@ -248,7 +248,7 @@ fn after_tables(bytes: &[u8]) -> Result<&[u8], ReadError>
 }
 
 /// What is behind the header: the line number program.
-#[tactic(auto, unfolding(crate::specs::Reading::behind_header))]
+#[tactic(auto, unfolding(crate::specs::FirstFault::behind_header))]
 fn after_header(bytes: &[u8]) -> Result<&[u8], ReadError>
     ensures { Gives (λ x. x.now) result (behind_header bytes.now) }
 {
@@ -270,7 +270,7 @@ fn after_header(bytes: &[u8]) -> Result<&[u8], ReadError>
 }
 
 /// The file behind an opcode that may change it.
-#[tactic(auto, unfolding(crate::specs::Reading::register_at))]
+#[tactic(auto, unfolding(crate::specs::FirstFault::register_at))]
 fn file_at(before: u32, bytes: &[u8]) -> Result<(u32, &[u8]), ReadError>
     ensures { Gives (λ x. (x.0, x.1.now)) result
         (register_at Standard.DW_LNS_set_file (uleb_at (2 ^ 32)) before bytes.now) }
@@ -288,7 +288,7 @@ fn file_at(before: u32, bytes: &[u8]) -> Result<(u32, &[u8]), ReadError>
 }
 
 /// The column behind an opcode that may change it.
-#[tactic(auto, unfolding(crate::specs::Reading::register_at))]
+#[tactic(auto, unfolding(crate::specs::FirstFault::register_at))]
 fn column_at(before: u32, bytes: &[u8]) -> Result<(u32, &[u8]), ReadError>
     ensures { Gives (λ x. (x.0, x.1.now)) result
         (register_at Standard.DW_LNS_set_column (uleb_at (2 ^ 32)) before bytes.now) }
@@ -306,7 +306,7 @@ fn column_at(before: u32, bytes: &[u8]) -> Result<(u32, &[u8]), ReadError>
 }
 
 /// The line behind an opcode that may advance it.
-#[tactic(auto, unfolding(crate::specs::Reading::register_at))]
+#[tactic(auto, unfolding(crate::specs::FirstFault::register_at))]
 fn new_line_at(before: u32, bytes: &[u8]) -> Result<(u32, &[u8]), ReadError>
     ensures { Gives (λ x. (x.0, x.1.now)) result
         (register_at Standard.DW_LNS_advance_line (line_at before) before bytes.now) }
@@ -324,7 +324,7 @@ fn new_line_at(before: u32, bytes: &[u8]) -> Result<(u32, &[u8]), ReadError>
 }
 
 /// The address behind an opcode that may advance it, but before a sequence's first row.
-#[tactic(auto, unfolding(crate::specs::Reading::advance_at))]
+#[tactic(auto, unfolding(crate::specs::FirstFault::advance_at))]
 fn address_at(first: bool, from: u64, bytes: &[u8]) -> Result<(Advance, &[u8]), ReadError>
     ensures { Gives (λ x. (x.0, x.1.now)) result (advance_at first from bytes.now) }
 {
@@ -349,7 +349,7 @@ fn address_at(first: bool, from: u64, bytes: &[u8]) -> Result<(Advance, &[u8]), 
 }
 
 /// A row that is copied, if the address wasn't advanced by 0.
-#[tactic(auto, unfolding(crate::specs::Reading::copied_at))]
+#[tactic(auto, unfolding(crate::specs::FirstFault::copied_at))]
 fn copied<'a>(
     before: &Row,
     row: Row,
@@ -365,7 +365,7 @@ fn copied<'a>(
 }
 
 /// The end of a sequence, if its address alone was advanced.
-#[tactic(auto, unfolding(crate::specs::Reading::ended_at))]
+#[tactic(auto, unfolding(crate::specs::FirstFault::ended_at))]
 fn ended<'a>(
     before: &Row,
     row: Row,
@@ -384,7 +384,7 @@ fn ended<'a>(
 }
 
 /// What the opcode gives that closes those which set the registers.
-#[tactic(auto, unfolding(crate::specs::Reading::closed_at))]
+#[tactic(auto, unfolding(crate::specs::FirstFault::closed_at))]
 fn closed<'a>(
     before: &Row,
     row: Row,
@@ -401,7 +401,7 @@ fn closed<'a>(
 }
 
 /// The opcodes of one row, or of a sequence's end.
-#[tactic(auto, unfolding(crate::specs::Reading::group_at))]
+#[tactic(auto, unfolding(crate::specs::FirstFault::group_at))]
 fn next_group<'a>(
     first: bool,
     before: &Row,
@@ -423,7 +423,7 @@ fn next_group<'a>(
 }
 
 /// The address at which a sequence begins.
-#[tactic(auto, unfolding(crate::specs::Reading::start_at))]
+#[tactic(auto, unfolding(crate::specs::FirstFault::start_at))]
 fn start(bytes: &[u8]) -> Result<(u64, &[u8]), ReadError>
     ensures { Gives (λ x. (x.0, x.1.now)) result (start_at bytes.now) }
 {

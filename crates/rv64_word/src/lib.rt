@@ -2,8 +2,8 @@
 //! format, and read back by the same table.
 #![tactic(auto)]
 
-pub mod codes;
 pub mod format;
 pub mod lowering;
 pub mod machine_op;
+pub mod opcodes;
 pub mod word_op;

@@ -5,8 +5,8 @@ ghost use Rattle.rv64_instr.specs.Form.{is_within};
 ghost use Rattle.rv64_word.specs.Decoded.{decoded};
 ghost use Rattle.rv64_word.specs.MachineOp.{value_of, word_of, is_encodable, read_as, is_register, is_even};
 
-use crate::codes::operation;
 use crate::format::{Field, Format};
+use crate::opcodes::operation;
 use crate::word_op::WordOp;
 
 /// A machine operation: what a word spells.

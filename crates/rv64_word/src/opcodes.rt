@@ -16,7 +16,7 @@ use crate::word_op::WordOp;
 use rv64_instr::op::{BranchOp, ImmediateOp, LoadOp, RegisterOp, StoreOp};
 
 /// The operation of an opcode, a funct3 and a funct7, as far as the opcode has them.
-#[tactic(auto, unfolding(crate::specs::Listing::operation_of))]
+#[tactic(auto, unfolding(crate::specs::Codes::operation_of))]
 pub fn operation(opcode: u32, funct3: u32, funct7: u32) -> Option<WordOp>
     ensures { result ≡ operation_of opcode funct3 funct7 }
 {
