@@ -1,16 +1,16 @@
 -- Brackets by their depths, and by the grammar.
-use Rattle.std.proofs.Common.{◌≡◌, ◌⊎◌, inl, inr, ℕ, zero, suc, ◌+◌, ◌-◌, ◌<◌, ◌≤◌, ◌==◌, ◌||◌, ◌&&◌, ◌×◌, Bool, true, false, cond, List, [], ◌∷◌, ◌++◌, length}
-use Rattle.std.proofs.Common.{absurd, refl, sym, ap, subst, ◌∙◌, arith, append_assoc, add-one, sub-one, length-append}
-use Rattle.std.proofs.lemmas.Bool.{cases_Bool, or_parts, or_cases, or_from, eqb-true, true≢false, false≢true}
+use Rattle.std.proofs.Common.{◌≡◌, inl, inr, ℕ, zero, suc, ◌+◌, ◌-◌, ◌≤◌, ◌==◌, ◌||◌, ◌&&◌, Bool, true, false, cond, List, [], ◌∷◌, ◌++◌, length}
+use Rattle.std.proofs.Common.{refl, sym, ap, subst, ◌∙◌, arith, append_assoc, add-one, sub-one, length-append}
+use Rattle.std.proofs.lemmas.Bool.{cases_Bool, or_parts, or_cases, or_from, ne_eqb, eqb-true, true≢false, false≢true}
 use Rattle.mir_lexer.specs.declared.parts.Class.{Class}
 use Rattle.mir_lexer.specs.declared.parts.Class.TheVariants.{Word, Register, Percent, Node, Kind, Symbol, Integer, Text, Single}
 use Rattle.mir_lexer.specs.declared.parts.Token.{Token}
 use Rattle.meta_reader.specs.Token.{is_byte, is_word, is_single_class, is_word_class}
 use Rattle.meta_reader.specs.Field.{opens, closes, ends_piece, depth_behind}
-use Rattle.metadata_grammar.specs.Grammar.{IsClosed, IsValue}
+use Rattle.metadata_grammar.specs.Grammar.{IsClosed, IsValue, nothing, plain, within}
 
 -- no token from this depth on ends a piece, and at the end no bracket is open
-pub run : ℕ → List Token → Bool
+unfoldable pub run : ℕ → List Token → Bool
 run d [] = d == 0
 run d (t ∷ ts) = cond (ends_piece d t) false (run (depth_behind d t) ts)
 
@@ -49,31 +49,43 @@ word_class Integer e n = refl
 word_class Text e n = refl
 word_class (Single b) e n = absurd (false≢true e)
 
+no_zero : (d : ℕ) → (suc d == 0) ≡ false
+no_zero d = ne_eqb (suc d) 0 (λ e. absurd (let no : suc d ≡ 0 = e in omega (arith, no)))
+
 -- a token ends no piece inside a bracket
 inside_ends : (d : ℕ) (t : Token) → ends_piece (suc d) t ≡ false
-inside_ends d t = refl
+inside_ends d t = ap (λ (z : Bool). z && (is_byte 44 t || closes t)) (no_zero d)
+
+inside : (d : ℕ) (t : Token) (ts : List Token) → run (suc d) (t ∷ ts) ≡ run (depth_behind (suc d) t) ts
+unfolding run
+inside d t ts = ap (λ (z : Bool). cond z false (run (depth_behind (suc d) t) ts)) (inside_ends d t)
 
 deeper : (d : ℕ) (t : Token) (ts : List Token) → opens t ≡ true → run (suc d) (t ∷ ts) ≡ run (suc (suc d)) ts
-deeper d t ts e = ap (λ (z : Bool). run (cond z (suc d + 1) (cond (closes t) (suc d - 1) (suc d))) ts) e ∙ ap (λ (n : ℕ). run n ts) (add-one (suc d))
+deeper d t ts e = inside d t ts ∙ ap (λ (z : Bool). run (cond z (suc d + 1) (cond (closes t) (suc d - 1) (suc d))) ts) e ∙ ap (λ (n : ℕ). run n ts) (add-one (suc d))
 
 back : (d : ℕ) (t : Token) (ts : List Token) → closes t ≡ true → run (suc d) (t ∷ ts) ≡ run d ts
 back d t ts e =
+    inside d t ts ∙
     ap (λ (z : Bool). run (cond z (suc d + 1) (cond (closes t) (suc d - 1) (suc d))) ts) (closes_alone t e)
     ∙ ap (λ (z : Bool). run (cond z (suc d - 1) (suc d)) ts) e ∙ ap (λ (n : ℕ). run n ts) (sub-one (suc d))
 
 level : (d : ℕ) (t : Token) (ts : List Token) → opens t ≡ false → closes t ≡ false → run (suc d) (t ∷ ts) ≡ run (suc d) ts
 level d t ts o e =
+    inside d t ts ∙
     ap (λ (z : Bool). run (cond z (suc d + 1) (cond (closes t) (suc d - 1) (suc d))) ts) o ∙ ap (λ (z : Bool). run (cond z (suc d - 1) (suc d)) ts) e
 
 top_opens : (t : Token) (ts : List Token) → ends_piece 0 t ≡ false → opens t ≡ true → run 0 (t ∷ ts) ≡ run 1 ts
+unfolding run
 top_opens t ts n e = ap (λ (z : Bool). cond z false (run (depth_behind 0 t) ts)) n
     ∙ ap (λ (z : Bool). run (cond z (0 + 1) (cond (closes t) (0 - 1) 0)) ts) e
 
 top_level : (t : Token) (ts : List Token) → ends_piece 0 t ≡ false → opens t ≡ false → closes t ≡ false → run 0 (t ∷ ts) ≡ run 0 ts
+unfolding run
 top_level t ts n o e = ap (λ (z : Bool). cond z false (run (depth_behind 0 t) ts)) n
     ∙ ap (λ (z : Bool). run (cond z (0 + 1) (cond (closes t) (0 - 1) 0)) ts) o ∙ ap (λ (z : Bool). run (cond z (0 - 1) 0) ts) e
 
 top_ends : (t : Token) (ts : List Token) → ends_piece 0 t ≡ true → run 0 (t ∷ ts) ≡ false
+unfolding run
 top_ends t ts e = ap (λ (z : Bool). cond z false (run (depth_behind 0 t) ts)) e
 
 -- ---- by the grammar what is closed comes back to its depth
@@ -106,6 +118,7 @@ comma_opens t e = by_open t.class e where
   ]
 
 pub value_run : {ts : List Token} → IsValue ts → run 0 ts ≡ true
+unfolding run
 value_run nothing = refl
 value_run (plain {ts} t n o e is) = top_level t ts (or_from (is_byte 44 t) (closes t) n e) o e ∙ value_run is
 value_run (within {inside} {behind} t c o e is more) =
@@ -129,10 +142,11 @@ shorter inside c behind ts n e le =
     omega (arith, le, total)
 
 parted : (n d : ℕ) (ts : List Token) → length ts ≤ n → run (suc d) ts ≡ true → IsParted d ts
-parted n d [] le e = absurd (false≢true e)
+unfolding run
+parted n d [] le e = absurd (false≢true (sym (no_zero d) ∙ e))
 parted zero d (t ∷ ts) le e = absurd (let no : suc (length ts) ≤ 0 = le in omega (arith, no))
 parted (suc n) d (t ∷ ts) le e = elim (cases_Bool (opens t)) [
-  | inl o ↦ nested o (parted n (suc d) ts (omega (arith, le)) (sym (deeper d t ts o) ∙ e))
+  | inl o ↦ nested o (λ e us. parted n e us) (parted n (suc d) ts (omega (arith, le)) (sym (deeper d t ts o) ∙ e))
   | inr o ↦ elim (cases_Bool (closes t)) [
     | inl k ↦ record { inside = []; c = t; behind = ts; text = refl; closing = k; closed = nothing; goes_on = sym (back d t ts k) ∙ e }
     | inr k ↦ onward o k (parted n d ts (omega (arith, le)) (sym (level d t ts o k) ∙ e))
@@ -149,9 +163,9 @@ parted (suc n) d (t ∷ ts) le e = elim (cases_Bool (opens t)) [
     goes_on = p.goes_on;
   }
 
-  nested : opens t ≡ true → IsParted (suc d) ts → IsParted d (t ∷ ts)
-  nested o p =
-      let q : IsParted d p.behind = parted n d p.behind (shorter p.inside p.c p.behind ts n p.text (omega (arith, le))) p.goes_on in
+  nested : opens t ≡ true → ((e : ℕ) (us : List Token) → length us ≤ n → run (suc e) us ≡ true → IsParted e us) → IsParted (suc d) ts → IsParted d (t ∷ ts)
+  nested o again p =
+      let q : IsParted d p.behind = again d p.behind (shorter p.inside p.c p.behind ts n p.text (omega (arith, le))) p.goes_on in
       record {
         inside = t ∷ (p.inside ++ p.c ∷ q.inside);
         c = q.c;
@@ -209,7 +223,7 @@ colon_class (Single b) e = subst (λ (n : ℕ). ((n == 44) ≡ false) × ((n == 
     (sym (eqb-true b 58 e)) (refl, refl, refl)
 
 quiet_run : (t : Token) (ts : List Token) → Quiet t → run 0 (t ∷ ts) ≡ run 0 ts
-quiet_run t ts q = top_level t ts (or_from (is_byte 44 t) (closes t) q.0 q.1.1) q.1.0 q.1.1
+quiet_run t ts q = top_level t ts (or_from (is_byte 44 t) (closes t) q.0 q.2) q.1 q.2
 
 -- a key and its colon change no depth
 pub key_run : (key colon : Token) (ts : List Token) → is_word key ≡ true → is_byte 58 colon ≡ true → run 0 (key ∷ colon ∷ ts) ≡ run 0 ts

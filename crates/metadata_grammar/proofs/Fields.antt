@@ -1,29 +1,14 @@
 -- The reader's pieces are the fields of the grammar.
-use Rattle.std.proofs.Common.{◌≡◌, ◌×◌, ◌⊎◌, inl, inr, ℕ, zero, suc, ◌==◌, ◌||◌, ◌&&◌, Bool, true, false, cond, List, [], ◌∷◌, ◌++◌, Option, Some, None}
-use Rattle.std.proofs.Common.{absurd, refl, sym, ap, subst, ◌∙◌}
+use Rattle.std.proofs.Common.{◌≡◌, ◌⊎◌, inl, inr, ℕ, ◌==◌, ◌||◌, ◌&&◌, Bool, true, false, cond, List, [], ◌∷◌, ◌++◌, Option, Some, None}
+use Rattle.std.proofs.Common.{refl, sym, ap, subst, ◌∙◌}
 use Rattle.std.proofs.lemmas.Bool.{cases_Bool, and_parts, and_from, eqb-true, true≢false, false≢true}
 use Rattle.mir_lexer.specs.declared.parts.Class.{Class}
 use Rattle.mir_lexer.specs.declared.parts.Class.TheVariants.{Word, Register, Percent, Node, Kind, Symbol, Integer, Text, Single}
 use Rattle.mir_lexer.specs.declared.parts.Token.{Token}
 use Rattle.meta_reader.specs.declared.field.Field.{Field}
 use Rattle.meta_reader.specs.Token.{is_byte, is_word, is_single_class}
-use Rattle.meta_reader.specs.Field.{
-  opens,
-  closes,
-  is_end,
-  ends_piece,
-  depth_behind,
-  in_piece,
-  new_piece,
-  pieces,
-  is_key,
-  field_of,
-  before_fields,
-  each_field,
-  all_fields,
-  fields_of,
-}
-use Rattle.metadata_grammar.specs.Grammar.{IsValue, lone, IsField, AreFields, IsFieldList}
+use Rattle.meta_reader.specs.Field.{closes, is_end, ends_piece, depth_behind, in_piece, new_piece, pieces, field_of, before_fields, each_field, all_fields, fields_of}
+use Rattle.metadata_grammar.specs.Grammar.{lone, IsField, AreFields, last, more, IsFieldList, none, some}
 use Rattle.metadata_grammar.specs.Laws.{FieldsAreReadByTheirGrammar}
 use Rattle.metadata_grammar.proofs.Depths.{run, value_run, run_value, key_run}
 
@@ -45,11 +30,11 @@ end_only t [] e = (e, refl)
 end_only t (u ∷ us) e = absurd (false≢true e)
 
 cut : (d : ℕ) (ts : List Token) (ps : List (List Token)) → pieces d ts ≡ Some ps → IsCut d ts ps
-unfolding pieces
+unfolding pieces run
 cut d [] ps e = absurd cc
 cut d (t ∷ ts) ps e = elim (cases_Bool (ends_piece d t)) [
   | inl k ↦ at_end k (sym (ap (λ (z : Bool). cond z at_top onward) k) ∙ e)
-  | inr k ↦ further k (pieces (depth_behind d t) ts) refl (sym (ap (λ (z : Bool). cond z at_top onward) k) ∙ e)
+  | inr k ↦ further k (cut (depth_behind d t) ts) (pieces (depth_behind d t) ts) refl (sym (ap (λ (z : Bool). cond z at_top onward) k) ∙ e)
 ] where
   at_top : Option (List (List Token))
   at_top = cond (is_byte 44 t) (new_piece (pieces 0 ts)) (cond (is_end (t ∷ ts)) (Some ([] ∷ [])) None)
@@ -117,14 +102,15 @@ cut d (t ∷ ts) ps e = elim (cases_Bool (ends_piece d t)) [
         rest = c.rest;
       }
 
-  further : ends_piece d t ≡ false → (o : Option (List (List Token))) → pieces (depth_behind d t) ts ≡ o → in_piece t o ≡ Some ps → IsCut d (t ∷ ts) ps
-  further k None o e = absurd cc
-  further k (Some qs) o e = grown k qs (cut (depth_behind d t) ts qs o) e
+  further : ends_piece d t ≡ false → ((qs : List (List Token)) → pieces (depth_behind d t) ts ≡ Some qs → IsCut (depth_behind d t) ts qs) →
+      (o : Option (List (List Token))) → pieces (depth_behind d t) ts ≡ o → in_piece t o ≡ Some ps → IsCut d (t ∷ ts) ps
+  further k again None o e = absurd cc
+  further k again (Some qs) o e = grown k qs (again qs o) e
 
 -- the pieces of what runs back to its depth, and then a comma
 comma_cut : (d : ℕ) (p : List Token) (b : Token) (ts : List Token) (ps : List (List Token)) → run d p ≡ true → is_byte 44 b ≡ true → pieces 0 ts ≡ Some ps →
     pieces d (p ++ b ∷ ts) ≡ Some (p ∷ ps)
-unfolding pieces
+unfolding pieces run
 comma_cut d [] b ts ps r c e =
     ap (λ (z : Bool). cond z at_top onward) (and_from (d == 0) (is_byte 44 b || closes b) r (ap (λ (z : Bool). z || closes b) c))
     ∙ ap (λ (z : Bool). cond z (new_piece (pieces 0 ts)) (cond (is_end (b ∷ ts)) (Some ([] ∷ [])) None)) c ∙ ap new_piece e where
@@ -155,7 +141,7 @@ closing_class (Single b) e = subst (λ (n : ℕ). (n == 44) ≡ false) (sym (eqb
 
 -- the same behind which the bracket that ends the node stands
 end_cut : (d : ℕ) (p : List Token) (b : Token) → run d p ≡ true → is_byte 41 b ≡ true → pieces d (p ++ b ∷ []) ≡ Some (p ∷ [])
-unfolding pieces
+unfolding pieces run
 end_cut d [] b r c =
     ap (λ (z : Bool). cond z at_top onward) (and_from (d == 0) (is_byte 44 b || closes b) r
     (ap (λ (z : Bool). z || closes b) (closing_class b.class c) ∙ ap (λ (z : Bool). z || (is_byte 93 b || is_byte 125 b)) c))
@@ -177,9 +163,9 @@ end_cut d (t ∷ p) b r c = elim (cases_Bool (ends_piece d t)) [
 
 -- ---- a piece and its field
 
-with_key : (key colon first : Token) (more : List Token) (o : Option Token) (f : Field) → lone first more ≡ o → run 0 (key ∷ colon ∷ first ∷ more) ≡ true →
-    cond (is_word key && is_byte 58 colon) (Some (record { key = key; value = o })) None ≡ Some f → IsField (key ∷ colon ∷ first ∷ more) f
-with_key key colon first more o f l r e = elim (cases_Bool (is_word key && is_byte 58 colon)) [
+with_key : (key colon first : Token) (tail : List Token) (o : Option Token) (f : Field) → lone first tail ≡ o → run 0 (key ∷ colon ∷ first ∷ tail) ≡ true →
+    cond (is_word key && is_byte 58 colon) (Some (record { key = key; value = o })) None ≡ Some f → IsField (key ∷ colon ∷ first ∷ tail) f
+with_key key colon first tail o f l r e = elim (cases_Bool (is_word key && is_byte 58 colon)) [
   | inl k ↦
       let both = and_parts (is_word key) (is_byte 58 colon) k in
       let is : Some (record { key = key; value = o }) ≡ Some f = sym (ap (λ (z : Bool). cond z (Some (record { key = key; value = o })) None) k) ∙ e in
@@ -188,11 +174,11 @@ with_key key colon first more o f l r e = elim (cases_Bool (is_word key && is_by
         key = key;
         colon = colon;
         first = first;
-        more = more;
+        more = tail;
         text = refl;
         word = both.0;
         parted = both.1;
-        value = run_value (first ∷ more) (sym (key_run key colon (first ∷ more) both.0 both.1) ∙ r);
+        value = run_value (first ∷ tail) (sym (key_run key colon (first ∷ tail) both.0 both.1) ∙ r);
         field = sym same ∙ ap (λ (z : Option Token). record { key = key; value = z }) (sym l);
       }
   | inr k ↦ absurd (let no : None ≡ Some f = sym (ap (λ (z : Bool). cond z (Some (record { key = key; value = o })) None) k) ∙ e in cc)
@@ -205,8 +191,8 @@ field_is (key ∷ colon ∷ []) f r e = absurd cc
 field_is (key ∷ colon ∷ value ∷ []) f r e = with_key key colon value [] (Some value) f refl r e
 field_is (key ∷ colon ∷ value ∷ t ∷ ts) f r e = with_key key colon value (t ∷ ts) None f refl r e
 
-field_reads : (key colon first : Token) (more : List Token) → is_word key ≡ true → is_byte 58 colon ≡ true →
-    field_of (key ∷ colon ∷ first ∷ more) ≡ Some (record { key = key; value = lone first more })
+field_reads : (key colon first : Token) (tail : List Token) → is_word key ≡ true → is_byte 58 colon ≡ true →
+    field_of (key ∷ colon ∷ first ∷ tail) ≡ Some (record { key = key; value = lone first tail })
 field_reads key colon first [] w e = ap (λ (z : Bool). cond z (Some (record { key = key; value = Some first })) None) (and_from (is_word key) (is_byte 58 colon) w e)
 field_reads key colon first (t ∷ ts) w e = ap (λ (z : Bool). cond z (Some (record { key = key; value = None })) None) (and_from (is_word key) (is_byte 58 colon) w e)
 
@@ -232,18 +218,18 @@ are_fields (p ∷ ps) ts fs e r =
     let same : p ∷ ps ≡ c.piece ∷ c.others = c.pieces_are in
     let piece_is : p ≡ c.piece = cc in
     let others_are : ps ≡ c.others = cc in
-    let field : IsField c.piece h.0 = field_is c.piece h.0 c.runs (sym (ap field_of piece_is) ∙ h.1.1.0) in
+    let field : IsField c.piece h.0 = field_is c.piece h.0 c.runs (sym (ap field_of piece_is) ∙ h.2) in
     elim c.rest [
       | inl it ↦
-          let gs : AreFields c.behind h.1.0 = are_fields ps c.behind h.1.0 (it.1 ∙ ap (λ (z : List (List Token)). Some z) (sym others_are)) h.1.1.1.0 in
+          let gs : AreFields c.behind h.1 = are_fields ps c.behind h.1 (it.1 ∙ ap (λ (z : List (List Token)). Some z) (sym others_are)) h.3 in
           subst (λ (z : List Token). AreFields z fs) (sym c.text)
-          (subst (λ (z : List Field). AreFields (c.piece ++ c.b ∷ c.behind) z) (sym h.1.1.1.1) (more c.b field it.0 gs))
+          (subst (λ (z : List Field). AreFields (c.piece ++ c.b ∷ c.behind) z) (sym h.4) (more c.b field it.0 gs))
       | inr it ↦
-          let none : each_field ps ≡ Some [] = ap each_field (others_are ∙ it.1.1) in
-          let gs_are : Some h.1.0 ≡ Some [] = sym h.1.1.1.0 ∙ none in
-          let no_more : h.1.0 ≡ [] = cc in
-          subst (λ (z : List Token). AreFields z fs) (sym (c.text ∙ ap (λ (z : List Token). c.piece ++ c.b ∷ z) it.1.0))
-          (subst (λ (z : List Field). AreFields (c.piece ++ c.b ∷ []) z) (sym (h.1.1.1.1 ∙ ap (λ (z : List Field). h.0 ∷ z) no_more)) (last c.b field it.0))
+          let none : each_field ps ≡ Some [] = ap each_field (others_are ∙ it.2) in
+          let gs_are : Some h.1 ≡ Some [] = sym h.3 ∙ none in
+          let no_more : h.1 ≡ [] = cc in
+          subst (λ (z : List Token). AreFields z fs) (sym (c.text ∙ ap (λ (z : List Token). c.piece ++ c.b ∷ z) it.1))
+          (subst (λ (z : List Field). AreFields (c.piece ++ c.b ∷ []) z) (sym (h.4 ∙ ap (λ (z : List Field). h.0 ∷ z) no_more)) (last c.b field it.0))
     ]
 
 -- what fields are read as, in pieces
@@ -257,19 +243,19 @@ not_end : (p : List Token) (f : Field) (b : Token) (us : List Token) → IsField
 not_end p f b us is = ap (λ (z : List Token). is_end (z ++ b ∷ us)) is.text
 
 are_read : {ts : List Token} {fs : List Field} → AreFields ts fs → AreRead ts fs
-are_read (last {p} {f} b is e) = record {
-  cut_in = p ∷ [];
-  pieces_are = end_cut 0 p b (runs_field p f is) e;
-  each = ap (λ (z : Option Field). before_fields z (Some [])) (reads_field p f is);
-  further = not_end p f b [] is;
+are_read (last {ts} {f} b is e) = record {
+  cut_in = ts ∷ [];
+  pieces_are = end_cut 0 ts b (runs_field ts f is) e;
+  each = ap (λ (z : Option Field). before_fields z (Some [])) (reads_field ts f is);
+  further = not_end ts f b [] is;
 }
-are_read (more {p} {us} {f} {fs} b is e others) =
+are_read (more {ts} {us} {f} {fs} b is e others) =
     let r = are_read others in
     record {
-      cut_in = p ∷ r.cut_in;
-      pieces_are = comma_cut 0 p b us r.cut_in (runs_field p f is) e r.pieces_are;
-      each = ap (λ (z : Option Field). before_fields z (each_field r.cut_in)) (reads_field p f is) ∙ ap (before_fields (Some f)) r.each;
-      further = not_end p f b us is;
+      cut_in = ts ∷ r.cut_in;
+      pieces_are = comma_cut 0 ts b us r.cut_in (runs_field ts f is) e r.pieces_are;
+      each = ap (λ (z : Option Field). before_fields z (each_field r.cut_in)) (reads_field ts f is) ∙ ap (before_fields (Some f)) r.each;
+      further = not_end ts f b us is;
     }
 
 -- ---- the whole
