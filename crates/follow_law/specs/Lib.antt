@@ -9,4 +9,4 @@ pub mod Steps
 pub mod Sizes
 pub mod Laws
 pub mod Nops
-pub mod steps
+pub mod Tests

@@ -1,7 +1,7 @@
 ghost use Rattle.std.specs.Prelude.{◌≡◌, ◌+◌, ◌*◌, ◌<◌, ◌^◌, [], flat_map, IfOk};
 ghost use Rattle.mir_func.specs.Limits.{MAX_SLOTS};
 ghost use Rattle.follow_law.specs.Code.{SeesCodeAlone};
-ghost use Rattle.follow_law.specs.steps.Tests.{IsWatching, NothingIsWrong};
+ghost use Rattle.follow_law.specs.Tests.{IsWatching, NothingIsWrong};
 ghost use Rattle.follow_law.specs.Sizes.{greatest, greatest_number, most_numbers, numbers_in, numbers_of};
 
 use follow_law::compose::{Nothing, Then};
