@@ -1,6 +1,6 @@
 -- What entries keep while blocks are visited, in any order.
 use Rattle.std.specs.Prelude.{◌≡◌, ℕ, suc, ◌+◌, ◌-◌, ◌<◌, ◌≤◌, max, cond, List, [], ◌∷◌, length, slice_get, slice_index_or, Bool, true, false, not, nat_eq}
-use Rattle.std.specs.Prelude.{None, Some}
+use Rattle.std.specs.Prelude.{None, Some, All, Contains}
 use Rattle.std.specs.List.{list_all}
 use Rattle.mir_func.specs.Graph.{Program}
 use Rattle.mir_meaning.specs.Token.{Tokens}
@@ -9,7 +9,7 @@ use Rattle.class_entries.specs.declared.entry.BlockEntry.{BlockEntry}
 use Rattle.class_entries.specs.Entry.{PathTo, IsReached}
 use Rattle.class_solver.specs.declared.flow.Flow.{Flow}
 use Rattle.class_solver.specs.Numbering.{IsNumbered}
-use Rattle.class_solver.specs.Joining.{Hand, agree, hand_bit, alike}
+use Rattle.class_solver.specs.Joining.{IsKnown, Hand, agree, hand_bit, alike}
 use Rattle.class_solver.specs.Hands.{handed, preds_at, IsShaped, AreSoundFlows, ArePredecessors}
 use Rattle.class_solver.specs.Flows.{token_at, AreFlows, IsStart}
 
@@ -59,6 +59,19 @@ pub record Facts (g : Program) (xs : List Tracked) (start : BlockEntry) (flows :
   pub is_start : IsStart xs start
   pub are_sound : AreSoundFlows (length xs) flows
   pub are_preds : ArePredecessors flows preds
+
+-- a dataflow problem: a known entry of the first block over one thing at least, and flows between blocks with their predecessors
+pub record IsProblem (start : BlockEntry) (flows : List Flow) (preds : List (List ℕ)) : Type 0 where
+  pub few : length start.classes < 4294967295
+  pub some : 0 < length start.classes
+  pub known : IsKnown (length start.classes) start
+  pub sound : AreSoundFlows (length start.classes) flows
+  pub preds : ArePredecessors flows preds
+
+-- an order of a sweep: each block has its turn, and nothing else has one
+pub record IsOrder (flows : List Flow) (order : List ℕ) : Type 0 where
+  pub within : All (λ b. b < length flows) order
+  pub all : (b : ℕ) → b < length flows → Contains order b
 
 -- how many classes there are beside nothing's, and how many bits aren't set
 abbrev pub classes_from : (used : ℕ) → List ℕ → ℕ

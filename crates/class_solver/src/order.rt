@@ -49,8 +49,7 @@ pub fn predecessors(alloc: Global, flows: &[Flow]) -> Result<Vec<Ways>, AllocErr
 }
 
 /// The blocks, those that are reached in reverse post-order of a walk in depth from the first one: a block comes
-/// after its
-/// predecessors, but for loops.
+/// after its predecessors, but for loops.
 pub fn order(alloc: Global, flows: &[Flow]) -> Result<Vec<u32>, AllocError>
     requires few { length flows.now < 4294967296 }
     ensures within { IfOk result (λ order. All (λ b. b < length flows.now) order.items) }

@@ -7,9 +7,9 @@ ghost use Rattle.class_entries.specs.declared.tracked.Tracked.{Tracked};
 ghost use Rattle.class_entries.specs.declared.entry.BlockEntry.{BlockEntry};
 ghost use Rattle.class_entries.specs.Entry.{IsEntry};
 ghost use Rattle.class_solver.specs.Joining.{IsKnown};
-ghost use Rattle.class_solver.specs.Hands.{AreSoundFlows, ArePredecessors};
+ghost use Rattle.class_solver.specs.Hands.{AreSoundFlows};
 ghost use Rattle.class_solver.specs.Flows.{AreFlows, IsStart};
-ghost use Rattle.class_solver.specs.Invariants.{IsTable, AreProven, Facts, AllClean, Settled};
+ghost use Rattle.class_solver.specs.Invariants.{IsProblem, IsOrder, IsTable, Settled};
 
 use crate::flow::{Flow, Ways};
 use crate::order::{order, predecessors};
@@ -37,15 +37,10 @@ fn settle(
     entries: &mut Vec<BlockEntry>,
     dirty: &mut Vec<bool>,
 ) -> Result<u64, AllocError>
-    requires few { length start.now.classes < 4294967295 }
-    requires some { 0 < length start.now.classes }
-    requires known { IsKnown (length start.now.classes) start.now }
-    requires sound { AreSoundFlows (length start.now.classes) flows.now }
-    requires preds { ArePredecessors flows.now preds.now }
+    requires problem { IsProblem start.now flows.now preds.now }
     requires table { IsTable (length start.now.classes) start.now flows.now preds.now entries.old.items
         dirty.old.items }
-    requires order { All (λ b. b < length flows.now) order.now }
-    requires all { (b : ℕ) → b < length flows.now → Contains order.now b }
+    requires order { IsOrder flows.now order.now }
     ensures { IfOk result (λ sweeps.
         Settled (length start.now.classes) start.now flows.now preds.now entries.old.items entries.new.items
         dirty.new.items sweeps) }
@@ -87,8 +82,7 @@ fn all_marked(alloc: Global, blocks: usize) -> Result<Vec<bool>, AllocError>
 }
 
 /// The entries of all blocks of a program with these flows, over as many tracked things as the start has. At the
-/// start of
-/// each block two things have one class exactly where on every path to it they have one token or both none.
+/// start of each block two things have one class exactly where on every path to it they have one token or both none.
 pub fn solve(alloc: Global, start: &BlockEntry, flows: &[Flow]) -> Result<Solved, AllocError>
     requires few { length start.now.classes < 4294967295 }
     requires few_blocks { length flows.now < 4294967296 }

@@ -5,9 +5,7 @@ ghost use Rattle.std.specs.Prelude.{◌≡◌, ◌⊎◌, ℕ, ◌<◌, ◌≤�
 ghost use Rattle.std.specs.Prelude.{true, false, IsTrue, Contains};
 ghost use Rattle.mir_func.specs.Graph.{Program};
 ghost use Rattle.class_entries.specs.declared.tracked.Tracked.{Tracked};
-ghost use Rattle.class_solver.specs.Joining.{IsKnown};
-ghost use Rattle.class_solver.specs.Hands.{AreSoundFlows, ArePredecessors};
-ghost use Rattle.class_solver.specs.Invariants.{IsTable, Turned, Swept, AllClean};
+ghost use Rattle.class_solver.specs.Invariants.{IsProblem, IsOrder, IsTable, Turned, Swept};
 
 use crate::flow::{Flow, Ways};
 use crate::visit::visit;
@@ -36,11 +34,7 @@ fn turn(
     dirty: &mut Vec<bool>,
     block: usize,
 ) -> Result<bool, AllocError>
-    requires few { length start.now.classes < 4294967295 }
-    requires some { 0 < length start.now.classes }
-    requires known { IsKnown (length start.now.classes) start.now }
-    requires sound { AreSoundFlows (length start.now.classes) flows.now }
-    requires preds { ArePredecessors flows.now preds.now }
+    requires problem { IsProblem start.now flows.now preds.now }
     requires table { IsTable (length start.now.classes) start.now flows.now preds.now entries.old.items
         dirty.old.items }
     requires block { block < length flows.now }
@@ -76,15 +70,10 @@ pub fn sweep(
     entries: &mut Vec<BlockEntry>,
     dirty: &mut Vec<bool>,
 ) -> Result<bool, AllocError>
-    requires few { length start.now.classes < 4294967295 }
-    requires some { 0 < length start.now.classes }
-    requires known { IsKnown (length start.now.classes) start.now }
-    requires sound { AreSoundFlows (length start.now.classes) flows.now }
-    requires preds { ArePredecessors flows.now preds.now }
+    requires problem { IsProblem start.now flows.now preds.now }
     requires table { IsTable (length start.now.classes) start.now flows.now preds.now entries.old.items
         dirty.old.items }
-    requires order { All (λ b. b < length flows.now) order.now }
-    requires all { (b : ℕ) → b < length flows.now → Contains order.now b }
+    requires order { IsOrder flows.now order.now }
     ensures { IfOk result (λ changed.
         Swept (length start.now.classes) start.now flows.now preds.now entries.old.items entries.new.items
         dirty.new.items changed) }

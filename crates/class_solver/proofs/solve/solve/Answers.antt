@@ -8,8 +8,19 @@ use Rattle.class_solver.proofs.solve.solve.Goals as goal
 pub predecessors-requires-clause-within : goal.predecessors-requires-clause-within
 predecessors-requires-clause-within c = λ b f at way less. (c.requires.sound b f at).1 way less
 
-pub settle-requires-clause-all : goal.settle-requires-clause-all
-settle-requires-clause-all c = rw c.as_slice-2.ensures.value c.in_ok-order.ensures.all
+pub settle-requires-clause-problem : goal.settle-requires-clause-problem
+settle-requires-clause-problem c =
+    record {
+      few = c.requires.few;
+      some = c.requires.some;
+      known = c.requires.known;
+      sound = c.requires.sound;
+      preds = subst (λ (z : List (List ℕ)). ArePredecessors c.args.flows.now z) (sym c.as_slice.ensures.value) c.in_ok-preds.ensures
+    }
+
+pub settle-requires-clause-order : goal.settle-requires-clause-order
+settle-requires-clause-order c =
+    rw c.as_slice-2.ensures.value (record { within = c.in_ok-order.ensures.within; all = c.in_ok-order.ensures.all })
 
 pub returns-clause-exact : goal.returns-clause-exact
 returns-clause-exact c =

@@ -7,4 +7,4 @@ loop-b-preserved c =
     rw c.either-changed.ensures (sweep_turns _ _ _ _ _ _ _ _ _ _ _ _ _ _ refl c.loop-b.invariant c.in_ok-turned.ensures)
 
 pub returns : goal.returns
-returns c = sweep_ends _ _ _ _ _ _ _ _ _ _ (omega arith) c.requires.all c.loop-b.invariant
+returns c = sweep_ends _ _ _ _ _ _ _ _ _ _ (omega arith) c.requires.order.all c.loop-b.invariant

@@ -22,7 +22,7 @@ mark-requires c =
     let at = at_block c.args.flows.now c.args.block f c.requires.block c.index-flows-block.is in
     let ways = c.as_slice.ensures ∙ ap (λ (z : Flow). z.ways) (sym c.index-flows-block.is) in
     rw (ways, length-set, c.requires.table.marks)
-    (λ k d less. (c.requires.sound c.args.block f at).1 _ (Contains-get_or f.ways k d less))
+    (λ k d less. (c.requires.problem.sound c.args.block f at).1 _ (Contains-get_or f.ways k d less))
 
 pub returns-then-not-changed : goal.returns-then-not-changed
 returns-then-not-changed c =
@@ -42,7 +42,8 @@ pub returns : goal.returns
 returns c =
     let f = c.index-flows-block.result in
     let ways = c.as_slice.ensures ∙ ap (λ (z : Flow). z.ways) (sym c.index-flows-block.is) in
-    changed_turn _ _ _ _ _ _ _ _ _ f c.requires.known refl c.requires.sound c.requires.preds c.requires.table c.requires.block c.requires.some
+    let problem = c.requires.problem in
+    changed_turn _ _ _ _ _ _ _ _ _ f problem.known refl problem.sound problem.preds c.requires.table c.requires.block problem.some
     (subst (Visited c.args.start.now c.args.flows.now c.args.preds.now c.args.entries.now.items c.visit.new.entries.items c.args.block)
     c.if-not-changed.false c.in_ok-changed.ensures)
     (at_block c.args.flows.now c.args.block f c.requires.block c.index-flows-block.is)
