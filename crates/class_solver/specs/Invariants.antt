@@ -66,7 +66,7 @@ pub record IsProblem (start : BlockEntry) (flows : List Flow) (preds : List (Lis
   pub some : 0 < length start.classes
   pub known : IsKnown (length start.classes) start
   pub sound : AreSoundFlows (length start.classes) flows
-  pub preds : ArePredecessors flows preds
+  pub predecessors : ArePredecessors flows preds
 
 -- an order of a sweep: each block has its turn, and nothing else has one
 pub record IsOrder (flows : List Flow) (order : List ℕ) : Type 0 where

@@ -4,7 +4,7 @@ ghost use Rattle.std.specs.Prelude.{◌≡◌, ℕ, ◌<◌, List, [], ◌∷◌
 ghost use Rattle.class_solver.specs.Joining.{Hand, IsJoin, IsPast};
 
 use crate::hand::Exit;
-use crate::meet::meet;
+use crate::meet::{Pairs, meet};
 use class_entries::entry::BlockEntry;
 use lists::List;
 use std::alloc::{AllocError, Global};
@@ -27,14 +27,24 @@ pub fn empty_join(alloc: Global, things: usize) -> Result<BlockEntry, AllocError
 }
 
 /// Joins what one more predecessor hands on.
-pub fn join(alloc: Global, joined: BlockEntry, exit: &Exit) -> Result<BlockEntry, AllocError>
+pub fn join(
+    alloc: Global,
+    pairs: &mut Pairs,
+    joined: BlockEntry,
+    exit: &Exit,
+) -> Result<BlockEntry, AllocError>
     requires few { length joined.classes < 4294967295 }
     requires long { length exit.now.classes.items ≡ length joined.classes }
     ensures { IfOk result (λ e. (hands : List Hand) (h : Hand) → IsJoin (length joined.classes) hands joined →
         IsPast h exit.now.classes.items exit.now.given.items
         → IsJoin (length joined.classes) (hands ++ h ∷ []) e) }
 {
-    let classes = meet(alloc, joined.classes.as_slice(), exit.classes.as_slice())?;
+    let classes = meet(
+        alloc,
+        pairs,
+        joined.classes.as_slice(),
+        exit.classes.as_slice(),
+    )?;
     let given = both(alloc, joined.given.as_slice(), exit.given.as_slice())?;
     Ok(BlockEntry {
         reached: true,

@@ -8,6 +8,7 @@ ghost use Rattle.class_entries.specs.declared.tracked.Tracked.{Tracked};
 ghost use Rattle.class_solver.specs.Invariants.{IsProblem, IsOrder, IsTable, Turned, Swept};
 
 use crate::flow::{Flow, Ways};
+use crate::meet::Pairs;
 use crate::visit::visit;
 use class_entries::entry::BlockEntry;
 use std::alloc::{AllocError, Global};
@@ -27,6 +28,7 @@ fn mark(dirty: &mut Vec<bool>, ways: &[u32])
 /// The turn of a block. It tells whether its entry changed.
 fn turn(
     alloc: Global,
+    pairs: &mut Pairs,
     start: &BlockEntry,
     flows: &[Flow],
     preds: &[Ways],
@@ -45,7 +47,7 @@ fn turn(
     if !dirty[block] {
         return Ok(false);
     }
-    let changed = visit(alloc, start, flows, preds, entries, block)?;
+    let changed = visit(alloc, pairs, start, flows, preds, entries, block)?;
     dirty[block] = false;
     if !changed {
         return Ok(false);
@@ -78,9 +80,19 @@ pub fn sweep(
         Swept (length start.now.classes) start.now flows.now preds.now entries.old.items entries.new.items
         dirty.new.items changed) }
 {
+    let mut pairs = Pairs::new(alloc);
     let mut changed = false;
     for b in order {
-        let turned = turn(alloc, start, flows, preds, entries, dirty, *b as usize)?;
+        let turned = turn(
+            alloc,
+            &mut pairs,
+            start,
+            flows,
+            preds,
+            entries,
+            dirty,
+            *b as usize,
+        )?;
         changed = either(turned, changed);
     }
     Ok(changed)

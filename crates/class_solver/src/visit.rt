@@ -9,11 +9,17 @@ ghost use Rattle.class_solver.specs.Hands.{ArePredecessors, Visited};
 use crate::flow::{Flow, Ways};
 use crate::hand::{Exit, hand_on};
 use crate::join::{empty_join, join};
+use crate::meet::Pairs;
 use class_entries::entry::BlockEntry;
 use std::alloc::{AllocError, Global};
 
 /// The join of what the start hands on to a block.
-fn first_join(alloc: Global, start: &BlockEntry, block: usize) -> Result<BlockEntry, AllocError>
+fn first_join(
+    alloc: Global,
+    pairs: &mut Pairs,
+    start: &BlockEntry,
+    block: usize,
+) -> Result<BlockEntry, AllocError>
     requires few { length start.now.classes < 4294967295 }
     requires known { IsKnown (length start.now.classes) start.now }
     ensures { IfOk result (λ e. IsJoin (length start.now.classes) (first_hand start.now block) e) }
@@ -22,7 +28,7 @@ fn first_join(alloc: Global, start: &BlockEntry, block: usize) -> Result<BlockEn
     match block {
         0 => {
             let exit = hand_on(alloc, start, &[])?;
-            join(alloc, empty, &exit)
+            join(alloc, pairs, empty, &exit)
         }
         _ => Ok(empty),
     }
@@ -31,6 +37,7 @@ fn first_join(alloc: Global, start: &BlockEntry, block: usize) -> Result<BlockEn
 /// Joins what a block hands on, if some path is known to lead to it.
 fn join_more(
     alloc: Global,
+    pairs: &mut Pairs,
     joined: BlockEntry,
     entry: &BlockEntry,
     flow: &Flow,
@@ -45,12 +52,13 @@ fn join_more(
         return Ok(joined);
     }
     let exit = hand_on(alloc, entry, flow.changes.as_slice())?;
-    join(alloc, joined, &exit)
+    join(alloc, pairs, joined, &exit)
 }
 
 /// The join of what the predecessors of a block hand on.
 fn joined(
     alloc: Global,
+    pairs: &mut Pairs,
     start: &BlockEntry,
     flows: &[Flow],
     entries: &[BlockEntry],
@@ -66,9 +74,15 @@ fn joined(
     ensures { IfOk result (λ e.
         IsJoin (length start.now.classes) (handed start.now flows.now entries.now block predecessors.now) e) }
 {
-    let mut joined = first_join(alloc, start, block)?;
+    let mut joined = first_join(alloc, pairs, start, block)?;
     for p in predecessors {
-        joined = join_more(alloc, joined, &entries[*p as usize], &flows[*p as usize])?;
+        joined = join_more(
+            alloc,
+            pairs,
+            joined,
+            &entries[*p as usize],
+            &flows[*p as usize],
+        )?;
     }
     Ok(joined)
 }
@@ -89,6 +103,7 @@ fn are_equal(a: &BlockEntry, b: &BlockEntry) -> bool
 /// Visits a block. It tells whether its entry changed.
 pub fn visit(
     alloc: Global,
+    pairs: &mut Pairs,
     start: &BlockEntry,
     flows: &[Flow],
     preds: &[Ways],
@@ -107,6 +122,7 @@ pub fn visit(
 {
     let entry = joined(
         alloc,
+        pairs,
         start,
         flows,
         entries.as_slice(),

@@ -5,7 +5,7 @@ use Rattle.class_solver.proofs.meet.meet.Goals as goal
 pub loop-i-init : goal.loop-i-init
 loop-i-init c =
     let start : c.insert_full.new.self.keys ≡ (0, 0) ∷ [] =
-    c.in_ok-insert_full.ensures.keys ∙ ap (λ (z : List (ℕ × ℕ)). met z (0, 0)) c.new-pairs.ensures.empty in
+    c.in_ok-insert_full.ensures.keys ∙ ap (λ (z : List (ℕ × ℕ)). met z (0, 0)) c.clear.ensures.empty in
     rw (start, c.in_ok-classes.ensures.items) (so_far_none _ _)
 
 bounded : (r l k i n : ℕ) (z : Bool) → r < l → l ≡ k + cond z 1 0 → k ≤ i + 1 → i < n → n < 4294967295 → Fits w32 r

@@ -15,7 +15,7 @@ settle-requires-clause-problem c =
       some = c.requires.some;
       known = c.requires.known;
       sound = c.requires.sound;
-      preds = subst (λ (z : List (List ℕ)). ArePredecessors c.args.flows.now z) (sym c.as_slice.ensures.value) c.in_ok-preds.ensures
+      predecessors = subst (λ (z : List (List ℕ)). ArePredecessors c.args.flows.now z) (sym c.as_slice.ensures.value) c.in_ok-preds.ensures;
     }
 
 pub settle-requires-clause-order : goal.settle-requires-clause-order

@@ -43,7 +43,7 @@ returns c =
     let f = c.index-flows-block.result in
     let ways = c.as_slice.ensures ∙ ap (λ (z : Flow). z.ways) (sym c.index-flows-block.is) in
     let problem = c.requires.problem in
-    changed_turn _ _ _ _ _ _ _ _ _ f problem.known refl problem.sound problem.preds c.requires.table c.requires.block problem.some
+    changed_turn _ _ _ _ _ _ _ _ _ f problem.known refl problem.sound problem.predecessors c.requires.table c.requires.block problem.some
     (subst (Visited c.args.start.now c.args.flows.now c.args.preds.now c.args.entries.now.items c.visit.new.entries.items c.args.block)
     c.if-not-changed.false c.in_ok-changed.ensures)
     (at_block c.args.flows.now c.args.block f c.requires.block c.index-flows-block.is)
