@@ -3,15 +3,14 @@
 ghost use Rattle.std.specs.Prelude.{◌≡◌, ◌++◌, OnOk};
 ghost use Rattle.std.specs.List.{flat_map};
 ghost use Rattle.compiled_text.specs.Output.{listing_text, function_text, head_text, code_text, function_line};
-ghost use Rattle.compiled_text.specs.Output.{name_text};
-ghost use Rattle.compiled_text.specs.Output.{name_byte, object_line, variable_line, inlined_text, substitution_line};
+ghost use Rattle.compiled_text.specs.Output.{object_line, variable_line, inlined_text, substitution_line};
 ghost use Rattle.compiled_text.specs.Output.{pair_text, block_text, block_line};
 
 use crate::hex::push_address;
 use crate::line::push_lines;
+use crate::name::push_name;
 use crate::output::{ListedBlock, ListedFunction, ListedObject, ListedVariable};
 use mir_func::entry::{Entry, OperandPair};
-use mir_printer::symbol::push_escaped;
 use mir_printer::text::{Text, push_decimal, push_numbered, push_str};
 use numbers::code::BlockId;
 use numbers::metadata::NodeId;
@@ -64,26 +63,6 @@ fn push_function_line(text: &mut Text, name: &[u8], low: u32, high: u32) -> Resu
     text.push(b' ')?;
     push_address(text, high)?;
     text.push(b'\n')
-}
-
-/// Appends a name. A byte that isn't printable ASCII, a space, `"` and `\` are `\` and two hexadecimal digits.
-fn push_name(text: &mut Text, name: &[u8]) -> Result<(), AllocError>
-    ensures { OnOk result (text.new ≡ text.old ++ name_text name.now) }
-{
-    for b in name {
-        push_name_byte(text, *b)?;
-    }
-    Ok(())
-}
-
-fn push_name_byte(text: &mut Text, b: u8) -> Result<(), AllocError>
-    ensures { OnOk result (text.new ≡ text.old ++ name_byte b) }
-{
-    match b {
-        b'"' | b'\\' => push_escaped(text, b),
-        b'!'..=b'~' => text.push(b),
-        _ => push_escaped(text, b),
-    }
 }
 
 fn push_objects(text: &mut Text, objects: &[ListedObject]) -> Result<(), AllocError>

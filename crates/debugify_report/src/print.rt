@@ -2,12 +2,11 @@
 
 ghost use Rattle.std.specs.Prelude.{◌≡◌, ◌++◌, IfOk, OnOk};
 ghost use Rattle.std.specs.List.{flat_map};
-ghost use Rattle.compiled_text.specs.Output.{name_byte, name_text};
 ghost use Rattle.debugify_report.specs.Text.{reason_text, lost_text, loss_line, cover_line, head_text, report_text};
 
 use crate::report::{Cover, Report};
+use compiled_text::name::push_name;
 use follow_law::loss::{Loss, Lost, Reason};
-use mir_printer::symbol::push_escaped;
 use mir_printer::text::{Text, push_decimal, push_numbered, push_str};
 use std::alloc::{AllocError, Global};
 
@@ -30,26 +29,6 @@ fn push_head(text: &mut Text, name: &[u8], words: u64) -> Result<(), AllocError>
     push_str(text, "\nwords ")?;
     push_decimal(text, words)?;
     text.push(b'\n')
-}
-
-/// Appends a name, spelled as in the listing.
-fn push_name(text: &mut Text, name: &[u8]) -> Result<(), AllocError>
-    ensures { OnOk result (text.new ≡ text.old ++ name_text name.now) }
-{
-    for b in name {
-        push_name_byte(text, *b)?;
-    }
-    Ok(())
-}
-
-fn push_name_byte(text: &mut Text, b: u8) -> Result<(), AllocError>
-    ensures { OnOk result (text.new ≡ text.old ++ name_byte b) }
-{
-    match b {
-        b'"' | b'\\' => push_escaped(text, b),
-        b'!'..=b'~' => text.push(b),
-        _ => push_escaped(text, b),
-    }
 }
 
 fn push_covers(text: &mut Text, words: u64, covers: &[Cover]) -> Result<(), AllocError>

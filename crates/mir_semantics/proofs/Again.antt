@@ -15,7 +15,7 @@ use Rattle.mir_func.specs.Graph.{Fetch, Here, Silent, Outside, Program}
 use Rattle.mir_semantics.specs.declared.state.SourceStep.{SourceStep}
 use Rattle.mir_semantics.specs.declared.state.SourceStep.TheVariants.{Went, Returned, Faulted, Waits}
 use Rattle.mir_semantics.specs.Acts.{IsNext, IsAnswered, reply_of}
-use Rattle.mir_semantics.specs.Places.{number_in}
+use Rattle.byte_memory.specs.Held.{number_in}
 use Rattle.mir_semantics.proofs.Marking.{marks_of, marks_hold}
 use Rattle.mir_semantics.specs.StandsFor.{Concrete, flat, pair_eq, IsItemAnswered, IsStepAnswered}
 use Rattle.mir_semantics.specs.Steps.{IsStep, IsState, ReturnsAgain}

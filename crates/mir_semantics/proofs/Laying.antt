@@ -9,7 +9,7 @@ use Rattle.std.proofs.lemmas.List.Sums.{fold-append}
 use Rattle.mir_func.specs.declared.object.Object.{Object}
 use Rattle.mir_func.specs.Objects.{ALIGNMENTS, AreLaidFrom, end_from, object_of, offset_of, offset_or_zero, up_to}
 use Rattle.mir_func.specs.Sound.{IsSoundObject}
-use Rattle.mir_semantics.specs.Places.{number_in}
+use Rattle.byte_memory.specs.Held.{number_in}
 
 -- ---- offsets by number
 

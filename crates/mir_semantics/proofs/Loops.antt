@@ -1,4 +1,4 @@
--- One turn of each loop over memory and registers.
+-- One turn of each loop over registers.
 use Rattle.std.proofs.Common.{◌≡◌, ◌≢◌, ℕ, zero, suc, ◌+◌, ◌-◌, ◌*◌, ◌/◌, ◌%◌, ◌^◌, ◌<◌, ◌≤◌, List, [], ◌∷◌, length, Option, Some, None, Bool, true, false}
 use Rattle.std.proofs.Common.{cond, refl, sym, ap, subst, ◌∙◌, inl, inr, drop, get_or, arith, get_or-set_other, get_or-set_same, length-set}
 use Rattle.std.proofs.Math.Seq.{drop-cons}
@@ -15,7 +15,8 @@ use Rattle.mir_func.specs.Sound.{AreApart, ids_of}
 use Rattle.mir_func.specs.Graph.{from_block}
 use Rattle.std.specs.Map.{lookup}
 use Rattle.mir_meaning.specs.State.{updated, content, put, put_all, spelled, stored, low_bytes, written, in_frame, touches_frame}
-use Rattle.mir_semantics.specs.Places.{AreRegisters, RegistersHold, MemoryHolds, some_writes}
+use Rattle.byte_memory.specs.Held.{MemoryHolds, some_writes}
+use Rattle.mir_semantics.specs.Places.{AreRegisters, RegistersHold}
 
 -- ---- the frame
 pub touches_later : (e z a k n : ℕ) → k < n → in_frame e z ((a + k) % 2 ^ 64) ≡ false →
@@ -25,65 +26,6 @@ touches_later e z a k n lt h =
     let next : a + (k + 1) ≡ a + k + 1 = omega arith in
     ap (λ (x : ℕ). touches_frame e z x (n - (k + 1))) next
     ∙ sym (ap (touches_frame e z (a + k)) one ∙ ap (λ (b : Bool). b || touches_frame e z (a + k + 1) (n - (k + 1))) h)
-
--- ---- memory
-pub memory_put : (es fs : List (ℕ × ℕ)) (f : ℕ → ℕ) (k b : ℕ) → MemoryHolds es f →
-    ((q : ℕ) → lookup (nat_eq q) fs ≡ cond (nat_eq k q) (Some b) (lookup (nat_eq q) es)) → MemoryHolds fs (updated k b f)
-memory_put es fs f k b holds put q =
-    elim (cases_eq q k) [
-      | inl e ↦
-          ap (λ (t : Bool). cond t b (f q)) (eq-eqb q k e)
-          ∙ sym (ap (λ (o : Option ℕ). unwrap_or o 0) (put q ∙ ap (λ (t : Bool). cond t (Some b) (lookup (nat_eq q) es)) (eq-eqb k q (sym e))))
-      | inr ne ↦
-          let other : k ≡ q → ⊥ = λ e. ne (sym e) in
-          ap (λ (t : Bool). cond t b (f q)) (ne_eqb q k ne) ∙ holds q
-          ∙ sym (ap (λ (o : Option ℕ). unwrap_or o 0) (put q ∙ ap (λ (t : Bool). cond t (Some b) (lookup (nat_eq q) es)) (ne_eqb k q other)))
-    ]
-
-pub stored_first : (f : ℕ → ℕ) (a n v : ℕ) → stored f (a + 0) (low_bytes (n - 0) v) ≡ stored f a (low_bytes n v)
-stored_first f a n v =
-    let x : a + 0 ≡ a = omega arith in
-    let y : n - 0 ≡ n = omega arith in
-    λ i. stored f (x i) (low_bytes (y i) v)
-
-pub stored_turn : (f : ℕ → ℕ) (a k n rest : ℕ) (t : ℕ → ℕ) → k < n → stored f (a + k) (low_bytes (n - k) rest) ≡ t →
-    stored (updated ((a + k) % 2 ^ 64) (rest % 256) f) (a + (k + 1)) (low_bytes (n - (k + 1)) (rest / 256)) ≡ t
-stored_turn f a k n rest t lt h =
-    let one : n - k ≡ suc (n - (k + 1)) = omega arith in
-    let next : a + (k + 1) ≡ a + k + 1 = omega arith in
-    ap (λ (x : ℕ). stored (updated ((a + k) % 2 ^ 64) (rest % 256) f) x (low_bytes (n - (k + 1)) (rest / 256))) next
-    ∙ sym (ap (λ (m : ℕ). stored f (a + k) (low_bytes m rest)) one) ∙ h
-
-pub written_some : (f : ℕ → ℕ) (ws : List (Option (ℕ × ℕ))) (i : ℕ) (d : Option (ℕ × ℕ)) (w : ℕ × ℕ) (t : ℕ → ℕ) → i < length ws → get_or ws i d ≡ Some w →
-    written f (some_writes (drop i ws)) ≡ t → written (updated w.0 w.1 f) (some_writes (drop (i + 1) ws)) ≡ t
-written_some f ws i d w t lt e h =
-    let next : i + 1 ≡ suc i = omega arith in
-    let here : drop i ws ≡ Some w ∷ drop (i + 1) ws = drop-cons ws i d lt ∙ ap (λ o. o ∷ drop (suc i) ws) e ∙ ap (λ (n : ℕ). Some w ∷ drop n ws) (sym next) in
-    sym (ap (λ xs. written f (some_writes xs)) here) ∙ h
-
-pub written_end : (es : List (ℕ × ℕ)) (f t : ℕ → ℕ) (ws : List (Option (ℕ × ℕ))) (i : ℕ) → length ws ≤ i → MemoryHolds es f →
-    written f (some_writes (drop i ws)) ≡ t → MemoryHolds es t
-written_end es f t ws i le holds h =
-    let same : f ≡ t = sym (ap (λ xs. written f (some_writes xs)) (drop_all i ws le)) ∙ h in
-    subst (λ (g : ℕ → ℕ). MemoryHolds es g) same holds
-
--- ---- numbers in memory
-pub power_next : (i : ℕ) → 2 ^ (8 * (i + 1)) ≡ 2 ^ (8 * i) * 256
-power_next i = (let e : 8 * (i + 1) ≡ 8 * i + 8 = omega arith in ap (λ (n : ℕ). 2 ^ n) e) ∙ pow-add 2 (8 * i) 8
-
-pub power_small : (i : ℕ) → i < 8 → 2 ^ (8 * i) ≤ 2 ^ 56
-power_small i lt = pow-le-pow_right {n = 2} (omega arith) {i = 8 * i} {j = 56} (omega arith)
-
-pub spelled_turn : (f : ℕ → ℕ) (a n i : ℕ) → i < n → spelled f (a + (n - (i + 1))) (i + 1) ≡ spelled f (a + (n - i)) i * 256 + f ((a + (n - i - 1)) % 2 ^ 64)
-spelled_turn f a n i lt =
-    let one : i + 1 ≡ suc i = omega arith in
-    let at : a + (n - (i + 1)) ≡ a + (n - i - 1) = omega arith in
-    let next : a + (n - i - 1) + 1 ≡ a + (n - i) = omega arith in
-    (λ j. spelled f (at j) (one j)) ∙ ap (λ (x : ℕ). f ((a + (n - i - 1)) % 2 ^ 64) + 256 * spelled f x i) next
-    ∙ turned (f ((a + (n - i - 1)) % 2 ^ 64)) (spelled f (a + (n - i)) i)
-  where
-    turned : (x y : ℕ) → x + 256 * y ≡ y * 256 + x
-    turned x y = omega arith
 
 -- ---- registers
 pub set_keeps : (xs : List (Option ℕ)) (k v : ℕ) → AreRegisters xs → 0 < k → AreRegisters (slice_set xs k (Some v))
@@ -126,13 +68,6 @@ put_all_turn rs vs i f t lt h =
     let next : i + 1 ≡ suc i = omega arith in
     ap (λ (n : ℕ). put_all (drop n rs) (drop n vs) (put (get_or rs i 0) (get_or vs i 0) f)) next
     ∙ sym (put_all_more (get_or rs i 0) (drop (suc i) rs) vs i f) ∙ sym (ap (λ (xs : List ℕ). put_all xs (drop i vs) f) (drop-cons rs i 0 lt)) ∙ h
-
-pub written_none : (f : ℕ → ℕ) (ws : List (Option (ℕ × ℕ))) (i : ℕ) (d : Option (ℕ × ℕ)) (t : ℕ → ℕ) → i < length ws → get_or ws i d ≡ None →
-    written f (some_writes (drop i ws)) ≡ t → written f (some_writes (drop (i + 1) ws)) ≡ t
-written_none f ws i d t lt e h =
-    let next : i + 1 ≡ suc i = omega arith in
-    let here : drop i ws ≡ None ∷ drop (i + 1) ws = drop-cons ws i d lt ∙ ap (λ o. o ∷ drop (suc i) ws) e ∙ ap (λ (n : ℕ). None ∷ drop n ws) (sym next) in
-    sym (ap (λ xs. written f (some_writes xs)) here) ∙ h
 
 -- ---- blocks
 pub from_first : (bs : List Block) (i n : ℕ) → slice_get (ids_of bs) i ≡ Some n → ((j : ℕ) → slice_get (ids_of bs) j ≡ Some n → i ≤ j) →

@@ -26,7 +26,8 @@ use Rattle.mir_meaning.specs.Step.{act, does, are_written, read, or_zero, input_
 use Rattle.mir_meaning.specs.Step.{put_in_memory, saved, slot_loaded, answered}
 use Rattle.mir_semantics.specs.declared.machine.Machine.{Machine}
 use Rattle.mir_semantics.specs.declared.machine.Outcome.TheVariants.{Falls, Goes, Returns as Ended, Faults, Waits}
-use Rattle.mir_semantics.specs.Places.{RegistersHold, SlotsHold, MemoryHolds, number_in, some_writes}
+use Rattle.byte_memory.specs.Held.{MemoryHolds, number_in, some_writes}
+use Rattle.mir_semantics.specs.Places.{RegistersHold, SlotsHold}
 use Rattle.mir_semantics.specs.Acts.{MachineHolds, Moved, EndsSo, Leads, GoesNowhere, Acts, Does, InputHolds, AddressHolds, Takes, reply_of}
 
 -- code whose registers are written does what its row says

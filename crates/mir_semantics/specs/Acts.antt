@@ -16,7 +16,8 @@ use Rattle.mir_func.specs.Graph.{below, block_start, RowEdge}
 use Rattle.mir_semantics.specs.declared.machine.Machine.{Machine}
 use Rattle.mir_semantics.specs.declared.machine.Outcome.{Outcome}
 use Rattle.mir_semantics.specs.declared.machine.Outcome.TheVariants.{Falls, Goes, Returns as Ended, Faults, Waits}
-use Rattle.mir_semantics.specs.Places.{ObjectsHold, RegistersHold, SlotsHold, MemoryHolds, starting_registers, some_writes}
+use Rattle.byte_memory.specs.Held.{MemoryHolds, some_writes}
+use Rattle.mir_semantics.specs.Places.{ObjectsHold, RegistersHold, SlotsHold, starting_registers}
 
 -- the core's stack objects, registers, slots and memory are those that are kept
 pub record MachineHolds (m : Machine) (s : Core) : Type 0 where

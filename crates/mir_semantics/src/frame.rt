@@ -2,7 +2,7 @@
 
 ghost use Rattle.std.specs.Prelude.{◌≡◌};
 ghost use Rattle.mir_meaning.specs.State.{in_frame, touches_frame, writes_frame};
-ghost use Rattle.mir_semantics.specs.Places.{some_writes};
+ghost use Rattle.byte_memory.specs.Held.{some_writes};
 
 /// How many bytes below the stack pointer at entry are kept for frames.
 const FRAME_ROOM: u64 = 2_048;

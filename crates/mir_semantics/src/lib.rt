@@ -9,7 +9,6 @@ mod assignments;
 mod blocks;
 mod frame;
 mod machine;
-mod memory;
 mod objects;
 mod pairs;
 mod registers;

@@ -13,7 +13,7 @@ ghost use Rattle.mir_meaning.specs.Step.{are_written, is_fault, loaded, object_a
 ghost use Rattle.mir_semantics.specs.Acts.{Acts, AddressHolds, Does, InputHolds, MachineHolds, StartsMachine, Takes};
 
 use crate::frame::{touches_frame, writes_frame};
-use crate::memory::Memory;
+use byte_memory::memory::Memory;
 use crate::objects::{self, Offsets};
 use crate::registers::Registers;
 use crate::slots::Slots;

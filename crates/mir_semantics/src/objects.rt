@@ -4,7 +4,8 @@ ghost use Rattle.std.specs.Prelude.{◌≡◌, ◌≤◌, All, IfOk, length};
 ghost use Rattle.mir_func.specs.Limits.{MAX_SLOTS};
 ghost use Rattle.mir_func.specs.Objects.{AreLaidFrom, area_of, offset_of};
 ghost use Rattle.mir_func.specs.Sound.{IsSoundObject};
-ghost use Rattle.mir_semantics.specs.Places.{ObjectsHold, number_in};
+ghost use Rattle.byte_memory.specs.Held.{number_in};
+ghost use Rattle.mir_semantics.specs.Places.{ObjectsHold};
 
 use indexmap::IndexMap;
 use mir_func::object::Object;

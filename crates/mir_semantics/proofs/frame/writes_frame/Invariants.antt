@@ -1,6 +1,6 @@
 use Rattle.std.proofs.Common.{◌≡◌, drop}
 use Rattle.mir_meaning.specs.State.{writes_frame}
-use Rattle.mir_semantics.specs.Places.{some_writes}
+use Rattle.byte_memory.specs.Held.{some_writes}
 use Rattle.mir_semantics.proofs.frame.writes_frame.Given as goal
 
 abbrev pub invariant-loop-write : goal.invariant-loop-write

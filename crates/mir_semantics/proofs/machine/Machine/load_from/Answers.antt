@@ -2,7 +2,7 @@ use Rattle.std.proofs.Common.{ap, ◌∙◌}
 use Rattle.rv64_instr.specs.Arithmetic.{extended}
 use Rattle.mir_meaning.specs.State.{spelled}
 use Rattle.mir_meaning.specs.Step.{is_fault}
-use Rattle.mir_semantics.specs.Places.{number_in}
+use Rattle.byte_memory.specs.Held.{number_in}
 use Rattle.mir_semantics.proofs.Rows.{loaded_falls, loaded_faults}
 use Rattle.mir_semantics.proofs.machine.Machine.load_from.Goals as goal
 

@@ -1,7 +1,7 @@
 use Rattle.std.proofs.Common.{ℕ, ap, subst, ◌∙◌}
 use Rattle.mir_meaning.specs.State.{stored, low_bytes}
 use Rattle.mir_meaning.specs.Step.{is_fault}
-use Rattle.mir_semantics.specs.Places.{MemoryHolds}
+use Rattle.byte_memory.specs.Held.{MemoryHolds}
 use Rattle.mir_semantics.proofs.Rows.{put_falls, put_faults}
 use Rattle.mir_semantics.proofs.machine.Machine.store_to.Goals as goal
 

@@ -2,7 +2,7 @@
 
 ghost use Rattle.std.specs.Prelude.{◌≡◌, ◌<◌, ◌≤◌, ◌*◌, ◌^◌, ℕ, IfOk, OnOk, OnErr};
 ghost use Rattle.mir_meaning.specs.State.{spelled, stored, low_bytes, written};
-ghost use Rattle.mir_semantics.specs.Places.{MemoryHolds, number_in, some_writes};
+ghost use Rattle.byte_memory.specs.Held.{MemoryHolds, number_in, some_writes};
 
 use indexmap::IndexMap;
 use std::alloc::{AllocError, Global};

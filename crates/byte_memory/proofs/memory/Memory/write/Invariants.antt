@@ -1,8 +1,8 @@
 use Rattle.std.proofs.Common.{◌≡◌, ℕ, ◌≤◌, ◌-◌, drop, length}
 use Rattle.std.specs.HashMap.{spare}
 use Rattle.mir_meaning.specs.State.{written}
-use Rattle.mir_semantics.specs.Places.{MemoryHolds, some_writes}
-use Rattle.mir_semantics.proofs.memory.Memory.write.Given as goal
+use Rattle.byte_memory.specs.Held.{MemoryHolds, some_writes}
+use Rattle.byte_memory.proofs.memory.Memory.write.Given as goal
 
 abbrev pub invariant-loop-write : goal.invariant-loop-write
 invariant-loop-write l = record {

@@ -1,7 +1,7 @@
 use Rattle.std.proofs.Common.{arith}
-use Rattle.mir_semantics.specs.Places.{number_in}
-use Rattle.mir_semantics.proofs.Loops.{power_small, power_next, spelled_turn}
-use Rattle.mir_semantics.proofs.memory.Memory.spelled.Goals as goal
+use Rattle.byte_memory.specs.Held.{number_in}
+use Rattle.byte_memory.proofs.Loops.{power_small, power_next, spelled_turn}
+use Rattle.byte_memory.proofs.memory.Memory.spelled.Goals as goal
 
 pub overflow_mul-number : goal.overflow_mul-number
 overflow_mul-number c =

@@ -1,7 +1,7 @@
 use Rattle.std.proofs.Common.{◌≡◌, ◌<◌, ◌+◌, ◌-◌, ◌*◌, ◌^◌}
 use Rattle.mir_meaning.specs.State.{spelled}
-use Rattle.mir_semantics.specs.Places.{number_in}
-use Rattle.mir_semantics.proofs.memory.Memory.spelled.Given as goal
+use Rattle.byte_memory.specs.Held.{number_in}
+use Rattle.byte_memory.proofs.memory.Memory.spelled.Given as goal
 
 abbrev pub invariant-loop-i : goal.invariant-loop-i
 invariant-loop-i l = record {

@@ -1,8 +1,8 @@
 use Rattle.std.proofs.Common.{arith}
 use Rattle.mir_meaning.specs.State.{updated}
-use Rattle.mir_semantics.proofs.Loops.{memory_put, written_some, written_none, written_end}
-use Rattle.mir_semantics.proofs.memory.Memory.write.Goals as goal
-use Rattle.mir_semantics.proofs.memory.Memory.write.Goals.{in-Some+in_ok-insert, in_default}
+use Rattle.byte_memory.proofs.Loops.{memory_put, written_some, written_none, written_end}
+use Rattle.byte_memory.proofs.memory.Memory.write.Goals as goal
+use Rattle.byte_memory.proofs.memory.Memory.write.Goals.{in-Some+in_ok-insert, in_default}
 
 pub loop-write-preserved : goal.loop-write-preserved
 loop-write-preserved c = elim c.match-write.branch [

@@ -1,8 +1,8 @@
 use Rattle.std.proofs.Common.{◌≡◌, ℕ, ◌≤◌, ◌+◌, ◌-◌}
 use Rattle.std.specs.HashMap.{spare}
 use Rattle.mir_meaning.specs.State.{stored, low_bytes}
-use Rattle.mir_semantics.specs.Places.{MemoryHolds}
-use Rattle.mir_semantics.proofs.memory.Memory.store.Given as goal
+use Rattle.byte_memory.specs.Held.{MemoryHolds}
+use Rattle.byte_memory.proofs.memory.Memory.store.Given as goal
 
 abbrev pub invariant-loop-k : goal.invariant-loop-k
 invariant-loop-k l = record {

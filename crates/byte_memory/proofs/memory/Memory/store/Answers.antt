@@ -1,7 +1,7 @@
 use Rattle.std.proofs.Common.{arith}
 use Rattle.mir_meaning.specs.State.{updated}
-use Rattle.mir_semantics.proofs.Loops.{memory_put, stored_first, stored_turn}
-use Rattle.mir_semantics.proofs.memory.Memory.store.Goals as goal
+use Rattle.byte_memory.proofs.Loops.{memory_put, stored_first, stored_turn}
+use Rattle.byte_memory.proofs.memory.Memory.store.Goals as goal
 
 pub loop-k-init : goal.loop-k-init
 loop-k-init c = record {
