@@ -13,10 +13,10 @@ ghost use Rattle.mir_meaning.specs.Step.{are_written, is_fault, loaded, object_a
 ghost use Rattle.mir_semantics.specs.Acts.{Acts, AddressHolds, Does, InputHolds, MachineHolds, StartsMachine, Takes};
 
 use crate::frame::{touches_frame, writes_frame};
-use byte_memory::memory::Memory;
 use crate::objects::{self, Offsets};
 use crate::registers::Registers;
 use crate::slots::Slots;
+use byte_memory::memory::Memory;
 use mir_func::object::Object;
 use numbers::code::{BlockId, ObjectId, SlotId};
 use rv64_instr::arithmetic::{compute, extend, is_taken, load_width, store_width};
