@@ -6,9 +6,9 @@
 //! from the block's end, item by item, by the same step that the sweeps take.
 #![tactic(auto)]
 
-mod index;
+pub mod index;
 pub mod live;
-mod names;
+pub mod names;
 mod order;
 pub mod set;
 mod solve;

@@ -124,8 +124,8 @@ impl Live {
     }
 }
 
-/// The slots and the blocks of a function.
-fn names_of(alloc: Global, f: &Func) -> Result<Names, AllocError>
+/// The slots and the blocks of a function, by their numbers.
+pub fn names_of(alloc: Global, f: &Func) -> Result<Names, AllocError>
     ensures slots { IfOk result (λ n. n.slots ≡ f.now.slots) }
     ensures blocks { IfOk result (λ n. n.blocks ≡ ids_of f.now.blocks) }
 {
@@ -158,7 +158,7 @@ fn block_numbers(alloc: Global, blocks: &[Block]) -> Result<Vec<u32>, AllocError
 }
 
 /// So many empty sets.
-fn empty_sets(alloc: Global, blocks: usize) -> Result<Vec<PlaceSet>, AllocError>
+pub fn empty_sets(alloc: Global, blocks: usize) -> Result<Vec<PlaceSet>, AllocError>
     ensures long { IfOk result (λ sets. length sets.items ≡ blocks) }
     ensures none { IfOk result (λ sets. (slots : List ℕ) (b : ℕ) (x : Place) →
         has slots (slice_index_or sets.items b []) x ≡ false) }

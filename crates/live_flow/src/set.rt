@@ -42,38 +42,38 @@ impl PlaceSet {
         PlaceSet { words: self.words }
     }
 
-    /// Whether a bit is set.
-    pub(crate) fn has(&self, bit: usize) -> bool
+    /// Whether a bit is set. It takes no memory.
+    pub fn has(&self, bit: usize) -> bool
         ensures { result ≡ has_bit self.now bit }
     {
         has_bit(&self.words, bit)
     }
 
-    /// Sets a bit.
-    pub(crate) fn insert(&mut self, bit: usize)
+    /// Sets a bit. It takes no memory.
+    pub fn insert(&mut self, bit: usize)
         requires { bit < 4416 }
         ensures { (i : ℕ) → has_bit self.new i ≡ (nat_eq bit i || has_bit self.old i) }
     {
         set_bit(&mut self.words, bit);
     }
 
-    /// Clears a bit.
-    pub(crate) fn remove(&mut self, bit: usize)
+    /// Clears a bit. It takes no memory.
+    pub fn remove(&mut self, bit: usize)
         requires { bit < 4416 }
         ensures { (i : ℕ) → has_bit self.new i ≡ (has_bit self.old i && not (nat_eq bit i)) }
     {
         clear_bit(&mut self.words, bit);
     }
 
-    /// Clears all bits.
-    pub(crate) fn clear(&mut self)
+    /// Clears all bits. It takes no memory.
+    pub fn clear(&mut self)
         ensures { (i : ℕ) → has_bit self.new i ≡ false }
     {
         clear_all(&mut self.words);
     }
 
-    /// Adds what is in another set, and tells whether there was anything to add.
-    pub(crate) fn unite(&mut self, other: &PlaceSet) -> bool
+    /// Adds what is in another set, and tells whether there was anything to add. It takes no memory.
+    pub fn unite(&mut self, other: &PlaceSet) -> bool
         ensures all { (i : ℕ) → has_bit self.new i ≡ (has_bit self.old i || has_bit other.now i) }
         ensures grown { IsTrue result → gap self.new < gap self.old }
         ensures same { result ≡ false → self.new ≡ self.old }

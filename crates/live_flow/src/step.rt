@@ -83,6 +83,63 @@ impl Names {
         }
     }
 
+    /// Takes out what an instruction sets. It takes no memory.
+    pub fn remove_defined(&self, set: &mut PlaceSet, i: &Instr)
+        ensures { (x : Place) →
+            has self.now.slots set.new x ≡ (has self.now.slots set.old x && not (defines_of (row_of i.now) x)) }
+    {
+        let decoded = i.decoded();
+        match decoded {
+            Decoded::Calls => self.remove_registers(set, &CALLER_SAVED),
+            Decoded::Fixes(_, _)
+            | Decoded::Moves(_, _)
+            | Decoded::Sets(_, _, _, _)
+            | Decoded::Addresses(_, _, _)
+            | Decoded::Loads(_, _, _, _)
+            | Decoded::Stores(_, _, _, _)
+            | Decoded::LoadsSlot(_, _)
+            | Decoded::StoresSlot(_, _)
+            | Decoded::Branches(_, _, _, _)
+            | Decoded::Jumps(_)
+            | Decoded::Returns => self.remove(set, place_defined(&decoded)),
+        }
+    }
+
+    /// Adds what an instruction sets. It takes no memory.
+    pub fn insert_defined(&self, set: &mut PlaceSet, i: &Instr)
+        ensures { SlotIn self.now.slots (row_of i.now) → (x : Place) →
+            has self.now.slots set.new x ≡ (defines_of (row_of i.now) x || has self.now.slots set.old x) }
+    {
+        let decoded = i.decoded();
+        match decoded {
+            Decoded::Calls => self.insert_registers(set, &CALLER_SAVED),
+            Decoded::Fixes(_, _)
+            | Decoded::Moves(_, _)
+            | Decoded::Sets(_, _, _, _)
+            | Decoded::Addresses(_, _, _)
+            | Decoded::Loads(_, _, _, _)
+            | Decoded::Stores(_, _, _, _)
+            | Decoded::LoadsSlot(_, _)
+            | Decoded::StoresSlot(_, _)
+            | Decoded::Branches(_, _, _, _)
+            | Decoded::Jumps(_)
+            | Decoded::Returns => self.insert(set, place_defined(&decoded)),
+        }
+    }
+
+    /// Adds registers.
+    fn insert_registers(&self, set: &mut PlaceSet, numbers: &[u32])
+        requires { All (λ n. n < 32) numbers.now }
+        ensures { (x : Place) →
+            has self.now.slots set.new x ≡ (is_among x numbers.now || has self.now.slots set.old x) }
+    {
+        for n in numbers {
+            if let Some(r) = physical(*n) {
+                self.insert(set, Some(Place::Register(r)));
+            }
+        }
+    }
+
     /// Takes out registers.
     fn remove_registers(&self, set: &mut PlaceSet, numbers: &[u32])
         requires { All (λ n. n < 32) numbers.now }
