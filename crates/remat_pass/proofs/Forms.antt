@@ -13,7 +13,7 @@ kept_by : (x : Operand) (xs : List Operand) (t : Bool) → is_implicit x ≡ t �
 kept_by x xs true e h = ap (λ (b : Bool). b && list_all is_implicit (filter is_implicit xs)) e ∙ h
 kept_by x xs false e h = h
 
-all_implicit : (xs : List Operand) → list_all is_implicit (filter is_implicit xs) ≡ true
+pub all_implicit : (xs : List Operand) → list_all is_implicit (filter is_implicit xs) ≡ true
 all_implicit [] = refl
 all_implicit (x ∷ xs) = kept_by x xs (is_implicit x) refl (all_implicit xs)
 

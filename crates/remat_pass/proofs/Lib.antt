@@ -3,3 +3,13 @@ pub mod Learning
 pub mod Setting
 pub mod InPlaceMap
 pub mod Stripping
+pub mod Arithmetic
+pub mod Constants
+pub mod Replaced
+pub mod Pairs
+pub mod Sound
+pub mod Sizes
+pub mod Debug
+pub mod Runs
+pub mod Follows
+pub mod Partly

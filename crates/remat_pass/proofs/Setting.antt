@@ -1,11 +1,14 @@
 -- Constants that are set item by item, from the top of a block down.
-use Rattle.std.proofs.Common.{◌≡◌, ℕ, zero, suc, ◌+◌, ◌<◌, ◌≤◌, List, [], ◌∷◌, ◌++◌, length, drop, get_or, set, refl, sym, ap, ◌∙◌, arith, append_assoc}
+use Rattle.std.proofs.Common.{◌≡◌, ℕ, zero, suc, ◌+◌, ◌<◌, ◌≤◌, List, [], ◌∷◌, ◌++◌, length, drop, get_or, set, inr, refl, sym, ap, ◌∙◌, arith, append_assoc}
 use Rattle.std.proofs.Math.Seq.{drop-cons}
 use Rattle.rv64_instr.specs.declared.place.Place.{Place}
 use Rattle.mir_func.specs.declared.item.Item.{Item}
 use Rattle.mir_func.specs.declared.item.ItemKind.{ItemKind}
 use Rattle.remat_pass.specs.Known.{Known, nothing_known, known_past}
+use Rattle.follow_law.specs.Following.{HasForm}
 use Rattle.remat_pass.specs.Remat.{set_in, set_items}
+use Rattle.remat_pass.specs.Partly.{MayBeSet, AreItemsSet}
+use Rattle.remat_pass.proofs.Partly.{items_kept, item_turn, each_more}
 
 -- the first so many items are done, and so much is known
 pub record Setting (items : List Item) (n : ℕ) (known : Known) (now : List Item) : Type 0 where
@@ -13,11 +16,20 @@ pub record Setting (items : List Item) (n : ℕ) (known : Known) (now : List Ite
   pub long : length done ≡ n
   pub now_is : now ≡ done ++ drop n items
   pub all : set_items nothing_known items ≡ done ++ set_items known (drop n items)
+  pub each : AreItemsSet items now
+  pub forms : (k : ℕ) (d : Item) → k < n → HasForm (get_or items k d).kind
 
 pub setting_begins : (items : List Item) (known : Known) → ((x : Place) → known x ≡ nothing_known x) → Setting items 0 known items
 setting_begins items known h =
     let same : known ≡ nothing_known = λ j y. h y j in
-    record { done = []; long = refl; now_is = zero_drop items; all = ap (λ (k : Known). set_items k items) (sym same) ∙ ap (set_items known) (zero_drop items) } where
+    record {
+      done = [];
+      long = refl;
+      now_is = zero_drop items;
+      all = ap (λ (k : Known). set_items k items) (sym same) ∙ ap (set_items known) (zero_drop items);
+      each = items_kept items;
+      forms = λ k d lt. absurd (omega (arith, lt));
+    } where
       zero_drop : (xs : List Item) → xs ≡ drop 0 xs
       zero_drop [] = refl
       zero_drop (x ∷ xs) = refl
@@ -40,10 +52,15 @@ setting_item {items} {n} {known} {now} s inside x is =
       seam (d ∷ ds) y rest zero e = absurd (omega arith)
       seam (d ∷ ds) y rest (suc n) e = seam ds y rest n (omega arith)
 
+-- wherever it stops, the item at the seam as it was or with a constant set
+pub setting_turn : {items : List Item} {n : ℕ} {known : Known} {now : List Item} → Setting items n known now → n < length items → (x made : Item) →
+    x ≡ get_or now n x → MayBeSet x made → AreItemsSet items (set now n made)
+setting_turn {items} {n} s inside x made is m = item_turn items _ s.each n inside x made (setting_item s inside x is) m
+
 pub setting_goes_on : {items : List Item} {n : ℕ} {known : Known} {now : List Item} → Setting items n known now → n < length items → (x made : Item) →
-    x ≡ get_or now n x → made ≡ record x { kind = set_in known x.kind } → (next : Known) →
+    x ≡ get_or now n x → made ≡ record x { kind = set_in known x.kind } → HasForm x.kind → (next : Known) →
     ((y : Place) → next y ≡ known_past made.kind known y) → Setting items (n + 1) next (set now n made)
-setting_goes_on {items} {n} {known} {now} s inside x made is made_is next past =
+setting_goes_on {items} {n} {known} {now} s inside x made is made_is form next past =
     let mine = setting_item s inside x is in
     let one : n + 1 ≡ suc n = omega arith in
     let split : drop n items ≡ x ∷ drop (suc n) items = drop-cons items n x inside ∙ ap (λ (y : Item). y ∷ drop (suc n) items) (sym mine) in
@@ -60,6 +77,8 @@ setting_goes_on {items} {n} {known} {now} s inside x made is made_is next past =
           ∙ (sym (append_assoc s.done (made ∷ []) (set_items (known_past (set_in known x.kind) known) (drop (suc n) items)))
           ∙ (ap (λ (k : Known). (s.done ++ made ∷ []) ++ set_items k (drop (suc n) items)) (sym same)
           ∙ ap (λ (r : List Item). (s.done ++ made ∷ []) ++ set_items next r) after))));
+      each = setting_turn s inside x made is (inr (known, made_is));
+      forms = each_more (λ (i : Item). HasForm i.kind) items n x inside (setting_item s inside x is) form s.forms;
     } where
       longer : (xs : List Item) → length (xs ++ made ∷ []) ≡ length xs + 1
       longer [] = refl

@@ -1,21 +1,78 @@
 //! Constants that are set again where they are read.
 
-ghost use Rattle.std.specs.Prelude.{◌≡◌, OnOk};
+ghost use Rattle.std.specs.Prelude.{◌≡◌, [], ◌∷◌, All, IsTrue, OnOk, OnErr, true, false};
 ghost use Rattle.rv64_instr.specs.Row.{row_of};
+ghost use Rattle.rv64_instr.specs.Form.{has_form};
+ghost use Rattle.mir_func.specs.Sound.{AllItems, IsSound};
+ghost use Rattle.follow_law.specs.Following.{HasForm};
 ghost use Rattle.remat_pass.specs.Known.{nothing_known};
 ghost use Rattle.remat_pass.specs.Table.{known_by};
-ghost use Rattle.remat_pass.specs.Remat.{constant_set, set_or_same, set_in, set_items, set_blocks};
+ghost use Rattle.remat_pass.specs.Remat.{constant_set, set_or_same, set_in, set_items, set_blocks, rematerialized};
+ghost use Rattle.remat_pass.specs.Partly.{AreItemsSet, AreBlocksSet};
+ghost use Rattle.remat_pass.specs.Pass.{remat_step};
+ghost use Rattle.remat_pass.specs.Laws.{one_rematerialized, same_rematerialized};
+ghost use Rattle.std.proofs.Common.{rules};
 
 use crate::constant::constant_code;
 use crate::known::Known;
+use follow_law::loss::Losses;
+use follow_law::pass::Pass;
 use mir_func::block::Block;
+use mir_func::func::Func;
 use mir_func::item::{Item, ItemKind};
 use rv64_instr::instr::Instr;
 use std::alloc::{AllocError, Global};
+use substitution::substitutions::Substitutions;
 
-/// Sets constants again in all blocks. After an error the blocks are only to be dropped.
+/// Sets constants again where they are copied or loaded from a slot, so that what held them may be dead. Nothing is
+/// lost.
+#[derive(Drop)]
+pub struct RematPass;
+
+impl Pass for RematPass {
+    ghost asks = { false };
+
+    ghost keeps = { true };
+
+    ghost fits = { true };
+
+    ghost factor = { 1 };
+
+    ghost count = { 1 };
+
+    ghost steps = { λ s. remat_step ∷ [] };
+
+    fn run(
+        &mut self,
+        alloc: Global,
+        f: &mut Func,
+        _subs: &mut Substitutions,
+    ) -> Result<Losses, AllocError> {
+        set_constants(alloc, f)?;
+        Ok(Losses::new(alloc))
+    }
+
+    ghost one_code = { λ s. (one_rematerialized, tt) };
+
+    ghost same_code = { λ s. (same_rematerialized, tt) };
+
+    ghost grows = { Prim.search rules };
+}
+
+/// Sets constants again in a function. After an error, some of them.
+fn set_constants(alloc: Global, f: &mut Func) -> Result<(), AllocError>
+    ensures code { OnOk result (f.new ≡ rematerialized f.old) }
+    ensures forms { OnOk result (AllItems (λ i. HasForm i.kind) f.old.blocks) }
+    ensures sound { IsSound f.old }
+{
+    set_blocks(alloc, &mut f.blocks.items)
+}
+
+/// Sets constants again in all blocks. After an error, in some items, and the others stay.
 pub fn set_blocks(alloc: Global, blocks: &mut Vec<Block>) -> Result<(), AllocError>
-    ensures { OnOk result (blocks.new.items ≡ set_blocks blocks.old.items) }
+    ensures code { OnOk result (blocks.new.items ≡ set_blocks blocks.old.items) }
+    ensures forms { OnOk result (AllItems (λ i. HasForm i.kind) blocks.old.items) }
+    ensures each { AreBlocksSet blocks.old.items blocks.new.items }
 {
     for b in blocks.iter_mut() {
         set_items(alloc, &mut b.items.items)?;
@@ -23,9 +80,11 @@ pub fn set_blocks(alloc: Global, blocks: &mut Vec<Block>) -> Result<(), AllocErr
     Ok(())
 }
 
-/// Sets constants again in the items of a block.
+/// Sets constants again in the items of a block. After an error, in some, and the others stay.
 fn set_items(alloc: Global, items: &mut Vec<Item>) -> Result<(), AllocError>
-    ensures { OnOk result (items.new.items ≡ set_items nothing_known items.old.items) }
+    ensures code { OnOk result (items.new.items ≡ set_items nothing_known items.old.items) }
+    ensures forms { OnOk result (All (λ i. HasForm i.kind) items.old.items) }
+    ensures each { AreItemsSet items.old.items items.new.items }
 {
     let mut known = Known::new(alloc);
     for item in items.iter_mut() {
@@ -35,9 +94,11 @@ fn set_items(alloc: Global, items: &mut Vec<Item>) -> Result<(), AllocError>
     Ok(())
 }
 
-/// Sets a constant in the place of a copy or a load, if its number is known.
+/// Sets a constant in the place of a copy or a load, if its number is known. After an error it is as it was.
 fn set_in(alloc: Global, known: &Known, kind: &mut ItemKind) -> Result<(), AllocError>
-    ensures { OnOk result (kind.new ≡ set_in (known_by known.now.registers known.now.slots) kind.old) }
+    ensures code { OnOk result (kind.new ≡ set_in (known_by known.now.registers known.now.slots) kind.old) }
+    ensures err { OnErr result (kind.new ≡ kind.old) }
+    ensures form { HasForm kind.old }
 {
     match kind {
         ItemKind::Code(i, _) => set_code(alloc, known, i),
@@ -46,8 +107,10 @@ fn set_in(alloc: Global, known: &Known, kind: &mut ItemKind) -> Result<(), Alloc
 }
 
 fn set_code(alloc: Global, known: &Known, i: &mut Instr) -> Result<(), AllocError>
-    ensures { OnOk result (i.new
+    ensures code { OnOk result (i.new
         ≡ set_or_same (constant_set (known_by known.now.registers known.now.slots) (row_of i.old)) i.old) }
+    ensures err { OnErr result (i.new ≡ i.old) }
+    ensures form { IsTrue (has_form i.old.op i.old.operands) }
 {
     if let Some(c) = known.constant_set(&i.decoded()) {
         *i = constant_code(alloc, c, i.operands.as_slice())?;

@@ -1,0 +1,22 @@
+-- The step of the pass.
+use Rattle.std.specs.Prelude.{◌≡◌, []}
+use Rattle.follow_law.specs.Rule.{Rule}
+use Rattle.follow_law.specs.Steps.{Step}
+use Rattle.remat_pass.specs.Remat.{IsRematerialized}
+
+-- the rule of its debug items: nothing happens to them
+abbrev pub remat_rule : Rule
+remat_rule = record {
+  loses = λ c at loss. ⊥;
+  leaves = λ c r why. ⊥;
+  spills = λ c r slot. ⊥;
+  renames = λ c r now. ⊥;
+  numbers = λ c at k. ⊥;
+  salvages = λ c at p. ⊥;
+  substitutes = λ c more. more ≡ [];
+  kills = λ c block kills. kills ≡ [];
+}
+
+-- its one step
+abbrev pub remat_step : Step
+remat_step = record { code = IsRematerialized; debug = remat_rule }
