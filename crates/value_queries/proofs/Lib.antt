@@ -1,1 +1,5 @@
 mod Asking
+mod Sitting
+mod Told
+mod Kept
+mod Fit

@@ -1,16 +1,22 @@
 //! Where a part of a variable is.
 
-ghost use Rattle.std.specs.Prelude.{◌≡◌, ◌<◌, ◌≤◌, IfOk, Some, length, slice_get};
+ghost use Rattle.std.specs.Prelude.{◌≡◌, ◌≢◌, ◌↔◌, ◌<◌, ◌≤◌, ℕ, IfOk, IsTrue, List, Some};
+ghost use Rattle.std.specs.Prelude.{Contains, length, slice_get, slice_index};
 ghost use Rattle.mir_func.specs.declared.block.Block.{Block};
 ghost use Rattle.mir_func.specs.declared.position.Pos.{Pos};
 ghost use Rattle.mir_func.specs.Graph.{Program, block_start};
 ghost use Rattle.mir_func.specs.Successors.{pos_in};
+ghost use Rattle.mir_meaning.specs.Token.{variable_token};
 ghost use Rattle.class_places.specs.Things.{AreThings};
 ghost use Rattle.transfer_emit.specs.Stands.{AreValuesOf, Fits, program};
 ghost use Rattle.transfer_emit.specs.steps.Places.{ArePlacesAt};
 ghost use Rattle.variable_locations.specs.Wanted.{AreWantedPlaces, IsWantedPlace};
+ghost use Rattle.value_queries.specs.Sitting.{IsPointOf, SitsAt, position};
 
+use crate::point::Point;
+use crate::sits::class_sits;
 use crate::stand::{index_in, stand_before};
+use class_places::held::Held;
 use class_places::index::index_of;
 use mir_func::block::Block;
 use mir_func::variable::VarId;
@@ -70,5 +76,42 @@ fn place_of(parts: &[VarId], places: &[Option<Place>], part: &VarId) -> Option<P
     match index_in(parts, part) {
         None => None,
         Some(j) => places[j],
+    }
+}
+
+/// Whether the value of a part of a variable sits in a place at a point: some path leads there, and on every path to it
+/// both have one token.
+pub fn holds(values: &Values, point: &Point, part: &VarId, place: &Place) -> bool
+    ensures { (blocks : List Block) → AreValuesOf blocks values.now → IsPointOf blocks values.now point.now →
+        IsTrue result ↔ SitsAt (program blocks values.now.subs.now) (variable_token part.now) place.now
+        (position point.now) }
+{
+    class_sits(
+        point,
+        part_class(&point.stand.held, values.variables, part),
+        place,
+    )
+}
+
+/// The class of a part of a variable among those that are held. One that isn't marked has 0.
+fn part_class(held: &Held, parts: &[VarId], part: &VarId) -> usize
+    ensures held { Contains parts.now part.now → (j : ℕ) × (slice_get parts.now j ≡ Some part.now)
+        × (result ≡ slice_index held.now.parts.items j) }
+    ensures none { result ≢ 0 → Contains parts.now part.now }
+{
+    match index_in(parts, part) {
+        None => 0,
+        Some(j) => part_at(held, j),
+    }
+}
+
+/// The class of the part at an index.
+fn part_at(held: &Held, j: usize) -> usize
+    ensures { result ≡ slice_index held.now.parts.items j }
+{
+    if j < held.parts.len() {
+        held.parts[j]
+    } else {
+        0
     }
 }

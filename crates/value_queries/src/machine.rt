@@ -1,0 +1,125 @@
+//! Whether the value of an operand, or that of a place, sits in a place.
+
+ghost use Rattle.std.specs.Prelude.{◌≡◌, ◌↔◌, ◌≤◌, ◌*◌, ◌^◌, ◌-◌, ℕ, IfNone, IfSome, IsSome, IsTrue, List};
+ghost use Rattle.std.specs.Prelude.{Some, is_some, true, Contains, length, min, slice_get, sum_by};
+ghost use Rattle.std.specs.HashMap.{get};
+ghost use Rattle.mir_func.specs.declared.block.Block.{Block};
+ghost use Rattle.mir_func.specs.Graph.{Program};
+ghost use Rattle.mir_meaning.specs.Token.{IsPlace, pair_token, place_token};
+ghost use Rattle.class_entries.specs.declared.entry.BlockEntry.{BlockEntry};
+ghost use Rattle.class_entries.specs.declared.tracked.Tracked.{Tracked};
+ghost use Rattle.class_entries.specs.declared.tracked.Tracked.TheVariants.{Pair};
+ghost use Rattle.class_entries.specs.Entry.{IsEntry};
+ghost use Rattle.class_places.specs.Things.{is_key};
+ghost use Rattle.class_places.specs.Held.{pair_class};
+ghost use Rattle.transfer_emit.specs.Stands.{AreValuesOf, program};
+ghost use Rattle.value_queries.specs.Sitting.{IsFit, IsPointOf, SitsAt, SitsByClass, position, named_class};
+ghost use Rattle.value_queries.specs.Sitting.{place_number};
+
+use crate::point::Point;
+use crate::sits::{class_sits, named_class, number_of};
+use class_entries::entry::BlockEntry;
+use class_places::index::{key, pair_class};
+use mir_func::entry::OperandPair;
+use rv64_instr::place::Place;
+use transfer_emit::values::Values;
+
+/// Whether the value of an operand of the instruction with a debug instruction number sits in a place at a point: some
+/// path leads there, and on every path to it both have one token. None exactly where the pair isn't tracked: of all
+/// pairs those are that marks ask for.
+pub fn holds(values: &Values, point: &Point, pair: &OperandPair, place: &Place) -> Option<bool>
+    ensures tracked { (blocks : List Block) → IsPointOf blocks values.now point.now →
+        IsSome result ↔ Contains values.now.things.now (Pair pair.now) }
+    ensures exact { IfSome result (λ h. (blocks : List Block) → AreValuesOf blocks values.now →
+        IsPointOf blocks values.now point.now →
+        IsTrue h ↔ SitsAt (program blocks values.now.subs.now) (pair_token (Some pair.now)) place.now
+        (position point.now)) }
+{
+    let tracked = is_tracked(point, pair);
+    if !tracked {
+        return None;
+    }
+    Some(class_sits(point, class_of(point, pair), place))
+}
+
+fn is_tracked(point: &Point, pair: &OperandPair) -> bool
+    ensures { result ≡ is_some (get is_key point.now.index.pairs (pair.now.number, pair.now.operand)) }
+{
+    let (number, operand) = key(*pair);
+    point.index.pairs.get(&(number, operand)).copied().is_some()
+}
+
+/// The class of a pair at a point.
+fn class_of(point: &Point, pair: &OperandPair) -> usize
+    ensures { result ≡ pair_class point.now.index point.now.stand.settled.items point.now.stand.held pair.now.number
+        pair.now.operand }
+{
+    let (number, operand) = key(*pair);
+    match point.stand.held.pairs.get(&(number, operand)) {
+        Some(class) => *class,
+        None => pair_class(
+            &point.index,
+            point.stand.settled.as_slice(),
+            number,
+            operand,
+        ),
+    }
+}
+
+/// Whether two places hold one value at a point: some path leads there, and on every path to it both have one token.
+pub fn same(values: &Values, point: &Point, a: &Place, b: &Place) -> bool
+    ensures { (blocks : List Block) → AreValuesOf blocks values.now → IsPointOf blocks values.now point.now →
+        IsTrue result ↔ (IsPlace a.now × SitsAt (program blocks values.now.subs.now) (place_token (Some a.now)) b.now
+        (position point.now)) }
+{
+    match number_in(a) {
+        None => class_sits(point, named_class(point, a), b),
+        Some(m) => number_sits(point, m, a, b),
+    }
+}
+
+/// Whether the number that a place is sits in another.
+fn number_sits(point: &Point, m: u64, a: &Place, b: &Place) -> bool
+    ensures fit { IsFit b.now }
+    ensures number { IfSome (place_number b.now) (λ n. IsTrue result ↔ ((point.now.stand.reached ≡ true) × (m ≡ n))) }
+    ensures place { IfNone (place_number b.now) (IsTrue result ↔ SitsByClass point.now.stand point.now.index
+        (named_class point.now.index point.now.stand.settled.items point.now.stand.held b.now) a.now) }
+{
+    match number_in(b) {
+        None => class_sits(point, named_class(point, b), a),
+        Some(n) => point.stand.reached && m == n,
+    }
+}
+
+/// The number that a place is, modulo 2^64.
+fn number_in(place: &Place) -> Option<u64>
+    ensures fit { IsFit place.now }
+    ensures value { result ≡ place_number place.now }
+{
+    match place {
+        Place::Const(c) => Some(number_of(*c)),
+        Place::Register(_) => None,
+        Place::Slot(_) => None,
+    }
+}
+
+/// How many class numbers are kept: the sum of the lengths of the entries' lists, or the greatest number where the sum
+/// is above it.
+pub fn kept(entries: &[BlockEntry]) -> u64
+    ensures sum { result ≡ min (sum_by (λ e. length e.classes) entries.now) (2 ^ 64 - 1) }
+    ensures most { (g : Program) (things : List Tracked) →
+        ((b : ℕ) (e : BlockEntry) → slice_get entries.now b ≡ Some e → IsEntry g things b e) →
+        result ≤ length entries.now * length things }
+{
+    total(entries)
+}
+
+fn total(entries: &[BlockEntry]) -> u64
+    ensures { result ≡ min (sum_by (λ e. length e.classes) entries.now) (2 ^ 64 - 1) }
+{
+    let mut total = 0u64;
+    for entry in entries {
+        total = total.saturating_add(entry.classes.len() as u64);
+    }
+    total
+}

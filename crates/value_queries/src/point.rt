@@ -1,0 +1,46 @@
+//! Points of a function with its frame.
+
+ghost use Rattle.std.specs.Prelude.{◌≡◌, ◌<◌, ◌≤◌, IfOk, Some, length, slice_get};
+ghost use Rattle.mir_func.specs.declared.block.Block.{Block};
+ghost use Rattle.mir_func.specs.Successors.{pos_in};
+ghost use Rattle.class_places.specs.Things.{AreThings};
+ghost use Rattle.transfer_emit.specs.Stands.{AreValuesOf};
+ghost use Rattle.value_queries.specs.Sitting.{IsPointOf, position};
+
+use crate::stand::stand_before;
+use class_places::index::{Index, index_of};
+use mir_func::block::Block;
+use std::alloc::{AllocError, Global};
+use transfer_emit::stand::Stand;
+use transfer_emit::values::Values;
+
+/// What is known before an item of a block, or behind its last one. Questions about values there take no memory.
+#[derive(Drop)]
+pub struct Point {
+    /// Where numbers and pairs stand among what is tracked.
+    pub index: Index,
+    /// The classes there.
+    pub stand: Stand,
+}
+
+/// The point before an item of a block, or behind its last one. It walks from the start of the block. Memory is all
+/// that it may run out of.
+pub fn point_at(
+    alloc: Global,
+    values: &Values,
+    blocks: &[Block],
+    block: usize,
+    item: usize,
+) -> Result<Point, AllocError>
+    requires things { AreThings values.now.variables.now values.now.things.now }
+    requires parts { length values.now.variables.now ≤ length values.now.things.now }
+    requires entries { length values.now.entries.now ≡ length blocks.now }
+    requires block { block < length blocks.now }
+    requires item { (b : Block) → slice_get blocks.now block ≡ Some b → item ≤ length b.items }
+    ensures point { IfOk result (λ p. AreValuesOf blocks.now values.now → IsPointOf blocks.now values.now p) }
+    ensures position { IfOk result (λ p. position p ≡ pos_in block item) }
+{
+    let index = index_of(alloc, values.things)?;
+    let stand = stand_before(alloc, values, &index, blocks, block, item)?;
+    Ok(Point { index, stand })
+}
