@@ -1,0 +1,145 @@
+-- Code with roots for its explicit uses does what the code did, where copies hold what their roots hold.
+use Rattle.std.proofs.Common.{◌≡◌, ℕ, zero, suc, ◌+◌, ◌%◌, ◌^◌, List, [], ◌∷◌, map, Option, Some, None, Bool, true, false, cond, ◌&&◌, slice_get, is_some, refl, sym, ap, ◌∙◌}
+use Rattle.rv64_instr.specs.declared.operand.Operand.{Operand}
+use Rattle.rv64_instr.specs.declared.operand.Operand.TheVariants.{Def, Use, ImplicitDef, ImplicitUse, Imm, Slot, Object, Block, Symbol, Mask}
+use Rattle.rv64_instr.specs.declared.decoded.Input.{Input}
+use Rattle.rv64_instr.specs.declared.decoded.Input.TheVariants.{Content, Number}
+use Rattle.rv64_instr.specs.declared.decoded.Base.{Base}
+use Rattle.rv64_instr.specs.declared.decoded.Base.TheVariants.{PointedBy, ObjectAt}
+use Rattle.rv64_instr.specs.Arithmetic.{computed, taken}
+use Rattle.rv64_instr.specs.declared.op.LoadOp.{LoadOp}
+use Rattle.rv64_instr.specs.declared.op.LoadOp.TheVariants.{Ld}
+use Rattle.rv64_instr.specs.declared.op.StoreOp.{StoreOp}
+use Rattle.rv64_instr.specs.declared.op.RegisterOp.TheVariants.{Add}
+use Rattle.rv64_instr.specs.Instruction.{Instruction}
+use Rattle.rv64_instr.specs.Row.{Row, Fixes, Moves, Sets, Addresses, Loads, Stores, LoadsSlot, StoresSlot, Branches, Jumps, Calls, Returns, Unfit, row_of}
+use Rattle.rv64_instr.specs.Access.{reads}
+use Rattle.rv64_instr.specs.Parts.{is_call}
+use Rattle.mir_func.specs.declared.item.ItemKind.TheVariants.{Code}
+use Rattle.mir_func.specs.Graph.{Program}
+use Rattle.mir_meaning.specs.State.{Core, content, updated}
+use Rattle.mir_meaning.specs.Step.{Outcome, Falls, Goes, Traps, or_zero, read, input_value, base_value, address_at, is_fault, set_register, loaded, put_in_memory}
+use Rattle.mir_meaning.specs.Step.{does, are_written, act, numbered, given, defined, with_core, do_item}
+use Rattle.copy_pass.specs.declared.roots.Root.{Root}
+use Rattle.copy_pass.specs.Roots.{root_of, renamed_operand, renamed}
+use Rattle.copy_rule.proofs.Rows.{rooted_input, rooted_base, rooted, KeepsZero, row_renamed, call_rooted}
+
+module _ (e : List Root) (d : Core) (holds : (r : ℕ) → content d.regs r ≡ content d.regs (root_of e r)) where
+  read_root : (r : ℕ) → read d (root_of e r) ≡ read d r
+  read_root r = ap or_zero (sym (holds r))
+
+  input_root : (b : Input) → input_value d (rooted_input e b) ≡ input_value d b
+  input_root (Content r) = read_root r
+  input_root (Number n) = refl
+
+  base_root : (b : Base) → base_value d (rooted_base e b) ≡ base_value d b
+  base_root (PointedBy r) = read_root r
+  base_root (ObjectAt n) = refl
+
+  address_root : (b : Base) (o : ℕ) → address_at d (rooted_base e b) o ≡ address_at d b o
+  address_root b o = ap (λ (z : ℕ). (z + o) % 2 ^ 64) (base_root b)
+
+  fault_root : (b : Base) (a n : ℕ) → is_fault (rooted_base e b) d a n ≡ is_fault b d a n
+  fault_root (PointedBy r) a n = refl
+  fault_root (ObjectAt m) a n = refl
+
+  loaded_root : (rd : ℕ) (op : LoadOp) (b : Base) (a a' : ℕ) → a ≡ a' → loaded rd op (rooted_base e b) a d ≡ loaded rd op b a' d
+  loaded_root rd op (PointedBy r) a a' is = ap (λ (z : ℕ). loaded rd op (PointedBy r) z d) is
+  loaded_root rd op (ObjectAt n) a a' is = ap (λ (z : ℕ). loaded rd op (ObjectAt n) z d) is
+
+  stored_root : (op : StoreOp) (b : Base) (a a' v v' : ℕ) → a ≡ a' → v ≡ v' → put_in_memory op (rooted_base e b) a v d ≡ put_in_memory op b a' v' d
+  stored_root op (PointedBy r) a a' v v' is same = λ i. put_in_memory op (PointedBy r) (is i) (same i) d
+  stored_root op (ObjectAt n) a a' v v' is same = λ i. put_in_memory op (ObjectAt n) (is i) (same i) d
+
+  does_root : (r : Row) → does (rooted e r) d ≡ does r d
+  unfolding does
+  does_root (Fixes rd n) = refl
+  does_root (Moves rd rs) = ap (λ (v : ℕ). Falls (set_register rd v d)) (read_root rs)
+  does_root (Sets rd op a b) = let x = read_root a in let y = input_root b in λ i. Falls (set_register rd (computed op (x i) (y i)) d)
+  does_root (Addresses rd n o) = refl
+  does_root (Loads rd op b o) = loaded_root rd op b (address_at d (rooted_base e b) o) (address_at d b o) (address_root b o)
+  does_root (Stores op rs b o) =
+      stored_root op b (address_at d (rooted_base e b) o) (address_at d b o) (read d (root_of e rs)) (read d rs) (address_root b o) (read_root rs)
+  does_root (LoadsSlot rd n) = refl
+  does_root (StoresSlot rs n) = ap (λ (v : ℕ). Falls (record d { slots = updated n (Some v) d.slots })) (read_root rs)
+  does_root (Branches op a b t) = let x = read_root a in let y = read_root b in λ i. cond (taken op (x i) (y i)) (Goes t d) (Falls d)
+  does_root (Jumps t) = refl
+  does_root (Calls name args) = refl
+  does_root (Returns v) = refl
+  does_root Unfit = refl
+
+  one_written : (r : ℕ) → is_some (content d.regs (root_of e r)) ≡ is_some (content d.regs r)
+  one_written r = ap is_some (sym (holds r))
+
+  input_written : (a : ℕ) (b : Input) → are_written d (reads (Sets a Add (root_of e a) (rooted_input e b))) ≡ are_written d (reads (Sets a Add a b))
+  input_written a (Content r) = let x = one_written a in let y = one_written r in λ i. x i && (y i && true)
+  input_written a (Number n) = let x = one_written a in λ i. x i && true
+
+  base_written : (b : Base) → are_written d (reads (Loads 0 Ld (rooted_base e b) 0)) ≡ are_written d (reads (Loads 0 Ld b 0))
+  base_written (PointedBy r) = let y = one_written r in λ i. y i && true
+  base_written (ObjectAt n) = refl
+
+  rows_written : (r : Row) → are_written d (reads (rooted e r)) ≡ are_written d (reads r)
+  rows_written (Fixes rd n) = refl
+  rows_written (Moves rd rs) = let x = one_written rs in λ i. x i && true
+  rows_written (Sets rd op a b) = input_written a b
+  rows_written (Addresses rd n o) = refl
+  rows_written (Loads rd op b o) = base_written b
+  rows_written (Stores op rs b o) = let x = one_written rs in let y = base_written b in λ i. x i && y i
+  rows_written (LoadsSlot rd n) = refl
+  rows_written (StoresSlot rs n) = let x = one_written rs in λ i. x i && true
+  rows_written (Branches op a b t) = let x = one_written a in let y = one_written b in λ i. x i && (y i && true)
+  rows_written (Jumps t) = refl
+  rows_written (Calls name args) = refl
+  rows_written (Returns v) = refl
+  rows_written Unfit = refl
+
+  act_root : (r : Row) → act (rooted e r) d ≡ act r d
+  unfolding act
+  act_root r = let x = rows_written r in let y = does_root r in λ i. cond (x i) (y i) Traps
+
+-- an operand defines what it did
+defined_one : (e : List Root) (call : Bool) (o : Operand) → defined call (Some (renamed_operand e o)) ≡ defined call (Some o)
+defined_one e true (Def r) = refl
+defined_one e false (Def r) = refl
+defined_one e true (ImplicitDef r) = refl
+defined_one e false (ImplicitDef r) = refl
+defined_one e true (Use r) = refl
+defined_one e false (Use r) = refl
+defined_one e true (ImplicitUse r) = refl
+defined_one e false (ImplicitUse r) = refl
+defined_one e true (Imm n) = refl
+defined_one e false (Imm n) = refl
+defined_one e true (Slot n) = refl
+defined_one e false (Slot n) = refl
+defined_one e true (Object n) = refl
+defined_one e false (Object n) = refl
+defined_one e true (Block n) = refl
+defined_one e false (Block n) = refl
+defined_one e true (Symbol n) = refl
+defined_one e false (Symbol n) = refl
+defined_one e true Mask = refl
+defined_one e false Mask = refl
+
+pub defined_same : (e : List Root) (call : Bool) (os : List Operand) (o : ℕ) → defined call (slice_get (map (renamed_operand e) os) o) ≡ defined call (slice_get os o)
+defined_same e call [] o = refl
+defined_same e call (x ∷ os) zero = defined_one e call x
+defined_same e call (x ∷ os) (suc o) = defined_same e call os o
+
+numbered_same : (e : List Root) (sp call : Bool) (n : Option ℕ) (os : List Operand) (c : Core) →
+    numbered sp call n (map (renamed_operand e) os) c ≡ numbered sp call n os c
+numbered_same e sp call None os c = refl
+numbered_same e sp call (Some k) os c =
+    λ i. record c { pairs = updated k (λ o. given sp (defined_same e call os o i) (c.pairs k o) c) c.pairs }
+
+-- so the item does what it did
+pub do_root : (g : Program) (e : List Root) (keeps : KeepsZero e) (i : Instruction) (n : Option ℕ) (d : Core) →
+    ((r : ℕ) → content d.regs r ≡ content d.regs (root_of e r)) → do_item g (Code (renamed e i) n) d ≡ do_item g (Code i n) d
+do_root g e keeps i n d holds =
+    let row = row_renamed e keeps i in
+    let a : act (row_of (renamed e i)) d ≡ act (row_of i) d = ap (λ (r : Row). act r d) row ∙ act_root e d holds (row_of i) in
+    let c : is_call (row_of (renamed e i)) ≡ is_call (row_of i) = ap is_call row ∙ call_rooted e (row_of i) in
+    let os : List Operand = map (renamed_operand e) i.operands in
+    let one : with_core (numbered g.sees_pointer (is_call (row_of (renamed e i))) n os) (act (row_of (renamed e i)) d) ≡
+    with_core (numbered g.sees_pointer (is_call (row_of i)) n os) (act (row_of i) d) = λ j. with_core (numbered g.sees_pointer (c j) n os) (a j) in
+    one ∙ (λ j. with_core (λ (z : Core). numbered_same e g.sees_pointer (is_call (row_of i)) n i.operands z j) (act (row_of i) d))
