@@ -1,5 +1,6 @@
 -- Blocks of which those before an index are without their copies.
-use Rattle.std.proofs.Common.{◌≡◌, ℕ, zero, suc, ◌+◌, ◌<◌, ◌≤◌, ◌^◌, List, [], ◌∷◌, ◌++◌, length, get_or, take, drop, set, length-append, drop-cons, append-nil, refl, sym, ap, ◌∙◌, subst, arith}
+use Rattle.std.proofs.Common.{◌≡◌, ℕ, zero, suc, ◌+◌, ◌<◌, ◌≤◌, ◌^◌, List, [], ◌∷◌, ◌++◌, length, get_or, take, drop, set, length-append, drop-cons, append-nil}
+use Rattle.std.proofs.Common.{refl, sym, ap, ◌∙◌, subst, arith}
 use Rattle.std.proofs.lemmas.List.{take_more, take_all, length-take-le, take-append-drop, append_assoc}
 use Rattle.std.proofs.lemmas.Grind.{flat_map-append}
 use Rattle.mir_func.specs.declared.block.Block.{Block}
@@ -113,7 +114,8 @@ module _ (bs : List Block) (subs0 : List Entry) (fresh0 i : ℕ) (now : List Blo
 
 -- at the end all are
 pub copies_end : (bs : List Block) (subs0 : List Entry) (fresh0 index : ℕ) (now : List Block) (subs : List Entry) (fresh : ℕ) → length bs ≤ index →
-    Copies bs subs0 fresh0 index now subs fresh → (now ≡ (over_blocks (starting subs0 fresh0) bs).blocks) × (subs ≡ (over_blocks (starting subs0 fresh0) bs).subs)
+    Copies bs subs0 fresh0 index now subs fresh →
+    (now ≡ (over_blocks (starting subs0 fresh0) bs).blocks) × (subs ≡ (over_blocks (starting subs0 fresh0) bs).subs)
 copies_end bs subs0 fresh0 index now subs fresh le h =
     let all : take index bs ≡ bs = take_all index bs le in
     let none : drop index bs ≡ [] = drop_all index bs le in (

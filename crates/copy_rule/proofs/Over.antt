@@ -22,7 +22,8 @@ use Rattle.salvage.specs.Way.{way}
 use Rattle.salvage.specs.Salvage.{with_number, numbered_at, above_after, put_for, phi_for}
 use Rattle.copy_pass.specs.declared.roots.Root.{Root}
 use Rattle.copy_pass.specs.Roots.{renamed, known_source, roots_after}
-use Rattle.copy_pass.specs.Copied.{SoFar, renamed_kind, renamed_item, roots_with, goes_by, by_fate, salvaged, next_item, over_items, at_block, BlocksSoFar, next_block, over_blocks}
+use Rattle.copy_pass.specs.Copied.{SoFar, renamed_kind, renamed_item, roots_with, goes_by, by_fate, salvaged, next_item, over_items, at_block, BlocksSoFar}
+use Rattle.copy_pass.specs.Copied.{next_block, over_blocks}
 
 -- ---- what holds of each item
 
@@ -61,7 +62,8 @@ module _ (P : ItemKind → Type 0) (R : List Root → Type 0) (stays : Stays P R
   each_stays : (a : SoFar) (k : ItemKind) (o : Origin) (l : Loc) → Each a → P k → All Q (a.done ++ item k o l ∷ [])
   each_stays a k o l h p = All-append Q a.done (item k o l ∷ []) h.1 (All-cons Q (item k o l) [] p (All-nil Q))
 
-  each_fate : (a : SoFar) (i : Instruction) (n : Option ℕ) (o : Origin) (l : Loc) → Each a → P (Code i n) → (s : Option ℕ) → known_source a.roots (row_of i) ≡ s →
+  each_fate : (a : SoFar) (i : Instruction) (n : Option ℕ) (o : Origin) (l : Loc) → Each a → P (Code i n) → (s : Option ℕ) →
+      known_source a.roots (row_of i) ≡ s →
       Each (by_fate a (item (Code i n) o l) (goes_by n s))
   each_fate a i n o l h p None is = (stays.taught a.roots (Code i n) h.0 p, each_stays a (Code i n) o l h p)
   each_fate a i None o l h p (Some s) is = h
@@ -170,7 +172,8 @@ module _ (p : ItemKind → Bool) (tests : Tests p) where
       let g = count_first x xs in
       omega (arith, e, f, g)
 
-  pub count_blocks : (bs : List Block) (a : BlocksSoFar) → count_by test (items_of (over_blocks a bs).blocks) ≤ count_by test (items_of a.blocks) + count_by test (items_of bs)
+  pub count_blocks : (bs : List Block) (a : BlocksSoFar) →
+      count_by test (items_of (over_blocks a bs).blocks) ≤ count_by test (items_of a.blocks) + count_by test (items_of bs)
   count_blocks [] a = let z : count_by test [] ≡ 0 = refl in omega (arith, z)
   count_blocks (b ∷ bs) a =
       let made : Block = record { id = b.id; items = (over_items (at_block a.subs a.fresh) b.items).done; silent = b.silent } in

@@ -1,5 +1,6 @@
 -- A function without its copies is no larger, and gets at most a number for each item.
-use Rattle.std.proofs.Common.{◌≡◌, ℕ, zero, suc, ◌+◌, ◌-◌, ◌*◌, ◌<◌, ◌≤◌, List, [], ◌∷◌, ◌++◌, map, filter, length, All, count_by, Option, Some, None, Bool, true, false}
+use Rattle.std.proofs.Common.{◌≡◌, ℕ, zero, suc, ◌+◌, ◌-◌, ◌*◌, ◌<◌, ◌≤◌, List, [], ◌∷◌, ◌++◌, map, filter, length, All, count_by, Option, Some, None, Bool}
+use Rattle.std.proofs.Common.{true, false}
 use Rattle.std.proofs.Common.{cond, nat_eq, slice_get, eq-eqb, ne_eqb, eqb-true, length-append, refl, sym, ap, ◌∙◌, subst, arith}
 use Rattle.std.specs.Prelude.{max}
 use Rattle.std.specs.List.{flat_map}
@@ -37,7 +38,8 @@ use Rattle.salvage.specs.Salvage.{with_number, numbered_at, above_after, put_for
 use Rattle.salvage.proofs.Chosen.{IsEntered, entered}
 use Rattle.copy_pass.specs.declared.roots.Root.{Root}
 use Rattle.copy_pass.specs.Roots.{root_of, renamed_operand, renamed, known_source, outlives, learned, roots_after}
-use Rattle.copy_pass.specs.Copied.{SoFar, renamed_kind, roots_with, goes_by, by_fate, salvaged, next_item, over_items, at_block, BlocksSoFar, next_block, over_blocks}
+use Rattle.copy_pass.specs.Copied.{SoFar, renamed_kind, roots_with, goes_by, by_fate, salvaged, next_item, over_items, at_block, BlocksSoFar, next_block}
+use Rattle.copy_pass.specs.Copied.{over_blocks}
 use Rattle.copy_rule.specs.Rule.{begins, salvaged_function, salvaged_entries}
 use Rattle.copy_rule.proofs.Over.{Stays, each_blocks, weight, Tests, count_blocks}
 use Rattle.copy_rule.proofs.Rows.{MovesBy, moves_by}
@@ -361,7 +363,8 @@ numbers_bound f subs =
     let most : end.fresh ≤ (m + 1) + item_count f = w.most in
     let ns = numbers_on (items_of end.blocks) ++ numbers_among end.subs in
     let under : Under ((m + item_count f) + 1) ns =
-    under_more end.fresh ((m + item_count f) + 1) ns (omega (arith, most)) (under_two end.fresh (numbers_on (items_of end.blocks)) (numbers_among end.subs) w.items w.entries) in
+    under_more end.fresh ((m + item_count f) + 1) ns (omega (arith, most))
+    (under_two end.fresh (numbers_on (items_of end.blocks)) (numbers_among end.subs) w.items w.entries) in
     under_greatest (m + item_count f) ns under
 
 -- ---- all of it
@@ -388,7 +391,9 @@ sizes_copied f subs =
       items = le_most (length new) (length old) (omega (arith, all, a, b, z));
       code = le_most (count_by (λ i. is_code i.kind) new) (count_by (λ i. is_code i.kind) old) (omega (arith, code, y));
       calls = omega (arith, call, x);
-      physical = λ h. each_blocks HasPhysical AreReal real_stays f.blocks (begins f subs) (All-nil (λ (b : Block). All (λ (i : Item). HasPhysical i.kind) b.items)) h;
-      numbers = numbers_most (greatest_number (salvaged_function f subs) (salvaged_entries f subs)) (greatest_number f subs) (item_count f) (numbers_bound f subs);
+      physical = λ h. each_blocks HasPhysical AreReal real_stays f.blocks (begins f subs)
+          (All-nil (λ (b : Block). All (λ (i : Item). HasPhysical i.kind) b.items)) h;
+      numbers = numbers_most (greatest_number (salvaged_function f subs) (salvaged_entries f subs)) (greatest_number f subs) (item_count f)
+          (numbers_bound f subs);
       slots = omega arith;
     }

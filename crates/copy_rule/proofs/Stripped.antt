@@ -27,7 +27,8 @@ two_stripped : (xs ys : List Item) → stripped_items (xs ++ ys) ≡ stripped_it
 two_stripped xs ys = filter_map-append stripped_item xs ys
 
 -- a number more shows in no code
-numbered_kind : (d n : ℕ) (k : ItemKind) (o : Origin) (l : Loc) (xs : List Item) → stripped_items (numbered_at zero n (item k o l ∷ xs)) ≡ stripped_items (item k o l ∷ xs)
+numbered_kind : (d n : ℕ) (k : ItemKind) (o : Origin) (l : Loc) (xs : List Item) →
+    stripped_items (numbered_at zero n (item k o l ∷ xs)) ≡ stripped_items (item k o l ∷ xs)
 numbered_kind d n (Code i m) o l xs = refl
 numbered_kind d n (Mark v m) o l xs = refl
 numbered_kind d n (Phi p m) o l xs = refl
@@ -61,7 +62,8 @@ one_stripped : (a : SoFar) (k : ItemKind) (o : Origin) (l : Loc) (xs : List Item
     stripped_items (next_item a (item k o l)).done ++ copied_items (next_item a (item k o l)).roots (stripped_items xs) ≡
     stripped_items a.done ++ copied_items a.roots (stripped_items (item k o l ∷ xs))
 one_stripped a (Mark v m) o l xs =
-    ap (λ (ys : List Item). ys ++ copied_items a.roots (stripped_items xs)) (two_stripped a.done (item (Mark v m) o l ∷ []) ∙ append-nil (stripped_items a.done))
+    ap (λ (ys : List Item). ys ++ copied_items a.roots (stripped_items xs))
+    (two_stripped a.done (item (Mark v m) o l ∷ []) ∙ append-nil (stripped_items a.done))
 one_stripped a (Phi p m) o l xs =
     ap (λ (ys : List Item). ys ++ copied_items a.roots (stripped_items xs)) (two_stripped a.done (item (Phi p m) o l ∷ []) ∙ append-nil (stripped_items a.done))
 one_stripped a (Code i n) o l xs = by_source (known_source a.roots (row_of (renamed a.roots i))) where
@@ -91,7 +93,8 @@ items_stripped (x ∷ xs) a = items_stripped xs (next_item a x) ∙ one_stripped
 blocks_append : (xs ys : List Block) → stripped_blocks (xs ++ ys) ≡ stripped_blocks xs ++ stripped_blocks ys
 blocks_append xs ys = map-append stripped_block xs ys
 
-blocks_stripped : (bs : List Block) (a : BlocksSoFar) → stripped_blocks (over_blocks a bs).blocks ≡ stripped_blocks a.blocks ++ map copied_block (stripped_blocks bs)
+blocks_stripped : (bs : List Block) (a : BlocksSoFar) →
+    stripped_blocks (over_blocks a bs).blocks ≡ stripped_blocks a.blocks ++ map copied_block (stripped_blocks bs)
 blocks_stripped [] a = sym (append-nil (stripped_blocks a.blocks))
 blocks_stripped (b ∷ bs) a =
     let more : List Block = map copied_block (stripped_blocks bs) in
@@ -99,7 +102,8 @@ blocks_stripped (b ∷ bs) a =
     let one : stripped_blocks (next_block a b).blocks ≡ stripped_blocks a.blocks ++ copied_block (stripped_block b) ∷ [] =
     blocks_append a.blocks (record { id = b.id; items = (over_items (at_block a.subs a.fresh) b.items).done; silent = b.silent } ∷ []) ∙
     ap (λ (ys : List Item). stripped_blocks a.blocks ++ record { id = b.id; items = ys; silent = b.silent } ∷ []) items in
-    blocks_stripped bs (next_block a b) ∙ ap (λ (ys : List Block). ys ++ more) one ∙ append_assoc (stripped_blocks a.blocks) (copied_block (stripped_block b) ∷ []) more
+    blocks_stripped bs (next_block a b) ∙ ap (λ (ys : List Block). ys ++ more) one ∙
+    append_assoc (stripped_blocks a.blocks) (copied_block (stripped_block b) ∷ []) more
 
 pub code_is_copied : (f : Function) (subs : List Entry) → stripped (salvaged_function f subs) ≡ copied (stripped f)
 code_is_copied f subs =

@@ -1,5 +1,6 @@
 -- Code with roots for its explicit uses does what the code did, where copies hold what their roots hold.
-use Rattle.std.proofs.Common.{◌≡◌, ℕ, zero, suc, ◌+◌, ◌%◌, ◌^◌, List, [], ◌∷◌, map, Option, Some, None, Bool, true, false, cond, ◌&&◌, slice_get, is_some, refl, sym, ap, ◌∙◌}
+use Rattle.std.proofs.Common.{◌≡◌, ℕ, zero, suc, ◌+◌, ◌%◌, ◌^◌, List, [], ◌∷◌, map, Option, Some, None, Bool, true, false, cond, ◌&&◌, slice_get, is_some, refl}
+use Rattle.std.proofs.Common.{sym, ap, ◌∙◌}
 use Rattle.rv64_instr.specs.declared.operand.Operand.{Operand}
 use Rattle.rv64_instr.specs.declared.operand.Operand.TheVariants.{Def, Use, ImplicitDef, ImplicitUse, Imm, Slot, Object, Block, Symbol, Mask}
 use Rattle.rv64_instr.specs.declared.decoded.Input.{Input}
@@ -18,7 +19,8 @@ use Rattle.rv64_instr.specs.Parts.{is_call}
 use Rattle.mir_func.specs.declared.item.ItemKind.TheVariants.{Code}
 use Rattle.mir_func.specs.Graph.{Program}
 use Rattle.mir_meaning.specs.State.{Core, content, updated}
-use Rattle.mir_meaning.specs.Step.{Outcome, Falls, Goes, Traps, or_zero, read, input_value, base_value, address_at, is_fault, set_register, loaded, put_in_memory}
+use Rattle.mir_meaning.specs.Step.{Outcome, Falls, Goes, Traps, or_zero, read, input_value, base_value, address_at, is_fault, set_register, loaded}
+use Rattle.mir_meaning.specs.Step.{put_in_memory}
 use Rattle.mir_meaning.specs.Step.{does, are_written, act, numbered, given, defined, with_core, do_item}
 use Rattle.copy_pass.specs.declared.roots.Root.{Root}
 use Rattle.copy_pass.specs.Roots.{root_of, renamed_operand, renamed}
@@ -121,7 +123,8 @@ defined_one e false (Symbol n) = refl
 defined_one e true Mask = refl
 defined_one e false Mask = refl
 
-pub defined_same : (e : List Root) (call : Bool) (os : List Operand) (o : ℕ) → defined call (slice_get (map (renamed_operand e) os) o) ≡ defined call (slice_get os o)
+pub defined_same : (e : List Root) (call : Bool) (os : List Operand) (o : ℕ) →
+    defined call (slice_get (map (renamed_operand e) os) o) ≡ defined call (slice_get os o)
 defined_same e call [] o = refl
 defined_same e call (x ∷ os) zero = defined_one e call x
 defined_same e call (x ∷ os) (suc o) = defined_same e call os o

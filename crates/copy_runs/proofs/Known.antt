@@ -1,5 +1,6 @@
 -- What is kept of roots: none is x0, and none is a copy itself; and that copies hold what their roots hold.
-use Rattle.std.proofs.Common.{◌≡◌, ◌⊎◌, inl, inr, ℕ, zero, suc, ◌+◌, ◌<◌, List, [], ◌∷◌, ◌++◌, filter, Contains, Option, Some, None, Bool, true, false, cond, not, ◌&&◌, nat_eq}
+use Rattle.std.proofs.Common.{◌≡◌, ◌⊎◌, inl, inr, ℕ, zero, suc, ◌+◌, ◌<◌, List, [], ◌∷◌, ◌++◌, filter, Contains, Option, Some, None, Bool, true, false, cond}
+use Rattle.std.proofs.Common.{not, ◌&&◌, nat_eq}
 use Rattle.std.proofs.Common.{eq-eqb, ne_eqb, eqb-true, ◌||◌, refl, sym, ap, ◌∙◌, subst, arith}
 use Rattle.std.proofs.lemmas.Bool.{and_parts, not-true, cases_eq}
 use Rattle.std.proofs.lemmas.List.Elements.{Contains-append_cases}
@@ -158,7 +159,8 @@ module _ (e : List Root) (clean : IsClean e) where
         root_is_none e clean t y (filter_from (outlives (Moves (suc rd) s)) e y k).0 (sym same ∙ sym (ap (λ (z : Root). z.root) (last x h)) ∙ is)
     apart x y (inr h) (inr k) same = not_itself rd s t is unknown (ap (λ (z : Root). z.root) (last x h) ∙ same ∙ sym (ap (λ (z : Root). z.copy) (last y k)))
 
-  pub clean_after : (r : Row) → ((rd s : ℕ) → r ≡ Moves rd s → ((t : ℕ) × (s ≡ root_of e t)) × ((m : ℕ) × (s ≡ suc m))) → known_source e r ≡ None → IsClean (roots_after r e)
+  pub clean_after : (r : Row) → ((rd s : ℕ) → r ≡ Moves rd s → ((t : ℕ) × (s ≡ root_of e t)) × ((m : ℕ) × (s ≡ suc m))) → known_source e r ≡ None →
+      IsClean (roots_after r e)
   clean_after (Moves (suc rd) s) h unknown = let w = h (suc rd) s refl in moves_clean rd s w.0.0 w.0.1 w.1 unknown
   clean_after (Moves zero s) h unknown = clean_fewer e clean (outlives (Moves zero s))
   clean_after (Fixes rd n) h unknown = clean_fewer e clean (outlives (Fixes rd n))
@@ -249,8 +251,10 @@ module _ (e : List Root) (i : Instruction) (c : Core) (holds : Holds e c) where
       (λ d w. moves_holds rd s is (other rd s refl) d w.0 w.1) (act (row_of i) c)
       (on_two (Leaves i c) (λ d. held_in (Register (suc rd)) d ≡ held_in (Register s) c) (act (row_of i) c) (leaves i c)
       (effects_hold.moves i (Register s) (Register (suc rd)) c (ap moved_by is) (ap set_by is)))
-  act_holds (Moves zero s) is other = on_weaker (Leaves i c) (Holds (filter (outlives (Moves zero s)) e)) (less_holds (Moves zero s) is) (act (row_of i) c) (leaves i c)
-  act_holds (Fixes rd n) is other = on_weaker (Leaves i c) (Holds (filter (outlives (Fixes rd n)) e)) (less_holds (Fixes rd n) is) (act (row_of i) c) (leaves i c)
+  act_holds (Moves zero s) is other = on_weaker (Leaves i c) (Holds (filter (outlives (Moves zero s)) e)) (less_holds (Moves zero s) is) (act (row_of i) c)
+      (leaves i c)
+  act_holds (Fixes rd n) is other = on_weaker (Leaves i c) (Holds (filter (outlives (Fixes rd n)) e)) (less_holds (Fixes rd n) is) (act (row_of i) c)
+      (leaves i c)
   act_holds (Sets rd op a b) is other =
       on_weaker (Leaves i c) (Holds (filter (outlives (Sets rd op a b)) e)) (less_holds (Sets rd op a b) is) (act (row_of i) c) (leaves i c)
   act_holds (Addresses rd n o) is other =
@@ -272,9 +276,11 @@ module _ (e : List Root) (i : Instruction) (c : Core) (holds : Holds e c) where
   act_holds Unfit is other = on_weaker (Leaves i c) (Holds (filter (outlives Unfit) e)) (less_holds Unfit is) (act (row_of i) c) (leaves i c)
 
   -- a copy that is known sets what is there
-  pub known_leaves : (rd s : ℕ) → row_of i ≡ Moves (suc rd) s → root_of e (suc rd) ≡ s → OnCore (λ d. (x : Place) → held_in x d ≡ held_in x c) (act (row_of i) c)
+  pub known_leaves : (rd s : ℕ) → row_of i ≡ Moves (suc rd) s → root_of e (suc rd) ≡ s →
+      OnCore (λ d. (x : Place) → held_in x d ≡ held_in x c) (act (row_of i) c)
   known_leaves rd s is root =
-      on_weaker (λ d. Leaves i c d × (held_in (Register (suc rd)) d ≡ held_in (Register s) c)) (λ d. (x : Place) → held_in x d ≡ held_in x c) by_core (act (row_of i) c)
+      on_weaker (λ d. Leaves i c d × (held_in (Register (suc rd)) d ≡ held_in (Register s) c)) (λ d. (x : Place) → held_in x d ≡ held_in x c) by_core
+      (act (row_of i) c)
       (on_two (Leaves i c) (λ d. held_in (Register (suc rd)) d ≡ held_in (Register s) c) (act (row_of i) c) (leaves i c)
       (effects_hold.moves i (Register s) (Register (suc rd)) c (ap moved_by is) (ap set_by is))) where
         by_core : (d : Core) → Leaves i c d × (held_in (Register (suc rd)) d ≡ held_in (Register s) c) → (x : Place) → held_in x d ≡ held_in x c

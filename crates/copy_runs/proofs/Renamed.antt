@@ -1,5 +1,6 @@
 -- A function with roots for its explicit uses is a function still, and follows what it followed.
-use Rattle.std.proofs.Common.{◌≡◌, ◌⊎◌, inl, inr, ℕ, zero, suc, ◌≤◌, List, [], ◌∷◌, ◌++◌, map, length, All, Option, Some, None, Bool, true, false, cond, slice_get, is_some, ◌+◌, refl, sym, ap, ◌∙◌, subst, arith}
+use Rattle.std.proofs.Common.{◌≡◌, ◌⊎◌, inl, inr, ℕ, zero, suc, ◌≤◌, List, [], ◌∷◌, ◌++◌, map, length, All, Option, Some, None, Bool, true, false, cond}
+use Rattle.std.proofs.Common.{slice_get, is_some, ◌+◌, refl, sym, ap, ◌∙◌, subst, arith}
 use Rattle.std.proofs.lemmas.List.{length-map, map-append}
 use Rattle.std.proofs.lemmas.List.Elements.{All-nil, All-cons, All-head, All-tail, All-map, All-weaker}
 use Rattle.rv64_instr.specs.declared.operand.Operand.{Operand}
@@ -110,13 +111,16 @@ module _ (f g : Program) (blind_f : f.sees_pointer ≡ false) (blind_g : g.sees_
             let later : List Root → List Item = λ a. renamed_items a xs in
             let same : cond (goes e (renamed_kind e x.kind)) e (roots_with (renamed_kind e x.kind) e) ≡ e =
             ap (λ (z : Bool). cond z e (roots_with (renamed_kind e x.kind) e)) is in
-            pair refl (kind_kin e (keeps_zero e h.clean) x.kind) (subst (λ (a : List Root). Rooted f g blind_f blind_g resolves e a x (renamed_item e x)) (sym same) (goes_later h.clean is)) more
+            pair refl (kind_kin e (keeps_zero e h.clean) x.kind)
+            (subst (λ (a : List Root). Rooted f g blind_f blind_g resolves e a x (renamed_item e x)) (sym same) (goes_later h.clean is)) more
         by_test false is more =
             let same : cond (goes e (renamed_kind e x.kind)) e (roots_with (renamed_kind e x.kind) e) ≡ roots_with (renamed_kind e x.kind) e =
             ap (λ (z : Bool). cond z e (roots_with (renamed_kind e x.kind) e)) is in
-            pair refl (kind_kin e (keeps_zero e h.clean) x.kind) (subst (λ (a : List Root). Rooted f g blind_f blind_g resolves e a x (renamed_item e x)) (sym same) (stays h.clean is)) more
+            pair refl (kind_kin e (keeps_zero e h.clean) x.kind)
+            (subst (λ (a : List Root). Rooted f g blind_f blind_g resolves e a x (renamed_item e x)) (sym same) (stays h.clean is)) more
 
-  blocks_edited : (bs : List Block) → AllItems (λ i. LeavesPointer i.kind) bs → BlocksEdited (rooted_edits f g blind_f blind_g resolves) bs (map renamed_block bs)
+  blocks_edited : (bs : List Block) → AllItems (λ i. LeavesPointer i.kind) bs →
+      BlocksEdited (rooted_edits f g blind_f blind_g resolves) bs (map renamed_block bs)
   blocks_edited [] all = no_blocks
   blocks_edited (b ∷ bs) all =
       next_block refl refl
@@ -216,11 +220,13 @@ module _ (P : ItemKind → Type 0) (rooted_too : (e : List Root) (k : ItemKind) 
       (All-tail (λ (c : Block). All (λ (i : Item). P i.kind) c.items) b bs all))
 
 -- origins stay
-origins_in : (b : Block) (xs : List Item) (e : List Root) → All (λ (i : Item). OriginIn b i.origin) xs → All (λ (i : Item). OriginIn b i.origin) (renamed_items e xs)
+origins_in : (b : Block) (xs : List Item) (e : List Root) → All (λ (i : Item). OriginIn b i.origin) xs →
+    All (λ (i : Item). OriginIn b i.origin) (renamed_items e xs)
 origins_in b [] e all = All-nil (λ (i : Item). OriginIn b i.origin)
 origins_in b (x ∷ xs) e all =
     All-cons (λ (i : Item). OriginIn b i.origin) (renamed_item e x) (renamed_items (known_after e (renamed_kind e x.kind)) xs)
-    (All-head (λ (i : Item). OriginIn b i.origin) x xs all) (origins_in b xs (known_after e (renamed_kind e x.kind)) (All-tail (λ (i : Item). OriginIn b i.origin) x xs all))
+    (All-head (λ (i : Item). OriginIn b i.origin) x xs all)
+    (origins_in b xs (known_after e (renamed_kind e x.kind)) (All-tail (λ (i : Item). OriginIn b i.origin) x xs all))
 
 in_block : (b : Block) (o : Origin) → OriginIn b o → OriginIn (renamed_block b) o
 in_block b (Kept p) h = h
@@ -229,8 +235,10 @@ in_block b (Before p) h = h
 origins_same : (bs : List Block) → All (λ (b : Block). All (λ (i : Item). OriginIn b i.origin) b.items) bs →
     All (λ (b : Block). All (λ (i : Item). OriginIn b i.origin) b.items) (map renamed_block bs)
 origins_same bs all = All-map (λ (b : Block). All (λ (i : Item). OriginIn b i.origin) b.items) renamed_block bs
-    (All-weaker (λ (b : Block). All (λ (i : Item). OriginIn b i.origin) b.items) (λ (b : Block). All (λ (i : Item). OriginIn (renamed_block b) i.origin) (renamed_items [] b.items))
-    (λ b h. All-weaker (λ (i : Item). OriginIn b i.origin) (λ (i : Item). OriginIn (renamed_block b) i.origin) (λ i k. in_block b i.origin k) (renamed_items [] b.items)
+    (All-weaker (λ (b : Block). All (λ (i : Item). OriginIn b i.origin) b.items)
+    (λ (b : Block). All (λ (i : Item). OriginIn (renamed_block b) i.origin) (renamed_items [] b.items))
+    (λ b h. All-weaker (λ (i : Item). OriginIn b i.origin) (λ (i : Item). OriginIn (renamed_block b) i.origin) (λ i k. in_block b i.origin k)
+    (renamed_items [] b.items)
     (origins_in b b.items [] h)) bs all)
 
 -- numbers stay
@@ -334,7 +342,8 @@ ids_same [] = refl
 ids_same (b ∷ bs) = ap (λ (ns : List ℕ). b.id ∷ ns) (ids_same bs)
 
 -- by the row of code
-by_rooted : (P : Row → Type 0) → ((e : List Root) (r : Row) → P r → P (rooted e r)) → (e : List Root) (i : Instruction) → IsClean e → P (row_of i) → P (row_of (renamed e i))
+by_rooted : (P : Row → Type 0) → ((e : List Root) (r : Row) → P r → P (rooted e r)) → (e : List Root) (i : Instruction) → IsClean e → P (row_of i) →
+    P (row_of (renamed e i))
 by_rooted P f e i clean h = subst P (sym (row_renamed e (keeps_zero e clean) i)) (f e (row_of i) h)
 
 kind_target : (ids : List ℕ) (e : List Root) (k : ItemKind) → AreGood e → LeavesPointer k → TargetsIn ids k → TargetsIn ids (renamed_kind e k)
@@ -347,7 +356,8 @@ kind_slot slots e (Code i n) h p t = by_rooted (SlotIn slots) (λ a r. slot_root
 kind_slot slots e (Mark v m) h p t = t
 kind_slot slots e (Phi q m) h p t = t
 
-kind_object : (objects : List StackObject) (e : List Root) (k : ItemKind) → AreGood e → LeavesPointer k → ObjectsIn objects k → ObjectsIn objects (renamed_kind e k)
+kind_object : (objects : List StackObject) (e : List Root) (k : ItemKind) → AreGood e → LeavesPointer k → ObjectsIn objects k →
+    ObjectsIn objects (renamed_kind e k)
 kind_object objects e (Code i n) h p t = by_rooted (ObjectIn objects) (λ a r. object_rooted a objects r) e i h.clean t
 kind_object objects e (Mark v m) h p t = t
 kind_object objects e (Phi q m) h p t = t

@@ -74,7 +74,8 @@ always Breaks = tt
 module _ (f g : Program) (blind_f : f.sees_pointer ≡ false) (blind_g : g.sees_pointer ≡ false) (resolves : (q : OperandPair) → g.resolve q ≡ f.resolve q) where
   -- an item with its roots: it stays and teaches, or is a copy that is known, which goes later
   pub data Rooted : List Root → List Root → Item → Item → Type 0 where
-    stays : {e : List Root} {x : Item} → IsClean e → goes e (renamed_kind e x.kind) ≡ false → Rooted e (roots_with (renamed_kind e x.kind) e) x (renamed_item e x)
+    stays : {e : List Root} {x : Item} → IsClean e → goes e (renamed_kind e x.kind) ≡ false →
+        Rooted e (roots_with (renamed_kind e x.kind) e) x (renamed_item e x)
     goes_later : {e : List Root} {x : Item} → IsClean e → goes e (renamed_kind e x.kind) ≡ true → Rooted e e x (renamed_item e x)
 
   abbrev pub rooted_edits : Edits
@@ -136,7 +137,8 @@ module _ (f g : Program) (blind_f : f.sees_pointer ≡ false) (blind_g : g.sees_
   on_item : (e : List Root) (i : Instruction) (n : Option ℕ) (d : Core) → OnCore (Holds e) (act (row_of i) d) → OnCore (Holds e) (do_item g (Code i n) d)
   on_item e i n d h =
       on_with (Holds e) (Holds e) (numbered g.sees_pointer (is_call (row_of i)) n i.operands)
-      (λ z w. holds_same e z (numbered g.sees_pointer (is_call (row_of i)) n i.operands z) (λ x. held_numbered x g.sees_pointer (is_call (row_of i)) n i.operands z) w)
+      (λ z w. holds_same e z (numbered g.sees_pointer (is_call (row_of i)) n i.operands z)
+      (λ x. held_numbered x g.sees_pointer (is_call (row_of i)) n i.operands z) w)
       (act (row_of i) d) h
 
   stays_both : (e : List Root) (k : ItemKind) (c d : Core) → IsClean e → goes e (renamed_kind e k) ≡ false → RootCores e c d →

@@ -6,7 +6,8 @@ use Rattle.copy_rule.proofs.function.copy_in_blocks.Goals as goal
 
 pub loop-b-init : goal.loop-b-init
 loop-b-init c =
-    subst (λ (now : List Block). Copies c.args.blocks.now.items c.args.subs.now c.args.fresh.now 0 now c.args.subs.now c.args.fresh.now) (sym c.deref_mut-b-items.ensures.value)
+    subst (λ (now : List Block). Copies c.args.blocks.now.items c.args.subs.now c.args.fresh.now 0 now c.args.subs.now c.args.fresh.now)
+    (sym c.deref_mut-b-items.ensures.value)
     (copies_begin c.args.blocks.now.items c.args.subs.now c.args.fresh.now)
 
 pub copy_items-requires : goal.copy_items-requires
@@ -14,7 +15,8 @@ copy_items-requires c =
     let xs : List Block = c.args.blocks.now.items in
     let lt = subst (λ (zs : List Block). c.loop-b.b-index < length zs) c.deref_mut-b-items.ensures.value c.loop-b-test.true in
     let e = ap (λ (z : Block). length z.items) (c.b.view_is ∙ sym c.b-item.is) in
-    let r = room xs c.args.subs.now c.args.fresh.now c.loop-b.b-index c.loop-b.b-items c.loop-b.subs c.loop-b.fresh c.loop-b.invariant lt c.b-item.result c.b-item.is
+    let r = room xs c.args.subs.now c.args.fresh.now c.loop-b.b-index c.loop-b.b-items c.loop-b.subs c.loop-b.fresh c.loop-b.invariant
+    lt c.b-item.result c.b-item.is
     c.requires.fresh in
     omega (arith, e, r)
 
