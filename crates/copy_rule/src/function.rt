@@ -32,8 +32,9 @@ fn copy_in_blocks(
     Ok(())
 }
 
-/// The blocks of a function without its copies that are known, with their numbers salvaged by phis and substitutions. After an error
-/// the substitutions are only to be dropped. It is linear in the items but for the searches of `choose_way`.
+/// The blocks of a function without its copies that are known, with their numbers salvaged by phis and substitutions.
+/// After an error the substitutions are only to be dropped. It is linear in the items but for the searches of
+/// `choose_way`.
 pub fn blocks_without_copies(
     alloc: Global,
     f: &Func,

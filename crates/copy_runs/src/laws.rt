@@ -2,7 +2,8 @@
 
 ghost use Rattle.copy_runs.specs.Renamed.{RenamingFollows};
 
-/// Where explicit uses become roots, the function is a function still and follows what it followed, but for slot stores at blocks' ends.
+/// Where explicit uses become roots, the function is a function still and follows what it followed, but for slot
+/// stores at blocks' ends.
 pub fn renaming_follows()
     ensures { RenamingFollows }
 {}
