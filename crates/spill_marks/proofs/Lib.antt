@@ -1,0 +1,5 @@
+pub mod LostMarks
+pub mod Grown
+pub mod AskedSound
+pub mod Silenced
+pub mod Numbers
