@@ -1,5 +1,5 @@
 pub mod Rows
-mod Tails
-mod Numbers
-mod Blocks
-mod Sound
+pub mod Tails
+pub mod Numbers
+pub mod Blocks
+pub mod Sound

@@ -25,7 +25,7 @@ pub data ComeFrom : (new old : List Item) → Type 0 where
   added : {w : Item} {xs ys : List Item} → number_of w.kind ≡ None → code_number w.kind ≡ None → ComeFrom ys xs → ComeFrom (w ∷ ys) xs
 
 -- a numbered item comes from one with its number
-comes_at : {new old : List Item} → ComeFrom new old → (j : ℕ) (y : Item) (k : ℕ) → slice_get new j ≡ Some y → number_of y.kind ≡ Some k →
+pub comes_at : {new old : List Item} → ComeFrom new old → (j : ℕ) (y : Item) (k : ℕ) → slice_get new j ≡ Some y → number_of y.kind ≡ Some k →
     (i : ℕ) × (x : Item) × (slice_get old i ≡ Some x) × (number_of x.kind ≡ Some k) × (code_number x.kind ≡ code_number y.kind)
 comes_at none j y k at n = cc
 comes_at (stays {x} {w} e c rest) zero y k at n =

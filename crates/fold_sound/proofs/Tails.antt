@@ -38,7 +38,7 @@ pub record IsGood (ids slots : List ℕ) (objects : List Object) (b : Block) (i 
   pub target : TargetsIn ids i.kind
   pub plain : IsPlain slots objects b i
 
-always_some : (e : Exit) → IsAlways e → (n : ℕ) × (e ≡ Always n)
+pub always_some : (e : Exit) → IsAlways e → (n : ℕ) × (e ≡ Always n)
 always_some (Always n) h = (n, refl)
 always_some (Perhaps n) h = absurd h
 always_some Onward h = absurd h
@@ -165,7 +165,7 @@ module _ (ids slots : List ℕ) (objects : List Object) (b : Block) where
 
 -- ---- how they end
 
-jump_exit : (s : Pos) (xs : List Item) (n : ℕ) → IsJumpAtMost xs → exit_of (jump_at_end s (first_of xs) n).kind ≡ Always n
+pub jump_exit : (s : Pos) (xs : List Item) (n : ℕ) → IsJumpAtMost xs → exit_of (jump_at_end s (first_of xs) n).kind ≡ Always n
 jump_exit s [] n h = refl
 jump_exit s (j ∷ []) n h = let w = always_some (exit_of j.kind) h in sent_jump j.kind w.0 n w.1
 jump_exit s (j ∷ y ∷ ys) n h = absurd h
