@@ -1,0 +1,6 @@
+pub mod Items
+pub mod Back
+pub mod Paths
+pub mod Tails
+pub mod Stores
+pub mod Shape
