@@ -52,14 +52,14 @@ fn slot_used(homes: &[Home], operand: &Operand) -> Option<SlotId>
 {
     match operand {
         Operand::Use(r) => slot_of(homes, *r),
-        Operand::Def(_)
+        Operand::ImplicitUse(_)
+        | Operand::Def(_)
         | Operand::ImplicitDef(_)
-        | Operand::ImplicitUse(_)
-        | Operand::Imm(_)
         | Operand::Slot(_)
         | Operand::Object(_)
-        | Operand::Block(_)
+        | Operand::Imm(_)
         | Operand::Symbol(_)
+        | Operand::Block(_)
         | Operand::Mask => None,
     }
 }
@@ -69,15 +69,15 @@ fn slot_defined(homes: &[Home], operand: &Operand) -> Option<SlotId>
 {
     match operand {
         Operand::Def(r) => slot_of(homes, *r),
-        Operand::Use(_)
-        | Operand::ImplicitDef(_)
+        Operand::ImplicitDef(_)
+        | Operand::Use(_)
         | Operand::ImplicitUse(_)
-        | Operand::Imm(_)
-        | Operand::Slot(_)
-        | Operand::Object(_)
+        | Operand::Mask
         | Operand::Block(_)
         | Operand::Symbol(_)
-        | Operand::Mask => None,
+        | Operand::Imm(_)
+        | Operand::Slot(_)
+        | Operand::Object(_) => None,
     }
 }
 
