@@ -5,8 +5,9 @@
   bench/growth.py compile  crates/mirdwarf/out/mirdwarf, on functions of 64 blocks and 512 items, and at the limits
   bench/growth.py read     crates/mirdwarf_reading/out/mirdwarf_reading, on functions, blocks, functions of a text and keys of an entry
   bench/growth.py strip    crates/mirdwarf/out/mirdwarf, on functions of 1,024 blocks and 8,192 items, with its peak memory
-  bench/growth.py layout   crates/mirdwarf_layout/out/mirdwarf_layout over crates/mirdwarf_reading/out/mirdwarf_reading, on items, blocks and slots
+  bench/growth.py layout   crates/mirdwarf_locations/out/mirdwarf_locations over crates/mirdwarf_reading/out/mirdwarf_reading, on items, blocks and slots
   bench/growth.py locations crates/mirdwarf_locations/out/mirdwarf_locations over crates/mirdwarf_reading/out/mirdwarf_reading, on blocks, items and variables
+  bench/growth.py steps    crates/mirdwarf_steps/out/mirdwarf_steps, on steps of a loop with a call
   bench/growth.py sections crates/mirdwarf_sections/out/mirdwarf_sections, on sections of 1,000 to 8,000 parts
 
 Build the program first by `rt run` in its crate's folder. Each line has the input's size, the count and its growth.
@@ -103,6 +104,26 @@ def located(blocks, items, variables):
     return b"---\nname: f\nstack:\n" + entries + b"body: |\n" + b"".join(lines) + b"...\n"
 
 
+# A loop that calls `g` and sums what it gives.
+LOOP = b"""---
+name: sum
+body: |
+  bb.0:
+    $x8 = COPY $x10
+    $x9 = ADDI $x0, 0
+  bb.1:
+    $x10 = COPY $x8
+    PseudoCALL @g, csr_ilp32_lp64, implicit-def dead $x1, implicit $x10, implicit-def $x10
+    $x9 = ADD $x9, $x10
+    $x8 = ADDI $x8, -1
+    BNE $x8, $x0, %bb.1
+  bb.2:
+    $x10 = COPY $x9
+    PseudoRET implicit $x10
+...
+"""
+
+
 def functions(number):
     return b"".join(blocks(16).replace(b"name: f", b"name: f%d" % n) for n in range(number))
 
@@ -176,13 +197,13 @@ def peak(program, words, text):
     return int(run.stderr.split()[-1])
 
 
-def over(name, program, base, sizes, make):
-    """A table of the instructions that a program has more than another at the same input."""
+def over(name, program, words, base, sizes, make):
+    """A table of the instructions that a program has with these words more than another without any at the same input."""
     print(name)
     last = None
     for size in sizes:
         text = make(size)
-        instructions = count(os.path.join(TOP, program), [], text) - count(os.path.join(TOP, base), [], text)
+        instructions = count(os.path.join(TOP, program), words, text) - count(os.path.join(TOP, base), [], text)
         print("  %9d  %13d  %s" % (size, instructions, "%.3f" % (instructions / last) if last else ""))
         last = instructions
 
@@ -223,16 +244,24 @@ def main():
     elif what == ["strip"]:
         by_bytes("functions of 1,024 blocks, by functions", "crates/mirdwarf/out/mirdwarf", ["strip"], (1, 2, 4, 8, 16), large_functions)
     elif what == ["layout"]:
-        program, base = "crates/mirdwarf_layout/out/mirdwarf_layout", "crates/mirdwarf_reading/out/mirdwarf_reading"
-        over("one block, by items", program, base, (1000, 2000, 4000, 8000), one_block)
-        over("one function, by blocks of eight items", program, base, (128, 256, 512, 1024), blocks)
-        over("8,001 items, by slots", program, base, (28, 56, 112, 224), slots)
+        program, words, base = "crates/mirdwarf_locations/out/mirdwarf_locations", ["words"], "crates/mirdwarf_reading/out/mirdwarf_reading"
+        over("one block, by items", program, words, base, (1000, 2000, 4000, 8000), one_block)
+        over("one function, by blocks of eight items", program, words, base, (128, 256, 512, 1024), blocks)
+        over("8,001 items, by slots", program, words, base, (28, 56, 112, 224), slots)
     elif what == ["locations"]:
-        program, base = "crates/mirdwarf_locations/out/mirdwarf_locations", "crates/mirdwarf_reading/out/mirdwarf_reading"
-        over("8,192 items, 256 variables, by blocks", program, base, (64, 128, 256, 512, 1024), lambda n: located(n, 8192, 256))
-        over("one block, 256 variables, by items", program, base, (1024, 2048, 4096, 8192), lambda n: located(1, n, 256))
-        over("1,024 blocks, 256 variables, by items", program, base, (2048, 4096, 8192), lambda n: located(1024, n, 256))
-        over("1,024 blocks of eight items, by variables", program, base, (16, 32, 64, 128, 256, 512, 1024), lambda n: located(1024, 8192, n))
+        program, words, base = "crates/mirdwarf_locations/out/mirdwarf_locations", ["variables"], "crates/mirdwarf_reading/out/mirdwarf_reading"
+        over("8,192 items, 256 variables, by blocks", program, words, base, (64, 128, 256, 512, 1024), lambda n: located(n, 8192, 256))
+        over("one block, 256 variables, by items", program, words, base, (1024, 2048, 4096, 8192), lambda n: located(1, n, 256))
+        over("1,024 blocks, 256 variables, by items", program, words, base, (2048, 4096, 8192), lambda n: located(1024, n, 256))
+        over("1,024 blocks of eight items, by variables", program, words, base, (16, 32, 64, 128, 256, 512, 1024), lambda n: located(1024, 8192, n))
+    elif what == ["steps"]:
+        program = os.path.join(TOP, "crates/mirdwarf_steps/out/mirdwarf_steps")
+        print("steps of a loop")
+        last, none = None, count(program, ["0"], LOOP)
+        for steps in (125000, 250000, 500000, 1000000):
+            instructions = count(program, [str(steps)], LOOP) - none
+            print("  %9d  %13d  %d a step  %s" % (steps, instructions, instructions // steps, "%.3f" % (instructions / last) if last else ""))
+            last = instructions
     elif what == ["sections"]:
         for kind, steps in SECTIONS.items():
             for step, (call, before) in steps.items():

@@ -3,5 +3,3 @@
 
 #[cfg(test)]
 mod judged;
-#[cfg(test)]
-mod text;

@@ -91,17 +91,17 @@ impl Names {
         let decoded = i.decoded();
         match decoded {
             Decoded::Calls => self.remove_registers(set, &CALLER_SAVED),
-            Decoded::Fixes(_, _)
-            | Decoded::Moves(_, _)
-            | Decoded::Sets(_, _, _, _)
-            | Decoded::Addresses(_, _, _)
-            | Decoded::Loads(_, _, _, _)
-            | Decoded::Stores(_, _, _, _)
-            | Decoded::LoadsSlot(_, _)
-            | Decoded::StoresSlot(_, _)
-            | Decoded::Branches(_, _, _, _)
+            Decoded::Returns
             | Decoded::Jumps(_)
-            | Decoded::Returns => self.remove(set, place_defined(&decoded)),
+            | Decoded::Branches(_, _, _, _)
+            | Decoded::StoresSlot(_, _)
+            | Decoded::LoadsSlot(_, _)
+            | Decoded::Stores(_, _, _, _)
+            | Decoded::Loads(_, _, _, _)
+            | Decoded::Addresses(_, _, _)
+            | Decoded::Sets(_, _, _, _)
+            | Decoded::Moves(_, _)
+            | Decoded::Fixes(_, _) => self.remove(set, place_defined(&decoded)),
         }
     }
 
@@ -113,17 +113,17 @@ impl Names {
         let decoded = i.decoded();
         match decoded {
             Decoded::Calls => self.insert_registers(set, &CALLER_SAVED),
-            Decoded::Fixes(_, _)
-            | Decoded::Moves(_, _)
-            | Decoded::Sets(_, _, _, _)
-            | Decoded::Addresses(_, _, _)
-            | Decoded::Loads(_, _, _, _)
-            | Decoded::Stores(_, _, _, _)
+            Decoded::Loads(_, _, _, _)
             | Decoded::LoadsSlot(_, _)
+            | Decoded::Fixes(_, _)
+            | Decoded::Moves(_, _)
+            | Decoded::Addresses(_, _, _)
+            | Decoded::Sets(_, _, _, _)
+            | Decoded::Stores(_, _, _, _)
             | Decoded::StoresSlot(_, _)
             | Decoded::Branches(_, _, _, _)
-            | Decoded::Jumps(_)
-            | Decoded::Returns => self.insert(set, place_defined(&decoded)),
+            | Decoded::Returns
+            | Decoded::Jumps(_) => self.insert(set, place_defined(&decoded)),
         }
     }
 

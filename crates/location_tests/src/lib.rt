@@ -7,5 +7,3 @@ mod joins;
 mod points;
 #[cfg(test)]
 mod ranges;
-#[cfg(test)]
-mod text;

@@ -1,23 +1,43 @@
-//! Reads a MIR file from standard input, and prints where the variables of each function are. The functions are laid
-//! out one after the other from address 0 on, as they were read. A function has a line with its name, or why it has no
-//! code, and each of its variables one below that: its node, and its ranges, each with its ends in hexadecimal and a
-//! location. docs/PERFORMANCE.md counts its instructions.
+//! Reads a MIR file from standard input, and prints its functions as each argument says. `words` prints the words of
+//! each function with its frame, laid out from address 0 on: a line with its name and its words in hexadecimal, or why
+//! it has none. `variables` prints where the variables of each function are. The functions are laid out one after the
+//! other from address 0 on, as they were read. A function has a line with its name, or why it has no code, and each of
+//! its variables one below that: its node, and its ranges, each with its ends in hexadecimal and a location.
+//! docs/PERFORMANCE.md counts its instructions.
 #![tactic(auto)]
 
 use dwarf_loclists::range::{Location, Range};
+use frame_layout::code::code_of;
 use function_compiler::compile::{CompiledFunction, compile_function};
 use mir_func::variable::VarId;
 use mir_parser::error::ParseError;
 use mir_parser::program::{Program, read_program};
 use rv64_instr::place::Place;
 use std::alloc::Global;
-use std::io;
 use std::io::{BufWriter, Write};
+use std::{env, io};
 
 /// The longest text that is read, in bytes.
 const MAX_TEXT: usize = 16_777_216;
 /// The first address that is too high for a function.
 const MAX_BASE: u64 = 1 << 32;
+
+/// Writes a line for each function.
+fn write_words<W: Write>(alloc: Global, program: &Program, out: &mut W) -> io::Result<()> {
+    for parsed in program.functions.as_slice() {
+        out.write_all(parsed.func.name.as_slice())?;
+        match code_of(alloc, &parsed.func, 0) {
+            Ok(code) => {
+                for word in code.words.as_slice() {
+                    write!(out, " {word:08x}")?;
+                }
+            }
+            Err(error) => write!(out, ": {error}")?,
+        }
+        writeln!(out)?;
+    }
+    Ok(())
+}
 
 fn write_place<W: Write>(place: Place, out: &mut W) -> io::Result<()> {
     match place {
@@ -90,7 +110,13 @@ fn main(rt: HostRuntime) -> io::Result<()> {
     match read_program(rt.alloc(), text) {
         Ok(program) => {
             let mut out = BufWriter::new(rt.alloc(), io::writer(&rt))?;
-            write_functions(rt.alloc(), &program, &mut out)?;
+            for argument in env::args(&rt)?.skip(1) {
+                if argument.as_str() == "words" {
+                    write_words(rt.alloc(), &program, &mut out)?;
+                } else {
+                    write_functions(rt.alloc(), &program, &mut out)?;
+                }
+            }
             out.flush()
         }
         Err(ParseError::Refused(refusal)) => {

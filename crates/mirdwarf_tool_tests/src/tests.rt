@@ -10,13 +10,13 @@ use std::test::Fail;
 
 /// What stands above the first function's other lines: a module of LLVM's IR with the debug metadata, and its name.
 const HEADER: &[u8] = b"--- |
-  define i64 @f(i64 %a) !dbg !3 { ret i64 0 }
-  !1 = !DIFile(filename: \"t.c\", directory: \"/d\")
-  !2 = !DIBasicType(name: \"long\", size: 64, encoding: DW_ATE_signed)
-  !3 = distinct !DISubprogram(name: \"f\", scope: !1, file: !1, line: 1)
-  !4 = !DILocalVariable(name: \"v\", scope: !3, file: !1, line: 2, type: !2)
-  !5 = !DILocation(line: 3, column: 1, scope: !3)
-  !6 = !DILocalVariable(name: \"a\", arg: 1, scope: !3, file: !1, line: 1, type: !2)
+  define i64 @f(i64 %n, i64 %m) !dbg !1 { ret i64 0 }
+  !1 = distinct !DISubprogram(name: \"f\", scope: !2, file: !2, line: 8)
+  !2 = !DIFile(filename: \"sum.c\", directory: \"/src\")
+  !3 = !DIBasicType(name: \"size_t\", size: 64, encoding: DW_ATE_unsigned)
+  !4 = !DILocalVariable(name: \"n\", arg: 1, scope: !1, file: !2, line: 8, type: !3)
+  !5 = !DILocation(line: 11, column: 4, scope: !1)
+  !7 = !DILocalVariable(name: \"s\", scope: !1, file: !2, line: 9, type: !3)
 ...
 ---
 name: f
@@ -29,152 +29,156 @@ const COMPILED: [(&str, &str); 3] = [
     (
         "body: |
   bb.0:
-    DBG_VALUE $x10, $noreg, !4, !DIExpression(), debug-location !5
-    $x10 = ADDI $x10, 1, debug-instr-number 1, debug-location !5
-    DBG_INSTR_REF !4, !DIExpression(DW_OP_LLVM_arg, 0), dbg-instr-ref(1, 0), debug-location !5
-    PseudoRET implicit $x10, debug-location !5
+    DBG_VALUE $x11, $noreg, !7, !DIExpression(), debug-location !5
+    $x11 = XORI $x11, -1, debug-instr-number 2, debug-location !5
+    DBG_INSTR_REF !7, !DIExpression(DW_OP_LLVM_arg, 0), dbg-instr-ref(2, 0), debug-location !5
+    $x10 = SUB $x10, $x11
+    PseudoRET implicit $x10
 ...
 ",
-        "section .text 8
-1305150067800000
+        "section .text 12
+93c5f5ff3305b54067800000
 section .debug_abbrev 83
 011101130503081b081017110112068c01170000022e01030811011206000003
 0500030849130222000004050003080222000005340003084913022200000634
 0003080222000007240003080b0b3e0b000000
-section .debug_info 75
-470000000500010800000000010c00742e63002f640000000000000000000000
-0000080000000c000000076c6f6e670008050266000000000000000000080000
-000576002a000000000000
-section .debug_line 74
-460000000500080029000000010101fb0e0d0001010101000000010000010101
-08012f6400020108020f02742e630000742e6300000009020000000000000000
-05010302010208000101
+section .debug_info 81
+4d0000000500010800000000010c0073756d2e63002f73726300000000000000
+0000000000000c0000000c0000000773697a655f740008070266000000000000
+0000000c0000000573002e000000000000
+section .debug_line 87
+53000000050008002f000000010101fb0e0d0001010101000000010000010101
+08012f73726300020108020f0273756d2e63000073756d2e6300000009020000
+0000000000000504030a01050002040375010208000101
 section .debug_loclists 22
-12000000050008000100000004000000040008015a00
-function f 00000000 00000008
-variable 0 !4 - v
+1200000005000800010000000400000004000c015b00
+function f 00000000 0000000c
+variable 0 !7 - s
 block 0
-- =0.0 DBG_VALUE $x10, $noreg, !4, !DIExpression(), debug-location !5
-00000000 =0.1 $x10 = ADDI $x10, 1, debug-instr-number 1, debug-location !5
-- =0.2 DBG_INSTR_REF !4, !DIExpression(DW_OP_LLVM_arg, 0), dbg-instr-ref(1, 0), debug-location !5
-00000004 =0.3 PseudoRET implicit $x10, debug-location !5
+- =0.0 DBG_VALUE $x11, $noreg, !7, !DIExpression(), debug-location !5
+00000000 =0.1 $x11 = XORI $x11, -1, debug-instr-number 2, debug-location !5
+- =0.2 DBG_INSTR_REF !7, !DIExpression(DW_OP_LLVM_arg, 0), dbg-instr-ref(2, 0), debug-location !5
+00000004 =0.3 $x10 = SUB $x10, $x11
+00000008 =0.4 PseudoRET implicit $x10
 ",
     ),
     (
         "stack:
-  - { id: 0, size: 8 }
-  - { id: 1, size: 16, alignment: 8 }
+  - { id: 5, size: 8 }
+  - { id: 2, size: 24, alignment: 8 }
 debugValueSubstitutions:
-  - { srcinst: 3, srcop: 0, dstinst: 1, dstop: 5, subreg: 0 }
+  - { srcinst: 9, srcop: 0, dstinst: 4, dstop: 5, subreg: 0 }
 body: |
-  bb.0:
-    DBG_VALUE $x10, $noreg, !6, !DIExpression()
-    SD $x10, %stack.0, 0, debug-location !5
-    $x11 = ADDI %stack.1, 8
+  bb.3:
+    DBG_VALUE $x10, $noreg, !4, !DIExpression()
+    SD $x10, %stack.5, 0
+    $x10 = ADDI %stack.2, 16, debug-location !5
   bb.1:
-    PseudoCALL @h, csr_ilp32_lp64, implicit-def dead $x1, implicit $x10, implicit $x11, implicit-def $x10, debug-instr-number 1
-    DBG_INSTR_REF !4, !DIExpression(DW_OP_LLVM_arg, 0), dbg-instr-ref(3, 0)
-    BNE $x10, $x0, %bb.1
+    PseudoCALL @step, csr_ilp32_lp64, implicit-def dead $x1, implicit $x10, implicit-def $x10, debug-instr-number 4
+    DBG_INSTR_REF !7, !DIExpression(DW_OP_LLVM_arg, 0), dbg-instr-ref(9, 0)
+    BLT $x0, $x10, %bb.1
   bb.2:
-    $x10 = LD %stack.0, 0, debug-instr-number 2
-    DBG_INSTR_REF !4, !DIExpression(DW_OP_LLVM_arg, 0), dbg-instr-ref(2, 0)
+    $x12 = LD %stack.5, 0, debug-instr-number 6
+    DBG_INSTR_REF !7, !DIExpression(DW_OP_LLVM_arg, 0), dbg-instr-ref(6, 0)
+    $x10 = SUB $x12, $x10, debug-location !5
     PseudoRET implicit $x10
 ...
 ---
-name: g
+name: empty
 body: |
-  bb.0:
-    DBG_VALUE 7, $noreg, !4, !DIExpression()
+  bb.2:
+    DBG_VALUE -1, $noreg, !7, !DIExpression()
     PseudoRET
 ...
 ",
-        "section .text 48
-130101fe233411002330a1009305810197000000e7800000e31c05fe03350100
-83308100130101026780000067800000
+        "section .text 52
+130101fd233411002330a1001305010297000000e7800000e34ca0fe03360100
+3305a64083308100130101036780000067800000
 section .debug_abbrev 83
 011101130503081b081017110112068c01170000022e01030811011206000003
 0500030849130222000004050003080222000005340003084913022200000634
 0003080222000007240003080b0b3e0b000000
-section .debug_info 107
-670000000500010800000000010c00742e63002f640000000000000000000000
-0000300000000c000000076c6f6e6700080502660000000000000000002c0000
-000361002a000000000576002a00000001000267002c00000000000000040000
-000576002a000000020000
-section .debug_line 100
-600000000500080029000000010101fb0e0d0001010101000000010000010101
-08012f6400020108020f02742e630000742e6300000009020000000000000000
-05010302010500020c037d0102200001010009022c00000000000000037f0102
-04000101
+section .debug_info 117
+710000000500010800000000010c0073756d2e63002f73726300000000000000
+000000000000340000000c0000000773697a655f740008070266000000000000
+00000030000000036e002e000000000573002e000000010002656d7074790030
+00000000000000040000000573002e000000020000
+section .debug_line 125
+79000000050008002f000000010101fb0e0d0001010101000000010000010101
+08012f73726300020108020f0273756d2e63000073756d2e6300000009020000
+000000000000037f010504020c030b010500020403750105040210030b010500
+0204037501020c0001010009023000000000000000037f010204000101
 section .debug_loclists 55
 3300000005000800030000000c0000001d00000023000000040810015a041020
-02720004202c015a0004182c015a00042c300311079f00
-function f 00000000 0000002c
-object 1 16 0
-variable 0 !6 - a
-variable 1 !4 - v
-substitute 3 0 1 5 0
-00000000 <0.0 $x2 = ADDI $x2, -32
-00000004 <0.0 SD $x1, $x2, 8
-block 0
-- =0.0 DBG_VALUE $x10, $noreg, !6, !DIExpression()
-00000008 =0.1 SD $x10, $x2, 0, debug-location !5
-0000000c =0.2 $x11 = ADDI $x2, 24
+027200042030015c00042030015c0004303403117f9f00
+function f 00000000 00000030
+object 2 24 0
+variable 0 !4 - n
+variable 1 !7 - s
+substitute 9 0 4 5 0
+00000000 <3.0 $x2 = ADDI $x2, -48
+00000004 <3.0 SD $x1, $x2, 8
+block 3
+- =3.0 DBG_VALUE $x10, $noreg, !4, !DIExpression()
+00000008 =3.1 SD $x10, $x2, 0
+0000000c =3.2 $x10 = ADDI $x2, 32, debug-location !5
 block 1
-00000010 =1.0 PseudoCALL @h, mask, implicit-def $x1, implicit $x10, implicit $x11, implicit-def $x10, debug-instr-number 1
-- =1.1 DBG_INSTR_REF !4, !DIExpression(DW_OP_LLVM_arg, 0), dbg-instr-ref(3, 0)
-00000018 =1.2 BNE $x10, $x0, %bb.1
+00000010 =1.0 PseudoCALL @step, mask, implicit-def $x1, implicit $x10, implicit-def $x10, debug-instr-number 4
+- =1.1 DBG_INSTR_REF !7, !DIExpression(DW_OP_LLVM_arg, 0), dbg-instr-ref(9, 0)
+00000018 =1.2 BLT $x0, $x10, %bb.1
 block 2
-0000001c =2.0 $x10 = LD $x2, 0, debug-instr-number 2
-- =2.1 DBG_INSTR_REF !4, !DIExpression(DW_OP_LLVM_arg, 0), dbg-instr-ref(2, 0)
-00000020 <2.2 $x1 = LD $x2, 8
-00000024 <2.2 $x2 = ADDI $x2, 32
-00000028 =2.2 PseudoRET implicit $x10
-function g 0000002c 00000030
-variable 2 !4 - v
-block 0
-- =0.0 DBG_VALUE 7, $noreg, !4, !DIExpression()
-0000002c =0.1 PseudoRET
+0000001c =2.0 $x12 = LD $x2, 0, debug-instr-number 6
+- =2.1 DBG_INSTR_REF !7, !DIExpression(DW_OP_LLVM_arg, 0), dbg-instr-ref(6, 0)
+00000020 =2.2 $x10 = SUB $x12, $x10, debug-location !5
+00000024 <2.3 $x1 = LD $x2, 8
+00000028 <2.3 $x2 = ADDI $x2, 48
+0000002c =2.3 PseudoRET implicit $x10
+function empty 00000030 00000034
+variable 2 !7 - s
+block 2
+- =2.0 DBG_VALUE -1, $noreg, !7, !DIExpression()
+00000030 =2.1 PseudoRET
 ",
     ),
     (
         "stack:
-  - { id: 0, size: 16, alignment: 8 }
+  - { id: 1, size: 32, alignment: 8 }
 body: |
-  bb.0:
-    $x11 = ADDI %stack.0, 8
-    SD $x10, $x11, 0
-    $x10 = LD %stack.0, 8, debug-instr-number 1
-    DBG_INSTR_REF !4, !DIExpression(DW_OP_LLVM_arg, 0), dbg-instr-ref(1, 0)
+  bb.4:
+    $x12 = ADDI %stack.1, 24
+    SW $x10, $x12, 4
+    $x10 = LWU %stack.1, 28, debug-instr-number 3
+    DBG_INSTR_REF !7, !DIExpression(DW_OP_LLVM_arg, 0), dbg-instr-ref(3, 0)
     PseudoRET implicit $x10
 ...
 ",
         "section .text 24
-130101ff9305810023b0a500033581001301010167800000
+130101fe130681012322a6000365c1011301010267800000
 section .debug_abbrev 83
 011101130503081b081017110112068c01170000022e01030811011206000003
 0500030849130222000004050003080222000005340003084913022200000634
 0003080222000007240003080b0b3e0b000000
-section .debug_info 75
-470000000500010800000000010c00742e63002f640000000000000000000000
-0000180000000c000000076c6f6e670008050266000000000000000000180000
-000576002a000000000000
-section .debug_line 72
-440000000500080029000000010101fb0e0d0001010101000000010000010101
-08012f6400020108020f02742e630000742e6300000009020000000000000000
-037f010218000101
+section .debug_info 81
+4d0000000500010800000000010c0073756d2e63002f73726300000000000000
+000000000000180000000c0000000773697a655f740008070266000000000000
+000000180000000573002e000000000000
+section .debug_line 78
+4a000000050008002f000000010101fb0e0d0001010101000000010000010101
+08012f73726300020108020f0273756d2e63000073756d2e6300000009020000
+000000000000037f010218000101
 section .debug_loclists 22
 12000000050008000100000004000000041018015a00
 function f 00000000 00000018
-object 0 16 0
-variable 0 !4 - v
-00000000 <0.0 $x2 = ADDI $x2, -16
-block 0
-00000004 =0.0 $x11 = ADDI $x2, 8
-00000008 =0.1 SD $x10, $x11, 0
-0000000c =0.2 $x10 = LD $x2, 8, debug-instr-number 1
-- =0.3 DBG_INSTR_REF !4, !DIExpression(DW_OP_LLVM_arg, 0), dbg-instr-ref(1, 0)
-00000010 <0.4 $x2 = ADDI $x2, 16
-00000014 =0.4 PseudoRET implicit $x10
+object 1 32 0
+variable 0 !7 - s
+00000000 <4.0 $x2 = ADDI $x2, -32
+block 4
+00000004 =4.0 $x12 = ADDI $x2, 24
+00000008 =4.1 SW $x10, $x12, 4
+0000000c =4.2 $x10 = LWU $x2, 28, debug-instr-number 3
+- =4.3 DBG_INSTR_REF !7, !DIExpression(DW_OP_LLVM_arg, 0), dbg-instr-ref(3, 0)
+00000010 <4.4 $x2 = ADDI $x2, 32
+00000014 =4.4 PseudoRET implicit $x10
 ",
     ),
 ];

@@ -1,6 +1,6 @@
 -- Calls by their operands, and the registers that an answer sets.
 use Rattle.std.proofs.Common.{◌≡◌, ℕ, zero, suc, ◌+◌, ◌%◌, ◌^◌, ◌<◌, List, [], ◌∷◌, length, get_or, drop, map, Option, Some, None, Bool, true, false, cond, nat_eq, nat_lt, IsTrue}
-use Rattle.std.proofs.Common.{◌++◌, append_assoc, refl, sym, ap, ◌∙◌, arith}
+use Rattle.std.proofs.Common.{◌⊎◌, inl, inr, ◌++◌, append_assoc, refl, sym, ap, ◌∙◌, subst, arith}
 use Rattle.std.specs.List.{All, list_all, cons_option}
 use Rattle.std.proofs.Math.Seq.{drop-cons}
 use Rattle.std.proofs.lemmas.Bool.{ltb-true, and_parts}
@@ -30,7 +30,7 @@ use Rattle.rv_simulator.specs.steps.Arguments.{argument_of}
 
 -- ---- operations that don't call
 
-abbrev NoCall : Op → List Operand → Type 0
+abbrev pub NoCall : Op → List Operand → Type 0
 NoCall op operands = is_call (row_by op operands) ≡ false
 
 no_add : (rd a n : ℕ) → is_call (add_row rd a n) ≡ false
@@ -98,6 +98,19 @@ no_jump : (operands : List Operand) → is_call (jump_row operands) ≡ false
 no_jump (Block n ∷ rest) = refl
 no_jump _ = refl
 
+-- a call's operation, or one that never calls
+pub quiet : (op : Op) → (op ≡ PseudoCall) ⊎ ((operands : List Operand) → NoCall op operands)
+quiet (Registers op) = inr (no_registers op)
+quiet (Immediate op) = inr (no_number op)
+quiet Lui = inr no_upper
+quiet (Branch op) = inr (no_branch op)
+quiet (Load op) = inr (no_load op)
+quiet (Store op) = inr (no_store op)
+quiet Copy = inr no_copy
+quiet PseudoBr = inr no_jump
+quiet PseudoCall = inl refl
+quiet PseudoRet = inr (λ operands. refl)
+
 -- ---- the operands of a call
 
 -- an operand that uses no register beyond x31
@@ -130,16 +143,10 @@ true_false : (b : Bool) → b ≡ true → b ≡ false → ⊥
 true_false b t f = let e : true ≡ false = sym t ∙ f in cc
 
 call_form_by : (op : Op) (operands : List Operand) → IsTrue (has_form op operands) → is_call (row_by op operands) ≡ true → CallForm op operands
-call_form_by (Registers op) operands t e = absurd (true_false _ e (no_registers op operands))
-call_form_by (Immediate op) operands t e = absurd (true_false _ e (no_number op operands))
-call_form_by Lui operands t e = absurd (true_false _ e (no_upper operands))
-call_form_by (Branch op) operands t e = absurd (true_false _ e (no_branch op operands))
-call_form_by (Load op) operands t e = absurd (true_false _ e (no_load op operands))
-call_form_by (Store op) operands t e = absurd (true_false _ e (no_store op operands))
-call_form_by Copy operands t e = absurd (true_false _ e (no_copy operands))
-call_form_by PseudoBr operands t e = absurd (true_false _ e (no_jump operands))
-call_form_by PseudoCall operands t e = call_form_of operands t
-call_form_by PseudoRet operands t e = absurd cc
+call_form_by op operands t e = elim (quiet op) as (λ _. CallForm op operands) [
+  | inl is ↦ subst (λ (o : Op). CallForm o operands) (sym is) (call_form_of operands (subst (λ (o : Op). IsTrue (has_form o operands)) is t))
+  | inr none ↦ absurd (true_false _ e (none operands))
+]
 
 pub call_form : (i : Instruction) → IsTrue (has_form i.op i.operands) → is_call (row_of i) ≡ true → CallForm i.op i.operands
 call_form i t e = call_form_by i.op i.operands t e

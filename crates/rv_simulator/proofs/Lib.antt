@@ -1,4 +1,3 @@
-pub mod Loops
 pub mod Calls
 pub mod Registers
 pub mod Rows

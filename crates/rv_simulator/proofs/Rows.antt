@@ -10,7 +10,8 @@ use Rattle.code_layout.specs.Machine.{Machine, register}
 use Rattle.rv64_word.specs.MachineRow.{link_row}
 use Rattle.mir_meaning.specs.State.{Event, Wrote, stored, touches_frame}
 use Rattle.code_layout.specs.MachineStep.{Stepped, Continues, does, does_row, past, at, set_register, store}
-use Rattle.rv_simulator.specs.Kept.{StandsFor, Goes, MemoryHolds, calls_in}
+use Rattle.byte_memory.specs.Held.{MemoryHolds}
+use Rattle.rv_simulator.specs.Kept.{StandsFor, Goes, calls_in}
 use Rattle.rv_simulator.specs.steps.Immediates.{on_registers}
 use Rattle.rv_simulator.specs.declared.hart.Hart.{Hart}
 

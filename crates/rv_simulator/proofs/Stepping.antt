@@ -131,19 +131,30 @@ answer_step image s name args r rest now e script stands = record {
 
 -- ---- whole steps
 
+-- an answer where none is asked for
+abbrev no_reply : Reply
+no_reply = record { regs = []; writes = [] }
+
 -- nothing begins at the counter
 pub steps_left : (c : LaidCode) (h : Hart) → entry_at c.entries h.counter ≡ None → StepsOn c (Stopped Left) h h
 steps_left c h e image s shows stands none = left_step c image s shows (found_at c h s None stands e)
 
 pub calls_left : (gives : CallEvent → Reply → Type 0) (c : LaidCode) (h : Hart) → entry_at c.entries h.counter ≡ None → CallsOn gives c (Stopped Left) h h
-calls_left gives c h e image s name args shows stands some =
-    let no : ◌≡◌ {A = Option (List ℕ × List ℕ)} None (Some (name, args)) = sym (entry_call_at c h s None stands e) ∙ some in absurd cc
+calls_left gives c h e = record {
+  reply = no_reply;
+  calls = λ image s name args shows stands some. (
+      let no : ◌≡◌ {A = Option (List ℕ × List ℕ)} None (Some (name, args)) = sym (entry_call_at c h s None stands e) ∙ some in absurd cc);
+}
 
 -- an entry that is no call makes none
 pub calls_word : (gives : CallEvent → Reply → Type 0) (c : LaidCode) (r : Ended) (h new : Hart) (e : Entry) → entry_at c.entries h.counter ≡ Some e →
     entry_call c.framed e ≡ None → CallsOn gives c r h new
-calls_word gives c r h new e found none image s name args shows stands some =
-    let no : ◌≡◌ {A = Option (List ℕ × List ℕ)} None (Some (name, args)) = sym none ∙ (sym (entry_call_at c h s (Some e) stands found) ∙ some) in absurd cc
+calls_word gives c r h new e found none = record {
+  reply = no_reply;
+  calls = λ image s name args shows stands some. (
+      let no : ◌≡◌ {A = Option (List ℕ × List ℕ)} None (Some (name, args)) = sym none ∙ (sym (entry_call_at c h s (Some e) stands found) ∙ some) in
+      absurd cc);
+}
 
 pub calls_word_if : {E : Type 0} (result : Result Ended E) (gives : CallEvent → Reply → Type 0) (c : LaidCode) (h new : Hart) (e : Entry) →
     entry_at c.entries h.counter ≡ Some e → entry_call c.framed e ≡ None → IfOk result (λ r. CallsOn gives c r h new)
@@ -165,18 +176,20 @@ pub call_made : (gives : CallEvent → Reply → Type 0) (c : LaidCode) (h new :
     ((s : Machine) (name args : List ℕ) → StandsFor h s → call_of (row_of i) ≡ Some (name, args) → event ≡ event_of name args s) → gives event r →
     writes_frame h.entry h.area r.writes ≡ false →
     ((s : Machine) (name args : List ℕ) (rest : List Reply) → StandsFor h s → StandsFor new (after_call name args r rest s)) → CallsOn gives c Went h new
-call_made gives c h new e i event r found same shown given apart takes image s name args shows stands some =
-    let call = sym same ∙ (sym (entry_call_at c h s (Some e) stands found) ∙ some) in
-    let step = call_step_at c image h s e name args shows stands found some in
-    record {
-      went = refl;
-      answered = record {
-        reply = r;
-        given = subst (λ (x : CallEvent). gives x r) (shown s name args stands call) given;
-        apart = ap (λ (n : ℕ). writes_frame n s.area r.writes) stands.entry ∙ (ap (λ (n : ℕ). writes_frame h.entry n r.writes) stands.area ∙ apart);
-        goes = λ rest script. answer_step image s name args r rest new step script (takes s name args rest stands);
-      };
-    }
+call_made gives c h new e i event r found same shown given apart takes = record {
+  reply = r;
+  calls = λ image s name args shows stands some. (
+      let call = sym same ∙ (sym (entry_call_at c h s (Some e) stands found) ∙ some) in
+      let step = call_step_at c image h s e name args shows stands found some in
+      record {
+        went = refl;
+        answered = record {
+          given = subst (λ (x : CallEvent). gives x r) (shown s name args stands call) given;
+          apart = ap (λ (n : ℕ). writes_frame n s.area r.writes) stands.entry ∙ (ap (λ (n : ℕ). writes_frame h.entry n r.writes) stands.area ∙ apart);
+          goes = λ rest script. answer_step image s name args r rest new step script (takes s name args rest stands);
+        };
+      });
+}
 
 -- the entry at the counter begins at its address
 pub at_address : (c : LaidCode) (h : Hart) (e : Entry) → entry_at c.entries h.counter ≡ Some e → e.address ≡ h.counter → entry_at c.entries e.address ≡ Some e

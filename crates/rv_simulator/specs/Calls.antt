@@ -6,7 +6,8 @@ use Rattle.rv64_instr.specs.declared.start.CallEvent.{CallEvent}
 use Rattle.mir_meaning.specs.State.{Reply, Called, written}
 use Rattle.code_layout.specs.Machine.{Machine, register, set_all_in}
 use Rattle.code_layout.specs.MachineStep.{past}
-use Rattle.rv_simulator.specs.Kept.{some_writes, calls_in}
+use Rattle.byte_memory.specs.Held.{some_writes}
+use Rattle.rv_simulator.specs.Kept.{calls_in}
 
 -- the call of a name with the contents of registers. Its number counts the calls of the run from 1, modulo 2^64
 abbrev pub event_of : (name args : List ℕ) → Machine → CallEvent

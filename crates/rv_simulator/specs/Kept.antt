@@ -1,24 +1,10 @@
 -- What is kept of a running machine, and the states of the definition that it stands for.
-use Rattle.std.specs.Prelude.{◌≡◌, ℕ, suc, ◌%◌, ◌^◌, ◌<◌, List, [], ◌∷◌, Option, Some, None, nat_eq, unwrap_or, slice_index}
-use Rattle.std.specs.Map.{lookup}
+use Rattle.std.specs.Prelude.{◌≡◌, ℕ, suc, ◌%◌, ◌^◌, ◌<◌, List, [], ◌∷◌, slice_index}
+use Rattle.byte_memory.specs.Held.{MemoryHolds}
 use Rattle.mir_meaning.specs.State.{Event, Called, Wrote}
 use Rattle.code_layout.specs.Machine.{Machine, register}
 use Rattle.code_layout.specs.MachineStep.{Stepped, Continues}
 use Rattle.rv_simulator.specs.declared.hart.Hart.{Hart}
-
--- the number of a key, and 0 where it has none
-abbrev pub number_in : List (ℕ × ℕ) → ℕ → ℕ
-number_in es k = unwrap_or (lookup (nat_eq k) es) 0
-
--- each byte of memory is what the entries say
-abbrev pub MemoryHolds : List (ℕ × ℕ) → (ℕ → ℕ) → Type 0
-MemoryHolds es held = (a : ℕ) → held a ≡ number_in es a
-
--- the writes of an answer
-abbrev pub some_writes : List (Option (ℕ × ℕ)) → List (ℕ × ℕ)
-some_writes [] = []
-some_writes (Some w ∷ ws) = w ∷ some_writes ws
-some_writes (None ∷ ws) = some_writes ws
 
 -- how many calls are among events
 abbrev pub calls_in : List Event → ℕ

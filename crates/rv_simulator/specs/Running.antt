@@ -46,19 +46,20 @@ call_at c a = found_call c.framed (entry_at c.entries a)
 abbrev pub StepsOn : LaidCode → Stepped → (old new : Hart) → Type 0
 StepsOn c r old new = (image : Image) (s : Machine) → ShowsCode c image → StandsFor old s → call_at c s.counter ≡ None → EndsSo r new image s
 
--- the answer to a call: one that may be given to it, and that writes no byte of the frame. With it as the next of the script the
+-- what an answer to a call does: it may be given to it, and writes no byte of the frame. With it as the next of the script the
 -- machine goes on to a state that what is kept now stands for
-pub record IsAnswered (gives : CallEvent → Reply → Type 0) (name args : List ℕ) (new : Hart) (image : Image) (s : Machine) : Type 0 where
-  pub reply : Reply
+pub record IsAnswered (gives : CallEvent → Reply → Type 0) (reply : Reply) (name args : List ℕ) (new : Hart) (image : Image) (s : Machine) : Type 0 where
   pub given : gives (event_of name args s) reply
   pub apart : writes_frame s.entry s.area reply.writes ≡ false
   pub goes : (rest : List Reply) → s.script ≡ reply ∷ rest → Goes (machine_step image s) new
 
--- a step at a call site goes on by an answer
-pub record Calls (gives : CallEvent → Reply → Type 0) (name args : List ℕ) (r : Stepped) (new : Hart) (image : Image) (s : Machine) : Type 0 where
+-- a step at a call site goes on by this answer
+pub record Calls (gives : CallEvent → Reply → Type 0) (reply : Reply) (name args : List ℕ) (r : Stepped) (new : Hart) (image : Image) (s : Machine) : Type 0 where
   pub went : r ≡ Went
-  pub answered : IsAnswered gives name args new image s
+  pub answered : IsAnswered gives reply name args new image s
 
-abbrev pub CallsOn : (gives : CallEvent → Reply → Type 0) → LaidCode → Stepped → (old new : Hart) → Type 0
-CallsOn gives c r old new = (image : Image) (s : Machine) (name args : List ℕ) → ShowsCode c image → StandsFor old s → call_at c s.counter ≡ Some (name, args) →
-    Calls gives name args r new image s
+-- a step goes on by one answer, from each state that old stands for and each image of the code, where these are at a call site
+pub record CallsOn (gives : CallEvent → Reply → Type 0) (c : LaidCode) (r : Stepped) (old new : Hart) : Type 0 where
+  pub reply : Reply
+  pub calls : (image : Image) (s : Machine) (name args : List ℕ) → ShowsCode c image → StandsFor old s → call_at c s.counter ≡ Some (name, args) →
+      Calls gives reply name args r new image s

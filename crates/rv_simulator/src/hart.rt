@@ -4,7 +4,7 @@ ghost use Rattle.std.specs.Prelude.{◌≡◌, ◌<◌, ◌^◌};
 ghost use Rattle.code_layout.specs.Machine.{Machine, register};
 ghost use Rattle.code_layout.specs.MachineStep.{past, at, set_register};
 
-use crate::memory::Memory;
+use byte_memory::memory::Memory;
 
 /// The state of the machine: a hardware thread.
 #[derive(Drop)]

@@ -10,7 +10,6 @@ mod call;
 pub mod ending;
 pub mod hart;
 pub mod machine;
-mod memory;
 mod operation;
 mod site;
 pub mod value;

@@ -2,7 +2,7 @@ use Rattle.std.proofs.Common.{◌≡◌, ℕ, ◌+◌, ◌%◌, ◌^◌, sym, ap
 use Rattle.rv64_instr.specs.declared.place.Place.{Place}
 use Rattle.mir_meaning.specs.State.{spelled}
 use Rattle.code_layout.specs.Machine.{address_of, place_content}
-use Rattle.rv_simulator.specs.Kept.{number_in}
+use Rattle.byte_memory.specs.Held.{number_in}
 use Rattle.rv_simulator.proofs.hart.Hart.content.Goals as goal
 
 pub returns-in-Slot : goal.returns-in-Slot

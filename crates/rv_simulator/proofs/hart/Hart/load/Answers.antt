@@ -3,7 +3,7 @@ use Rattle.rv64_instr.specs.Arithmetic.{extended, load_width}
 use Rattle.mir_meaning.specs.State.{spelled}
 use Rattle.code_layout.specs.Machine.{address_of}
 use Rattle.code_layout.specs.MachineStep.{does_row}
-use Rattle.rv_simulator.specs.Kept.{number_in}
+use Rattle.byte_memory.specs.Held.{number_in}
 use Rattle.rv_simulator.proofs.Rows.{sets}
 use Rattle.rv_simulator.proofs.hart.Hart.load.Goals as goal
 

@@ -3,7 +3,7 @@ use Rattle.rv64_instr.specs.Arithmetic.{store_width}
 use Rattle.mir_meaning.specs.State.{low_bytes, stored}
 use Rattle.code_layout.specs.Machine.{register, address_of}
 use Rattle.code_layout.specs.MachineStep.{does_row, past, store}
-use Rattle.rv_simulator.specs.Kept.{MemoryHolds}
+use Rattle.byte_memory.specs.Held.{MemoryHolds}
 use Rattle.rv_simulator.proofs.Rows.{stores}
 use Rattle.rv_simulator.proofs.hart.Hart.store.Goals as goal
 

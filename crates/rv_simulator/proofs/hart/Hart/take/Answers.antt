@@ -1,6 +1,7 @@
 use Rattle.std.proofs.Common.{ℕ, ◌+◌, ap}
 use Rattle.mir_meaning.specs.State.{written}
-use Rattle.rv_simulator.specs.Kept.{some_writes, calls_in}
+use Rattle.byte_memory.specs.Held.{some_writes}
+use Rattle.rv_simulator.specs.Kept.{calls_in}
 use Rattle.rv_simulator.proofs.Calls.{next_call}
 use Rattle.rv_simulator.proofs.hart.Hart.take.Goals as goal
 

@@ -1,0 +1,5 @@
+//! Tests of memory.
+#![tactic(auto)]
+
+#[cfg(test)]
+mod tests;
