@@ -16,7 +16,8 @@ use Rattle.mir_func.specs.Function.{Function}
 use Rattle.mir_func.specs.Sound.{IsSound}
 use Rattle.follow_law.specs.Change.{Change}
 use Rattle.follow_law.specs.Rule.{item}
-use Rattle.follow_law.specs.Debug.{ValueStays, PlaceStays, IsKillAt, Becomes, mark_stays, phi_stays, code_stays, code_unnumbered, BecomeAll, over, next, BlocksBecome, none}
+use Rattle.follow_law.specs.Debug.{ValueStays, PlaceStays, IsKillAt, Becomes, mark_stays, phi_stays, code_stays, code_unnumbered}
+use Rattle.follow_law.specs.Debug.{BecomeAll, over, next, BlocksBecome, none}
 use Rattle.follow_law.specs.Debug.{stays as block_stays, IsLoss, IsFor, KeepsItems}
 use Rattle.follow_law.specs.Steps.{KeepsSteps}
 use Rattle.remat_pass.specs.Known.{Known, nothing_known, known_past}
@@ -55,7 +56,8 @@ module _ (c : Change) where
   blocks_become : (bs : List Block) → BlocksBecome remat_rule c bs (set_blocks bs)
   blocks_become [] = none
   blocks_become (b ∷ bs) =
-      block_stays [] (set_items nothing_known b.items) refl refl refl refl (all_none (IsKillAt remat_rule c b.id)) (become_all b.id 0 nothing_known b.items) (blocks_become bs)
+      block_stays [] (set_items nothing_known b.items) refl refl refl refl (all_none (IsKillAt remat_rule c b.id))
+      (become_all b.id 0 nothing_known b.items) (blocks_become bs)
 
 pub remat_steps : (f : Function) → IsSound f → (subs : List Entry) →
     KeepsSteps (remat_step ∷ []) (record { old = f; old_subs = subs; new = rematerialized f; new_subs = subs }) []

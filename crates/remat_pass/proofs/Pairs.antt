@@ -123,8 +123,8 @@ one_given sp k rd os os' h h' e =
     λ o. ap (λ (x : Option ℕ). given sp x (e.pairs k o) e) (h o ∙ sym (h' o)) in
     λ t. record e { pairs = updated k (λ o. each o t) e.pairs }
 
-numbered_alone : (sp call call' : Bool) (n : Option ℕ) (rd : ℕ) (os os' : List Operand) → call ≡ false → call' ≡ false → DefinesAlone rd os → DefinesAlone rd os' →
-    (e : Core) → numbered sp call n os e ≡ numbered sp call' n os' e
+numbered_alone : (sp call call' : Bool) (n : Option ℕ) (rd : ℕ) (os os' : List Operand) → call ≡ false → call' ≡ false →
+    DefinesAlone rd os → DefinesAlone rd os' → (e : Core) → numbered sp call n os e ≡ numbered sp call' n os' e
 numbered_alone sp call call' None rd os os' c c' h h' e = refl
 numbered_alone sp call call' (Some k) rd os os' c c' h h' e =
     ap (λ (b : Bool). numbered sp b (Some k) os e) c ∙ (one_given sp k rd os os' h h' e ∙ ap (λ (b : Bool). numbered sp b (Some k) os' e) (sym c'))

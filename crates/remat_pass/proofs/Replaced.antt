@@ -1,5 +1,6 @@
 -- Code in whose place a constant is set: how it was and is.
-use Rattle.std.proofs.Common.{◌≡◌, ℕ, zero, suc, pos, List, [], ◌∷◌, filter, slice_get, Option, Some, None, Bool, true, false, cond, refl, sym, ap, ◌∙◌, subst, inl}
+use Rattle.std.proofs.Common.{◌≡◌, ℕ, zero, suc, pos, List, [], ◌∷◌, filter, slice_get, Option, Some, None, Bool, true}
+use Rattle.std.proofs.Common.{false, cond, refl, sym, ap, ◌∙◌, subst, inl}
 use Rattle.std.specs.List.{list_all}
 use Rattle.std.proofs.lemmas.Bool.{and_parts}
 use Rattle.rv64_instr.specs.declared.op.Op.TheVariants.{Immediate, Lui}
@@ -146,13 +147,14 @@ none_defined [] h (suc o) = refl
 none_defined (x ∷ xs) h zero = implicit_defines x (and_parts (is_implicit x) (list_all is_implicit xs) h).0
 none_defined (x ∷ xs) h (suc o) = none_defined xs (and_parts (is_implicit x) (list_all is_implicit xs) h).1 o
 
-pub alone_two : (rd : ℕ) (x : Operand) (rest : List Operand) → defined false (Some x) ≡ None → list_all is_implicit rest ≡ true → DefinesAlone rd (Def rd ∷ x ∷ rest)
+pub alone_two : (rd : ℕ) (x : Operand) (rest : List Operand) → defined false (Some x) ≡ None → list_all is_implicit rest ≡ true →
+    DefinesAlone rd (Def rd ∷ x ∷ rest)
 alone_two rd x rest none h zero = refl
 alone_two rd x rest none h (suc zero) = none
 alone_two rd x rest none h (suc (suc o)) = none_defined rest h o
 
-pub alone_three : (rd : ℕ) (x y : Operand) (rest : List Operand) → defined false (Some x) ≡ None → defined false (Some y) ≡ None → list_all is_implicit rest ≡ true →
-    DefinesAlone rd (Def rd ∷ x ∷ y ∷ rest)
+pub alone_three : (rd : ℕ) (x y : Operand) (rest : List Operand) → defined false (Some x) ≡ None → defined false (Some y) ≡ None →
+    list_all is_implicit rest ≡ true → DefinesAlone rd (Def rd ∷ x ∷ y ∷ rest)
 alone_three rd x y rest none also h zero = refl
 alone_three rd x y rest none also h (suc zero) = none
 alone_three rd x y rest none also h (suc (suc zero)) = also
@@ -161,7 +163,8 @@ alone_three rd x y rest none also h (suc (suc (suc o))) = none_defined rest h o
 -- a constant definition does so
 pub constant_alone : (rd n : ℕ) (os : List Operand) → DefinesAlone rd (constant_code rd n (filter is_implicit os)).operands
 constant_alone rd n os = by_bits (has_12_bits (signed n)) where
-  by_bits : (b : Bool) → DefinesAlone rd (cond {A = Instruction} b (record { op = Immediate Addi; operands = Def rd ∷ Use 0 ∷ Imm (signed n) ∷ filter is_implicit os })
+  by_bits : (b : Bool) → DefinesAlone rd (cond {A = Instruction} b
+      (record { op = Immediate Addi; operands = Def rd ∷ Use 0 ∷ Imm (signed n) ∷ filter is_implicit os })
       (record { op = Lui; operands = Def rd ∷ Imm (pos (upper_part n)) ∷ filter is_implicit os })).operands
   by_bits true = alone_three rd (Use 0) (Imm (signed n)) (filter is_implicit os) refl refl (all_implicit os)
   by_bits false = alone_two rd (Imm (pos (upper_part n))) (filter is_implicit os) refl (all_implicit os)

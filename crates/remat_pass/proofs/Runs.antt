@@ -134,7 +134,8 @@ forgotten_holds i known d h =
         by_test false t w = stays x t ∙ h x n w
 
 -- a register that was set
-set_holds : (rd n : ℕ) (known : Known) (d : Core) → Holds known (set_register (suc rd) n d) → Holds (with_register (suc rd) (Some n) known) (set_register (suc rd) n d)
+set_holds : (rd n : ℕ) (known : Known) (d : Core) → Holds known (set_register (suc rd) n d) →
+    Holds (with_register (suc rd) (Some n) known) (set_register (suc rd) n d)
 set_holds rd n known d h (Register q) m e = by_test (nat_eq (suc rd) q) refl e where
   by_test : (z : Bool) → nat_eq (suc rd) q ≡ z → cond z (Some n) (known (Register q)) ≡ Some m → held_in (Register q) (set_register (suc rd) n d) ≡ Some m
   by_test true t e =
@@ -164,7 +165,8 @@ unfolding act does
 learned_holds (Fixes zero n) known d h = h
 learned_holds (Fixes (suc rd) n) known d h = set_holds rd n known d h
 learned_holds (StoresSlot rs s) known d h = by_written (are_written d (rs ∷ [])) h where
-  by_written : (z : Bool) → OnCore (Holds known) (cond z (Falls (stores rs s d)) Traps) → OnCore (Holds (learned (StoresSlot rs s) known)) (cond z (Falls (stores rs s d)) Traps)
+  by_written : (z : Bool) → OnCore (Holds known) (cond z (Falls (stores rs s d)) Traps) →
+      OnCore (Holds (learned (StoresSlot rs s) known)) (cond z (Falls (stores rs s d)) Traps)
   by_written true h = stored_holds rs s known d h
   by_written false h = tt
 learned_holds _ known d h = h

@@ -14,7 +14,8 @@ use Rattle.mir_func.specs.declared.exit.Exit.TheVariants.{Onward, Perhaps, Alway
 use Rattle.mir_func.specs.Function.{Function}
 use Rattle.mir_func.specs.Exits.{row_exit, exit_of, IsAlways, Leaves}
 use Rattle.mir_func.specs.Limits.{MAX_BLOCKS}
-use Rattle.mir_func.specs.Sound.{AreApart, ids_of, items_of, number_of, code_number, NumbersOnce, OriginIn, TargetIn, TargetsIn, SlotIn, SlotsIn, ObjectIn, ObjectsIn}
+use Rattle.mir_func.specs.Sound.{AreApart, ids_of, items_of, number_of, code_number, NumbersOnce, OriginIn, TargetIn}
+use Rattle.mir_func.specs.Sound.{TargetsIn, SlotIn, SlotsIn, ObjectIn, ObjectsIn}
 use Rattle.mir_func.specs.Sound.{IsNotPointer, LeavesPointer, MayFollow, EndsWell, Closes, LastCloses, IsSound}
 use Rattle.remat_pass.specs.Known.{Known}
 use Rattle.remat_pass.specs.Remat.{constant_set, set_or_same, set_in, rematerialized}
@@ -52,7 +53,8 @@ slots_kept slots known (Mark v m) h = h
 slots_kept slots known (Phi p n) h = h
 
 objects_kept : (objects : List Object) (known : Known) (k : ItemKind) → ObjectsIn objects k → ObjectsIn objects (set_in known k)
-objects_kept objects known (Code i n) h = row_replaced (ObjectIn objects) (λ rd m. tt) known i (set_or_same (constant_set known (row_of i)) i) (replaced known i) h
+objects_kept objects known (Code i n) h =
+    row_replaced (ObjectIn objects) (λ rd m. tt) known i (set_or_same (constant_set known (row_of i)) i) (replaced known i) h
 objects_kept objects known (Mark v m) h = h
 objects_kept objects known (Phi p n) h = h
 
