@@ -1,0 +1,4 @@
+pub mod Handing
+pub mod Exact
+pub mod Steps
+pub mod Visits
