@@ -1,13 +1,13 @@
 //! Which items are dead.
 
+use crate::text::function_of;
 use dead_items::judge::judge;
-use function_text::read::read_function;
 use std::alloc::{AllocError, Global};
 use std::test::Fail;
 
 /// The verdicts of a function with this stack and body: for each block a character for each item, `-` where it is dead.
 fn verdicts(alloc: Global, stack: &str, body: &str) -> Result<String, Fail> {
-    let parsed = read_function(alloc, stack, body)?.ok_or("a function")?;
+    let parsed = function_of(alloc, stack, body)?;
     let dead = judge(alloc, &parsed.func)?;
     Ok(shown(alloc, dead.as_slice())?)
 }

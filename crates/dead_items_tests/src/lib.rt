@@ -3,3 +3,5 @@
 
 #[cfg(test)]
 mod judged;
+#[cfg(test)]
+mod text;

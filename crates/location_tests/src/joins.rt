@@ -1,10 +1,10 @@
 //! What is known at the start of blocks, over all paths to them.
 
+use crate::text::function_of;
 use class_entries::entry::BlockEntry;
 use class_entries::tracked::Tracked;
 use frame_lower::lower::lower;
 use frame_lower::physical::is_physical;
-use function_text::read::read_function;
 use machine_values::values::{MachineValues, solve};
 use std::alloc::{AllocError, Global};
 use std::fmt::Write;
@@ -12,7 +12,7 @@ use std::test::Fail;
 
 /// What is known of the function with this body.
 fn values_of(alloc: Global, body: &str) -> Result<MachineValues, Fail> {
-    let parsed = read_function(alloc, "", body)?.ok_or("a function")?;
+    let parsed = function_of(alloc, "", body)?;
     if !is_physical(&parsed.func) {
         return Err(Fail::from("virtual registers"));
     }

@@ -7,3 +7,5 @@ mod joins;
 mod points;
 #[cfg(test)]
 mod ranges;
+#[cfg(test)]
+mod text;

@@ -3,9 +3,9 @@
 ghost use Rattle.std.specs.Prelude.{◌≡◌, ◌≤◌, length};
 ghost use Rattle.class_places.specs.Things.{AreThings};
 
+use crate::text::function_of;
 use frame_lower::lower::lower;
 use frame_lower::physical::is_physical;
-use function_text::read::read_function;
 use machine_values::values::{MachineValues, solve};
 use mir_func::framed::Framed;
 use mir_func::variable::VarId;
@@ -54,7 +54,7 @@ fn register_by(
 
 /// The same for a body.
 fn register_at(alloc: Global, body: &str, block: usize, item: usize) -> Result<u32, Fail> {
-    let parsed = read_function(alloc, "", body)?.ok_or("a function")?;
+    let parsed = function_of(alloc, "", body)?;
     if !is_physical(&parsed.func) {
         return Err(Fail::from("virtual registers"));
     }

@@ -1,8 +1,8 @@
 //! Functions, and the ranges of their first variable.
 
+use crate::text::function_of;
 use dwarf_loclists::range::{Location, Range};
 use function_compiler::compile::compile_function;
-use function_text::read::read_function;
 use rv64_instr::place::Place;
 use std::alloc::{AllocError, Global};
 use std::fmt::Write;
@@ -35,7 +35,7 @@ fn write_range(shown: &mut String, range: &Range) -> Result<(), Fail> {
 
 /// The ranges of the first variable of a function that is compiled from address 0 on.
 fn ranges_of(alloc: Global, stack: &str, body: &str) -> Result<String, Fail> {
-    let parsed = read_function(alloc, stack, body)?.ok_or("a function")?;
+    let parsed = function_of(alloc, stack, body)?;
     let compiled = compile_function(alloc, &parsed.func, &parsed.subs, 0)?;
     let list = compiled.lists.as_slice().first().ok_or("a list")?;
     let mut shown = String::new(alloc);

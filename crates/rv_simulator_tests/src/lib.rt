@@ -7,3 +7,5 @@ mod answers;
 mod runs;
 #[cfg(test)]
 mod stops;
+#[cfg(test)]
+mod text;

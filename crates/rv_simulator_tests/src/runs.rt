@@ -1,10 +1,10 @@
 //! Runs, and what variables hold in them.
 
 use crate::answers::Odd;
+use crate::text::function_of;
 use code_words::code::Code;
 use dwarf_loclists::reader::list_count;
 use frame_layout::code::code_of;
-use function_text::read::read_function;
 use rv_simulator::ending::{Stepped, Stop};
 use rv_simulator::machine::Machine;
 use rv_simulator::value::PartValue;
@@ -79,7 +79,7 @@ const ENDS: [(u32, u64); 6] = [
 
 /// The machine code of a function with this body, from address 0 on.
 fn code(alloc: Global, body: &str) -> Result<Code, Fail> {
-    let parsed = read_function(alloc, "", body)?.ok_or("a function")?;
+    let parsed = function_of(alloc, body)?;
     Ok(code_of(alloc, &parsed.func, 0)?)
 }
 

@@ -1,9 +1,9 @@
 //! How runs stop.
 
 use crate::answers::Odd;
+use crate::text::function_of;
 use code_words::code::Code;
 use frame_layout::code::code_of;
-use function_text::read::read_function;
 use rv_simulator::ending::{Stepped, Stop};
 use rv_simulator::machine::Machine;
 use rv64_instr::start::{Cells, Start};
@@ -27,7 +27,7 @@ const WORDS: [(u32, Stepped, Stepped); 3] = [
 
 /// Machine code of one word, from address 0 on.
 fn code(alloc: Global, word: u32) -> Result<Code, Fail> {
-    let parsed = read_function(alloc, "", "  bb.0:\n    PseudoRET\n")?.ok_or("a function")?;
+    let parsed = function_of(alloc, "  bb.0:\n    PseudoRET\n")?;
     let mut code = code_of(alloc, &parsed.func, 0)?;
     if 0 < code.words.len() {
         code.words.items[0] = word;
