@@ -40,7 +40,7 @@ def sort_of(words, folder):
         return found.group(1), "edits"
     if " --test" in words:
         return found.group(1), "tests"
-    return found.group(1), "proof" if " check " in words else "else"
+    return found.group(1), "proof" if " check " in words or " build " in words else "else"
 
 
 def is_below(pid, top, parents):
