@@ -7,7 +7,8 @@ use std::test::Fail;
 
 /// The verdicts of a function with this stack and body: for each block a character for each item, `-` where it is dead.
 fn verdicts(alloc: Global, stack: &str, body: &str) -> Result<String, Fail> {
-    let parsed = function_of(alloc, stack, body)?;
+    let parts = ["---\nname: f\n", stack, "body: |\n", body, "...\n"];
+    let parsed = function_of(alloc, parts.as_slice())?;
     let dead = judge(alloc, &parsed.func)?;
     Ok(shown(alloc, dead.as_slice())?)
 }

@@ -5,13 +5,12 @@ use mir_parser::program::read_program;
 use std::alloc::Global;
 use std::test::Fail;
 
-/// The only function of a text with a stack and a body.
-pub fn function_of(alloc: Global, stack: &str, body: &str) -> Result<Parsed, Fail> {
-    let mut text = String::from_str(alloc, "---\nname: f\n")?;
-    text.push_str(stack)?;
-    text.push_str("body: |\n")?;
-    text.push_str(body)?;
-    text.push_str("...\n")?;
+/// The only function of a text that is put together from parts.
+pub fn function_of(alloc: Global, parts: &[&str]) -> Result<Parsed, Fail> {
+    let mut text = String::new(alloc);
+    for part in parts {
+        text.push_str(part)?;
+    }
     let bytes = text.as_bytes();
     if 16_777_216 < bytes.len() {
         return Err(Fail::from("a long text"));

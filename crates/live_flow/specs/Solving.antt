@@ -5,11 +5,16 @@ use Rattle.rv64_instr.specs.declared.place.Place.{Place}
 use Rattle.mir_func.specs.declared.block.Block.{Block}
 use Rattle.mir_func.specs.declared.entry.OperandPair.{OperandPair}
 use Rattle.mir_func.specs.Graph.{program_of, block_start}
-use Rattle.mir_func.specs.Sound.{ids_of, AreApart}
+use Rattle.mir_func.specs.Sound.{AllItems, SlotsIn, ids_of, AreApart}
 use Rattle.mir_meaning.specs.Live.{Live}
 use Rattle.live_flow.specs.Sets.{has, gap}
 use Rattle.live_flow.specs.Walk.{live_from}
 use Rattle.live_flow.specs.Liveness.{has_at_start}
+
+-- a block of these, whose items name only these slots
+pub record IsKnownBlock (slots : List ℕ) (blocks : List Block) (block : ℕ) : Type 0 where
+  pub slots : AllItems (λ i. SlotsIn slots i.kind) blocks
+  pub inside : block < length blocks
 
 -- what is in the sets is live
 abbrev pub AreFound : (slots ids : List ℕ) → List Block → (starts : List (List ℕ)) → Type 0

@@ -8,7 +8,7 @@ ghost use Rattle.mir_func.specs.Sound.{AllItems, SlotsIn, ids_of};
 ghost use Rattle.live_flow.specs.Sets.{has};
 ghost use Rattle.live_flow.specs.Walk.{live_across, live_from};
 ghost use Rattle.live_flow.specs.Liveness.{has_at_start, items_at};
-ghost use Rattle.live_flow.specs.Solving.{Visited, Swept, Settled};
+ghost use Rattle.live_flow.specs.Solving.{IsKnownBlock, Visited, Swept, Settled};
 
 use crate::names::Names;
 use crate::set::PlaceSet;
@@ -30,9 +30,8 @@ impl Names {
     /// Adds to a block's set what is live at its start by the sets of the others, and tells whether there was anything
     /// to add.
     fn visit(&self, blocks: &[Block], starts: &mut Vec<PlaceSet>, block: usize) -> bool
-        requires slots { AllItems (λ i. SlotsIn self.now.slots i.kind) blocks.now }
+        requires known { IsKnownBlock self.now.slots blocks.now block }
         requires long { length starts.old.items ≡ length blocks.now }
-        requires inside { block < length blocks.now }
         ensures { Visited self.now.slots self.now.blocks blocks.now starts.old.items starts.new.items block result }
     {
         let next = id_at(blocks, block + 1);
@@ -76,8 +75,7 @@ impl Names {
         block: usize,
         item: usize,
     ) -> PlaceSet
-        requires slots { AllItems (λ i. SlotsIn self.now.slots i.kind) blocks.now }
-        requires inside { block < length blocks.now }
+        requires known { IsKnownBlock self.now.slots blocks.now block }
         requires item { item ≤ length (items_at blocks.now block) }
         ensures { (x : Place) → has self.now.slots result x
             ≡ live_from (has_at_start self.now.slots self.now.blocks starts.now)
@@ -95,8 +93,7 @@ impl Names {
         block: usize,
         item: usize,
     ) -> PlaceSet
-        requires slots { AllItems (λ i. SlotsIn self.now.slots i.kind) blocks.now }
-        requires inside { block < length blocks.now }
+        requires known { IsKnownBlock self.now.slots blocks.now block }
         requires item { item < length (items_at blocks.now block) }
         ensures { (i : Item) (x : Place) → slice_get (items_at blocks.now block) item ≡ Some i →
             has self.now.slots result x

@@ -65,16 +65,16 @@ impl Names {
                 self.insert_implicit(set, operands);
             }
             Decoded::Returns => self.insert_implicit(set, operands),
-            Decoded::Fixes(_, _)
+            Decoded::Jumps(_)
+            | Decoded::Branches(_, _, _, _)
+            | Decoded::Fixes(_, _)
             | Decoded::Moves(_, _)
             | Decoded::Sets(_, _, _, _)
             | Decoded::Addresses(_, _, _)
             | Decoded::Loads(_, _, _, _)
-            | Decoded::Stores(_, _, _, _)
             | Decoded::LoadsSlot(_, _)
-            | Decoded::StoresSlot(_, _)
-            | Decoded::Branches(_, _, _, _)
-            | Decoded::Jumps(_) => {
+            | Decoded::Stores(_, _, _, _)
+            | Decoded::StoresSlot(_, _) => {
                 self.remove(set, place_defined(&decoded));
                 let effect = i.effect();
                 self.insert(set, effect.uses[0]);

@@ -4,7 +4,8 @@ ghost use Rattle.std.specs.Prelude.{◌≡◌, ◌≤◌, length};
 ghost use Rattle.class_places.specs.Things.{AreThings};
 
 use crate::function::{copies, pair, register, variable};
-use machine_values::values::{MachineValues, solve};
+use machine_values::values::{MachineValues, solve, solve_asking};
+use mir_func::entry::OperandPair;
 use mir_func::framed::Framed;
 use rv64_instr::place::Place;
 use std::alloc::Global;
@@ -50,29 +51,30 @@ fn answers_by(
     requires fewer { length known.now.variables ≤ length known.now.things }
     requires for_all { length known.now.entries ≡ length framed.now.blocks }
 {
+    let blocks = framed.blocks.as_slice();
+    if 1 >= blocks.len() || item > blocks[1].items.len() {
+        return Err(Fail::from("no such point"));
+    }
     let values = Values {
         variables: known.variables.as_slice(),
         things: known.things.as_slice(),
         entries: known.entries.as_slice(),
         subs,
     };
-    let blocks = framed.blocks.as_slice();
-    if 1 >= blocks.len() || item > blocks[1].items.len() {
-        return Err(Fail::from("no such point"));
-    }
     let point = point_at(alloc, &values, blocks, 1, item)?;
     answers(&values, &point, number, place)
 }
 
 fn answers_at(
     alloc: Global,
+    asked: &[OperandPair],
     item: usize,
     number: u32,
     in_register: u32,
 ) -> Result<(u32, u32, u32, u32), Fail> {
     let framed = copies(alloc)?;
     let subs = Substitutions::new(alloc);
-    let known = solve(alloc, &framed, &subs)?;
+    let known = solve_asking(alloc, &framed, &subs, asked)?;
     let place = Place::Register(register(in_register)?);
     answers_by(alloc, &framed, &known, &subs, item, number, &place)
 }
@@ -92,7 +94,26 @@ fn values_sit_in_registers(rt: HostRuntime) -> Result<(), Fail> {
         // no mark asks for this pair
         (5, 2, 14, (0, 1, 9, 0)),
     ] {
-        assert!(rt; answers_at(rt.alloc(), item, number, in_register)? == wanted);
+        assert!(rt; answers_at(rt.alloc(), &[], item, number, in_register)? == wanted);
+    }
+    Ok(())
+}
+
+#[test]
+fn pairs_that_are_asked_for_sit_in_registers(rt: HostRuntime) -> Result<(), Fail> {
+    let asked = [pair(3)];
+    for (item, number, in_register, wanted) in [
+        // before the copy that gives it, and behind it
+        (1, 3, 12, (0, 0, 0, 0)),
+        (2, 3, 12, (1, 0, 1, 1)),
+        (5, 3, 10, (1, 0, 1, 1)),
+        (5, 3, 14, (0, 1, 0, 0)),
+        // one that a mark asks for, and one that nothing does
+        (5, 1, 14, (0, 1, 1, 0)),
+        (5, 4, 14, (0, 1, 9, 0)),
+    ] {
+        let answers = answers_at(rt.alloc(), asked.as_slice(), item, number, in_register)?;
+        assert!(rt; answers == wanted);
     }
     Ok(())
 }
