@@ -1,5 +1,5 @@
 -- What a walk over the items of a block keeps: classes that stand for where tokens come from.
-use Rattle.std.specs.Prelude.{◌≡◌, ℕ, zero, suc, ◌+◌, ◌-◌, ◌*◌, ◌/◌, ◌%◌, ◌<◌, List, length, map, cond, nat_lt, Option, None, Some, slice_get, slice_index}
+use Rattle.std.specs.Prelude.{◌≡◌, ℕ, zero, suc, ◌+◌, ◌-◌, ◌*◌, ◌/◌, ◌%◌, ◌<◌, ◌≤◌, List, length, map, cond, nat_lt, Option, None, Some, slice_get, slice_index}
 use Rattle.mir_func.specs.declared.entry.OperandPair.{OperandPair}
 use Rattle.mir_func.specs.declared.item.Item.{Item}
 use Rattle.mir_func.specs.Resolve.{resolve}
@@ -12,6 +12,7 @@ use Rattle.class_entries.specs.declared.tracked.Tracked.TheVariants.{Register}
 use Rattle.class_entries.specs.Entry.{thing}
 use Rattle.class_places.specs.declared.held.Held.{Held}
 use Rattle.class_places.specs.Held.{Holds}
+use Rattle.class_places.specs.Things.{AreThings, Indexes}
 use Rattle.class_solver.specs.declared.flow.Source.{Source}
 use Rattle.class_solver.specs.declared.flow.Source.TheVariants.{Was, New, Nameless}
 use Rattle.class_solver.specs.declared.flow.Change.{Change}
@@ -28,6 +29,16 @@ pub record AreTracked (things : List Tracked) : Type 0 where
 pub record AreOwn (n : ℕ) (settled : List ℕ) : Type 0 where
   pub count : length settled ≡ n
   pub each : (i : ℕ) → i < n → slice_index settled i ≡ suc i
+
+-- what blocks are walked over with: fewer things than memory could hold, the variables among them, each thing where the index has
+-- it, and a class of its own for each
+pub record IsTracking (t : Tracking) : Type 0 where
+  pub few : length t.things.now < 4294967295
+  pub tracked : AreTracked t.things.now
+  pub things : AreThings t.variables.now t.things.now
+  pub variables : length t.variables.now ≤ length t.things.now
+  pub index : Indexes t.things.now t.index.now
+  pub own : AreOwn (length t.things.now) t.settled.now
 
 -- the source that a class stands for, where n things are tracked: 0 for none, then the things, and then new tokens, 32 for each
 -- item of the block

@@ -4,11 +4,11 @@ ghost use Rattle.std.specs.Prelude.{◌≡◌, ◌<◌, ◌≤◌, Some, All, If
 ghost use Rattle.mir_func.specs.Resolve.{resolve};
 ghost use Rattle.class_paths.specs.Classes.{Classes, KnowsItem};
 ghost use Rattle.class_entries.specs.Entry.{thing as name_of};
-ghost use Rattle.class_places.specs.Things.{AreThings, Indexes};
+ghost use Rattle.class_places.specs.Things.{AreThings};
 ghost use Rattle.class_places.specs.Held.{PLACES, Holds, Passes, pair_class as pair_class_of};
 ghost use Rattle.class_solver.specs.Joining.{AreWithin};
 ghost use Rattle.machine_values.specs.steps.Flowing.{HasForm, Tells};
-ghost use Rattle.machine_values.specs.Walking.{AreTracked, decoded, new_of, Walked, AreChanges, AreOwn};
+ghost use Rattle.machine_values.specs.Walking.{IsTracking, AreTracked, decoded, new_of, Walked, AreChanges, AreOwn};
 
 use class_entries::tracked::Tracked;
 use class_places::held::{Held, slot_place};
@@ -58,12 +58,7 @@ pub fn own_classes(alloc: Global, count: usize) -> Result<Vec<usize>, AllocError
 
 /// The changes of a block of these items.
 pub fn changes_of(alloc: Global, tracking: &Tracking, items: &[Item]) -> Result<Changes, AllocError>
-    requires few { length tracking.now.things.now < 4294967295 }
-    requires tracked { AreTracked tracking.now.things.now }
-    requires things { AreThings tracking.now.variables.now tracking.now.things.now }
-    requires variables { length tracking.now.variables.now ≤ length tracking.now.things.now }
-    requires index { Indexes tracking.now.things.now tracking.now.index.now }
-    requires own { AreOwn (length tracking.now.things.now) tracking.now.settled.now }
+    requires tracking { IsTracking tracking.now }
     requires knows { All (λ i. KnowsItem (map name_of tracking.now.things.now) (resolve tracking.now.subs.now) i.kind)
         items.now }
     ensures tells { IfOk result (λ changes.

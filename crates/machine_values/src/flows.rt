@@ -1,16 +1,14 @@
 //! The flows of the blocks of a function.
 
-ghost use Rattle.std.specs.Prelude.{◌≡◌, ◌≤◌, ◌<◌, ℕ, IfOk, All, length, map, suc, slice_get};
+ghost use Rattle.std.specs.Prelude.{◌≡◌, ◌<◌, IfOk, length, map, slice_get};
 ghost use Rattle.mir_func.specs.Resolve.{resolve};
 ghost use Rattle.mir_func.specs.Sound.{AllItems, ids_of};
 ghost use Rattle.mir_func.specs.Successors.{ways};
 ghost use Rattle.class_paths.specs.Classes.{KnowsItem};
 ghost use Rattle.class_entries.specs.Entry.{thing};
-ghost use Rattle.class_places.specs.Things.{AreThings, Indexes};
-ghost use Rattle.class_solver.specs.Joining.{AreWithin};
-ghost use Rattle.machine_values.specs.steps.Flowing.{HasForm, Tells, next_id};
-ghost use Rattle.machine_values.specs.Walking.{AreTracked, AreOwn};
-ghost use Rattle.machine_values.specs.steps.Ways.{enter_by, FlowsBelow, IsFlowAt};
+ghost use Rattle.machine_values.specs.steps.Flowing.{next_id};
+ghost use Rattle.machine_values.specs.Walking.{IsTracking};
+ghost use Rattle.machine_values.specs.steps.Ways.{FlowsBelow, IsFlowAt};
 
 use crate::changes::{Tracking, changes_of};
 use crate::ways::{Indices, ways_of};
@@ -46,12 +44,7 @@ fn flow_of(
     b: usize,
 ) -> Result<Flow, AllocError>
     requires block { b < length blocks.now }
-    requires few { length tracking.now.things.now < 4294967295 }
-    requires tracked { AreTracked tracking.now.things.now }
-    requires things { AreThings tracking.now.variables.now tracking.now.things.now }
-    requires variables { length tracking.now.variables.now ≤ length tracking.now.things.now }
-    requires index { Indexes tracking.now.things.now tracking.now.index.now }
-    requires own { AreOwn (length tracking.now.things.now) tracking.now.settled.now }
+    requires tracking { IsTracking tracking.now }
     requires knows { AllItems
         (λ i. KnowsItem (map thing tracking.now.things.now) (resolve tracking.now.subs.now) i.kind) blocks.now }
     ensures { IfOk result (IsFlowAt tracking.now indices.now blocks.now b) }
@@ -69,12 +62,7 @@ pub fn flows_of(
     indices: &Indices,
     blocks: &[Block],
 ) -> Result<Vec<Flow>, AllocError>
-    requires few { length tracking.now.things.now < 4294967295 }
-    requires tracked { AreTracked tracking.now.things.now }
-    requires things { AreThings tracking.now.variables.now tracking.now.things.now }
-    requires variables { length tracking.now.variables.now ≤ length tracking.now.things.now }
-    requires index { Indexes tracking.now.things.now tracking.now.index.now }
-    requires own { AreOwn (length tracking.now.things.now) tracking.now.settled.now }
+    requires tracking { IsTracking tracking.now }
     requires knows { AllItems
         (λ i. KnowsItem (map thing tracking.now.things.now) (resolve tracking.now.subs.now) i.kind) blocks.now }
     ensures { IfOk result (λ flows. FlowsBelow tracking.now indices.now blocks.now (length blocks.now) flows.items) }

@@ -6,7 +6,7 @@ ghost use Rattle.mir_func.specs.Resolve.{resolve};
 ghost use Rattle.mir_func.specs.Sound.{AllItems};
 ghost use Rattle.mir_func.specs.SoundFrame.{HasPhysical};
 ghost use Rattle.class_paths.specs.Classes.{KnowsItem};
-ghost use Rattle.class_entries.specs.declared.tracked.Tracked.TheVariants.{Part, Number};
+ghost use Rattle.class_entries.specs.declared.tracked.Tracked.TheVariants.{Pair, Part, Number};
 ghost use Rattle.class_entries.specs.Entry.{thing};
 ghost use Rattle.class_places.specs.Things.{AreThings};
 ghost use Rattle.machine_values.specs.Gathering.{IsGathered, Grows, HasOffsets, HasPart, KnowsPassed};
@@ -17,6 +17,7 @@ use crate::gather::Gathered;
 use class_entries::tracked::{Tracked, TrackedItems};
 use lists::List;
 use mir_func::block::Block;
+use mir_func::entry::OperandPair;
 use mir_func::item::{Item, ItemKind};
 use mir_func::variable::VarId;
 use rv64_instr::reg::physical;
@@ -166,12 +167,26 @@ fn note_blocks(
     Ok(())
 }
 
+/// Adds pairs that a caller asks for.
+fn note_pairs(gathered: &mut Gathered, pairs: &[OperandPair]) -> Result<(), AllocError>
+    requires gathered { IsGathered gathered.old }
+    ensures gathered { OnOk result (IsGathered gathered.new) }
+    ensures grows { OnOk result (Grows gathered.old.things gathered.new.things) }
+    ensures has { OnOk result (All (λ q. Contains gathered.new.things (Pair q)) pairs.now) }
+{
+    for pair in pairs {
+        gathered.note_thing(Tracked::Pair(*pair))?;
+    }
+    Ok(())
+}
+
 /// What is tracked in a function of these blocks: first the parts of variables that its marks assign to, then registers
-/// but x0 and x2, and then slots, pairs and numbers that its items pass on, each once.
+/// but x0 and x2, the pairs that are asked for, and then slots, pairs and numbers that its items pass on, each once.
 pub fn things_of(
     alloc: Global,
     blocks: &[Block],
     subs: &Substitutions,
+    asked: &[OperandPair],
 ) -> Result<Things, AllocError>
     requires offsets { AllItems (λ i. HasOffsets i.kind) blocks.now }
     requires physical { AllItems (λ i. HasPhysical i.kind) blocks.now }
@@ -180,11 +195,13 @@ pub fn things_of(
     ensures fewer { IfOk result (λ t. length t.variables ≤ length t.things) }
     ensures knows { IfOk result (λ t. AllItems
         (λ i. KnowsItem (map thing t.things) (resolve subs.now) i.kind) blocks.now) }
+    ensures asked { IfOk result (λ t. All (λ q. Contains t.things (Pair q)) asked.now) }
 {
     let mut gathered = Gathered::new(alloc);
     let variables = parts_of(alloc, &mut gathered, blocks)?;
     add_registers(&mut gathered)?;
     gathered.note_thing(Tracked::Number(0))?;
+    note_pairs(&mut gathered, asked)?;
     note_blocks(&mut gathered, subs, blocks)?;
     Ok(Things {
         variables,

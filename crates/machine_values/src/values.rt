@@ -1,9 +1,10 @@
 //! The entries of all blocks of a function with its frame.
 
-ghost use Rattle.std.specs.Prelude.{◌≡◌, ◌≤◌, ◌<◌, ◌+◌, ◌*◌, ℕ, IfOk, length, map, slice_get, Some};
+ghost use Rattle.std.specs.Prelude.{◌≡◌, ◌≤◌, ◌<◌, ◌+◌, ◌*◌, ℕ, IfOk, length, map, slice_get, All, Contains, Some};
 ghost use Rattle.mir_func.specs.Graph.{framed_program};
 ghost use Rattle.mir_func.specs.Resolve.{resolve};
 ghost use Rattle.class_entries.specs.declared.entry.BlockEntry.{BlockEntry};
+ghost use Rattle.class_entries.specs.declared.tracked.Tracked.TheVariants.{Pair};
 ghost use Rattle.class_entries.specs.Entry.{thing, IsEntry};
 ghost use Rattle.class_paths.specs.Classes.{KnowsItem};
 ghost use Rattle.class_paths.specs.Wanted.{AreThingsOf};
@@ -22,6 +23,7 @@ use class_entries::tracked::{Tracked, TrackedItems};
 use class_places::index::index_of;
 use class_solver::solve::{Solved, solve as solve_flows};
 use mir_func::block::Block;
+use mir_func::entry::OperandPair;
 use mir_func::framed::Framed;
 use mir_func::variable::VarId;
 use std::alloc::{AllocError, Global};
@@ -81,7 +83,7 @@ fn solve_over(
 }
 
 /// What is known at the start of each block of a function with its frame, over all paths. Marks see through the
-/// substitutions. Memory is all that it may run out of.
+/// substitutions. Of pairs those are tracked that marks ask for. Memory is all that it may run out of.
 pub fn solve(
     alloc: Global,
     framed: &Framed,
@@ -96,8 +98,28 @@ pub fn solve(
     ensures for_all { IfOk result (λ v. length v.entries ≡ length framed.now.blocks) }
     ensures sweeps { IfOk result (λ v. v.sweeps ≤ 2 * length v.things * length framed.now.blocks + 1) }
 {
+    solve_asking(alloc, framed, subs, &[])
+}
+
+/// The same, and these pairs are tracked too.
+pub fn solve_asking(
+    alloc: Global,
+    framed: &Framed,
+    subs: &Substitutions,
+    asked: &[OperandPair],
+) -> Result<MachineValues, AllocError>
+    ensures asked { IfOk result (λ v. All (λ q. Contains v.things (Pair q)) asked.now) }
+    ensures things { IfOk result (λ v. AreThings v.variables v.things) }
+    ensures fewer { IfOk result (λ v. length v.variables ≤ length v.things) }
+    ensures all { IfOk result (λ v. AreThingsOf (framed_program framed.now.blocks (resolve subs.now))
+        (map thing v.things)) }
+    ensures entries { IfOk result (λ v. (b : ℕ) (e : BlockEntry) → slice_get v.entries b ≡ Some e →
+        IsEntry (framed_program framed.now.blocks (resolve subs.now)) v.things b e) }
+    ensures for_all { IfOk result (λ v. length v.entries ≡ length framed.now.blocks) }
+    ensures sweeps { IfOk result (λ v. v.sweeps ≤ 2 * length v.things * length framed.now.blocks + 1) }
+{
     let blocks = framed.blocks.as_slice();
-    let Things { variables, things } = things_of(alloc, blocks, subs)?;
+    let Things { variables, things } = things_of(alloc, blocks, subs, asked)?;
     if things.len() >= MOST || blocks.len() >= MOST {
         return Err(AllocError);
     }

@@ -26,7 +26,7 @@ use transfer_emit::values::Values;
 
 /// Whether the value of an operand of the instruction with a debug instruction number sits in a place at a point: some
 /// path leads there, and on every path to it both have one token. None exactly where the pair isn't tracked: of all
-/// pairs those are that marks ask for.
+/// pairs those are that marks ask for, and those that `machine_values::values::solve_asking` was given.
 pub fn holds(values: &Values, point: &Point, pair: &OperandPair, place: &Place) -> Option<bool>
     ensures tracked { (blocks : List Block) → IsPointOf blocks values.now point.now →
         IsSome result ↔ Contains values.now.things.now (Pair pair.now) }

@@ -65,8 +65,12 @@ fn operands(alloc: Global, to: u32, from: u32) -> Result<Operands, Fail> {
     Ok(operands)
 }
 
-fn copy(alloc: Global, to: u32, from: u32) -> Result<Item, Fail> {
-    code(Op::Copy, operands(alloc, to, from)?, None)
+fn copy(alloc: Global, to: u32, from: u32, number: u32) -> Result<Item, Fail> {
+    code(
+        Op::Copy,
+        operands(alloc, to, from)?,
+        Some(DebugNumber(number)),
+    )
 }
 
 fn add_one(alloc: Global, to: u32, from: u32, number: u32) -> Result<Item, Fail> {
@@ -83,10 +87,10 @@ fn add_one(alloc: Global, to: u32, from: u32, number: u32) -> Result<Item, Fail>
 fn items(alloc: Global) -> Result<Items, Fail> {
     let mut items = Items::new(alloc);
     items.push(item(ItemKind::Mark(variable(4), MarkValue::At(register(10)?))))?;
-    items.push(copy(alloc, 12, 10)?)?;
+    items.push(copy(alloc, 12, 10, 3)?)?;
     items.push(add_one(alloc, 13, 10, 1)?)?;
     items.push(item(ItemKind::Mark(variable(5), MarkValue::Pair(pair(1)))))?;
-    items.push(copy(alloc, 14, 13)?)?;
+    items.push(copy(alloc, 14, 13, 4)?)?;
     items.push(code(Op::PseudoRet, Operands::new(alloc), None)?)?;
     Ok(items)
 }

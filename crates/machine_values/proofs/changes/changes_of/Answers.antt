@@ -7,12 +7,12 @@ pass_items-requires-clause-walked c =
     let t = c.args.tracking.now in
     record {
       class = own_classes t.things.now;
-      holds = c.in_ok-held.ensures.holds (own_classes t.things.now) (own_settles t.variables.now t.things.now c.requires.things c.requires.tracked
-          t.settled.now c.requires.own);
-      tells = own_tell t.variables.now t.things.now c.requires.things c.requires.tracked (resolve t.subs.now);
+      holds = c.in_ok-held.ensures.holds (own_classes t.things.now) (own_settles t.variables.now t.things.now c.requires.tracking.things c.requires.tracking.tracked
+          t.settled.now c.requires.tracking.own);
+      tells = own_tell t.variables.now t.things.now c.requires.tracking.things c.requires.tracking.tracked (resolve t.subs.now);
     }
 
 pub returns-clause-tells : goal.returns-clause-tells
 returns-clause-tells c =
-    changes_are c.args.tracking.now c.args.items.now c.pass_items.new.held c.changes.result c.requires.tracked c.in_ok-pass_items.ensures.walked
+    changes_are c.args.tracking.now c.args.items.now c.pass_items.new.held c.changes.result c.requires.tracking.tracked c.in_ok-pass_items.ensures.walked
     c.changes.ensures.changes c.changes.ensures.within

@@ -10,7 +10,7 @@ use Rattle.class_entries.specs.Entry.{thing, IsEntry}
 use Rattle.machine_values.specs.steps.Framing.{AreBlocks}
 use Rattle.machine_values.proofs.Framing.{are_blocks}
 use Rattle.machine_values.proofs.Solving.{things_are}
-use Rattle.machine_values.proofs.values.solve.Goals as goal
+use Rattle.machine_values.proofs.values.solve_asking.Goals as goal
 
 pub solve_over-requires-clause-blocks : goal.solve_over-requires-clause-blocks
 solve_over-requires-clause-blocks c = subst AreBlocks (sym c.as_slice-blocks.ensures) (are_blocks _ c.framed.invariant)
