@@ -13,5 +13,3 @@ pub mod name;
 pub mod output;
 pub mod print;
 mod section;
-#[cfg(test)]
-mod tests;

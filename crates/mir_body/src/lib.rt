@@ -10,6 +10,4 @@ pub mod closing;
 pub mod frame;
 pub mod limits;
 pub mod met;
-#[cfg(test)]
-mod tests;
 pub mod variables;

@@ -14,5 +14,3 @@ mod name;
 pub mod stack;
 mod stream;
 mod substitutions;
-#[cfg(test)]
-mod tests;

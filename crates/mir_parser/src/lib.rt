@@ -11,5 +11,3 @@ pub mod error;
 pub mod objects;
 pub mod parse;
 pub mod program;
-#[cfg(test)]
-mod tests;

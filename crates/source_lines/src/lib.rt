@@ -12,6 +12,4 @@ pub mod names;
 pub mod places;
 pub mod rows;
 pub mod scope_line;
-#[cfg(test)]
-mod tests;
 pub mod unit_file;

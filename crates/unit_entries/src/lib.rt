@@ -4,8 +4,6 @@
 #![tactic(auto)]
 
 pub mod function;
-#[cfg(test)]
-mod tests;
 pub mod types;
 pub mod unit;
 pub mod variable;

@@ -7,5 +7,3 @@
 pub mod group;
 pub mod laws;
 pub mod location;
-#[cfg(test)]
-mod tests;

@@ -4,9 +4,9 @@ ghost use Rattle.std.specs.Prelude.{IfOk, ◌≤◌};
 ghost use Rattle.mir_body.specs.Body.{IsCounted};
 ghost use Rattle.mir_body.specs.Limits.{MAX_ITEMS};
 
-use crate::body::Body;
-use crate::closing::{all_met, blocks_go_to};
-use crate::met::Met;
+use mir_body::body::Body;
+use mir_body::closing::{all_met, blocks_go_to};
+use mir_body::met::Met;
 use mir_func::item::ItemKind;
 use mir_func::location::Loc;
 use numbers::code::{BlockId, DebugNumber, SlotId};

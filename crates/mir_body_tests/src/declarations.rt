@@ -1,6 +1,6 @@
 //! Declarations, and what is refused of them.
 
-use crate::declarations::{DeclarationError, Declarations, read_declarations};
+use mir_declarations::declarations::{DeclarationError, Declarations, read_declarations};
 use mir_frame::frame::documents;
 use refusal::first::Refusal;
 use refusal::kind::RefusalKind;

@@ -1,7 +1,5 @@
 //! Tests: the marks of a function, and a program without functions.
 
-use crate::unit::make_unit;
-use crate::variables::variables;
 use lists::List;
 use meta_reader::metadata::read_meta;
 use mir_func::block::{Block, Blocks};
@@ -12,6 +10,8 @@ use mir_func::variable::{Fragment, MarkValue, VarId};
 use numbers::code::BlockId;
 use numbers::metadata::NodeId;
 use std::test::Fail;
+use unit_entries::unit::make_unit;
+use unit_entries::variables::variables;
 
 fn mark(node: u32, offset: u32) -> Item {
     Item {

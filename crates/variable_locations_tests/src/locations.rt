@@ -1,8 +1,5 @@
 //! Tests: parts of variables, and the locations by their places.
 
-use crate::group::groups;
-use crate::laws::wanted_locations_give_parts;
-use crate::location::location;
 use dwarf_loclists::range::{Location, Part, Parts};
 use mir_func::variable::{Fragment, VarId};
 use numbers::code::SlotId;
@@ -10,6 +7,9 @@ use numbers::metadata::NodeId;
 use rv64_instr::place::Place;
 use std::alloc::Global;
 use std::test::Fail;
+use variable_locations::group::groups;
+use variable_locations::laws::wanted_locations_give_parts;
+use variable_locations::location::location;
 
 fn whole(node: u32) -> VarId {
     VarId {

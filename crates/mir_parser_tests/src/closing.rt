@@ -1,26 +1,23 @@
 //! Whole texts, and what is refused where a function closes or behind all functions.
 
-use crate::error::ParseError;
-use crate::program::{Program, read_program};
-use refusal::first::Refusal;
+use crate::told::{read, refused};
+use mir_parser::program::read_program;
 use refusal::kind::RefusalKind;
 use std::alloc::Global;
 use std::test::Fail;
 
-/// The program of a text, or its refusal.
-fn read(alloc: Global, text: &str) -> Result<Result<Program, Refusal>, Fail> {
+/// How many blocks each function of a text has.
+fn block_counts(alloc: Global, text: &str) -> Result<Vec<usize>, Fail> {
     let bytes = text.as_bytes();
     if bytes.len() >= 1 << 31 {
-        return Ok(Err(Refusal {
-            line: 0,
-            kind: RefusalKind::TooMany,
-        }));
+        return Err(Fail::from("a text of this size"));
     }
-    match read_program(alloc, bytes) {
-        Ok(program) => Ok(Ok(program)),
-        Err(ParseError::Refused(refusal)) => Ok(Err(refusal)),
-        Err(ParseError::Memory) => Err(Fail::from(ParseError::Memory)),
+    let program = read_program(alloc, bytes)?;
+    let mut counts = Vec::new(alloc);
+    for parsed in program.functions.as_slice() {
+        counts.push(parsed.func.blocks.len())?;
     }
+    Ok(counts)
 }
 
 #[test]
@@ -31,16 +28,8 @@ fn reads_two_functions(rt: HostRuntime) -> Result<(), Fail> {
         bb.1:\n    $x10 = ADDI %stack.0, 8\n\
         bb.2:\n    PseudoRET implicit $x10\n...\n\
         ---\nname: g\nbody: |\n  bb.0:\n    PseudoRET\n...\n";
-    let Ok(program) = read(rt.alloc(), text)? else {
-        assert!(rt; false, "the text is refused");
-        return Ok(());
-    };
-    assert_eq!(rt; program.functions.len(), 2);
-    let mut blocks = 3;
-    for parsed in program.functions.as_slice() {
-        assert_eq!(rt; parsed.func.blocks.len(), blocks);
-        blocks = 1;
-    }
+    let counts = block_counts(rt.alloc(), text)?;
+    assert_eq!(rt; counts.as_slice(), [3, 1].as_slice());
     Ok(())
 }
 
@@ -78,12 +67,7 @@ fn refuses_where_a_function_closes(rt: HostRuntime) -> Result<(), Fail> {
             RefusalKind::BadDocument,
         ),
     ] {
-        let Err(refusal) = read(rt.alloc(), text)? else {
-            assert!(rt; false, "the text is read");
-            return Ok(());
-        };
-        assert_eq!(rt; refusal.line, line);
-        assert_eq!(rt; refusal.kind, kind);
+        assert_eq!(rt; read(rt.alloc(), text)?, refused(line, kind));
     }
     Ok(())
 }

@@ -1,8 +1,8 @@
 //! Tests: a program without functions.
 
-use crate::line_table::line_table;
 use lists::List;
 use meta_reader::metadata::read_meta;
+use source_lines::line_table::line_table;
 use std::test::Fail;
 
 #[test]

@@ -2,12 +2,12 @@
 
 ghost use Rattle.std.specs.Prelude.{◌<◌};
 
-use crate::laws::one_reading;
-use crate::output::{
+use compiled_text::laws::one_reading;
+use compiled_text::output::{
     Bytes, Implicit, Implicits, ItemLine, Line, Lines, ListedBlock, ListedFunction,
     ListedFunctions, ListedObject, ListedVariable, Output, SkipLine,
 };
-use crate::print::{print_listing, print_output};
+use compiled_text::print::{print_listing, print_output};
 use lists::List;
 use mir_func::entry::{Entry, OperandPair};
 use mir_func::item::{Item, ItemKind};

@@ -1,0 +1,5 @@
+//! Tests of the text of outputs.
+#![tactic(auto)]
+
+#[cfg(test)]
+mod outputs;
