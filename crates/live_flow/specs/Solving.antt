@@ -12,8 +12,8 @@ use Rattle.live_flow.specs.Walk.{live_from}
 use Rattle.live_flow.specs.Liveness.{has_at_start}
 
 -- a block of these, whose items name only these slots
-pub record IsKnownBlock (slots : List ℕ) (blocks : List Block) (block : ℕ) : Type 0 where
-  pub slots : AllItems (λ i. SlotsIn slots i.kind) blocks
+pub record IsKnownBlock (known : List ℕ) (blocks : List Block) (block : ℕ) : Type 0 where
+  pub slots : AllItems (λ i. SlotsIn known i.kind) blocks
   pub inside : block < length blocks
 
 -- what is in the sets is live

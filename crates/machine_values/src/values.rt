@@ -7,9 +7,9 @@ ghost use Rattle.class_entries.specs.declared.entry.BlockEntry.{BlockEntry};
 ghost use Rattle.class_entries.specs.declared.tracked.Tracked.TheVariants.{Pair};
 ghost use Rattle.class_entries.specs.Entry.{thing, IsEntry};
 ghost use Rattle.class_paths.specs.Classes.{KnowsItem};
-ghost use Rattle.class_paths.specs.Wanted.{AreThingsOf};
 ghost use Rattle.mir_func.specs.Sound.{AllItems};
 ghost use Rattle.machine_values.specs.steps.Framing.{AreBlocks};
+ghost use Rattle.machine_values.specs.Known.{AreMachineValues};
 ghost use Rattle.machine_values.specs.Walking.{AreTracked};
 ghost use Rattle.class_places.specs.Things.{AreThings};
 
@@ -89,14 +89,7 @@ pub fn solve(
     framed: &Framed,
     subs: &Substitutions,
 ) -> Result<MachineValues, AllocError>
-    ensures things { IfOk result (λ v. AreThings v.variables v.things) }
-    ensures fewer { IfOk result (λ v. length v.variables ≤ length v.things) }
-    ensures all { IfOk result (λ v. AreThingsOf (framed_program framed.now.blocks (resolve subs.now))
-        (map thing v.things)) }
-    ensures entries { IfOk result (λ v. (b : ℕ) (e : BlockEntry) → slice_get v.entries b ≡ Some e →
-        IsEntry (framed_program framed.now.blocks (resolve subs.now)) v.things b e) }
-    ensures for_all { IfOk result (λ v. length v.entries ≡ length framed.now.blocks) }
-    ensures sweeps { IfOk result (λ v. v.sweeps ≤ 2 * length v.things * length framed.now.blocks + 1) }
+    ensures { IfOk result (AreMachineValues framed.now.blocks (resolve subs.now)) }
 {
     solve_asking(alloc, framed, subs, &[])
 }
@@ -108,15 +101,8 @@ pub fn solve_asking(
     subs: &Substitutions,
     asked: &[OperandPair],
 ) -> Result<MachineValues, AllocError>
+    ensures values { IfOk result (AreMachineValues framed.now.blocks (resolve subs.now)) }
     ensures asked { IfOk result (λ v. All (λ q. Contains v.things (Pair q)) asked.now) }
-    ensures things { IfOk result (λ v. AreThings v.variables v.things) }
-    ensures fewer { IfOk result (λ v. length v.variables ≤ length v.things) }
-    ensures all { IfOk result (λ v. AreThingsOf (framed_program framed.now.blocks (resolve subs.now))
-        (map thing v.things)) }
-    ensures entries { IfOk result (λ v. (b : ℕ) (e : BlockEntry) → slice_get v.entries b ≡ Some e →
-        IsEntry (framed_program framed.now.blocks (resolve subs.now)) v.things b e) }
-    ensures for_all { IfOk result (λ v. length v.entries ≡ length framed.now.blocks) }
-    ensures sweeps { IfOk result (λ v. v.sweeps ≤ 2 * length v.things * length framed.now.blocks + 1) }
 {
     let blocks = framed.blocks.as_slice();
     let Things { variables, things } = things_of(alloc, blocks, subs, asked)?;
