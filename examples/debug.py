@@ -122,6 +122,8 @@ SHOW = """
 import gdb
 gdb.execute("set pagination off")
 gdb.execute("set confirm off")
+# qemu tells gdb nothing of address 0, where the first function is: so gdb reads code from the file
+gdb.execute("set trust-readonly-sections on")
 gdb.execute("break *%d")
 gdb.execute("continue", to_string=True)
 low, high, before = %d, %d, None
