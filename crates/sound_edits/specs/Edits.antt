@@ -1,0 +1,49 @@
+-- Blocks from which copies go, in which phis are put before copies, and in which code gets another number or none.
+use Rattle.std.specs.Prelude.{◌≡◌, ℕ, List, [], ◌∷◌, Option, Some}
+use Rattle.rv64_instr.specs.declared.place.Place.TheVariants.{Register}
+use Rattle.rv64_instr.specs.Instruction.{Instruction}
+use Rattle.rv64_instr.specs.Row.{Moves, row_of}
+use Rattle.mir_func.specs.declared.position.Origin.{Origin}
+use Rattle.mir_func.specs.declared.position.Origin.TheVariants.{Before}
+use Rattle.mir_func.specs.declared.location.Loc.TheVariants.{Absent}
+use Rattle.mir_func.specs.declared.block.Block.{Block}
+use Rattle.mir_func.specs.declared.item.Item.{Item}
+use Rattle.mir_func.specs.declared.item.ItemKind.{ItemKind}
+use Rattle.mir_func.specs.declared.item.ItemKind.TheVariants.{Code, Mark, Phi}
+use Rattle.mir_func.specs.Function.{Function}
+use Rattle.mir_func.specs.Sound.{items_of, NumbersOnce, IsSound}
+use Rattle.mir_meaning.specs.Align.{position_of}
+
+-- the same but for the number of code
+pub data SameButNumber : ItemKind → ItemKind → Type 0 where
+  same_code : {i : Instruction} {n m : Option ℕ} → SameButNumber (Code i n) (Code i m)
+  same_kind : {k : ItemKind} → SameButNumber k k
+
+-- code that moves one register into another
+abbrev pub IsMove : ItemKind → Type 0
+IsMove (Code i n) = (rd : ℕ) × (s : ℕ) × (row_of i ≡ Moves rd s)
+IsMove (Mark v m) = ⊥
+IsMove (Phi p k) = ⊥
+
+-- a phi of a register that stands before what stands there, with no debug location
+abbrev pub phi_before : (k s : ℕ) → Origin → Item
+phi_before k s o = record { kind = Phi (Some (Register s)) k; origin = Before (position_of o); loc = Absent }
+
+-- the items of a block
+pub data AreEdited : List Item → List Item → Type 0 where
+  no_items : AreEdited [] []
+  stays : {x y : Item} {xs ys : List Item} → y.origin ≡ x.origin → SameButNumber x.kind y.kind → AreEdited xs ys → AreEdited (x ∷ xs) (y ∷ ys)
+  with_phi : {x y : Item} {xs ys : List Item} (k s : ℕ) → IsMove x.kind → y.origin ≡ x.origin → SameButNumber x.kind y.kind → AreEdited xs ys →
+      AreEdited (x ∷ xs) (phi_before k s x.origin ∷ y ∷ ys)
+  goes : {x : Item} {xs ys : List Item} → IsMove x.kind → AreEdited xs ys → AreEdited (x ∷ xs) ys
+
+-- the blocks of a function
+pub data AreBlocksEdited : List Block → List Block → Type 0 where
+  no_blocks : AreBlocksEdited [] []
+  next_block : {a b : Block} {fs gs : List Block} → b.id ≡ a.id → b.silent ≡ a.silent → AreEdited a.items b.items → AreBlocksEdited fs gs →
+      AreBlocksEdited (a ∷ fs) (b ∷ gs)
+
+-- a function with such blocks is sound where no number stands on code twice
+abbrev pub EditsKeepSound : Type 0
+EditsKeepSound = (old new : Function) → IsSound old → new.slots ≡ old.slots → new.objects ≡ old.objects → AreBlocksEdited old.blocks new.blocks →
+    NumbersOnce (items_of new.blocks) → IsSound new
