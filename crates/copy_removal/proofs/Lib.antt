@@ -1,0 +1,13 @@
+pub mod Around
+pub mod Taken
+pub mod Others
+pub mod Copies
+pub mod Under
+pub mod Found
+pub mod TakeOut
+pub mod ToPhi
+pub mod ToCode
+pub mod Chain
+pub mod Selfed
+pub mod Stores
+pub mod Follows
