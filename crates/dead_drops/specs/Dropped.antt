@@ -1,0 +1,35 @@
+-- Code loses its number, and nothing gives it any more.
+use Rattle.std.specs.Prelude.{◌≡◌, ℕ, Option, Some, None}
+use Rattle.rv64_instr.specs.Instruction.{Instruction}
+use Rattle.mir_func.specs.declared.position.Origin.{Origin}
+use Rattle.mir_func.specs.declared.location.Loc.{Loc}
+use Rattle.mir_func.specs.declared.item.Item.{Item}
+use Rattle.mir_func.specs.declared.item.ItemKind.{ItemKind}
+use Rattle.mir_func.specs.declared.item.ItemKind.TheVariants.{Code, Mark, Phi}
+use Rattle.mir_func.specs.Sound.{number_of}
+use Rattle.follow_law.specs.Rule.{item}
+use Rattle.salvage.proofs.Edits.{Edits}
+
+module _ (k : ℕ) where
+  -- it gives another number, or none
+  abbrev pub IsUnlike : ItemKind → Type 0
+  IsUnlike kind = (m : ℕ) → number_of kind ≡ Some m → k ≡ m → ⊥
+
+  -- an item stays as it is, or loses number k
+  pub data DropPair : Item → Item → Type 0 where
+    elsewhere : {x : Item} → IsUnlike x.kind → DropPair x x
+    drops : {i : Instruction} {p : Origin} {l : Loc} → DropPair (item (Code i (Some k)) p l) (item (Code i None) p l)
+
+  -- and a phi of nothing may be put
+  pub data DropPut : Item → Type 0 where
+    puts : {p : Origin} {l : Loc} → DropPut (item (Phi None k) p l)
+
+  abbrev pub drop_edits : Edits
+  drop_edits = record {
+    Stage = Unit {0};
+    entry = λ n. tt;
+    IsOver = λ a. Unit {0};
+    Pair = λ a b x y. DropPair x y;
+    Out = λ a b x. ⊥;
+    Put = λ a b y. DropPut y;
+  }
