@@ -1,0 +1,61 @@
+-- Runs of the simulator, and the runs of the machine of the definitions that they are.
+use Rattle.std.specs.Prelude.{◌≡◌, ℕ, List, ◌++◌, All}
+use Rattle.rv64_instr.specs.declared.start.CallEvent.{CallEvent}
+use Rattle.mir_meaning.specs.State.{Reply}
+use Rattle.code_layout.specs.Image.{Image}
+use Rattle.code_layout.specs.Machine.{Machine}
+use Rattle.code_layout.specs.MachineStep.{Comes, Continues, machine_step}
+use Rattle.code_words.specs.Laid.{LaidCode}
+use Rattle.rv_simulator.specs.declared.ending.Stepped.TheVariants.{Went}
+use Rattle.rv_simulator.specs.declared.hart.Hart.{Hart}
+use Rattle.rv_simulator.specs.Kept.{StandsFor}
+use Rattle.rv_simulator.specs.Running.{StepsOn, CallsOn}
+use Rattle.rv_simulator.specs.Shown.{ShowsCode}
+
+-- what is kept comes from one state to another by steps that go on
+pub data Runs (gives : CallEvent → Reply → Type 0) (c : LaidCode) (from : Hart) : Hart → Type 0 where
+  begins : Runs gives c from from
+  goes_on : {h now : Hart} → Runs gives c from h → StepsOn c Went h now → CallsOn gives c Went h now → Runs gives c from now
+
+-- an answer that was given to a call
+pub record WasGiven (gives : CallEvent → Reply → Type 0) (r : Reply) : Type 0 where
+  pub call : CallEvent
+  pub given : gives call r
+
+-- with these answers first in its script, the machine's next step from s goes to a state that what is kept now stands for, and leaves the
+-- rest of the script: none is taken, or one at a call, to which it was given
+pub record GoesTo (gives : CallEvent → Reply → Type 0) (image : Image) (taken rest : List Reply) (now : Hart) (s : Machine) : Type 0 where
+  pub to : Machine
+  pub goes : machine_step image s ≡ Continues to
+  pub stands : StandsFor now to
+  pub left : to.script ≡ rest
+  pub given : All (WasGiven gives) taken
+
+abbrev pub StepLeads : (gives : CallEvent → Reply → Type 0) → LaidCode → (h now : Hart) → List Reply → Type 0
+StepLeads gives c h now taken = (image : Image) (s : Machine) (rest : List Reply) → ShowsCode c image → StandsFor h s → s.script ≡ taken ++ rest →
+    GoesTo gives image taken rest now s
+
+-- the machine comes from s to a state that what is kept now stands for, and leaves the rest of its script. The answers that it
+-- took were given to calls
+pub record ComesTo (gives : CallEvent → Reply → Type 0) (image : Image) (answers rest : List Reply) (now : Hart) (s : Machine) : Type 0 where
+  pub to : Machine
+  pub comes : Comes image s to
+  pub stands : StandsFor now to
+  pub left : to.script ≡ rest
+  pub given : All (WasGiven gives) answers
+
+-- with these answers first in its script, the machine comes from each state that what was kept stands for to one that what is kept now
+-- stands for
+abbrev pub AnswersLead : (gives : CallEvent → Reply → Type 0) → LaidCode → (from now : Hart) → List Reply → Type 0
+AnswersLead gives c from now answers = (image : Image) (s : Machine) (rest : List Reply) → ShowsCode c image → StandsFor from s → s.script ≡ answers ++ rest →
+    ComesTo gives image answers rest now s
+
+-- A step of the simulator that goes on is one of the machine on each image that shows the code, with the answer to its call, if it makes one,
+-- as the first of the script.
+abbrev pub StepsAreTheMachines : (gives : CallEvent → Reply → Type 0) → Type 0
+StepsAreTheMachines gives = (c : LaidCode) (h now : Hart) → StepsOn c Went h now → CallsOn gives c Went h now →
+    (taken : List Reply) × StepLeads gives c h now taken
+
+-- A run of the simulator is one of the machine on each image that shows the code, with the answers to its calls as the script.
+abbrev pub RunsAreTheMachines : (gives : CallEvent → Reply → Type 0) → Type 0
+RunsAreTheMachines gives = (c : LaidCode) (from now : Hart) → Runs gives c from now → (answers : List Reply) × AnswersLead gives c from now answers
