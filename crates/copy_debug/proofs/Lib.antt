@@ -1,0 +1,4 @@
+pub mod Lines
+pub mod Becomes
+pub mod Entries
+pub mod Kept
