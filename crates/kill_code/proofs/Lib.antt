@@ -1,0 +1,4 @@
+mod Telling
+mod Onces
+mod Gathering
+mod Turns

@@ -1,0 +1,3 @@
+pub mod Bypassed
+pub mod Kill
+pub mod steps
