@@ -1,0 +1,6 @@
+pub mod Reaching
+pub mod Passing
+pub mod Fewer
+pub mod Becoming
+pub mod Losing
+pub mod Keeping

@@ -1,0 +1,19 @@
+-- What folding with kills keeps of debug items.
+use Rattle.std.specs.Prelude.{◌↔◌, List, Contains}
+use Rattle.mir_func.specs.declared.entry.Entry.{Entry}
+use Rattle.mir_func.specs.Function.{Function}
+use Rattle.mir_func.specs.Sound.{IsSound}
+use Rattle.follow_law.specs.declared.loss.Loss.{Loss}
+use Rattle.follow_law.specs.Change.{change}
+use Rattle.follow_law.specs.Debug.{KeepsItems}
+use Rattle.follow_law.specs.Order.{IsInOrder}
+use Rattle.fold_ways.specs.Leads.{lead}
+use Rattle.fold_kills.specs.Kills.{IsFoldedWithKills}
+use Rattle.fold_debug.specs.Lost.{all_lost}
+use Rattle.fold_debug.specs.Debug.{fold_debug}
+
+-- with all that is lost, in order, a function that is folded, with its kills, keeps the debug rule of folding
+abbrev pub FoldedKeepsItems : Type 0
+FoldedKeepsItems = (f g : Function) (subs : List Entry) (losses : List Loss) → IsSound f → (h : IsFoldedWithKills f g) → IsInOrder losses →
+    ((l : Loss) → Contains losses l ↔ Contains (all_lost h.folded.end h.was (lead f.blocks) f.blocks) l) →
+    KeepsItems fold_debug (change f subs g subs) losses

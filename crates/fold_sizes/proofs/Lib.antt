@@ -1,0 +1,4 @@
+mod Weights
+mod Gone
+mod Kinds
+mod Growing
