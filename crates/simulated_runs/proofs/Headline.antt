@@ -1,8 +1,7 @@
 -- The headline speaks of each state that the simulator comes to.
-use Rattle.std.proofs.Common.{◌≡◌, ◌⊎◌, ℕ, List, [], ◌++◌, Option, Some, true, refl, sym, ap, inl, inr}
+use Rattle.std.proofs.Common.{◌⊎◌, ℕ, List, [], Option, true, sym, inl, inr}
 use Rattle.std.specs.List.{All}
 use Rattle.std.proofs.lemmas.List.{append-nil}
-use Rattle.std.proofs.lemmas.List.Elements.{All-map}
 use Rattle.rv64_instr.specs.declared.place.Place.{Place}
 use Rattle.rv64_instr.specs.declared.start.CallEvent.{CallEvent}
 use Rattle.mir_func.specs.declared.entry.OperandPair.{OperandPair}
@@ -11,15 +10,13 @@ use Rattle.mir_func.specs.Function.{Function}
 use Rattle.mir_func.specs.Graph.{program_of}
 use Rattle.mir_meaning.specs.State.{State, Reply, IsReply}
 use Rattle.code_layout.specs.Headline.{Headline, StartsAt}
-use Rattle.code_layout.specs.HeadlineLaws.{HasCome, HasFailed}
-use Rattle.code_layout.specs.Image.{CodeLine, Image, line_at}
-use Rattle.code_layout.specs.Machine.{Machine, machine_start}
+use Rattle.code_layout.specs.HeadlineLaws.{HasFailed}
+use Rattle.code_layout.specs.Image.{Image}
+use Rattle.code_layout.specs.Machine.{machine_start}
 use Rattle.code_layout.proofs.EveryStep.{headline_reaches_every_step}
-use Rattle.code_words.specs.Laid.{LaidCode}
 use Rattle.rv_simulator.specs.declared.hart.Hart.{Hart}
 use Rattle.rv_simulator.specs.Kept.{StandsFor}
-use Rattle.rv_simulator.specs.Shown.{ShowsCode}
-use Rattle.simulated_runs.specs.Runs.{Runs, WasGiven, ComesTo}
+use Rattle.simulated_runs.specs.Runs.{WasGiven, ComesTo}
 use Rattle.simulated_runs.specs.Headline.{with_script, ComesAlong, IsBeside, RunsMeetTheHeadline}
 use Rattle.simulated_runs.proofs.Runs.{runs_are_the_machines}
 

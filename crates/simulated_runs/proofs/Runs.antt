@@ -1,22 +1,19 @@
 -- A run of the simulator is one of the machine.
-use Rattle.std.proofs.Common.{◌≡◌, ℕ, List, [], ◌∷◌, ◌++◌, Option, Some, None, map, refl, sym, ap, ◌∙◌, subst, append_assoc}
-use Rattle.std.specs.List.{All}
+use Rattle.std.proofs.Common.{◌≡◌, ℕ, List, [], ◌∷◌, ◌++◌, Option, Some, None, map, refl, sym, ap, ◌∙◌, append_assoc}
 use Rattle.std.proofs.lemmas.List.Elements.{All-nil, All-cons, All-append}
-use Rattle.rv64_instr.specs.Row.{row_of}
 use Rattle.rv64_instr.specs.declared.start.CallEvent.{CallEvent}
 use Rattle.mir_meaning.specs.State.{Reply}
-use Rattle.code_layout.specs.Image.{CodeLine, Image, line_at, word_at}
+use Rattle.code_layout.specs.Image.{CodeLine, Image, word_at}
 use Rattle.code_layout.specs.Machine.{Machine, register}
-use Rattle.code_layout.specs.MachineStep.{Stepped, Continues, Leaves, Comes, there, steps, machine_step, does_at, does_line, answered}
+use Rattle.code_layout.specs.MachineStep.{Continues, Leaves, there, steps, machine_step, does_at, does_line}
 use Rattle.code_words.specs.declared.code.Entry.{Entry}
 use Rattle.code_words.specs.Laid.{LaidCode}
 use Rattle.rv_simulator.specs.declared.ending.Stepped.TheVariants.{Went}
 use Rattle.rv_simulator.specs.declared.hart.Hart.{Hart}
-use Rattle.rv_simulator.specs.Kept.{StandsFor, Goes}
 use Rattle.rv_simulator.specs.Running.{StepsOn, CallsOn, call_at, found_call}
 use Rattle.rv_simulator.specs.Shown.{ShowsCode, entry_at, entry_call}
 use Rattle.rv_simulator.proofs.Stepping.{left_step, line_some, call_step}
-use Rattle.simulated_runs.specs.Runs.{Runs, begins, goes_on, WasGiven, GoesTo, StepLeads, ComesTo, AnswersLead, StepsAreTheMachines, RunsAreTheMachines}
+use Rattle.simulated_runs.specs.Runs.{Runs, begins, goes_on, WasGiven, StepLeads, AnswersLead, StepsAreTheMachines, RunsAreTheMachines}
 use Rattle.simulated_runs.proofs.Scripts.{word_keeps, call_takes}
 
 no_leaving : (u : Machine) → Leaves ≡ Continues u → ⊥

@@ -1,7 +1,6 @@
 -- What a step does to the script: a call takes one answer, and nothing else takes any.
-use Rattle.std.proofs.Common.{◌≡◌, ℕ, ◌+◌, ◌/◌, ◌*◌, ◌%◌, ◌^◌, zero, suc, List, [], ◌∷◌, Option, Some, None, Bool, true, false, cond, nat_eq, map, refl, sym, ap, ◌∙◌}
+use Rattle.std.proofs.Common.{◌≡◌, ℕ, ◌+◌, ◌/◌, ◌*◌, ◌%◌, ◌^◌, List, [], ◌∷◌, Option, Some, None, Bool, true, false, cond, nat_eq, map, sym, ap, ◌∙◌}
 use Rattle.rv64_instr.specs.Arithmetic.{taken}
-use Rattle.rv64_instr.specs.declared.decoded.Base.{Base}
 use Rattle.rv64_instr.specs.declared.decoded.Base.TheVariants.{PointedBy, ObjectAt}
 use Rattle.rv64_instr.specs.Row.{Row, Fixes, Moves, Sets, Addresses, Loads, Stores, LoadsSlot, StoresSlot, Branches, Jumps, Calls, Returns, Unfit, implicit_uses}
 use Rattle.rv64_word.specs.declared.machine_op.MachineOp.{MachineOp}
@@ -10,7 +9,7 @@ use Rattle.rv64_word.specs.MachineRow.{MachineRow, Does, Links, LinksTo, machine
 use Rattle.mir_meaning.specs.State.{Reply}
 use Rattle.code_layout.specs.Image.{CodeLine}
 use Rattle.code_layout.specs.Machine.{Machine, register, address_of}
-use Rattle.code_layout.specs.MachineStep.{Stepped, Continues, Ends, Awaits, BadWord, past, at, set_register, does_row, does, does_operation, does_word, answered, return_word}
+use Rattle.code_layout.specs.MachineStep.{Continues, Ends, past, at, set_register, does_row, does, does_operation, does_word, answered, return_word}
 
 -- what goes on goes on to one state
 same_script : (t u : Machine) → Continues t ≡ Continues u → u.script ≡ t.script

@@ -7,7 +7,6 @@ use Rattle.mir_func.specs.declared.variable.VarId.{VarId}
 use Rattle.mir_func.specs.Function.{Function}
 use Rattle.mir_func.specs.Graph.{Program, program_of}
 use Rattle.mir_meaning.specs.State.{State, Reply, IsReply}
-use Rattle.mir_meaning.specs.Align.{Since}
 use Rattle.code_layout.specs.Headline.{Headline, StartsAt, AlignsWith, FailsBeforeLine, MachineAgrees}
 use Rattle.code_layout.specs.HeadlineLaws.{HasCome, HasFailed}
 use Rattle.code_layout.specs.Image.{CodeLine, Image, line_at}

@@ -1,5 +1,5 @@
 -- Runs of the simulator, and the runs of the machine of the definitions that they are.
-use Rattle.std.specs.Prelude.{◌≡◌, ℕ, List, ◌++◌, All}
+use Rattle.std.specs.Prelude.{◌≡◌, List, ◌++◌, All}
 use Rattle.rv64_instr.specs.declared.start.CallEvent.{CallEvent}
 use Rattle.mir_meaning.specs.State.{Reply}
 use Rattle.code_layout.specs.Image.{Image}
