@@ -1,0 +1,34 @@
+-- Why registers of a reserve aren't spilled.
+use Rattle.std.specs.Prelude.{ℕ, List, Option, Some, None, Bool, cond, ◌&&◌}
+use Rattle.std.specs.List.{filter_map}
+use Rattle.mir_func.specs.Function.{Function}
+use Rattle.follow_law.specs.declared.loss.Loss.{Loss}
+use Rattle.follow_law.specs.declared.loss.Reason.{Reason}
+use Rattle.follow_law.specs.declared.loss.Reason.TheVariants.{NoScratch, CallNamed, EntryLoop, NoSlot}
+use Rattle.follow_law.specs.Causes.{is_named}
+use Rattle.follow_law.specs.Rule.{register_lost}
+use Rattle.spill_code.specs.declared.spilling.Home.{Home}
+use Rattle.spill_code.specs.Rewrite.{slot_of}
+use Rattle.spill_rule.specs.Choice.{is_bound, reason_of, homes_of}
+
+-- the first reason that applies whatever the slots, by what holds of the function and the register
+abbrev pub first_reason : (lacks bound loops : Bool) → Option Reason
+first_reason lacks bound loops = cond lacks (Some NoScratch) (cond bound (Some CallNamed) (cond loops (Some EntryLoop) None))
+
+-- a register that nothing else prevents has a home, or there was no slot for it
+abbrev pub or_no_slot : Option Reason → (home : Option ℕ) → Option Reason
+or_no_slot (Some why) home = Some why
+or_no_slot None None = Some NoSlot
+or_no_slot None (Some n) = None
+
+-- why a register isn't spilled, where code names it
+abbrev pub why_left : Function → (live : ℕ → Bool) → List Home → ℕ → Option Reason
+why_left f live homes r = cond (is_named f r) (or_no_slot (reason_of f live r) (slot_of homes r)) None
+
+abbrev pub loss_for : ℕ → Option Reason → Option Loss
+loss_for r None = None
+loss_for r (Some why) = Some (register_lost r why)
+
+-- the losses of the registers that aren't spilled, in the order of the reserve
+abbrev pub registers_left : (reserve : List ℕ) (live : ℕ → Bool) → Function → List Loss
+registers_left reserve live f = filter_map (λ r. loss_for r (why_left f live (homes_of reserve live f) r)) reserve
