@@ -52,11 +52,7 @@ impl Pass for CopyPass {
 
 /// Takes copies that are known out of a function, and salvages their numbers. After an error the function is as it was,
 /// and the substitutions are only to be dropped.
-fn take_copies_out(
-    alloc: Global,
-    f: &mut Func,
-    subs: &mut Substitutions,
-) -> Result<(), AllocError>
+fn take_copies_out(alloc: Global, f: &mut Func, subs: &mut Substitutions) -> Result<(), AllocError>
     requires { greatest_number f.old subs.old + item_count f.old + 1 < 2 ^ 31 }
     ensures function { OnOk result (f.new ≡ salvaged_function f.old subs.old) }
     ensures entries { OnOk result (subs.new ≡ salvaged_entries f.old subs.old) }

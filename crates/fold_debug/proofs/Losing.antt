@@ -143,13 +143,15 @@ module _ (f g : Function) (subs : List Entry) (sound : IsSound f) (h : IsFoldedW
         by_reason b inside None e k = none_in loss k
         by_reason b inside (Some why) e k =
             let a = in_items why b.items loss k in
-            let same = reason_is why a.found.kind a.found.origin loss a.is in
-            (record { block = b.id; item = a.index }, record {
-              found = a.found;
-              stands = stands_in b inside a.index a.found a.at;
-              why = subst (IsLostFor f.blocks b.id) same (reason_lost f g subs sound h b.id why e);
-              is = subst (λ (r : Reason). loss_of r a.found.kind a.found.origin ≡ Some loss) same a.is;
-            })
+            let same = reason_is why a.found.kind a.found.origin loss a.is in (
+              record { block = b.id; item = a.index },
+              record {
+                found = a.found;
+                stands = stands_in b inside a.index a.found a.at;
+                why = subst (IsLostFor f.blocks b.id) same (reason_lost f g subs sound h b.id why e);
+                is = subst (λ (r : Reason). loss_of r a.found.kind a.found.origin ≡ Some loss) same a.is;
+              },
+            )
 
   -- ---- causes
 

@@ -148,13 +148,16 @@ module _ (f g : Function) (subs : List Entry) (sound : IsSound f) (h : IsFoldedW
     by_lead (Some m) k =
         let w = lead_at old sound.blocks_apart n m k in
         let found = found_in old n w.block w.rest w.at in
-        let id : w.block.id ≡ n = found.1 in
-        (w.block, id, record {
-          stood = found.0;
-          jumps = leading_items w.block.items (first_id w.rest) m (All-contains (λ (b : Block). EndsWell b.items) old w.block sound.ends found.0) w.leads;
-          reached = subst (IsReached c) (sym id) (is_reached n p.reached);
-          gone = subst (IsGoneBlock c) (sym id) (gone_block n (passed_gone n p));
-        })
+        let id : w.block.id ≡ n = found.1 in (
+          w.block,
+          id,
+          record {
+            stood = found.0;
+            jumps = leading_items w.block.items (first_id w.rest) m (All-contains (λ (b : Block). EndsWell b.items) old w.block sound.ends found.0) w.leads;
+            reached = subst (IsReached c) (sym id) (is_reached n p.reached);
+            gone = subst (IsGoneBlock c) (sym id) (gone_block n (passed_gone n p));
+          },
+        )
 
   pub passed_jumps : (n : ℕ) → IsPassed old n → (b : Block) (rest : List Block) → from_block old n ≡ b ∷ rest → All (λ (i : Item). IsJumpOrDebug i.kind) b.items
   passed_jumps n p b rest at = by_lead (lead old n) refl where

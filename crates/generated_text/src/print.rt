@@ -45,8 +45,14 @@ fn push_head(text: &mut Text) -> Result<(), AllocError>
 {
     push_str(text, "--- |\n")?;
     push_str(text, "  define void @gen() !dbg !2 { ret void }\n")?;
-    push_str(text, "  !1 = !DIFile(filename: \"gen.c\", directory: \"/gen\")\n")?;
-    push_str(text, "  !2 = distinct !DISubprogram(name: \"gen\", file: !1, line: 1)\n")
+    push_str(
+        text,
+        "  !1 = !DIFile(filename: \"gen.c\", directory: \"/gen\")\n",
+    )?;
+    push_str(
+        text,
+        "  !2 = distinct !DISubprogram(name: \"gen\", file: !1, line: 1)\n",
+    )
 }
 
 /// Appends the line of a variable: its node, and its name of one letter.

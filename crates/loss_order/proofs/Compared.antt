@@ -136,11 +136,14 @@ module _ (E : Loss → Loss → Bool) (h : Equals E) where
   -- the same losses stand in both
   pub same_losses : (xs ys : List Loss) → All IsOfDeadCode xs → ((x : Loss) → Contains ys x → Contains xs x) →
       ((x : Loss) → Contains xs x → Any (λ y. E x y ≡ true) ys) → (l : Loss) → Contains ys l ↔ Contains xs l
-  same_losses xs ys all from kept l = (from l, λ c.
-      (let w = kept l c in
-      let there : Contains ys w.1 = (w.0, w.2, w.3) in
-      let one : l ≡ w.1 = is_one l w.1 (All-contains IsOfDeadCode xs l all c) (All-contains IsOfDeadCode xs w.1 all (from w.1 there)) w.4 in
-      subst (Contains ys) (sym one) there))
+  same_losses xs ys all from kept l = (
+    from l,
+    λ c.
+        (let w = kept l c in
+        let there : Contains ys w.1 = (w.0, w.2, w.3) in
+        let one : l ≡ w.1 = is_one l w.1 (All-contains IsOfDeadCode xs l all c) (All-contains IsOfDeadCode xs w.1 all (from w.1 there)) w.4 in
+        subst (Contains ys) (sym one) there),
+  )
 
 -- what stands in both is of dead code
 pub still_of : (xs ys : List Loss) → All IsOfDeadCode xs → ((x : Loss) → Contains ys x → Contains xs x) → All IsOfDeadCode ys

@@ -70,5 +70,5 @@ pub runs_meet_the_headline : (gives : CallEvent → Reply → Type 0) (lists : V
 runs_meet_the_headline gives lists source resolve image c from now s0 headline shows sound start stands run =
     let r = runs_are_the_machines gives c from now run in
     let come = r.1 image (machine_start image (with_script r.0 s0)) [] shows (stands_with gives lists source resolve image headline sound r.0 s0 from stands)
-        (sym (append-nil r.0)) in
+    (sym (append-nil r.0)) in
     (r.0, beside gives lists source resolve image headline sound r.0 s0 now start come)

@@ -29,8 +29,8 @@ plain_keeps c image s u shows none e = by_entry (entry_at c.entries s.counter) r
       let l = line_some c.framed c.entries image.lines s.counter x shows.lines q in
       let call : entry_call c.framed x ≡ None = sym (ap (found_call c.framed) q) ∙ none in
       let is : machine_step image s ≡ does_line image l.line None s =
-          ap (λ (o : Option CodeLine). does_at image o s) l.stands
-          ∙ ap (λ (o : Option (List ℕ × List ℕ)). does_line image l.line o s) (l.is.call ∙ call) in
+      ap (λ (o : Option CodeLine). does_at image o s) l.stands
+      ∙ ap (λ (o : Option (List ℕ × List ℕ)). does_line image l.line o s) (l.is.call ∙ call) in
       word_keeps l.line (word_at image.text s.counter) s u (sym is ∙ e)
 
 -- at a call site it takes one answer

@@ -37,8 +37,7 @@ loop-kill-preserved c =
           (let within : there ≡ true = sym known ∙ not_false _ (sym new ∙ w.if-branch.false) in
           ap (λ (v : Vec Item Global). v.items) w.items-is ∙ c.loop-kill.invariant.0 ∙ sym (append-nil made) ∙
           ap (λ (z : Bool). made ++ cond z [] (kill_item c.args.block k ∷ [])) (sym within))
-    ] in
-    (
+    ] in (
       more ∙ sym (once_kills c.args.block before k) ∙ ap (λ (ks : List Kill). once (map (kill_item c.args.block) ks)) (sym next),
       λ q. c.in_ok-add.ensures.seen q ∙ ap (λ (z : Bool). is_same_kill k q || z) (c.loop-kill.invariant.1 q) ∙ sym (any_more before k q) ∙
           ap (λ (ks : List Kill). list_any (λ y. is_same_kill y q) ks) (sym next),
