@@ -27,11 +27,13 @@ use Rattle.mir_meaning.specs.Align.{position_of, is_code, is_jump, is_jump_row}
 use Rattle.follow_law.specs.Change.{Change}
 use Rattle.follow_law.specs.Rule.{IsJump, item}
 use Rattle.follow_law.specs.Causes.{IsFewer}
-use Rattle.follow_law.specs.Debug.{is_other_code, RegisterStays, ValueStays, PlaceStays, Becomes, mark_stays, phi_stays, code_stays, code_unnumbered, jump_stays}
+use Rattle.follow_law.specs.Debug.{is_other_code, RegisterStays, ValueStays, PlaceStays, Becomes}
+use Rattle.follow_law.specs.Debug.{mark_stays, phi_stays, code_stays, code_unnumbered, jump_stays}
 use Rattle.follow_law.specs.Debug.{code_goes, idle_goes, BecomeAll, over, next as step, added}
 use Rattle.follow_law.specs.declared.loss.Loss.{Loss}
 use Rattle.fold_rule.specs.Turned.{to_block, inverse_to, with_code, sent, turned, made_jump}
-use Rattle.fold_rule.specs.Tails.{first_of, else_way, is_number, if_needed, jump_at_end, jump_for_branch, branch_tail, plain_tail, branch_tail_to, tail_by, rewritten}
+use Rattle.fold_rule.specs.Tails.{first_of, else_way, is_number, if_needed, jump_at_end}
+use Rattle.fold_rule.specs.Tails.{jump_for_branch, branch_tail, plain_tail, branch_tail_to, tail_by, rewritten}
 use Rattle.fold_sound.proofs.Rows.{Leads, sent_jump}
 use Rattle.fold_sound.proofs.Tails.{goes_else, always_some}
 use Rattle.fold_runs.proofs.Folding.{code_leads, branch_no_jump, still_code}
@@ -153,7 +155,8 @@ module _ (c : Change) (b : ℕ) (unlost : (n : ℕ) (loss : Loss) → IsLostAt c
   counts_none : (test : ItemKind → Bool) (o : Origin) (y : Item) → test y.kind ≡ false → weight (Passes test o y) ≡ 0
   counts_none test o y e = ap (λ (z : Bool). weight (z && Rattle.follow_law.specs.Causes.is_origin y.origin o)) e
 
-  fewer_none : (test : ItemKind → Bool) (x : Item) (xs : List Item) → test x.kind ≡ true → count_by (Passes test x.origin) [] < count_by (Passes test x.origin) (x ∷ xs)
+  fewer_none : (test : ItemKind → Bool) (x : Item) (xs : List Item) → test x.kind ≡ true →
+      count_by (Passes test x.origin) [] < count_by (Passes test x.origin) (x ∷ xs)
   fewer_none test x xs e =
       let k = count_first (Passes test x.origin) x xs in
       let one = counts test x e in
@@ -273,7 +276,8 @@ module _ (c : Change) (b : ℕ) (unlost : (n : ℕ) (loss : Loss) → IsLostAt c
           jump_test m t e none false k = step (changed (to_block m) n x) (nothing_more (suc n) xs none)
 
           by_to : (t : ℕ) (o : Option ℕ) (m : ℕ) → o ≡ Some m → exit_of x.kind ≡ Perhaps t → IsJumpAtMost xs →
-              Less (branch_tail_to end next fall silent x (first_of xs) t o) (x ∷ xs) → Whole n (x ∷ xs) (branch_tail_to end next fall silent x (first_of xs) t o)
+              Less (branch_tail_to end next fall silent x (first_of xs) t o) (x ∷ xs) →
+              Whole n (x ∷ xs) (branch_tail_to end next fall silent x (first_of xs) t o)
           by_to t None m e at may k = cc
           by_to t (Some m) m' e at may k = branch_becomes x xs n t (end t) (end m) at may home (All-tail Home x xs homes) k
 

@@ -1,5 +1,6 @@
 -- How much code has an origin before and after folding.
-use Rattle.std.proofs.Common.{◌≡◌, ◌⊎◌, ℕ, zero, suc, ◌+◌, ◌<◌, ◌≤◌, List, [], ◌∷◌, ◌++◌, map, count_by, slice_get, get_or, All, Contains, Option, Some, None, Bool}
+use Rattle.std.proofs.Common.{◌≡◌, ◌⊎◌, ℕ, zero, suc, ◌+◌, ◌<◌, ◌≤◌, List, [], ◌∷◌}
+use Rattle.std.proofs.Common.{◌++◌, map, count_by, slice_get, get_or, All, Contains, Option, Some, None, Bool}
 use Rattle.std.proofs.Common.{true, false, cond, ◌&&◌, nat_eq, refl, sym, ap, ◌∙◌, subst, inl, inr, eqb-true, eq-eqb, arith}
 use Rattle.std.proofs.lemmas.Bool.{and_parts}
 use Rattle.std.proofs.lemmas.List.Elements.{All-head, All-tail}
@@ -99,14 +100,15 @@ module _ (test : ItemKind → Bool) (o : Origin) where
   none_there : (bs : List Block) → from_block bs (position_of o).block ≡ [] → All (λ (b : Block). All (λ (i : Item). OriginIn b i.origin) b.items) bs →
       count_by p (items_of bs) ≡ 0
   none_there [] e homes = refl
-  none_there (b ∷ bs) e homes = elim (test_of b.id (position_of o).block (nat_eq b.id (position_of o).block) refl) as (λ z. count_by p (items_of (b ∷ bs)) ≡ 0) [
-    | inl w ↦ (let bad : b ∷ bs ≡ [] = sym (ap (λ (z : Bool). cond z (b ∷ bs) (from_block bs (position_of o).block)) w.0) ∙ e in cc)
-    | inr w ↦ (let one = elsewhere b w.1 (All-head (λ (b : Block). All (λ (i : Item). OriginIn b i.origin) b.items) b bs homes) in
-        let more = none_there bs (sym (ap (λ (z : Bool). cond z (b ∷ bs) (from_block bs (position_of o).block)) w.0) ∙ e)
-        (All-tail (λ (b : Block). All (λ (i : Item). OriginIn b i.origin) b.items) b bs homes) in
-        let k = count_both p b.items (items_of bs) in
-        omega (arith, one, more, k))
-  ]
+  none_there (b ∷ bs) e homes = elim (test_of b.id (position_of o).block (nat_eq b.id (position_of o).block) refl) as (λ z. count_by p (items_of
+      (b ∷ bs)) ≡ 0) [
+        | inl w ↦ (let bad : b ∷ bs ≡ [] = sym (ap (λ (z : Bool). cond z (b ∷ bs) (from_block bs (position_of o).block)) w.0) ∙ e in cc)
+        | inr w ↦ (let one = elsewhere b w.1 (All-head (λ (b : Block). All (λ (i : Item). OriginIn b i.origin) b.items) b bs homes) in
+            let more = none_there bs (sym (ap (λ (z : Bool). cond z (b ∷ bs) (from_block bs (position_of o).block)) w.0) ∙ e)
+            (All-tail (λ (b : Block). All (λ (i : Item). OriginIn b i.origin) b.items) b bs homes) in
+            let k = count_both p b.items (items_of bs) in
+            omega (arith, one, more, k))
+      ]
 
   none_later : (b : Block) (bs : List Block) (n : ℕ) → AreApart (ids_of (b ∷ bs)) → b.id ≡ n → from_block bs n ≡ []
   none_later b bs n apart same = by_blocks (from_block bs n) refl where

@@ -24,7 +24,8 @@ use Rattle.follow_law.specs.declared.loss.Loss.{Loss}
 use Rattle.follow_law.specs.Order.{IsInOrder}
 use Rattle.follow_law.specs.Rule.{IsJump, item}
 use Rattle.follow_law.specs.Causes.{IsJumpOrDebug}
-use Rattle.follow_law.specs.Debug.{IsKillAt, Becomes, code_goes, idle_goes, number_goes, mark_goes, phi_goes, BecomeAll, over, next as step, BlocksBecome, none, stays as block_stays}
+use Rattle.follow_law.specs.Debug.{IsKillAt, Becomes, code_goes, idle_goes, number_goes, mark_goes}
+use Rattle.follow_law.specs.Debug.{phi_goes, BecomeAll, over, next as step, BlocksBecome, none, stays as block_stays}
 use Rattle.follow_law.specs.Debug.{goes as block_goes, IsLoss, KeepsItems}
 use Rattle.fold_ways.specs.Leads.{first_id, lead}
 use Rattle.fold_ways.proofs.Blocks.{apart_tail}
@@ -106,7 +107,8 @@ module _ (f g : Function) (subs : List Entry) (sound : IsSound f) (h : IsFoldedW
     passed : IsPassed old w.block.id
     passed = passed_by e w.block w.bypassed
 
-    by_kind : (k : ItemKind) (o : Origin) (l : Loc) → Rattle.follow_law.specs.Rule.StandsAt f at (item k o l) → kill_by e k l ≡ Some i → IsKillAt fold_debug ch e i
+    by_kind : (k : ItemKind) (o : Origin) (l : Loc) → Rattle.follow_law.specs.Rule.StandsAt f at (item k o l) → kill_by e k l ≡ Some i →
+        IsKillAt fold_debug ch e i
     by_kind (Mark v m) o l s q =
         let same : item (Mark v Rattle.mir_func.specs.declared.variable.MarkValue.TheVariants.Nothing) (Before (record { block = e; item = 0 })) l ≡ i = cc in
         subst (IsKillAt fold_debug ch e) same ((at, m, o, l, s, record { found = item (Mark v m) o l; stands = s; why = passed; is = refl }), refl)
@@ -153,7 +155,8 @@ module _ (f g : Function) (subs : List Entry) (sound : IsSound f) (h : IsFoldedW
           | inr p ↦ unreached_item n p x.kind x.origin x.loc s
         ]
 
-    all_gone : (xs : List Item) (n : ℕ) → ((k : ℕ) (x : Item) → slice_get xs k ≡ Some x → slice_get b.items (n + k) ≡ Some x) → BecomeAll fold_debug ch b.id n xs []
+    all_gone : (xs : List Item) (n : ℕ) → ((k : ℕ) (x : Item) → slice_get xs k ≡ Some x → slice_get b.items (n + k) ≡ Some x) →
+        BecomeAll fold_debug ch b.id n xs []
     all_gone [] n here = over
     all_gone (x ∷ xs) n here =
         let first : n + 0 ≡ n = omega arith in
@@ -211,7 +214,8 @@ module _ (f g : Function) (subs : List Entry) (sound : IsSound f) (h : IsFoldedW
             BlocksBecome fold_debug ch (b ∷ bs) (made_block end stays was old b bs ∷ made end stays was old bs)
         stay s rest = block_stays (kills end was old b.id) anew refl refl refl (end, was, h.folded.ends, h.reached, refl)
             (All-weaker (ComesFrom end was old b.id) (IsKillAt fold_debug ch b.id) (kill_at b.id) (kills end was old b.id) (each_from end was old b.id))
-            (become ch b.id (λ n loss l. stays_unlost f g subs sound h b.id loss.reason s l.why) end (first_id (staying stays bs)) (first_id bs) silent b.items 0
+            (become ch b.id (λ n loss l. stays_unlost f g subs sound h b.id loss.reason s l.why) end (first_id (staying stays bs))
+            (first_id bs) silent b.items 0
             (All-head (λ (b : Block). EndsWell b.items) b bs ends) (onto b bs (closing b bs last))
             (All-weaker (λ (i : Item). OriginIn b i.origin) (λ (i : Item). (position_of i.origin).block ≡ b.id) (λ i o. home_of b i.origin o) b.items
             (All-contains (λ (d : Block). All (λ (i : Item). OriginIn d i.origin) d.items) old b sound.origins member))

@@ -26,7 +26,8 @@ use Rattle.fold_ways.specs.Leads.{lead}
 use Rattle.fold_kills.specs.Kills.{IsFoldedWithKills}
 use Rattle.fold_debug.specs.Lost.{is_unreachable, loss_of, lost_in, lost_for, reason_for, all_lost}
 use Rattle.fold_debug.specs.Debug.{IsPassed, IsLostFor, IsLostAt, fold_debug}
-use Rattle.fold_debug.proofs.Passing.{old, end, was, stays, Was, c, gone_block, passed_gone, unreached_gone, not_reached, passed_block, lost_reason, reason_lost}
+use Rattle.fold_debug.proofs.Passing.{old, end, was, stays, Was, c}
+use Rattle.fold_debug.proofs.Passing.{gone_block, passed_gone, unreached_gone, not_reached, passed_block, lost_reason, reason_lost}
 
 -- ---- where an element of a list that is put together comes from
 
@@ -139,7 +140,8 @@ module _ (f g : Function) (subs : List Entry) (sound : IsSound f) (h : IsFoldedW
   said loss member =
       let w = in_flat (λ (b : Block). lost_for (why_gone b.id) b.items) f.blocks loss member in
       by_reason w.0 w.1 (why_gone w.0.id) refl w.2 where
-        by_reason : (b : Block) → Contains f.blocks b → (o : Option Reason) → why_gone b.id ≡ o → Contains (lost_for o b.items) loss → (at : Pos) × IsLostAt f at loss
+        by_reason : (b : Block) → Contains f.blocks b → (o : Option Reason) → why_gone b.id ≡ o → Contains (lost_for o b.items) loss →
+            (at : Pos) × IsLostAt f at loss
         by_reason b inside None e k = none_in loss k
         by_reason b inside (Some why) e k =
             let a = in_items why b.items loss k in
@@ -161,18 +163,21 @@ module _ (f g : Function) (subs : List Entry) (sound : IsSound f) (h : IsFoldedW
   abbrev Gone : ℕ → Type 0
   Gone n = Rattle.follow_law.specs.Causes.IsGoneBlock (c f g subs sound h) n
 
-  mark_cause : (at : Pos) (why : Reason) (v : Rattle.mir_func.specs.declared.variable.VarId.VarId) (m : Rattle.mir_func.specs.declared.variable.MarkValue.MarkValue)
+  mark_cause : (at : Pos) (why : Reason) (v : Rattle.mir_func.specs.declared.variable.VarId.VarId)
+      (m : Rattle.mir_func.specs.declared.variable.MarkValue.MarkValue)
       (o : Origin) (l : Loc) → StandsAt f at (item (Mark v m) o l) → IsLostFor f.blocks at.block why → Cause at (mark_lost o why)
   mark_cause at Bypassed v m o l stands p = let w = passed_block f g subs sound h at.block p in block_bypassed stands refl w.1 w.2
   mark_cause at Unreachable v m o l stands out =
-      block_unreachable stands refl (not_reached f g subs sound h at.block out) (gone_block f g subs sound h at.block (unreached_gone f g subs sound h at.block out))
+      block_unreachable stands refl (not_reached f g subs sound h at.block out) (gone_block f g subs sound h at.block
+      (unreached_gone f g subs sound h at.block out))
   mark_cause at _ v m o l stands p = absurd p
 
   phi_cause : (at : Pos) (why : Reason) (p : Option Rattle.rv64_instr.specs.declared.place.Place.Place) (k : ℕ) (o : Origin) (l : Loc) →
       StandsAt f at (item (Phi p k) o l) → IsLostFor f.blocks at.block why → Cause at (number_lost k why)
   phi_cause at Bypassed p k o l stands q = let w = passed_block f g subs sound h at.block q in block_bypassed stands refl w.1 w.2
   phi_cause at Unreachable p k o l stands out =
-      block_unreachable stands refl (not_reached f g subs sound h at.block out) (gone_block f g subs sound h at.block (unreached_gone f g subs sound h at.block out))
+      block_unreachable stands refl (not_reached f g subs sound h at.block out) (gone_block f g subs sound h at.block
+      (unreached_gone f g subs sound h at.block out))
   phi_cause at _ p k o l stands q = absurd q
 
   code_cause : (at : Pos) (why : Reason) (i : Instruction) (k : ℕ) (o : Origin) (l : Loc) → StandsAt f at (item (Code i (Some k)) o l) →

@@ -199,7 +199,8 @@ module _ (f : Function) (sound : IsSound f) (resolve : OperandPair → Option Op
   down_edge : (p q : Pos) → Down p → Edge fp p q → Down q
   down_edge p q down edge = by_fetch (fp.fetch p) refl edge where
     by_item : (i : Item) → fp.fetch p ≡ Here i →
-        ((n : ℕ) × ((exit_of i.kind ≡ Perhaps n) ⊎ (exit_of i.kind ≡ Always n)) × (q ≡ block_start n)) ⊎ ((Leaves (exit_of i.kind) → ⊥) × (q ≡ below p)) → Down q
+        ((n : ℕ) × ((exit_of i.kind ≡ Perhaps n) ⊎ (exit_of i.kind ≡ Always n)) × (q ≡ block_start n)) ⊎ ((Leaves (exit_of i.kind) → ⊥) × (q ≡ below p)) →
+        Down q
     by_item i at (inl w) = subst Down (sym w.2) (down_start w.0 (went_to p i w.0 down at w.1))
     by_item i at (inr w) = subst Down (sym w.1) (down_below p i down at w.0)
 

@@ -77,9 +77,9 @@ by_pos p q u e =
     (λ z. IsEarlier p q ⊎ ((p ≡ q) × (u ≡ Less))) [
       | inl lt ↦ inl (inl lt)
       | inr w ↦ elim (by_two p.item q.item u w.1) as (λ z. IsEarlier p q ⊎ ((p ≡ q) × (u ≡ Less))) [
-          | inl lt ↦ inl (inr (w.0, lt))
-          | inr v ↦ inr ((λ i. record { block = w.0 i; item = v.0 i }), v.1)
-        ]
+        | inl lt ↦ inl (inr (w.0, lt))
+        | inr v ↦ inr ((λ i. record { block = w.0 i; item = v.0 i }), v.1)
+      ]
     ] where
       assoc : (a b u : Ordering) → ordering_then a (ordering_then b u) ≡ ordering_then (ordering_then a b) u
       assoc Less b u = refl
@@ -119,9 +119,9 @@ module _ (R : Loss → Loss → Ordering) (h : Compares R) where
   before (Register x) (Mark q) r s f g e = never (sym (h.register_mark x q r s) ∙ e)
   before (Register x) (Register y) r s f g e = elim (by_two x y (by_reason R r s) (sym (h.registers x y r s) ∙
       e)) as (λ z. Comes (Register x) (Register y) r s) [
-    | inl lt ↦ inl lt
-    | inr w ↦ inr (ap Register w.0, later r s f g w.1)
-  ]
+        | inl lt ↦ inl lt
+        | inr w ↦ inr (ap Register w.0, later r s f g w.1)
+      ]
 
   each_later : (a : Loss) (ls : List Loss) → IsFoldReason a.reason → All (λ (l : Loss). IsFoldReason l.reason) ls → AllByRecursion (λ b. R a b ≡ Less) ls →
       All (LossComesBefore a) ls
@@ -183,13 +183,16 @@ module _ (E : Loss → Loss → Bool) (h : Equals E) where
   -- the same losses stand in both
   pub same_losses : (xs ys : List Loss) → All (λ (l : Loss). IsFoldReason l.reason) xs → ((x : Loss) → Contains ys x → Contains xs x) →
       ((x : Loss) → Contains xs x → Any (λ y. E x y ≡ true) ys) → (l : Loss) → Contains ys l ↔ Contains xs l
-  same_losses xs ys all from kept l = (from l, λ c.
-      (let w = kept l c in
-      let there : Contains ys w.1 = (w.0, w.2, w.3) in
-      let of : IsFoldReason l.reason = All-contains (λ (k : Loss). IsFoldReason k.reason) xs l all c in
-      let of' : IsFoldReason w.1.reason = All-contains (λ (k : Loss). IsFoldReason k.reason) xs w.1 all (from w.1 there) in
-      let one : l ≡ w.1 = is_one l.what w.1.what l.reason w.1.reason of of' w.4 in
-      subst (Contains ys) (sym one) there))
+  same_losses xs ys all from kept l = (
+    from l,
+    λ c.
+        (let w = kept l c in
+        let there : Contains ys w.1 = (w.0, w.2, w.3) in
+        let of : IsFoldReason l.reason = All-contains (λ (k : Loss). IsFoldReason k.reason) xs l all c in
+        let of' : IsFoldReason w.1.reason = All-contains (λ (k : Loss). IsFoldReason k.reason) xs w.1 all (from w.1 there) in
+        let one : l ≡ w.1 = is_one l.what w.1.what l.reason w.1.reason of of' w.4 in
+        subst (Contains ys) (sym one) there),
+  )
 
 -- what stands in both is of folding
 pub still_of : (xs ys : List Loss) → All (λ (l : Loss). IsFoldReason l.reason) xs → ((x : Loss) → Contains ys x → Contains xs x) →

@@ -20,11 +20,7 @@ use numbers::code::BlockId;
 use std::alloc::{AllocError, Global};
 
 /// What is lost of blocks that are folded, each once and in order.
-pub fn fold_losses(
-    alloc: Global,
-    blocks: &[Block],
-    ways: &OldWays,
-) -> Result<Losses, AllocError>
+pub fn fold_losses(alloc: Global, blocks: &[Block], ways: &OldWays) -> Result<Losses, AllocError>
     requires { (n : ℕ) → told ways.now.leads n ≡ lead blocks.now n }
     ensures ordered { IfOk result IsInOrder }
     ensures each { IfOk result (λ losses. (l : Loss) → Contains losses l ↔ Contains

@@ -1,5 +1,6 @@
 -- All kills together are no more than the items of the blocks that are gone.
-use Rattle.std.proofs.Common.{◌≡◌, ◌⊎◌, ℕ, zero, suc, ◌+◌, ◌≤◌, List, [], ◌∷◌, ◌++◌, filter, length, slice_get, Option, Some, None, Bool, true, false, cond, not, ◌&&◌}
+use Rattle.std.proofs.Common.{◌≡◌, ◌⊎◌, ℕ, zero, suc, ◌+◌, ◌≤◌, List, [], ◌∷◌, ◌++◌}
+use Rattle.std.proofs.Common.{filter, length, slice_get, Option, Some, None, Bool, true, false, cond, not, ◌&&◌}
 use Rattle.std.proofs.Common.{nat_eq, refl, sym, ap, ◌∙◌, subst, inl, inr, eqb-true, eq-eqb, arith}
 use Rattle.std.specs.List.{flat_map, filter_map, cons_option, sum_by}
 use Rattle.std.specs.Option.{is_some}
@@ -63,13 +64,13 @@ module _ (e m : ℕ) where
 
   pub one_at : (ns : List ℕ) → AreApart ns → sum_by at ns ≤ m
   one_at [] apart = omega arith
-  one_at (n ∷ ns) apart = let a = sum_first at n ns in by_test (nat_eq e n) refl a where
-    by_test : (z : Bool) → nat_eq e n ≡ z → sum_by at (n ∷ ns) ≡ cond z m 0 + sum_by at ns → sum_by at (n ∷ ns) ≤ m
-    by_test true t a =
+  one_at (n ∷ ns) apart = let a = sum_first at n ns in by_test (nat_eq e n) refl a (one_at ns (apart_tail n ns apart)) where
+    by_test : (z : Bool) → nat_eq e n ≡ z → sum_by at (n ∷ ns) ≡ cond z m 0 + sum_by at ns → sum_by at ns ≤ m → sum_by at (n ∷ ns) ≤ m
+    by_test true t a rest =
         let same = eqb-true e n t in
         let b = none_at ns (λ i k. (let bad : 0 ≡ suc i = apart 0 (suc i) e (ap (λ (y : ℕ). Some y) (sym same)) k in omega (arith, bad))) in
         omega (arith, a, b)
-    by_test false t a = let b = one_at ns (apart_tail n ns apart) in omega (arith, a, b)
+    by_test false t a rest = omega (arith, a, rest)
 
 sum_le : (v w : ℕ → ℕ) (ns : List ℕ) → ((n : ℕ) → v n ≤ w n) → sum_by v ns ≤ sum_by w ns
 sum_le v w [] h = omega arith
@@ -123,7 +124,8 @@ module _ (f g : Function) (subs : List Entry) (sound : IsSound f) (h : IsFoldedW
     later = filter (is_bypassed end was old e) bs
 
     by_test : (z : Bool) → is_bypassed end was old e b ≡ z →
-        length (flat_map (λ b. filter_map (λ i. kill_by e i.kind i.loc) b.items) (cond z (b ∷ later) later)) ≤ at (end b.id) (gone_items b) e + length (among e bs)
+        length (flat_map (λ b. filter_map (λ i. kill_by e i.kind i.loc) b.items) (cond z (b ∷ later) later)) ≤ at (end b.id) (gone_items b) e + length
+        (among e bs)
     by_test true t =
         let w = bypassed_gone e b t in
         let here : at (end b.id) (gone_items b) e ≡ length b.items =

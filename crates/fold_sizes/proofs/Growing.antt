@@ -1,9 +1,11 @@
 -- A folded function with its kills keeps its bounds.
-use Rattle.std.proofs.Common.{◌≡◌, ◌⊎◌, ℕ, zero, suc, ◌+◌, ◌*◌, ◌<◌, ◌≤◌, List, [], ◌∷◌, ◌++◌, map, length, count_by, slice_get, All, Contains, Option, Some, None, Bool}
+use Rattle.std.proofs.Common.{◌≡◌, ◌⊎◌, ℕ, zero, suc, ◌+◌, ◌*◌, ◌<◌, ◌≤◌, List, []}
+use Rattle.std.proofs.Common.{◌∷◌, ◌++◌, map, length, count_by, slice_get, All, Contains, Option, Some, None, Bool}
 use Rattle.std.proofs.Common.{true, false, cond, nat_eq, refl, sym, ap, ◌∙◌, subst, inl, inr, arith}
 use Rattle.std.specs.List.{flat_map, sum_by}
 use Rattle.std.proofs.lemmas.List.Sums.{sum_by-append}
-use Rattle.std.proofs.lemmas.List.Elements.{All-nil, All-cons, All-head, All-tail, All-weaker, All-set, All-contains, Contains-append_left, Contains-append_right}
+use Rattle.std.proofs.lemmas.List.Elements.{All-nil, All-cons, All-head, All-tail}
+use Rattle.std.proofs.lemmas.List.Elements.{All-weaker, All-set, All-contains, Contains-append_left, Contains-append_right}
 use Rattle.std.proofs.Math.Nat.{le-max_left, le-max_right, max-le, le_trans, le_refl}
 use Rattle.rv64_instr.specs.declared.op.Op.{Op}
 use Rattle.rv64_instr.specs.declared.op.Op.TheVariants.{Registers, Immediate, Lui, Branch, Load, Store, Copy, PseudoBr, PseudoCall, PseudoRet}
@@ -39,7 +41,7 @@ use Rattle.fold_debug.proofs.Passing.{new_is}
 use Rattle.fold_sizes.specs.Sizes.{FoldedKeepsSizes}
 use Rattle.fold_sizes.proofs.Weights.{sum_first, anew_weighs}
 use Rattle.fold_sizes.proofs.Gone.{gone_items, all_kills}
-use Rattle.fold_sizes.proofs.Kinds.{blocks_hold}
+use Rattle.fold_sizes.proofs.Holding.{blocks_hold}
 
 -- ---- what items weigh, block by block
 
@@ -54,6 +56,10 @@ module _ (w : Item → ℕ) (k : ℕ) (ends_weigh : (x : Item) → Leads (exit_o
   -- the weight of the kills of blocks
   abbrev killed : List Block → ℕ
   killed bs = sum_by (λ b. cond (stays b.id) (sum_by w (kills end was old b.id)) 0) bs
+
+  -- what a jump for each block weighs
+  abbrev pub extra : List Block → ℕ
+  extra bs = sum_by (λ (b : Block). k) bs
 
   -- the weight of the items of blocks that stay
   abbrev kept : List Block → ℕ
@@ -75,22 +81,22 @@ module _ (w : Item → ℕ) (k : ℕ) (ends_weigh : (x : Item) → Leads (exit_o
   onto b (d ∷ ds) l e = cc
 
   pub made_weigh : (bs : List Block) → All (λ (b : Block). EndsWell b.items) bs → Last bs →
-      sum_by w (items_of (made end stays was old bs)) ≤ killed bs + kept bs + length bs * k
+      sum_by w (items_of (made end stays was old bs)) ≤ killed bs + kept bs + extra bs
   made_weigh [] ends last = omega arith
   made_weigh (b ∷ bs) ends last =
       let rest = made_weigh bs (All-tail (λ (b : Block). EndsWell b.items) b bs ends) (tail_of b bs (closing b bs last)) in
       let a = sum_first (λ (d : Block). cond (stays d.id) (sum_by w (kills end was old d.id)) 0) b bs in
       let d = sum_first (λ (d : Block). cond (stays d.id) (sum_by w d.items) 0) b bs in
-      let n : length (b ∷ bs) * k ≡ k + length bs * k = refl in
+      let n = sum_first (λ (d : Block). k) b bs in
       by_test (stays b.id) rest a d n where
         fb : Block
         fb = folded_block end (first_id (staying stays bs)) (first_id bs) b
 
-        by_test : (z : Bool) → sum_by w (items_of (made end stays was old bs)) ≤ killed bs + kept bs + length bs * k →
+        by_test : (z : Bool) → sum_by w (items_of (made end stays was old bs)) ≤ killed bs + kept bs + extra bs →
             killed (b ∷ bs) ≡ cond z (sum_by w (kills end was old b.id)) 0 + killed bs → kept (b ∷ bs) ≡ cond z (sum_by w b.items) 0 + kept bs →
-            length (b ∷ bs) * k ≡ k + length bs * k →
+            extra (b ∷ bs) ≡ k + extra bs →
             sum_by w (items_of (map (with_kills end was old) (cond z (fb ∷ folded_blocks end stays bs) (folded_blocks end stays bs)))) ≤
-            killed (b ∷ bs) + kept (b ∷ bs) + length (b ∷ bs) * k
+            killed (b ∷ bs) + kept (b ∷ bs) + extra (b ∷ bs)
         by_test true rest a d n =
             let one = anew_weighs w k ends_weigh end (first_id (staying stays bs)) (first_id bs) (record { block = b.id; item = b.silent }) b.items
             (All-head (λ (b : Block). EndsWell b.items) b bs ends) (onto b bs (closing b bs last)) in
@@ -108,7 +114,8 @@ module _ (w : Item → ℕ) (k : ℕ) (ends_weigh : (x : Item) → Leads (exit_o
       let rest = kept_weigh bs in
       by_test (stays b.id) a g both rest where
         by_test : (z : Bool) → kept (b ∷ bs) ≡ cond z (sum_by w b.items) 0 + kept bs →
-            sum_by (λ d. cond (stays d.id) 0 (sum_by w d.items)) (b ∷ bs) ≡ cond z 0 (sum_by w b.items) + sum_by (λ d. cond (stays d.id) 0 (sum_by w d.items)) bs →
+            sum_by (λ d. cond (stays d.id) 0 (sum_by w d.items)) (b ∷ bs) ≡ cond z 0 (sum_by w b.items) + sum_by (λ d. cond (stays d.id) 0
+            (sum_by w d.items)) bs →
             sum_by w (items_of (b ∷ bs)) ≡ sum_by w b.items + sum_by w (items_of bs) →
             kept bs + sum_by (λ d. cond (stays d.id) 0 (sum_by w d.items)) bs ≡ sum_by w (items_of bs) →
             kept (b ∷ bs) + sum_by (λ d. cond (stays d.id) 0 (sum_by w d.items)) (b ∷ bs) ≡ sum_by w (items_of (b ∷ bs))
@@ -130,6 +137,21 @@ module _ (w : Item → ℕ) (k : ℕ) (ends_weigh : (x : Item) → Leads (exit_o
         by_test true a rest =
             let d = sum_first (λ (e : ℕ). sum_by w (kills end was old e)) b.id (ids_of (folded_blocks end stays bs)) in omega (arith, a, rest, d)
         by_test false a rest = omega (arith, a, rest)
+
+abbrev weight : Bool → ℕ
+weight z = cond z 1 0
+
+all_of : {X : Type 0} (P : X → Type 0) (xs : List X) → ((x : X) → Contains xs x → P x) → All P xs
+all_of P [] h = All-nil P
+all_of P (x ∷ xs) h = All-cons P x xs (h x (0, omega arith, refl)) (all_of P xs (λ y w. h y (suc w.0, (let lt = w.1 in omega (arith, lt)), w.2)))
+
+block_count : (bs : List Block) → sum_by (λ (b : Block). 1) bs ≡ length bs
+block_count [] = refl
+block_count (b ∷ bs) = let a = sum_first (λ (d : Block). 1) b bs in let m = block_count bs in omega (arith, a, m)
+
+no_blocks : (bs : List Block) → sum_by (λ (b : Block). 0) bs ≡ 0
+no_blocks [] = refl
+no_blocks (b ∷ bs) = let a = sum_first (λ (d : Block). 0) b bs in let m = no_blocks bs in omega (arith, a, m)
 
 -- ---- kills weigh nothing where only code does
 
@@ -237,7 +259,8 @@ in_append (x ∷ xs) ys n (suc i, lt, e) = elim (in_append xs ys n (i, omega (ar
   | inr k ↦ inr k
 ]
 
-item_numbers : (is : List Item) (ns : List ℕ) → All (λ (i : Item). Known ns i.kind) is → (n : ℕ) → Contains (flat_map (λ i. numbers_of i.kind) is) n → Contains ns n
+item_numbers : (is : List Item) (ns : List ℕ) → All (λ (i : Item). Known ns i.kind) is → (n : ℕ) → Contains (flat_map (λ i. numbers_of i.kind) is) n →
+    Contains ns n
 item_numbers [] ns h n k = none_in n k
 item_numbers (i ∷ is) ns h n k = elim (in_append (numbers_of i.kind) (flat_map (λ j. numbers_of j.kind) is) n k) as (λ z. Contains ns n) [
   | inl l ↦ All-head (λ (j : Item). Known ns j.kind) i is h n l
@@ -286,11 +309,11 @@ module _ (f g : Function) (subs : List Entry) (sound : IsSound f) (h : IsFoldedW
   few : length old ≤ MAX_BLOCKS
   few = sound.few_blocks
 
-  code_weight : (x : Item) → Leads (exit_of x.kind) → cond (is_code x.kind) 1 0 ≡ 1
-  code_weight x leads = ap (λ (z : Bool). cond z 1 0) (code_leads x.kind leads)
+  code_weight : (x : Item) → Leads (exit_of x.kind) → weight (is_code x.kind) ≡ 1
+  code_weight x leads = ap weight (code_leads x.kind leads)
 
-  call_weight : (x : Item) → Leads (exit_of x.kind) → cond (calls x.kind) 1 0 ≡ 0
-  call_weight x leads = ap (λ (z : Bool). cond z 1 0) (leads_no_call x.kind leads)
+  call_weight : (x : Item) → Leads (exit_of x.kind) → weight (calls x.kind) ≡ 0
+  call_weight x leads = ap weight (leads_no_call x.kind leads)
 
   items_made : length (items_of made_all) ≤ length (items_of old) + length old
   items_made =
@@ -304,35 +327,39 @@ module _ (f g : Function) (subs : List Entry) (sound : IsSound f) (h : IsFoldedW
       (λ b. ap (λ (z : ℕ). cond (stays b.id) 0 z) (length_sum b.items)) in
       let s = length_sum (items_of made_all) in
       let t = length_sum (items_of old) in
-      omega (arith, a, b, d, e, k, m, s, t)
+      let n = block_count old in
+      omega (arith, a, b, d, e, k, m, s, t, n)
 
   code_made : count_by (λ i. is_code i.kind) (items_of made_all) ≤ count_by (λ i. is_code i.kind) (items_of old) + length old
   code_made =
-      let w : Item → ℕ = λ i. cond (is_code i.kind) 1 0 in
+      let w : Item → ℕ = λ i. weight (is_code i.kind) in
       let a = made_weigh w 1 code_weight end stays was old old sound.ends (inr sound.last) in
       let b = kept_weigh w 1 code_weight end stays was old old in
       let d = killed_numbers w 1 code_weight end stays was old old in
       let e = no_sum (λ n. sum_by w (kills end was old n)) ids (λ n. no_weight w (kills end was old n)
-      (All-weaker (IsKill n) (λ (i : Item). w i ≡ 0) (λ i k. ap (λ (z : Bool). cond z 1 0) (kill_no_code i.kind k.kind)) (kills end was old n)
+      (All-weaker (IsKill n) (λ (i : Item). w i ≡ 0) (λ i k. ap weight (kill_no_code i.kind k.kind)) (kills end was old n)
       (each_kill end was old n))) in
-      omega (arith, a, b, d, e)
+      let n = block_count old in
+      omega (arith, a, b, d, e, n)
 
   calls_made : count_by (λ i. calls i.kind) (items_of made_all) ≤ count_by (λ i. calls i.kind) (items_of old)
   calls_made =
-      let w : Item → ℕ = λ i. cond (calls i.kind) 1 0 in
+      let w : Item → ℕ = λ i. weight (calls i.kind) in
       let a = made_weigh w 0 call_weight end stays was old old sound.ends (inr sound.last) in
       let b = kept_weigh w 0 call_weight end stays was old old in
       let d = killed_numbers w 0 call_weight end stays was old old in
       let e = no_sum (λ n. sum_by w (kills end was old n)) ids (λ n. no_weight w (kills end was old n)
-      (All-weaker (IsKill n) (λ (i : Item). w i ≡ 0) (λ i k. ap (λ (z : Bool). cond z 1 0) (kill_no_call i.kind k.kind)) (kills end was old n)
+      (All-weaker (IsKill n) (λ (i : Item). w i ≡ 0) (λ i k. ap weight (kill_no_call i.kind k.kind)) (kills end was old n)
       (each_kill end was old n))) in
-      let z : length old * 0 ≡ 0 = omega arith in
+      let z = no_blocks old in
       omega (arith, a, b, d, e, z)
 
-  physical_made : All (λ (b : Block). All (λ (i : Item). HasPhysical i.kind) b.items) old → All (λ (b : Block). All (λ (i : Item). HasPhysical i.kind) b.items) made_all
+  physical_made : All (λ (b : Block). All (λ (i : Item). HasPhysical i.kind) b.items) old →
+      All (λ (b : Block). All (λ (i : Item). HasPhysical i.kind) b.items) made_all
   physical_made all =
       blocks_hold HasPhysical sent_physical turned_physical (λ n. All-cons OperandIsPhysical (OfBlock n) [] tt (All-nil OperandIsPhysical)) end stays was old
-      (λ e. All-weaker (IsKill e) (λ (i : Item). HasPhysical i.kind) (λ i k. kill_physical i.kind k.kind) (kills end was old e) (each_kill end was old e)) old all
+      (λ e. All-weaker (IsKill e) (λ (i : Item). HasPhysical i.kind) (λ i k. kill_physical i.kind k.kind) (kills end was old e)
+      (each_kill end was old e)) old all
 
   abbrev before : List ℕ
   before = flat_map (λ i. numbers_of i.kind) (items_of old)
@@ -354,7 +381,8 @@ module _ (f g : Function) (subs : List Entry) (sound : IsSound f) (h : IsFoldedW
       (own_numbers (items_of old) w.item (in_items old w.block w.item w.member w.stood))) (kills end was old e) (each_from end was old e)) old
       own_all)) where
         own_all : All (λ (b : Block). All (λ (i : Item). Known before i.kind) b.items) old
-        own_all k d lt j e lt' = own_numbers (items_of old) _ (in_items old _ _ (k, lt, refl) (j, lt', refl))
+        own_all = all_of (λ (b : Block). All (λ (i : Item). Known before i.kind) b.items) old (λ b member.
+            all_of (λ (i : Item). Known before i.kind) b.items (λ i inside. own_numbers (items_of old) i (in_items old b i member inside)))
 
   abbrev entries : List ℕ
   entries = flat_map (λ s. s.src.number ∷ s.dst.number ∷ []) subs

@@ -1,4 +1,4 @@
 mod Weights
 mod Gone
-mod Kinds
+mod Holding
 mod Growing

@@ -13,7 +13,8 @@ use Rattle.mir_func.specs.declared.position.Origin.TheVariants.{Before}
 use Rattle.mir_func.specs.Exits.{exit_of, Leaves}
 use Rattle.mir_func.specs.Sound.{IsJumpAtMost, MayFollow, EndsWell, Closes}
 use Rattle.fold_rule.specs.Turned.{sent, turned, made_jump}
-use Rattle.fold_rule.specs.Tails.{first_of, else_way, is_number, if_needed, jump_at_end, jump_for_branch, branch_tail, plain_tail, branch_tail_to, tail_by, rewritten}
+use Rattle.fold_rule.specs.Tails.{first_of, else_way, is_number, if_needed, jump_at_end}
+use Rattle.fold_rule.specs.Tails.{jump_for_branch, branch_tail, plain_tail, branch_tail_to, tail_by, rewritten}
 use Rattle.fold_sound.proofs.Rows.{Leads, sent_branch, turned_branch, sent_jump}
 use Rattle.fold_sound.proofs.Tails.{goes_else, jump_exit}
 

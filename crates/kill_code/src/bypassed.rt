@@ -34,7 +34,8 @@ pub fn old_ways(alloc: Global, blocks: &[Block]) -> Result<OldWays, AllocError>
     requires { AreApart (ids_of blocks.now) }
     ensures leads { IfOk result (λ w. (n : ℕ) → told w.leads n ≡ lead blocks.now n) }
     ensures ends { IfOk result (λ w. (n : ℕ) → EndsAt (lead blocks.now) n (end_in w.ends n)) }
-    ensures reached { IfOk result (λ w. (n : ℕ) → IsTrue (contains nat_eq w.reached n) ↔ Reached blocks.now (λ m. m) n) }
+    ensures reached { IfOk result (λ w. (n : ℕ) → IsTrue (contains nat_eq w.reached n)
+        ↔ Reached blocks.now (λ m. m) n) }
 {
     let leads = leads(alloc, blocks)?;
     let ends = ends(alloc, &leads)?;

@@ -42,8 +42,8 @@ fn kills_by_end(
     blocks: &[Block],
     ways: &OldWays,
 ) -> Result<HashMap<u32, List<Kill>>, AllocError>
-    ensures { IfOk result (λ m. (e : ℕ) → kills_at m e
-        ≡ kills_to (end_past (end_in ways.now.ends) (contains nat_eq ways.now.reached) (told ways.now.leads)) e blocks.now) }
+    ensures { IfOk result (λ m. (e : ℕ) → kills_at m e ≡ kills_to
+        (end_past (end_in ways.now.ends) (contains nat_eq ways.now.reached) (told ways.now.leads)) e blocks.now) }
 {
     let mut kills = HashMap::new(alloc);
     for b in blocks {

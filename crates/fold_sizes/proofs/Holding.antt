@@ -12,7 +12,8 @@ use Rattle.mir_func.specs.declared.position.Origin.TheVariants.{Before}
 use Rattle.mir_func.specs.Exits.{exit_of}
 use Rattle.fold_ways.specs.Leads.{first_id}
 use Rattle.fold_rule.specs.Turned.{to_block, inverse_to, with_code, sent, turned, made_jump}
-use Rattle.fold_rule.specs.Tails.{first_of, else_way, is_number, if_needed, jump_at_end, jump_for_branch, branch_tail, plain_tail, branch_tail_to, tail_by, rewritten}
+use Rattle.fold_rule.specs.Tails.{first_of, else_way, is_number, if_needed, jump_at_end}
+use Rattle.fold_rule.specs.Tails.{jump_for_branch, branch_tail, plain_tail, branch_tail_to, tail_by, rewritten}
 use Rattle.fold_rule.specs.Rule.{folded_block, staying, folded_blocks}
 use Rattle.fold_kills.specs.Kills.{kills, with_kills}
 use Rattle.fold_runs.proofs.Placed.{made}
@@ -62,7 +63,8 @@ module _ (P : ItemKind → Type 0) (on_sent : (n : ℕ) (k : ItemKind) → P k �
       by_to t (Some m) = tests x xs (end t) (end m) here (All-tail Holds x xs all) (nat_eq (end t) (end m)) (is_number next (end m)) (is_number next (end t))
           (is_number next (end m))
 
-      by_exit : (q : Exit) → All Holds (rewritten end next fall silent xs) → All Holds (tail_by end next fall silent q x (first_of xs) (rewritten end next fall silent xs))
+      by_exit : (q : Exit) → All Holds (rewritten end next fall silent xs) →
+          All Holds (tail_by end next fall silent q x (first_of xs) (rewritten end next fall silent xs))
       by_exit Onward rest = All-cons Holds x (rewritten end next fall silent xs) here rest
       by_exit (Perhaps t) rest = by_to t (else_way (first_of xs) fall)
       by_exit (Always t) rest = needed (sent (end t) x) (on_sent (end t) x.kind here) (is_number next (end t))
