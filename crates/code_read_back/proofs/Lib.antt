@@ -1,0 +1,5 @@
+pub mod Tails
+pub mod Clean
+pub mod Operands
+pub mod Forms
+pub mod Judging

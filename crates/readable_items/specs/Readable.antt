@@ -1,0 +1,14 @@
+-- Items that were read.
+use Rattle.std.specs.Prelude.{Ok}
+use Rattle.meta_reader.specs.Maps.{Maps}
+use Rattle.mir_frame.specs.declared.parts.FunctionDocument.{FunctionDocument}
+use Rattle.mir_func.specs.Sound.{AllItems}
+use Rattle.mir_parser.specs.declared.closing.Parsed.{Parsed}
+use Rattle.mir_parser.specs.Closing.{Parses}
+use Rattle.code_read_back.specs.Code.{IsReadable}
+
+-- Each item of a function that a document stands for is one whose line is read back: code has the form of its opcode, leaves the stack pointer
+-- alone and has few operands; a mark's variable is inlined where its location is; and marks and phis name neither x0 nor x2.
+abbrev pub ItemsAreReadable : Type 0
+ItemsAreReadable = (meta : Maps) (doc : FunctionDocument) (p : Parsed) → Parses meta doc (Ok p) →
+    AllItems (λ i. IsReadable meta i.loc i.kind) p.func.blocks
