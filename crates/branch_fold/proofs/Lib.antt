@@ -1,0 +1,3 @@
+mod Results
+mod Folding
+mod Running

@@ -1,0 +1,27 @@
+-- The steps of the run.
+use Rattle.std.proofs.Common.{◌≡◌, List, [], ◌∷◌, refl, sym, append-nil}
+use Rattle.mir_func.specs.declared.entry.Entry.{Entry}
+use Rattle.mir_func.specs.Function.{Function}
+use Rattle.mir_func.specs.Sound.{IsSound}
+use Rattle.follow_law.specs.declared.loss.Loss.{Loss}
+use Rattle.follow_law.specs.Change.{change}
+use Rattle.follow_law.specs.Steps.{KeepsSteps}
+use Rattle.fold_kills.specs.Kills.{IsFoldedWithKills}
+use Rattle.fold_kills.proofs.Sound.{sound_killed}
+use Rattle.fold_follows.specs.Follows.{KillsStrip}
+use Rattle.fold_debug.specs.Debug.{fold_step}
+use Rattle.fold_debug.specs.Keeps.{FoldedKeepsItems}
+use Rattle.branch_fold.specs.Folded.{AreFoldedWithLosses}
+use Rattle.branch_fold.proofs.Folding.{with_all_kills}
+
+pub fold_steps : KillsStrip → FoldedKeepsItems → (f g : Function) (subs : List Entry) (losses : List Loss) → IsSound f →
+    AreFoldedWithLosses f.blocks g.blocks losses →
+    g ≡ record f { blocks = g.blocks } → KeepsSteps (fold_step ∷ []) (change f subs g subs) losses
+unfolding with_all_kills
+fold_steps strips keeps f g subs losses sound h same =
+    let kills : IsFoldedWithKills f g = with_all_kills f g losses h same in
+    (g, subs, losses, [], record {
+      sound = sound_killed f g sound kills;
+      code = strips f g sound kills;
+      items = keeps f g subs losses sound kills h.ordered h.each;
+    }, (refl, refl, refl), sym (append-nil losses))

@@ -1,0 +1,12 @@
+-- Proofs of what the pass owes of its rule for code. They stand here, and not in proofs/, since an implementation of the
+-- trait of passes cites them; nothing here is to be believed.
+use Rattle.follow_law.specs.Code.{HasOneResult, SeesCodeAlone}
+use Rattle.fold_rule.specs.Rule.{IsFolded}
+use Rattle.fold_laws.proofs.One.{one_folded}
+use Rattle.fold_laws.proofs.Alike.{sees_code}
+
+pub folding_has_one_result : HasOneResult IsFolded
+folding_has_one_result = one_folded
+
+pub folding_sees_code_alone : SeesCodeAlone IsFolded
+folding_sees_code_alone = sees_code
