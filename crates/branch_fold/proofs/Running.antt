@@ -19,9 +19,16 @@ pub fold_steps : KillsStrip → FoldedKeepsItems → (f g : Function) (subs : Li
     g ≡ record f { blocks = g.blocks } → KeepsSteps (fold_step ∷ []) (change f subs g subs) losses
 unfolding with_all_kills
 fold_steps strips keeps f g subs losses sound h same =
-    let kills : IsFoldedWithKills f g = with_all_kills f g losses h same in
-    (g, subs, losses, [], record {
-      sound = sound_killed f g sound kills;
-      code = strips f g sound kills;
-      items = keeps f g subs losses sound kills h.ordered h.each;
-    }, (refl, refl, refl), sym (append-nil losses))
+    let kills : IsFoldedWithKills f g = with_all_kills f g losses h same in (
+      g,
+      subs,
+      losses,
+      [],
+      record {
+        sound = sound_killed f g sound kills;
+        code = strips f g sound kills;
+        items = keeps f g subs losses sound kills h.ordered h.each;
+      },
+      (refl, refl, refl),
+      sym (append-nil losses),
+    )

@@ -75,11 +75,7 @@ pub fn fold(alloc: Global, f: &mut Func) -> Result<Losses, AllocError>
 }
 
 /// Folds a copy of blocks, puts their kills, and gives what is lost.
-fn fold_copy(
-    alloc: Global,
-    before: &[Block],
-    after: &mut Vec<Block>,
-) -> Result<Losses, AllocError>
+fn fold_copy(alloc: Global, before: &[Block], after: &mut Vec<Block>) -> Result<Losses, AllocError>
     requires apart { AreApart (ids_of before.now) }
     requires copied { after.old.items ≡ before.now }
     ensures folded { IfOk result (λ losses. AreFoldedWithLosses before.now after.new.items losses) }

@@ -24,4 +24,4 @@ invariant_of-f c =
     } in
     let h : Function = record g { blocks = c.fold_copy.new.after.items } in
     sound_killed g h (subst (λ (z : Function). IsSound z) (sym same) c.f.invariant)
-        (with_all_kills g h c.in_ok-losses.losses c.in_ok-losses.ensures.folded refl)
+    (with_all_kills g h c.in_ok-losses.losses c.in_ok-losses.ensures.folded refl)
