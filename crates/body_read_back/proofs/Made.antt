@@ -10,9 +10,9 @@ use Rattle.refusal.specs.declared.kind.RefusalKind.TheVariants as kinds
 use Rattle.mir_func.specs.declared.block.Block.{Block}
 use Rattle.mir_func.specs.declared.item.Item.{Item}
 use Rattle.mir_func.specs.Sound.{ids_of, items_of}
+use Rattle.mir_func.specs.Limits.{MAX_BLOCKS}
 use Rattle.mir_body.specs.declared.body.Body.{Body}
 use Rattle.mir_body.specs.Body.{object_named, and_last, blocks_of, block_with, label_cause, with_label}
-use Rattle.mir_body.specs.Limits.{MAX_BLOCKS}
 use Rattle.mir_body.specs.Met.{is_met}
 use Rattle.mir_parser.proofs.Bodies.{facts_apart}
 use Rattle.mir_parser.proofs.Lists.{met_new}

@@ -17,10 +17,11 @@ use Rattle.mir_func.specs.declared.variable.VarId.{VarId}
 use Rattle.mir_func.specs.Parts.{Bytes}
 use Rattle.mir_func.specs.Sound.{AreApart, ids_of, items_of, number_of, code_number, NumbersOnce}
 use Rattle.mir_func.specs.Variables.{is_same_node, is_same_variable, are_same_bytes, is_same}
+use Rattle.mir_func.specs.Limits.{MAX_BLOCKS}
 use Rattle.mir_body.specs.declared.body.Body.{Body}
 use Rattle.mir_body.specs.Body.{repeats, exceeds, item_cause, label_cause, with_label, with_item, with_number, with_constant, with_variable, constant_of}
 use Rattle.mir_body.specs.Body.{object_named, nothing_read}
-use Rattle.mir_body.specs.Limits.{MAX_BLOCKS, MAX_ITEMS, MAX_VARIABLES, MAX_NUMBERS, MAX_CONSTANTS}
+use Rattle.mir_body.specs.Limits.{MAX_ITEMS, MAX_VARIABLES, MAX_NUMBERS, MAX_CONSTANTS}
 use Rattle.mir_body.specs.Met.{is_met, met, is_known, known}
 use Rattle.mir_parser.proofs.Bodies.{facts_apart}
 use Rattle.mir_parser.proofs.Entries.{met_cases}

@@ -8,7 +8,7 @@ use Rattle.meta_reader.specs.Maps.{Maps}
 use Rattle.mir_lexer.specs.declared.line.Line.{Line}
 use Rattle.mir_func.specs.declared.block.Block.{Block}
 use Rattle.mir_func.specs.declared.item.Item.{Item}
-use Rattle.mir_func.specs.Limits.{MAX_NUMBER}
+use Rattle.numbers.specs.Limits.{MAX_NUMBER}
 use Rattle.mir_line.specs.declared.form.BodyLine.{BodyLine}
 use Rattle.mir_line.specs.declared.form.LineError.{LineError}
 use Rattle.mir_item.specs.declared.judged.Judged.{Judged}

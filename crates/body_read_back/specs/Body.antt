@@ -11,12 +11,13 @@ use Rattle.mir_func.specs.declared.item.ItemKind.{ItemKind}
 use Rattle.mir_func.specs.declared.item.ItemKind.TheVariants.{Code, Mark, Phi}
 use Rattle.mir_func.specs.declared.position.Origin.TheVariants.{Kept}
 use Rattle.mir_func.specs.declared.variable.VarId.{VarId}
-use Rattle.mir_func.specs.Limits.{MAX_NUMBER}
 use Rattle.mir_func.specs.Sound.{AreApart, ids_of, items_of, number_of, NumbersOnce}
+use Rattle.mir_func.specs.Limits.{MAX_BLOCKS}
+use Rattle.numbers.specs.Limits.{MAX_NUMBER}
 use Rattle.mir_item.specs.Judge.{entries_of}
 use Rattle.mir_body.specs.declared.body.Body.{Body}
 use Rattle.mir_body.specs.Body.{constant_of, object_named, blocks_of}
-use Rattle.mir_body.specs.Limits.{MAX_BLOCKS, MAX_ITEMS, MAX_VARIABLES, MAX_NUMBERS, MAX_CONSTANTS}
+use Rattle.mir_body.specs.Limits.{MAX_ITEMS, MAX_VARIABLES, MAX_NUMBERS, MAX_CONSTANTS}
 use Rattle.mir_body.specs.Met.{is_met, is_known}
 use Rattle.mir_parser.specs.BodyLines.{body_of}
 use Rattle.mir_printer.specs.Spelling.{item_text}

@@ -1,8 +1,7 @@
 //! Branch folding.
 
 ghost use Rattle.std.specs.Prelude.{◌≡◌, [], ◌∷◌, All, IfOk, OnOk, true, false};
-ghost use Rattle.mir_func.specs.Sound.{AreApart, ids_of, AllItems, IsSound};
-ghost use Rattle.follow_law.specs.Following.{HasForm};
+ghost use Rattle.mir_func.specs.Sound.{AreApart, ids_of, AllItems, IsSound, HasForm};
 ghost use Rattle.fold_debug.specs.Debug.{fold_step};
 ghost use Rattle.branch_fold.specs.Folded.{AreFoldedWithLosses};
 ghost use Rattle.branch_fold.specs.Laws.{folding_has_one_result, folding_sees_code_alone};

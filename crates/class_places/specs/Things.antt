@@ -1,6 +1,7 @@
 -- Tracked things, where they stand in their list, and the classes that they have at the start of a block.
 use Rattle.std.specs.Prelude.{◌≡◌, ℕ, ◌<◌, ◌≤◌, ◌%◌, List, length, Some, IsSome, Bool, false, cond, nat_eq, ◌&&◌, slice_get, slice_index, slice_index_or}
 use Rattle.std.specs.HashMap.{get}
+use Rattle.numbers.specs.Limits.{MAX_OFFSET}
 use Rattle.mir_func.specs.declared.variable.VarId.{VarId}
 use Rattle.path_tokens.specs.Pullback.{InRegister, OfNumber}
 use Rattle.class_entries.specs.declared.tracked.Tracked.{Tracked}
@@ -8,10 +9,6 @@ use Rattle.class_entries.specs.declared.tracked.Tracked.TheVariants.{Register, S
 use Rattle.class_entries.specs.Entry.{thing}
 use Rattle.class_paths.specs.Classes.{Classes}
 use Rattle.class_places.specs.declared.index.Index.{Index}
-
--- the greatest offset of a frame slot from x2, in bytes
-abbrev pub MAX_OFFSET : ℕ
-MAX_OFFSET = 2024
 
 abbrev pub IsOffset : ℕ → Type 0
 IsOffset n = (n % 8 ≡ 0) × (n ≤ MAX_OFFSET)

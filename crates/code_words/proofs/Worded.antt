@@ -26,7 +26,7 @@ use Rattle.mir_func.specs.declared.position.Pos.{Pos}
 use Rattle.mir_func.specs.Exits.{row_exit, exit_of}
 use Rattle.mir_func.specs.Graph.{Here, fetch_in}
 use Rattle.mir_func.specs.Objects.{object_of, offset_of, offset_or_zero}
-use Rattle.mir_func.specs.Sound.{AllItems, HasBytes, SlotIn, SlotsIn, ObjectIn, ObjectsIn}
+use Rattle.mir_func.specs.Sound.{AllItems, HasBytes, SlotIn, SlotsIn, ObjectIn, ObjectsIn, HasForm}
 use Rattle.mir_func.specs.SoundFrame.{own_size, slot_offsets, IsFramed, HasPhysical, IsPhysical}
 use Rattle.code_words.specs.Counts.{MAX_BASE, count_of}
 use Rattle.code_words.specs.Inverted.{jump_to}
@@ -34,7 +34,7 @@ use Rattle.code_words.specs.Laid.{FormWorded, IsWorded, IsFit}
 use Rattle.code_words.specs.Long.{IsBranchTo, with_short, reaches_in, IsClosed}
 use Rattle.code_words.specs.Rule.{Layout, row_form, items_at, bytes_before, address_in, start_of, offset_to, object_offset, operation_at, skip_operation}
 use Rattle.code_words.specs.Rule.{jump_operation}
-use Rattle.code_words.specs.steps.Emitted.{HasForm, KindHasForm}
+use Rattle.code_words.specs.steps.Emitted.{IsFormed}
 use Rattle.code_words.proofs.Areas.{object_within, end_small}
 use Rattle.code_words.proofs.Bounds.{bytes_aligned, bytes_small}
 use Rattle.code_words.proofs.Emitting.{inv, skipped}
@@ -78,7 +78,7 @@ found_index (x ∷ objects) n o e = found_by (nat_eq x.id n) x o objects n refl 
 -- what a layout is worded by
 pub record Sound (l : Layout) : Type 0 where
   pub framed : IsFramed l.framed
-  pub forms : AllItems HasForm l.framed.blocks
+  pub forms : AllItems IsFormed l.framed.blocks
   pub few : count_of l.framed.blocks < 262144
   pub aligned : l.base % 4 ≡ 0
   pub closed : IsClosed l
@@ -202,7 +202,7 @@ module _ (l : Layout) (s : Sound l) where
     has_word_at : (offset : ℤ) → OffsetFits (row_exit (row_of c)) offset → (c.op ≡ source.PseudoCall → ⊥) →
         HasWord offset (object_offset l.framed (object_named (row_of c))) c
     has_word_at offset fit other =
-        code_has_word c offset (of_kind KindHasForm s.forms) (of_kind HasPhysical s.framed.physical) (of_kind (SlotsIn (slot_offsets l.framed)) s.framed.slots)
+        code_has_word c offset (of_kind HasForm s.forms) (of_kind HasPhysical s.framed.physical) (of_kind (SlotsIn (slot_offsets l.framed)) s.framed.slots)
         (of_kind (ObjectsIn l.framed.objects) s.framed.objects) fit other
 
     exit_is : exit_of i.kind ≡ row_exit (row_of c)
@@ -214,7 +214,7 @@ module _ (l : Layout) (s : Sound l) where
         some_of w.operation w.is
 
     no_call : (row : Row) → row_of c ≡ row → (n : List ℕ) → ((name args : List ℕ) → row ≡ Calls name args → ⊥) → c.op ≡ source.PseudoCall → ⊥
-    no_call row e n apart call = call_apart c.operands (subst (λ (op : Op). IsTrue (has_form op c.operands)) call (of_kind KindHasForm s.forms))
+    no_call row e n apart call = call_apart c.operands (subst (λ (op : Op). IsTrue (has_form op c.operands)) call (of_kind HasForm s.forms))
         (λ name args f. apart name args (sym e ∙ ap (λ (op : Op). row_by op c.operands) call ∙ f))
 
     one_row : (row : Row) → row_of c ≡ row → ((m : ℕ) → row_exit row ≡ Perhaps m → l.long p ≡ false) → ((name args : List ℕ) → row ≡ Calls name args → ⊥) →
@@ -249,7 +249,7 @@ module _ (l : Layout) (s : Sound l) where
   worded p i c k at is = row_worded p i c k at is (row_of c) refl (l.long p) refl
 
   pub code_fits : IsFit l
-  code_fits p i c k at is = fit c.op c.operands (of_kind p i c k at is KindHasForm s.forms)
+  code_fits p i c k at is = fit c.op c.operands (of_kind p i c k at is HasForm s.forms)
 
   pub addresses_fit : l.base < MAX_BASE → (p : Pos) → address_in l p + 8 < 2 ^ 64
   addresses_fit low p =

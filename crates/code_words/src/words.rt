@@ -5,7 +5,7 @@ ghost use Rattle.std.specs.Prelude.{slice_index, List, length, pos, ◌-ℤ◌};
 ghost use Rattle.std.specs.List.{flat_map};
 ghost use Rattle.rv64_instr.specs.Row.{row_of};
 ghost use Rattle.rv64_instr.specs.Form.{has_form};
-ghost use Rattle.mir_func.specs.Sound.{AllItems};
+ghost use Rattle.mir_func.specs.Sound.{AllItems, HasForm};
 ghost use Rattle.rv64_word.specs.MachineOp.{is_encodable};
 ghost use Rattle.rv64_word.specs.Lowering.{lowered};
 ghost use Rattle.mir_func.specs.declared.item.ItemKind.TheVariants.{Code};
@@ -13,7 +13,7 @@ ghost use Rattle.mir_func.specs.Exits.{row_exit};
 ghost use Rattle.code_words.specs.Rule.{Layout, Site, words_of, words_at, sites_in, word_if, call_words, operation_at};
 ghost use Rattle.code_words.specs.Rule.{skip_operation};
 ghost use Rattle.code_words.specs.steps.Plans.{IsPlan};
-ghost use Rattle.code_words.specs.steps.Emitted.{StandsAt, AllStandAt, jump_by, inverted_word, KindHasForm, HasForm};
+ghost use Rattle.code_words.specs.steps.Emitted.{StandsAt, AllStandAt, jump_by, inverted_word, IsFormed};
 
 use crate::branch::inverted;
 use crate::code::Words;
@@ -32,7 +32,7 @@ use std::alloc::{AllocError, Global};
 pub fn words(alloc: Global, plan: &Plan, blocks: &[Block]) -> Result<Words, AllocError>
     ensures value { (l : Layout) → IsPlan l plan.now → l.framed.blocks ≡ blocks.now →
         IfOk result (λ words. words ≡ words_of l) }
-    ensures forms { OnOk result (AllItems HasForm blocks.now) }
+    ensures forms { OnOk result (AllItems IsFormed blocks.now) }
 {
     let mut words = Words::new(alloc);
     for (index, block) in blocks.iter().enumerate() {
@@ -48,7 +48,7 @@ pub fn words(alloc: Global, plan: &Plan, blocks: &[Block]) -> Result<Words, Allo
 
 /// Appends the words of items, before the first of which so many stand.
 fn push_block(words: &mut Words, plan: &Plan, first: u32, items: &[Item]) -> Result<(), AllocError>
-    ensures forms { OnOk result (All HasForm items.now) }
+    ensures forms { OnOk result (All IsFormed items.now) }
     ensures value { (l : Layout) (b : ℕ) → IsPlan l plan.now → AllStandAt l plan.now first b items.now →
         OnOk result (words.new ≡ words.old ++ flat_map (words_at l) (sites_in b 0 items.now)) }
 {
@@ -64,7 +64,7 @@ fn push_item(
     index: usize,
     kind: &ItemKind,
 ) -> Result<(), AllocError>
-    ensures form { KindHasForm kind.now }
+    ensures form { HasForm kind.now }
     ensures value { (l : Layout) (s : Site) → IsPlan l plan.now → StandsAt l plan.now index s → kind.now ≡ s.item.kind →
         OnOk result (words.new ≡ words.old ++ words_at l s) }
 {

@@ -20,7 +20,7 @@ use Rattle.mir_func.specs.declared.item.Item.{Item}
 use Rattle.mir_func.specs.declared.item.ItemKind.{ItemKind}
 use Rattle.mir_func.specs.declared.item.ItemKind.TheVariants.{Code, Mark, Phi}
 use Rattle.mir_func.specs.Function.{Function}
-use Rattle.mir_func.specs.Sound.{AllItems, IsSound, OriginIn}
+use Rattle.mir_func.specs.Sound.{AllItems, IsSound, OriginIn, HasForm}
 use Rattle.mir_func.specs.Graph.{Fetch, Here, Silent, Outside, Program, below, block_start, fetch_in, from_block, program_of, KindEdge, RowEdge, FetchEdge}
 use Rattle.mir_func.specs.Resolve.{resolve}
 use Rattle.mir_func.specs.Successors.{pos_in}
@@ -43,7 +43,7 @@ use Rattle.simulation.proofs.Laid.{rest_of, laid_out}
 use Rattle.held_alike.proofs.Held.{held_itself}
 use Rattle.held_alike.proofs.Told.{tells_itself}
 use Rattle.follow_law.specs.Change.{change}
-use Rattle.follow_law.specs.Following.{HasForm, Source}
+use Rattle.follow_law.specs.Following.{Source}
 use Rattle.dead_code.specs.Dead.{Places, Ends, is_dead_row, is_dead, needed_at}
 use Rattle.dead_code.specs.Wrong.{silenced, silenced_left, taken_out, IsWrongAt, IsClosed}
 use Rattle.dead_code.specs.Loose.{LooseShape, KeepsLoosely}

@@ -18,7 +18,7 @@ use Rattle.mir_func.specs.declared.item.Item.{Item}
 use Rattle.mir_func.specs.declared.item.ItemKind.{ItemKind}
 use Rattle.mir_func.specs.declared.item.ItemKind.TheVariants.{Code, Mark, Phi}
 use Rattle.mir_func.specs.Function.{Function}
-use Rattle.mir_func.specs.Sound.{AllItems, IsSound, number_of, code_number, LeavesPointer, OriginIn}
+use Rattle.mir_func.specs.Sound.{AllItems, IsSound, number_of, code_number, LeavesPointer, OriginIn, HasForm}
 use Rattle.mir_func.specs.Graph.{Fetch, Here, Silent, Program, below, block_start, from_block, index_of, program_of, Edge, FetchEdge}
 use Rattle.mir_func.specs.Successors.{pos_in}
 use Rattle.mir_meaning.specs.State.{Core, State}
@@ -43,7 +43,6 @@ use Rattle.held_alike.specs.Laws.{ItemsAreAlike}
 use Rattle.held_alike.proofs.Items.{items_are_alike}
 use Rattle.held_alike.proofs.Views.{does_both, pure_form}
 use Rattle.held_alike.proofs.Outcomes.{leaves_pair}
-use Rattle.follow_law.specs.Following.{HasForm}
 use Rattle.dead_code.specs.Dead.{Places, Ends, is_dead_row, is_dead, needed_at, paths_of}
 use Rattle.dead_code.specs.Wrong.{silenced, silenced_left, is_dead_at, IsWrongAt, made, on, IsClosed, begins_dead}
 use Rattle.dead_code.specs.Gone.{IsGone, judged_of}

@@ -12,7 +12,7 @@ use Rattle.mir_func.specs.declared.item.Item.{Item}
 use Rattle.mir_func.specs.declared.item.ItemKind.{ItemKind}
 use Rattle.mir_func.specs.declared.item.ItemKind.TheVariants.{Code, Mark, Phi}
 use Rattle.mir_func.specs.Function.{Function}
-use Rattle.mir_func.specs.Sound.{AreApart, AllItems, ids_of, items_of, number_of, code_number}
+use Rattle.mir_func.specs.Sound.{AreApart, AllItems, ids_of, items_of, number_of, code_number, HasForm}
 use Rattle.mir_func.specs.Sound.{NumbersOnce, OriginIn, TargetsIn, SlotsIn, ObjectsIn, LeavesPointer}
 use Rattle.mir_func.specs.Sound.{IsJumpAtMost, MayFollow, EndsWell, Closes, LastCloses, IsSound}
 use Rattle.mir_func.specs.declared.exit.Exit.{Exit}
@@ -20,7 +20,6 @@ use Rattle.mir_func.specs.declared.exit.Exit.TheVariants.{Onward, Perhaps, Alway
 use Rattle.mir_func.specs.Exits.{row_exit, exit_of, IsAlways, Leaves}
 use Rattle.mir_func.specs.Limits.{MAX_BLOCKS}
 use Rattle.mir_func.specs.Successors.{pos_in}
-use Rattle.follow_law.specs.Following.{HasForm}
 use Rattle.dead_code.specs.Dead.{Places, Ends, is_dead_row, is_dead, needed_at}
 use Rattle.dead_code.specs.Wrong.{silenced, silenced_left, taken_out}
 use Rattle.dead_code.proofs.Lists.{quiet, quiet_is, taken}

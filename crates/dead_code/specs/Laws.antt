@@ -4,10 +4,10 @@ use Rattle.rv64_instr.specs.declared.place.Place.{Place}
 use Rattle.mir_func.specs.declared.position.Pos.{Pos}
 use Rattle.mir_func.specs.declared.entry.Entry.{Entry}
 use Rattle.mir_func.specs.Function.{Function}
-use Rattle.mir_func.specs.Sound.{AllItems, IsSound}
+use Rattle.mir_func.specs.Sound.{AllItems, IsSound, HasForm}
 use Rattle.mir_func.specs.Strip.{stripped}
 use Rattle.follow_law.specs.Change.{change}
-use Rattle.follow_law.specs.Following.{HasForm, Source, FollowsSource}
+use Rattle.follow_law.specs.Following.{Source, FollowsSource}
 use Rattle.dead_code.specs.Dead.{Places, Ends, LiveAtEnd, IsRound}
 use Rattle.dead_code.specs.Wrong.{taken_out, IsWrongAt, IsClosed}
 use Rattle.follow_law.specs.declared.loss.Loss.{Loss}

@@ -1,11 +1,11 @@
 //! The walk down a block, and what it hands on to others.
 
 ghost use Rattle.std.specs.Prelude.{◌≡◌, ℕ, ◌+◌, ◌<◌, ◌⊎◌, ◌&&◌, [], true, false, length, All, Some};
-ghost use Rattle.std.specs.Prelude.{slice_get, slice_index_or};
+ghost use Rattle.std.specs.Prelude.{slice_index_or};
 ghost use Rattle.rv64_instr.specs.declared.place.Place.{Place};
 ghost use Rattle.mir_func.specs.Exits.{exit_of};
 ghost use Rattle.mir_func.specs.Function.{Function};
-ghost use Rattle.mir_func.specs.Sound.{SlotsIn, AllItems, ids_of};
+ghost use Rattle.mir_func.specs.Sound.{SlotsIn, AllItems};
 ghost use Rattle.mir_func.proofs.Ways.{IsOut};
 ghost use Rattle.live_flow.specs.Sets.{has};
 ghost use Rattle.live_flow.specs.Liveness.{items_at};
@@ -19,6 +19,7 @@ use mir_func::block::Block;
 use mir_func::exit::Exit;
 use mir_func::func::Func;
 use mir_func::item::{Item, ItemKind};
+use mir_func::successors::id_at;
 use numbers::code::BlockId;
 
 /// The verdict of an index; not dead where there is none.
@@ -38,16 +39,6 @@ pub fn verdicts_at(dead: &[List<bool>], block: usize) -> &[bool]
     match dead.get(block) {
         Some(verdicts) => verdicts.as_slice(),
         None => &[],
-    }
-}
-
-/// The number of the block of this index, if there is one.
-fn id_at(blocks: &[Block], index: usize) -> Option<BlockId>
-    ensures { result ≡ slice_get (ids_of blocks.now) index }
-{
-    match blocks.get(index) {
-        Some(b) => Some(b.id),
-        None => None,
     }
 }
 

@@ -6,3 +6,4 @@
 pub mod constants;
 pub mod front;
 pub mod leb;
+pub mod limits;

@@ -13,9 +13,8 @@ use crate::entry::text_of;
 use crate::kind::Kind;
 use crate::unit::{BaseEntry, FunctionEntry, Unit, VariableEntry};
 use dwarf_base::leb::uleb;
+use dwarf_base::limits::SECTION_LIMIT;
 
-/// A section has fewer bytes than this.
-const SECTION_LIMIT: usize = 1 << 31;
 /// The bytes of the unit's header.
 const HEADER: usize = 12;
 

@@ -11,9 +11,8 @@ ghost use Rattle.dwarf_line.specs.steps.Size.{capped};
 use crate::constants::*;
 use crate::table::{FileEntry, LineTable, Name, Row, Sequence};
 use dwarf_base::leb::{sleb, uleb};
+use dwarf_base::limits::SECTION_LIMIT;
 
-/// A section has fewer bytes than this.
-const SECTION_LIMIT: usize = 1 << 31;
 /// The bytes of the header before those that its length counts.
 const HEADER: usize = 12;
 /// The bytes of the opcode that sets the address.

@@ -2,16 +2,13 @@
 use Rattle.std.specs.Prelude.{◌≡◌, ◌≢◌, ℕ, ◌+◌, ◌%◌, ◌^◌, ◌<◌, ◌≤◌, List, [], ◌∷◌, Option, Some, None, nat_le, nat_lt, ◌&&◌, if◌then◌else◌}
 use Rattle.std.specs.Prelude.{All, FitsSigned, slice_get, length}
 use Rattle.std.specs.Int.{w64}
+use Rattle.numbers.specs.Limits.{MAX_OFFSET}
 use Rattle.rv64_instr.specs.declared.place.Place.{Place}
 use Rattle.rv64_instr.specs.declared.place.Place.TheVariants.{Register, Slot, Const}
 use Rattle.dwarf_loclists.specs.declared.range.Part.{Part}
 use Rattle.dwarf_loclists.specs.declared.range.Location.{Location}
 use Rattle.dwarf_loclists.specs.declared.range.Location.TheVariants.{Whole, Parts}
 use Rattle.dwarf_loclists.specs.declared.range.Range.{Range}
-
--- the greatest offset of a doubleword of the frame from x2, in bytes
-abbrev pub MAX_OFFSET : ℕ
-MAX_OFFSET = 2024
 
 -- where a value can be listed: x1 to x31 but the stack pointer, a doubleword of the frame, or a constant
 abbrev pub IsListed : Place → Type 0

@@ -10,14 +10,13 @@ use crate::constants::*;
 use crate::entry::{entry_len, push_entry};
 use crate::range::{Range, RangeLists, Ranges};
 use dwarf_base::constants::*;
+use dwarf_base::limits::SECTION_LIMIT;
 use lists::List;
 use std::alloc::{AllocError, Global};
 
 /// Bytes, in order.
 pub type Bytes = List<u8>;
 
-/// A section has fewer bytes than this.
-const SECTION_LIMIT: usize = 1 << 31;
 /// The bytes of the header, up to the offsets.
 const HEADER: usize = 12;
 /// Those of them that the section's length doesn't count.

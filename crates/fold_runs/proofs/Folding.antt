@@ -17,7 +17,7 @@ use Rattle.mir_func.specs.declared.position.Origin.TheVariants.{Kept, Before}
 use Rattle.mir_func.specs.Exits.{row_exit, exit_of}
 use Rattle.mir_func.specs.Function.{Function}
 use Rattle.mir_func.specs.Graph.{Program, Here, below, block_start, fetch_in, from_block, program_of, KindEdge, RowEdge, FetchEdge}
-use Rattle.mir_func.specs.Sound.{AllItems, AreApart, ids_of, OriginIn, IsSound}
+use Rattle.mir_func.specs.Sound.{AllItems, AreApart, ids_of, OriginIn, IsSound, HasForm}
 use Rattle.mir_meaning.specs.State.{Core, State}
 use Rattle.mir_meaning.specs.Step.{Outcome, Falls, Goes, Went, do_item, step}
 use Rattle.mir_meaning.specs.Align.{position_of, is_code, is_jump, is_jump_row, waits_at, moves_on, Count, since_of, After}
@@ -26,7 +26,6 @@ use Rattle.mir_meaning.proofs.Edges.{step_edge}
 use Rattle.mir_meaning.proofs.Outcomes.{step_item}
 use Rattle.mir_meaning.proofs.Reading.{found_in, front_item, within_list}
 use Rattle.simulation.specs.Sides.{since_item}
-use Rattle.fold_runs.specs.Runs.{HasForm}
 use Rattle.fold_ways.specs.Ways.{EndsAt}
 use Rattle.fold_ways.specs.Leads.{first_id, lead}
 use Rattle.fold_rule.specs.Turned.{with_code}

@@ -15,7 +15,7 @@ use Rattle.mir_func.specs.declared.position.Pos.{Pos}
 use Rattle.mir_func.specs.declared.position.Origin.TheVariants.{Kept, Before}
 use Rattle.mir_func.specs.Exits.{row_exit, exit_of, IsAlways, Leaves as LeavesBlock}
 use Rattle.mir_func.specs.Graph.{Program, Here, Silent, Outside, below, block_start, front, fetch_in, from_block, index_of, program_of}
-use Rattle.mir_func.specs.Sound.{IsJumpAtMost, MayFollow, EndsWell, Closes}
+use Rattle.mir_func.specs.Sound.{IsJumpAtMost, MayFollow, EndsWell, Closes, HasForm}
 use Rattle.mir_meaning.specs.State.{Core, State}
 use Rattle.mir_meaning.specs.Step.{Outcome, Falls, Goes, Gives, Traps, Asks, Breaks, do_item}
 use Rattle.mir_meaning.specs.Align.{position_of, is_code, ByItems, ByEnds, station_at, IsOrigin, Since, After, AnyOrigin, RunsAlong}
@@ -26,7 +26,6 @@ use Rattle.simulation.specs.Rewired.{RewiredRelation, IsAbsent, Reaches, arrived
 use Rattle.simulation.specs.Rewired.{View, both, added, paired, closes, ended, Jumps as JumpsTo}
 use Rattle.simulation.proofs.Stations.{IsStationOf, of_item, of_end, station_is_of}
 use Rattle.simulation.proofs.Laid.{rest_in, rest_of, laid_out, from_home}
-use Rattle.fold_runs.specs.Runs.{HasForm}
 use Rattle.fold_ways.specs.Ways.{EndsAt, leads_nowhere, comes_round, goes_on}
 use Rattle.fold_ways.specs.Leads.{first_id, always_to, lead_by, lead_of, lead}
 use Rattle.fold_ways.proofs.Ways.{one_end}

@@ -23,6 +23,7 @@ use Rattle.mir_func.specs.declared.variable.MarkValue.TheVariants.{Nothing}
 use Rattle.mir_func.specs.Exits.{exit_of, row_exit}
 use Rattle.mir_func.specs.Graph.{Program}
 use Rattle.mir_func.specs.Variables.{is_same, overlaps}
+use Rattle.mir_func.specs.Sound.{HasForm}
 use Rattle.mir_meaning.specs.State.{Core, updated, assigned}
 use Rattle.mir_meaning.specs.Step.{Outcome, Falls, Goes, Traps, act, does, are_written, read, with_core, numbered, given, defined, part_of, mark_value, place_value, do_item}
 use Rattle.mir_meaning.specs.Align.{is_code}
@@ -30,7 +31,6 @@ use Rattle.mir_meaning.proofs.Effects.{told_by}
 use Rattle.mir_meaning.proofs.Told.{Below, TellsLess}
 use Rattle.simulation.specs.Sides.{Does, ShowsSame}
 use Rattle.simulation.specs.Rewired.{Jumps as JumpsTo}
-use Rattle.fold_runs.specs.Runs.{HasForm}
 use Rattle.fold_kills.proofs.Kills.{IsKillKind}
 use Rattle.fold_sound.proofs.Rows.{Leads, IsEnding, branch, jump, is_ending}
 

@@ -1,26 +1,16 @@
 -- The runs of a folded function.
-use Rattle.std.specs.Prelude.{◌≡◌, Option, false, All, IsTrue}
-use Rattle.rv64_instr.specs.Form.{has_form}
-use Rattle.mir_func.specs.declared.block.Block.{Block}
-use Rattle.mir_func.specs.declared.item.ItemKind.{ItemKind}
-use Rattle.mir_func.specs.declared.item.ItemKind.TheVariants.{Code, Mark, Phi}
+use Rattle.std.specs.Prelude.{◌≡◌, Option, false, All}
 use Rattle.mir_func.specs.declared.entry.OperandPair.{OperandPair}
 use Rattle.mir_func.specs.declared.item.Item.{Item}
 use Rattle.mir_func.specs.declared.position.Pos.{Pos}
 use Rattle.mir_func.specs.declared.position.Origin.TheVariants.{Kept}
 use Rattle.mir_func.specs.Function.{Function}
-use Rattle.mir_func.specs.Sound.{AllItems, IsSound}
+use Rattle.mir_func.specs.Sound.{AllItems, IsSound, HasForm}
 use Rattle.mir_func.specs.Graph.{Here, Program, program_of, block_start}
 use Rattle.mir_meaning.specs.State.{State}
 use Rattle.mir_meaning.specs.Align.{ByItems, ByEnds, station_at, AnyOrigin, RunsAlong}
 use Rattle.mir_meaning.specs.Follow.{InOrder, OnRow, IsEnd, first_of}
 use Rattle.fold_kills.specs.Kills.{IsFoldedWithKills}
-
--- code whose operands have the form of its opcode
-abbrev pub HasForm : ItemKind → Type 0
-HasForm (Code i k) = IsTrue (has_form i.op i.operands)
-HasForm (Mark v m) = Unit {0}
-HasForm (Phi p k) = Unit {0}
 
 -- branches, jumps and returns are kept from the source
 abbrev pub EndsAreKept : Program → Type 0

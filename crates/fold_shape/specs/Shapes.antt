@@ -5,11 +5,10 @@ use Rattle.mir_func.specs.declared.entry.OperandPair.{OperandPair}
 use Rattle.mir_func.specs.declared.item.Item.{Item}
 use Rattle.mir_func.specs.declared.position.Pos.{Pos}
 use Rattle.mir_func.specs.Function.{Function}
-use Rattle.mir_func.specs.Sound.{AllItems, IsSound}
+use Rattle.mir_func.specs.Sound.{AllItems, IsSound, HasForm}
 use Rattle.mir_func.specs.Graph.{Here, program_of}
 use Rattle.mir_meaning.specs.Follow.{OnRow, IsEnd, Shape, EndIsKept, EndComesFrom}
 use Rattle.fold_kills.specs.Kills.{IsFoldedWithKills}
-use Rattle.fold_runs.specs.Runs.{HasForm}
 
 -- where a function has the source's shape, its blocks and its branches and returns, the folded one has the source's shape
 abbrev pub FoldedHasShape : Type 0

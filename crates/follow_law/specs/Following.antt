@@ -1,20 +1,11 @@
 -- The first law of passes: what followed a source follows it still.
 use Rattle.std.specs.Prelude.{◌≡◌, List, Bool, IsTrue}
-use Rattle.rv64_instr.specs.Form.{has_form}
-use Rattle.mir_func.specs.declared.item.ItemKind.{ItemKind}
-use Rattle.mir_func.specs.declared.item.ItemKind.TheVariants.{Code, Mark, Phi}
 use Rattle.mir_func.specs.declared.entry.Entry.{Entry}
 use Rattle.mir_func.specs.Function.{Function}
-use Rattle.mir_func.specs.Sound.{AllItems, IsSound}
+use Rattle.mir_func.specs.Sound.{AllItems, IsSound, HasForm}
 use Rattle.mir_func.specs.Resolve.{resolve}
 use Rattle.mir_meaning.specs.Follow.{Follows, HasWholeEnds, IsRead}
 use Rattle.follow_law.specs.Change.{Change}
-
--- code whose operands have the form of its opcode
-abbrev pub HasForm : ItemKind → Type 0
-HasForm (Code i k) = IsTrue (has_form i.op i.operands)
-HasForm (Mark v m) = Unit {0}
-HasForm (Phi p k) = Unit {0}
 
 -- a source: a function as it was read, with its substitutions
 pub record Source : Type 0 where

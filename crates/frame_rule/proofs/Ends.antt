@@ -17,12 +17,12 @@ use Rattle.mir_func.specs.declared.item.ItemKind.{ItemKind}
 use Rattle.mir_func.specs.declared.item.ItemKind.TheVariants.{Code, Mark, Phi}
 use Rattle.mir_func.specs.declared.position.Origin.{Origin}
 use Rattle.mir_func.specs.declared.position.Origin.TheVariants.{Before}
-use Rattle.mir_func.specs.Exits.{exit_of, IsAlways, Leaves}
+use Rattle.mir_func.specs.Exits.{exit_of, IsAlways, Leaves, is_final}
 use Rattle.mir_func.specs.Function.{Function}
 use Rattle.mir_func.specs.Sound.{IsNotPointer, LeavesPointer, IsJumpAtMost, MayFollow, EndsWell, Closes, LastCloses}
 use Rattle.mir_func.specs.SoundFrame.{SAVED, adds_to_pointer, restores, epilogue_code, AreCode, IsBody, GivesBack, goes_on, returns}
 use Rattle.frame_rule.specs.Rule.{saved_places, saved_registers, is_set, saved_of, size_of, added, added_all, position_in, renamed_operand, renamed_kind}
-use Rattle.frame_rule.specs.Rule.{renamed, is_final, framed_item, framed_items, framed_block}
+use Rattle.frame_rule.specs.Rule.{renamed, framed_item, framed_items, framed_block}
 use Rattle.frame_rule.proofs.Parts.{kind_exit, is_the_end, not_the_end, operand_apart, mapped, adds_exit}
 
 -- ---- saved registers ascend

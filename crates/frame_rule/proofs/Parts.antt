@@ -20,14 +20,14 @@ use Rattle.mir_func.specs.declared.item.ItemKind.TheVariants.{Code, Mark, Phi}
 use Rattle.mir_func.specs.declared.object.Object.{Object as StackObject}
 use Rattle.mir_func.specs.declared.position.Origin.{Origin}
 use Rattle.mir_func.specs.declared.position.Origin.TheVariants.{Before}
-use Rattle.mir_func.specs.Exits.{row_exit, exit_of}
+use Rattle.mir_func.specs.Exits.{row_exit, exit_of, is_final}
 use Rattle.mir_func.specs.Function.{Function, FramedFunction}
 use Rattle.mir_func.specs.Graph.{block_start}
 use Rattle.mir_func.specs.Sound.{AllItems, TargetIn, TargetsIn, SlotIn, SlotsIn, PlaceIn, ObjectIn, ObjectsIn, IsNotPointer}
 use Rattle.mir_func.specs.SoundFrame.{IsPhysical, PlaceIsPhysical, HasPhysical, slot_offsets, adds_to_pointer, saves, restores, prologue_code}
 use Rattle.mir_func.specs.SoundFrame.{epilogue_code}
 use Rattle.frame_rule.specs.Rule.{saved_of, size_of, added, added_all, position_in, epilogue, renamed_operand}
-use Rattle.frame_rule.specs.Rule.{renamed_place, renamed_kind, renamed, is_final, framed_item, framed_items, framed_block, prologue_block, framed_blocks}
+use Rattle.frame_rule.specs.Rule.{renamed_place, renamed_kind, renamed, framed_item, framed_items, framed_block, prologue_block, framed_blocks}
 use Rattle.frame_rule.specs.Rule.{framed_of}
 use Rattle.frame_rule.proofs.Rows.{renamed_row, row_renamed}
 use Rattle.frame_rule.proofs.Saved.{saved_given}

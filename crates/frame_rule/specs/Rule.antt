@@ -4,7 +4,7 @@
 -- registers, up to a multiple of 16, and above them the stack objects. A prologue before the first block makes the frame and saves
 -- registers, and an epilogue right before each return restores them and gives the frame back. Nothing else is added, and what is
 -- there stays: only slots are named by their offsets from x2.
-use Rattle.std.specs.Prelude.{ℕ, zero, suc, ◌+◌, ◌*◌, Bool, true, false, cond, nat_eq, List, [], ◌∷◌, ◌++◌, map, length, filter, Option, Some, None}
+use Rattle.std.specs.Prelude.{ℕ, zero, suc, ◌+◌, ◌*◌, Bool, false, cond, nat_eq, List, [], ◌∷◌, ◌++◌, map, length, filter, Option, Some, None}
 use Rattle.std.specs.List.{flat_map, list_any}
 use Rattle.rv64_instr.specs.declared.operand.Operand.{Operand}
 use Rattle.rv64_instr.specs.declared.operand.Operand.TheVariants.{Def, Use, ImplicitDef, ImplicitUse, Imm, Slot, Object as OfObject, Block as OfBlock, Symbol}
@@ -15,8 +15,6 @@ use Rattle.rv64_instr.specs.Instruction.{Instruction}
 use Rattle.rv64_instr.specs.Row.{row_of}
 use Rattle.rv64_instr.specs.Access.{sets}
 use Rattle.mir_func.specs.declared.block.Block.{Block}
-use Rattle.mir_func.specs.declared.exit.Exit.{Exit}
-use Rattle.mir_func.specs.declared.exit.Exit.TheVariants.{Onward, Perhaps, Always, Final}
 use Rattle.mir_func.specs.declared.framed.SavedRegister.{SavedRegister}
 use Rattle.mir_func.specs.declared.framed.SlotPlace.{SlotPlace}
 use Rattle.mir_func.specs.declared.item.Item.{Item}
@@ -26,7 +24,7 @@ use Rattle.mir_func.specs.declared.location.Loc.TheVariants.{Absent}
 use Rattle.mir_func.specs.declared.position.Origin.{Origin}
 use Rattle.mir_func.specs.declared.position.Origin.TheVariants.{Kept, Before}
 use Rattle.mir_func.specs.declared.position.Pos.{Pos}
-use Rattle.mir_func.specs.Exits.{exit_of}
+use Rattle.mir_func.specs.Exits.{exit_of, is_final}
 use Rattle.mir_func.specs.Function.{Function, FramedFunction}
 use Rattle.mir_func.specs.Graph.{block_start}
 use Rattle.mir_func.specs.Objects.{up_to, area_of}
@@ -133,12 +131,6 @@ abbrev pub renamed : List ℕ → Item → Item
 renamed slots i = record { kind = renamed_kind slots i.kind; origin = i.origin; loc = i.loc }
 
 -- ---- the function with its frame
-
-abbrev pub is_final : Exit → Bool
-is_final Final = true
-is_final Onward = false
-is_final (Perhaps n) = false
-is_final (Always n) = false
 
 -- an item: before a return stands the epilogue
 abbrev pub framed_item : Function → Item → List Item

@@ -22,13 +22,13 @@ use Rattle.mir_func.specs.declared.position.Origin.{Origin}
 use Rattle.mir_func.specs.declared.position.Origin.TheVariants.{Kept, Before}
 use Rattle.mir_func.specs.Exits.{row_exit, exit_of}
 use Rattle.mir_func.specs.Graph.{Program}
+use Rattle.mir_func.specs.Sound.{HasForm}
 use Rattle.mir_meaning.specs.State.{Core, Reply, writes_frame}
 use Rattle.mir_meaning.specs.Step.{Outcome, Falls, Goes, Gives, Traps, Asks, Breaks, act, does, read, are_written, with_core, address_at, is_fault, slot_loaded}
 use Rattle.mir_meaning.specs.Step.{answered, do_item}
 use Rattle.mir_meaning.specs.Align.{is_jump_row, is_jump, waits_at, ByItems, After, since_of}
 use Rattle.mir_meaning.specs.Follow.{RowFits, KindFits}
 use Rattle.simulation.specs.Sides.{since_item}
-use Rattle.frame_runs.specs.Runs.{HasForm}
 
 -- ---- where code goes elsewhere, it is a branch
 

@@ -12,14 +12,13 @@ use Rattle.mir_func.specs.declared.item.ItemKind.{ItemKind}
 use Rattle.mir_func.specs.declared.item.ItemKind.TheVariants.{Code, Mark, Phi}
 use Rattle.mir_func.specs.declared.position.Origin.{Origin}
 use Rattle.mir_func.specs.declared.position.Origin.TheVariants.{Kept, Before}
-use Rattle.mir_func.specs.Exits.{exit_of}
+use Rattle.mir_func.specs.Exits.{exit_of, is_final}
 use Rattle.mir_meaning.specs.State.{Core, updated, content}
 use Rattle.mir_meaning.specs.Step.{Outcome, Falls, Goes, Gives, Traps, Asks, Breaks, act, does, read, set_register, slot_loaded}
 use Rattle.mir_meaning.specs.Align.{position_of, is_code, is_jump, is_jump_row, Since, After}
 use Rattle.mir_meaning.specs.Effects.{EndAlike}
 use Rattle.simulation.specs.Sides.{OutcomesAlike}
 use Rattle.frame_rule.specs.Rule.{position_in, renamed_kind}
-use Rattle.frame_rule.specs.Rule.{is_final}
 use Rattle.frame_rule.proofs.Rows.{renamed_row, row_renamed}
 
 pub same_position : (o : Origin) → position_in o ≡ position_of o

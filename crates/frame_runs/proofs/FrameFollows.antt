@@ -5,14 +5,14 @@ use Rattle.mir_func.specs.declared.block.Block.{Block}
 use Rattle.mir_func.specs.declared.item.Item.{Item}
 use Rattle.mir_func.specs.declared.position.Pos.{Pos}
 use Rattle.mir_func.specs.Graph.{block_start, from_block, program_of, framed_program}
-use Rattle.mir_func.specs.Sound.{SlotsIn, LeavesPointer, LastCloses}
+use Rattle.mir_func.specs.Sound.{SlotsIn, LeavesPointer, LastCloses, HasForm}
 use Rattle.mir_meaning.specs.State.{content}
 use Rattle.mir_meaning.specs.Align.{ByItems, station_at, First, RunsAlong}
 use Rattle.mir_meaning.specs.Follow.{KindFits, first_of}
 use Rattle.mir_meaning.proofs.Reading.{found_in}
 use Rattle.simulation.proofs.Laid.{rest_in, rest_of}
 use Rattle.frame_rule.specs.Rule.{framed_of}
-use Rattle.frame_runs.specs.Runs.{HasForm, FrameFollows}
+use Rattle.frame_runs.specs.Runs.{FrameFollows}
 use Rattle.frame_runs.proofs.Blocks.{drop_zero}
 use Rattle.frame_runs.proofs.Fits.{branch_moves, final_reads}
 use Rattle.frame_runs.proofs.Framing.{IsFit, framing_follows}

@@ -22,7 +22,7 @@ use Rattle.mir_func.specs.declared.item.ItemKind.{ItemKind}
 use Rattle.mir_func.specs.declared.item.ItemKind.TheVariants.{Code, Mark, Phi}
 use Rattle.mir_func.specs.declared.position.Pos.{Pos}
 use Rattle.mir_func.specs.declared.framed.SavedRegister.{SavedRegister}
-use Rattle.mir_func.specs.Exits.{row_exit, exit_of}
+use Rattle.mir_func.specs.Exits.{row_exit, exit_of, is_final}
 use Rattle.mir_func.specs.Function.{Function}
 use Rattle.mir_func.specs.Graph.{Program, Fetch, Here, Silent, Outside, block_start, from_block, framed_program}
 use Rattle.mir_func.specs.Sound.{IsNotPointer, LeavesPointer, SlotsIn, LastCloses, IsSound}
@@ -32,7 +32,7 @@ use Rattle.mir_meaning.specs.Step.{Outcome, Falls, Goes, Gives, Traps, Asks, Bre
 use Rattle.mir_meaning.specs.Step.{address_at, is_fault, slot_loaded, answered, do_item, do_fetch, step}
 use Rattle.mir_meaning.proofs.Reading.{found_in}
 use Rattle.simulation.proofs.Laid.{rest_in, rest_of}
-use Rattle.frame_rule.specs.Rule.{sets_register, is_final, saved_of, framed_of}
+use Rattle.frame_rule.specs.Rule.{sets_register, saved_of, framed_of}
 use Rattle.frame_runs.specs.Stands.{is_return, is_as_found, frame_state, FrameState, FrameStands, FrameAlwaysStands, FrameGivesBack}
 use Rattle.frame_rule.proofs.Saved.{all_given, set_is_saved}
 use Rattle.frame_runs.proofs.Blocks.{drop_zero}

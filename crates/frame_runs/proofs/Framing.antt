@@ -18,7 +18,7 @@ use Rattle.mir_func.specs.declared.item.ItemKind.TheVariants.{Code, Mark, Phi}
 use Rattle.mir_func.specs.declared.position.Origin.{Origin}
 use Rattle.mir_func.specs.declared.position.Origin.TheVariants.{Before}
 use Rattle.mir_func.specs.declared.position.Pos.{Pos}
-use Rattle.mir_func.specs.Exits.{exit_of}
+use Rattle.mir_func.specs.Exits.{exit_of, is_final}
 use Rattle.mir_func.specs.Function.{Function}
 use Rattle.mir_func.specs.Graph.{Program, Silent, block_start, fetch_in, front, from_block, index_of, program_of, framed_program}
 use Rattle.mir_func.specs.Sound.{SlotsIn, LeavesPointer}
@@ -37,7 +37,6 @@ use Rattle.simulation.specs.Added.{Adds, Begins, opens}
 use Rattle.simulation.proofs.Laid.{rest_in, rest_of, laid_out, laid_out_framed}
 use Rattle.simulation.proofs.Added.{added_follows}
 use Rattle.frame_rule.specs.Rule.{slot_offset, saved_of, size_of, added, added_all, position_in, prologue, epilogue, renamed_code, renamed_kind, renamed}
-use Rattle.frame_rule.specs.Rule.{is_final}
 use Rattle.frame_rule.specs.Rule.{framed_item, framed_items, framed_block, framed_blocks, prologue_block}
 use Rattle.frame_rule.proofs.Rows.{renamed_row, row_renamed, IsOther}
 use Rattle.frame_runs.proofs.Cores.{Beside, put_written, updated_written, slots_below}

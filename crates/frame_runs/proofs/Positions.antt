@@ -12,14 +12,14 @@ use Rattle.mir_func.specs.declared.item.Item.{Item}
 use Rattle.mir_func.specs.declared.position.Origin.{Origin}
 use Rattle.mir_func.specs.declared.position.Origin.TheVariants.{Before}
 use Rattle.mir_func.specs.declared.position.Pos.{Pos}
-use Rattle.mir_func.specs.Exits.{row_exit, exit_of}
+use Rattle.mir_func.specs.Exits.{row_exit, exit_of, is_final}
 use Rattle.mir_func.specs.Function.{Function, FramedFunction}
 use Rattle.mir_func.specs.Graph.{Program, Fetch, Here, Silent, Outside, framed_program}
 use Rattle.mir_func.specs.SoundFrame.{SAVED, adds_to_pointer, saves, restores, epilogue_code}
 use Rattle.mir_meaning.specs.State.{Core, content}
 use Rattle.simulation.specs.Sides.{Laid, IsPastItems}
 use Rattle.simulation.proofs.Laid.{rest_in, laid_out_framed}
-use Rattle.frame_rule.specs.Rule.{saved_places, saved_of, size_of, added, added_all, position_in, epilogue, renamed, is_final, framed_item, framed_items}
+use Rattle.frame_rule.specs.Rule.{saved_places, saved_of, size_of, added, added_all, position_in, epilogue, renamed, framed_item, framed_items}
 use Rattle.frame_rule.specs.Rule.{framed_of}
 use Rattle.frame_runs.specs.Stands.{FrameState, is_return, is_as_found, frame_state, IsSaved, FrameStands}
 use Rattle.frame_rule.proofs.Saved.{none_saved}

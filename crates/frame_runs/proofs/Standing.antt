@@ -21,7 +21,7 @@ use Rattle.mir_func.specs.declared.item.ItemKind.TheVariants.{Code, Mark, Phi}
 use Rattle.mir_func.specs.declared.position.Origin.{Origin}
 use Rattle.mir_func.specs.declared.position.Origin.TheVariants.{Before}
 use Rattle.mir_func.specs.declared.position.Pos.{Pos}
-use Rattle.mir_func.specs.Exits.{row_exit, exit_of}
+use Rattle.mir_func.specs.Exits.{row_exit, exit_of, is_final}
 use Rattle.mir_func.specs.Function.{Function}
 use Rattle.mir_func.specs.Graph.{Program, Fetch, Here, Silent, Outside, below, block_start, from_block, index_of, framed_program}
 use Rattle.mir_func.specs.Sound.{SlotsIn}
@@ -36,7 +36,7 @@ use Rattle.mir_meaning.proofs.Places.{put_same, put_other, updated_same, updated
 use Rattle.simulation.specs.Sides.{Laid, IsPastItems}
 use Rattle.simulation.proofs.Laid.{rest_in, rest_of, laid_out_framed}
 use Rattle.frame_rule.specs.Rule.{saved_places, saved_registers, saved_of, size_of, sets_register, added, added_all, position_in, prologue}
-use Rattle.frame_rule.specs.Rule.{epilogue, renamed, renamed_code, renamed_kind, is_final, framed_item, framed_items, framed_block, framed_blocks}
+use Rattle.frame_rule.specs.Rule.{epilogue, renamed, renamed_code, renamed_kind, framed_item, framed_items, framed_block, framed_blocks}
 use Rattle.frame_rule.specs.Rule.{prologue_block}
 use Rattle.frame_runs.specs.Stands.{IsEntered}
 use Rattle.frame_rule.proofs.Rows.{renamed_row, row_renamed}

@@ -1,23 +1,14 @@
 -- What a source's function with its frame does beside the source.
-use Rattle.std.specs.Prelude.{IsTrue, List, Option, true}
-use Rattle.rv64_instr.specs.Form.{has_form}
+use Rattle.std.specs.Prelude.{List, Option, true}
 use Rattle.mir_func.specs.declared.block.Block.{Block}
 use Rattle.mir_func.specs.declared.entry.OperandPair.{OperandPair}
-use Rattle.mir_func.specs.declared.item.ItemKind.{ItemKind}
-use Rattle.mir_func.specs.declared.item.ItemKind.TheVariants.{Code, Mark, Phi}
 use Rattle.mir_func.specs.Function.{Function}
 use Rattle.mir_func.specs.Graph.{block_start, program_of, framed_program}
-use Rattle.mir_func.specs.Sound.{AllItems, IsSound}
+use Rattle.mir_func.specs.Sound.{AllItems, IsSound, HasForm}
 use Rattle.mir_meaning.specs.State.{State}
 use Rattle.mir_meaning.specs.Align.{ByItems, station_at, First, RunsAlong}
 use Rattle.mir_meaning.specs.Follow.{Follows, IsStart, first_of}
 use Rattle.frame_rule.specs.Rule.{framed_of}
-
--- code has the form of its opcode: so a return gives x10 to x17 alone
-abbrev pub HasForm : ItemKind → Type 0
-HasForm (Code i k) = IsTrue (has_form i.op i.operands)
-HasForm (Mark v m) = Unit {0}
-HasForm (Phi p k) = Unit {0}
 
 -- What follows a source runs along with it with its frame too: over code items, by the first arrival at each position.
 abbrev pub FrameFollows : Type 0

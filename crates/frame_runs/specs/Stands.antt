@@ -4,7 +4,7 @@ use Rattle.std.specs.Prelude.{◌≡◌, ℕ, ◌-◌, ◌<◌, ◌≤◌, ◌^�
 use Rattle.mir_func.specs.declared.entry.OperandPair.{OperandPair}
 use Rattle.mir_func.specs.declared.framed.SavedRegister.{SavedRegister}
 use Rattle.mir_func.specs.declared.position.Pos.{Pos}
-use Rattle.mir_func.specs.Exits.{exit_of}
+use Rattle.mir_func.specs.Exits.{exit_of, is_final}
 use Rattle.mir_func.specs.Function.{Function, FramedFunction}
 use Rattle.mir_func.specs.Graph.{Fetch, Here, Silent, Outside, block_start, fetch_in, framed_program}
 use Rattle.mir_func.specs.Limits.{MAX_FRAME, FRAME_ROOM}
@@ -12,7 +12,7 @@ use Rattle.mir_func.specs.Sound.{IsSound}
 use Rattle.mir_func.specs.SoundFrame.{SAVED}
 use Rattle.mir_meaning.specs.State.{Core, State, content}
 use Rattle.mir_meaning.specs.Step.{Went, Returned, read, step, run}
-use Rattle.frame_rule.specs.Rule.{is_final, framed_of, size_of}
+use Rattle.frame_rule.specs.Rule.{framed_of, size_of}
 
 -- the frame's state: by how many bytes x2 is lowered, and whether registers are in their places
 pub record FrameState : Type 0 where

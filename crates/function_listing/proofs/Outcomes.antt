@@ -16,11 +16,12 @@ use Rattle.mir_func.specs.declared.item.ItemKind.{ItemKind}
 use Rattle.mir_func.specs.declared.item.ItemKind.TheVariants.{Code}
 use Rattle.mir_func.specs.declared.position.Point.{Point}
 use Rattle.mir_func.specs.declared.position.Pos.{Pos}
+use Rattle.mir_func.specs.Sound.{HasForm}
 use Rattle.code_words.specs.declared.code.Entry.{Entry}
 use Rattle.code_words.specs.Inverted.{inverted, jump_to}
 use Rattle.code_words.specs.Listed.{listed}
 use Rattle.code_words.specs.Rule.{Layout, Site, Form, form_of, address_in, form_entries, entries_at, entry, added_before}
-use Rattle.code_words.specs.steps.Emitted.{KindHasForm, point_of}
+use Rattle.code_words.specs.steps.Emitted.{point_of}
 use Rattle.compiled_text.specs.declared.output.Line.{Line}
 use Rattle.shown_program.specs.Listing.{branch_skip, line_at, form_lines, kind_lines, site_lines}
 use Rattle.shown_program.proofs.Forms.{FormView, one, call, long, viewed}
@@ -106,7 +107,7 @@ module _ (l : Layout) (i : Item) (c : Instruction) (k : Option ℕ) (a : ℕ) (e
         rest = ap (drop 2) is;
       })
 
-pub outcome : (l : Layout) (s : Site) (c : Instruction) (k : Option ℕ) (es others : List Entry) → KindHasForm (Code c k) → Code c k ≡ s.item.kind →
+pub outcome : (l : Layout) (s : Site) (c : Instruction) (k : Option ℕ) (es others : List Entry) → HasForm (Code c k) → Code c k ≡ s.item.kind →
     es ≡ entries_at l s ++ others → BeginsApart s.point others →
     One l s.item c k (address_in l s.point) es others (site_lines l s) ⊎ Two l s.item c k (address_in l s.point) es others (site_lines l s)
 outcome l s c k es others form kind is apart =
@@ -139,7 +140,7 @@ module _ (l : Layout) (s : Site) (c : Instruction) (k : Option ℕ) (es others :
       (ap (λ (x : ℕ). line_at (Some x) s.item (Code (listed l.framed c) k) ∷ []) address ∙ sym o.lined, o.rest)
   one_given first none (inr t) = let some : None ≡ Some t.branch = none ∙ t.second in absurd cc
 
-module _ (l : Layout) (s : Site) (c : Instruction) (k : Option ℕ) (entries others : List Entry) (at a : ℕ) (form : KindHasForm (Code c k))
+module _ (l : Layout) (s : Site) (c : Instruction) (k : Option ℕ) (entries others : List Entry) (at a : ℕ) (form : HasForm (Code c k))
     (kind : Code c k ≡ s.item.kind) (stands : StandsAt l entries at s others) where
   pub long_lined : (far : Long) → Some a ≡ first_address (drop at entries) →
       Some far ≡ long_by (second_address (drop at entries)) (branch_by c.op c.operands) → (old new : List Line) (item : Item) → item ≡ s.item →

@@ -30,7 +30,7 @@ use Rattle.mir_func.specs.declared.position.Origin.{Origin}
 use Rattle.mir_func.specs.declared.position.Origin.TheVariants.{Kept, Before}
 use Rattle.mir_func.specs.declared.position.Pos.{Pos}
 use Rattle.mir_func.specs.Objects.{offset_of}
-use Rattle.mir_func.specs.Sound.{AllItems, IsSoundObject}
+use Rattle.mir_func.specs.Sound.{AllItems, IsSoundObject, HasForm}
 use Rattle.mir_func.specs.SoundFrame.{own_size, slot_offsets, IsFramed}
 use Rattle.code_words.specs.declared.code.Entry.{Entry}
 use Rattle.code_words.specs.Inverted.{jump_to}
@@ -38,7 +38,7 @@ use Rattle.code_words.specs.Laid.{IsWorded}
 use Rattle.code_words.specs.Listed.{by_pointer, listed}
 use Rattle.code_words.specs.Rule.{Layout, Site, Form, Nothing, OneWord, CallSite, LongBranch, form_of, form_entries, address_in, added_before, entries_at, entry}
 use Rattle.code_words.specs.Rule.{entries_of, sites_in, sites_from, sites_of, words_of}
-use Rattle.code_words.specs.steps.Emitted.{KindHasForm, HasForm}
+use Rattle.code_words.specs.steps.Emitted.{IsFormed}
 use Rattle.code_words.proofs.Sites.{site_size}
 use Rattle.code_words.proofs.Stand.{stands, words_fill}
 use Rattle.mir_printer.specs.Printable.{IsNumber, IsSigned, HasNumbers, IsPrintableInstruction, IsPrintableLoc, IsPrintableVariable, IsPrintableValue}
@@ -242,7 +242,7 @@ module _ (inlined : ℕ → Option ℕ) (l : Layout) (framed : IsFramed l.framed
       subst (λ (op : Op). LongPrintable a i k n op c.operands) (sym op_is) (subst (λ (os : List Operand). LongPrintable a i k n (OfBranch b) os) (sym os_is)
       long_one)
 
-  kind_printable : (s : Site) (kind : ItemKind) → IsPrintableFramedItem inlined s.item → KindHasForm kind → IsPlaced l.framed kind →
+  kind_printable : (s : Site) (kind : ItemKind) → IsPrintableFramedItem inlined s.item → HasForm kind → IsPlaced l.framed kind →
       IsPrintableFramedKind inlined s.item.loc kind →
       All IsLow (form_entries (address_in l s.point) s.item.origin s.point (form_of (l.long s.point) kind)) →
       All (IsPrintableLine inlined) (kind_lines l s kind)

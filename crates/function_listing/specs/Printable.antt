@@ -6,7 +6,7 @@ use Rattle.mir_func.specs.declared.item.ItemKind.{ItemKind}
 use Rattle.mir_func.specs.declared.item.ItemKind.TheVariants.{Code, Mark, Phi}
 use Rattle.mir_func.specs.declared.location.Loc.{Loc}
 use Rattle.mir_func.specs.Function.{FramedFunction}
-use Rattle.code_words.specs.steps.Emitted.{HasForm}
+use Rattle.code_words.specs.steps.Emitted.{IsFormed}
 use Rattle.mir_printer.specs.Printable.{IsNumber, HasNumbers, IsPrintablePlace, IsPrintableValue, IsPrintableLoc, IsPrintableVariable}
 use Rattle.compiled_text.specs.Shown.{IsPrintableOrigin, declared_by}
 
@@ -17,7 +17,7 @@ IsPrintableFramedKind inlined loc (Mark v m) = IsPrintableVariable (declared_by 
 IsPrintableFramedKind inlined loc (Phi p k) = IsPrintablePlace p × IsNumber k
 
 pub record IsPrintableFramedItem (inlined : ℕ → Option ℕ) (i : Item) : Type 0 where
-  pub form : HasForm i
+  pub form : IsFormed i
   pub kind : IsPrintableFramedKind inlined i.loc i.kind
   pub origin : IsPrintableOrigin i.origin
   pub loc : IsPrintableLoc i.loc

@@ -27,16 +27,14 @@ use Rattle.mir_func.specs.declared.position.Origin.TheVariants.{Kept, Before}
 use Rattle.mir_func.specs.declared.object.Object as func
 use Rattle.mir_func.specs.Function.{Function}
 use Rattle.mir_func.specs.Graph.{block_start}
-use Rattle.mir_func.specs.Limits.{MAX_NUMBER}
-use Rattle.mir_func.specs.Sound.{AllItems, OriginIn, items_of}
+use Rattle.mir_func.specs.Sound.{AllItems, OriginIn, items_of, HasForm, HasForm as KindForm}
 use Rattle.mir_func.specs.SoundFrame.{SAVED, adds_to_pointer, saves, restores, prologue_code, epilogue_code, IsSlotOffset, IsFramed}
 use Rattle.frame_lower.proofs.Forms.{form_same}
 use Rattle.frame_rule.specs.Rule.{slots_before, slot_offset, added, added_all, position_in, epilogue, renamed_operand, renamed_place}
-use Rattle.frame_rule.specs.Rule.{renamed_kind, renamed, is_final, framed_item, framed_block, prologue_block, framed_blocks, framed_of, size_of}
+use Rattle.frame_rule.specs.Rule.{renamed_kind, renamed, framed_item, framed_block, prologue_block, framed_blocks, framed_of, size_of}
 use Rattle.frame_rule.specs.Rule.{saved_of}
-use Rattle.frame_runs.specs.Runs.{HasForm as KindForm}
-use Rattle.mir_func.specs.Exits.{exit_of}
-use Rattle.code_words.specs.steps.Emitted.{KindHasForm}
+use Rattle.mir_func.specs.Exits.{exit_of, is_final}
+use Rattle.numbers.specs.Limits.{MAX_NUMBER}
 use Rattle.mir_body.specs.Limits.{MAX_ITEMS}
 use Rattle.mir_printer.specs.Printable.{IsNumber, IsSigned, HasNumbers, IsPrintablePlace}
 use Rattle.mir_printer.specs.Printable.{IsPrintableKind, IsPrintable}
@@ -224,7 +222,7 @@ module _ (meta : Maps) (f : Function) (read : IsReadFunction meta f) (framed : I
   place_fits (Some (place.Slot n)) is = offset_small n
   place_fits (Some (place.Const c)) is = is
 
-  form_fits : (kind : ItemKind) → KindForm kind → KindHasForm (renamed_kind f.slots kind)
+  form_fits : (kind : ItemKind) → KindForm kind → HasForm (renamed_kind f.slots kind)
   form_fits (Code c k) is = form_same f.slots c.op c.operands ∙ is
   form_fits (Mark v m) is = tt
   form_fits (Phi p k) is = tt

@@ -14,17 +14,8 @@ use crate::names::Names;
 use crate::set::PlaceSet;
 use mir_func::block::Block;
 use mir_func::item::Item;
+use mir_func::successors::id_at;
 use numbers::code::BlockId;
-
-/// The number of the block of this index, if there is one.
-fn id_at(blocks: &[Block], index: usize) -> Option<BlockId>
-    ensures { result ≡ slice_get (ids_of blocks.now) index }
-{
-    match blocks.get(index) {
-        Some(b) => Some(b.id),
-        None => None,
-    }
-}
 
 impl Names {
     /// Adds to a block's set what is live at its start by the sets of the others, and tells whether there was anything

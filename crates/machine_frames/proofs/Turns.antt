@@ -16,7 +16,7 @@ use Rattle.mir_func.specs.declared.item.ItemKind.TheVariants.{Code, Mark, Phi}
 use Rattle.mir_func.specs.declared.position.Origin.{Origin}
 use Rattle.mir_func.specs.declared.position.Origin.TheVariants.{Kept, Before}
 use Rattle.mir_func.specs.declared.position.Pos.{Pos}
-use Rattle.mir_func.specs.Exits.{exit_of}
+use Rattle.mir_func.specs.Exits.{exit_of, is_final}
 use Rattle.mir_func.specs.Function.{Function}
 use Rattle.mir_func.specs.Graph.{Fetch, Here, Silent, Outside, Program, below, block_start, fetch_in, program_of, framed_program, Leads}
 use Rattle.mir_func.specs.Sound.{EndsWell}
@@ -36,7 +36,7 @@ use Rattle.mir_func.specs.Graph.{from_block}
 use Rattle.mir_meaning.specs.Follow.{IsMetApart}
 use Rattle.mir_meaning.proofs.Reading.{FoundAt, found, front_item}
 use Rattle.simulation.proofs.Laid.{from_home}
-use Rattle.frame_rule.specs.Rule.{is_final, renamed_kind}
+use Rattle.frame_rule.specs.Rule.{renamed_kind}
 use Rattle.machine_frames.proofs.Framed.{index_in}
 use Rattle.machine_frames.proofs.Renames.{renamed_row, row_renamed}
 use Rattle.machine_frames.proofs.Framed.{prologue_is, epilogue_is, frame_onward, IsFramedItem, own, gives_back, framed_item_is, InPrologue, InBlock}

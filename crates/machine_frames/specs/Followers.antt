@@ -5,14 +5,13 @@ use Rattle.mir_func.specs.declared.entry.OperandPair.{OperandPair}
 use Rattle.mir_func.specs.declared.variable.VarId.{VarId}
 use Rattle.mir_func.specs.Function.{Function}
 use Rattle.mir_func.specs.Graph.{framed_program}
-use Rattle.mir_func.specs.Sound.{AllItems, IsSound}
+use Rattle.mir_func.specs.Sound.{AllItems, IsSound, HasForm}
 use Rattle.mir_func.specs.SoundFrame.{IsFramed}
 use Rattle.mir_meaning.specs.Follow.{IsRead, Follows}
 use Rattle.mir_meaning.specs.State.{State}
 use Rattle.code_layout.specs.Headline.{StartsAt, Headline}
 use Rattle.code_layout.specs.Image.{Image}
 use Rattle.frame_rule.specs.Rule.{framed_of}
-use Rattle.frame_runs.specs.Runs.{HasForm}
 use Rattle.machine_steps.specs.Laid.{IsLaidAt}
 use Rattle.machine_runs.specs.Lists.{GiveWanted, IsPointAt}
 use Rattle.machine_runs.specs.Runs.{GivesBackKept, start_beside}

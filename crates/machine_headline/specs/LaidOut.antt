@@ -6,7 +6,7 @@ use Rattle.mir_func.specs.declared.variable.VarId.{VarId}
 use Rattle.mir_func.specs.Function.{Function}
 use Rattle.mir_func.specs.Graph.{framed_program}
 use Rattle.mir_func.specs.Limits.{MAX_FRAME}
-use Rattle.mir_func.specs.Sound.{AllItems, IsSound}
+use Rattle.mir_func.specs.Sound.{AllItems, IsSound, HasForm}
 use Rattle.mir_func.specs.SoundFrame.{HasPhysical}
 use Rattle.mir_meaning.specs.Follow.{IsRead}
 use Rattle.code_layout.specs.Headline.{Headline}
@@ -15,7 +15,6 @@ use Rattle.code_words.specs.Counts.{MAX_WORDS, MAX_BASE, count_of}
 use Rattle.code_words.specs.Laid.{IsWorded}
 use Rattle.code_words.specs.Rule.{Layout}
 use Rattle.frame_rule.specs.Rule.{size_of, framed_of}
-use Rattle.frame_runs.specs.Runs.{HasForm}
 use Rattle.machine_frames.specs.Followers.{IsFollower}
 use Rattle.machine_layout.specs.Images.{IsImageOf}
 use Rattle.machine_runs.specs.Lists.{GiveWanted}

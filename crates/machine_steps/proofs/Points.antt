@@ -10,14 +10,14 @@ use Rattle.mir_func.specs.declared.position.Pos.{Pos}
 use Rattle.mir_func.specs.declared.item.Item.{Item}
 use Rattle.mir_func.specs.declared.item.ItemKind.{ItemKind}
 use Rattle.mir_func.specs.declared.item.ItemKind.TheVariants.{Code}
-use Rattle.mir_func.specs.Exits.{exit_of}
+use Rattle.mir_func.specs.Exits.{exit_of, is_final}
 use Rattle.mir_func.specs.Function.{FramedFunction}
 use Rattle.mir_func.specs.Graph.{Here, Silent, below, block_start, end_of, front, fetch_in}
 use Rattle.mir_func.specs.Sound.{AllItems, LeavesPointer}
 use Rattle.mir_func.specs.SoundFrame.{adds_to_pointer, AreCode, prologue_code, epilogue_code, GivesBack, HasFrame, IsFramed}
 use Rattle.mir_meaning.proofs.Reading.{front_item}
 use Rattle.machine_steps.specs.Laid.{fetched}
-use Rattle.machine_steps.specs.Pointer.{is_final, fetch_returns, is_as_at_entry, lowered_by}
+use Rattle.machine_steps.specs.Pointer.{fetch_returns, is_as_at_entry, lowered_by}
 use Rattle.machine_steps.proofs.Motions.{KindLeavesTwo, kind_leaves, IsNotFinal, Motion, Moves, block_moves, IsOfPrologue, prologue_moves}
 use Rattle.machine_steps.proofs.Motions as motion
 

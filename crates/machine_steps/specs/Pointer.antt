@@ -1,20 +1,12 @@
 -- How far x2 lies below its content at entry, by the position alone.
-use Rattle.std.specs.Prelude.{◌≡◌, ℕ, ◌-◌, Bool, true, false, cond, ◌&&◌, ◌||◌, nat_eq}
-use Rattle.mir_func.specs.declared.exit.Exit.{Exit}
-use Rattle.mir_func.specs.declared.exit.Exit.TheVariants.{Onward, Perhaps, Always, Final}
+use Rattle.std.specs.Prelude.{◌≡◌, ℕ, ◌-◌, Bool, false, cond, ◌&&◌, ◌||◌, nat_eq}
 use Rattle.mir_func.specs.declared.position.Pos.{Pos}
-use Rattle.mir_func.specs.Exits.{exit_of}
+use Rattle.mir_func.specs.Exits.{exit_of, is_final}
 use Rattle.mir_func.specs.Function.{FramedFunction}
 use Rattle.mir_func.specs.Graph.{Fetch, Here, Silent, Outside}
 use Rattle.mir_meaning.specs.State.{Core}
 use Rattle.mir_meaning.specs.Step.{read}
 use Rattle.machine_steps.specs.Laid.{fetched}
-
-abbrev pub is_final : Exit → Bool
-is_final Onward = false
-is_final (Perhaps n) = false
-is_final (Always n) = false
-is_final Final = true
 
 -- a return stands there
 abbrev pub fetch_returns : Fetch → Bool

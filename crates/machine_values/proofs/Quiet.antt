@@ -22,12 +22,11 @@ use Rattle.mir_func.specs.declared.item.Item.{Item}
 use Rattle.mir_func.specs.declared.item.ItemKind.{ItemKind}
 use Rattle.mir_func.specs.declared.item.ItemKind.TheVariants.{Code, Mark, Phi}
 use Rattle.mir_func.specs.Exits.{row_exit, exit_of, IsAlways}
-use Rattle.mir_func.specs.Sound.{IsJumpAtMost, MayFollow, EndsWell}
+use Rattle.mir_func.specs.Sound.{IsJumpAtMost, MayFollow, EndsWell, HasForm}
 use Rattle.mir_meaning.specs.Step.{defined}
 use Rattle.path_tokens.specs.Pullback.{Tracked, InRegister, InSlot, OfPair, OfVariable, OfNumber, token_back, Was}
 use Rattle.path_tokens.specs.Pullback.{back, back_row, back_code, back_numbered, given_back}
 use Rattle.path_tokens.proofs.Backwards.{tokens_pull_back}
-use Rattle.machine_values.specs.steps.Flowing.{HasForm}
 use Rattle.machine_values.proofs.Paths.{IsQuiet, QuietPast, EndsQuietly}
 
 -- ---- a jump

@@ -13,7 +13,7 @@ use Rattle.mir_func.specs.declared.variable.VarId.{VarId}
 use Rattle.mir_func.specs.declared.item.Item.{Item}
 use Rattle.mir_func.specs.Graph.{Program, framed_program}
 use Rattle.mir_func.specs.Resolve.{resolve}
-use Rattle.mir_func.specs.Sound.{AllItems, EndsWell}
+use Rattle.mir_func.specs.Sound.{AllItems, EndsWell, HasForm}
 use Rattle.mir_func.specs.SoundFrame.{body_of}
 use Rattle.mir_func.specs.Successors.{ways}
 use Rattle.class_paths.specs.Classes.{KnowsItem}
@@ -27,7 +27,7 @@ use Rattle.class_solver.specs.Hands.{AreSoundFlows}
 use Rattle.class_solver.specs.Flows.{AreFlows, IsStart}
 use Rattle.class_places.specs.Things.{AreThings}
 use Rattle.machine_values.specs.declared.changes.Tracking.{Tracking}
-use Rattle.machine_values.specs.steps.Flowing.{HasForm, next_id, AreFlowsOf}
+use Rattle.machine_values.specs.steps.Flowing.{next_id, AreFlowsOf}
 use Rattle.machine_values.specs.steps.Framing.{AreBlocks}
 use Rattle.machine_values.specs.steps.Ways.{Indices, enter_by, FindsIds, IsFlowAt, FlowsBelow}
 use Rattle.machine_values.proofs.Paths.{EndsQuietly}

@@ -2,12 +2,13 @@
 
 ghost use Rattle.std.specs.Prelude.{◌≡◌, ◌<◌, ◌≤◌, Some, All, IfOk, OnOk, [], length, map, slice_get, slice_index};
 ghost use Rattle.mir_func.specs.Resolve.{resolve};
+ghost use Rattle.mir_func.specs.Sound.{HasForm};
 ghost use Rattle.class_paths.specs.Classes.{Classes, KnowsItem};
 ghost use Rattle.class_entries.specs.Entry.{thing as name_of};
 ghost use Rattle.class_places.specs.Things.{AreThings};
 ghost use Rattle.class_places.specs.Held.{PLACES, Holds, Passes, pair_class as pair_class_of};
 ghost use Rattle.class_solver.specs.Joining.{AreWithin};
-ghost use Rattle.machine_values.specs.steps.Flowing.{HasForm, Tells};
+ghost use Rattle.machine_values.specs.steps.Flowing.{Tells};
 ghost use Rattle.machine_values.specs.Walking.{IsTracking, AreTracked, decoded, new_of, Walked, AreChanges, AreOwn};
 
 use class_entries::tracked::Tracked;

@@ -1,8 +1,8 @@
 //! The flows of the blocks of a function.
 
-ghost use Rattle.std.specs.Prelude.{◌≡◌, ◌<◌, IfOk, length, map, slice_get};
+ghost use Rattle.std.specs.Prelude.{◌≡◌, ◌<◌, IfOk, length, map};
 ghost use Rattle.mir_func.specs.Resolve.{resolve};
-ghost use Rattle.mir_func.specs.Sound.{AllItems, ids_of};
+ghost use Rattle.mir_func.specs.Sound.{AllItems};
 ghost use Rattle.mir_func.specs.Successors.{ways};
 ghost use Rattle.class_paths.specs.Classes.{KnowsItem};
 ghost use Rattle.class_entries.specs.Entry.{thing};
@@ -14,18 +14,9 @@ use crate::changes::{Tracking, changes_of};
 use crate::ways::{Indices, ways_of};
 use class_solver::flow::Flow;
 use mir_func::block::Block;
+use mir_func::successors::id_at;
 use numbers::code::BlockId;
 use std::alloc::{AllocError, Global};
-
-/// The number of the block at an index, if there is one.
-fn id_at(blocks: &[Block], index: usize) -> Option<BlockId>
-    ensures { result ≡ slice_get (ids_of blocks.now) index }
-{
-    match blocks.get(index) {
-        Some(b) => Some(b.id),
-        None => None,
-    }
-}
 
 /// The number of the block behind one.
 fn next_of(blocks: &[Block], b: usize) -> Option<BlockId>

@@ -4,7 +4,8 @@ use Rattle.std.specs.Char.{digit_value}
 use Rattle.std.proofs.Math.Nat.{mul-le-mul_left}
 use Rattle.std.proofs.lemmas.Bool.{lt-leb, le-leb}
 use Rattle.std.proofs.lemmas.List.{drop_more, drop_all}
-use Rattle.meta_reader.specs.Number.{MAX_NUMBER, value_behind, spelled}
+use Rattle.meta_reader.specs.Number.{value_behind, spelled}
+use Rattle.numbers.specs.Limits.{MAX_NUMBER}
 
 grows : (base n : ℕ) (ds : List ℕ) → 0 < base → n ≤ value_behind base n ds
 grows base n [] positive = omega arith

@@ -1,15 +1,12 @@
 -- Numbers of nodes and in fields: from 0 to 2^30 - 1.
 use Rattle.std.specs.Prelude.{ℕ, ◌+◌, ◌*◌, ◌&&◌, ◌==◌, nat_le, if◌then◌else◌, List, [], ◌∷◌, Option, Some, None}
 use Rattle.std.specs.Char.{digit_value}
+use Rattle.numbers.specs.Limits.{MAX_NUMBER}
 
 -- the number that digits spell in a base behind others that spell `n`
 abbrev pub value_behind : ℕ → ℕ → List ℕ → ℕ
 value_behind base n [] = n
 value_behind base n (d ∷ ds) = value_behind base (n * base + digit_value d) ds
-
--- the greatest number that is read: 2^30 - 1
-abbrev pub MAX_NUMBER : ℕ
-MAX_NUMBER = 1073741823
 
 -- a number, if it is within the limit
 abbrev pub within_limit : ℕ → Option ℕ

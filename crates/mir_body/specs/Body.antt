@@ -13,12 +13,13 @@ use Rattle.mir_func.specs.declared.location.Loc.{Loc}
 use Rattle.mir_func.specs.declared.position.Origin.TheVariants.{Kept}
 use Rattle.mir_func.specs.declared.variable.MarkValue.{MarkValue}
 use Rattle.mir_func.specs.declared.variable.MarkValue.TheVariants.{Nothing, Constant, At, Pair}
+use Rattle.mir_func.specs.Limits.{MAX_BLOCKS}
 use Rattle.refusal.specs.declared.kind.RefusalKind.{RefusalKind}
 use Rattle.refusal.specs.declared.kind.RefusalKind.TheVariants.{DuplicateBlock, DuplicateNumber, TooMany}
 use Rattle.refusal.specs.Kind as kinds
 use Rattle.mir_body.specs.declared.body.Body.{Body}
 use Rattle.mir_body.specs.Met.{is_met, met, known}
-use Rattle.mir_body.specs.Limits.{MAX_BLOCKS, MAX_ITEMS, MAX_VARIABLES, MAX_NUMBERS, MAX_CONSTANTS}
+use Rattle.mir_body.specs.Limits.{MAX_ITEMS, MAX_VARIABLES, MAX_NUMBERS, MAX_CONSTANTS}
 
 -- ---- what an item has
 

@@ -1,10 +1,6 @@
 -- The limits of a function's body.
 use Rattle.std.specs.Prelude.{ℕ}
 
--- how many blocks a function may have
-abbrev pub MAX_BLOCKS : ℕ
-MAX_BLOCKS = 1024
-
 -- how many items it may have
 abbrev pub MAX_ITEMS : ℕ
 MAX_ITEMS = 8192

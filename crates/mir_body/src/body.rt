@@ -25,12 +25,13 @@ ghost use Rattle.mir_body.specs.Body.{
   refused_cause,
 };
 
-use crate::limits::{MAX_BLOCKS, MAX_CONSTANTS, MAX_ITEMS, MAX_NUMBERS, MAX_VARIABLES};
+use crate::limits::{MAX_CONSTANTS, MAX_ITEMS, MAX_NUMBERS, MAX_VARIABLES};
 use crate::met::Met;
 use crate::variables::{Variables, meet};
 use lists::List;
 use mir_func::block::{Block, Blocks};
 use mir_func::item::{Item, ItemKind};
+use mir_func::limits::MAX_BLOCKS;
 use mir_func::location::Loc;
 use mir_func::position::{Origin, Pos};
 use mir_func::variable::MarkValue;

@@ -1,6 +1,7 @@
 //! The frame of a function: which of its stack entries are slots, and which are objects.
 
 ghost use Rattle.std.specs.Prelude.{◌≡◌, ◌+◌, ◌^◌, ◌≤◌, ◌<◌, All, IfOk, OnOk, length};
+ghost use Rattle.mir_func.specs.Limits.{MAX_SLOTS};
 ghost use Rattle.mir_body.specs.Frame.{
   IsStackEntry,
   is_object,
@@ -83,7 +84,7 @@ fn lay(laid: &mut Laid, named: &Met, entry: &StackEntry) -> Result<(), AllocErro
 
 /// The objects among stack entries, in declared order.
 pub fn objects(alloc: Global, named: &Met, entries: &[StackEntry]) -> Result<Laid, AllocError>
-    requires few { length entries.now ≤ 224 }
+    requires few { length entries.now ≤ MAX_SLOTS }
     requires each { All IsStackEntry entries.now }
     ensures { IfOk result (λ laid. laid ≡ objects_of named.now entries.now) }
 {

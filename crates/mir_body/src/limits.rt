@@ -1,8 +1,5 @@
 //! The limits of a function's body.
 
-/// How many blocks a function may have.
-pub const MAX_BLOCKS: usize = 1_024;
-
 /// How many items it may have.
 pub const MAX_ITEMS: usize = 8_192;
 

@@ -16,10 +16,7 @@ use Rattle.mir_declarations.specs.declared.stack.StackEntry.{StackEntry}
 use Rattle.mir_declarations.specs.declared.stack.StackRead.{StackRead}
 use Rattle.mir_declarations.specs.Field.{value_at, needed, given, is_variable_sized}
 use Rattle.mir_declarations.specs.List.{list_of}
-
--- how many stack entries a function may have
-abbrev pub MAX_SLOTS : ℕ
-MAX_SLOTS = 224
+use Rattle.mir_func.specs.Limits.{MAX_SLOTS}
 
 -- the alignments of stack entries, in bytes
 abbrev pub is_alignment : ℕ → Bool

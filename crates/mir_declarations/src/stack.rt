@@ -17,15 +17,13 @@ use crate::entry::Field;
 use crate::field::{given, is_variable_sized, needed, value_at};
 use crate::list::list;
 use lists::List;
+use mir_func::limits::MAX_SLOTS;
 use mir_lexer::line::Line;
 use numbers::code::SlotId;
 use refusal::first::{Refusal, earlier};
 use refusal::kind::RefusalKind;
 use std::alloc::{AllocError, Global};
 use std::collections::BTreeSet;
-
-/// How many stack entries a function may have.
-const MAX_SLOTS: usize = 224;
 
 /// An entry of a function's stack frame: a slot, or an object.
 #[derive(Clone, Copy, Debug, PartialEq, Eq)]

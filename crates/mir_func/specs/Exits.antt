@@ -1,4 +1,5 @@
 -- How control leaves an item.
+use Rattle.std.specs.Prelude.{Bool, true, false}
 use Rattle.rv64_instr.specs.Row.{Row, Fixes, Moves, Sets, Addresses, Loads, Stores, LoadsSlot, StoresSlot, Branches, Jumps, Calls, Returns, Unfit, row_of}
 use Rattle.mir_func.specs.declared.exit.Exit.{Exit}
 use Rattle.mir_func.specs.declared.exit.Exit.TheVariants.{Onward, Perhaps, Always, Final}
@@ -25,6 +26,13 @@ abbrev pub exit_of : ItemKind → Exit
 exit_of (Code i k) = row_exit (row_of i)
 exit_of (Mark v m) = Onward
 exit_of (Phi p k) = Onward
+
+-- it leaves the function
+abbrev pub is_final : Exit → Bool
+is_final Onward = false
+is_final (Perhaps n) = false
+is_final (Always n) = false
+is_final Final = true
 
 -- it always goes to a block
 abbrev pub IsAlways : Exit → Type 0

@@ -9,10 +9,6 @@ MAX_BLOCKS = 1024
 abbrev pub MAX_SLOTS : ℕ
 MAX_SLOTS = 224
 
--- the greatest number that a text may give to something, and the greatest size of a stack object in bytes: 2^30 - 1
-abbrev pub MAX_NUMBER : ℕ
-MAX_NUMBER = 1073741823
-
 -- the greatest frame, in bytes: what one `ADDI` lowers x2 by, and a multiple of 16
 abbrev pub MAX_FRAME : ℕ
 MAX_FRAME = 2032

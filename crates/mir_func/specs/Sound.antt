@@ -1,5 +1,5 @@
 -- What every function keeps (LLVM, Machine IR (MIR) Format Reference Manual, "Machine Basic Blocks").
-use Rattle.std.specs.Prelude.{◌≡◌, ℕ, ◌+◌, ◌<◌, ◌≤◌, List, [], ◌∷◌, map, length, Option, Some, None, slice_get, All, Contains}
+use Rattle.std.specs.Prelude.{◌≡◌, ℕ, ◌+◌, ◌<◌, ◌≤◌, List, [], ◌∷◌, map, length, Option, Some, None, slice_get, All, Contains, IsTrue}
 use Rattle.std.specs.List.{flat_map}
 use Rattle.rv64_instr.specs.declared.operand.Operand.{Operand}
 use Rattle.rv64_instr.specs.declared.operand.Operand.TheVariants.{Def, Use, ImplicitDef, ImplicitUse, Imm, Slot as OfSlot, Object as OfObject, Block as OfBlock}
@@ -9,6 +9,7 @@ use Rattle.rv64_instr.specs.declared.place.Place.TheVariants.{Register, Slot, Co
 use Rattle.rv64_instr.specs.declared.decoded.Base.{Base}
 use Rattle.rv64_instr.specs.declared.decoded.Base.TheVariants.{PointedBy, ObjectAt}
 use Rattle.rv64_instr.specs.Arithmetic.{load_width, store_width}
+use Rattle.rv64_instr.specs.Form.{has_form}
 use Rattle.rv64_instr.specs.Row.{Row, Fixes, Moves, Sets, Addresses, Loads, Stores, LoadsSlot, StoresSlot, Branches, Jumps, Calls, Returns, Unfit, row_of}
 use Rattle.mir_func.specs.declared.block.Block.{Block}
 use Rattle.mir_func.specs.declared.item.Item.{Item}
@@ -20,9 +21,10 @@ use Rattle.mir_func.specs.declared.position.Origin.TheVariants.{Kept, Before}
 use Rattle.mir_func.specs.declared.exit.Exit.{Exit}
 use Rattle.mir_func.specs.declared.exit.Exit.TheVariants.{Onward, Perhaps, Always, Final}
 use Rattle.mir_func.specs.Exits.{exit_of, IsAlways, Leaves}
-use Rattle.mir_func.specs.Limits.{MAX_BLOCKS, MAX_SLOTS, MAX_NUMBER}
+use Rattle.mir_func.specs.Limits.{MAX_BLOCKS, MAX_SLOTS}
 use Rattle.mir_func.specs.Objects.{ALIGNMENTS, object_of, AreLaidFrom}
 use Rattle.mir_func.specs.Function.{Function}
+use Rattle.numbers.specs.Limits.{MAX_NUMBER}
 
 -- no number stands twice
 abbrev pub AreApart : List ℕ → Type 0
@@ -37,6 +39,12 @@ items_of blocks = flat_map (λ b. b.items) blocks
 -- P holds of each item
 abbrev pub AllItems : (Item → Type 0) → List Block → Type 0
 AllItems P blocks = All (λ b. All P b.items) blocks
+
+-- code has the form of its opcode
+abbrev pub HasForm : ItemKind → Type 0
+HasForm (Code i k) = IsTrue (has_form i.op i.operands)
+HasForm (Mark v m) = Unit {0}
+HasForm (Phi p k) = Unit {0}
 
 -- a branch of this row goes to one of these blocks
 abbrev pub TargetIn : List ℕ → Row → Type 0

@@ -6,9 +6,6 @@ pub const MAX_BLOCKS: usize = 1_024;
 /// How many frame slots and stack objects a function may have together.
 pub const MAX_SLOTS: usize = 224;
 
-/// The greatest size of a stack object, in bytes.
-pub const MAX_NUMBER: u32 = 1_073_741_823;
-
 /// The alignments that a stack object may have, in bytes.
 pub const ALIGNMENTS: [u32; 5] = [1, 2, 4, 8, 16];
 

@@ -6,7 +6,8 @@ ghost use Rattle.mir_func.specs.Objects.{ALIGNMENTS, AreLaidFrom};
 ghost use Rattle.mir_func.specs.Sound.{IsSoundObject};
 ghost use Rattle.mir_func.specs.steps.Checks.{AreSoundObjects};
 
-use crate::limits::{ALIGNMENTS, MAX_NUMBER};
+use crate::limits::ALIGNMENTS;
+use numbers::limits::MAX_NUMBER;
 use crate::number_set::Numbers;
 use crate::object::{Object, up_to};
 use std::alloc::{AllocError, Global};

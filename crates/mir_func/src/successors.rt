@@ -39,7 +39,7 @@ impl Func {
 }
 
 /// The number of the block of this index, if there is one.
-fn id_at(blocks: &[Block], index: usize) -> Option<BlockId>
+pub fn id_at(blocks: &[Block], index: usize) -> Option<BlockId>
     ensures { result ≡ slice_get (ids_of blocks.now) index }
 {
     match blocks.get(index) {

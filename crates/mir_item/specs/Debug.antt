@@ -12,7 +12,7 @@ use Rattle.mir_func.specs.declared.location.Loc.TheVariants as loc
 use Rattle.mir_func.specs.declared.variable.MarkValue.{MarkValue}
 use Rattle.mir_func.specs.declared.variable.MarkValue.TheVariants.{Nothing, Constant, At, Pair}
 use Rattle.mir_func.specs.Parts.{Bytes}
-use Rattle.mir_func.specs.Limits.{MAX_NUMBER}
+use Rattle.numbers.specs.Limits.{MAX_NUMBER}
 use Rattle.meta_reader.specs.declared.node.LocationNode.{LocationNode}
 use Rattle.meta_reader.specs.Maps.{Maps}
 use Rattle.meta_reader.specs.Metadata.{location_at}

@@ -1,5 +1,6 @@
 -- One operand. (LLVM, Machine IR (MIR) Format Reference Manual, "Machine Operands"; LLVM Language Reference, "DIExpression".)
 use Rattle.std.specs.Prelude.{ℕ, ℤ, pos, ◌+◌, ◌/◌, ◌%◌, Bool, false, ◌&&◌, ◌==◌, nat_le, if◌then◌else◌, List, ◌∷◌, Option, Some, None}
+use Rattle.mir_func.specs.Limits.{MAX_PART, MAX_PART_END}
 use Rattle.mir_func.specs.Parts.{Bytes}
 use Rattle.mir_lexeme.specs.declared.lexeme.Flag.TheVariants.{Plain}
 use Rattle.mir_lexeme.specs.declared.lexeme.Number.{Number}
@@ -47,7 +48,7 @@ whole_bytes number = None
 
 -- bytes that a part of a variable may have: 1 to 8, none from byte 8,192 on
 abbrev pub are_part : ℕ → ℕ → Bool
-are_part offset len = (nat_le 1 len && nat_le len 8) && nat_le (offset + len) 8192
+are_part offset len = (nat_le 1 len && nat_le len MAX_PART) && nat_le (offset + len) MAX_PART_END
 
 -- the part of a variable that a fragment of bits names, where they are whole bytes that a part may have
 abbrev pub part_of : Number → Number → Option Bytes

@@ -20,6 +20,7 @@ use Rattle.mir_func.specs.declared.item.ItemKind.TheVariants.{Code, Mark, Phi}
 use Rattle.mir_func.specs.declared.location.Loc.{Loc}
 use Rattle.mir_func.specs.declared.position.Origin.TheVariants.{Kept}
 use Rattle.mir_func.specs.Sound.{AreApart, ids_of, items_of, number_of, code_number, NumbersOnce}
+use Rattle.mir_func.specs.Limits.{MAX_BLOCKS}
 use Rattle.mir_line.specs.declared.form.BodyLine.{BodyLine}
 use Rattle.mir_line.specs.declared.form.BodyLine.TheVariants as lines
 use Rattle.mir_line.specs.declared.form.ItemForm.{ItemForm}
@@ -30,7 +31,7 @@ use Rattle.mir_item.specs.declared.judged.Judged.TheVariants as judged_as
 use Rattle.mir_item.specs.declared.judged.JudgedItem.{JudgedItem}
 use Rattle.mir_item.specs.Judge.{judged}
 use Rattle.mir_body.specs.declared.body.Body.{Body}
-use Rattle.mir_body.specs.Limits.{MAX_BLOCKS, MAX_ITEMS}
+use Rattle.mir_body.specs.Limits.{MAX_ITEMS}
 use Rattle.mir_body.specs.Met.{is_met, met}
 use Rattle.mir_body.specs.Body.{nothing_read, and_last, blocks_of, label_cause, with_label, repeats, block_with, constant_of, object_named}
 use Rattle.mir_body.specs.Body.{with_number, with_constant}

@@ -16,10 +16,9 @@ use Rattle.mir_func.specs.declared.location.Loc.{Loc}
 use Rattle.mir_func.specs.declared.location.Loc.TheVariants.{Absent as NoLoc, Node, Inline}
 use Rattle.mir_func.specs.declared.variable.MarkValue.{MarkValue}
 use Rattle.mir_func.specs.declared.variable.MarkValue.TheVariants.{Nothing, Constant, At}
-use Rattle.mir_func.specs.Limits.{MAX_NUMBER}
 use Rattle.mir_func.specs.Parts.{IsPart}
-use Rattle.mir_func.specs.Sound.{IsNotPointer, LeavesPointer}
-use Rattle.mir_parser.specs.Limited.{HasForm}
+use Rattle.mir_func.specs.Sound.{IsNotPointer, LeavesPointer, HasForm}
+use Rattle.numbers.specs.Limits.{MAX_NUMBER}
 use Rattle.mir_lexeme.specs.declared.lexeme.Flag.{Flag}
 use Rattle.mir_lexeme.specs.declared.lexeme.Flag.TheVariants as flags
 use Rattle.mir_lexeme.specs.declared.lexeme.RegisterName.{RegisterName}

@@ -7,8 +7,8 @@ use Rattle.std.proofs.lemmas.List.Elements.{All-nil, All-cons, All-append}
 use Rattle.rv64_instr.specs.declared.op.Op.{Op}
 use Rattle.rv64_instr.specs.declared.operand.Operand.{Operand}
 use Rattle.rv64_instr.specs.declared.operand.Operand.TheVariants.{Def, Use, ImplicitDef, ImplicitUse, Imm, Slot, Object, Block, Symbol, Mask}
-use Rattle.mir_func.specs.Limits.{MAX_NUMBER}
 use Rattle.mir_func.specs.Sound.{IsNotPointer}
+use Rattle.numbers.specs.Limits.{MAX_NUMBER}
 use Rattle.mir_lexeme.specs.declared.lexeme.Flag.{Flag}
 use Rattle.mir_lexeme.specs.declared.lexeme.Flag.TheVariants as flags
 use Rattle.mir_lexeme.specs.declared.lexeme.RegisterName.{RegisterName}

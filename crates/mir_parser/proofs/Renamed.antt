@@ -14,8 +14,7 @@ use Rattle.mir_func.specs.declared.item.ItemKind.{ItemKind}
 use Rattle.mir_func.specs.declared.item.ItemKind.TheVariants.{Code, Mark, Phi}
 use Rattle.mir_func.specs.declared.location.Loc.{Loc}
 use Rattle.mir_func.specs.declared.position.Origin.TheVariants.{Kept}
-use Rattle.mir_func.specs.Sound.{ids_of, items_of}
-use Rattle.mir_parser.specs.Limited.{HasForm}
+use Rattle.mir_func.specs.Sound.{ids_of, items_of, HasForm}
 use Rattle.mir_parser.specs.Objects.{operands_as, kind_as, item_as, block_as, blocks_as}
 use Rattle.mir_parser.proofs.Bodies.{IsReadBlock}
 

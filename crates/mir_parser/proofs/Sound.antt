@@ -38,7 +38,7 @@ use Rattle.mir_func.specs.Exits.{row_exit, exit_of}
 use Rattle.mir_func.specs.Objects.{object_of}
 use Rattle.mir_func.specs.Sound.{items_of, AllItems, TargetIn, TargetsIn, SlotIn, PlaceIn, SlotsIn, HasBytes, BaseHasBytes, ObjectIn, ObjectsIn, IsNotPointer}
 use Rattle.mir_func.specs.Sound.{LeavesPointer, number_of, code_number, NumbersOnce, OriginIn}
-use Rattle.mir_parser.specs.Limited.{HasForm}
+use Rattle.mir_func.specs.Sound.{HasForm}
 use Rattle.mir_declarations.specs.declared.stack.StackEntry.{StackEntry}
 use Rattle.mir_body.specs.Closing.{goes_to_one_of, item_goes_to, block_goes_to, blocks_go_to}
 use Rattle.mir_body.specs.Frame.{slots_of, ids_of_objects}

@@ -13,8 +13,9 @@ use Rattle.refusal.specs.First.{comes_before, earlier}
 use Rattle.meta_reader.specs.Number.{value_behind, spelled, zero_alone, unsigned_of, integer_of}
 use Rattle.meta_reader.specs.Token.{is_integer}
 use Rattle.mir_frame.specs.declared.parts.FunctionDocument.{FunctionDocument}
-use Rattle.mir_func.specs.Limits.{MAX_NUMBER}
 use Rattle.mir_func.specs.Sound.{AreApart}
+use Rattle.mir_func.specs.Limits.{MAX_SLOTS}
+use Rattle.numbers.specs.Limits.{MAX_NUMBER}
 use Rattle.mir_lexer.specs.declared.line.Line.{Line}
 use Rattle.mir_declarations.specs.declared.declarations.Declarations.{Declarations}
 use Rattle.mir_declarations.specs.declared.entry.Entry.{Entry}
@@ -26,7 +27,7 @@ use Rattle.mir_declarations.specs.Declarations.{fixed_refusal, refusal_of, decla
 use Rattle.mir_declarations.specs.Field.{value_at, number_in, needed, given, is_variable_sized}
 use Rattle.mir_declarations.specs.List.{list_of}
 use Rattle.mir_declarations.specs.Name.{name_of}
-use Rattle.mir_declarations.specs.Stack.{MAX_SLOTS, is_alignment, entry_with, unsized, stack_entry_of, has_id, clash, refusal_at, judged}
+use Rattle.mir_declarations.specs.Stack.{is_alignment, entry_with, unsized, stack_entry_of, has_id, clash, refusal_at, judged}
 use Rattle.mir_declarations.specs.Stack.{stack_behind, stack_of}
 use Rattle.mir_declarations.specs.Stream.{text_at}
 use Rattle.mir_declarations.specs.Substitutions.{substitutions_of}

@@ -11,6 +11,7 @@ use Rattle.mir_func.specs.Function.{Function}
 use Rattle.mir_func.specs.Sound.{EndsWell, LastCloses}
 use Rattle.mir_declarations.specs.declared.declarations.Declarations.{Declarations}
 use Rattle.mir_declarations.specs.declared.stack.StackEntry.{StackEntry}
+use Rattle.mir_func.specs.Limits.{MAX_SLOTS}
 use Rattle.mir_declarations.specs.Declarations.{declarations_of}
 use Rattle.mir_body.specs.declared.body.Body.{Body}
 use Rattle.mir_body.specs.Met.{met}
@@ -35,7 +36,7 @@ entry_ids es = ids_behind [] es
 
 -- what the stack entries keep that a document declares: there are few, and each has a size and an alignment within the limits
 abbrev pub AreEntries : List StackEntry → Type 0
-AreEntries es = (length es ≤ 224) × All IsStackEntry es
+AreEntries es = (length es ≤ MAX_SLOTS) × All IsStackEntry es
 
 -- what a function is made of beside its name
 abbrev pub laid_out : List ℕ → List StackEntry → List Block → Parts

@@ -1,10 +1,9 @@
 -- What every item keeps that was read: the form of its opcode, and numbers within their limits.
-use Rattle.std.specs.Prelude.{◌≡◌, ℤ, pos, negsuc, ◌<◌, ◌≤◌, ◌^◌, IfSome, IsTrue, All, Option, Some, None}
+use Rattle.std.specs.Prelude.{◌≡◌, ℤ, pos, negsuc, ◌<◌, ◌≤◌, ◌^◌, IfSome, All, Option, Some, None}
 use Rattle.rv64_instr.specs.declared.operand.Operand.{Operand}
 use Rattle.rv64_instr.specs.declared.operand.Operand.TheVariants.{Def, Use, ImplicitDef, ImplicitUse, Imm, Slot, Object, Block, Symbol, Mask}
 use Rattle.rv64_instr.specs.declared.place.Place.{Place}
 use Rattle.rv64_instr.specs.declared.place.Place.TheVariants as place
-use Rattle.rv64_instr.specs.Form.{has_form}
 use Rattle.mir_func.specs.declared.item.ItemKind.{ItemKind}
 use Rattle.mir_func.specs.declared.item.ItemKind.TheVariants.{Code, Mark, Phi}
 use Rattle.mir_func.specs.declared.location.Loc.{Loc}
@@ -12,14 +11,8 @@ use Rattle.mir_func.specs.declared.location.Loc.TheVariants.{Absent, Node, Inlin
 use Rattle.mir_func.specs.declared.variable.MarkValue.{MarkValue}
 use Rattle.mir_func.specs.declared.variable.MarkValue.TheVariants.{Nothing, Constant, At, Pair}
 use Rattle.mir_func.specs.declared.variable.VarId.{VarId}
-use Rattle.mir_func.specs.Limits.{MAX_NUMBER}
 use Rattle.mir_func.specs.Parts.{IsPart}
-
--- code has the form of its opcode
-abbrev pub HasForm : ItemKind → Type 0
-HasForm (Code i k) = IsTrue (has_form i.op i.operands)
-HasForm (Mark v m) = Unit {0}
-HasForm (Phi p k) = Unit {0}
+use Rattle.numbers.specs.Limits.{MAX_NUMBER}
 
 -- a signed number of 64 bits
 abbrev pub IsSigned : ℤ → Type 0

@@ -14,7 +14,6 @@ ghost use Rattle.mir_semantics.specs.StandsFor.{DoesItem, Holds, StandsFor, Star
 ghost use Rattle.mir_semantics.specs.Steps.{ReturnsAgain, Steps, StepsFrom, source_of};
 ghost use Rattle.mir_semantics.specs.Steps.{IsState, ChangesOnlyByGoing, GoesAlong, step_after, position_after};
 ghost use Rattle.rv64_instr.specs.Parts.{is_call};
-ghost use Rattle.rv64_instr.specs.Row.{row_of};
 
 use crate::assignments::{Assignments, part_of};
 use crate::blocks;
@@ -28,8 +27,8 @@ use mir_func::item::ItemKind;
 use mir_func::position::Pos;
 use mir_func::variable::{MarkValue, VarId};
 use numbers::code::{BlockId, DebugNumber};
-use rv64_instr::decoded::Decoded;
 use rv64_instr::instr::Instr;
+use rv64_instr::parts::is_call;
 use rv64_instr::place::Place;
 use rv64_instr::start::{Answer, Start};
 use std::alloc::{AllocError, Global};
@@ -365,14 +364,4 @@ fn first(blocks: &[Block]) -> BlockId
     ensures { result ≡ first_of blocks.now }
 {
     blocks[0].id
-}
-
-/// Whether an instruction is a call.
-fn is_call(i: &Instr) -> bool
-    ensures { result ≡ is_call (row_of i.now) }
-{
-    match i.decoded() {
-        Decoded::Calls => true,
-        _ => false,
-    }
 }

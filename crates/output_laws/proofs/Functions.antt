@@ -16,9 +16,9 @@ use Rattle.listing_laws.proofs.Framed.{printable as framed_printable}
 use Rattle.meta_reader.specs.Maps.{Maps}
 use Rattle.mir_body.specs.Limits.{MAX_ITEMS}
 use Rattle.mir_func.specs.declared.entry.Entry.{Entry}
-use Rattle.mir_func.specs.Limits.{MAX_NUMBER}
 use Rattle.mir_func.specs.Sound.{items_of}
 use Rattle.mir_func.specs.SoundFrame.{IsFramed}
+use Rattle.numbers.specs.Limits.{MAX_NUMBER}
 use Rattle.mir_parser.specs.declared.closing.Parsed.{Parsed}
 use Rattle.mir_printer.specs.Printable.{IsNumber}
 use Rattle.output_promise.specs.Compiled.{bytes_of, IsCompiledFunction, AreCompiled}

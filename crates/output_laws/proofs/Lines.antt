@@ -6,7 +6,7 @@ use Rattle.code_words.specs.declared.code.Entry.{Entry}
 use Rattle.code_words.specs.Laid.{StandFrom, LaidCode, IsCodeOf}
 use Rattle.code_words.specs.Long.{IsSettled}
 use Rattle.code_words.specs.Rule.{Layout, entries_of, words_of}
-use Rattle.code_words.specs.steps.Emitted.{HasForm}
+use Rattle.code_words.specs.steps.Emitted.{IsFormed}
 use Rattle.code_words.proofs.Stand.{stands, words_fill}
 use Rattle.compiled_text.specs.declared.output.Line.{Line}
 use Rattle.compiled_text.specs.declared.output.ListedFunction.{ListedFunction}
@@ -195,8 +195,8 @@ module _ (p : Program) (cs : List Compiled) (coded : HaveCode p.functions cs) wh
   unit_same = ap (unit_file p.meta) (names_same cs p.functions coded.sources)
 
   module _ (source : Parsed) (f : ListedFunction) (read : IsReadFunction p.meta source.func) (pair : Paired (names_of p.meta) source f cs) where
-    forms : AllItems HasForm pair.function.layout.framed.blocks
-    forms = subst (λ (x : FramedFunction). AllItems HasForm x.blocks) (sym pair.function.laid.framed)
+    forms : AllItems IsFormed pair.function.layout.framed.blocks
+    forms = subst (λ (x : FramedFunction). AllItems IsFormed x.blocks) (sym pair.function.laid.framed)
         (forms_framed source.func pair.function.laid.small read.form)
 
     entered : (a : ℕ) (line : Line) → HasByte f a line → (e : Entry) × HasCodeAt cs a pair.code e × (e.origin ≡ origin_of line)

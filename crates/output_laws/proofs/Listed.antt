@@ -17,12 +17,12 @@ use Rattle.mir_func.specs.declared.entry.Entry as func
 use Rattle.mir_func.specs.declared.item.Item.{Item}
 use Rattle.mir_func.specs.declared.item.ItemKind.{ItemKind}
 use Rattle.mir_func.specs.declared.item.ItemKind.TheVariants.{Code, Mark, Phi}
-use Rattle.mir_func.specs.Sound.{AllItems}
+use Rattle.mir_func.specs.Sound.{AllItems, HasForm}
 use Rattle.code_words.specs.declared.code.Entry.{Entry}
 use Rattle.code_words.specs.Inverted.{inverted, jump_to}
 use Rattle.code_words.specs.Listed.{listed}
 use Rattle.code_words.specs.Rule.{Layout, Site, Form, LongBranch, form_of, address_in, added_before, form_entries, entry, entries_at, entries_of, sites_in, sites_from, sites_of}
-use Rattle.code_words.specs.steps.Emitted.{KindHasForm, HasForm}
+use Rattle.code_words.specs.steps.Emitted.{IsFormed}
 use Rattle.compiled_text.specs.declared.output.Line.{Line}
 use Rattle.compiled_text.specs.declared.output.Line.TheVariants.{Skip}
 use Rattle.compiled_text.specs.declared.output.ListedBlock.{ListedBlock}
@@ -148,7 +148,7 @@ module _ (a : ℕ) where
       by (inl same) = let none = (subst LineByte (sym same) byte).begins in cc
       by (inr none) = no_member line none
 
-    kind_enters : (s : Site) (kind : ItemKind) → KindHasForm kind → (line : Line) → Contains (kind_lines l s kind) line → LineByte line →
+    kind_enters : (s : Site) (kind : ItemKind) → HasForm kind → (line : Line) → Contains (kind_lines l s kind) line → LineByte line →
         Entered (form_entries (address_in l s.point) s.item.origin s.point (form_of (l.long s.point) kind)) line
     kind_enters s (Code c k) form line is byte =
         form_enters (address_in l s.point) s c k (form_of (l.long s.point) (Code c k)) (viewed (l.long s.point) c.op c.operands form)
@@ -159,7 +159,7 @@ module _ (a : ℕ) where
     -- ---- all sites
 
     abbrev SiteForm : Site → Type 0
-    SiteForm s = HasForm s.item
+    SiteForm s = IsFormed s.item
 
     sites_enter : (sites : List Site) → All SiteForm sites → (line : Line) → Contains (flat_map (site_lines l) sites) line → LineByte line →
         Entered (flat_map (entries_at l) sites) line
@@ -189,17 +189,17 @@ module _ (a : ℕ) where
                 origin = found.origin;
               }
 
-    items_formed : (b n : ℕ) (items : List Item) → All HasForm items → All SiteForm (sites_in b n items)
+    items_formed : (b n : ℕ) (items : List Item) → All IsFormed items → All SiteForm (sites_in b n items)
     items_formed b n [] forms = All-nil SiteForm
-    items_formed b n (i ∷ items) forms = All-cons SiteForm _ (sites_in b (suc n) items) (All-head HasForm i items forms)
-        (items_formed b (suc n) items (All-tail HasForm i items forms))
+    items_formed b n (i ∷ items) forms = All-cons SiteForm _ (sites_in b (suc n) items) (All-head IsFormed i items forms)
+        (items_formed b (suc n) items (All-tail IsFormed i items forms))
 
-    blocks_formed : (b : ℕ) (blocks : List Block) → AllItems HasForm blocks → All SiteForm (sites_from b blocks)
+    blocks_formed : (b : ℕ) (blocks : List Block) → AllItems IsFormed blocks → All SiteForm (sites_from b blocks)
     blocks_formed b [] forms = All-nil SiteForm
     blocks_formed b (block ∷ blocks) forms =
         All-append SiteForm (sites_in b 0 block.items) (sites_from (suc b) blocks)
-        (items_formed b 0 block.items (All-head (λ (x : Block). All HasForm x.items) block blocks forms))
-        (blocks_formed (suc b) blocks (All-tail (λ (x : Block). All HasForm x.items) block blocks forms))
+        (items_formed b 0 block.items (All-head (λ (x : Block). All IsFormed x.items) block blocks forms))
+        (blocks_formed (suc b) blocks (All-tail (λ (x : Block). All IsFormed x.items) block blocks forms))
 
     -- the lines of blocks are those of their sites
     blocks_lines : (b : ℕ) (blocks : List Block) →
@@ -215,7 +215,7 @@ module _ (a : ℕ) where
     all_lines (p ∷ blocks) = blocks_lines 0 (p ∷ blocks)
 
     -- a byte of a line of a listing
-    pub listing_entered : (variables : List ListedVariable) (substitutions : List func.Entry) → AllItems HasForm l.framed.blocks → (line : Line) →
+    pub listing_entered : (variables : List ListedVariable) (substitutions : List func.Entry) → AllItems IsFormed l.framed.blocks → (line : Line) →
         Contains (lines_of (listing_of l variables substitutions)) line → (first : ℕ) → address_of line ≡ Some first → first ≤ a → a < past_line first line →
         (e : Entry) × Contains (entries_of l) e × (e.address ≤ a) × (a < e.address + e.size) × (e.origin ≡ origin_of line)
     listing_entered variables substitutions forms line is first begins from within =

@@ -15,9 +15,9 @@ use Rattle.mir_func.specs.declared.location.Loc.{Loc}
 use Rattle.mir_func.specs.declared.location.Loc.TheVariants.{Absent, Node, Inline}
 use Rattle.mir_func.specs.declared.variable.VarId.{VarId}
 use Rattle.mir_func.specs.Function.{Function}
-use Rattle.mir_func.specs.Limits.{MAX_NUMBER}
 use Rattle.mir_func.specs.Sound.{AllItems, items_of}
 use Rattle.mir_func.specs.Variables.{is_same_variable}
+use Rattle.numbers.specs.Limits.{MAX_NUMBER}
 use Rattle.mir_parser.specs.Limited.{KindIsLimited, LocIsLimited}
 use Rattle.mir_printer.specs.Printable.{Declared, IsNumber, IsPrintable, IsPrintableKind, inlined_at}
 use Rattle.compiled_text.specs.Shown.{IsPrintableVariable}

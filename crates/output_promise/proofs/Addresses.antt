@@ -19,12 +19,12 @@ use Rattle.mir_func.specs.declared.item.Item.{Item}
 use Rattle.mir_func.specs.declared.item.ItemKind.{ItemKind}
 use Rattle.mir_func.specs.declared.item.ItemKind.TheVariants.{Code, Mark, Phi}
 use Rattle.mir_func.specs.Graph.{index_of}
-use Rattle.mir_func.specs.Sound.{AllItems, ids_of}
+use Rattle.mir_func.specs.Sound.{AllItems, ids_of, HasForm}
 use Rattle.mir_func.specs.SoundFrame.{body_of}
 use Rattle.code_words.specs.Inverted.{jump_to}
 use Rattle.code_words.specs.Listed.{listed}
 use Rattle.code_words.specs.Rule.{Layout, Site, Form, form_of, form_size, address_in, items_size, blocks_size, items_at, sites_in, start_of}
-use Rattle.code_words.specs.steps.Emitted.{KindHasForm, HasForm}
+use Rattle.code_words.specs.steps.Emitted.{IsFormed}
 use Rattle.compiled_text.specs.declared.output.Line.{Line}
 use Rattle.compiled_text.specs.declared.output.ListedVariable.{ListedVariable}
 use Rattle.shown_program.specs.Listing.{branch_skip, line_at, form_lines, kind_lines, site_lines, items_listed, blocks_listed, listing_of}
@@ -50,7 +50,7 @@ module _ (l : Layout) where
       subst (λ (op : Op). LongPast a at i k n rest op c.operands) (sym op_is)
       (subst (λ (ps : List Operand). LongPast a at i k n rest (Branch b) ps) (sym os_is) (long_past a at i k n rest b x y n os))
 
-  kind_past : (a : ℕ) (s : Site) (kind : ItemKind) (rest : List Line) → KindHasForm kind →
+  kind_past : (a : ℕ) (s : Site) (kind : ItemKind) (rest : List Line) → HasForm kind →
       past_lines a (kind_lines l s kind ++ rest) ≡ past_lines (a + form_size (form_of (l.long s.point) kind)) rest
   kind_past a s (Code c k) rest form =
       form_past a (address_in l s.point) s.item c k rest (form_of (l.long s.point) (Code c k)) (viewed (l.long s.point) c.op c.operands form)
@@ -58,19 +58,19 @@ module _ (l : Layout) where
   kind_past a s (Mark v m) rest form = let none : a ≡ a + 0 = omega arith in ap (λ (z : ℕ). past_lines z rest) none
   kind_past a s (Phi p k) rest form = let none : a ≡ a + 0 = omega arith in ap (λ (z : ℕ). past_lines z rest) none
 
-  items_past : (b n : ℕ) (items : List Item) → All HasForm items → (a : ℕ) →
+  items_past : (b n : ℕ) (items : List Item) → All IsFormed items → (a : ℕ) →
       past_lines a (flat_map (site_lines l) (sites_in b n items)) ≡ a + items_size l.long b n items
   items_past b n [] forms a = omega arith
   items_past b n (i ∷ items) forms a =
       let s : Site = record { point = record { block = b; item = n }; item = i } in
       let size = form_size (form_of (l.long s.point) i.kind) in
-      let rest = items_past b (suc n) items (All-tail HasForm i items forms) (a + size) in
-      kind_past a s i.kind (flat_map (site_lines l) (sites_in b (suc n) items)) (All-head HasForm i items forms) ∙ (rest ∙ omega arith)
+      let rest = items_past b (suc n) items (All-tail IsFormed i items forms) (a + size) in
+      kind_past a s i.kind (flat_map (site_lines l) (sites_in b (suc n) items)) (All-head IsFormed i items forms) ∙ (rest ∙ omega arith)
 
   abbrev OfBlocks : Block → Type 0
-  OfBlocks b = All HasForm b.items
+  OfBlocks b = All IsFormed b.items
 
-  block_begins : (a b : ℕ) (blocks : List Block) (n : ℕ) → AllItems HasForm blocks → Contains (ids_of blocks) n →
+  block_begins : (a b : ℕ) (blocks : List Block) (n : ℕ) → AllItems IsFormed blocks → Contains (ids_of blocks) n →
       block_address a (blocks_listed l b blocks) n ≡ Some (a + blocks_size l.long b (take (index_of blocks n) blocks))
   block_begins a b [] n forms (k, low, is) = absurd (omega (arith, low))
   block_begins a b (block ∷ blocks) n forms has =
@@ -99,11 +99,11 @@ module _ (l : Layout) where
   nothing_before b (i ∷ items) = refl
 
   -- a block begins where the layout says
-  pub start_shown : (variables : List ListedVariable) (substitutions : List Entry) (n : ℕ) → AllItems HasForm l.framed.blocks →
+  pub start_shown : (variables : List ListedVariable) (substitutions : List Entry) (n : ℕ) → AllItems IsFormed l.framed.blocks →
       Contains (ids_of (body_of l.framed.blocks)) n →
       block_address (past_lines l.base (listing_of l variables substitutions).prologue) (listing_of l variables substitutions).blocks n ≡ Some (start_of l n)
   start_shown variables substitutions n forms has = by_blocks l.framed.blocks forms has where
-    by_blocks : (blocks : List Block) → AllItems HasForm blocks → Contains (ids_of (body_of blocks)) n →
+    by_blocks : (blocks : List Block) → AllItems IsFormed blocks → Contains (ids_of (body_of blocks)) n →
         block_address (past_lines l.base (prologue_listed l blocks))
         (body_listed l blocks) n ≡
         Some (l.base + (blocks_size l.long 0 (take (suc (index_of (body_of blocks) n)) blocks) +

@@ -25,13 +25,12 @@ use Rattle.mir_func.specs.declared.variable.VarId.{VarId}
 use Rattle.mir_func.specs.Function.{FramedFunction}
 use Rattle.mir_func.specs.Graph.{Fetch, Here, Silent, Outside, Program, block_start, end_of, front, fetch_in, index_of, framed_program, KindEdge, FetchEdge}
 use Rattle.mir_func.specs.Objects.{object_of, offset_of, offset_or_zero}
-use Rattle.mir_func.specs.Sound.{AllItems, ObjectsIn, HasBytes}
+use Rattle.mir_func.specs.Sound.{AllItems, ObjectsIn, HasBytes, HasForm}
 use Rattle.mir_func.specs.SoundFrame.{body_of, own_size}
 use Rattle.mir_meaning.specs.Token.{Tokens, after_item, after_fetch, Path, begin, onward, SitsIn, IsWanted, NoneIsWanted, moved_tokens, code_tokens}
 use Rattle.mir_meaning.specs.Token.{numbered_tokens, given_token}
 use Rattle.mir_meaning.specs.State.{updated}
 use Rattle.mir_meaning.specs.Step.{defined}
-use Rattle.code_words.specs.steps.Emitted.{KindHasForm}
 use Rattle.compiled_text.specs.declared.output.ListedObject.{ListedObject}
 use Rattle.shown_program.specs.Frame.{object_at, in_object, by_pointer, by_object}
 use Rattle.shown_program.specs.Listing.{object_listed}
@@ -144,7 +143,7 @@ module _ (f : FramedFunction) where
       }) number)) (sym found.1)
       (sums_alike o number rd n found.0.id (pos i) (pos (own_size f + offset_of f.objects n + i - own_size f - found.0.offset)) rest)
 
-  sum_settled : (op : ImmediateOp) (rd n i : ℕ) (rest : List Operand) (number : Option ℕ) → KindHasForm (sum op rd n (pos i) rest number) →
+  sum_settled : (op : ImmediateOp) (rd n i : ℕ) (rest : List Operand) (number : Option ℕ) → HasForm (sum op rd n (pos i) rest number) →
       ObjectsIn f.objects (sum op rd n (pos i) rest number) →
       AreAlike (sum op rd n (pos i) rest number) (Code (record {
         op = Immediate op;
@@ -156,19 +155,19 @@ module _ (f : FramedFunction) where
   sum_settled op rd n i rest number form has = absurd cc
 
   settled_alike : (op : ImmediateOp) (operands : List Operand) (number : Option ℕ) →
-      KindHasForm (Code (record { op = Immediate op; operands = operands }) number) →
+      HasForm (Code (record { op = Immediate op; operands = operands }) number) →
       ObjectsIn f.objects (Code (record { op = Immediate op; operands = operands }) number) →
       AreAlike (Code (record { op = Immediate op; operands = operands }) number) (Code (record { op = Immediate op; operands = settled_sum f operands }) number)
   settled_alike op (Def rd ∷ OfObject n ∷ Imm (pos i) ∷ rest) number form in_object = sum_settled op rd n i rest number form in_object
   settled_alike op operands number form in_object = itself (Code (record { op = Immediate op; operands = operands }) number)
 
-  code_alike : (op : Op) (operands : List Operand) (number : Option ℕ) → KindHasForm (Code (record { op = op; operands = operands }) number) →
+  code_alike : (op : Op) (operands : List Operand) (number : Option ℕ) → HasForm (Code (record { op = op; operands = operands }) number) →
       ObjectsIn f.objects (Code (record { op = op; operands = operands }) number) →
       AreAlike (Code (record { op = op; operands = operands }) number) (Code (record { op = op; operands = settled_operands f op operands }) number)
   code_alike (Immediate op) operands number form has = settled_alike op operands number form has
   code_alike op operands number form has = itself (Code (record { op = op; operands = operands }) number)
 
-  kind_alike : (k : ItemKind) → KindHasForm k → ObjectsIn f.objects k → AreAlike k (settled_kind f k)
+  kind_alike : (k : ItemKind) → HasForm k → ObjectsIn f.objects k → AreAlike k (settled_kind f k)
   kind_alike (Code c number) form has = code_alike c.op c.operands number form has
   kind_alike (Mark v m) form has = itself (Mark v m)
   kind_alike (Phi p k) form has = itself (Phi p k)
@@ -189,7 +188,7 @@ FetchAlike Outside (Silent l n) = ⊥
 module _ (f : FramedFunction) where
   -- what is needed of an item
   abbrev pub IsGood : Item → Type 0
-  IsGood i = KindHasForm i.kind × ObjectsIn f.objects i.kind
+  IsGood i = HasForm i.kind × ObjectsIn f.objects i.kind
 
   -- these blocks have the contents of settled ones
   abbrev pub Shows : (blocks others : List Block) → Type 0

@@ -18,14 +18,14 @@ use Rattle.mir_func.specs.declared.item.Item.{Item}
 use Rattle.mir_func.specs.declared.item.ItemKind.{ItemKind}
 use Rattle.mir_func.specs.declared.item.ItemKind.TheVariants.{Code, Mark, Phi}
 use Rattle.mir_func.specs.declared.position.Origin.{Origin}
-use Rattle.mir_func.specs.Exits.{exit_of}
+use Rattle.mir_func.specs.Exits.{exit_of, is_final}
 use Rattle.mir_func.specs.Function.{Function}
 use Rattle.mir_func.specs.Limits.{MAX_FRAME}
-use Rattle.mir_func.specs.Sound.{AllItems}
+use Rattle.mir_func.specs.Sound.{AllItems, HasForm}
 use Rattle.mir_func.specs.SoundFrame.{adds_to_pointer, saves, restores, prologue_code, epilogue_code}
-use Rattle.frame_rule.specs.Rule.{size_of, saved_of, added, added_all, prologue, epilogue, renamed_operand, renamed_kind, renamed, is_final, framed_item}
+use Rattle.frame_rule.specs.Rule.{size_of, saved_of, added, added_all, prologue, epilogue, renamed_operand, renamed_kind, renamed, framed_item}
 use Rattle.frame_rule.specs.Rule.{framed_items, framed_block, framed_blocks}
-use Rattle.code_words.specs.steps.Emitted.{KindHasForm, HasForm}
+use Rattle.code_words.specs.steps.Emitted.{IsFormed}
 use Rattle.unit_entries.specs.Variables.{variables_of_function}
 use Rattle.output_promise.proofs.Variables.{MarkIn, marks_among}
 
@@ -151,11 +151,11 @@ and_true : (b : Bool) → b ≡ true → IsTrue (b && true)
 and_true true e = refl
 and_true false e = cc
 
-pub forms_framed : (f : Function) → size_of f ≤ MAX_FRAME → AllItems HasForm f.blocks → AllItems HasForm (framed_blocks f f.blocks)
+pub forms_framed : (f : Function) → size_of f ≤ MAX_FRAME → AllItems IsFormed f.blocks → AllItems IsFormed (framed_blocks f f.blocks)
 forms_framed f small forms =
-    framed_all f KindHasForm (and_true (has_12_bits (pos 0 -ℤ pos (size_of f))) (adds_down (size_of f) small))
+    framed_all f HasForm (and_true (has_12_bits (pos 0 -ℤ pos (size_of f))) (adds_down (size_of f) small))
     (and_true (has_12_bits (pos (size_of f))) (adds_up (size_of f) small)) (λ s. refl) (λ s. refl) stays f.blocks forms where
-      stays : (k : ItemKind) → KindHasForm k → KindHasForm (renamed_kind f.slots k)
+      stays : (k : ItemKind) → HasForm k → HasForm (renamed_kind f.slots k)
       stays (Code c k) is = form_same f.slots c.op c.operands ∙ is
       stays (Mark v m) is = tt
       stays (Phi p k) is = tt

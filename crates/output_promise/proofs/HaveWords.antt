@@ -27,7 +27,7 @@ use Rattle.mir_func.specs.declared.item.ItemKind.{ItemKind}
 use Rattle.mir_func.specs.declared.item.ItemKind.TheVariants.{Code, Mark, Phi}
 use Rattle.mir_func.specs.Exits.{row_exit}
 use Rattle.mir_func.specs.Graph.{Here}
-use Rattle.mir_func.specs.Sound.{AllItems, ids_of, TargetIn, TargetsIn}
+use Rattle.mir_func.specs.Sound.{AllItems, ids_of, TargetIn, TargetsIn, HasForm}
 use Rattle.mir_func.specs.SoundFrame.{body_of, IsFramed}
 use Rattle.mir_func.specs.Successors.{pos_in}
 use Rattle.code_words.specs.Inverted.{inverted, jump_to}
@@ -36,7 +36,7 @@ use Rattle.code_words.specs.Listed.{listed}
 use Rattle.code_words.specs.Rule.{Layout, Site, Form, form_of, form_size, size_of, row_form, address_in, offset_to, operation_at, skip_operation}
 use Rattle.code_words.specs.Rule.{jump_operation, word_if, call_words, form_words, kind_words, words_at, words_of, sites_in, sites_from, sites_of, start_of}
 use Rattle.code_words.specs.Rule.{added_before}
-use Rattle.code_words.specs.steps.Emitted.{KindHasForm, HasForm}
+use Rattle.code_words.specs.steps.Emitted.{IsFormed}
 use Rattle.code_words.proofs.Settled as settled
 use Rattle.machine_steps.specs.Laid.{fetched}
 use Rattle.machine_steps.proofs.Points.{of_item}
@@ -95,7 +95,7 @@ module _ (all : List ℕ) where
   second_text a None ws rest some text = cc
   second_text a (Some m) ws rest some text = drop_more a 4 all ∙ ap (drop 4) text
 
-module _ (l : Layout) (variables : List ListedVariable) (substitutions : List Entry) (all : List ℕ) (forms : AllItems HasForm l.framed.blocks)
+module _ (l : Layout) (variables : List ListedVariable) (substitutions : List Entry) (all : List ℕ) (forms : AllItems IsFormed l.framed.blocks)
     (targets : AllItems (λ i. TargetsIn (ids_of (body_of l.framed.blocks)) i.kind) l.framed.blocks) (worded : IsWorded l) where
   abbrev f : ListedFunction
   f = listing_of l variables substitutions
@@ -123,7 +123,7 @@ module _ (l : Layout) (variables : List ListedVariable) (substitutions : List En
 
   -- ---- forms
 
-  one_has : (a : ℕ) (c : Instruction) (rest : List ℕ) → KindHasForm (Code c None) → TargetIn ids (row_of c) → is_call (row_of (listed l.framed c)) ≡ false →
+  one_has : (a : ℕ) (c : Instruction) (rest : List ℕ) → HasForm (Code c None) → TargetIn ids (row_of c) → is_call (row_of (listed l.framed c)) ≡ false →
       IsSome (operation_at l a c) → drop a all ≡ bytes (word_if (operation_at l a c)) ++ rest →
       HasBytes (is_call (row_of (listed l.framed c))) all f a (listed l.framed c)
   one_has a c rest form target calls some text =
@@ -174,7 +174,7 @@ module _ (l : Layout) (variables : List ListedVariable) (substitutions : List En
       (jump_has (a + 4) n rest target jumps (second_text all a (in_range m) (word_if (jump_operation l a n)) rest skips text)))
       (All-nil HasItsBytes))
 
-  form_has : (a : ℕ) (i : Item) (c : Instruction) (k : Option ℕ) (rest : List ℕ) (g : Form) → FormView c.op c.operands g → KindHasForm (Code c None) →
+  form_has : (a : ℕ) (i : Item) (c : Instruction) (k : Option ℕ) (rest : List ℕ) (g : Form) → FormView c.op c.operands g → HasForm (Code c None) →
       TargetIn ids (row_of c) → is_call (row_of (listed l.framed c)) ≡ is_call_form g → FormWorded l a c g → drop a all ≡ bytes (form_words l a c g) ++ rest →
       All HasItsBytes (form_lines l a i c k g)
   form_has a i c k rest g one form target calls some text =
@@ -204,7 +204,7 @@ module _ (l : Layout) (variables : List ListedVariable) (substitutions : List En
     lines : All HasItsBytes (kind_lines l s k)
     size : length (bytes (kind_words l s.point k)) ≡ form_size (form_of (l.long s.point) k)
 
-  kind_has : (s : Site) (rest : List ℕ) (k : ItemKind) → s.item.kind ≡ k → KindHasForm k → TargetsIn ids k → fetched l.framed s.point ≡ Here s.item →
+  kind_has : (s : Site) (rest : List ℕ) (k : ItemKind) → s.item.kind ≡ k → HasForm k → TargetsIn ids k → fetched l.framed s.point ≡ Here s.item →
       drop (address_in l s.point) all ≡ bytes (kind_words l s.point k) ++ rest → ItemHas s k
   kind_has s rest (Code c n) is form target here text =
       let a = address_in l s.point in
@@ -230,7 +230,7 @@ module _ (l : Layout) (variables : List ListedVariable) (substitutions : List En
       text ∙ ap (λ (ws : List ℕ). ws ++ more) (flat_map-append (to_le_bytes w32) (words_at l s) (flat_map (words_at l) ss)) ∙
       append_assoc (bytes (words_at l s)) (bytes (flat_map (words_at l) ss)) more in
       let at : drop (address_in l s.point) all ≡ bytes (words_at l s) ++ rest = ap (λ (n : ℕ). drop n all) chain.0 ∙ parts in
-      let has = kind_has s rest s.item.kind refl (of_item l.framed HasForm forms s.point s.item here)
+      let has = kind_has s rest s.item.kind refl (of_item l.framed IsFormed forms s.point s.item here)
       (of_item l.framed (λ i. TargetsIn ids i.kind) targets s.point s.item here) here at in
       let next : drop (a + size_of (l.long s.point) s.item) all ≡ rest =
       ap (λ (n : ℕ). drop (a + n) all) (sym has.size) ∙ drop_more a (length (bytes (words_at l s))) all ∙

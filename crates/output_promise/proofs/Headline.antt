@@ -12,7 +12,7 @@ use Rattle.code_layout.specs.Exact.{AreExact}
 use Rattle.code_words.specs.declared.code.Entry.{Entry}
 use Rattle.code_words.specs.Laid.{StandFrom}
 use Rattle.code_words.specs.Rule.{Layout, entries_of}
-use Rattle.code_words.specs.steps.Emitted.{HasForm}
+use Rattle.code_words.specs.steps.Emitted.{IsFormed}
 use Rattle.code_words.proofs.Stand.{stands}
 use Rattle.frame_rule.specs.Rule.{framed_of}
 use Rattle.machine_layout.specs.Images.{IsImageOf}
@@ -62,7 +62,7 @@ first_byte l a p at =
 module _ (names : ℕ → List ℕ) (o : Output) (lists : List (List Range)) (section : IsSection o.loclists lists) (source : SourceFunction) (f : ListedFunction)
     (is : IsSourceFunction source) (c : IsCompiledIn names o.text lists source f) where
   pub formed : IsFormed c.compiled.layout.framed
-  formed = subst (λ (x : FramedFunction). AllItems HasForm x.blocks) (sym c.compiled.laid.framed)
+  formed = subst (λ (x : FramedFunction). AllItems IsFormed x.blocks) (sym c.compiled.laid.framed)
       (forms_framed source.function c.compiled.laid.small is.form)
 
   pub exact : AreExact (framed_program c.compiled.layout.framed.blocks (resolve source.substitutions)) (block_start 0)

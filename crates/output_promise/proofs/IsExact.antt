@@ -18,7 +18,7 @@ use Rattle.mir_func.specs.Successors.{pos_in}
 use Rattle.mir_meaning.specs.Token.{IsWanted, NoneIsWanted}
 use Rattle.code_layout.specs.Exact.{AreExact}
 use Rattle.code_words.specs.Rule.{entries_of}
-use Rattle.code_words.specs.steps.Emitted.{HasForm, point_of as as_point}
+use Rattle.code_words.specs.steps.Emitted.{IsFormed, point_of as as_point}
 use Rattle.dwarf_loclists.specs.declared.range.Range.{Range}
 use Rattle.dwarf_loclists.specs.Grammar.{IsSection}
 use Rattle.compiled_text.specs.declared.output.ListedFunction.{ListedFunction}
@@ -57,19 +57,19 @@ carried g h start points others lists to from wanted wants none nothing is = rec
   outside = λ v a off. is.outside v a (λ p at. off p (from a p at));
 }
 
-both_good : (f : FramedFunction) (items : List Item) → All HasForm items → All (λ i. ObjectsIn f.objects i.kind) items → All (IsGood f) items
+both_good : (f : FramedFunction) (items : List Item) → All IsFormed items → All (λ i. ObjectsIn f.objects i.kind) items → All (IsGood f) items
 both_good f [] forms objects = All-nil (IsGood f)
 both_good f (i ∷ items) forms objects =
-    All-cons (IsGood f) i items (All-head HasForm i items forms, All-head (λ x. ObjectsIn f.objects x.kind) i items objects)
-    (both_good f items (All-tail HasForm i items forms) (All-tail (λ x. ObjectsIn f.objects x.kind) i items objects))
+    All-cons (IsGood f) i items (All-head IsFormed i items forms, All-head (λ x. ObjectsIn f.objects x.kind) i items objects)
+    (both_good f items (All-tail IsFormed i items forms) (All-tail (λ x. ObjectsIn f.objects x.kind) i items objects))
 
-all_good : (f : FramedFunction) (blocks : List Block) → AllItems HasForm blocks → AllItems (λ i. ObjectsIn f.objects i.kind) blocks → AllItems (IsGood f) blocks
+all_good : (f : FramedFunction) (blocks : List Block) → AllItems IsFormed blocks → AllItems (λ i. ObjectsIn f.objects i.kind) blocks → AllItems (IsGood f) blocks
 all_good f [] forms objects = All-nil (λ (b : Block). All (IsGood f) b.items)
 all_good f (b ∷ blocks) forms objects =
     All-cons (λ (x : Block). All (IsGood f) x.items) b blocks
-    (both_good f b.items (All-head (λ (x : Block). All HasForm x.items) b blocks forms)
+    (both_good f b.items (All-head (λ (x : Block). All IsFormed x.items) b blocks forms)
     (All-head (λ (x : Block). All (λ i. ObjectsIn f.objects i.kind) x.items) b blocks objects))
-    (all_good f blocks (All-tail (λ (x : Block). All HasForm x.items) b blocks forms)
+    (all_good f blocks (All-tail (λ (x : Block). All IsFormed x.items) b blocks forms)
     (All-tail (λ (x : Block). All (λ i. ObjectsIn f.objects i.kind) x.items) b blocks objects))
 
 -- ---- one function

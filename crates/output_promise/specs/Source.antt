@@ -2,10 +2,9 @@
 use Rattle.std.specs.Prelude.{◌≡◌, ℕ, List, length, Some, slice_get}
 use Rattle.mir_func.specs.declared.entry.Entry.{Entry}
 use Rattle.mir_func.specs.Function.{Function}
-use Rattle.mir_func.specs.Sound.{AllItems, IsSound}
+use Rattle.mir_func.specs.Sound.{AllItems, IsSound, HasForm}
 use Rattle.mir_func.specs.SoundFrame.{HasPhysical}
 use Rattle.mir_meaning.specs.Follow.{IsRead}
-use Rattle.frame_runs.specs.Runs.{HasForm}
 use Rattle.compiled_text.specs.declared.output.ListedFunction.{ListedFunction}
 
 -- a function that was read, with the substitutions of its debug instruction numbers

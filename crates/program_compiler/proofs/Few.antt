@@ -15,14 +15,14 @@ use Rattle.mir_func.specs.declared.item.ItemKind.TheVariants.{Code, Mark, Phi}
 use Rattle.mir_func.specs.declared.position.Origin.{Origin}
 use Rattle.mir_func.specs.declared.position.Origin.TheVariants.{Before}
 use Rattle.mir_func.specs.Graph.{block_start}
-use Rattle.mir_func.specs.Exits.{exit_of}
+use Rattle.mir_func.specs.Exits.{exit_of, is_final}
 use Rattle.mir_func.specs.Function.{Function}
 use Rattle.mir_func.specs.Sound.{items_of}
 use Rattle.mir_func.specs.SoundFrame.{SAVED, saves, restores, adds_to_pointer, prologue_code, epilogue_code}
 use Rattle.mir_body.specs.Limits.{MAX_ITEMS}
 use Rattle.code_words.specs.Counts.{MAX_WORDS, row_words, kind_count, item_count, count_of}
 use Rattle.frame_rule.specs.Rule.{size_of, saved_of, saved_places, saved_registers, is_set, position_in}
-use Rattle.frame_rule.specs.Rule.{added, added_all, prologue, epilogue, renamed, is_final, framed_item}
+use Rattle.frame_rule.specs.Rule.{added, added_all, prologue, epilogue, renamed, framed_item}
 use Rattle.frame_rule.specs.Rule.{framed_items, framed_block, prologue_block, framed_blocks, framed_of}
 
 row_few : (row : Row) → row_words row ≤ 2

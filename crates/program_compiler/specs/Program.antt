@@ -3,6 +3,7 @@ use Rattle.std.specs.Prelude.{◌≡◌, ℕ, ◌+◌, ◌*◌, ◌<◌, ◌≤�
 use Rattle.code_words.specs.Laid.{LaidCode, IsCodeOf}
 use Rattle.compiled_text.specs.declared.output.ListedFunction.{ListedFunction}
 use Rattle.compiled_text.specs.declared.output.Output.{Output}
+use Rattle.dwarf_base.specs.Limits.{SECTION_LIMIT}
 use Rattle.dwarf_info.specs.Entries.{spelling as entries_spelling}
 use Rattle.dwarf_info.specs.Kinds.{abbreviations}
 use Rattle.dwarf_line.specs.Spelling.{spelling as rows_spelling}
@@ -50,10 +51,6 @@ pub record HaveCode (functions : List Parsed) (compiled : List Compiled) : Type 
   pub coded : AreCoded 0 (map (λ p. p.func) functions) (map (λ c. c.code.now) compiled)
 
 -- ---- sections
-
--- a section has fewer bytes than this
-abbrev pub SECTION_LIMIT : ℕ
-SECTION_LIMIT = 2 ^ 31
 
 -- the sections of a program's entries and lines are the spellings of its unit and of its line number table, and no section is too large
 pub record HasSections (p : Program) (o : Output) : Type 0 where

@@ -6,10 +6,10 @@ ghost use Rattle.dwarf_line.specs.Spelling.{spelling as rows_spelling};
 ghost use Rattle.dwarf_loclists.specs.Spelling.{spelling as lists_spelling};
 ghost use Rattle.dwarf_loclists.specs.Ranges.{Ascend, ArePlaces};
 ghost use Rattle.dwarf_loclists.specs.Grammar.{IsSection};
-ghost use Rattle.program_compiler.specs.Program.{SECTION_LIMIT};
 ghost use Rattle.program_compiler.specs.steps.Made.{AreWritable};
 ghost use Rattle.source_lines.specs.Program.{MAX_FUNCTIONS, table_of};
 ghost use Rattle.unit_entries.specs.Unit.{program_variables, unit_of};
+ghost use Rattle.dwarf_base.specs.Limits.{SECTION_LIMIT};
 
 use crate::compile::CompileError;
 use code_words::code::Code;

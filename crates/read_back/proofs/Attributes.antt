@@ -7,7 +7,7 @@ use Rattle.std.specs.Fmt.{decimal}
 use Rattle.mir_func.specs.declared.location.InlineLoc.{InlineLoc}
 use Rattle.mir_func.specs.declared.location.Loc.{Loc}
 use Rattle.mir_func.specs.declared.location.Loc.TheVariants as locs
-use Rattle.mir_func.specs.Limits.{MAX_NUMBER}
+use Rattle.numbers.specs.Limits.{MAX_NUMBER}
 use Rattle.mir_lexer.specs.declared.parts.Class.TheVariants as class
 use Rattle.mir_lexer.specs.declared.parts.Token.{Token}
 use Rattle.mir_lexer.specs.Front.{token_at}

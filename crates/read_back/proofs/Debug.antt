@@ -7,8 +7,8 @@ use Rattle.std.proofs.lemmas.Fmt.{decimal_digit}
 use Rattle.std.proofs.lemmas.Bool.{le-leb, and_from, eq-eqb}
 use Rattle.meta_reader.specs.Token.{text_of}
 use Rattle.mir_func.specs.declared.entry.OperandPair.{OperandPair}
-use Rattle.mir_func.specs.Limits.{MAX_NUMBER}
 use Rattle.mir_func.specs.Parts.{Bytes, IsPart}
+use Rattle.numbers.specs.Limits.{MAX_NUMBER}
 use Rattle.mir_lexer.specs.declared.parts.Class.TheVariants as class
 use Rattle.mir_lexer.specs.declared.parts.Token.{Token}
 use Rattle.mir_lexer.specs.Front.{token_at}

@@ -8,7 +8,7 @@ use Rattle.std.proofs.lemmas.Bool.{cond-true, cond-false}
 use Rattle.std.proofs.lemmas.Bool.Decides.{nat_tests}
 use Rattle.meta_reader.specs.Token.{text_of}
 use Rattle.mir_func.specs.declared.location.Loc.{Loc}
-use Rattle.mir_func.specs.Limits.{MAX_NUMBER}
+use Rattle.numbers.specs.Limits.{MAX_NUMBER}
 use Rattle.mir_lexer.specs.declared.parts.Class.TheVariants as class
 use Rattle.mir_lexer.specs.declared.parts.Token.{Token}
 use Rattle.mir_lexer.specs.Bytes.{is_blank}

@@ -13,8 +13,8 @@ use Rattle.mir_func.specs.declared.location.Loc.{Loc}
 use Rattle.mir_func.specs.declared.variable.MarkValue.{MarkValue}
 use Rattle.mir_func.specs.declared.variable.MarkValue.TheVariants.{Nothing, Constant, At, Pair}
 use Rattle.mir_func.specs.declared.variable.VarId.{VarId}
-use Rattle.mir_func.specs.Limits.{MAX_NUMBER}
 use Rattle.mir_func.specs.Parts.{Bytes}
+use Rattle.numbers.specs.Limits.{MAX_NUMBER}
 use Rattle.mir_item.specs.declared.debug.PhiForm.{PhiForm}
 use Rattle.mir_item.specs.declared.judged.Judged.TheVariants as judged_as
 use Rattle.mir_item.specs.declared.opcode.DebugOpcode.{DebugOpcode}

@@ -4,7 +4,6 @@ use Rattle.std.proofs.Common.{refl, ap, ◌∙◌, arith}
 use Rattle.std.specs.Prelude.{codes}
 use Rattle.std.specs.Fmt.{decimal}
 use Rattle.std.proofs.lemmas.Bool.{cond-false, lt-ltb}
-use Rattle.mir_func.specs.Limits.{MAX_NUMBER}
 use Rattle.mir_lexer.specs.declared.parts.Class.TheVariants as class
 use Rattle.mir_lexer.specs.Comment.{before}
 use Rattle.mir_lexer.specs.Front.{token_at}
@@ -24,6 +23,7 @@ use Rattle.read_back.proofs.Lexing.{Piece, spelled, AllRead, Lexed, pieces_lexed
 use Rattle.read_back.proofs.Numbers.{named_decimal}
 use Rattle.read_back.proofs.Phrases.{piece}
 use Rattle.read_back.proofs.Tokens.{word_read, single_read, decimal_word}
+use Rattle.numbers.specs.Limits.{MAX_NUMBER}
 
 module _ (n : ℕ) (small : n ≤ MAX_NUMBER) where
   block_word : word_of (codes "bb." ++ decimal n) ≡ words.Block n

@@ -9,7 +9,6 @@ use Rattle.rv64_instr.specs.declared.operand.Operand.{Operand}
 use Rattle.rv64_instr.specs.declared.operand.Operand.TheVariants.{Def, Use, ImplicitDef, ImplicitUse, Imm, Slot, Object, Block, Symbol, Mask}
 use Rattle.meta_reader.specs.Definition.{name_of}
 use Rattle.meta_reader.specs.Token.{text_of}
-use Rattle.mir_func.specs.Limits.{MAX_NUMBER}
 use Rattle.mir_lexer.specs.declared.parts.Class.{Class}
 use Rattle.mir_lexer.specs.declared.parts.Class.TheVariants as class
 use Rattle.mir_lexer.specs.declared.parts.Token.{Token}
@@ -46,6 +45,7 @@ use Rattle.read_back.proofs.Numbers.{limited_decimal, integer_read, named_decima
 use Rattle.read_back.proofs.Registers.{register_is, register_spelled, register_token}
 use Rattle.read_back.proofs.Symbols.{symbol_of}
 use Rattle.read_back.proofs.Tokens.{Ends, word_read, register_read, percent_read, single_read, integer_token, node_token, decimal_word}
+use Rattle.numbers.specs.Limits.{MAX_NUMBER}
 
 abbrev pub piece : ℕ → Class → List ℕ → Piece
 piece n c text = record { blanks = n; class = c; text = text }

@@ -18,8 +18,8 @@ use Rattle.mir_func.specs.declared.location.Loc.{Loc}
 use Rattle.mir_func.specs.declared.variable.MarkValue.{MarkValue}
 use Rattle.mir_func.specs.declared.variable.MarkValue.TheVariants.{Nothing, Constant, At, Pair}
 use Rattle.mir_func.specs.declared.variable.VarId.{VarId}
-use Rattle.mir_func.specs.Limits.{MAX_NUMBER}
 use Rattle.mir_func.specs.Parts.{Bytes, IsPart}
+use Rattle.numbers.specs.Limits.{MAX_NUMBER}
 use Rattle.mir_lexeme.specs.declared.lexeme.Flag.TheVariants as flags
 use Rattle.mir_lexeme.specs.Word.{is_plain, flag_of, keyword_of, word_of}
 use Rattle.mir_line.specs.declared.form.BodyLine.TheVariants as lines

@@ -16,10 +16,10 @@ use Rattle.mir_func.specs.declared.location.Loc.{Loc}
 use Rattle.mir_func.specs.declared.location.Loc.TheVariants.{Absent, Node, Inline}
 use Rattle.mir_func.specs.declared.variable.MarkValue.{MarkValue}
 use Rattle.mir_func.specs.declared.variable.MarkValue.TheVariants.{Nothing, Constant, At, Pair}
-use Rattle.mir_func.specs.Limits.{MAX_NUMBER}
 use Rattle.mir_func.specs.Objects.{object_of}
 use Rattle.mir_func.specs.SoundFrame.{IsPhysical, ValueIsPhysical, PlaceIsPhysical, HasPhysical}
-use Rattle.frame_runs.specs.Runs.{HasForm}
+use Rattle.mir_func.specs.Sound.{HasForm}
+use Rattle.numbers.specs.Limits.{MAX_NUMBER}
 use Rattle.mir_item.specs.Debug.{inlined_at, inlined_at_node}
 use Rattle.mir_declarations.specs.declared.stack.StackEntry.{StackEntry}
 use Rattle.mir_body.specs.Body.{row_object, object_named}
@@ -30,7 +30,7 @@ use Rattle.mir_parser.specs.Objects.{operand_as, operands_as, is_object, place_a
 use Rattle.mir_printer.specs.Printable.{IsNumber, IsSigned, HasNumbers, IsAsDeclared, IsPrintableInstruction, IsPrintablePlace, IsPrintableValue}
 use Rattle.mir_printer.specs.Printable.{IsPrintableLoc, Declared}
 use Rattle.mir_printer.specs.Printable.{inlined_at as text_inlined_at, IsPrintableKind}
-use Rattle.mir_parser.specs.Limited.{HasForm as ReadForm, IsSigned as ReadSigned, IsLimited, ValueIsLimited, PlaceIsLimited, KindIsLimited, LocIsLimited}
+use Rattle.mir_parser.specs.Limited.{IsSigned as ReadSigned, IsLimited, ValueIsLimited, PlaceIsLimited, KindIsLimited, LocIsLimited}
 use Rattle.mir_parser.proofs.Entries.{object_if_named, ids_are_objects}
 use Rattle.mir_parser.proofs.Items.{IsReadItem}
 use Rattle.mir_parser.proofs.Lists.{both}
@@ -39,11 +39,6 @@ use Rattle.mir_parser.proofs.Printed.{form_kept, renamed, ObjectsAre, one_object
 use Rattle.mir_parser.proofs.Renamed.{has_form_as}
 
 -- ---- forms and numbers, in the words of those who need them
-
-form_kept_as : (kind : ItemKind) → ReadForm kind → HasForm kind
-form_kept_as (Code i k) form = form
-form_kept_as (Mark v m) form = tt
-form_kept_as (Phi p k) form = tt
 
 signed : (i : ℤ) → ReadSigned i → IsSigned i
 signed (pos n) small = small
@@ -166,7 +161,7 @@ module _ (meta : Maps) (named : List ℕ) (es : List StackEntry) where
   operands_limited : (os : List Operand) → All IsLimited os → All IsLimited (operands_as ids os)
   operands_limited os all = All-map IsLimited (operand_as ids) os (All-weaker IsLimited (λ o. IsLimited (operand_as ids o)) operand_limited os all)
 
-  kind_limited : (kind : ItemKind) → ReadForm kind → KindIsLimited kind → KindIsLimited (kind_as ids kind)
+  kind_limited : (kind : ItemKind) → HasForm kind → KindIsLimited kind → KindIsLimited (kind_as ids kind)
   kind_limited (Code i k) form small =
       subst (λ (j : Instruction). All IsLimited j.operands × IfSome k (λ n. n ≤ MAX_NUMBER)) (sym (renamed ids i form))
       (operands_limited i.operands small.0, small.1)
@@ -231,7 +226,7 @@ module _ (meta : Maps) (named : List ℕ) (es : List StackEntry) where
     pub item_kept : (kind : ItemKind) (loc : Loc) → IsReadItem meta entries kind loc → ((n : ℕ) → object_named kind ≡ Some n → is_met n named ≡ true) →
         IsKept (kind_as ids kind) loc
     item_kept kind loc is code = record {
-      form = form_kept_as (kind_as ids kind) (has_form_as ids kind is.form);
+      form = has_form_as ids kind is.form;
       limited = kind_limited kind is.form is.limited;
       place = is.place;
       printable = kind_printable kind loc is code;

@@ -18,8 +18,8 @@ use Rattle.mir_lexeme.specs.Sentence.{lexemes_of}
 use Rattle.mir_func.specs.declared.block.Block.{Block}
 use Rattle.mir_func.specs.declared.item.ItemKind.{ItemKind}
 use Rattle.mir_func.specs.declared.location.Loc.{Loc}
-use Rattle.mir_func.specs.Limits.{MAX_NUMBER}
 use Rattle.mir_func.specs.Sound.{ids_of}
+use Rattle.numbers.specs.Limits.{MAX_NUMBER}
 use Rattle.mir_line.specs.declared.form.BodyLine.{BodyLine}
 use Rattle.mir_line.specs.declared.form.BodyLine.TheVariants as lines
 use Rattle.mir_line.specs.declared.form.ItemForm.{ItemForm}

@@ -22,7 +22,7 @@ use Rattle.meta_reader.specs.Line.{behind_spaces, behind_distinct, node_with, de
 use Rattle.meta_reader.specs.Metadata.{nodes_of, metadata_of}
 use Rattle.meta_reader.specs.Number.{value_behind, spelled, node_number, zero_alone, unsigned_of, integer_of}
 use Rattle.meta_reader.specs.Token.{is_byte, is_node, is_kind, text_of}
-use Rattle.mir_func.specs.Limits.{MAX_NUMBER}
+use Rattle.numbers.specs.Limits.{MAX_NUMBER}
 
 abbrev pub Small : ℕ → Type 0
 Small n = n ≤ MAX_NUMBER

@@ -12,8 +12,8 @@ use Rattle.mir_frame.specs.declared.parts.FunctionDocument.{FunctionDocument}
 use Rattle.mir_func.specs.declared.entry.Entry as func
 use Rattle.mir_func.specs.declared.entry.OperandPair.{OperandPair}
 use Rattle.mir_func.specs.declared.object.Object.{Object}
-use Rattle.mir_func.specs.Limits.{MAX_NUMBER}
 use Rattle.mir_func.specs.Resolve.{entry_of}
+use Rattle.numbers.specs.Limits.{MAX_NUMBER}
 use Rattle.mir_lexer.specs.declared.line.Line.{Line}
 use Rattle.mir_declarations.specs.declared.declarations.Declarations.{Declarations}
 use Rattle.mir_declarations.specs.declared.entry.Entry.{Entry}

@@ -21,9 +21,8 @@ use Rattle.mir_func.specs.declared.entry.Entry.{Entry}
 use Rattle.mir_func.specs.declared.item.Item.{Item}
 use Rattle.mir_func.specs.declared.item.ItemKind.{ItemKind}
 use Rattle.mir_func.specs.declared.location.Loc.{Loc}
-use Rattle.mir_func.specs.Sound.{AreApart, AllItems, IsSound}
+use Rattle.mir_func.specs.Sound.{AreApart, AllItems, IsSound, HasForm}
 use Rattle.mir_func.specs.SoundFrame.{HasPhysical}
-use Rattle.frame_runs.specs.Runs.{HasForm}
 use Rattle.mir_declarations.specs.declared.declarations.Declarations.{Declarations}
 use Rattle.mir_declarations.specs.Declarations.{declarations_of}
 use Rattle.mir_item.specs.Debug.{inlined_at_node}

@@ -5,12 +5,11 @@ use Rattle.meta_reader.specs.Metadata.{location_at}
 use Rattle.mir_func.specs.declared.entry.Entry.{Entry}
 use Rattle.mir_func.specs.declared.entry.OperandPair.{OperandPair}
 use Rattle.mir_func.specs.Function.{Function}
-use Rattle.mir_func.specs.Limits.{MAX_NUMBER}
 use Rattle.mir_func.specs.Objects.{object_of}
-use Rattle.mir_func.specs.Sound.{AllItems, items_of, IsSound}
+use Rattle.mir_func.specs.Sound.{AllItems, items_of, IsSound, HasForm}
 use Rattle.mir_func.specs.SoundFrame.{HasPhysical}
+use Rattle.numbers.specs.Limits.{MAX_NUMBER}
 use Rattle.mir_meaning.specs.Follow.{IsRead}
-use Rattle.frame_runs.specs.Runs.{HasForm}
 use Rattle.mir_item.specs.Debug.{inlined_at_node}
 use Rattle.mir_body.specs.Limits.{MAX_ITEMS}
 use Rattle.mir_parser.specs.declared.closing.Parsed.{Parsed}

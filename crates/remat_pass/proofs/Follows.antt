@@ -8,7 +8,7 @@ use Rattle.mir_func.specs.declared.item.Item.{Item}
 use Rattle.mir_func.specs.declared.item.ItemKind.{ItemKind}
 use Rattle.mir_func.specs.declared.item.ItemKind.TheVariants.{Code, Mark, Phi}
 use Rattle.mir_func.specs.Function.{Function}
-use Rattle.mir_func.specs.Sound.{AllItems, IsSound}
+use Rattle.mir_func.specs.Sound.{AllItems, IsSound, HasForm}
 use Rattle.mir_func.specs.Resolve.{resolve}
 use Rattle.mir_func.specs.Graph.{Program, program_of}
 use Rattle.mir_meaning.specs.State.{Core}
@@ -18,7 +18,7 @@ use Rattle.mir_meaning.specs.Follow.{OnRow, Counts}
 use Rattle.mir_meaning.proofs.Told.{TellsLess, SeesLess, tells_itself, item_less}
 use Rattle.simulation.specs.Sides.{OutcomesAlike}
 use Rattle.follow_law.specs.Change.{change}
-use Rattle.follow_law.specs.Following.{HasForm, KeepsFollowing}
+use Rattle.follow_law.specs.Following.{KeepsFollowing}
 use Rattle.salvage.proofs.Edits.{Edits, Edited, over, pair, BlocksEdited, no_blocks, next_block}
 use Rattle.salvage.proofs.EditRuns.{Keeps}
 use Rattle.salvage.proofs.EditFollows.{Allows, follows_edited}

@@ -4,8 +4,8 @@ use Rattle.std.proofs.Math.Seq.{drop-cons}
 use Rattle.rv64_instr.specs.declared.place.Place.{Place}
 use Rattle.mir_func.specs.declared.item.Item.{Item}
 use Rattle.mir_func.specs.declared.item.ItemKind.{ItemKind}
+use Rattle.mir_func.specs.Sound.{HasForm}
 use Rattle.remat_pass.specs.Known.{Known, nothing_known, known_past}
-use Rattle.follow_law.specs.Following.{HasForm}
 use Rattle.remat_pass.specs.Remat.{set_in, set_items}
 use Rattle.remat_pass.specs.Partly.{MayBeSet, AreItemsSet}
 use Rattle.remat_pass.proofs.Partly.{items_kept, item_turn, each_more}

@@ -3,8 +3,7 @@
 ghost use Rattle.std.specs.Prelude.{◌≡◌, [], ◌∷◌, All, IsTrue, OnOk, OnErr, true, false};
 ghost use Rattle.rv64_instr.specs.Row.{row_of};
 ghost use Rattle.rv64_instr.specs.Form.{has_form};
-ghost use Rattle.mir_func.specs.Sound.{AllItems, IsSound};
-ghost use Rattle.follow_law.specs.Following.{HasForm};
+ghost use Rattle.mir_func.specs.Sound.{AllItems, IsSound, HasForm};
 ghost use Rattle.remat_pass.specs.Known.{nothing_known};
 ghost use Rattle.remat_pass.specs.Table.{known_by};
 ghost use Rattle.remat_pass.specs.Remat.{constant_set, set_or_same, set_in, set_items, set_blocks, rematerialized};

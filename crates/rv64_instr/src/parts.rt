@@ -107,6 +107,13 @@ pub fn is_caller_saved(r: Reg) -> bool
     matches!(r.number(), 1 | 5..=7 | 10..=17 | 28..=31)
 }
 
+/// Whether an instruction is a call.
+pub fn is_call(i: &Instr) -> bool
+    ensures { result ≡ is_call (row_of i.now) }
+{
+    matches!(i.decoded(), Decoded::Calls)
+}
+
 impl Decoded {
     /// What it sets, reads and moves.
     pub fn effect(&self) -> Effect

@@ -25,7 +25,7 @@ pub fn fresh_number(f: &Func, subs: &Substitutions) -> u32
 }
 
 /// The greatest number on items of blocks and in marks, or 0.
-fn greatest_in_blocks(blocks: &[Block]) -> u32
+pub fn greatest_in_blocks(blocks: &[Block]) -> u32
     ensures { result ≡ greatest (block_numbers blocks.now) }
 {
     let mut most: u32 = 0;

@@ -23,7 +23,7 @@ use Rattle.mir_func.specs.Sound.{IsNotPointer, LeavesPointer, AllItems, SlotsIn,
 use Rattle.mir_func.specs.SoundFrame.{adds_to_pointer, saves, restores, prologue_code, epilogue_code, AreCode, IsBody, GivesBack, goes_on, returns, HasFrame}
 use Rattle.mir_func.specs.SoundFrame.{NumberedAlike, IsFramed, slot_offsets}
 use Rattle.code_words.specs.Rule.{Layout, Form, OneWord, row_form, form_of, address_in, sites_in}
-use Rattle.code_words.specs.steps.Emitted.{HasForm}
+use Rattle.code_words.specs.steps.Emitted.{IsFormed}
 use Rattle.compiled_text.specs.declared.output.Line.{Line}
 use Rattle.compiled_text.specs.declared.output.ListedBlock.{ListedBlock}
 use Rattle.compiled_text.specs.declared.output.ListedVariable.{ListedVariable}
@@ -159,30 +159,30 @@ module _ (l : Layout) where
 
   -- ---- all of it
 
-  goods_in : (framed : IsFramed l.framed) (items : List Item) → All HasForm items → All SteadyItem items →
+  goods_in : (framed : IsFramed l.framed) (items : List Item) → All IsFormed items → All SteadyItem items →
       All (λ i. SlotsIn (slot_offsets l.framed) i.kind) items → All (λ i. ObjectsIn l.framed.objects i.kind) items → All (Good l framed) items
   goods_in framed [] forms steady slots objects = λ k d low. absurd (omega (arith, low))
   goods_in framed (i ∷ items) forms steady slots objects =
       All-cons (Good l framed) i items
       (record {
-        form = All-head HasForm i items forms;
+        form = All-head IsFormed i items forms;
         steady = All-head SteadyItem i items steady;
         slots = All-head (λ x. SlotsIn (slot_offsets l.framed) x.kind) i items slots;
         objects = All-head (λ x. ObjectsIn l.framed.objects x.kind) i items objects;
       })
-      (goods_in framed items (All-tail HasForm i items forms) (All-tail SteadyItem i items steady)
+      (goods_in framed items (All-tail IsFormed i items forms) (All-tail SteadyItem i items steady)
       (All-tail (λ x. SlotsIn (slot_offsets l.framed) x.kind) i items slots) (All-tail (λ x. ObjectsIn l.framed.objects x.kind) i items objects))
 
-  goods : (framed : IsFramed l.framed) (blocks : List Block) → AllItems HasForm blocks → All SteadyBlock blocks →
+  goods : (framed : IsFramed l.framed) (blocks : List Block) → AllItems IsFormed blocks → All SteadyBlock blocks →
       AllItems (λ i. SlotsIn (slot_offsets l.framed) i.kind) blocks → AllItems (λ i. ObjectsIn l.framed.objects i.kind) blocks →
       All (λ b. All (Good l framed) b.items) blocks
   goods framed [] forms steady slots objects = λ k d low. absurd (omega (arith, low))
   goods framed (b ∷ blocks) forms steady slots objects =
       All-cons (λ x. All (Good l framed) x.items) b blocks
-      (goods_in framed b.items (All-head (λ x. All HasForm x.items) b blocks forms) (All-head SteadyBlock b blocks steady)
+      (goods_in framed b.items (All-head (λ x. All IsFormed x.items) b blocks forms) (All-head SteadyBlock b blocks steady)
       (All-head (λ x. All (λ i. SlotsIn (slot_offsets l.framed) i.kind) x.items) b blocks slots)
       (All-head (λ x. All (λ i. ObjectsIn l.framed.objects i.kind) x.items) b blocks objects))
-      (goods framed blocks (All-tail (λ x. All HasForm x.items) b blocks forms) (All-tail SteadyBlock b blocks steady)
+      (goods framed blocks (All-tail (λ x. All IsFormed x.items) b blocks forms) (All-tail SteadyBlock b blocks steady)
       (All-tail (λ x. All (λ i. SlotsIn (slot_offsets l.framed) i.kind) x.items) b blocks slots)
       (All-tail (λ x. All (λ i. ObjectsIn l.framed.objects i.kind) x.items) b blocks objects))
 

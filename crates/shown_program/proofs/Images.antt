@@ -19,12 +19,12 @@ use Rattle.mir_func.specs.declared.item.ItemKind.{ItemKind}
 use Rattle.mir_func.specs.declared.item.ItemKind.TheVariants.{Code, Mark, Phi}
 use Rattle.mir_func.specs.declared.object.Object.{Object}
 use Rattle.mir_func.specs.Objects.{area_of, end_from, up_to}
-use Rattle.mir_func.specs.Sound.{AllItems}
+use Rattle.mir_func.specs.Sound.{AllItems, HasForm}
 use Rattle.code_layout.specs.Image.{CodeLine}
 use Rattle.code_words.specs.Inverted.{inverted, jump_to}
 use Rattle.code_words.specs.Listed.{Line as LaidLine, form_lines as laid_form, kind_lines as laid_kind, lines_at as laid_lines}
 use Rattle.code_words.specs.Rule.{Layout, Site, Form, LongBranch, form_of, address_in, added_before, sites_in, sites_from}
-use Rattle.code_words.specs.steps.Emitted.{KindHasForm, HasForm}
+use Rattle.code_words.specs.steps.Emitted.{IsFormed}
 use Rattle.machine_layout.specs.Images.{code_line}
 use Rattle.compiled_text.specs.Output.{operand_of}
 use Rattle.shown_program.specs.Frame.{area_shown, end_of}
@@ -70,7 +70,7 @@ module _ (l : Layout) where
       subst (λ (op : Op). LongAlike a i k n op c.operands) (sym op_is)
       (subst (λ (os : List Operand). LongAlike a i k n (Branch b) os) (sym os_is) (long_alike a i k b x y n n rest all))
 
-  kind_alike : (s : Site) (kind : ItemKind) → KindHasForm kind → flat_map code_lines (kind_lines l s kind) ≡ map code_line (laid_kind l s kind)
+  kind_alike : (s : Site) (kind : ItemKind) → HasForm kind → flat_map code_lines (kind_lines l s kind) ≡ map code_line (laid_kind l s kind)
   kind_alike s (Code c k) form =
       form_alike (address_in l s.point) s.item c k (form_of (l.long s.point) (Code c k)) (viewed (l.long s.point) c.op c.operands form)
   kind_alike s (Mark v m) form = refl
@@ -78,18 +78,18 @@ module _ (l : Layout) where
 
   -- ---- all of them
 
-  items_alike : (b n : ℕ) (items : List Item) → All HasForm items →
+  items_alike : (b n : ℕ) (items : List Item) → All IsFormed items →
       flat_map code_lines (flat_map (site_lines l) (sites_in b n items)) ≡ map code_line (flat_map (laid_lines l) (sites_in b n items))
   items_alike b n [] all = refl
   items_alike b n (i ∷ items) all =
       let s : Site = record { point = record { block = b; item = n }; item = i } in
       flat_map-append code_lines (site_lines l s) (flat_map (site_lines l) (sites_in b (suc n) items)) ∙
       (ap (λ (t : List CodeLine). t ++ flat_map code_lines (flat_map (site_lines l) (sites_in b (suc n) items))) (kind_alike s i.kind
-      (All-head HasForm i items all)) ∙
-      (ap (λ (t : List CodeLine). map code_line (laid_lines l s) ++ t) (items_alike b (suc n) items (All-tail HasForm i items all)) ∙
+      (All-head IsFormed i items all)) ∙
+      (ap (λ (t : List CodeLine). map code_line (laid_lines l s) ++ t) (items_alike b (suc n) items (All-tail IsFormed i items all)) ∙
       sym (map-append code_line (laid_lines l s) (flat_map (laid_lines l) (sites_in b (suc n) items)))))
 
-  pub blocks_alike : (b : ℕ) (blocks : List Block) → AllItems HasForm blocks →
+  pub blocks_alike : (b : ℕ) (blocks : List Block) → AllItems IsFormed blocks →
       flat_map code_lines (flat_map (λ listed. listed.lines) (blocks_listed l b blocks)) ≡ map code_line (flat_map (laid_lines l) (sites_from b blocks))
   blocks_alike b [] all = refl
   blocks_alike b (block ∷ blocks) all =
@@ -97,13 +97,13 @@ module _ (l : Layout) where
       let rest = flat_map (λ listed. listed.lines) (blocks_listed l (suc b) blocks) in
       let others = flat_map (laid_lines l) (sites_from (suc b) blocks) in
       flat_map-append code_lines first rest ∙
-      (ap (λ (t : List CodeLine). t ++ flat_map code_lines rest) (items_alike b 0 block.items (All-head (λ x. All HasForm x.items) block blocks all)) ∙
+      (ap (λ (t : List CodeLine). t ++ flat_map code_lines rest) (items_alike b 0 block.items (All-head (λ x. All IsFormed x.items) block blocks all)) ∙
       (ap (λ (t : List CodeLine). map code_line (flat_map (laid_lines l) (sites_in b 0 block.items)) ++ t)
-      (blocks_alike (suc b) blocks (All-tail (λ x. All HasForm x.items) block blocks all)) ∙
+      (blocks_alike (suc b) blocks (All-tail (λ x. All IsFormed x.items) block blocks all)) ∙
       (sym (map-append code_line (flat_map (laid_lines l) (sites_in b 0 block.items)) others) ∙
       ap (λ (t : List LaidLine). map code_line t) (sym (flat_map-append (laid_lines l) (sites_in b 0 block.items) (sites_from (suc b) blocks))))))
 
-  whole_alike : (blocks : List Block) → AllItems HasForm blocks →
+  whole_alike : (blocks : List Block) → AllItems IsFormed blocks →
       flat_map code_lines (prologue_listed l blocks ++ flat_map (λ listed. listed.lines) (body_listed l blocks)) ≡
       map code_line (flat_map (laid_lines l) (sites_from 0 blocks))
   whole_alike [] all = refl

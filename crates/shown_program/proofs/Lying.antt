@@ -17,12 +17,12 @@ use Rattle.mir_func.specs.declared.item.Item.{Item}
 use Rattle.mir_func.specs.declared.item.ItemKind.{ItemKind}
 use Rattle.mir_func.specs.declared.item.ItemKind.TheVariants.{Code, Mark, Phi}
 use Rattle.mir_func.specs.declared.position.Pos.{Pos}
-use Rattle.mir_func.specs.Sound.{AllItems}
+use Rattle.mir_func.specs.Sound.{AllItems, HasForm}
 use Rattle.code_words.specs.Inverted.{jump_to}
 use Rattle.code_words.specs.Laid.{StandFrom}
 use Rattle.code_words.specs.Listed.{listed}
 use Rattle.code_words.specs.Rule.{Layout, Site, Form, form_of, address_in, form_entries, entries_at, sites_in, sites_from, sites_of, words_of}
-use Rattle.code_words.specs.steps.Emitted.{KindHasForm, HasForm}
+use Rattle.code_words.specs.steps.Emitted.{IsFormed}
 use Rattle.code_words.proofs.Sites.{site_size}
 use Rattle.code_words.proofs.Stand.{stands, words_fill}
 use Rattle.code_words.specs.declared.code.Entry.{Entry}
@@ -55,7 +55,7 @@ module _ (l : Layout) where
       subst (λ (op : Op). LongLies a at i k n rest end op c.operands) (sym op_is)
       (subst (λ (ps : List Operand). LongLies a at i k n rest end (Branch b) ps) (sym os_is) lie)
 
-  kind_lies : (a : ℕ) (s : Site) (kind : ItemKind) (rest : List Line) (end : ℕ) → KindHasForm kind → (es : List Entry) →
+  kind_lies : (a : ℕ) (s : Site) (kind : ItemKind) (rest : List Line) (end : ℕ) → HasForm kind → (es : List Entry) →
       StandFrom a (form_entries (address_in l s.point) s.item.origin s.point (form_of (l.long s.point) kind) ++ es) end →
       ((x : ℕ) → StandFrom x es end → LinesLie x rest end) → LinesLie a (kind_lines l s kind ++ rest) end
   kind_lies a s (Code c k) rest end form es stand more =
@@ -64,27 +64,27 @@ module _ (l : Layout) where
   kind_lies a s (Mark v m) rest end form es stand more = (refl, more a stand)
   kind_lies a s (Phi p k) rest end form es stand more = (refl, more a stand)
 
-  lies : (sites : List Site) → All (λ s. HasForm s.item) sites → (a end : ℕ) → StandFrom a (flat_map (entries_at l) sites) end →
+  lies : (sites : List Site) → All (λ s. IsFormed s.item) sites → (a end : ℕ) → StandFrom a (flat_map (entries_at l) sites) end →
       LinesLie a (flat_map (site_lines l) sites) end
   lies [] forms a end stand = stand
   lies (s ∷ sites) forms a end stand =
-      kind_lies a s s.item.kind (flat_map (site_lines l) sites) end (All-head (λ x. HasForm x.item) s sites forms) (flat_map (entries_at l) sites) stand
-      (λ x. lies sites (All-tail (λ x. HasForm x.item) s sites forms) x end)
+      kind_lies a s s.item.kind (flat_map (site_lines l) sites) end (All-head (λ x. IsFormed x.item) s sites forms) (flat_map (entries_at l) sites) stand
+      (λ x. lies sites (All-tail (λ x. IsFormed x.item) s sites forms) x end)
 
   -- ---- all lines of a function
 
-  forms_in : (b n : ℕ) (items : List Item) → All HasForm items → All (λ s. HasForm s.item) (sites_in b n items)
+  forms_in : (b n : ℕ) (items : List Item) → All IsFormed items → All (λ s. IsFormed s.item) (sites_in b n items)
   forms_in b n [] forms = λ k d low. absurd (omega (arith, low))
   forms_in b n (i ∷ items) forms =
-      All-cons (λ s. HasForm s.item) (record { point = record { block = b; item = n }; item = i }) (sites_in b (suc n) items) (All-head HasForm i items forms)
-      (forms_in b (suc n) items (All-tail HasForm i items forms))
+      All-cons (λ s. IsFormed s.item) (record { point = record { block = b; item = n }; item = i }) (sites_in b (suc n) items) (All-head IsFormed i items forms)
+      (forms_in b (suc n) items (All-tail IsFormed i items forms))
 
-  forms_from : (b : ℕ) (blocks : List Block) → AllItems HasForm blocks → All (λ s. HasForm s.item) (sites_from b blocks)
+  forms_from : (b : ℕ) (blocks : List Block) → AllItems IsFormed blocks → All (λ s. IsFormed s.item) (sites_from b blocks)
   forms_from b [] forms = λ k d low. absurd (omega (arith, low))
   forms_from b (block ∷ blocks) forms =
-      All-append (λ s. HasForm s.item) (sites_in b 0 block.items) (sites_from (suc b) blocks)
-      (forms_in b 0 block.items (All-head (λ x. All HasForm x.items) block blocks forms))
-      (forms_from (suc b) blocks (All-tail (λ x. All HasForm x.items) block blocks forms))
+      All-append (λ s. IsFormed s.item) (sites_in b 0 block.items) (sites_from (suc b) blocks)
+      (forms_in b 0 block.items (All-head (λ x. All IsFormed x.items) block blocks forms))
+      (forms_from (suc b) blocks (All-tail (λ x. All IsFormed x.items) block blocks forms))
 
   lines_from : (b : ℕ) (blocks : List Block) → flat_map (λ listed. listed.lines) (blocks_listed l b blocks) ≡ flat_map (site_lines l) (sites_from b blocks)
   lines_from b [] = refl

@@ -19,13 +19,13 @@ use Rattle.mir_func.specs.declared.item.ItemKind.{ItemKind}
 use Rattle.mir_func.specs.declared.item.ItemKind.TheVariants.{Code, Mark, Phi}
 use Rattle.mir_func.specs.declared.position.Pos.{Pos}
 use Rattle.mir_func.specs.declared.position.Point.{Point}
-use Rattle.mir_func.specs.Sound.{AllItems}
+use Rattle.mir_func.specs.Sound.{AllItems, HasForm}
 use Rattle.mir_func.specs.Successors.{pos_in}
 use Rattle.code_words.specs.declared.code.Entry.{Entry}
 use Rattle.code_words.specs.Inverted.{jump_to}
 use Rattle.code_words.specs.Listed.{listed}
 use Rattle.code_words.specs.Rule.{Layout, Site, Form, LongBranch, form_of, address_in, form_entries, entries_at, sites_in, sites_from}
-use Rattle.code_words.specs.steps.Emitted.{KindHasForm, HasForm, point_of}
+use Rattle.code_words.specs.steps.Emitted.{IsFormed, point_of}
 use Rattle.compiled_text.specs.declared.output.Line.{Line}
 use Rattle.compiled_text.specs.declared.output.Line.TheVariants.{Item as OfItem, Skip}
 use Rattle.compiled_text.specs.declared.output.ListedBlock.{ListedBlock}
@@ -159,7 +159,7 @@ module _ (a : ℕ) where
         subst (λ (op : Op). LongOnward at i k t rest m op c.operands) (sym op_is)
         (subst (λ (ps : List Operand). LongOnward at i k t rest m (Branch o) ps) (sym os_is) (long_onward at i k t rest m o x y t os)) is
 
-    kind_onward : (i : Item) (kind : ItemKind) (rest : List Line) (m : ℕ) → KindHasForm kind →
+    kind_onward : (i : Item) (kind : ItemKind) (rest : List Line) (m : ℕ) → HasForm kind →
         Listed (kind_lines l (record { point = pos_in b n; item = i }) kind ++ rest) n m →
         Entered (form_entries (address_in l (pos_in b n)) i.origin (pos_in b n) (form_of (l.long (pos_in b n)) kind)) (pos_in b m) ⊎ Listed rest (suc n) m
     kind_onward i (Code c k) rest m form is =
@@ -208,7 +208,7 @@ module _ (a : ℕ) where
         subst (λ (op : Op). LongBack at i k t p op c.operands) (sym op_is)
         (subst (λ (ps : List Operand). LongBack at i k t p (Branch o) ps) (sym os_is) (long_back at i k t p o x y t os)) is
 
-    kind_back : (i : Item) (kind : ItemKind) (p : Pos) → KindHasForm kind →
+    kind_back : (i : Item) (kind : ItemKind) (p : Pos) → HasForm kind →
         Entered (form_entries (address_in l (pos_in b n)) i.origin (pos_in b n) (form_of (l.long (pos_in b n)) kind)) p →
         Back (kind_lines l (record { point = pos_in b n; item = i }) kind) p
     kind_back i (Code c k) p form is =
@@ -232,7 +232,7 @@ module _ (a : ℕ) where
         subst (λ (op : Op). LongLater at i k t n m rest op c.operands) (sym op_is)
         (subst (λ (ps : List Operand). LongLater at i k t n m rest (Branch o) ps) (sym os_is) both)
 
-    later : (i : Item) (kind : ItemKind) (b n m : ℕ) (rest : List Line) → Listed rest (suc n) m → KindHasForm kind →
+    later : (i : Item) (kind : ItemKind) (b n m : ℕ) (rest : List Line) → Listed rest (suc n) m → HasForm kind →
         Listed (kind_lines l (record { point = pos_in b n; item = i }) kind ++ rest) n m
     later i (Code c k) b n m rest more form =
         form_later (address_in l (pos_in b n)) i c k n m rest (form_of (l.long (pos_in b n)) (Code c k)) (viewed (l.long
@@ -240,48 +240,48 @@ module _ (a : ℕ) where
     later i (Mark v x) b n m rest more form = inr more
     later i (Phi p k) b n m rest more form = inr more
 
-    items_to : (b n m : ℕ) (items : List Item) → All HasForm items → Listed (flat_map (site_lines l) (sites_in b n items)) n m →
+    items_to : (b n m : ℕ) (items : List Item) → All IsFormed items → Listed (flat_map (site_lines l) (sites_in b n items)) n m →
         Entered (flat_map (entries_at l) (sites_in b n items)) (pos_in b m)
     items_to b n m [] forms none = elim none [ ]
     items_to b n m (i ∷ items) forms is =
         let s : Site = record { point = pos_in b n; item = i } in
         let rest = flat_map (entries_at l) (sites_in b (suc n) items) in
-        elim (kind_onward l b n i i.kind (flat_map (site_lines l) (sites_in b (suc n) items)) m (All-head HasForm i items forms) is) [
+        elim (kind_onward l b n i i.kind (flat_map (site_lines l) (sites_in b (suc n) items)) m (All-head IsFormed i items forms) is) [
           | inl here ↦ entered_left (entries_at l s) rest (pos_in b m) here
-          | inr more ↦ entered_right (entries_at l s) rest (pos_in b m) (items_to b (suc n) m items (All-tail HasForm i items forms) more)
+          | inr more ↦ entered_right (entries_at l s) rest (pos_in b m) (items_to b (suc n) m items (All-tail IsFormed i items forms) more)
         ]
 
     record InBlock (b n : ℕ) (items : List Item) (p : Pos) : Type 0 where
       block : p.block ≡ b
       listed : Listed (flat_map (site_lines l) (sites_in b n items)) n p.item
 
-    items_back : (b n : ℕ) (items : List Item) (p : Pos) → All HasForm items → Entered (flat_map (entries_at l) (sites_in b n items)) p → InBlock b n items p
+    items_back : (b n : ℕ) (items : List Item) (p : Pos) → All IsFormed items → Entered (flat_map (entries_at l) (sites_in b n items)) p → InBlock b n items p
     items_back b n [] p forms none = elim none [ ]
     items_back b n (i ∷ items) p forms is =
         let s : Site = record { point = pos_in b n; item = i } in
         let lines = flat_map (site_lines l) (sites_in b (suc n) items) in
-        let form = All-head HasForm i items forms in
+        let form = All-head IsFormed i items forms in
         elim (entered_cases (entries_at l s) (flat_map (entries_at l) (sites_in b (suc n) items)) p is) [
           | inl here ↦ let back = kind_back l b n i i.kind p form here in record { block = back.block; listed = back.listed lines }
-          | inr more ↦ let back = items_back b (suc n) items p (All-tail HasForm i items forms) more in record {
+          | inr more ↦ let back = items_back b (suc n) items p (All-tail IsFormed i items forms) more in record {
             block = back.block;
             listed = later i i.kind b n p.item lines back.listed form;
           }
         ]
 
-    blocks_to : (b k m : ℕ) (blocks : List Block) (listed : ListedBlock) → AllItems HasForm blocks → slice_get (blocks_listed l b blocks) k ≡ Some listed →
+    blocks_to : (b k m : ℕ) (blocks : List Block) (listed : ListedBlock) → AllItems IsFormed blocks → slice_get (blocks_listed l b blocks) k ≡ Some listed →
         Listed listed.lines 0 m → Entered (flat_map (entries_at l) (sites_from b blocks)) (pos_in (b + k) m)
     blocks_to b k m [] listed forms e is = absurd cc
     blocks_to b zero m (block ∷ blocks) listed forms e is =
         let same : listed ≡ record { id = block.id; lines = items_listed l b block.items } = cc in
-        let here = items_to b 0 m block.items (All-head (λ x. All HasForm x.items) block blocks forms) (subst (λ
+        let here = items_to b 0 m block.items (All-head (λ x. All IsFormed x.items) block blocks forms) (subst (λ
         (x : ListedBlock). Listed x.lines 0 m) same is) in
         let first : b + 0 ≡ b = omega arith in
         subst (λ (x : ℕ). Entered (flat_map (entries_at l) (sites_from b (block ∷ blocks))) (pos_in x m)) (sym first)
         (subst (λ (es : List Entry). Entered es (pos_in b m)) (sym (flat_map-append (entries_at l) (sites_in b 0 block.items) (sites_from (suc b) blocks)))
         (entered_left (flat_map (entries_at l) (sites_in b 0 block.items)) (flat_map (entries_at l) (sites_from (suc b) blocks)) (pos_in b m) here))
     blocks_to b (suc k) m (block ∷ blocks) listed forms e is =
-        let more = blocks_to (suc b) k m blocks listed (All-tail (λ x. All HasForm x.items) block blocks forms) e is in
+        let more = blocks_to (suc b) k m blocks listed (All-tail (λ x. All IsFormed x.items) block blocks forms) e is in
         let next : suc b + k ≡ b + suc k = omega arith in
         subst (λ (es : List Entry). Entered es (pos_in (b + suc k) m)) (sym (flat_map-append (entries_at l) (sites_in b 0 block.items) (sites_from
         (suc b) blocks)))
@@ -295,7 +295,7 @@ module _ (a : ℕ) where
       block : p.block ≡ b + number
       byte : Listed listed.lines 0 p.item
 
-    blocks_from : (b : ℕ) (blocks : List Block) (p : Pos) → AllItems HasForm blocks → Entered (flat_map (entries_at l) (sites_from b blocks)) p →
+    blocks_from : (b : ℕ) (blocks : List Block) (p : Pos) → AllItems IsFormed blocks → Entered (flat_map (entries_at l) (sites_from b blocks)) p →
         AmongBlocks b blocks p
     blocks_from b [] p forms none = elim none [ ]
     blocks_from b (block ∷ blocks) p forms is =
@@ -303,14 +303,14 @@ module _ (a : ℕ) where
         let rest = sites_from (suc b) blocks in
         elim (entered_cases (flat_map (entries_at l) first) (flat_map (entries_at l) rest) p
         (subst (λ (es : List Entry). Entered es p) (flat_map-append (entries_at l) first rest) is)) [
-          | inl here ↦ let back = items_back b 0 block.items p (All-head (λ x. All HasForm x.items) block blocks forms) here in record {
+          | inl here ↦ let back = items_back b 0 block.items p (All-head (λ x. All IsFormed x.items) block blocks forms) here in record {
             number = 0;
             listed = record { id = block.id; lines = items_listed l b block.items };
             stands = refl;
             block = omega (arith, back.block);
             byte = back.listed;
           }
-          | inr more ↦ let back = blocks_from (suc b) blocks p (All-tail (λ x. All HasForm x.items) block blocks forms) more in record {
+          | inr more ↦ let back = blocks_from (suc b) blocks p (All-tail (λ x. All IsFormed x.items) block blocks forms) more in record {
             number = suc back.number;
             listed = back.listed;
             stands = back.stands;

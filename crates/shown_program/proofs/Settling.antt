@@ -8,9 +8,9 @@ use Rattle.mir_func.specs.declared.item.Item.{Item}
 use Rattle.mir_func.specs.declared.item.ItemKind.{ItemKind}
 use Rattle.mir_func.specs.declared.item.ItemKind.TheVariants.{Code, Mark, Phi}
 use Rattle.mir_func.specs.Function.{FramedFunction}
-use Rattle.mir_func.specs.Sound.{AllItems}
+use Rattle.mir_func.specs.Sound.{AllItems, HasForm}
 use Rattle.mir_func.specs.SoundFrame.{IsFramed}
-use Rattle.code_words.specs.steps.Emitted.{KindHasForm, HasForm}
+use Rattle.code_words.specs.steps.Emitted.{IsFormed}
 use Rattle.shown_program.specs.Program.{contents}
 use Rattle.shown_program.specs.Settled.{settled, settled_kind, settled_item, StaysInside}
 use Rattle.shown_program.specs.Laws.{ListingsShowTheItems}
@@ -18,26 +18,26 @@ use Rattle.shown_program.proofs.Operands.{operands_same}
 use Rattle.shown_program.proofs.Framing.{function_shown}
 
 module _ (f : FramedFunction) (framed : IsFramed f) where
-  kind_same : (kind : ItemKind) → KindHasForm kind → StaysInside f.objects kind → settled_kind f kind ≡ kind
+  kind_same : (kind : ItemKind) → HasForm kind → StaysInside f.objects kind → settled_kind f kind ≡ kind
   kind_same (Code c k) form inside = ap (λ (os : List Operand). Code (record { op = c.op; operands = os }) k)
       (operands_same f framed c.op c.operands form inside)
   kind_same (Mark v m) form inside = refl
   kind_same (Phi p k) form inside = refl
 
-  items_same : (items : List Item) → All HasForm items → All (λ i. StaysInside f.objects i.kind) items → map (settled_item f) items ≡ items
+  items_same : (items : List Item) → All IsFormed items → All (λ i. StaysInside f.objects i.kind) items → map (settled_item f) items ≡ items
   items_same [] forms inside = refl
   items_same (i ∷ items) forms inside =
-      let rest = items_same items (All-tail HasForm i items forms) (All-tail (λ x. StaysInside f.objects x.kind) i items inside) in
-      let kind = kind_same i.kind (All-head HasForm i items forms) (All-head (λ x. StaysInside f.objects x.kind) i items inside) in
+      let rest = items_same items (All-tail IsFormed i items forms) (All-tail (λ x. StaysInside f.objects x.kind) i items inside) in
+      let kind = kind_same i.kind (All-head IsFormed i items forms) (All-head (λ x. StaysInside f.objects x.kind) i items inside) in
       λ k. record { kind = kind k; origin = i.origin; loc = i.loc } ∷ rest k
 
-  blocks_same : (blocks : List Block) → AllItems HasForm blocks → AllItems (λ i. StaysInside f.objects i.kind) blocks →
+  blocks_same : (blocks : List Block) → AllItems IsFormed blocks → AllItems (λ i. StaysInside f.objects i.kind) blocks →
       map contents (map (settled f) blocks) ≡ map contents blocks
   blocks_same [] forms inside = refl
   blocks_same (b ∷ blocks) forms inside =
-      let rest = blocks_same blocks (All-tail (λ x. All HasForm x.items) b blocks forms) (All-tail (λ x. All (λ i. StaysInside f.objects i.kind) x.items) b
+      let rest = blocks_same blocks (All-tail (λ x. All IsFormed x.items) b blocks forms) (All-tail (λ x. All (λ i. StaysInside f.objects i.kind) x.items) b
       blocks inside) in
-      let items = items_same b.items (All-head (λ x. All HasForm x.items) b blocks forms) (All-head (λ x. All (λ i. StaysInside f.objects i.kind) x.items) b
+      let items = items_same b.items (All-head (λ x. All IsFormed x.items) b blocks forms) (All-head (λ x. All (λ i. StaysInside f.objects i.kind) x.items) b
       blocks inside) in
       λ k. (b.id, items k) ∷ rest k
 

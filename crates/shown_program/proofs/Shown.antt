@@ -16,12 +16,11 @@ use Rattle.mir_func.specs.declared.block.Block.{Block}
 use Rattle.mir_func.specs.declared.item.Item.{Item}
 use Rattle.mir_func.specs.declared.item.ItemKind.{ItemKind}
 use Rattle.mir_func.specs.declared.item.ItemKind.TheVariants.{Code, Mark, Phi}
-use Rattle.mir_func.specs.Sound.{SlotsIn, ObjectsIn}
+use Rattle.mir_func.specs.Sound.{SlotsIn, ObjectsIn, HasForm}
 use Rattle.mir_func.specs.SoundFrame.{slot_offsets, IsFramed}
 use Rattle.code_words.specs.Inverted.{inverted, jump_to}
 use Rattle.code_words.specs.Listed.{listed}
 use Rattle.code_words.specs.Rule.{Layout, Site, Form, form_of, address_in, sites_in}
-use Rattle.code_words.specs.steps.Emitted.{KindHasForm}
 use Rattle.compiled_text.specs.declared.output.Line.{Line}
 use Rattle.compiled_text.specs.Output.{operand_of}
 use Rattle.shown_program.specs.Frame.{raised}
@@ -48,12 +47,12 @@ twice Bgeu = refl
 module _ (l : Layout) (framed : IsFramed l.framed) where
   -- what is known of an item of the function
   pub record Good (i : Item) : Type 0 where
-    pub form : KindHasForm i.kind
+    pub form : HasForm i.kind
     pub steady : SteadyKind i.kind
     pub slots : SlotsIn (slot_offsets l.framed) i.kind
     pub objects : ObjectsIn l.framed.objects i.kind
 
-  raised_back : (c : Instruction) (k : Option ℕ) → KindHasForm (Code c k) → IsSteady c.op c.operands → SlotsIn (slot_offsets l.framed) (Code c k) →
+  raised_back : (c : Instruction) (k : Option ℕ) → HasForm (Code c k) → IsSteady c.op c.operands → SlotsIn (slot_offsets l.framed) (Code c k) →
       ObjectsIn l.framed.objects (Code c k) → raised (frame_of l.framed) (Code (listed l.framed c) k) ≡ settled_kind l.framed (Code c k)
   raised_back c k form steady slots objects =
       ap (λ (os : List Operand). Code (record { op = c.op; operands = os }) k) (operands_back l.framed framed c.op c.operands form steady slots objects)
@@ -83,7 +82,7 @@ module _ (l : Layout) (framed : IsFramed l.framed) where
       subst (λ (op : Op). LongShown a i k n rest op c.operands) (sym op_is)
       (subst (λ (ps : List Operand). LongShown a i k n rest (Branch b) ps) (sym os_is) (long_shown a i k rest b x y n os all))
 
-  kind_shown_first : (s : Site) (kind : ItemKind) (rest : List Line) → KindHasForm kind → SteadyKind kind → SlotsIn (slot_offsets l.framed) kind →
+  kind_shown_first : (s : Site) (kind : ItemKind) (rest : List Line) → HasForm kind → SteadyKind kind → SlotsIn (slot_offsets l.framed) kind →
       ObjectsIn l.framed.objects kind →
       items_shown (frame_of l.framed) None (kind_lines l s kind ++ rest) ≡ record s.item { kind = settled_kind l.framed kind } ∷
       items_shown (frame_of l.framed) None rest

@@ -10,7 +10,7 @@ use Rattle.mir_func.specs.SoundFrame.{IsFramed}
 use Rattle.code_words.specs.declared.code.Entry.{Entry as Laid}
 use Rattle.code_words.specs.Rule.{Layout, words_of, entries_of}
 use Rattle.code_words.specs.Laid.{IsWorded}
-use Rattle.code_words.specs.steps.Emitted.{HasForm, point_of}
+use Rattle.code_words.specs.steps.Emitted.{IsFormed, point_of}
 use Rattle.machine_layout.specs.Images.{IsImageOf}
 use Rattle.compiled_text.specs.declared.output.ListedVariable.{ListedVariable}
 use Rattle.compiled_text.specs.declared.output.Output.{Output}
@@ -20,7 +20,7 @@ use Rattle.shown_program.specs.Listing.{listing_of}
 
 -- the operands of each instruction of a function have the form of its opcode
 abbrev pub IsFormed : FramedFunction → Type 0
-IsFormed f = AllItems HasForm f.blocks
+IsFormed f = AllItems IsFormed f.blocks
 
 -- The image of a listing, in an output whose text has the layout's words from its first address on, is one of the layout.
 abbrev pub ListingsShowTheImage : Type 0

@@ -2,9 +2,9 @@
 use Rattle.std.specs.Prelude.{ℕ, ◌<◌, List, Contains, Bool, true, false}
 use Rattle.mir_func.specs.declared.entry.Entry.{Entry}
 use Rattle.mir_func.specs.Function.{Function}
-use Rattle.mir_func.specs.Sound.{AllItems, IsSound}
+use Rattle.mir_func.specs.Sound.{AllItems, IsSound, HasForm}
 use Rattle.follow_law.specs.Change.{change}
-use Rattle.follow_law.specs.Following.{HasForm, KeepsFollowing}
+use Rattle.follow_law.specs.Following.{KeepsFollowing}
 use Rattle.follow_law.specs.Sizes.{greatest_number}
 use Rattle.spill_marks.specs.Asked.{asked}
 use Rattle.spill_rule.specs.Choice.{spilling_of}

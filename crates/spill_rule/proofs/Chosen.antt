@@ -33,13 +33,12 @@ use Rattle.mir_func.specs.declared.item.ItemKind.{ItemKind}
 use Rattle.mir_func.specs.declared.item.ItemKind.TheVariants.{Code, Mark, Phi}
 use Rattle.mir_func.specs.Function.{Function}
 use Rattle.mir_func.specs.Graph.{Here, program_of}
-use Rattle.mir_func.specs.Sound.{items_of}
+use Rattle.mir_func.specs.Sound.{items_of, HasForm}
 use Rattle.mir_meaning.specs.Follow.{first_of, OnRow, GoesTo}
 use Rattle.mir_meaning.specs.Live.{Live, used, later}
 use Rattle.follow_law.specs.declared.loss.Reason.TheVariants.{NoScratch, CallNamed, EntryLoop}
 use Rattle.follow_law.specs.Causes.{is_of_register, names, is_named, scratch_of}
 use Rattle.follow_law.specs.Sizes.{greatest, calls}
-use Rattle.follow_law.specs.Following.{HasForm}
 use Rattle.spill_code.specs.declared.spilling.Home.{Home}
 use Rattle.spill_code.specs.declared.spilling.Spilling.{Spilling}
 use Rattle.spill_code.specs.Rewrite.{slot_of}

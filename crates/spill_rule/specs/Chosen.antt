@@ -6,8 +6,7 @@ use Rattle.mir_func.specs.declared.variable.MarkValue.TheVariants.{Nothing, Cons
 use Rattle.mir_func.specs.declared.item.ItemKind.{ItemKind}
 use Rattle.mir_func.specs.declared.item.ItemKind.TheVariants.{Code, Mark, Phi}
 use Rattle.mir_func.specs.Function.{Function}
-use Rattle.mir_func.specs.Sound.{AllItems, IsSound}
-use Rattle.follow_law.specs.Following.{HasForm}
+use Rattle.mir_func.specs.Sound.{AllItems, IsSound, HasForm}
 use Rattle.spill_code.specs.declared.spilling.Spilling.{Spilling}
 use Rattle.spill_runs.specs.MaySpill.{IsNoScratch, IsUntouched}
 use Rattle.spill_runs.specs.Follows.{MaySpill}

@@ -18,6 +18,7 @@ use numbers::code::BlockId;
 use rv64_instr::decoded::Decoded;
 use rv64_instr::instr::Instr;
 use rv64_instr::operand::Operand;
+use rv64_instr::parts::is_call;
 use rv64_instr::reg::Reg;
 
 /// Whether some code names the register: by an explicit operand, or by an implicit one of a call or a return.
@@ -108,12 +109,6 @@ fn calls(kind: &ItemKind) -> bool
         ItemKind::Code(i, _) => is_call(i),
         ItemKind::Mark(_, _) | ItemKind::Phi(_, _) => false,
     }
-}
-
-fn is_call(i: &Instr) -> bool
-    ensures { result ≡ is_call (row_of i.now) }
-{
-    matches!(i.decoded(), Decoded::Calls)
 }
 
 fn has_implicit_uses(i: &Instr) -> bool

@@ -1,12 +1,10 @@
 -- What of a plan an item's words and entries are made of.
-use Rattle.std.specs.Prelude.{◌≡◌, ℕ, ◌+◌, ◌<◌, ℤ, List, length, get_or, slice_index, Option, IsTrue}
-use Rattle.rv64_instr.specs.Form.{has_form}
+use Rattle.std.specs.Prelude.{◌≡◌, ℕ, ◌+◌, ◌<◌, ℤ, List, length, get_or, slice_index, Option}
 use Rattle.mir_func.specs.declared.item.Item.{Item}
-use Rattle.mir_func.specs.declared.item.ItemKind.{ItemKind}
-use Rattle.mir_func.specs.declared.item.ItemKind.TheVariants.{Code, Mark, Phi}
 use Rattle.mir_func.specs.declared.position.Pos.{Pos}
 use Rattle.mir_func.specs.declared.position.Point.{Point}
 use Rattle.mir_func.specs.Successors.{pos_in}
+use Rattle.mir_func.specs.Sound.{HasForm}
 use Rattle.rv64_word.specs.declared.machine_op.MachineOp.{MachineOp}
 use Rattle.rv64_word.specs.declared.word_op.WordOp.TheVariants.{Registers, Immediate, Lui, Branch, Load, Store, Jal, Jalr}
 use Rattle.rv64_word.specs.declared.word_op.WordOp.{WordOp}
@@ -30,14 +28,9 @@ AllStandAt l p first b items = (n : ℕ) (i : Item) → n < length items → i �
 abbrev pub point_of : Pos → Point
 point_of p = record { block = p.block; item = p.item }
 
--- the operands of an instruction have the form of its opcode
-abbrev pub KindHasForm : ItemKind → Type 0
-KindHasForm (Code i k) = IsTrue (has_form i.op i.operands)
-KindHasForm (Mark v m) = Unit {0}
-KindHasForm (Phi p k) = Unit {0}
-
-abbrev pub HasForm : Item → Type 0
-HasForm i = KindHasForm i.kind
+-- an item whose code has the form of its opcode
+abbrev pub IsFormed : Item → Type 0
+IsFormed i = HasForm i.kind
 
 -- the operation of the inverted branch. Other operations stay
 abbrev pub inverted_word : WordOp → WordOp

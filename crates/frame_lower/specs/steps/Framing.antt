@@ -7,12 +7,12 @@ use Rattle.mir_func.specs.declared.block.Block.{Block}
 use Rattle.mir_func.specs.declared.item.Item.{Item}
 use Rattle.mir_func.specs.declared.position.Origin.{Origin}
 use Rattle.mir_func.specs.declared.position.Origin.TheVariants.{Before}
-use Rattle.mir_func.specs.Exits.{exit_of}
+use Rattle.mir_func.specs.Exits.{exit_of, is_final}
 use Rattle.mir_func.specs.Function.{Function}
 use Rattle.mir_func.specs.Graph.{block_start}
 use Rattle.mir_func.specs.Limits.{MAX_FRAME, MAX_SLOTS}
 use Rattle.mir_func.specs.SoundFrame.{prologue_code, epilogue_code}
-use Rattle.frame_rule.specs.Rule.{saved_of, size_of, added_all, position_in, renamed, is_final}
+use Rattle.frame_rule.specs.Rule.{saved_of, size_of, added_all, position_in, renamed}
 use Rattle.frame_lower.specs.declared.frame.Frame.{Frame}
 
 -- ---- slots

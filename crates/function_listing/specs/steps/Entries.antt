@@ -4,12 +4,12 @@ use Rattle.mir_func.specs.declared.item.ItemKind.{ItemKind}
 use Rattle.mir_func.specs.declared.position.Point.{Point}
 use Rattle.mir_func.specs.declared.position.Pos.{Pos}
 use Rattle.mir_func.specs.Function.{FramedFunction}
-use Rattle.mir_func.specs.Sound.{SlotsIn, ObjectsIn}
+use Rattle.mir_func.specs.Sound.{SlotsIn, ObjectsIn, HasForm}
 use Rattle.mir_func.specs.SoundFrame.{slot_offsets, IsFramed}
 use Rattle.code_words.specs.declared.code.Entry.{Entry}
 use Rattle.code_words.specs.declared.objects.ObjectOffsets.{ObjectOffsets}
 use Rattle.code_words.specs.Rule.{Layout, Site, entries_at}
-use Rattle.code_words.specs.steps.Emitted.{KindHasForm, point_of}
+use Rattle.code_words.specs.steps.Emitted.{point_of}
 use Rattle.code_words.specs.steps.Plans.{AreOffsetsOf}
 
 -- an address of 32 bits

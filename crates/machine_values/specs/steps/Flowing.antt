@@ -1,11 +1,8 @@
 -- What a flow says of the block that it is of.
-use Rattle.std.specs.Prelude.{◌≡◌, ℕ, suc, List, map, length, Option, None, Some, slice_get, IsTrue}
-use Rattle.rv64_instr.specs.Form.{has_form}
+use Rattle.std.specs.Prelude.{◌≡◌, ℕ, suc, List, map, length, Option, None, Some, slice_get}
 use Rattle.mir_func.specs.declared.block.Block.{Block}
 use Rattle.mir_func.specs.declared.entry.OperandPair.{OperandPair}
 use Rattle.mir_func.specs.declared.item.Item.{Item}
-use Rattle.mir_func.specs.declared.item.ItemKind.{ItemKind}
-use Rattle.mir_func.specs.declared.item.ItemKind.TheVariants.{Code, Mark, Phi}
 use Rattle.mir_func.specs.Graph.{Program}
 use Rattle.mir_func.specs.Sound.{ids_of}
 use Rattle.mir_func.specs.Successors.{ways}
@@ -16,12 +13,6 @@ use Rattle.class_solver.specs.declared.flow.Change.{Change}
 use Rattle.class_solver.specs.declared.flow.Flow.{Flow}
 use Rattle.class_solver.specs.Joining.{source_at}
 use Rattle.class_solver.specs.Flows.{token_at, told}
-
--- code has the form of its opcode
-abbrev pub HasForm : ItemKind → Type 0
-HasForm (Code i k) = IsTrue (has_form i.op i.operands)
-HasForm (Mark v m) = Unit {0}
-HasForm (Phi p k) = Unit {0}
 
 -- past the items each thing has the token that the changes tell, where x2 has none before them
 pub record Tells (resolve : OperandPair → Option OperandPair) (xs : List Tracked) (items : List Item) (changes : List Change) : Type 0 where

@@ -6,10 +6,11 @@ use Rattle.std.specs.declared.hash.BuildHasherDefault.{BuildHasherDefault}
 use Rattle.mir_func.specs.declared.block.Block.{Block}
 use Rattle.mir_func.specs.Resolve.{resolve}
 use Rattle.mir_func.specs.Successors.{ways}
+use Rattle.mir_func.specs.Sound.{HasForm}
 use Rattle.class_solver.specs.declared.flow.Flow.{Flow}
 use Rattle.class_solver.specs.Joining.{AreWithin}
 use Rattle.machine_values.specs.declared.changes.Tracking.{Tracking}
-use Rattle.machine_values.specs.steps.Flowing.{HasForm, Tells, next_id}
+use Rattle.machine_values.specs.steps.Flowing.{Tells, next_id}
 
 -- indices by numbers
 abbrev pub Indices : Type 0

@@ -2,7 +2,7 @@ use Rattle.std.proofs.Common.{[], ◌∷◌, ◌++◌, All, List, take, subst, s
 use Rattle.std.proofs.lemmas.List.{take_more, take_all}
 use Rattle.std.proofs.lemmas.List.Elements.{All-nil, All-cons, All-append}
 use Rattle.mir_func.specs.declared.item.Item.{Item}
-use Rattle.follow_law.specs.Following.{HasForm}
+use Rattle.mir_func.specs.Sound.{HasForm}
 use Rattle.branch_fold.proofs.fold.know_items.Goals as goal
 
 pub loop-i-preserved : goal.loop-i-preserved

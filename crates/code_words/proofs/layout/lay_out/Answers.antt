@@ -4,7 +4,7 @@ use Rattle.mir_func.specs.Sound.{AllItems}
 use Rattle.mir_func.specs.SoundFrame.{IsFramed}
 use Rattle.code_words.specs.Laid.{IsCode}
 use Rattle.code_words.specs.Rule.{Layout, words_of, entries_of}
-use Rattle.code_words.specs.steps.Emitted.{HasForm}
+use Rattle.code_words.specs.steps.Emitted.{IsFormed}
 use Rattle.code_words.proofs.Stand.{sound_code}
 use Rattle.code_words.proofs.Worded.{Sound, worded, code_fits, addresses_fit}
 use Rattle.code_words.proofs.layout.lay_out.Goals as goal
@@ -17,7 +17,7 @@ invariant_of-result c =
     let same : c.as_slice-blocks.result.now ≡ f.blocks = c.as_slice-blocks.ensures ∙ ap (λ (g : FramedFunction). g.blocks) c.framed.view_is in
     let sound : Sound l = record {
       framed = subst IsFramed c.framed.view_is c.framed.invariant;
-      forms = subst (AllItems HasForm) same c.in_ok-words.ensures.forms;
+      forms = subst (AllItems IsFormed) same c.in_ok-words.ensures.forms;
       few = c.requires.items;
       aligned = c.requires.aligned;
       closed = of.settled.closed;
@@ -35,7 +35,7 @@ returns c =
     let same : c.as_slice-blocks.result.now ≡ f.blocks = c.as_slice-blocks.ensures ∙ ap (λ (g : FramedFunction). g.blocks) c.framed.view_is in
     let sound : Sound l = record {
       framed = subst IsFramed c.framed.view_is c.framed.invariant;
-      forms = subst (AllItems HasForm) same c.in_ok-words.ensures.forms;
+      forms = subst (AllItems IsFormed) same c.in_ok-words.ensures.forms;
       few = c.requires.items;
       aligned = c.requires.aligned;
       closed = of.settled.closed;

@@ -1,13 +1,13 @@
 use Rattle.std.proofs.Common.{refl}
 use Rattle.mir_func.specs.Successors.{pos_in}
 use Rattle.code_words.specs.Rule.{Site, words_at}
-use Rattle.code_words.specs.steps.Emitted.{HasForm}
+use Rattle.code_words.specs.steps.Emitted.{IsFormed}
 use Rattle.code_words.proofs.Emitting.{block_turn, all_more}
 use Rattle.code_words.proofs.words.push_block.Goals as goal
 
 pub loop-index-preserved : goal.loop-index-preserved
 loop-index-preserved c = record {
-  forms = all_more HasForm c.args.items.now c.loop-index.index c.index-items-index.result c.loop-index-test.true c.index-items-index.is
+  forms = all_more IsFormed c.args.items.now c.loop-index.index c.index-items-index.result c.loop-index-test.true c.index-items-index.is
       c.loop-index.invariant.forms c.push_item.ensures.form;
   value = λ l b is stand.
       let k = c.loop-index.index in

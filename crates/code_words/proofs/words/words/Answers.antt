@@ -4,14 +4,14 @@ use Rattle.std.specs.List.{flat_map}
 use Rattle.mir_func.specs.declared.block.Block.{Block}
 use Rattle.mir_func.specs.declared.item.Item.{Item}
 use Rattle.code_words.specs.Rule.{words_at, sites_in}
-use Rattle.code_words.specs.steps.Emitted.{AllStandAt, HasForm}
+use Rattle.code_words.specs.steps.Emitted.{AllStandAt, IsFormed}
 use Rattle.code_words.proofs.Emitting.{all_turn, all_stand, all_more}
 use Rattle.code_words.proofs.words.words.Goals as goal
 
 pub loop-index-preserved : goal.loop-index-preserved
 loop-index-preserved c = record {
-  forms = all_more (λ (x : Block). All HasForm x.items) c.args.blocks.now c.loop-index.index c.index-blocks-index.result c.loop-index-test.true
-      c.index-blocks-index.is c.loop-index.invariant.forms (subst (All HasForm) c.as_slice.ensures c.in_ok-push_block.ensures.forms);
+  forms = all_more (λ (x : Block). All IsFormed x.items) c.args.blocks.now c.loop-index.index c.index-blocks-index.result c.loop-index-test.true
+      c.index-blocks-index.is c.loop-index.invariant.forms (subst (All IsFormed) c.as_slice.ensures c.in_ok-push_block.ensures.forms);
   value = λ l is same.
       let k = c.loop-index.index in
       let b = c.index-blocks-index.result in

@@ -4,11 +4,11 @@ use Rattle.std.specs.List.{flat_map}
 use Rattle.mir_func.specs.declared.block.Block.{Block}
 use Rattle.code_words.specs.Rule.{Layout, words_at, sites_from}
 use Rattle.code_words.specs.steps.Plans.{IsPlan}
-use Rattle.code_words.specs.steps.Emitted.{HasForm}
+use Rattle.code_words.specs.steps.Emitted.{IsFormed}
 use Rattle.code_words.proofs.words.words.Given as goal
 
 abbrev pub invariant-loop-index : goal.invariant-loop-index
 invariant-loop-index l = record {
-  forms : (k : ℕ) (d : Block) → k < l.index → All HasForm (get_or l.blocks k d).items;
+  forms : (k : ℕ) (d : Block) → k < l.index → All IsFormed (get_or l.blocks k d).items;
   value : (x : Layout) → IsPlan x l.plan → x.framed.blocks ≡ l.blocks → l.words ≡ flat_map (words_at x) (sites_from 0 (take l.index l.blocks));
 }

@@ -1,6 +1,6 @@
 use Rattle.std.proofs.Common.{◌≡◌, get_or, refl, ap}
 use Rattle.mir_func.specs.declared.item.Item.{Item}
-use Rattle.machine_values.specs.steps.Flowing.{HasForm}
+use Rattle.mir_func.specs.Sound.{HasForm}
 use Rattle.machine_values.proofs.Each.{each_more, each_all}
 use Rattle.machine_values.proofs.Walking.{walked_on, known_item}
 use Rattle.machine_values.proofs.changes.pass_items.Goals as goal

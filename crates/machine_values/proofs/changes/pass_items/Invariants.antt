@@ -1,7 +1,7 @@
 use Rattle.std.proofs.Common.{◌≡◌, length, take}
 use Rattle.mir_func.specs.declared.item.Item.{Item}
+use Rattle.mir_func.specs.Sound.{HasForm}
 use Rattle.class_places.specs.Held.{PLACES}
-use Rattle.machine_values.specs.steps.Flowing.{HasForm}
 use Rattle.machine_values.specs.Walking.{Walked}
 use Rattle.machine_values.proofs.Each.{EachBelow}
 use Rattle.machine_values.proofs.changes.pass_items.Given as goal

@@ -1,6 +1,7 @@
 use Rattle.std.proofs.Common.{◌≡◌, ◌≤◌, drop}
-use Rattle.meta_reader.specs.Number.{MAX_NUMBER, value_behind}
+use Rattle.meta_reader.specs.Number.{value_behind}
 use Rattle.meta_reader.proofs.number.spelled.Given as goal
+use Rattle.numbers.specs.Limits.{MAX_NUMBER}
 
 abbrev pub invariant-loop-byte : goal.invariant-loop-byte
 invariant-loop-byte l = record {

@@ -1,7 +1,7 @@
 use Rattle.std.proofs.Common.{◌≡◌, ◌<◌, ◌≤◌, List, All, length, set, get_or, subst, sym, ap, ◌∙◌, rules, arith}
 use Rattle.mir_func.specs.declared.block.Block.{Block}
 use Rattle.mir_func.specs.declared.item.Item.{Item}
-use Rattle.follow_law.specs.Following.{HasForm}
+use Rattle.mir_func.specs.Sound.{HasForm}
 use Rattle.remat_pass.specs.Remat.{set_block}
 use Rattle.remat_pass.specs.Partly.{AreItemsSet, AreBlocksSet}
 use Rattle.remat_pass.proofs.InPlaceMap.{map_turn, map_at}

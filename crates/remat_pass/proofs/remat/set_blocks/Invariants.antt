@@ -1,7 +1,7 @@
 use Rattle.std.proofs.Common.{◌≡◌, ◌<◌, ◌++◌, ℕ, All, take, drop, get_or}
 use Rattle.mir_func.specs.declared.block.Block.{Block}
 use Rattle.mir_func.specs.declared.item.Item.{Item}
-use Rattle.follow_law.specs.Following.{HasForm}
+use Rattle.mir_func.specs.Sound.{HasForm}
 use Rattle.remat_pass.specs.Remat.{set_blocks}
 use Rattle.remat_pass.proofs.remat.set_blocks.Given as goal
 

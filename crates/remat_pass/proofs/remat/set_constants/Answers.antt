@@ -1,8 +1,7 @@
 use Rattle.std.proofs.Common.{sym, subst}
 use Rattle.std.specs.Prelude.{OnOk}
 use Rattle.mir_func.specs.Function.{Function}
-use Rattle.mir_func.specs.Sound.{AllItems, IsSound}
-use Rattle.follow_law.specs.Following.{HasForm}
+use Rattle.mir_func.specs.Sound.{AllItems, IsSound, HasForm}
 use Rattle.remat_pass.proofs.Sound.{sound_set}
 use Rattle.remat_pass.proofs.remat.set_constants.Goals as goal
 

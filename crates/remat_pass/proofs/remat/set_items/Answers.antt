@@ -1,8 +1,8 @@
 use Rattle.std.proofs.Common.{◌≡◌, ◌<◌, ◌≤◌, ◌∙◌, length, ap, sym, List, subst, get_or, inr, rules}
 use Rattle.mir_func.specs.declared.item.Item.{Item}
+use Rattle.mir_func.specs.Sound.{HasForm}
 use Rattle.remat_pass.specs.Table.{known_by}
 use Rattle.remat_pass.specs.Remat.{set_in}
-use Rattle.follow_law.specs.Following.{HasForm}
 use Rattle.remat_pass.proofs.Setting.{Setting, setting_begins, setting_goes_on, setting_turn}
 use Rattle.remat_pass.proofs.Partly.{items_back}
 use Rattle.remat_pass.proofs.remat.set_items.Goals as goal

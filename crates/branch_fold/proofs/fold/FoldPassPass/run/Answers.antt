@@ -1,8 +1,7 @@
 use Rattle.std.proofs.Common.{[], ◌∷◌, ◌≡◌}
 use Rattle.mir_func.specs.Function.{Function}
-use Rattle.mir_func.specs.Sound.{AllItems}
+use Rattle.mir_func.specs.Sound.{AllItems, HasForm}
 use Rattle.follow_law.specs.Change.{change}
-use Rattle.follow_law.specs.Following.{HasForm}
 use Rattle.follow_law.specs.Sizes.{KeepsSizes}
 use Rattle.follow_law.specs.Steps.{KeepsSteps}
 use Rattle.branch_fold.proofs.Results.{both_ok}
