@@ -35,6 +35,7 @@ label_line n = codes "  bb." ++ decimal n ++ codes ":"
 abbrev pub item_line : Item → List ℕ
 item_line i = codes "    " ++ item_text i
 
+-- the lines of a block in a function's text: its label, then its items
 abbrev pub block_lines : Block → List (List ℕ)
 block_lines b = label_line b.id ∷ map item_line b.items
 
@@ -42,6 +43,7 @@ block_lines b = label_line b.id ∷ map item_line b.items
 abbrev pub body_lines : List Block → List (List ℕ)
 body_lines blocks = flat_map block_lines blocks
 
+-- the bytes of each line, without its number
 abbrev pub texts_of : List Line → List (List ℕ)
 texts_of lines = map (λ l. l.text) lines
 
@@ -56,6 +58,7 @@ unfoldable pub items_from : (block index : ℕ) → List Item → List Item
 items_from block index [] = []
 items_from block index (i ∷ is) = item_at block index i ∷ items_from block (index + 1) is
 
+-- a block as its lines are judged: its items count from 0, and its silent index is behind the last
 abbrev pub judged_block : Block → Block
 judged_block b = record { id = b.id; items = items_from b.id 0 b.items; silent = length b.items }
 

@@ -23,6 +23,7 @@ use Rattle.read_back.specs.Laws.{IsWritable}
 abbrev pub judged_operands : Op → List Operand → List Operand
 judged_operands op operands = if has_form op (map as_slot operands) then map as_slot operands else operands
 
+-- an instruction as its line is judged: with slots for objects where its opcode has that form too
 abbrev pub judged_instruction : Instruction → Instruction
 judged_instruction i = record { op = i.op; operands = judged_operands i.op i.operands }
 

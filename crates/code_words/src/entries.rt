@@ -82,7 +82,8 @@ fn push_long(
 ) -> Result<(), AllocError>
     requires { address < 2 ^ 33 }
     ensures { (p : Pos) → point.now ≡ point_of p →
-        OnOk result (entries.new ≡ entries.old ++ (entry address 4 (added_before origin.now) p false ∷ entry (address + 4) 4 origin.now p false ∷ [])) }
+        OnOk result (entries.new ≡ entries.old ++ (entry address 4 (added_before origin.now) p false ∷ entry
+            (address + 4) 4 origin.now p false ∷ [])) }
 {
     entries.push(word_entry(address, &added_before(origin), point))?;
     entries.push(word_entry(address + 4, origin, point))

@@ -1,5 +1,6 @@
 -- What each item becomes, by its line in the ledger.
-use Rattle.std.proofs.Common.{◌≡◌, ◌⊎◌, inl, inr, ℕ, zero, suc, ◌+◌, ◌<◌, ◌≤◌, List, [], ◌∷◌, ◌++◌, All, Contains, Option, Some, None, Bool, true, false, cond, ◌&&◌, count_by, nat_eq, eq-eqb, ne_eqb, slice_get, append-nil, refl, sym, ap, ◌∙◌, subst, arith}
+use Rattle.std.proofs.Common.{◌≡◌, ◌⊎◌, inl, inr, ℕ, zero, suc, ◌+◌, ◌<◌, ◌≤◌, List, [], ◌∷◌, ◌++◌, All, Contains, Option, Some, None, Bool, true}
+use Rattle.std.proofs.Common.{false, cond, ◌&&◌, count_by, nat_eq, eq-eqb, ne_eqb, slice_get, append-nil, refl, sym, ap, ◌∙◌, subst, arith}
 use Rattle.std.specs.List.{flat_map}
 use Rattle.std.proofs.lemmas.List.{append_assoc}
 use Rattle.std.proofs.lemmas.List.Sums.{sum_by-append}
@@ -27,14 +28,16 @@ use Rattle.mir_meaning.proofs.Reading.{apart_tail, within_list}
 use Rattle.follow_law.specs.Causes.{is_position, is_origin, IsFewer, IsRemoved}
 use Rattle.follow_law.specs.Change.{Change, change}
 use Rattle.follow_law.specs.Rule.{IsCopy, item}
-use Rattle.follow_law.specs.Debug.{RegisterStays, ValueStays, PlaceStays, IsKillAt, Becomes, mark_stays, phi_stays, code_stays, code_numbered, code_unnumbered, code_goes, substituted, salvaged}
+use Rattle.follow_law.specs.Debug.{RegisterStays, ValueStays, PlaceStays, IsKillAt, Becomes, mark_stays, phi_stays, code_stays, code_numbered}
+use Rattle.follow_law.specs.Debug.{code_unnumbered, code_goes, substituted, salvaged}
 use Rattle.follow_law.specs.Debug.{BecomeAll, over, next, BlocksBecome, none, stays as block_stays}
 use Rattle.salvage.specs.Salvage.{phi_for}
 use Rattle.copy_pass.specs.Copied.{SoFar, over_items, at_block, BlocksSoFar, next_block, over_blocks}
 use Rattle.copy_rule.specs.Rule.{begins, salvaged_function, salvaged_entries}
 use Rattle.copy_debug.specs.Ledger.{Line, line, over_lines, lines_in, ledger}
 use Rattle.copy_debug.specs.Rule.{HasLine, copy_debug_rule}
-use Rattle.copy_debug.proofs.Lines.{IsEnteredIn, LineIs, mark, phi, code, numbered, out, out_entered, out_phi, LinesAre, no_lines, next_line, all_now, test, count_one, count_lines, fewer_lines}
+use Rattle.copy_debug.proofs.Lines.{IsEnteredIn, LineIs, mark, phi, code, numbered, out, out_entered, out_phi, LinesAre, no_lines, next_line, all_now}
+use Rattle.copy_debug.proofs.Lines.{test, count_one, count_lines, fewer_lines}
 
 -- the lines of all blocks
 abbrev pub all_lines : BlocksSoFar → List Block → List (List Line)
@@ -167,7 +170,8 @@ module _ (f : Function) (sound : IsSound f) (subs : List Entry) where
         no_phi : (o : Origin) (k s : ℕ) → count_by (test o) (phi_for k s o ∷ []) ≡ 0
         no_phi o k s = count_one o (phi_for k s o)
 
-  module _ (cs : List Block) (lss : List (List Line)) (all : BlocksAre (salvaged_entries f subs) f.blocks lss cs) (is_new : (salvaged_function f subs).blocks ≡ cs)
+  module _ (cs : List Block) (lss : List (List Line)) (all : BlocksAre (salvaged_entries f subs) f.blocks lss cs)
+      (is_new : (salvaged_function f subs).blocks ≡ cs)
       (ledger_is : (j : ℕ) (b : Block) (ls : List Line) → slice_get f.blocks j ≡ Some b → slice_get lss j ≡ Some ls → ledger f subs b.id ≡ ls) where
     removed : (j n : ℕ) (b : Block) (ls : List Line) (x : Item) (l : Line) → slice_get f.blocks j ≡ Some b → slice_get lss j ≡ Some ls →
         LinesAre (salvaged_entries f subs) b.items ls → slice_get b.items n ≡ Some x → slice_get ls n ≡ Some l → is_code x.kind ≡ true →
@@ -194,8 +198,10 @@ module _ (f : Function) (sound : IsSound f) (subs : List Entry) where
         ((k : ℕ) (l : Line) → slice_get ms k ≡ Some l → slice_get ls (n + k) ≡ Some l) → BecomeAll copy_debug_rule made b.id n xs (all_now ms)
     become_all j b ls at at' lines n xs ms no_lines here here' = over
     become_all j b ls at at' lines n (x ∷ xs) (l ∷ ms) (next_line h rest) here here' =
-        next (becomes (record { block = b.id; item = n }) x l (record { stands = ap (λ (zs : List Line). slice_get zs n) (ledger_is j b ls at at') ∙ line_here }) h
-        (λ c e. removed j n b ls x l at at' lines item_here line_here c e)) (become_all j b ls at at' lines (suc n) xs ms rest (later (x ∷ xs) xs here) (later_line here')) where
+        next (becomes (record { block = b.id; item = n }) x l (record { stands = ap (λ (zs : List Line). slice_get zs n) (ledger_is j b ls at at') ∙
+            line_here }) h
+        (λ c e. removed j n b ls x l at at' lines item_here line_here c e))
+            (become_all j b ls at at' lines (suc n) xs ms rest (later (x ∷ xs) xs here) (later_line here')) where
           item_here : slice_get b.items n ≡ Some x
           item_here = let z : n + 0 ≡ n = omega arith in sym (ap (slice_get b.items) z) ∙ here 0 x refl
 

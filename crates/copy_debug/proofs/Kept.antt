@@ -1,5 +1,6 @@
 -- All debug items stay where copies go, or an entry or a phi stands for them.
-use Rattle.std.proofs.Common.{◌≡◌, ◌⊎◌, inl, inr, ℕ, zero, suc, ◌+◌, ◌<◌, List, [], ◌∷◌, ◌++◌, map, All, AllPairs, Contains, Option, Some, None, Bool, true, false, slice_get, append-nil, refl, sym, ap, ◌∙◌, subst, arith}
+use Rattle.std.proofs.Common.{◌≡◌, ◌⊎◌, inl, inr, ℕ, zero, suc, ◌+◌, ◌<◌, List, [], ◌∷◌, ◌++◌, map, All, AllPairs, Contains, Option, Some, None, Bool}
+use Rattle.std.proofs.Common.{true, false, slice_get, append-nil, refl, sym, ap, ◌∙◌, subst, arith}
 use Rattle.std.specs.List.{flat_map, filter_map, cons_option}
 use Rattle.std.proofs.lemmas.Grind.{flat_map-append}
 use Rattle.std.proofs.lemmas.List.{append_assoc}
@@ -29,7 +30,8 @@ use Rattle.salvage.proofs.Chosen.{entered}
 use Rattle.sound_edits.proofs.Numbers.{IsUnlike, AreUnlike, all_second}
 use Rattle.copy_pass.specs.declared.roots.Root.{Root}
 use Rattle.copy_pass.specs.Roots.{renamed, known_source}
-use Rattle.copy_pass.specs.Copied.{SoFar, renamed_kind, renamed_item, roots_with, goes_by, by_fate, salvaged, next_item, over_items, at_block, BlocksSoFar, next_block, over_blocks}
+use Rattle.copy_pass.specs.Copied.{SoFar, renamed_kind, renamed_item, roots_with, goes_by, by_fate, salvaged, next_item, over_items, at_block}
+use Rattle.copy_pass.specs.Copied.{BlocksSoFar, next_block, over_blocks}
 use Rattle.copy_rule.specs.Rule.{begins, salvaged_function, salvaged_entries}
 use Rattle.copy_rule.proofs.Stripped.{code_is_copied}
 use Rattle.copy_runs.specs.Renamed.{known_after, renamed_items, renamed_block}
@@ -58,7 +60,8 @@ module _ (f : Function) (above : List Block) (id silent : ℕ) (behind : List Bl
   added_at a b rest same h = subst (λ (z : SoFar). Added z rest) same h
 
   -- the same entries, with other items done
-  same_entries : (a : SoFar) (up : List Item) (roots : List Root) (rest rest' : List Item) (w : Added a rest) → All (Stands above up rest' behind a.subs) w.more →
+  same_entries : (a : SoFar) (up : List Item) (roots : List Root) (rest rest' : List Item) (w : Added a rest) → All (Stands above up rest' behind a.subs)
+      w.more →
       Added (record { done = up; roots = roots; subs = a.subs; fresh = a.fresh }) rest'
   same_entries a up roots rest rest' w h = record { more = w.more; is = w.is; stand = h }
 
@@ -67,7 +70,8 @@ module _ (f : Function) (above : List Block) (id silent : ℕ) (behind : List Bl
   with_nil a up rest h =
       subst (λ (es : List Entry). Added (record { done = up; roots = a.roots; subs = es; fresh = a.fresh }) rest) (sym (append-nil a.subs)) h
 
-  by_way : (a : SoFar) (i : Instruction) (k s : ℕ) (o : Origin) (l : Loc) (rest : List Item) → Ready f above id silent behind a (item (Code i (Some k)) o l ∷ rest) →
+  by_way : (a : SoFar) (i : Instruction) (k s : ℕ) (o : Origin) (l : Loc) (rest : List Item) → Ready f above id silent behind a
+      (item (Code i (Some k)) o l ∷ rest) →
       Added a (item (Code i (Some k)) o l ∷ rest) → (w : Way) → way [] a.subs a.fresh k s a.done ≡ w → Added (salvaged a k s o w) rest
   by_way a i k s o l rest ready h HasEntry is =
       with_nil a (a.done ++ []) rest
@@ -101,7 +105,8 @@ module _ (f : Function) (above : List Block) (id silent : ℕ) (behind : List Bl
       (stand_goes f above id silent behind h.more a (item (Code i None) o l) rest [] h.stand (λ m u. All-nil (λ (y : Item). IsUnlike m y.kind))))
   by_source a i (Some k) o l rest (Some s) ready h = by_way a i k s o l rest ready h (way [] a.subs a.fresh k s a.done) refl
 
-  next_added : (a : SoFar) (k : ItemKind) (o : Origin) (l : Loc) (rest : List Item) → Ready f above id silent behind a (item (renamed_kind a.roots k) o l ∷ rest) →
+  next_added : (a : SoFar) (k : ItemKind) (o : Origin) (l : Loc) (rest : List Item) → Ready f above id silent behind a
+      (item (renamed_kind a.roots k) o l ∷ rest) →
       Added a (item (renamed_kind a.roots k) o l ∷ rest) → Added (next_item a (item k o l)) rest
   next_added a (Code i n) o l rest ready h = by_source a (renamed a.roots i) n o l rest (known_source a.roots (row_of (renamed a.roots i))) ready h
   next_added a (Mark v m) o l rest ready h =
@@ -327,7 +332,8 @@ copies_keep f subs sound =
     let entries : List Entry = salvaged_entries f subs in
     let c : Change = change f subs new entries in
     let m : Made f subs (begins f subs) f.blocks = through f subs f.blocks (begins f subs)
-    (record { ready = ready_at_start f subs sound; more = []; is = sym (append-nil subs); stand = All-nil (Stands [] [] [] (map renamed_block f.blocks) subs) }) in
+    (record { ready = ready_at_start f subs sound; more = []; is = sym (append-nil subs); stand = All-nil
+        (Stands [] [] [] (map renamed_block f.blocks) subs) }) in
     let kept : KeepsItems copy_debug_rule c [] = record {
       blocks = all_become f sound subs m.news (all_lines (begins f subs) f.blocks) m.are m.is
           (λ j b ls here here'. lines_at f.blocks (begins f subs) sound.blocks_apart j b ls here here');

@@ -1,5 +1,6 @@
 -- What the lines of a ledger say: what each item became.
-use Rattle.std.proofs.Common.{◌≡◌, ◌⊎◌, inl, inr, ℕ, zero, suc, ◌+◌, ◌<◌, ◌≤◌, List, [], ◌∷◌, ◌++◌, drop, Option, Some, None, Bool, true, false, cond, ◌&&◌, count_by, is_some, slice_get, append-nil, refl, sym, ap, ◌∙◌, subst, arith}
+use Rattle.std.proofs.Common.{◌≡◌, ◌⊎◌, inl, inr, ℕ, zero, suc, ◌+◌, ◌<◌, ◌≤◌, List, [], ◌∷◌, ◌++◌, drop, Option, Some, None, Bool, true, false, cond}
+use Rattle.std.proofs.Common.{◌&&◌, count_by, is_some, slice_get, append-nil, refl, sym, ap, ◌∙◌, subst, arith}
 use Rattle.std.specs.List.{flat_map}
 use Rattle.std.proofs.lemmas.Grind.{flat_map-append}
 use Rattle.std.proofs.lemmas.List.{append_assoc}
@@ -120,7 +121,8 @@ numbered_lines subs fresh zero n j own o l (x ∷ xs) (m ∷ ls) (next_line (cod
       by_number (Some m) is =
           let e : n ≡ m = same ∙ ap (or_fresh fresh) (sym is) in
           record {
-            lines = next_line (subst (λ (t : ℕ). LineIs subs (item (Code i (Some m)) o' l') (line (item (Code j' (Some t)) o' l' ∷ []) None)) (sym e) code) rest;
+            lines = next_line (subst (λ (t : ℕ). LineIs subs (item (Code i (Some m)) o' l') (line (item (Code j' (Some t)) o' l' ∷ []) None)) (sym e) code)
+                rest;
             now = refl;
           }
 numbered_lines subs fresh zero n j own o l (x ∷ xs) (m ∷ ls) (next_line (numbered {i} {j = j'} {k} {o = o'} {l = l'}) rest) at same =
@@ -129,7 +131,8 @@ numbered_lines subs fresh zero n j own o l (x ∷ xs) (m ∷ ls) (next_line (num
     let is : Some k ≡ own = cc in
     let e : n ≡ k = same ∙ ap (or_fresh fresh) (sym is) in
     record {
-      lines = next_line (subst (λ (t : ℕ). LineIs subs (item (Code i None) o' l') (record { now = item (Code j' (Some t)) o' l' ∷ []; gained = Some k; phi = None }))
+      lines = next_line (subst (λ (t : ℕ). LineIs subs (item (Code i None) o' l')
+          (record { now = item (Code j' (Some t)) o' l' ∷ []; gained = Some k; phi = None }))
           (sym e) numbered) rest;
       now = refl;
     }
@@ -216,7 +219,8 @@ module _ (subs : List Entry) (fresh k s : ℕ) (done : List Item) where
     by_test false h e = absurd (no_from (last_definition s done) e)
 
 -- the entry that is added
-entry_added : (subs : List Entry) (k n o : ℕ) → entry_of subs (first_operand k) ≡ None → entry_of (subs ++ entry_for k n o ∷ []) (first_operand k) ≡ Some (entry_for k n o)
+entry_added : (subs : List Entry) (k n o : ℕ) → entry_of subs (first_operand k) ≡ None → entry_of (subs ++ entry_for k n o ∷ []) (first_operand k) ≡ Some
+    (entry_for k n o)
 entry_added subs k n o none =
     entry_of-push subs (entry_for k n o) (first_operand k) none ∙
     ap (λ (z : Bool). cond z (Some (entry_for k n o)) (entry_of subs (first_operand k))) (is_pair-same (first_operand k))

@@ -57,7 +57,8 @@ abbrev pub lines_by_fate : List Line → SoFar → Item → Fate → List Line
 lines_by_fate ls a x Stays = ls ++ line (x ∷ []) None ∷ []
 lines_by_fate ls a x Goes = ls ++ line [] None ∷ []
 lines_by_fate ls a x (GoesWith k s) =
-    lines_above (way [] a.subs a.fresh k s a.done) ls ++ line (put_for (way [] a.subs a.fresh k s a.done) k s x.origin) (phi_of (way [] a.subs a.fresh k s a.done) s) ∷ []
+    lines_above (way [] a.subs a.fresh k s a.done) ls ++ line (put_for (way [] a.subs a.fresh k s a.done) k s x.origin)
+        (phi_of (way [] a.subs a.fresh k s a.done) s) ∷ []
 
 abbrev pub next_lines : List Line → SoFar → Item → List Line
 next_lines ls a x = lines_by_fate ls a (renamed_item a.roots x) (fate_of a.roots (renamed_item a.roots x).kind)

@@ -1,5 +1,6 @@
 -- Lists of which the front is what has become of the items before an index.
-use Rattle.std.proofs.Common.{◌≡◌, ◌⊎◌, inl, inr, ℕ, zero, suc, ◌+◌, ◌<◌, ◌≤◌, List, [], ◌∷◌, ◌++◌, length, length-set, get_or, take, drop, set, Bool, true, false, cond, nat_eq}
+use Rattle.std.proofs.Common.{◌≡◌, ◌⊎◌, inl, inr, ℕ, zero, suc, ◌+◌, ◌<◌, ◌≤◌, List, [], ◌∷◌, ◌++◌, length, length-set, get_or, take, drop, set, Bool}
+use Rattle.std.proofs.Common.{true, false, cond, nat_eq}
 use Rattle.std.proofs.Common.{eq-eqb, ne_eqb, refl, sym, ap, ◌∙◌, subst, arith, append-nil}
 use Rattle.std.specs.List.{swap}
 use Rattle.std.proofs.lemmas.Bool.{cases_eq}
@@ -56,7 +57,8 @@ module _ {X : Type 0} where
   pub behind_swap : (xs : List X) (kept at : ℕ) (x : X) → kept ≤ at → at < length xs → get_or xs at x ≡ x → drop (at + 1) (swap xs kept at) ≡ drop (at + 1) xs
   behind_swap xs kept at x le lt is =
       ap (drop (at + 1)) (sym (swap_is xs kept at x (omega (arith, le, lt)) lt)) ∙
-      drop-set-lt (at + 1) (set xs kept (get_or xs at x)) at (get_or xs kept x) (omega arith) ∙ drop-set-lt (at + 1) xs kept (get_or xs at x) (omega (arith, le))
+      drop-set-lt (at + 1) (set xs kept (get_or xs at x)) at (get_or xs kept x) (omega arith) ∙ drop-set-lt (at + 1) xs kept (get_or xs at x)
+          (omega (arith, le))
 
   -- once it is written
   pub written_up : (xs : List X) (kept at : ℕ) (x : X) → kept ≤ at → at < length xs → take (kept + 1) (swap (set xs at x) kept at) ≡ take kept xs ++ x ∷ []
@@ -91,7 +93,8 @@ module _ (xs : List Item) (kept at k s : ℕ) (subs : List Entry) (fresh : ℕ) 
         counted = counted;
       }
 
-  pub entry_stands : (d o n : ℕ) (x0 made : Item) (origin : Origin) (subs' : List Entry) (fresh' : ℕ) (w : Way) → w ≡ GetsEntry d o n → d < kept → get_or xs d x0 ≡ x0 →
+  pub entry_stands : (d o n : ℕ) (x0 made : Item) (origin : Origin) (subs' : List Entry) (fresh' : ℕ) (w : Way) → w ≡ GetsEntry d o n → d < kept → get_or xs d
+      x0 ≡ x0 →
       made ≡ numbered_item n x0 → subs' ≡ subs ++ entry_for k n o ∷ [] → fresh' ≡ cond (nat_eq n fresh) (fresh + 1) fresh →
       Stands (salvaged before k s origin w) kept (at + 1) (set xs d made) xs roots subs' fresh'
   entry_stands d o n x0 made origin subs' fresh' w e above is numbered entries counted =
@@ -154,7 +157,8 @@ module _ (xs : List Item) (kept at : ℕ) (subs : List Entry) (fresh : ℕ) (roo
   taken_stands y k s more zs subs' fresh' fate h =
       let front : take kept (set xs at y) ≡ take kept xs = take-set-le kept xs at y le in
       subst (λ (z : Fate). Stands (by_fate so_far y z) more (at + 1) zs xs roots subs' fresh') (sym fate)
-      (subst (λ (ys : List Item). Stands (salvaged (record { done = ys; roots = roots; subs = subs; fresh = fresh }) k s y.origin (way [] subs fresh k s ys)) more
+      (subst (λ (ys : List Item). Stands (salvaged (record { done = ys; roots = roots; subs = subs; fresh = fresh }) k s y.origin (way [] subs fresh k s ys))
+          more
       (at + 1) zs xs roots subs' fresh') front (record {
         done = h.done;
         behind = h.behind ∙ drop-set-lt (at + 1) xs at y (omega arith);

@@ -4,7 +4,8 @@ ghost use Rattle.std.specs.Prelude.{◌≡◌, ◌+◌, ◌<◌, ◌≤◌, ◌^
 ghost use Rattle.mir_func.specs.declared.item.Item.{Item};
 ghost use Rattle.copy_pass.specs.declared.roots.Root.{Root};
 ghost use Rattle.salvage.specs.Way.{way};
-ghost use Rattle.copy_pass.specs.Copied.{renamed_item, fate_of, goes_with, roots_with, salvaged, next_item, over_items, at_block};
+ghost use Rattle.copy_pass.specs.Copied.{renamed_item, fate_of, goes_with, roots_with, salvaged, next_item};
+ghost use Rattle.copy_pass.specs.Copied.{over_items, at_block};
 ghost use Rattle.copy_pass.specs.Next.{Stands};
 
 use crate::roots::{Root, known_source, learn, rename};
@@ -83,7 +84,8 @@ fn next_item(
     requires at { at < length items.old.items }
     requires fresh { fresh.old < 2 ^ 31 }
     ensures stands { IfOk result (λ more. (x : Item) → x ≡ slice_index_or items.old.items at x →
-        Stands (next_item (record { done = take kept items.old.items; roots = roots.old.items; subs = subs.old; fresh = fresh.old }) x)
+        Stands (next_item (record { done = take kept items.old.items; roots = roots.old.items; subs = subs.old;
+            fresh = fresh.old }) x)
         more (at + 1) items.new.items items.old.items roots.new.items subs.new fresh.new) }
     ensures counted { OnOk result (fresh.new ≤ fresh.old + 1) }
 {
@@ -113,7 +115,8 @@ fn take_out(
     requires at { at < length items.old.items }
     requires fresh { fresh.old < 2 ^ 31 }
     ensures stands { IfOk result (λ more. (x : Item) (roots : List Root) → x ≡ slice_index_or items.old.items at x →
-        Stands (salvaged (record { done = take kept items.old.items; roots = roots; subs = subs.old; fresh = fresh.old }) number source x.origin
+        Stands (salvaged (record { done = take kept items.old.items; roots = roots; subs = subs.old; fresh =
+            fresh.old }) number source x.origin
         (way [] subs.old fresh.old number source (take kept items.old.items)))
         more (at + 1) items.new.items items.old.items roots subs.new fresh.new) }
     ensures counted { OnOk result (fresh.new ≤ fresh.old + 1) }

@@ -2,7 +2,8 @@
 
 ghost use Rattle.std.specs.Prelude.{◌≡◌, OnOk, map, filter};
 ghost use Rattle.rv64_instr.specs.Row.{Row, row_of};
-ghost use Rattle.copy_pass.specs.Roots.{root_of, renamed_operand, renamed, known_source, outlives, forgotten, learned, roots_after};
+ghost use Rattle.copy_pass.specs.Roots.{root_of, renamed_operand, renamed, known_source, outlives, forgotten};
+ghost use Rattle.copy_pass.specs.Roots.{learned, roots_after};
 
 use rv64_instr::decoded::Decoded;
 use rv64_instr::instr::Instr;

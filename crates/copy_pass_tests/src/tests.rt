@@ -8,8 +8,8 @@ use mir_printer::text::{Text, push_numbered, push_str};
 use std::alloc::Global;
 use std::test::Fail;
 
-/// The items of a text's first function, a line for each, and its substitutions, once its known copies have gone. `fresh`
-/// is its fresh number.
+/// The items of a text's first function, a line for each, and its substitutions, once its known copies have gone.
+/// `fresh` is its fresh number.
 fn copied(alloc: Global, body: &str, fresh: u32) -> Result<Text, Fail> {
     let mut text = Text::new(alloc);
     push_str(&mut text, "---\nname: f\nbody: |\n  bb.0:\n")?;
@@ -53,23 +53,28 @@ fn known_copies_go(rt: HostRuntime) -> Result<(), Fail> {
     for (body, fresh, wanted) in [
         // the second copy goes, and the sum stands for it by a fresh number
         (
-            "    $x11 = ADDI $x10, 3\n    $x12 = COPY $x11\n    $x12 = COPY $x11, debug-instr-number 4\n    $x10 = ADD $x12, $x11\n    \
+            "    $x11 = ADDI $x10, 3\n    $x12 = COPY $x11\n    $x12 = COPY $x11, debug-instr-number 4\n    \
+                $x10 = ADD $x12, $x11\n    \
              PseudoRET implicit $x10\n",
             5,
-            "$x11 = ADDI $x10, 3, debug-instr-number 5\n$x12 = COPY $x11\n$x10 = ADD $x11, $x11\nPseudoRET implicit $x10\n4 0 is 5 0\n",
+            "$x11 = ADDI $x10, 3, debug-instr-number 5\n$x12 = COPY $x11\n$x10 = ADD $x11, $x11\n\
+                PseudoRET implicit $x10\n4 0 is 5 0\n",
         ),
         // copies into each other: nothing above the last one defines x10, so a phi takes its place
         (
-            "    $x11 = COPY $x10\n    $x12 = COPY $x11\n    $x10 = COPY $x12, debug-instr-number 1\n    PseudoRET implicit $x12\n",
+            "    $x11 = COPY $x10\n    $x12 = COPY $x11\n    $x10 = COPY $x12, debug-instr-number 1\n    \
+                PseudoRET implicit $x12\n",
             2,
             "$x11 = COPY $x10\n$x12 = COPY $x10\nDBG_PHI $x10, 1\nPseudoRET implicit $x12\n",
         ),
         // a call sets x10, so x18 doesn't hold the same any more
         (
-            "    $x18 = COPY $x10\n    PseudoCALL @g, csr_ilp32_lp64, implicit-def dead $x1, implicit $x10\n    $x10 = COPY $x18\n    \
+            "    $x18 = COPY $x10\n    PseudoCALL @g, csr_ilp32_lp64, implicit-def dead $x1, implicit $x10\n    \
+                $x10 = COPY $x18\n    \
              PseudoRET implicit $x10\n",
             1,
-            "$x18 = COPY $x10\nPseudoCALL @g, mask, implicit-def $x1, implicit $x10\n$x10 = COPY $x18\nPseudoRET implicit $x10\n",
+            "$x18 = COPY $x10\nPseudoCALL @g, mask, implicit-def $x1, implicit $x10\n$x10 = COPY $x18\n\
+                PseudoRET implicit $x10\n",
         ),
         // a root that is set again is forgotten
         (

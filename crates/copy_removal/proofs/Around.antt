@@ -6,7 +6,8 @@ use Rattle.mir_func.specs.declared.item.Item.{Item}
 use Rattle.mir_func.specs.Function.{Function}
 use Rattle.salvage.proofs.Kin.{kin_itself}
 use Rattle.salvage.proofs.Edits.{Edits, Edited, over, pair, BlocksEdited, no_blocks, next_block}
-use Rattle.sound_edits.specs.Edits.{AreEdited, AreBlocksEdited, no_items, stays, with_phi, goes, same_kind, no_blocks as nothing_edited, next_block as and_edited}
+use Rattle.sound_edits.specs.Edits.{AreEdited, AreBlocksEdited, no_items, stays, with_phi, goes, same_kind, no_blocks as nothing_edited}
+use Rattle.sound_edits.specs.Edits.{next_block as and_edited}
 
 -- a block of these items, and the function with it between others
 abbrev pub block_of : (id silent : ℕ) → List Item → Block
@@ -32,7 +33,8 @@ module _ (E : Edits) where
   abbrev AllStay : Block → Type 0
   AllStay b = All (λ (x : Item). E.Pair (E.entry b.id) (E.entry b.id) x x) b.items
 
-  pub stays_blocks : ((n : ℕ) → E.IsOver (E.entry n)) → (bs : List Block) → All (λ (b : Block). All (λ (x : Item). E.Pair (E.entry b.id) (E.entry b.id) x x) b.items) bs →
+  pub stays_blocks : ((n : ℕ) → E.IsOver (E.entry n)) → (bs : List Block) → All
+      (λ (b : Block). All (λ (x : Item). E.Pair (E.entry b.id) (E.entry b.id) x x) b.items) bs →
       BlocksEdited E bs bs
   stays_blocks empty [] all = no_blocks
   stays_blocks empty (b ∷ bs) all =
@@ -41,7 +43,8 @@ module _ (E : Edits) where
   between : {us vs : List Block} (fs gs : List Block) (id silent : ℕ) (items items' : List Item) → BlocksEdited E fs gs → Edited E (E.entry id) items items' →
       BlocksEdited E us vs → BlocksEdited E (fs ++ block_of id silent items ∷ us) (gs ++ block_of id silent items' ∷ vs)
   between fs gs id silent items items' no_blocks here behind = next_block refl refl here behind
-  between (a ∷ fs) (b ∷ gs) id silent items items' (next_block i s it more) here behind = next_block i s it (between fs gs id silent items items' more here behind)
+  between (a ∷ fs) (b ∷ gs) id silent items items' (next_block i s it more) here behind = next_block i s it
+      (between fs gs id silent items items' more here behind)
 
   pub around : {us vs : List Block} (xs : List Block) (id silent : ℕ) (items items' : List Item) → BlocksEdited E xs xs → Edited E (E.entry id) items items' →
       BlocksEdited E us vs → BlocksEdited E (xs ++ block_of id silent items ∷ us) (xs ++ block_of id silent items' ∷ vs)

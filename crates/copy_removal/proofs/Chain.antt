@@ -1,5 +1,6 @@
 -- Copies go from blocks one after the other: each step keeps the function sound and following.
-use Rattle.std.proofs.Common.{◌≡◌, ◌⊎◌, inl, inr, ℕ, zero, suc, ◌+◌, ◌<◌, ◌≤◌, List, [], ◌∷◌, ◌++◌, map, All, Option, Some, None, Bool, true, false, cond, is_some, slice_get, get_or, eq-eqb, append-nil, refl, sym, ap, ◌∙◌, subst, arith}
+use Rattle.std.proofs.Common.{◌≡◌, ◌⊎◌, inl, inr, ℕ, zero, suc, ◌+◌, ◌<◌, ◌≤◌, List, [], ◌∷◌, ◌++◌, map, All, Option, Some, None, Bool, true, false}
+use Rattle.std.proofs.Common.{cond, is_some, slice_get, get_or, eq-eqb, append-nil, refl, sym, ap, ◌∙◌, subst, arith}
 use Rattle.std.specs.Prelude.{nat_eq}
 use Rattle.std.proofs.Common.{eqb-true}
 use Rattle.std.proofs.Math.Nat.{le_refl}
@@ -27,7 +28,8 @@ use Rattle.dead_code.specs.Loose.{KeepsLoosely}
 use Rattle.sound_edits.proofs.Numbers.{AreUnlike, all_second}
 use Rattle.copy_pass.specs.declared.roots.Root.{Root}
 use Rattle.copy_pass.specs.Roots.{root_of, renamed, known_source, roots_after}
-use Rattle.copy_pass.specs.Copied.{SoFar, renamed_kind, renamed_item, roots_with, goes_by, by_fate, salvaged, next_item, over_items, at_block, BlocksSoFar, next_block, over_blocks}
+use Rattle.copy_pass.specs.Copied.{SoFar, renamed_kind, renamed_item, roots_with, goes_by, by_fate, salvaged, next_item, over_items, at_block}
+use Rattle.copy_pass.specs.Copied.{BlocksSoFar, next_block, over_blocks}
 use Rattle.copy_rule.specs.Rule.{goes}
 use Rattle.copy_rule.proofs.Rows.{row_renamed, moves_by}
 use Rattle.copy_rule.proofs.Sizes.{known_moves}
@@ -105,7 +107,8 @@ number_most subs fresh k s done d o n h e = by_own e.own refl e.number where
       let x : Item = item (Code e.i (Some m)) e.origin e.loc in
       let w = split_at done d n x (e.stands ∙ (λ j. Some (item (Code e.i (is j)) e.origin e.loc))) in
       let all : AreUnder fresh (w.above ++ x ∷ w.behind) = subst (AreUnder fresh) w.whole h in
-      let lt : m < fresh = All-head (λ (y : Item). KindUnder fresh y.kind) x w.behind (all_second (λ (y : Item). KindUnder fresh y.kind) w.above (x ∷ w.behind) all) in
+      let lt : m < fresh = All-head (λ (y : Item). KindUnder fresh y.kind) x w.behind
+          (all_second (λ (y : Item). KindUnder fresh y.kind) w.above (x ∷ w.behind) all) in
       omega (arith, same, lt)
 
 record NextFresh (fresh n next : ℕ) : Type 0 where
@@ -150,14 +153,16 @@ module _ (f : Function) (above : List Block) (id silent : ℕ) (behind : List Bl
 
   pub record Went (a b : SoFar) (x : Item) (rest : List Item) : Type 0 where
     pub ready : Ready b rest
-    pub follows : KeepsLoosely (change (with_block f above id silent (a.done ++ x ∷ rest) behind) a.subs (with_block f above id silent (b.done ++ rest) behind) b.subs)
+    pub follows : KeepsLoosely (change (with_block f above id silent (a.done ++ x ∷ rest) behind) a.subs
+        (with_block f above id silent (b.done ++ rest) behind) b.subs)
 
   abbrev U : ℕ → Item → Type 0
   U b x = KindUnder b x.kind
 
   it_stays : (a : SoFar) (k : ItemKind) (o : Origin) (l : Loc) (rest : List Item) → goes a.roots (renamed_kind a.roots k) ≡ false →
       Ready a (item (renamed_kind a.roots k) o l ∷ rest) →
-      Went a (record { done = a.done ++ item (renamed_kind a.roots k) o l ∷ []; roots = roots_with (renamed_kind a.roots k) a.roots; subs = a.subs; fresh = a.fresh })
+      Went a (record { done = a.done ++ item (renamed_kind a.roots k) o l ∷ []; roots = roots_with (renamed_kind a.roots k) a.roots; subs = a.subs; fresh =
+          a.fresh })
       (item (renamed_kind a.roots k) o l) rest
   it_stays a k o l rest out r =
       let x : Item = item (renamed_kind a.roots k) o l in
@@ -179,7 +184,8 @@ module _ (f : Function) (above : List Block) (id silent : ℕ) (behind : List Bl
       }
 
   -- what isn't less than the bound is nowhere
-  far_of : (b n : ℕ) → b ≤ n → (up down : List Item) → BlocksUnder b above → AreUnder b up → AreUnder b down → BlocksUnder b behind → Others n above up down behind
+  far_of : (b n : ℕ) → b ≤ n → (up down : List Item) → BlocksUnder b above → AreUnder b up → AreUnder b down → BlocksUnder b behind → Others n above up down
+      behind
   far_of b n le up down ha hu hd hb = record {
     above = blocks_far above ha;
     up = items_far up hu;
@@ -210,7 +216,8 @@ module _ (f : Function) (above : List Block) (id silent : ℕ) (behind : List Bl
   }
 
   -- a copy without a number
-  without_number : (a : SoFar) (i : Instruction) (o : Origin) (l : Loc) (rest : List Item) (rd s : ℕ) → row_of i ≡ Moves (suc rd) s → root_of a.roots (suc rd) ≡ s →
+  without_number : (a : SoFar) (i : Instruction) (o : Origin) (l : Loc) (rest : List Item) (rd s : ℕ) → row_of i ≡ Moves (suc rd) s → root_of a.roots
+      (suc rd) ≡ s →
       Ready a (item (Code i None) o l ∷ rest) → Went a a (item (Code i None) o l) rest
   without_number a i o l rest rd s row root r =
       let x : Item = item (Code i None) o l in
@@ -314,7 +321,8 @@ module _ (f : Function) (above : List Block) (id silent : ℕ) (behind : List Bl
         ready = more.ready;
         follows = then (fn (a.done ++ y ∷ renamed_items known xs)) (fn (b.done ++ renamed_items known xs)) (fn ((over_items b xs).done ++ [])) a.subs b.subs
             (over_items b xs).subs one.follows
-            (subst (λ (e : List Root). KeepsLoosely (change (fn (b.done ++ renamed_items e xs)) b.subs (fn ((over_items b xs).done ++ [])) (over_items b xs).subs)) same
+            (subst (λ (e : List Root). KeepsLoosely (change (fn (b.done ++ renamed_items e xs)) b.subs (fn ((over_items b xs).done ++ []))
+                (over_items b xs).subs)) same
             more.follows);
       }
 

@@ -1,5 +1,6 @@
 -- Where the code stands that gives a copy's value, what stands behind it, and by which operand it gives the value.
-use Rattle.std.proofs.Common.{◌≡◌, ℕ, zero, suc, ◌+◌, ◌<◌, List, [], ◌∷◌, ◌++◌, drop, All, Option, Some, None, Bool, true, false, cond, not, ◌&&◌, ◌||◌, nat_eq, eqb-true, slice_get, refl, sym, ap, ◌∙◌, subst}
+use Rattle.std.proofs.Common.{◌≡◌, ℕ, zero, suc, ◌+◌, ◌<◌, List, [], ◌∷◌, ◌++◌, drop, All, Option, Some, None, Bool, true, false, cond, not, ◌&&◌}
+use Rattle.std.proofs.Common.{◌||◌, nat_eq, eqb-true, slice_get, refl, sym, ap, ◌∙◌, subst}
 use Rattle.std.specs.List.{list_any}
 use Rattle.std.proofs.lemmas.List.Elements.{All-nil, All-cons}
 use Rattle.rv64_instr.specs.declared.operand.Operand.{Operand}
@@ -93,7 +94,8 @@ first_defines call s (p ∷ os) o e =
 pub any_none : {A : Type 0} (p : A → Bool) (xs : List A) → list_any p xs ≡ false → All (λ (x : A). p x ≡ false) xs
 any_none {A} p [] e = All-nil (λ (x : A). p x ≡ false)
 any_none {A} p (x ∷ xs) e = by_test (p x) refl e (any_none p xs) where
-  by_test : (z : Bool) → p x ≡ z → (z || list_any p xs) ≡ false → (list_any p xs ≡ false → All (λ (y : A). p y ≡ false) xs) → All (λ (y : A). p y ≡ false) (x ∷ xs)
+  by_test : (z : Bool) → p x ≡ z → (z || list_any p xs) ≡ false → (list_any p xs ≡ false → All (λ (y : A). p y ≡ false) xs) → All (λ (y : A). p y ≡ false)
+      (x ∷ xs)
   by_test true is k rec = cc
   by_test false is k rec = All-cons (λ (y : A). p y ≡ false) x xs is (rec k)
 

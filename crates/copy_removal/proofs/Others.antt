@@ -8,7 +8,8 @@ use Rattle.mir_func.specs.declared.item.Item.{Item}
 use Rattle.mir_func.specs.declared.item.ItemKind.{ItemKind}
 use Rattle.mir_func.specs.Function.{Function}
 use Rattle.mir_func.specs.Sound.{AllItems, items_of, code_number, NumbersOnce, EndsWell, IsSound}
-use Rattle.sound_edits.proofs.Numbers.{IsUnlike, AreUnlike, all_first, all_second, unlike_above, unlike_behind, HaveFewer, once_fewer, fewer_same, fewer_behind, fewer_append}
+use Rattle.sound_edits.proofs.Numbers.{IsUnlike, AreUnlike, all_first, all_second, unlike_above, unlike_behind, HaveFewer, once_fewer, fewer_same}
+use Rattle.sound_edits.proofs.Numbers.{fewer_behind, fewer_append}
 use Rattle.copy_removal.proofs.Around.{block_of, with_block}
 
 abbrev pub BlocksUnlike : ℕ → List Block → Type 0
@@ -18,7 +19,8 @@ pub blocks_unlike : (k : ℕ) (bs : List Block) → AreUnlike k (items_of bs) �
 blocks_unlike k [] h = All-nil (λ (b : Block). All (λ (x : Item). IsUnlike k x.kind) b.items)
 blocks_unlike k (b ∷ bs) h =
     All-cons (λ (c : Block). All (λ (x : Item). IsUnlike k x.kind) c.items) b bs
-    (all_first (λ (x : Item). IsUnlike k x.kind) b.items (items_of bs) h) (blocks_unlike k bs (all_second (λ (x : Item). IsUnlike k x.kind) b.items (items_of bs) h))
+    (all_first (λ (x : Item). IsUnlike k x.kind) b.items (items_of bs) h)
+        (blocks_unlike k bs (all_second (λ (x : Item). IsUnlike k x.kind) b.items (items_of bs) h))
 
 pub flat_unlike : (k : ℕ) (bs : List Block) → BlocksUnlike k bs → AreUnlike k (items_of bs)
 flat_unlike k [] h = All-nil (λ (x : Item). IsUnlike k x.kind)

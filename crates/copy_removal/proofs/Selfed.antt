@@ -1,6 +1,7 @@
 -- A function with roots for its explicit uses in which copies that go move a register into itself: a function between, with the
 -- paths of the one before and the items of the one after.
-use Rattle.std.proofs.Common.{◌≡◌, ◌⊎◌, inl, inr, ℕ, zero, suc, ◌+◌, ◌<◌, List, [], ◌∷◌, ◌++◌, map, filter, drop, Option, Some, None, Bool, true, false, cond, nat_eq, is_some, slice_get, append-nil, refl, sym, ap, ◌∙◌, subst, arith}
+use Rattle.std.proofs.Common.{◌≡◌, ◌⊎◌, inl, inr, ℕ, zero, suc, ◌+◌, ◌<◌, List, [], ◌∷◌, ◌++◌, map, filter, drop, Option, Some, None, Bool, true}
+use Rattle.std.proofs.Common.{false, cond, nat_eq, is_some, slice_get, append-nil, refl, sym, ap, ◌∙◌, subst, arith}
 use Rattle.std.proofs.lemmas.List.{append_assoc}
 use Rattle.rv64_instr.specs.declared.op.Op.TheVariants.{Copy}
 use Rattle.rv64_instr.specs.declared.operand.Operand.TheVariants.{Def, Use}
@@ -27,7 +28,8 @@ use Rattle.salvage.proofs.Edits.{Edits, Edited, over, pair, out, put, BlocksEdit
 use Rattle.sound_edits.specs.Edits.{IsMove}
 use Rattle.copy_pass.specs.declared.roots.Root.{Root}
 use Rattle.copy_pass.specs.Roots.{root_of, renamed, known_source, outlives, roots_after}
-use Rattle.copy_pass.specs.Copied.{SoFar, renamed_kind, renamed_item, roots_with, goes_by, by_fate, salvaged, next_item, over_items, at_block, BlocksSoFar, next_block as block_next, over_blocks}
+use Rattle.copy_pass.specs.Copied.{SoFar, renamed_kind, renamed_item, roots_with, goes_by, by_fate, salvaged, next_item, over_items, at_block}
+use Rattle.copy_pass.specs.Copied.{BlocksSoFar, next_block as block_next, over_blocks}
 use Rattle.copy_rule.specs.Rule.{goes}
 use Rattle.copy_rule.proofs.Rows.{rooted, row_renamed, moves_by}
 use Rattle.copy_rule.proofs.Sizes.{known_moves}

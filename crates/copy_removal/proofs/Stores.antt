@@ -1,6 +1,7 @@
 -- With a slot store at a block's end goes other code still, after copies went: where that was a copy that goes, the copy stands above it
 -- that made its root, and counts.
-use Rattle.std.proofs.Common.{◌≡◌, ◌⊎◌, inl, inr, ℕ, zero, suc, ◌+◌, ◌<◌, List, [], ◌∷◌, ◌++◌, map, drop, All, Contains, Option, Some, None, Bool, true, false, cond, nat_eq, is_some, slice_get, append-nil, refl, sym, ap, ◌∙◌, subst, arith}
+use Rattle.std.proofs.Common.{◌≡◌, ◌⊎◌, inl, inr, ℕ, zero, suc, ◌+◌, ◌<◌, List, [], ◌∷◌, ◌++◌, map, drop, All, Contains, Option, Some, None, Bool}
+use Rattle.std.proofs.Common.{true, false, cond, nat_eq, is_some, slice_get, append-nil, refl, sym, ap, ◌∙◌, subst, arith}
 use Rattle.std.proofs.lemmas.Bool.{cases_order}
 use Rattle.std.proofs.lemmas.List.{append_assoc}
 use Rattle.std.proofs.lemmas.List.Elements.{All-contains}
@@ -17,7 +18,8 @@ use Rattle.mir_func.specs.declared.block.Block.{Block}
 use Rattle.mir_func.specs.declared.item.Item.{Item}
 use Rattle.mir_func.specs.declared.item.ItemKind.{ItemKind}
 use Rattle.mir_func.specs.declared.item.ItemKind.TheVariants.{Code, Mark, Phi}
-use Rattle.mir_func.specs.Graph.{Fetch, Here, Silent, Outside, Program, below, block_start, end_of, front, fetch_in, from_block, program_of, KindEdge, RowEdge, FetchEdge, Edge, Leads, stay, go}
+use Rattle.mir_func.specs.Graph.{Fetch, Here, Silent, Outside, Program, below, block_start, end_of, front, fetch_in, from_block, program_of, KindEdge}
+use Rattle.mir_func.specs.Graph.{RowEdge, FetchEdge, Edge, Leads, stay, go}
 use Rattle.mir_func.specs.Sound.{AreApart, ids_of, OriginIn}
 use Rattle.mir_meaning.specs.Align.{position_of, is_code}
 use Rattle.mir_meaning.specs.Follow.{OnRow, Counts, IsMetApart, KindFits, MayAdd}
@@ -33,12 +35,14 @@ use Rattle.salvage.proofs.EditPaths.{stores_on}
 use Rattle.sound_edits.specs.Edits.{IsMove}
 use Rattle.copy_pass.specs.declared.roots.Root.{Root}
 use Rattle.copy_pass.specs.Roots.{renamed, known_source, roots_after}
-use Rattle.copy_pass.specs.Copied.{SoFar, renamed_kind, roots_with, goes_by, by_fate, salvaged, next_item, over_items, at_block, BlocksSoFar, next_block as block_next, over_blocks}
+use Rattle.copy_pass.specs.Copied.{SoFar, renamed_kind, roots_with, goes_by, by_fate, salvaged, next_item, over_items, at_block, BlocksSoFar}
+use Rattle.copy_pass.specs.Copied.{next_block as block_next, over_blocks}
 use Rattle.copy_rule.specs.Rule.{goes}
 use Rattle.copy_runs.specs.Renamed.{known_after}
 use Rattle.copy_runs.proofs.Known.{IsClean, clean_none}
 use Rattle.copy_removal.proofs.Chain.{clean_next, next_roots}
-use Rattle.copy_removal.proofs.Selfed.{selfed_kind, selfed_item, selfed_items, selfed_block, selfed_stays, Self, selfed_goes, SameWay, selfed_way, IsSome, Witness, counts_or}
+use Rattle.copy_removal.proofs.Selfed.{selfed_kind, selfed_item, selfed_items, selfed_block, selfed_stays, Self, selfed_goes, SameWay, selfed_way}
+use Rattle.copy_removal.proofs.Selfed.{IsSome, Witness, counts_or}
 
 clean_behind : (e : List Root) → IsClean e → (k : ItemKind) → IsClean (known_after e (renamed_kind e k))
 clean_behind e clean k = by_test (goes e (renamed_kind e k)) refl where
@@ -174,7 +178,8 @@ module _ (fs : List Block) (apart : AreApart (ids_of fs)) (resolve : OperandPair
       (All-contains (λ (b : Block). All (λ (i : Item). KindFits src i.kind b.silent i.origin) b.items) fs a fits member) inside)
       (All-contains (λ (i : Item). OriginIn a i.origin) a.items x
       (All-contains (λ (b : Block). All (λ (i : Item). OriginIn b i.origin) b.items) fs a origins member) inside) same where
-        by_item : (k : ItemKind) (o : Origin) → IsMove k → KindFits src k a.silent o → OriginIn a o → position_of o ≡ record { block = a.id; item = a.silent } → ⊥
+        by_item : (k : ItemKind) (o : Origin) → IsMove k → KindFits src k a.silent o → OriginIn a o → position_of o ≡ record
+            { block = a.id; item = a.silent } → ⊥
         by_item (Code i n) (Kept p) m f h e = let lt = h.1 in let is : p.item ≡ a.silent = ap (λ (z : Pos). z.item) e in omega (arith, lt, is)
         by_item (Code i n) (Before p) m f h e = subst (λ (r : Row). MayAdd r p.item a.silent) m.2 f
         by_item (Mark v n) o m f h e = m
@@ -199,8 +204,10 @@ module _ (fs : List Block) (apart : AreApart (ids_of fs)) (resolve : OperandPair
       by_meeting m.0 m.1 m.2 n.0 n.1 n.2 where
         by_meeting : (q : Pos) (j : Item) → IsMetApart fp p a.silent q j → (y : Item) → hp.fetch q ≡ Here y → Beside j y →
             (r : Pos) × (z : Item) × IsMetApart hp p a.silent r z
-        by_meeting q j m y here beside = by_blocks (from_block fs q.block) refl m.0 (sym (ap (λ (bs : List Block). fetch_in bs q.item) (from_selfed fs q.block)) ∙ here) where
-          by_blocks : (bs : List Block) → from_block fs q.block ≡ bs → fetch_in bs q.item ≡ Here j → fetch_in (map selfed_block (from_block fs q.block)) q.item ≡ Here y →
+        by_meeting q j m y here beside = by_blocks (from_block fs q.block) refl m.0
+            (sym (ap (λ (bs : List Block). fetch_in bs q.item) (from_selfed fs q.block)) ∙ here) where
+          by_blocks : (bs : List Block) → from_block fs q.block ≡ bs → fetch_in bs q.item ≡ Here j → fetch_in (map selfed_block (from_block fs q.block))
+              q.item ≡ Here y →
               (r : Pos) × (z : Item) × IsMetApart hp p a.silent r z
           by_blocks [] is e e' = cc
           by_blocks (b ∷ bs) is e e' =
@@ -383,7 +390,8 @@ blocks_laid (b ∷ bs) a hs h =
     let made : Block = record { id = b.id; items = (over_items (at_block a.subs a.fresh) b.items).done; silent = b.silent } in
     let one = blocks_append hs a.blocks (selfed_block b ∷ []) (made ∷ []) h
     (next_block refl refl (over_laid b.items (at_block a.subs a.fresh) [] (over tt)) no_blocks) in
-    subst (λ (zs : List Block). BlocksEdited loose_edits zs (over_blocks (block_next a b) bs).blocks) (append_assoc hs (selfed_block b ∷ []) (map selfed_block bs))
+    subst (λ (zs : List Block). BlocksEdited loose_edits zs (over_blocks (block_next a b) bs).blocks)
+        (append_assoc hs (selfed_block b ∷ []) (map selfed_block bs))
     (blocks_laid bs (block_next a b) (hs ++ selfed_block b ∷ []) one)
 
 -- a block after has its like before

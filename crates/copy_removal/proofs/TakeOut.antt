@@ -24,7 +24,8 @@ use Rattle.copy_pass.specs.declared.roots.Root.{Root}
 use Rattle.copy_pass.specs.Copied.{roots_with}
 use Rattle.copy_removal.proofs.Around.{with_block, stays_items, stays_blocks, around, edited_same, edited_above, edited_around}
 use Rattle.copy_removal.proofs.Others.{BlocksUnlike, Others, once_around}
-use Rattle.copy_removal.proofs.Taken.{IsNoSelfCopy, TakenPair, teaches, passes, TakenOut, takes, taken_edits, taken_allows, TakenCores, taken_keeps, taken_itself}
+use Rattle.copy_removal.proofs.Taken.{IsNoSelfCopy, TakenPair, teaches, passes, TakenOut, takes, taken_edits, taken_allows, TakenCores, taken_keeps}
+use Rattle.copy_removal.proofs.Taken.{taken_itself}
 
 -- one step of the pass
 pub record Step (old : Function) (subs : List Entry) (new : Function) (subs' : List Entry) : Type 0 where
@@ -81,7 +82,8 @@ module _ (f : Function) (above : List Block) (id silent : ℕ) (behind : List Bl
   abbrev fn : List Item → Function
   fn items = with_block f above id silent items behind
 
-  pub take_out : (k : ℕ) (up : List Item) (x : Item) (down : List Item) (e : List Root) (subs : List Entry) → IsSound (fn (up ++ x ∷ down)) → TakenOut k e [] x →
+  pub take_out : (k : ℕ) (up : List Item) (x : Item) (down : List Item) (e : List Root) (subs : List Entry) → IsSound (fn (up ++ x ∷ down)) → TakenOut k e []
+      x →
       Taught [] up e → Others k above up down behind → Step (fn (up ++ x ∷ down)) subs (fn (up ++ down)) subs
   take_out k up x down e subs sound how taught far =
       let old = fn (up ++ x ∷ down) in

@@ -138,12 +138,14 @@ module _ (f g : Program) (blind_f : f.sees_pointer ≡ false) (blind_g : g.sees_
       (alike_both (Alike Everywhere NoFree) (Holds b) (λ e. e.pairs k ≡ d.pairs k) (do_item f kind c) (do_item g kind d)
       (item_same f g blind_f blind_g resolves kind c d alike) holds (leaves_pair g kind k d unlike))
 
-  both : (a b : List Root) (x y : Item) → TakenPair k a b x y → (c d : Core) → TakenCores a c d → EndAlike (TakenCores b) (do_item f x.kind c) (do_item g y.kind d)
+  both : (a b : List Root) (x y : Item) → TakenPair k a b x y → (c d : Core) → TakenCores a c d → EndAlike (TakenCores b) (do_item f x.kind c)
+      (do_item g y.kind d)
   both a b x y (teaches {e} unlike other) c d h = together (roots_with x.kind e) x.kind c d unlike h.alike h.none (holds_item e x.kind c other h.holds)
   both a b x y (passes unlike) c d h = together [] x.kind c d unlike h.alike h.none (none_held (do_item f x.kind c))
 
   -- the copy sets what is there
-  falls : (a b : List Root) (x : Item) → TakenOut k a b x → (c d : Core) → TakenCores a c d → FallsOrTraps (Unit {0}) (λ z. TakenCores b z d) (do_item f x.kind c)
+  falls : (a b : List Root) (x : Item) → TakenOut k a b x → (c d : Core) → TakenCores a c d → FallsOrTraps (Unit {0}) (λ z. TakenCores b z d)
+      (do_item f x.kind c)
   falls a b x (takes {e} {i} {n} rd s row root number) c d h =
       falls_or_traps (Unit {0}) (λ z. TakenCores [] z d) (do_item f (Code i n) c) tt (pure_form f (Code i n) c (ap is_pure row, unfit))
       (falls_weaker (λ z. Alike (ButDefined Everywhere i) NoFree z d × ((y : Place) → held_in y z ≡ held_in y c)) (λ z. TakenCores [] z d) by_core

@@ -1,5 +1,6 @@
 -- A copy loses its number to the code that gave its value.
-use Rattle.std.proofs.Common.{◌≡◌, ◌⊎◌, inl, inr, ℕ, suc, ◌+◌, ◌<◌, ◌≤◌, List, [], ◌∷◌, ◌++◌, length, get_or, drop, All, Option, Some, None, Bool, true, false, not, cond, slice_get, refl, sym, ap, ◌∙◌, subst, arith}
+use Rattle.std.proofs.Common.{◌≡◌, ◌⊎◌, inl, inr, ℕ, suc, ◌+◌, ◌<◌, ◌≤◌, List, [], ◌∷◌, ◌++◌, length, get_or, drop, All, Option, Some, None, Bool}
+use Rattle.std.proofs.Common.{true, false, not, cond, slice_get, refl, sym, ap, ◌∙◌, subst, arith}
 use Rattle.std.specs.List.{list_any}
 use Rattle.std.specs.Prelude.{is_some, nat_eq, nat_lt, ◌^◌}
 use Rattle.std.proofs.Math.Nat.{le_refl}
@@ -39,7 +40,8 @@ use Rattle.salvage.proofs.Edits.{Edits, Edited, pair}
 use Rattle.salvage.proofs.NumberOff.{Side, Outside, Inside, Off, outside, opens, inside, closes, off_edits, IsOther, AsksOutside, AsksInside}
 use Rattle.dead_numbers.proofs.Numbers.{number_to_code}
 use Rattle.sound_edits.specs.Edits.{AreEdited, stays, same_code}
-use Rattle.sound_edits.proofs.Numbers.{IsUnlike, AreUnlike, all_first, all_second, unlike_above, unlike_behind, HasNoOther, has_same, HaveFewer, keeps, fewer_same, fewer_behind, fewer_append, once_gains}
+use Rattle.sound_edits.proofs.Numbers.{IsUnlike, AreUnlike, all_first, all_second, unlike_above, unlike_behind, HasNoOther, has_same, HaveFewer}
+use Rattle.sound_edits.proofs.Numbers.{keeps, fewer_same, fewer_behind, fewer_append, once_gains}
 use Rattle.sound_edits.proofs.Onward.{above_onward, goes_nowhere}
 use Rattle.sound_edits.proofs.Sound.{edited_sound}
 use Rattle.copy_removal.proofs.Around.{with_block, stays_items, stays_above, stays_blocks, around, edited_same, edited_above, edited_append, edited_around}
@@ -258,7 +260,8 @@ module _ (f : Function) (above : List Block) (id silent : ℕ) (behind : List Bl
       by_own : (z : Option ℕ) → own ≡ z → n ≡ or_fresh fresh z → NumbersOnce (items_of new.blocks)
       by_own (Some m) is same =
           once_around f above id silent behind ((up ++ giver ∷ between) ++ bare ∷ down) ((up ++ given ∷ between) ++ bare ∷ down)
-          (fewer_append (fewer_behind up (giver ∷ between) (given ∷ between) (keeps (own_kept m is same) (fewer_same between))) (fewer_same (bare ∷ down))) first
+          (fewer_append (fewer_behind up (giver ∷ between) (given ∷ between) (keeps (own_kept m is same) (fewer_same between))) (fewer_same (bare ∷ down)))
+              first
       by_own None is same =
           subst NumbersOnce (sym (shape given)) (once_gains (items_of above ++ up) giver given ((between ++ bare ∷ down) ++ items_of behind) n refl
           (All-append N (items_of above) up (flat_unlike n above of_giver.above) of_giver.up)
@@ -283,7 +286,8 @@ module _ (f : Function) (above : List Block) (id silent : ℕ) (behind : List Bl
     target_none : entry_of subs (record { number = n; operand = o }) ≡ None
     target_none = by_own own refl number ends where
       by_own : (z : Option ℕ) → own ≡ z → n ≡ or_fresh fresh z → has_entry subs z o ≡ false → entry_of subs (record { number = n; operand = o }) ≡ None
-      by_own (Some m) is same h = ap (λ (w : ℕ). entry_of subs (record { number = w; operand = o })) same ∙ no_number (entry_of subs (record { number = m; operand = o })) h
+      by_own (Some m) is same h = ap (λ (w : ℕ). entry_of subs (record { number = w; operand = o })) same ∙ no_number
+          (entry_of subs (record { number = m; operand = o })) h
       by_own None is same h = no_entry fresh n o (omega (arith, same)) subs under.entries
 
     abbrev E : Edits
@@ -306,7 +310,8 @@ module _ (f : Function) (above : List Block) (id silent : ℕ) (behind : List Bl
     }
 
 -- by the way that was chosen
-pub to_code : (f : Function) (above : List Block) (id silent : ℕ) (behind : List Block) (fresh k n o rd s d : ℕ) (done : List Item) (i : Instruction) (po : Origin)
+pub to_code : (f : Function) (above : List Block) (id silent : ℕ) (behind : List Block) (fresh k n o rd s d : ℕ) (done : List Item) (i : Instruction)
+    (po : Origin)
     (lo : Loc) (down : List Item) (subs : List Entry) → IsSound (with_block f above id silent (done ++ item (Code i (Some k)) po lo ∷ down) behind) →
     row_of i ≡ Moves (suc rd) s → IsEntered [] subs fresh k s done d o n → AllUnder fresh above done (Code i (Some k)) down behind subs →
     Step (with_block f above id silent (done ++ item (Code i (Some k)) po lo ∷ down) behind) subs

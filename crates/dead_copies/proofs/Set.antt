@@ -25,7 +25,8 @@ module _ (c : Copied) where
   behind_one w xs at x lt e = ap (behind_off w c) (drop-cons xs at x lt ∙ ap (λ (y : Item). y ∷ drop (suc at) xs) e)
 
   -- where its pair has an entry
-  pub plain_items : (xs : List Item) (at : ℕ) (x made : Item) → at < length xs → get_or xs at x ≡ x → made ≡ bare x → set xs at made ≡ items_off HasEntry at c xs
+  pub plain_items : (xs : List Item) (at : ℕ) (x made : Item) → at < length xs → get_or xs at x ≡ x → made ≡ bare x → set xs at made ≡ items_off HasEntry at c
+      xs
   plain_items xs at x made lt e is =
       set_split xs at made lt ∙ ap (λ (y : Item). take at xs ++ y ∷ drop (suc at) xs) is ∙
       ap (λ (ys : List Item). take at xs ++ ys) (sym (behind_one HasEntry xs at x lt e))

@@ -61,9 +61,9 @@ fn copied_by(i: &Instr, number: DebugNumber) -> Option<Copied>
     }
 }
 
-/// Takes the number off a copy, which stays. `removed` has the indices of the items that go, and `fresh` is a number that
-/// nothing has, which is counted on where it is taken. What is lost is appended to `lost`: the number of a copy of its own
-/// source that only a phi could take. After an error the items and the substitutions are only to be dropped.
+/// Takes the number off a copy, which stays. `removed` has the indices of the items that go, and `fresh` is a number
+/// that nothing has, which is counted on where it is taken. What is lost is appended to `lost`: the number of a copy of
+/// its own source that only a phi could take. After an error the items and the substitutions are only to be dropped.
 pub fn number_off(
     items: &mut Vec<Item>,
     subs: &mut Substitutions,
@@ -76,13 +76,17 @@ pub fn number_off(
     requires at { at < length items.old.items }
     requires fresh { fresh.old < 2 ^ 31 }
     ensures items { OnOk result (items.new.items ≡
-        items_off (way removed.now subs.old fresh.old copied.number copied.source (take at items.old.items)) at copied items.old.items) }
+        items_off (way removed.now subs.old fresh.old copied.number copied.source (take at items.old.items)) at copied
+            items.old.items) }
     ensures entries { OnOk result (subs.new ≡
-        subs.old ++ entries_for (way removed.now subs.old fresh.old copied.number copied.source (take at items.old.items)) copied.number) }
+        subs.old ++ entries_for (way removed.now subs.old fresh.old copied.number copied.source
+            (take at items.old.items)) copied.number) }
     ensures fresh { OnOk result (fresh.new ≡
-        fresh_after (way removed.now subs.old fresh.old copied.number copied.source (take at items.old.items)) fresh.old) }
+        fresh_after (way removed.now subs.old fresh.old copied.number copied.source (take at items.old.items))
+            fresh.old) }
     ensures lost { OnOk result (lost.new.items ≡
-        lost.old.items ++ lost_off (way removed.now subs.old fresh.old copied.number copied.source (take at items.old.items)) copied) }
+        lost.old.items ++ lost_off (way removed.now subs.old fresh.old copied.number copied.source
+            (take at items.old.items)) copied) }
 {
     let above = &items[..at];
     match choose_way(

@@ -12,7 +12,8 @@ use Rattle.dwarf_line.specs.declared.read.Group.{Group}
 use Rattle.dwarf_line.specs.declared.read.Group.TheVariants.{Copied, Ended}
 use Rattle.dwarf_line.specs.Table.{IsRow}
 use Rattle.dwarf_line.specs.Spelling.{changing, set_file, set_column, advance_pc, advance_line, row, rows_to, set_address, registers_at}
-use Rattle.dwarf_line.specs.FirstFault.{behind_dirs, behind_files, group_at, Rows, LastRow, NextRow, RowsFault, InRow, InLaterRow, start_at, Program, NoSequence}
+use Rattle.dwarf_line.specs.FirstFault.{behind_dirs, behind_files, group_at, Rows, LastRow, NextRow, RowsFault, InRow, InLaterRow, start_at, Program}
+use Rattle.dwarf_line.specs.FirstFault.{NoSequence}
 use Rattle.dwarf_line.specs.FirstFault.{NextSequence, ProgramFault, InStart, InRows, InLaterSequence}
 use Rattle.dwarf_line.specs.steps.Gives.{Fails, Faults}
 use Rattle.dwarf_line.proofs.Groups.{group_takes}

@@ -34,7 +34,8 @@ module _ (f g : Function) (subs : List Entry) (sound : IsSound f) (forms : AllIt
   followed src fol whole = record {
     objects = ap (λ (z : Function). z.objects) kills.killed ∙ fol.objects;
     follows = record {
-      shape = folded_has_shape f g src.function.blocks (resolve src.subs) (resolve subs) sound in_form kills fol.follows.shape whole.blocks whole.kept whole.only;
+      shape = folded_has_shape f g src.function.blocks (resolve src.subs) (resolve subs) sound in_form kills fol.follows.shape whole.blocks whole.kept
+          whole.only;
       runs = λ s start. folded_runs_along f g (program_of true src.function.blocks (resolve src.subs)) (resolve subs) s sound in_form kills
           (λ q j at e. (let w = whole.only q j at e in (w.0, w.3))) fol.follows.shape.order
           (start.pos ∙ ap block_start (sym fol.follows.shape.first)) (whole.runs s start);

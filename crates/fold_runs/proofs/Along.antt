@@ -1,5 +1,6 @@
 -- A folded function runs along where the function before did.
-use Rattle.std.proofs.Common.{◌≡◌, ◌⊎◌, ℕ, zero, suc, ◌<◌, List, [], ◌∷◌, ◌++◌, drop, length, slice_get, All, Contains, Option, Some, None, Bool, true, false, cond}
+use Rattle.std.proofs.Common.{◌≡◌, ◌⊎◌, ℕ, zero, suc, ◌<◌, List, [], ◌∷◌, ◌++◌, drop, length, slice_get, All, Contains, Option, Some, None, Bool}
+use Rattle.std.proofs.Common.{true, false, cond}
 use Rattle.std.proofs.Common.{nat_eq, refl, sym, ap, ◌∙◌, subst, inl, inr, eq-eqb, arith}
 use Rattle.std.proofs.lemmas.List.Elements.{All-nil, All-cons, All-weaker, All-contains, All-append}
 use Rattle.std.proofs.lemmas.Option.{slice_get-get_or}
@@ -36,7 +37,8 @@ use Rattle.fold_runs.specs.Runs.{FoldedRunsAlong}
 use Rattle.fold_runs.proofs.Told.{kin_itself}
 use Rattle.fold_runs.proofs.Placed.{Found, falls_from, made_block, made_at, WasBlock, made_was}
 use Rattle.fold_runs.proofs.Ways.{ways_at}
-use Rattle.fold_runs.proofs.Folding.{Folding, old, end, stays, was, new, fp, gp, origins_new, apart_new, new_is, found_staying, was_staying, code_leads, leads_to}
+use Rattle.fold_runs.proofs.Folding.{Folding, old, end, stays, was, new, fp, gp, origins_new, apart_new, new_is, found_staying, was_staying}
+use Rattle.fold_runs.proofs.Folding.{code_leads, leads_to}
 use Rattle.fold_runs.proofs.Folding.{code_final}
 use Rattle.fold_runs.proofs.Runs.{sides, relation, Rest, view}
 

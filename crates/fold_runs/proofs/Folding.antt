@@ -1,5 +1,6 @@
 -- A function that is folded, with what is known of it.
-use Rattle.std.proofs.Common.{◌≡◌, ◌⊎◌, ℕ, zero, suc, ◌+◌, List, [], ◌∷◌, map, drop, All, Contains, Option, Some, None, Bool, true, false, IsTrue, nat_eq, refl, sym}
+use Rattle.std.proofs.Common.{◌≡◌, ◌⊎◌, ℕ, zero, suc, ◌+◌, List, [], ◌∷◌, map, drop, All, Contains, Option, Some, None, Bool, true, false, IsTrue}
+use Rattle.std.proofs.Common.{nat_eq, refl, sym}
 use Rattle.std.proofs.Common.{ap, ◌∙◌, subst, inl, inr, arith}
 use Rattle.std.proofs.lemmas.List.Elements.{All-contains}
 use Rattle.std.proofs.lemmas.Option.{get_or_from_slice_get}

@@ -1,5 +1,6 @@
 -- What the kills at the end of a way take away: all that the debug items of its bypassed blocks give.
-use Rattle.std.proofs.Common.{◌≡◌, ◌⊎◌, ℕ, zero, suc, List, [], ◌∷◌, ◌++◌, filter, filter_map, flat_map, Contains, Option, Some, None, Bool, true, false, cond, not}
+use Rattle.std.proofs.Common.{◌≡◌, ◌⊎◌, ℕ, zero, suc, List, [], ◌∷◌, ◌++◌, filter, filter_map, flat_map, Contains, Option, Some, None, Bool, true}
+use Rattle.std.proofs.Common.{false, cond, not}
 use Rattle.std.proofs.Common.{◌||◌, nat_eq, refl, sym, ap, ◌∙◌, subst, arith}
 use Rattle.std.specs.List.{list_any, cons_option}
 use Rattle.std.proofs.lemmas.Bool.{eqb-true}
@@ -88,7 +89,8 @@ module _ (test : ItemKind → Bool) (alike : (k l : ItemKind) → kills_same k l
     any_items [] x y (k, lt, at) h t = absurd (omega (arith, lt))
     any_items (z ∷ zs) x y (zero, lt, at) h t =
         let same : by z ≡ Some y = ap by at ∙ h in
-        subst (λ (o : Option Item). Any (cons_option o (filter_map by zs))) (sym same) (or_left (test y.kind) (list_any (λ i. test i.kind) (filter_map by zs)) t)
+        subst (λ (o : Option Item). Any (cons_option o (filter_map by zs))) (sym same)
+            (or_left (test y.kind) (list_any (λ i. test i.kind) (filter_map by zs)) t)
     any_items (z ∷ zs) x y (suc k, lt, at) h t = by_option (by z) (any_items zs x y (k, omega (arith, lt), at) h t) where
       by_option : (o : Option Item) → Any (filter_map by zs) → Any (cons_option o (filter_map by zs))
       by_option None a = a

@@ -451,7 +451,8 @@ module _ (fold : Folding) (s : State) where
       jump_code = code_leads one_jump.kind (leads_to (exit_of one_jump.kind) v (inr jump_goes))
 
       do_removed : u ≡ v → (c d : Core) → Kin [] c d → Alike b xs [] (since_item ByEnds x) (do_item f x.kind c) (do_item g one_jump.kind d)
-      do_removed uv c d h = elim (kin_branch f x t [] c d form exit h) as (λ z. Alike b xs [] (since_item ByEnds x) (do_item f x.kind c) (do_item g one_jump.kind d)) [
+      do_removed uv c d h = elim (kin_branch f x t [] c d form exit h) as (λ z. Alike b xs [] (since_item ByEnds x) (do_item f x.kind c)
+          (do_item g one_jump.kind d)) [
         | inl a ↦ (let l = jumps a.0 a.2 in
             subst (λ (o : Outcome). Alike b xs [] (since_item ByEnds x) o (do_item g one_jump.kind d)) (sym a.1)
             (subst (λ (o : Outcome). Alike b xs [] (since_item ByEnds x) (Goes t a.0) o) (sym l.1)
@@ -482,7 +483,8 @@ module _ (fold : Folding) (s : State) where
           (λ n e q. goes_t c n e q) (less x c d h))
 
       view_sent : (ys : List Item) → Rest [] b xs ys → Seen b [] (x ∷ xs) (sent u x ∷ ys)
-      view_sent ys r = both code (still_code (to_block u) x.kind ∙ code) refl (after_x ∙ sym (after_y (sent u x) refl)) (λ c d h. kin_shows c d h) (do_sent ys r)
+      view_sent ys r = both code (still_code (to_block u) x.kind ∙ code) refl (after_x ∙ sym (after_y (sent u x) refl)) (λ c d h. kin_shows c d h)
+          (do_sent ys r)
 
       do_turned : next ≡ Some u → (c d : Core) → Kin [] c d →
           Alike b xs [] (since_item ByEnds x) (do_item f x.kind c) (do_item g (turned v x).kind d)

@@ -25,7 +25,8 @@ use Rattle.mir_func.specs.Graph.{Program}
 use Rattle.mir_func.specs.Variables.{is_same, overlaps}
 use Rattle.mir_func.specs.Sound.{HasForm}
 use Rattle.mir_meaning.specs.State.{Core, updated, assigned}
-use Rattle.mir_meaning.specs.Step.{Outcome, Falls, Goes, Traps, act, does, are_written, read, with_core, numbered, given, defined, part_of, mark_value, place_value, do_item}
+use Rattle.mir_meaning.specs.Step.{Outcome, Falls, Goes, Traps, act, does, are_written, read, with_core, numbered, given, defined, part_of}
+use Rattle.mir_meaning.specs.Step.{mark_value, place_value, do_item}
 use Rattle.mir_meaning.specs.Align.{is_code}
 use Rattle.mir_meaning.proofs.Effects.{told_by}
 use Rattle.mir_meaning.proofs.Told.{Below, TellsLess}
@@ -189,7 +190,8 @@ implicit_none (x ∷ xs) zero e = by_operand x (and_parts (is_implicit x) (list_
   by_operand _ h = cc
 implicit_none (x ∷ xs) (suc o) e = implicit_none xs o (and_parts (is_implicit x) (list_all is_implicit xs) e).1
 
-branch_none : (a b t : ℕ) (rest : List Operand) (o : ℕ) → list_all is_implicit rest ≡ true → defined false (slice_get (Use a ∷ Use b ∷ OfBlock t ∷ rest) o) ≡ None
+branch_none : (a b t : ℕ) (rest : List Operand) (o : ℕ) → list_all is_implicit rest ≡ true → defined false (slice_get (Use a ∷ Use b ∷ OfBlock t ∷ rest) o) ≡
+    None
 branch_none a b t rest zero e = refl
 branch_none a b t rest (suc zero) e = refl
 branch_none a b t rest (suc (suc zero)) e = refl

@@ -1,5 +1,6 @@
 -- Where a path of the source leads back to its first block, a branch of the folded function goes there.
-use Rattle.std.proofs.Common.{◌≡◌, ◌⊎◌, ℕ, zero, suc, ◌+◌, ◌<◌, ◌≤◌, List, [], ◌∷◌, ◌++◌, length, slice_get, All, Contains, Option, Some, None, Bool, true, false}
+use Rattle.std.proofs.Common.{◌≡◌, ◌⊎◌, ℕ, zero, suc, ◌+◌, ◌<◌, ◌≤◌, List, [], ◌∷◌, ◌++◌, length, slice_get, All, Contains, Option, Some, None, Bool}
+use Rattle.std.proofs.Common.{true, false}
 use Rattle.std.proofs.Common.{cond, nat_eq, refl, sym, ap, ◌∙◌, subst, inl, inr, eq-eqb, arith}
 use Rattle.std.proofs.lemmas.Bool.{eqb-true, cases_eq}
 use Rattle.std.proofs.lemmas.List.Elements.{All-nil, All-cons, All-head, All-tail, All-contains, Contains-append_right}
@@ -185,7 +186,8 @@ module _ (end : ℕ → ℕ) (next fall : Option ℕ) (silent : Pos) (to : ℕ) 
 -- ---- a block that was reached stays, or a way of one that stays ends where its way does
 
 module _ (old : List Block) (apart : Rattle.mir_func.specs.Sound.AreApart (ids_of old)) (end : ℕ → ℕ) (stays : ℕ → Bool)
-    (ends : (n : ℕ) → EndsAt (lead old) n (end n)) (reached : (n : ℕ) → Reached old end n → stays n ≡ true) (back : (n : ℕ) → stays n ≡ true → Reached old end n)
+    (ends : (n : ℕ) → EndsAt (lead old) n (end n)) (reached : (n : ℕ) → Reached old end n → stays n ≡ true)
+        (back : (n : ℕ) → stays n ≡ true → Reached old end n)
   where
     -- a way of a block that stays ends at e
     pub record WayTo (e : ℕ) : Type 0 where
@@ -250,7 +252,8 @@ next_by_ids (x ∷ xs) (y ∷ ys) e n b c brest crest h k =
     (λ h k. next_by_ids xs ys tails n b c brest crest h k) where
       by_test : (z : Bool) → ids_of xs ≡ ids_of ys → cond z (x ∷ xs) (Rattle.mir_func.specs.Graph.from_block xs n) ≡ b ∷ brest →
           cond z (y ∷ ys) (Rattle.mir_func.specs.Graph.from_block ys n) ≡ c ∷ crest →
-          (Rattle.mir_func.specs.Graph.from_block xs n ≡ b ∷ brest → Rattle.mir_func.specs.Graph.from_block ys n ≡ c ∷ crest → first_id brest ≡ first_id crest) →
+          (Rattle.mir_func.specs.Graph.from_block xs n ≡ b ∷ brest → Rattle.mir_func.specs.Graph.from_block ys n ≡ c ∷ crest → first_id brest ≡ first_id
+              crest) →
           first_id brest ≡ first_id crest
       by_test true tails h k later =
           let a : xs ≡ brest = cc in

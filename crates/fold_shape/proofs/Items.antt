@@ -1,5 +1,6 @@
 -- The shape of a folded function: its blocks, and what its items are.
-use Rattle.std.proofs.Common.{◌≡◌, ◌⊎◌, ℕ, zero, suc, ◌*◌, ◌≤◌, List, [], ◌∷◌, ◌++◌, map, length, All, Contains, Option, Some, None, Bool, true, false, cond, nat_eq}
+use Rattle.std.proofs.Common.{◌≡◌, ◌⊎◌, ℕ, zero, suc, ◌*◌, ◌≤◌, List, [], ◌∷◌, ◌++◌, map, length, All, Contains, Option, Some, None, Bool, true}
+use Rattle.std.proofs.Common.{false, cond, nat_eq}
 use Rattle.std.proofs.Common.{refl, sym, ap, ◌∙◌, subst, inl, inr, le_trans, arith}
 use Rattle.std.proofs.lemmas.List.Elements.{All-nil, All-cons, All-head, All-tail, All-weaker, All-append}
 use Rattle.rv64_instr.specs.declared.op.Op.{Op}

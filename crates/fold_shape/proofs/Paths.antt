@@ -1,5 +1,6 @@
 -- Paths of the source are paths of a function with its ends of blocks, from block to block.
-use Rattle.std.proofs.Common.{◌≡◌, ◌⊎◌, ℕ, zero, suc, ◌+◌, ◌<◌, ◌≤◌, List, [], ◌∷◌, ◌++◌, drop, length, slice_get, get_or, All, Contains, Option, Some, None, Bool}
+use Rattle.std.proofs.Common.{◌≡◌, ◌⊎◌, ℕ, zero, suc, ◌+◌, ◌<◌, ◌≤◌, List, [], ◌∷◌, ◌++◌, drop, length, slice_get, get_or, All, Contains, Option}
+use Rattle.std.proofs.Common.{Some, None, Bool}
 use Rattle.std.proofs.Common.{true, false, cond, nat_eq, refl, sym, ap, ◌∙◌, subst, inl, inr, eq-eqb, arith}
 use Rattle.std.proofs.lemmas.Bool.{cases_eq}
 use Rattle.std.proofs.lemmas.List.Elements.{All-contains, Contains-append_right}
@@ -145,7 +146,8 @@ module _ (fold : Folding) (src : List Block) (subs : OperandPair → Option Oper
         let k = kept p i at (end_kind i.kind (leads_to (exit_of i.kind) n e)) in
         let q = k.0 in
         let j = k.1 in
-        let home : p.block ≡ q.block = ap (λ (o : Origin). (position_of o).block) (sym k.3) ∙ from_home false (old fold) fold.resolve fold.sound.origins q j k.2 in
+        let home : p.block ≡ q.block = ap (λ (o : Origin). (position_of o).block) (sym k.3) ∙ from_home false (old fold) fold.resolve fold.sound.origins q j
+            k.2 in
         let s = stands_in false (old fold) fold.resolve q j k.2 in
         let member = (found_in (old fold) q.block s.block s.rest s.at).0 in
         let well = All-contains (λ (b : Block). EndsWell b.items) (old fold) s.block fold.sound.ends member in (

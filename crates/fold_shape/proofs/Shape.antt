@@ -1,5 +1,6 @@
 -- A folded function has the shape of one that follows the source.
-use Rattle.std.proofs.Common.{◌≡◌, ◌⊎◌, ℕ, zero, suc, ◌+◌, ◌<◌, List, [], ◌∷◌, ◌++◌, length, slice_get, All, Contains, Option, Some, None, refl, sym, ap, ◌∙◌, subst}
+use Rattle.std.proofs.Common.{◌≡◌, ◌⊎◌, ℕ, zero, suc, ◌+◌, ◌<◌, List, [], ◌∷◌, ◌++◌, length, slice_get, All, Contains, Option, Some, None, refl, sym}
+use Rattle.std.proofs.Common.{ap, ◌∙◌, subst}
 use Rattle.std.proofs.Common.{inl, inr, arith, true, false}
 use Rattle.std.proofs.lemmas.List.Elements.{All-contains}
 use Rattle.std.proofs.lemmas.Option.{slice_get_within}
@@ -35,10 +36,12 @@ use Rattle.fold_shape.proofs.Paths.{StandsIn, stands_in, back_new, contains_at}
 use Rattle.fold_shape.proofs.Tails.{nothing_at, onward_was, stands_still}
 use Rattle.fold_shape.proofs.Stores.{at_new, Above, Stand, above, stand_along, stands_there, slice_put}
 
-split_put : (ks xs : List Item) (n : ℕ) (i : Item) → slice_get (ks ++ xs) n ≡ Some i → Contains ks i ⊎ ((k : ℕ) × (n ≡ length ks + k) × (slice_get xs k ≡ Some i))
+split_put : (ks xs : List Item) (n : ℕ) (i : Item) → slice_get (ks ++ xs) n ≡ Some i → Contains ks i ⊎
+    ((k : ℕ) × (n ≡ length ks + k) × (slice_get xs k ≡ Some i))
 split_put [] xs n i e = inr (n, omega arith, e)
 split_put (x ∷ ks) xs zero i e = let same : x ≡ i = cc in inl (0, omega arith, same)
-split_put (x ∷ ks) xs (suc n) i e = elim (split_put ks xs n i e) as (λ z. Contains (x ∷ ks) i ⊎ ((k : ℕ) × (suc n ≡ suc (length ks) + k) × (slice_get xs k ≡ Some i))) [
+split_put (x ∷ ks) xs (suc n) i e = elim (split_put ks xs n i e) as (λ z. Contains (x ∷ ks) i ⊎
+    ((k : ℕ) × (suc n ≡ suc (length ks) + k) × (slice_get xs k ≡ Some i))) [
   | inl c ↦ inl (suc c.0, (let l = c.1 in omega (arith, l)), c.2)
   | inr w ↦ inr (w.0, (let l = w.1 in omega (arith, l)), w.2)
 ]
@@ -61,7 +64,8 @@ passed_above : (xs : List Item) (k : ℕ) (y : Item) → EndsWell xs → slice_g
     slice_get xs j ≡ Some i → exit_of i.kind ≡ Onward
 passed_above [] k y ends at e j i lt there = cc
 passed_above (x ∷ xs) zero y ends at e j i lt there = absurd (omega (arith, lt))
-passed_above (x ∷ xs) (suc k) y ends at e j i lt there = by_exit (exit_of x.kind) refl ends.0 j lt there (λ m l q. passed_above xs k y ends.1 at e m i l q) where
+passed_above (x ∷ xs) (suc k) y ends at e j i lt there = by_exit (exit_of x.kind) refl ends.0 j lt there
+    (λ m l q. passed_above xs k y ends.1 at e m i l q) where
   only_jump : (ys : List Item) (k : ℕ) → IsJumpAtMost ys → slice_get ys k ≡ Some y → ⊥
   only_jump [] k may q = cc
   only_jump (z ∷ []) zero may q =

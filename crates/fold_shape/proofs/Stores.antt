@@ -1,6 +1,7 @@
 -- With a slot store at a block's end goes other code, in the folded function too: its paths are those of the function before,
 -- from one end of a way to the next.
-use Rattle.std.proofs.Common.{◌≡◌, ◌⊎◌, ℕ, zero, suc, ◌+◌, ◌<◌, ◌≤◌, List, [], ◌∷◌, ◌++◌, drop, length, slice_get, All, Contains, Option, Some, None, Bool, true}
+use Rattle.std.proofs.Common.{◌≡◌, ◌⊎◌, ℕ, zero, suc, ◌+◌, ◌<◌, ◌≤◌, List, [], ◌∷◌, ◌++◌, drop, length, slice_get, All, Contains, Option, Some, None}
+use Rattle.std.proofs.Common.{Bool, true}
 use Rattle.std.proofs.Common.{false, cond, nat_eq, refl, sym, ap, ◌∙◌, subst, inl, inr, arith}
 use Rattle.std.proofs.lemmas.Bool.{eqb-true, cases_eq}
 use Rattle.std.proofs.lemmas.List.Elements.{All-contains, All-head, All-tail}
@@ -75,7 +76,8 @@ is_next (Some m) n e = ap (λ (z : ℕ). Some z) (eqb-true m n e)
 
 -- ---- the end of a block that stays leads to the ends of its ways
 
-module _ (fold : Folding) (b : ℕ) (block : Block) (after : List Block) (at : from_block (old fold) b ≡ block ∷ after) (st : stays fold b ≡ true) (p0 : Pos) where
+module _ (fold : Folding) (b : ℕ) (block : Block) (after : List Block) (at : from_block (old fold) b ≡ block ∷ after) (st : stays fold b ≡ true)
+    (p0 : Pos) where
   abbrev g : Program
   g = gp fold
 
@@ -581,7 +583,8 @@ module _ (fold : Folding) (p0 : Pos) where
       let next = first_id (staying (stays fold) a.after) in
       let silent : Pos = record { block = a.block.id; item = a.block.silent } in
       let anew = rewritten (end fold) next (first_id a.after) silent a.block.items in
-      let still = Rattle.fold_shape.proofs.Tails.stands_still (end fold) next (first_id a.after) silent a.block.items q.item j well item (of_kind j.kind counts) in
+      let still = Rattle.fold_shape.proofs.Tails.stands_still (end fold) next (first_id a.after) silent a.block.items q.item j well item
+          (of_kind j.kind counts) in
       let placed : slice_get (lost a.block.id ++ anew) (length (lost q.block) + q.item) ≡ Some j =
       ap (λ (n : ℕ). slice_get (lost a.block.id ++ anew) (length (lost n) + q.item)) (sym id) ∙ slice_put (lost a.block.id) anew q.item ∙ still in (
         ap (λ (z : List Block). fetch_in z (length (lost q.block) + q.item))

@@ -1,5 +1,6 @@
 -- What stands where in items whose end is written anew.
-use Rattle.std.proofs.Common.{◌≡◌, ◌⊎◌, ℕ, zero, suc, ◌+◌, ◌<◌, List, [], ◌∷◌, ◌++◌, drop, length, slice_get, Option, Some, None, Bool, true, false, cond, nat_eq}
+use Rattle.std.proofs.Common.{◌≡◌, ◌⊎◌, ℕ, zero, suc, ◌+◌, ◌<◌, List, [], ◌∷◌, ◌++◌, drop, length, slice_get, Option, Some, None, Bool, true, false}
+use Rattle.std.proofs.Common.{cond, nat_eq}
 use Rattle.std.proofs.Common.{refl, sym, ap, ◌∙◌, subst, inl, inr, arith}
 use Rattle.std.proofs.lemmas.Bool.{eqb-true}
 use Rattle.mir_func.specs.declared.exit.Exit.{Exit}
@@ -60,7 +61,8 @@ module _ (end : ℕ → ℕ) (next fall : Option ℕ) (silent : Pos) where
       none_cons (turned v x) [] (not_perhaps (exit_of (turned v x).kind) v (turned_branch x.kind t v e)) none_nil
   none_branch x xs t u v e may false false false =
       none_cons (sent u x) (jump_at_end silent (first_of xs) v ∷ []) (not_perhaps (exit_of (sent u x).kind) u (sent_branch x.kind t u e))
-      (none_cons (jump_at_end silent (first_of xs) v) [] (not_always (exit_of (jump_at_end silent (first_of xs) v).kind) v (jump_exit silent xs v may)) none_nil)
+      (none_cons (jump_at_end silent (first_of xs) v) [] (not_always (exit_of (jump_at_end silent (first_of xs) v).kind) v (jump_exit silent xs v may))
+          none_nil)
 
   -- an item that control goes on past stood there before
   pub onward_was : (xs : List Item) (k : ℕ) (y : Item) → EndsWell xs → (fall ≡ None → Closes xs) → slice_get (anew xs) k ≡ Some y → exit_of y.kind ≡ Onward →

@@ -76,7 +76,8 @@ fn frames_hold_slots_and_objects(rt: HostRuntime) -> Result<(), Fail> {
         // a slot at 0, and x1 above it
         (
             "size: 8",
-            "    SD $x10, %stack.0, 0\n    PseudoCALL @g, csr_ilp32_lp64, implicit-def dead $x1, implicit-def $x10\n    \
+            "    SD $x10, %stack.0, 0\n    PseudoCALL @g, csr_ilp32_lp64, implicit-def dead $x1, implicit-def \
+                $x10\n    \
              $x11 = LD %stack.0, 0\n    $x10 = ADD $x10, $x11\n    $x11 = ADDI $x0, 1\n    \
              PseudoRET implicit $x10, implicit $x11\n",
             "ff010113 00113423 00a13023 00000097 000080e7 00013583 00b50533 00100593 00813083 01010113 00008067 ",

@@ -40,6 +40,7 @@ slot_line n = codes "  - { id: " ++ decimal n ++ (codes ", size: 8 }" ++ 10 ∷ 
 abbrev pub object_line : Object → List ℕ
 object_line o = codes "  - { id: " ++ decimal o.id ++ codes ", size: " ++ decimal o.size ++ codes ", alignment: " ++ decimal o.align ++ (codes " }" ++ 10 ∷ [])
 
+-- a list without members
 abbrev pub is_nothing : {A : Type 0} → List A → Bool
 is_nothing [] = true
 is_nothing (x ∷ xs) = false

@@ -1,5 +1,6 @@
 -- A listing is printable: item by item each line tells its numbers, whose addresses are those of the entries of the layout.
-use Rattle.std.proofs.Common.{◌≡◌, ℕ, suc, ◌+◌, ◌*◌, ◌<◌, ◌≤◌, ◌^◌, ℤ, pos, negsuc, Bool, true, false, ◌&&◌, List, [], ◌∷◌, ◌++◌, length, get_or, Option, Some, None}
+use Rattle.std.proofs.Common.{◌≡◌, ℕ, suc, ◌+◌, ◌*◌, ◌<◌, ◌≤◌, ◌^◌, ℤ, pos, negsuc, Bool, true, false, ◌&&◌, List, [], ◌∷◌, ◌++◌, length, get_or}
+use Rattle.std.proofs.Common.{Option, Some, None}
 use Rattle.std.proofs.Common.{refl, ap, sym, subst, ◌∙◌, arith}
 use Rattle.std.specs.Prelude.{All, map, IfSome, ◌+ℤ◌, IsTrue, sum_by}
 use Rattle.std.specs.List.{flat_map, list_all}
@@ -36,7 +37,8 @@ use Rattle.code_words.specs.declared.code.Entry.{Entry}
 use Rattle.code_words.specs.Inverted.{jump_to}
 use Rattle.code_words.specs.Laid.{IsWorded}
 use Rattle.code_words.specs.Listed.{by_pointer, listed}
-use Rattle.code_words.specs.Rule.{Layout, Site, Form, Nothing, OneWord, CallSite, LongBranch, form_of, form_entries, address_in, added_before, entries_at, entry}
+use Rattle.code_words.specs.Rule.{Layout, Site, Form, Nothing, OneWord, CallSite, LongBranch, form_of, form_entries, address_in, added_before}
+use Rattle.code_words.specs.Rule.{entries_at, entry}
 use Rattle.code_words.specs.Rule.{entries_of, sites_in, sites_from, sites_of, words_of}
 use Rattle.code_words.specs.steps.Emitted.{IsFormed}
 use Rattle.code_words.proofs.Sites.{site_size}
@@ -211,7 +213,8 @@ module _ (inlined : ℕ → Option ℕ) (l : Layout) (framed : IsFramed l.framed
   LongPrintable a i k n op os = All (IsPrintableLine inlined) (branch_skip a i.origin op os ++ line_at (Some (a + 4)) i (Code (jump_to n) k) ∷ [])
 
   long_printable : (a : ℕ) (i : Item) (k : Option ℕ) (b : BranchOp) (x y n : ℕ) (rest : List Operand) → IsPrintableFramedItem inlined i → a < 2 ^ 32 →
-      a + 4 < 2 ^ 32 → All HasNumbers (Use x ∷ Use y ∷ OfBlock n ∷ rest) → IfSome k IsNumber → LongPrintable a i k n (OfBranch b) (Use x ∷ Use y ∷ OfBlock n ∷ rest)
+      a + 4 < 2 ^ 32 → All HasNumbers (Use x ∷ Use y ∷ OfBlock n ∷ rest) → IfSome k IsNumber → LongPrintable a i k n (OfBranch b)
+          (Use x ∷ Use y ∷ OfBlock n ∷ rest)
   long_printable a i k b x y n rest fit low high all number =
       let second = All-tail HasNumbers (Use x) (Use y ∷ OfBlock n ∷ rest) all in
       let third_on = All-tail HasNumbers (Use y) (OfBlock n ∷ rest) second in
@@ -229,10 +232,12 @@ module _ (inlined : ℕ → Option ℕ) (l : Layout) (framed : IsFramed l.framed
       All IsLow (form_entries a i.origin p f) → IsPrintableInstruction none (listed l.framed c) → All HasNumbers c.operands → IfSome k IsNumber →
       All (IsPrintableLine inlined) (form_lines l a i c k f)
   form_printable a p i c k f one fit low printable numbers number =
-      All-cons (IsPrintableLine inlined) _ [] (code_printable a i (listed l.framed c) k fit (All-head IsLow (entry a 4 i.origin p false) [] low) printable number)
+      All-cons (IsPrintableLine inlined) _ [] (code_printable a i (listed l.framed c) k fit (All-head IsLow (entry a 4 i.origin p false) [] low) printable
+          number)
       (All-nil (IsPrintableLine inlined))
   form_printable a p i c k f call fit low printable numbers number =
-      All-cons (IsPrintableLine inlined) _ [] (code_printable a i (listed l.framed c) k fit (All-head IsLow (entry a 8 i.origin p true) [] low) printable number)
+      All-cons (IsPrintableLine inlined) _ [] (code_printable a i (listed l.framed c) k fit (All-head IsLow (entry a 8 i.origin p true) [] low) printable
+          number)
       (All-nil (IsPrintableLine inlined))
   form_printable a p i c k f (long b x y n rest op_is os_is all) fit low printable numbers number =
       let first = entry a 4 (added_before i.origin) p false in

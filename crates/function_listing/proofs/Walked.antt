@@ -10,7 +10,8 @@ use Rattle.mir_func.specs.declared.position.Pos.{Pos}
 use Rattle.mir_func.specs.declared.position.Point.{Point}
 use Rattle.mir_func.specs.Successors.{pos_in}
 use Rattle.code_words.specs.declared.code.Entry.{Entry}
-use Rattle.code_words.specs.Rule.{Layout, Site, Form, Nothing, OneWord, CallSite, LongBranch, form_of, form_entries, address_in, entries_at, sites_in, sites_from}
+use Rattle.code_words.specs.Rule.{Layout, Site, Form, Nothing, OneWord, CallSite, LongBranch, form_of, form_entries, address_in, entries_at, sites_in}
+use Rattle.code_words.specs.Rule.{sites_from}
 use Rattle.code_words.specs.steps.Emitted.{point_of}
 use Rattle.compiled_text.specs.declared.output.Line.{Line}
 use Rattle.compiled_text.specs.declared.output.ListedBlock.{ListedBlock}

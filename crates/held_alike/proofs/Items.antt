@@ -98,7 +98,8 @@ module _ (Held : Place → Type 0) (Free : ℕ → Type 0) where
   -- ---- phis
 
   -- a phi of both, of places of which the second's gives no more
-  pub phi_both : (f g : Program) (p p' : Option Place) (n : ℕ) (c d : Core) → Alike Held Free c d → ((Free n → ⊥) → Below (place_value p c) (place_value p' d)) →
+  pub phi_both : (f g : Program) (p p' : Option Place) (n : ℕ) (c d : Core) → Alike Held Free c d →
+      ((Free n → ⊥) → Below (place_value p c) (place_value p' d)) →
       EndAlike (Alike Held Free) (do_item f (Phi p n) c) (do_item g (Phi p' n) d)
   phi_both f g p p' n c d h below = record {
     held = held_by Held c d _ _ c.marks d.marks h.held;

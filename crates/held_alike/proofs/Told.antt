@@ -93,7 +93,8 @@ pub numbers_both : (Free : ℕ → Type 0) (sp call : Bool) (n : Option ℕ) (os
     TellsNoMore Free (numbered sp call n os c) (numbered sp call n os d)
 numbers_both Free sp call None os c d h same = h
 numbers_both Free sp call (Some k) os c d h same = record {
-  pairs = pairs_both Free c d h k (λ o. given sp (defined call (slice_get os o)) (c.pairs k o) c) (λ o. given sp (defined call (slice_get os o)) (d.pairs k o) d)
+  pairs = pairs_both Free c d h k (λ o. given sp (defined call (slice_get os o)) (c.pairs k o) c)
+      (λ o. given sp (defined call (slice_get os o)) (d.pairs k o) d)
       (λ o far. given_less sp (defined call (slice_get os o)) (c.pairs k o) (d.pairs k o) c d (h.pairs k o far) (λ r. same k o r refl));
   marks = h.marks;
 }

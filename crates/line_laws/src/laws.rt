@@ -2,8 +2,8 @@
 
 ghost use Rattle.line_laws.specs.Laws.{TablesGiveLines, NothingOutside, NoneIsLineZero, UnitIsFileOne};
 
-/// At each address of a function's code the table gives the line, the column and the file of the first code of the source
-/// at or after the origin of the code there.
+/// At each address of a function's code the table gives the line, the column and the file of the first code of the
+/// source at or after the origin of the code there.
 pub fn tables_give_lines()
     ensures { TablesGiveLines }
 {}

@@ -67,5 +67,6 @@ module _ (x : Place) (starts : ℕ → Place → Bool) where
   pub walk_facts : (items : List Item) (next : Option ℕ) → (live_from starts items next x ≡ true) ↔ LiveFrom x (λ n. starts n x ≡ true) items next
   walk_facts [] next = past_facts next
   walk_facts (i ∷ is) next =
-      before_facts i.kind (live_across starts (exit_of i.kind) (live_from starts is next x) x) (LiveAcross (λ n. starts n x ≡ true) (exit_of i.kind) (LiveFrom x (λ n. starts n x ≡ true) is next))
+      before_facts i.kind (live_across starts (exit_of i.kind) (live_from starts is next x) x)
+          (LiveAcross (λ n. starts n x ≡ true) (exit_of i.kind) (LiveFrom x (λ n. starts n x ≡ true) is next))
       (across_facts (exit_of i.kind) (live_from starts is next x) (LiveFrom x (λ n. starts n x ≡ true) is next) (walk_facts is next))

@@ -43,7 +43,8 @@ module _ (f : Function) (l : LiveSets) (sets : AreLiveSets f l) (apart : AreApar
   one = omega arith
 
   -- at the start of a block
-  pub at_start_answer : (set d : List ℕ) → set ≡ get_or l.starts b d → DecidesIn f (λ g. Live g x (block_start (get_or (ids_of f.blocks) b 0))) (has l.slots set x)
+  pub at_start_answer : (set d : List ℕ) → set ≡ get_or l.starts b d → DecidesIn f (λ g. Live g x (block_start (get_or (ids_of f.blocks) b 0)))
+      (has l.slots set x)
   at_start_answer set d is sp resolve =
       let n = get_or (ids_of f.blocks) b 0 in
       let ids : slice_get (ids_of f.blocks) b ≡ Some n = ids_at (ids_of f.blocks) b (ids_long f.blocks b inside) in
@@ -63,7 +64,8 @@ module _ (f : Function) (l : LiveSets) (sets : AreLiveSets f l) (apart : AreApar
         ids_long (c ∷ cs) (suc i) l = let h : i < length (ids_of cs) = ids_long cs i (omega arith) in omega arith
 
   -- at a position
-  pub at_answer : (k : ℕ) (t : Bool) → t ≡ live_from (has_at_start l.slots l.blocks l.starts) (drop k (items_at f.blocks b)) (slice_get (ids_of f.blocks) (b + 1)) x →
+  pub at_answer : (k : ℕ) (t : Bool) → t ≡ live_from (has_at_start l.slots l.blocks l.starts) (drop k (items_at f.blocks b))
+      (slice_get (ids_of f.blocks) (b + 1)) x →
       DecidesIn f (λ g. Live g x (pos_in (get_or (ids_of f.blocks) b 0) k)) t
   at_answer k t is sp resolve =
       let same : live_from (has_at_start l.slots l.blocks l.starts) (drop k block.items) (slice_get (ids_of f.blocks) (suc b)) x ≡ t =
@@ -123,7 +125,8 @@ module _ (f : Function) (l : LiveSets) (sets : AreLiveSets f l) (b : ℕ) (x : P
   either m k n (suc zero, less, is) = inr is
   either m k n (suc (suc j), less, is) = absurd (omega arith)
 
-  pub out_one : (m : ℕ) → ((sp : Bool) (resolve : OperandPair → Option OperandPair) (n : ℕ) → Contains (m ∷ []) n ↔ GoesTo (program_of sp f.blocks resolve) b n) →
+  pub out_one : (m : ℕ) → ((sp : Bool) (resolve : OperandPair → Option OperandPair) (n : ℕ) → Contains (m ∷ []) n ↔ GoesTo (program_of sp f.blocks resolve) b
+      n) →
       t ≡ has_at_start l.slots l.blocks l.starts m x → DecidesIn f (λ g. LiveOut g x b) t
   out_one m goes e = live_out_by f l sets b x (m ∷ []) goes t
       (λ h. (m, first m m [] refl, sym e ∙ h), λ (n, c, s). e ∙ (ap (λ (k : ℕ). has_at_start l.slots l.blocks l.starts k x) (only m n c) ∙ s))
@@ -160,7 +163,8 @@ module _ (f : Function) (l : LiveSets) (sets : AreLiveSets f l) (b : ℕ) (x : P
 -- ---- what was settled
 
 pub solved : (f : Function) (slots ids : List ℕ) (begun starts : List (List ℕ)) → slots ≡ f.slots → ids ≡ ids_of f.blocks → AreApart (ids_of f.blocks) →
-    length begun ≡ length f.blocks → ((slots : List ℕ) (b : ℕ) (x : Place) → has slots (get_or begun b []) x ≡ false) → Settled slots ids f.blocks begun starts →
+    length begun ≡ length f.blocks → ((slots : List ℕ) (b : ℕ) (x : Place) → has slots (get_or begun b []) x ≡ false) → Settled slots ids f.blocks begun
+        starts →
     AreLiveSets f (record { slots = slots; blocks = ids; starts = starts })
 solved f slots ids begun starts same names apart long none s = record {
   slots = same;

@@ -68,7 +68,8 @@ past_end [] j l = refl
 past_end (x ∷ xs) zero l = absurd (omega arith)
 past_end (x ∷ xs) (suc j) l = past_end xs j (omega arith)
 
-pub uniting_ends : {old others : List ℕ} {k : ℕ} {words : List ℕ} {grown : Bool} → Uniting old others k words grown → length old ≤ k → length others ≡ length old →
+pub uniting_ends : {old others : List ℕ} {k : ℕ} {words : List ℕ} {grown : Bool} → Uniting old others k words grown → length old ≤ k → length others ≡ length
+    old →
     (i : ℕ) → has_bit words i ≡ (has_bit old i || has_bit others i)
 uniting_ends {old} {others} {k} {words} {grown} h end long i = bits_of_both words old others i (by_index (i / 64)) where
   by_index : (j : ℕ) → get_or words j 0 ≡ bit_or (get_or old j 0) (get_or others j 0)

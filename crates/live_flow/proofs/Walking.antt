@@ -1,5 +1,6 @@
 -- A walk up the items of a block.
-use Rattle.std.proofs.Common.{◌≡◌, ℕ, zero, suc, ◌<◌, ◌≤◌, ◌||◌, Bool, false, List, [], ◌∷◌, ◌++◌, length, get_or, Option, Some, None, refl, ap, sym, ◌∙◌, append_assoc, arith, subst}
+use Rattle.std.proofs.Common.{◌≡◌, ℕ, zero, suc, ◌<◌, ◌≤◌, ◌||◌, Bool, false, List, [], ◌∷◌, ◌++◌, length, get_or, Option, Some, None, refl, ap, sym}
+use Rattle.std.proofs.Common.{◌∙◌, append_assoc, arith, subst}
 use Rattle.std.specs.Prelude.{All}
 use Rattle.rv64_instr.specs.declared.place.Place.{Place}
 use Rattle.mir_func.specs.declared.exit.Exit.{Exit}
@@ -91,7 +92,8 @@ across_always starts e n below x set is h = h ∙ sym (ap (λ (f : Exit). live_a
 pub across_final : (starts : ℕ → Place → Bool) (e : Exit) (below : Bool) (x : Place) (set : Bool) → e ≡ Final → set ≡ false → set ≡ live_across starts e below x
 across_final starts e below x set is h = h ∙ sym (ap (λ (f : Exit). live_across starts f below x) is)
 
-pub past_some : (starts : ℕ → Place → Bool) (o : Option ℕ) (n : ℕ) (x : Place) (set : Bool) → o ≡ Some n → set ≡ (false || starts n x) → set ≡ live_past starts o x
+pub past_some : (starts : ℕ → Place → Bool) (o : Option ℕ) (n : ℕ) (x : Place) (set : Bool) → o ≡ Some n → set ≡ (false || starts n x) → set ≡ live_past
+    starts o x
 past_some starts o n x set is h = h ∙ sym (ap (λ (p : Option ℕ). live_past starts p x) is)
 
 pub past_none : (starts : ℕ → Place → Bool) (o : Option ℕ) (x : Place) (set : Bool) → o ≡ None → set ≡ false → set ≡ live_past starts o x

@@ -1,6 +1,7 @@
 //! Which bit of a set is whose, and which block is whose.
 
-ghost use Rattle.std.specs.Prelude.{◌≡◌, ◌≤◌, ◌<◌, ◌||◌, ◌&&◌, not, length, nat_eq, IfOk, IfSome, Contains, false, true};
+ghost use Rattle.std.specs.Prelude.{◌≡◌, ◌≤◌, ◌<◌, ◌||◌, ◌&&◌, not, length, nat_eq, IfOk, IfSome, Contains};
+ghost use Rattle.std.specs.Prelude.{false, true};
 ghost use Rattle.std.specs.List.{list_any};
 ghost use Rattle.rv64_instr.specs.declared.place.Place.{Place};
 ghost use Rattle.rv64_instr.specs.Parts.{is_implicit_use};

@@ -29,7 +29,8 @@ impl Names {
     /// From what is live before the next item to what is live after an item that control leaves so.
     pub fn step_across(&self, set: &mut PlaceSet, starts: &[PlaceSet], exit: Exit)
         ensures { (x : Place) → has self.now.slots set.new x
-            ≡ live_across (has_at_start self.now.slots self.now.blocks starts.now) exit (has self.now.slots set.old x) x }
+            ≡ live_across (has_at_start self.now.slots self.now.blocks starts.now) exit (has self.now.slots set.old x)
+                x }
     {
         match exit {
             Exit::Onward => {}

@@ -16,8 +16,8 @@ use std::test::Fail;
 /// A slot of eight bytes.
 const SLOT: &str = "stack:\n  - { id: 0, size: 8, alignment: 8 }\n";
 
-/// A stack and a body, with the places that are live at the start of each block and past it: registers by their numbers,
-/// and `s` for the slot.
+/// A stack and a body, with the places that are live at the start of each block and past it: registers by their
+/// numbers, and `s` for the slot.
 struct Row {
     stack: &'static str,
     body: &'static str,

@@ -1,5 +1,6 @@
 -- The order of losses, as it is derived.
-use Rattle.std.proofs.Common.{◌≡◌, ◌⊎◌, ◌↔◌, ℕ, zero, suc, ◌<◌, List, [], ◌∷◌, length, All, Contains, Bool, true, false, ◌&&◌, nat_eq, eqb-true, refl, subst, sym, ap, ◌∙◌, inl, inr, arith}
+use Rattle.std.proofs.Common.{◌≡◌, ◌⊎◌, ◌↔◌, ℕ, zero, suc, ◌<◌, List, [], ◌∷◌, length, All, Contains, Bool, true, false, ◌&&◌, nat_eq, eqb-true, refl}
+use Rattle.std.proofs.Common.{subst, sym, ap, ◌∙◌, inl, inr, arith}
 use Rattle.std.proofs.Common.{Ordering, Less, Equal, Greater}
 use Rattle.std.specs.List.{Any, AllByRecursion}
 use Rattle.std.specs.List.Sorted.{IsStrictlySortedBy}

@@ -61,7 +61,8 @@ unfolding run
 inside d t ts = ap (λ (z : Bool). cond z false (run (depth_behind (suc d) t) ts)) (inside_ends d t)
 
 deeper : (d : ℕ) (t : Token) (ts : List Token) → opens t ≡ true → run (suc d) (t ∷ ts) ≡ run (suc (suc d)) ts
-deeper d t ts e = inside d t ts ∙ ap (λ (z : Bool). run (cond z (suc d + 1) (cond (closes t) (suc d - 1) (suc d))) ts) e ∙ ap (λ (n : ℕ). run n ts) (add-one (suc d))
+deeper d t ts e = inside d t ts ∙ ap (λ (z : Bool). run (cond z (suc d + 1) (cond (closes t) (suc d - 1) (suc d))) ts) e ∙ ap (λ (n : ℕ). run n ts)
+    (add-one (suc d))
 
 back : (d : ℕ) (t : Token) (ts : List Token) → closes t ≡ true → run (suc d) (t ∷ ts) ≡ run d ts
 back d t ts e =
@@ -170,7 +171,8 @@ parted (suc n) d (t ∷ ts) le e = elim (cases_Bool (opens t)) [
         inside = t ∷ (p.inside ++ p.c ∷ q.inside);
         c = q.c;
         behind = q.behind;
-        text = ap (λ (z : List Token). t ∷ z) (p.text ∙ ap (λ (z : List Token). p.inside ++ p.c ∷ z) q.text ∙ sym (append_assoc p.inside (p.c ∷ q.inside) (q.c ∷ q.behind)));
+        text = ap (λ (z : List Token). t ∷ z) (p.text ∙ ap (λ (z : List Token). p.inside ++ p.c ∷ z) q.text ∙ sym
+            (append_assoc p.inside (p.c ∷ q.inside) (q.c ∷ q.behind)));
         closing = q.closing;
         closed = within t p.c o p.closing p.closed q.closed;
         goes_on = q.goes_on;

@@ -7,7 +7,8 @@ use Rattle.mir_lexer.specs.declared.parts.Class.TheVariants.{Word, Register, Per
 use Rattle.mir_lexer.specs.declared.parts.Token.{Token}
 use Rattle.meta_reader.specs.declared.field.Field.{Field}
 use Rattle.meta_reader.specs.Token.{is_byte, is_word, is_single_class}
-use Rattle.meta_reader.specs.Field.{closes, is_end, ends_piece, depth_behind, in_piece, new_piece, pieces, field_of, before_fields, each_field, all_fields, fields_of}
+use Rattle.meta_reader.specs.Field.{closes, is_end, ends_piece, depth_behind, in_piece, new_piece, pieces, field_of, before_fields, each_field}
+use Rattle.meta_reader.specs.Field.{all_fields, fields_of}
 use Rattle.metadata_grammar.specs.Grammar.{lone, IsField, AreFields, last, more, IsFieldList, none, some}
 use Rattle.metadata_grammar.specs.Laws.{FieldsAreReadByTheirGrammar}
 use Rattle.metadata_grammar.proofs.Depths.{run, value_run, run_value, key_run}
@@ -193,8 +194,10 @@ field_is (key ∷ colon ∷ value ∷ t ∷ ts) f r e = with_key key colon value
 
 field_reads : (key colon first : Token) (tail : List Token) → is_word key ≡ true → is_byte 58 colon ≡ true →
     field_of (key ∷ colon ∷ first ∷ tail) ≡ Some (record { key = key; value = lone first tail })
-field_reads key colon first [] w e = ap (λ (z : Bool). cond z (Some (record { key = key; value = Some first })) None) (and_from (is_word key) (is_byte 58 colon) w e)
-field_reads key colon first (t ∷ ts) w e = ap (λ (z : Bool). cond z (Some (record { key = key; value = None })) None) (and_from (is_word key) (is_byte 58 colon) w e)
+field_reads key colon first [] w e = ap (λ (z : Bool). cond z (Some (record { key = key; value = Some first })) None)
+    (and_from (is_word key) (is_byte 58 colon) w e)
+field_reads key colon first (t ∷ ts) w e = ap (λ (z : Bool). cond z (Some (record { key = key; value = None })) None)
+    (and_from (is_word key) (is_byte 58 colon) w e)
 
 reads_field : (p : List Token) (f : Field) → IsField p f → field_of p ≡ Some f
 reads_field p f is = ap field_of is.text ∙ field_reads is.key is.colon is.first is.more is.word is.parted ∙ ap (λ (z : Field). Some z) (sym is.field)

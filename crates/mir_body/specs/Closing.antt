@@ -15,9 +15,11 @@ goes_to_one_of ids (Perhaps n) = is_met n ids
 goes_to_one_of ids (Always n) = is_met n ids
 goes_to_one_of ids Final = true
 
+-- an item's branch or jump, if it is one, goes to a block of one of these numbers
 abbrev pub item_goes_to : List ℕ → Item → Bool
 item_goes_to ids item = goes_to_one_of ids (exit_of item.kind)
 
+-- each branch and jump in a block goes to a block of one of these numbers
 abbrev pub block_goes_to : List ℕ → Block → Bool
 block_goes_to ids block = list_all (item_goes_to ids) block.items
 

@@ -78,6 +78,7 @@ behind so_far Next p = behind_value so_far p
 abbrev pub left_open : Bool → ℕ → Option Refusal
 left_open cut line = if cut then None else Some (bad_line line)
 
+-- the refusal where the tokens end: an entry has to be closed by then, unless a fault cut the tokens off
 abbrev pub refused_at_end : Bool → ℕ → Place → Option Refusal
 refused_at_end cut line Outside = None
 refused_at_end cut line Dash = left_open cut line

@@ -35,6 +35,7 @@ given lines key missing fields = number_in lines (Some missing) (value_at lines 
 abbrev pub plain : List Line → Piece → List ℕ
 plain lines value = if is_text value.token then inside_quotes (text_at lines value) else text_at lines value
 
+-- whether a field is there and its value is this text, with quotes around it or not
 abbrev pub says : List Line → List ℕ → Option Piece → Bool
 says lines text None = false
 says lines text (Some value) = bytes_eq (plain lines value) text

@@ -1,7 +1,8 @@
 //! The documents of a file, read one line after the other.
 
 ghost use Rattle.std.specs.Prelude.{◌≡◌, OnOk};
-ghost use Rattle.mir_frame.specs.steps.Scan.{start, outside_fault, function_fault, fault, block_step, outside_step, step};
+ghost use Rattle.mir_frame.specs.steps.Scan.{start, outside_fault, function_fault, fault, block_step};
+ghost use Rattle.mir_frame.specs.steps.Scan.{outside_step, step};
 ghost use Rattle.mir_frame.specs.steps.Scan.{fault_at_end, found};
 
 use crate::key::{is_close, is_passed, opens_block, opens_function};

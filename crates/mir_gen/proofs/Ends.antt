@@ -75,7 +75,8 @@ end_ends ids count b d has l = by_test (nat_eq (b + 1) count) refl where
 -- the last block has the end that returns
 pub end_of_last : (count b : ℕ) (d : Drawn) → b + 1 ≡ count → (end count b d).kinds ≡ last_end
 unfolding end
-end_of_last count b d e = ap (λ (t : Bool). (cond t (record { kinds = last_end; rest = d }) (end_of (next d.state % 3) count b (draw d))).kinds) (eq-eqb (b + 1) count e)
+end_of_last count b d e = ap (λ (t : Bool). (cond t (record { kinds = last_end; rest = d }) (end_of (next d.state % 3) count b (draw d))).kinds)
+    (eq-eqb (b + 1) count e)
 
 -- ---- bodies before ends
 
@@ -85,7 +86,8 @@ may_follow x rest e = subst (λ (y : Exit). MayFollow y rest) (sym e) tt
 pub ends_behind : (ids : List ℕ) (body last : List ItemKind) → All (IsPlain ids) body → IsEnd ids last → (b n : ℕ) → EndsWell (placed b n (body ++ last))
 ends_behind ids [] last plain end b n = end.ends b n
 ends_behind ids (k ∷ body) last plain end b n =
-    (may_follow (exit_of k) (placed b (suc n) (body ++ last)) (All-head (IsPlain ids) k body plain).onward, ends_behind ids body last (All-tail (IsPlain ids) k body plain) end b (suc n))
+    (may_follow (exit_of k) (placed b (suc n) (body ++ last)) (All-head (IsPlain ids) k body plain).onward, ends_behind ids body last
+        (All-tail (IsPlain ids) k body plain) end b (suc n))
 
 closes_more : (x : Item) (ys : List Item) → Closes ys → Closes (x ∷ ys)
 closes_more x [] h = absurd h

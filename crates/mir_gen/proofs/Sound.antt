@@ -183,10 +183,14 @@ generated_is_sound number count some few =
       few_slots = lit≤ tt;
       each_object = All-nil IsSoundObject;
       objects_laid = tt;
-      targets = blocks_each ids (λ b. All (λ i. TargetsIn ids i.kind) b.items) (λ b h. each ids (λ i. TargetsIn ids i.kind) (λ i k. k.targets) b.items h.fine) blocks all;
-      slots = blocks_each ids (λ b. All (λ i. SlotsIn SLOTS i.kind) b.items) (λ b h. each ids (λ i. SlotsIn SLOTS i.kind) (λ i k. k.slots) b.items h.fine) blocks all;
-      objects = blocks_each ids (λ b. All (λ i. ObjectsIn [] i.kind) b.items) (λ b h. each ids (λ i. ObjectsIn [] i.kind) (λ i k. k.objects) b.items h.fine) blocks all;
-      pointer = blocks_each ids (λ b. All (λ i. LeavesPointer i.kind) b.items) (λ b h. each ids (λ i. LeavesPointer i.kind) (λ i k. k.pointer) b.items h.fine) blocks all;
+      targets = blocks_each ids (λ b. All (λ i. TargetsIn ids i.kind) b.items) (λ b h. each ids (λ i. TargetsIn ids i.kind) (λ i k. k.targets) b.items h.fine)
+          blocks all;
+      slots = blocks_each ids (λ b. All (λ i. SlotsIn SLOTS i.kind) b.items) (λ b h. each ids (λ i. SlotsIn SLOTS i.kind) (λ i k. k.slots) b.items h.fine)
+          blocks all;
+      objects = blocks_each ids (λ b. All (λ i. ObjectsIn [] i.kind) b.items) (λ b h. each ids (λ i. ObjectsIn [] i.kind) (λ i k. k.objects) b.items h.fine)
+          blocks all;
+      pointer = blocks_each ids (λ b. All (λ i. LeavesPointer i.kind) b.items) (λ b h. each ids (λ i. LeavesPointer i.kind) (λ i k. k.pointer) b.items h.fine)
+          blocks all;
       numbers = numbers_once (items_of blocks) (rising_made count count start);
       origins = blocks_each ids (λ b. All (λ i. OriginIn b i.origin) b.items) (λ b h. h.origins) blocks all;
       ends = blocks_each ids (λ b. EndsWell b.items) (λ b h. h.ends) blocks all;
@@ -199,6 +203,9 @@ pub parts_are_sound : (number count : ℕ) (name slots : List ℕ) (objects : Li
     IsSound (record { name = name; slots = slots; objects = objects; blocks = blocks })
 parts_are_sound number count name slots objects blocks n s o b some few =
     subst (λ (x : List Block). IsSound (record { name = name; slots = slots; objects = objects; blocks = x })) (sym b)
-    (subst (λ (x : List Object). IsSound (record { name = name; slots = slots; objects = x; blocks = (blocks_made count count (record { state = number; given = 0 })).blocks })) (sym o)
-    (subst (λ (x : List ℕ). IsSound (record { name = name; slots = x; objects = []; blocks = (blocks_made count count (record { state = number; given = 0 })).blocks })) (sym s)
-    (subst (λ (x : List ℕ). IsSound (record { name = x; slots = SLOTS; objects = []; blocks = (blocks_made count count (record { state = number; given = 0 })).blocks })) (sym n) (generated_is_sound number count some few))))
+    (subst (λ (x : List Object). IsSound (record { name = name; slots = slots; objects = x; blocks =
+        (blocks_made count count (record { state = number; given = 0 })).blocks })) (sym o)
+    (subst (λ (x : List ℕ). IsSound (record { name = name; slots = x; objects = []; blocks =
+        (blocks_made count count (record { state = number; given = 0 })).blocks })) (sym s)
+    (subst (λ (x : List ℕ). IsSound (record { name = x; slots = SLOTS; objects = []; blocks =
+        (blocks_made count count (record { state = number; given = 0 })).blocks })) (sym n) (generated_is_sound number count some few))))

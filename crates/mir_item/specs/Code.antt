@@ -54,6 +54,7 @@ named Plain r = operand.Use r
 named Implicit r = operand.ImplicitUse r
 named ImplicitDef r = operand.ImplicitDef r
 
+-- a register behind the opcode, if it has a number: `$noreg` and unknown registers have none
 abbrev pub used : Flag → Option ℕ → Option Operand
 used flag None = None
 used flag (Some r) = Some (named flag r)
@@ -69,6 +70,7 @@ stack_operand place.Symbol n = Some (operand.Symbol [])
 stack_operand place.Mask n = Some operand.Mask
 stack_operand place.Implicit n = None
 
+-- an immediate, unless the integer doesn't fit 64 bits signed
 abbrev pub number_operand : Option ℤ → Option Operand
 number_operand None = None
 number_operand (Some i) = Some (operand.Imm i)
@@ -101,6 +103,7 @@ abbrev pub joined : Option (List Operand) → Option (List Operand) → Option (
 joined None rest = None
 joined (Some xs) rest = append_to xs rest
 
+-- the operand that a register before the `=` is: none with an `implicit` or `implicit-def` flag
 abbrev pub set_by : Flag → Option ℕ → Option Operand
 set_by Plain (Some r) = Some (operand.Def r)
 set_by Plain None = None
@@ -145,6 +148,7 @@ abbrev pub fits : Op → Option (List Operand) → Bool
 fits op None = false
 fits op (Some operands) = has_form op operands
 
+-- a virtual register `%N`, for which a line of code has a refusal of its own
 abbrev pub is_virtual : RegisterForm → Bool
 is_virtual r = elim r.name as (λ _. Bool) [ Physical n ↦ false | Absent ↦ false | Other ↦ false | Virtual n ↦ true ]
 
@@ -162,14 +166,17 @@ is_named _ _ n = false
 abbrev pub is_pointer : RegisterForm → Bool
 is_pointer r = is_named r.flag r.name 2
 
+-- the stack pointer x2 behind the opcode, not implicit
 abbrev pub is_pointer_operand : OperandForm → Bool
 is_pointer_operand (form.Register r) = is_pointer r
 is_pointer_operand _ = false
 
+-- a `%stack.N`, be it a frame slot or an object
 abbrev pub is_stack : OperandForm → Bool
 is_stack (form.Slot n) = true
 is_stack _ = false
 
+-- a place of an address, where `%stack.N` can stand
 abbrev pub is_address : Place → Bool
 is_address place.Object = true
 is_address place.Slot = true
@@ -192,10 +199,12 @@ code_rules op line =
     record { broken = list_any is_misplaced (zip (places_of op line) line.operands); refusal = kinds.StackObject } ∷
     record { broken = is_long line; refusal = kinds.TooMany } ∷ []
 
+-- the instruction of an opcode and its operands; without any where the line's can't be those of code
 abbrev pub instruction : Op → Option (List Operand) → Instruction
 instruction op None = record { op = op; operands = [] }
 instruction op (Some operands) = record { op = op; operands = operands }
 
+-- a result, unless a rule refuses the line
 abbrev pub unless_refused : {A : Type 0} → Option RefusalKind → A → Result A RefusalKind
 unless_refused None a = Ok a
 unless_refused (Some kind) a = Err kind

@@ -35,6 +35,7 @@ use Rattle.mir_item.specs.Code.{Rule, is_long, refusal_by}
 abbrev pub content_value : ℕ → MarkValue
 content_value r = if nat_eq r 0 then Constant (pos 0) else (if nat_eq r 2 then Nothing else At r)
 
+-- what a mark gets from a register operand: nothing from `$noreg`, a virtual, an unknown or an implicit one
 abbrev pub register_value : Flag → RegisterName → MarkValue
 register_value Plain (Physical r) = content_value r
 register_value Plain Absent = Nothing
@@ -43,6 +44,7 @@ register_value Plain (Virtual n) = Nothing
 register_value Implicit name = Nothing
 register_value ImplicitDef name = Nothing
 
+-- the constant that a mark gets from an integer, and nothing from one that doesn't fit 64 bits signed
 abbrev pub number_value : Option ℤ → MarkValue
 number_value None = Nothing
 number_value (Some i) = Constant i
@@ -59,6 +61,7 @@ operand_value (form.Node n) = Nothing
 operand_value (form.Expression e) = Nothing
 operand_value (form.Reference p) = Nothing
 
+-- `$noreg` without a flag
 abbrev pub is_no_register : Flag → RegisterName → Bool
 is_no_register Plain Absent = true
 is_no_register _ _ = false
@@ -76,6 +79,7 @@ is_plain (expression.Part f) = true
 is_plain (expression.PartOfArgument f) = false
 is_plain expression.Other = false
 
+-- the bytes that a plain `DW_OP_LLVM_fragment` names; without one the mark is of the whole variable
 abbrev pub part_of : Expression → Option Bytes
 part_of expression.Empty = None
 part_of expression.Argument = None
@@ -91,6 +95,7 @@ is_argument (expression.Part f) = true
 is_argument (expression.PartOfArgument f) = true
 is_argument expression.Other = false
 
+-- the bytes that a fragment names, plain or behind `DW_OP_LLVM_arg, 0`; without one it is the whole variable
 abbrev pub part_of_argument : Expression → Option Bytes
 part_of_argument expression.Empty = None
 part_of_argument expression.Argument = None
@@ -124,6 +129,7 @@ list_mark _ = None
 abbrev pub content_place : ℕ → Option Place
 content_place r = if nat_eq r 0 then Some (content.Const (pos 0)) else (if nat_eq r 2 then None else Some (content.Register r))
 
+-- the place that a phi gets from a register, if it may have it: `$noreg` and x2 give it no place
 abbrev pub register_place : Flag → RegisterName → Option (Option Place)
 register_place Plain (Physical r) = Some (content_place r)
 register_place Plain Absent = Some None
@@ -149,11 +155,13 @@ abbrev pub counted : ℤ → Option ℕ
 counted (pos n) = if nat_le n MAX_NUMBER then Some n else None
 counted (negsuc n) = None
 
+-- a phi of a place and its debug instruction number, if its line has both
 abbrev pub phi_by : Option (Option Place) → Option ℕ → Option PhiForm
 phi_by (Some place) (Some number) = Some (record { place = place; number = number })
 phi_by (Some place) None = None
 phi_by None number = None
 
+-- the third operand of `DBG_PHI` has to be a number, and says no more here
 abbrev pub if_counted : {A : Type 0} → Option ℕ → Option A → Option A
 if_counted None a = None
 if_counted (Some n) a = a
@@ -174,15 +182,18 @@ abbrev pub inlined_at_node : Option LocationNode → Option ℕ
 inlined_at_node None = None
 inlined_at_node (Some location) = location.inlined_at
 
+-- the node that a location, by its node or written out, is inlined at (`inlinedAt` of a `DILocation`)
 abbrev pub inlined_at : Maps → Loc → Option ℕ
 inlined_at meta loc.Absent = None
 inlined_at meta (loc.Node n) = inlined_at_node (location_at meta n)
 inlined_at meta (loc.Inline l) = l.inlined_at
 
+-- the mark that a line is, if it has the form of one; its variable is inlined where its location is
 abbrev pub mark_kind : Option ℕ → Option MarkForm → Option ItemKind
 mark_kind at None = None
 mark_kind at (Some m) = Some (Mark (record { node = m.node; inlined_at = at; fragment = m.fragment }) m.value)
 
+-- the phi that a line is, if it has the form of one
 abbrev pub phi_kind : Option PhiForm → Option ItemKind
 phi_kind None = None
 phi_kind (Some p) = Some (Phi p.place p.number)
@@ -194,6 +205,7 @@ debug_kind debug.InstrRef meta line = mark_kind (inlined_at meta line.loc) (refe
 debug_kind debug.ValueList meta line = mark_kind (inlined_at meta line.loc) (list_mark line.operands)
 debug_kind debug.Phi meta line = phi_kind (phi_of line.operands)
 
+-- a list without members: no registers before the `=`
 abbrev pub is_empty : {A : Type 0} → List A → Bool
 is_empty [] = true
 is_empty (x ∷ xs) = false

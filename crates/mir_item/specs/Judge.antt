@@ -38,6 +38,7 @@ abbrev pub item_of : ItemForm → Result ItemKind RefusalKind → Result Judged 
 item_of line (Ok kind) = Ok (Item (record { kind = kind; loc = line.loc; entries = entries_of line.operands }))
 item_of line (Err refusal) = Err refusal
 
+-- the integer operand 0
 abbrev pub is_zero : OperandForm → Bool
 is_zero (form.Integer (Some i)) = int_eq i (pos 0)
 is_zero _ = false

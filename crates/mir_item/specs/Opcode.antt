@@ -40,6 +40,7 @@ debug_opcode_of name =
     else (if bytes_eq name (codes "ADJCALLSTACKDOWN") || bytes_eq name (codes "ADJCALLSTACKUP") then Some CallFrame
     else None))))))
 
+-- an opcode of code where the name is one's, and the other opcode where it isn't
 abbrev pub opcode_or : Option Op → Option Opcode → Option Opcode
 opcode_or (Some op) other = Some (Code op)
 opcode_or None other = other

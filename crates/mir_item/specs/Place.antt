@@ -45,6 +45,7 @@ abbrev pub front : List Place → Place
 front [] = Implicit
 front (p ∷ ps) = p
 
+-- the places behind the first, none behind the last
 abbrev pub behind : List Place → List Place
 behind [] = []
 behind (p ∷ ps) = ps

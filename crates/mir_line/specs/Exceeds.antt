@@ -18,6 +18,7 @@ use Rattle.mir_line.specs.declared.attribute.Attributes.{Attributes}
 abbrev pub is_beyond : ℕ → Bool
 is_beyond n = nat_le BEYOND n
 
+-- a number that may be missing is there and above 2^30 - 1
 abbrev pub is_some_beyond : Option ℕ → Bool
 is_some_beyond None = false
 is_some_beyond (Some n) = is_beyond n
@@ -27,6 +28,7 @@ abbrev pub name_exceeds : RegisterName → Bool
 name_exceeds (Virtual n) = is_beyond n
 name_exceeds name = false
 
+-- the number of a virtual register is above 2^30 - 1; other registers have none that could be
 abbrev pub register_exceeds : RegisterForm → Bool
 register_exceeds r = name_exceeds r.name
 
@@ -45,6 +47,7 @@ loc_exceeds locs.Absent = false
 loc_exceeds (locs.Node n) = is_beyond n
 loc_exceeds (locs.Inline l) = is_beyond l.line || (is_beyond l.column || (is_beyond l.scope || is_some_beyond l.inlined_at))
 
+-- the debug instruction number, or a number of the location, is above 2^30 - 1
 abbrev pub attributes_exceed : Attributes → Bool
 attributes_exceed a = is_some_beyond a.number || loc_exceeds a.loc
 

@@ -33,6 +33,7 @@ abbrev pub fitting : Number → Option ℤ
 fitting (Fits i) = Some i
 fitting number = None
 
+-- the integer 0: the only argument that `DW_OP_LLVM_arg` may name here
 abbrev pub is_zero : Number → Bool
 is_zero (Fits (pos n)) = n == 0
 is_zero number = false

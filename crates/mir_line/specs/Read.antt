@@ -6,6 +6,7 @@ use Rattle.mir_lexeme.specs.declared.lexeme.Lexeme.TheVariants.{Comma, Equals, C
 
 -- what is read behind what was read, if both are there
 infixl 10 ◌>>=◌
+-- nothing where the first reading finds nothing, else the second reading of what the first gave
 abbrev pub ◌>>=◌ : {A B : Type 0} → Option A → (A → Option B) → Option B
 None >>= f = None
 (Some x) >>= f = f x

@@ -21,6 +21,7 @@ IsSigned (negsuc n) = n < 2 ^ 63
 
 -- ---- the numbers of items: what names or counts something is at most 2^30 - 1, a register is physical, and other integers have 64 bits
 
+-- an operand: registers x0 to x31, immediates of 64 bits, stack entries and blocks within the limit
 abbrev pub IsLimited : Operand → Type 0
 IsLimited (Def r) = r < 32
 IsLimited (Use r) = r < 32
@@ -33,6 +34,7 @@ IsLimited (Block n) = n ≤ MAX_NUMBER
 IsLimited (Symbol name) = Unit {0}
 IsLimited Mask = Unit {0}
 
+-- what a mark assigns: a constant of 64 bits, a physical register, or a pair within the limit
 abbrev pub ValueIsLimited : MarkValue → Type 0
 ValueIsLimited Nothing = Unit {0}
 ValueIsLimited (Constant i) = IsSigned i
@@ -46,14 +48,17 @@ PlaceIsLimited (Some (place.Register r)) = (0 < r) × (r < 32)
 PlaceIsLimited (Some (place.Slot n)) = n ≤ MAX_NUMBER
 PlaceIsLimited (Some (place.Const c)) = c ≡ pos 0
 
+-- the variable of a mark: its node is within the limit, and its fragment a part that one may have
 abbrev pub VariableIsLimited : VarId → Type 0
 VariableIsLimited v = (v.node ≤ MAX_NUMBER) × IfSome v.fragment IsPart
 
+-- the numbers on an item's line but those of its location, the debug instruction number included
 abbrev pub KindIsLimited : ItemKind → Type 0
 KindIsLimited (Code i k) = All IsLimited i.operands × IfSome k (λ n. n ≤ MAX_NUMBER)
 KindIsLimited (Mark v m) = VariableIsLimited v × ValueIsLimited m
 KindIsLimited (Phi p k) = PlaceIsLimited p × (k ≤ MAX_NUMBER)
 
+-- a location: its node, or the line, column, scope and `inlinedAt` that it writes out
 abbrev pub LocIsLimited : Loc → Type 0
 LocIsLimited Absent = Unit {0}
 LocIsLimited (Node n) = n ≤ MAX_NUMBER

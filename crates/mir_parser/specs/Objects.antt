@@ -52,14 +52,17 @@ abbrev pub place_as : List ℕ → Option Place → Option Place
 place_as ids None = None
 place_as ids (Some place) = if is_object ids place then None else Some place
 
+-- what an item is where these stack entries are objects
 abbrev pub kind_as : List ℕ → ItemKind → ItemKind
 kind_as ids (Code i k) = Code (instr_as ids i) k
 kind_as ids (Mark v m) = Mark v m
 kind_as ids (Phi p k) = Phi (place_as ids p) k
 
+-- an item where these stack entries are objects, at the same place and location
 abbrev pub item_as : List ℕ → Item → Item
 item_as ids i = record { kind = kind_as ids i.kind; origin = i.origin; loc = i.loc }
 
+-- a block where these stack entries are objects
 abbrev pub block_as : List ℕ → Block → Block
 block_as ids b = record { id = b.id; items = map (item_as ids) b.items; silent = b.silent }
 
@@ -73,6 +76,7 @@ blocks_as ids blocks = map (block_as ids) blocks
 abbrev pub has_bytes : List func.Object → ℕ → ℕ → Bool
 has_bytes objects n bytes = option_map_or (λ (o : func.Object). nat_le bytes o.size) (object_of objects n) false
 
+-- an access up to that many bytes from its base stays in the object; one by a register isn't judged here
 abbrev pub base_has_bytes : List func.Object → Base → ℕ → Bool
 base_has_bytes objects (PointedBy r) bytes = true
 base_has_bytes objects (ObjectAt n) bytes = has_bytes objects n bytes
@@ -93,11 +97,13 @@ row_stays objects (Calls name args) = true
 row_stays objects (Returns results) = true
 row_stays objects Unfit = true
 
+-- the access of an item, if it has one, stays in its object
 abbrev pub kind_stays : List func.Object → ItemKind → Bool
 kind_stays objects (Code i k) = row_stays objects (row_of i)
 kind_stays objects (Mark v m) = true
 kind_stays objects (Phi p k) = true
 
+-- each access of a block stays in its object
 abbrev pub block_stays : List func.Object → Block → Bool
 block_stays objects b = list_all (λ i. kind_stays objects i.kind) b.items
 

@@ -79,12 +79,14 @@ IsPrintablePlace (Some (Register r)) = (0 < r) × IsNumber r
 IsPrintablePlace (Some (Slot n)) = IsNumber n
 IsPrintablePlace (Some (Const c)) = c ≡ pos 0
 
+-- what a mark assigns has numbers of 32 bits, and a constant of 64 bits signed
 abbrev pub IsPrintableValue : MarkValue → Type 0
 IsPrintableValue Nothing = Unit {0}
 IsPrintableValue (Constant c) = IsSigned c
 IsPrintableValue (At r) = IsNumber r
 IsPrintableValue (Pair q) = IsNumber q.number × IsNumber q.operand
 
+-- a location has numbers of 32 bits, be it a node or written out
 abbrev pub IsPrintableLoc : Loc → Type 0
 IsPrintableLoc Absent = Unit {0}
 IsPrintableLoc (Node n) = IsNumber n
@@ -108,6 +110,7 @@ pub record IsPrintableVariable (declared : Declared) (loc : Loc) (v : VarId) : T
   pub inlined : v.inlined_at ≡ inlined_at declared.inlined loc
   pub part : IfSome v.fragment IsPart
 
+-- what an item is can be told from its text, by what is declared and the item's location
 abbrev pub IsPrintableKind : Declared → Loc → ItemKind → Type 0
 IsPrintableKind declared loc (Code i k) = IsPrintableInstruction declared.objects i × IfSome k IsNumber
 IsPrintableKind declared loc (Mark v m) = IsPrintableVariable declared loc v × IsPrintableValue m

@@ -40,6 +40,7 @@ abbrev pub quoted_byte : ℕ → List ℕ
 quoted_byte b = cond (nat_le 32 b && nat_le b 126 && not (nat_eq b 34 || nat_eq b 92)) (b ∷ [])
     (92 ∷ upper_hex_digit (b / 16) ∷ upper_hex_digit (b % 16) ∷ [])
 
+-- a name without bytes
 abbrev pub is_empty : List ℕ → Bool
 is_empty [] = true
 is_empty (b ∷ bs) = false
@@ -52,6 +53,7 @@ symbol_text name = 64 ∷ cond (not (is_empty name) && list_all is_bare name) na
 abbrev pub register_text : ℕ → List ℕ
 register_text r = cond (nat_lt r 32) (codes "$x" ++ decimal r) (codes "%" ++ decimal (r - 32))
 
+-- an operand; frame slots and stack objects both print as `%stack.N`, and a register mask as `mask`
 abbrev pub operand_text : Operand → List ℕ
 operand_text (Def r) = register_text r
 operand_text (Use r) = register_text r
@@ -64,6 +66,7 @@ operand_text (Block n) = codes "%bb." ++ decimal n
 operand_text (Symbol name) = symbol_text name
 operand_text Mask = codes "mask"
 
+-- an operand that stands before the `=`: a register that is set and isn't implicit
 abbrev pub is_definition : Operand → Bool
 is_definition (Def r) = true
 is_definition (Use r) = false
@@ -86,9 +89,11 @@ abbrev pub uses_text : List Operand → List ℕ
 uses_text [] = []
 uses_text (o ∷ os) = codes " " ++ comma_separated (map operand_text (o ∷ os))
 
+-- an instruction: the registers that it sets and ` = `, its mnemonic, and its other operands
 abbrev pub instruction_text : Instruction → List ℕ
 instruction_text i = definitions_text (filter is_definition i.operands) ++ mnemonic_of i.op ++ uses_text (filter (λ o. not (is_definition o)) i.operands)
 
+-- the attribute `debug-instr-number K`, if an instruction has a number
 abbrev pub number_text : Option ℕ → List ℕ
 number_text None = []
 number_text (Some k) = codes ", debug-instr-number " ++ decimal k
@@ -118,31 +123,38 @@ pair_expression_text (Some b) = codes "!DIExpression(DW_OP_LLVM_arg, 0, " ++ fra
 abbrev pub variable_text : VarId → List ℕ
 variable_text v = codes ", $noreg, !" ++ decimal v.node ++ codes ", " ++ expression_text v.fragment
 
+-- a `DBG_VALUE` of a value that is printed already
 abbrev pub value_mark_text : List ℕ → VarId → List ℕ
 value_mark_text value v = codes "DBG_VALUE " ++ value ++ variable_text v
 
+-- a `DBG_INSTR_REF` of the value that operand O of instruction K sets, as `dbg-instr-ref(K, O)`
 abbrev pub pair_mark_text : VarId → OperandPair → List ℕ
 pair_mark_text v q = codes "DBG_INSTR_REF !" ++ decimal v.node ++ codes ", " ++ pair_expression_text v.fragment ++
     codes ", dbg-instr-ref(" ++ decimal q.number ++ codes ", " ++ decimal q.operand ++ codes ")"
 
+-- a mark: a `DBG_INSTR_REF` of a pair, else a `DBG_VALUE`, of `$noreg` where it assigns nothing
 abbrev pub mark_text : VarId → MarkValue → List ℕ
 mark_text v Nothing = value_mark_text (codes "$noreg") v
 mark_text v (Constant c) = value_mark_text (signed_decimal c) v
 mark_text v (At r) = value_mark_text (register_text r) v
 mark_text v (Pair q) = pair_mark_text v q
 
+-- a `DBG_PHI` of a place and its debug instruction number
 abbrev pub phi_text : Option Place → ℕ → List ℕ
 phi_text p k = codes "DBG_PHI " ++ phi_place_text p ++ codes ", " ++ decimal k
 
+-- an item without its location
 abbrev pub kind_text : ItemKind → List ℕ
 kind_text (Code i k) = instruction_text i ++ number_text k
 kind_text (Mark v m) = mark_text v m
 kind_text (Phi p k) = phi_text p k
 
+-- the field `inlinedAt` of a location, if it is inlined
 abbrev pub inlined_at_text : Option ℕ → List ℕ
 inlined_at_text None = []
 inlined_at_text (Some n) = codes ", inlinedAt: !" ++ decimal n
 
+-- the attribute `debug-location`, if there is one: a node, or a `DILocation` written out
 abbrev pub location_text : Loc → List ℕ
 location_text Absent = []
 location_text (Node n) = codes ", debug-location !" ++ decimal n

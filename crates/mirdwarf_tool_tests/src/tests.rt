@@ -255,7 +255,8 @@ const ENDINGS: [(&[&str], &str, Faulty, Ending<'static>); 16] = [
         NO_FAULT,
         (
             0,
-            "function f 00000000 0000000c\nobject 0 2032 0\n00000000 <0.0 $x2 = ADDI $x2, -2032\nblock 0\n00000004 <0.0 $x2 = ADDI $x2, 2032\n00000008 =0.0 PseudoRET\n",
+            "function f 00000000 0000000c\nobject 0 2032 0\n00000000 <0.0 $x2 = ADDI $x2, -2032\nblock 0\n\
+                00000004 <0.0 $x2 = ADDI $x2, 2032\n00000008 =0.0 PseudoRET\n",
             "",
         ),
     ),
@@ -273,7 +274,8 @@ const ENDINGS: [(&[&str], &str, Faulty, Ending<'static>); 16] = [
     ),
     (
         STRIP,
-        "body: |\n  bb.0:\n    DBG_VALUE $x10, $noreg, !4, !DIExpression()\n    PseudoRET implicit $x10, debug-location !5\n",
+        "body: |\n  bb.0:\n    DBG_VALUE $x10, $noreg, !4, !DIExpression()\n    \
+            PseudoRET implicit $x10, debug-location !5\n",
         NO_FAULT,
         (
             0,

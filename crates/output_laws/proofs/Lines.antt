@@ -1,5 +1,6 @@
 -- What is compiled of a program that was read tells its lines.
-use Rattle.std.proofs.Common.{◌≡◌, inl, inr, length-append, ℕ, zero, suc, ◌+◌, ◌*◌, ◌<◌, ◌≤◌, Bool, true, false, List, [], ◌∷◌, length, map, Some, refl, ap, sym, ◌∙◌, subst, arith, Contains, All}
+use Rattle.std.proofs.Common.{◌≡◌, inl, inr, length-append, ℕ, zero, suc, ◌+◌, ◌*◌, ◌<◌, ◌≤◌, Bool, true, false, List, [], ◌∷◌, length, map, Some}
+use Rattle.std.proofs.Common.{refl, ap, sym, ◌∙◌, subst, arith, Contains, All}
 use Rattle.std.specs.Prelude.{slice_get}
 use Rattle.std.proofs.lemmas.List.Elements.{All-head, All-tail}
 use Rattle.code_words.specs.declared.code.Entry.{Entry}
@@ -59,7 +60,8 @@ one_layout f base long other is others = λ i. record {
 
 same_layout : (l m : Layout) → l.framed ≡ m.framed → l.base ≡ m.base → IsSettled l → IsSettled m → l ≡ m
 same_layout l m framed base is others =
-    let as_m : ◌≡◌ {A = Layout} (record { framed = l.framed; base = l.base; long = m.long }) m = λ i. record { framed = framed i; base = base i; long = m.long } in
+    let as_m : ◌≡◌ {A = Layout} (record { framed = l.framed; base = l.base; long = m.long }) m = λ i. record
+        { framed = framed i; base = base i; long = m.long } in
     one_layout l.framed l.base l.long m.long is (subst IsSettled (sym as_m) others) ∙ as_m
 
 -- ---- functions that lie one after the other

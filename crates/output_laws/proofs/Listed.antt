@@ -3,7 +3,8 @@ use Rattle.std.proofs.Common.{◌≡◌, ◌⊎◌, inl, inr, ℕ, suc, ◌+◌,
 use Rattle.std.proofs.Common.{refl, ap, sym, ◌∙◌, subst, arith}
 use Rattle.std.specs.List.{flat_map}
 use Rattle.std.proofs.lemmas.Grind.{flat_map-append}
-use Rattle.std.proofs.lemmas.List.Elements.{All-head, All-tail, All-nil, All-cons, All-append, Contains-append_cases, Contains-append_left, Contains-append_right}
+use Rattle.std.proofs.lemmas.List.Elements.{All-head, All-tail, All-nil, All-cons, All-append, Contains-append_cases, Contains-append_left}
+use Rattle.std.proofs.lemmas.List.Elements.{Contains-append_right}
 use Rattle.rv64_instr.specs.declared.op.Op.{Op}
 use Rattle.rv64_instr.specs.declared.op.Op.TheVariants.{Branch}
 use Rattle.rv64_instr.specs.declared.op.BranchOp.{BranchOp}
@@ -21,14 +22,16 @@ use Rattle.mir_func.specs.Sound.{AllItems, HasForm}
 use Rattle.code_words.specs.declared.code.Entry.{Entry}
 use Rattle.code_words.specs.Inverted.{inverted, jump_to}
 use Rattle.code_words.specs.Listed.{listed}
-use Rattle.code_words.specs.Rule.{Layout, Site, Form, LongBranch, form_of, address_in, added_before, form_entries, entry, entries_at, entries_of, sites_in, sites_from, sites_of}
+use Rattle.code_words.specs.Rule.{Layout, Site, Form, LongBranch, form_of, address_in, added_before, form_entries, entry, entries_at, entries_of}
+use Rattle.code_words.specs.Rule.{sites_in, sites_from, sites_of}
 use Rattle.code_words.specs.steps.Emitted.{IsFormed}
 use Rattle.compiled_text.specs.declared.output.Line.{Line}
 use Rattle.compiled_text.specs.declared.output.Line.TheVariants.{Skip}
 use Rattle.compiled_text.specs.declared.output.ListedBlock.{ListedBlock}
 use Rattle.compiled_text.specs.declared.output.ListedVariable.{ListedVariable}
 use Rattle.shown_program.specs.Program.{address_of, past_line, lines_of}
-use Rattle.shown_program.specs.Listing.{implicits, branch_skip, line_at, form_lines, kind_lines, site_lines, items_listed, blocks_listed, prologue_listed, body_listed}
+use Rattle.shown_program.specs.Listing.{implicits, branch_skip, line_at, form_lines, kind_lines, site_lines, items_listed, blocks_listed}
+use Rattle.shown_program.specs.Listing.{prologue_listed, body_listed}
 use Rattle.shown_program.specs.Listing.{listing_of}
 use Rattle.shown_program.proofs.Forms.{FormView, one, call, long, viewed}
 use Rattle.shown_program.proofs.Sizes.{is_call_form, calls_listed, past_word, past_call}
@@ -132,7 +135,8 @@ module _ (a : ℕ) where
               })
           by (inr more) =
               let found = one_line (at + 4) 4 s (Code (jump_to t) k) false (λ q. refl) line more byte in
-              record { entry = found.entry; among = later_member skip found.entry (jump ∷ []) found.among; from = found.from; within = found.within; origin = found.origin }
+              record { entry = found.entry; among = later_member skip found.entry (jump ∷ []) found.among; from = found.from; within = found.within; origin =
+                  found.origin }
 
     form_enters : (at : ℕ) (s : Site) (c : Instruction) (k : Option ℕ) (f : Form) → FormView c.op c.operands f →
         is_call (row_of (listed l.framed c)) ≡ is_call_form f → Enters at s f (form_lines l at s.item c k f)

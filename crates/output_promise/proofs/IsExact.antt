@@ -63,7 +63,8 @@ both_good f (i ∷ items) forms objects =
     All-cons (IsGood f) i items (All-head IsFormed i items forms, All-head (λ x. ObjectsIn f.objects x.kind) i items objects)
     (both_good f items (All-tail IsFormed i items forms) (All-tail (λ x. ObjectsIn f.objects x.kind) i items objects))
 
-all_good : (f : FramedFunction) (blocks : List Block) → AllItems IsFormed blocks → AllItems (λ i. ObjectsIn f.objects i.kind) blocks → AllItems (IsGood f) blocks
+all_good : (f : FramedFunction) (blocks : List Block) → AllItems IsFormed blocks → AllItems (λ i. ObjectsIn f.objects i.kind) blocks → AllItems (IsGood f)
+    blocks
 all_good f [] forms objects = All-nil (λ (b : Block). All (IsGood f) b.items)
 all_good f (b ∷ blocks) forms objects =
     All-cons (λ (x : Block). All (IsGood f) x.items) b blocks

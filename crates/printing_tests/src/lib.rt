@@ -1,5 +1,5 @@
-//! Tests of what is printed: items and functions. They stand in a crate of their own, so that nothing above the printers
-//! waits for them.
+//! Tests of what is printed: items and functions. They stand in a crate of their own, so that nothing above the
+//! printers waits for them.
 #![tactic(auto)]
 
 #[cfg(test)]

@@ -39,8 +39,8 @@ struct Row {
     functions: &'static [(u32, u32)],
 }
 
-/// A variable whose value is replaced; a call, a branch back, a slot, an object and a substitution, with a second function
-/// behind; and an object whose address is taken.
+/// A variable whose value is replaced; a call, a branch back, a slot, an object and a substitution, with a second
+/// function behind; and an object whose address is taken.
 const ROWS: [Row; 3] = [
     Row {
         lines: "body: |
@@ -69,7 +69,8 @@ body: |
     SD $x10, %stack.0, 0, debug-location !5
     $x11 = ADDI %stack.1, 8
   bb.1:
-    PseudoCALL @h, csr_ilp32_lp64, implicit-def dead $x1, implicit $x10, implicit $x11, implicit-def $x10, debug-instr-number 1
+    PseudoCALL @h, csr_ilp32_lp64, implicit-def dead $x1, implicit $x10, implicit $x11, implicit-def $x10, \
+        debug-instr-number 1
     DBG_INSTR_REF !4, !DIExpression(DW_OP_LLVM_arg, 0), dbg-instr-ref(3, 0)
     BNE $x10, $x0, %bb.1
   bb.2:
@@ -85,8 +86,11 @@ body: |
     PseudoRET
 ...
 ",
-        text: b"\x13\x01\x01\xfe\x23\x34\x11\x00\x23\x30\xa1\x00\x93\x05\x81\x01\x97\x00\x00\x00\xe7\x80\x00\x00\xe3\x1c\x05\xfe\x03\x35\x01\x00\x83\x30\x81\x00\x13\x01\x01\x02\x67\x80\x00\x00\x67\x80\x00\x00",
-        loclists: b"\x33\x00\x00\x00\x05\x00\x08\x00\x03\x00\x00\x00\x0c\x00\x00\x00\x1d\x00\x00\x00\x23\x00\x00\x00\x04\x08\x10\x01\x5a\x04\x10\x20\x02\x72\x00\x04\x20\x2c\x01\x5a\x00\x04\x18\x2c\x01\x5a\x00\x04\x2c\x30\x03\x11\x07\x9f\x00",
+        text: b"\x13\x01\x01\xfe\x23\x34\x11\x00\x23\x30\xa1\x00\x93\x05\x81\x01\x97\x00\x00\x00\xe7\x80\x00\x00\xe3\
+            \x1c\x05\xfe\x03\x35\x01\x00\x83\x30\x81\x00\x13\x01\x01\x02\x67\x80\x00\x00\x67\x80\x00\x00",
+        loclists: b"\x33\x00\x00\x00\x05\x00\x08\x00\x03\x00\x00\x00\x0c\x00\x00\x00\x1d\x00\x00\x00\x23\x00\x00\x00\
+            \x04\x08\x10\x01\x5a\x04\x10\x20\x02\x72\x00\x04\x20\x2c\x01\x5a\x00\x04\x18\x2c\x01\x5a\x00\x04\x2c\x30\
+        \x03\x11\x07\x9f\x00",
         info: 107,
         rows: 100,
         functions: &[(0, 44), (44, 48)],

@@ -22,12 +22,14 @@ use Rattle.read_back.specs.Laws.{IsWritable}
 abbrev pub IsKept : ℕ → Type 0
 IsKept r = (r ≡ 0 → ⊥) × (r ≡ 2 → ⊥)
 
+-- what a mark assigns is read as such: a register isn't x0 or x2
 abbrev pub ValueIsKept : MarkValue → Type 0
 ValueIsKept Nothing = Unit {0}
 ValueIsKept (Constant c) = Unit {0}
 ValueIsKept (At r) = IsKept r
 ValueIsKept (Pair q) = Unit {0}
 
+-- the place of a phi is read as such: a register isn't x0 or x2
 abbrev pub PlaceIsKept : Option Place → Type 0
 PlaceIsKept None = Unit {0}
 PlaceIsKept (Some (Register r)) = IsKept r

@@ -26,6 +26,7 @@ use Rattle.mir_line.specs.declared.form.OperandForm.TheVariants as form
 use Rattle.mir_line.specs.declared.form.RegisterForm.{RegisterForm}
 use Rattle.mir_printer.specs.Spelling.{is_definition}
 
+-- the physical register `$xN` with its flag
 abbrev pub register_form : Flag → ℕ → RegisterForm
 register_form flag r = record { flag = flag; name = Physical r }
 
@@ -33,6 +34,7 @@ register_form flag r = record { flag = flag; name = Physical r }
 abbrev pub no_register : OperandForm
 no_register = form.Register (record { flag = Plain; name = Absent })
 
+-- what an operand is on its line: slots and objects are both `%stack.N`
 abbrev pub operand_form : Operand → OperandForm
 operand_form (Def r) = form.Register (register_form Plain r)
 operand_form (Use r) = form.Register (register_form Plain r)
@@ -58,6 +60,7 @@ set_register (Block n) = []
 set_register (Symbol name) = []
 set_register Mask = []
 
+-- the line of an instruction, with its debug instruction number and its location
 abbrev pub code_form : Instruction → Option ℕ → Loc → ItemForm
 code_form i number loc = record {
   definitions = flat_map set_register i.operands;
@@ -72,18 +75,22 @@ code_form i number loc = record {
 abbrev pub debug_form : (opcode : List ℕ) → List OperandForm → Loc → ItemForm
 debug_form opcode operands loc = record { definitions = []; opcode = opcode; operands = operands; number = None; loc = loc; exceeds = false }
 
+-- the expression of a `DBG_VALUE`: empty, or a fragment
 abbrev pub plain_expression : Option Bytes → Expression
 plain_expression None = expression.Empty
 plain_expression (Some b) = expression.Part b
 
+-- the expression of a `DBG_INSTR_REF`: `DW_OP_LLVM_arg, 0`, and perhaps a fragment
 abbrev pub argument_expression : Option Bytes → Expression
 argument_expression None = expression.Argument
 argument_expression (Some b) = expression.PartOfArgument b
 
+-- the line of a `DBG_VALUE`, which is direct: its second operand is `$noreg`
 abbrev pub value_form : OperandForm → VarId → Loc → ItemForm
 value_form value v loc =
     debug_form (codes "DBG_VALUE") (value ∷ no_register ∷ form.Node v.node ∷ form.Expression (plain_expression v.fragment) ∷ []) loc
 
+-- the line of a mark: a `DBG_INSTR_REF` of a pair, else a `DBG_VALUE`
 abbrev pub mark_form : VarId → MarkValue → Loc → ItemForm
 mark_form v Nothing loc = value_form no_register v loc
 mark_form v (Constant c) loc = value_form (form.Integer (Some c)) v loc
@@ -91,12 +98,14 @@ mark_form v (At r) loc = value_form (form.Register (register_form Plain r)) v lo
 mark_form v (Pair q) loc =
     debug_form (codes "DBG_INSTR_REF") (form.Node v.node ∷ form.Expression (argument_expression v.fragment) ∷ form.Reference q ∷ []) loc
 
+-- the first operand of a `DBG_PHI`: `$noreg` for no place, `$x0` for the constant, which is 0
 abbrev pub place_form : Option Place → OperandForm
 place_form None = no_register
 place_form (Some (place.Register r)) = form.Register (register_form Plain r)
 place_form (Some (place.Slot n)) = form.Slot n
 place_form (Some (place.Const c)) = form.Register (register_form Plain 0)
 
+-- the line of an item, by its kind and its location
 abbrev pub kind_form : ItemKind → Loc → ItemForm
 kind_form (Code i number) loc = code_form i number loc
 kind_form (Mark v m) loc = mark_form v m loc

@@ -26,6 +26,7 @@ NameIsBytes (Object n) = Unit {0}
 NameIsBytes (Block n) = Unit {0}
 NameIsBytes Mask = Unit {0}
 
+-- the symbols that an item names are of bytes; marks and phis name none
 abbrev pub HasByteNames : ItemKind → Type 0
 HasByteNames (Code i number) = All NameIsBytes i.operands
 HasByteNames (Mark v m) = Unit {0}

@@ -115,7 +115,8 @@ fields_small lines fields =
     (needed_small lines (codes "dstop") fields))
     (number_small lines (Some 0) (value_at lines (codes "subreg") fields) (omega arith))
 
-added_small : (b : Bool) (subs : List func.Entry) (e : func.Entry) → All EntryIsLimited subs → EntryIsLimited e → All EntryIsLimited (cond b subs (subs ++ e ∷ []))
+added_small : (b : Bool) (subs : List func.Entry) (e : func.Entry) → All EntryIsLimited subs → EntryIsLimited e → All EntryIsLimited
+    (cond b subs (subs ++ e ∷ []))
 added_small true subs e all is = all
 added_small false subs e all is = All-push EntryIsLimited subs e all is
 

@@ -24,9 +24,11 @@ declared_in meta f = record { objects = λ n. is_some (object_of f.objects n); i
 
 -- ---- numbers: what names or counts something is at most 2^30 - 1
 
+-- the debug instruction number and the operand index of a pair
 abbrev pub PairIsLimited : OperandPair → Type 0
 PairIsLimited q = (q.number ≤ MAX_NUMBER) × (q.operand ≤ MAX_NUMBER)
 
+-- a substitution: the pair that is replaced, the one in its place, and the subregister index
 pub record EntryIsLimited (e : Entry) : Type 0 where
   pub src : PairIsLimited e.src
   pub dst : PairIsLimited e.dst

@@ -19,7 +19,8 @@ const FILE: [&str; 61] = [
     "  }",
     "  declare i64 @g(i64)",
     "  !llvm.dbg.cu = !{!0}",
-    "  !0 = distinct !DICompileUnit(language: DW_LANG_C99, file: !1, producer: \"clang\", isOptimized: true, emissionKind: FullDebug)",
+    "  !0 = distinct !DICompileUnit(language: DW_LANG_C99, file: !1, producer: \"clang\", isOptimized: true, \
+        emissionKind: FullDebug)",
     "  !1 = !DIFile(filename: \"sum.c\", directory: \"/src\")",
     "  !5 = !DIBasicType(name: \"long\", size: 64, encoding: DW_ATE_signed)",
     "  !8 = distinct !DISubprogram(name: \"sum\", scope: !1, file: !1, line: 2, unit: !0)",
@@ -57,7 +58,8 @@ const FILE: [&str; 61] = [
     "",
     "    ADJCALLSTACKDOWN 0, 0, implicit-def dead $x2, implicit $x2, debug-location !14",
     "    $x10 = COPY renamable $x8, debug-location !14",
-    "    PseudoCALL target-flags(riscv-call) @g, csr_ilp32_lp64, implicit-def dead $x1, implicit $x10, implicit-def $x2, implicit-def $x10, debug-location !14",
+    "    PseudoCALL target-flags(riscv-call) @g, csr_ilp32_lp64, implicit-def dead $x1, implicit $x10, implicit-def \
+        $x2, implicit-def $x10, debug-location !14",
     "    ADJCALLSTACKUP 0, 0, implicit-def dead $x2, implicit $x2, debug-location !14",
     "    renamable $x9 = ADD killed renamable $x9, killed renamable $x10, debug-instr-number 2, debug-location !14",
     "    DBG_INSTR_REF !12, !DIExpression(DW_OP_LLVM_arg, 0), dbg-instr-ref(2, 0), debug-location !13",

@@ -32,7 +32,8 @@ const LINES: &[(&str, &[(Class, &str)])] = &[
         ],
     ),
     (
-        "    PseudoCALL target-flags(riscv-call) @g, csr_ilp32_lp64, implicit-def dead $x1, debug-instr-number 5, debug-location !24",
+        "    PseudoCALL target-flags(riscv-call) @g, csr_ilp32_lp64, implicit-def dead $x1, debug-instr-number 5, \
+            debug-location !24",
         &[
             (Word, "PseudoCALL"),
             (Word, "target-flags"),

@@ -52,9 +52,11 @@ fn constants_are_set_again(rt: HostRuntime) -> Result<(), Fail> {
         ),
         // the greatest number of 12 bits, and one more; implicit operands stay
         (
-            "    $x11 = ADDI $x0, 2047\n    $x12 = COPY $x11, implicit $x13\n    $x11 = LUI 524288\n    $x13 = COPY $x11\n    \
+            "    $x11 = ADDI $x0, 2047\n    $x12 = COPY $x11, implicit $x13\n    $x11 = LUI 524288\n    \
+                $x13 = COPY $x11\n    \
              $x14 = ADDI $x13, 0\n",
-            "$x11 = ADDI $x0, 2047\n$x12 = ADDI $x0, 2047, implicit $x13\n$x11 = LUI 524288\n$x13 = LUI 524288\n$x14 = LUI 524288\n",
+            "$x11 = ADDI $x0, 2047\n$x12 = ADDI $x0, 2047, implicit $x13\n$x11 = LUI 524288\n$x13 = LUI 524288\n\
+                $x14 = LUI 524288\n",
         ),
         // a slot of x0; a load into x0 becomes a constant definition of x0, a copy into x0 stays
         (

@@ -1,5 +1,6 @@
 -- Calls by their operands, and the registers that an answer sets.
-use Rattle.std.proofs.Common.{◌≡◌, ℕ, zero, suc, ◌+◌, ◌%◌, ◌^◌, ◌<◌, List, [], ◌∷◌, length, get_or, drop, map, Option, Some, None, Bool, true, false, cond, nat_eq, nat_lt, IsTrue}
+use Rattle.std.proofs.Common.{◌≡◌, ℕ, zero, suc, ◌+◌, ◌%◌, ◌^◌, ◌<◌, List, [], ◌∷◌, length, get_or, drop, map, Option, Some, None, Bool, true, false}
+use Rattle.std.proofs.Common.{cond, nat_eq, nat_lt, IsTrue}
 use Rattle.std.proofs.Common.{◌⊎◌, inl, inr, ◌++◌, append_assoc, refl, sym, ap, ◌∙◌, subst, arith}
 use Rattle.std.specs.List.{All, list_all, cons_option}
 use Rattle.std.proofs.Math.Seq.{drop-cons}
@@ -114,7 +115,8 @@ quiet PseudoRet = inr (λ operands. refl)
 -- ---- the operands of a call
 
 -- an operand that uses no register beyond x31
-argument_low : (a : Operand) (rest : List Operand) → IsTrue (is_argument a) → All (λ r. r < 32) (implicit_uses rest) → All (λ r. r < 32) (implicit_uses (a ∷ rest))
+argument_low : (a : Operand) (rest : List Operand) → IsTrue (is_argument a) → All (λ r. r < 32) (implicit_uses rest) → All (λ r. r < 32)
+    (implicit_uses (a ∷ rest))
 argument_low (ImplicitUse r) rest t h = by_test (nat_eq r 2) where
   by_test : (b : Bool) → All (λ r. r < 32) (cond b (implicit_uses rest) (r ∷ implicit_uses rest))
   by_test true = h

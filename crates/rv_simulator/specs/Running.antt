@@ -54,7 +54,8 @@ pub record IsAnswered (gives : CallEvent → Reply → Type 0) (reply : Reply) (
   pub goes : (rest : List Reply) → s.script ≡ reply ∷ rest → Goes (machine_step image s) new
 
 -- a step at a call site goes on by this answer
-pub record Calls (gives : CallEvent → Reply → Type 0) (reply : Reply) (name args : List ℕ) (r : Stepped) (new : Hart) (image : Image) (s : Machine) : Type 0 where
+pub record Calls (gives : CallEvent → Reply → Type 0) (reply : Reply) (name args : List ℕ) (r : Stepped) (new : Hart) (image : Image) (s : Machine) : Type
+    0 where
   pub went : r ≡ Went
   pub answered : IsAnswered gives reply name args new image s
 

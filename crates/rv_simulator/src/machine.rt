@@ -87,13 +87,14 @@ impl<'a, A: CallAnswers + Drop> Machine<'a, A> {
         self.hart.read(r.number())
     }
 
-    /// Makes one step: does the word at the counter, or makes the call of a call site, which is answered. What doesn't go
-    /// on changes nothing.
+    /// Makes one step: does the word at the counter, or makes the call of a call site, which is answered. What doesn't
+    /// go on changes nothing.
     pub fn step(&mut self) -> Result<Stepped, AllocError>
         ensures code { self.new.code ≡ self.old.code }
         ensures answers { self.new.answers ≡ self.old.answers }
         ensures step { IfOk result (λ r. StepsOn self.old.code r self.old.hart self.new.hart) }
-        ensures call { IfOk result (λ r. CallsOn (A.gives self.old.answers) self.old.code r self.old.hart self.new.hart) }
+        ensures call { IfOk result (λ r. CallsOn (A.gives self.old.answers) self.old.code r self.old.hart
+            self.new.hart) }
         ensures stays { IfOk result (λ r. StaysIf r self.old.hart self.new.hart) }
         ensures memory { OnErr result (self.new ≡ self.old) }
     {
@@ -116,7 +117,8 @@ impl<'a, A: CallAnswers + Drop> Machine<'a, A> {
         requires call { entry.now.call ≡ true }
         ensures code { self.new.code ≡ self.old.code }
         ensures answers { self.new.answers ≡ self.old.answers }
-        ensures call { IfOk result (λ r. CallsOn (A.gives self.old.answers) self.old.code r self.old.hart self.new.hart) }
+        ensures call { IfOk result (λ r. CallsOn (A.gives self.old.answers) self.old.code r self.old.hart
+            self.new.hart) }
         ensures step { IfOk result (λ r. StepsOn self.old.code r self.old.hart self.new.hart) }
         ensures went { IfOk result (λ r. r ≡ Stepped.Went) }
         ensures memory { OnErr result (self.new ≡ self.old) }

@@ -29,8 +29,8 @@ pub struct PartValue {
 }
 
 impl<'a, A: CallAnswers + Drop> Machine<'a, A> {
-    /// The value that list k, from 0, of a section `.debug_loclists` gives for the whole variable at the counter: `None`
-    /// where it gives no place. It takes no memory.
+    /// The value that list k, from 0, of a section `.debug_loclists` gives for the whole variable at the counter:
+    /// `None` where it gives no place. It takes no memory.
     pub fn read_variable(&self, lists: &[u8], k: u32) -> Result<Option<u64>, ListFault>
         requires { (all : List (List Range)) → IsSection lists.now all → k < length all }
         ensures ok { IfOk result (λ v. (s : State) → StandsFor self.now.hart s → VariableIs lists.now k s v) }
@@ -39,8 +39,8 @@ impl<'a, A: CallAnswers + Drop> Machine<'a, A> {
         self.hart().variable(lists, k)
     }
 
-    /// The value of the n-th piece, from 0, that list k gives for a variable at the counter; gaps aren't counted. `None`
-    /// where it gives fewer. It takes no memory.
+    /// The value of the n-th piece, from 0, that list k gives for a variable at the counter; gaps aren't counted.
+    /// `None` where it gives fewer. It takes no memory.
     pub fn read_part(&self, lists: &[u8], k: u32, n: u32) -> Result<Option<PartValue>, ListFault>
         requires { (all : List (List Range)) → IsSection lists.now all → k < length all }
         ensures ok { IfOk result (λ v. (s : State) → StandsFor self.now.hart s → PartIs lists.now k n s v) }

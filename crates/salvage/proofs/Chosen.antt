@@ -1,5 +1,6 @@
 -- Which way is chosen.
-use Rattle.std.proofs.Common.{◌≡◌, ℕ, suc, ◌+◌, ◌-◌, ◌<◌, ◌≤◌, List, length, get_or, take, drop, Option, Some, None, Bool, true, false, cond, refl, sym, ap, ◌∙◌, arith}
+use Rattle.std.proofs.Common.{◌≡◌, ℕ, suc, ◌+◌, ◌-◌, ◌<◌, ◌≤◌, List, length, get_or, take, drop, Option, Some, None, Bool, true, false, cond, refl}
+use Rattle.std.proofs.Common.{sym, ap, ◌∙◌, arith}
 use Rattle.std.specs.Prelude.{slice_get}
 use Rattle.std.proofs.lemmas.List.{take_all, length-drop}
 use Rattle.std.proofs.lemmas.Option.{slice_get-get_or, slice_get_within}
@@ -85,7 +86,8 @@ module _ (removed : List ℕ) (subs : List Entry) (fresh k s : ℕ) (above : Lis
       by_kind (Mark v m) same w = cc
       by_kind (Phi p m) same w = cc
       by_kind (Code i own) same w =
-          entered_by i own x.origin x.loc e none last (at ∙ (λ j. Some (item (same j) x.origin x.loc))) (first_definition (is_call (row_of i)) s i.operands) refl w
+          entered_by i own x.origin x.loc e none last (at ∙ (λ j. Some (item (same j) x.origin x.loc))) (first_definition (is_call (row_of i)) s i.operands)
+              refl w
 
     by_last : has_entry subs (Some k) 0 ≡ false → (e : Option ℕ) → last_definition s above ≡ e →
         way_from removed subs fresh k s above e ≡ GetsEntry d o n → IsEntered removed subs fresh k s above d o n

@@ -1,5 +1,6 @@
 -- What followed a source follows it after its blocks are edited item by item.
-use Rattle.std.proofs.Common.{◌≡◌, ◌⊎◌, inl, inr, ℕ, zero, suc, ◌+◌, ◌*◌, ◌<◌, ◌≤◌, List, [], ◌∷◌, length, get_or, All, Contains, Option, Some, None, Bool, true, false}
+use Rattle.std.proofs.Common.{◌≡◌, ◌⊎◌, inl, inr, ℕ, zero, suc, ◌+◌, ◌*◌, ◌<◌, ◌≤◌, List, [], ◌∷◌, length, get_or, All, Contains, Option, Some, None}
+use Rattle.std.proofs.Common.{Bool, true, false}
 use Rattle.std.proofs.Common.{refl, sym, ap, ◌∙◌, subst, arith}
 use Rattle.std.proofs.lemmas.List.Elements.{All-cons, All-head, All-tail}
 use Rattle.mir_func.specs.declared.entry.Entry.{Entry}
@@ -19,7 +20,8 @@ use Rattle.rv64_instr.specs.Parts.{IsSlotStore}
 use Rattle.mir_func.specs.Graph.{Here, Program, KindEdge, below, program_of}
 use Rattle.mir_meaning.specs.State.{Core, State}
 use Rattle.mir_meaning.specs.Align.{is_code, is_jump, moves_on, Count, ByItems, ByEnds, station_at, AnyOrigin, RunsAlong, After, since_of, waits_at}
-use Rattle.mir_meaning.specs.Follow.{KindFits, MarkFits, InOrder, Among, none, same, left, first_of, OnRow, GoesTo, Counts, Shape, IsStart, IsEnd, KindsEndAlike}
+use Rattle.mir_meaning.specs.Follow.{KindFits, MarkFits, InOrder, Among, none, same, left, first_of, OnRow, GoesTo, Counts, Shape, IsStart, IsEnd}
+use Rattle.mir_meaning.specs.Follow.{KindsEndAlike}
 use Rattle.mir_meaning.specs.Follow.{EndIsKept, EndComesFrom, IsMetApart}
 use Rattle.simulation.specs.Sides.{since_item}
 use Rattle.follow_law.specs.Change.{change}
@@ -107,14 +109,17 @@ module _ (E : Edits) (Q : E.Stage → Core → Core → Type 0) (allows : Allows
   StoresMeet = (b silent : ℕ) (p : Pos) (i : Item) → p.block ≡ b → gp.fetch p ≡ Here i → OnRow IsSlotStore i.kind →
       i.origin ≡ Before (record { block = b; item = silent }) → (q : Pos) × (j : Item) × IsMetApart gp p silent q j
 
-  module _ (src : List Block) (srcp : Program) (shape : Shape src old.blocks srcp fp) (meet : (b : Block) → Contains new.blocks b → (p : Pos) (i : Item) → p.block ≡ b.id →
-      gp.fetch p ≡ Here i → OnRow IsSlotStore i.kind → i.origin ≡ Before (record { block = b.id; item = b.silent }) → (q : Pos) × (j : Item) × IsMetApart gp p b.silent q j) where
+  module _ (src : List Block) (srcp : Program) (shape : Shape src old.blocks srcp fp)
+      (meet : (b : Block) → Contains new.blocks b → (p : Pos) (i : Item) → p.block ≡ b.id →
+      gp.fetch p ≡ Here i → OnRow IsSlotStore i.kind → i.origin ≡ Before (record { block = b.id; item = b.silent }) → (q : Pos) × (j : Item) × IsMetApart gp p
+          b.silent q j) where
     pub shape_edited : Shape src new.blocks srcp gp
     shape_edited = record {
       among = among_edited E edited shape.among;
       first = first_edited E old.blocks new.blocks edited ∙ shape.first;
       back = λ q leads edge. (let w = shape.back q leads edge in
-          let at = item_on E old.blocks new.blocks edited false (resolve subs) (resolve subs') w.0 w.1 w.2 (λ k k' how. allows.no_goes k k' w.1 how (first_of src) w.3) in
+          let at = item_on E old.blocks new.blocks edited false (resolve subs) (resolve subs') w.0 w.1 w.2
+              (λ k k' how. allows.no_goes k k' w.1 how (first_of src) w.3) in
           (at.0, at.1, at.3, kin_goes w.1.kind at.1.kind at.5 (first_of src) w.3));
       order = order_of E old.blocks new.blocks edited shape.order;
       items = each_edited E (λ b i. KindFits srcp i.kind b.silent i.origin)
@@ -143,7 +148,8 @@ module _ (E : Edits) (Q : E.Stage → Core → Core → Type 0) (allows : Allows
         ((s : State) → IsStart stack first s → RunsAlong srcp fp (station_at ct fp) (AnyOrigin (station_at ct fp)) s s) →
         (s : State) → IsStart stack first s → RunsAlong srcp gp (station_at ct gp) (AnyOrigin (station_at ct gp)) s s
     runs_new ct first stack counts runs s start =
-        runs_edited E Q old.blocks new.blocks edited (resolve subs) (resolve subs') ct counts srcp s keeps allows.empty (steady ct counts) sound.blocks_apart shape.order
+        runs_edited E Q old.blocks new.blocks edited (resolve subs) (resolve subs') ct counts srcp s keeps allows.empty (steady ct counts) sound.blocks_apart
+            shape.order
         (order_of E old.blocks new.blocks edited shape.order) sound.origins sound'.origins (ap (λ (p : Pos). p.item) start.pos)
         (itself s.pos.block s.core start.pairs) (runs s start)
 
@@ -151,7 +157,8 @@ module _ (E : Edits) (Q : E.Stage → Core → Core → Type 0) (allows : Allows
         OnRow IsEnd i.kind → EndIsKept gp p i
     ends_kept kept p i at end =
         let w = kept p i at end in
-        let there = item_on E old.blocks new.blocks edited false (resolve subs) (resolve subs') w.0 w.1 w.2 (λ k k' how. allows.no_end k k' w.1 how i.kind w.4) in
+        let there = item_on E old.blocks new.blocks edited false (resolve subs) (resolve subs') w.0 w.1 w.2
+            (λ k k' how. allows.no_end k k' w.1 how i.kind w.4) in
         (there.0, there.1, there.3, sym there.4 ∙ w.3, kin_end i.kind w.1.kind there.1.kind there.5 w.4)
 
     pub ends_only : ((q : Pos) (j : Item) → fp.fetch q ≡ Here j → OnRow IsEnd j.kind → EndComesFrom srcp j) → (q : Pos) (j : Item) → gp.fetch q ≡ Here j →
@@ -162,7 +169,8 @@ module _ (E : Edits) (Q : E.Stage → Core → Core → Type 0) (allows : Allows
         (r.0, r.1, r.2, sym w.4 ∙ r.3, kin_end r.1.kind w.1.kind j.kind w.5 r.4)
 
   -- where what slot stores meet stays and counts
-  pub follows_edited : ((k k' : E.Stage) (x : Item) → E.Out k k' x → OnRow Counts x.kind → ⊥) → ((k k' : E.Stage) (x y : Item) → E.Pair k k' x y → OnRow Counts x.kind → OnRow Counts y.kind) →
+  pub follows_edited : ((k k' : E.Stage) (x : Item) → E.Out k k' x → OnRow Counts x.kind → ⊥) →
+      ((k k' : E.Stage) (x y : Item) → E.Pair k k' x y → OnRow Counts x.kind → OnRow Counts y.kind) →
       KeepsFollowing false true (change old subs new subs')
   follows_edited gone counts = record {
     follows = λ source fol ends. (let srcp : Program = program_of true source.function.blocks (resolve source.subs) in
@@ -180,7 +188,8 @@ module _ (E : Edits) (Q : E.Stage → Core → Core → Type 0) (allows : Allows
           blocks = length_edited E old.blocks new.blocks edited ∙ whole.blocks;
           kept = ends_kept source.function.blocks srcp fol.follows.shape m whole.kept;
           only = ends_only source.function.blocks srcp fol.follows.shape m whole.only;
-          runs = runs_new source.function.blocks srcp fol.follows.shape m ByEnds (first_of source.function.blocks) source.function.objects (λ k. refl) whole.runs;
+          runs = runs_new source.function.blocks srcp fol.follows.shape m ByEnds (first_of source.function.blocks) source.function.objects (λ k. refl)
+              whole.runs;
         });
   } where
     old_block : (b : Block) → Contains new.blocks b → (a : Block) × Contains old.blocks a × (a.id ≡ b.id) × (a.silent ≡ b.silent)
@@ -196,7 +205,8 @@ module _ (E : Edits) (Q : E.Stage → Core → Core → Type 0) (allows : Allows
           (r.0, (suc k.0, omega (arith, less), k.2), r.2, r.3)
 
     meet : (srcp : Program) (src : List Block) → Shape src old.blocks srcp fp → (b : Block) → Contains new.blocks b → (p : Pos) (i : Item) → p.block ≡ b.id →
-        gp.fetch p ≡ Here i → OnRow IsSlotStore i.kind → i.origin ≡ Before (record { block = b.id; item = b.silent }) → (q : Pos) × (j : Item) × IsMetApart gp p b.silent q j
+        gp.fetch p ≡ Here i → OnRow IsSlotStore i.kind → i.origin ≡ Before (record { block = b.id; item = b.silent }) → (q : Pos) × (j : Item) × IsMetApart gp
+            p b.silent q j
     meet srcp src shape b member p i at here save o =
         let a = old_block b member in
         stores_on E old.blocks new.blocks edited (resolve subs) (resolve subs') allows.empty allows.falls gone counts

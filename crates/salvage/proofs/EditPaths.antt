@@ -1,5 +1,6 @@
 -- Paths of a function, after its blocks are edited item by item.
-use Rattle.std.proofs.Common.{◌≡◌, ◌⊎◌, inl, inr, ℕ, zero, suc, ◌+◌, ◌<◌, List, [], ◌∷◌, drop, Option, Some, None, Bool, true, false, cond, refl, sym, ap, ◌∙◌, subst, arith}
+use Rattle.std.proofs.Common.{◌≡◌, ◌⊎◌, inl, inr, ℕ, zero, suc, ◌+◌, ◌<◌, List, [], ◌∷◌, drop, Option, Some, None, Bool, true, false, cond, refl, sym}
+use Rattle.std.proofs.Common.{ap, ◌∙◌, subst, arith}
 use Rattle.mir_func.specs.declared.entry.OperandPair.{OperandPair}
 use Rattle.mir_func.specs.declared.position.Pos.{Pos}
 use Rattle.mir_func.specs.declared.position.Origin.{Origin}
@@ -8,7 +9,8 @@ use Rattle.mir_func.specs.declared.block.Block.{Block}
 use Rattle.mir_func.specs.declared.item.Item.{Item}
 use Rattle.mir_func.specs.declared.item.ItemKind.{ItemKind}
 use Rattle.mir_func.specs.declared.item.ItemKind.TheVariants.{Code, Mark, Phi}
-use Rattle.mir_func.specs.Graph.{Fetch, Here, Silent, Outside, Program, below, block_start, end_of, front, fetch_in, from_block, program_of, KindEdge, FetchEdge, Edge, Leads, stay, go}
+use Rattle.mir_func.specs.Graph.{Fetch, Here, Silent, Outside, Program, below, block_start, end_of, front, fetch_in, from_block, program_of, KindEdge}
+use Rattle.mir_func.specs.Graph.{FetchEdge, Edge, Leads, stay, go}
 use Rattle.rv64_instr.specs.Parts.{IsSlotStore}
 use Rattle.mir_meaning.specs.Align.{position_of, is_code}
 use Rattle.mir_meaning.specs.Follow.{OnRow, Counts, IsMetApart}
@@ -16,7 +18,8 @@ use Rattle.mir_meaning.proofs.Edges.{leads_trans}
 use Rattle.simulation.proofs.Laid.{rest_in, rest_of, laid_out}
 use Rattle.simulation.specs.Sides.{IsPastItems}
 use Rattle.salvage.proofs.Kin.{Kin, kin_code, kin_edge, kin_save, GoesAlike}
-use Rattle.salvage.proofs.Edits.{Edits, Edited, over, pair, out, put, BlocksEdited, no_blocks, next_block, first_of_front, none_of_front, comes_from, above_on, IsPaired}
+use Rattle.salvage.proofs.Edits.{Edits, Edited, over, pair, out, put, BlocksEdited, no_blocks, next_block, first_of_front, none_of_front, comes_from}
+use Rattle.salvage.proofs.Edits.{above_on, IsPaired}
 use Rattle.salvage.proofs.Edits.{blocks_from, starts_edited, ends_same}
 
 debug_edge : (k : ItemKind) → is_code k ≡ false → (p : Pos) → KindEdge (λ n. n) k p (below p)
@@ -30,7 +33,8 @@ save_code (Mark v m) h = absurd h
 save_code (Phi p n) h = absurd h
 
 module _ (E : Edits) (fs gs : List Block) (edited : BlocksEdited E fs gs) (resolve resolve' : OperandPair → Option OperandPair)
-    (empty : (n : ℕ) → E.IsOver (E.entry n)) (falls : (k k' : E.Stage) (x : Item) → E.Out k k' x → (p q : Pos) → KindEdge (λ n. n) x.kind p q → q ≡ below p) where
+    (empty : (n : ℕ) → E.IsOver (E.entry n)) (falls : (k k' : E.Stage) (x : Item) → E.Out k k' x → (p q : Pos) → KindEdge (λ n. n) x.kind p q → q ≡ below
+        p) where
   abbrev f : Program
   f = program_of false fs resolve
 
@@ -52,7 +56,8 @@ module _ (E : Edits) (fs gs : List Block) (edited : BlocksEdited E fs gs) (resol
         by_blocks (a ∷ cs) (b ∷ bs) at (next_block id silent items rest) h =
             let t = none_of_front (drop p.item a.items) a.silent cs j n h in
             let r : drop p'.item b.items ≡ [] = ap (λ (z : List Block). rest_in z p'.item) (sym at) ∙ none in
-            ap (λ (z : List Block). fetch_in z p'.item) at ∙ ap (λ (z : List Item). front z b.silent bs) r ∙ ends_same E a.silent b.silent cs bs silent rest ∙ t.1
+            ap (λ (z : List Block). fetch_in z p'.item) at ∙ ap (λ (z : List Item). front z b.silent bs) r ∙ ends_same E a.silent b.silent cs bs silent rest ∙
+                t.1
 
   -- one step of f's path, and g's
   step_on : (p q p' : Pos) (k : E.Stage) (xs ys : List Item) → p'.block ≡ p.block → rest_of fs p ≡ xs → rest_of gs p' ≡ ys → Edited E k xs ys → Edge f p q →
@@ -78,7 +83,8 @@ module _ (E : Edits) (fs gs : List Block) (edited : BlocksEdited E fs gs) (resol
       let at = (laid_out false fs resolve).cons p x xs left in
       let at' = (laid_out false gs resolve').cons p' y ys right in
       by_goal at.0 at.1 at'.0 at'.1 (kin_edge x.kind y.kind kin p q p' (subst (λ (z : Fetch). FetchEdge (λ n. n) z p q) at.0 e)) where
-        by_goal : f.fetch p ≡ Here x → rest_of fs (below p) ≡ xs → g.fetch p' ≡ Here y → rest_of gs (below p') ≡ ys → GoesAlike (KindEdge (λ n. n) y.kind) p q p' →
+        by_goal : f.fetch p ≡ Here x → rest_of fs (below p) ≡ xs → g.fetch p' ≡ Here y → rest_of gs (below p') ≡ ys → GoesAlike (KindEdge (λ n. n) y.kind) p q
+            p' →
             (q' : Pos) × Leads g p' q' × Beside q q'
         by_goal at more at' more' (inl w) = (
           below p',
@@ -127,14 +133,16 @@ module _ (E : Edits) (fs gs : List Block) (edited : BlocksEdited E fs gs) (resol
 
   -- and on to what stands for an item that isn't taken out
   reach : (q q' : Pos) (x : Item) (k : E.Stage) (xs ys : List Item) → rest_of fs q ≡ xs → rest_of gs q' ≡ ys → Edited E k xs ys → f.fetch q ≡ Here x →
-      ((k k' : E.Stage) → E.Out k k' x → ⊥) → (r : Pos) × (y : Item) × Leads g q' r × (g.fetch r ≡ Here y) × (x.origin ≡ y.origin) × Kin x.kind y.kind × IsPaired E x y
+      ((k k' : E.Stage) → E.Out k k' x → ⊥) → (r : Pos) × (y : Item) × Leads g q' r × (g.fetch r ≡ Here y) × (x.origin ≡ y.origin) × Kin x.kind y.kind ×
+          IsPaired E x y
   reach q q' x k xs ys left right (over done) at stays = absurd (subst IsPastItems at ((laid_out false fs resolve).nil q left).0)
   reach q q' x k (u ∷ xs) (y ∷ ys) left right (pair {k' = l} origin kin how rest) at stays =
       let here = (laid_out false fs resolve).cons q u xs left in
       let there = (laid_out false gs resolve').cons q' y ys right in
       let both : Here u ≡ Here x = sym here.0 ∙ at in
       let w : u ≡ x = cc in
-      (q', y, stay, there.0, ap (λ (i : Item). i.origin) (sym w) ∙ origin, subst (λ (i : Item). Kin i.kind y.kind) w kin, (k, l, subst (λ (i : Item). E.Pair k l i y) w how))
+      (q', y, stay, there.0, ap (λ (i : Item). i.origin) (sym w) ∙ origin, subst (λ (i : Item). Kin i.kind y.kind) w kin,
+          (k, l, subst (λ (i : Item). E.Pair k l i y) w how))
   reach q q' x k (u ∷ xs) ys left right (out {k' = l} how rest) at stays =
       let here = (laid_out false fs resolve).cons q u xs left in
       let both : Here u ≡ Here x = sym here.0 ∙ at in
@@ -146,13 +154,15 @@ module _ (E : Edits) (fs gs : List Block) (edited : BlocksEdited E fs gs) (resol
       (r.0, r.1, go (subst (λ (z : Fetch). FetchEdge (λ n. n) z q' (below q')) (sym there.0) (debug_edge y.kind none q')) r.2, r.3, r.4, r.5, r.6)
 
   -- so what f met apart from a slot store, g meets, where what counts stays and counts
-  pub stores_on : ((k k' : E.Stage) (x : Item) → E.Out k k' x → OnRow Counts x.kind → ⊥) → ((k k' : E.Stage) (x y : Item) → E.Pair k k' x y → OnRow Counts x.kind → OnRow Counts y.kind) →
+  pub stores_on : ((k k' : E.Stage) (x : Item) → E.Out k k' x → OnRow Counts x.kind → ⊥) →
+      ((k k' : E.Stage) (x y : Item) → E.Pair k k' x y → OnRow Counts x.kind → OnRow Counts y.kind) →
       (b : ℕ) (silent : ℕ) →
       ((p : Pos) (i : Item) → p.block ≡ b → f.fetch p ≡ Here i → OnRow IsSlotStore i.kind → i.origin ≡ Before (record { block = b; item = silent }) →
       (q : Pos) × (j : Item) × IsMetApart f p silent q j) →
       (p : Pos) (i : Item) → p.block ≡ b → g.fetch p ≡ Here i → OnRow IsSlotStore i.kind → i.origin ≡ Before (record { block = b; item = silent }) →
       (q : Pos) × (j : Item) × IsMetApart g p silent q j
-  stores_on gone counts b silent met p y same at save o = by_blocks (from_block fs p.block) (from_block gs p.block) refl refl (blocks_from E fs gs edited p.block) at where
+  stores_on gone counts b silent met p y same at save o = by_blocks (from_block fs p.block) (from_block gs p.block) refl refl
+      (blocks_from E fs gs edited p.block) at where
     by_blocks : (cs bs : List Block) → from_block fs p.block ≡ cs → from_block gs p.block ≡ bs → BlocksEdited E cs bs → fetch_in bs p.item ≡ Here y →
         (q : Pos) × (j : Item) × IsMetApart g p silent q j
     by_blocks cs bs atf atg no_blocks h = cc
@@ -164,7 +174,8 @@ module _ (E : Edits) (fs gs : List Block) (edited : BlocksEdited E fs gs) (resol
         let w = met pf s.item same here (kin_save s.item.kind y.kind s.kin save) (s.origin ∙ o) in
         by_witness t.0 t.1 pf refl w.0 w.1 w.2 where
           by_witness : (more : List Item) (e : drop p.item c.items ≡ y ∷ more) (pf : Pos) →
-              pf ≡ record { block = p.block; item = (comes_from E a.items c.items items p.item y more e (save_code y.kind save)).index } → (q : Pos) (j : Item) →
+              pf ≡ record { block = p.block; item = (comes_from E a.items c.items items p.item y more e (save_code y.kind save)).index } → (q : Pos)
+                  (j : Item) →
               IsMetApart f pf silent q j → (q : Pos) × (j : Item) × IsMetApart g p silent q j
           by_witness more e pf is q j w = by_side w.3 where
             stays : (k k' : E.Stage) → E.Out k k' j → ⊥

@@ -16,7 +16,8 @@ use Rattle.mir_func.specs.Graph.{Fetch, Here, Silent, Outside, Program, block_st
 use Rattle.mir_meaning.specs.State.{Core, State}
 use Rattle.mir_meaning.specs.Step.{Outcome, Falls, Goes, Gives, Traps, Asks, Breaks, do_item}
 use Rattle.mir_meaning.specs.Effects.{EndAlike, FallsInto}
-use Rattle.mir_meaning.specs.Align.{position_of, is_code, is_jump, Count, moves_on, end_station, station_of, station_at, IsOrigin, AnyOrigin, RunsAlong, Station, After}
+use Rattle.mir_meaning.specs.Align.{position_of, is_code, is_jump, Count, moves_on, end_station, station_of, station_at, IsOrigin, AnyOrigin}
+use Rattle.mir_meaning.specs.Align.{RunsAlong, Station, After}
 use Rattle.mir_meaning.specs.Follow.{InOrder, KindFits}
 use Rattle.simulation.specs.Sides.{Sides, Relation, ShowsSame, OutcomesAlike, since_item}
 use Rattle.simulation.specs.InPlace.{FallsOrTraps, View, ended, both, taken, added, paired, InPlace, MayTrap}
@@ -152,7 +153,8 @@ module _ (E : Edits) (Q : E.Stage → Core → Core → Type 0) where
           All (λ (b : Block). InOrder b.id 0 b.items) gs → All (λ (b : Block). All (λ (i : Item). OriginIn b i.origin) b.items) fs →
           All (λ (b : Block). All (λ (i : Item). OriginIn b i.origin) b.items) gs → s0.pos.item ≡ 0 → Q (E.entry s0.pos.block) s0.core s0.core →
           RunsAlong src f (station_at ct f) (AnyOrigin (station_at ct f)) s0 s0 → RunsAlong src g (station_at ct g) (AnyOrigin (station_at ct g)) s0 s0
-      runs_edited steady apart ordered ordered' origins origins' first kin runs = in_place_follows relation ct src sides (index_of fs) in_place first refl kin runs where
+      runs_edited steady apart ordered ordered' origins origins' first kin runs = in_place_follows relation ct src sides (index_of fs) in_place first refl kin
+          runs where
         in_place : InPlace ct src sides relation (index_of fs)
         in_place = record {
           laid_f = laid_out false fs resolve;

@@ -58,7 +58,8 @@ module _ (old new : Function) (sound : IsSound old) (sound' : IsSound new) (subs
 
 -- ---- to a phi
 
-module _ (old new : Function) (sound : IsSound old) (sound' : IsSound new) (subs : List Entry) (k s : ℕ) (objects : new.objects ≡ old.objects) (real : s ≡ 2 → ⊥) where
+module _ (old new : Function) (sound : IsSound old) (sound' : IsSound new) (subs : List Entry) (k s : ℕ) (objects : new.objects ≡ old.objects)
+    (real : s ≡ 2 → ⊥) where
   abbrev fq : Program
   fq = program_of false old.blocks (resolve subs)
 
@@ -82,7 +83,9 @@ module _ (old new : Function) (sound : IsSound old) (sound' : IsSound new) (subs
     marks = λ a b y h no_code. phi_marks a b y h;
   }
 
-  pub number_phi_follows : BlocksEdited (phi_edits fq gq refl refl (λ q. refl) k s real) old.blocks new.blocks → KeepsFollowing false true (change old subs new subs)
+  pub number_phi_follows : BlocksEdited (phi_edits fq gq refl refl (λ q. refl) k s real) old.blocks new.blocks → KeepsFollowing false true
+      (change old subs new subs)
   number_phi_follows edited =
-      follows_edited (phi_edits fq gq refl refl (λ q. refl) k s real) (PhiCores fq gq refl refl (λ q. refl) k s real) phi_allows old new sound sound' subs subs objects edited
+      follows_edited (phi_edits fq gq refl refl (λ q. refl) k s real) (PhiCores fq gq refl refl (λ q. refl) k s real) phi_allows old new sound sound' subs
+          subs objects edited
       (phi_keeps fq gq refl refl (λ q. refl) k s real) (λ m c h. phi_itself fq gq refl refl (λ q. refl) k s real c h) (λ a b x h. absurd h) phi_counts

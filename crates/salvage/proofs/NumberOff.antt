@@ -1,5 +1,6 @@
 -- A copy loses its number to code that gave the copied value: how the two runs are related.
-use Rattle.std.proofs.Common.{◌≡◌, ◌⊎◌, inl, inr, ℕ, zero, suc, List, [], ◌∷◌, Option, Some, None, Bool, true, false, cond, nat_eq, slice_get, refl, sym, ap, ◌∙◌, subst, ne_eqb}
+use Rattle.std.proofs.Common.{◌≡◌, ◌⊎◌, inl, inr, ℕ, zero, suc, List, [], ◌∷◌, Option, Some, None, Bool, true, false, cond, nat_eq, slice_get, refl}
+use Rattle.std.proofs.Common.{sym, ap, ◌∙◌, subst, ne_eqb}
 use Rattle.rv64_instr.specs.declared.operand.Operand.{Operand}
 use Rattle.rv64_instr.specs.declared.operand.Operand.TheVariants.{Def}
 use Rattle.rv64_instr.specs.declared.place.Place.{Place}
@@ -174,7 +175,8 @@ module _ (f g : Program) (blind_f : f.sees_pointer ≡ false) (blind_g : g.sees_
         (leaves_pair f kind k c (λ m e. (other m e).0))
         (on_both (λ e. e.pairs k ≡ d.pairs k) (λ e. e.pairs n ≡ d.pairs n) (do_item g kind d) (leaves_pair g kind k d (λ m e. (other m e).0))
         (leaves_pair g kind n d (λ m e. (other m e).1)))) where
-          by_core : (c' d' : Core) → Alike (HeldAfter Everywhere kind) Free c' d' × (c'.pairs k ≡ c.pairs k) × ((d'.pairs k ≡ d.pairs k) × (d'.pairs n ≡ d.pairs n)) →
+          by_core : (c' d' : Core) → Alike (HeldAfter Everywhere kind) Free c' d' × (c'.pairs k ≡ c.pairs k) ×
+              ((d'.pairs k ≡ d.pairs k) × (d'.pairs n ≡ d.pairs n)) →
               OffCores Outside c' d'
           by_core c' d' r = record {
             alike = all_after kind c' d' r.0;
@@ -213,7 +215,8 @@ module _ (f g : Program) (blind_f : f.sees_pointer ≡ false) (blind_g : g.sees_
         defined (is_call (row_of i)) (slice_get i.operands o) ≡ Some s → OffCores Outside c d →
         EndAlike (OffCores Inside) (do_item f (Code i own) c) (do_item g (Code i (Some n)) d)
     opens_both i own c d how is h =
-        code_alike f g i i own (Some n) c d (HeldAlike (OrDefined Everywhere i)) (OffCores Inside) (act_held Everywhere i c d h.alike.held (λ x u. tt)) by_core where
+        code_alike f g i i own (Some n) c d (HeldAlike (OrDefined Everywhere i)) (OffCores Inside) (act_held Everywhere i c d h.alike.held (λ x u. tt))
+            by_core where
           call : Bool
           call = is_call (row_of i)
 
@@ -222,7 +225,8 @@ module _ (f g : Program) (blind_f : f.sees_pointer ≡ false) (blind_g : g.sees_
 
           told_both : (c' d' : Core) → HeldAlike (OrDefined Everywhere i) c' d' → TellsNoMore Free c' d' →
               ((own ≡ Some n) × (Free n → ⊥)) ⊎ ((own ≡ None) × Free n) →
-              TellsNoMore Free (numbered f.sees_pointer (is_call (row_of i)) own i.operands c') (numbered g.sees_pointer (is_call (row_of i)) (Some n) i.operands d')
+              TellsNoMore Free (numbered f.sees_pointer (is_call (row_of i)) own i.operands c')
+                  (numbered g.sees_pointer (is_call (row_of i)) (Some n) i.operands d')
           told_both c' d' r t (inl w) =
               subst (λ (m : Option ℕ). TellsNoMore Free (numbered f.sees_pointer (is_call (row_of i)) m i.operands c')
               (numbered g.sees_pointer (is_call (row_of i)) (Some n) i.operands d')) (sym w.0)
@@ -236,12 +240,14 @@ module _ (f g : Program) (blind_f : f.sees_pointer ≡ false) (blind_g : g.sees_
               (λ m e. (let same : n ≡ m = cc in subst Free same w.1)))
 
           by_core : (c' d' : Core) → HeldAlike (OrDefined Everywhere i) c' d' → TellsAs c c' → TellsAs d d' →
-              OffCores Inside (numbered f.sees_pointer (is_call (row_of i)) own i.operands c') (numbered g.sees_pointer (is_call (row_of i)) (Some n) i.operands d')
+              OffCores Inside (numbered f.sees_pointer (is_call (row_of i)) own i.operands c')
+                  (numbered g.sees_pointer (is_call (row_of i)) (Some n) i.operands d')
           by_core c' d' r same same' =
               let c'' : Core = numbered f.sees_pointer (is_call (row_of i)) own i.operands c' in
               let d'' : Core = numbered g.sees_pointer (is_call (row_of i)) (Some n) i.operands d' in
               let held : HeldAlike Everywhere c'' d'' =
-              held_number Everywhere f.sees_pointer g.sees_pointer (is_call (row_of i)) (is_call (row_of i)) own (Some n) i.operands i.operands c' d' (every i c' d' r) in
+              held_number Everywhere f.sees_pointer g.sees_pointer (is_call (row_of i)) (is_call (row_of i)) own (Some n) i.operands i.operands c' d'
+                  (every i c' d' r) in
               let value : ℕ → Option ℕ = λ p. given g.sees_pointer (defined (is_call (row_of i)) (slice_get i.operands p)) (d'.pairs n p) d' in
               record {
                 alike = record { held = held; told = told_both c' d' r (tells_of Free c d c' d' same same' h.alike.told) how };
@@ -256,7 +262,8 @@ module _ (f g : Program) (blind_f : f.sees_pointer ≡ false) (blind_g : g.sees_
     closes_both i rd c d row first far h =
         code_alike f g i i (Some k) None c d
         (λ c' d'. HeldAlike (OrDefined Everywhere i) c' d' × (held_in (Register (suc rd)) c' ≡ held_in (Register s) c) × Unit {0}) (OffCores Outside)
-        (alike_both (HeldAlike (OrDefined Everywhere i)) (λ e. held_in (Register (suc rd)) e ≡ held_in (Register s) c) (λ e. Unit {0}) (act (row_of i) c) (act (row_of i) d)
+        (alike_both (HeldAlike (OrDefined Everywhere i)) (λ e. held_in (Register (suc rd)) e ≡ held_in (Register s) c) (λ e. Unit {0}) (act (row_of i) c)
+            (act (row_of i) d)
         (act_held Everywhere i c d h.alike.held (λ x u. tt)) (effects_hold.moves i (Register s) (Register (suc rd)) c (ap moved_by row) (ap set_by row))
         (always (act (row_of i) d))) by_core where
           always : (x : Outcome) → OnCore (λ e. Unit {0}) x
@@ -267,8 +274,10 @@ module _ (f g : Program) (blind_f : f.sees_pointer ≡ false) (blind_g : g.sees_
           always Asks = tt
           always Breaks = tt
 
-          by_core : (c' d' : Core) → HeldAlike (OrDefined Everywhere i) c' d' × (held_in (Register (suc rd)) c' ≡ held_in (Register s) c) × Unit {0} → TellsAs c c' →
-              TellsAs d d' → OffCores Outside (numbered f.sees_pointer (is_call (row_of i)) (Some k) i.operands c') (numbered g.sees_pointer (is_call (row_of i)) None i.operands d')
+          by_core : (c' d' : Core) → HeldAlike (OrDefined Everywhere i) c' d' × (held_in (Register (suc rd)) c' ≡ held_in (Register s) c) × Unit {0} → TellsAs
+              c c' →
+              TellsAs d d' → OffCores Outside (numbered f.sees_pointer (is_call (row_of i)) (Some k) i.operands c')
+                  (numbered g.sees_pointer (is_call (row_of i)) None i.operands d')
           by_core c' d' r same same' =
               let value : ℕ → Option ℕ = λ p. given f.sees_pointer (defined (is_call (row_of i)) (slice_get i.operands p)) (c'.pairs k p) c' in
               let here : value 0 ≡ content c'.regs (suc rd) =
@@ -278,7 +287,8 @@ module _ (f g : Program) (blind_f : f.sees_pointer ≡ false) (blind_g : g.sees_
               let before : (p : ℕ) → d'.pairs n p ≡ d.pairs n p = λ p. ap (λ (z : ℕ → ℕ → Option ℕ). z n p) same'.0 in
               record {
                 alike = record {
-                  held = held_number Everywhere f.sees_pointer g.sees_pointer (is_call (row_of i)) (is_call (row_of i)) (Some k) None i.operands i.operands c' d' (every i c' d' r.0);
+                  held = held_number Everywhere f.sees_pointer g.sees_pointer (is_call (row_of i)) (is_call (row_of i)) (Some k) None i.operands i.operands c'
+                      d' (every i c' d' r.0);
                   told = numbers_first Free f.sees_pointer (is_call (row_of i)) (Some k) i.operands c' d' (tells_of Free c d c' d' same same' h.alike.told)
                       (λ m e not p. (let is : k ≡ m = cc in ap (λ (z : ℕ → ℕ → Option ℕ). z m p) same'.0 ∙ ap (λ (z : ℕ). d.pairs z p) (sym is) ∙ h.none p));
                 };

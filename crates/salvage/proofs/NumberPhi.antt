@@ -142,7 +142,8 @@ module _ (f g : Program) (blind_f : f.sees_pointer ≡ false) (blind_g : g.sees_
   close i rd c d row first far h =
       code_alike f g i i (Some k) None c d
       (λ c' d'. HeldAlike (OrDefined Everywhere i) c' d' × (held_in (Register (suc rd)) c' ≡ held_in (Register s) c) × Unit {0}) (PhiCores Elsewhere)
-      (alike_both (HeldAlike (OrDefined Everywhere i)) (λ e. held_in (Register (suc rd)) e ≡ held_in (Register s) c) (λ e. Unit {0}) (act (row_of i) c) (act (row_of i) d)
+      (alike_both (HeldAlike (OrDefined Everywhere i)) (λ e. held_in (Register (suc rd)) e ≡ held_in (Register s) c) (λ e. Unit {0}) (act (row_of i) c)
+          (act (row_of i) d)
       (act_held Everywhere i c d h.alike.held (λ x u. tt)) (effects_hold.moves i (Register s) (Register (suc rd)) c (ap moved_by row) (ap set_by row))
       (always (act (row_of i) d))) by_core where
         always : (x : Outcome) → OnCore (λ e. Unit {0}) x
@@ -157,8 +158,10 @@ module _ (f g : Program) (blind_f : f.sees_pointer ≡ false) (blind_g : g.sees_
         defines_it true = refl
         defines_it false = refl
 
-        by_core : (c' d' : Core) → HeldAlike (OrDefined Everywhere i) c' d' × (held_in (Register (suc rd)) c' ≡ held_in (Register s) c) × Unit {0} → TellsAs c c' →
-            TellsAs d d' → PhiCores Elsewhere (numbered f.sees_pointer (is_call (row_of i)) (Some k) i.operands c') (numbered g.sees_pointer (is_call (row_of i)) None i.operands d')
+        by_core : (c' d' : Core) → HeldAlike (OrDefined Everywhere i) c' d' × (held_in (Register (suc rd)) c' ≡ held_in (Register s) c) × Unit {0} → TellsAs c
+            c' →
+            TellsAs d d' → PhiCores Elsewhere (numbered f.sees_pointer (is_call (row_of i)) (Some k) i.operands c')
+                (numbered g.sees_pointer (is_call (row_of i)) None i.operands d')
         by_core c' d' r same same' =
             let value : ℕ → Option ℕ = λ p. given f.sees_pointer (defined (is_call (row_of i)) (slice_get i.operands p)) (c'.pairs k p) c' in
             let here : value 0 ≡ content c'.regs (suc rd) =
@@ -184,7 +187,8 @@ module _ (f g : Program) (blind_f : f.sees_pointer ≡ false) (blind_g : g.sees_
               by_operand value here rest zero v e = here ∙ r.1 ∙ h.told v (ap (λ (z : ℕ → ℕ → Option ℕ). z k 0) (sym same'.0) ∙ e)
               by_operand value here rest (suc p) v e = (let bad : ◌≡◌ {A = Option ℕ} None (Some v) = sym (rest p) ∙ e in cc)
 
-              by_number : (value : ℕ → Option ℕ) → value 0 ≡ content c'.regs (suc rd) → TellsNoMore (FreeAt Behind) c' d' → ((p : ℕ) → d'.pairs k (suc p) ≡ None) →
+              by_number : (value : ℕ → Option ℕ) → value 0 ≡ content c'.regs (suc rd) → TellsNoMore (FreeAt Behind) c' d' →
+                  ((p : ℕ) → d'.pairs k (suc p) ≡ None) →
                   (m p v : ℕ) → d'.pairs m p ≡ Some v → (m ≡ k) ⊎ (m ≡ k → ⊥) → updated k value c'.pairs m p ≡ Some v
               by_number value here after rest m p v e (inl is) =
                   ap (λ (z : ℕ). updated k value c'.pairs z p) is ∙ ap (λ (z : ℕ → Option ℕ). z p) (updated_same k value c'.pairs) ∙

@@ -17,8 +17,8 @@ use substitution::substitutions::Substitutions;
 
 /// Takes a copy of `source` with a number out of a block's items, or puts the phi in its place, and adds the
 /// substitution. `removed` has the ascending indices of the other items that the caller removes too, which stay for
-/// it to remove. `fresh` is a number that nothing has, and is counted on where it is taken. After an error the items and
-/// the substitutions are only to be dropped.
+/// it to remove. `fresh` is a number that nothing has, and is counted on where it is taken. After an error the items
+/// and the substitutions are only to be dropped.
 pub fn salvage(
     items: &mut Vec<Item>,
     subs: &mut Substitutions,
@@ -31,7 +31,8 @@ pub fn salvage(
     requires at { at < length items.old.items }
     requires fresh { fresh.old < 2 ^ 31 }
     ensures items { OnOk result (items.new.items ≡
-        items_after (way removed.now subs.old fresh.old number source (take at items.old.items)) at number source items.old.items) }
+        items_after (way removed.now subs.old fresh.old number source (take at items.old.items)) at number source
+            items.old.items) }
     ensures entries { OnOk result (subs.new ≡
         subs.old ++ entries_for (way removed.now subs.old fresh.old number source (take at items.old.items)) number) }
     ensures fresh { OnOk result (fresh.new ≡

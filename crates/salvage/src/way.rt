@@ -8,7 +8,8 @@ ghost use Rattle.rv64_instr.specs.Parts.{is_call};
 ghost use Rattle.mir_meaning.specs.Step.{defined};
 ghost use Rattle.follow_law.specs.Causes.{defines};
 ghost use Rattle.salvage.specs.declared.way.Way.TheVariants as chosen;
-ghost use Rattle.salvage.specs.Way.{last_definition, is_register, first_definition, asks_for, has_entry, or_fresh, may_stand, way_by, way};
+ghost use Rattle.salvage.specs.Way.{last_definition, is_register, first_definition, asks_for, has_entry};
+ghost use Rattle.salvage.specs.Way.{or_fresh, may_stand, way_by, way};
 
 use mir_func::entry::OperandPair;
 use mir_func::item::{Item, ItemKind};
@@ -61,8 +62,8 @@ pub fn choose_way(
     }
 }
 
-/// What becomes of it by the code at index `d`, which has this number and defines the source by this operand, where these
-/// items stand between the two.
+/// What becomes of it by the code at index `d`, which has this number and defines the source by this operand, where
+/// these items stand between the two.
 fn way_by(
     behind: &[Item],
     subs: &Substitutions,

@@ -28,7 +28,8 @@ map_append : (xs ys : List Line) → map code_line (xs ++ ys) ≡ map code_line 
 map_append [] ys = refl
 map_append (x ∷ xs) ys = ap (λ (zs : List CodeLine). code_line x ∷ zs) (map_append xs ys)
 
-lines_append : (f : FramedFunction) (es : List Entry) (ls : List CodeLine) (es' : List Entry) (ls' : List CodeLine) → AreLinesOf f es ls → AreLinesOf f es' ls' →
+lines_append : (f : FramedFunction) (es : List Entry) (ls : List CodeLine) (es' : List Entry) (ls' : List CodeLine) → AreLinesOf f es ls → AreLinesOf f es'
+    ls' →
     AreLinesOf f (es ++ es') (ls ++ ls')
 lines_append f [] [] es' ls' h h' = h'
 lines_append f [] (l ∷ ls) es' ls' h h' = absurd h

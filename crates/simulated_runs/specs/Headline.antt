@@ -40,7 +40,8 @@ pub record IsBeside (src : Program) (image : Image) (lists : VarId → (address 
 -- Where the headline holds of an image that shows the code, and what answers calls gives sound answers, a run of the simulator from a
 -- start comes to a state beside the source, which takes the same answers.
 abbrev pub RunsMeetTheHeadline : (gives : CallEvent → Reply → Type 0) → (lists : VarId → (address : ℕ) → Place → Type 0) → Type 0
-RunsMeetTheHeadline gives lists = (source : Function) (resolve : OperandPair → Option OperandPair) (image : Image) (c : LaidCode) (from now : Hart) (s0 : State) →
+RunsMeetTheHeadline gives lists = (source : Function) (resolve : OperandPair → Option OperandPair) (image : Image) (c : LaidCode) (from now : Hart)
+    (s0 : State) →
     Headline source resolve image lists → ShowsCode c image → ((e : CallEvent) (r : Reply) → gives e r → IsReply r) → StartsAt source s0 →
     StandsFor from (machine_start image s0) → Runs gives c from now →
     (answers : List Reply) × IsBeside (program_of true source.blocks resolve) image lists (with_script answers s0) now

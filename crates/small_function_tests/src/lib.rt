@@ -1,5 +1,5 @@
-//! Tests of the layout, the listing and the values of the smallest function. They stand in a crate of their own, so that
-//! nothing above those waits for them.
+//! Tests of the layout, the listing and the values of the smallest function. They stand in a crate of their own, so
+//! that nothing above those waits for them.
 #![tactic(auto)]
 
 #[cfg(test)]

@@ -1,5 +1,6 @@
 -- Numbers that stand on code once: of which items none has the number of some code, and what items may be put, changed or taken out.
-use Rattle.std.proofs.Common.{◌≡◌, ◌⊎◌, inl, inr, ℕ, zero, suc, ◌<◌, List, [], ◌∷◌, ◌++◌, length, get_or, All, Option, Some, None, slice_get, refl, sym, ap, ◌∙◌, arith}
+use Rattle.std.proofs.Common.{◌≡◌, ◌⊎◌, inl, inr, ℕ, zero, suc, ◌<◌, List, [], ◌∷◌, ◌++◌, length, get_or, All, Option, Some, None, slice_get, refl}
+use Rattle.std.proofs.Common.{sym, ap, ◌∙◌, arith}
 use Rattle.std.proofs.lemmas.List.Elements.{All-nil, All-cons, All-head, All-tail}
 use Rattle.std.proofs.lemmas.Option.{slice_get-get_or, slice_get_within, get_or_from_slice_get}
 use Rattle.mir_func.specs.declared.item.Item.{Item}
@@ -131,7 +132,8 @@ once_fewer (keeps {x = x} {y = z} {xs = xs} {ys = ys} h more) once = by_index (o
   by_index rest zero (suc j) a b k at c at' n =
       let same : z ≡ a = cc in
       let w = was more j b k at' n in
-      let e : zero ≡ suc w.index = once zero (suc w.index) x w.item k refl (h.code k (ap (λ (i : Item). code_number i.kind) same ∙ c)) w.at (w.other.number k n) in
+      let e : zero ≡ suc w.index = once zero (suc w.index) x w.item k refl (h.code k (ap (λ (i : Item). code_number i.kind) same ∙ c)) w.at
+          (w.other.number k n) in
       absurd (omega (arith, e))
   by_index rest (suc i) zero a b k at c at' n =
       let same : z ≡ b = cc in

@@ -14,7 +14,8 @@ use Rattle.mir_func.specs.Exits.{row_exit, exit_of, IsAlways}
 use Rattle.mir_func.specs.Graph.{Program}
 use Rattle.mir_func.specs.Sound.{IsJumpAtMost, MayFollow, EndsWell}
 use Rattle.mir_meaning.specs.State.{Core, Reply, writes_frame}
-use Rattle.mir_meaning.specs.Step.{Outcome, Falls, Goes, Gives, Traps, Asks, Breaks, act, does, are_written, with_core, numbered, slot_loaded, answered, read, do_item}
+use Rattle.mir_meaning.specs.Step.{Outcome, Falls, Goes, Gives, Traps, Asks, Breaks, act, does, are_written, with_core, numbered, slot_loaded}
+use Rattle.mir_meaning.specs.Step.{answered, read, do_item}
 use Rattle.mir_meaning.specs.Step.{is_fault, address_at}
 use Rattle.sound_edits.specs.Edits.{IsMove}
 
@@ -61,7 +62,8 @@ with_nowhere f Asks h t e k = cc
 with_nowhere f Breaks h t e k = cc
 
 pub goes_nowhere : (g : Program) (k : ItemKind) (c : Core) → exit_of k ≡ Onward → GoesNowhere (do_item g k c)
-goes_nowhere g (Code i n) c on t e h = with_nowhere (numbered g.sees_pointer (is_call (row_of i)) n i.operands) (act (row_of i) c) (act_nowhere (row_of i) c on) t e h
+goes_nowhere g (Code i n) c on t e h = with_nowhere (numbered g.sees_pointer (is_call (row_of i)) n i.operands) (act (row_of i) c)
+    (act_nowhere (row_of i) c on) t e h
 goes_nowhere g (Mark v m) c on t e h = cc
 goes_nowhere g (Phi p n) c on t e h = cc
 

@@ -16,7 +16,8 @@ use Rattle.mir_func.specs.Exits.{exit_of, IsAlways, Leaves}
 use Rattle.mir_func.specs.Function.{Function}
 use Rattle.mir_func.specs.Objects.{AreLaidFrom}
 use Rattle.mir_func.specs.Limits.{MAX_BLOCKS, MAX_SLOTS}
-use Rattle.mir_func.specs.Sound.{AreApart, AllItems, ids_of, items_of, NumbersOnce, OriginIn, TargetsIn, SlotsIn, ObjectsIn, LeavesPointer, IsJumpAtMost, MayFollow}
+use Rattle.mir_func.specs.Sound.{AreApart, AllItems, ids_of, items_of, NumbersOnce, OriginIn, TargetsIn, SlotsIn, ObjectsIn, LeavesPointer}
+use Rattle.mir_func.specs.Sound.{IsJumpAtMost, MayFollow}
 use Rattle.mir_func.specs.Sound.{EndsWell, Closes, LastCloses, IsSoundObject, IsSound}
 use Rattle.mir_meaning.specs.Align.{position_of}
 use Rattle.sound_edits.specs.Edits.{SameButNumber, same_code, same_kind, IsMove, phi_before, AreEdited, no_items, stays, with_phi, goes}

@@ -30,7 +30,8 @@ module _ (files : List SourceFile) (meta : Maps) (unit : SourceFile) (blocks : L
       by true same new = same
       by false same new = (omega (arith, here, low), new)
 
-  pub sequence_is : (a : ℕ) (es : List Entry) (end : ℕ) → StandFrom a es end → All IsSequence (sequence_if (changes None (rows_in files meta unit blocks es)) end)
+  pub sequence_is : (a : ℕ) (es : List Entry) (end : ℕ) → StandFrom a es end → All IsSequence
+      (sequence_if (changes None (rows_in files meta unit blocks es)) end)
   sequence_is a [] end at = All-nil IsSequence
   sequence_is a (e ∷ es) end (here, sized, rest) =
       All-cons IsSequence _ [] (ascend (a + e.size) es end rest e.address (Some (row e)) (omega (arith, here))) (All-nil IsSequence)

@@ -1,6 +1,7 @@
 -- The names of a table have no zero byte.
 -- Plan: a name up to its first zero byte has none; each file is of such names or has none at all, and so is each that is used.
-use Rattle.std.proofs.Common.{◌≡◌, ℕ, ◌<◌, Bool, true, false, List, [], ◌∷◌, ◌++◌, map, length, take, eqb, if◌then◌else◌, Some, None, arith, sym, subst, get_or-take, min}
+use Rattle.std.proofs.Common.{◌≡◌, ℕ, ◌<◌, Bool, true, false, List, [], ◌∷◌, ◌++◌, map, length, take, eqb, if◌then◌else◌, Some, None, arith, sym}
+use Rattle.std.proofs.Common.{subst, get_or-take, min}
 use Rattle.std.proofs.lemmas.List.{length-take}
 use Rattle.std.specs.Prelude.{Option, All}
 use Rattle.std.specs.List.{flat_map, list_any, position_or_len}

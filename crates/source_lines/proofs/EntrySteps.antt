@@ -10,12 +10,14 @@ use Rattle.source_lines.proofs.FirstUses.{joined_only}
 pub record EntriesSoFar {Z : Type 0} (keys rest : List (Vec ℕ Z × Vec ℕ Z)) (dirs : List (List ℕ)) (files : List FileEntry) : Type 0 where
   pub few : length dirs + length rest ≤ length keys
   pub known : first_uses is_name dirs (map (λ f. f.dir) (map seen rest)) ≡ dirs_of (map seen keys)
-  pub listed : (more : List (List ℕ)) → files ++ map (entry_in (dirs ++ more)) (map seen rest) ≡ entry_zero (map seen keys) ++ map (entry_in (dirs ++ more)) (map seen keys)
+  pub listed : (more : List (List ℕ)) → files ++ map (entry_in (dirs ++ more)) (map seen rest) ≡ entry_zero (map seen keys) ++ map (entry_in (dirs ++ more))
+      (map seen keys)
 
 pub entries_start : {Z : Type 0} (keys : List (Vec ℕ Z × Vec ℕ Z)) → EntriesSoFar keys keys [] (entry_zero (map seen keys))
 entries_start keys = record { few = omega arith; known = refl; listed = λ more. refl }
 
-pub entries_next : {Z : Type 0} (keys rest : List (Vec ℕ Z × Vec ℕ Z)) (k : Vec ℕ Z × Vec ℕ Z) (dirs dirs_ : List (List ℕ)) (files files_ : List FileEntry) (n : ℕ) (name : List ℕ)
+pub entries_next : {Z : Type 0} (keys rest : List (Vec ℕ Z × Vec ℕ Z)) (k : Vec ℕ Z × Vec ℕ Z) (dirs dirs_ : List (List ℕ)) (files files_ : List FileEntry)
+    (n : ℕ) (name : List ℕ)
     → EntriesSoFar keys (k ∷ rest) dirs files
     → dirs_ ≡ with_new is_name dirs k.1.items
     → ((more : List (List ℕ)) → n ≡ position_or_len (is_name k.1.items) (dirs_ ++ more))

@@ -1,6 +1,7 @@
 -- What keys of names and directories are seen as.
 -- Plan: equal keys are seen as one file, so a test of a key among keys is that of its file among files.
-use Rattle.std.proofs.Common.{◌≡◌, ℕ, Bool, true, false, cond, ◌&&◌, ◌||◌, if◌then◌else◌, List, [], ◌∷◌, ◌++◌, map, refl, sym, ◌∙◌, ap, not, ◌+◌, ◌<◌, length, None, arith}
+use Rattle.std.proofs.Common.{◌≡◌, ℕ, Bool, true, false, cond, ◌&&◌, ◌||◌, if◌then◌else◌, List, [], ◌∷◌, ◌++◌, map, refl, sym, ◌∙◌, ap, not, ◌+◌, ◌<◌}
+use Rattle.std.proofs.Common.{length, None, arith}
 use Rattle.std.specs.Prelude.{Option}
 use Rattle.meta_reader.specs.declared.node.FileNode.{FileNode}
 use Rattle.std.specs.Prelude.{Vec, nat_eq}
@@ -33,7 +34,8 @@ unit_known [] some = absurd (omega (arith, some))
 unit_known (f ∷ fs) some = ap (λ b. if b || list_any (is_file f) fs then f ∷ fs else (f ∷ fs) ++ f ∷ []) (sym (file_same f))
 
 -- the unit stays in front
-pub unit_stays : (files : List SourceFile) (f : SourceFile) → 0 < length files → (unit_in (with_new is_file files f) ≡ unit_in files) × (0 < length (with_new is_file files f))
+pub unit_stays : (files : List SourceFile) (f : SourceFile) → 0 < length files → (unit_in (with_new is_file files f) ≡ unit_in files) ×
+    (0 < length (with_new is_file files f))
 unit_stays [] f some = absurd (omega (arith, some))
 unit_stays (g ∷ gs) f some = by (list_any (is_file f) (g ∷ gs))
   where
@@ -81,7 +83,8 @@ key_number keys joined k name dir index more e n d at =
     at ∙ position_map seen (is_key k) (is_file (seen k)) (λ x. refl) keys
     ∙ (λ i. position_or_len (is_file (record { name = n i; dir = d i })) (map seen keys)) in
     let kept : position_or_len (is_file f) (map seen joined ++ more) ≡ position_or_len (is_file f) (map seen keys) =
-    ap (λ fs. position_or_len (is_file f) (fs ++ more)) (key_known keys joined k (map seen keys) name dir refl e n d) ∙ number_kept is_file file_same (map seen keys) more f in
+    ap (λ fs. position_or_len (is_file f) (fs ++ more)) (key_known keys joined k (map seen keys) name dir refl e n d) ∙ number_kept is_file file_same
+        (map seen keys) more f in
     omega (arith, place, kept)
 
 -- the same of names alone

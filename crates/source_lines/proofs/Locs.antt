@@ -20,7 +20,8 @@ use Rattle.source_lines.specs.Lines.{first_loc, loc_if_code, loc_of}
 use Rattle.source_lines.specs.steps.Places.{loc_at, loc_among, AreLocs}
 
 absent_at : (n k : ℕ) → loc_at (replicate n Absent) k ≡ Absent
-absent_at n k = elim (cases_lt k n) [ inl within ↦ get_or-replicate n k Absent Absent within | inr past ↦ get_or_past (replicate n Absent) k Absent (rw length-replicate past) ]
+absent_at n k = elim (cases_lt k n) [ inl within ↦ get_or-replicate n k Absent Absent within | inr past ↦ get_or_past (replicate n Absent) k Absent
+    (rw length-replicate past) ]
 
 pub first_at : (items : List Item) (i : ℕ) (item : Item) (next : Loc) → i < length items → item ≡ get_or items i item → next ≡ first_loc (drop (i + 1) items)
     → loc_if_code item.kind item.loc next ≡ first_loc (drop i items)
@@ -55,7 +56,8 @@ by_order k q Greater gt = sym (ne_eqb k q (λ e. omega (arith, gt, e)))
 same_key : (k q : ℕ) → is_eq (nat_cmp k q) ≡ eqb k q
 same_key k q = by_order k q (nat_cmp k q) (ranked k q (nat_cmp k q) refl)
 
-among_cond : {Z : Type 0} (z : Bool) (v : Vec Loc Z) (o : Option (Vec Loc Z)) (k : ℕ) → loc_among (cond z (Some v) o) k ≡ cond z (loc_at v.items k) (loc_among o k)
+among_cond : {Z : Type 0} (z : Bool) (v : Vec Loc Z) (o : Option (Vec Loc Z)) (k : ℕ) → loc_among (cond z (Some v) o) k ≡ cond z (loc_at v.items k)
+    (loc_among o k)
 among_cond true v o k = refl
 among_cond false v o k = refl
 

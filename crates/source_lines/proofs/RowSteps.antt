@@ -1,7 +1,8 @@
 -- The rows of a function, as its entries are gone through.
 -- Plan: what is listed, with the changes among the rows of the entries left, is the changes among all rows. Files that join later change
 -- no number, so this is said for whatever files join; a step takes it at the files that the step itself adds.
-use Rattle.std.proofs.Common.{◌≡◌, ◌+◌, ◌≤◌, ◌<◌, Bool, true, false, cond, List, [], ◌∷◌, ◌++◌, length, refl, sym, ◌∙◌, ap, arith, append_assoc, Some, None, suc, subst}
+use Rattle.std.proofs.Common.{◌≡◌, ◌+◌, ◌≤◌, ◌<◌, Bool, true, false, cond, List, [], ◌∷◌, ◌++◌, length, refl, sym, ◌∙◌, ap, arith, append_assoc, Some}
+use Rattle.std.proofs.Common.{None, suc, subst}
 use Rattle.std.specs.Prelude.{Option}
 use Rattle.dwarf_line.specs.declared.table.Row.{Row}
 use Rattle.meta_reader.specs.Maps.{Maps}
@@ -17,16 +18,19 @@ use Rattle.source_lines.specs.steps.Places.{ArePlaces}
 use Rattle.source_lines.proofs.FirstUses.{joined_only}
 use Rattle.source_lines.proofs.Keys.{unit_stays}
 
-pub record SoFar (meta : Maps) (places : Places) (first files : List SourceFile) (entries rest : List Entry) (before : Option Row) (rows : List Row) : Type 0 where
+pub record SoFar (meta : Maps) (places : Places) (first files : List SourceFile) (entries rest : List Entry) (before : Option Row) (rows : List Row) : Type
+    0 where
   pub unit : 0 < length files
   pub led : unit_in files ≡ unit_in first
   pub few : length files + length rest ≤ length first + length entries
   pub known : (blocks : List Block) → ArePlaces blocks places
       → first_uses is_file files (uses_in meta (unit_in first) blocks rest) ≡ first_uses is_file first (uses_in meta (unit_in first) blocks entries)
   pub listed : (blocks : List Block) (more : List SourceFile) → ArePlaces blocks places
-      → rows ++ changes before (rows_in (files ++ more) meta (unit_in first) blocks rest) ≡ changes None (rows_in (files ++ more) meta (unit_in first) blocks entries)
+      → rows ++ changes before (rows_in (files ++ more) meta (unit_in first) blocks rest) ≡ changes None
+          (rows_in (files ++ more) meta (unit_in first) blocks entries)
 
-pub starts : (meta : Maps) (places : Places) (first : List SourceFile) (entries : List Entry) → 0 < length first → SoFar meta places first first entries entries None []
+pub starts : (meta : Maps) (places : Places) (first : List SourceFile) (entries : List Entry) → 0 < length first → SoFar meta places first first entries
+    entries None []
 starts meta places first entries unit = record { unit = unit; led = refl; few = omega arith; known = λ blocks are. refl; listed = λ blocks more are. refl }
 
 row_step : (before : Option Row) (rows : List Row) (r : Row) (rr : List Row)
@@ -38,7 +42,8 @@ row_step before rows r rr = by (is_place_before before r)
     by true = refl
     by false = sym (append_assoc rows (r ∷ []) (changes (Some r) rr))
 
-pub next : (meta : Maps) (places : Places) (first files files_ : List SourceFile) (entries rest : List Entry) (e : Entry) (before before_ : Option Row) (rows rows_ : List Row)
+pub next : (meta : Maps) (places : Places) (first files files_ : List SourceFile) (entries rest : List Entry) (e : Entry) (before before_ : Option Row)
+    (rows rows_ : List Row)
     (r : Row) (loc : Loc)
     → SoFar meta places first files entries (e ∷ rest) before rows
     → ((blocks : List Block) → ArePlaces blocks places → loc ≡ loc_of blocks (position_of e.origin))
@@ -52,7 +57,8 @@ next meta places first files files_ entries rest e before before_ rows rows_ r l
     let file = (line_at meta (unit_in files) loc).file in
     let stays = unit_stays files file so.unit in
     let more_files = joined_only is_file files file in
-    let led_line : (blocks : List Block) → ArePlaces blocks places → line_at meta (unit_in files) loc ≡ line_at meta (unit_in first) (loc_of blocks (position_of e.origin)) =
+    let led_line : (blocks : List Block) → ArePlaces blocks places → line_at meta (unit_in files) loc ≡ line_at meta (unit_in first)
+        (loc_of blocks (position_of e.origin)) =
     λ blocks are. λ i. line_at meta (so.led i) (found blocks are i) in
     record {
       unit = let P : List SourceFile → Type 0 = λ fs. 0 < length fs in subst P (sym joins) stays.1;

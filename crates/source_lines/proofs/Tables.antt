@@ -1,7 +1,8 @@
 -- The table of a program, as its functions are gone through.
 -- Plan: as with rows: the sequences listed, with those of the functions left, are all, whatever files join later. A function has at most as
 -- many entries as words, so the files stay few.
-use Rattle.std.proofs.Common.{◌≡◌, ℕ, suc, ◌+◌, ◌*◌, ◌≤◌, ◌<◌, Bool, true, false, cond, List, [], ◌∷◌, ◌++◌, length, refl, sym, ◌∙◌, ap, arith, append_assoc, append-nil, subst}
+use Rattle.std.proofs.Common.{◌≡◌, ℕ, suc, ◌+◌, ◌*◌, ◌≤◌, ◌<◌, Bool, true, false, cond, List, [], ◌∷◌, ◌++◌, length, refl, sym, ◌∙◌, ap, arith}
+use Rattle.std.proofs.Common.{append_assoc, append-nil, subst}
 use Rattle.std.specs.List.{flat_map}
 use Rattle.dwarf_line.specs.declared.table.Sequence.{Sequence}
 use Rattle.meta_reader.specs.Maps.{Maps}
@@ -36,9 +37,11 @@ pub record TableSoFar (meta : Maps) (unit : SourceFile) (functions rest : List C
   pub led : unit_in files ≡ unit
   pub few : length files + 262144 * length rest ≤ 1 + 262144 * length functions
   pub known : first_uses is_file files (flat_map (function_uses meta unit) rest) ≡ files_of unit (flat_map (function_uses meta unit) functions)
-  pub listed : (more : List SourceFile) → sequences ++ flat_map (sequences_of (files ++ more) meta unit) rest ≡ flat_map (sequences_of (files ++ more) meta unit) functions
+  pub listed : (more : List SourceFile) → sequences ++ flat_map (sequences_of (files ++ more) meta unit) rest ≡ flat_map
+      (sequences_of (files ++ more) meta unit) functions
 
-pub table_starts : (meta : Maps) (unit : SourceFile) (functions : List Compiled) (files : List SourceFile) → files ≡ unit ∷ [] → TableSoFar meta unit functions functions files []
+pub table_starts : (meta : Maps) (unit : SourceFile) (functions : List Compiled) (files : List SourceFile) → files ≡ unit ∷ [] → TableSoFar meta unit
+    functions functions files []
 table_starts meta unit functions files e = record {
   some = let n : length files ≡ 1 = ap length e in omega (arith, n);
   led = ap unit_in e;
@@ -51,7 +54,8 @@ longer_unit : (files more : List SourceFile) → 0 < length files → (unit_in (
 longer_unit [] more some = absurd (omega (arith, some))
 longer_unit (f ∷ fs) more some = (refl, omega arith)
 
-pub table_next : (meta : Maps) (unit : SourceFile) (functions rest : List Compiled) (f : Compiled) (files files_ : List SourceFile) (sequences sequences_ : List Sequence)
+pub table_next : (meta : Maps) (unit : SourceFile) (functions rest : List Compiled) (f : Compiled) (files files_ : List SourceFile)
+    (sequences sequences_ : List Sequence)
     → TableSoFar meta unit functions (f ∷ rest) files sequences
     → files_ ≡ first_uses is_file files (function_uses meta (unit_in files) f)
     → ((more : List SourceFile) → sequences_ ≡ sequences ++ sequences_of (files_ ++ more) meta (unit_in files) f)
@@ -66,18 +70,21 @@ table_next meta unit functions rest f files files_ sequences sequences_ so joins
       led = ap unit_in is ∙ stays.0 ∙ so.led;
       few = let so_few : length files + 262144 * suc (length rest) ≤ 1 + 262144 * length functions = so.few in omega (arith, so_few, few);
       known =
-          ap (λ fs. first_uses is_file fs (flat_map (function_uses meta unit) rest)) (joins ∙ ap (λ u. first_uses is_file files (function_uses meta u f)) so.led)
+          ap (λ fs. first_uses is_file fs (flat_map (function_uses meta unit) rest))
+              (joins ∙ ap (λ u. first_uses is_file files (function_uses meta u f)) so.led)
           ∙ sym (uses_append is_file files (function_uses meta unit f) (flat_map (function_uses meta unit) rest)) ∙ so.known;
       listed = λ more.
           let all : files_ ++ more ≡ files ++ (longer.0 ++ more) = ap (λ fs. fs ++ more) is ∙ append_assoc files longer.0 more in
           let P : List SourceFile → Type 0 = λ fs.
           sequences ++ flat_map (sequences_of fs meta unit) (f ∷ rest) ≡ flat_map (sequences_of fs meta unit) functions in
-          ap (λ ss. ss ++ flat_map (sequences_of (files_ ++ more) meta unit) rest) (lists more ∙ ap (λ u. sequences ++ sequences_of (files_ ++ more) meta u f) so.led)
+          ap (λ ss. ss ++ flat_map (sequences_of (files_ ++ more) meta unit) rest)
+              (lists more ∙ ap (λ u. sequences ++ sequences_of (files_ ++ more) meta u f) so.led)
           ∙ append_assoc sequences (sequences_of (files_ ++ more) meta unit f) (flat_map (sequences_of (files_ ++ more) meta unit) rest)
           ∙ subst P (sym all) (so.listed (longer.0 ++ more));
     }
 
-pub table_done : (meta : Maps) (functions : List Compiled) (unit : SourceFile) (files : List SourceFile) (sequences : List Sequence) (dirs : List (List ℕ)) (entries : List FileEntry)
+pub table_done : (meta : Maps) (functions : List Compiled) (unit : SourceFile) (files : List SourceFile) (sequences : List Sequence) (dirs : List (List ℕ))
+    (entries : List FileEntry)
     → unit ≡ program_file meta functions → TableSoFar meta unit functions [] files sequences → dirs ≡ dirs_of files → entries ≡ entries_of files
     → record { dirs = dirs; files = entries; sequences = sequences } ≡ table_of meta functions
 unfolding table_of

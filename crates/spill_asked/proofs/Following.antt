@@ -1,5 +1,6 @@
 -- What followed a source follows it where marks ask by phis.
-use Rattle.std.proofs.Common.{◌≡◌, ◌⊎◌, inl, inr, ℕ, zero, suc, ◌<◌, ◌≤◌, List, [], ◌∷◌, length, All, Contains, Option, Some, None, true, false, refl, sym, ap, ◌∙◌}
+use Rattle.std.proofs.Common.{◌≡◌, ◌⊎◌, inl, inr, ℕ, zero, suc, ◌<◌, ◌≤◌, List, [], ◌∷◌, length, All, Contains, Option, Some, None, true, false, refl}
+use Rattle.std.proofs.Common.{sym, ap, ◌∙◌}
 use Rattle.std.proofs.Common.{subst, arith}
 use Rattle.std.proofs.lemmas.List.Elements.{All-nil, All-cons, All-head, All-tail}
 use Rattle.std.specs.Prelude.{IsTrue}
@@ -21,7 +22,8 @@ use Rattle.mir_func.specs.Resolve.{resolve}
 use Rattle.mir_func.specs.Sound.{AllItems, IsSound}
 use Rattle.mir_meaning.specs.State.{State}
 use Rattle.mir_meaning.specs.Align.{Count, ByItems, ByEnds}
-use Rattle.mir_meaning.specs.Follow.{first_of, Among, none, left, InOrder, next_rank, rank, KindFits, MarkFits, OnRow, Counts, GoesTo, IsMetApart, Shape, Follows}
+use Rattle.mir_meaning.specs.Follow.{first_of, Among, none, left, InOrder, next_rank, rank, KindFits, MarkFits, OnRow, Counts, GoesTo, IsMetApart}
+use Rattle.mir_meaning.specs.Follow.{Shape, Follows}
 use Rattle.mir_meaning.specs.Follow.{IsEnd, KindsEndAlike, EndIsKept, EndComesFrom, HasWholeEnds, IsStart}
 use Rattle.mir_meaning.specs.Follow.Among.{same as still}
 use Rattle.follow_law.specs.Change.{change}
@@ -68,7 +70,8 @@ module _ (least : ℕ) where
       (order_on fs gs rest (All-tail (λ (c : Block). InOrder c.id 0 c.items) a fs h))
 
   -- what holds of each item, and of a mark of a number where it holds of one of a register
-  module _ (P : ℕ → ItemKind → Origin → Type 0) (marks : (n : ℕ) (v : VarId) (r k : ℕ) (o : Origin) → P n (Mark v (At r)) o → P n (Mark v (Pair (first_operand k))) o) where
+  module _ (P : ℕ → ItemKind → Origin → Type 0) (marks : (n : ℕ) (v : VarId) (r k : ℕ) (o : Origin) → P n (Mark v (At r)) o → P n
+      (Mark v (Pair (first_operand k))) o) where
     abbrev Each : ℕ → Item → Type 0
     Each n i = P n i.kind i.origin
 
@@ -80,11 +83,13 @@ module _ (least : ℕ) where
         All-cons (Each n) x (w ∷ ys) (All-head (Each n) x (z ∷ xs) h)
         (All-cons (Each n) w ys (marks n v r k o (All-head (Each n) z xs later)) (each_in n xs ys rest (All-tail (Each n) z xs later)))
 
-    each_on : (fs gs : List Block) → BlocksReask least fs gs → All (λ (b : Block). All (Each b.silent) b.items) fs → All (λ (b : Block). All (Each b.silent) b.items) gs
+    each_on : (fs gs : List Block) → BlocksReask least fs gs → All (λ (b : Block). All (Each b.silent) b.items) fs → All
+        (λ (b : Block). All (Each b.silent) b.items) gs
     each_on fs gs over h = h
     each_on (a ∷ fs) (b ∷ gs) (further id silent items rest) h =
         All-cons (λ (c : Block). All (Each c.silent) c.items) b gs
-        (subst (λ (n : ℕ). All (Each n) b.items) (sym silent) (each_in a.silent a.items b.items items (All-head (λ (c : Block). All (Each c.silent) c.items) a fs h)))
+        (subst (λ (n : ℕ). All (Each n) b.items) (sym silent) (each_in a.silent a.items b.items items
+            (All-head (λ (c : Block). All (Each c.silent) c.items) a fs h)))
         (each_on fs gs rest (All-tail (λ (c : Block). All (Each c.silent) c.items) a fs h))
 
   mark_fits : (n : ℕ) (v : VarId) (r k : ℕ) (o : Origin) → MarkFits (Mark v (At r)) o → MarkFits (Mark v (Pair (first_operand k))) o
@@ -130,7 +135,8 @@ module _ (least : ℕ) where
             i.origin ≡ Before (record { block = b.id; item = b.silent }) → (q : Pos) × (j : Item) × IsMetApart gp p b.silent q j
         stores_on b member p i home at save o =
             let a = old_block fs gs rel b member in
-            let origin : i.origin ≡ Before (record { block = a.0.id; item = a.0.silent }) = o ∙ (λ z. Before (record { block = sym a.2 z; item = sym a.3 z })) in
+            let origin : i.origin ≡ Before (record { block = a.0.id; item = a.0.silent }) = o ∙
+                (λ z. Before (record { block = sym a.2 z; item = sym a.3 z })) in
             let w = shape.stores a.0 a.1 p i (home ∙ sym a.2) (code_back least fs gs rel (resolve subs) p i at (on_code IsSlotStore i.kind save)) save origin in
             let met : IsMetApart fp p b.silent w.0 w.1 = subst (λ (n : ℕ). IsMetApart fp p n w.0 w.1) a.3 w.2 in
             (w.0, w.1, met_on p b.silent w.0 w.1 met)
@@ -144,7 +150,8 @@ module _ (least : ℕ) where
           let h = subst (λ (bs : List Block). Follows source.function.objects source.function.blocks bs (resolve source.subs) (resolve subs)) is fol.follows in
           record {
             objects = objects ∙ fol.objects;
-            follows = subst (λ (bs : List Block). Follows source.function.objects source.function.blocks bs (resolve source.subs) (resolve subs)) (sym is') (record {
+            follows = subst (λ (bs : List Block). Follows source.function.objects source.function.blocks bs (resolve source.subs) (resolve subs)) (sym is')
+                (record {
               shape = shape_on source.function.blocks srcp h.shape;
               runs = λ s start. runs_on least fs gs rel subs low ByItems srcp (first_of source.function.blocks) s start.pos (h.runs s start);
             });

@@ -1,5 +1,6 @@
 -- What stands where, where marks ask for the numbers of phis right before them.
-use Rattle.std.proofs.Common.{◌≡◌, ◌⊎◌, inl, inr, ℕ, zero, suc, ◌+◌, ◌<◌, ◌≤◌, List, [], ◌∷◌, ◌++◌, drop, length, All, Contains, Option, Some, None, Bool, true, false}
+use Rattle.std.proofs.Common.{◌≡◌, ◌⊎◌, inl, inr, ℕ, zero, suc, ◌+◌, ◌<◌, ◌≤◌, List, [], ◌∷◌, ◌++◌, drop, length, All, Contains, Option, Some, None}
+use Rattle.std.proofs.Common.{Bool, true, false}
 use Rattle.std.proofs.Common.{cond, nat_eq, refl, sym, ap, ◌∙◌, subst, arith}
 use Rattle.std.proofs.lemmas.List.Elements.{All-nil, All-cons, All-head, All-tail}
 use Rattle.rv64_instr.specs.declared.place.Place.TheVariants.{Register}
@@ -15,7 +16,8 @@ use Rattle.mir_func.specs.declared.position.Origin.{Origin}
 use Rattle.mir_func.specs.declared.position.Pos.{Pos}
 use Rattle.mir_func.specs.declared.variable.MarkValue.TheVariants.{At, Pair}
 use Rattle.mir_func.specs.declared.variable.VarId.{VarId}
-use Rattle.mir_func.specs.Graph.{Program, Fetch, Here, Silent, Outside, below, block_start, end_of, front, fetch_in, from_block, program_of, FetchEdge, Edge, Leads, stay, go}
+use Rattle.mir_func.specs.Graph.{Program, Fetch, Here, Silent, Outside, below, block_start, end_of, front, fetch_in, from_block, program_of}
+use Rattle.mir_func.specs.Graph.{FetchEdge, Edge, Leads, stay, go}
 use Rattle.mir_meaning.specs.Align.{is_code}
 use Rattle.mir_meaning.specs.Follow.{OnRow, KindsEndAlike}
 use Rattle.follow_law.specs.Rule.{item, item_before, first_operand}

@@ -34,7 +34,8 @@ module _ (least : ℕ) where
   -- and the blocks
   pub data BlocksReask : List Block → List Block → Type 0 where
     over : BlocksReask [] []
-    further : {a b : Block} {fs gs : List Block} → b.id ≡ a.id → b.silent ≡ a.silent → Reasks a.items b.items → BlocksReask fs gs → BlocksReask (a ∷ fs) (b ∷ gs)
+    further : {a b : Block} {fs gs : List Block} → b.id ≡ a.id → b.silent ≡ a.silent → Reasks a.items b.items → BlocksReask fs gs → BlocksReask (a ∷ fs)
+        (b ∷ gs)
 
   module _ (s : Spilling) where
     mark_reasks : (k : ℕ) → least ≤ k → (v : VarId) (r : ℕ) (home : Option ℕ) (o : Origin) (l : Loc) (xs ys : List Item) → Reasks xs ys →
@@ -59,7 +60,8 @@ module _ (least : ℕ) where
 
     pub blocks_reask : (k : ℕ) → least ≤ k → (bs : List Block) → BlocksReask (blocks_put s k bs) (blocks_asked s k bs)
     blocks_reask k le [] = over
-    blocks_reask k le (b ∷ bs) = further refl refl (items_reask k le b.items) (blocks_reask (number_behind s.homes k b.items) (behind_low s least k b.items le) bs)
+    blocks_reask k le (b ∷ bs) = further refl refl (items_reask k le b.items)
+        (blocks_reask (number_behind s.homes k b.items) (behind_low s least k b.items le) bs)
 
   -- ---- from the second to the first
 
@@ -125,7 +127,8 @@ module _ (least : ℕ) where
   back_origins (a ∷ fs) (b ∷ gs) (further id silent items rest) h =
       All-cons (λ (c : Block). All (λ (i : Item). OriginIn c i.origin) c.items) a fs
       (all_weaker (λ i. OriginIn b i.origin) (λ i. OriginIn a i.origin) (λ x inside. same_home a b id silent x.origin inside) a.items
-      (back_items (λ kind o. OriginIn b o) (λ v m m' o k. k) a.items b.items items (All-head (λ (c : Block). All (λ (i : Item). OriginIn c i.origin) c.items) b gs h)))
+      (back_items (λ kind o. OriginIn b o) (λ v m m' o k. k) a.items b.items items
+          (All-head (λ (c : Block). All (λ (i : Item). OriginIn c i.origin) c.items) b gs h)))
       (back_origins fs gs rest (All-tail (λ (c : Block). All (λ (i : Item). OriginIn c i.origin) c.items) b gs h))
 
   pub sound_back : (g : Function) (fs : List Block) → BlocksReask fs g.blocks → IsSound g → IsSound (record g { blocks = fs })

@@ -83,7 +83,8 @@ module _ (least : ℕ) where
     item_put x y (silent_phi {p} {n}) c d h = phi_both Everywhere IsFree f g (Some p) None n c d h (λ far w e. cc)
 
     code_put : (x y : Item) → IsPut least x y → (c d : Core) → Cores c d → OutcomesAlike Cores (λ t. Cores) (do_item f x.kind c) (do_item g y.kind d)
-    code_put x y how c d h = alike_of Cores (λ t. Cores) Cores (do_item f x.kind c) (do_item g y.kind d) (λ e e' r. r) (λ t e e' go r. r) (item_put x y how c d h)
+    code_put x y how c d h = alike_of Cores (λ t. Cores) Cores (do_item f x.kind c) (do_item g y.kind d) (λ e e' r. r) (λ t e e' go r. r)
+        (item_put x y how c d h)
 
     phi_put : (y : Item) → IsPhi least y → (c d : Core) → Cores c d → FallsInto (λ e. Cores c e) (do_item g y.kind d)
     phi_put y (puts {p} {k} o le) c d h = phi_second Everywhere IsFree g p k c d le h

@@ -4,7 +4,8 @@ ghost use Rattle.std.specs.Prelude.{◌≡◌, ◌<◌, ◌+◌, ◌^◌, ◌&&�
 ghost use Rattle.mir_func.specs.Limits.{MAX_SLOTS};
 ghost use Rattle.follow_law.specs.Causes.{is_named};
 ghost use Rattle.follow_law.specs.Sizes.{greatest};
-ghost use Rattle.spill_rule.specs.Choice.{is_bound, is_looped, lacks_scratch, is_free, candidates, room, chosen, next_slot};
+ghost use Rattle.spill_rule.specs.Choice.{is_bound, is_looped, lacks_scratch, is_free, candidates, room};
+ghost use Rattle.spill_rule.specs.Choice.{chosen, next_slot};
 ghost use Rattle.spill_rule.specs.Choice.{homes_from, spilling_of, entry_of, reason_of};
 ghost use Rattle.spill_choice.specs.Incoming.{is_among};
 ghost use Rattle.spill_choice.specs.Left.{first_reason};
@@ -88,7 +89,8 @@ fn keep_candidates(f: &Func, facts: &Facts, incoming: &[Reg], registers: &mut Ve
 /// Whether code names the register, and nothing prevents that it is spilled.
 fn is_candidate(f: &Func, facts: &Facts, incoming: &[Reg], r: Reg) -> bool
     ensures { result ≡ (is_named f.now r &&
-        is_free (first_reason facts.now.lacks_scratch (is_bound f.now r) (is_among incoming.now r && facts.now.is_looped))) }
+        is_free (first_reason facts.now.lacks_scratch (is_bound f.now r)
+            (is_among incoming.now r && facts.now.is_looped))) }
 {
     is_named(f, r) && reason_of(f, facts, incoming, r).is_none()
 }

@@ -1,5 +1,6 @@
 -- A function whose marks ask by phis is a function still.
-use Rattle.std.proofs.Common.{◌≡◌, ◌⊎◌, inl, inr, ℕ, zero, suc, ◌+◌, ◌<◌, ◌≤◌, List, [], ◌∷◌, ◌++◌, All, Contains, Option, Some, None, Bool, true, false, cond, slice_get}
+use Rattle.std.proofs.Common.{◌≡◌, ◌⊎◌, inl, inr, ℕ, zero, suc, ◌+◌, ◌<◌, ◌≤◌, List, [], ◌∷◌, ◌++◌, All, Contains, Option, Some, None, Bool, true}
+use Rattle.std.proofs.Common.{false, cond, slice_get}
 use Rattle.std.proofs.Common.{refl, sym, ap, ◌∙◌, subst, arith}
 use Rattle.std.specs.List.{cons_option}
 use Rattle.std.proofs.lemmas.List.Concat.{flat_map-cons}
@@ -56,7 +57,8 @@ module _ (s : Spilling) where
     each_kind k (Mark v (At r)) o l h = by_home (slot_of s.homes r) where
       by_home : (z : Option ℕ) → All Each (mark_asked s k v r z o l)
       by_home None = one (item (Mark v (value_left s r)) o l) (passes.marks v (At r) (value_left s r) o h)
-      by_home (Some n) = All-cons Each (item_before (Phi (Some (Register r)) k) o) (item (Mark v (Pair (first_operand k))) o l ∷ []) (passes.puts v (At r) r k o h)
+      by_home (Some n) = All-cons Each (item_before (Phi (Some (Register r)) k) o) (item (Mark v (Pair (first_operand k))) o l ∷ [])
+          (passes.puts v (At r) r k o h)
           (one (item (Mark v (Pair (first_operand k))) o l) (passes.marks v (At r) (Pair (first_operand k)) o h))
 
     pub each_item : (k : ℕ) (xs : List Item) → All Each xs → All Each (items_asked s k xs)
@@ -144,7 +146,8 @@ module _ (s : Spilling) where
     alone x y xs ys like more = grows [] [] no_extra like no_extra (inl refl) (inl refl) more refl
 
     -- it is like what it was
-    like_code : (x : Item) (kind kind' : ItemKind) (o : Origin) (l : Loc) → x.kind ≡ kind → exit_of kind' ≡ exit_of kind → code_number kind' ≡ code_number kind →
+    like_code : (x : Item) (kind kind' : ItemKind) (o : Origin) (l : Loc) → x.kind ≡ kind → exit_of kind' ≡ exit_of kind → code_number kind' ≡ code_number
+        kind →
         number_of kind' ≡ number_of kind → IsLike Fresh x (item kind' o l)
     like_code x kind kind' o l e exit code number =
         record { exit = exit ∙ ap exit_of (sym e); code = code ∙ ap code_number (sym e); number = number ∙ ap number_of (sym e) }
@@ -175,12 +178,14 @@ module _ (s : Spilling) where
           alone x (item (Phi (place_left s p) n) x.origin x.loc) xs (items_asked s k xs)
           (like_code x (Phi p n) (Phi (place_left s p) n) x.origin x.loc e refl refl refl) more
       by_kind (Mark v Nothing) e more =
-          alone x (item (Mark v Nothing) x.origin x.loc) xs (items_asked s k xs) (like_code x (Mark v Nothing) (Mark v Nothing) x.origin x.loc e refl refl refl) more
+          alone x (item (Mark v Nothing) x.origin x.loc) xs (items_asked s k xs)
+              (like_code x (Mark v Nothing) (Mark v Nothing) x.origin x.loc e refl refl refl) more
       by_kind (Mark v (Constant n)) e more =
           alone x (item (Mark v (Constant n)) x.origin x.loc) xs (items_asked s k xs)
           (like_code x (Mark v (Constant n)) (Mark v (Constant n)) x.origin x.loc e refl refl refl) more
       by_kind (Mark v (Pair q)) e more =
-          alone x (item (Mark v (Pair q)) x.origin x.loc) xs (items_asked s k xs) (like_code x (Mark v (Pair q)) (Mark v (Pair q)) x.origin x.loc e refl refl refl) more
+          alone x (item (Mark v (Pair q)) x.origin x.loc) xs (items_asked s k xs)
+              (like_code x (Mark v (Pair q)) (Mark v (Pair q)) x.origin x.loc e refl refl refl) more
       by_kind (Mark v (At r)) e more = by_home v r (slot_of s.homes r) e more
 
     pub grown_blocks : (k : ℕ) → least ≤ k → (bs : List Block) → BlocksGrow Fresh bs (blocks_asked s k bs)
@@ -220,7 +225,8 @@ asked_is_sound s k f sound below =
       slots_apart = sound.slots_apart;
       few_slots = sound.few_slots;
       objects_same = refl;
-      targets = each_block s (λ kind o. TargetsIn (ids_of f.blocks) kind) (plain s (TargetsIn (ids_of f.blocks)) (λ v m. tt) (λ p n. tt)) k f.blocks sound.targets;
+      targets = each_block s (λ kind o. TargetsIn (ids_of f.blocks) kind) (plain s (TargetsIn (ids_of f.blocks)) (λ v m. tt) (λ p n. tt)) k f.blocks
+          sound.targets;
       slots = each_block s (λ kind o. SlotsIn f.slots kind) (slots_pass s f.slots) k f.blocks sound.slots;
       objects = each_block s (λ kind o. ObjectsIn f.objects kind) (plain s (ObjectsIn f.objects) (λ v m. tt) (λ p n. tt)) k f.blocks sound.objects;
       pointer = each_block s (λ kind o. LeavesPointer kind) (plain s LeavesPointer (λ v m. tt) (λ p n. tt)) k f.blocks sound.pointer;

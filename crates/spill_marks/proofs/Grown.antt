@@ -16,7 +16,8 @@ use Rattle.mir_func.specs.Function.{Function}
 use Rattle.mir_func.specs.Objects.{AreLaidFrom}
 use Rattle.mir_func.specs.declared.object.Object.{Object}
 use Rattle.mir_func.specs.Limits.{MAX_BLOCKS, MAX_SLOTS}
-use Rattle.mir_func.specs.Sound.{AreApart, AllItems, ids_of, items_of, number_of, code_number, NumbersOnce, OriginIn, TargetsIn, SlotsIn, ObjectsIn, LeavesPointer}
+use Rattle.mir_func.specs.Sound.{AreApart, AllItems, ids_of, items_of, number_of, code_number, NumbersOnce, OriginIn, TargetsIn, SlotsIn, ObjectsIn}
+use Rattle.mir_func.specs.Sound.{LeavesPointer}
 use Rattle.mir_func.specs.Sound.{IsJumpAtMost, MayFollow, EndsWell, Closes, LastCloses, IsSoundObject, IsSound}
 use Rattle.mir_func.proofs.Checks.{at_get}
 use Rattle.mir_func.proofs.Once.{codes_of, codes_apart, phis_off, once_from, PhiOff, PhisOff, IsCode}
@@ -204,7 +205,8 @@ module _ (Fresh : ℕ → Type 0) where
   all_get P [] h = All-nil P
   all_get P (x ∷ xs) h = All-cons P x xs (h 0 x refl) (all_get P xs (λ i y e. h (suc i) y e))
 
-  once_grown : (fs gs : List Block) → BlocksGrow fs gs → ((k : ℕ) → Fresh k → IsCode (items_of fs) k → ⊥) → NumbersOnce (items_of fs) → NumbersOnce (items_of gs)
+  once_grown : (fs gs : List Block) → BlocksGrow fs gs → ((k : ℕ) → Fresh k → IsCode (items_of fs) k → ⊥) → NumbersOnce (items_of fs) → NumbersOnce
+      (items_of gs)
   once_grown fs gs grow apart once =
       let same : codes_of (items_of gs) ≡ codes_of (items_of fs) = all_codes_grown fs gs grow in
       let S : ℕ → Type 0 = IsCode (items_of fs) in
@@ -256,7 +258,8 @@ module _ (Fresh : ℕ → Type 0) where
         objects_laid = subst (AreLaidFrom 0) (sym keeps.objects_same) sound.objects_laid;
         targets = subst (λ (ns : List ℕ). All (λ (b : Block). All (λ (i : Item). TargetsIn ns i.kind) b.items) g.blocks) (sym ids) keeps.targets;
         slots = keeps.slots;
-        objects = subst (λ (os : List Object). All (λ (b : Block). All (λ (i : Item). ObjectsIn os i.kind) b.items) g.blocks) (sym keeps.objects_same) keeps.objects;
+        objects = subst (λ (os : List Object). All (λ (b : Block). All (λ (i : Item). ObjectsIn os i.kind) b.items) g.blocks) (sym keeps.objects_same)
+            keeps.objects;
         pointer = keeps.pointer;
         numbers = once_grown f.blocks g.blocks grow keeps.fresh sound.numbers;
         origins = keeps.origins;

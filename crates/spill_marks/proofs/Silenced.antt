@@ -1,5 +1,6 @@
 -- The losses of scratch registers: numbers and marks.
-use Rattle.std.proofs.Common.{◌≡◌, ◌⊎◌, inl, inr, ◌↔◌, ℕ, zero, suc, ◌+◌, ◌<◌, List, [], ◌∷◌, ◌++◌, length, All, Contains, Option, Some, None, Bool, true, false, cond, get_or}
+use Rattle.std.proofs.Common.{◌≡◌, ◌⊎◌, inl, inr, ◌↔◌, ℕ, zero, suc, ◌+◌, ◌<◌, List, [], ◌∷◌, ◌++◌, length, All, Contains, Option, Some, None, Bool}
+use Rattle.std.proofs.Common.{true, false, cond, get_or}
 use Rattle.std.proofs.Common.{refl, sym, ap, ◌∙◌, subst, arith}
 use Rattle.std.specs.Prelude.{AllPairs}
 use Rattle.std.specs.List.{filter_map, flat_map, cons_option}
@@ -59,9 +60,11 @@ module _ {Y : Type 0} (h : Item → Option Y) where
       (subst (λ (z : List Y). Contains z y) (flat_map-cons (λ (c : Block). filter_map h c.items) b bs) k)) as
       (λ _. (i : Item) × Contains (items_of (b ∷ bs)) i × (h i ≡ Some y)) [
         | inl here ↦ (let w = found_in b.items y here in
-            (w.0, subst (λ (z : List Item). Contains z w.0) (sym (flat_map-cons (λ (c : Block). c.items) b bs)) (Contains-append_left b.items (items_of bs) w.0 w.1), w.2))
+            (w.0, subst (λ (z : List Item). Contains z w.0) (sym (flat_map-cons (λ (c : Block). c.items) b bs))
+                (Contains-append_left b.items (items_of bs) w.0 w.1), w.2))
         | inr there ↦ (let w = all_found_in bs y there in
-            (w.0, subst (λ (z : List Item). Contains z w.0) (sym (flat_map-cons (λ (c : Block). c.items) b bs)) (Contains-append_right b.items (items_of bs) w.0 w.1), w.2))
+            (w.0, subst (λ (z : List Item). Contains z w.0) (sym (flat_map-cons (λ (c : Block). c.items) b bs))
+                (Contains-append_right b.items (items_of bs) w.0 w.1), w.2))
       ]
 
   all_found_of : (bs : List Block) (y : Y) (i : Item) → Contains (items_of bs) i → h i ≡ Some y → Contains (flat_map (λ b. filter_map h b.items) bs) y

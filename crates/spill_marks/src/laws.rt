@@ -2,8 +2,8 @@
 
 ghost use Rattle.spill_marks.specs.Laws.{AskedIsSound};
 
-/// A sound function is sound where marks of spilled registers ask by phis with fresh numbers, and scratch registers tell
-/// nothing.
+/// A sound function is sound where marks of spilled registers ask by phis with fresh numbers, and scratch registers
+/// tell nothing.
 pub fn asked_is_sound()
     ensures { AskedIsSound }
 {}

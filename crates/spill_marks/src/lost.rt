@@ -19,8 +19,8 @@ use rv64_instr::reg::Reg;
 use spill_code::spilling::{Spilling, slot_of};
 use std::alloc::{AllocError, Global};
 
-/// The losses of a function's blocks where scratch registers tell nothing any more: the numbers of their phis, and their
-/// marks, each once and in order.
+/// The losses of a function's blocks where scratch registers tell nothing any more: the numbers of their phis, and
+/// their marks, each once and in order.
 pub fn scratch_losses(alloc: Global, s: &Spilling, blocks: &[Block]) -> Result<Losses, AllocError>
     ensures ordered { IfOk result IsInOrder }
     ensures each { IfOk result (AreScratchLosses s.now blocks.now) }

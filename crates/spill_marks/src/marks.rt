@@ -4,7 +4,8 @@ ghost use Rattle.std.specs.Prelude.{◌≡◌, ◌++◌, ◌+◌, ◌<◌, ◌^�
 ghost use Rattle.mir_meaning.specs.Align.{position_of};
 ghost use Rattle.follow_law.specs.Rule.{item, item_before, first_operand};
 ghost use Rattle.spill_code.specs.Rewrite.{slot_of};
-ghost use Rattle.spill_marks.specs.Asked.{is_scratch, is_scratch_place, value_left, place_left, phi_and_mark, mark_asked, kind_asked, number_past, next_number};
+ghost use Rattle.spill_marks.specs.Asked.{is_scratch, is_scratch_place, value_left, place_left, phi_and_mark};
+ghost use Rattle.spill_marks.specs.Asked.{mark_asked, kind_asked, number_past, next_number};
 ghost use Rattle.spill_marks.specs.Asked.{number_behind, items_asked, number_beyond, blocks_asked};
 
 use mir_func::block::{Block, Blocks};
@@ -19,8 +20,8 @@ use rv64_instr::reg::Reg;
 use spill_code::spilling::{Spilling, slot_of};
 use std::alloc::{AllocError, Global};
 
-/// The blocks, where marks of spilled registers ask by phis with fresh numbers from `fresh` on, in the order of the text,
-/// and marks and phis of scratch registers give nothing.
+/// The blocks, where marks of spilled registers ask by phis with fresh numbers from `fresh` on, in the order of the
+/// text, and marks and phis of scratch registers give nothing.
 pub fn blocks_asked(
     alloc: Global,
     s: &Spilling,
@@ -102,7 +103,8 @@ fn push_mark(
     made: &mut Items,
 ) -> Result<(), AllocError>
     requires { number_past fresh.old (slot_of s.now.homes r) < 2 ^ 32 }
-    ensures made { OnOk result (made.new ≡ made.old ++ mark_asked s.now fresh.old v.now r (slot_of s.now.homes r) origin loc) }
+    ensures made { OnOk result (made.new ≡ made.old ++ mark_asked s.now fresh.old v.now r (slot_of s.now.homes r)
+        origin loc) }
     ensures fresh { OnOk result (fresh.new ≡ number_past fresh.old (slot_of s.now.homes r)) }
 {
     match slot_of(s.homes.as_slice(), r) {

@@ -122,7 +122,8 @@ home_own m (a ∷ rs) q r n e f = by_tests (nat_eq a q) (nat_eq a r) refl refl e
   by_tests false false x y e f more = more e f
 
 -- each home is found by its register, where registers differ; here: by a register, some home
-home_there : (m : ℕ) (rs : List ℕ) (r n : ℕ) → slot_of (homes_from m rs) r ≡ Some n → (h : Home) × Contains (homes_from m rs) h × (h.register ≡ r) × (h.slot ≡ n)
+home_there : (m : ℕ) (rs : List ℕ) (r n : ℕ) → slot_of (homes_from m rs) r ≡ Some n → (h : Home) × Contains (homes_from m rs) h × (h.register ≡ r) ×
+    (h.slot ≡ n)
 home_there m [] r n e = cc
 home_there m (a ∷ rs) r n e = by_test (nat_eq a r) refl e (λ k. home_there (m + 1) rs r n k) where
   by_test : (z : Bool) → nat_eq a r ≡ z → cond z (Some m) (slot_of (homes_from (m + 1) rs) r) ≡ Some n →

@@ -96,7 +96,8 @@ kept_registers r h (suc (suc (suc (suc (suc (suc (suc (suc (suc (suc (suc zero))
 kept_registers r h (suc (suc (suc (suc (suc (suc (suc (suc (suc (suc (suc (suc zero))))))))))), lt, e) = never r 28 h e (inr (inr (omega arith)))
 kept_registers r h (suc (suc (suc (suc (suc (suc (suc (suc (suc (suc (suc (suc (suc zero)))))))))))), lt, e) = never r 29 h e (inr (inr (omega arith)))
 kept_registers r h (suc (suc (suc (suc (suc (suc (suc (suc (suc (suc (suc (suc (suc (suc zero))))))))))))), lt, e) = never r 30 h e (inr (inr (omega arith)))
-kept_registers r h (suc (suc (suc (suc (suc (suc (suc (suc (suc (suc (suc (suc (suc (suc (suc zero)))))))))))))), lt, e) = never r 31 h e (inr (inr (omega arith)))
+kept_registers r h (suc (suc (suc (suc (suc (suc (suc (suc (suc (suc (suc (suc (suc (suc (suc zero)))))))))))))), lt, e) = never r 31 h e
+    (inr (inr (omega arith)))
 kept_registers r h (suc (suc (suc (suc (suc (suc (suc (suc (suc (suc (suc (suc (suc (suc (suc (suc k))))))))))))))), lt, e) = absurd (omega (arith, lt))
 
 pub reservable_real : (r : ℕ) → IsReservable r → r < 32

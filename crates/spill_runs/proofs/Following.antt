@@ -83,7 +83,8 @@ first_index : (bs : List Block) → LastCloses bs → index_of bs (first_of bs) 
 first_index [] h = absurd h
 first_index (b ∷ bs) h = ap (λ (t : Bool). cond t 0 (suc (index_of bs b.id))) (eq-eqb b.id b.id refl)
 
-module _ (objects : List Object) (src : List Block) (f : Function) (subs fsubs : OperandPair → Option OperandPair) (s : Spilling) (entry : List Home) (sound : IsSound f)
+module _ (objects : List Object) (src : List Block) (f : Function) (subs fsubs : OperandPair → Option OperandPair) (s : Spilling) (entry : List Home)
+    (sound : IsSound f)
     (may : MaySpill s entry f fsubs) (shape : Shape src f.blocks (program_of true src subs) (program_of false f.blocks fsubs)) where
   abbrev srcp : Program
   srcp = program_of true src subs
@@ -115,14 +116,16 @@ module _ (objects : List Object) (src : List Block) (f : Function) (subs fsubs :
       (λ b h. order_items s f.slots homes entry f.blocks fsubs srcp b b.id 0 b.items h.0 (0, refl) h.1)
       (λ b h. order_entry s f.slots homes entry f.blocks fsubs srcp b.id entry (spilled_items s b.items)
       (order_items s f.slots homes entry f.blocks fsubs srcp b b.id 0 b.items h.0 (0, refl) h.1)) f.blocks
-      (both_all (λ (b : Block). All (IsGood s f.slots homes entry f.blocks fsubs srcp b) b.items) (λ (b : Block). InOrder b.id 0 b.items) f.blocks goods shape.order)
+      (both_all (λ (b : Block). All (IsGood s f.slots homes entry f.blocks fsubs srcp b) b.items) (λ (b : Block). InOrder b.id 0 b.items) f.blocks goods
+          shape.order)
 
   kinds_new : All (λ (b : Block). All (λ (i : Item). KindFits srcp i.kind b.silent i.origin) b.items) new
   kinds_new =
       each_block s f.slots homes entry f.blocks fsubs srcp (λ b. All (IsGood s f.slots homes entry f.blocks fsubs srcp b) b.items)
       (λ b. All (λ (i : Item). KindFits srcp i.kind b.silent i.origin) b.items) (λ b h. items_of b h)
       (λ b h. All-append (λ (i : Item). KindFits srcp i.kind b.silent i.origin) (entry_stores b.id entry) (spilled_items s b.items)
-      (each_entry s f.slots homes entry f.blocks fsubs srcp (λ i. KindFits srcp i.kind b.silent i.origin) b.id entry (λ h. tt)) (items_of b h)) f.blocks goods where
+      (each_entry s f.slots homes entry f.blocks fsubs srcp (λ i. KindFits srcp i.kind b.silent i.origin) b.id entry (λ h. tt)) (items_of b h)) f.blocks
+          goods where
         items_of : (b : Block) → All (IsGood s f.slots homes entry f.blocks fsubs srcp b) b.items →
             All (λ (i : Item). KindFits srcp i.kind b.silent i.origin) (spilled_items s b.items)
         items_of b h =
@@ -172,7 +175,8 @@ module _ (objects : List Object) (src : List Block) (f : Function) (subs fsubs :
           w.0,
           record { kind = Code (spilled_code s ins) num; origin = i.origin; loc = i.loc },
           w.1,
-          subst (GoesTo (first_of src)) (sym (row_is ins)) (goes_renamed (use_now s (first_used s.homes ins.operands)) (def_now s) (row_of ins) (first_of src) goes),
+          subst (GoesTo (first_of src)) (sym (row_is ins)) (goes_renamed (use_now s (first_used s.homes ins.operands)) (def_now s) (row_of ins) (first_of src)
+              goes),
         )
     by_kind p i (Mark v m) is at goes = absurd goes
     by_kind p i (Phi a n) is at goes = absurd goes
@@ -306,7 +310,8 @@ module _ (objects : List Object) (src : List Block) (f : Function) (subs fsubs :
       by_kind (Mark v m) h = absurd h
       by_kind (Phi a m) h = absurd h
 
-    by_part : (w : Pos) (ins : Instruction) (num : Option ℕ) (o : Origin) (l : Loc) (k : ℕ) → fp.fetch w ≡ Here (record { kind = Code ins num; origin = o; loc = l }) →
+    by_part : (w : Pos) (ins : Instruction) (num : Option ℕ) (o : Origin) (l : Loc) (k : ℕ) → fp.fetch w ≡ Here
+        (record { kind = Code ins num; origin = o; loc = l }) →
         Part s f.slots homes entry f.blocks fsubs srcp goods sound.targets sound.blocks_apart apart_new order_new ins num o l k j → EndComesFrom srcp j
     by_part w ins num o l k e (is_load r n y) = absurd (subst (λ (z : Item). OnRow IsEnd z.kind) y end)
     by_part w ins num o l k e (is_store n some y) = absurd (subst (λ (z : Item). OnRow IsEnd z.kind) y end)

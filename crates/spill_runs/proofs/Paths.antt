@@ -107,7 +107,8 @@ module _ (s : Spilling) (entry : List Home) (blocks : List Block) (resolve : Ope
 
   -- from a block's start: past the stores there
   pub from_start : (n : ℕ) (b : Block) (rest : List Block) → from_block blocks n ≡ b ∷ rest → (q : Pos) × Chunk (block_start n) q × Leads g (block_start n) q
-  from_start n b rest found = by_first (in_g s entry blocks n b rest found).first (in_g s entry blocks n b rest found).at (in_g s entry blocks n b rest found).which where
+  from_start n b rest found = by_first (in_g s entry blocks n b rest found).first (in_g s entry blocks n b rest found).at
+      (in_g s entry blocks n b rest found).which where
     abbrev_rest : rf (block_start n) ≡ b.items
     abbrev_rest = ap (λ (bs : List Block). rest_in bs 0) found ∙ drop_none b.items
 
@@ -319,7 +320,8 @@ module _ (s : Spilling) (entry : List Home) (blocks : List Block) (resolve : Ope
         ((slice_get first q.item ≡ Some y) × (drop q.item (first ++ spilled_items s b.items) ≡ drop q.item first ++ spilled_items s b.items)) ⊎
         ((k : ℕ) × (slice_get (spilled_items s b.items) k ≡ Some y) ×
         (drop q.item (first ++ spilled_items s b.items) ≡ drop k (spilled_items s b.items))) → Lies q y
-    by_split b rest found id first at (inl none) (inl h) = let bad : slice_get [] q.item ≡ Some y = ap (λ (z : List Item). slice_get z q.item) (sym none) ∙ h.0 in cc
+    by_split b rest found id first at (inl none) (inl h) = let bad : slice_get [] q.item ≡ Some y = ap (λ (z : List Item). slice_get z q.item) (sym none) ∙
+        h.0 in cc
     by_split b rest found id first at (inr is) (inl h) =
         in_entry (drop q.item first) b rest found is.1
         (falls_drop first q.item (subst FallThrough (sym is.0) (entry_falls b.id entry)))

@@ -125,7 +125,8 @@ pub fetched : (sp : Bool) (blocks : List Block) (resolve : OperandPair → Optio
 fetched sp blocks resolve q b rest i f e = ap (λ (x : List Block). fetch_in x q.item) f ∙ item_front b.items q.item b.silent rest i e
 
 -- what holds of each item of each block holds of it
-pub holds_at : (P : Block → Item → Type 0) (blocks : List Block) → All (λ (b : Block). All (P b) b.items) blocks → (q : Pos) (i : Item) (w : Stands blocks q i) →
+pub holds_at : (P : Block → Item → Type 0) (blocks : List Block) → All (λ (b : Block). All (P b) b.items) blocks → (q : Pos) (i : Item)
+    (w : Stands blocks q i) →
     P w.block i
 holds_at P blocks all q i w =
     All-contains (P w.block) w.block.items i (All-contains (λ (b : Block). All (P b) b.items) blocks w.block all w.member)

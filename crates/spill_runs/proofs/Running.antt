@@ -109,7 +109,8 @@ module _ (s : Spilling) (slots : List ℕ) (homes : AreHomes s slots) (entry : L
   origin_of w x e code q is = record { place = w; station = station_of count x; stands = code_station count f w x e code; from = is }
 
   -- a kept item with a spilled definition
-  kept_of : (w : Pos) (ins : Instruction) (num : Option ℕ) (o : Origin) (l : Loc) (n : ℕ) → f.fetch w ≡ Here (record { kind = Code ins num; origin = o; loc = l }) →
+  kept_of : (w : Pos) (ins : Instruction) (num : Option ℕ) (o : Origin) (l : Loc) (n : ℕ) → f.fetch w ≡ Here
+      (record { kind = Code ins num; origin = o; loc = l }) →
       first_defined s.homes ins.operands ≡ Some n → (q : Pos) × (o ≡ Kept q)
   kept_of w ins num o l n e some = by_origin o refl where
     good : FitsCode s ins o
@@ -267,7 +268,8 @@ module _ (s : Spilling) (slots : List ℕ) (homes : AreHomes s slots) (entry : L
         let w = end_at blocks resolve p j n at in
         let here : Pos = record { block = p.block; item = i } in
         let there : f.fetch here ≡ Silent j n = end_past s entry blocks resolve here w.0 w.1 j n w.2 rests.0 w.3 in
-        near_on s slots homes resolve (Alive s slots homes entry blocks resolve p.block i) (λ _. ⊥) (Alive s slots homes entry blocks resolve n 0) (λ _. ⊥) c d near
+        near_on s slots homes resolve (Alive s slots homes entry blocks resolve p.block i) (λ _. ⊥) (Alive s slots homes entry blocks resolve n 0) (λ _. ⊥) c
+            d near
         (λ r m e out. (
           λ z. z,
           λ live. later (λ k. subst (λ (x : Fetch). Defines x (Register r)) there k)

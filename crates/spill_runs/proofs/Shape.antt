@@ -167,7 +167,8 @@ module _ (s : Spilling) (slots : List ℕ) (homes : AreHomes s slots) where
         subst (All Q) (sym (flat_map-cons (spilled_item s) x xs))
         (All-append Q (spilled_item s x) (spilled_items s xs) (step x (All-head P x xs h)) (each_item P Q step xs (All-tail P x xs h)))
 
-    pub each_entry : (Q : Item → Type 0) (b : ℕ) (hs : List Home) → ((h : Home) → Q (added (block_start b) (store h.register h.slot))) → All Q (entry_stores b hs)
+    pub each_entry : (Q : Item → Type 0) (b : ℕ) (hs : List Home) → ((h : Home) → Q (added (block_start b) (store h.register h.slot))) → All Q
+        (entry_stores b hs)
     each_entry Q b [] q = All-nil Q
     each_entry Q b (h ∷ hs) q = All-cons Q (added (block_start b) (store h.register h.slot)) (entry_stores b hs) (q h) (each_entry Q b hs q)
 

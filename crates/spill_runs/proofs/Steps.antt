@@ -37,7 +37,8 @@ use Rattle.spill_runs.proofs.Rows.{renamed_row}
 
 module _ (f : Program) (p : Pos) (x : Item) (at : f.fetch p ≡ Here x) (c : Core) where
   pub falls_edge : (e : Core) → do_item f x.kind c ≡ Falls e → Edge f p (below p)
-  falls_edge e go = step_edge f (record { pos = p; core = c }) (record { pos = below p; core = e }) (step_item f (record { pos = p; core = c }) x (Falls e) at go)
+  falls_edge e go = step_edge f (record { pos = p; core = c }) (record { pos = below p; core = e })
+      (step_item f (record { pos = p; core = c }) x (Falls e) at go)
 
   pub goes_edge : (n : ℕ) (e : Core) → do_item f x.kind c ≡ Goes n e → Edge f p (block_start (f.enter n))
   goes_edge n e go =

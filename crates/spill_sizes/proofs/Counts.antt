@@ -1,5 +1,6 @@
 -- How many items, how much code and how many calls there are.
-use Rattle.std.proofs.Common.{◌≡◌, ℕ, suc, ◌+◌, ◌*◌, ◌≤◌, List, [], ◌∷◌, ◌++◌, length, count_by, map, Option, Some, None, Bool, true, false, cond, refl, sym, ap, ◌∙◌, subst, arith}
+use Rattle.std.proofs.Common.{◌≡◌, ℕ, suc, ◌+◌, ◌*◌, ◌≤◌, List, [], ◌∷◌, ◌++◌, length, count_by, map, Option, Some, None, Bool, true, false, cond}
+use Rattle.std.proofs.Common.{refl, sym, ap, ◌∙◌, subst, arith}
 use Rattle.std.proofs.Common.{length-append, append-nil}
 use Rattle.std.proofs.lemmas.List.{length-map}
 use Rattle.std.proofs.lemmas.List.Concat.{flat_map-cons}
@@ -25,7 +26,8 @@ use Rattle.follow_law.specs.Rule.{item, item_before, first_operand}
 use Rattle.follow_law.specs.Sizes.{calls}
 use Rattle.spill_code.specs.declared.spilling.Home.{Home}
 use Rattle.spill_code.specs.declared.spilling.Spilling.{Spilling}
-use Rattle.spill_code.specs.Rewrite.{slot_of, first_used, other_used, first_defined, use_now, def_now, spilled_code, load, store, added, loads, stores, two_loads, code_items}
+use Rattle.spill_code.specs.Rewrite.{slot_of, first_used, other_used, first_defined, use_now, def_now, spilled_code, load, store, added, loads}
+use Rattle.spill_code.specs.Rewrite.{stores, two_loads, code_items}
 use Rattle.spill_code.specs.Rewrite.{spilled_place, spilled_item, spilled_items, entry_stores}
 use Rattle.spill_marks.specs.Asked.{value_left, place_left, mark_asked, kind_asked}
 use Rattle.spill_sizes.proofs.Calls.{call_renamed}
@@ -115,7 +117,8 @@ module _ (s : Spilling) where
     passes x xs e = sum_by-cons (λ (i : Item). cond (p i.kind) 1 0) x xs ∙ ap (λ (b : Bool). cond b 1 0 + count xs) e
 
     none_mark : (k : ℕ) (v : VarId) (r : ℕ) (home : Option ℕ) (o : Origin) (l : Loc) → count (spilled_items s (mark_asked s k v r home o l)) ≡ 0
-    none_mark k v r None o l = ap count (one_item (item (Mark v (value_left s r)) o l)) ∙ fails (item (Mark v (value_left s r)) o l) [] (marks v (value_left s r))
+    none_mark k v r None o l = ap count (one_item (item (Mark v (value_left s r)) o l)) ∙ fails (item (Mark v (value_left s r)) o l) []
+        (marks v (value_left s r))
     none_mark k v r (Some n) o l =
         let mark : Item = item (Mark v (Pair (first_operand k))) o l in
         let phi : Item = item_before (Phi (spilled_place s.homes (Some (Register r))) k) o in
@@ -129,7 +132,8 @@ module _ (s : Spilling) where
     none_same v m o l = ap count (one_item (item (Mark v m) o l)) ∙ fails (item (Mark v m) o l) [] (marks v m)
 
     -- and code at most so often
-    module _ (most : ℕ) (code : (i : Instruction) (n : Option ℕ) (o : Origin) (l : Loc) → count (code_items s i n o l) ≤ most * count (item (Code i n) o l ∷ [])) where
+    module _ (most : ℕ) (code : (i : Instruction) (n : Option ℕ) (o : Origin) (l : Loc) → count (code_items s i n o l) ≤ most * count
+        (item (Code i n) o l ∷ [])) where
       le_none : (a b : ℕ) → a ≡ 0 → a ≤ b
       le_none a b e = omega (arith, e)
 
@@ -189,7 +193,8 @@ module _ (s : Spilling) where
   call_head i n o l ys =
       sum_by-cons (λ (x : Item). cond (calls x.kind) 1 0) (item (Code (spilled_code s i) n) o l) ys ∙
       ap (λ (b : Bool). cond b 1 0 + call_count ys) (call_renamed (use_now s (first_used s.homes i.operands)) (def_now s) i) ∙
-      ap (λ (m : ℕ). m + call_count ys) (sym (sum_by-cons (λ (x : Item). cond (calls x.kind) 1 0) (item (Code i n) o l) [] ∙ no_more (cond (is_call (row_of i)) 1 0))) where
+      ap (λ (m : ℕ). m + call_count ys) (sym (sum_by-cons (λ (x : Item). cond (calls x.kind) 1 0) (item (Code i n) o l) [] ∙ no_more
+          (cond (is_call (row_of i)) 1 0))) where
         no_more : (m : ℕ) → m + 0 ≡ m
         no_more m = omega arith
 

@@ -1,5 +1,6 @@
 -- The numbers of a function after spilling: fresh ones for marks of spilled registers.
-use Rattle.std.proofs.Common.{◌≡◌, ℕ, suc, ◌+◌, ◌*◌, ◌<◌, ◌≤◌, List, [], ◌∷◌, ◌++◌, max, length, map, Option, Some, None, Bool, true, false, cond, refl, sym, ap, ◌∙◌, subst, arith}
+use Rattle.std.proofs.Common.{◌≡◌, ℕ, suc, ◌+◌, ◌*◌, ◌<◌, ◌≤◌, List, [], ◌∷◌, ◌++◌, max, length, map, Option, Some, None, Bool, true, false, cond}
+use Rattle.std.proofs.Common.{refl, sym, ap, ◌∙◌, subst, arith}
 use Rattle.std.proofs.Common.{length-append, append-nil}
 use Rattle.std.specs.List.{flat_map}
 use Rattle.std.proofs.lemmas.List.Concat.{flat_map-cons}
@@ -26,9 +27,11 @@ use Rattle.follow_law.specs.Sizes.{greatest, numbers_of}
 use Rattle.salvage.proofs.Greatest.{greatest_append}
 use Rattle.spill_code.specs.declared.spilling.Home.{Home}
 use Rattle.spill_code.specs.declared.spilling.Spilling.{Spilling}
-use Rattle.spill_code.specs.Rewrite.{slot_of, first_used, other_used, first_defined, spilled_code, load, store, added, loads, stores, two_loads, code_items, spilled_place}
+use Rattle.spill_code.specs.Rewrite.{slot_of, first_used, other_used, first_defined, spilled_code, load, store, added, loads, stores, two_loads}
+use Rattle.spill_code.specs.Rewrite.{code_items, spilled_place}
 use Rattle.spill_code.specs.Rewrite.{spilled_item, spilled_items, spilled_block, entry_stores, spilled_blocks}
-use Rattle.spill_marks.specs.Asked.{is_scratch, is_scratch_place, value_left, place_left, mark_asked, kind_asked, number_past, next_number, number_behind, items_asked, number_beyond, blocks_asked}
+use Rattle.spill_marks.specs.Asked.{is_scratch, is_scratch_place, value_left, place_left, mark_asked, kind_asked, number_past, next_number}
+use Rattle.spill_marks.specs.Asked.{number_behind, items_asked, number_beyond, blocks_asked}
 
 abbrev pub nums : List Item → List ℕ
 nums xs = flat_map (λ (i : Item). numbers_of i.kind) xs
@@ -106,7 +109,8 @@ module _ (s : Spilling) where
 
   no_two : (p : Pos) (os : List Operand) (z : Option ℕ) → top (two_loads s p os z) ≡ 0
   no_two p os None = refl
-  no_two p os (Some n) = top_cons (added p (load s.first n)) (loads p s.second (other_used s.homes n os)) ∙ zero_max (top (loads p s.second (other_used s.homes n os))) ∙
+  no_two p os (Some n) = top_cons (added p (load s.first n)) (loads p s.second (other_used s.homes n os)) ∙ zero_max
+      (top (loads p s.second (other_used s.homes n os))) ∙
       no_loads p s.second (other_used s.homes n os)
 
   no_stores : (p : Pos) (r : ℕ) (z : Option ℕ) → top (stores p r z) ≡ 0
@@ -151,7 +155,8 @@ module _ (s : Spilling) where
       let phi : Item = item_before (Phi (Some (Register r)) k) o in
       let mark : Item = item (Mark v (Pair (first_operand k))) o l in
       ap top (flat_map-cons (spilled_item s) phi (mark ∷ [])) ∙ top_append (spilled_item s phi) (spilled_items s (mark ∷ [])) ∙
-      (λ i. max (top_one (item_before (Phi (spilled_place s.homes (Some (Register r))) k) o) i) (top_kind (Mark v (Pair (first_operand k))) o l i)) ∙ same_max k where
+      (λ i. max (top_one (item_before (Phi (spilled_place s.homes (Some (Register r))) k) o) i) (top_kind (Mark v (Pair (first_operand k))) o l i)) ∙ same_max
+          k where
         same_max : (n : ℕ) → max (max n 0) (max n 0) ≡ n
         same_max n = omega arith
 

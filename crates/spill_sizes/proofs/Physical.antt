@@ -1,9 +1,11 @@
 -- Without virtual registers there are none after spilling.
-use Rattle.std.proofs.Common.{◌≡◌, ℕ, ◌<◌, List, [], ◌∷◌, ◌++◌, map, All, Contains, Option, Some, None, Bool, true, false, cond, refl, sym, ap, ◌∙◌, subst, arith, pos}
+use Rattle.std.proofs.Common.{◌≡◌, ℕ, ◌<◌, List, [], ◌∷◌, ◌++◌, map, All, Contains, Option, Some, None, Bool, true, false, cond, refl, sym, ap, ◌∙◌}
+use Rattle.std.proofs.Common.{subst, arith, pos}
 use Rattle.std.proofs.lemmas.List.Concat.{flat_map-cons}
 use Rattle.std.proofs.lemmas.List.Elements.{All-nil, All-cons, All-head, All-tail, All-append}
 use Rattle.rv64_instr.specs.declared.operand.Operand.{Operand}
-use Rattle.rv64_instr.specs.declared.operand.Operand.TheVariants.{Def, Use, ImplicitDef, ImplicitUse, Imm, Slot as OfSlot, Object, Block as OfBlock, Symbol, Mask}
+use Rattle.rv64_instr.specs.declared.operand.Operand.TheVariants.{Def, Use, ImplicitDef, ImplicitUse, Imm, Slot as OfSlot, Object, Block as OfBlock}
+use Rattle.rv64_instr.specs.declared.operand.Operand.TheVariants.{Symbol, Mask}
 use Rattle.rv64_instr.specs.declared.place.Place.{Place}
 use Rattle.rv64_instr.specs.declared.place.Place.TheVariants.{Register, Slot, Const}
 use Rattle.rv64_instr.specs.Instruction.{Instruction}
@@ -25,9 +27,12 @@ use Rattle.mir_meaning.specs.Align.{position_of}
 use Rattle.follow_law.specs.Rule.{item, item_before, first_operand}
 use Rattle.spill_code.specs.declared.spilling.Home.{Home}
 use Rattle.spill_code.specs.declared.spilling.Spilling.{Spilling}
-use Rattle.spill_code.specs.Rewrite.{slot_of, first_used, other_used, first_defined, stand_in, use_now, set_in, def_now, renamed_operand, spilled_code, load, store, added}
-use Rattle.spill_code.specs.Rewrite.{loads, stores, two_loads, code_items, place_in, spilled_place, spilled_item, spilled_items, spilled_block, entry_stores, spilled_blocks}
-use Rattle.spill_marks.specs.Asked.{is_scratch, is_scratch_place, value_left, place_left, mark_asked, kind_asked, next_number, number_behind, items_asked, blocks_asked}
+use Rattle.spill_code.specs.Rewrite.{slot_of, first_used, other_used, first_defined, stand_in, use_now, set_in, def_now, renamed_operand}
+use Rattle.spill_code.specs.Rewrite.{spilled_code, load, store, added}
+use Rattle.spill_code.specs.Rewrite.{loads, stores, two_loads, code_items, place_in, spilled_place, spilled_item, spilled_items, spilled_block}
+use Rattle.spill_code.specs.Rewrite.{entry_stores, spilled_blocks}
+use Rattle.spill_marks.specs.Asked.{is_scratch, is_scratch_place, value_left, place_left, mark_asked, kind_asked, next_number, number_behind}
+use Rattle.spill_marks.specs.Asked.{items_asked, blocks_asked}
 
 module _ (s : Spilling) (first : s.first < 32) (second : s.second < 32) where
   abbrev Each : Item → Type 0
@@ -104,7 +109,8 @@ module _ (s : Spilling) (first : s.first < 32) (second : s.second < 32) where
       let after : List Item = stores (below (position_of o)) s.first (first_defined s.homes i.operands) in
       All-append Each (two_loads s (position_of o) i.operands (first_used s.homes i.operands)) (now ∷ after)
       (real_two (position_of o) i.operands (first_used s.homes i.operands))
-      (All-cons Each now after (real_operands (first_used s.homes i.operands) i.operands h) (real_stores (below (position_of o)) (first_defined s.homes i.operands)))
+      (All-cons Each now after (real_operands (first_used s.homes i.operands) i.operands h)
+          (real_stores (below (position_of o)) (first_defined s.homes i.operands)))
   real_spilled (Mark v m) o l h = one (item (Mark v m) o l) h
   real_spilled (Phi p n) o l h = one (item (Phi (spilled_place s.homes p) n) o l) (real_place p n h)
 
@@ -112,7 +118,8 @@ module _ (s : Spilling) (first : s.first < 32) (second : s.second < 32) where
   real_items [] h = All-nil Each
   real_items (x ∷ xs) h =
       subst (All Each) (sym (flat_map-cons (spilled_item s) x xs))
-      (All-append Each (spilled_item s x) (spilled_items s xs) (real_spilled x.kind x.origin x.loc (All-head Each x xs h)) (real_items xs (All-tail Each x xs h)))
+      (All-append Each (spilled_item s x) (spilled_items s xs) (real_spilled x.kind x.origin x.loc (All-head Each x xs h))
+          (real_items xs (All-tail Each x xs h)))
 
   -- ---- marks that ask by phis
 
@@ -123,7 +130,8 @@ module _ (s : Spilling) (first : s.first < 32) (second : s.second < 32) where
   real_mark : (k : ℕ) (v : VarId) (r : ℕ) (home : Option ℕ) (o : Origin) (l : Loc) → HasPhysical (Mark v (At r)) → All Each (mark_asked s k v r home o l)
   real_mark k v r None o l h = one (item (Mark v (value_left s r)) o l) (real_value v r (is_scratch s r) h)
   real_mark k v r (Some n) o l h =
-      All-cons Each (item_before (Phi (Some (Register r)) k) o) (item (Mark v (Pair (first_operand k))) o l ∷ []) h (one (item (Mark v (Pair (first_operand k))) o l) tt)
+      All-cons Each (item_before (Phi (Some (Register r)) k) o) (item (Mark v (Pair (first_operand k))) o l ∷ []) h
+          (one (item (Mark v (Pair (first_operand k))) o l) tt)
 
   real_left : (p : Place) (n : ℕ) (z : Bool) → HasPhysical (Phi (Some p) n) → HasPhysical (Phi (cond z None (Some p)) n)
   real_left p n true h = tt
@@ -159,7 +167,8 @@ module _ (s : Spilling) (first : s.first < 32) (second : s.second < 32) where
       (real_store (block_start b) e.register e.slot (All-head (λ (h : Home). h.register < 32) e es h))
       (real_entry b es (All-tail (λ (h : Home). h.register < 32) e es h))
 
-  pub real_blocks : (entry : List Home) → All (λ (h : Home). h.register < 32) entry → (bs : List Block) → AllItems Each bs → AllItems Each (spilled_blocks s entry bs)
+  pub real_blocks : (entry : List Home) → All (λ (h : Home). h.register < 32) entry → (bs : List Block) → AllItems Each bs → AllItems Each
+      (spilled_blocks s entry bs)
   real_blocks entry low [] h = All-nil Inside
   real_blocks entry low (b ∷ bs) h =
       All-cons Inside (record { id = b.id; items = entry_stores b.id entry ++ spilled_items s b.items; silent = b.silent }) (map (spilled_block s) bs)

@@ -1,5 +1,6 @@
 -- How large a function is after spilling.
-use Rattle.std.proofs.Common.{◌≡◌, ℕ, zero, suc, ◌+◌, ◌-◌, ◌*◌, ◌<◌, ◌≤◌, List, [], ◌∷◌, ◌++◌, max, min, map, filter, take, length, count_by, All, Contains, Option, Some}
+use Rattle.std.proofs.Common.{◌≡◌, ℕ, zero, suc, ◌+◌, ◌-◌, ◌*◌, ◌<◌, ◌≤◌, List, [], ◌∷◌, ◌++◌, max, min, map, filter, take, length, count_by, All}
+use Rattle.std.proofs.Common.{Contains, Option, Some}
 use Rattle.std.proofs.Common.{Bool, true, false, cond, not, ◌&&◌, refl, sym, ap, ◌∙◌, subst, arith, length-append}
 use Rattle.std.proofs.lemmas.List.{length-map}
 use Rattle.std.specs.List.{flat_map}
@@ -19,7 +20,8 @@ use Rattle.spill_code.specs.declared.spilling.Home.{Home}
 use Rattle.spill_code.specs.declared.spilling.Spilling.{Spilling}
 use Rattle.spill_code.specs.Rewrite.{entry_stores, spilled_blocks}
 use Rattle.spill_marks.specs.Asked.{blocks_asked, number_beyond}
-use Rattle.spill_rule.specs.Choice.{is_free, reason_of, candidates, room, chosen, next_slot, homes_from, homes_of, first_scratch, second_scratch, spilling_of, entry_of}
+use Rattle.spill_rule.specs.Choice.{is_free, reason_of, candidates, room, chosen, next_slot, homes_from, homes_of, first_scratch, second_scratch}
+use Rattle.spill_rule.specs.Choice.{spilling_of, entry_of}
 use Rattle.spill_rule.specs.Chosen.{IsReservable}
 use Rattle.spill_rule.proofs.Scratch.{CANDIDATES, kept_by, reservable_real}
 use Rattle.spill_whole.specs.Whole.{spilled_by, where_spilled, whole}
@@ -191,7 +193,8 @@ module _ (reserve : List ℕ) (live : ℕ → Bool) (f : Function) (subs : List 
     items = most_items (length ys) (length xs) 0 items_most;
     code = most_items (count_by (λ (i : Item). is_code i.kind) ys) (count_by (λ (i : Item). is_code i.kind) xs) 0 code_most;
     calls = calls_most;
-    physical = λ h. real_blocks s (low_first (scratch_of f) (low_scratch f)) (low_second (scratch_of f) (low_scratch f)) entry entry_real (blocks_asked s k f.blocks)
+    physical = λ h. real_blocks s (low_first (scratch_of f) (low_scratch f)) (low_second (scratch_of f) (low_scratch f)) entry entry_real
+        (blocks_asked s k f.blocks)
         (real_all_asked s (low_first (scratch_of f) (low_scratch f)) (low_second (scratch_of f) (low_scratch f)) k f.blocks h);
     numbers = numbers_most;
     slots = slots_most;

@@ -2,8 +2,9 @@
 
 ghost use Rattle.spill_sizes.specs.Sizes.{WholeKeepsSizes};
 
-/// After spilling there are at most four times as many items, with a store for each register that comes in with a value,
-/// no more calls, no virtual registers where there were none, a fresh number for each item at most, and few slots more.
+/// After spilling there are at most four times as many items, with a store for each register that comes in with a
+/// value, no more calls, no virtual registers where there were none, a fresh number for each item at most, and few
+/// slots more.
 pub fn whole_keeps_sizes()
     ensures { WholeKeepsSizes }
 {}

@@ -1,12 +1,14 @@
 -- A function with registers in slots is a function still.
-use Rattle.std.proofs.Common.{◌≡◌, ◌⊎◌, inl, inr, ℕ, zero, suc, ◌+◌, ◌<◌, ◌≤◌, List, [], ◌∷◌, ◌++◌, map, All, Contains, Option, Some, None, Bool, true, false, cond, ◌||◌, nat_eq, length, append_assoc}
+use Rattle.std.proofs.Common.{◌≡◌, ◌⊎◌, inl, inr, ℕ, zero, suc, ◌+◌, ◌<◌, ◌≤◌, List, [], ◌∷◌, ◌++◌, map, All, Contains, Option, Some, None, Bool}
+use Rattle.std.proofs.Common.{true, false, cond, ◌||◌, nat_eq, length, append_assoc}
 use Rattle.std.proofs.lemmas.Bool.{or_right}
 use Rattle.std.proofs.Common.{refl, sym, ap, ◌∙◌, subst, arith}
 use Rattle.std.specs.Prelude.{pos}
 use Rattle.std.proofs.lemmas.List.Concat.{flat_map-cons}
 use Rattle.std.proofs.lemmas.List.Elements.{All-nil, All-cons, All-head, All-tail, All-append, Contains-append_left, Contains-append_right}
 use Rattle.rv64_instr.specs.declared.operand.Operand.{Operand}
-use Rattle.rv64_instr.specs.declared.operand.Operand.TheVariants.{Def, Use, ImplicitDef, ImplicitUse, Imm, Slot as OfSlot, Object as OfObject, Block as OfBlock, Symbol, Mask}
+use Rattle.rv64_instr.specs.declared.operand.Operand.TheVariants.{Def, Use, ImplicitDef, ImplicitUse, Imm, Slot as OfSlot, Object as OfObject}
+use Rattle.rv64_instr.specs.declared.operand.Operand.TheVariants.{Block as OfBlock, Symbol, Mask}
 use Rattle.rv64_instr.specs.declared.place.Place.{Place}
 use Rattle.rv64_instr.specs.declared.place.Place.TheVariants.{Register, Slot, Const}
 use Rattle.rv64_instr.specs.Access.{caller_saved, reads, sets}
@@ -33,13 +35,16 @@ use Rattle.mir_func.specs.Limits.{MAX_SLOTS}
 use Rattle.mir_func.specs.declared.variable.VarId.{VarId}
 use Rattle.mir_func.specs.declared.variable.MarkValue.{MarkValue}
 use Rattle.mir_func.specs.Graph.{below, block_start}
-use Rattle.mir_func.specs.Sound.{AreApart, AllItems, ids_of, number_of, code_number, OriginIn, TargetIn, TargetsIn, SlotIn, SlotsIn, PlaceIn, BaseHasBytes, ObjectIn, ObjectsIn, IsNotPointer, LeavesPointer, IsSound}
+use Rattle.mir_func.specs.Sound.{AreApart, AllItems, ids_of, number_of, code_number, OriginIn, TargetIn, TargetsIn, SlotIn, SlotsIn, PlaceIn}
+use Rattle.mir_func.specs.Sound.{BaseHasBytes, ObjectIn, ObjectsIn, IsNotPointer, LeavesPointer, IsSound}
 use Rattle.mir_meaning.specs.Align.{position_of}
 use Rattle.follow_law.specs.Rule.{item}
 use Rattle.spill_code.specs.declared.spilling.Home.{Home}
 use Rattle.spill_code.specs.declared.spilling.Spilling.{Spilling}
-use Rattle.spill_code.specs.Rewrite.{slot_of, stand_in, use_now, set_in, def_now, renamed_operand, first_used, other_used, first_defined, spilled_code, load, store, added, loads}
-use Rattle.spill_code.specs.Rewrite.{stores, two_loads, code_items, place_in, spilled_place, kind_items, spilled_item, spilled_items, spilled_block, entry_stores, first_block, spilled_blocks}
+use Rattle.spill_code.specs.Rewrite.{slot_of, stand_in, use_now, set_in, def_now, renamed_operand, first_used, other_used, first_defined}
+use Rattle.spill_code.specs.Rewrite.{spilled_code, load, store, added, loads}
+use Rattle.spill_code.specs.Rewrite.{stores, two_loads, code_items, place_in, spilled_place, kind_items, spilled_item, spilled_items, spilled_block}
+use Rattle.spill_code.specs.Rewrite.{entry_stores, first_block, spilled_blocks}
 use Rattle.spill_runs.specs.MaySpill.{uses_in, defs_in, FitsCode, Fits, AreHomes}
 use Rattle.spill_runs.specs.Follows.{MaySpill}
 use Rattle.spill_runs.proofs.Explicit.{first_from, other_from, used_is, other_is, defined_is, explicit}
@@ -121,7 +126,8 @@ home_in (h ∷ hs) r n e = by_test (λ k. home_in hs r n k) (nat_eq h.register r
 abbrev NoFresh : ℕ → Type 0
 NoFresh n = ⊥
 
-module _ (s : Spilling) (entry : List Home) (f : Function) (resolve : OperandPair → Option OperandPair) (sound : IsSound f) (may : MaySpill s entry f resolve) where
+module _ (s : Spilling) (entry : List Home) (f : Function) (resolve : OperandPair → Option OperandPair) (sound : IsSound f)
+    (may : MaySpill s entry f resolve) where
   abbrev homes : AreHomes s f.slots
   homes = may.homes
 
@@ -189,7 +195,8 @@ module _ (s : Spilling) (entry : List Home) (f : Function) (resolve : OperandPai
   grown_code : (x : Item) (i : Instruction) (n : Option ℕ) (xs ys : List Item) → x.kind ≡ Code i n → FitsCode s i x.origin → Grown NoFresh xs ys →
       Grown NoFresh (x ∷ xs) (code_items s i n x.origin x.loc ++ ys)
   grown_code x i n xs ys is fits more =
-      grows (two_loads s (position_of x.origin) i.operands (first_used s.homes i.operands)) (stores (below (position_of x.origin)) s.first (first_defined s.homes i.operands))
+      grows (two_loads s (position_of x.origin) i.operands (first_used s.homes i.operands))
+          (stores (below (position_of x.origin)) s.first (first_defined s.homes i.operands))
       (two_extra (position_of x.origin) i.operands (first_used s.homes i.operands))
       (record {
         exit = main_exit i ∙ ap exit_of (sym is);
@@ -216,7 +223,8 @@ module _ (s : Spilling) (entry : List Home) (f : Function) (resolve : OperandPai
       Grown NoFresh (x ∷ xs) (kind_items s kind x.origin x.loc ++ ys)
   grown_kind x (Code i n) xs ys is fits more = grown_code x i n xs ys is fits more
   grown_kind x (Mark v m) xs ys is fits more =
-      alone x (item (Mark v m) x.origin x.loc) xs ys (record { exit = ap exit_of (sym is); code = ap code_number (sym is); number = ap number_of (sym is) }) more
+      alone x (item (Mark v m) x.origin x.loc) xs ys (record { exit = ap exit_of (sym is); code = ap code_number (sym is); number = ap number_of (sym is) })
+          more
   grown_kind x (Phi p n) xs ys is fits more =
       alone x (item (Phi (spilled_place s.homes p) n) x.origin x.loc) xs ys
       (record { exit = ap exit_of (sym is); code = ap code_number (sym is); number = ap number_of (sym is) }) more
@@ -380,7 +388,8 @@ module _ (s : Spilling) (entry : List Home) (f : Function) (resolve : OperandPai
   slots_pass : Passes (λ b kind o. SlotsIn f.slots kind) (λ b kind o. SlotsIn now kind)
   slots_pass = record {
     code = λ b i n o fits inside h. subst (SlotIn now) (sym (renames i))
-        (slot_renamed (use_now s (first_used s.homes i.operands)) (def_now s) now (row_of i) (slot_more f.slots (map (λ (g : Home). g.slot) s.homes) (row_of i) h));
+        (slot_renamed (use_now s (first_used s.homes i.operands)) (def_now s) now (row_of i)
+            (slot_more f.slots (map (λ (g : Home). g.slot) s.homes) (row_of i) h));
     before = λ b r q m o which is inside. home_slot_in q m is;
     behind = λ b q m p is inside. home_slot_in q m is;
     start = λ b q m is. home_slot_in q m is;
@@ -487,7 +496,8 @@ module _ (s : Spilling) (entry : List Home) (f : Function) (resolve : OperandPai
         objects_same = refl;
         targets = each_block (λ b kind o. TargetsIn (ids_of f.blocks) kind) (λ b kind o. TargetsIn (ids_of f.blocks) kind) (targets_pass (ids_of f.blocks))
             (λ b ys kind o h. h) f.blocks may.fits sound.origins sound.targets;
-        slots = each_block (λ b kind o. SlotsIn f.slots kind) (λ b kind o. SlotsIn now kind) slots_pass (λ b ys kind o h. h) f.blocks may.fits sound.origins sound.slots;
+        slots = each_block (λ b kind o. SlotsIn f.slots kind) (λ b kind o. SlotsIn now kind) slots_pass (λ b ys kind o h. h) f.blocks may.fits sound.origins
+            sound.slots;
         objects = each_block (λ b kind o. ObjectsIn f.objects kind) (λ b kind o. ObjectsIn f.objects kind) objects_pass (λ b ys kind o h. h) f.blocks may.fits
             sound.origins sound.objects;
         pointer = each_block (λ b kind o. LeavesPointer kind) (λ b kind o. LeavesPointer kind) pointer_pass (λ b ys kind o h. h) f.blocks may.fits

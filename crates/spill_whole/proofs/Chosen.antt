@@ -1,5 +1,6 @@
 -- Registers that are spilled are of the reserve, and scratch registers aren't.
-use Rattle.std.proofs.Common.{◌≡◌, ℕ, zero, suc, ◌+◌, ◌<◌, List, [], ◌∷◌, filter, take, Contains, Option, Some, None, Bool, true, false, cond, not, ◌&&◌, nat_eq}
+use Rattle.std.proofs.Common.{◌≡◌, ℕ, zero, suc, ◌+◌, ◌<◌, List, [], ◌∷◌, filter, take, Contains, Option, Some, None, Bool, true, false, cond, not}
+use Rattle.std.proofs.Common.{◌&&◌, nat_eq}
 use Rattle.std.proofs.Common.{refl, sym, ap, ◌∙◌, subst, arith, eqb-true}
 use Rattle.mir_func.specs.Function.{Function}
 use Rattle.follow_law.specs.Causes.{is_named, scratch_of}

@@ -1,5 +1,6 @@
 -- Where marks ask by phis, no mark asks for a register that goes elsewhere, and no phi for a scratch register.
-use Rattle.std.proofs.Common.{◌≡◌, ℕ, ◌+◌, List, [], ◌∷◌, ◌++◌, All, Option, Some, None, Bool, true, false, cond, ◌||◌, nat_eq, eq-eqb, refl, sym, ap, ◌∙◌, subst}
+use Rattle.std.proofs.Common.{◌≡◌, ℕ, ◌+◌, List, [], ◌∷◌, ◌++◌, All, Option, Some, None, Bool, true, false, cond, ◌||◌, nat_eq, eq-eqb, refl, sym, ap}
+use Rattle.std.proofs.Common.{◌∙◌, subst}
 use Rattle.std.proofs.lemmas.List.Elements.{All-nil, All-cons, All-head, All-tail, All-append}
 use Rattle.rv64_instr.specs.declared.place.Place.{Place}
 use Rattle.rv64_instr.specs.declared.place.Place.TheVariants.{Register, Slot, Const}
@@ -33,7 +34,8 @@ module _ (s : Spilling) (apart : (r n : ℕ) → slot_of s.homes r ≡ Some n �
   none_of r q e is = (let bad : true ≡ false = sym (eq-eqb r q is) ∙ e in cc)
 
   pub no_scratch : (r : ℕ) → is_scratch s r ≡ false → IsNoScratch s r
-  no_scratch r e = (none_of r s.first (or_left (nat_eq r s.first) (nat_eq r s.second) e), none_of r s.second (or_right (nat_eq r s.first) (nat_eq r s.second) e))
+  no_scratch r e = (none_of r s.first (or_left (nat_eq r s.first) (nat_eq r s.second) e), none_of r s.second
+      (or_right (nat_eq r s.first) (nat_eq r s.second) e))
 
   abbrev Each : Item → Type 0
   Each i = AsksElsewhere s i.kind

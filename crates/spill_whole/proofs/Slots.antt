@@ -1,5 +1,6 @@
 -- The new slots are apart, and few enough.
-use Rattle.std.proofs.Common.{◌≡◌, ◌⊎◌, inl, inr, ℕ, zero, suc, ◌+◌, ◌-◌, ◌<◌, ◌≤◌, List, [], ◌∷◌, ◌++◌, map, take, length, min, max, Option, Some, None, slice_get, Bool}
+use Rattle.std.proofs.Common.{◌≡◌, ◌⊎◌, inl, inr, ℕ, zero, suc, ◌+◌, ◌-◌, ◌<◌, ◌≤◌, List, [], ◌∷◌, ◌++◌, map, take, length, min, max, Option, Some}
+use Rattle.std.proofs.Common.{None, slice_get, Bool}
 use Rattle.std.proofs.Common.{refl, sym, ap, ◌∙◌, subst, arith, length-append}
 use Rattle.std.proofs.lemmas.List.{length-map, length-take}
 use Rattle.mir_func.specs.Function.{Function}
@@ -57,7 +58,8 @@ module _ (reserve : List ℕ) (live : ℕ → Bool) (f : Function) where
   slots_apart apart = apart_more f.slots (next_slot f.slots) (chosen reserve live f) apart (below_next f.slots)
 
   pub how_many : length (map slot (homes_of reserve live f)) ≡ min (room f) (length (candidates reserve live f))
-  how_many = length-map (homes_of reserve live f) slot ∙ long_homes (next_slot f.slots) (chosen reserve live f) ∙ length-take (room f) (candidates reserve live f)
+  how_many = length-map (homes_of reserve live f) slot ∙ long_homes (next_slot f.slots) (chosen reserve live f) ∙ length-take (room f)
+      (candidates reserve live f)
 
   pub few_slots : length f.slots + length f.objects ≤ MAX_SLOTS → length (slots_now (spilling_of reserve live f) f) + length f.objects ≤ MAX_SLOTS
   few_slots le =

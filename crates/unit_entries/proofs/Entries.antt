@@ -13,7 +13,8 @@ use Rattle.source_lines.specs.declared.file.SourceFile.{SourceFile}
 use Rattle.source_lines.specs.Files.{first_uses}
 use Rattle.source_lines.specs.Program.{program_file}
 use Rattle.source_lines.proofs.FirstUses.{lengthened, uses_append}
-use Rattle.unit_entries.specs.Unit.{type_uses, variable_entry, variables_from, function_variables, function_entry, functions_from, program_variables, program_types, base_entries, unit_of}
+use Rattle.unit_entries.specs.Unit.{type_uses, variable_entry, variables_from, function_variables, function_entry, functions_from, program_variables}
+use Rattle.unit_entries.specs.Unit.{program_types, base_entries, unit_of}
 
 pub record VariablesSoFar (meta : Maps) (start types : List ℕ) (first list : ℕ) (all rest : List VarId) (entries : List VariableEntry) : Type 0 where
   pub few : length types + length rest ≤ length start + length all
@@ -21,7 +22,8 @@ pub record VariablesSoFar (meta : Maps) (start types : List ℕ) (first list : �
   pub known : first_uses nat_eq types (flat_map (type_uses meta) rest) ≡ first_uses nat_eq start (flat_map (type_uses meta) all)
   pub listed : (more : List ℕ) → entries ++ variables_from meta (types ++ more) list rest ≡ variables_from meta (types ++ more) first all
 
-pub variables_next : (meta : Maps) (start types types_ : List ℕ) (first list : ℕ) (all rest : List VarId) (v : VarId) (entries entries_ : List VariableEntry) (entry : VariableEntry)
+pub variables_next : (meta : Maps) (start types types_ : List ℕ) (first list : ℕ) (all rest : List VarId) (v : VarId) (entries entries_ : List VariableEntry)
+    (entry : VariableEntry)
     → VariablesSoFar meta start types first list all (v ∷ rest) entries
     → types_ ≡ first_uses nat_eq types (type_uses meta v)
     → ((more : List ℕ) → entry ≡ variable_entry meta (types_ ++ more) list v)
@@ -55,7 +57,8 @@ pub record FunctionsSoFar (meta : Maps) (types : List ℕ) (list : ℕ) (all res
 pub functions_start : (meta : Maps) (all : List Compiled) → FunctionsSoFar meta [] 0 all all []
 functions_start meta all = record { few = omega arith; count = omega arith; known = refl; listed = λ more. refl }
 
-pub functions_next : (meta : Maps) (types types_ : List ℕ) (list list_ : ℕ) (all rest : List Compiled) (f : Compiled) (entries entries_ : List FunctionEntry) (entry : FunctionEntry)
+pub functions_next : (meta : Maps) (types types_ : List ℕ) (list list_ : ℕ) (all rest : List Compiled) (f : Compiled) (entries entries_ : List FunctionEntry)
+    (entry : FunctionEntry)
     → FunctionsSoFar meta types list all (f ∷ rest) entries
     → types_ ≡ first_uses nat_eq types (flat_map (type_uses meta) (function_variables f))
     → ((more : List ℕ) → entry ≡ function_entry meta (types_ ++ more) list f)
@@ -71,7 +74,8 @@ functions_next meta types types_ list list_ all rest f entries entries_ entry so
     length-append (function_variables f) (program_variables rest) in
     record {
       few = let so_few : length types + length (program_variables (f ∷ rest)) ≤ length (program_variables all) = so.few in omega (arith, so_few, few, split);
-      count = let so_count : list + length (program_variables (f ∷ rest)) ≡ length (program_variables all) = so.count in omega (arith, so_count, split, counted);
+      count = let so_count : list + length (program_variables (f ∷ rest)) ≡ length (program_variables all) = so.count in omega
+          (arith, so_count, split, counted);
       known = ap (λ ts. first_uses nat_eq ts left) joins ∙ sym (uses_append nat_eq types uses left) ∙ so.known;
       listed = λ more.
           let joined : types_ ++ more ≡ types ++ (more_types.0 ++ more) = ap (λ ts. ts ++ more) (joins ∙ more_types.1) ∙ append_assoc types more_types.0 more in
@@ -82,7 +86,8 @@ functions_next meta types types_ list list_ all rest f entries entries_ entry so
           ∙ subst P (sym joined) (so.listed (more_types.0 ++ more));
     }
 
-pub unit_done : (meta : Maps) (text_len : ℕ) (functions : List Compiled) (file : SourceFile) (types : List ℕ) (list : ℕ) (entries : List FunctionEntry) (bases : List BaseEntry)
+pub unit_done : (meta : Maps) (text_len : ℕ) (functions : List Compiled) (file : SourceFile) (types : List ℕ) (list : ℕ) (entries : List FunctionEntry)
+    (bases : List BaseEntry)
     → file ≡ program_file meta functions → FunctionsSoFar meta types list functions [] entries → bases ≡ base_entries meta types
     → record { name = file.name; dir = file.dir; text_len = text_len; types = bases; functions = entries } ≡ unit_of meta text_len functions
 unfolding unit_of
@@ -109,7 +114,8 @@ functions_room meta types list all rest f entries so =
     (omega (arith, so_few, split), omega (arith, so_count, split))
 
 -- the variables of an entry are as many as those of its function
-pub entry_length : (meta : Maps) (types : List ℕ) (k : ℕ) (f : Compiled) (entry : FunctionEntry) (n : ℕ) → n ≡ length entry.variables → entry ≡ function_entry meta types k f
+pub entry_length : (meta : Maps) (types : List ℕ) (k : ℕ) (f : Compiled) (entry : FunctionEntry) (n : ℕ) → n ≡ length entry.variables → entry ≡ function_entry
+    meta types k f
     → n ≡ length (function_variables f)
 entry_length meta types k f entry n counted is =
     counted ∙ ap (λ (e : FunctionEntry). length e.variables) is ∙ variables_length meta types k (function_variables f)

@@ -1,6 +1,7 @@
 -- The type of each variable is there.
 -- Plan: what is used is among the first uses, so its place is below their number.
-use Rattle.std.proofs.Common.{◌≡◌, ℕ, suc, ◌+◌, ◌<◌, Bool, true, false, ◌||◌, List, [], ◌∷◌, ◌++◌, length, refl, sym, ◌∙◌, ap, arith, Some, None, true≢false, cond, not}
+use Rattle.std.proofs.Common.{◌≡◌, ℕ, suc, ◌+◌, ◌<◌, Bool, true, false, ◌||◌, List, [], ◌∷◌, ◌++◌, length, refl, sym, ◌∙◌, ap, arith, Some, None}
+use Rattle.std.proofs.Common.{true≢false, cond, not}
 use Rattle.std.specs.Prelude.{Option, All, nat_eq, IfSome}
 use Rattle.std.specs.List.{flat_map, list_any, position_or_len}
 use Rattle.std.proofs.lemmas.List.{length-map}
@@ -14,7 +15,8 @@ use Rattle.mir_func.specs.declared.variable.VarId.{VarId}
 use Rattle.source_lines.specs.declared.compiled.Compiled.{Compiled}
 use Rattle.source_lines.specs.Files.{with_new, first_uses}
 use Rattle.source_lines.proofs.FirstUses.{joined, lengthened}
-use Rattle.unit_entries.specs.Unit.{type_uses, node_uses, listed, readable_type, type_in, node_entry, variables_from, function_variables, functions_from, program_types, base_entries, unit_of}
+use Rattle.unit_entries.specs.Unit.{type_uses, node_uses, listed, readable_type, type_in, node_entry, variables_from, function_variables}
+use Rattle.unit_entries.specs.Unit.{functions_from, program_types, base_entries, unit_of}
 use Rattle.unit_entries.proofs.Keys.{node_same}
 
 -- a place that is found is below the length
@@ -40,8 +42,10 @@ used known [] = All-nil _
 used known (x ∷ xs) =
     let more = lengthened nat_eq (with_new nat_eq known x) xs in
     let there : list_any (nat_eq x) (first_uses nat_eq (with_new nat_eq known x) xs) ≡ true =
-    ap (list_any (nat_eq x)) more.1 ∙ list_any-append (nat_eq x) (with_new nat_eq known x) more.0 ∙ ap (λ b. b || list_any (nat_eq x) more.0) (joined nat_eq node_same known x) in
-    All-cons (Below (first_uses nat_eq (with_new nat_eq known x) xs)) x xs (found_below (nat_eq x) (first_uses nat_eq (with_new nat_eq known x) xs) there) (used (with_new nat_eq known x) xs)
+    ap (list_any (nat_eq x)) more.1 ∙ list_any-append (nat_eq x) (with_new nat_eq known x) more.0 ∙ ap (λ b. b || list_any (nat_eq x) more.0)
+        (joined nat_eq node_same known x) in
+    All-cons (Below (first_uses nat_eq (with_new nat_eq known x) xs)) x xs (found_below (nat_eq x) (first_uses nat_eq (with_new nat_eq known x) xs) there)
+        (used (with_new nat_eq known x) xs)
 
 front : {X : Type 0} (P : X → Type 0) (xs ys : List X) → All P (xs ++ ys) → All P xs
 front P [] ys all = All-nil P
@@ -51,10 +55,12 @@ back : {X : Type 0} (P : X → Type 0) (xs ys : List X) → All P (xs ++ ys) →
 back P [] ys all = all
 back P (x ∷ xs) ys all = back P xs ys (All-tail P x (xs ++ ys) all)
 
-typed_in : (types : List ℕ) (node : Option ℕ) (count : ℕ) → count ≡ length types → All (Below types) (listed node) → IfSome (type_in types node) (λ base. base < count)
+typed_in : (types : List ℕ) (node : Option ℕ) (count : ℕ) → count ≡ length types → All (Below types) (listed node) → IfSome (type_in types node)
+    (λ base. base < count)
 unfolding Below
 typed_in types None count e all = tt
-typed_in types (Some node) count e all = let below : position_or_len (nat_eq node) types < length types = All-head (Below types) node [] all in omega (arith, e, below)
+typed_in types (Some node) count e all = let below : position_or_len (nat_eq node) types < length types = All-head (Below types) node [] all in omega
+    (arith, e, below)
 
 typed_node : (meta : Maps) (types : List ℕ) (o : Option VariableNode) (k count : ℕ) → count ≡ length types → All (Below types) (node_uses meta o)
     → HasType count (node_entry meta types o k)
@@ -79,7 +85,8 @@ typed_functions meta types k count (f ∷ fs) e all =
     (typed_variables meta types k count (function_variables f) e (front (Below types) own others all))
     (typed_functions meta types (k + length (function_variables f)) count fs e (back (Below types) own others all))
 
-pub unit_typed : (meta : Maps) (text_len : ℕ) (functions : List Compiled) → All (HasTypes (length (unit_of meta text_len functions).types)) (unit_of meta text_len functions).functions
+pub unit_typed : (meta : Maps) (text_len : ℕ) (functions : List Compiled) → All (HasTypes (length (unit_of meta text_len functions).types))
+    (unit_of meta text_len functions).functions
 unfolding unit_of
 unit_typed meta text_len functions =
     let types = program_types meta functions in

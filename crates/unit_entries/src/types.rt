@@ -1,6 +1,7 @@
 //! Base types, and their numbers.
 
-ghost use Rattle.std.specs.Prelude.{◌≡◌, ◌+◌, ◌-◌, ◌<◌, ◌≤◌, ◌^◌, [], ◌++◌, length, map, ℕ, List, Some, None, nat_eq, OnOk, IfOk};
+ghost use Rattle.std.specs.Prelude.{◌≡◌, ◌+◌, ◌-◌, ◌<◌, ◌≤◌, ◌^◌, [], ◌++◌, length, map, ℕ, List, Some, None};
+ghost use Rattle.std.specs.Prelude.{nat_eq, OnOk, IfOk};
 ghost use Rattle.std.specs.List.{position_or_len};
 ghost use Rattle.meta_reader.specs.Metadata.{base_type_at};
 ghost use Rattle.source_lines.specs.Files.{with_new};

@@ -1,4 +1,5 @@
-use Rattle.std.proofs.Common.{◌≡◌, ◌<◌, ◌≤◌, ℕ, ◌+◌, [], ◌∷◌, ◌++◌, List, length, get_or, take, set, cond, nat_eq, Bool, true, false, is_some, eq-eqb, ne_eqb, sym, ap, ◌∙◌, subst, arith}
+use Rattle.std.proofs.Common.{◌≡◌, ◌<◌, ◌≤◌, ℕ, ◌+◌, [], ◌∷◌, ◌++◌, List, length, get_or, take, set, cond, nat_eq, Bool, true, false, is_some, eq-eqb}
+use Rattle.std.proofs.Common.{ne_eqb, sym, ap, ◌∙◌, subst, arith}
 use Rattle.std.specs.List.{swap}
 use Rattle.std.proofs.lemmas.List.{length-take-le}
 use Rattle.mir_func.specs.declared.entry.Entry.{Entry}
@@ -41,7 +42,8 @@ returns-then-number-fresh-clause-stands c x roots here =
     let entries = one_entry subs c.add.new.self c.entry_for.result k n o c.entry_for.ensures (entered [] subs fresh k s (take c.args.kept xs) d o n w).none
     c.in_ok-add-in-GetsEntry.ensures.ok in
     let counted = sym (ap (λ (z : Bool). cond z (fresh + 1) fresh) (eq-eqb n fresh (sym c.number.ensures ∙ c.if-number-fresh.true))) in
-    entry_stands xs c.args.kept c.args.at k s subs fresh roots c.requires.within c.requires.at d o n c.index_mut.result.now c.give_number.new.x x.origin c.add.new.self (fresh + 1) _ w
+    entry_stands xs c.args.kept c.args.at k s subs fresh roots c.requires.within c.requires.at d o n c.index_mut.result.now c.give_number.new.x x.origin
+        c.add.new.self (fresh + 1) _ w
     (inside xs c.deref.result.now c.args.kept c.args.at d all c.requires.within c.requires.at (c.choose_way.ensures.within d o n c.in-GetsEntry.is))
     (sym c.index_mut.ensures.value) c.give_number.ensures entries counted
 
@@ -60,7 +62,8 @@ returns-else-number-fresh-clause-stands c x roots here =
     let entries = one_entry subs c.add.new.self c.entry_for.result k n o c.entry_for.ensures (entered [] subs fresh k s (take c.args.kept xs) d o n w).none
     c.in_ok-add-in-GetsEntry.ensures.ok in
     let counted = sym (ap (λ (z : Bool). cond z (fresh + 1) fresh) (ne_eqb n fresh (λ e. c.if-number-fresh.false (c.number.ensures ∙ e)))) in
-    entry_stands xs c.args.kept c.args.at k s subs fresh roots c.requires.within c.requires.at d o n c.index_mut.result.now c.give_number.new.x x.origin c.add.new.self fresh _ w
+    entry_stands xs c.args.kept c.args.at k s subs fresh roots c.requires.within c.requires.at d o n c.index_mut.result.now c.give_number.new.x x.origin
+        c.add.new.self fresh _ w
     (inside xs c.deref.result.now c.args.kept c.args.at d all c.requires.within c.requires.at (c.choose_way.ensures.within d o n c.in-GetsEntry.is))
     (sym c.index_mut.ensures.value) c.give_number.ensures entries counted
 
@@ -72,5 +75,6 @@ returns-in-GetsPhi-clause-stands c x roots here =
     let all = c.deref.ensures.value in
     let w = ap (λ (ys : List Item). way [] c.args.subs.now c.args.fresh.now c.args.number c.args.source (take c.args.kept ys)) (sym all) ∙
     sym c.choose_way.ensures.chosen ∙ c.in-GetsPhi.is in
-    phi_stands xs c.args.kept c.args.at c.args.number c.args.source c.args.subs.now c.args.fresh.now roots c.requires.within c.requires.at c.put_phi.new.x x.origin
+    phi_stands xs c.args.kept c.args.at c.args.number c.args.source c.args.subs.now c.args.fresh.now roots c.requires.within c.requires.at c.put_phi.new.x
+        x.origin
     c.swap.new.self.items _ w (c.put_phi.ensures ∙ ap (λ (i : Item). phi_for c.args.number c.args.source i.origin) same) c.swap.ensures.items

@@ -21,7 +21,8 @@ loop-at-preserved c =
           let ks = w.kept-is in
           let rs : c.if-outlives.roots.items ≡ set ys kept e = ap (λ v. v.items) w.roots-is in
           record {
-            front = (λ i. take (ks i) (rs i)) ∙ moves_up p xs ys kept at e le lt h.size h.front h.behind c.index.ensures (sym c.outlives.ensures ∙ w.if-outlives.true);
+            front = (λ i. take (ks i) (rs i)) ∙ moves_up p xs ys kept at e le lt h.size h.front h.behind c.index.ensures
+                (sym c.outlives.ensures ∙ w.if-outlives.true);
             behind = ap (drop (at + 1)) rs ∙ behind_write xs ys at kept e le h.behind;
             size = ap length rs ∙ length-set ys kept e ∙ h.size;
             within = omega (arith, ks, le);

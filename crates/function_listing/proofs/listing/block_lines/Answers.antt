@@ -25,6 +25,7 @@ returns c = λ l source placed here.
     first body entries here) in
     let made = c.in_ok-at.ensures l 0 rest source fits (λ m. blocks_apart l 0 1 m body (omega arith)) begins in
     let listed = c.in_ok-push_blocks.ensures l 1 source (All-tail (λ b. All P b.items) first body placed) made.1 in (
-      made.0 ∙ ap (λ (t : List Line). t ++ items_listed l 0 c.as_slice-items.result.now) c.new-prologue.ensures ∙ ap (items_listed l 0) c.as_slice-items.ensures,
+      made.0 ∙ ap (λ (t : List Line). t ++ items_listed l 0 c.as_slice-items.result.now) c.new-prologue.ensures ∙ ap (items_listed l 0)
+          c.as_slice-items.ensures,
       listed ∙ ap (λ (t : List ListedBlock). t ++ blocks_listed l 1 body) c.new-blocks.ensures,
     )

@@ -7,7 +7,8 @@ pass_items-requires-clause-walked c =
     let t = c.args.tracking.now in
     record {
       class = own_classes t.things.now;
-      holds = c.in_ok-held.ensures.holds (own_classes t.things.now) (own_settles t.variables.now t.things.now c.requires.tracking.things c.requires.tracking.tracked
+      holds = c.in_ok-held.ensures.holds (own_classes t.things.now) (own_settles t.variables.now t.things.now c.requires.tracking.things
+          c.requires.tracking.tracked
           t.settled.now c.requires.tracking.own);
       tells = own_tell t.variables.now t.things.now c.requires.tracking.things c.requires.tracking.tracked (resolve t.subs.now);
     }

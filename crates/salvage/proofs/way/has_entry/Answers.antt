@@ -8,7 +8,8 @@ use Rattle.salvage.specs.Way.{has_entry}
 use Rattle.salvage.proofs.Found.{has_none, has_some}
 use Rattle.salvage.proofs.way.has_entry.Goals as goal
 
-compared : (subs : List Entry) (q end : OperandPair) → resolve subs q ≡ Some end → (z : Bool) → is_pair end q ≡ z → not z ≡ has_entry subs (Some q.number) q.operand
+compared : (subs : List Entry) (q end : OperandPair) → resolve subs q ≡ Some end → (z : Bool) → is_pair end q ≡ z → not z ≡ has_entry subs (Some q.number)
+    q.operand
 compared subs q end e true same = sym (has_none subs q.number q.operand (e ∙ ap Some (is_pair-true end q same)))
 compared subs q end e false apart = sym (has_some subs q.number q.operand (λ f.
     (let w : Some end ≡ Some q = sym e ∙ f in

@@ -5,4 +5,5 @@ use Rattle.unit_entries.specs.Variables.{marks_of}
 use Rattle.unit_entries.proofs.variables.Known.add_all.Given as goal
 
 abbrev pub invariant-loop-item : goal.invariant-loop-item
-invariant-loop-item l = first_uses is_same_variable l.self (marks_of (drop l.item-index l.items)) ≡ first_uses is_same_variable l.initial.self (marks_of l.items)
+invariant-loop-item l = first_uses is_same_variable l.self (marks_of (drop l.item-index l.items)) ≡ first_uses is_same_variable l.initial.self
+    (marks_of l.items)
