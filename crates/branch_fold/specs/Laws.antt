@@ -5,8 +5,10 @@ use Rattle.fold_rule.specs.Rule.{IsFolded}
 use Rattle.fold_laws.proofs.One.{one_folded}
 use Rattle.fold_laws.proofs.Alike.{sees_code}
 
+-- of one function folding makes one
 pub folding_has_one_result : HasOneResult IsFolded
 folding_has_one_result = one_folded
 
+-- it sees no positions
 pub folding_sees_code_alone : SeesCodeAlone IsFolded
 folding_sees_code_alone = sees_code

@@ -75,16 +75,19 @@ KnowsRow things (Calls name args) = Unit {0}
 KnowsRow things (Returns results) = Unit {0}
 KnowsRow things Unfit = Unit {0}
 
+-- what a pair resolved to is among the things, where it resolves to something
 abbrev pub KnowsPair : (things : List Tracked) → Option OperandPair → Type 0
 KnowsPair things None = Unit {0}
 KnowsPair things (Some q) = Contains things (OfPair q.number q.operand)
 
+-- what a mark's debug operand reads has a class
 abbrev pub KnowsValue : (things : List Tracked) → (OperandPair → Option OperandPair) → MarkValue → Type 0
 KnowsValue things resolve Nothing = Unit {0}
 KnowsValue things resolve (Constant c) = Contains things (OfNumber (word c))
 KnowsValue things resolve (At r) = r < 32
 KnowsValue things resolve (Pair q) = KnowsPair things (resolve q)
 
+-- what a phi's place holds has a class
 abbrev pub KnowsPlace : (things : List Tracked) → Option Place → Type 0
 KnowsPlace things (Some (Register r)) = r < 32
 KnowsPlace things (Some (Slot n)) = Contains things (InSlot n)

@@ -48,9 +48,11 @@ use Rattle.class_places.specs.Things.{is_key, IsOffset}
 abbrev pub SLOTS_FROM : ℕ
 SLOTS_FROM = 32
 
+-- how many places there are: 32 registers, and the 254 doublewords at offsets 0 to 2,024
 abbrev pub PLACES : ℕ
 PLACES = 286
 
+-- the place of the doubleword at an offset from x2, in bytes
 abbrev pub slot_place : ℕ → ℕ
 slot_place n = SLOTS_FROM + n / 8
 
@@ -68,6 +70,7 @@ abbrev pub given_or : Option ℕ → ℕ → ℕ
 given_or None c = c
 given_or (Some d) c = d
 
+-- the class of operand o of debug instruction number k, between two items of the block
 abbrev pub pair_class : Index → List ℕ → Held → ℕ → ℕ → ℕ
 pair_class index settled h k o = given_or (get is_key h.pairs (k, o)) (class_at settled (get is_key index.pairs (k, o)))
 
@@ -99,6 +102,8 @@ abbrev pub put : (rd c : ℕ) → (places : ℕ → ℕ) → ℕ → ℕ
 put rd c places i = cond (nat_eq rd 2) (cond (nat_lt i SLOTS_FROM) (places i) 0)
     (cond (nat_eq rd 0) (places i) (cond (nat_lt rd SLOTS_FROM) (cond (nat_eq i rd) c (places i)) (places i)))
 
+-- the class at each place past code of a row: constants have their number's class, copies and slots pass classes on,
+-- and every other definition makes a new class, counted by its register from the one that comes next
 abbrev pub places_past : (number : ℕ → ℕ) → (next : ℕ) → Row → (places : ℕ → ℕ) → ℕ → ℕ
 places_past number next (Fixes rd c) places i = put rd (number c) places i
 places_past number next (Moves rd rs) places i = put rd (places rs) places i
@@ -125,17 +130,20 @@ abbrev pub resolved_class : Index → List ℕ → Held → Option OperandPair �
 resolved_class index settled h None = 0
 resolved_class index settled h (Some q) = pair_class index settled h q.number q.operand
 
+-- the class of what a mark's debug operand reads, and 0 for nothing
 abbrev pub value_class : Index → List ℕ → (OperandPair → Option OperandPair) → Held → MarkValue → ℕ
 value_class index settled resolve h Nothing = 0
 value_class index settled resolve h (Constant c) = number_class index settled (word c)
 value_class index settled resolve h (At r) = slice_index h.places.items r
 value_class index settled resolve h (Pair q) = resolved_class index settled h (resolve q)
 
+-- the class of what a place holds
 abbrev pub at_class : Index → List ℕ → Held → Place → ℕ
 at_class index settled h (Register r) = slice_index h.places.items r
 at_class index settled h (Slot n) = slice_index h.places.items (slot_place n)
 at_class index settled h (Const c) = number_class index settled (word c)
 
+-- the class of what a phi's place holds, and 0 where it has none
 abbrev pub place_class : Index → List ℕ → Held → Option Place → ℕ
 place_class index settled h None = 0
 place_class index settled h (Some p) = at_class index settled h p

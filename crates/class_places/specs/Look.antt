@@ -8,10 +8,12 @@ use Rattle.class_places.specs.Held.{SLOTS_FROM}
 abbrev pub place_at : ℕ → Place
 place_at i = cond (nat_lt i SLOTS_FROM) (Register i) (Slot (8 * (i - SLOTS_FROM)))
 
+-- what stands at the place of this index, where there is one
 abbrev pub place_by : Option ℕ → Option Place
 place_by None = None
 place_by (Some i) = Some (place_at i)
 
+-- a constant goes before a place
 abbrev pub constant_or : Option ℤ → Option Place → Option Place
 constant_or (Some c) p = Some (Const c)
 constant_or None p = p

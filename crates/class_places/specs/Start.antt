@@ -68,6 +68,7 @@ pub record AreConstantsBelow (things : List Tracked) (i : ℕ) (class : Classes)
   pub only : (k : ℕ) (c : ℤ) → slice_index_or constants k None ≡ Some c →
       IsPlace (Const c) × ((j : ℕ) × (slice_get things j ≡ Some (Number (word c)))) × (class (OfNumber (word c)) ≡ k)
 
+-- a table has a constant for the class of each number among the things, and no other
 abbrev pub AreConstants : List Tracked → Classes → List (Option ℤ) → Type 0
 AreConstants things class constants = AreConstantsBelow things (length things) class constants
 

@@ -10,6 +10,7 @@ use Rattle.class_entries.specs.Entry.{thing}
 use Rattle.class_paths.specs.Classes.{Classes}
 use Rattle.class_places.specs.declared.index.Index.{Index}
 
+-- an offset from x2, in bytes, of a doubleword of the greatest frame
 abbrev pub IsOffset : ℕ → Type 0
 IsOffset n = (n % 8 ≡ 0) × (n ≤ MAX_OFFSET)
 

@@ -12,6 +12,7 @@ use Rattle.class_solver.specs.declared.flow.Flow.{Flow}
 use Rattle.class_solver.specs.Numbering.{class_in}
 use Rattle.class_solver.specs.Joining.{IsKnown, source_at}
 
+-- a thing's token, and none where there is no thing
 abbrev pub thing_token : Option Tracked → Tokens → Option Token
 thing_token None t = None
 thing_token (Some x) t = token_of (thing x) t

@@ -11,6 +11,7 @@ hand_by (Some e) (Some f) = cond e.reached (record { entry = e; changes = f.chan
 hand_by (Some e) None = []
 hand_by None f = []
 
+-- what the block of this index hands on
 abbrev pub hand_of : List Flow → List BlockEntry → (block : ℕ) → List Hand
 hand_of flows entries p = hand_by (slice_get entries p) (slice_get flows p)
 
@@ -24,9 +25,11 @@ abbrev pub first_hand : BlockEntry → (block : ℕ) → List Hand
 first_hand start zero = record { entry = start; changes = [] } ∷ []
 first_hand start (suc b) = []
 
+-- all that is handed on to a block: what is known at the start, if it is the first, and what its predecessors know
 abbrev pub handed : BlockEntry → List Flow → List BlockEntry → (block : ℕ) → List ℕ → List Hand
 handed start flows entries b ps = first_hand start b ++ hands_of flows entries ps
 
+-- the predecessors of a block, by its index
 abbrev pub preds_at : List (List ℕ) → ℕ → List ℕ
 preds_at preds b = slice_index_or preds b []
 

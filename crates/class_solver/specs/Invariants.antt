@@ -78,6 +78,7 @@ abbrev pub classes_from : (used : ℕ) → List ℕ → ℕ
 classes_from n [] = n - 1
 classes_from n (c ∷ cs) = classes_from (max n (suc c)) cs
 
+-- how many bits aren't set: of the things that lack a token on some path
 abbrev pub count_off : List Bool → ℕ
 count_off [] = 0
 count_off (z ∷ gs) = cond z (count_off gs) (suc (count_off gs))
@@ -86,6 +87,7 @@ count_off (z ∷ gs) = cond z (count_off gs) (suc (count_off gs))
 abbrev pub weight : BlockEntry → ℕ
 weight e = cond e.reached (classes_from 1 e.classes + count_off e.given) 0
 
+-- the weight of a table of entries: that of each, added up
 abbrev pub weight_of : List BlockEntry → ℕ
 weight_of [] = 0
 weight_of (e ∷ es) = weight e + weight_of es

@@ -23,6 +23,7 @@ class_past n cs (Was j) = slice_index cs j
 class_past n cs (New k r) = n + 1 + 4128 * k + r
 class_past n cs Nameless = 0
 
+-- the thing has a token on every path past a block: a new one, or one that its source had so before
 abbrev pub bit_past : List Bool → Source → Bool
 bit_past gs (Was j) = slice_index_or gs j false
 bit_past gs (New k r) = true
@@ -33,9 +34,11 @@ pub record Hand : Type 0 where
   pub entry : BlockEntry
   pub changes : List Change
 
+-- the class of a thing, by its place, past a block that hands this on
 abbrev pub hand_class : Hand → ℕ → ℕ
 hand_class h x = class_past (length h.entry.classes) h.entry.classes (source_at h.changes x)
 
+-- the thing of this index has a token on every path past a block that hands this on
 abbrev pub hand_bit : Hand → (i : ℕ) → Bool
 hand_bit h i = bit_past h.entry.given (source_from (Was i) h.changes i)
 
@@ -53,6 +56,7 @@ SourceWithin n (Was j) = j < n
 SourceWithin n (New k r) = r < 4128
 SourceWithin n Nameless = Unit {0}
 
+-- changes of things below n, which come from things below n or were made for registers
 abbrev pub AreWithin : ℕ → List Change → Type 0
 AreWithin n [] = Unit {0}
 AreWithin n (c ∷ cs) = (c.thing < n) × SourceWithin n c.source × AreWithin n cs

@@ -25,9 +25,11 @@ abbrev pub register_in : (ℕ → ℕ) → ℕ → ℕ
 register_in regs zero = 0
 register_in regs (suc r) = regs (suc r)
 
+-- a register of the machine as it stands
 abbrev pub register : Machine → ℕ → ℕ
 register s r = register_in s.regs r
 
+-- the second operand of arithmetic: the content of a register, or an immediate
 abbrev pub input : Machine → Input → ℕ
 input s (Content r) = register s r
 input s (Number n) = n

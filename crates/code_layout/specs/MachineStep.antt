@@ -33,9 +33,11 @@ return_word = 0x00008067
 abbrev pub past : (bytes : ℕ) → Machine → Machine
 past n s = record s { counter = s.counter + n }
 
+-- the counter at a target: control goes there
 abbrev pub at : (target : ℕ) → Machine → Machine
 at target s = record s { counter = target }
 
+-- an integer register written, where x0 drops the write
 abbrev pub set_register : (rd v : ℕ) → Machine → Machine
 set_register rd v s = record s { regs = set_in rd v s.regs }
 
@@ -43,6 +45,7 @@ set_register rd v s = record s { regs = set_in rd v s.regs }
 abbrev pub shown_store : (address : ℕ) → List ℕ → Machine → List Event
 shown_store a bytes s = cond (touches_frame s.entry s.area a (length bytes)) s.events (Wrote a bytes ∷ s.events)
 
+-- bytes stored in memory from an address on, with the event of the store
 abbrev pub store : (address : ℕ) → List ℕ → Machine → Machine
 store a bytes s = record s { memory = stored s.memory a bytes; events = shown_store a bytes s }
 
@@ -72,6 +75,7 @@ does (Does row) s = does_row row s
 does (Links rd target) s = Continues (at target (set_register rd ((s.counter + 4) % 2 ^ 64) s))
 does (LinksTo rd base offset) s = Continues (at (address_of s base offset / 2 * 2) (set_register rd ((s.counter + 4) % 2 ^ 64) s))
 
+-- what a decoded word does at the counter. One that decodes to no operation stops the machine
 abbrev pub does_operation : Option MachineOp → Machine → Stepped
 does_operation None s = BadWord
 does_operation (Some m) s = does (machine_row s.counter m) s
@@ -110,6 +114,7 @@ abbrev pub does_line : Image → CodeLine → (call : Option (List ℕ × List �
 does_line image l (Some (name, args)) s = answered name (map (register s) args) s s.script
 does_line image l None s = does_word l (word_at image.text s.counter) s
 
+-- what happens at the line at the counter. Where the listing has no code the machine has left the function
 abbrev pub does_at : Image → Option CodeLine → Machine → Stepped
 does_at image None s = Leaves
 does_at image (Some l) s = does_line image l (call_of (row_of l.instruction)) s

@@ -23,6 +23,7 @@ use Rattle.code_layout.specs.Image.{CodeLine, Image, line_of}
 use Rattle.code_layout.specs.MachineStep.{return_word}
 use Rattle.code_layout.specs.Headline.{KEPT}
 
+-- the second operand of arithmetic is a physical register or an immediate
 abbrev pub IsPlainInput : Input → Type 0
 IsPlainInput (Content r) = r < 32
 IsPlainInput (Number n) = Unit {0}

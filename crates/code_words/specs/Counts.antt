@@ -36,6 +36,7 @@ kind_count (Code i k) = row_words (row_of i)
 kind_count (Mark v m) = 1
 kind_count (Phi p k) = 1
 
+-- the count of an item by its kind, which is never less than its words
 abbrev pub item_count : Item → ℕ
 item_count i = kind_count i.kind
 

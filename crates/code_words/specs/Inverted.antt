@@ -8,6 +8,7 @@ use Rattle.rv64_instr.specs.declared.operand.Operand.{Operand}
 use Rattle.rv64_instr.specs.declared.operand.Operand.TheVariants.{Imm, Block}
 use Rattle.rv64_instr.specs.Instruction.{Instruction}
 
+-- the opcode of the opposite condition
 abbrev pub inverted : BranchOp → BranchOp
 inverted Beq = Bne
 inverted Bne = Beq

@@ -27,6 +27,7 @@ abbrev pub StandFrom : (address : ℕ) → List Entry → (end : ℕ) → Type 0
 StandFrom a [] end = a ≡ end
 StandFrom a (e ∷ es) end = (e.address ≡ a) × (e.size ≡ cond e.call 8 4) × StandFrom (a + e.size) es end
 
+-- the item is a call site
 abbrev pub is_call_kind : ItemKind → Bool
 is_call_kind (Code i k) = is_call (row_of i)
 is_call_kind (Mark v m) = false

@@ -25,9 +25,11 @@ by_pointer f (r ∷ Slot n ∷ Imm i ∷ rest) = r ∷ Use 2 ∷ Imm (pos n) ∷
 by_pointer f (r ∷ Object n ∷ Imm i ∷ rest) = r ∷ Use 2 ∷ Imm (pos (own_size f + offset_of f.objects n) +ℤ i) ∷ rest
 by_pointer f operands = operands
 
+-- an instruction whose slots and stack objects are offsets from x2, as after frame index elimination
 abbrev pub listed : FramedFunction → Instruction → Instruction
 listed f i = record i { operands = by_pointer f i.operands }
 
+-- a line from its parts
 abbrev pub line : (address : ℕ) → Origin → Instruction → Line
 line a o i = record { address = a; origin = o; instruction = i }
 
@@ -38,6 +40,7 @@ form_lines f a o i OneWord = line a o (listed f i) ∷ []
 form_lines f a o i CallSite = line a o (listed f i) ∷ []
 form_lines f a o i (LongBranch n) = line a (added_before o) (skip_of i) ∷ line (a + 4) o (jump_to n) ∷ []
 
+-- the lines of an item of a kind: a mark or a phi has no code, and so no line
 abbrev pub kind_lines : Layout → Site → ItemKind → List Line
 kind_lines l s (Code i k) = form_lines l.framed (address_in l s.point) s.item.origin i (form_of (l.long s.point) (Code i k))
 kind_lines l s (Mark v m) = []
@@ -47,5 +50,6 @@ kind_lines l s (Phi p k) = []
 abbrev pub lines_at : Layout → Site → List Line
 lines_at l s = kind_lines l s s.item.kind
 
+-- all lines with code of a layout
 abbrev pub lines_of : Layout → List Line
 lines_of l = flat_map (lines_at l) (sites_of l.framed)

@@ -16,6 +16,7 @@ pub record IsBranchTo (f : FramedFunction) (p : Pos) (block : ℕ) : Type 0 wher
   pub stands : fetch_in (drop p.block f.blocks) p.item ≡ Here item
   pub goes : exit_of item.kind ≡ Perhaps block
 
+-- two points are one: the same block and the same item of it
 abbrev pub is_same : Pos → Pos → Bool
 is_same p q = nat_eq p.block q.block && nat_eq p.item q.item
 

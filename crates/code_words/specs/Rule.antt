@@ -45,6 +45,7 @@ pub data Form : Type 0 where
   CallSite : Form
   LongBranch : (block : ℕ) → Form
 
+-- the form of code of a row: only a conditional branch can be long
 abbrev pub row_form : (long : Bool) → Row → Form
 row_form long (Fixes rd n) = OneWord
 row_form long (Moves rd rs) = OneWord
@@ -60,6 +61,7 @@ row_form long (Calls name args) = CallSite
 row_form long (Returns results) = OneWord
 row_form long Unfit = OneWord
 
+-- the form of an item: a mark or a phi emits nothing
 abbrev pub form_of : (long : Bool) → ItemKind → Form
 form_of long (Code i k) = row_form long (row_of i)
 form_of long (Mark v m) = Nothing
@@ -126,6 +128,7 @@ operation_at l a i = lowered (offset_to l a (row_exit (row_of i))) (object_offse
 abbrev pub skip_operation : Instruction → Option MachineOp
 skip_operation i = lowered (pos 8) 0 (inverted_branch i)
 
+-- the second word of a long branch that begins at the address
 abbrev pub jump_operation : Layout → (address block : ℕ) → Option MachineOp
 jump_operation l a n = operation_at l (a + 4) (jump_to n)
 
@@ -134,16 +137,19 @@ jump_operation l a n = operation_at l (a + 4) (jump_to n)
 abbrev pub call_words : List ℕ
 call_words = 0x00000097 ∷ 0x000080e7 ∷ []
 
+-- the word of an operation, and no word where an instruction has none
 abbrev pub word_if : Option MachineOp → List ℕ
 word_if None = []
 word_if (Some m) = word_of m ∷ []
 
+-- the words that an instruction of a form is encoded as at an address
 abbrev pub form_words : Layout → (address : ℕ) → Instruction → Form → List ℕ
 form_words l a i Nothing = []
 form_words l a i OneWord = word_if (operation_at l a i)
 form_words l a i CallSite = call_words
 form_words l a i (LongBranch n) = word_if (skip_operation i) ++ word_if (jump_operation l a n)
 
+-- the words of an item of a kind at its point: a mark or a phi has none
 abbrev pub kind_words : Layout → Pos → ItemKind → List ℕ
 kind_words l p (Code i k) = form_words l (address_in l p) i (form_of (l.long p) (Code i k))
 kind_words l p (Mark v m) = []
@@ -192,11 +198,14 @@ sites_of f = sites_from 0 f.blocks
 abbrev pub entries_at : Layout → Site → List Entry
 entries_at l s = form_entries (address_in l s.point) s.item.origin s.point (form_of (l.long s.point) s.item.kind)
 
+-- the words of an item, at the address of its point
 abbrev pub words_at : Layout → Site → List ℕ
 words_at l s = kind_words l s.point s.item.kind
 
+-- all entries of a function, in the order of their addresses
 abbrev pub entries_of : Layout → List Entry
 entries_of l = flat_map (entries_at l) (sites_of l.framed)
 
+-- all words of a function from its first address on
 abbrev pub words_of : Layout → List ℕ
 words_of l = flat_map (words_at l) (sites_of l.framed)

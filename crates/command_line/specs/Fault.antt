@@ -40,6 +40,7 @@ place_text (Some n) = codes "line " ++ decimal n ++ codes ": "
 unfoldable pub line_of : Fault → List ℕ
 line_of fault = codes "mirdwarf: " ++ place_text (input_line fault) ++ name_of fault ++ 10 ∷ []
 
+-- the status that the program ends with by a fault: all faults of the input itself are refusals
 abbrev pub status_of : Fault → Status
 status_of Usage = status.Usage
 status_of Read = status.ReadFault

@@ -1,9 +1,11 @@
 -- Bytes and addresses in lower-case hexadecimal.
 use Rattle.std.specs.Prelude.{ℕ, zero, suc, ◌+◌, ◌/◌, ◌%◌, ◌^◌, cond, nat_lt, nat_eq, List, [], ◌∷◌, ◌++◌}
 
+-- the ASCII code of a digit: `0` to `9`, `a` to `f`
 abbrev pub hex_digit : ℕ → ℕ
 hex_digit n = cond (nat_lt n 10) (48 + n) (87 + n)
 
+-- a byte in two digits, the high one first
 abbrev pub hex_byte : ℕ → List ℕ
 hex_byte b = hex_digit (b / 16) ∷ hex_digit (b % 16) ∷ []
 

@@ -35,20 +35,24 @@ numbered_in (y ∷ ys) zero n l ls further =
     record { now = record y { kind = with_number n y.kind } ∷ ys; gained = gained_by n y.kind l.gained; phi = l.phi } ∷ ls
 numbered_in (y ∷ ys) (suc d) n l ls further = l ∷ further d
 
+-- the lines with a number on what stands at an index, counted along all lines
 abbrev pub numbered_line : (index n : ℕ) → List Line → List Line
 numbered_line d n [] = []
 numbered_line d n (l ∷ ls) = numbered_in l.now d n l ls (λ e. numbered_line e n ls)
 
+-- the lines above a copy that goes: the code that stands for it has its number now
 abbrev pub lines_above : Way → List Line → List Line
 lines_above HasEntry ls = ls
 lines_above (GetsEntry d o n) ls = numbered_line d n ls
 lines_above GetsPhi ls = ls
 
+-- the register that the phi for a copy of s asks for, if a phi is put
 abbrev pub phi_of : Way → (s : ℕ) → Option ℕ
 phi_of HasEntry s = None
 phi_of (GetsEntry d o n) s = None
 phi_of GetsPhi s = Some s
 
+-- the line of an item that got no number so far
 abbrev pub line : List Item → (phi : Option ℕ) → Line
 line now phi = record { now = now; gained = None; phi = phi }
 
@@ -60,9 +64,11 @@ lines_by_fate ls a x (GoesWith k s) =
     lines_above (way [] a.subs a.fresh k s a.done) ls ++ line (put_for (way [] a.subs a.fresh k s a.done) k s x.origin)
         (phi_of (way [] a.subs a.fresh k s a.done) s) ∷ []
 
+-- one more item, which is renamed by what is known above it
 abbrev pub next_lines : List Line → SoFar → Item → List Line
 next_lines ls a x = lines_by_fate ls a (renamed_item a.roots x) (fate_of a.roots (renamed_item a.roots x).kind)
 
+-- the lines of a block's items, one after the other
 abbrev pub over_lines : List Line → SoFar → List Item → List Line
 over_lines ls a [] = ls
 over_lines ls a (x ∷ xs) = over_lines (next_lines ls a x) (next_item a x) xs
@@ -72,5 +78,6 @@ abbrev pub lines_in : BlocksSoFar → List Block → (block : ℕ) → List Line
 lines_in a [] n = []
 lines_in a (b ∷ bs) n = cond (nat_eq b.id n) (over_lines [] (at_block a.subs a.fresh) b.items) (lines_in (next_block a b) bs n)
 
+-- the lines of the function's block with this number
 abbrev pub ledger : Function → List Entry → (block : ℕ) → List Line
 ledger f subs n = lines_in (begins f subs) f.blocks n

@@ -28,6 +28,7 @@ renamed_kind e (Code i n) = Code (renamed e i) n
 renamed_kind e (Mark v m) = Mark v m
 renamed_kind e (Phi p n) = Phi p n
 
+-- the item with roots for its code's explicit uses; its origin and debug location stay
 abbrev pub renamed_item : List Root → Item → Item
 renamed_item e x = record x { kind = renamed_kind e x.kind }
 
@@ -36,10 +37,12 @@ abbrev pub goes_with : (number : Option ℕ) → (source : ℕ) → Fate
 goes_with (Some k) s = GoesWith k s
 goes_with None s = Goes
 
+-- it goes where it is a copy of a known source
 abbrev pub goes_by : (number source : Option ℕ) → Fate
 goes_by n (Some s) = goes_with n s
 goes_by n None = Stays
 
+-- what becomes of a renamed item: of code by its row, while marks and phis stay
 abbrev pub fate_of : List Root → ItemKind → Fate
 fate_of e (Code i n) = goes_by n (known_source e (row_of i))
 fate_of e (Mark v m) = Stays
@@ -60,6 +63,7 @@ salvaged a k s o w = record {
   fresh = fresh_after w a.fresh;
 }
 
+-- what there is past a renamed item: it stays and teaches, it goes, or it goes and its number is salvaged
 abbrev pub by_fate : SoFar → Item → Fate → SoFar
 by_fate a x Stays = record { done = a.done ++ x ∷ []; roots = roots_with x.kind a.roots; subs = a.subs; fresh = a.fresh }
 by_fate a x Goes = a
@@ -69,6 +73,7 @@ by_fate a x (GoesWith k s) = salvaged a k s x.origin (way [] a.subs a.fresh k s 
 abbrev pub and_renamed : SoFar → Item → SoFar
 and_renamed a x = by_fate a x (fate_of a.roots x.kind)
 
+-- one more item: it is renamed by what is known above it, and then judged
 abbrev pub next_item : SoFar → Item → SoFar
 next_item a x = and_renamed a (renamed_item a.roots x)
 
@@ -87,10 +92,12 @@ pub record BlocksSoFar : Type 0 where
   pub subs : List Entry
   pub fresh : ℕ
 
+-- one more block, of whose items this has become
 abbrev pub and_block : BlocksSoFar → Block → SoFar → BlocksSoFar
 and_block a b s =
     record { blocks = a.blocks ++ record { id = b.id; items = s.done; silent = b.silent } ∷ []; subs = s.subs; fresh = s.fresh }
 
+-- one more block, with the substitutions and the fresh number that the blocks before it left
 abbrev pub next_block : BlocksSoFar → Block → BlocksSoFar
 next_block a b = and_block a b (over_items (at_block a.subs a.fresh) b.items)
 

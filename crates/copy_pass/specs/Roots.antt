@@ -26,6 +26,7 @@ renamed_operand e (Block n) = Block n
 renamed_operand e (Symbol name) = Symbol name
 renamed_operand e Mask = Mask
 
+-- the instruction with roots for its explicit uses (LLVM: `forwardUses` of MachineCopyPropagation)
 abbrev pub renamed : List Root → Instruction → Instruction
 renamed e i = record { op = i.op; operands = map (renamed_operand e) i.operands }
 

@@ -25,6 +25,7 @@ copied_items e [] = []
 copied_items e (x ∷ xs) =
     cond (goes e (renamed_kind e x.kind)) (copied_items e xs) (renamed_item e x ∷ copied_items (roots_with (renamed_kind e x.kind) e) xs)
 
+-- a block without its copies that are known; nothing is known at its start
 abbrev pub copied_block : Block → Block
 copied_block b = record { id = b.id; items = copied_items [] b.items; silent = b.silent }
 
@@ -32,6 +33,7 @@ copied_block b = record { id = b.id; items = copied_items [] b.items; silent = b
 abbrev pub copied : Function → Function
 copied f = record f { blocks = map copied_block f.blocks }
 
+-- copy propagation within blocks, as a rule for code (LLVM: MachineCopyPropagation)
 abbrev pub IsCopied : CodeRule
 IsCopied f g = g ≡ copied f
 
@@ -39,8 +41,10 @@ IsCopied f g = g ≡ copied f
 abbrev pub begins : Function → List Entry → BlocksSoFar
 begins f subs = record { blocks = []; subs = subs; fresh = greatest_number f subs + 1 }
 
+-- the function as the pass leaves it, with its debug items: copies are gone, and their numbers salvaged
 abbrev pub salvaged_function : Function → List Entry → Function
 salvaged_function f subs = record f { blocks = (over_blocks (begins f subs) f.blocks).blocks }
 
+-- its substitutions then: those that were there, and behind them those of salvaged copies
 abbrev pub salvaged_entries : Function → List Entry → List Entry
 salvaged_entries f subs = (over_blocks (begins f subs) f.blocks).subs

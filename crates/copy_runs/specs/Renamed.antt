@@ -16,13 +16,16 @@ use Rattle.copy_rule.specs.Rule.{goes}
 abbrev pub known_after : List Root → ItemKind → List Root
 known_after e k = cond (goes e k) e (roots_with k e)
 
+-- items of a block with roots for their uses, where this is known above them
 abbrev pub renamed_items : List Root → List Item → List Item
 renamed_items e [] = []
 renamed_items e (x ∷ xs) = renamed_item e x ∷ renamed_items (known_after e (renamed_kind e x.kind)) xs
 
+-- a block so, from nothing known
 abbrev pub renamed_block : Block → Block
 renamed_block b = record { id = b.id; items = renamed_items [] b.items; silent = b.silent }
 
+-- the function with roots for its uses and all its copies
 abbrev pub renamed_function : Function → Function
 renamed_function f = record f { blocks = map renamed_block f.blocks }
 

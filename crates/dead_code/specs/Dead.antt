@@ -26,6 +26,7 @@ sets_unneeded None r needed = defines_of r (Register 0)
 abbrev pub is_dead_row : Row → (needed : Places) → Bool
 is_dead_row r needed = is_pure r && sets_unneeded (set_by r) r needed
 
+-- the item is dead code; a mark or a phi never is
 abbrev pub is_dead : ItemKind → (needed : Places) → Bool
 is_dead (Code i k) needed = is_dead_row (row_of i) needed
 is_dead (Mark v m) needed = false
@@ -51,6 +52,7 @@ without_dead (i ∷ is) needed = cond (is_dead i.kind (needed_at is needed)) (wi
 abbrev pub Ends : Type 0
 Ends = ℕ → Places
 
+-- a block without its dead code, by what is needed at its end
 abbrev pub thinned_block : Ends → Block → Block
 thinned_block ends b = record { id = b.id; items = without_dead b.items (ends b.id); silent = b.silent }
 

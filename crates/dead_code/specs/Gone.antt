@@ -12,6 +12,7 @@ abbrev pub judged : List Item → (needed : Places) → List (Item × Bool)
 judged [] needed = []
 judged (i ∷ is) needed = (i, is_dead i.kind (needed_at is needed)) ∷ judged is needed
 
+-- the items of all blocks in order, each with the verdict on it
 abbrev pub judged_of : Ends → List Block → List (Item × Bool)
 judged_of ends blocks = flat_map (λ b. judged b.items (ends b.id)) blocks
 

@@ -24,9 +24,11 @@ AreLive ends f = (b : ℕ) (x : Place) → (ends b x ≡ true) ↔ LiveAtEnd f b
 abbrev pub Covers : (wrong : Pos → Places) → Ends → Function → Type 0
 Covers wrong ends f = (p : Pos) (x : Place) → IsWrongAt ends f x p → wrong p x ≡ true
 
+-- what is live at blocks' ends covers what is needed at the starts of their successors
 abbrev pub LiveIsClosed : Type 0
 LiveIsClosed = (f : Function) (ends : Ends) → IsSound f → AreLive ends f → IsClosed ends f
 
+-- taking out dead code is a round of the stripped functions, whichever places count as wrong
 abbrev pub RoundIsStripped : Type 0
 RoundIsStripped = (f : Function) (ends : Ends) (wrong : Pos → Places) → AreLive ends f → IsRound (stripped f) (stripped (taken_out wrong ends f))
 
@@ -36,10 +38,13 @@ pub record KeepsWithoutDead (f : Function) (subs : List Entry) (g : Function) : 
   pub forms : AllItems (λ i. HasForm i.kind) g.blocks
   pub follows : KeepsLoosely (change f subs g subs)
 
+-- a function in form stays sound and in form without its dead code, and follows loosely what it followed loosely,
+-- where each wrong place is silenced
 abbrev pub DeadCodeFollows : Type 0
 DeadCodeFollows = (f : Function) (subs : List Entry) (ends : Ends) (wrong : Pos → Places) → IsSound f → AllItems (λ i. HasForm i.kind) f.blocks →
     IsClosed ends f → Covers wrong ends f → KeepsWithoutDead f subs (taken_out wrong ends f)
 
+-- once a round takes nothing out of a function, it follows what it followed loosely
 abbrev pub SettledFollows : Type 0
 SettledFollows = (f : Function) (subs : List Entry) → IsSound f → IsRound f f → (src : Source) → FollowsLoosely src f subs → FollowsSource src f subs
 
@@ -48,5 +53,6 @@ abbrev pub DeadCodeKeepsItems : Type 0
 DeadCodeKeepsItems = (f : Function) (subs : List Entry) (ends : Ends) (wrong : Pos → Places) → IsSound f → AreWrong ends f wrong → NoCopies ends f →
     (losses : List Loss) → AreLosses ends f losses → KeepsItems (out_rule ends) (change f subs (taken_out wrong ends f) subs) losses
 
+-- taking out dead code makes nothing grow: no items, calls, debug instruction numbers or slots
 abbrev pub DeadCodeKeepsSizes : Type 0
 DeadCodeKeepsSizes = (f : Function) (subs : List Entry) (ends : Ends) (wrong : Pos → Places) → KeepsSizes 1 0 (change f subs (taken_out wrong ends f) subs)

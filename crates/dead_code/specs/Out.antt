@@ -17,6 +17,7 @@ use Rattle.follow_law.specs.Rule.{Rule, IsCopy, StandsAt, number_lost, mark_lost
 use Rattle.dead_code.specs.Dead.{Places, Ends}
 use Rattle.dead_code.specs.Wrong.{is_dead_at, IsWrongAt}
 
+-- anything but a copy with a debug instruction number
 abbrev pub IsNoNumberedCopy : ItemKind → Type 0
 IsNoNumberedCopy (Code i (Some k)) = IsCopy (row_of i) → ⊥
 IsNoNumberedCopy (Code i None) = Unit {0}

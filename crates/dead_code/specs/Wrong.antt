@@ -36,6 +36,7 @@ silenced_left wrong n [] needed = []
 silenced_left wrong n (i ∷ is) needed = cond (is_dead i.kind (needed_at is needed)) (silenced_left wrong (suc n) is needed)
     (record i { kind = silenced (wrong n) i.kind } ∷ silenced_left wrong (suc n) is needed)
 
+-- a block without its dead code, whose marks and phis of wrong places give nothing
 abbrev pub silenced_block : (wrong : Pos → Places) → Ends → Block → Block
 silenced_block wrong ends b = record {
   id = b.id;

@@ -13,6 +13,7 @@ use Rattle.salvage.specs.declared.way.Way.TheVariants.{HasEntry, GetsEntry, Gets
 use Rattle.salvage.specs.Salvage.{above_after, phi_for}
 use Rattle.dead_copies.specs.declared.off.Copied.{Copied}
 
+-- the copy that code with this number and row is; one into x0 is none
 abbrev pub copied_by : Row → (number : ℕ) → Option Copied
 copied_by (Moves (suc rd) s) k = Some (record { number = k; source = s; own = nat_eq (suc rd) s })
 copied_by _ k = None
@@ -24,6 +25,7 @@ numbered_copy (Code i None) = None
 numbered_copy (Mark v m) = None
 numbered_copy (Phi p k) = None
 
+-- code without its debug instruction number
 abbrev pub without_number : ItemKind → ItemKind
 without_number (Code i k) = Code i None
 without_number (Mark v m) = Mark v m
@@ -34,14 +36,17 @@ abbrev pub phi_by : (own : Bool) → (number source : ℕ) → Origin → Item
 phi_by true k s o = item_before (Phi None k) o
 phi_by false k s o = phi_for k s o
 
+-- the phi for this copy, with its number
 abbrev pub phi_off : Copied → Origin → Item
 phi_off c o = phi_by c.own c.number c.source o
 
+-- what is put before the copy: a phi, where no substitution stands for its number
 abbrev pub put_off : Way → Copied → Origin → List Item
 put_off HasEntry c o = []
 put_off (GetsEntry d p n) c o = []
 put_off GetsPhi c o = phi_off c o ∷ []
 
+-- the number is lost where the copy sets its own source
 abbrev pub lost_if_own : Bool → (number : ℕ) → List Loss
 lost_if_own true k = number_lost k WrongPlace ∷ []
 lost_if_own false k = []

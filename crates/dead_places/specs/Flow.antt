@@ -30,6 +30,7 @@ goes_on Final = false
 abbrev pub wrong_next : ItemKind → (dead : Bool) → (before : Places) → Places
 wrong_next kind dead before = λ x. goes_on (exit_of kind) && wrong_past kind dead before x
 
+-- the same past the item at some index, if there is one
 abbrev pub wrong_over : Option Item → (dead : Bool) → (before : Places) → Places
 wrong_over (Some i) dead before = wrong_next i.kind dead before
 wrong_over None dead before = λ x. false

@@ -60,6 +60,7 @@ abbrev pub wrong_in : (ends : Ends) → List Block → (starts : ℕ → Places)
 wrong_in ends [] starts k = λ x. false
 wrong_in ends (b ∷ bs) starts k = wrong_at b.items (verdicts b.items (ends b.id)) k (starts b.id)
 
+-- the wrong places at a position of the function, by those at the starts of blocks
 abbrev pub wrong_of : Ends → Function → (starts : ℕ → Places) → Pos → Places
 wrong_of ends f starts p = wrong_in ends (from_block f.blocks p.block) starts p.item
 

@@ -15,9 +15,11 @@ words_in base (suc n) r = words_in base n r + cond (nat_le r.lo (base + 4 * n) &
 abbrev pub covered : LaidCode → List Range → ℕ
 covered c ranges = sum_by (words_in c.base (length c.words)) ranges
 
+-- the location coverage of a variable: how many words its ranges have
 abbrev pub cover_of : LaidCode → (name : List ℕ) → List Range → Cover
 cover_of c name ranges = record { name = name; words = covered c ranges }
 
+-- the coverage of each variable, where the names and the lists of ranges go side by side
 abbrev pub covers_of : LaidCode → (names : List (List ℕ)) → List (List Range) → List Cover
 covers_of c [] lists = []
 covers_of c (name ∷ names) [] = []

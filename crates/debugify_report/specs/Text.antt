@@ -37,6 +37,7 @@ loss_line l = lost_text l.what ++ codes " " ++ reason_text l.reason ++ 10 ∷ []
 abbrev pub cover_line : (words : ℕ) → Cover → List ℕ
 cover_line n c = codes "cover " ++ name_text c.name ++ codes " " ++ decimal c.words ++ codes " of " ++ decimal n ++ 10 ∷ []
 
+-- the first two lines: the name of the function, and how many words its code has
 abbrev pub head_text : (name : List ℕ) → (words : ℕ) → List ℕ
 head_text name n = codes "function " ++ name_text name ++ codes "\nwords " ++ decimal n ++ 10 ∷ []
 

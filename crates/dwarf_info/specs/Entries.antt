@@ -47,6 +47,7 @@ abbrev pub Values : List Attribute → Type 0
 Values [] = Unit {0}
 Values (a ∷ others) = ValueOf a.form × (Values others)
 
+-- the values of attributes, in the order of the abbreviation (section 7.5.2)
 abbrev pub values : (attributes_of : List Attribute) → Values attributes_of → List ℕ
 values [] given = []
 values (a ∷ others) given = value a.form given.0 ++ values others given.1
@@ -71,6 +72,7 @@ variable_by offset name true None list = record { kind = Parameter; given = (nam
 variable_by offset name false (Some base) list = record { kind = TypedVariable; given = (name, (offset base, (list, tt))) }
 variable_by offset name false None list = record { kind = Variable; given = (name, (list, tt)) }
 
+-- the entry of a variable or of a formal parameter, with DW_AT_type where its type is known
 abbrev pub variable : (offset : ℕ → ℕ) → VariableEntry → Entry
 variable offset v = variable_by offset v.name v.argument v.base v.list
 
@@ -97,6 +99,7 @@ pub record Tree : Type 0 where
   pub types : List Entry
   pub functions : List Function
 
+-- the entry of a function, with its parameters and variables as children
 abbrev pub function_of : (offset : ℕ → ℕ) → FunctionEntry → Function
 function_of offset f = record { self = subprogram f; variables = map (variable offset) f.variables }
 
@@ -108,6 +111,7 @@ tree_of u = record { self = compile_unit u; types = map base_type u.types; funct
 abbrev pub function : Function → List ℕ
 function f = entry f.self ++ flat_map entry f.variables ++ 0 ∷ []
 
+-- the entries in prefix order (section 2.3), where a zero byte ends the children of the unit too
 unfoldable pub tree : Tree → List ℕ
 tree t = entry t.self ++ flat_map entry t.types ++ flat_map function t.functions ++ 0 ∷ []
 

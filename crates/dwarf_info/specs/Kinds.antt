@@ -34,6 +34,7 @@ code TypedVariable = 5
 code Variable = 6
 code BaseType = 7
 
+-- the tag of a kind (section 7.5.3): with a type and without, an entry has the same
 abbrev pub tag : Kind → ℕ
 tag CompileUnit = DW_TAG_compile_unit
 tag Subprogram = DW_TAG_subprogram
@@ -43,6 +44,7 @@ tag TypedVariable = DW_TAG_variable
 tag Variable = DW_TAG_variable
 tag BaseType = DW_TAG_base_type
 
+-- whether entries of a kind own children (section 7.5.3): the unit and functions do
 abbrev pub children : Kind → ℕ
 children CompileUnit = DW_CHILDREN_yes
 children Subprogram = DW_CHILDREN_yes

@@ -5,15 +5,19 @@ use Rattle.std.specs.Prelude.{ℕ}
 abbrev pub DW_TAG_formal_parameter : ℕ
 DW_TAG_formal_parameter = 0x05
 
+-- the unit itself, the root of its entries
 abbrev pub DW_TAG_compile_unit : ℕ
 DW_TAG_compile_unit = 0x11
 
+-- a base type, as `int`
 abbrev pub DW_TAG_base_type : ℕ
 DW_TAG_base_type = 0x24
 
+-- a function
 abbrev pub DW_TAG_subprogram : ℕ
 DW_TAG_subprogram = 0x2e
 
+-- a variable that is no parameter
 abbrev pub DW_TAG_variable : ℕ
 DW_TAG_variable = 0x34
 
@@ -21,6 +25,7 @@ DW_TAG_variable = 0x34
 abbrev pub DW_CHILDREN_no : ℕ
 DW_CHILDREN_no = 0x00
 
+-- children follow, and a null entry ends them
 abbrev pub DW_CHILDREN_yes : ℕ
 DW_CHILDREN_yes = 0x01
 
@@ -28,33 +33,43 @@ DW_CHILDREN_yes = 0x01
 abbrev pub DW_AT_location : ℕ
 DW_AT_location = 0x02
 
+-- the name in the source
 abbrev pub DW_AT_name : ℕ
 DW_AT_name = 0x03
 
+-- how many bytes a base type has
 abbrev pub DW_AT_byte_size : ℕ
 DW_AT_byte_size = 0x0b
 
+-- where the unit's line number table begins in .debug_line
 abbrev pub DW_AT_stmt_list : ℕ
 DW_AT_stmt_list = 0x10
 
+-- the first address of the code of a unit or a function
 abbrev pub DW_AT_low_pc : ℕ
 DW_AT_low_pc = 0x11
 
+-- the end of the code, here as a length from DW_AT_low_pc on
 abbrev pub DW_AT_high_pc : ℕ
 DW_AT_high_pc = 0x12
 
+-- the source language of the unit
 abbrev pub DW_AT_language : ℕ
 DW_AT_language = 0x13
 
+-- the directory in which the unit was compiled
 abbrev pub DW_AT_comp_dir : ℕ
 DW_AT_comp_dir = 0x1b
 
+-- how the bytes of a base type are read, as signed or unsigned
 abbrev pub DW_AT_encoding : ℕ
 DW_AT_encoding = 0x3e
 
+-- the entry of the type of a variable or a parameter
 abbrev pub DW_AT_type : ℕ
 DW_AT_type = 0x49
 
+-- where in .debug_loclists the unit's offsets of location lists begin
 abbrev pub DW_AT_loclists_base : ℕ
 DW_AT_loclists_base = 0x8c
 
@@ -62,21 +77,27 @@ DW_AT_loclists_base = 0x8c
 abbrev pub DW_FORM_addr : ℕ
 DW_FORM_addr = 0x01
 
+-- a constant of two bytes
 abbrev pub DW_FORM_data2 : ℕ
 DW_FORM_data2 = 0x05
 
+-- a constant of four bytes
 abbrev pub DW_FORM_data4 : ℕ
 DW_FORM_data4 = 0x06
 
+-- a constant of one byte
 abbrev pub DW_FORM_data1 : ℕ
 DW_FORM_data1 = 0x0b
 
+-- an entry of the same unit: its offset from the unit's first byte, in four bytes
 abbrev pub DW_FORM_ref4 : ℕ
 DW_FORM_ref4 = 0x13
 
+-- an offset into another debug section, four bytes in 32-bit DWARF
 abbrev pub DW_FORM_sec_offset : ℕ
 DW_FORM_sec_offset = 0x17
 
+-- a location list by its index among the offsets of .debug_loclists, in ULEB128
 abbrev pub DW_FORM_loclistx : ℕ
 DW_FORM_loclistx = 0x22
 

@@ -9,6 +9,7 @@ use Rattle.dwarf_base.specs.Leb.{uleb_of, sleb_of, unsigned_value, signed_value}
 
 -- a field, and then what is read behind it
 infixl 10 ◌>>=◌
+-- a field that is wrong is the fault of the whole, and nothing behind it is read
 abbrev pub ◌>>=◌ : {A B : Type 0} → Result A ℕ → (A → Result B ℕ) → Result B ℕ
 (Ok x) >>= f = f x
 (Err left) >>= f = Err left

@@ -43,12 +43,15 @@ end_sequence = EXTENDED_OPCODE ∷ 1 ∷ DW_LNE_end_sequence ∷ []
 abbrev pub set_file : ℕ → List ℕ
 set_file n = DW_LNS_set_file ∷ uleb_of n
 
+-- DW_LNS_set_column: the column in ULEB128
 abbrev pub set_column : ℕ → List ℕ
 set_column n = DW_LNS_set_column ∷ uleb_of n
 
+-- DW_LNS_advance_pc: how far the address rises, in ULEB128. The unit is one byte, the least instruction's length
 abbrev pub advance_pc : (from to : ℕ) → List ℕ
 advance_pc from to = DW_LNS_advance_pc ∷ uleb_of (to - from)
 
+-- DW_LNS_advance_line: how far the line goes up or down, in SLEB128
 abbrev pub advance_line : (from to : ℕ) → List ℕ
 advance_line from to = DW_LNS_advance_line ∷ sleb_of (pos to -ℤ pos from)
 
@@ -75,6 +78,7 @@ abbrev pub first_address : List Row → ℕ
 first_address [] = 0
 first_address (r ∷ rows) = r.address
 
+-- the opcodes of a sequence: its first address is set, then come its rows, and DW_LNE_end_sequence
 abbrev pub sequence : Sequence → List ℕ
 sequence s = set_address (first_address s.rows) ++ rows_to (registers_at (first_address s.rows)) s.rows s.end
 

@@ -6,15 +6,19 @@ use Rattle.dwarf_base.specs.Standard.{DW_FORM_string, DW_FORM_udata}
 abbrev pub DW_LNS_copy : ℕ
 DW_LNS_copy = 0x01
 
+-- the address register rises
 abbrev pub DW_LNS_advance_pc : ℕ
 DW_LNS_advance_pc = 0x02
 
+-- the line register changes by a signed number
 abbrev pub DW_LNS_advance_line : ℕ
 DW_LNS_advance_line = 0x03
 
+-- the file register gets the number of a file of the header
 abbrev pub DW_LNS_set_file : ℕ
 DW_LNS_set_file = 0x04
 
+-- the column register gets a number
 abbrev pub DW_LNS_set_column : ℕ
 DW_LNS_set_column = 0x05
 
@@ -26,6 +30,7 @@ EXTENDED_OPCODE = 0x00
 abbrev pub DW_LNE_end_sequence : ℕ
 DW_LNE_end_sequence = 0x01
 
+-- the address register gets an address, which follows in eight bytes
 abbrev pub DW_LNE_set_address : ℕ
 DW_LNE_set_address = 0x02
 
@@ -33,6 +38,7 @@ DW_LNE_set_address = 0x02
 abbrev pub DW_LNCT_path : ℕ
 DW_LNCT_path = 0x1
 
+-- the number of a directory in the table of directories
 abbrev pub DW_LNCT_directory_index : ℕ
 DW_LNCT_directory_index = 0x2
 
@@ -52,6 +58,7 @@ DEFAULT_IS_STMT = 1
 abbrev pub LINE_BASE : ℕ
 LINE_BASE = 0xfb
 
+-- how many different line advances special opcodes have
 abbrev pub LINE_RANGE : ℕ
 LINE_RANGE = 14
 

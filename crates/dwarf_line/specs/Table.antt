@@ -15,6 +15,7 @@ abbrev pub HasRows : List Row → ℕ → Type 0
 HasRows [] end = ⊥
 HasRows (r ∷ rows) end = Ascend r.address rows end
 
+-- the rows of a sequence go on as the code does, and its end is the first address behind it (section 6.2.5)
 abbrev pub IsSequence : Sequence → Type 0
 IsSequence s = HasRows s.rows s.end
 
@@ -22,6 +23,7 @@ IsSequence s = HasRows s.rows s.end
 abbrev pub IsName : List ℕ → Type 0
 IsName name = All (λ byte. 0 < byte) name
 
+-- the path of a file has no zero byte, so that it can be written as DW_FORM_string
 abbrev pub IsNamed : FileEntry → Type 0
 IsNamed f = IsName f.name
 
@@ -37,6 +39,7 @@ pub record IsRow (r : Row) : Type 0 where
   pub line : r.line < 2 ^ 32
   pub column : r.column < 2 ^ 32
 
+-- the registers of a sequence's rows and its end address are in range
 abbrev pub HasRange : Sequence → Type 0
 HasRange s = All IsRow s.rows × (s.end < 2 ^ 64)
 

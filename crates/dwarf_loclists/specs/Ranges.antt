@@ -31,6 +31,7 @@ IsLocated (Whole p) = IsListed p
 IsLocated (Parts []) = ⊥
 IsLocated (Parts (p ∷ rest)) = ArePieces 0 (p ∷ rest)
 
+-- each range of the list has a location that can be written
 abbrev pub ArePlaces : List Range → Type 0
 ArePlaces ranges = All (λ r. IsLocated r.location) ranges
 
@@ -40,6 +41,7 @@ HasWord (Register r) = Unit {0}
 HasWord (Slot offset) = Unit {0}
 HasWord (Const c) = FitsSigned w64 c
 
+-- all constants of a location have 64 bits
 abbrev pub HasWords : Location → Type 0
 HasWords (Whole p) = HasWord p
 HasWords (Parts parts) = All (λ p. HasWord p.place) parts

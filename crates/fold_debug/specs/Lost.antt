@@ -18,6 +18,7 @@ IsFoldReason Bypassed = Unit {0}
 IsFoldReason Unreachable = Unit {0}
 IsFoldReason _ = ⊥
 
+-- the one reason for which the numbers of code are lost too
 abbrev pub is_unreachable : Reason → Bool
 is_unreachable Unreachable = true
 is_unreachable _ = false
@@ -29,9 +30,11 @@ loss_of why (Phi p k) o = Some (number_lost k why)
 loss_of why (Code i (Some k)) o = cond (is_unreachable why) (Some (number_lost k why)) None
 loss_of why (Code i None) o = None
 
+-- what is lost of a block's items for a reason
 abbrev pub lost_in : Reason → List Item → List Loss
 lost_in why items = filter_map (λ i. loss_of why i.kind i.origin) items
 
+-- what is lost of them if there is a reason; without one they stay
 abbrev pub lost_for : Option Reason → List Item → List Loss
 lost_for (Some why) items = lost_in why items
 lost_for None items = []

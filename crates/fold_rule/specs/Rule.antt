@@ -16,6 +16,7 @@ folded_block end next fall b = record b { items = rewritten end next fall (recor
 abbrev pub staying : (stays : ℕ → Bool) → List Block → List Block
 staying stays blocks = filter (λ b. stays b.id) blocks
 
+-- the blocks that stay, in the order of the text, with their ends written anew
 abbrev pub folded_blocks : (end : ℕ → ℕ) (stays : ℕ → Bool) → List Block → List Block
 folded_blocks end stays [] = []
 folded_blocks end stays (b ∷ bs) =

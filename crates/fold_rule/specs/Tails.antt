@@ -28,6 +28,7 @@ ways_by (Perhaps n) rest below fall = record { branch = Some n; onward = else_wa
 ways_by (Always n) rest below fall = record { branch = None; onward = Some n }
 ways_by Final rest below fall = record { branch = None; onward = None }
 
+-- the ways out of a block with these items, before one to which control falls
 abbrev pub ways_of : List Item → (fall : Option ℕ) → Ways
 ways_of [] fall = record { branch = None; onward = fall }
 ways_of (i ∷ is) fall = ways_by (exit_of i.kind) (first_of is) (ways_of is fall) fall

@@ -67,6 +67,7 @@ with_code f (Phi p k) = Phi p k
 abbrev pub sent : (block : ℕ) → Item → Item
 sent n x = record x { kind = with_code (to_block n) x.kind }
 
+-- the conditional branch with its condition inverted, sent to a block
 abbrev pub turned : (block : ℕ) → Item → Item
 turned n x = record x { kind = with_code (inverse_to n) x.kind }
 

@@ -28,6 +28,7 @@ swapped n Traps = Traps
 swapped n Asks = Asks
 swapped n Breaks = Breaks
 
+-- what branches and jumps do that folding sends elsewhere, turns or makes
 pub record FoldedItemsDoAlike : Type 0 where
   -- a branch or a jump that is sent to a block does what it did, but that it goes there
   pub sent : (g : Program) (x : Item) (t n : ℕ) (c : Core) → (exit_of x.kind ≡ Perhaps t) ⊎ (exit_of x.kind ≡ Always t) →

@@ -10,5 +10,6 @@ pub record Change : Type 0 where
   pub new : Function
   pub new_subs : List Entry
 
+-- the change from one function with its substitutions to another
 abbrev pub change : (old : Function) (old_subs : List Entry) (new : Function) (new_subs : List Entry) → Change
 change f subs g more = record { old = f; old_subs = subs; new = g; new_subs = more }

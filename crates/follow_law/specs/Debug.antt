@@ -35,6 +35,7 @@ pub data Fate : Type 0 where
   Silenced : Fate
   Unspilled : Fate
 
+-- what becomes of the thing that is lost for each reason
 abbrev pub fate : Reason → Fate
 fate Removed = Gone
 fate WrongPlace = Silenced

@@ -19,9 +19,11 @@ each_then : (P : CodeRule → Type 0) (steps more : List Step) → EachCode P st
 each_then P [] more h k = k
 each_then P (s ∷ steps) more h k = (h.0, each_then P steps more h.1 k)
 
+-- where the rules for code of both lists of steps have one result each, so do those of one list after the other
 pub one_then : (steps more : List Step) → EachCode HasOneResult steps → EachCode HasOneResult more → EachCode HasOneResult (steps ++ more)
 one_then = each_then HasOneResult
 
+-- where those of both lists see code alone, so do those of one list after the other
 pub same_then : (steps more : List Step) → EachCode SeesCodeAlone steps → EachCode SeesCodeAlone more → EachCode SeesCodeAlone (steps ++ more)
 same_then = each_then SeesCodeAlone
 
@@ -33,9 +35,11 @@ grows_then a b = one-le-mul
 pub one_of : (make : Function → Function) → HasOneResult (λ f g. g ≡ make f)
 one_of make f g h a b = a ∙ sym b
 
+-- a rule that is a function sees code alone where it commutes with forgetting positions
 pub same_of : (make : Function → Function) → ((f : Function) → placeless (make f) ≡ make (placeless f)) → SeesCodeAlone (λ f g. g ≡ make f)
 same_of make commutes f f' g g' alike a b = ap placeless a ∙ commutes f ∙ ap make alike ∙ sym (commutes f') ∙ ap placeless (sym b)
 
+-- of one function taking out no-operations makes one
 pub one_thinned : HasOneResult IsThinned
 one_thinned = one_of thinned
 
@@ -77,5 +81,6 @@ thinned_placeless f =
     ap (λ (z : Bool). thinned_blocks z (map placeless_block f.blocks)) (sym (saves_placeless f.blocks)) in
     λ i. record f { blocks = e i }
 
+-- taking out no-operations sees no positions
 pub same_thinned : SeesCodeAlone IsThinned
 same_thinned = same_of thinned thinned_placeless

@@ -21,10 +21,12 @@ abbrev pub is_nop_row : Row → Bool
 is_nop_row (Fixes zero n) = true
 is_nop_row _ = false
 
+-- code that is a no-operation; a mark or a phi is none
 abbrev pub is_nop : ItemKind → Bool
 is_nop (Code i k) = is_nop_row (row_of i)
 is_nop _ = false
 
+-- a store into a frame slot
 abbrev pub is_save_row : Row → Bool
 is_save_row (StoresSlot rs n) = true
 is_save_row _ = false
@@ -34,6 +36,7 @@ abbrev pub is_added_save : ItemKind → Origin → Bool
 is_added_save (Code i k) (Before p) = is_save_row (row_of i)
 is_added_save _ o = false
 
+-- some slot store was added, as spill code is
 abbrev pub has_added_saves : List Block → Bool
 has_added_saves blocks = list_any (λ b. list_any (λ i. is_added_save i.kind i.origin) b.items) blocks
 
@@ -42,9 +45,11 @@ has_added_saves blocks = list_any (λ b. list_any (λ i. is_added_save i.kind i.
 abbrev pub stays : (busy : Bool) → Item → Bool
 stays busy i = not (not busy && is_nop i.kind)
 
+-- a block without its no-operations, or as it was where saves were added
 abbrev pub thinned_block : Bool → Block → Block
 thinned_block busy b = record { id = b.id; items = filter (stays busy) b.items; silent = b.silent }
 
+-- all blocks so: one added save anywhere keeps them all as they were
 abbrev pub thinned_blocks : Bool → List Block → List Block
 thinned_blocks busy blocks = map (thinned_block busy) blocks
 
@@ -52,6 +57,7 @@ thinned_blocks busy blocks = map (thinned_block busy) blocks
 abbrev pub thinned : Function → Function
 thinned f = record f { blocks = thinned_blocks (has_added_saves f.blocks) f.blocks }
 
+-- the pass's rule for code
 abbrev pub IsThinned : CodeRule
 IsThinned f g = g ≡ thinned f
 
@@ -86,6 +92,7 @@ nop_number (Code i None) = None
 nop_number (Mark v m) = None
 nop_number (Phi p k) = None
 
+-- the numbers of the no-operations among items
 abbrev pub numbers_in_items : List Item → List ℕ
 numbers_in_items items = filter_map (λ i. nop_number i.kind) items
 

@@ -35,6 +35,7 @@ ComesBefore (Register r) (Number l) = ⊥
 ComesBefore (Register r) (Mark q) = ⊥
 ComesBefore (Register r) (Register s) = r < s
 
+-- by what is lost; and losses of one thing by their reasons
 abbrev pub LossComesBefore : Loss → Loss → Type 0
 LossComesBefore a b = ComesBefore a.what b.what ⊎ ((a.what ≡ b.what) × (reason_rank a.reason < reason_rank b.reason))
 

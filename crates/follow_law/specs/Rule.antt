@@ -41,23 +41,29 @@ pub record Rule : Type 1 where
   -- the kills that are put at the start of a block, in order
   pub kills : Change → (block : ℕ) → List Item → Type 0
 
+-- a register copy, but into x0, which drops it
 abbrev pub IsCopy : Row → Type 0
 IsCopy (Moves (suc rd) rs) = Unit {0}
 IsCopy _ = ⊥
 
+-- an unconditional branch (`PseudoBR`)
 abbrev pub IsJump : Row → Type 0
 IsJump (Jumps target) = Unit {0}
 IsJump _ = ⊥
 
+-- the loss of a debug instruction number
 abbrev pub number_lost : ℕ → Reason → Loss
 number_lost k why = record { what = lost.Number k; reason = why }
 
+-- the loss of a mark, told by the position of its origin
 abbrev pub mark_lost : Origin → Reason → Loss
 mark_lost o why = record { what = lost.Mark (position_of o); reason = why }
 
+-- a register that was to be spilled, and isn't
 abbrev pub register_lost : ℕ → Reason → Loss
 register_lost r why = record { what = lost.Register r; reason = why }
 
+-- an item of this kind, with its origin and debug location
 abbrev pub item : ItemKind → Origin → Loc → Item
 item k o l = record { kind = k; origin = o; loc = l }
 

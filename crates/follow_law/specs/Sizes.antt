@@ -33,20 +33,25 @@ numbers_of (Mark v (At r)) = []
 abbrev pub numbers_in : List Block → List Entry → List ℕ
 numbers_in blocks subs = flat_map (λ i. numbers_of i.kind) (items_of blocks) ++ flat_map (λ e. e.src.number ∷ e.dst.number ∷ []) subs
 
+-- the greatest debug instruction number that the function or its substitutions have: above it all are fresh
 abbrev pub greatest_number : Function → List Entry → ℕ
 greatest_number f subs = greatest (numbers_in f.blocks subs)
 
+-- how many items a function has, marks and phis among them
 abbrev pub item_count : Function → ℕ
 item_count f = length (items_of f.blocks)
 
+-- how many of them are code
 abbrev pub code_count : Function → ℕ
 code_count f = count_by (λ i. is_code i.kind) (items_of f.blocks)
 
+-- code that is a call
 abbrev pub calls : ItemKind → Bool
 calls (Code i k) = is_call (row_of i)
 calls (Mark v m) = false
 calls (Phi p k) = false
 
+-- how many calls a function has
 abbrev pub call_count : Function → ℕ
 call_count f = count_by (λ i. calls i.kind) (items_of f.blocks)
 

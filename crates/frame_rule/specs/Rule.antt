@@ -65,6 +65,7 @@ is_set blocks r = list_any (λ b. list_any (λ i. sets_register r i.kind) b.item
 abbrev pub saved_registers : List Block → List ℕ
 saved_registers blocks = filter (is_set blocks) SAVED
 
+-- the callee-saved spill slots of a function: they lie right above its own slots
 abbrev pub saved_of : Function → List SavedRegister
 saved_of f = saved_places (8 * length f.slots) (saved_registers f.blocks)
 
@@ -87,6 +88,7 @@ abbrev pub added_all : (size : ℕ) → Origin → List Instruction → List Ite
 added_all zero o code = []
 added_all (suc n) o code = map (added o) code
 
+-- the position in the source that an origin names
 abbrev pub position_in : Origin → Pos
 position_in (Kept p) = p
 position_in (Before p) = p
@@ -101,6 +103,7 @@ epilogue f o = added_all (size_of f) (Before (position_in o)) (epilogue_code (si
 
 -- ---- what stays
 
+-- a slot operand is named by its offset from x2, and every other operand stays
 abbrev pub renamed_operand : List ℕ → Operand → Operand
 renamed_operand slots (Slot n) = Slot (slot_offset slots n)
 renamed_operand slots (Def r) = Def r
@@ -113,20 +116,24 @@ renamed_operand slots (OfBlock n) = OfBlock n
 renamed_operand slots (Symbol name) = Symbol name
 renamed_operand slots Mask = Mask
 
+-- an instruction whose slot operands are named so
 abbrev pub renamed_code : List ℕ → Instruction → Instruction
 renamed_code slots i = record { op = i.op; operands = map (renamed_operand slots) i.operands }
 
+-- the place of a DBG_PHI, where a slot is named so too
 abbrev pub renamed_place : List ℕ → Option Place → Option Place
 renamed_place slots None = None
 renamed_place slots (Some (InSlot n)) = Some (InSlot (slot_offset slots n))
 renamed_place slots (Some (Register r)) = Some (Register r)
 renamed_place slots (Some (Const c)) = Some (Const c)
 
+-- code and phis with their slots named so. A mark names no slot
 abbrev pub renamed_kind : List ℕ → ItemKind → ItemKind
 renamed_kind slots (Code i k) = Code (renamed_code slots i) k
 renamed_kind slots (Mark v m) = Mark v m
 renamed_kind slots (Phi p k) = Phi (renamed_place slots p) k
 
+-- an item with its slots named so. Its origin and its debug location stay
 abbrev pub renamed : List ℕ → Item → Item
 renamed slots i = record { kind = renamed_kind slots i.kind; origin = i.origin; loc = i.loc }
 
@@ -136,9 +143,11 @@ renamed slots i = record { kind = renamed_kind slots i.kind; origin = i.origin; 
 abbrev pub framed_item : Function → Item → List Item
 framed_item f i = cond (is_final (exit_of i.kind)) (epilogue f i.origin) [] ++ renamed f.slots i ∷ []
 
+-- the items of a block, with an epilogue before each return
 abbrev pub framed_items : Function → List Item → List Item
 framed_items f items = flat_map (framed_item f) items
 
+-- a block of the body: its number and its silent index stay
 abbrev pub framed_block : Function → Block → Block
 framed_block f b = record { id = b.id; items = framed_items f b.items; silent = b.silent }
 
@@ -146,10 +155,12 @@ framed_block f b = record { id = b.id; items = framed_items f b.items; silent = 
 abbrev pub prologue_block : Function → Block → Block
 prologue_block f b = record { id = b.id; items = prologue f b.id; silent = b.silent }
 
+-- the body behind its prologue, which control enters once and falls through from
 abbrev pub framed_blocks : Function → List Block → List Block
 framed_blocks f [] = []
 framed_blocks f (b ∷ bs) = prologue_block f b ∷ framed_block f b ∷ map (framed_block f) bs
 
+-- the function after prologue and epilogue insertion
 abbrev pub framed_of : Function → FramedFunction
 framed_of f = record {
   name = f.name;

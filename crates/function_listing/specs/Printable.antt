@@ -16,12 +16,14 @@ IsPrintableFramedKind inlined loc (Code i k) = All HasNumbers i.operands × IfSo
 IsPrintableFramedKind inlined loc (Mark v m) = IsPrintableVariable (declared_by inlined) loc v × IsPrintableValue m
 IsPrintableFramedKind inlined loc (Phi p k) = IsPrintablePlace p × IsNumber k
 
+-- the item can be printed and read back: its code, its origin and its debug location
 pub record IsPrintableFramedItem (inlined : ℕ → Option ℕ) (i : Item) : Type 0 where
   pub form : IsFormed i
   pub kind : IsPrintableFramedKind inlined i.loc i.kind
   pub origin : IsPrintableOrigin i.origin
   pub loc : IsPrintableLoc i.loc
 
+-- a basic block that can be printed and read back
 pub record IsPrintableFramedBlock (inlined : ℕ → Option ℕ) (b : Block) : Type 0 where
   pub id : IsNumber b.id
   pub items : All (IsPrintableFramedItem inlined) b.items

@@ -25,9 +25,11 @@ bit_of slots (Register r) = Some (256 + r)
 bit_of slots (Slot n) = index_in slots n
 bit_of slots (Const c) = None
 
+-- bit i, counted from the lowest bit of the first word, is set
 abbrev pub has_bit : (words : List ℕ) → (i : ℕ) → Bool
 has_bit words i = nat_eq (bit_at (slice_index words (i / 64)) (i % 64)) 1
 
+-- the bit is set, where a place has one
 abbrev pub has_at : (words : List ℕ) → Option ℕ → Bool
 has_at words None = false
 has_at words (Some i) = has_bit words i
@@ -41,6 +43,7 @@ abbrev pub is_slot : ℕ → Option Place → Bool
 is_slot n (Some (Slot m)) = nat_eq m n
 is_slot n _ = false
 
+-- the register or slot is the other place, if there is one; a constant is in no set
 abbrev pub is_place : Place → Option Place → Bool
 is_place (Register r) p = is_register r p
 is_place (Slot n) p = is_slot n p

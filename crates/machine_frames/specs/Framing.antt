@@ -30,6 +30,7 @@ ResultsArePhysical (Jumps target) = Unit {0}
 ResultsArePhysical (Calls name args) = Unit {0}
 ResultsArePhysical Unfit = Unit {0}
 
+-- the item, where it is a return, returns what is in physical registers
 abbrev pub KindReturnsPhysical : ItemKind → Type 0
 KindReturnsPhysical (Code c k) = ResultsArePhysical (row_of c)
 KindReturnsPhysical (Mark v m) = Unit {0}

@@ -20,9 +20,11 @@ pub record IsEntryAt (l : Layout) (address : ℕ) (p : Pos) : Type 0 where
 abbrev pub EntriesArePoints : Type 0
 EntriesArePoints = (l : Layout) (a : ℕ) (p : Pos) → IsEntryAt l a p ↔ IsPointAt l.framed (address_in l) a p
 
+-- where a line with code begins, and what it comes from
 abbrev pub place_of_line : Line → ℕ × Origin
 place_of_line x = (x.address, x.origin)
 
+-- where an entry begins, and what it comes from
 abbrev pub place_of_entry : Entry → ℕ × Origin
 place_of_entry e = (e.address, e.origin)
 

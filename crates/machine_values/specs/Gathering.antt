@@ -43,6 +43,7 @@ abbrev pub Added : (old new : List Tracked) → Tracked → Bool → Type 0
 Added old new x true = new ≡ old ++ x ∷ []
 Added old new x false = (new ≡ old) × Contains old x
 
+-- any thing but a part of a variable
 abbrev pub IsNoPart : Tracked → Type 0
 IsNoPart (Register r) = Unit {0}
 IsNoPart (Slot n) = Unit {0}
@@ -72,12 +73,14 @@ RowHasOffset (Calls name args) = Unit {0}
 RowHasOffset (Returns results) = Unit {0}
 RowHasOffset Unfit = Unit {0}
 
+-- a slot that a phi's place names is a doubleword of the frame
 abbrev pub PlaceHasOffset : Option Place → Type 0
 PlaceHasOffset None = Unit {0}
 PlaceHasOffset (Some (InRegister r)) = Unit {0}
 PlaceHasOffset (Some (InSlot n)) = IsOffset n
 PlaceHasOffset (Some (Const c)) = Unit {0}
 
+-- what an item names in the frame is a doubleword of it
 abbrev pub HasOffsets : ItemKind → Type 0
 HasOffsets (Code i k) = RowHasOffset (row_of i)
 HasOffsets (Mark v m) = Unit {0}
@@ -99,5 +102,6 @@ HasPart variables (Phi p k) = Unit {0}
 abbrev pub HasRegister : ℕ → List Tracked → Type 0
 HasRegister n things = IsTrackedRegister n → Contains things (Register n)
 
+-- of the registers below m all are there that are tracked
 abbrev pub HasRegistersBelow : ℕ → List Tracked → Type 0
 HasRegistersBelow m things = (n : ℕ) → n < m → HasRegister n things

@@ -45,6 +45,7 @@ pub record IsTracking (t : Tracking) : Type 0 where
 abbrev pub new_of : ℕ → Source
 new_of k = New (k / 32) (k % 32)
 
+-- the source of any class, where n things are tracked
 abbrev pub decoded : (n class : ℕ) → Source
 decoded n zero = Nameless
 decoded n (suc c) = cond (nat_lt c n) (Was c) (new_of (c - n))

@@ -22,6 +22,7 @@ row_exit (Calls name args) = Onward
 row_exit (Returns results) = Final
 row_exit Unfit = Final
 
+-- how control leaves an item: debug items only let it on
 abbrev pub exit_of : ItemKind → Exit
 exit_of (Code i k) = row_exit (row_of i)
 exit_of (Mark v m) = Onward

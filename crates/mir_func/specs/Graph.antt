@@ -30,6 +30,7 @@ pub record Program : Type 0 where
 abbrev pub below : Pos → Pos
 below p = record { block = p.block; item = p.item + 1 }
 
+-- the first position of a block
 abbrev pub block_start : ℕ → Pos
 block_start n = record { block = n; item = 0 }
 
@@ -38,6 +39,7 @@ abbrev pub end_of : (silent : ℕ) → List Block → Fetch
 end_of k [] = Outside
 end_of k (b ∷ bs) = Silent k b.id
 
+-- the first of the items, or the block's end where no item is left
 abbrev pub front : List Item → (silent : ℕ) → List Block → Fetch
 front [] k bs = end_of k bs
 front (i ∷ is) k bs = Here i
@@ -56,6 +58,7 @@ from_block (b ∷ bs) n = cond (nat_eq b.id n) (b ∷ bs) (from_block bs n)
 abbrev pub program_of : (sees_pointer : Bool) → List Block → (OperandPair → Option OperandPair) → Program
 program_of sp blocks resolve = record { fetch = λ p. fetch_in (from_block blocks p.block) p.item; enter = λ n. n; resolve = resolve; sees_pointer = sp }
 
+-- the index of the first block with this number, and how many blocks there are where none has it
 abbrev pub index_of : List Block → ℕ → ℕ
 index_of [] n = 0
 index_of (b ∷ bs) n = cond (nat_eq b.id n) 0 (suc (index_of bs n))
@@ -81,11 +84,13 @@ RowEdge enter (LoadsSlot rd n) p q = q ≡ below p
 RowEdge enter (StoresSlot rs n) p q = q ≡ below p
 RowEdge enter (Calls name args) p q = q ≡ below p
 
+-- where control may go from an item: from a debug item only below
 abbrev pub KindEdge : (ℕ → ℕ) → ItemKind → Pos → Pos → Type 0
 KindEdge enter (Code i k) p q = RowEdge enter (row_of i) p q
 KindEdge enter (Mark v m) p q = q ≡ below p
 KindEdge enter (Phi r k) p q = q ≡ below p
 
+-- where control may go from what stands at a position: from a block's end to the block that comes next
 abbrev pub FetchEdge : (ℕ → ℕ) → Fetch → Pos → Pos → Type 0
 FetchEdge enter (Here i) p q = KindEdge enter i.kind p q
 FetchEdge enter (Silent k n) p q = q ≡ block_start (enter n)

@@ -21,5 +21,6 @@ FRAME_ROOM = 2048
 abbrev pub MAX_PART : ℕ
 MAX_PART = 8
 
+-- the greatest end of a part, in bytes from the variable's start
 abbrev pub MAX_PART_END : ℕ
 MAX_PART_END = 8192

@@ -29,6 +29,7 @@ end_from n (o ∷ os) = end_from (o.offset + o.size) os
 abbrev pub area_of : List Object → ℕ
 area_of objects = up_to 16 (end_from 0 objects)
 
+-- an object's offset, and 0 where there is none
 abbrev pub offset_or_zero : Option Object → ℕ
 offset_or_zero None = 0
 offset_or_zero (Some o) = o.offset

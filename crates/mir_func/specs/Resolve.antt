@@ -3,6 +3,7 @@ use Rattle.std.specs.Prelude.{◌≡◌, ℕ, zero, suc, List, [], ◌∷◌, le
 use Rattle.mir_func.specs.declared.entry.OperandPair.{OperandPair}
 use Rattle.mir_func.specs.declared.entry.Entry.{Entry}
 
+-- both are the same operand of the same debug instruction number
 abbrev pub is_pair : OperandPair → OperandPair → Bool
 is_pair p q = nat_eq p.number q.number && nat_eq p.operand q.operand
 

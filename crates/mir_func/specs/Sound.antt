@@ -30,9 +30,11 @@ use Rattle.numbers.specs.Limits.{MAX_NUMBER}
 abbrev pub AreApart : List ℕ → Type 0
 AreApart ns = (i j n : ℕ) → slice_get ns i ≡ Some n → slice_get ns j ≡ Some n → i ≡ j
 
+-- the numbers of the blocks, in their order
 abbrev pub ids_of : List Block → List ℕ
 ids_of blocks = map (λ b. b.id) blocks
 
+-- the items of all blocks, in their order
 abbrev pub items_of : List Block → List Item
 items_of blocks = flat_map (λ b. b.items) blocks
 
@@ -62,6 +64,7 @@ TargetIn ids (Calls name args) = Unit {0}
 TargetIn ids (Returns results) = Unit {0}
 TargetIn ids Unfit = Unit {0}
 
+-- a branch goes to one of these blocks. Debug items go nowhere
 abbrev pub TargetsIn : List ℕ → ItemKind → Type 0
 TargetsIn ids (Code i n) = TargetIn ids (row_of i)
 TargetsIn ids (Mark v m) = Unit {0}
@@ -83,12 +86,14 @@ SlotIn slots (Calls name args) = Unit {0}
 SlotIn slots (Returns results) = Unit {0}
 SlotIn slots Unfit = Unit {0}
 
+-- a slot that a phi's place names is one of these
 abbrev pub PlaceIn : List ℕ → Option Place → Type 0
 PlaceIn slots (Some (Slot n)) = Contains slots n
 PlaceIn slots (Some (Register r)) = Unit {0}
 PlaceIn slots (Some (Const c)) = Unit {0}
 PlaceIn slots None = Unit {0}
 
+-- a slot that an item names is one of these
 abbrev pub SlotsIn : List ℕ → ItemKind → Type 0
 SlotsIn slots (Code i k) = SlotIn slots (row_of i)
 SlotsIn slots (Mark v m) = Unit {0}
@@ -98,6 +103,7 @@ SlotsIn slots (Phi p k) = PlaceIn slots p
 abbrev pub HasBytes : List Object → (n bytes : ℕ) → Type 0
 HasBytes objects n bytes = (o : Object) × (object_of objects n ≡ Some o) × (bytes ≤ o.size)
 
+-- a base that is a stack object is there, and has so many bytes at least
 abbrev pub BaseHasBytes : List Object → Base → (bytes : ℕ) → Type 0
 BaseHasBytes objects (PointedBy r) bytes = Unit {0}
 BaseHasBytes objects (ObjectAt n) bytes = HasBytes objects n bytes
@@ -118,6 +124,7 @@ ObjectIn objects (Calls name args) = Unit {0}
 ObjectIn objects (Returns results) = Unit {0}
 ObjectIn objects Unfit = Unit {0}
 
+-- an item's accesses by stack objects stay in them
 abbrev pub ObjectsIn : List Object → ItemKind → Type 0
 ObjectsIn objects (Code i k) = ObjectIn objects (row_of i)
 ObjectsIn objects (Mark v m) = Unit {0}
@@ -136,6 +143,7 @@ IsNotPointer (OfBlock n) = Unit {0}
 IsNotPointer (Symbol name) = Unit {0}
 IsNotPointer Mask = Unit {0}
 
+-- no explicit operand of an item's code is x2, the stack pointer
 abbrev pub LeavesPointer : ItemKind → Type 0
 LeavesPointer (Code i k) = All IsNotPointer i.operands
 LeavesPointer (Mark v m) = Unit {0}
@@ -147,6 +155,7 @@ number_of (Code i k) = k
 number_of (Mark v m) = None
 number_of (Phi p k) = Some k
 
+-- the debug instruction number of code. That of a phi doesn't count
 abbrev pub code_number : ItemKind → Option ℕ
 code_number (Code i k) = k
 code_number (Mark v m) = None
@@ -168,6 +177,7 @@ IsJumpAtMost [] = Unit {0}
 IsJumpAtMost (j ∷ []) = IsAlways (exit_of j.kind)
 IsJumpAtMost _ = ⊥
 
+-- what may stand after an item that control leaves so
 abbrev pub MayFollow : Exit → List Item → Type 0
 MayFollow Onward rest = Unit {0}
 MayFollow (Perhaps n) rest = IsJumpAtMost rest

@@ -51,12 +51,14 @@ IsPhysical (OfBlock n) = Unit {0}
 IsPhysical (Symbol name) = Unit {0}
 IsPhysical Mask = Unit {0}
 
+-- a register that a mark names is physical
 abbrev pub ValueIsPhysical : MarkValue → Type 0
 ValueIsPhysical Nothing = Unit {0}
 ValueIsPhysical (Constant c) = Unit {0}
 ValueIsPhysical (At r) = r < 32
 ValueIsPhysical (Pair q) = Unit {0}
 
+-- a register that a phi's place names is physical
 abbrev pub PlaceIsPhysical : Option Place → Type 0
 PlaceIsPhysical None = Unit {0}
 PlaceIsPhysical (Some (Register r)) = r < 32
@@ -77,6 +79,7 @@ adds_to_pointer n = record { op = Immediate Addi; operands = Def 2 ∷ Use 2 ∷
 abbrev pub saves : SavedRegister → Instruction
 saves s = record { op = Store Sd; operands = Use s.register ∷ Slot s.offset ∷ Imm (pos 0) ∷ [] }
 
+-- `LD` of a callee-saved register, or of ra, from its place in the frame
 abbrev pub restores : SavedRegister → Instruction
 restores s = record { op = Load Ld; operands = Def s.register ∷ Slot s.offset ∷ Imm (pos 0) ∷ [] }
 
@@ -84,6 +87,7 @@ restores s = record { op = Load Ld; operands = Def s.register ∷ Slot s.offset 
 abbrev pub prologue_code : (size : ℕ) → List SavedRegister → List Instruction
 prologue_code size saved = adds_to_pointer (pos 0 -ℤ pos size) ∷ map saves saved
 
+-- the epilogue: it undoes the prologue
 abbrev pub epilogue_code : (size : ℕ) → List SavedRegister → List Instruction
 epilogue_code size saved = map restores saved ++ adds_to_pointer (pos size) ∷ []
 

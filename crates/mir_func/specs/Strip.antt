@@ -14,15 +14,19 @@ bare (Code i k) origin loc = Some (record { kind = Code i None; origin = origin;
 bare (Mark v m) origin loc = None
 bare (Phi p k) origin loc = None
 
+-- code without its debug instruction number, and nothing of a debug item
 abbrev pub stripped_item : Item → Option Item
 stripped_item i = bare i.kind i.origin i.loc
 
+-- the code of items, without its numbers
 abbrev pub stripped_items : List Item → List Item
 stripped_items items = filter_map stripped_item items
 
+-- a block with its code alone. Its silent index stays
 abbrev pub stripped_block : Block → Block
 stripped_block b = record { id = b.id; items = stripped_items b.items; silent = b.silent }
 
+-- each block with its code alone
 abbrev pub stripped_blocks : List Block → List Block
 stripped_blocks blocks = map stripped_block blocks
 

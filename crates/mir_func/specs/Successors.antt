@@ -10,6 +10,7 @@ use Rattle.mir_func.specs.Graph.{Program, below, block_start}
 use Rattle.mir_func.specs.Graph.{Edge}
 use Rattle.mir_func.specs.Exits.{exit_of}
 
+-- the numbers of a block's successors, a branch's target first
 abbrev pub numbers_of : Successors → List ℕ
 numbers_of Nowhere = []
 numbers_of (One n) = n ∷ []

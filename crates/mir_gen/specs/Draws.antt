@@ -14,5 +14,6 @@ next s = (75 * s + 74) % 65537
 abbrev pub draw : Drawn → Drawn
 draw d = record d { state = next d.state }
 
+-- one more number is given, without a draw
 abbrev pub give : Drawn → Drawn
 give d = record d { given = d.given + 1 }

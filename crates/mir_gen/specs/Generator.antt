@@ -83,6 +83,7 @@ group_of (suc (suc (suc (suc (suc zero))))) d = load_group d
 group_of (suc (suc (suc (suc (suc (suc zero)))))) d = phi_group d
 group_of (suc (suc (suc (suc (suc (suc (suc n))))))) d = mark_group d
 
+-- a group by one more draw: of eight draws two make an addition, and each other group is made by one
 unfoldable pub group : Drawn → Made
 group d = group_of (next d.state % 8) (draw d)
 
@@ -115,6 +116,7 @@ end_of zero count b d = record { kinds = []; rest = d }
 end_of (suc zero) count b d = branch_end count d
 end_of (suc (suc n)) count b d = jump_end count b d
 
+-- the end of a block: the last one returns, and another falls through, branches or jumps
 unfoldable pub end : (blocks block : ℕ) → Drawn → Made
 end count b d = cond (nat_eq (b + 1) count) (record { kinds = last_end; rest = d }) (end_of (next d.state % 3) count b (draw d))
 
@@ -134,6 +136,7 @@ abbrev pub placed : (block index : ℕ) → List ItemKind → List Item
 placed b n [] = []
 placed b n (k ∷ kinds) = record { kind = k; origin = Kept (record { block = b; item = n }); loc = Absent } ∷ placed b (suc n) kinds
 
+-- a basic block of items of these kinds, as it is read
 abbrev pub block_of : (block : ℕ) → List ItemKind → Block
 block_of b kinds = record { id = b; items = placed b 0 kinds; silent = length kinds }
 

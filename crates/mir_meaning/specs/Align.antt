@@ -12,19 +12,23 @@ use Rattle.mir_meaning.specs.State.{State, assigned}
 use Rattle.mir_meaning.specs.Step.{Went, Returned, Faulted, step}
 use Rattle.mir_func.specs.Graph.{Fetch, Here, Silent, Outside, Program}
 
+-- the source's position that an item is kept from, or stands before
 abbrev pub position_of : Origin → Pos
 position_of (Kept p) = p
 position_of (Before p) = p
 
+-- an instruction, and no debug item
 abbrev pub is_code : ItemKind → Bool
 is_code (Code i k) = true
 is_code (Mark v m) = false
 is_code (Phi p k) = false
 
+-- an unconditional branch
 abbrev pub is_jump_row : Row → Bool
 is_jump_row (Jumps n) = true
 is_jump_row _ = false
 
+-- an item that is an unconditional branch
 abbrev pub is_jump : ItemKind → Bool
 is_jump (Code i k) = is_jump_row (row_of i)
 is_jump _ = false
@@ -44,28 +48,34 @@ pub data Count : Type 0 where
   -- code items as words of the machine: after whatever stands before a position the source may wait there
   ByWords : Count
 
+-- past an item the source moves on from its position: past a jump, but not where words are counted
 abbrev pub moves_on : Count → ItemKind → Bool
 moves_on ByWords k = false
 moves_on ByItems k = is_jump k
 moves_on ByEnds k = is_jump k
 
+-- past an item the source may still wait at its position: past what was added, if that doesn't move it on
 abbrev pub waits_at : (moves : Bool) → Origin → Bool
 waits_at moves (Kept p) = false
 waits_at true (Before p) = false
 waits_at false (Before p) = true
 
+-- the station that an item is
 abbrev pub station_of : Count → Item → Station
 station_of c i = record { pos = position_of i.origin; waits = waits_at (moves_on c i.kind) i.origin }
 
+-- code items are stations, debug items aren't
 abbrev pub item_station : Count → (code : Bool) → Item → Option Station
 item_station c true i = Some (station_of c i)
 item_station c false i = None
 
+-- a block's end is a station where ends count. The source doesn't wait there
 abbrev pub end_station : Count → Pos → Option Station
 end_station ByEnds p = Some (record { pos = p; waits = false })
 end_station ByItems p = None
 end_station ByWords p = None
 
+-- the station that what stands at a position is, the silent position standing for a block's end
 abbrev pub fetch_station : Count → (block : ℕ) → Fetch → Option Station
 fetch_station c b (Here i) = item_station c (is_code i.kind) i
 fetch_station c b (Silent k n) = end_station c (record { block = b; item = k })
@@ -97,6 +107,7 @@ pub data Since : Type 0 where
   Same : Since
   After : Since
 
+-- past a station the next alignment counts from the same state if the source may wait there, or else after it
 abbrev pub since_of : (waits : Bool) → Since
 since_of true = Same
 since_of false = After
@@ -111,6 +122,7 @@ Aligns src Stops p After s t = ArrivesLater src Stops p s t
 abbrev pub First : Pos → Pos → Type 0
 First p q = q ≡ p
 
+-- wherever the source is to arrive, each position stops it that some station comes from
 abbrev pub AnyOrigin : (Pos → Option Station) → Pos → Pos → Type 0
 AnyOrigin stations p q = IsOrigin stations q
 

@@ -28,6 +28,7 @@ pub data Class : Type 0 where
   Plain : Class
   Odd : Class
 
+-- the kind of code of a row. A slot store is plain code, no store to memory
 abbrev pub class_of : Row → Class
 class_of (Branches op a b target) = Branch
 class_of (Jumps target) = Branch
@@ -60,6 +61,7 @@ MayAdd (Calls name args) k silent = ⊥
 MayAdd (Returns results) k silent = ⊥
 MayAdd Unfit k silent = ⊥
 
+-- the item is code of the row's class
 abbrev pub ItemHasClass : Row → ItemKind → Type 0
 ItemHasClass r (Code c k) = class_of (row_of c) ≡ class_of r
 ItemHasClass r _ = ⊥
@@ -69,10 +71,12 @@ abbrev pub HasClass : Row → Fetch → Type 0
 HasClass r (Here i) = ItemHasClass r i.kind
 HasClass r _ = ⊥
 
+-- code of this row may have this origin: kept code keeps its class, and added code is of a kind that may be added
 abbrev pub RowFits : Program → Row → (silent : ℕ) → Origin → Type 0
 RowFits src r silent (Kept p) = HasClass r (src.fetch p)
 RowFits src r silent (Before p) = MayAdd r p.item silent
 
+-- an item may have this origin. Debug items may have any
 abbrev pub KindFits : Program → ItemKind → (silent : ℕ) → Origin → Type 0
 KindFits src (Code c k) silent o = RowFits src (row_of c) silent o
 KindFits src (Mark v m) silent o = Unit {0}
@@ -90,6 +94,7 @@ abbrev pub rank : Origin → ℕ
 rank (Kept p) = 2 * p.item + 1
 rank (Before p) = 2 * p.item
 
+-- much may be added before one position, but each of the source's items is kept once at most
 abbrev pub next_rank : Origin → ℕ
 next_rank (Kept p) = 2 * p.item + 2
 next_rank (Before p) = 2 * p.item
@@ -105,6 +110,7 @@ pub data Among : List Block → List Block → Type 0 where
   same : {a b : Block} {rest bs : List Block} → a.id ≡ b.id → a.silent ≡ b.silent → Among rest bs → Among (a ∷ rest) (b ∷ bs)
   left : {b : Block} {rest bs : List Block} → Among rest bs → Among rest (b ∷ bs)
 
+-- the number of the entry block, and 0 where there are no blocks
 abbrev pub first_of : List Block → ℕ
 first_of [] = 0
 first_of (b ∷ bs) = b.id
@@ -114,6 +120,7 @@ abbrev pub OnRow : (Row → Type 0) → ItemKind → Type 0
 OnRow P (Code c k) = P (row_of c)
 OnRow P _ = ⊥
 
+-- a branch or a jump whose target is block n
 abbrev pub GoesTo : ℕ → Row → Type 0
 GoesTo n (Branches op a b target) = target ≡ n
 GoesTo n (Jumps target) = target ≡ n
@@ -195,6 +202,7 @@ SameEnd (Jumps t) (Jumps t') = t ≡ t'
 SameEnd (Returns v) (Returns w) = Unit {0}
 SameEnd _ _ = ⊥
 
+-- a terminator: a branch, a jump or a return
 abbrev pub IsEnd : Row → Type 0
 IsEnd (Branches op a b target) = Unit {0}
 IsEnd (Jumps target) = Unit {0}
@@ -210,6 +218,7 @@ IsEnd (StoresSlot rs n) = ⊥
 IsEnd (Calls name args) = ⊥
 IsEnd Unfit = ⊥
 
+-- both items are code, and the same end of a block
 abbrev pub KindsEndAlike : ItemKind → ItemKind → Type 0
 KindsEndAlike (Code c k) (Code d l) = SameEnd (row_of c) (row_of d)
 KindsEndAlike _ _ = ⊥

@@ -8,10 +8,12 @@ use Rattle.mir_func.specs.declared.item.ItemKind.{ItemKind}
 use Rattle.mir_func.specs.declared.item.ItemKind.TheVariants.{Code}
 use Rattle.mir_func.specs.Graph.{Fetch, Here, Program, Edge}
 
+-- the item is code that reads the place. Debug items read none
 abbrev pub KindUses : ItemKind → Place → Type 0
 KindUses (Code i k) x = uses_of i x ≡ true
 KindUses _ x = ⊥
 
+-- the item is code that sets the place. Debug items set none
 abbrev pub KindDefines : ItemKind → Place → Type 0
 KindDefines (Code i k) x = defines_of (row_of i) x ≡ true
 KindDefines _ x = ⊥
@@ -21,6 +23,7 @@ abbrev pub Uses : Fetch → Place → Type 0
 Uses (Here i) x = KindUses i.kind x
 Uses _ x = ⊥
 
+-- code sets the place. Debug items are no definitions
 abbrev pub Defines : Fetch → Place → Type 0
 Defines (Here i) x = KindDefines i.kind x
 Defines _ x = ⊥

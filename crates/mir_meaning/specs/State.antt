@@ -39,6 +39,7 @@ pub record Core : Type 0 where
   -- the assignments so far, the newest first
   pub marks : List (VarId × Option ℕ)
 
+-- a state of a run: the position that runs next, and all else
 pub record State : Type 0 where
   pub pos : Pos
   pub core : Core
@@ -92,6 +93,7 @@ abbrev pub touches_frame : (entry area address n : ℕ) → Bool
 touches_frame entry area a zero = false
 touches_frame entry area a (suc n) = in_frame entry area (a % 2 ^ 64) || touches_frame entry area (a + 1) n
 
+-- one of these writes, each an address and a byte, goes to a byte of the frame
 abbrev pub writes_frame : (entry area : ℕ) → List (ℕ × ℕ) → Bool
 writes_frame entry area [] = false
 writes_frame entry area (w ∷ ws) = in_frame entry area w.0 || writes_frame entry area ws

@@ -47,9 +47,11 @@ abbrev pub or_zero : Option ℕ → ℕ
 or_zero None = 0
 or_zero (Some n) = n
 
+-- a register's content, and 0 where it isn't written
 abbrev pub read : Core → ℕ → ℕ
 read s r = or_zero (content s.regs r)
 
+-- what an operation's second input gives: a register's content or the immediate
 abbrev pub input_value : Core → Input → ℕ
 input_value s (Content r) = read s r
 input_value s (Number n) = n
@@ -58,10 +60,12 @@ input_value s (Number n) = n
 abbrev pub object_address : Core → ℕ → ℕ
 object_address s n = (s.entry + (2 ^ 64 - s.area) + s.objects n) % 2 ^ 64
 
+-- where an address starts: at a register's content, or at a stack object's first byte
 abbrev pub base_value : Core → Base → ℕ
 base_value s (PointedBy r) = read s r
 base_value s (ObjectAt n) = object_address s n
 
+-- the effective address of an access: base plus offset, modulo 2^64
 abbrev pub address_at : Core → Base → (offset : ℕ) → ℕ
 address_at s base offset = (base_value s base + offset) % 2 ^ 64
 
@@ -70,6 +74,7 @@ abbrev pub is_fault : Base → Core → (address n : ℕ) → Bool
 is_fault (PointedBy r) s a n = touches_frame s.entry s.area a n
 is_fault (ObjectAt m) s a n = false
 
+-- a register set, and all else left: x0 drops the write
 abbrev pub set_register : (rd v : ℕ) → Core → Core
 set_register rd v s = record s { regs = put rd v s.regs }
 
@@ -84,13 +89,16 @@ abbrev pub slot_loaded : ℕ → Core → Option ℕ → Outcome
 slot_loaded rd s None = Traps
 slot_loaded rd s (Some v) = Falls (set_register rd v s)
 
+-- a load: a frame fault, or rd gets the bytes from the address on, extended as the opcode says
 abbrev pub loaded : (rd : ℕ) → LoadOp → Base → (address : ℕ) → Core → Outcome
 loaded rd op base a s =
     cond (is_fault base s a (load_width op)) Traps (Falls (set_register rd (extended op (spelled s.memory a (load_width op))) s))
 
+-- bytes written to memory from an address on, which shows to the outside
 abbrev pub saved : (address : ℕ) → List ℕ → Core → Core
 saved a bytes s = record s { memory = stored s.memory a bytes; events = Wrote a bytes ∷ s.events }
 
+-- a store: a frame fault, or the low bytes of v go to memory, as many as the opcode says
 abbrev pub put_in_memory : StoreOp → Base → (address v : ℕ) → Core → Outcome
 put_in_memory op base a v s = cond (is_fault base s a (store_width op)) Traps (Falls (saved a (low_bytes (store_width op) v) s))
 
@@ -129,6 +137,7 @@ defined call (Some (Def r)) = Some r
 defined true (Some (ImplicitDef r)) = Some r
 defined call _ = None
 
+-- a pair's value past code with its number: the content of the register that its operand defines, or the old one
 abbrev pub given : Bool → Option ℕ → Option ℕ → Core → Option ℕ
 given sp None old s = old
 given sp (Some r) old s = seen sp r s
@@ -138,6 +147,7 @@ abbrev pub numbered : Bool → Bool → Option ℕ → List Operand → Core →
 numbered sp call None operands s = s
 numbered sp call (Some k) operands s = record s { pairs = updated k (λ o. given sp (defined call (slice_get operands o)) (s.pairs k o) s) s.pairs }
 
+-- the outcome with its core changed, where it goes on
 abbrev pub with_core : (Core → Core) → Outcome → Outcome
 with_core f (Falls c) = Falls (f c)
 with_core f (Goes n c) = Goes n (f c)
@@ -153,10 +163,12 @@ place_value (Some (Register r)) s = seen false r s
 place_value (Some (Slot n)) s = s.slots n
 place_value (Some (Const c)) s = Some (word c)
 
+-- the last value of what a pair resolved to, and none where it resolves to nothing
 abbrev pub pair_value : Option OperandPair → Core → Option ℕ
 pair_value None s = None
 pair_value (Some q) s = s.pairs q.number q.operand
 
+-- what a mark's debug operand reads (LLVM: `DBG_VALUE` of a number or a register, `DBG_INSTR_REF` of a pair)
 abbrev pub mark_value : Program → MarkValue → Core → Option ℕ
 mark_value g Nothing s = None
 mark_value g (Constant c) s = Some (word c)
@@ -174,6 +186,7 @@ do_item g (Code i k) s = with_core (numbered g.sees_pointer (is_call (row_of i))
 do_item g (Mark v m) s = Falls (record s { marks = (v, part_of v (mark_value g m s)) ∷ s.marks })
 do_item g (Phi p k) s = Falls (record s { pairs = updated k (updated 0 (place_value p s) (s.pairs k)) s.pairs })
 
+-- what stands at a position does. A block's end falls through to the next block
 abbrev pub do_fetch : Program → Fetch → Core → Outcome
 do_fetch g (Here i) s = do_item g i.kind s
 do_fetch g (Silent k n) s = Goes n s
@@ -187,6 +200,7 @@ pub data Next : Type 0 where
   Waits : Next
   Lost : Next
 
+-- how a step from this position ends, by its outcome
 abbrev pub moved : (ℕ → ℕ) → Pos → Outcome → Next
 moved enter p (Falls c) = Went (record { pos = below p; core = c })
 moved enter p (Goes n c) = Went (record { pos = block_start (enter n); core = c })
@@ -199,6 +213,7 @@ moved enter p Breaks = Lost
 abbrev pub step : Program → State → Next
 step g s = moved g.enter s.pos (do_fetch g (g.fetch s.pos) s.core)
 
+-- what comes next from the state that a run went to, or how it ended already
 abbrev pub after : Next → (State → Next) → Next
 after (Went s) k = k s
 after (Returned v) k = Returned v

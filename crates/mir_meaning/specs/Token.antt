@@ -70,6 +70,7 @@ moved_tokens n Unfit t = t
 abbrev pub sets_pointer : Row → Bool
 sets_pointer r = list_any (λ rd. nat_eq rd 2) (sets r)
 
+-- the tokens past code of this row, at an index of the path, before its pairs get theirs
 abbrev pub code_tokens : (index : ℕ) → Row → Tokens → Tokens
 code_tokens n r t = cond (sets_pointer r) (record (moved_tokens n r t) { slots = λ k. None }) (moved_tokens n r t)
 
@@ -78,20 +79,24 @@ abbrev pub given_token : Option ℕ → Option Token → Tokens → Option Token
 given_token None old t = old
 given_token (Some r) old t = register_token t.regs r
 
+-- the tokens with the pairs given of code's debug instruction number, where it has one
 abbrev pub numbered_tokens : (call : Bool) → Option ℕ → List Operand → Tokens → Tokens
 numbered_tokens call None operands t = t
 numbered_tokens call (Some k) operands t = record t { pairs = updated k (λ o. given_token (defined call (slice_get operands o)) (t.pairs k o) t) t.pairs }
 
+-- the token of what a place holds: a constant's is that of its number, and no place has none
 abbrev pub place_token : Option Place → Tokens → Option Token
 place_token None t = None
 place_token (Some (Register r)) t = register_token t.regs r
 place_token (Some (Slot n)) t = t.slots n
 place_token (Some (Const c)) t = Some (Fixed (word c))
 
+-- the token of what a pair resolved to, and none where it resolves to nothing
 abbrev pub pair_token : Option OperandPair → Tokens → Option Token
 pair_token None t = None
 pair_token (Some q) t = t.pairs q.number q.operand
 
+-- the token of what a mark's debug operand reads
 abbrev pub mark_token : (OperandPair → Option OperandPair) → MarkValue → Tokens → Option Token
 mark_token resolve Nothing t = None
 mark_token resolve (Constant c) t = Some (Fixed (word c))
@@ -104,6 +109,7 @@ after_item resolve n (Code i k) t = numbered_tokens (is_call (row_of i)) k i.ope
 after_item resolve n (Mark v m) t = record t { marks = (v, mark_token resolve m t) ∷ t.marks }
 after_item resolve n (Phi p k) t = record t { pairs = updated k (updated 0 (place_token p t) (t.pairs k)) t.pairs }
 
+-- the tokens after what stands at an index of the path. A block's end leaves them as they are
 abbrev pub after_fetch : (OperandPair → Option OperandPair) → (index : ℕ) → Fetch → Tokens → Tokens
 after_fetch resolve n (Here i) t = after_item resolve n i.kind t
 after_fetch resolve n (Silent k m) t = t

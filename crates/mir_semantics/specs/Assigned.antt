@@ -11,6 +11,7 @@ use Rattle.mir_meaning.specs.State.{assigned}
 abbrev pub key_of : VarId → ℕ × Option ℕ
 key_of v = (v.node, v.inlined_at)
 
+-- both are keys of the same variable, in one inlined instance
 abbrev pub are_same_keys : ℕ × Option ℕ → ℕ × Option ℕ → Bool
 are_same_keys k l = nat_eq k.0 l.0 && option_eq nat_eq k.1 l.1
 

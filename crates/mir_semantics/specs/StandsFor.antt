@@ -38,6 +38,7 @@ abbrev pub flat : Option (Option ℕ) → Option ℕ
 flat None = None
 flat (Some o) = o
 
+-- both are the same debug instruction number and the same operand of it
 abbrev pub pair_eq : ℕ × ℕ → ℕ × ℕ → Bool
 pair_eq p q = nat_eq p.0 q.0 && nat_eq p.1 q.1
 
@@ -74,6 +75,7 @@ IsItemAnswered (Code i k) answer script = IsAnswered (row_of i) answer script
 IsItemAnswered (Mark v m) answer script = Unit {0}
 IsItemAnswered (Phi p k) answer script = Unit {0}
 
+-- the same for what stands at a position: at a block's end the script is any
 abbrev pub IsStepAnswered : Fetch → Option Answer → List Reply → Type 0
 IsStepAnswered (Here i) answer script = IsItemAnswered i.kind answer script
 IsStepAnswered (Silent k n) answer script = Unit {0}

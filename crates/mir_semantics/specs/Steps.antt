@@ -57,6 +57,7 @@ step_after Ended = Returned
 step_after Faults = Faulted
 step_after Waiting = Waits
 
+-- where an outcome leads: below, to a block's start, or nowhere
 abbrev pub position_after : Outcome → Pos → Pos
 position_after Falls p = below p
 position_after (Goes n) p = block_start n

@@ -39,6 +39,7 @@ StopsWell source image = (s0 : State) → StartsAt source s0 → (m : Machine) �
 abbrev pub AllGiveBack : List SourceFunction → Output → Type 0
 AllGiveBack sources o = OfEach (λ s f. GivesBack s.function (resolve s.substitutions) (image_of o f)) sources o.functions
 
+-- no function's code runs out of its lines or into a word that is no operation
 abbrev pub AllStopWell : List SourceFunction → Output → Type 0
 AllStopWell sources o = OfEach (λ s f. StopsWell s.function (image_of o f)) sources o.functions
 

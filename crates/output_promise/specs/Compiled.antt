@@ -34,6 +34,7 @@ pub record IsLayoutOf (source : SourceFunction) (base : ℕ) (l : Layout) : Type
   pub few : count_of l.framed.blocks < MAX_WORDS
   pub small : size_of source.function ≤ MAX_FRAME
 
+-- the bytes of a function in `.text`: its words in little-endian order
 abbrev pub bytes_of : Layout → List ℕ
 bytes_of l = flat_map (to_le_bytes w32) (words_of l)
 

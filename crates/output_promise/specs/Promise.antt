@@ -100,5 +100,6 @@ pub record ListsFramed (source : SourceFunction) (f : ListedFunction) : Type 0 w
   pub blocks : map contents (blocks_shown f) ≡ map contents (map (settled (framed_of source.function)) (framed_of source.function).blocks)
   pub substitutions : f.substitutions ≡ source.substitutions
 
+-- each source is listed so, in order, and nothing else is
 abbrev pub ListsSources : List SourceFunction → Output → Type 0
 ListsSources sources o = OfEach ListsFramed sources o.functions

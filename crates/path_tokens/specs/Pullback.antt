@@ -29,6 +29,7 @@ pub data Tracked : Type 0 where
   OfVariable : (v : VarId) → Tracked
   OfNumber : (c : ℕ) → Tracked
 
+-- the token that a thing has, among these
 abbrev pub token_of : Tracked → Tokens → Option Token
 token_of (InRegister r) t = register_token t.regs r
 token_of (InSlot n) t = t.slots n
@@ -91,6 +92,7 @@ slot_stored Unfit k = Was (InSlot k)
 abbrev pub back_slot : Row → (k : ℕ) → Back
 back_slot row k = cond (sets_pointer row) Nameless (slot_stored row k)
 
+-- any thing after code of a row, before pairs get theirs: pairs, parts and numbers keep their tokens
 abbrev pub back_row : (index : ℕ) → Row → Tracked → Back
 back_row i row (InRegister r) = back_register i row r
 back_row i row (InSlot k) = back_slot row k
@@ -103,16 +105,19 @@ abbrev pub given_back : (index : ℕ) → Row → Option ℕ → Tracked → Bac
 given_back i row None x = Was x
 given_back i row (Some rd) x = back_register i row rd
 
+-- what a phi's place holds has its token from there, and nothing has none
 abbrev pub back_place : Option Place → Back
 back_place None = Nameless
 back_place (Some (Register r)) = Was (InRegister r)
 back_place (Some (Slot n)) = Was (InSlot n)
 back_place (Some (Const c)) = Was (OfNumber (word c))
 
+-- the token of what a pair resolved to comes from that pair
 abbrev pub back_pair : Option OperandPair → Back
 back_pair None = Nameless
 back_pair (Some q) = Was (OfPair q.number q.operand)
 
+-- where the token of what a mark's debug operand reads comes from
 abbrev pub back_value : (OperandPair → Option OperandPair) → MarkValue → Back
 back_value resolve Nothing = Nameless
 back_value resolve (Constant c) = Was (OfNumber (word c))
@@ -128,6 +133,7 @@ back_numbered i c j (InSlot k) = back_row i (row_of c) (InSlot k)
 back_numbered i c j (OfVariable v) = back_row i (row_of c) (OfVariable v)
 back_numbered i c j (OfNumber m) = back_row i (row_of c) (OfNumber m)
 
+-- a thing after code, with a debug instruction number or without one
 abbrev pub back_code : (index : ℕ) → Instruction → Option ℕ → Tracked → Back
 back_code i c None x = back_row i (row_of c) x
 back_code i c (Some j) x = back_numbered i c j x

@@ -25,6 +25,7 @@ use Rattle.unit_entries.specs.Unit.{unit_of}
 
 -- ---- sources
 
+-- a function as it was read, with its debug value substitutions
 abbrev pub source_of : Parsed → SourceFunction
 source_of p = record { function = p.func; substitutions = p.subs }
 

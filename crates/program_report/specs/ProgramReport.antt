@@ -11,6 +11,7 @@ pub record IsReportable (f : Compiled) : Type 0 where
   pub names : length f.names ≡ length f.lists
   pub ascend : All Ascend f.lists
 
+-- the text of the report of a function, on how much of its debug information is kept
 abbrev pub function_report : Compiled → List ℕ
 function_report f = report_text (report_of f.code f.names f.lists f.losses)
 

@@ -11,6 +11,7 @@ use Rattle.mir_func.specs.declared.item.ItemKind.TheVariants.{Code, Mark, Phi}
 abbrev pub Known : Type 0
 Known = Place → Option ℕ
 
+-- no place is known to hold a number, as at a block's start
 abbrev pub nothing_known : Known
 nothing_known x = None
 
@@ -29,6 +30,7 @@ with_register r n known (Register q) = cond (nat_eq r q) n (known (Register q))
 with_register r n known (Slot s) = known (Slot s)
 with_register r n known (Const c) = known (Const c)
 
+-- the slot holds the number, if there is one
 abbrev pub with_slot : ℕ → Option ℕ → Known → Known
 with_slot s n known (Register q) = known (Register q)
 with_slot s n known (Slot t) = cond (nat_eq s t) n (known (Slot t))

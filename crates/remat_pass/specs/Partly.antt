@@ -9,10 +9,12 @@ use Rattle.remat_pass.specs.Remat.{set_in}
 abbrev pub MayBeSet : Item → Item → Type 0
 MayBeSet x y = (y ≡ x) ⊎ ((known : Known) × (y ≡ record x { kind = set_in known x.kind }))
 
+-- items in order, each as it was or with a constant set in it
 pub data AreItemsSet : List Item → List Item → Type 0 where
   none : AreItemsSet [] []
   next : {x y : Item} {xs ys : List Item} → MayBeSet x y → AreItemsSet xs ys → AreItemsSet (x ∷ xs) (y ∷ ys)
 
+-- blocks in order, of such items; numbers and silent indices stay
 pub data AreBlocksSet : List Block → List Block → Type 0 where
   no_blocks : AreBlocksSet [] []
   next_block : {a b : Block} {fs gs : List Block} → b.id ≡ a.id → b.silent ≡ a.silent → AreItemsSet a.items b.items → AreBlocksSet fs gs →

@@ -55,6 +55,7 @@ abbrev pub set_or_same : Option Constant → Instruction → Instruction
 set_or_same None i = i
 set_or_same (Some c) i = constant_code c.register c.number (filter is_implicit i.operands)
 
+-- the item with a constant definition in place of a copy or a slot load whose number is known
 abbrev pub set_in : Known → ItemKind → ItemKind
 set_in known (Code i k) = Code (set_or_same (constant_set known (row_of i)) i) k
 set_in known (Mark v m) = Mark v m
@@ -66,9 +67,11 @@ set_items known [] = []
 set_items known (i ∷ is) =
     record i { kind = set_in known i.kind } ∷ set_items (known_past (set_in known i.kind) known) is
 
+-- a block in which constants are set again; nothing is known at its start
 abbrev pub set_block : Block → Block
 set_block b = record b { items = set_items nothing_known b.items }
 
+-- each block by itself
 abbrev pub set_blocks : List Block → List Block
 set_blocks blocks = map set_block blocks
 
@@ -76,5 +79,6 @@ set_blocks blocks = map set_block blocks
 abbrev pub rematerialized : Function → Function
 rematerialized f = record f { blocks = set_blocks f.blocks }
 
+-- constants are rematerialized within blocks, as a rule for code
 abbrev pub IsRematerialized : CodeRule
 IsRematerialized f g = g ≡ rematerialized f

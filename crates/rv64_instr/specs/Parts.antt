@@ -41,6 +41,7 @@ abbrev pub input_place : Input → Option Place
 input_place (Content r) = Some (Register r)
 input_place (Number n) = None
 
+-- the place that the base of an address is read from. A stack object is none
 abbrev pub base_place : Base → Option Place
 base_place (PointedBy r) = Some (Register r)
 base_place (ObjectAt n) = None
@@ -130,10 +131,12 @@ is_pure (Calls name args) = false
 is_pure (Returns results) = false
 is_pure Unfit = true
 
+-- a call (LLVM: `PseudoCALL`)
 abbrev pub is_call : Row → Bool
 is_call (Calls name args) = true
 is_call _ = false
 
+-- an instruction's effect as passes ask for it, all of it by its row
 abbrev pub effect_of : Row → Effect
 effect_of row = record {
   def = set_by row;
@@ -181,6 +184,7 @@ abbrev pub IsSlotStore : Row → Type 0
 IsSlotStore (StoresSlot rs n) = Unit {0}
 IsSlotStore _ = ⊥
 
+-- the frame slot that is named, if one is, has this number
 abbrev pub names_slot : Option ℕ → ℕ → Bool
 names_slot (Some m) n = nat_eq m n
 names_slot None n = false

@@ -93,43 +93,52 @@ object_row Slliw rd n offset = Unfit
 object_row Srliw rd n offset = Unfit
 object_row Sraiw rd n offset = Unfit
 
+-- `op rd, rs1, rs2` (RISC-V Unprivileged ISA, "Integer Register-Register Operations")
 abbrev pub registers_row : RegisterOp → List Operand → Row
 registers_row op (Def rd ∷ Use a ∷ Use b ∷ rest) = Sets rd op a (Content b)
 registers_row op _ = Unfit
 
+-- `op rd, rs1, imm`, or `ADDI rd, object, imm` (RISC-V Unprivileged ISA, "Integer Register-Immediate Instructions")
 abbrev pub number_row : ImmediateOp → List Operand → Row
 number_row op (Def rd ∷ Use a ∷ Imm i ∷ rest) = immediate_row op rd a (word i)
 number_row op (Def rd ∷ Object n ∷ Imm i ∷ rest) = object_row op rd n (word i)
 number_row op _ = Unfit
 
+-- `LUI rd, imm` sets bits 31 to 12 to the immediate and the 12 below to 0, sign-extended to 64 bits
 abbrev pub upper_row : List Operand → Row
 upper_row (Def rd ∷ Imm i ∷ rest) = Fixes rd (extend32 (word (i *ℤ pos 4096)))
 upper_row _ = Unfit
 
+-- `op rs1, rs2, block` (RISC-V Unprivileged ISA, "Conditional Branches")
 abbrev pub branch_row : BranchOp → List Operand → Row
 branch_row op (Use a ∷ Use b ∷ Block target ∷ rest) = Branches op a b target
 branch_row op _ = Unfit
 
+-- a load by a register and an offset, of a frame slot, or of a stack object and an offset
 abbrev pub load_row : LoadOp → List Operand → Row
 load_row op (Def rd ∷ Use base ∷ Imm i ∷ rest) = Loads rd op (PointedBy base) (word i)
 load_row op (Def rd ∷ Slot n ∷ rest) = LoadsSlot rd n
 load_row op (Def rd ∷ Object n ∷ Imm i ∷ rest) = Loads rd op (ObjectAt n) (word i)
 load_row op _ = Unfit
 
+-- a store, addressed in the same three ways
 abbrev pub store_row : StoreOp → List Operand → Row
 store_row op (Use rs ∷ Use base ∷ Imm i ∷ rest) = Stores op rs (PointedBy base) (word i)
 store_row op (Use rs ∷ Slot n ∷ rest) = StoresSlot rs n
 store_row op (Use rs ∷ Object n ∷ Imm i ∷ rest) = Stores op rs (ObjectAt n) (word i)
 store_row op _ = Unfit
 
+-- LLVM's `COPY`, from register to register
 abbrev pub copy_row : List Operand → Row
 copy_row (Def rd ∷ Use rs ∷ rest) = move_row rd rs
 copy_row _ = Unfit
 
+-- LLVM's `PseudoBR`, an unconditional branch
 abbrev pub jump_row : List Operand → Row
 jump_row (Block target ∷ rest) = Jumps target
 jump_row _ = Unfit
 
+-- LLVM's `PseudoCALL`: the arguments are the registers of its implicit uses
 abbrev pub call_row : List Operand → Row
 call_row (Symbol name ∷ rest) = Calls name (implicit_uses rest)
 call_row _ = Unfit

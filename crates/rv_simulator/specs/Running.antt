@@ -39,6 +39,7 @@ abbrev pub found_call : FramedFunction → Option Entry → Option (List ℕ × 
 found_call f None = None
 found_call f (Some e) = entry_call f e
 
+-- the callee and the argument registers, where a call site begins at the address
 abbrev pub call_at : LaidCode → (address : ℕ) → Option (List ℕ × List ℕ)
 call_at c a = found_call c.framed (entry_at c.entries a)
 

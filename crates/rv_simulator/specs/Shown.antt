@@ -19,6 +19,7 @@ kind_call (Code i k) = call_of (row_of i)
 kind_call (Mark v m) = None
 kind_call (Phi p k) = None
 
+-- the call of the item at a point, and none where a block ends or nothing stands
 abbrev pub fetch_call : Fetch → Option (List ℕ × List ℕ)
 fetch_call (Here i) = kind_call i.kind
 fetch_call (Silent k n) = None

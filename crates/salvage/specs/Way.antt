@@ -30,10 +30,12 @@ abbrev pub last_definition : (s : ℕ) → List Item → Option ℕ
 last_definition s [] = None
 last_definition s (x ∷ xs) = further (last_definition s xs) (defines (Register s) x.kind)
 
+-- what an operand defines, if anything, is the register
 abbrev pub is_register : (s : ℕ) → Option ℕ → Bool
 is_register s (Some r) = nat_eq r s
 is_register s None = false
 
+-- the index of the operand here, or of a later one, counted from here
 abbrev pub here_or : (here : Bool) → Option ℕ → Option ℕ
 here_or true later = Some 0
 here_or false (Some n) = Some (suc n)
@@ -63,6 +65,7 @@ abbrev pub has_entry : List Entry → Option ℕ → (operand : ℕ) → Bool
 has_entry subs (Some n) o = is_some (entry_of subs (record { number = n; operand = o }))
 has_entry subs None o = false
 
+-- the number that code has, or the fresh one for code without
 abbrev pub or_fresh : (fresh : ℕ) → Option ℕ → ℕ
 or_fresh fresh (Some n) = n
 or_fresh fresh None = fresh
@@ -78,6 +81,7 @@ abbrev pub way_by : (removed : List ℕ) → List Entry → (fresh k d : ℕ) �
 way_by removed subs fresh k d n None behind = GetsPhi
 way_by removed subs fresh k d n (Some o) behind = cond (may_stand removed subs k d n o behind) (GetsEntry d o (or_fresh fresh n)) GetsPhi
 
+-- by the item at index d, which defines s: its code may stand for the copy, and else a phi is put
 abbrev pub way_of_kind : (removed : List ℕ) → List Entry → (fresh k s d : ℕ) → (above : List Item) → ItemKind → Way
 way_of_kind removed subs fresh k s d above (Code i n) =
     way_by removed subs fresh k d n (first_definition (is_call (row_of i)) s i.operands) (drop (suc d) above)

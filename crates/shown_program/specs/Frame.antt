@@ -28,6 +28,7 @@ abbrev pub end_of : ℕ → List ListedObject → ℕ
 end_of n [] = n
 end_of n (o ∷ os) = end_of (o.offset + o.size) os
 
+-- the bytes of all stack objects, which lie at the top of the frame
 abbrev pub area_shown : List ListedObject → ℕ
 area_shown objects = up_to 16 (end_of 0 objects)
 
@@ -48,11 +49,13 @@ lowered_by (Calls name args) = 0
 lowered_by (Returns results) = 0
 lowered_by Unfit = 0
 
+-- a mark or a phi leaves x2 as it is
 abbrev pub lowered_by_kind : ItemKind → ℕ
 lowered_by_kind (Code i k) = lowered_by (row_of i)
 lowered_by_kind (Mark v m) = 0
 lowered_by_kind (Phi p k) = 0
 
+-- a line that skips is a branch, which leaves x2 as it is
 abbrev pub lowered_by_line : Line → ℕ
 lowered_by_line (Item l) = lowered_by_kind l.item.kind
 lowered_by_line (Skip s) = 0
@@ -67,6 +70,7 @@ pub record ShownFrame : Type 0 where
   pub below : ℕ
   pub objects : List ListedObject
 
+-- the frame by the prologue and the listed objects: what is left below the objects is that of slots and saves
 abbrev pub frame_shown : ListedFunction → ShownFrame
 frame_shown f = record { below = size_shown f.prologue - area_shown f.objects; objects = f.objects }
 
@@ -99,18 +103,22 @@ accessed f false n = cond (nat_lt n f.below) (by_pointer n) (by_object f n)
 abbrev pub summed : ShownFrame → (rd n : ℕ) → List Operand
 summed f rd n = cond (nat_eq rd 2) (by_pointer n) (by_object f n)
 
+-- a load by x2 as one of a slot or of an object: only an LD can be of a slot
 abbrev pub raised_load : ShownFrame → LoadOp → List Operand → List Operand
 raised_load f op (Def rd ∷ Use (suc (suc zero)) ∷ Imm (pos n) ∷ rest) = Def rd ∷ accessed f (nat_eq (load_width op) 8) n ++ rest
 raised_load f op operands = operands
 
+-- a store by x2 as one to a slot or to an object: only an SD can be to a slot
 abbrev pub raised_store : ShownFrame → StoreOp → List Operand → List Operand
 raised_store f op (Use rs ∷ Use (suc (suc zero)) ∷ Imm (pos n) ∷ rest) = Use rs ∷ accessed f (nat_eq (store_width op) 8) n ++ rest
 raised_store f op operands = operands
 
+-- x2 plus a number as an object's address, where it isn't x2 that is set
 abbrev pub raised_sum : ShownFrame → List Operand → List Operand
 raised_sum f (Def rd ∷ Use (suc (suc zero)) ∷ Imm (pos n) ∷ rest) = Def rd ∷ summed f rd n ++ rest
 raised_sum f operands = operands
 
+-- register-immediate arithmetic: only ADDI makes an object's address
 abbrev pub raised_number : ShownFrame → ImmediateOp → List Operand → List Operand
 raised_number f Addi operands = raised_sum f operands
 raised_number f Slti operands = operands
@@ -139,6 +147,7 @@ raised_operands f PseudoBr operands = operands
 raised_operands f PseudoCall operands = operands
 raised_operands f PseudoRet operands = operands
 
+-- frame index elimination undone: the item names slots and objects again
 abbrev pub raised : ShownFrame → ItemKind → ItemKind
 raised f (Code i k) = Code (record i { operands = raised_operands f i.op i.operands }) k
 raised f (Mark v m) = Mark v m

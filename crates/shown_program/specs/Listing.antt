@@ -56,6 +56,7 @@ form_lines l a i c k OneWord = line_at (Some a) i (Code (listed l.framed c) k) �
 form_lines l a i c k CallSite = line_at (Some a) i (Code (listed l.framed c) k) ∷ []
 form_lines l a i c k (LongBranch n) = branch_skip a i.origin c.op c.operands ++ line_at (Some (a + 4)) i (Code (jump_to n) k) ∷ []
 
+-- the lines of an item of a kind: a mark or a phi has one too, without an address
 abbrev pub kind_lines : Layout → Site → ItemKind → List Line
 kind_lines l s (Code c k) = form_lines l (address_in l s.point) s.item c k (form_of (l.long s.point) (Code c k))
 kind_lines l s (Mark v m) = line_at None s.item (Mark v m) ∷ []
@@ -79,10 +80,12 @@ abbrev pub prologue_listed : Layout → List Block → List Line
 prologue_listed l [] = []
 prologue_listed l (p ∷ blocks) = items_listed l 0 p.items
 
+-- the body: all blocks but the prologue
 abbrev pub body_listed : Layout → List Block → List ListedBlock
 body_listed l [] = []
 body_listed l (p ∷ blocks) = blocks_listed l 1 blocks
 
+-- a stack object as a listing has it
 abbrev pub object_listed : Object → ListedObject
 object_listed o = record { id = o.id; size = o.size; offset = o.offset }
 

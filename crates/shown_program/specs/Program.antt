@@ -76,6 +76,7 @@ kind_shown frame (Some s) (Code i k) = Code (below_skip s (target_of i.operands)
 kind_shown frame (Some s) (Mark v m) = Mark v m
 kind_shown frame (Some s) (Phi p k) = Phi p k
 
+-- the item that a line shows, with its origin and its debug location
 abbrev pub item_shown : ShownFrame → Option SkipLine → ItemLine → Item
 item_shown frame skip l = record l.item { kind = kind_shown frame skip l.item.kind }
 
@@ -103,10 +104,12 @@ contents b = (b.id, b.items)
 
 -- ---- where the bytes of lines stand
 
+-- the line shows an item of its own: one that skips is part of the long branch below it
 abbrev pub is_item : Line → Bool
 is_item (OfItem l) = true
 is_item (Skip s) = false
 
+-- where the word of a line begins: a debug item has none
 abbrev pub address_of : Line → Option ℕ
 address_of (OfItem l) = l.address
 address_of (Skip s) = Some s.address
@@ -117,6 +120,7 @@ past_item a (Code i k) = a + cond (is_call (row_of i)) 8 4
 past_item a (Mark v m) = a
 past_item a (Phi p k) = a
 
+-- the address after a line: one that skips has one word
 abbrev pub past_line : ℕ → Line → ℕ
 past_line a (OfItem l) = past_item a l.item.kind
 past_line a (Skip s) = a + 4
@@ -156,6 +160,7 @@ IsLaidOut f = LinesLie f.low (lines_of f) f.high
 abbrev pub skip_instruction : SkipLine → Instruction
 skip_instruction s = record { op = Branch s.op; operands = Use s.first ∷ Use s.second ∷ Imm (pos 8) ∷ map operand_of s.implicit }
 
+-- the line with code that a line is, and none of a debug item
 abbrev pub code_lines : Line → List CodeLine
 code_lines (OfItem l) = line_of l.address l.item.origin l.item.kind
 code_lines (Skip s) = record { address = s.address; origin = s.origin; instruction = skip_instruction s } ∷ []

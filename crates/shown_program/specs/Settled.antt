@@ -29,6 +29,7 @@ abbrev pub settled_sum : FramedFunction → List Operand → List Operand
 settled_sum f (Def rd ∷ OfObject n ∷ Imm (pos i) ∷ rest) = Def rd ∷ by_object (frame_of f) (own_size f + offset_of f.objects n + i) ++ rest
 settled_sum f operands = operands
 
+-- the operands of an instruction: an address of an object settles, and a load or a store stays as it is
 abbrev pub settled_operands : FramedFunction → Op → List Operand → List Operand
 settled_operands f (Registers op) operands = operands
 settled_operands f (Immediate op) operands = settled_sum f operands
@@ -41,14 +42,17 @@ settled_operands f PseudoBr operands = operands
 settled_operands f PseudoCall operands = operands
 settled_operands f PseudoRet operands = operands
 
+-- code names the objects that its addresses lead to
 abbrev pub settled_kind : FramedFunction → ItemKind → ItemKind
 settled_kind f (Code c k) = Code (record c { operands = settled_operands f c.op c.operands }) k
 settled_kind f (Mark v m) = Mark v m
 settled_kind f (Phi p k) = Phi p k
 
+-- an item that does, with its origin and its debug location as they were
 abbrev pub settled_item : FramedFunction → Item → Item
 settled_item f i = record i { kind = settled_kind f i.kind }
 
+-- a block that does, as a listing shows it
 abbrev pub settled : FramedFunction → Block → Block
 settled f b = record b { items = map (settled_item f) b.items }
 
@@ -68,6 +72,7 @@ LeadsInside objects (Calls name args) = Unit {0}
 LeadsInside objects (Returns results) = Unit {0}
 LeadsInside objects Unfit = Unit {0}
 
+-- code whose address of an object leads to one of its bytes, which a listing shows by the same object
 abbrev pub StaysInside : List Object → ItemKind → Type 0
 StaysInside objects (Code c k) = LeadsInside objects (row_of c)
 StaysInside objects (Mark v m) = Unit {0}

@@ -31,6 +31,7 @@ pub record GoesTo (gives : CallEvent → Reply → Type 0) (image : Image) (take
   pub left : to.script ≡ rest
   pub given : All (WasGiven gives) taken
 
+-- from each state that h stands for, on each image of the code, the machine steps so to one that now stands for
 abbrev pub StepLeads : (gives : CallEvent → Reply → Type 0) → LaidCode → (h now : Hart) → List Reply → Type 0
 StepLeads gives c h now taken = (image : Image) (s : Machine) (rest : List Reply) → ShowsCode c image → StandsFor h s → s.script ≡ taken ++ rest →
     GoesTo gives image taken rest now s

@@ -10,6 +10,7 @@ use Rattle.meta_reader.specs.Metadata.{file_of_scope_at, subprogram_at}
 use Rattle.meta_reader.specs.declared.node.FileNode.{FileNode}
 use Rattle.source_lines.specs.declared.file.SourceFile.{SourceFile}
 
+-- the file that a DIFile node names
 abbrev pub file_of_node : FileNode → SourceFile
 file_of_node n = record { name = named n.name; dir = named n.dir }
 
@@ -17,6 +18,7 @@ file_of_node n = record { name = named n.name; dir = named n.dir }
 abbrev pub no_file : SourceFile
 no_file = record { name = []; dir = [] }
 
+-- the file of a node, or another where no node is readable
 abbrev pub file_or : Option FileNode → SourceFile → SourceFile
 file_or None other = other
 file_or (Some n) other = file_of_node n

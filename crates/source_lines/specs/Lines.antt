@@ -27,6 +27,7 @@ pub record SourceLine : Type 0 where
 abbrev pub no_line : ScopeLine
 no_line = record { line = 0; column = 0; scope = None }
 
+-- what a DILocation node says: its line, its column and its scope
 abbrev pub node_line : Option LocationNode → ScopeLine
 node_line None = no_line
 node_line (Some l) = record { line = l.line; column = l.column; scope = l.scope }
@@ -41,6 +42,7 @@ scope_line meta (Inline l) = record { line = l.line; column = l.column; scope = 
 abbrev pub scope_file : Maps → (unit : SourceFile) → Option ℕ → SourceFile
 scope_file meta unit scope = file_or (option_and_then (file_of_scope_at meta) scope) unit
 
+-- a line as a place in the source, in the file of its scope
 abbrev pub in_file : Maps → (unit : SourceFile) → ScopeLine → SourceLine
 in_file meta unit l = record { file = scope_file meta unit l.scope; line = l.line; column = l.column }
 
@@ -48,6 +50,7 @@ in_file meta unit l = record { file = scope_file meta unit l.scope; line = l.lin
 abbrev pub line_at : Maps → (unit : SourceFile) → Loc → SourceLine
 line_at meta unit loc = in_file meta unit (scope_line meta loc)
 
+-- the debug location of code. A mark or a phi has no address, and what follows it counts
 abbrev pub loc_if_code : ItemKind → (own others : Loc) → Loc
 loc_if_code (Code i k) own others = own
 loc_if_code (Mark v m) own others = others

@@ -16,6 +16,7 @@ row_of_line files address l = record { address = address; file = number_in files
 abbrev pub is_place : Row → Row → Bool
 is_place r s = nat_eq r.file s.file && (nat_eq r.line s.line && nat_eq r.column s.column)
 
+-- a row is of the place of the row before it, if there is one
 abbrev pub is_place_before : Option Row → Row → Bool
 is_place_before None r = false
 is_place_before (Some before) r = is_place before r

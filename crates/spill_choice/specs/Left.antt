@@ -25,6 +25,7 @@ or_no_slot None (Some n) = None
 abbrev pub why_left : Function → (live : ℕ → Bool) → List Home → ℕ → Option Reason
 why_left f live homes r = cond (is_named f r) (or_no_slot (reason_of f live r) (slot_of homes r)) None
 
+-- the loss of a register that isn't spilled, if there is a reason
 abbrev pub loss_for : ℕ → Option Reason → Option Loss
 loss_for r None = None
 loss_for r (Some why) = Some (register_lost r why)

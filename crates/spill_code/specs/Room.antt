@@ -15,8 +15,10 @@ KindHasRoom s (Code i k) o = (n : ℕ) → first_defined s.homes i.operands ≡ 
 KindHasRoom s (Mark v m) o = Unit {0}
 KindHasRoom s (Phi p k) o = Unit {0}
 
+-- the store that spilling puts below the item, if any, has an index
 abbrev pub HasRoom : Spilling → Item → Type 0
 HasRoom s i = KindHasRoom s i.kind i.origin
 
+-- all items of the blocks have room for their stores
 abbrev pub HaveRoom : Spilling → List Block → Type 0
 HaveRoom s blocks = All (λ b. All (HasRoom s) b.items) blocks

@@ -17,6 +17,7 @@ use Rattle.spill_code.specs.declared.spilling.Home.{Home}
 use Rattle.spill_code.specs.declared.spilling.Spilling.{Spilling}
 use Rattle.spill_code.specs.Rewrite.{slot_of}
 
+-- one of the two scratch registers, which reloads and spills overwrite
 abbrev pub is_scratch : Spilling → ℕ → Bool
 is_scratch s r = nat_eq r s.first || nat_eq r s.second
 
@@ -24,6 +25,7 @@ is_scratch s r = nat_eq r s.first || nat_eq r s.second
 abbrev pub value_left : Spilling → ℕ → MarkValue
 value_left s r = cond (is_scratch s r) Nothing (At r)
 
+-- a place that is a scratch register
 abbrev pub is_scratch_place : Spilling → Place → Bool
 is_scratch_place s (Register r) = is_scratch s r
 is_scratch_place s (Slot n) = false
@@ -43,6 +45,8 @@ abbrev pub mark_asked : Spilling → (k : ℕ) → VarId → (r : ℕ) → (home
 mark_asked s k v r None o l = item (Mark v (value_left s r)) o l ∷ []
 mark_asked s k v r (Some n) o l = phi_and_mark k v r o l
 
+-- what stands for an item: a mark of a spilled register asks by a phi, marks and phis of scratch registers
+-- give nothing, and all else stays
 abbrev pub kind_asked : Spilling → (k : ℕ) → ItemKind → Origin → Loc → List Item
 kind_asked s k (Code i n) o l = item (Code i n) o l ∷ []
 kind_asked s k (Phi p n) o l = item (Phi (place_left s p) n) o l ∷ []
@@ -70,14 +74,17 @@ abbrev pub number_behind : List Home → (k : ℕ) → List Item → ℕ
 number_behind homes k [] = k
 number_behind homes k (x ∷ xs) = number_behind homes (next_number homes k x.kind) xs
 
+-- the items of a block so, where the next fresh number is k
 abbrev pub items_asked : Spilling → (k : ℕ) → List Item → List Item
 items_asked s k [] = []
 items_asked s k (x ∷ xs) = kind_asked s k x.kind x.origin x.loc ++ items_asked s (next_number s.homes k x.kind) xs
 
+-- the next fresh number behind blocks
 abbrev pub number_beyond : List Home → (k : ℕ) → List Block → ℕ
 number_beyond homes k [] = k
 number_beyond homes k (b ∷ bs) = number_beyond homes (number_behind homes k b.items) bs
 
+-- the blocks so, with fresh numbers from k on in the order of the text
 abbrev pub blocks_asked : Spilling → (k : ℕ) → List Block → List Block
 blocks_asked s k [] = []
 blocks_asked s k (b ∷ bs) =

@@ -21,6 +21,7 @@ use Rattle.spill_code.specs.declared.spilling.Spilling.{Spilling}
 use Rattle.spill_code.specs.Rewrite.{slot_of}
 use Rattle.spill_marks.specs.Asked.{is_scratch}
 
+-- the loss of the mark whose origin has this position
 abbrev pub mark_from : Pos → Reason → Loss
 mark_from p why = record { what = lost.Mark p; reason = why }
 
@@ -45,22 +46,28 @@ AreScratchLosses s blocks losses = (l : Loss) → Contains losses l ↔ ((i : It
 
 -- ---- as they are looked for
 
+-- the number of a phi of a scratch register
 abbrev pub number_silenced : Spilling → ItemKind → Option ℕ
 number_silenced s (Phi (Some (Register r)) k) = cond (is_scratch s r) (Some k) None
 number_silenced s _ = None
 
+-- the position of the origin of a mark of a scratch register
 abbrev pub mark_silenced : Spilling → ItemKind → Origin → Option Pos
 mark_silenced s (Mark v (At r)) o = cond (is_silent s r (slot_of s.homes r)) (Some (position_of o)) None
 mark_silenced s _ o = None
 
+-- the numbers of such phis among items
 abbrev pub numbers_silenced : Spilling → List Item → List ℕ
 numbers_silenced s items = filter_map (λ i. number_silenced s i.kind) items
 
+-- the positions of such marks among items
 abbrev pub marks_silenced : Spilling → List Item → List Pos
 marks_silenced s items = filter_map (λ i. mark_silenced s i.kind i.origin) items
 
+-- the numbers that a function's blocks lose to scratch registers
 abbrev pub all_numbers_silenced : Spilling → List Block → List ℕ
 all_numbers_silenced s blocks = flat_map (λ b. numbers_silenced s b.items) blocks
 
+-- the positions of the marks that they lose to scratch registers
 abbrev pub all_marks_silenced : Spilling → List Block → List Pos
 all_marks_silenced s blocks = flat_map (λ b. marks_silenced s b.items) blocks

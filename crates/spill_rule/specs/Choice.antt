@@ -23,6 +23,7 @@ use Rattle.spill_code.specs.Rewrite.{spilled_blocks}
 
 -- ---- what prevents it
 
+-- the item is no item of the source, but was added before one
 abbrev pub is_added : Origin → Bool
 is_added (Before p) = true
 is_added (Kept p) = false
@@ -31,6 +32,7 @@ is_added (Kept p) = false
 abbrev pub binds : ℕ → Item → Bool
 binds r i = names r i.kind && (calls i.kind || is_added i.origin)
 
+-- some call or added code names the register, so that it can't be spilled
 abbrev pub is_bound : Function → ℕ → Bool
 is_bound f r = list_any (binds r) (items_of f.blocks)
 
@@ -50,6 +52,7 @@ row_goes n (Calls name args) = false
 row_goes n (Returns results) = false
 row_goes n Unfit = false
 
+-- code that is a branch or a jump to the block
 abbrev pub goes : ℕ → ItemKind → Bool
 goes n (Code i k) = row_goes n (row_of i)
 goes n (Mark v m) = false
@@ -68,6 +71,7 @@ lacks_scratch f = nat_lt (length (scratch_of f)) 2
 abbrev pub reason_of : Function → (live : ℕ → Bool) → ℕ → Option Reason
 reason_of f live r = cond (lacks_scratch f) (Some NoScratch) (cond (is_bound f r) (Some CallNamed) (cond (live r && is_looped f) (Some EntryLoop) None))
 
+-- no reason keeps the register from being spilled
 abbrev pub is_free : Option Reason → Bool
 is_free None = true
 is_free (Some why) = false
@@ -96,6 +100,7 @@ abbrev pub homes_from : (slot : ℕ) → List ℕ → List Home
 homes_from n [] = []
 homes_from n (r ∷ rs) = record { register = r; slot = n } ∷ homes_from (n + 1) rs
 
+-- the registers that are spilled, each with a new slot above all that the function has
 abbrev pub homes_of : (reserve : List ℕ) (live : ℕ → Bool) → Function → List Home
 homes_of reserve live f = homes_from (next_slot f.slots) (chosen reserve live f)
 
@@ -104,10 +109,12 @@ abbrev pub first_scratch : List ℕ → ℕ
 first_scratch [] = 0
 first_scratch (a ∷ rest) = a
 
+-- the second scratch register, or 0 where there is none
 abbrev pub second_scratch : List ℕ → ℕ
 second_scratch [] = 0
 second_scratch (a ∷ rest) = first_scratch rest
 
+-- the scratch registers and the homes that the rule chooses for a function
 abbrev pub spilling_of : (reserve : List ℕ) (live : ℕ → Bool) → Function → Spilling
 spilling_of reserve live f = record {
   first = first_scratch (scratch_of f);

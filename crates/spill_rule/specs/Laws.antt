@@ -116,6 +116,7 @@ agreeing P true false h k = sym (k.1 (h.0 refl))
 agreeing P false true h k = h.1 (k.0 refl)
 agreeing P false false h k = refl
 
+-- of one function spilling makes one: two that decide liveness of the reserve choose the same homes
 pub one_spilled : (reserve : List ℕ) → HasOneResult (IsSpilled reserve)
 one_spilled reserve f g h (live, decides, e) (live', decides', e') =
     e ∙ spilled_same reserve f live live' (λ r k. agreeing (IsLiveIn f r) (live r) (live' r) (decides r k) (decides' r k)) ∙ sym e'
@@ -349,6 +350,7 @@ spilled_placeless reserve live f =
       blocks = blocks_placeless (spilling_of reserve live f) (entry_of live (homes_of reserve live f)) f.blocks i;
     })
 
+-- it sees no positions
 pub same_spilled : (reserve : List ℕ) → SeesCodeAlone (IsSpilled reserve)
 same_spilled reserve f f' g g' alike (live, decides, e) (live', decides', e') =
     ap placeless e ∙ sym (spilled_placeless reserve live f) ∙ ap placeless (spilled_same reserve (placeless f) live live' agree) ∙

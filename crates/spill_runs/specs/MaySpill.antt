@@ -23,6 +23,7 @@ uses_in [] = []
 uses_in (Use r ∷ os) = r ∷ uses_in os
 uses_in (_ ∷ os) = uses_in os
 
+-- the registers that explicit definitions set
 abbrev pub defs_in : List Operand → List ℕ
 defs_in [] = []
 defs_in (Def r ∷ os) = r ∷ defs_in os

@@ -11,6 +11,7 @@ use Rattle.mir_func.specs.Resolve.{entry_of}
 abbrev pub key_of : OperandPair → ℕ × ℕ
 key_of q = (q.number, q.operand)
 
+-- both are keys of the same pair
 abbrev pub is_key : ℕ × ℕ → ℕ × ℕ → Bool
 is_key p q = nat_eq p.0 q.0 && nat_eq p.1 q.1
 

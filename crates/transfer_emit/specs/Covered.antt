@@ -39,5 +39,6 @@ abbrev pub AscendTo : List Range → Option Open → (address : ℕ) → Type 0
 AscendTo ranges None a = Ascend ranges × All (λ r. r.hi < a) ranges
 AscendTo ranges (Some o) a = Ascend (ranges ++ range o.lo (suc o.lo) o.location ∷ []) × (o.lo < a)
 
+-- what a walk up to an address has written of a variable is in order
 abbrev pub IsTrackTo : Track → (address : ℕ) → Type 0
 IsTrackTo t a = AscendTo t.ranges t.present a

@@ -14,37 +14,45 @@ use Rattle.mir_func.specs.declared.variable.VarId.{VarId}
 use Rattle.mir_func.specs.Parts.{IsPart}
 use Rattle.mir_printer.specs.Printable.{IsNumber, HasNumbers, IsPrintableValue, IsPrintableLoc}
 
+-- an instruction in the form of its opcode, whose operands' numbers fit their types
 pub record IsTypedCode (i : Instruction) : Type 0 where
   pub form : IsTrue (has_form i.op i.operands)
   pub numbers : All HasNumbers i.operands
 
+-- a variable whose node fits its type, and whose fragment, if any, may be a part (`DW_OP_LLVM_fragment`)
 pub record IsTypedVariable (v : VarId) : Type 0 where
   pub node : IsNumber v.node
   pub part : IfSome v.fragment IsPart
 
+-- a place whose register or slot fits its type
 abbrev pub IsTypedPlace : Place → Type 0
 IsTypedPlace (Register r) = IsNumber r
 IsTypedPlace (Slot n) = IsNumber n
 IsTypedPlace (Const c) = Unit {0}
 
+-- code, a mark (`DBG_VALUE`, `DBG_INSTR_REF`) or a phi (`DBG_PHI`) whose numbers fit their types
 abbrev pub IsTypedKind : ItemKind → Type 0
 IsTypedKind (Code i k) = IsTypedCode i × IfSome k IsNumber
 IsTypedKind (Mark v m) = IsTypedVariable v × IsPrintableValue m
 IsTypedKind (Phi p k) = IfSome p IsTypedPlace × IsNumber k
 
+-- an item so, whose debug location's numbers fit theirs
 pub record IsTypedItem (i : Item) : Type 0 where
   pub kind : IsTypedKind i.kind
   pub loc : IsPrintableLoc i.loc
 
+-- a block of such items, whose number and silent index fit their types
 pub record IsTypedBlock (b : Block) : Type 0 where
   pub id : IsNumber b.id
   pub silent : IsNumber b.silent
   pub items : All IsTypedItem b.items
 
+-- a pair of debug instruction number and operand index that fit their types
 pub record IsTypedPair (q : OperandPair) : Type 0 where
   pub number : IsNumber q.number
   pub operand : IsNumber q.operand
 
+-- an entry of `debugValueSubstitutions` whose pairs and subregister fit their types
 pub record IsTypedEntry (e : Entry) : Type 0 where
   pub src : IsTypedPair e.src
   pub dst : IsTypedPair e.dst

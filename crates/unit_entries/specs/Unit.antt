@@ -16,6 +16,7 @@ use Rattle.source_lines.specs.Files.{first_uses}
 use Rattle.source_lines.specs.Program.{program_file}
 use Rattle.unit_entries.specs.Variables.{variables_of_function}
 
+-- a node, where what stands there is read as a DIBasicType
 abbrev pub if_type : Option BaseTypeNode → (node : ℕ) → Option ℕ
 if_type None node = None
 if_type (Some t) node = Some node
@@ -24,10 +25,12 @@ if_type (Some t) node = Some node
 abbrev pub readable_type : Maps → Option ℕ → Option ℕ
 readable_type meta base = option_and_then (λ node. if_type (base_type_at meta node) node) base
 
+-- the node in a list, where there is one
 abbrev pub listed : Option ℕ → List ℕ
 listed None = []
 listed (Some node) = node ∷ []
 
+-- the base type that a DILocalVariable node names, in a list; none where either of them isn't readable
 abbrev pub node_uses : Maps → Option VariableNode → List ℕ
 node_uses meta None = []
 node_uses meta (Some d) = listed (readable_type meta d.base)
@@ -64,6 +67,7 @@ function_variables f = variables_of_function f.source.now.blocks
 abbrev pub code_length : Compiled → ℕ
 code_length f = 4 * length f.code.now.words
 
+-- what the function's DW_TAG_subprogram says, with its variables' lists numbered from a number on
 abbrev pub function_entry : Maps → (types : List ℕ) → (list : ℕ) → Compiled → FunctionEntry
 function_entry meta types k f = record {
   name = f.source.now.name;
@@ -90,6 +94,7 @@ abbrev pub base_entry : Option BaseTypeNode → BaseEntry
 base_entry None = record { name = []; size = 0; encoding = 0 }
 base_entry (Some t) = record { name = t.name; size = min t.size 255; encoding = t.encoding }
 
+-- the base types that the unit has entries of, one for each node
 abbrev pub base_entries : Maps → (types : List ℕ) → List BaseEntry
 base_entries meta types = map (λ node. base_entry (base_type_at meta node)) types
 
