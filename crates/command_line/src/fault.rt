@@ -7,37 +7,27 @@ ghost use Rattle.command_line.specs.declared.fault.Fault.TheVariants.{Memory};
 use crate::status::Status;
 use refusal::first::Refusal;
 use std::alloc::AllocError;
-use thiserror::Error;
 
 /// Why a run didn't come to its end.
-#[derive(Clone, Copy, Debug, PartialEq, Eq, Error)]
+#[derive(Clone, Copy, Debug, PartialEq, Eq)]
 pub enum Fault {
     /// The words are no command.
-    #[error("the words are no command")]
     Usage,
     /// Reading the input failed.
-    #[error("reading failed")]
     Read,
     /// The input has more bytes than the limit.
-    #[error("more bytes than the limit")]
     TooLong,
     /// A line of the input is refused.
-    #[error("line {} is refused: {}", .0.line, .0.kind.name())]
     Refused(Refusal),
     /// The input has no function.
-    #[error("no function")]
     NoFunction,
     /// The frame of a function would have more than 2,032 bytes.
-    #[error("a frame is too large")]
     FrameTooLarge,
     /// A section of the output would have 2^31 bytes or more.
-    #[error("a section is too large")]
     SectionTooLarge,
     /// Writing the output failed.
-    #[error("writing failed")]
     Write,
     /// Memory ran out.
-    #[error("out of memory")]
     Memory,
 }
 
