@@ -83,7 +83,7 @@ fn push_long(
     requires { address < 2 ^ 33 }
     ensures { (p : Pos) → point.now ≡ point_of p →
         OnOk result (entries.new ≡ entries.old ++ (entry address 4 (added_before origin.now) p false ∷ entry
-            (address + 4) 4 origin.now p false ∷ [])) }
+        (address + 4) 4 origin.now p false ∷ [])) }
 {
     entries.push(word_entry(address, &added_before(origin), point))?;
     entries.push(word_entry(address + 4, origin, point))

@@ -198,10 +198,12 @@ module _ (f : Function) (sound : IsSound f) (subs : List Entry) where
         ((k : ℕ) (l : Line) → slice_get ms k ≡ Some l → slice_get ls (n + k) ≡ Some l) → BecomeAll copy_debug_rule made b.id n xs (all_now ms)
     become_all j b ls at at' lines n xs ms no_lines here here' = over
     become_all j b ls at at' lines n (x ∷ xs) (l ∷ ms) (next_line h rest) here here' =
-        next (becomes (record { block = b.id; item = n }) x l (record { stands = ap (λ (zs : List Line). slice_get zs n) (ledger_is j b ls at at') ∙
-            line_here }) h
+        next (becomes (record { block = b.id; item = n }) x l (record {
+          stands = ap (λ (zs : List Line). slice_get zs n) (ledger_is j b ls at at') ∙
+              line_here;
+        }) h
         (λ c e. removed j n b ls x l at at' lines item_here line_here c e))
-            (become_all j b ls at at' lines (suc n) xs ms rest (later (x ∷ xs) xs here) (later_line here')) where
+        (become_all j b ls at at' lines (suc n) xs ms rest (later (x ∷ xs) xs here) (later_line here')) where
           item_here : slice_get b.items n ≡ Some x
           item_here = let z : n + 0 ≡ n = omega arith in sym (ap (slice_get b.items) z) ∙ here 0 x refl
 

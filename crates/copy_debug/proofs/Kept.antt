@@ -332,8 +332,13 @@ copies_keep f subs sound =
     let entries : List Entry = salvaged_entries f subs in
     let c : Change = change f subs new entries in
     let m : Made f subs (begins f subs) f.blocks = through f subs f.blocks (begins f subs)
-    (record { ready = ready_at_start f subs sound; more = []; is = sym (append-nil subs); stand = All-nil
-        (Stands [] [] [] (map renamed_block f.blocks) subs) }) in
+    (record {
+      ready = ready_at_start f subs sound;
+      more = [];
+      is = sym (append-nil subs);
+      stand = All-nil
+          (Stands [] [] [] (map renamed_block f.blocks) subs);
+    }) in
     let kept : KeepsItems copy_debug_rule c [] = record {
       blocks = all_become f sound subs m.news (all_lines (begins f subs) f.blocks) m.are m.is
           (λ j b ls here here'. lines_at f.blocks (begins f subs) sound.blocks_apart j b ls here here');

@@ -62,7 +62,7 @@ lines_by_fate ls a x Stays = ls ++ line (x ∷ []) None ∷ []
 lines_by_fate ls a x Goes = ls ++ line [] None ∷ []
 lines_by_fate ls a x (GoesWith k s) =
     lines_above (way [] a.subs a.fresh k s a.done) ls ++ line (put_for (way [] a.subs a.fresh k s a.done) k s x.origin)
-        (phi_of (way [] a.subs a.fresh k s a.done) s) ∷ []
+    (phi_of (way [] a.subs a.fresh k s a.done) s) ∷ []
 
 -- one more item, which is renamed by what is known above it
 abbrev pub next_lines : List Line → SoFar → Item → List Line

@@ -58,7 +58,7 @@ module _ {X : Type 0} where
   behind_swap xs kept at x le lt is =
       ap (drop (at + 1)) (sym (swap_is xs kept at x (omega (arith, le, lt)) lt)) ∙
       drop-set-lt (at + 1) (set xs kept (get_or xs at x)) at (get_or xs kept x) (omega arith) ∙ drop-set-lt (at + 1) xs kept (get_or xs at x)
-          (omega (arith, le))
+      (omega (arith, le))
 
   -- once it is written
   pub written_up : (xs : List X) (kept at : ℕ) (x : X) → kept ≤ at → at < length xs → take (kept + 1) (swap (set xs at x) kept at) ≡ take kept xs ++ x ∷ []
@@ -158,7 +158,7 @@ module _ (xs : List Item) (kept at : ℕ) (subs : List Entry) (fresh : ℕ) (roo
       let front : take kept (set xs at y) ≡ take kept xs = take-set-le kept xs at y le in
       subst (λ (z : Fate). Stands (by_fate so_far y z) more (at + 1) zs xs roots subs' fresh') (sym fate)
       (subst (λ (ys : List Item). Stands (salvaged (record { done = ys; roots = roots; subs = subs; fresh = fresh }) k s y.origin (way [] subs fresh k s ys))
-          more
+      more
       (at + 1) zs xs roots subs' fresh') front (record {
         done = h.done;
         behind = h.behind ∙ drop-set-lt (at + 1) xs at y (omega arith);

@@ -84,8 +84,12 @@ fn next_item(
     requires at { at < length items.old.items }
     requires fresh { fresh.old < 2 ^ 31 }
     ensures stands { IfOk result (λ more. (x : Item) → x ≡ slice_index_or items.old.items at x →
-        Stands (next_item (record { done = take kept items.old.items; roots = roots.old.items; subs = subs.old;
-            fresh = fresh.old }) x)
+        Stands (next_item (record {
+          done = take kept items.old.items;
+          roots = roots.old.items;
+          subs = subs.old;
+          fresh = fresh.old;
+        }) x)
         more (at + 1) items.new.items items.old.items roots.new.items subs.new fresh.new) }
     ensures counted { OnOk result (fresh.new ≤ fresh.old + 1) }
 {
@@ -115,8 +119,13 @@ fn take_out(
     requires at { at < length items.old.items }
     requires fresh { fresh.old < 2 ^ 31 }
     ensures stands { IfOk result (λ more. (x : Item) (roots : List Root) → x ≡ slice_index_or items.old.items at x →
-        Stands (salvaged (record { done = take kept items.old.items; roots = roots; subs = subs.old; fresh =
-            fresh.old }) number source x.origin
+        Stands (salvaged (record {
+          done = take kept items.old.items;
+          roots = roots;
+          subs = subs.old;
+          fresh =
+              fresh.old;
+        }) number source x.origin
         (way [] subs.old fresh.old number source (take kept items.old.items)))
         more (at + 1) items.new.items items.old.items roots subs.new fresh.new) }
     ensures counted { OnOk result (fresh.new ≤ fresh.old + 1) }

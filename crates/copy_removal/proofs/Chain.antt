@@ -108,7 +108,7 @@ number_most subs fresh k s done d o n h e = by_own e.own refl e.number where
       let w = split_at done d n x (e.stands ∙ (λ j. Some (item (Code e.i (is j)) e.origin e.loc))) in
       let all : AreUnder fresh (w.above ++ x ∷ w.behind) = subst (AreUnder fresh) w.whole h in
       let lt : m < fresh = All-head (λ (y : Item). KindUnder fresh y.kind) x w.behind
-          (all_second (λ (y : Item). KindUnder fresh y.kind) w.above (x ∷ w.behind) all) in
+      (all_second (λ (y : Item). KindUnder fresh y.kind) w.above (x ∷ w.behind) all) in
       omega (arith, same, lt)
 
 record NextFresh (fresh n next : ℕ) : Type 0 where
@@ -161,8 +161,13 @@ module _ (f : Function) (above : List Block) (id silent : ℕ) (behind : List Bl
 
   it_stays : (a : SoFar) (k : ItemKind) (o : Origin) (l : Loc) (rest : List Item) → goes a.roots (renamed_kind a.roots k) ≡ false →
       Ready a (item (renamed_kind a.roots k) o l ∷ rest) →
-      Went a (record { done = a.done ++ item (renamed_kind a.roots k) o l ∷ []; roots = roots_with (renamed_kind a.roots k) a.roots; subs = a.subs; fresh =
-          a.fresh })
+      Went a (record {
+        done = a.done ++ item (renamed_kind a.roots k) o l ∷ [];
+        roots = roots_with (renamed_kind a.roots k) a.roots;
+        subs = a.subs;
+        fresh =
+            a.fresh;
+      })
       (item (renamed_kind a.roots k) o l) rest
   it_stays a k o l rest out r =
       let x : Item = item (renamed_kind a.roots k) o l in
@@ -322,7 +327,7 @@ module _ (f : Function) (above : List Block) (id silent : ℕ) (behind : List Bl
         follows = then (fn (a.done ++ y ∷ renamed_items known xs)) (fn (b.done ++ renamed_items known xs)) (fn ((over_items b xs).done ++ [])) a.subs b.subs
             (over_items b xs).subs one.follows
             (subst (λ (e : List Root). KeepsLoosely (change (fn (b.done ++ renamed_items e xs)) b.subs (fn ((over_items b xs).done ++ []))
-                (over_items b xs).subs)) same
+            (over_items b xs).subs)) same
             more.follows);
       }
 

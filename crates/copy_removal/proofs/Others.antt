@@ -20,7 +20,7 @@ blocks_unlike k [] h = All-nil (λ (b : Block). All (λ (x : Item). IsUnlike k x
 blocks_unlike k (b ∷ bs) h =
     All-cons (λ (c : Block). All (λ (x : Item). IsUnlike k x.kind) c.items) b bs
     (all_first (λ (x : Item). IsUnlike k x.kind) b.items (items_of bs) h)
-        (blocks_unlike k bs (all_second (λ (x : Item). IsUnlike k x.kind) b.items (items_of bs) h))
+    (blocks_unlike k bs (all_second (λ (x : Item). IsUnlike k x.kind) b.items (items_of bs) h))
 
 pub flat_unlike : (k : ℕ) (bs : List Block) → BlocksUnlike k bs → AreUnlike k (items_of bs)
 flat_unlike k [] h = All-nil (λ (x : Item). IsUnlike k x.kind)

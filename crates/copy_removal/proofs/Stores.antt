@@ -206,60 +206,62 @@ module _ (fs : List Block) (apart : AreApart (ids_of fs)) (resolve : OperandPair
             (r : Pos) × (z : Item) × IsMetApart hp p a.silent r z
         by_meeting q j m y here beside = by_blocks (from_block fs q.block) refl m.0
             (sym (ap (λ (bs : List Block). fetch_in bs q.item) (from_selfed fs q.block)) ∙ here) where
-          by_blocks : (bs : List Block) → from_block fs q.block ≡ bs → fetch_in bs q.item ≡ Here j → fetch_in (map selfed_block (from_block fs q.block))
-              q.item ≡ Here y →
-              (r : Pos) × (z : Item) × IsMetApart hp p a.silent r z
-          by_blocks [] is e e' = cc
-          by_blocks (b ∷ bs) is e e' =
-              let k = found_in fs q.block b bs is in
-              let old : slice_get b.items q.item ≡ Some j = front_item b.items q.item b.silent bs j e in
-              let e2 : fetch_in (map selfed_block (b ∷ bs)) q.item ≡ Here y = sym (ap (λ (cs : List Block). fetch_in (map selfed_block cs) q.item) is) ∙ e' in
-              let new : slice_get (selfed_items [] b.items) q.item ≡ Some y = front_item (selfed_items [] b.items) q.item b.silent (map selfed_block bs) y e2 in
-              by_counts k.0 k.1 (counts_or b.items [] clean_none q.item j y old new m.1) where
-                by_counts : Contains fs b → b.id ≡ q.block → OnRow Counts y.kind ⊎ (IsSome [] ⊎ Witness b.items (selfed_items [] b.items) q.item) →
-                    (r : Pos) × (z : Item) × IsMetApart hp p a.silent r z
-                by_counts inside id (inl counts) = (
-                  q,
-                  y,
-                  (
-                    here,
-                    counts,
-                    (λ e. m.2 (ap position_of (sym beside.origin) ∙ e)),
-                    elim m.3 as (λ _. ((q.block ≡ p.block) × (q.item < p.item)) ⊎ Leads hp p q) [ inl up ↦ inl up | inr l ↦ inr (leads_alike l) ],
-                  ),
-                )
-                by_counts inside id (inr (inl none)) = absurd (let bad : [] ≡ none.first ∷ none.rest = none.is in cc)
-                by_counts inside id (inr (inr w)) =
-                    let r : Pos = record { block = q.block; item = w.index } in
-                    let fetched : hp.fetch r ≡ Here w.new =
-                    ap (λ (cs : List Block). fetch_in cs w.index) (from_selfed fs q.block ∙ ap (map selfed_block) is) ∙
-                    item_front (selfed_items [] b.items) w.index b.silent (map selfed_block bs) w.new w.at_new in (
-                      r,
-                      w.new,
+              by_blocks : (bs : List Block) → from_block fs q.block ≡ bs → fetch_in bs q.item ≡ Here j → fetch_in (map selfed_block (from_block fs q.block))
+                  q.item ≡ Here y →
+                  (r : Pos) × (z : Item) × IsMetApart hp p a.silent r z
+              by_blocks [] is e e' = cc
+              by_blocks (b ∷ bs) is e e' =
+                  let k = found_in fs q.block b bs is in
+                  let old : slice_get b.items q.item ≡ Some j = front_item b.items q.item b.silent bs j e in
+                  let e2 : fetch_in (map selfed_block (b ∷ bs)) q.item ≡ Here y = sym (ap (λ (cs : List Block). fetch_in (map selfed_block cs) q.item)
+                  is) ∙ e' in
+                  let new : slice_get (selfed_items [] b.items) q.item ≡ Some y =
+                  front_item (selfed_items [] b.items) q.item b.silent (map selfed_block bs) y e2 in
+                  by_counts k.0 k.1 (counts_or b.items [] clean_none q.item j y old new m.1) where
+                    by_counts : Contains fs b → b.id ≡ q.block → OnRow Counts y.kind ⊎ (IsSome [] ⊎ Witness b.items (selfed_items [] b.items) q.item) →
+                        (r : Pos) × (z : Item) × IsMetApart hp p a.silent r z
+                    by_counts inside id (inl counts) = (
+                      q,
+                      y,
                       (
-                        fetched,
-                        w.counts,
-                        far,
-                        where_from m.3,
+                        here,
+                        counts,
+                        (λ e. m.2 (ap position_of (sym beside.origin) ∙ e)),
+                        elim m.3 as (λ _. ((q.block ≡ p.block) × (q.item < p.item)) ⊎ Leads hp p q) [ inl up ↦ inl up | inr l ↦ inr (leads_alike l) ],
                       ),
-                    ) where
-                      far : position_of w.new.origin ≡ record { block = p.block; item = a.silent } → ⊥
-                      far e =
-                          let here_in : position_of w.old.origin ≡ record { block = p.block; item = a.silent } = ap position_of (sym w.origin) ∙ e in
-                          let in_old : Contains b.items w.old = of_get b.items w.index w.old w.at in
-                          let block_is : (position_of w.old.origin).block ≡ b.id = home b w.old inside in_old in
-                          let ids : b.id ≡ a.id = sym block_is ∙ ap (λ (z : Pos). z.block) here_in ∙ same in
-                          let one : b ≡ a = one_block b a inside member ids in
-                          move_far b w.old inside in_old w.move
-                          (here_in ∙ (λ i. record { block = (same ∙ sym ids) i; item = ap (λ (z : Block). z.silent) (sym one) i }))
+                    )
+                    by_counts inside id (inr (inl none)) = absurd (let bad : [] ≡ none.first ∷ none.rest = none.is in cc)
+                    by_counts inside id (inr (inr w)) =
+                        let r : Pos = record { block = q.block; item = w.index } in
+                        let fetched : hp.fetch r ≡ Here w.new =
+                        ap (λ (cs : List Block). fetch_in cs w.index) (from_selfed fs q.block ∙ ap (map selfed_block) is) ∙
+                        item_front (selfed_items [] b.items) w.index b.silent (map selfed_block bs) w.new w.at_new in (
+                          r,
+                          w.new,
+                          (
+                            fetched,
+                            w.counts,
+                            far,
+                            where_from m.3,
+                          ),
+                        ) where
+                          far : position_of w.new.origin ≡ record { block = p.block; item = a.silent } → ⊥
+                          far e =
+                              let here_in : position_of w.old.origin ≡ record { block = p.block; item = a.silent } = ap position_of (sym w.origin) ∙ e in
+                              let in_old : Contains b.items w.old = of_get b.items w.index w.old w.at in
+                              let block_is : (position_of w.old.origin).block ≡ b.id = home b w.old inside in_old in
+                              let ids : b.id ≡ a.id = sym block_is ∙ ap (λ (z : Pos). z.block) here_in ∙ same in
+                              let one : b ≡ a = one_block b a inside member ids in
+                              move_far b w.old inside in_old w.move
+                              (here_in ∙ (λ i. record { block = (same ∙ sym ids) i; item = ap (λ (z : Block). z.silent) (sym one) i }))
 
-                      where_from : ((q.block ≡ p.block) × (q.item < p.item)) ⊎ Leads fp p q →
-                          ((q.block ≡ p.block) × (w.index < p.item)) ⊎ Leads hp p (record { block = q.block; item = w.index })
-                      where_from (inl up) = let lt = w.above in let lt' = up.1 in inl (up.0, omega (arith, lt, lt'))
-                      where_from (inr l) = elim (passes (map selfed_block fs) resolve (leads_alike l) w.index w.above) [
-                        | inl k ↦ inl (sym k.0, k.1)
-                        | inr k ↦ inr k
-                      ]
+                          where_from : ((q.block ≡ p.block) × (q.item < p.item)) ⊎ Leads fp p q →
+                              ((q.block ≡ p.block) × (w.index < p.item)) ⊎ Leads hp p (record { block = q.block; item = w.index })
+                          where_from (inl up) = let lt = w.above in let lt' = up.1 in inl (up.0, omega (arith, lt, lt'))
+                          where_from (inr l) = elim (passes (map selfed_block fs) resolve (leads_alike l) w.index w.above) [
+                            | inl k ↦ inl (sym k.0, k.1)
+                            | inr k ↦ inr k
+                          ]
 
 -- ---- from the function between to the one after: copies of a register to itself go, and phis are put
 
@@ -391,7 +393,7 @@ blocks_laid (b ∷ bs) a hs h =
     let one = blocks_append hs a.blocks (selfed_block b ∷ []) (made ∷ []) h
     (next_block refl refl (over_laid b.items (at_block a.subs a.fresh) [] (over tt)) no_blocks) in
     subst (λ (zs : List Block). BlocksEdited loose_edits zs (over_blocks (block_next a b) bs).blocks)
-        (append_assoc hs (selfed_block b ∷ []) (map selfed_block bs))
+    (append_assoc hs (selfed_block b ∷ []) (map selfed_block bs))
     (blocks_laid bs (block_next a b) (hs ++ selfed_block b ∷ []) one)
 
 -- a block after has its like before

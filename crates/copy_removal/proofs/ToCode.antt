@@ -261,7 +261,7 @@ module _ (f : Function) (above : List Block) (id silent : ℕ) (behind : List Bl
       by_own (Some m) is same =
           once_around f above id silent behind ((up ++ giver ∷ between) ++ bare ∷ down) ((up ++ given ∷ between) ++ bare ∷ down)
           (fewer_append (fewer_behind up (giver ∷ between) (given ∷ between) (keeps (own_kept m is same) (fewer_same between))) (fewer_same (bare ∷ down)))
-              first
+          first
       by_own None is same =
           subst NumbersOnce (sym (shape given)) (once_gains (items_of above ++ up) giver given ((between ++ bare ∷ down) ++ items_of behind) n refl
           (All-append N (items_of above) up (flat_unlike n above of_giver.above) of_giver.up)

@@ -77,16 +77,16 @@ pub fn number_off(
     requires fresh { fresh.old < 2 ^ 31 }
     ensures items { OnOk result (items.new.items ≡
         items_off (way removed.now subs.old fresh.old copied.number copied.source (take at items.old.items)) at copied
-            items.old.items) }
+        items.old.items) }
     ensures entries { OnOk result (subs.new ≡
         subs.old ++ entries_for (way removed.now subs.old fresh.old copied.number copied.source
-            (take at items.old.items)) copied.number) }
+        (take at items.old.items)) copied.number) }
     ensures fresh { OnOk result (fresh.new ≡
         fresh_after (way removed.now subs.old fresh.old copied.number copied.source (take at items.old.items))
-            fresh.old) }
+        fresh.old) }
     ensures lost { OnOk result (lost.new.items ≡
         lost.old.items ++ lost_off (way removed.now subs.old fresh.old copied.number copied.source
-            (take at items.old.items)) copied) }
+        (take at items.old.items)) copied) }
 {
     let above = &items[..at];
     match choose_way(

@@ -136,10 +136,10 @@ module _ (f g : Program) (blind_f : f.sees_pointer ≡ false) (blind_g : g.sees_
   drop_code : (x y : Item) → DropPair k x y → (c d : Core) → DropCores c d → OutcomesAlike DropCores (λ t. DropCores) (do_item f x.kind c) (do_item g y.kind d)
   drop_code x y (elsewhere other) c d h =
       alike_of DropCores (λ t. DropCores) DropCores (do_item f x.kind c) (do_item g x.kind d) (λ e e' r. r) (λ t e e' go r. r)
-          (both_elsewhere x.kind c d other h)
+      (both_elsewhere x.kind c d other h)
   drop_code x y (drops {i} {p} {l}) c d h =
       alike_of DropCores (λ t. DropCores) DropCores (do_item f (Code i (Some k)) c) (do_item g (Code i None) d) (λ e e' r. r) (λ t e e' go r. r)
-          (drop_number i c d h)
+      (drop_number i c d h)
 
   drop_debug : (x y : Item) → DropPair k x y → is_code x.kind ≡ false → (c d : Core) → DropCores c d → EndAlike DropCores (do_item f x.kind c)
       (do_item g y.kind d)

@@ -80,7 +80,8 @@ fn reports_covers_and_losses(rt: HostRuntime) -> Result<(), Fail> {
     assert_eq!(rt;
         text.as_slice(),
         b"function f\nwords 2\ncover a 2 of 2\ncover v\\201 0 of 2\nlost number 2 wrong-place\nlost mark 1.0 bypassed\n\
-            kept register x18 no-scratch\n".as_slice()
+            kept register x18 no-scratch\n"
+            .as_slice()
     );
     Ok(())
 }

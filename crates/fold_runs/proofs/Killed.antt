@@ -90,7 +90,7 @@ module _ (test : ItemKind → Bool) (alike : (k l : ItemKind) → kills_same k l
     any_items (z ∷ zs) x y (zero, lt, at) h t =
         let same : by z ≡ Some y = ap by at ∙ h in
         subst (λ (o : Option Item). Any (cons_option o (filter_map by zs))) (sym same)
-            (or_left (test y.kind) (list_any (λ i. test i.kind) (filter_map by zs)) t)
+        (or_left (test y.kind) (list_any (λ i. test i.kind) (filter_map by zs)) t)
     any_items (z ∷ zs) x y (suc k, lt, at) h t = by_option (by z) (any_items zs x y (k, omega (arith, lt), at) h t) where
       by_option : (o : Option Item) → Any (filter_map by zs) → Any (cons_option o (filter_map by zs))
       by_option None a = a

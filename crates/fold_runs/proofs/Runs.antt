@@ -453,20 +453,20 @@ module _ (fold : Folding) (s : State) where
       do_removed : u ≡ v → (c d : Core) → Kin [] c d → Alike b xs [] (since_item ByEnds x) (do_item f x.kind c) (do_item g one_jump.kind d)
       do_removed uv c d h = elim (kin_branch f x t [] c d form exit h) as (λ z. Alike b xs [] (since_item ByEnds x) (do_item f x.kind c)
           (do_item g one_jump.kind d)) [
-        | inl a ↦ (let l = jumps a.0 a.2 in
-            subst (λ (o : Outcome). Alike b xs [] (since_item ByEnds x) o (do_item g one_jump.kind d)) (sym a.1)
-            (subst (λ (o : Outcome). Alike b xs [] (since_item ByEnds x) (Goes t a.0) o) (sym l.1)
-            (after_x, has_v, subst (λ (z : ℕ). To z (block_start t)) uv (arrive t was_t), on_the_way v a.0 l.0 l.2)))
-        | inr (inl a) ↦ (let l = jumps a.0 a.2 in
-            subst (λ (o : Outcome). Alike b xs [] (since_item ByEnds x) o (do_item g one_jump.kind d)) (sym a.1)
-            (subst (λ (o : Outcome). Alike b xs [] (since_item ByEnds x) (Falls a.0) o) (sym l.1)
-            (after_x, has_v, refl, leave, on_the_way v a.0 l.0 l.2)))
-        | inr (inr a) ↦ (let l = jumps c h in
-            subst (λ (o : Outcome). Alike b xs [] (since_item ByEnds x) o (do_item g one_jump.kind d)) (sym a)
-            (subst (λ (o : Outcome). Alike b xs [] (since_item ByEnds x) Traps o) (sym l.1) after_x))
-      ] where
-        jumps : (e : Core) → Kin [] e d → (d' : Core) × (do_item g one_jump.kind d ≡ Goes v d') × Kin [] e d'
-        jumps e k = kin_new_jump g one_jump.kind v [] e d (jump_form xs (below p) rest may) jump_goes k
+            | inl a ↦ (let l = jumps a.0 a.2 in
+                subst (λ (o : Outcome). Alike b xs [] (since_item ByEnds x) o (do_item g one_jump.kind d)) (sym a.1)
+                (subst (λ (o : Outcome). Alike b xs [] (since_item ByEnds x) (Goes t a.0) o) (sym l.1)
+                (after_x, has_v, subst (λ (z : ℕ). To z (block_start t)) uv (arrive t was_t), on_the_way v a.0 l.0 l.2)))
+            | inr (inl a) ↦ (let l = jumps a.0 a.2 in
+                subst (λ (o : Outcome). Alike b xs [] (since_item ByEnds x) o (do_item g one_jump.kind d)) (sym a.1)
+                (subst (λ (o : Outcome). Alike b xs [] (since_item ByEnds x) (Falls a.0) o) (sym l.1)
+                (after_x, has_v, refl, leave, on_the_way v a.0 l.0 l.2)))
+            | inr (inr a) ↦ (let l = jumps c h in
+                subst (λ (o : Outcome). Alike b xs [] (since_item ByEnds x) o (do_item g one_jump.kind d)) (sym a)
+                (subst (λ (o : Outcome). Alike b xs [] (since_item ByEnds x) Traps o) (sym l.1) after_x))
+          ] where
+            jumps : (e : Core) → Kin [] e d → (d' : Core) × (do_item g one_jump.kind d ≡ Goes v d') × Kin [] e d'
+            jumps e k = kin_new_jump g one_jump.kind v [] e d (jump_form xs (below p) rest may) jump_goes k
 
       view_removed : u ≡ v → (z : Bool) → is_number next v ≡ z → Seen b [] (x ∷ xs) (cond z [] (one_jump ∷ []))
       view_removed uv true e =

@@ -187,7 +187,7 @@ module _ (end : ℕ → ℕ) (next fall : Option ℕ) (silent : Pos) (to : ℕ) 
 
 module _ (old : List Block) (apart : Rattle.mir_func.specs.Sound.AreApart (ids_of old)) (end : ℕ → ℕ) (stays : ℕ → Bool)
     (ends : (n : ℕ) → EndsAt (lead old) n (end n)) (reached : (n : ℕ) → Reached old end n → stays n ≡ true)
-        (back : (n : ℕ) → stays n ≡ true → Reached old end n)
+    (back : (n : ℕ) → stays n ≡ true → Reached old end n)
   where
     -- a way of a block that stays ends at e
     pub record WayTo (e : ℕ) : Type 0 where
@@ -253,7 +253,7 @@ next_by_ids (x ∷ xs) (y ∷ ys) e n b c brest crest h k =
       by_test : (z : Bool) → ids_of xs ≡ ids_of ys → cond z (x ∷ xs) (Rattle.mir_func.specs.Graph.from_block xs n) ≡ b ∷ brest →
           cond z (y ∷ ys) (Rattle.mir_func.specs.Graph.from_block ys n) ≡ c ∷ crest →
           (Rattle.mir_func.specs.Graph.from_block xs n ≡ b ∷ brest → Rattle.mir_func.specs.Graph.from_block ys n ≡ c ∷ crest → first_id brest ≡ first_id
-              crest) →
+          crest) →
           first_id brest ≡ first_id crest
       by_test true tails h k later =
           let a : xs ≡ brest = cc in

@@ -147,7 +147,7 @@ module _ (fold : Folding) (src : List Block) (subs : OperandPair → Option Oper
         let q = k.0 in
         let j = k.1 in
         let home : p.block ≡ q.block = ap (λ (o : Origin). (position_of o).block) (sym k.3) ∙ from_home false (old fold) fold.resolve fold.sound.origins q j
-            k.2 in
+        k.2 in
         let s = stands_in false (old fold) fold.resolve q j k.2 in
         let member = (found_in (old fold) q.block s.block s.rest s.at).0 in
         let well = All-contains (λ (b : Block). EndsWell b.items) (old fold) s.block fold.sound.ends member in (

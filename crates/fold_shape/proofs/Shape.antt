@@ -42,9 +42,9 @@ split_put [] xs n i e = inr (n, omega arith, e)
 split_put (x ∷ ks) xs zero i e = let same : x ≡ i = cc in inl (0, omega arith, same)
 split_put (x ∷ ks) xs (suc n) i e = elim (split_put ks xs n i e) as (λ z. Contains (x ∷ ks) i ⊎
     ((k : ℕ) × (suc n ≡ suc (length ks) + k) × (slice_get xs k ≡ Some i))) [
-  | inl c ↦ inl (suc c.0, (let l = c.1 in omega (arith, l)), c.2)
-  | inr w ↦ inr (w.0, (let l = w.1 in omega (arith, l)), w.2)
-]
+      | inl c ↦ inl (suc c.0, (let l = c.1 in omega (arith, l)), c.2)
+      | inr w ↦ inr (w.0, (let l = w.1 in omega (arith, l)), w.2)
+    ]
 
 store_kind : (k : ItemKind) → IsKillKind k → OnRow IsSlotStore k → ⊥
 store_kind (Mark v m) h s = s
@@ -66,22 +66,22 @@ passed_above [] k y ends at e j i lt there = cc
 passed_above (x ∷ xs) zero y ends at e j i lt there = absurd (omega (arith, lt))
 passed_above (x ∷ xs) (suc k) y ends at e j i lt there = by_exit (exit_of x.kind) refl ends.0 j lt there
     (λ m l q. passed_above xs k y ends.1 at e m i l q) where
-  only_jump : (ys : List Item) (k : ℕ) → IsJumpAtMost ys → slice_get ys k ≡ Some y → ⊥
-  only_jump [] k may q = cc
-  only_jump (z ∷ []) zero may q =
-      let same : z ≡ y = cc in
-      let w : IsAlways (exit_of y.kind) = subst (λ (i : Item). IsAlways (exit_of i.kind)) same may in
-      subst IsAlways e w
-  only_jump (z ∷ []) (suc k) may q = cc
-  only_jump (z ∷ u ∷ ys) k may q = absurd may
+      only_jump : (ys : List Item) (k : ℕ) → IsJumpAtMost ys → slice_get ys k ≡ Some y → ⊥
+      only_jump [] k may q = cc
+      only_jump (z ∷ []) zero may q =
+          let same : z ≡ y = cc in
+          let w : IsAlways (exit_of y.kind) = subst (λ (i : Item). IsAlways (exit_of i.kind)) same may in
+          subst IsAlways e w
+      only_jump (z ∷ []) (suc k) may q = cc
+      only_jump (z ∷ u ∷ ys) k may q = absurd may
 
-  by_exit : (q : Exit) → exit_of x.kind ≡ q → MayFollow q xs → (j : ℕ) → j < suc k → slice_get (x ∷ xs) j ≡ Some i →
-      ((m : ℕ) → m < k → slice_get xs m ≡ Some i → exit_of i.kind ≡ Onward) → exit_of i.kind ≡ Onward
-  by_exit Onward h may zero lt there more = let same : x ≡ i = cc in ap (λ (z : Item). exit_of z.kind) (sym same) ∙ h
-  by_exit Onward h may (suc j) lt there more = more j (omega (arith, lt)) there
-  by_exit (Perhaps t) h may j lt there more = absurd (only_jump xs k may at)
-  by_exit (Always t) h may j lt there more = absurd (nothing_at xs k y may at)
-  by_exit Final h may j lt there more = absurd (nothing_at xs k y may at)
+      by_exit : (q : Exit) → exit_of x.kind ≡ q → MayFollow q xs → (j : ℕ) → j < suc k → slice_get (x ∷ xs) j ≡ Some i →
+          ((m : ℕ) → m < k → slice_get xs m ≡ Some i → exit_of i.kind ≡ Onward) → exit_of i.kind ≡ Onward
+      by_exit Onward h may zero lt there more = let same : x ≡ i = cc in ap (λ (z : Item). exit_of z.kind) (sym same) ∙ h
+      by_exit Onward h may (suc j) lt there more = more j (omega (arith, lt)) there
+      by_exit (Perhaps t) h may j lt there more = absurd (only_jump xs k may at)
+      by_exit (Always t) h may j lt there more = absurd (nothing_at xs k y may at)
+      by_exit Final h may j lt there more = absurd (nothing_at xs k y may at)
 
 module _ (fold : Folding) (src : List Block) (subs : OperandPair → Option OperandPair) where
   abbrev srcp : Program

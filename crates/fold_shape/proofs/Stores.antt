@@ -584,7 +584,7 @@ module _ (fold : Folding) (p0 : Pos) where
       let silent : Pos = record { block = a.block.id; item = a.block.silent } in
       let anew = rewritten (end fold) next (first_id a.after) silent a.block.items in
       let still = Rattle.fold_shape.proofs.Tails.stands_still (end fold) next (first_id a.after) silent a.block.items q.item j well item
-          (of_kind j.kind counts) in
+      (of_kind j.kind counts) in
       let placed : slice_get (lost a.block.id ++ anew) (length (lost q.block) + q.item) ≡ Some j =
       ap (λ (n : ℕ). slice_get (lost a.block.id ++ anew) (length (lost n) + q.item)) (sym id) ∙ slice_put (lost a.block.id) anew q.item ∙ still in (
         ap (λ (z : List Block). fetch_in z (length (lost q.block) + q.item))

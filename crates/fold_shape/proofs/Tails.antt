@@ -62,7 +62,7 @@ module _ (end : ℕ → ℕ) (next fall : Option ℕ) (silent : Pos) where
   none_branch x xs t u v e may false false false =
       none_cons (sent u x) (jump_at_end silent (first_of xs) v ∷ []) (not_perhaps (exit_of (sent u x).kind) u (sent_branch x.kind t u e))
       (none_cons (jump_at_end silent (first_of xs) v) [] (not_always (exit_of (jump_at_end silent (first_of xs) v).kind) v (jump_exit silent xs v may))
-          none_nil)
+      none_nil)
 
   -- an item that control goes on past stood there before
   pub onward_was : (xs : List Item) (k : ℕ) (y : Item) → EndsWell xs → (fall ≡ None → Closes xs) → slice_get (anew xs) k ≡ Some y → exit_of y.kind ≡ Onward →

@@ -98,7 +98,7 @@ module _ (l : Layout) (i : Item) (c : Instruction) (k : Option ℕ) (a : ℕ) (e
   outcome_by p f call is apart lined = inl (single (entry a 8 i.origin p true) p refl refl is apart lined)
   outcome_by p f (long b x y n rest op_is os_is all) is apart lined =
       let second : second_address es ≡ Some (a + 4) = ap second_address is ∙ second_there (entry a 4 (added_before i.origin) p false)
-          (entry (a + 4) 4 i.origin p false) p refl refl in
+      (entry (a + 4) 4 i.origin p false) p refl refl in
       inr (record {
         branch = record { jump = a + 4; branch = record { op = b; first = x; second = y; target = n } };
         first = ap first_address is;

@@ -214,7 +214,7 @@ module _ (inlined : ℕ → Option ℕ) (l : Layout) (framed : IsFramed l.framed
 
   long_printable : (a : ℕ) (i : Item) (k : Option ℕ) (b : BranchOp) (x y n : ℕ) (rest : List Operand) → IsPrintableFramedItem inlined i → a < 2 ^ 32 →
       a + 4 < 2 ^ 32 → All HasNumbers (Use x ∷ Use y ∷ OfBlock n ∷ rest) → IfSome k IsNumber → LongPrintable a i k n (OfBranch b)
-          (Use x ∷ Use y ∷ OfBlock n ∷ rest)
+      (Use x ∷ Use y ∷ OfBlock n ∷ rest)
   long_printable a i k b x y n rest fit low high all number =
       let second = All-tail HasNumbers (Use x) (Use y ∷ OfBlock n ∷ rest) all in
       let third_on = All-tail HasNumbers (Use y) (OfBlock n ∷ rest) second in
@@ -233,11 +233,11 @@ module _ (inlined : ℕ → Option ℕ) (l : Layout) (framed : IsFramed l.framed
       All (IsPrintableLine inlined) (form_lines l a i c k f)
   form_printable a p i c k f one fit low printable numbers number =
       All-cons (IsPrintableLine inlined) _ [] (code_printable a i (listed l.framed c) k fit (All-head IsLow (entry a 4 i.origin p false) [] low) printable
-          number)
+      number)
       (All-nil (IsPrintableLine inlined))
   form_printable a p i c k f call fit low printable numbers number =
       All-cons (IsPrintableLine inlined) _ [] (code_printable a i (listed l.framed c) k fit (All-head IsLow (entry a 8 i.origin p true) [] low) printable
-          number)
+      number)
       (All-nil (IsPrintableLine inlined))
   form_printable a p i c k f (long b x y n rest op_is os_is all) fit low printable numbers number =
       let first = entry a 4 (added_before i.origin) p false in

@@ -77,7 +77,7 @@ fn code_lines(
     ensures { (l : Layout) → IsSource l offsets.now → AllItems (λ i. IsPlaced l.framed i.kind) blocks.now →
         entries.now ≡ flat_map (entries_at l) (sites_from 0 blocks.now) →
         IfOk result (λ lines. (lines.prologue ≡ prologue_listed l blocks.now) ×
-            (lines.blocks ≡ body_listed l blocks.now)) }
+        (lines.blocks ≡ body_listed l blocks.now)) }
 {
     match blocks {
         [] => Ok(CodeLines {

@@ -109,7 +109,7 @@ module _ (files : List SourceFile) (meta : Maps) (unit : SourceFile) where
             (own (subst (λ (x : Compiled). Contains x.code.now.entries e) (sym same) has) here)
         by rest (inl same) (inr later) =
             let within = (entry_from b g.code.now.entries (function_end g) stand e
-                (subst (λ (x : Compiled). Contains x.code.now.entries e) (sym same) has)).1 in
+            (subst (λ (x : Compiled). Contains x.code.now.entries e) (sym same) has)).1 in
             let above = last_reached (λ (x : Row). function_end g ≤ x.address) s.rows a r (sequences_above (function_end g) fs lie s later) last in
             let beyond = above.0 in let reached = above.1 in absurd (omega (arith, within, high, beyond, reached))
         by rest (inr more) (inl here) =

@@ -253,7 +253,7 @@ module _ (meta : Maps) (f : Function) (read : IsReadFunction meta f) (framed : I
   item_fits : (i : Item) → Known i → All Fit (framed_item f i)
   item_fits i known =
       All-append Fit (cond (is_final (exit_of i.kind)) (epilogue f i.origin) []) (renamed f.slots i ∷ [])
-          (by_end (is_final (exit_of i.kind)) i.origin known.origin)
+      (by_end (is_final (exit_of i.kind)) i.origin known.origin)
       (All-cons Fit (renamed f.slots i) [] (record {
         form = form_fits i.kind known.form;
         kind = kind_fits i.loc i.kind known.printable.kind;

@@ -42,7 +42,7 @@ module _ (f : Function) (l : LiveSets) (sets : AreLiveSets f l) (apart : AreApar
     by_blocks [] e w = absurd w
     by_blocks (c ∷ cs) e w =
         walk_is_live sp f.blocks resolve x (λ m. has_at_start l.slots l.blocks l.starts m x ≡ true) (λ m s. (sets.starts m x sp resolve).0 s) n 0 c.items
-            c.silent cs
+        c.silent cs
         (λ j. let z : 0 + j ≡ j = omega arith in ap (fetch_in (from_block f.blocks n)) z ∙ ap (λ (bs : List Block). fetch_in bs j) e) w
 
   -- at a position
@@ -56,7 +56,7 @@ module _ (f : Function) (l : LiveSets) (sets : AreLiveSets f l) (apart : AreApar
         let here = subst (λ (bs : List Block). WalkedIn sp f.blocks resolve x (λ m. has_at_start l.slots l.blocks l.starts m x ≡ true) bs k) begins walk in
         (walk_facts x (has_at_start l.slots l.blocks l.starts) (drop k block.items) (slice_get (ids_of f.blocks) (suc b))).1
         (subst (λ (o : Option ℕ). LiveFrom x (λ m. has_at_start l.slots l.blocks l.starts m x ≡ true) (drop k block.items) o) (next_of-drop f.blocks (suc b))
-            here),
+        here),
   )
 
   or_cases : (p q : Bool) → (p || q) ≡ true → (p ≡ true) ⊎ (q ≡ true)

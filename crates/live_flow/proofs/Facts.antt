@@ -68,5 +68,5 @@ module _ (x : Place) (starts : ℕ → Place → Bool) where
   walk_facts [] next = past_facts next
   walk_facts (i ∷ is) next =
       before_facts i.kind (live_across starts (exit_of i.kind) (live_from starts is next x) x)
-          (LiveAcross (λ n. starts n x ≡ true) (exit_of i.kind) (LiveFrom x (λ n. starts n x ≡ true) is next))
+      (LiveAcross (λ n. starts n x ≡ true) (exit_of i.kind) (LiveFrom x (λ n. starts n x ≡ true) is next))
       (across_facts (exit_of i.kind) (live_from starts is next x) (LiveFrom x (λ n. starts n x ≡ true) is next) (walk_facts is next))

@@ -164,7 +164,7 @@ module _ (f : Function) (l : LiveSets) (sets : AreLiveSets f l) (b : ℕ) (x : P
 
 pub solved : (f : Function) (slots ids : List ℕ) (begun starts : List (List ℕ)) → slots ≡ f.slots → ids ≡ ids_of f.blocks → AreApart (ids_of f.blocks) →
     length begun ≡ length f.blocks → ((slots : List ℕ) (b : ℕ) (x : Place) → has slots (get_or begun b []) x ≡ false) → Settled slots ids f.blocks begun
-        starts →
+    starts →
     AreLiveSets f (record { slots = slots; blocks = ids; starts = starts })
 solved f slots ids begun starts same names apart long none s = record {
   slots = same;

@@ -89,7 +89,7 @@ module _ (sp tp : Bool) (blocks : List Block) (resolve other : OperandPair → O
     by_blocks (c ∷ cs) e w =
         let begins : from_block (stripped_blocks blocks) n ≡ stripped_block c ∷ stripped_blocks cs = from_stripped blocks n ∙ ap stripped_blocks e in
         let walk = subst (λ (o : Option ℕ). LiveFrom x Bare (stripped_items c.items) o) (sym (next_stripped cs))
-            (to_stripped_items Bare x (next_of cs) c.items w) in
+        (to_stripped_items Bare x (next_of cs) c.items w) in
         walk_is_live tp (stripped_blocks blocks) other x Bare (λ m s. s) n 0 (stripped_items c.items) c.silent (stripped_blocks cs)
         (λ j. ap (fetch_in (from_block (stripped_blocks blocks) n)) (zero_on j) ∙ ap (λ (bs : List Block). fetch_in bs j) begins) walk
 

@@ -44,7 +44,7 @@ walked_is_live slots ids blocks starts b block apart at found sp resolve k x h =
     let next : slice_get (ids_of blocks) (suc b) ≡ next_of (drop (suc b) blocks) = sym (next_of-drop blocks (suc b)) in
     let facts = (walk_facts x (has_at_start slots ids starts) (drop k block.items) (slice_get (ids_of blocks) (suc b))).0 h in
     walk_is_live sp blocks resolve x (λ n. has_at_start slots ids starts n x ≡ true) (λ n e. found sp resolve n x e) block.id k (drop k block.items)
-        block.silent
+    block.silent
     (drop (suc b) blocks)
     (λ j. ap (λ (bs : List Block). fetch_in bs (k + j)) begins ∙ ap (λ is. front is block.silent (drop (suc b) blocks)) (split block.items k j))
     (subst (λ (o : Option ℕ). LiveFrom x (λ n. has_at_start slots ids starts n x ≡ true) (drop k block.items) o) next facts) where
@@ -110,7 +110,7 @@ module _ (slots ids : List ℕ) (blocks : List Block) (old : List (List ℕ)) (b
     closed_old c x at_c walk =
         let one_block : c ≡ block = cc in
         let there : has slots live x ≡ true = walked x ∙ (ap (λ (d : Block). live_from (has_at_start slots ids old) d.items
-            (slice_get (ids_of blocks) (b + 1)) x)
+        (slice_get (ids_of blocks) (b + 1)) x)
         (sym one_block) ∙ walk) in
         ap (λ (w : List ℕ). has slots w x) (is ∙ sym (same e)) ∙ (both x ∙ (ap (λ (t : Bool). has slots was x || t) there ∙ or_true (has slots was x)))
 
@@ -229,7 +229,7 @@ settled_has_live slots ids blocks starts names closed sp resolve x n = by_blocks
       let is = f.1 in
       let one : i + 1 ≡ suc i = omega arith in
       let next : next_of cs ≡ slice_get (ids_of blocks) (i + 1) = ap next_of is.rest ∙
-          (next_of-drop blocks (suc i) ∙ ap (slice_get (ids_of blocks)) (sym one)) in
+      (next_of-drop blocks (suc i) ∙ ap (slice_get (ids_of blocks)) (sym one)) in
       let walk = (walk_facts x (has_at_start slots ids starts) c.items (slice_get (ids_of blocks) (i + 1))).1
       (subst (λ (o : Option ℕ). LiveFrom x (λ m. has_at_start slots ids starts m x ≡ true) c.items o) next w) in
       ap (λ (o : Option ℕ). has slots (set_at starts o) x) (ap (λ (ns : List ℕ). index_in ns n) names ∙ is.index)

@@ -30,7 +30,7 @@ impl Names {
     pub fn step_across(&self, set: &mut PlaceSet, starts: &[PlaceSet], exit: Exit)
         ensures { (x : Place) → has self.now.slots set.new x
             ≡ live_across (has_at_start self.now.slots self.now.blocks starts.now) exit (has self.now.slots set.old x)
-                x }
+            x }
     {
         match exit {
             Exit::Onward => {}

@@ -85,9 +85,11 @@ may_follow x rest e = subst (λ (y : Exit). MayFollow y rest) (sym e) tt
 
 pub ends_behind : (ids : List ℕ) (body last : List ItemKind) → All (IsPlain ids) body → IsEnd ids last → (b n : ℕ) → EndsWell (placed b n (body ++ last))
 ends_behind ids [] last plain end b n = end.ends b n
-ends_behind ids (k ∷ body) last plain end b n =
-    (may_follow (exit_of k) (placed b (suc n) (body ++ last)) (All-head (IsPlain ids) k body plain).onward, ends_behind ids body last
-        (All-tail (IsPlain ids) k body plain) end b (suc n))
+ends_behind ids (k ∷ body) last plain end b n = (
+  may_follow (exit_of k) (placed b (suc n) (body ++ last)) (All-head (IsPlain ids) k body plain).onward,
+  ends_behind ids body last
+      (All-tail (IsPlain ids) k body plain) end b (suc n),
+)
 
 closes_more : (x : Item) (ys : List Item) → Closes ys → Closes (x ∷ ys)
 closes_more x [] h = absurd h

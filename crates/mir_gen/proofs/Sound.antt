@@ -203,9 +203,24 @@ pub parts_are_sound : (number count : ℕ) (name slots : List ℕ) (objects : Li
     IsSound (record { name = name; slots = slots; objects = objects; blocks = blocks })
 parts_are_sound number count name slots objects blocks n s o b some few =
     subst (λ (x : List Block). IsSound (record { name = name; slots = slots; objects = objects; blocks = x })) (sym b)
-    (subst (λ (x : List Object). IsSound (record { name = name; slots = slots; objects = x; blocks =
-        (blocks_made count count (record { state = number; given = 0 })).blocks })) (sym o)
-    (subst (λ (x : List ℕ). IsSound (record { name = name; slots = x; objects = []; blocks =
-        (blocks_made count count (record { state = number; given = 0 })).blocks })) (sym s)
-    (subst (λ (x : List ℕ). IsSound (record { name = x; slots = SLOTS; objects = []; blocks =
-        (blocks_made count count (record { state = number; given = 0 })).blocks })) (sym n) (generated_is_sound number count some few))))
+    (subst (λ (x : List Object). IsSound (record {
+      name = name;
+      slots = slots;
+      objects = x;
+      blocks =
+          (blocks_made count count (record { state = number; given = 0 })).blocks;
+    })) (sym o)
+    (subst (λ (x : List ℕ). IsSound (record {
+      name = name;
+      slots = x;
+      objects = [];
+      blocks =
+          (blocks_made count count (record { state = number; given = 0 })).blocks;
+    })) (sym s)
+    (subst (λ (x : List ℕ). IsSound (record {
+      name = x;
+      slots = SLOTS;
+      objects = [];
+      blocks =
+          (blocks_made count count (record { state = number; given = 0 })).blocks;
+    })) (sym n) (generated_is_sound number count some few))))

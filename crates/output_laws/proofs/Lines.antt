@@ -61,7 +61,7 @@ one_layout f base long other is others = λ i. record {
 same_layout : (l m : Layout) → l.framed ≡ m.framed → l.base ≡ m.base → IsSettled l → IsSettled m → l ≡ m
 same_layout l m framed base is others =
     let as_m : ◌≡◌ {A = Layout} (record { framed = l.framed; base = l.base; long = m.long }) m = λ i. record
-        { framed = framed i; base = base i; long = m.long } in
+    { framed = framed i; base = base i; long = m.long } in
     one_layout l.framed l.base l.long m.long is (subst IsSettled (sym as_m) others) ∙ as_m
 
 -- ---- functions that lie one after the other

@@ -135,8 +135,14 @@ module _ (a : ℕ) where
               })
           by (inr more) =
               let found = one_line (at + 4) 4 s (Code (jump_to t) k) false (λ q. refl) line more byte in
-              record { entry = found.entry; among = later_member skip found.entry (jump ∷ []) found.among; from = found.from; within = found.within; origin =
-                  found.origin }
+              record {
+                entry = found.entry;
+                among = later_member skip found.entry (jump ∷ []) found.among;
+                from = found.from;
+                within = found.within;
+                origin =
+                    found.origin;
+              }
 
     form_enters : (at : ℕ) (s : Site) (c : Instruction) (k : Option ℕ) (f : Form) → FormView c.op c.operands f →
         is_call (row_of (listed l.framed c)) ≡ is_call_form f → Enters at s f (form_lines l at s.item c k f)

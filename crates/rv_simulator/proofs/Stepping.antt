@@ -89,7 +89,7 @@ pub other_step : (image : Image) (s : Machine) (w : ℕ) (o : Option MachineOp) 
     machine_step image s ≡ does_operation o s
 other_step image s w o h ne d =
     h.is ∙ (ap (λ (t : Bool). cond t (Ends h.results) (does_operation (decoded w) s)) (ne_eqb w return_word ne) ∙ ap
-        (λ (x : Option MachineOp). does_operation x s) d)
+    (λ (x : Option MachineOp). does_operation x s) d)
 
 -- ---- as they are kept
 

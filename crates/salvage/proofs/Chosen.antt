@@ -87,7 +87,7 @@ module _ (removed : List ℕ) (subs : List Entry) (fresh k s : ℕ) (above : Lis
       by_kind (Phi p m) same w = cc
       by_kind (Code i own) same w =
           entered_by i own x.origin x.loc e none last (at ∙ (λ j. Some (item (same j) x.origin x.loc))) (first_definition (is_call (row_of i)) s i.operands)
-              refl w
+          refl w
 
     by_last : has_entry subs (Some k) 0 ≡ false → (e : Option ℕ) → last_definition s above ≡ e →
         way_from removed subs fresh k s above e ≡ GetsEntry d o n → IsEntered removed subs fresh k s above d o n

@@ -112,14 +112,14 @@ module _ (E : Edits) (Q : E.Stage → Core → Core → Type 0) (allows : Allows
   module _ (src : List Block) (srcp : Program) (shape : Shape src old.blocks srcp fp)
       (meet : (b : Block) → Contains new.blocks b → (p : Pos) (i : Item) → p.block ≡ b.id →
       gp.fetch p ≡ Here i → OnRow IsSlotStore i.kind → i.origin ≡ Before (record { block = b.id; item = b.silent }) → (q : Pos) × (j : Item) × IsMetApart gp p
-          b.silent q j) where
+      b.silent q j) where
     pub shape_edited : Shape src new.blocks srcp gp
     shape_edited = record {
       among = among_edited E edited shape.among;
       first = first_edited E old.blocks new.blocks edited ∙ shape.first;
       back = λ q leads edge. (let w = shape.back q leads edge in
           let at = item_on E old.blocks new.blocks edited false (resolve subs) (resolve subs') w.0 w.1 w.2
-              (λ k k' how. allows.no_goes k k' w.1 how (first_of src) w.3) in
+          (λ k k' how. allows.no_goes k k' w.1 how (first_of src) w.3) in
           (at.0, at.1, at.3, kin_goes w.1.kind at.1.kind at.5 (first_of src) w.3));
       order = order_of E old.blocks new.blocks edited shape.order;
       items = each_edited E (λ b i. KindFits srcp i.kind b.silent i.origin)
@@ -149,7 +149,7 @@ module _ (E : Edits) (Q : E.Stage → Core → Core → Type 0) (allows : Allows
         (s : State) → IsStart stack first s → RunsAlong srcp gp (station_at ct gp) (AnyOrigin (station_at ct gp)) s s
     runs_new ct first stack counts runs s start =
         runs_edited E Q old.blocks new.blocks edited (resolve subs) (resolve subs') ct counts srcp s keeps allows.empty (steady ct counts) sound.blocks_apart
-            shape.order
+        shape.order
         (order_of E old.blocks new.blocks edited shape.order) sound.origins sound'.origins (ap (λ (p : Pos). p.item) start.pos)
         (itself s.pos.block s.core start.pairs) (runs s start)
 
@@ -158,7 +158,7 @@ module _ (E : Edits) (Q : E.Stage → Core → Core → Type 0) (allows : Allows
     ends_kept kept p i at end =
         let w = kept p i at end in
         let there = item_on E old.blocks new.blocks edited false (resolve subs) (resolve subs') w.0 w.1 w.2
-            (λ k k' how. allows.no_end k k' w.1 how i.kind w.4) in
+        (λ k k' how. allows.no_end k k' w.1 how i.kind w.4) in
         (there.0, there.1, there.3, sym there.4 ∙ w.3, kin_end i.kind w.1.kind there.1.kind there.5 w.4)
 
     pub ends_only : ((q : Pos) (j : Item) → fp.fetch q ≡ Here j → OnRow IsEnd j.kind → EndComesFrom srcp j) → (q : Pos) (j : Item) → gp.fetch q ≡ Here j →
@@ -206,7 +206,7 @@ module _ (E : Edits) (Q : E.Stage → Core → Core → Type 0) (allows : Allows
 
     meet : (srcp : Program) (src : List Block) → Shape src old.blocks srcp fp → (b : Block) → Contains new.blocks b → (p : Pos) (i : Item) → p.block ≡ b.id →
         gp.fetch p ≡ Here i → OnRow IsSlotStore i.kind → i.origin ≡ Before (record { block = b.id; item = b.silent }) → (q : Pos) × (j : Item) × IsMetApart gp
-            p b.silent q j
+        p b.silent q j
     meet srcp src shape b member p i at here save o =
         let a = old_block b member in
         stores_on E old.blocks new.blocks edited (resolve subs) (resolve subs') allows.empty allows.falls gone counts

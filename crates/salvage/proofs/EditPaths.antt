@@ -34,7 +34,7 @@ save_code (Phi p n) h = absurd h
 
 module _ (E : Edits) (fs gs : List Block) (edited : BlocksEdited E fs gs) (resolve resolve' : OperandPair → Option OperandPair)
     (empty : (n : ℕ) → E.IsOver (E.entry n)) (falls : (k k' : E.Stage) (x : Item) → E.Out k k' x → (p q : Pos) → KindEdge (λ n. n) x.kind p q → q ≡ below
-        p) where
+    p) where
   abbrev f : Program
   f = program_of false fs resolve
 
@@ -57,7 +57,7 @@ module _ (E : Edits) (fs gs : List Block) (edited : BlocksEdited E fs gs) (resol
             let t = none_of_front (drop p.item a.items) a.silent cs j n h in
             let r : drop p'.item b.items ≡ [] = ap (λ (z : List Block). rest_in z p'.item) (sym at) ∙ none in
             ap (λ (z : List Block). fetch_in z p'.item) at ∙ ap (λ (z : List Item). front z b.silent bs) r ∙ ends_same E a.silent b.silent cs bs silent rest ∙
-                t.1
+            t.1
 
   -- one step of f's path, and g's
   step_on : (p q p' : Pos) (k : E.Stage) (xs ys : List Item) → p'.block ≡ p.block → rest_of fs p ≡ xs → rest_of gs p' ≡ ys → Edited E k xs ys → Edge f p q →
@@ -134,15 +134,21 @@ module _ (E : Edits) (fs gs : List Block) (edited : BlocksEdited E fs gs) (resol
   -- and on to what stands for an item that isn't taken out
   reach : (q q' : Pos) (x : Item) (k : E.Stage) (xs ys : List Item) → rest_of fs q ≡ xs → rest_of gs q' ≡ ys → Edited E k xs ys → f.fetch q ≡ Here x →
       ((k k' : E.Stage) → E.Out k k' x → ⊥) → (r : Pos) × (y : Item) × Leads g q' r × (g.fetch r ≡ Here y) × (x.origin ≡ y.origin) × Kin x.kind y.kind ×
-          IsPaired E x y
+      IsPaired E x y
   reach q q' x k xs ys left right (over done) at stays = absurd (subst IsPastItems at ((laid_out false fs resolve).nil q left).0)
   reach q q' x k (u ∷ xs) (y ∷ ys) left right (pair {k' = l} origin kin how rest) at stays =
       let here = (laid_out false fs resolve).cons q u xs left in
       let there = (laid_out false gs resolve').cons q' y ys right in
       let both : Here u ≡ Here x = sym here.0 ∙ at in
-      let w : u ≡ x = cc in
-      (q', y, stay, there.0, ap (λ (i : Item). i.origin) (sym w) ∙ origin, subst (λ (i : Item). Kin i.kind y.kind) w kin,
-          (k, l, subst (λ (i : Item). E.Pair k l i y) w how))
+      let w : u ≡ x = cc in (
+        q',
+        y,
+        stay,
+        there.0,
+        ap (λ (i : Item). i.origin) (sym w) ∙ origin,
+        subst (λ (i : Item). Kin i.kind y.kind) w kin,
+        (k, l, subst (λ (i : Item). E.Pair k l i y) w how),
+      )
   reach q q' x k (u ∷ xs) ys left right (out {k' = l} how rest) at stays =
       let here = (laid_out false fs resolve).cons q u xs left in
       let both : Here u ≡ Here x = sym here.0 ∙ at in
@@ -163,63 +169,63 @@ module _ (E : Edits) (fs gs : List Block) (edited : BlocksEdited E fs gs) (resol
       (q : Pos) × (j : Item) × IsMetApart g p silent q j
   stores_on gone counts b silent met p y same at save o = by_blocks (from_block fs p.block) (from_block gs p.block) refl refl
       (blocks_from E fs gs edited p.block) at where
-    by_blocks : (cs bs : List Block) → from_block fs p.block ≡ cs → from_block gs p.block ≡ bs → BlocksEdited E cs bs → fetch_in bs p.item ≡ Here y →
-        (q : Pos) × (j : Item) × IsMetApart g p silent q j
-    by_blocks cs bs atf atg no_blocks h = cc
-    by_blocks (a ∷ cs) (c ∷ bs) atf atg (next_block id end items rest) h =
-        let t = first_of_front (drop p.item c.items) c.silent bs y h in
-        let s = comes_from E a.items c.items items p.item y t.0 t.1 (save_code y.kind save) in
-        let pf : Pos = record { block = p.block; item = s.index } in
-        let here : f.fetch pf ≡ Here s.item = ap (λ (z : List Block). fetch_in z s.index) atf ∙ ap (λ (z : List Item). front z a.silent cs) s.at in
-        let w = met pf s.item same here (kin_save s.item.kind y.kind s.kin save) (s.origin ∙ o) in
-        by_witness t.0 t.1 pf refl w.0 w.1 w.2 where
-          by_witness : (more : List Item) (e : drop p.item c.items ≡ y ∷ more) (pf : Pos) →
-              pf ≡ record { block = p.block; item = (comes_from E a.items c.items items p.item y more e (save_code y.kind save)).index } → (q : Pos)
+        by_blocks : (cs bs : List Block) → from_block fs p.block ≡ cs → from_block gs p.block ≡ bs → BlocksEdited E cs bs → fetch_in bs p.item ≡ Here y →
+            (q : Pos) × (j : Item) × IsMetApart g p silent q j
+        by_blocks cs bs atf atg no_blocks h = cc
+        by_blocks (a ∷ cs) (c ∷ bs) atf atg (next_block id end items rest) h =
+            let t = first_of_front (drop p.item c.items) c.silent bs y h in
+            let s = comes_from E a.items c.items items p.item y t.0 t.1 (save_code y.kind save) in
+            let pf : Pos = record { block = p.block; item = s.index } in
+            let here : f.fetch pf ≡ Here s.item = ap (λ (z : List Block). fetch_in z s.index) atf ∙ ap (λ (z : List Item). front z a.silent cs) s.at in
+            let w = met pf s.item same here (kin_save s.item.kind y.kind s.kin save) (s.origin ∙ o) in
+            by_witness t.0 t.1 pf refl w.0 w.1 w.2 where
+              by_witness : (more : List Item) (e : drop p.item c.items ≡ y ∷ more) (pf : Pos) →
+                  pf ≡ record { block = p.block; item = (comes_from E a.items c.items items p.item y more e (save_code y.kind save)).index } → (q : Pos)
                   (j : Item) →
-              IsMetApart f pf silent q j → (q : Pos) × (j : Item) × IsMetApart g p silent q j
-          by_witness more e pf is q j w = by_side w.3 where
-            stays : (k k' : E.Stage) → E.Out k k' j → ⊥
-            stays k k' how = gone k k' j how w.1
+                  IsMetApart f pf silent q j → (q : Pos) × (j : Item) × IsMetApart g p silent q j
+              by_witness more e pf is q j w = by_side w.3 where
+                stays : (k k' : E.Stage) → E.Out k k' j → ⊥
+                stays k k' how = gone k k' j how w.1
 
-            block_is : pf.block ≡ p.block
-            block_is = ap (λ (z : Pos). z.block) is
+                block_is : pf.block ≡ p.block
+                block_is = ap (λ (z : Pos). z.block) is
 
-            by_side : ((q.block ≡ pf.block) × (q.item < pf.item)) ⊎ Leads f pf q → (q : Pos) × (j : Item) × IsMetApart g p silent q j
-            by_side (inl up) =
-                let in_block : from_block fs q.block ≡ a ∷ cs = ap (from_block fs) (up.0 ∙ block_is) ∙ atf in
-                let there : fetch_in (a ∷ cs) q.item ≡ Here j = sym (ap (λ (z : List Block). fetch_in z q.item) in_block) ∙ w.0 in
-                let u = first_of_front (drop q.item a.items) a.silent cs j there in
-                let lt : q.item < (comes_from E a.items c.items items p.item y more e (save_code y.kind save)).index =
-                subst (λ (n : ℕ). q.item < n) (ap (λ (z : Pos). z.item) is) up.1 in
-                let r = above_on E a.items c.items items p.item y more e (save_code y.kind save) q.item j u.0 u.1 lt stays in
-                let q' : Pos = record { block = p.block; item = r.0 } in (
-                  q',
-                  r.1,
-                  (
-                    ap (λ (z : List Block). fetch_in z r.0) atg ∙ ap (λ (z : List Item). front z c.silent bs) r.4,
-                    counts r.7.0 r.7.1 j r.1 r.7.2 w.1,
-                    (λ same'. w.2 (ap position_of r.5 ∙ same' ∙ ap (λ (n : ℕ). record { block = n; item = silent }) (sym block_is))),
-                    inl (refl, r.3),
-                  ),
-                )
-            by_side (inr leads) =
-                let s = comes_from E a.items c.items items p.item y more e (save_code y.kind save) in
-                let left : rest_of fs pf ≡ s.item ∷ s.rest = ap (rest_of fs) is ∙ ap (λ (z : List Block). rest_in z s.index) atf ∙ s.at in
-                let right : rest_of gs p ≡ y ∷ more = ap (λ (z : List Block). rest_in z p.item) atg ∙ e in
-                let start : Beside pf p = record {
-                  block = sym block_is;
-                  stage = s.stage;
-                  rest = subst (λ (zs : List Item). Edited E s.stage zs (rest_of gs p)) (sym left)
-                      (subst (λ (zs : List Item). Edited E s.stage (s.item ∷ s.rest) zs) (sym right) s.edited);
-                } in
-                let on = path_on leads p start in
-                let r = reach q on.0 j on.2.stage (rest_of fs q) (rest_of gs on.0) refl refl on.2.rest w.0 stays in (
-                  r.0,
-                  r.1,
-                  (
-                    r.3,
-                    counts r.6.0 r.6.1 j r.1 r.6.2 w.1,
-                    (λ same'. w.2 (ap position_of r.4 ∙ same' ∙ ap (λ (n : ℕ). record { block = n; item = silent }) (sym block_is))),
-                    inr (leads_trans g on.1 r.2),
-                  ),
-                )
+                by_side : ((q.block ≡ pf.block) × (q.item < pf.item)) ⊎ Leads f pf q → (q : Pos) × (j : Item) × IsMetApart g p silent q j
+                by_side (inl up) =
+                    let in_block : from_block fs q.block ≡ a ∷ cs = ap (from_block fs) (up.0 ∙ block_is) ∙ atf in
+                    let there : fetch_in (a ∷ cs) q.item ≡ Here j = sym (ap (λ (z : List Block). fetch_in z q.item) in_block) ∙ w.0 in
+                    let u = first_of_front (drop q.item a.items) a.silent cs j there in
+                    let lt : q.item < (comes_from E a.items c.items items p.item y more e (save_code y.kind save)).index =
+                    subst (λ (n : ℕ). q.item < n) (ap (λ (z : Pos). z.item) is) up.1 in
+                    let r = above_on E a.items c.items items p.item y more e (save_code y.kind save) q.item j u.0 u.1 lt stays in
+                    let q' : Pos = record { block = p.block; item = r.0 } in (
+                      q',
+                      r.1,
+                      (
+                        ap (λ (z : List Block). fetch_in z r.0) atg ∙ ap (λ (z : List Item). front z c.silent bs) r.4,
+                        counts r.7.0 r.7.1 j r.1 r.7.2 w.1,
+                        (λ same'. w.2 (ap position_of r.5 ∙ same' ∙ ap (λ (n : ℕ). record { block = n; item = silent }) (sym block_is))),
+                        inl (refl, r.3),
+                      ),
+                    )
+                by_side (inr leads) =
+                    let s = comes_from E a.items c.items items p.item y more e (save_code y.kind save) in
+                    let left : rest_of fs pf ≡ s.item ∷ s.rest = ap (rest_of fs) is ∙ ap (λ (z : List Block). rest_in z s.index) atf ∙ s.at in
+                    let right : rest_of gs p ≡ y ∷ more = ap (λ (z : List Block). rest_in z p.item) atg ∙ e in
+                    let start : Beside pf p = record {
+                      block = sym block_is;
+                      stage = s.stage;
+                      rest = subst (λ (zs : List Item). Edited E s.stage zs (rest_of gs p)) (sym left)
+                          (subst (λ (zs : List Item). Edited E s.stage (s.item ∷ s.rest) zs) (sym right) s.edited);
+                    } in
+                    let on = path_on leads p start in
+                    let r = reach q on.0 j on.2.stage (rest_of fs q) (rest_of gs on.0) refl refl on.2.rest w.0 stays in (
+                      r.0,
+                      r.1,
+                      (
+                        r.3,
+                        counts r.6.0 r.6.1 j r.1 r.6.2 w.1,
+                        (λ same'. w.2 (ap position_of r.4 ∙ same' ∙ ap (λ (n : ℕ). record { block = n; item = silent }) (sym block_is))),
+                        inr (leads_trans g on.1 r.2),
+                      ),
+                    )

@@ -155,26 +155,26 @@ module _ (E : Edits) (Q : E.Stage → Core → Core → Type 0) where
           RunsAlong src f (station_at ct f) (AnyOrigin (station_at ct f)) s0 s0 → RunsAlong src g (station_at ct g) (AnyOrigin (station_at ct g)) s0 s0
       runs_edited steady apart ordered ordered' origins origins' first kin runs = in_place_follows relation ct src sides (index_of fs) in_place first refl kin
           runs where
-        in_place : InPlace ct src sides relation (index_of fs)
-        in_place = record {
-          laid_f = laid_out false fs resolve;
-          laid_g = laid_out false gs resolve';
-          enter_f = λ n. refl;
-          enter_g = λ n. refl;
-          view = view;
-          starts = λ n. (starts_edited E fs gs edited false resolve resolve' empty n, rest_steady steady n);
-          order_f = in_order_at false fs resolve ordered;
-          order_g = in_order_at false gs resolve' ordered';
-          home = from_home false gs resolve' origins';
-          within = from_within false gs resolve' origins';
-          within_f = λ q e x k n at ends same. (let w = end_back E fs gs edited false resolve resolve' e k n ends in
-              from_before_end false fs resolve origins q w.0 x k n at w.2 (same ∙ sym w.1));
-          one_end = one_end false gs resolve';
-          origins = origin_from;
-          onward = λ p q k n same none last ends. (let there = end_there E fs gs edited false resolve resolve' p q k n same none ends in
-              (there, falls_down false fs resolve apart p k n there));
-          ends = λ k p j n c d at fetch s q. keeps.ends k n c d (is_over k s.0) q;
-          shows = λ k b xs ys c d q. keeps.shows k c d q;
-        } where
-          is_over : (k : E.Stage) → Edited E k [] [] → E.IsOver k
-          is_over k (over done) = done
+            in_place : InPlace ct src sides relation (index_of fs)
+            in_place = record {
+              laid_f = laid_out false fs resolve;
+              laid_g = laid_out false gs resolve';
+              enter_f = λ n. refl;
+              enter_g = λ n. refl;
+              view = view;
+              starts = λ n. (starts_edited E fs gs edited false resolve resolve' empty n, rest_steady steady n);
+              order_f = in_order_at false fs resolve ordered;
+              order_g = in_order_at false gs resolve' ordered';
+              home = from_home false gs resolve' origins';
+              within = from_within false gs resolve' origins';
+              within_f = λ q e x k n at ends same. (let w = end_back E fs gs edited false resolve resolve' e k n ends in
+                  from_before_end false fs resolve origins q w.0 x k n at w.2 (same ∙ sym w.1));
+              one_end = one_end false gs resolve';
+              origins = origin_from;
+              onward = λ p q k n same none last ends. (let there = end_there E fs gs edited false resolve resolve' p q k n same none ends in
+                  (there, falls_down false fs resolve apart p k n there));
+              ends = λ k p j n c d at fetch s q. keeps.ends k n c d (is_over k s.0) q;
+              shows = λ k b xs ys c d q. keeps.shows k c d q;
+            } where
+              is_over : (k : E.Stage) → Edited E k [] [] → E.IsOver k
+              is_over k (over done) = done

@@ -166,9 +166,16 @@ module _ (E : Edits) where
   above_on xs ys (over done) (suc j) y more e code i x rest at lt stays = cc
   above_on (u ∷ xs) (z ∷ ys) (pair origin kin how later) zero y more e code i x rest at lt stays = absurd (omega (arith, lt))
   above_on {k} (u ∷ xs) (z ∷ ys) (pair {k' = l} origin kin how later) (suc j) y more e code zero x rest at lt stays =
-      let w : u ≡ x = cc in
-      (0, z, ys, omega arith, refl, ap (λ (i : Item). i.origin) (sym w) ∙ origin, subst (λ (i : Item). Kin i.kind z.kind) w kin,
-          (k, l, subst (λ (i : Item). E.Pair k l i z) w how))
+      let w : u ≡ x = cc in (
+        0,
+        z,
+        ys,
+        omega arith,
+        refl,
+        ap (λ (i : Item). i.origin) (sym w) ∙ origin,
+        subst (λ (i : Item). Kin i.kind z.kind) w kin,
+        (k, l, subst (λ (i : Item). E.Pair k l i z) w how),
+      )
   above_on (u ∷ xs) (z ∷ ys) (pair origin kin how later) (suc j) y more e code (suc i) x rest at lt stays =
       let r = above_on xs ys later j y more e code i x rest at (omega (arith, lt)) stays in
       let less = r.3 in
@@ -204,8 +211,15 @@ module _ (E : Edits) where
   goes_on xs ys (over done) (suc i) x more e stays = cc
   goes_on (z ∷ xs) (y ∷ ys) (pair origin kin how rest) zero x more e stays =
       let w : z ≡ x = cc in
-      record { index = 0; item = y; rest = ys; at = refl; origin = ap (λ (i : Item). i.origin) (sym w) ∙ origin; kin = subst (λ (i : Item). Kin i.kind y.kind)
-          w kin }
+      record {
+        index = 0;
+        item = y;
+        rest = ys;
+        at = refl;
+        origin = ap (λ (i : Item). i.origin) (sym w) ∙ origin;
+        kin = subst (λ (i : Item). Kin i.kind y.kind)
+            w kin;
+      }
   goes_on (z ∷ xs) (y ∷ ys) (pair origin kin how rest) (suc i) x more e stays = past x y ys (goes_on xs ys rest i x more e stays)
   goes_on (z ∷ xs) ys (out {k} {k'} how rest) zero x more e stays =
       let w : z ≡ x = cc in
@@ -294,7 +308,7 @@ module _ (E : Edits) where
               let t = none_of_front (drop q.item b.items) b.silent bs k n h in
               let r : drop p.item a.items ≡ [] = ap (λ (z : List Block). rest_in z p.item) (sym at) ∙ none' in
               ap (λ (z : List Block). fetch_in z p.item) at ∙ ap (λ (z : List Item). front z a.silent cs) r ∙ sym
-                  (ends_same a.silent b.silent cs bs silent rest) ∙ t.1
+              (ends_same a.silent b.silent cs bs silent rest) ∙ t.1
 
     -- a block starts with what becomes of its items. Where there is no such block, nothing stands there
     pub starts_edited : ((n : ℕ) → E.IsOver (E.entry n)) → (n : ℕ) → Edited E (E.entry n) (rest_of fs (block_start n)) (rest_of gs (block_start n))

@@ -87,5 +87,5 @@ module _ (old new : Function) (sound : IsSound old) (sound' : IsSound new) (subs
       (change old subs new subs)
   number_phi_follows edited =
       follows_edited (phi_edits fq gq refl refl (λ q. refl) k s real) (PhiCores fq gq refl refl (λ q. refl) k s real) phi_allows old new sound sound' subs
-          subs objects edited
+      subs objects edited
       (phi_keeps fq gq refl refl (λ q. refl) k s real) (λ m c h. phi_itself fq gq refl refl (λ q. refl) k s real c h) (λ a b x h. absurd h) phi_counts

@@ -37,7 +37,7 @@ pub greatest_block_turn : (bs : List Block) (i : ℕ) (b : Block) → i < length
 greatest_block_turn bs i b lt e =
     let one : take (i + 1) bs ≡ take i bs ++ b ∷ [] = take_more bs i b lt ∙ ap (λ (y : Block). take i bs ++ y ∷ []) (sym e) in
     let items : items_of (take (i + 1) bs) ≡ items_of (take i bs) ++ (b.items ++ []) = ap items_of one ∙ flat_map-append (λ (b : Block). b.items) (take i bs)
-        (b ∷ []) in
+    (b ∷ []) in
     ap (λ (xs : List Item). greatest (item_numbers xs)) (items ∙ ap (λ (xs : List Item). items_of (take i bs) ++ xs) (append-nil b.items)) ∙
     ap greatest (flat_map-append (λ (i : Item). numbers_of i.kind) (items_of (take i bs)) b.items) ∙
     greatest_append (block_numbers (take i bs)) (item_numbers b.items)

@@ -216,7 +216,7 @@ module _ (f g : Program) (blind_f : f.sees_pointer ≡ false) (blind_g : g.sees_
         EndAlike (OffCores Inside) (do_item f (Code i own) c) (do_item g (Code i (Some n)) d)
     opens_both i own c d how is h =
         code_alike f g i i own (Some n) c d (HeldAlike (OrDefined Everywhere i)) (OffCores Inside) (act_held Everywhere i c d h.alike.held (λ x u. tt))
-            by_core where
+        by_core where
           call : Bool
           call = is_call (row_of i)
 
@@ -226,7 +226,7 @@ module _ (f g : Program) (blind_f : f.sees_pointer ≡ false) (blind_g : g.sees_
           told_both : (c' d' : Core) → HeldAlike (OrDefined Everywhere i) c' d' → TellsNoMore Free c' d' →
               ((own ≡ Some n) × (Free n → ⊥)) ⊎ ((own ≡ None) × Free n) →
               TellsNoMore Free (numbered f.sees_pointer (is_call (row_of i)) own i.operands c')
-                  (numbered g.sees_pointer (is_call (row_of i)) (Some n) i.operands d')
+              (numbered g.sees_pointer (is_call (row_of i)) (Some n) i.operands d')
           told_both c' d' r t (inl w) =
               subst (λ (m : Option ℕ). TellsNoMore Free (numbered f.sees_pointer (is_call (row_of i)) m i.operands c')
               (numbered g.sees_pointer (is_call (row_of i)) (Some n) i.operands d')) (sym w.0)
@@ -241,13 +241,13 @@ module _ (f g : Program) (blind_f : f.sees_pointer ≡ false) (blind_g : g.sees_
 
           by_core : (c' d' : Core) → HeldAlike (OrDefined Everywhere i) c' d' → TellsAs c c' → TellsAs d d' →
               OffCores Inside (numbered f.sees_pointer (is_call (row_of i)) own i.operands c')
-                  (numbered g.sees_pointer (is_call (row_of i)) (Some n) i.operands d')
+              (numbered g.sees_pointer (is_call (row_of i)) (Some n) i.operands d')
           by_core c' d' r same same' =
               let c'' : Core = numbered f.sees_pointer (is_call (row_of i)) own i.operands c' in
               let d'' : Core = numbered g.sees_pointer (is_call (row_of i)) (Some n) i.operands d' in
               let held : HeldAlike Everywhere c'' d'' =
               held_number Everywhere f.sees_pointer g.sees_pointer (is_call (row_of i)) (is_call (row_of i)) own (Some n) i.operands i.operands c' d'
-                  (every i c' d' r) in
+              (every i c' d' r) in
               let value : ℕ → Option ℕ = λ p. given g.sees_pointer (defined (is_call (row_of i)) (slice_get i.operands p)) (d'.pairs n p) d' in
               record {
                 alike = record { held = held; told = told_both c' d' r (tells_of Free c d c' d' same same' h.alike.told) how };
@@ -263,7 +263,7 @@ module _ (f g : Program) (blind_f : f.sees_pointer ≡ false) (blind_g : g.sees_
         code_alike f g i i (Some k) None c d
         (λ c' d'. HeldAlike (OrDefined Everywhere i) c' d' × (held_in (Register (suc rd)) c' ≡ held_in (Register s) c) × Unit {0}) (OffCores Outside)
         (alike_both (HeldAlike (OrDefined Everywhere i)) (λ e. held_in (Register (suc rd)) e ≡ held_in (Register s) c) (λ e. Unit {0}) (act (row_of i) c)
-            (act (row_of i) d)
+        (act (row_of i) d)
         (act_held Everywhere i c d h.alike.held (λ x u. tt)) (effects_hold.moves i (Register s) (Register (suc rd)) c (ap moved_by row) (ap set_by row))
         (always (act (row_of i) d))) by_core where
           always : (x : Outcome) → OnCore (λ e. Unit {0}) x
@@ -277,7 +277,7 @@ module _ (f g : Program) (blind_f : f.sees_pointer ≡ false) (blind_g : g.sees_
           by_core : (c' d' : Core) → HeldAlike (OrDefined Everywhere i) c' d' × (held_in (Register (suc rd)) c' ≡ held_in (Register s) c) × Unit {0} → TellsAs
               c c' →
               TellsAs d d' → OffCores Outside (numbered f.sees_pointer (is_call (row_of i)) (Some k) i.operands c')
-                  (numbered g.sees_pointer (is_call (row_of i)) None i.operands d')
+              (numbered g.sees_pointer (is_call (row_of i)) None i.operands d')
           by_core c' d' r same same' =
               let value : ℕ → Option ℕ = λ p. given f.sees_pointer (defined (is_call (row_of i)) (slice_get i.operands p)) (c'.pairs k p) c' in
               let here : value 0 ≡ content c'.regs (suc rd) =

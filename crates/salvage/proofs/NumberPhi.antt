@@ -143,7 +143,7 @@ module _ (f g : Program) (blind_f : f.sees_pointer ≡ false) (blind_g : g.sees_
       code_alike f g i i (Some k) None c d
       (λ c' d'. HeldAlike (OrDefined Everywhere i) c' d' × (held_in (Register (suc rd)) c' ≡ held_in (Register s) c) × Unit {0}) (PhiCores Elsewhere)
       (alike_both (HeldAlike (OrDefined Everywhere i)) (λ e. held_in (Register (suc rd)) e ≡ held_in (Register s) c) (λ e. Unit {0}) (act (row_of i) c)
-          (act (row_of i) d)
+      (act (row_of i) d)
       (act_held Everywhere i c d h.alike.held (λ x u. tt)) (effects_hold.moves i (Register s) (Register (suc rd)) c (ap moved_by row) (ap set_by row))
       (always (act (row_of i) d))) by_core where
         always : (x : Outcome) → OnCore (λ e. Unit {0}) x
@@ -161,7 +161,7 @@ module _ (f g : Program) (blind_f : f.sees_pointer ≡ false) (blind_g : g.sees_
         by_core : (c' d' : Core) → HeldAlike (OrDefined Everywhere i) c' d' × (held_in (Register (suc rd)) c' ≡ held_in (Register s) c) × Unit {0} → TellsAs c
             c' →
             TellsAs d d' → PhiCores Elsewhere (numbered f.sees_pointer (is_call (row_of i)) (Some k) i.operands c')
-                (numbered g.sees_pointer (is_call (row_of i)) None i.operands d')
+            (numbered g.sees_pointer (is_call (row_of i)) None i.operands d')
         by_core c' d' r same same' =
             let value : ℕ → Option ℕ = λ p. given f.sees_pointer (defined (is_call (row_of i)) (slice_get i.operands p)) (c'.pairs k p) c' in
             let here : value 0 ≡ content c'.regs (suc rd) =

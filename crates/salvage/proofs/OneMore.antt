@@ -76,7 +76,7 @@ module _ (subs : List Entry) (e : Entry) (whole : e.subreg ≡ 0) (free : entry_
           inl (is ∙ ap Some same, ends_resolve more q e.dst (goes_further q r (resolve_ends subs q r is) same))
       by_test false t =
           let ne : r ≡ e.src → ⊥ = λ same. (let bad : true ≡ false = sym (is_pair-same e.src) ∙ ap (λ (p : OperandPair). is_pair p e.src) (sym same) ∙ t in
-              cc) in
+          cc) in
           inr (
             λ w. (let both : Some r ≡ Some e.src = sym is ∙ w in let same : r ≡ e.src = cc in ne same),
             ends_resolve more q r (stays_there q r (resolve_ends subs q r is) ne) ∙ sym is,

@@ -32,7 +32,7 @@ pub fn salvage(
     requires fresh { fresh.old < 2 ^ 31 }
     ensures items { OnOk result (items.new.items ≡
         items_after (way removed.now subs.old fresh.old number source (take at items.old.items)) at number source
-            items.old.items) }
+        items.old.items) }
     ensures entries { OnOk result (subs.new ≡
         subs.old ++ entries_for (way removed.now subs.old fresh.old number source (take at items.old.items)) number) }
     ensures fresh { OnOk result (fresh.new ≡

@@ -133,7 +133,7 @@ once_fewer (keeps {x = x} {y = z} {xs = xs} {ys = ys} h more) once = by_index (o
       let same : z ≡ a = cc in
       let w = was more j b k at' n in
       let e : zero ≡ suc w.index = once zero (suc w.index) x w.item k refl (h.code k (ap (λ (i : Item). code_number i.kind) same ∙ c)) w.at
-          (w.other.number k n) in
+      (w.other.number k n) in
       absurd (omega (arith, e))
   by_index rest (suc i) zero a b k at c at' n =
       let same : z ≡ b = cc in

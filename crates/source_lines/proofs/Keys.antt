@@ -84,7 +84,7 @@ key_number keys joined k name dir index more e n d at =
     ∙ (λ i. position_or_len (is_file (record { name = n i; dir = d i })) (map seen keys)) in
     let kept : position_or_len (is_file f) (map seen joined ++ more) ≡ position_or_len (is_file f) (map seen keys) =
     ap (λ fs. position_or_len (is_file f) (fs ++ more)) (key_known keys joined k (map seen keys) name dir refl e n d) ∙ number_kept is_file file_same
-        (map seen keys) more f in
+    (map seen keys) more f in
     omega (arith, place, kept)
 
 -- the same of names alone

@@ -20,8 +20,11 @@ use Rattle.source_lines.specs.Lines.{first_loc, loc_if_code, loc_of}
 use Rattle.source_lines.specs.steps.Places.{loc_at, loc_among, AreLocs}
 
 absent_at : (n k : ℕ) → loc_at (replicate n Absent) k ≡ Absent
-absent_at n k = elim (cases_lt k n) [ inl within ↦ get_or-replicate n k Absent Absent within | inr past ↦ get_or_past (replicate n Absent) k Absent
-    (rw length-replicate past) ]
+absent_at n k = elim (cases_lt k n) [
+  | inl within ↦ get_or-replicate n k Absent Absent within
+  | inr past ↦ get_or_past (replicate n Absent) k Absent
+      (rw length-replicate past)
+]
 
 pub first_at : (items : List Item) (i : ℕ) (item : Item) (next : Loc) → i < length items → item ≡ get_or items i item → next ≡ first_loc (drop (i + 1) items)
     → loc_if_code item.kind item.loc next ≡ first_loc (drop i items)

@@ -27,7 +27,7 @@ pub record SoFar (meta : Maps) (places : Places) (first files : List SourceFile)
       → first_uses is_file files (uses_in meta (unit_in first) blocks rest) ≡ first_uses is_file first (uses_in meta (unit_in first) blocks entries)
   pub listed : (blocks : List Block) (more : List SourceFile) → ArePlaces blocks places
       → rows ++ changes before (rows_in (files ++ more) meta (unit_in first) blocks rest) ≡ changes None
-          (rows_in (files ++ more) meta (unit_in first) blocks entries)
+      (rows_in (files ++ more) meta (unit_in first) blocks entries)
 
 pub starts : (meta : Maps) (places : Places) (first : List SourceFile) (entries : List Entry) → 0 < length first → SoFar meta places first first entries
     entries None []
@@ -58,7 +58,7 @@ next meta places first files files_ entries rest e before before_ rows rows_ r l
     let stays = unit_stays files file so.unit in
     let more_files = joined_only is_file files file in
     let led_line : (blocks : List Block) → ArePlaces blocks places → line_at meta (unit_in files) loc ≡ line_at meta (unit_in first)
-        (loc_of blocks (position_of e.origin)) =
+    (loc_of blocks (position_of e.origin)) =
     λ blocks are. λ i. line_at meta (so.led i) (found blocks are i) in
     record {
       unit = let P : List SourceFile → Type 0 = λ fs. 0 < length fs in subst P (sym joins) stays.1;

@@ -71,14 +71,14 @@ table_next meta unit functions rest f files files_ sequences sequences_ so joins
       few = let so_few : length files + 262144 * suc (length rest) ≤ 1 + 262144 * length functions = so.few in omega (arith, so_few, few);
       known =
           ap (λ fs. first_uses is_file fs (flat_map (function_uses meta unit) rest))
-              (joins ∙ ap (λ u. first_uses is_file files (function_uses meta u f)) so.led)
+          (joins ∙ ap (λ u. first_uses is_file files (function_uses meta u f)) so.led)
           ∙ sym (uses_append is_file files (function_uses meta unit f) (flat_map (function_uses meta unit) rest)) ∙ so.known;
       listed = λ more.
           let all : files_ ++ more ≡ files ++ (longer.0 ++ more) = ap (λ fs. fs ++ more) is ∙ append_assoc files longer.0 more in
           let P : List SourceFile → Type 0 = λ fs.
           sequences ++ flat_map (sequences_of fs meta unit) (f ∷ rest) ≡ flat_map (sequences_of fs meta unit) functions in
           ap (λ ss. ss ++ flat_map (sequences_of (files_ ++ more) meta unit) rest)
-              (lists more ∙ ap (λ u. sequences ++ sequences_of (files_ ++ more) meta u f) so.led)
+          (lists more ∙ ap (λ u. sequences ++ sequences_of (files_ ++ more) meta u f) so.led)
           ∙ append_assoc sequences (sequences_of (files_ ++ more) meta unit f) (flat_map (sequences_of (files_ ++ more) meta unit) rest)
           ∙ subst P (sym all) (so.listed (longer.0 ++ more));
     }

@@ -68,7 +68,7 @@ fn row(
         (files.new ≡ with_new is_file files.old (line_at meta.now (unit_in files.old) loc.now).file) }
     ensures row { (more : List SourceFile) →
         IfOk result (λ row. row ≡ row_of_line (files.new ++ more) address
-            (line_at meta.now (unit_in files.old) loc.now)) }
+        (line_at meta.now (unit_in files.old) loc.now)) }
     ensures few { OnOk result (length files.new ≤ length files.old + 1) }
 {
     let said = scope_line(meta, loc);

@@ -89,7 +89,7 @@ module _ (least : ℕ) where
     each_on (a ∷ fs) (b ∷ gs) (further id silent items rest) h =
         All-cons (λ (c : Block). All (Each c.silent) c.items) b gs
         (subst (λ (n : ℕ). All (Each n) b.items) (sym silent) (each_in a.silent a.items b.items items
-            (All-head (λ (c : Block). All (Each c.silent) c.items) a fs h)))
+        (All-head (λ (c : Block). All (Each c.silent) c.items) a fs h)))
         (each_on fs gs rest (All-tail (λ (c : Block). All (Each c.silent) c.items) a fs h))
 
   mark_fits : (n : ℕ) (v : VarId) (r k : ℕ) (o : Origin) → MarkFits (Mark v (At r)) o → MarkFits (Mark v (Pair (first_operand k))) o
@@ -136,7 +136,7 @@ module _ (least : ℕ) where
         stores_on b member p i home at save o =
             let a = old_block fs gs rel b member in
             let origin : i.origin ≡ Before (record { block = a.0.id; item = a.0.silent }) = o ∙
-                (λ z. Before (record { block = sym a.2 z; item = sym a.3 z })) in
+            (λ z. Before (record { block = sym a.2 z; item = sym a.3 z })) in
             let w = shape.stores a.0 a.1 p i (home ∙ sym a.2) (code_back least fs gs rel (resolve subs) p i at (on_code IsSlotStore i.kind save)) save origin in
             let met : IsMetApart fp p b.silent w.0 w.1 = subst (λ (n : ℕ). IsMetApart fp p n w.0 w.1) a.3 w.2 in
             (w.0, w.1, met_on p b.silent w.0 w.1 met)
@@ -152,9 +152,9 @@ module _ (least : ℕ) where
             objects = objects ∙ fol.objects;
             follows = subst (λ (bs : List Block). Follows source.function.objects source.function.blocks bs (resolve source.subs) (resolve subs)) (sym is')
                 (record {
-              shape = shape_on source.function.blocks srcp h.shape;
-              runs = λ s start. runs_on least fs gs rel subs low ByItems srcp (first_of source.function.blocks) s start.pos (h.runs s start);
-            });
+                  shape = shape_on source.function.blocks srcp h.shape;
+                  runs = λ s start. runs_on least fs gs rel subs low ByItems srcp (first_of source.function.blocks) s start.pos (h.runs s start);
+                });
           });
       ends = λ keeps source fol whole. (let srcp : Program = program_of true source.function.blocks (resolve source.subs) in
           let h = subst (λ (bs : List Block). HasWholeEnds source.function.objects source.function.blocks bs (resolve source.subs) (resolve subs)) is whole in

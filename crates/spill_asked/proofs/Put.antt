@@ -114,4 +114,4 @@ module _ (s : Spilling) (least : ℕ) where
   blocks_edited k le (b ∷ bs) low =
       next_block refl refl (items_edited k le b.items (All-head (λ (c : Block). All (λ (i : Item). Low least i.kind) c.items) b bs low))
       (blocks_edited (number_behind s.homes k b.items) (behind_low k b.items le) bs
-          (All-tail (λ (c : Block). All (λ (i : Item). Low least i.kind) c.items) b bs low))
+      (All-tail (λ (c : Block). All (λ (i : Item). Low least i.kind) c.items) b bs low))

@@ -128,7 +128,7 @@ module _ (least : ℕ) where
       All-cons (λ (c : Block). All (λ (i : Item). OriginIn c i.origin) c.items) a fs
       (all_weaker (λ i. OriginIn b i.origin) (λ i. OriginIn a i.origin) (λ x inside. same_home a b id silent x.origin inside) a.items
       (back_items (λ kind o. OriginIn b o) (λ v m m' o k. k) a.items b.items items
-          (All-head (λ (c : Block). All (λ (i : Item). OriginIn c i.origin) c.items) b gs h)))
+      (All-head (λ (c : Block). All (λ (i : Item). OriginIn c i.origin) c.items) b gs h)))
       (back_origins fs gs rest (All-tail (λ (c : Block). All (λ (i : Item). OriginIn c i.origin) c.items) b gs h))
 
   pub sound_back : (g : Function) (fs : List Block) → BlocksReask fs g.blocks → IsSound g → IsSound (record g { blocks = fs })

@@ -90,7 +90,7 @@ fn keep_candidates(f: &Func, facts: &Facts, incoming: &[Reg], registers: &mut Ve
 fn is_candidate(f: &Func, facts: &Facts, incoming: &[Reg], r: Reg) -> bool
     ensures { result ≡ (is_named f.now r &&
         is_free (first_reason facts.now.lacks_scratch (is_bound f.now r)
-            (is_among incoming.now r && facts.now.is_looped))) }
+        (is_among incoming.now r && facts.now.is_looped))) }
 {
     is_named(f, r) && reason_of(f, facts, incoming, r).is_none()
 }

@@ -47,7 +47,7 @@ pub fn registers_left(
 fn why_left(f: &Func, facts: &Facts, incoming: &[Reg], homes: &[Home], r: Reg) -> Option<Reason>
     ensures { result ≡ cond (is_named f.now r)
         (or_no_slot (first_reason facts.now.lacks_scratch (is_bound f.now r)
-            (is_among incoming.now r && facts.now.is_looped))
+        (is_among incoming.now r && facts.now.is_looped))
         (slot_of homes.now r)) None }
 {
     if !is_named(f, r) {

@@ -179,13 +179,13 @@ module _ (s : Spilling) where
           (like_code x (Phi p n) (Phi (place_left s p) n) x.origin x.loc e refl refl refl) more
       by_kind (Mark v Nothing) e more =
           alone x (item (Mark v Nothing) x.origin x.loc) xs (items_asked s k xs)
-              (like_code x (Mark v Nothing) (Mark v Nothing) x.origin x.loc e refl refl refl) more
+          (like_code x (Mark v Nothing) (Mark v Nothing) x.origin x.loc e refl refl refl) more
       by_kind (Mark v (Constant n)) e more =
           alone x (item (Mark v (Constant n)) x.origin x.loc) xs (items_asked s k xs)
           (like_code x (Mark v (Constant n)) (Mark v (Constant n)) x.origin x.loc e refl refl refl) more
       by_kind (Mark v (Pair q)) e more =
           alone x (item (Mark v (Pair q)) x.origin x.loc) xs (items_asked s k xs)
-              (like_code x (Mark v (Pair q)) (Mark v (Pair q)) x.origin x.loc e refl refl refl) more
+          (like_code x (Mark v (Pair q)) (Mark v (Pair q)) x.origin x.loc e refl refl refl) more
       by_kind (Mark v (At r)) e more = by_home v r (slot_of s.homes r) e more
 
     pub grown_blocks : (k : ℕ) → least ≤ k → (bs : List Block) → BlocksGrow Fresh bs (blocks_asked s k bs)

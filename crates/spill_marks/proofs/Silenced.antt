@@ -59,12 +59,18 @@ module _ {Y : Type 0} (h : Item → Option Y) where
       elim (Contains-append_cases (filter_map h b.items) (flat_map (λ c. filter_map h c.items) bs) y
       (subst (λ (z : List Y). Contains z y) (flat_map-cons (λ (c : Block). filter_map h c.items) b bs) k)) as
       (λ _. (i : Item) × Contains (items_of (b ∷ bs)) i × (h i ≡ Some y)) [
-        | inl here ↦ (let w = found_in b.items y here in
-            (w.0, subst (λ (z : List Item). Contains z w.0) (sym (flat_map-cons (λ (c : Block). c.items) b bs))
-                (Contains-append_left b.items (items_of bs) w.0 w.1), w.2))
-        | inr there ↦ (let w = all_found_in bs y there in
-            (w.0, subst (λ (z : List Item). Contains z w.0) (sym (flat_map-cons (λ (c : Block). c.items) b bs))
-                (Contains-append_right b.items (items_of bs) w.0 w.1), w.2))
+        | inl here ↦ (let w = found_in b.items y here in (
+          w.0,
+          subst (λ (z : List Item). Contains z w.0) (sym (flat_map-cons (λ (c : Block). c.items) b bs))
+              (Contains-append_left b.items (items_of bs) w.0 w.1),
+          w.2,
+        ))
+        | inr there ↦ (let w = all_found_in bs y there in (
+          w.0,
+          subst (λ (z : List Item). Contains z w.0) (sym (flat_map-cons (λ (c : Block). c.items) b bs))
+              (Contains-append_right b.items (items_of bs) w.0 w.1),
+          w.2,
+        ))
       ]
 
   all_found_of : (bs : List Block) (y : Y) (i : Item) → Contains (items_of bs) i → h i ≡ Some y → Contains (flat_map (λ b. filter_map h b.items) bs) y

@@ -133,7 +133,7 @@ module _ (at_use at_def : ℕ → ℕ) (keeps : SetsZero at_def) where
         let v = extended op (spelled c.memory a (load_width op)) in
         subst (λ (z : ℕ). EndAlike (Made r) (loaded rd op b a c) (loaded (at_def rd) op (renamed_base at_use at_def b) z d)) e
         (subst (λ (z : Bool). EndAlike (Made r) (loaded rd op b a c) (cond z Traps (Falls (set_register (at_def rd) v d))))
-            (sym (fault_same b a (load_width op)))
+        (sym (fault_same b a (load_width op)))
         (alike_either (Made r) (is_fault b c a (load_width op)) Traps (Falls (set_register rd v c)) Traps (Falls (set_register (at_def rd) v d)) tt
         (set_made r rd v v (λ q k. one_of rd q k) (λ n k. cc) refl)))
 
@@ -167,7 +167,7 @@ module _ (at_use at_def : ℕ → ℕ) (keeps : SetsZero at_def) where
         let ea = read_alike a (u.regs a (contains_head a (input_reads b))) in
         let eb = input_alike b (λ q k. u.regs q (contains_tail a q (input_reads b) k)) in
         set_made (Sets rd op a b) rd (computed op (read c a) (input_value c b))
-            (computed op (read d (at_use a)) (input_value d (renamed_input at_use at_def b)))
+        (computed op (read d (at_use a)) (input_value d (renamed_input at_use at_def b)))
         (λ q k. one_of rd q k) (λ m k. cc) (λ i. computed op (ea i) (eb i))
     does_made (Addresses rd n o) i u =
         set_made (Addresses rd n o) rd (address_at c (ObjectAt n) o) (address_at d (ObjectAt n) o) (λ q k. one_of rd q k) (λ m k. cc) refl

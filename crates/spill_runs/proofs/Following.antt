@@ -117,7 +117,7 @@ module _ (objects : List Object) (src : List Block) (f : Function) (subs fsubs :
       (λ b h. order_entry s f.slots homes entry f.blocks fsubs srcp b.id entry (spilled_items s b.items)
       (order_items s f.slots homes entry f.blocks fsubs srcp b b.id 0 b.items h.0 (0, refl) h.1)) f.blocks
       (both_all (λ (b : Block). All (IsGood s f.slots homes entry f.blocks fsubs srcp b) b.items) (λ (b : Block). InOrder b.id 0 b.items) f.blocks goods
-          shape.order)
+      shape.order)
 
   kinds_new : All (λ (b : Block). All (λ (i : Item). KindFits srcp i.kind b.silent i.origin) b.items) new
   kinds_new =
@@ -125,7 +125,7 @@ module _ (objects : List Object) (src : List Block) (f : Function) (subs fsubs :
       (λ b. All (λ (i : Item). KindFits srcp i.kind b.silent i.origin) b.items) (λ b h. items_of b h)
       (λ b h. All-append (λ (i : Item). KindFits srcp i.kind b.silent i.origin) (entry_stores b.id entry) (spilled_items s b.items)
       (each_entry s f.slots homes entry f.blocks fsubs srcp (λ i. KindFits srcp i.kind b.silent i.origin) b.id entry (λ h. tt)) (items_of b h)) f.blocks
-          goods where
+      goods where
         items_of : (b : Block) → All (IsGood s f.slots homes entry f.blocks fsubs srcp b) b.items →
             All (λ (i : Item). KindFits srcp i.kind b.silent i.origin) (spilled_items s b.items)
         items_of b h =

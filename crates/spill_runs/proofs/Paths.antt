@@ -109,20 +109,20 @@ module _ (s : Spilling) (entry : List Home) (blocks : List Block) (resolve : Ope
   pub from_start : (n : ℕ) (b : Block) (rest : List Block) → from_block blocks n ≡ b ∷ rest → (q : Pos) × Chunk (block_start n) q × Leads g (block_start n) q
   from_start n b rest found = by_first (in_g s entry blocks n b rest found).first (in_g s entry blocks n b rest found).at
       (in_g s entry blocks n b rest found).which where
-    abbrev_rest : rf (block_start n) ≡ b.items
-    abbrev_rest = ap (λ (bs : List Block). rest_in bs 0) found ∙ drop_none b.items
+        abbrev_rest : rf (block_start n) ≡ b.items
+        abbrev_rest = ap (λ (bs : List Block). rest_in bs 0) found ∙ drop_none b.items
 
-    by_first : (first : List Item) → from_block (spilled_blocks s entry blocks) n ≡ with_first s entry first b ∷ others s entry rest →
-        (first ≡ []) ⊎ ((first ≡ entry_stores b.id entry) × (n ≡ first_of blocks)) → (q : Pos) × Chunk (block_start n) q × Leads g (block_start n) q
-    by_first first at which =
-        let here : rg (block_start n) ≡ first ++ spilled_items s b.items =
-        ap (λ (bs : List Block). rest_in bs 0) at ∙ drop_none (first ++ spilled_items s b.items) in
-        let falls : FallThrough first = elim which as (λ _. FallThrough first) [
-          | inl e ↦ subst FallThrough (sym e) tt
-          | inr e ↦ subst FallThrough (sym e.0) (entry_falls b.id entry)
-        ] in
-        let w = walk first (spilled_items s b.items) (block_start n) falls here in
-        (w.0, record { block = w.1; rest = w.2 ∙ ap (spilled_items s) (sym abbrev_rest) }, w.3)
+        by_first : (first : List Item) → from_block (spilled_blocks s entry blocks) n ≡ with_first s entry first b ∷ others s entry rest →
+            (first ≡ []) ⊎ ((first ≡ entry_stores b.id entry) × (n ≡ first_of blocks)) → (q : Pos) × Chunk (block_start n) q × Leads g (block_start n) q
+        by_first first at which =
+            let here : rg (block_start n) ≡ first ++ spilled_items s b.items =
+            ap (λ (bs : List Block). rest_in bs 0) at ∙ drop_none (first ++ spilled_items s b.items) in
+            let falls : FallThrough first = elim which as (λ _. FallThrough first) [
+              | inl e ↦ subst FallThrough (sym e) tt
+              | inr e ↦ subst FallThrough (sym e.0) (entry_falls b.id entry)
+            ] in
+            let w = walk first (spilled_items s b.items) (block_start n) falls here in
+            (w.0, record { block = w.1; rest = w.2 ∙ ap (spilled_items s) (sym abbrev_rest) }, w.3)
 
   -- the items from where one stands
   pub rest_from : (p : Pos) (x : Item) → f.fetch p ≡ Here x → rf p ≡ x ∷ rf (below p)

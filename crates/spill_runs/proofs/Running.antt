@@ -269,7 +269,7 @@ module _ (s : Spilling) (slots : List ℕ) (homes : AreHomes s slots) (entry : L
         let here : Pos = record { block = p.block; item = i } in
         let there : f.fetch here ≡ Silent j n = end_past s entry blocks resolve here w.0 w.1 j n w.2 rests.0 w.3 in
         near_on s slots homes resolve (Alive s slots homes entry blocks resolve p.block i) (λ _. ⊥) (Alive s slots homes entry blocks resolve n 0) (λ _. ⊥) c
-            d near
+        d near
         (λ r m e out. (
           λ z. z,
           λ live. later (λ k. subst (λ (x : Fetch). Defines x (Register r)) there k)

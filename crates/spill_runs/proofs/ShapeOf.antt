@@ -126,7 +126,7 @@ module _ (s : Spilling) (slots : List ℕ) (homes : AreHomes s slots) (entry : L
       FitsCode s ins o
   fits_at w ins num o l e =
       (good_at w (record { kind = Code ins num; origin = o; loc = l })
-          (stands_at false blocks resolve w (record { kind = Code ins num; origin = o; loc = l }) e)).fits
+      (stands_at false blocks resolve w (record { kind = Code ins num; origin = o; loc = l }) e)).fits
 
   home_at : (w : Pos) (x : Item) → f.fetch w ≡ Here x → (position_of x.origin).block ≡ w.block
   home_at w x e = let v = stands_at false blocks resolve w x e in by_origin v.block x.origin (good_at w x v).inside ∙ v.id where
@@ -140,7 +140,7 @@ module _ (s : Spilling) (slots : List ℕ) (homes : AreHomes s slots) (entry : L
       let w = found new apart b member in
       let i = in_g s entry blocks b.id c rest e in
       let same : b ∷ w.rest ≡ record { id = c.id; items = i.first ++ spilled_items s c.items; silent = c.silent } ∷ map (spilled_block s) rest = sym w.at ∙
-          i.at in
+      i.at in
       let one : b ≡ record { id = c.id; items = i.first ++ spilled_items s c.items; silent = c.silent } = cc in
       sym (ap (λ (z : Block). z.silent) one)
 
@@ -326,7 +326,7 @@ module _ (s : Spilling) (slots : List ℕ) (homes : AreHomes s slots) (entry : L
                   m.counts,
                   λ z. (let at_end : kept.0 ≡ record { block = p.block; item = b.silent } = sym (ap position_of kept.1) ∙ sym m.pos ∙ z in
                       let home : w.block ≡ b.id = sym (home_at w x e) ∙ ap (λ (q : Pos). q.block) (ap position_of kept.1) ∙ ap (λ (q : Pos). q.block) at_end ∙
-                          same in
+                      same in
                       let lt = (inside_of w x b e member home).1 kept.0 kept.1 in
                       let item : kept.0.item ≡ b.silent = ap (λ (q : Pos). q.item) at_end in
                       omega (arith, lt, item)),
@@ -404,7 +404,7 @@ module _ (s : Spilling) (slots : List ℕ) (homes : AreHomes s slots) (entry : L
                 let le = within.0 in
                 let ne : (position_of j.origin).item ≡ b.silent → ⊥ =
                 λ k. far (same_pos (position_of j.origin) (record { block = w.block; item = v.block.silent }) (within.2 ∙ sym (same ∙ home))
-                    (k ∙ sym silent)) in
+                (k ∙ sym silent)) in
                 let lower : (position_of j.origin).item < b.silent = omega (arith, le, ne) in
                 let lt' : (position_of piece.item.origin).item < b.silent = subst (λ (z : Pos). z.item < b.silent) (sym piece.pos) lower in (
                   t.0,

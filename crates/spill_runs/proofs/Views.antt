@@ -698,8 +698,11 @@ module _ (s : Spilling) (slots : List ℕ) (homes : AreHomes s slots) (entry : L
           w.2,
           w.3,
           near_on s slots homes resolve (Alive b i) (λ _. ⊥) (Alive b (i + 1)) (λ _. ⊥) w.0 w.1 w.4
-              (λ r n e out. (λ z. z, λ live. live_on f r (at b i) (below (at b i)) x stood (debug_defines x.kind (Register r) z)
-                  (debug_edge f (at b i) x stood z) live)),
+              (λ r n e out. (
+                λ z. z,
+                λ live. live_on f r (at b i) (below (at b i)) x stood (debug_defines x.kind (Register r) z)
+                    (debug_edge f (at b i) x stood z) live,
+              )),
         )
 
     debug_next : (b i : ℕ) (x : Item) (rest : List Item) → rf (at b i) ≡ x ∷ rest → rf (at b (i + 1)) ≡ rest

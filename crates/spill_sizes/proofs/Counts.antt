@@ -194,7 +194,7 @@ module _ (s : Spilling) where
       sum_by-cons (λ (x : Item). cond (calls x.kind) 1 0) (item (Code (spilled_code s i) n) o l) ys ∙
       ap (λ (b : Bool). cond b 1 0 + call_count ys) (call_renamed (use_now s (first_used s.homes i.operands)) (def_now s) i) ∙
       ap (λ (m : ℕ). m + call_count ys) (sym (sum_by-cons (λ (x : Item). cond (calls x.kind) 1 0) (item (Code i n) o l) [] ∙ no_more
-          (cond (is_call (row_of i)) 1 0))) where
+      (cond (is_call (row_of i)) 1 0))) where
         no_more : (m : ℕ) → m + 0 ≡ m
         no_more m = omega arith
 

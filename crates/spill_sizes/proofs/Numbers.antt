@@ -156,7 +156,7 @@ module _ (s : Spilling) where
       let mark : Item = item (Mark v (Pair (first_operand k))) o l in
       ap top (flat_map-cons (spilled_item s) phi (mark ∷ [])) ∙ top_append (spilled_item s phi) (spilled_items s (mark ∷ [])) ∙
       (λ i. max (top_one (item_before (Phi (spilled_place s.homes (Some (Register r))) k) o) i) (top_kind (Mark v (Pair (first_operand k))) o l i)) ∙ same_max
-          k where
+      k where
         same_max : (n : ℕ) → max (max n 0) (max n 0) ≡ n
         same_max n = omega arith
 

@@ -110,7 +110,7 @@ module _ (s : Spilling) (first : s.first < 32) (second : s.second < 32) where
       All-append Each (two_loads s (position_of o) i.operands (first_used s.homes i.operands)) (now ∷ after)
       (real_two (position_of o) i.operands (first_used s.homes i.operands))
       (All-cons Each now after (real_operands (first_used s.homes i.operands) i.operands h)
-          (real_stores (below (position_of o)) (first_defined s.homes i.operands)))
+      (real_stores (below (position_of o)) (first_defined s.homes i.operands)))
   real_spilled (Mark v m) o l h = one (item (Mark v m) o l) h
   real_spilled (Phi p n) o l h = one (item (Phi (spilled_place s.homes p) n) o l) (real_place p n h)
 
@@ -119,7 +119,7 @@ module _ (s : Spilling) (first : s.first < 32) (second : s.second < 32) where
   real_items (x ∷ xs) h =
       subst (All Each) (sym (flat_map-cons (spilled_item s) x xs))
       (All-append Each (spilled_item s x) (spilled_items s xs) (real_spilled x.kind x.origin x.loc (All-head Each x xs h))
-          (real_items xs (All-tail Each x xs h)))
+      (real_items xs (All-tail Each x xs h)))
 
   -- ---- marks that ask by phis
 
@@ -131,7 +131,7 @@ module _ (s : Spilling) (first : s.first < 32) (second : s.second < 32) where
   real_mark k v r None o l h = one (item (Mark v (value_left s r)) o l) (real_value v r (is_scratch s r) h)
   real_mark k v r (Some n) o l h =
       All-cons Each (item_before (Phi (Some (Register r)) k) o) (item (Mark v (Pair (first_operand k))) o l ∷ []) h
-          (one (item (Mark v (Pair (first_operand k))) o l) tt)
+      (one (item (Mark v (Pair (first_operand k))) o l) tt)
 
   real_left : (p : Place) (n : ℕ) (z : Bool) → HasPhysical (Phi (Some p) n) → HasPhysical (Phi (cond z None (Some p)) n)
   real_left p n true h = tt

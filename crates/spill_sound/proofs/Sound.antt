@@ -196,7 +196,7 @@ module _ (s : Spilling) (entry : List Home) (f : Function) (resolve : OperandPai
       Grown NoFresh (x ∷ xs) (code_items s i n x.origin x.loc ++ ys)
   grown_code x i n xs ys is fits more =
       grows (two_loads s (position_of x.origin) i.operands (first_used s.homes i.operands))
-          (stores (below (position_of x.origin)) s.first (first_defined s.homes i.operands))
+      (stores (below (position_of x.origin)) s.first (first_defined s.homes i.operands))
       (two_extra (position_of x.origin) i.operands (first_used s.homes i.operands))
       (record {
         exit = main_exit i ∙ ap exit_of (sym is);
@@ -224,7 +224,7 @@ module _ (s : Spilling) (entry : List Home) (f : Function) (resolve : OperandPai
   grown_kind x (Code i n) xs ys is fits more = grown_code x i n xs ys is fits more
   grown_kind x (Mark v m) xs ys is fits more =
       alone x (item (Mark v m) x.origin x.loc) xs ys (record { exit = ap exit_of (sym is); code = ap code_number (sym is); number = ap number_of (sym is) })
-          more
+      more
   grown_kind x (Phi p n) xs ys is fits more =
       alone x (item (Phi (spilled_place s.homes p) n) x.origin x.loc) xs ys
       (record { exit = ap exit_of (sym is); code = ap code_number (sym is); number = ap number_of (sym is) }) more
@@ -389,7 +389,7 @@ module _ (s : Spilling) (entry : List Home) (f : Function) (resolve : OperandPai
   slots_pass = record {
     code = λ b i n o fits inside h. subst (SlotIn now) (sym (renames i))
         (slot_renamed (use_now s (first_used s.homes i.operands)) (def_now s) now (row_of i)
-            (slot_more f.slots (map (λ (g : Home). g.slot) s.homes) (row_of i) h));
+        (slot_more f.slots (map (λ (g : Home). g.slot) s.homes) (row_of i) h));
     before = λ b r q m o which is inside. home_slot_in q m is;
     behind = λ b q m p is inside. home_slot_in q m is;
     start = λ b q m is. home_slot_in q m is;

@@ -34,8 +34,11 @@ module _ (s : Spilling) (apart : (r n : ℕ) → slot_of s.homes r ≡ Some n �
   none_of r q e is = (let bad : true ≡ false = sym (eq-eqb r q is) ∙ e in cc)
 
   pub no_scratch : (r : ℕ) → is_scratch s r ≡ false → IsNoScratch s r
-  no_scratch r e = (none_of r s.first (or_left (nat_eq r s.first) (nat_eq r s.second) e), none_of r s.second
-      (or_right (nat_eq r s.first) (nat_eq r s.second) e))
+  no_scratch r e = (
+    none_of r s.first (or_left (nat_eq r s.first) (nat_eq r s.second) e),
+    none_of r s.second
+        (or_right (nat_eq r s.first) (nat_eq r s.second) e),
+  )
 
   abbrev Each : Item → Type 0
   Each i = AsksElsewhere s i.kind

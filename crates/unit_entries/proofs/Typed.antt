@@ -43,9 +43,9 @@ used known (x ∷ xs) =
     let more = lengthened nat_eq (with_new nat_eq known x) xs in
     let there : list_any (nat_eq x) (first_uses nat_eq (with_new nat_eq known x) xs) ≡ true =
     ap (list_any (nat_eq x)) more.1 ∙ list_any-append (nat_eq x) (with_new nat_eq known x) more.0 ∙ ap (λ b. b || list_any (nat_eq x) more.0)
-        (joined nat_eq node_same known x) in
+    (joined nat_eq node_same known x) in
     All-cons (Below (first_uses nat_eq (with_new nat_eq known x) xs)) x xs (found_below (nat_eq x) (first_uses nat_eq (with_new nat_eq known x) xs) there)
-        (used (with_new nat_eq known x) xs)
+    (used (with_new nat_eq known x) xs)
 
 front : {X : Type 0} (P : X → Type 0) (xs ys : List X) → All P (xs ++ ys) → All P xs
 front P [] ys all = All-nil P

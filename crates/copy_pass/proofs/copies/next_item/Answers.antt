@@ -32,8 +32,8 @@ returns-in-GoesWith-clause-stands c =
     (let same : x0 ≡ x = c.index_mut.ensures.value ∙ get_any xs at x0 x lt ∙ sym here in
     let is : y ≡ renamed_item roots x = c.rename_item.ensures ∙ (λ i. renamed_item (known i) (same i)) in
     subst (λ (z : Item). Stands (and_renamed (record { done = take kept xs; roots = roots; subs = subs; fresh = fresh }) z) more (at + 1)
-        c.take_out.new.items.items xs roots
+    c.take_out.new.items.items xs roots
     c.take_out.new.subs c.take_out.new.fresh) is
     (taken_stands xs kept at subs fresh roots c.requires.within lt y c.in-GoesWith.number c.in-GoesWith.source more c.take_out.new.items.items
-        c.take_out.new.subs
+    c.take_out.new.subs
     c.take_out.new.fresh fate (h y roots (sym (get_set xs at y y lt))))))

@@ -43,7 +43,7 @@ returns-then-number-fresh-clause-stands c x roots here =
     c.in_ok-add-in-GetsEntry.ensures.ok in
     let counted = sym (ap (λ (z : Bool). cond z (fresh + 1) fresh) (eq-eqb n fresh (sym c.number.ensures ∙ c.if-number-fresh.true))) in
     entry_stands xs c.args.kept c.args.at k s subs fresh roots c.requires.within c.requires.at d o n c.index_mut.result.now c.give_number.new.x x.origin
-        c.add.new.self (fresh + 1) _ w
+    c.add.new.self (fresh + 1) _ w
     (inside xs c.deref.result.now c.args.kept c.args.at d all c.requires.within c.requires.at (c.choose_way.ensures.within d o n c.in-GetsEntry.is))
     (sym c.index_mut.ensures.value) c.give_number.ensures entries counted
 
@@ -63,7 +63,7 @@ returns-else-number-fresh-clause-stands c x roots here =
     c.in_ok-add-in-GetsEntry.ensures.ok in
     let counted = sym (ap (λ (z : Bool). cond z (fresh + 1) fresh) (ne_eqb n fresh (λ e. c.if-number-fresh.false (c.number.ensures ∙ e)))) in
     entry_stands xs c.args.kept c.args.at k s subs fresh roots c.requires.within c.requires.at d o n c.index_mut.result.now c.give_number.new.x x.origin
-        c.add.new.self fresh _ w
+    c.add.new.self fresh _ w
     (inside xs c.deref.result.now c.args.kept c.args.at d all c.requires.within c.requires.at (c.choose_way.ensures.within d o n c.in-GetsEntry.is))
     (sym c.index_mut.ensures.value) c.give_number.ensures entries counted
 
@@ -76,5 +76,5 @@ returns-in-GetsPhi-clause-stands c x roots here =
     let w = ap (λ (ys : List Item). way [] c.args.subs.now c.args.fresh.now c.args.number c.args.source (take c.args.kept ys)) (sym all) ∙
     sym c.choose_way.ensures.chosen ∙ c.in-GetsPhi.is in
     phi_stands xs c.args.kept c.args.at c.args.number c.args.source c.args.subs.now c.args.fresh.now roots c.requires.within c.requires.at c.put_phi.new.x
-        x.origin
+    x.origin
     c.swap.new.self.items _ w (c.put_phi.ensures ∙ ap (λ (i : Item). phi_for c.args.number c.args.source i.origin) same) c.swap.ensures.items

@@ -6,4 +6,4 @@ use Rattle.copy_pass.proofs.roots.rename.Goals as goal
 pub invariant_of-i : goal.invariant_of-i
 invariant_of-i c =
     subst (λ (b : Bool). IsTrue b) (sym (ap (has_form c.i.inside.op) c.rename_all.ensures ∙ form_renamed c.args.roots.now c.i.inside.op c.i.inside.operands))
-        c.i.invariant
+    c.i.invariant

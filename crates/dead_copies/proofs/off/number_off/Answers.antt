@@ -29,7 +29,7 @@ returns-then-number-fresh-clause-items c =
     let is = sym (ap (λ (ys : List Item). way c.args.removed.now c.args.subs.now c.args.fresh.now c.args.copied.number c.args.copied.source (take c.args.at ys))
     (sym all) ∙ sym c.choose_way.ensures.chosen ∙ c.in-GetsEntry.is) in
     entry_items c.args.copied xs c.args.at c.in-GetsEntry.d c.in-GetsEntry.operand c.in-GetsEntry.standing c.index_mut-in-GetsEntry.result.now
-        c.give_number.new.x
+    c.give_number.new.x
     c.index_mut-in-GetsEntry-2.result.now c.drop_number-in-GetsEntry.new.x c.requires.at
     (inside xs c.deref.result.now c.args.at c.in-GetsEntry.d all c.requires.at (c.choose_way.ensures.within _ _ _ c.in-GetsEntry.is))
     (sym c.index_mut-in-GetsEntry.ensures.value) c.give_number.ensures (sym c.index_mut-in-GetsEntry-2.ensures.value) c.drop_number-in-GetsEntry.ensures ∙
@@ -42,7 +42,7 @@ returns-else-number-fresh-clause-items c =
     let is = sym (ap (λ (ys : List Item). way c.args.removed.now c.args.subs.now c.args.fresh.now c.args.copied.number c.args.copied.source (take c.args.at ys))
     (sym all) ∙ sym c.choose_way.ensures.chosen ∙ c.in-GetsEntry.is) in
     entry_items c.args.copied xs c.args.at c.in-GetsEntry.d c.in-GetsEntry.operand c.in-GetsEntry.standing c.index_mut-in-GetsEntry.result.now
-        c.give_number.new.x
+    c.give_number.new.x
     c.index_mut-in-GetsEntry-2.result.now c.drop_number-in-GetsEntry.new.x c.requires.at
     (inside xs c.deref.result.now c.args.at c.in-GetsEntry.d all c.requires.at (c.choose_way.ensures.within _ _ _ c.in-GetsEntry.is))
     (sym c.index_mut-in-GetsEntry.ensures.value) c.give_number.ensures (sym c.index_mut-in-GetsEntry-2.ensures.value) c.drop_number-in-GetsEntry.ensures ∙

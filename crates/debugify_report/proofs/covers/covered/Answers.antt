@@ -9,14 +9,14 @@ words_in-total-requires-clause-some c =
 pub overflow_add-total : goal.overflow_add-total
 overflow_add-total c =
     let k = counts_more c.args.base c.args.count c.loop-range.total c.args.ranges.now c.loop-range.range-index c.range-item.result _ c.loop-range-test.true
-        c.range-item.is
+    c.range-item.is
     c.loop-range.invariant.ascend c.loop-range.invariant.room c.loop-range.invariant.sum in
     omega (arith, k.few, c.words_in-total.ensures.value, c.requires.count)
 
 pub loop-range-preserved : goal.loop-range-preserved
 loop-range-preserved c =
     let k = counts_more c.args.base c.args.count c.loop-range.total c.args.ranges.now c.loop-range.range-index c.range-item.result _ c.loop-range-test.true
-        c.range-item.is
+    c.range-item.is
     c.loop-range.invariant.ascend c.loop-range.invariant.room c.loop-range.invariant.sum in
     record {
       ascend = k.ascend;

@@ -6,7 +6,7 @@ pub overflow_sub-result : goal.overflow_sub-result
 overflow_sub-result c =
     let r = c.args.range.now in
     let grows = before_grows c.args.base c.args.count r.lo r.hi (omega (arith, c.requires.some)) in omega
-        (arith, grows, c.words_before.ensures, c.words_before-2.ensures)
+    (arith, grows, c.words_before.ensures, c.words_before-2.ensures)
 
 pub returns-clause-value : goal.returns-clause-value
 returns-clause-value c =

@@ -25,7 +25,7 @@ loop-block-preserved c = λ x b source placed here.
     let there = block_here x b blocks k block entries c.loop-block.at c.loop-block.listed _ less c.block-item.is so in
     let fits : All P items = subst (All P) (sym c.as_slice.ensures) (subst (λ (t : Block). All P t.items) (sym c.block-item.is) (placed k block less)) in
     let begins = subst (λ (t : List Item). drop c.loop-block.at entries ≡ flat_map (entries_at x) (sites_in (b + k) 0 t) ++ rest) (sym c.as_slice.ensures)
-        there in
+    there in
     let made = c.in_ok-at.ensures x (b + k) rest source fits (λ m. blocks_apart x (b + k) (suc (b + k)) m (drop (k + 1) blocks) (omega arith)) begins in
     let lined = made.0 ∙ ap (λ (t : List Line). t ++ items_listed x (b + k) items) c.new-lines.ensures ∙ ap (items_listed x (b + k)) c.as_slice.ensures in
     block_more x b blocks k block entries c.loop-block.at c.in_ok-at.at c.push_items.new.lines c.loop-block.listed c.push.new.self _ less c.block-item.is so

@@ -13,7 +13,7 @@ overflow_cast-origin c =
     let len : it.result.rest.len ≡ length k = omega (arith, it.ensures.into_iter_gives.1, v.result.ok.0, ap length v.ensures) in
     let y = YieldsList-from_vec {s = it.result} k (it.ensures.into_iter_gives.0 ∙ v.ensures) len in
     let t = YieldsList-turn y c.loop-kind.yielded c.loop-kind.kind-iterator c.loop-kind.yielded_by c.next.result c.next.new.self c.in-Some.kind c.in-Some.is
-        c.next.ensures.steps in
+    c.next.ensures.steps in
     omega (arith, t.0, ap length c.loop-kind.invariant, length-placed c.args.block 0 c.loop-kind.yielded)
 
 pub loop-kind-preserved : goal.loop-kind-preserved

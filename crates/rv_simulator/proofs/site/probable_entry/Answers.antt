@@ -7,4 +7,4 @@ pub returns-then-entry-address-clause-found : goal.returns-then-entry-address-cl
 returns-then-entry-address-clause-found c =
     entry_found _ _ c.code.inside.entries c.as_slice-entries.result.now c.args.code.now.entries c.index-i.result.now c.index-entries-i.result c.args.address
     c.code.invariant.stand c.as_slice-entries.ensures (ap (λ (x : LaidCode). x.entries) c.code.view_is) c.if-i-entries.true c.index-entries-i.is
-        c.if-entry-address.true
+    c.if-entry-address.true

@@ -21,7 +21,7 @@ returns-then-number-fresh-clause-items c =
     sym c.choose_way.ensures.chosen ∙ c.in-GetsEntry.is) in
     c.remove-in-GetsEntry.ensures.items ∙
     entry_items xs c.args.at c.in-GetsEntry.d c.in-GetsEntry.operand c.in-GetsEntry.standing c.args.number c.args.source c.index_mut.result.now
-        c.give_number.new.x
+    c.give_number.new.x
     c.requires.at (inside xs c.deref.result.now c.args.at c.in-GetsEntry.d all c.requires.at (c.choose_way.ensures.within _ _ _ c.in-GetsEntry.is))
     (sym c.index_mut.ensures.value) c.give_number.ensures ∙ ap (λ (w : Way). items_after w c.args.at c.args.number c.args.source xs) is
 
@@ -33,7 +33,7 @@ returns-else-number-fresh-clause-items c =
     sym c.choose_way.ensures.chosen ∙ c.in-GetsEntry.is) in
     c.remove-in-GetsEntry.ensures.items ∙
     entry_items xs c.args.at c.in-GetsEntry.d c.in-GetsEntry.operand c.in-GetsEntry.standing c.args.number c.args.source c.index_mut.result.now
-        c.give_number.new.x
+    c.give_number.new.x
     c.requires.at (inside xs c.deref.result.now c.args.at c.in-GetsEntry.d all c.requires.at (c.choose_way.ensures.within _ _ _ c.in-GetsEntry.is))
     (sym c.index_mut.ensures.value) c.give_number.ensures ∙ ap (λ (w : Way). items_after w c.args.at c.args.number c.args.source xs) is
 

@@ -16,7 +16,7 @@ returns-in-Code-clause-chosen c =
     let operand = c.first_definition-operand.ensures in
     let way-is = chosen_at c.args.removed.now c.args.subs.now c.args.fresh c.args.number c.args.source above d c.index-above-d.result _
     (sym c.has_entry.ensures ∙ c.if-has_entry.false) (sym c.last_definition.ensures.found ∙ c.in-Some.is)
-        (within above _ d c.in-Some.is c.last_definition.ensures.within)
+    (within above _ d c.in-Some.is c.last_definition.ensures.within)
     c.in-Code.is in
     c.way_by.ensures ∙ (λ i. way_by c.args.removed.now c.args.subs.now c.args.fresh c.args.number d c.in-Code.n (operand i) (all_behind above d i)) ∙ sym way-is
 
@@ -26,7 +26,7 @@ returns-in-Mark-clause-chosen c =
     let d = c.in-Some.d in
     sym (chosen_at c.args.removed.now c.args.subs.now c.args.fresh c.args.number c.args.source above d c.index-above-d.result _
     (sym c.has_entry.ensures ∙ c.if-has_entry.false) (sym c.last_definition.ensures.found ∙ c.in-Some.is)
-        (within above _ d c.in-Some.is c.last_definition.ensures.within)
+    (within above _ d c.in-Some.is c.last_definition.ensures.within)
     c.in-Mark.is)
 
 pub returns-in-Phi-clause-chosen : goal.returns-in-Phi-clause-chosen
@@ -35,10 +35,10 @@ returns-in-Phi-clause-chosen c =
     let d = c.in-Some.d in
     sym (chosen_at c.args.removed.now c.args.subs.now c.args.fresh c.args.number c.args.source above d c.index-above-d.result _
     (sym c.has_entry.ensures ∙ c.if-has_entry.false) (sym c.last_definition.ensures.found ∙ c.in-Some.is)
-        (within above _ d c.in-Some.is c.last_definition.ensures.within)
+    (within above _ d c.in-Some.is c.last_definition.ensures.within)
     c.in-Phi.is)
 
 pub returns-in-Code-clause-within : goal.returns-in-Code-clause-within
 returns-in-Code-clause-within c d o n e =
     entered_within c.args.removed.now c.args.subs.now c.args.fresh c.args.number c.args.source c.args.above.now d o n
-        (sym (returns-in-Code-clause-chosen c) ∙ e)
+    (sym (returns-in-Code-clause-chosen c) ∙ e)

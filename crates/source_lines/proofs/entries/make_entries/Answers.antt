@@ -6,5 +6,5 @@ use Rattle.source_lines.proofs.entries.make_entries.Goals as goal
 pub returns-clause-files : goal.returns-clause-files
 returns-clause-files c =
     let so = subst (λ rest. EntriesSoFar c.args.keys.now rest c.loop-key.dirs c.loop-key.files)
-        (drop_all c.loop-key.key-index c.args.keys.now c.loop-key-test.false) c.loop-key.invariant in
+    (drop_all c.loop-key.key-index c.args.keys.now c.loop-key-test.false) c.loop-key.invariant in
     (entries_done c.args.keys.now c.loop-key.dirs c.loop-key.files so).1

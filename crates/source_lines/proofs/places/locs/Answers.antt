@@ -17,7 +17,7 @@ loop-index-preserved c = record {
   found =
       let index = c.loop-index.index in
       let behind = next_loc c.loop-index.locs.items (index - 1 + 1) _ _ c.index.ensures
-          (omega (arith, c.loop-index.invariant.within, c.loop-index.invariant.long)) in
+      (omega (arith, c.loop-index.invariant.within, c.loop-index.invariant.long)) in
       let here = first_at c.args.items.now (index - 1) _ _ (omega (arith, c.loop-index.invariant.within)) c.index-items-index.is
       (behind ∙ c.loop-index.invariant.found (index - 1 + 1) (omega arith)) in
       found_next c.args.items.now c.loop-index.locs.items index _ c.loop-index-test.true c.loop-index.invariant.within c.loop-index.invariant.long

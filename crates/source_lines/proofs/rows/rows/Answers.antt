@@ -9,7 +9,7 @@ use Rattle.source_lines.proofs.rows.rows.Goals.{then-not-is_place_before+in_ok-p
 pub loop-entry-preserved : goal.loop-entry-preserved
 loop-entry-preserved c =
     let P : List Entry → Type 0 = λ es. SoFar c.args.meta.now c.args.places.now c.args.files.now c.loop-entry.files c.args.entries.now es c.loop-entry.before
-        c.loop-entry.rows in
+    c.loop-entry.rows in
     let so = subst P (split_at c.args.entries.now c.loop-entry.entry-index c.entry-item.result c.loop-entry-test.true c.entry-item.is) c.loop-entry.invariant in
     let before = c.loop-entry.before in
     let rows = c.loop-entry.rows in

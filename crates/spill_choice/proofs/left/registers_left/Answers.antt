@@ -26,7 +26,7 @@ loop-r-preserved c =
     let same = c.requires in
     let o : c.why_left.result ≡ why_left f (is_among among) all r =
     c.why_left.ensures ∙ (λ i. cond (is_named f r) (or_no_slot (first_reason (lacks i) (is_bound f r) (is_among among r && looped i)) (slot_of (same i) r))
-        None) in
+    None) in
     let more : c.match-why_left.losses ≡ so_far ++ cons_option (loss_for r (why_left f (is_among among) all r)) [] =
     elim c.match-why_left.branch [
       | in-Some+in_ok-push w ↦ w.losses-is ∙ w.in_ok-push.ensures.ok ∙

@@ -18,5 +18,5 @@ loop-block-preserved c =
     (c.in_ok-add_all.ensures ∙ ap (λ is. first_uses is_same_variable known (marks_of is)) c.as_slice.ensures)
     ∙ sym (uses_append is_same_variable known (marks_of c.block-item.result.items) (marks rest))
     ∙ ap (λ bs. first_uses is_same_variable known (marks bs)) (sym (split_at blocks c.loop-block.block-index c.block-item.result c.loop-block-test.true
-        c.block-item.is))
+    c.block-item.is))
     ∙ c.loop-block.invariant

@@ -16,7 +16,7 @@ returns-in-One c = λ x.
     let none = has_none c.args.self.now.slots c.new-set.result c.new-set.ensures x in
     out_one c.args.f.now c.args.self.now c.requires.sets _ x _ c.in-One.n c.in-One.ensures
     (rw (slots, ids, starts) at (c.unite_start.ensures x) ∙ ap (λ (t : Bool). t || has_at_start c.args.self.now.slots c.args.self.now.blocks
-        c.args.self.now.starts
+    c.args.self.now.starts
     c.in-One.n x) none)
 
 pub returns-in-Two : goal.returns-in-Two

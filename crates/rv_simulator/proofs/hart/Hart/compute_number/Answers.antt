@@ -16,6 +16,6 @@ returns-clause-stands c = λ s h.
     let x : c.read-x.result ≡ register s c.args.a = c.read-x.ensures s h in
     let low : register s c.args.a < 2 ^ 64 = omega (arith, x, c.read-x.type_inv) in
     let v = c.compute.ensures ∙ (ap (λ (o : RegisterOp). computed o c.read-x.result n) c.on_registers.ensures ∙ ap (λ (y : _). computed (on_registers op) y n)
-        x) in
+    x) in
     sets c.set.new.self (does_row (row.immediate_row op c.args.rd c.args.a n) s) c.args.rd _ c.compute.result s
     (with_number op c.args.rd c.args.a n s (omega (arith, c.ranges.n.fits)) low) v (c.set.ensures.stands s h)

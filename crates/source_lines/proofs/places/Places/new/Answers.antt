@@ -23,7 +23,7 @@ loop-index-preserved c =
           places_more c.args.blocks.now c.loop-index.places c.insert.new.self (index - 1) c.index-blocks-index.result _ c.in_ok-locs.locs _
           (omega (arith, c.loop-index-test.true, c.loop-index.invariant.within)) here
           (c.number.ensures ∙ ap (λ (b : Block). b.id) (get_or_default c.args.blocks.now (index - 1) _ _
-              (omega (arith, c.loop-index-test.true, c.loop-index.invariant.within)) ∙ sym here))
+          (omega (arith, c.loop-index-test.true, c.loop-index.invariant.within)) ∙ sym here))
           (c.as_slice.ensures ∙ ap (λ (b : Block). b.items) (sym here)) c.in_ok-locs.ensures c.in_ok-insert.ensures.updates.0
           (λ (p : Pos). c.loop-index.invariant.found p ∙ ap (λ n. loc_of (drop n c.args.blocks.now) p) next);
     }

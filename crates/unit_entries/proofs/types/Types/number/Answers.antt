@@ -13,4 +13,4 @@ returns-clause-number c = λ more.
     c.in_ok-index.ensures.index ∙ ap (λ (n : ℕ). position_or_len (nat_eq n) keys) c.number.ensures
     ∙ sym (number_kept nat_eq node_same keys more node)
     ∙ ap (λ (ks : List ℕ). position_or_len (nat_eq node) (ks ++ more))
-        (sym (c.in_ok-index.ensures.keys ∙ ap (λ (n : ℕ). with_new nat_eq keys n) c.number.ensures))
+    (sym (c.in_ok-index.ensures.keys ∙ ap (λ (n : ℕ). with_new nat_eq keys n) c.number.ensures))
