@@ -4,8 +4,11 @@ ghost use Rattle.std.specs.Prelude.{◌≡◌, ◌<◌, ◌≤◌};
 ghost use Rattle.std.specs.Char.{digit_value};
 ghost use Rattle.meta_reader.specs.Number.{spelled, zero_alone, integer_of, node_number};
 
-use numbers::limits::MAX_NUMBER;
+use numbers::limits;
 use numbers::metadata::NodeId;
+
+/// The greatest number that is read.
+const MAX_NUMBER: u64 = limits::MAX_NUMBER as u64;
 
 /// The value of a digit, where letters go on from 10, and 36 for another byte.
 pub fn digit_value(byte: u8) -> u8
@@ -29,7 +32,7 @@ pub fn spelled(base: u64, digits: &[u8]) -> Option<u32>
     let mut value = 0;
     for byte in digits {
         value = value * base + u64::from(digit_value(*byte));
-        if value > MAX_NUMBER as u64 {
+        if value > MAX_NUMBER {
             return None;
         }
     }
