@@ -1,13 +1,12 @@
 //! Losses are put in order.
 
-ghost use Rattle.std.specs.Prelude.{◌≡◌, ◌↔◌, All, Contains, true};
-ghost use Rattle.std.specs.List.{Any};
-ghost use Rattle.std.specs.List.Sorted.{IsStrictlySortedBy};
+ghost use Rattle.std.specs.Prelude.{◌↔◌, All, Contains};
 ghost use Rattle.follow_law.specs.declared.loss.Loss.{Loss};
 ghost use Rattle.follow_law.specs.Order.{IsInOrder};
 ghost use Rattle.fold_debug.specs.Lost.{IsFoldReason};
 
 use follow_law::loss::Loss;
+use loss_order::order::sort_once;
 
 /// Puts losses of folding in order, each once: numbers, marks by their positions, registers, and for one thing by
 /// reasons. It takes no memory.
@@ -17,14 +16,4 @@ pub fn put_in_order(losses: &mut Vec<Loss>)
     ensures same { (l : Loss) → Contains losses.new.items l ↔ Contains losses.old.items l }
 {
     sort_once(losses);
-}
-
-/// Sorts values, and keeps one of those that are equal.
-fn sort_once<T: Ord + Drop>(values: &mut Vec<T>)
-    ensures sorted { IsStrictlySortedBy T.cmp values.new.items }
-    ensures from { (x : T) → Contains values.new.items x → Contains values.old.items x }
-    ensures kept { (x : T) → Contains values.old.items x → Any (λ y. T.eq x y ≡ true) values.new.items }
-{
-    values.sort_unstable();
-    values.dedup();
 }

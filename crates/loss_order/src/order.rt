@@ -18,8 +18,8 @@ pub fn put_in_order(losses: &mut Vec<Loss>)
     sort_once(losses);
 }
 
-/// Sorts values, and keeps one of those that are equal.
-fn sort_once<T: Ord + Drop>(values: &mut Vec<T>)
+/// Sorts values, and keeps one of those that are equal. It takes no memory.
+pub fn sort_once<T: Ord + Drop>(values: &mut Vec<T>)
     ensures sorted { IsStrictlySortedBy T.cmp values.new.items }
     ensures from { (x : T) → Contains values.new.items x → Contains values.old.items x }
     ensures kept { (x : T) → Contains values.old.items x → Any (λ y. T.eq x y ≡ true) values.new.items }
