@@ -2,7 +2,7 @@
 
 ghost use Rattle.std.specs.Prelude.{◌≡◌, ◌≤◌, ◌++◌, IfOk, OnOk, map};
 ghost use Rattle.mir_func.specs.Limits.{MAX_FRAME};
-ghost use Rattle.frame_rule.specs.Rule.{is_final};
+ghost use Rattle.mir_func.specs.Exits.{is_final};
 ghost use Rattle.frame_lower.specs.steps.Framing.{
   framed_item_in,
   framed_items_in,

@@ -24,7 +24,7 @@ use Rattle.dwarf_loclists.specs.declared.range.Range.{Range}
 use Rattle.dwarf_loclists.specs.Grammar.{IsSection}
 use Rattle.compiled_text.specs.declared.output.ListedFunction.{ListedFunction}
 use Rattle.compiled_text.specs.declared.output.Output.{Output}
-use Rattle.shown_program.specs.Laws.{IsFormed}
+use Rattle.shown_program.specs.Laws.{AreFormed}
 use Rattle.shown_program.specs.Program.{image_of}
 use Rattle.shown_program.proofs.Images.{image_shown}
 use Rattle.output_promise.specs.Compiled.{bytes_of}
@@ -61,7 +61,7 @@ first_byte l a p at =
 
 module _ (names : ℕ → List ℕ) (o : Output) (lists : List (List Range)) (section : IsSection o.loclists lists) (source : SourceFunction) (f : ListedFunction)
     (is : IsSourceFunction source) (c : IsCompiledIn names o.text lists source f) where
-  pub formed : IsFormed c.compiled.layout.framed
+  pub formed : AreFormed c.compiled.layout.framed
   formed = subst (λ (x : FramedFunction). AllItems IsFormed x.blocks) (sym c.compiled.laid.framed)
       (forms_framed source.function c.compiled.laid.small is.form)
 
