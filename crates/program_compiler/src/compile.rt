@@ -5,13 +5,14 @@ ghost use Rattle.output_promise.specs.Compiled.{IsCompiledProgram};
 ghost use Rattle.program_compiler.specs.Program.{sources_of, names_of, HasSections, HasLargeFrame, HasLargeSection};
 ghost use Rattle.program_compiler.specs.declared.compile.CompileError.TheVariants.{Memory};
 ghost use Rattle.program_compiler.specs.steps.Made.{AreMade};
+ghost use Rattle.program_compiler.specs.steps.Fault.{of_section};
 ghost use Rattle.reading_laws.specs.Read.{IsReadProgram};
 
 use crate::function::{Made, made_of};
-use crate::sections::{info, loclists, rows, with_code};
 use compiled_text::output::Output;
 use dwarf_info::abbreviation::write_abbrev;
 use mir_parser::program::Program;
+use program_sections::sections::{SectionError, info, loclists, rows, with_code};
 use std::alloc::{AllocError, Global};
 use thiserror::Error;
 
@@ -34,6 +35,17 @@ impl From<AllocError> for CompileError {
 
     fn from(_: AllocError) -> CompileError {
         CompileError::Memory
+    }
+}
+
+impl From<SectionError> for CompileError {
+    ghost from_gives = { λ e c. c ≡ of_section e };
+
+    fn from(e: SectionError) -> CompileError {
+        match e {
+            SectionError::TooLarge => CompileError::SectionTooLarge,
+            SectionError::Memory => CompileError::Memory,
+        }
     }
 }
 

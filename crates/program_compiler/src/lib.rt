@@ -4,4 +4,3 @@
 
 pub mod compile;
 mod function;
-mod sections;

@@ -1,5 +1,5 @@
 use Rattle.std.proofs.Common.{◌≡◌, map, take}
-use Rattle.program_compiler.proofs.sections.with_code.Given as goal
+use Rattle.program_sections.proofs.sections.with_code.Given as goal
 
 abbrev pub invariant-loop-index : goal.invariant-loop-index
 invariant-loop-index l = (map (λ c. c.source.now) l.compiled.items ≡ map (λ p. p.func) (take l.index l.functions))

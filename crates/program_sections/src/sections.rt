@@ -1,4 +1,4 @@
-//! The sections of a program.
+//! The sections of functions with their machine code.
 
 ghost use Rattle.std.specs.Prelude.{◌≡◌, ◌-◌, ◌<◌, ◌≤◌, ◌^◌, All, IfOk, IsErrOf, length, map};
 ghost use Rattle.dwarf_info.specs.Entries.{spelling as entries_spelling};
@@ -6,12 +6,11 @@ ghost use Rattle.dwarf_line.specs.Spelling.{spelling as rows_spelling};
 ghost use Rattle.dwarf_loclists.specs.Spelling.{spelling as lists_spelling};
 ghost use Rattle.dwarf_loclists.specs.Ranges.{Ascend, ArePlaces};
 ghost use Rattle.dwarf_loclists.specs.Grammar.{IsSection};
-ghost use Rattle.program_compiler.specs.steps.Made.{AreWritable};
+ghost use Rattle.program_sections.specs.declared.sections.SectionError.TheVariants.{Memory};
 ghost use Rattle.source_lines.specs.Program.{MAX_FUNCTIONS, table_of};
 ghost use Rattle.unit_entries.specs.Unit.{program_variables, unit_of};
 ghost use Rattle.dwarf_base.specs.Limits.{SECTION_LIMIT};
 
-use crate::compile::CompileError;
 use code_words::code::Code;
 use compiled_text::output::Bytes;
 use dwarf_info::size::info_size;
@@ -25,7 +24,27 @@ use mir_parser::closing::Parsed;
 use source_lines::compiled::Compiled;
 use source_lines::line_table::line_table;
 use std::alloc::{AllocError, Global};
+use thiserror::Error;
 use unit_entries::unit::make_unit;
+
+/// Why a section isn't written.
+#[derive(Clone, Copy, Debug, PartialEq, Eq, Error)]
+pub enum SectionError {
+    /// It would have 2^31 bytes or more.
+    #[error("the section is too large")]
+    TooLarge,
+    /// Memory ran out.
+    #[error("out of memory")]
+    Memory,
+}
+
+impl From<AllocError> for SectionError {
+    ghost from_gives = { λ _ e. e ≡ Memory };
+
+    fn from(_: AllocError) -> SectionError {
+        SectionError::Memory
+    }
+}
 
 /// The functions with their machine code.
 pub fn with_code<'a>(
@@ -48,54 +67,52 @@ pub fn with_code<'a>(
     Ok(compiled)
 }
 
-/// The section `.debug_info` of functions with so many bytes of code.
+/// The section `.debug_info` of functions with so many bytes of code. It is `TooLarge` exactly from 2^31 bytes on.
 pub fn info(
     alloc: Global,
     functions: &[Compiled],
     meta: &Metadata,
     text_len: u32,
-) -> Result<Bytes, CompileError>
+) -> Result<Bytes, SectionError>
     requires { length (program_variables functions.now) < 2 ^ 32 - 2 }
     ensures bytes { IfOk result (λ bytes. bytes ≡ entries_spelling (unit_of meta.now text_len functions.now)) }
     ensures small { IfOk result (λ bytes. length bytes < SECTION_LIMIT) }
-    ensures large { IsErrOf result CompileError.SectionTooLarge →
+    ensures large { IsErrOf result SectionError.TooLarge →
         SECTION_LIMIT ≤ length (entries_spelling (unit_of meta.now text_len functions.now)) }
-    ensures no_frame { IsErrOf result CompileError.FrameTooLarge → ⊥ }
 {
     let unit = make_unit(alloc, functions, meta, text_len)?;
     if info_size(&unit).is_none() {
-        return Err(CompileError::SectionTooLarge);
+        return Err(SectionError::TooLarge);
     }
     Ok(write_info(alloc, &unit)?)
 }
 
-/// The section `.debug_line` of functions.
-pub fn rows(alloc: Global, functions: &[Compiled], meta: &Metadata) -> Result<Bytes, CompileError>
+/// The section `.debug_line` of functions. It is `TooLarge` exactly from 2^31 bytes on.
+pub fn rows(alloc: Global, functions: &[Compiled], meta: &Metadata) -> Result<Bytes, SectionError>
     requires { length functions.now ≤ MAX_FUNCTIONS }
     ensures bytes { IfOk result (λ bytes. bytes ≡ rows_spelling (table_of meta.now functions.now)) }
     ensures small { IfOk result (λ bytes. length bytes < SECTION_LIMIT) }
-    ensures large { IsErrOf result CompileError.SectionTooLarge →
+    ensures large { IsErrOf result SectionError.TooLarge →
         SECTION_LIMIT ≤ length (rows_spelling (table_of meta.now functions.now)) }
-    ensures no_frame { IsErrOf result CompileError.FrameTooLarge → ⊥ }
 {
     let table = line_table(alloc, functions, meta)?;
     if line_size(&table).is_none() {
-        return Err(CompileError::SectionTooLarge);
+        return Err(SectionError::TooLarge);
     }
     Ok(write_line(alloc, &table)?)
 }
 
-/// The section `.debug_loclists` of lists.
-pub fn loclists(alloc: Global, lists: &RangeLists) -> Result<Bytes, CompileError>
-    requires { AreWritable lists.now }
+/// The section `.debug_loclists` of lists. It is `TooLarge` exactly from 2^31 bytes on.
+pub fn loclists(alloc: Global, lists: &RangeLists) -> Result<Bytes, SectionError>
+    requires ascend { All Ascend lists.now }
+    requires places { All ArePlaces lists.now }
     ensures section { IfOk result (λ bytes. IsSection bytes lists.now) }
     ensures small { IfOk result (λ bytes. length bytes < SECTION_LIMIT) }
-    ensures large { IsErrOf result CompileError.SectionTooLarge →
+    ensures large { IsErrOf result SectionError.TooLarge →
         SECTION_LIMIT ≤ length (lists_spelling lists.now) }
-    ensures no_frame { IsErrOf result CompileError.FrameTooLarge → ⊥ }
 {
     if lists_size(lists).is_none() {
-        return Err(CompileError::SectionTooLarge);
+        return Err(SectionError::TooLarge);
     }
     Ok(write_lists(alloc, lists)?)
 }

@@ -1,0 +1,10 @@
+-- Why a program has no output, if a section isn't written.
+use Rattle.program_sections.specs.declared.sections.SectionError.{SectionError}
+use Rattle.program_sections.specs.declared.sections.SectionError.TheVariants as sections
+use Rattle.program_compiler.specs.declared.compile.CompileError.{CompileError}
+use Rattle.program_compiler.specs.declared.compile.CompileError.TheVariants as compiling
+
+-- a section that is too large, or want of memory
+abbrev pub of_section : SectionError → CompileError
+of_section sections.TooLarge = compiling.SectionTooLarge
+of_section sections.Memory = compiling.Memory
