@@ -1,1 +1,4 @@
 mod Set
+pub mod Down
+mod Offs
+mod Going

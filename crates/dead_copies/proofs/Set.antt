@@ -1,12 +1,12 @@
 -- Items of which one loses its number.
-use Rattle.std.proofs.Common.{◌≡◌, ℕ, zero, suc, ◌+◌, ◌<◌, List, [], ◌∷◌, ◌++◌, length, get_or, take, drop, set, refl, sym, ap, ◌∙◌, arith, drop-cons}
+use Rattle.std.proofs.Common.{◌≡◌, ℕ, zero, suc, ◌<◌, List, [], ◌∷◌, ◌++◌, length, get_or, take, drop, set, refl, sym, ap, ◌∙◌, arith, drop-cons}
 use Rattle.std.specs.List.{insert}
 use Rattle.std.proofs.lemmas.List.{get_or-take, length-take-le, length-set, drop-set-lt, set_split, get_or-set_other}
 use Rattle.std.proofs.Math.Seq.{take-set-lt}
 use Rattle.mir_func.specs.declared.item.Item.{Item}
 use Rattle.salvage.specs.declared.way.Way.{Way}
 use Rattle.salvage.specs.declared.way.Way.TheVariants.{HasEntry, GetsEntry, GetsPhi}
-use Rattle.salvage.specs.Salvage.{with_number, numbered_at}
+use Rattle.salvage.specs.Salvage.{numbered_at}
 use Rattle.salvage.proofs.Placed.{numbered_item, numbered_set}
 use Rattle.dead_copies.specs.declared.off.Copied.{Copied}
 use Rattle.dead_copies.specs.Off.{without_number, phi_off, put_off, behind_off, items_off}

@@ -1,7 +1,8 @@
 -- What becomes of items and substitutions where a copy loses its number and stays.
-use Rattle.std.specs.Prelude.{ℕ, suc, List, [], ◌∷◌, ◌++◌, take, drop, Option, Some, None, Bool, true, false, nat_eq}
+use Rattle.std.specs.Prelude.{ℕ, zero, suc, List, [], ◌∷◌, ◌++◌, take, drop, Option, Some, None, Bool, true, false, nat_eq, slice_get, slice_index_or}
 use Rattle.rv64_instr.specs.Row.{Row, Moves, row_of}
 use Rattle.mir_func.specs.declared.position.Origin.{Origin}
+use Rattle.mir_func.specs.declared.entry.Entry.{Entry}
 use Rattle.mir_func.specs.declared.item.Item.{Item}
 use Rattle.mir_func.specs.declared.item.ItemKind.{ItemKind}
 use Rattle.mir_func.specs.declared.item.ItemKind.TheVariants.{Code, Mark, Phi}
@@ -10,7 +11,8 @@ use Rattle.follow_law.specs.declared.loss.Loss.{Loss}
 use Rattle.follow_law.specs.Rule.{item_before, number_lost}
 use Rattle.salvage.specs.declared.way.Way.{Way}
 use Rattle.salvage.specs.declared.way.Way.TheVariants.{HasEntry, GetsEntry, GetsPhi}
-use Rattle.salvage.specs.Salvage.{above_after, phi_for}
+use Rattle.salvage.specs.Salvage.{above_after, phi_for, entries_for, fresh_after}
+use Rattle.salvage.specs.Way.{way}
 use Rattle.dead_copies.specs.declared.off.Copied.{Copied}
 
 -- the copy that code with this number and row is; one into x0 is none
@@ -65,3 +67,39 @@ behind_off w c (x ∷ xs) = put_off w c x.origin ++ record x { kind = without_nu
 -- the items of a block afterwards, of which the one at an index was the copy
 abbrev pub items_off : Way → (at : ℕ) → Copied → List Item → List Item
 items_off w at c items = above_after w (take at items) ++ behind_off w c (drop at items)
+
+-- the items of a block, the substitutions, the next fresh number and what is lost, so far
+pub record SoFar : Type 0 where
+  pub items : List Item
+  pub subs : List Entry
+  pub fresh : ℕ
+  pub lost : List Loss
+
+-- a copy at an index loses its number in this way
+abbrev pub off_by : (at : ℕ) → Copied → SoFar → Way → SoFar
+off_by at c a w = record {
+  items = items_off w at c a.items;
+  subs = a.subs ++ entries_for w c.number;
+  fresh = fresh_after w a.fresh;
+  lost = a.lost ++ lost_off w c;
+}
+
+-- a copy at an index loses its number, where the items at these indices go
+abbrev pub off_copy : (removed : List ℕ) → (at : ℕ) → SoFar → Option Copied → SoFar
+off_copy removed at a (Some c) = off_by at c a (way removed a.subs a.fresh c.number c.source (take at a.items))
+off_copy removed at a None = a
+
+-- the copy with a number that stands there
+abbrev pub copy_in : Option Item → Option Copied
+copy_in (Some x) = numbered_copy x.kind
+copy_in None = None
+
+-- what stands at an index loses its number, if it goes and is a copy
+abbrev pub off_at : (removed : List ℕ) → (at : ℕ) → (goes : Bool) → SoFar → SoFar
+off_at removed at true a = off_copy removed at a (copy_in (slice_get a.items at))
+off_at removed at false a = a
+
+-- the copies of a block that go before an index lose their numbers, from the last to the first
+abbrev pub off_down : (removed : List ℕ) → (dead : List Bool) → (index : ℕ) → SoFar → SoFar
+off_down removed dead zero a = a
+off_down removed dead (suc n) a = off_down removed dead n (off_at removed n (slice_index_or dead n false) a)

@@ -3,4 +3,6 @@
 //! first, so that what goes above a copy still stands there when its number is asked for.
 #![tactic(auto)]
 
+pub mod blocks;
 pub mod off;
+pub mod verdicts;

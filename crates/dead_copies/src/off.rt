@@ -1,12 +1,14 @@
 //! One copy loses its number.
 
-ghost use Rattle.std.specs.Prelude.{◌≡◌, ◌++◌, ◌<◌, ◌^◌, length, take, OnOk};
+ghost use Rattle.std.specs.Prelude.{◌≡◌, ◌++◌, ◌+◌, ◌<◌, ◌≤◌, ◌^◌, length, take, true, OnOk};
 ghost use Rattle.rv64_instr.specs.Row.{row_of};
 ghost use Rattle.mir_meaning.specs.Align.{position_of};
 ghost use Rattle.salvage.specs.Way.{way};
 ghost use Rattle.salvage.specs.Salvage.{entries_for, fresh_after};
 ghost use Rattle.dead_copies.specs.Off.{copied_by, numbered_copy, without_number, phi_off, lost_off, items_off};
+ghost use Rattle.dead_copies.specs.Off.{off_at, off_down};
 
+use crate::verdicts::verdict;
 use follow_law::loss::{Loss, Lost, Reason};
 use mir_func::item::{Item, ItemKind};
 use mir_func::location::Loc;
@@ -119,6 +121,64 @@ pub fn number_off(
         }
     }
     Ok(())
+}
+
+/// Takes the numbers off the copies of a block that go, from the last to the first. `dead` has the verdict on each
+/// item, and `removed` the indices of those that go. After an error the items and the substitutions are only to be
+/// dropped.
+pub fn numbers_off(
+    items: &mut Vec<Item>,
+    dead: &[bool],
+    removed: &[usize],
+    subs: &mut Substitutions,
+    fresh: &mut u32,
+    lost: &mut Vec<Loss>,
+) -> Result<(), AllocError>
+    requires fresh { fresh.old + length items.old.items < 2 ^ 31 }
+    ensures off { OnOk result (record {
+      items = items.new.items;
+      subs = subs.new;
+      fresh = fresh.new;
+      lost = lost.new.items;
+    } ≡ off_down removed.now dead.now (length items.old.items)
+        (record { items = items.old.items; subs = subs.old; fresh = fresh.old; lost = lost.old.items })) }
+    ensures counted { OnOk result (fresh.new ≤ fresh.old + length items.old.items) }
+{
+    let mut at = items.len();
+    while at > 0 {
+        at -= 1;
+        if verdict(dead, at) {
+            copy_off(items, removed, at, subs, fresh, lost)?;
+        }
+    }
+    Ok(())
+}
+
+/// Takes the number off the item of an index, if it is a copy with a number.
+fn copy_off(
+    items: &mut Vec<Item>,
+    removed: &[usize],
+    at: usize,
+    subs: &mut Substitutions,
+    fresh: &mut u32,
+    lost: &mut Vec<Loss>,
+) -> Result<(), AllocError>
+    requires at { at < length items.old.items }
+    requires fresh { fresh.old < 2 ^ 31 }
+    ensures off { OnOk result (record {
+      items = items.new.items;
+      subs = subs.new;
+      fresh = fresh.new;
+      lost = lost.new.items;
+    } ≡ off_at removed.now at true
+        (record { items = items.old.items; subs = subs.old; fresh = fresh.old; lost = lost.old.items })) }
+    ensures counted { OnOk result (fresh.new ≤ fresh.old + 1) }
+    ensures longer { OnOk result (length items.old.items ≤ length items.new.items) }
+{
+    match numbered_copy(&items[at].kind) {
+        Some(copied) => number_off(items, subs, at, copied, removed, fresh, lost),
+        None => Ok(()),
+    }
 }
 
 /// Takes the number off code.

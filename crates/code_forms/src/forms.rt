@@ -1,0 +1,35 @@
+//! What the type of instructions keeps, said of all blocks.
+
+ghost use Rattle.std.specs.Prelude.{All};
+ghost use Rattle.mir_func.specs.Sound.{AllItems, HasForm};
+
+use mir_func::block::Block;
+use mir_func::item::{Item, ItemKind};
+
+/// The code of blocks has the form of its opcodes. It changes nothing, and takes no memory.
+pub fn know_forms(blocks: &[Block])
+    ensures { AllItems (λ i. HasForm i.kind) blocks.now }
+{
+    for b in blocks {
+        know_items(b.items.as_slice());
+    }
+}
+
+fn know_items(items: &[Item])
+    ensures { All (λ i. HasForm i.kind) items.now }
+{
+    for i in items {
+        know_kind(&i.kind);
+    }
+}
+
+fn know_kind(kind: &ItemKind)
+    ensures { HasForm kind.now }
+{
+    match kind {
+        ItemKind::Code(i, _) => {
+            let _ = &i.op;
+        }
+        ItemKind::Mark(_, _) | ItemKind::Phi(_, _) => {}
+    }
+}
