@@ -1,0 +1,4 @@
+//! Documents of functions are read back: laws, each the contract of a function that does nothing.
+#![tactic(auto)]
+
+pub mod laws;
