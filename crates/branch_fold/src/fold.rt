@@ -1,12 +1,13 @@
 //! Branch folding.
 
-ghost use Rattle.std.specs.Prelude.{◌≡◌, [], ◌∷◌, All, IfOk, OnOk, true, false};
+ghost use Rattle.std.specs.Prelude.{◌≡◌, [], ◌∷◌, IfOk, OnOk, true, false};
 ghost use Rattle.mir_func.specs.Sound.{AreApart, ids_of, AllItems, IsSound, HasForm};
 ghost use Rattle.fold_debug.specs.Debug.{fold_step};
 ghost use Rattle.branch_fold.specs.Folded.{AreFoldedWithLosses};
 ghost use Rattle.branch_fold.specs.Laws.{folding_has_one_result, folding_sees_code_alone};
 ghost use Rattle.std.proofs.Common.{rules};
 
+use code_forms::forms::know_forms;
 use fold_debug::laws::folded_keeps_items;
 use fold_follows::laws::{folded_follows, kills_strip};
 use fold_lost::lost::fold_losses;
@@ -18,7 +19,6 @@ use kill_code::bypassed::old_ways;
 use kill_code::put::put_kills;
 use mir_func::block::{Block, copy_blocks};
 use mir_func::func::Func;
-use mir_func::item::{Item, ItemKind};
 use std::alloc::{AllocError, Global};
 use substitution::substitutions::Substitutions;
 
@@ -86,32 +86,4 @@ fn fold_copy(alloc: Global, before: &[Block], after: &mut Vec<Block>) -> Result<
     fold_blocks(alloc, after)?;
     put_kills(alloc, before, &ways, after)?;
     Ok(losses)
-}
-
-/// The code of blocks has the form of its opcodes, which the type of instructions keeps.
-fn know_forms(blocks: &[Block])
-    ensures { AllItems (λ i. HasForm i.kind) blocks.now }
-{
-    for b in blocks {
-        know_items(b.items.as_slice());
-    }
-}
-
-fn know_items(items: &[Item])
-    ensures { All (λ i. HasForm i.kind) items.now }
-{
-    for i in items {
-        know_kind(&i.kind);
-    }
-}
-
-fn know_kind(kind: &ItemKind)
-    ensures { HasForm kind.now }
-{
-    match kind {
-        ItemKind::Code(i, _) => {
-            let _ = &i.op;
-        }
-        ItemKind::Mark(_, _) | ItemKind::Phi(_, _) => {}
-    }
 }
