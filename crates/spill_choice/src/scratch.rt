@@ -64,7 +64,7 @@ pub fn second_scratch(scratch: &[Reg]) -> Reg
 }
 
 /// The register xN.
-fn register(n: u32) -> Reg
+pub fn register(n: u32) -> Reg
     requires { n < 32 }
     ensures { result ≡ n }
 {

@@ -1,0 +1,35 @@
+-- Whatever decides what is live at the start, the same registers are spilled.
+use Rattle.std.proofs.Common.{◌≡◌, ◌↔◌, ℕ, suc, List, [], ◌∷◌, filter, take, Contains, Some, None, Bool, true, false, cond, ◌&&◌}
+use Rattle.std.proofs.Common.{refl, sym, ap, arith}
+use Rattle.mir_func.specs.Function.{Function}
+use Rattle.follow_law.specs.declared.loss.Reason.TheVariants.{NoScratch, CallNamed, EntryLoop}
+use Rattle.follow_law.specs.Causes.{is_named}
+use Rattle.spill_rule.specs.Choice.{is_bound, is_looped, lacks_scratch, reason_of, is_free, candidates, room, next_slot, homes_from, homes_of}
+use Rattle.spill_rule.specs.Rule.{IsLiveIn, Decides}
+
+filter_same : (p q : ℕ → Bool) (xs : List ℕ) → ((x : ℕ) → Contains xs x → p x ≡ q x) → filter p xs ≡ filter q xs
+filter_same p q [] h = refl
+filter_same p q (x ∷ xs) h =
+    let here = h x (0, omega arith, refl) in
+    let rest = filter_same p q xs (λ y k. h y (suc k.0, (let lt = k.1 in omega (arith, lt)), k.2)) in
+    λ i. cond (here i) (x ∷ rest i) (rest i)
+
+agreeing : (P : Type 0) (a b : Bool) → (a ≡ true) ↔ P → (b ≡ true) ↔ P → a ≡ b
+agreeing P true true h k = refl
+agreeing P true false h k = sym (k.1 (h.0 refl))
+agreeing P false true h k = h.1 (k.0 refl)
+agreeing P false false h k = refl
+
+module _ (reserve : List ℕ) (f : Function) (live live' : ℕ → Bool) (decides : Decides reserve f live) (decides' : Decides reserve f live') where
+  pub agree : (r : ℕ) → Contains reserve r → live r ≡ live' r
+  agree r k = agreeing (IsLiveIn f r) (live r) (live' r) (decides r k) (decides' r k)
+
+  candidates_same : candidates reserve live f ≡ candidates reserve live' f
+  candidates_same =
+      filter_same (λ r. is_named f r && is_free (reason_of f live r)) (λ r. is_named f r && is_free (reason_of f live' r)) reserve
+      (λ r k. (let e = agree r k in
+      λ i. is_named f r && is_free (cond (lacks_scratch f) (Some NoScratch) (cond (is_bound f r) (Some CallNamed)
+      (cond (e i && is_looped f) (Some EntryLoop) None)))))
+
+  pub homes_same : homes_of reserve live f ≡ homes_of reserve live' f
+  homes_same = ap (λ (rs : List ℕ). homes_from (next_slot f.slots) (take (room f) rs)) candidates_same

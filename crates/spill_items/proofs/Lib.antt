@@ -1,0 +1,4 @@
+pub mod Agree
+pub mod Places
+pub mod Items
+pub mod Blocks

@@ -1,0 +1,16 @@
+-- What becomes of each item.
+use Rattle.std.specs.Prelude.{ℕ, ◌+◌, List, Bool}
+use Rattle.mir_func.specs.declared.entry.Entry.{Entry}
+use Rattle.mir_func.specs.Function.{Function}
+use Rattle.mir_func.specs.Sound.{IsSound}
+use Rattle.follow_law.specs.Change.{change}
+use Rattle.follow_law.specs.Debug.{BlocksBecome}
+use Rattle.follow_law.specs.Sizes.{greatest_number}
+use Rattle.spill_rule.specs.Rule.{Decides}
+use Rattle.spill_whole.specs.Whole.{whole}
+use Rattle.spill_step.specs.Step.{spill_debug}
+
+abbrev pub ItemsBecome : Type 0
+ItemsBecome = (reserve : List ℕ) (live : ℕ → Bool) (f : Function) (subs : List Entry) → IsSound f → Decides reserve f live →
+    BlocksBecome (spill_debug reserve) (change f subs (whole reserve live (greatest_number f subs + 1) f) subs) f.blocks
+    (whole reserve live (greatest_number f subs + 1) f).blocks
