@@ -1,0 +1,4 @@
+pub mod Spans
+pub mod Names
+pub mod Listed
+pub mod Stacks
