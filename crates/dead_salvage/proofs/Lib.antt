@@ -1,0 +1,5 @@
+mod Nowhere
+mod Under
+mod Copy
+mod Same
+pub mod Chain
