@@ -7,7 +7,6 @@ ghost use Rattle.branch_fold.specs.Folded.{AreFoldedWithLosses};
 ghost use Rattle.branch_fold.specs.Laws.{folding_has_one_result, folding_sees_code_alone};
 ghost use Rattle.std.proofs.Common.{rules};
 
-use code_forms::forms::know_forms;
 use fold_debug::laws::folded_keeps_items;
 use fold_follows::laws::{folded_follows, kills_strip};
 use fold_lost::lost::fold_losses;
@@ -21,6 +20,7 @@ use mir_func::block::{Block, copy_blocks};
 use mir_func::func::Func;
 use std::alloc::{AllocError, Global};
 use substitution::substitutions::Substitutions;
+use type_facts::blocks::know_forms;
 
 /// Folds branches. The marks and phis of blocks that are bypassed, and all debug items of blocks that weren't reached,
 /// are lost. It is right for functions with the source's ends of blocks, and doesn't keep them.
