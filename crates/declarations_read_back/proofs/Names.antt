@@ -144,7 +144,10 @@ name_pieces p = piece 0 class.Word (codes "name") ∷ piece 0 (class.Single 58) 
 
 key_reads : (p : Piece) → Reads p.class p.text [] → AllRead (name_pieces p)
 unfolding token_at
-key_reads p is = (word_read 110 (codes "ame") (58 ∷ spelled (p ∷ [])) refl refl refl refl, (single_read 58 (spelled (p ∷ [])) (λ at after. refl) refl, (is, tt)))
+key_reads p is = (
+  word_read 110 (codes "ame") (58 ∷ spelled (p ∷ [])) refl refl refl refl,
+  (single_read 58 (spelled (p ∷ [])) (λ at after. refl) refl, (is, tt)),
+)
 
 -- what the tokens of the line spell, by the last of them
 bare_line : (n : ℕ) (name : List ℕ) → Reads class.Word name [] →

@@ -121,7 +121,10 @@ unfolding token_at
 field_reads first bytes k ps small start visible word safe ends is = record {
   all = (
     word_read first bytes (spelled (mark 0 58 ∷ piece 1 class.Integer (decimal k) ∷ ps)) start visible word refl,
-    (single_read 58 (spelled (piece 1 class.Integer (decimal k) ∷ ps)) (λ at after. refl) refl, (decimal_token k (spelled ps) (omega (arith, small)) ends, is.all)),
+    (
+      single_read 58 (spelled (piece 1 class.Integer (decimal k) ∷ ps)) (λ at after. refl) refl,
+      (decimal_token k (spelled ps) (omega (arith, small)) ends, is.all),
+    ),
   );
   passes = (
     safe_passes (59 ∷ []) semicolon_mark (first ∷ bytes) (spelled (mark 0 58 ∷ piece 1 class.Integer (decimal k) ∷ ps)) safe,
@@ -136,7 +139,8 @@ slot_reads : (n : ℕ) → n ≤ MAX_NUMBER → IsRead (slot_pieces n)
 slot_reads n small =
     open_reads (field (codes "id") n (mark 0 44 ∷ field (codes "size") 8 (mark 1 125 ∷ [])))
     (field_reads 105 (codes "d") n (mark 0 44 ∷ field (codes "size") 8 (mark 1 125 ∷ [])) small refl refl refl refl refl
-    (comma_reads (field (codes "size") 8 (mark 1 125 ∷ [])) (field_reads 115 (codes "ize") 8 (mark 1 125 ∷ []) (omega arith) refl refl refl refl refl close_reads)))
+    (comma_reads (field (codes "size") 8 (mark 1 125 ∷ [])) (field_reads 115 (codes "ize") 8 (mark 1 125 ∷ []) (omega arith) refl refl refl refl refl
+    close_reads)))
 
 object_reads : (o : Object) → o.id ≤ MAX_NUMBER → o.size ≤ MAX_NUMBER → o.align ≤ MAX_NUMBER → IsRead (object_pieces o)
 object_reads o id size align =

@@ -66,7 +66,8 @@ pushed_whole front byte printed visible = record {
       (ap (λ (b : ℕ). eqb b 32) last ∙ visible) in
       let whole : suffix_len (λ b. eqb b 32) (front ++ byte ∷ []) ≡ 0 =
       ap (suffix_len (λ b. eqb b 32)) (sym (take_all (front ++ byte ∷ []))) ∙ none in
-      ap (λ (n : ℕ). take n (front ++ byte ∷ [])) (let e : length (front ++ byte ∷ []) - suffix_len (λ b. eqb b 32) (front ++ byte ∷ []) ≡ length (front ++ byte ∷ []) =
+      ap (λ (n : ℕ). take n (front ++ byte ∷ [])) (let e : length (front ++ byte ∷ []) - suffix_len (λ b. eqb b 32) (front ++ byte ∷ []) ≡ length
+      (front ++ byte ∷ []) =
       omega (arith, whole) in e)
       ∙ take_all (front ++ byte ∷ []);
 } where

@@ -144,7 +144,8 @@ module _ (fs : List FunctionDocument) where
       ∙ ap (λ (g : OpenFunction). go g (last + 1) (texts ++ rest)) (indent_taken f last first.0)) in
       step ∙ ap (λ (k : Key). go (with_line f k line) (last + 1) (texts ++ rest)) at
       ∙ indented (with_line f key line) key (last + 1) texts rest (same_key f key line ∙ at) (All-tail IsIndented text texts all)
-      ∙ ap (λ (n : ℕ). go (more f key (lines_from (last + 1) (text ∷ texts))) n rest) (let e : last + 1 + length texts ≡ last + suc (length texts) = omega arith in e)
+      ∙ ap (λ (n : ℕ). go (more f key (lines_from (last + 1) (text ∷ texts))) n rest)
+      (let e : last + 1 + length texts ≡ last + suc (length texts) = omega arith in e)
 
 -- ---- states
 
@@ -290,7 +291,8 @@ one_document fs last d rest is =
         (lines_from (before_body + 2) d.body)
 
     same : closed_at whole (last_line + 1) ≡ document_at opened d
-    same = closed_is opened Body d (opened + 1 + 1) (opened + 1 + length d.stack + 1) (before_body + 2) (last_line + 1) (omega arith) (omega arith) (omega arith)
+    same = closed_is opened Body d (opened + 1 + 1) (opened + 1 + length d.stack + 1) (before_body + 2) (last_line + 1) (omega arith) (omega arith)
+        (omega arith)
         (omega arith)
 
     count : last_line + 1 ≡ last + size_of d

@@ -2,8 +2,8 @@
 
 ghost use Rattle.documents_read_back.specs.Document.{DocumentsReadBack};
 
-/// The text of function documents, one behind the other, is a text without a fault and without metadata, whose functions
-/// are these documents.
+/// The text of function documents, one behind the other, is a text without a fault and without metadata, whose
+/// functions are these documents.
 pub fn documents_read_back()
     ensures { DocumentsReadBack }
 {}

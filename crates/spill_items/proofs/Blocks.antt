@@ -153,7 +153,8 @@ items_become reserve live f subs sound decides = by_homes (homes_of reserve live
   made : Function
   made = spilled_by (spilling_of reserve live f) (entry_of live (homes_of reserve live f)) k f
 
-  by_homes : (hs : List Home) → homes_of reserve live f ≡ hs → BlocksBecome (spill_debug reserve) (change f subs now subs) f.blocks (where_spilled hs f made).blocks
+  by_homes : (hs : List Home) → homes_of reserve live f ≡ hs → BlocksBecome (spill_debug reserve) (change f subs now subs) f.blocks
+      (where_spilled hs f made).blocks
   by_homes [] e = blocks_stay reserve live f subs now decides e f.blocks
   by_homes (h ∷ hs) e =
       spilled_become reserve live f subs now decides (λ none. (let bad : h ∷ hs ≡ [] = sym e ∙ none in cc)) (entry_of live (homes_of reserve live f)) f.blocks

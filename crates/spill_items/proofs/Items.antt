@@ -1,5 +1,6 @@
 -- What becomes of an item.
-use Rattle.std.proofs.Common.{◌≡◌, ℕ, suc, ◌+◌, List, [], ◌∷◌, ◌++◌, Option, Some, None, Bool, true, false, cond, refl, sym, ap, ◌∙◌, subst, append-nil, append_assoc}
+use Rattle.std.proofs.Common.{◌≡◌, ℕ, suc, ◌+◌, List, [], ◌∷◌, ◌++◌, Option, Some, None, Bool, true, false, cond, refl, sym, ap, ◌∙◌, subst}
+use Rattle.std.proofs.Common.{append-nil, append_assoc}
 use Rattle.std.proofs.lemmas.List.Concat.{flat_map-cons}
 use Rattle.rv64_instr.specs.declared.operand.Operand.{Operand}
 use Rattle.rv64_instr.specs.declared.place.Place.{Place}
@@ -21,13 +22,15 @@ use Rattle.follow_law.specs.declared.loss.Loss.{Loss}
 use Rattle.follow_law.specs.declared.loss.Reason.{Reason}
 use Rattle.follow_law.specs.declared.loss.Reason.TheVariants.{Scratch}
 use Rattle.follow_law.specs.Change.{Change, change}
-use Rattle.follow_law.specs.Debug.{RegisterStays, Becomes, mark_stays, phi_stays, code_stays, code_unnumbered, mark_silenced, phi_silenced, mark_spilled, phi_spilled}
+use Rattle.follow_law.specs.Debug.{RegisterStays, Becomes, mark_stays, phi_stays, code_stays, code_unnumbered, mark_silenced, phi_silenced}
+use Rattle.follow_law.specs.Debug.{mark_spilled, phi_spilled}
 use Rattle.follow_law.specs.Debug.{BecomeAll, next, added as code_added}
 use Rattle.follow_law.specs.Rule.{Rule, item, item_before, first_operand, number_lost, mark_lost, StandsAt}
 use Rattle.follow_law.specs.Sizes.{greatest_number}
 use Rattle.spill_code.specs.declared.spilling.Home.{Home}
 use Rattle.spill_code.specs.declared.spilling.Spilling.{Spilling}
-use Rattle.spill_code.specs.Rewrite.{slot_of, first_used, other_used, first_defined, spilled_code, loads, two_loads, stores, code_items, place_in, spilled_place, spilled_item, spilled_items}
+use Rattle.spill_code.specs.Rewrite.{slot_of, first_used, other_used, first_defined, spilled_code, loads, two_loads, stores, code_items, place_in}
+use Rattle.spill_code.specs.Rewrite.{spilled_place, spilled_item, spilled_items}
 use Rattle.spill_marks.specs.Asked.{is_scratch, value_left, place_left, mark_asked, kind_asked}
 use Rattle.spill_marks.specs.Lost.{LosesScratch, is_silent}
 use Rattle.spill_rule.specs.Choice.{homes_of, first_scratch, second_scratch, spilling_of}
@@ -140,11 +143,13 @@ module _ (reserve : List ℕ) (live : ℕ → Bool) (f : Function) (subs : List 
       phi_by r k o l true home e is there =
           phi_silenced Scratch refl (silenced (Phi (Some (Register r)) k) o l (number_lost k Scratch) there (e, refl))
       phi_by r k o l false home e is there =
-          subst (λ (h : Option ℕ). Becomes rule c at (item (Phi (Some (Register r)) k) o l) (item (Phi (Some (place_in r h)) k) o l ∷ [])) (sym is) (by_home home is) where
+          subst (λ (h : Option ℕ). Becomes rule c at (item (Phi (Some (Register r)) k) o l) (item (Phi (Some (place_in r h)) k) o l ∷ [])) (sym is)
+          (by_home home is) where
             kept : (why : Reason) → rule.loses c at (number_lost k why) → ⊥
             kept why h = (let w = loses_by at (Phi (Some (Register r)) k) o l (number_lost k why) there h in let bad : true ≡ false = sym w.0 ∙ e in cc)
 
-            by_home : (h : Option ℕ) → slot_of homes r ≡ h → Becomes rule c at (item (Phi (Some (Register r)) k) o l) (item (Phi (Some (place_in r h)) k) o l ∷ [])
+            by_home : (h : Option ℕ) → slot_of homes r ≡ h → Becomes rule c at (item (Phi (Some (Register r)) k) o l)
+                (item (Phi (Some (place_in r h)) k) o l ∷ [])
             by_home None is = phi_stays kept (register_stays r is)
             by_home (Some slot) is = phi_spilled kept (spilled_at r slot is)
 
@@ -166,7 +171,8 @@ module _ (reserve : List ℕ) (live : ℕ → Bool) (f : Function) (subs : List 
       one_all x o l y ys how rest =
           subst (λ (zs : List Item). Rest n (item x o l ∷ xs) (zs ++ ys)) (sym (one_item y)) (next how rest)
 
-      mark_all : (v : VarId) (r k : ℕ) (home : Option ℕ) (o : Origin) (l : Loc) (ys : List Item) → slot_of homes r ≡ home → StandsAt f at (item (Mark v (At r)) o l) →
+      mark_all : (v : VarId) (r k : ℕ) (home : Option ℕ) (o : Origin) (l : Loc) (ys : List Item) → slot_of homes r ≡ home → StandsAt f at
+          (item (Mark v (At r)) o l) →
           k ≡ number_at homes (greatest_number f subs + 1) f.blocks at → Rest (suc n) xs ys →
           Rest n (item (Mark v (At r)) o l ∷ xs) (spilled_items s (mark_asked s k v r home o l) ++ ys)
       mark_all v r k None o l ys is there number rest =
@@ -193,7 +199,8 @@ module _ (reserve : List ℕ) (live : ℕ → Bool) (f : Function) (subs : List 
           (phi_stays (λ why h. loses_by at (Phi (Some (Const z)) k) o l (number_lost k why) there h) tt) rest
 
       pub kind_all : (k : ℕ) (x : ItemKind) (o : Origin) (l : Loc) (ys : List Item) → StandsAt f at (item x o l) →
-          k ≡ number_at homes (greatest_number f subs + 1) f.blocks at → Rest (suc n) xs ys → Rest n (item x o l ∷ xs) (spilled_items s (kind_asked s k x o l) ++ ys)
+          k ≡ number_at homes (greatest_number f subs + 1) f.blocks at → Rest (suc n) xs ys → Rest n (item x o l ∷ xs)
+          (spilled_items s (kind_asked s k x o l) ++ ys)
       kind_all k (Code i m) o l ys there number rest =
           subst (λ (zs : List Item). Rest n (item (Code i m) o l ∷ xs) (zs ++ ys)) (sym (one_item (item (Code i m) o l))) (code_all i m o l ys there rest)
       kind_all k (Phi p m) o l ys there number rest = phi_all p m o l ys there rest
@@ -203,5 +210,6 @@ module _ (reserve : List ℕ) (live : ℕ → Bool) (f : Function) (subs : List 
           one_all (Mark v (Constant z)) o l (item (Mark v (Constant z)) o l) ys
           (mark_stays (λ why h. loses_by at (Mark v (Constant z)) o l (mark_lost o why) there h) tt) rest
       kind_all k (Mark v (Pair q)) o l ys there number rest =
-          one_all (Mark v (Pair q)) o l (item (Mark v (Pair q)) o l) ys (mark_stays (λ why h. loses_by at (Mark v (Pair q)) o l (mark_lost o why) there h) tt) rest
+          one_all (Mark v (Pair q)) o l (item (Mark v (Pair q)) o l) ys (mark_stays (λ why h. loses_by at (Mark v (Pair q)) o l (mark_lost o why) there h) tt)
+          rest
       kind_all k (Mark v (At r)) o l ys there number rest = mark_all v r k (slot_of homes r) o l ys refl there number rest

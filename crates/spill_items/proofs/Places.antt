@@ -56,7 +56,8 @@ module _ (homes : List Home) (first : ℕ) (all : List Block) (k : ℕ) (b : Blo
 
   pub number_is : (n : ℕ) → number_at homes first all (record { block = b.id; item = n }) ≡ number_behind homes k (take n b.items)
   number_is n = h.number (record { block = b.id; item = n }) here ∙
-      ap (λ (z : Bool). cond z (number_behind homes k (take n b.items)) (number_at homes (number_behind homes k b.items) bs (record { block = b.id; item = n })))
+      ap (λ (z : Bool). cond z (number_behind homes k (take n b.items))
+      (number_at homes (number_behind homes k b.items) bs (record { block = b.id; item = n })))
       (eq-eqb b.id b.id refl)
 
 pub drop_next : (ys : List Item) (n : ℕ) (x : Item) (xs : List Item) → drop n ys ≡ x ∷ xs → drop (suc n) ys ≡ xs
