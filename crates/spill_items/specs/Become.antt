@@ -10,6 +10,7 @@ use Rattle.spill_rule.specs.Rule.{Decides}
 use Rattle.spill_whole.specs.Whole.{whole}
 use Rattle.spill_step.specs.Step.{spill_debug}
 
+-- where the registers that come in with a value are known, the result's items are what the rule for debug items makes of the function's
 abbrev pub ItemsBecome : Type 0
 ItemsBecome = (reserve : List ℕ) (live : ℕ → Bool) (f : Function) (subs : List Entry) → IsSound f → Decides reserve f live →
     BlocksBecome (spill_debug reserve) (change f subs (whole reserve live (greatest_number f subs + 1) f) subs) f.blocks
