@@ -9,7 +9,7 @@ use Rattle.rv64_instr.specs.declared.op.LoadOp.{LoadOp}
 use Rattle.rv64_instr.specs.declared.op.StoreOp.{StoreOp}
 use Rattle.rv64_instr.specs.declared.op.Op.TheVariants.{Registers, Immediate, Lui, Branch, Load, Store, Copy, PseudoBr, PseudoCall, PseudoRet}
 use Rattle.rv64_instr.specs.declared.operand.Operand.{Operand}
-use Rattle.rv64_instr.specs.declared.operand.Operand.TheVariants.{Def, Use, ImplicitDef, ImplicitUse, Imm, Slot, Object, Block as BlockOperand, Symbol, Mask}
+use Rattle.rv64_instr.specs.declared.operand.Operand.TheVariants.{Def, Use, Imm, Slot, Object, Block as BlockOperand, Symbol, Mask}
 use Rattle.rv64_instr.specs.Form.{is_implicit, is_argument, is_result, fits_registers, fits_immediate, fits_upper, fits_branch, fits_load, fits_store}
 use Rattle.rv64_instr.specs.Form.{fits_copy, fits_jump, fits_call, has_form, is_immediate, is_addi, has_12_bits, moves_slot, is_within}
 use Rattle.copy_pass.specs.declared.roots.Root.{Root}

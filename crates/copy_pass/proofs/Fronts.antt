@@ -1,7 +1,7 @@
 -- Lists of which the front is what has become of the items before an index.
-use Rattle.std.proofs.Common.{◌≡◌, ◌⊎◌, inl, inr, ℕ, zero, suc, ◌+◌, ◌<◌, ◌≤◌, List, [], ◌∷◌, ◌++◌, length, length-set, get_or, take, drop, set, Bool}
-use Rattle.std.proofs.Common.{true, false, cond, nat_eq}
-use Rattle.std.proofs.Common.{eq-eqb, ne_eqb, refl, sym, ap, ◌∙◌, subst, arith, append-nil}
+use Rattle.std.proofs.Common.{◌≡◌, ◌⊎◌, inl, inr, ℕ, zero, suc, ◌+◌, ◌<◌, ◌≤◌, List, [], ◌∷◌, ◌++◌, length, length-set, get_or, take, drop, set}
+use Rattle.std.proofs.Common.{cond, nat_eq}
+use Rattle.std.proofs.Common.{refl, sym, ap, ◌∙◌, subst, arith, append-nil}
 use Rattle.std.specs.List.{swap}
 use Rattle.std.proofs.lemmas.Bool.{cases_eq}
 use Rattle.std.proofs.lemmas.List.{drop-set-lt, take_more, take_all, take_more_set, take-set-le, get_or-take, length-take-le}
@@ -10,11 +10,14 @@ use Rattle.std.proofs.Math.Seq.{take-set-lt}
 use Rattle.mir_func.specs.declared.entry.Entry.{Entry}
 use Rattle.mir_func.specs.declared.item.Item.{Item}
 use Rattle.mir_func.specs.declared.position.Origin.{Origin}
+use Rattle.salvage.specs.declared.above.Above.{Above}
 use Rattle.salvage.specs.declared.way.Way.{Way}
-use Rattle.salvage.specs.declared.way.Way.TheVariants.{HasEntry, GetsEntry, GetsPhi}
+use Rattle.salvage.specs.declared.way.Way.TheVariants.{GetsEntry, GetsPhi}
 use Rattle.salvage.specs.Way.{way}
-use Rattle.salvage.specs.Salvage.{numbered_at, phi_for, entry_for, fresh_after}
+use Rattle.salvage.specs.Salvage.{numbered_at, phi_for, entry_for}
+use Rattle.salvage.specs.Above.{IsIndexOf}
 use Rattle.salvage.proofs.Placed.{numbered_item, numbered_set}
+use Rattle.salvage.proofs.Indexed.{index_numbered}
 use Rattle.copy_pass.specs.declared.roots.Root.{Root}
 use Rattle.copy_pass.specs.declared.copies.Fate.{Fate}
 use Rattle.copy_pass.specs.declared.copies.Fate.TheVariants.{Stays, Goes, GoesWith}
@@ -71,6 +74,32 @@ module _ {X : Type 0} where
       let len : length (set xs at x) ≡ length xs = length-set xs at x in
       behind_swap (set xs at x) kept at x le (omega (arith, lt, len)) (get_set xs at x x lt) ∙ drop-set-lt (at + 1) xs at x (omega arith)
 
+-- the front with a number on one of its items
+numbered_front : (xs : List Item) (kept d n : ℕ) (x0 made : Item) → d < kept → kept ≤ length xs → get_or xs d x0 ≡ x0 → made ≡ numbered_item n x0 →
+    take kept (set xs d made) ≡ numbered_at d n (take kept xs)
+numbered_front xs kept d n x0 made above le is numbered =
+    let len : length (take kept xs) ≡ kept = length-take-le kept xs le in
+    take-set-lt kept xs d made above ∙ ap (set (take kept xs) d) numbered ∙
+    sym (numbered_set d n (take kept xs) x0 (omega (arith, above, len)) (get_or-take kept xs d x0 above ∙ is))
+
+pub index_front : (xs : List Item) (kept d n : ℕ) (x0 made : Item) (index : Above) (subs : List Entry) → d < kept → kept ≤ length xs → get_or xs d x0 ≡ x0 →
+    made ≡ numbered_item n x0 → IsIndexOf index subs (take kept xs) → IsIndexOf index subs (take kept (set xs d made))
+index_front xs kept d n x0 made index subs above le is numbered h =
+    subst (IsIndexOf index subs) (sym (numbered_front xs kept d n x0 made above le is numbered)) (index_numbered index subs (take kept xs) d n h)
+
+-- the front with an item that moved to its end
+pub index_up : (xs zs : List Item) (kept at : ℕ) (made : Item) (index : Above) (subs : List Entry) → kept ≤ at → at < length xs →
+    zs ≡ swap (set xs at made) kept at → (kept ≡ length (take kept xs) → IsIndexOf index subs (take kept xs ++ made ∷ [])) →
+    IsIndexOf index subs (take (kept + 1) zs)
+index_up xs zs kept at made index subs le lt e h =
+    subst (IsIndexOf index subs) (sym (ap (take (kept + 1)) e ∙ written_up xs kept at made le lt))
+    (h (sym (length-take-le kept xs (omega (arith, le, lt)))))
+
+-- the front before an item that was written
+pub index_same : (xs : List Item) (kept at : ℕ) (y : Item) (index : Above) (subs : List Entry) → kept ≤ at → IsIndexOf index subs (take kept xs) →
+    IsIndexOf index subs (take kept (set xs at y))
+index_same xs kept at y index subs le h = subst (IsIndexOf index subs) (sym (take-set-le kept xs at y le)) h
+
 module _ (xs : List Item) (kept at k s : ℕ) (subs : List Entry) (fresh : ℕ) (roots : List Root) (le : kept ≤ at) (lt : at < length xs) where
   abbrev before : SoFar
   before = record { done = take kept xs; roots = roots; subs = subs; fresh = fresh }
@@ -80,11 +109,8 @@ module _ (xs : List Item) (kept at k s : ℕ) (subs : List Entry) (fresh : ℕ) 
       subs' ≡ subs ++ entry_for k n o ∷ [] → fresh' ≡ cond (nat_eq n fresh) (fresh + 1) fresh →
       Stands (salvaged before k s origin (GetsEntry d o n)) kept (at + 1) (set xs d made) xs roots subs' fresh'
   entry_base d o n x0 made origin subs' fresh' above is numbered entries counted =
-      let len : length (take kept xs) ≡ kept = length-take-le kept xs (omega (arith, le, lt)) in
       record {
-        done = take-set-lt kept xs d made above ∙ ap (set (take kept xs) d) numbered ∙
-            sym (numbered_set d n (take kept xs) x0 (omega (arith, above, len)) (get_or-take kept xs d x0 above ∙ is)) ∙
-            sym (append-nil (numbered_at d n (take kept xs)));
+        done = numbered_front xs kept d n x0 made above (omega (arith, le, lt)) is numbered ∙ sym (append-nil (numbered_at d n (take kept xs)));
         behind = drop-set-lt (at + 1) xs d made (omega (arith, above, le));
         size = length-set xs d made;
         within = omega (arith, le);
@@ -209,6 +235,9 @@ first_stands xs subs fresh = subst (λ (ys : List Item). Stands (over_items (at_
   entries = refl;
   counted = refl;
 })
+
+pub first_indexed : (index : Above) (subs : List Entry) (xs : List Item) → ((es : List Entry) → IsIndexOf index es []) → IsIndexOf index subs (take 0 xs)
+first_indexed index subs xs h = subst (IsIndexOf index subs) (sym (take_none xs)) (h subs)
 
 pub last_stands : (a : SoFar) (xs items : List Item) (kept at : ℕ) (roots : List Root) (subs : List Entry) (fresh : ℕ) → length xs ≤ at →
     Stands (over_items a (take at xs)) kept at items xs roots subs fresh →

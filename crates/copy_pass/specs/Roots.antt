@@ -1,5 +1,5 @@
 -- Registers that hold the same as others, along a block.
-use Rattle.std.specs.Prelude.{ℕ, zero, suc, List, [], ◌∷◌, ◌++◌, map, filter, Option, Some, None, Bool, true, false, cond, not, ◌&&◌, nat_eq}
+use Rattle.std.specs.Prelude.{ℕ, zero, suc, List, [], ◌∷◌, ◌++◌, map, filter, Option, Some, None, Bool, cond, not, ◌&&◌, nat_eq}
 use Rattle.rv64_instr.specs.declared.operand.Operand.{Operand}
 use Rattle.rv64_instr.specs.declared.operand.Operand.TheVariants.{Def, Use, ImplicitDef, ImplicitUse, Imm, Slot, Object, Block, Symbol, Mask}
 use Rattle.rv64_instr.specs.declared.place.Place.TheVariants.{Register}

@@ -4,6 +4,7 @@ ghost use Rattle.std.specs.Prelude.{◌≡◌, ◌+◌, ◌<◌, ◌≤◌, ◌^
 ghost use Rattle.mir_func.specs.declared.item.Item.{Item};
 ghost use Rattle.copy_pass.specs.declared.roots.Root.{Root};
 ghost use Rattle.salvage.specs.Way.{way};
+ghost use Rattle.salvage.specs.Above.{IsIndexOf};
 ghost use Rattle.copy_pass.specs.Copied.{renamed_item, fate_of, goes_with, roots_with, salvaged, next_item};
 ghost use Rattle.copy_pass.specs.Copied.{over_items, at_block};
 ghost use Rattle.copy_pass.specs.Next.{Stands};
@@ -12,8 +13,9 @@ use crate::roots::{Root, known_source, learn, rename};
 use mir_func::item::{Item, ItemKind};
 use numbers::code::DebugNumber;
 use rv64_instr::reg::Reg;
-use salvage::salvage::{entry_for, give_number, put_phi};
-use salvage::way::{Way, choose_way};
+use salvage::above::{Above, choose_way_by, substitute};
+use salvage::salvage::{give_number, put_phi};
+use salvage::way::Way;
 use std::alloc::{AllocError, Global};
 use substitution::substitutions::Substitutions;
 
@@ -73,16 +75,19 @@ fn learn_item(kind: &ItemKind, roots: &mut Vec<Root>) -> Result<(), AllocError>
 /// One item more: the first `kept` items are what has become of those before it, and the answer is how many they are
 /// then.
 fn next_item(
+    alloc: Global,
     items: &mut Vec<Item>,
     kept: usize,
     at: usize,
     roots: &mut Vec<Root>,
     subs: &mut Substitutions,
+    index: &mut Above,
     fresh: &mut u32,
 ) -> Result<usize, AllocError>
     requires within { kept ≤ at }
     requires at { at < length items.old.items }
     requires fresh { fresh.old < 2 ^ 31 }
+    requires index { IsIndexOf index.old subs.old (take kept items.old.items) }
     ensures stands { IfOk result (λ more. (x : Item) → x ≡ slice_index_or items.old.items at x →
         Stands (next_item (record {
           done = take kept items.old.items;
@@ -91,33 +96,40 @@ fn next_item(
           fresh = fresh.old;
         }) x)
         more (at + 1) items.new.items items.old.items roots.new.items subs.new fresh.new) }
+    ensures index { IfOk result (λ more. IsIndexOf index.new subs.new (take more items.new.items)) }
     ensures counted { OnOk result (fresh.new ≤ fresh.old + 1) }
 {
     rename_item(&mut items[at], roots.as_slice());
     match fate_of(&items[at].kind, roots.as_slice()) {
         Fate::Stays => {
             learn_item(&items[at].kind, roots)?;
+            index.push(&items[at].kind, kept, subs)?;
             items.swap(kept, at);
             Ok(kept + 1)
         }
         Fate::Goes => Ok(kept),
-        Fate::GoesWith(number, source) => take_out(items, kept, at, number, source, subs, fresh),
+        Fate::GoesWith(number, source) => take_out(
+            alloc, items, kept, at, number, source, subs, index, fresh,
+        ),
     }
 }
 
 /// A copy of `source` with a number goes: it is salvaged.
 fn take_out(
+    alloc: Global,
     items: &mut Vec<Item>,
     kept: usize,
     at: usize,
     number: DebugNumber,
     source: Reg,
     subs: &mut Substitutions,
+    index: &mut Above,
     fresh: &mut u32,
 ) -> Result<usize, AllocError>
     requires within { kept ≤ at }
     requires at { at < length items.old.items }
     requires fresh { fresh.old < 2 ^ 31 }
+    requires index { IsIndexOf index.old subs.old (take kept items.old.items) }
     ensures stands { IfOk result (λ more. (x : Item) (roots : List Root) → x ≡ slice_index_or items.old.items at x →
         Stands (salvaged (record {
           done = take kept items.old.items;
@@ -128,13 +140,14 @@ fn take_out(
         }) number source x.origin
         (way [] subs.old fresh.old number source (take kept items.old.items)))
         more (at + 1) items.new.items items.old.items roots subs.new fresh.new) }
+    ensures index { IfOk result (λ more. IsIndexOf index.new subs.new (take more items.new.items)) }
     ensures counted { OnOk result (fresh.new ≤ fresh.old + 1) }
 {
     let above = &items[..kept];
-    match choose_way(above, subs, &[], number, source, DebugNumber(*fresh)) {
+    match choose_way_by(index, above, subs, number, source, DebugNumber(*fresh)) {
         Way::HasEntry => Ok(kept),
         Way::GetsEntry(d, operand, standing) => {
-            subs.add(entry_for(number, standing, operand))?;
+            substitute(alloc, subs, index, above, number, standing, operand)?;
             give_number(&mut items[d], standing);
             if standing.number() == *fresh {
                 *fresh += 1;
@@ -143,6 +156,7 @@ fn take_out(
         }
         Way::GetsPhi => {
             put_phi(&mut items[at], number, source);
+            index.push(&items[at].kind, kept, subs)?;
             items.swap(kept, at);
             Ok(kept + 1)
         }
@@ -163,9 +177,10 @@ pub fn copy_items(
     ensures counted { OnOk result (fresh.new ≤ fresh.old + length items.old.items) }
 {
     let mut roots = Vec::new(alloc);
+    let mut index = Above::new(alloc);
     let mut kept = 0;
     for at in 0..items.len() {
-        kept = next_item(items, kept, at, &mut roots, subs, fresh)?;
+        kept = next_item(alloc, items, kept, at, &mut roots, subs, &mut index, fresh)?;
     }
     items.truncate(kept);
     Ok(())

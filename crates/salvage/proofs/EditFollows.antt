@@ -1,10 +1,9 @@
 -- What followed a source follows it after its blocks are edited item by item.
-use Rattle.std.proofs.Common.{◌≡◌, ◌⊎◌, inl, inr, ℕ, zero, suc, ◌+◌, ◌*◌, ◌<◌, ◌≤◌, List, [], ◌∷◌, length, get_or, All, Contains, Option, Some, None}
-use Rattle.std.proofs.Common.{Bool, true, false}
+use Rattle.std.proofs.Common.{◌≡◌, ℕ, zero, suc, List, [], ◌∷◌, length, get_or, All, Contains, None}
+use Rattle.std.proofs.Common.{true, false}
 use Rattle.std.proofs.Common.{refl, sym, ap, ◌∙◌, subst, arith}
 use Rattle.std.proofs.lemmas.List.Elements.{All-cons, All-head, All-tail}
 use Rattle.mir_func.specs.declared.entry.Entry.{Entry}
-use Rattle.mir_func.specs.declared.entry.OperandPair.{OperandPair}
 use Rattle.mir_func.specs.declared.object.Object.{Object}
 use Rattle.mir_func.specs.declared.position.Pos.{Pos}
 use Rattle.mir_func.specs.declared.position.Origin.{Origin}
@@ -19,11 +18,10 @@ use Rattle.mir_func.specs.Resolve.{resolve}
 use Rattle.rv64_instr.specs.Parts.{IsSlotStore}
 use Rattle.mir_func.specs.Graph.{Here, Program, KindEdge, below, program_of}
 use Rattle.mir_meaning.specs.State.{Core, State}
-use Rattle.mir_meaning.specs.Align.{is_code, is_jump, moves_on, Count, ByItems, ByEnds, station_at, AnyOrigin, RunsAlong, After, since_of, waits_at}
+use Rattle.mir_meaning.specs.Align.{is_code, is_jump, moves_on, Count, ByItems, ByEnds, station_at, AnyOrigin, RunsAlong, since_of, waits_at}
 use Rattle.mir_meaning.specs.Follow.{KindFits, MarkFits, InOrder, Among, none, same, left, first_of, OnRow, GoesTo, Counts, Shape, IsStart, IsEnd}
 use Rattle.mir_meaning.specs.Follow.{KindsEndAlike}
 use Rattle.mir_meaning.specs.Follow.{EndIsKept, EndComesFrom, IsMetApart}
-use Rattle.simulation.specs.Sides.{since_item}
 use Rattle.follow_law.specs.Change.{change}
 use Rattle.follow_law.specs.Following.{KeepsFollowing}
 use Rattle.salvage.proofs.Kin.{Kin, kin_fits, kin_marks, kin_goes, kin_end, kin_is_end, moves_after}

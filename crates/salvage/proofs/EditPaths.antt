@@ -1,15 +1,14 @@
 -- Paths of a function, after its blocks are edited item by item.
-use Rattle.std.proofs.Common.{◌≡◌, ◌⊎◌, inl, inr, ℕ, zero, suc, ◌+◌, ◌<◌, List, [], ◌∷◌, drop, Option, Some, None, Bool, true, false, cond, refl, sym}
-use Rattle.std.proofs.Common.{ap, ◌∙◌, subst, arith}
+use Rattle.std.proofs.Common.{◌≡◌, ◌⊎◌, inl, inr, ℕ, ◌<◌, List, [], ◌∷◌, drop, Option, true, false, refl, sym}
+use Rattle.std.proofs.Common.{ap, ◌∙◌, subst}
 use Rattle.mir_func.specs.declared.entry.OperandPair.{OperandPair}
 use Rattle.mir_func.specs.declared.position.Pos.{Pos}
-use Rattle.mir_func.specs.declared.position.Origin.{Origin}
-use Rattle.mir_func.specs.declared.position.Origin.TheVariants.{Kept, Before}
+use Rattle.mir_func.specs.declared.position.Origin.TheVariants.{Before}
 use Rattle.mir_func.specs.declared.block.Block.{Block}
 use Rattle.mir_func.specs.declared.item.Item.{Item}
 use Rattle.mir_func.specs.declared.item.ItemKind.{ItemKind}
 use Rattle.mir_func.specs.declared.item.ItemKind.TheVariants.{Code, Mark, Phi}
-use Rattle.mir_func.specs.Graph.{Fetch, Here, Silent, Outside, Program, below, block_start, end_of, front, fetch_in, from_block, program_of, KindEdge}
+use Rattle.mir_func.specs.Graph.{Fetch, Here, Silent, Outside, Program, below, block_start, front, fetch_in, from_block, program_of, KindEdge}
 use Rattle.mir_func.specs.Graph.{FetchEdge, Edge, Leads, stay, go}
 use Rattle.rv64_instr.specs.Parts.{IsSlotStore}
 use Rattle.mir_meaning.specs.Align.{position_of, is_code}
@@ -17,7 +16,7 @@ use Rattle.mir_meaning.specs.Follow.{OnRow, Counts, IsMetApart}
 use Rattle.mir_meaning.proofs.Edges.{leads_trans}
 use Rattle.simulation.proofs.Laid.{rest_in, rest_of, laid_out}
 use Rattle.simulation.specs.Sides.{IsPastItems}
-use Rattle.salvage.proofs.Kin.{Kin, kin_code, kin_edge, kin_save, GoesAlike}
+use Rattle.salvage.proofs.Kin.{Kin, kin_edge, kin_save, GoesAlike}
 use Rattle.salvage.proofs.Edits.{Edits, Edited, over, pair, out, put, BlocksEdited, no_blocks, next_block, first_of_front, none_of_front, comes_from}
 use Rattle.salvage.proofs.Edits.{above_on, IsPaired}
 use Rattle.salvage.proofs.Edits.{blocks_from, starts_edited, ends_same}

@@ -1,26 +1,22 @@
 -- What followed a source follows it after its blocks are edited item by item.
-use Rattle.std.proofs.Common.{◌≡◌, ◌⊎◌, inl, inr, ℕ, zero, suc, ◌+◌, ◌*◌, ◌<◌, ◌≤◌, List, [], ◌∷◌, drop, All, Contains, Option, Some, None, Bool, true, false}
+use Rattle.std.proofs.Common.{◌≡◌, inl, ℕ, List, [], ◌∷◌, drop, All, Option, Some, Bool, true, false}
 use Rattle.std.proofs.Common.{refl, sym, ap, ◌∙◌, subst, arith}
-use Rattle.std.proofs.lemmas.List.Elements.{All-cons, All-head, All-tail, All-contains}
+use Rattle.std.proofs.lemmas.List.Elements.{All-head, All-tail, All-contains}
 use Rattle.mir_func.specs.declared.entry.OperandPair.{OperandPair}
-use Rattle.mir_func.specs.declared.object.Object.{Object}
 use Rattle.mir_func.specs.declared.position.Pos.{Pos}
-use Rattle.mir_func.specs.declared.position.Origin.{Origin}
-use Rattle.mir_func.specs.declared.position.Origin.TheVariants.{Kept, Before}
 use Rattle.mir_func.specs.declared.block.Block.{Block}
 use Rattle.mir_func.specs.declared.item.Item.{Item}
 use Rattle.mir_func.specs.declared.item.ItemKind.{ItemKind}
-use Rattle.mir_func.specs.declared.item.ItemKind.TheVariants.{Code, Mark, Phi}
 use Rattle.mir_func.specs.Sound.{AreApart, ids_of, OriginIn}
-use Rattle.mir_func.specs.Graph.{Fetch, Here, Silent, Outside, Program, block_start, fetch_in, from_block, index_of, program_of}
+use Rattle.mir_func.specs.Graph.{Program, block_start, from_block, index_of, program_of}
 use Rattle.mir_meaning.specs.State.{Core, State}
 use Rattle.mir_meaning.specs.Step.{Outcome, Falls, Goes, Gives, Traps, Asks, Breaks, do_item}
 use Rattle.mir_meaning.specs.Effects.{EndAlike, FallsInto}
 use Rattle.mir_meaning.specs.Align.{position_of, is_code, is_jump, Count, moves_on, end_station, station_of, station_at, IsOrigin, AnyOrigin}
 use Rattle.mir_meaning.specs.Align.{RunsAlong, Station, After}
-use Rattle.mir_meaning.specs.Follow.{InOrder, KindFits}
+use Rattle.mir_meaning.specs.Follow.{InOrder}
 use Rattle.simulation.specs.Sides.{Sides, Relation, ShowsSame, OutcomesAlike, since_item}
-use Rattle.simulation.specs.InPlace.{FallsOrTraps, View, ended, both, taken, added, paired, InPlace, MayTrap}
+use Rattle.simulation.specs.InPlace.{FallsOrTraps, View, ended, both, taken, added, paired, InPlace}
 use Rattle.simulation.proofs.Stations.{code_station, end_is_station, IsStationOf, of_item, of_end, station_is_of}
 use Rattle.simulation.proofs.Laid.{rest_in, rest_of, laid_out, in_order_at, one_end, from_home, from_within, from_before_end, falls_down}
 use Rattle.simulation.proofs.InPlace.{in_place_follows}

@@ -1,5 +1,5 @@
 -- Blocks that are edited item by item: an item stays, rewritten perhaps, or is taken out, or a debug item is put before it.
-use Rattle.std.proofs.Common.{◌≡◌, ◌⊎◌, inl, inr, ℕ, zero, suc, ◌+◌, ◌*◌, ◌<◌, ◌≤◌, List, [], ◌∷◌, drop, length, All, Contains, Option, Some, None}
+use Rattle.std.proofs.Common.{◌≡◌, ℕ, zero, suc, ◌+◌, ◌*◌, ◌<◌, ◌≤◌, List, [], ◌∷◌, drop, length, Option}
 use Rattle.std.proofs.Common.{Bool, true, false, cond}
 use Rattle.std.proofs.Common.{nat_eq, refl, sym, ap, ◌∙◌, subst, arith}
 use Rattle.mir_func.specs.declared.entry.OperandPair.{OperandPair}
@@ -8,13 +8,12 @@ use Rattle.mir_func.specs.declared.position.Origin.{Origin}
 use Rattle.mir_func.specs.declared.position.Origin.TheVariants.{Kept, Before}
 use Rattle.mir_func.specs.declared.block.Block.{Block}
 use Rattle.mir_func.specs.declared.item.Item.{Item}
-use Rattle.mir_func.specs.declared.item.ItemKind.{ItemKind}
-use Rattle.mir_func.specs.Graph.{Fetch, Here, Silent, Outside, Program, block_start, end_of, front, fetch_in, from_block, program_of}
+use Rattle.mir_func.specs.Graph.{Here, Silent, Program, block_start, end_of, front, fetch_in, from_block, program_of}
 use Rattle.mir_meaning.specs.Align.{position_of, is_code}
 use Rattle.mir_meaning.specs.Follow.{rank, next_rank, InOrder}
 use Rattle.mir_meaning.proofs.Reading.{found_in}
 use Rattle.simulation.proofs.Laid.{rest_in, rest_of}
-use Rattle.salvage.proofs.Kin.{Kin, kin_code}
+use Rattle.salvage.proofs.Kin.{Kin}
 
 -- how one item is edited, from one stage to the next: which item stands for it, whether it may be taken out, and what may be put
 pub record Edits : Type 1 where

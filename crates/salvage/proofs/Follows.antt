@@ -1,5 +1,5 @@
 -- What followed a source follows it after a copy lost its number: to code that gave its value, or to a phi.
-use Rattle.std.proofs.Common.{◌≡◌, ℕ, List, [], ◌∷◌, ◌++◌, Option, Some, None, true, false, refl, sym, ap}
+use Rattle.std.proofs.Common.{◌≡◌, ℕ, List, [], ◌∷◌, ◌++◌, None, true, false, refl, ap}
 use Rattle.mir_func.specs.declared.entry.OperandPair.{OperandPair}
 use Rattle.mir_func.specs.declared.entry.Entry.{Entry}
 use Rattle.mir_func.specs.declared.item.Item.{Item}
@@ -15,7 +15,7 @@ use Rattle.salvage.specs.Salvage.{entry_for}
 use Rattle.salvage.proofs.Edits.{BlocksEdited}
 use Rattle.salvage.proofs.EditFollows.{Allows, follows_edited}
 use Rattle.salvage.proofs.OneMore.{one_more}
-use Rattle.salvage.proofs.NumberOff.{Side, Outside, Inside, Off, outside, opens, inside, closes, off_edits, OffCores, off_keeps, off_itself}
+use Rattle.salvage.proofs.NumberOff.{Side, Off, outside, opens, inside, closes, off_edits, OffCores, off_keeps, off_itself}
 use Rattle.salvage.proofs.NumberPhi.{Spot, PhiPair, elsewhere, closes as closes_phi, PhiPut, puts, phi_edits, PhiCores, phi_keeps, phi_itself}
 
 -- ---- to code

@@ -1,6 +1,6 @@
 -- Which code and which operand are found.
-use Rattle.std.proofs.Common.{◌≡◌, ℕ, zero, suc, ◌+◌, ◌<◌, List, [], ◌∷◌, ◌++◌, length, get_or, take, drop, Option, Some, None, Bool, true, false}
-use Rattle.std.proofs.Common.{cond, refl, sym, ap, ◌∙◌, subst, arith, drop-cons, is_some}
+use Rattle.std.proofs.Common.{◌≡◌, ℕ, suc, ◌+◌, ◌<◌, List, [], ◌∷◌, ◌++◌, length, get_or, take, drop, Option, Some, None, Bool, true, false}
+use Rattle.std.proofs.Common.{cond, refl, sym, ap, ◌∙◌, arith, drop-cons, is_some}
 use Rattle.std.proofs.lemmas.List.{take_more, length-take-le, take-append-drop}
 use Rattle.rv64_instr.specs.declared.operand.Operand.{Operand}
 use Rattle.rv64_instr.specs.declared.place.Place.TheVariants.{Register}
@@ -10,23 +10,16 @@ use Rattle.mir_func.specs.declared.item.Item.{Item}
 use Rattle.mir_func.specs.Resolve.{entry_of, resolve, Ends, at, by}
 use Rattle.mir_meaning.specs.Step.{defined}
 use Rattle.follow_law.specs.Causes.{defines}
-use Rattle.salvage.specs.Way.{further, last_definition, is_register, here_or, first_definition, has_entry}
+use Rattle.salvage.specs.Way.{last_definition, is_register, here_or, first_definition, has_entry}
 use Rattle.substitution.proofs.Chains.{chain_end-none, resolve_ends}
+use Rattle.salvage.proofs.Last.{last_more as one_more}
 
 -- ---- the last definition
 
 -- one more item at the end
 pub last_more : (s : ℕ) (xs : List Item) (x : Item) →
     last_definition s (xs ++ x ∷ []) ≡ cond (defines (Register s) x.kind) (Some (length xs)) (last_definition s xs)
-last_more s [] x = by_test (defines (Register s) x.kind) where
-  by_test : (z : Bool) → further None z ≡ cond z (Some 0) None
-  by_test true = refl
-  by_test false = refl
-last_more s (y ∷ ys) x = ap (λ (z : Option ℕ). further z (defines (Register s) y.kind)) (last_more s ys x) ∙ by_test (defines (Register s) x.kind) where
-  by_test : (z : Bool) → further (cond z (Some (length ys)) (last_definition s ys)) (defines (Register s) y.kind) ≡
-      cond z (Some (length (y ∷ ys))) (further (last_definition s ys) (defines (Register s) y.kind))
-  by_test true = refl
-  by_test false = refl
+last_more s = one_more (last_definition s) (λ (x : Item). defines (Register s) x.kind) refl (λ x xs. refl)
 
 -- over one item that is no definition, and down to one that is
 pub last_down : (s : ℕ) (xs : List Item) (i : ℕ) (x : Item) → i < length xs → x ≡ get_or xs i x → defines (Register s) x.kind ≡ false →

@@ -1,6 +1,6 @@
 -- Code that keeps its kind, and where control goes from it.
-use Rattle.std.proofs.Common.{◌≡◌, ◌⊎◌, inl, inr, ℕ, ◌+◌, ◌*◌, ◌<◌, ◌≤◌, List, [], ◌∷◌, Option, Some, None, Bool, true, false, cond, refl, sym, ap}
-use Rattle.std.proofs.Common.{◌∙◌, subst, arith}
+use Rattle.std.proofs.Common.{◌≡◌, ◌⊎◌, inl, inr, ℕ, [], ◌∷◌, Option, Some, None, Bool, true, false, cond, refl, sym, ap}
+use Rattle.std.proofs.Common.{◌∙◌, subst}
 use Rattle.rv64_instr.specs.Instruction.{Instruction}
 use Rattle.rv64_instr.specs.Row.{Row, Fixes, Moves, Sets, Addresses, Loads, Stores, LoadsSlot, StoresSlot, Branches, Jumps, Calls, Returns, Unfit, row_of}
 use Rattle.rv64_instr.specs.Parts.{is_call, IsSlotStore}
@@ -15,7 +15,7 @@ use Rattle.rv64_instr.specs.declared.place.Place.{Place}
 use Rattle.mir_func.specs.declared.position.Pos.{Pos}
 use Rattle.mir_func.specs.Graph.{Program, Fetch, Here, Silent, Outside, RowEdge, KindEdge, below, block_start}
 use Rattle.mir_meaning.specs.State.{Core}
-use Rattle.mir_meaning.specs.Step.{Outcome, Falls, Goes, Traps, act, does, slot_loaded, with_core, are_written, numbered, do_item}
+use Rattle.mir_meaning.specs.Step.{Falls, Goes, Traps, act, does, slot_loaded, with_core, are_written, numbered, do_item}
 use Rattle.mir_meaning.specs.Align.{is_code, is_jump, is_jump_row, waits_at, moves_on, Count, After, since_of}
 use Rattle.mir_meaning.specs.Follow.{class_of, MayAdd, HasClass, ItemHasClass, RowFits, KindFits, MarkFits, OnRow, GoesTo, SameEnd, IsEnd, KindsEndAlike}
 

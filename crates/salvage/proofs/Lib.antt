@@ -11,3 +11,5 @@ pub mod NumberOff
 pub mod OneMore
 pub mod NumberPhi
 pub mod Follows
+pub mod Last
+pub mod Indexed

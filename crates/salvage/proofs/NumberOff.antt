@@ -1,12 +1,12 @@
 -- A copy loses its number to code that gave the copied value: how the two runs are related.
-use Rattle.std.proofs.Common.{◌≡◌, ◌⊎◌, inl, inr, ℕ, zero, suc, List, [], ◌∷◌, Option, Some, None, Bool, true, false, cond, nat_eq, slice_get, refl}
+use Rattle.std.proofs.Common.{◌≡◌, ◌⊎◌, inl, inr, ℕ, suc, Option, Some, None, Bool, true, false, cond, slice_get, refl}
 use Rattle.std.proofs.Common.{sym, ap, ◌∙◌, subst, ne_eqb}
 use Rattle.rv64_instr.specs.declared.operand.Operand.{Operand}
 use Rattle.rv64_instr.specs.declared.operand.Operand.TheVariants.{Def}
 use Rattle.rv64_instr.specs.declared.place.Place.{Place}
-use Rattle.rv64_instr.specs.declared.place.Place.TheVariants.{Register, Slot, Const}
+use Rattle.rv64_instr.specs.declared.place.Place.TheVariants.{Register}
 use Rattle.rv64_instr.specs.Instruction.{Instruction}
-use Rattle.rv64_instr.specs.Row.{Row, Moves, row_of}
+use Rattle.rv64_instr.specs.Row.{Moves, row_of}
 use Rattle.rv64_instr.specs.Parts.{is_call, set_by, moved_by}
 use Rattle.mir_func.specs.declared.entry.OperandPair.{OperandPair}
 use Rattle.mir_func.specs.declared.position.Origin.{Origin}
@@ -14,12 +14,10 @@ use Rattle.mir_func.specs.declared.location.Loc.{Loc}
 use Rattle.mir_func.specs.declared.item.Item.{Item}
 use Rattle.mir_func.specs.declared.item.ItemKind.{ItemKind}
 use Rattle.mir_func.specs.declared.item.ItemKind.TheVariants.{Code, Mark, Phi}
-use Rattle.mir_func.specs.declared.variable.VarId.{VarId}
-use Rattle.mir_func.specs.declared.variable.MarkValue.{MarkValue}
 use Rattle.mir_func.specs.declared.variable.MarkValue.TheVariants.{Nothing, Constant, At, Pair}
 use Rattle.mir_func.specs.Sound.{number_of}
 use Rattle.mir_func.specs.Graph.{Program}
-use Rattle.mir_meaning.specs.State.{Core, content, updated}
+use Rattle.mir_meaning.specs.State.{Core, content}
 use Rattle.mir_meaning.specs.Step.{Outcome, Falls, Goes, Gives, Traps, Asks, Breaks, act, numbered, given, defined, seen, pair_value, do_item}
 use Rattle.mir_meaning.specs.Effects.{held_in, OnCore, EndAlike}
 use Rattle.mir_meaning.specs.Live.{KindDefines}
@@ -27,13 +25,13 @@ use Rattle.mir_meaning.specs.Align.{is_code}
 use Rattle.mir_meaning.proofs.Outcomes.{alike_weaker}
 use Rattle.mir_meaning.proofs.Parts.{effects_hold}
 use Rattle.mir_meaning.proofs.Places.{updated_same, updated_other}
-use Rattle.simulation.specs.Sides.{OutcomesAlike, ShowsSame}
+use Rattle.simulation.specs.Sides.{OutcomesAlike}
 use Rattle.simulation.proofs.Outcomes.{alike_of}
 use Rattle.follow_law.specs.Rule.{item, first_operand}
 use Rattle.held_alike.specs.Alike.{HeldAlike, TellsNoMore, Alike, OrDefined, HeldAfter, NumbersHeld, Depends}
-use Rattle.held_alike.proofs.Outcomes.{TellsAs, act_tells, alike_both, code_alike, leaves_place, leaves_pair, held_numbered}
+use Rattle.held_alike.proofs.Outcomes.{TellsAs, alike_both, code_alike, leaves_place, leaves_pair, held_numbered}
 use Rattle.held_alike.proofs.Held.{held_fewer, held_itself, held_number, act_held}
-use Rattle.held_alike.proofs.Told.{tells_itself, tells_of, numbers_both, numbers_first, numbers_second, seen_held}
+use Rattle.held_alike.proofs.Told.{tells_itself, tells_of, numbers_both, numbers_first, numbers_second}
 use Rattle.held_alike.proofs.Items.{item_both}
 use Rattle.held_alike.proofs.Views.{shows_alike}
 use Rattle.salvage.proofs.Edits.{Edits}

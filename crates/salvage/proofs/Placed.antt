@@ -1,12 +1,12 @@
 -- Items of which one gets a number, or goes.
-use Rattle.std.proofs.Common.{◌≡◌, ℕ, zero, suc, ◌+◌, ◌<◌, List, [], ◌∷◌, ◌++◌, length, get_or, take, drop, set, refl, sym, ap, ◌∙◌, arith, drop-cons}
+use Rattle.std.proofs.Common.{◌≡◌, ℕ, zero, suc, ◌<◌, List, [], ◌∷◌, ◌++◌, length, get_or, take, drop, set, refl, sym, ap, ◌∙◌, arith, drop-cons}
 use Rattle.std.specs.List.{remove}
 use Rattle.std.proofs.lemmas.List.{get_or-take, length-take-le, drop-set-lt, set_split}
 use Rattle.std.proofs.Math.Seq.{take-set-lt}
 use Rattle.mir_func.specs.declared.item.Item.{Item}
 use Rattle.salvage.specs.declared.way.Way.{Way}
-use Rattle.salvage.specs.declared.way.Way.TheVariants.{HasEntry, GetsEntry, GetsPhi}
-use Rattle.salvage.specs.Salvage.{with_number, numbered_at, phi_for, above_after, put_for, behind_after, items_after}
+use Rattle.salvage.specs.declared.way.Way.TheVariants.{GetsEntry, GetsPhi}
+use Rattle.salvage.specs.Salvage.{with_number, numbered_at, phi_for, put_for, behind_after, items_after}
 
 -- the item with the number
 abbrev pub numbered_item : ℕ → Item → Item

@@ -1,3 +1,4 @@
 pub mod Fresh
 pub mod Way
 pub mod Salvage
+pub mod Above

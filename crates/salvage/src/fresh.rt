@@ -62,7 +62,7 @@ fn number_in(kind: &ItemKind) -> u32
 }
 
 /// The greatest number on both sides of substitutions, or 0.
-fn greatest_in_entries(entries: &[Entry]) -> u32
+pub fn greatest_in_entries(entries: &[Entry]) -> u32
     ensures { result ≡ greatest (entry_numbers entries.now) }
 {
     let mut most: u32 = 0;

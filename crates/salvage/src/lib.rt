@@ -6,6 +6,7 @@
 //! follow after.
 #![tactic(auto)]
 
+pub mod above;
 pub mod fresh;
 pub mod salvage;
 pub mod way;

@@ -1,6 +1,6 @@
 //! Which code stands for a copy that is removed.
 
-ghost use Rattle.std.specs.Prelude.{◌≡◌, ◌<◌, ℕ, Some, nat_eq, length, IfSome};
+ghost use Rattle.std.specs.Prelude.{◌≡◌, ◌<◌, ◌||◌, ◌&&◌, ℕ, Some, nat_eq, not, length, IfSome};
 ghost use Rattle.std.specs.List.{list_any};
 ghost use Rattle.rv64_instr.specs.declared.place.Place.TheVariants as place;
 ghost use Rattle.rv64_instr.specs.Row.{row_of};
@@ -9,7 +9,8 @@ ghost use Rattle.mir_meaning.specs.Step.{defined};
 ghost use Rattle.follow_law.specs.Causes.{defines};
 ghost use Rattle.salvage.specs.declared.way.Way.TheVariants as chosen;
 ghost use Rattle.salvage.specs.Way.{last_definition, is_register, first_definition, asks_for, has_entry};
-ghost use Rattle.salvage.specs.Way.{or_fresh, may_stand, way_by, way};
+ghost use Rattle.salvage.specs.Way.{or_fresh, way_by, way};
+ghost use Rattle.salvage.specs.Above.{way_unless};
 
 use mir_func::entry::OperandPair;
 use mir_func::item::{Item, ItemKind};
@@ -76,32 +77,59 @@ fn way_by(
 ) -> Way
     ensures { result ≡ way_by removed.now subs.now fresh number d own.now operand behind.now }
 {
+    let barred = is_barred(behind, subs, removed, number, d);
+    way_unless(barred, subs, fresh, d, own, operand)
+}
+
+/// Whether code at index `d` goes too, or some of the items behind it ask for the number.
+fn is_barred(
+    behind: &[Item],
+    subs: &Substitutions,
+    removed: &[usize],
+    number: DebugNumber,
+    d: usize,
+) -> bool
+    ensures { result ≡
+        (list_any (nat_eq d) removed.now || list_any (λ x. asks_for subs.now number x.kind) behind.now) }
+{
+    is_among(removed, d) || ask_for(behind, subs, number)
+}
+
+/// What becomes of it by the code at index `d`, which has this number and defines the source by this operand, unless
+/// that is barred.
+pub fn way_unless(
+    barred: bool,
+    subs: &Substitutions,
+    fresh: DebugNumber,
+    d: usize,
+    own: &Option<DebugNumber>,
+    operand: Option<usize>,
+) -> Way
+    ensures { result ≡ way_unless barred subs.now fresh d own.now operand }
+{
     let Some(o) = operand else {
         return Way::GetsPhi;
     };
     let Ok(index) = u32::try_from(o) else {
         return Way::GetsPhi;
     };
-    if may_stand(behind, subs, removed, number, d, own, OperandIndex(index)) {
+    if may_stand(barred, subs, own, OperandIndex(index)) {
         Way::GetsEntry(d, OperandIndex(index), or_fresh(own, fresh))
     } else {
         Way::GetsPhi
     }
 }
 
-/// Whether code at index `d` stands for the copy by the operand.
+/// Whether code stands for the copy by the operand, unless it is barred.
 fn may_stand(
-    behind: &[Item],
+    barred: bool,
     subs: &Substitutions,
-    removed: &[usize],
-    number: DebugNumber,
-    d: usize,
     own: &Option<DebugNumber>,
     operand: OperandIndex,
 ) -> bool
-    ensures { result ≡ may_stand removed.now subs.now number d own.now operand behind.now }
+    ensures { result ≡ (not (has_entry subs.now own.now operand) && not barred) }
 {
-    !is_among(removed, d) && !has_entry(subs, own, operand) && !ask_for(behind, subs, number)
+    !has_entry(subs, own, operand) && !barred
 }
 
 /// Whether the index is among some.
@@ -147,7 +175,7 @@ fn defines(kind: &ItemKind, s: Reg) -> bool
 }
 
 /// The index of the first operand that defines the register.
-fn first_definition(i: &Instr, s: Reg) -> Option<usize>
+pub fn first_definition(i: &Instr, s: Reg) -> Option<usize>
     ensures { result ≡ first_definition (is_call (row_of i.now)) s i.now.operands }
 {
     let call = i.effect().call;
@@ -185,7 +213,7 @@ fn is_definition(call: bool, s: Reg, operand: &Operand) -> bool
 }
 
 /// Whether a pair of the number has a substitution.
-fn has_entry(subs: &Substitutions, number: &Option<DebugNumber>, operand: OperandIndex) -> bool
+pub fn has_entry(subs: &Substitutions, number: &Option<DebugNumber>, operand: OperandIndex) -> bool
     ensures { result ≡ has_entry subs.now number.now operand }
 {
     match number {

@@ -1,4 +1,4 @@
-use Rattle.std.proofs.Common.{◌≡◌, ◌≤◌, ◌<◌, ◌+◌, ℕ, length, get_or, take, sym, ap, ◌∙◌, arith}
+use Rattle.std.proofs.Common.{◌≤◌, ◌<◌, ◌+◌, length, ◌∙◌, arith}
 use Rattle.copy_pass.specs.Copied.{at_block}
 use Rattle.copy_pass.proofs.Lists.{read_behind}
 use Rattle.copy_pass.proofs.Fronts.{step_stands, some_at}
@@ -21,5 +21,6 @@ loop-at-preserved c =
       so_far = step_stands (at_block c.args.subs.now c.args.fresh.now) xs items c.next_item.new.items.items c.loop-at.kept at c.in_ok-kept.kept w.0
           c.loop-at.roots.items c.next_item.new.roots.items c.loop-at.subs c.next_item.new.subs c.loop-at.fresh c.next_item.new.fresh lt
           (w.1 ∙ read_behind xs items at w.0 h.behind) h (e.stands w.0 w.1);
+      indexed = e.index;
       counted = omega (arith, low, one);
     }

@@ -1,4 +1,5 @@
-use Rattle.std.proofs.Common.{◌≡◌, ◌≤◌, ◌+◌, take}
+use Rattle.std.proofs.Common.{◌≤◌, ◌+◌, take}
+use Rattle.salvage.specs.Above.{IsIndexOf}
 use Rattle.copy_pass.specs.Copied.{over_items, at_block}
 use Rattle.copy_pass.specs.Next.{Stands}
 use Rattle.copy_pass.proofs.copies.copy_items.Given as goal
@@ -7,5 +8,6 @@ abbrev pub invariant-loop-at : goal.invariant-loop-at
 invariant-loop-at l = record {
   so_far : Stands (over_items (at_block l.initial.subs l.initial.fresh) (take l.at l.initial.items.items)) l.kept l.at l.items.items l.initial.items.items
       l.roots.items l.subs l.fresh;
+  indexed : IsIndexOf l.index l.subs (take l.kept l.items.items);
   counted : l.fresh ≤ l.initial.fresh + l.at;
 }

@@ -1,11 +1,9 @@
-use Rattle.std.proofs.Common.{◌≡◌, ◌<◌, ◌+◌, ℕ, List, Result, Ok, Err, IfOk, length, get_or, set, take, sym, ap, ◌∙◌, subst}
+use Rattle.std.proofs.Common.{◌≡◌, ◌<◌, ◌+◌, Result, Ok, Err, IfOk, length, take, sym, ap, ◌∙◌, subst}
 use Rattle.mir_func.specs.declared.item.Item.{Item}
-use Rattle.copy_pass.specs.declared.roots.Root.{Root}
-use Rattle.copy_pass.specs.declared.copies.Fate.{Fate}
 use Rattle.copy_pass.specs.declared.copies.Fate.TheVariants.{GoesWith}
 use Rattle.copy_pass.specs.Copied.{renamed_item, fate_of, and_renamed}
 use Rattle.copy_pass.specs.Next.{Stands}
-use Rattle.copy_pass.proofs.Fronts.{get_any, get_set, taken_stands}
+use Rattle.copy_pass.proofs.Fronts.{get_any, get_set, taken_stands, index_up, index_same}
 use Rattle.copy_pass.proofs.copies.next_item.Goals as goal
 
 map_ok : {T E : Type 0} (r : Result T E) (P Q : T → Type 0) → IfOk r P → ((v : T) → P v → Q v) → IfOk r Q
@@ -37,3 +35,20 @@ returns-in-GoesWith-clause-stands c =
     (taken_stands xs kept at subs fresh roots c.requires.within lt y c.in-GoesWith.number c.in-GoesWith.source more c.take_out.new.items.items
     c.take_out.new.subs
     c.take_out.new.fresh fate (h y roots (sym (get_set xs at y y lt))))))
+
+-- the index of the front
+pub returns-in_ok-push-in-Stays-clause-index : goal.returns-in_ok-push-in-Stays-clause-index
+returns-in_ok-push-in-Stays-clause-index c =
+    let xs = c.args.items.now.items in
+    let y = c.rename_item.new.x in
+    index_up xs c.swap.new.self.items c.args.kept c.args.at y c.push.new.self c.args.subs.now c.requires.within c.requires.at c.swap.ensures.items
+    (λ len. c.in_ok-push-in-Stays.ensures (take c.args.kept xs) y c.requires.index len
+    (ap (λ (i : Item). i.kind) (sym (c.index-in-Stays-2.ensures ∙ get_set xs c.args.at y c.index-in-Stays-2.result.now c.requires.at))))
+
+pub returns-in-Goes-clause-index : goal.returns-in-Goes-clause-index
+returns-in-Goes-clause-index c =
+    index_same c.args.items.now.items c.args.kept c.args.at c.rename_item.new.x c.args.index.now c.args.subs.now c.requires.within c.requires.index
+
+pub take_out-requires-clause-index : goal.take_out-requires-clause-index
+take_out-requires-clause-index c =
+    index_same c.args.items.now.items c.args.kept c.args.at c.rename_item.new.x c.args.index.now c.args.subs.now c.requires.within c.requires.index

@@ -1,4 +1,4 @@
-use Rattle.std.proofs.Common.{◌≡◌, ◌≤◌, ◌<◌, ℕ, ◌+◌, List, length, length-set, take, drop, set, filter, sym, ap, ◌∙◌, arith}
+use Rattle.std.proofs.Common.{◌≡◌, ◌≤◌, ◌<◌, ◌+◌, length, length-set, take, drop, set, sym, ap, ◌∙◌, arith}
 use Rattle.rv64_instr.specs.Row.{row_of}
 use Rattle.copy_pass.specs.Roots.{outlives}
 use Rattle.copy_pass.proofs.Lists.{moves_up, passes, behind_write, behind_next}

@@ -1,4 +1,4 @@
-use Rattle.std.proofs.Common.{◌≡◌, sym, ap, ◌∙◌, subst, IsTrue, Bool}
+use Rattle.std.proofs.Common.{sym, ap, ◌∙◌, subst, IsTrue, Bool}
 use Rattle.rv64_instr.specs.Form.{has_form}
 use Rattle.copy_pass.proofs.Forms.{form_renamed}
 use Rattle.copy_pass.proofs.roots.rename.Goals as goal

@@ -1,4 +1,4 @@
-use Rattle.std.proofs.Common.{◌≡◌, set, sym, ap, ◌∙◌, subst, ◌<◌, length}
+use Rattle.std.proofs.Common.{set, sym, ap, ◌∙◌}
 use Rattle.copy_pass.specs.Roots.{renamed_operand}
 use Rattle.copy_pass.proofs.Lists.{map_turn}
 use Rattle.copy_pass.proofs.roots.rename_all.Goals as goal

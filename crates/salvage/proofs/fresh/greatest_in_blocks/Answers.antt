@@ -1,4 +1,4 @@
-use Rattle.std.proofs.Common.{◌≡◌, max, ap, sym, ◌∙◌}
+use Rattle.std.proofs.Common.{max, ap, sym, ◌∙◌}
 use Rattle.follow_law.specs.Sizes.{greatest}
 use Rattle.salvage.specs.Fresh.{item_numbers}
 use Rattle.salvage.proofs.Greatest.{greatest_block_turn}

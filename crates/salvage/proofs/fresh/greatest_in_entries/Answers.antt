@@ -1,4 +1,4 @@
-use Rattle.std.proofs.Common.{◌≡◌, max, [], ◌∷◌, ap, sym, ◌∙◌}
+use Rattle.std.proofs.Common.{max, [], ◌∷◌, ap, sym, ◌∙◌}
 use Rattle.salvage.proofs.Greatest.{greatest_turn, max_zero}
 use Rattle.salvage.proofs.fresh.greatest_in_entries.Goals as goal
 

@@ -1,4 +1,4 @@
-use Rattle.std.proofs.Common.{◌≡◌, max, sym, ◌∙◌}
+use Rattle.std.proofs.Common.{max, sym, ◌∙◌}
 use Rattle.follow_law.specs.Sizes.{numbers_of}
 use Rattle.salvage.proofs.Greatest.{greatest_turn}
 use Rattle.salvage.proofs.fresh.greatest_in_items.Goals as goal

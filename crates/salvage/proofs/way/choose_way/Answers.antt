@@ -1,7 +1,6 @@
-use Rattle.std.proofs.Common.{◌≡◌, ◌<◌, ℕ, List, length, drop, suc, Option, Some, None, IfSome, subst, ap, sym, ◌∙◌}
+use Rattle.std.proofs.Common.{◌≡◌, ◌<◌, ℕ, List, length, Option, Some, None, IfSome, subst, sym, ◌∙◌}
 use Rattle.mir_func.specs.declared.item.Item.{Item}
-use Rattle.mir_func.specs.declared.item.ItemKind.{ItemKind}
-use Rattle.salvage.specs.Way.{last_definition, has_entry, way_by, way_of_kind, way}
+use Rattle.salvage.specs.Way.{way_by}
 use Rattle.salvage.proofs.Chosen.{chosen_at, all_behind, entered_within}
 use Rattle.salvage.proofs.way.choose_way.Goals as goal
 

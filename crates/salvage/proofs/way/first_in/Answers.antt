@@ -1,4 +1,4 @@
-use Rattle.std.proofs.Common.{◌≡◌, sym, ◌∙◌}
+use Rattle.std.proofs.Common.{sym, ◌∙◌}
 use Rattle.salvage.proofs.Found.{first_on, first_found}
 use Rattle.salvage.proofs.way.first_in.Goals as goal
 

@@ -1,4 +1,4 @@
-use Rattle.std.proofs.Common.{◌≡◌, ◌≤◌, ℕ, length, take}
+use Rattle.std.proofs.Common.{◌≡◌, ◌≤◌, length, take}
 use Rattle.salvage.specs.Way.{last_definition}
 use Rattle.salvage.proofs.way.last_definition.Given as goal
 
