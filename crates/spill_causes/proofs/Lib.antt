@@ -1,0 +1,3 @@
+pub mod Standing
+pub mod Causes
+pub mod Left
