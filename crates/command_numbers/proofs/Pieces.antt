@@ -1,5 +1,6 @@
 -- Pieces that are numbers.
-use Rattle.std.proofs.Common.{◌≡◌, ◌≢◌, ℕ, zero, suc, ◌+◌, ◌%◌, ◌<◌, ◌≤◌, ◌^◌, List, [], ◌∷◌, ◌++◌, length, get_or, map, take, Bor, false, nat_eq, Option, Some, Result, Ok, Err, ◌↔◌, subst, refl, sym, ap, ◌∙◌, arith}
+use Rattle.std.proofs.Common.{◌≡◌, ◌≢◌, ℕ, zero, suc, ◌+◌, ◌%◌, ◌<◌, ◌≤◌, ◌^◌, List, [], ◌∷◌, ◌++◌, length, get_or, map, take, Bor, false, nat_eq}
+use Rattle.std.proofs.Common.{Option, Some, Result, Ok, Err, ◌↔◌, subst, refl, sym, ap, ◌∙◌, arith}
 use Rattle.std.specs.List.{All, join_with_byte, slice_split}
 use Rattle.std.specs.Result.{IfOk}
 use Rattle.std.specs.Fmt.{decimal}
@@ -99,7 +100,8 @@ pub record IsNext (pieces : List (Bor (List ℕ))) (i : ℕ) (values : List ℕ)
   pub small : All (λ n. n < 2 ^ 64) values
 
 pub next_piece : (pieces : List (Bor (List ℕ))) (i : ℕ) (values : List ℕ) (n : ℕ) (d : Bor (List ℕ)) → i < length pieces →
-    take i (map (λ p. p.now) pieces) ≡ map decimal values → (get_or pieces i d).now ≡ decimal n → All (λ n. n < 2 ^ 64) values → n < 2 ^ 64 → IsNext pieces i (values ++ n ∷ [])
+    take i (map (λ p. p.now) pieces) ≡ map decimal values → (get_or pieces i d).now ≡ decimal n → All (λ n. n < 2 ^ 64) values → n < 2 ^ 64 → IsNext pieces i
+    (values ++ n ∷ [])
 next_piece pieces i values n d l front is small little =
     let below : i < length (map (λ q. q.now) pieces) = omega (arith, l, length-map pieces (λ q. q.now)) in
     record {

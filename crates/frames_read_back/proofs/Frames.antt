@@ -168,7 +168,15 @@ frames_read_back named again es declared same = record {
     each = small_entries ms os (All-weaker (IsSlot named) (λ m. m ≤ MAX_NUMBER) (λ m is. is.1) ms slots)
         (All-weaker (IsObject named) (λ o. IsEntry (object_entry o)) (λ o is. is.1) os objects);
     apart = apart_if_once (numbers (entries_read ms os)) (subst Once (sym (numbers_again ms os)) once);
-    few = omega (arith, frame_count named es, declared.few, length-append (map slot_entry ms) (map object_entry os), length-map ms slot_entry, length-map os object_entry);
+    few = omega (
+      arith,
+      frame_count named es,
+      declared.few,
+      length-append (map slot_entry ms) (map object_entry os),
+      length-map ms slot_entry,
+      length-map os
+          object_entry,
+    );
   };
   slots = slots_again again [] ms os slots_too objects_too;
   objects = objects_again again (record { objects = []; end = 0 }) ms os slots_too objects_too laid;

@@ -126,7 +126,8 @@ module _ (subs : List Entry) (k n o : ℕ) (free : has_entry subs (Some k) 0 ≡
 
     -- a pair that resolves to operand 0 of k
     asks_source : (w : OperandPair) → resolve subs w ≡ Some (first_operand k) → resolve more w ≡ Some pair →
-        is_just (first_operand q) (resolve more w) ≡ asks_after is_k is_n (is_just (first_operand k) (resolve subs w)) (is_just (first_operand q) (resolve subs w))
+        is_just (first_operand q) (resolve more w) ≡ asks_after is_k is_n (is_just (first_operand k) (resolve subs w))
+        (is_just (first_operand q) (resolve subs w))
     asks_source w from to =
         ap (is_just (first_operand q)) to ∙ by_case (cases_eq q k) ∙
         sym (λ i. asks_after is_k is_n (is_just (first_operand k) (from i)) (is_just (first_operand q) (from i))) where
@@ -137,7 +138,8 @@ module _ (subs : List Entry) (k n o : ℕ) (free : has_entry subs (Some k) 0 ≡
               (is_just (first_operand q) (Some (first_operand k)))
           by_case (inl is) =
               ap (λ (z : ℕ). is_just (first_operand z) (Some pair)) is ∙ apart ∙
-              sym (ap (λ (z : Bool). asks_after z is_n (is_just (first_operand k) (Some (first_operand k))) (is_just (first_operand q) (Some (first_operand k))))
+              sym (ap (λ (z : Bool). asks_after z is_n (is_just (first_operand k) (Some (first_operand k)))
+              (is_just (first_operand q) (Some (first_operand k))))
               (eq-eqb q k is))
           by_case (inr ne) = other is_n ∙ sym
               (λ i. asks_after (ne_eqb q k ne i) is_n (at_k i) (also i)) where
@@ -153,7 +155,8 @@ module _ (subs : List Entry) (k n o : ℕ) (free : has_entry subs (Some k) 0 ≡
 
     -- one that resolves to another
     asks_other : (w : OperandPair) → (resolve subs w ≡ Some (first_operand k) → ⊥) → resolve more w ≡ resolve subs w →
-        is_just (first_operand q) (resolve more w) ≡ asks_after is_k is_n (is_just (first_operand k) (resolve subs w)) (is_just (first_operand q) (resolve subs w))
+        is_just (first_operand q) (resolve more w) ≡ asks_after is_k is_n (is_just (first_operand k) (resolve subs w))
+        (is_just (first_operand q) (resolve subs w))
     asks_other w ne same =
         ap (is_just (first_operand q)) same ∙ by_case (cases_eq q k) where
           off : is_just (first_operand k) (resolve subs w) ≡ false
@@ -163,7 +166,8 @@ module _ (subs : List Entry) (k n o : ℕ) (free : has_entry subs (Some k) 0 ≡
               (is_just (first_operand q) (resolve subs w))
           by_case (inl is) =
               ap (λ (z : ℕ). is_just (first_operand z) (resolve subs w)) is ∙ off ∙
-              sym (ap (λ (z : Bool). asks_after z is_n (is_just (first_operand k) (resolve subs w)) (is_just (first_operand q) (resolve subs w))) (eq-eqb q k is))
+              sym (ap (λ (z : Bool). asks_after z is_n (is_just (first_operand k) (resolve subs w)) (is_just (first_operand q) (resolve subs w)))
+              (eq-eqb q k is))
           by_case (inr apart_k) =
               other is_n (is_just (first_operand q) (resolve subs w)) ∙
               sym (λ i. asks_after (ne_eqb q k apart_k i) is_n (off i) (is_just (first_operand q) (resolve subs w))) where
@@ -175,7 +179,8 @@ module _ (subs : List Entry) (k n o : ℕ) (free : has_entry subs (Some k) 0 ≡
     asks_more (Mark v (Pair w)) = by_more (once_more w) where
       by_more : ((resolve subs w ≡ Some (first_operand k)) × (resolve more w ≡ Some pair)) ⊎
           ((resolve subs w ≡ Some (first_operand k) → ⊥) × (resolve more w ≡ resolve subs w)) →
-          is_just (first_operand q) (resolve more w) ≡ asks_after is_k is_n (is_just (first_operand k) (resolve subs w)) (is_just (first_operand q) (resolve subs w))
+          is_just (first_operand q) (resolve more w) ≡ asks_after is_k is_n (is_just (first_operand k) (resolve subs w))
+          (is_just (first_operand q) (resolve subs w))
       by_more (inl m) = asks_source w m.0 m.1
       by_more (inr m) = asks_other w m.0 m.1
     asks_more (Mark v Nothing) = none_after is_k is_n
@@ -223,7 +228,8 @@ module _ (f g : ℕ → Option ℕ) (k n o : ℕ) (others : (q : ℕ) → g q �
   pub moved_off : nat_eq 0 o ≡ false → (q : ℕ) → g q ≡ moved f k n o q
   moved_off e q = others q ∙ sym (ap (λ (z : Bool). cond (nat_eq q k) None (cond z (later (f k) (f q)) (f q))) (off_pair e q))
 
-  module _ (h : ℕ → Option ℕ) (at : ℕ) (found : f k ≡ Some at) (put : (q : ℕ) → h q ≡ cond (nat_eq q n) (later (Some at) (g n)) (g q)) (first : nat_eq 0 o ≡ true)
+  module _ (h : ℕ → Option ℕ) (at : ℕ) (found : f k ≡ Some at) (put : (q : ℕ) → h q ≡ cond (nat_eq q n) (later (Some at) (g n)) (g q))
+      (first : nat_eq 0 o ≡ true)
       (apart : is_just (first_operand k) (Some (record { number = n; operand = o })) ≡ false) where
     on_pair : (q : ℕ) → is_just (first_operand q) (Some (record { number = n; operand = o })) ≡ nat_eq q n
     on_pair q = ap (λ (z : Bool). nat_eq q n && z) first ∙ by_test (nat_eq q n) where

@@ -36,7 +36,8 @@ module _ (f : List Item → Option ℕ) (p : Item → Bool) (none : f [] ≡ Non
     by_test true = refl
     by_test false = refl
   last_more (y ∷ ys) x =
-      step y (ys ++ x ∷ []) ∙ ap (λ (z : Option ℕ). further z (p y)) (last_more ys x) ∙ by_test (p x) ∙ ap (cond (p x) (Some (length (y ∷ ys)))) (sym (step y ys)) where
+      step y (ys ++ x ∷ []) ∙ ap (λ (z : Option ℕ). further z (p y)) (last_more ys x) ∙ by_test (p x) ∙ ap (cond (p x) (Some (length (y ∷ ys))))
+      (sym (step y ys)) where
         by_test : (z : Bool) → further (cond z (Some (length ys)) (f ys)) (p y) ≡ cond z (Some (length (y ∷ ys))) (further (f ys) (p y))
         by_test true = refl
         by_test false = refl

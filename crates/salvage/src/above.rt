@@ -1,6 +1,7 @@
 //! An index of the items above a place of a block, by which a copy's way is found in constant time.
 
-ghost use Rattle.std.specs.Prelude.{◌≡◌, ◌++◌, ◌<◌, ◌||◌, [], ◌∷◌, List, ℕ, cond, nat_eq, Some, None, length, drop, suc, false};
+ghost use Rattle.std.specs.Prelude.{◌≡◌, ◌++◌, ◌<◌, ◌||◌, [], ◌∷◌, List, ℕ, cond, nat_eq, Some, None, length};
+ghost use Rattle.std.specs.Prelude.{drop, suc, false};
 ghost use Rattle.std.specs.Prelude.{IfOk, IfSome, OnOk};
 ghost use Rattle.std.specs.List.{list_any};
 ghost use Rattle.std.specs.HashMap.{get};

@@ -133,7 +133,8 @@ module _ (reserve : List ℕ) (live : ℕ → Bool) (k : ℕ) (f : Function) whe
           let w = new_slot r (next_slot f.slots) at in
           (next_slot f.slots, w.0, w.1)
 
-    cause_by : (some : homes ≡ [] → ⊥) (at : Pos) (i : Item) (kind : ItemKind) (loss : Loss) → i.kind ≡ kind → StandsAt f at i → LosesScratch s kind i.origin loss →
+    cause_by : (some : homes ≡ [] → ⊥) (at : Pos) (i : Item) (kind : ItemKind) (loss : Loss) → i.kind ≡ kind → StandsAt f at i → LosesScratch s kind i.origin
+        loss →
         HasCause (spill_debug reserve) c at loss
     cause_by some at i (Mark v (At r)) loss is there (silent, e) =
         subst (HasCause (spill_debug reserve) c at) (sym e)

@@ -33,7 +33,8 @@ use Rattle.follow_law.specs.Rule.{Rule}
 use Rattle.follow_law.specs.Sizes.{calls}
 use Rattle.spill_code.specs.declared.spilling.Home.{Home}
 use Rattle.spill_code.specs.Rewrite.{slot_of}
-use Rattle.spill_rule.specs.Choice.{is_added, binds, is_bound, row_goes, goes, is_looped, lacks_scratch, reason_of, is_free, candidates, room, chosen, next_slot}
+use Rattle.spill_rule.specs.Choice.{is_added, binds, is_bound, row_goes, goes, is_looped, lacks_scratch, reason_of, is_free, candidates, room, chosen}
+use Rattle.spill_rule.specs.Choice.{next_slot}
 use Rattle.spill_rule.specs.Choice.{homes_from, homes_of, spilling_of, entry_of}
 use Rattle.spill_rule.specs.Rule.{Decides}
 use Rattle.spill_whole.specs.Whole.{spilled_by, where_spilled}
@@ -247,7 +248,7 @@ module _ (reserve : List ℕ) (live : ℕ → Bool) (k : ℕ) (f : Function) (su
       let b = objects_by homes in
       let le = sound.few_slots in
       let total = full (length f.slots) (length f.objects) (length new_slots) (length (candidates reserve live f)) le (how_many reserve live f)
-          (taken_all (room f) (candidates reserve live f) r there left) in (
+      (taken_all (room f) (candidates reserve live f) r there left) in (
         omega (arith, a, b, total),
         λ s slot (live', d, e).
             taken_before (room f) (candidates reserve live f)

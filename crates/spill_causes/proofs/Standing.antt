@@ -46,10 +46,10 @@ item_from : (bs : List Block) (i : Item) → Contains (items_of bs) i → (b : B
 item_from [] i (k, lt, e) = absurd (omega (arith, lt))
 item_from (b ∷ bs) i h = by_side (Contains-append_cases b.items (items_of bs) i
     (subst (λ (z : List Item). Contains z i) (flat_map-cons (λ (c : Block). c.items) b bs) h)) (item_from bs i) where
-  by_side : Contains b.items i ⊎ Contains (items_of bs) i → (Contains (items_of bs) i → (c : Block) × Contains bs c × Contains c.items i) →
-      (c : Block) × Contains (b ∷ bs) c × Contains c.items i
-  by_side (inl k) more = (b, (0, omega arith, refl), k)
-  by_side (inr k) more = let w = more k in let at = w.1 in (w.0, (suc at.0, (let lt = at.1 in omega (arith, lt)), at.2), w.2)
+      by_side : Contains b.items i ⊎ Contains (items_of bs) i → (Contains (items_of bs) i → (c : Block) × Contains bs c × Contains c.items i) →
+          (c : Block) × Contains (b ∷ bs) c × Contains c.items i
+      by_side (inl k) more = (b, (0, omega arith, refl), k)
+      by_side (inr k) more = let w = more k in let at = w.1 in (w.0, (suc at.0, (let lt = at.1 in omega (arith, lt)), at.2), w.2)
 
 -- what stands at a place is among the items
 pub among : (f : Function) (at : Pos) (i : Item) → StandsAt f at i → Contains (items_of f.blocks) i

@@ -19,7 +19,8 @@ loop-piece-preserved c =
     let i = c.loop-piece.piece-index in
     let is = (c.number.ensures c.in-Some.n).0 c.in-Some.is in
     let below : i < length c.args.pieces.now = c.loop-piece-test.true in
-    let next = next_piece c.args.pieces.now i c.loop-piece.values c.in-Some.n (record { ref_ptr = (0, 0); now = [] }) below c.loop-piece.invariant.each is.0 c.loop-piece.invariant.small
+    let next = next_piece c.args.pieces.now i c.loop-piece.values c.in-Some.n (record { ref_ptr = (0, 0); now = [] }) below c.loop-piece.invariant.each is.0
+    c.loop-piece.invariant.small
     (omega (arith, is.1)) in
     record {
       each = next.each ∙ ap (map decimal) (sym c.in_ok-push-in-Some.ensures.ok);
