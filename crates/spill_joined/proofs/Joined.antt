@@ -38,12 +38,12 @@ module _ (reserve : List ℕ) (live : ℕ → Bool) (k : ℕ) (f : Function) (su
   same : spilling_of reserve live g ≡ s
   same = sym (choice_is_bare reserve live g) ∙ ap (spilling_of reserve live) (asked_is_stripped s k f) ∙ choice_is_bare reserve live f
 
-  pub sound : IsSound g
+  sound : IsSound g
   sound = asked_is_sound s k f may.sound (all_numbers k f (low_function k f subs may.fresh).0)
 
   -- where some register is spilled
   module _ (some : homes_of reserve live f ≡ [] → ⊥) (resolves : OperandPair → Option OperandPair) where
-    pub may_spill : MaySpill s (entry_of live s.homes) g resolves
+    may_spill : MaySpill s (entry_of live s.homes) g resolves
     may_spill = subst (λ (t : Spilling). MaySpill t (entry_of live t.homes) g resolves) same
         (chosen_may_spill reserve live g resolves sound (forms_asked s k f.blocks may.forms) may.real may.distinct may.decides
         (subst (λ (t : Spilling). AllItems (λ i. AsksElsewhere t i.kind) g.blocks) (sym same)
