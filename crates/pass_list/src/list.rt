@@ -1,0 +1,80 @@
+//! Lists of passes, each at most once.
+
+ghost use Rattle.std.specs.Prelude.{◌≡◌, ◌↔◌, ◌∷◌, ◌++◌, [], List, IsTrue, Some, Contains};
+ghost use Rattle.pass_list.specs.declared.kind.PassKind.{PassKind};
+ghost use Rattle.pass_list.specs.Names.{AreDistinct};
+
+use crate::kind::PassKind;
+use std::marker::Model;
+
+/// How many passes there are.
+const PASSES: usize = 3;
+
+/// Passes in the order in which they run, each at most once. A contract sees it as the list of them.
+#[derive(Debug, Drop)]
+pub struct PassList {
+    /// The passes, and any others after them.
+    passes: [PassKind; 3],
+    /// How many there are.
+    len: usize,
+}
+
+impl Model for PassList {
+    ghost use Rattle.std.specs.Prelude.{◌≡◌, ◌≤◌, List, take, length};
+    ghost use Rattle.pass_list.specs.declared.kind.PassKind.{PassKind};
+    ghost use Rattle.pass_list.specs.Names.{AreDistinct};
+
+    ghost Value = { List PassKind };
+
+    ghost view = { λ l. take l.len l.passes };
+
+    ghost invariant = { λ l. (length l.passes ≡ 3) × (l.len ≤ 3) × AreDistinct (take l.len l.passes) };
+}
+
+impl PassList {
+    /// The list of no pass.
+    pub fn empty() -> PassList
+        ensures { result ≡ [] }
+    {
+        PassList {
+            passes: [PassKind::Copy; PASSES],
+            len: 0,
+        }
+    }
+
+    /// The passes.
+    pub fn as_slice(&self) -> &[PassKind]
+        ensures value { result.now ≡ self.now }
+        ensures distinct { AreDistinct self.now }
+    {
+        &self.passes[..self.len]
+    }
+
+    /// The list with a pass more behind it, unless it has it already.
+    pub fn with(&self, pass: PassKind) -> Option<PassList>
+        ensures { (whole : List PassKind) →
+            (result ≡ Some whole) ↔ ((whole ≡ self.now ++ pass ∷ []) × AreDistinct whole) }
+    {
+        if has(self.as_slice(), pass) {
+            return None;
+        }
+        let mut passes = self.passes;
+        passes[self.len] = pass;
+        Some(PassList {
+            passes,
+            len: self.len + 1,
+        })
+    }
+}
+
+/// Whether a pass is among some.
+fn has(passes: &[PassKind], pass: PassKind) -> bool
+    ensures { IsTrue result ↔ Contains passes.now pass }
+{
+    for other in passes {
+        if *other == pass {
+            return true;
+        }
+    }
+    false
+}

@@ -1,0 +1,37 @@
+-- What passes leave of what a listing tells beside the code: the name, the variables and locations of marks, and the places of phis.
+use Rattle.std.specs.Prelude.{◌≡◌, ◌⊎◌, ℕ, ◌<◌, Some, Contains}
+use Rattle.rv64_instr.specs.declared.place.Place.{Place}
+use Rattle.rv64_instr.specs.declared.place.Place.TheVariants.{Register, Slot, Const}
+use Rattle.mir_func.specs.declared.item.Item.{Item}
+use Rattle.mir_func.specs.declared.item.ItemKind.TheVariants.{Mark, Phi}
+use Rattle.mir_func.specs.declared.location.Loc.{Loc}
+use Rattle.mir_func.specs.declared.variable.MarkValue.{MarkValue}
+use Rattle.mir_func.specs.declared.variable.VarId.{VarId}
+use Rattle.mir_func.specs.Function.{Function}
+use Rattle.mir_func.specs.Sound.{items_of}
+
+-- the item marks a part of a variable, with this location
+abbrev pub IsMarkOf : VarId → Loc → Item → Type 0
+IsMarkOf v l i = (m : MarkValue) × (i.kind ≡ Mark v m) × (i.loc ≡ l)
+
+-- the item is a phi of this place
+abbrev pub IsPhiOf : Place → Item → Type 0
+IsPhiOf p i = (k : ℕ) × (i.kind ≡ Phi (Some p) k)
+
+abbrev pub HasMark : Function → VarId → Loc → Type 0
+HasMark f v l = (i : Item) × Contains (items_of f.blocks) i × IsMarkOf v l i
+
+abbrev pub HasPhi : Function → Place → Type 0
+HasPhi f p = (i : Item) × Contains (items_of f.blocks) i × IsPhiOf p i
+
+-- a place that passes may give a phi: a slot, or another register than x0
+abbrev pub IsGiven : Place → Type 0
+IsGiven (Register r) = 0 < r
+IsGiven (Slot n) = Unit {0}
+IsGiven (Const c) = ⊥
+
+-- A function has the name of one before, no mark of another part or location, and no phi of another place but those that passes may give.
+pub record KeepsShown (f g : Function) : Type 0 where
+  pub name : g.name ≡ f.name
+  pub marks : (v : VarId) (l : Loc) → HasMark g v l → HasMark f v l
+  pub places : (p : Place) → HasPhi g p → HasPhi f p ⊎ IsGiven p

@@ -1,0 +1,71 @@
+//! Passes in the order of a list.
+
+ghost use Rattle.std.specs.Prelude.{◌≡◌, ◌+◌, ◌*◌, ◌<◌, ◌^◌, IfOk, OnOk};
+ghost use Rattle.mir_func.specs.Limits.{MAX_SLOTS};
+ghost use Rattle.follow_law.specs.Change.{change};
+ghost use Rattle.follow_law.specs.Following.{KeepsFollowing};
+ghost use Rattle.follow_law.specs.Sizes.{greatest, greatest_number, item_count, KeepsSizes};
+ghost use Rattle.follow_law.specs.Sizes.{most_numbers};
+ghost use Rattle.follow_law.specs.Steps.{KeepsSteps};
+ghost use Rattle.pass_loop.specs.Passes.{steps_of_pass, asks, keeps, factor, count};
+ghost use Rattle.pass_loop.specs.Passes.{steps_of, any_asks, all_keep, Fit, numbers_after, slots_after, KeepsGrowth};
+ghost use Rattle.pass_loop.specs.Shown.{KeepsShown};
+
+use branch_fold::fold::FoldPass;
+use copy_propagation::copies::CopyPass;
+use follow_law::loss::Losses;
+use follow_law::pass::Pass;
+use mir_func::func::Func;
+use pass_list::kind::PassKind;
+use remat_pass::remat::RematPass;
+use std::alloc::{AllocError, Global};
+use substitution::substitutions::Substitutions;
+
+/// Runs passes one after the other, and gives what they lost, in their order. After an error the function and its
+/// substitutions are only to be dropped.
+pub fn run_passes(
+    alloc: Global,
+    passes: &[PassKind],
+    f: &mut Func,
+    subs: &mut Substitutions,
+) -> Result<Losses, AllocError>
+    requires numbers { greatest_number f.old subs.old + numbers_after passes.now (item_count f.old) < 2 ^ 31 }
+    requires slots { greatest f.old.slots + MAX_SLOTS * slots_after passes.now < 2 ^ 31 }
+    ensures follows { OnOk result (Fit passes.now →
+        KeepsFollowing (any_asks passes.now) (all_keep passes.now) (change f.old subs.old f.new subs.new)) }
+    ensures steps { IfOk result (KeepsSteps (steps_of passes.now) (change f.old subs.old f.new subs.new)) }
+    ensures growth { OnOk result (KeepsGrowth passes.now (change f.old subs.old f.new subs.new)) }
+    ensures shown { OnOk result (KeepsShown f.old f.new) }
+{
+    match passes.split_first() {
+        None => Ok(Losses::new(alloc)),
+        Some((first, rest)) => {
+            let mut losses = run_pass(alloc, *first, f, subs)?;
+            let later = run_passes(alloc, rest, f, subs)?;
+            losses.extend_from_slice(later.as_slice())?;
+            Ok(losses)
+        }
+    }
+}
+
+/// Runs one pass, and gives what it lost. After an error the function and its substitutions are only to be dropped.
+fn run_pass(
+    alloc: Global,
+    pass: PassKind,
+    f: &mut Func,
+    subs: &mut Substitutions,
+) -> Result<Losses, AllocError>
+    requires numbers { greatest_number f.old subs.old + most_numbers (factor pass) (count pass) f.old < 2 ^ 31 }
+    requires slots { greatest f.old.slots + MAX_SLOTS * count pass < 2 ^ 31 }
+    ensures follows { OnOk result
+        (KeepsFollowing (asks pass) (keeps pass) (change f.old subs.old f.new subs.new)) }
+    ensures steps { IfOk result (KeepsSteps (steps_of_pass pass) (change f.old subs.old f.new subs.new)) }
+    ensures sizes { OnOk result (KeepsSizes (factor pass) (count pass) (change f.old subs.old f.new subs.new)) }
+    ensures shown { OnOk result (KeepsShown f.old f.new) }
+{
+    match pass {
+        PassKind::Copy => CopyPass.run(alloc, f, subs),
+        PassKind::Remat => RematPass.run(alloc, f, subs),
+        PassKind::Fold => FoldPass.run(alloc, f, subs),
+    }
+}
