@@ -27,7 +27,8 @@ use Rattle.mir_item.specs.declared.judged.Judged.{Judged}
 use Rattle.mir_item.specs.declared.judged.Judged.TheVariants as judged_as
 use Rattle.mir_item.specs.Judge.{judged}
 use Rattle.mir_body.specs.declared.body.Body.{Body}
-use Rattle.mir_body.specs.Body.{constant_of, object_named, nothing_read, and_last, blocks_of, label_cause, with_label, repeats, block_with, with_constant, with_facts}
+use Rattle.mir_body.specs.Body.{constant_of, object_named, nothing_read, and_last, blocks_of, label_cause, with_label, repeats, block_with}
+use Rattle.mir_body.specs.Body.{with_constant, with_facts}
 use Rattle.mir_body.specs.Body.{with_item, exceeds, item_cause}
 use Rattle.mir_body.specs.Limits.{MAX_ITEMS, MAX_VARIABLES, MAX_NUMBERS, MAX_CONSTANTS}
 use Rattle.mir_body.specs.Met.{is_met, met}

@@ -120,7 +120,8 @@ module _ (why : ℕ → Option Reason) where
     by_reason (Some z) more = AllPairs-cons LossComesBefore (register_lost r z) (left rs) (later_told r z rs above) more
 
 -- what is lost to a scratch register comes before each register that is left
-before_registers : (s : Spilling) (x : ItemKind) (o : Origin) (loss : Loss) (r : ℕ) (z : Reason) → LosesScratch s x o loss → LossComesBefore loss (register_lost r z)
+before_registers : (s : Spilling) (x : ItemKind) (o : Origin) (loss : Loss) (r : ℕ) (z : Reason) → LosesScratch s x o loss → LossComesBefore loss
+    (register_lost r z)
 before_registers s (Mark v (At q)) o loss r z (e, is) = subst (λ (l : Loss). LossComesBefore l (register_lost r z)) (sym is) (inl tt)
 before_registers s (Phi (Some (Register q)) k) o loss r z (e, is) = subst (λ (l : Loss). LossComesBefore l (register_lost r z)) (sym is) (inl tt)
 before_registers s (Mark v Nothing) o loss r z h = absurd h

@@ -1,0 +1,7 @@
+//! Tests of whole passes through their trait: copy propagation, and constants that are set again.
+#![tactic(auto)]
+
+#[cfg(test)]
+mod fits;
+#[cfg(test)]
+mod tests;
