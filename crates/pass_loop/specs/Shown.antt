@@ -18,9 +18,11 @@ IsMarkOf v l i = (m : MarkValue) × (i.kind ≡ Mark v m) × (i.loc ≡ l)
 abbrev pub IsPhiOf : Place → Item → Type 0
 IsPhiOf p i = (k : ℕ) × (i.kind ≡ Phi (Some p) k)
 
+-- some item of the function marks this part of a variable, with this location
 abbrev pub HasMark : Function → VarId → Loc → Type 0
 HasMark f v l = (i : Item) × Contains (items_of f.blocks) i × IsMarkOf v l i
 
+-- some item of the function is a phi of this place
 abbrev pub HasPhi : Function → Place → Type 0
 HasPhi f p = (i : Item) × Contains (items_of f.blocks) i × IsPhiOf p i
 
