@@ -9,6 +9,7 @@
   bench/growth.py locations crates/mirdwarf_locations/out/mirdwarf_locations over crates/mirdwarf_reading/out/mirdwarf_reading, on blocks, items and variables
   bench/growth.py steps    crates/mirdwarf_steps/out/mirdwarf_steps, on steps of a loop with a call
   bench/growth.py sections crates/mirdwarf_sections/out/mirdwarf_sections, on sections of 1,000 to 8,000 parts
+  bench/growth.py passes   crates/mirdwarf_passes/out/mirdwarf_passes, on copies and constants in one block and in 1,024 blocks
 
 Build the program first by `rt run` in its crate's folder. Each line has the input's size, the count and its growth.
 """
@@ -228,6 +229,19 @@ def added(name, kind, step, before, sizes):
         last = instructions
 
 
+def run_more(name, kind, blocks, sizes):
+    """A table of the instructions that a pass takes on functions of so many blocks, by items, beside those of making the function."""
+    program = os.path.join(TOP, "crates/mirdwarf_passes/out/mirdwarf_passes")
+    print(name)
+    last = None
+    for size in sizes:
+        words = [str(blocks), str(size)]
+        instructions = count(program, [kind, "run", *words], b"") - count(program, [kind, "make", *words], b"")
+        growth = "%.3f" % (instructions / last) if last else ""
+        print("  %9d  %13d  %d an item  %s" % (size, instructions, instructions // size, growth))
+        last = instructions
+
+
 def main():
     what = sys.argv[1:]
     if what == ["lex"]:
@@ -266,6 +280,10 @@ def main():
         for kind, steps in SECTIONS.items():
             for step, (call, before) in steps.items():
                 added(call, kind, step, before, (1000, 2000, 4000, 8000))
+    elif what == ["passes"]:
+        for kind in ("copies", "constants"):
+            run_more("%s in one block, by items" % kind, kind, 1, (1024, 2048, 4096, 8192, 16384))
+            run_more("%s in 1,024 blocks, by items" % kind, kind, 1024, (2048, 4096, 8192, 16384))
     elif what == ["compile"]:
         program, words = "crates/mirdwarf/out/mirdwarf", ["compile", "--passes=none"]
         by_bytes("functions of 64 blocks and 512 items, by functions", program, words, (16, 32, 64, 128, 256), many_located)
