@@ -7,7 +7,7 @@ ghost use Rattle.salvage.specs.Way.{way};
 ghost use Rattle.salvage.specs.Above.{IsIndexOf};
 ghost use Rattle.copy_pass.specs.Copied.{renamed_item, fate_of, goes_with, roots_with, salvaged, next_item};
 ghost use Rattle.copy_pass.specs.Copied.{over_items, at_block};
-ghost use Rattle.copy_pass.specs.Next.{Stands};
+ghost use Rattle.copy_pass.specs.Next.{IsCarried, Stands};
 
 use crate::roots::{Root, known_source, learn, rename};
 use mir_func::item::{Item, ItemKind};
@@ -86,8 +86,7 @@ fn next_item(
 ) -> Result<usize, AllocError>
     requires within { kept ≤ at }
     requires at { at < length items.old.items }
-    requires fresh { fresh.old < 2 ^ 31 }
-    requires index { IsIndexOf index.old subs.old (take kept items.old.items) }
+    requires carried { IsCarried index.old subs.old fresh.old (take kept items.old.items) }
     ensures stands { IfOk result (λ more. (x : Item) → x ≡ slice_index_or items.old.items at x →
         Stands (next_item (record {
           done = take kept items.old.items;
@@ -128,8 +127,7 @@ fn take_out(
 ) -> Result<usize, AllocError>
     requires within { kept ≤ at }
     requires at { at < length items.old.items }
-    requires fresh { fresh.old < 2 ^ 31 }
-    requires index { IsIndexOf index.old subs.old (take kept items.old.items) }
+    requires carried { IsCarried index.old subs.old fresh.old (take kept items.old.items) }
     ensures stands { IfOk result (λ more. (x : Item) (roots : List Root) → x ≡ slice_index_or items.old.items at x →
         Stands (salvaged (record {
           done = take kept items.old.items;

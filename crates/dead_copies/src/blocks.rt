@@ -10,7 +10,6 @@ use crate::verdicts::{going, verdicts_at};
 use follow_law::loss::Loss;
 use lists::List;
 use mir_func::block::Block;
-use mir_func::item::Item;
 use std::alloc::{AllocError, Global};
 use substitution::substitutions::Substitutions;
 
@@ -38,37 +37,16 @@ pub fn blocks_off(
     let mut at = blocks.len();
     while at > 0 {
         at -= 1;
-        items_off(
-            alloc,
+        let verdicts = verdicts_at(dead, at);
+        let removed = going(alloc, verdicts)?;
+        numbers_off(
             &mut blocks[at].items.items,
-            verdicts_at(dead, at),
+            verdicts,
+            removed.as_slice(),
             subs,
             fresh,
             lost,
         )?;
     }
     Ok(())
-}
-
-/// Takes the numbers off the copies of a block that go.
-fn items_off(
-    alloc: Global,
-    items: &mut Vec<Item>,
-    dead: &[bool],
-    subs: &mut Substitutions,
-    fresh: &mut u32,
-    lost: &mut Vec<Loss>,
-) -> Result<(), AllocError>
-    requires fresh { fresh.old + length items.old.items < 2 ^ 31 }
-    ensures off { OnOk result (record {
-      items = items.new.items;
-      subs = subs.new;
-      fresh = fresh.new;
-      lost = lost.new.items;
-    } ≡ off_down (going_from 0 dead.now) dead.now (length items.old.items)
-        (record { items = items.old.items; subs = subs.old; fresh = fresh.old; lost = lost.old.items })) }
-    ensures counted { OnOk result (fresh.new ≤ fresh.old + length items.old.items) }
-{
-    let removed = going(alloc, dead)?;
-    numbers_off(items, dead, removed.as_slice(), subs, fresh, lost)
 }

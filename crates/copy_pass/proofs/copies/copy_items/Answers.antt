@@ -24,3 +24,13 @@ loop-at-preserved c =
       indexed = e.index;
       counted = omega (arith, low, one);
     }
+
+pub next_item-requires-clause-carried : goal.next_item-requires-clause-carried
+next_item-requires-clause-carried c =
+    let xs = c.args.items.now.items in
+    let items = c.loop-at.items.items in
+    let at = c.loop-at.at in
+    let low = c.loop-at.invariant.counted in
+    let most = c.requires.fresh in
+    let lt : at < length xs = (let t = c.loop-at-test.true in let l = c.len-at-end.ensures in omega (arith, t, l)) in
+    record { left = omega (arith, low, most, lt); indexed = c.loop-at.invariant.indexed }

@@ -42,13 +42,16 @@ returns-in_ok-push-in-Stays-clause-index c =
     let xs = c.args.items.now.items in
     let y = c.rename_item.new.x in
     index_up xs c.swap.new.self.items c.args.kept c.args.at y c.push.new.self c.args.subs.now c.requires.within c.requires.at c.swap.ensures.items
-    (λ len. c.in_ok-push-in-Stays.ensures (take c.args.kept xs) y c.requires.index len
+    (λ len. c.in_ok-push-in-Stays.ensures (take c.args.kept xs) y c.requires.carried.indexed len
     (ap (λ (i : Item). i.kind) (sym (c.index-in-Stays-2.ensures ∙ get_set xs c.args.at y c.index-in-Stays-2.result.now c.requires.at))))
 
 pub returns-in-Goes-clause-index : goal.returns-in-Goes-clause-index
 returns-in-Goes-clause-index c =
-    index_same c.args.items.now.items c.args.kept c.args.at c.rename_item.new.x c.args.index.now c.args.subs.now c.requires.within c.requires.index
+    index_same c.args.items.now.items c.args.kept c.args.at c.rename_item.new.x c.args.index.now c.args.subs.now c.requires.within c.requires.carried.indexed
 
-pub take_out-requires-clause-index : goal.take_out-requires-clause-index
-take_out-requires-clause-index c =
-    index_same c.args.items.now.items c.args.kept c.args.at c.rename_item.new.x c.args.index.now c.args.subs.now c.requires.within c.requires.index
+pub take_out-requires-clause-carried : goal.take_out-requires-clause-carried
+take_out-requires-clause-carried c = record {
+  left = c.requires.carried.left;
+  indexed = index_same c.args.items.now.items c.args.kept c.args.at c.rename_item.new.x c.args.index.now c.args.subs.now c.requires.within
+      c.requires.carried.indexed;
+}

@@ -67,7 +67,7 @@ returns-in_ok-push-in-GetsPhi-clause-stands c x roots here =
 -- the index of the front
 pub choose_way_by-requires : goal.choose_way_by-requires
 choose_way_by-requires c =
-    subst (λ (ys : List Item). IsIndexOf c.args.index.now c.args.subs.now (take c.args.kept ys)) (sym c.deref.ensures.value) c.requires.index
+    subst (λ (ys : List Item). IsIndexOf c.args.index.now c.args.subs.now (take c.args.kept ys)) (sym c.deref.ensures.value) c.requires.carried.indexed
 
 pub substitute-requires : goal.substitute-requires
 substitute-requires c =
@@ -84,7 +84,7 @@ returns-then-number-fresh-clause-index c =
     (let le = c.requires.within in let lt = c.requires.at in omega (arith, le, lt)) (sym c.index_mut.ensures.value) c.give_number.ensures
     (subst (λ (ys : List Item). IsIndexOf c.substitute.new.index c.substitute.new.subs (take c.args.kept ys)) all
     (c.in_ok-substitute-in-GetsEntry.ensures.index
-    (subst (λ (ys : List Item). IsIndexOf c.args.index.now c.args.subs.now (take c.args.kept ys)) (sym all) c.requires.index)))
+    (subst (λ (ys : List Item). IsIndexOf c.args.index.now c.args.subs.now (take c.args.kept ys)) (sym all) c.requires.carried.indexed)))
 
 pub returns-else-number-fresh-clause-index : goal.returns-else-number-fresh-clause-index
 returns-else-number-fresh-clause-index c =
@@ -96,12 +96,12 @@ returns-else-number-fresh-clause-index c =
     (let le = c.requires.within in let lt = c.requires.at in omega (arith, le, lt)) (sym c.index_mut.ensures.value) c.give_number.ensures
     (subst (λ (ys : List Item). IsIndexOf c.substitute.new.index c.substitute.new.subs (take c.args.kept ys)) all
     (c.in_ok-substitute-in-GetsEntry.ensures.index
-    (subst (λ (ys : List Item). IsIndexOf c.args.index.now c.args.subs.now (take c.args.kept ys)) (sym all) c.requires.index)))
+    (subst (λ (ys : List Item). IsIndexOf c.args.index.now c.args.subs.now (take c.args.kept ys)) (sym all) c.requires.carried.indexed)))
 
 pub returns-in_ok-push-in-GetsPhi-clause-index : goal.returns-in_ok-push-in-GetsPhi-clause-index
 returns-in_ok-push-in-GetsPhi-clause-index c =
     let xs = c.args.items.now.items in
     let made = c.put_phi.new.x in
     index_up xs c.swap.new.self.items c.args.kept c.args.at made c.push.new.self c.args.subs.now c.requires.within c.requires.at c.swap.ensures.items
-    (λ len. c.in_ok-push-in-GetsPhi.ensures (take c.args.kept xs) made c.requires.index len
+    (λ len. c.in_ok-push-in-GetsPhi.ensures (take c.args.kept xs) made c.requires.carried.indexed len
     (ap (λ (i : Item). i.kind) (sym (c.index.ensures ∙ get_set xs c.args.at made c.index.result.now c.requires.at))))

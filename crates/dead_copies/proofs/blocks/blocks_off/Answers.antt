@@ -1,4 +1,4 @@
-use Rattle.std.proofs.Common.{◌≡◌, ◌-◌, ℕ, [], length, refl, ap, ◌∙◌, subst, arith}
+use Rattle.std.proofs.Common.{◌≡◌, ◌-◌, ℕ, Bool, [], List, length, refl, ap, ◌∙◌, subst, arith}
 use Rattle.mir_func.specs.declared.block.Block.{Block}
 use Rattle.dead_copies.specs.Off.{SoFar, off_down}
 use Rattle.dead_copies.specs.Blocks.{going_from, BlocksSoFar}
@@ -20,8 +20,8 @@ index_mut-requires c =
     let ok = c.loop-at.blocks.ok.0 in
     omega (arith, l, w, t, ok)
 
-pub items_off-requires : goal.items_off-requires
-items_off-requires c =
+pub numbers_off-requires : goal.numbers_off-requires
+numbers_off-requires c =
     let a : BlocksSoFar = record { blocks = []; subs = c.args.subs.now; fresh = c.args.fresh.now; lost = c.args.lost.now.items } in
     let now : BlocksSoFar = record { blocks = c.loop-at.blocks.items; subs = c.loop-at.subs; fresh = c.loop-at.fresh; lost = c.loop-at.lost.items } in
     let w = c.loop-at.invariant.within in
@@ -41,17 +41,18 @@ loop-at-preserved c =
     let x : Block = c.index_mut.result.now in
     let same = c.behind-blocks.view_is in
     let e = ap (λ (z : Block). length z.items) same in
-    let v = c.verdicts_at.ensures in
+    let v = c.verdicts_at-verdicts.ensures in
+    let r = c.as_slice.ensures.value ∙ c.in_ok-removed.ensures ∙ ap (λ (ds : List Bool). going_from 0 ds) v in
     let done : SoFar =
-    record { items = c.items_off.new.items.items; subs = c.items_off.new.subs; fresh = c.items_off.new.fresh; lost = c.items_off.new.lost.items } in
-    let most = c.in_ok-items_off.ensures.counted in
+    record { items = c.numbers_off.new.items.items; subs = c.numbers_off.new.subs; fresh = c.numbers_off.new.fresh; lost = c.numbers_off.new.lost.items } in
+    let most = c.in_ok-numbers_off.ensures.counted in
     offs_more c.args.dead.now c.args.blocks.now.items a c.loop-at.at (c.loop-at.at - 1) (omega (arith, t)) now c.loop-at.invariant (omega (arith, w, t)) x
     c.index_mut.ensures.value
-    (record { id = c.behind-blocks.inside.0.0; items = c.items_off.new.items.items; silent = c.behind-blocks.inside.0.1.1.0 }) done
-    (c.in_ok-items_off.ensures.off ∙
-    (λ i. off_down (going_from 0 (v i)) (v i) (length (same i).items)
+    (record { id = c.behind-blocks.inside.0.0; items = c.numbers_off.new.items.items; silent = c.behind-blocks.inside.0.1.1.0 }) done
+    (c.in_ok-numbers_off.ensures.off ∙
+    (λ i. off_down (r i) (v i) (length (same i).items)
     (record { items = (same i).items; subs = c.loop-at.subs; fresh = c.loop-at.fresh; lost = c.loop-at.lost.items })))
-    (λ i. record { id = (same i).id; items = c.items_off.new.items.items; silent = (same i).silent }) (omega (arith, most, e))
+    (λ i. record { id = (same i).id; items = c.numbers_off.new.items.items; silent = (same i).silent }) (omega (arith, most, e))
 
 pub returns : goal.returns
 returns c =
