@@ -1,10 +1,10 @@
 -- What is known of a body is known behind each line more.
-use Rattle.std.proofs.Common.{◌≡◌, ℕ, ◌≤◌, Bool, true, false, cond, eqb, ltb, ◌||◌, List, [], ◌∷◌, ◌++◌, length, map, All, Option, Some, None, Result, Ok, Err}
-use Rattle.std.proofs.Common.{refl, sym, ap, subst, ◌∙◌, arith, append_assoc, append-nil}
+use Rattle.std.proofs.Common.{◌≡◌, ℕ, ◌≤◌, Bool, true, false, cond, eqb, ltb, ◌&&◌, ◌||◌, List, [], ◌∷◌, ◌++◌, length, map, All, Option, Some, None}
+use Rattle.std.proofs.Common.{Result, Ok, Err}
+use Rattle.std.proofs.Common.{refl, sym, ap, subst, ◌∙◌, arith, append_assoc, append-nil, inl, inr}
 use Rattle.std.specs.Prelude.{Contains, IfSome, option_map}
 use Rattle.std.specs.List.{list_any}
-use Rattle.std.specs.Option.{option_map_or}
-use Rattle.std.proofs.lemmas.Bool.{or_parts, ltb-false}
+use Rattle.std.proofs.lemmas.Bool.{or_parts, ltb-false, or_left, or_right, cases_Bool, cond-true, cond-false, eq-eqb}
 use Rattle.std.proofs.lemmas.List.Concat.{flat_map-append}
 use Rattle.std.proofs.lemmas.List.Elements.{All-nil, All-head, All-tail, All-push, All-cons, All-weaker, All-same, All-contains_itself}
 use Rattle.std.proofs.lemmas.List.Folds.{list_any-append}
@@ -15,9 +15,13 @@ use Rattle.mir_lexer.specs.declared.line.Line.{Line}
 use Rattle.mir_func.specs.declared.block.Block.{Block}
 use Rattle.mir_func.specs.declared.item.Item.{Item}
 use Rattle.mir_func.specs.declared.item.ItemKind.{ItemKind}
+use Rattle.mir_func.specs.declared.item.ItemKind.TheVariants.{Code, Mark, Phi}
 use Rattle.mir_func.specs.declared.location.Loc.{Loc}
 use Rattle.mir_func.specs.declared.position.Origin.TheVariants.{Kept}
-use Rattle.mir_func.specs.Sound.{items_of}
+use Rattle.mir_func.specs.declared.variable.VarId.{VarId}
+use Rattle.mir_func.specs.Parts.{Bytes}
+use Rattle.mir_func.specs.Sound.{items_of, number_of}
+use Rattle.mir_func.specs.Variables.{is_same_node, are_same_bytes, is_same}
 use Rattle.mir_line.specs.declared.form.BodyLine.{BodyLine}
 use Rattle.mir_line.specs.declared.form.BodyLine.TheVariants as lines
 use Rattle.mir_line.specs.declared.form.ItemForm.{ItemForm}
@@ -28,13 +32,14 @@ use Rattle.mir_item.specs.declared.judged.Judged.TheVariants as judged_as
 use Rattle.mir_item.specs.Judge.{judged}
 use Rattle.mir_body.specs.declared.body.Body.{Body}
 use Rattle.mir_body.specs.Body.{constant_of, object_named, nothing_read, and_last, blocks_of, label_cause, with_label, repeats, block_with}
-use Rattle.mir_body.specs.Body.{with_constant, with_facts}
+use Rattle.mir_body.specs.Body.{with_number, with_constant, with_variable}
 use Rattle.mir_body.specs.Body.{with_item, exceeds, item_cause}
 use Rattle.mir_body.specs.Limits.{MAX_ITEMS, MAX_VARIABLES, MAX_NUMBERS, MAX_CONSTANTS}
-use Rattle.mir_body.specs.Met.{is_met, met}
-use Rattle.mir_parser.specs.BodyLines.{unless, judged_said, item_said, line_said, behind_line, and_then, body_behind, body_of}
+use Rattle.mir_body.specs.Met.{is_met, met, is_known, known}
+use Rattle.mir_parser.specs.BodyLines.{unless, judged_said, item_said, line_said, behind_line, and_then, body_behind}
 use Rattle.mir_parser.proofs.Bodies.{facts_apart}
 use Rattle.mir_parser.proofs.Lists.{met_keeps, met_has}
+use Rattle.body_read_back.specs.Body.{VariableIn}
 use Rattle.body_read_back.proofs.Facts.{Facts, item_facts, objects_behind}
 use Rattle.read_bodies.specs.Known.{names, IsOfLine, IsKnown, BodiesAreKnown}
 
@@ -89,6 +94,83 @@ if_some_weaker : (c : Option ℕ) (P Q : ℕ → Type 0) → ((k : ℕ) → P k 
 if_some_weaker None P Q each is = tt
 if_some_weaker (Some k) P Q each is = each k is
 
+-- ---- numbers
+
+number_stays : (body : Body) (kind : ItemKind) (k : ℕ) → is_met k body.numbers ≡ true → is_met k (with_number body kind).numbers ≡ true
+number_stays body (Code i None) k is = is
+number_stays body (Code i (Some n)) k is = met_keeps k n body.numbers is
+number_stays body (Mark v m) k is = is
+number_stays body (Phi p n) k is = met_keeps k n body.numbers is
+
+number_is_met : (body : Body) (kind : ItemKind) → IfSome (number_of kind) (λ k. is_met k (with_number body kind).numbers ≡ true)
+number_is_met body (Code i None) = tt
+number_is_met body (Code i (Some n)) = met_has n body.numbers
+number_is_met body (Mark v m) = tt
+number_is_met body (Phi p n) = met_has n body.numbers
+
+-- ---- variables
+
+node_itself : (a : Option ℕ) → is_same_node a a ≡ true
+node_itself None = refl
+node_itself (Some m) = eq-eqb m m refl
+
+bytes_itself : (a : Option Bytes) → are_same_bytes a a ≡ true
+bytes_itself None = refl
+bytes_itself (Some a) = ap (λ (b : Bool). b && eqb a.length a.length) (eq-eqb a.offset a.offset refl) ∙ eq-eqb a.length a.length refl
+
+part_itself : (v : VarId) → is_same v v ≡ true
+part_itself v =
+    ap (λ (b : Bool). b && are_same_bytes v.fragment v.fragment)
+    (ap (λ (b : Bool). b && is_same_node v.inlined_at v.inlined_at) (eq-eqb v.node v.node refl) ∙ node_itself v.inlined_at)
+    ∙ bytes_itself v.fragment
+
+known_keeps : (v w : VarId) (vs : List VarId) → is_known v vs ≡ true → is_known v (known w vs) ≡ true
+known_keeps v w vs is = elim (cases_Bool (is_known w vs)) [
+  | inl there ↦ ap (λ (l : List VarId). is_known v l) (cond-true (is_known w vs) vs (vs ++ w ∷ []) there) ∙ is
+  | inr none ↦ ap (λ (l : List VarId). is_known v l) (cond-false (is_known w vs) vs (vs ++ w ∷ []) none)
+      ∙ list_any-append (λ (x : VarId). is_same v x) vs (w ∷ []) ∙ or_left (is_known v vs) (is_known v (w ∷ [])) is
+]
+
+known_has : (v : VarId) (vs : List VarId) → is_known v (known v vs) ≡ true
+known_has v vs = elim (cases_Bool (is_known v vs)) [
+  | inl there ↦ ap (λ (l : List VarId). is_known v l) (cond-true (is_known v vs) vs (vs ++ v ∷ []) there) ∙ there
+  | inr none ↦ ap (λ (l : List VarId). is_known v l) (cond-false (is_known v vs) vs (vs ++ v ∷ []) none)
+      ∙ list_any-append (λ (x : VarId). is_same v x) vs (v ∷ []) ∙ or_right (is_known v vs) (is_known v (v ∷ [])) (or_left (is_same v v) false (part_itself v))
+]
+
+variable_stays : (body : Body) (kind other : ItemKind) → VariableIn body.variables other → VariableIn (with_variable body kind).variables other
+variable_stays body kind (Code i k) is = tt
+variable_stays body kind (Phi p k) is = tt
+variable_stays body (Code i k) (Mark v m) is = is
+variable_stays body (Phi p k) (Mark v m) is = is
+variable_stays body (Mark w n) (Mark v m) is = known_keeps v w body.variables is
+
+variable_is_known : (body : Body) (kind : ItemKind) → VariableIn (with_variable body kind).variables kind
+variable_is_known body (Code i k) = tt
+variable_is_known body (Mark v m) = known_has v body.variables
+variable_is_known body (Phi p k) = tt
+
+-- ---- limits
+
+record AreFew (body : Body) : Type 0 where
+  variables : length body.variables ≤ MAX_VARIABLES
+  numbers : length body.numbers ≤ MAX_NUMBERS
+  constants : length body.constants ≤ MAX_CONSTANTS
+
+are_few : (body : Body) → exceeds body ≡ false → AreFew body
+are_few body within =
+    let v = ltb MAX_VARIABLES (length body.variables) in
+    let n = ltb MAX_NUMBERS (length body.numbers) in
+    let c = ltb MAX_CONSTANTS (length body.constants) in
+    let one = or_parts (ltb MAX_ITEMS body.items) (v || (n || c)) within in
+    let two = or_parts v (n || c) one.1 in
+    let three = or_parts n c two.1 in
+    record {
+      variables = ltb-false MAX_VARIABLES (length body.variables) two.0;
+      numbers = ltb-false MAX_NUMBERS (length body.numbers) three.0;
+      constants = ltb-false MAX_CONSTANTS (length body.constants) three.1;
+    }
+
 -- ---- steps
 
 module _ (meta : Maps) (texts : List (List ℕ)) where
@@ -98,12 +180,22 @@ module _ (meta : Maps) (texts : List (List ℕ)) where
   abbrev HasConstant : List ℕ → Item → Type 0
   HasConstant constants i = IfSome (constant_of i.kind) (λ k. is_met k constants ≡ true)
 
+  abbrev HasNumber : List ℕ → Item → Type 0
+  HasNumber numbers i = IfSome (number_of i.kind) (λ k. is_met k numbers ≡ true)
+
+  abbrev HasVariable : List VarId → Item → Type 0
+  HasVariable variables i = VariableIn variables i.kind
+
   nothing_known : Known nothing_read
   nothing_known = record {
     each = All-nil (λ i. IsOfLine meta texts i.kind);
     objects = λ n. refl;
     constants = All-nil (HasConstant []);
     few = omega arith;
+    numbers = All-nil (HasNumber []);
+    few_numbers = omega arith;
+    variables = All-nil (HasVariable []);
+    few_variables = omega arith;
   }
 
   label_known : (body : Body) (n : ℕ) → Known body → Known (with_label body n)
@@ -114,6 +206,10 @@ module _ (meta : Maps) (texts : List (List ℕ)) where
         objects = λ m. is.objects m ∙ ap (list_any (λ (i : Item). names m i.kind)) (sym same);
         constants = All-same (HasConstant body.constants) (items_of (blocks_of (with_label body n))) (items_of (blocks_of body)) same is.constants;
         few = is.few;
+        numbers = All-same (HasNumber body.numbers) (items_of (blocks_of (with_label body n))) (items_of (blocks_of body)) same is.numbers;
+        few_numbers = is.few_numbers;
+        variables = All-same (HasVariable body.variables) (items_of (blocks_of (with_label body n))) (items_of (blocks_of body)) same is.variables;
+        few_variables = is.few_variables;
       }
 
   item_known : (body : Body) (b : Block) (kind : ItemKind) (loc : Loc) (entries : List ℕ) → body.last ≡ Some b → IsOfLine meta texts kind →
@@ -132,13 +228,21 @@ module _ (meta : Maps) (texts : List (List ℕ)) where
             (λ k met. ap (is_met k) facts.constants ∙ constant_stays body (constant_of kind) k met) has) items is.constants)
             (if_some_weaker (constant_of kind) (λ k. is_met k (with_constant body (constant_of kind)).constants ≡ true) (λ k. is_met k next.constants ≡ true)
             (λ k met. ap (is_met k) facts.constants ∙ met) (constant_is_met body (constant_of kind))));
-        few =
-            let one = or_parts (ltb MAX_ITEMS next.items) (ltb MAX_VARIABLES (length next.variables) || (ltb MAX_NUMBERS (length next.numbers)
-            || ltb MAX_CONSTANTS (length next.constants))) within in
-            let two = or_parts (ltb MAX_VARIABLES (length next.variables)) (ltb MAX_NUMBERS (length next.numbers) || ltb MAX_CONSTANTS
-            (length next.constants)) one.1 in
-            let three = or_parts (ltb MAX_NUMBERS (length next.numbers)) (ltb MAX_CONSTANTS (length next.constants)) two.1 in
-            ltb-false MAX_CONSTANTS (length next.constants) three.1;
+        few = few.constants;
+        numbers = All-same (HasNumber next.numbers) (items_of (blocks_of next)) (items ++ item ∷ []) same
+            (All-push (HasNumber next.numbers) items item
+            (All-weaker (HasNumber body.numbers) (HasNumber next.numbers)
+            (λ x has. if_some_weaker (number_of x.kind) (λ k. is_met k body.numbers ≡ true) (λ k. is_met k next.numbers ≡ true)
+            (λ k met. ap (is_met k) facts.numbers ∙ number_stays body kind k met) has) items is.numbers)
+            (if_some_weaker (number_of kind) (λ k. is_met k (with_number body kind).numbers ≡ true) (λ k. is_met k next.numbers ≡ true)
+            (λ k met. ap (is_met k) facts.numbers ∙ met) (number_is_met body kind)));
+        few_numbers = few.numbers;
+        variables = All-same (HasVariable next.variables) (items_of (blocks_of next)) (items ++ item ∷ []) same
+            (All-push (HasVariable next.variables) items item
+            (All-weaker (HasVariable body.variables) (HasVariable next.variables)
+            (λ x has. subst (λ (vs : List VarId). VariableIn vs x.kind) (sym facts.variables) (variable_stays body kind x.kind has)) items is.variables)
+            (subst (λ (vs : List VarId). VariableIn vs kind) (sym facts.variables) (variable_is_known body kind)));
+        few_variables = few.variables;
       }
     where
       next : Body
@@ -156,8 +260,8 @@ module _ (meta : Maps) (texts : List (List ℕ)) where
       facts : Facts body next kind (constant_of kind) (object_named kind)
       facts = item_facts body kind loc entries
 
-      within : exceeds next ≡ false
-      within = no_cause (repeats body kind) (exceeds next) kinds.DuplicateNumber kinds.TooMany none
+      few : AreFew next
+      few = are_few next (no_cause (repeats body kind) (exceeds next) kinds.DuplicateNumber kinds.TooMany none)
 
   -- ---- lines
 

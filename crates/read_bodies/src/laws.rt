@@ -2,8 +2,8 @@
 
 ghost use Rattle.read_bodies.specs.Known.{BodiesAreKnown};
 
-/// Of a body that was read it is known which objects it names, that it has few constants, and which line each of its
-/// items comes from.
+/// Of a body that was read it is known which objects it names, that it has few constants, debug instruction numbers and
+/// variables, and which line each of its items comes from.
 pub fn bodies_are_known()
     ensures { BodiesAreKnown }
 {}

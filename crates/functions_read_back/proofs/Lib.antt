@@ -1,0 +1,4 @@
+pub mod Codes
+pub mod Bodies
+pub mod Documents
+pub mod Functions

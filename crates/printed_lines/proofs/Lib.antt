@@ -1,0 +1,4 @@
+pub mod Texts
+pub mod Marks
+pub mod Items
+pub mod Declared
