@@ -1,0 +1,4 @@
+pub mod Reserved
+pub mod Room
+pub mod Made
+pub mod Results

@@ -1,0 +1,94 @@
+//! What is spilled, and what becomes of the parts of a function.
+
+ghost use Rattle.std.specs.Prelude.{◌≡◌, ◌++◌, ◌+◌, ◌<◌, ◌^◌, map, IfOk};
+ghost use Rattle.mir_func.specs.Limits.{MAX_SLOTS};
+ghost use Rattle.follow_law.specs.Sizes.{greatest};
+ghost use Rattle.spill_code.specs.Rewrite.{spilled_blocks};
+ghost use Rattle.spill_code.specs.Room.{HaveRoom};
+ghost use Rattle.spill_marks.specs.Asked.{number_beyond, blocks_asked};
+ghost use Rattle.spill_rule.specs.Choice.{entry_of};
+ghost use Rattle.spill_choice.specs.Incoming.{is_among};
+ghost use Rattle.spill_pass.specs.Plan.{IsPlan, AreAllLosses};
+
+use follow_law::loss::Losses;
+use mir_func::block::{Block, Blocks};
+use mir_func::func::{Func, SlotIds};
+use numbers::code::SlotId;
+use rv64_instr::reg::{Reg, Registers};
+use spill_choice::choice::{choose, entry_of};
+use spill_choice::left::registers_left;
+use spill_code::rewrite::spilled_blocks;
+use spill_code::spilling::{Home, Spilling};
+use spill_incoming::incoming::incoming;
+use spill_marks::lost::scratch_losses;
+use spill_marks::marks::blocks_asked;
+use std::alloc::{AllocError, Global};
+
+/// What is spilled of a function.
+#[derive(Drop)]
+pub struct Plan {
+    /// The registers of the reserve that come in with a value.
+    pub incoming: Registers,
+    /// The scratch registers, and where registers live.
+    pub spilling: Spilling,
+    /// The registers of the reserve that code names and that aren't spilled, each with the reason.
+    pub left: Losses,
+}
+
+/// What is spilled of a function from a reserve.
+pub fn plan_for(alloc: Global, reserve: &[Reg], f: &Func) -> Result<Plan, AllocError>
+    requires { greatest f.now.slots + MAX_SLOTS < 2 ^ 31 }
+    ensures { IfOk result (IsPlan reserve.now f.now) }
+{
+    let incoming = incoming(alloc, reserve, f)?;
+    let spilling = choose(alloc, reserve, incoming.as_slice(), f)?;
+    let homes = spilling.homes.as_slice();
+    let left = registers_left(alloc, reserve, incoming.as_slice(), homes, f)?;
+    Ok(Plan {
+        incoming,
+        spilling,
+        left,
+    })
+}
+
+/// All that is lost of blocks: first to scratch registers, in order.
+pub fn losses_of(alloc: Global, plan: &Plan, blocks: &[Block]) -> Result<Losses, AllocError>
+    ensures { IfOk result (AreAllLosses plan.now.spilling blocks.now plan.now.left) }
+{
+    let mut losses = scratch_losses(alloc, &plan.spilling, blocks)?;
+    losses.extend_from_slice(plan.left.as_slice())?;
+    Ok(losses)
+}
+
+/// The blocks with registers in slots, where marks ask by phis with fresh numbers.
+pub fn blocks_in_slots(
+    alloc: Global,
+    plan: &Plan,
+    fresh: u32,
+    blocks: &[Block],
+) -> Result<Blocks, AllocError>
+    requires fresh { number_beyond plan.now.spilling.homes fresh blocks.now < 2 ^ 32 }
+    requires room { HaveRoom plan.now.spilling (blocks_asked plan.now.spilling fresh blocks.now) }
+    ensures { IfOk result (λ made.
+        made ≡ spilled_blocks plan.now.spilling (entry_of (is_among plan.now.incoming) plan.now.spilling.homes)
+        (blocks_asked plan.now.spilling fresh blocks.now)) }
+{
+    let entry = entry_of(
+        alloc,
+        plan.incoming.as_slice(),
+        plan.spilling.homes.as_slice(),
+    )?;
+    let asked = blocks_asked(alloc, &plan.spilling, fresh, blocks)?;
+    spilled_blocks(alloc, &plan.spilling, entry.as_slice(), asked.as_slice())
+}
+
+/// The slots, and then those of the homes.
+pub fn slots_with(alloc: Global, slots: &[SlotId], homes: &[Home]) -> Result<SlotIds, AllocError>
+    ensures { IfOk result (λ made. made ≡ slots.now ++ map (λ h. h.slot) homes.now) }
+{
+    let mut made = SlotIds::from_slice(alloc, slots)?;
+    for h in homes {
+        made.push(h.slot)?;
+    }
+    Ok(made)
+}

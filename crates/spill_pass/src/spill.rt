@@ -1,0 +1,94 @@
+//! The pass that spills.
+
+ghost use Rattle.std.specs.Prelude.{◌+◌, ◌<◌, ◌^◌, [], ◌∷◌, false, true, IfOk, OnOk};
+ghost use Rattle.mir_func.specs.Limits.{MAX_SLOTS};
+ghost use Rattle.mir_func.specs.Sound.{AllItems, IsSound, HasForm};
+ghost use Rattle.follow_law.specs.Sizes.{greatest, greatest_number, item_count};
+ghost use Rattle.spill_rule.specs.Laws.{one_spilled, same_spilled};
+ghost use Rattle.spill_step.specs.Step.{spill_step};
+ghost use Rattle.spill_kept.specs.Kept.{IsReserve, IsSpilledWithLosses};
+ghost use Rattle.spill_pass.specs.Reserve.{reserve_of};
+ghost use Rattle.std.proofs.Common.{rules};
+
+use crate::plan::{blocks_in_slots, losses_of, plan_for, slots_with};
+use crate::reserve::reserve_of;
+use follow_law::loss::Losses;
+use follow_law::pass::Pass;
+use mir_func::func::Func;
+use rv64_instr::reg::{Reg, Registers};
+use salvage::fresh::fresh_number;
+use spill_kept::laws::{spilled_keeps_following, spilled_keeps_sizes, spilled_keeps_steps};
+use std::alloc::{AllocError, Global};
+use substitution::substitutions::Substitutions;
+use type_facts::blocks::{know_forms, know_silent};
+
+/// Moves registers of a reserve to slots (LLVM: spilling), as many as there is room for. Of the registers given here
+/// those are in the reserve that may be: x8, x9 and x18 to x27. Lost are the marks and phis of the two scratch
+/// registers; and each register of the reserve that code names and that isn't spilled is told, with the reason.
+#[derive(Drop)]
+pub struct SpillPass {
+    /// The registers to be spilled, in any order.
+    pub reserve: Registers,
+}
+
+impl Pass for SpillPass {
+    ghost asks = { false };
+
+    ghost keeps = { true };
+
+    ghost fits = { true };
+
+    ghost factor = { 4 };
+
+    ghost count = { 1 };
+
+    ghost steps = { λ s. spill_step (reserve_of s.reserve) ∷ [] };
+
+    fn run(
+        &mut self,
+        alloc: Global,
+        f: &mut Func,
+        subs: &mut Substitutions,
+    ) -> Result<Losses, AllocError> {
+        spilled_keeps_following();
+        spilled_keeps_steps();
+        spilled_keeps_sizes();
+        let reserve = reserve_of(alloc, self.reserve.as_slice())?;
+        spill(alloc, reserve.as_slice(), f, subs)
+    }
+
+    ghost one_code = { λ s. (one_spilled (reserve_of s.reserve), tt) };
+
+    ghost same_code = { λ s. (same_spilled (reserve_of s.reserve), tt) };
+
+    ghost grows = { Prim.search rules };
+}
+
+/// Spills registers of a reserve, and gives what is lost. A refused run leaves the function as it was.
+pub fn spill(
+    alloc: Global,
+    reserve: &[Reg],
+    f: &mut Func,
+    subs: &Substitutions,
+) -> Result<Losses, AllocError>
+    requires reserve { IsReserve reserve.now }
+    requires numbers { greatest_number f.old subs.now + item_count f.old + 1 < 2 ^ 31 }
+    requires slots { greatest f.old.slots + MAX_SLOTS < 2 ^ 31 }
+    ensures spilled { IfOk result (λ losses. IsSpilledWithLosses reserve.now f.old subs.now f.new losses) }
+    ensures forms { AllItems (λ i. HasForm i.kind) f.old.blocks }
+    ensures sound { IsSound f.old }
+{
+    know_forms(f.blocks.as_slice());
+    know_silent(f.blocks.as_slice());
+    let plan = plan_for(alloc, reserve, f)?;
+    if plan.spilling.homes.is_empty() {
+        return Ok(plan.left);
+    }
+    let losses = losses_of(alloc, &plan, f.blocks.as_slice())?;
+    let fresh = fresh_number(f, subs);
+    let blocks = blocks_in_slots(alloc, &plan, fresh, f.blocks.as_slice())?;
+    let slots = slots_with(alloc, f.slots.as_slice(), plan.spilling.homes.as_slice())?;
+    f.slots = slots;
+    f.blocks = blocks;
+    Ok(losses)
+}

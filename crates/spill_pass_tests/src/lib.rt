@@ -1,0 +1,9 @@
+//! Tests of spilling: what becomes of functions, and what is lost.
+#![tactic(auto)]
+
+#[cfg(test)]
+mod fits;
+#[cfg(test)]
+mod shown;
+#[cfg(test)]
+mod tests;
