@@ -1,7 +1,8 @@
 -- Entries by their addresses.
-use Rattle.std.proofs.Common.{◌≡◌, ◌≢◌, ℕ, zero, suc, ◌+◌, ◌*◌, ◌<◌, ◌≤◌, List, [], ◌∷◌, length, get_or, drop, Some, None, Bool, true, false, cond, nat_eq}
+use Rattle.std.proofs.Common.{◌≡◌, ◌≢◌, ℕ, zero, suc, ◌+◌, ◌*◌, ◌<◌, ◌≤◌, List, [], ◌∷◌, length, get_or, drop, Option, Some, None, Bool, true, false, cond, nat_eq}
 use Rattle.std.proofs.Common.{refl, sym, ap, ◌∙◌, subst, arith}
 use Rattle.std.proofs.Common.{◌++◌, ◌^◌, append_assoc, drop-drop}
+use Rattle.std.specs.Option.{IfSome}
 use Rattle.std.specs.List.{All, flat_map}
 use Rattle.std.specs.Int.{w32, to_le_bytes}
 use Rattle.std.proofs.Math.Seq.{drop-cons}
@@ -209,3 +210,20 @@ word_place c e address code found =
 -- the entry at an address begins there
 pub begins_at : (c : LaidCode) (e : Entry) (address : ℕ) → IsCode c → entry_at c.entries address ≡ Some e → e.address ≡ address
 begins_at c e address code found = (entry_place c.base c.entries (c.base + 4 * length c.words) address e code.stand found).begins
+
+-- and within the code
+pub begins_within : (c : LaidCode) (o : Option Entry) (address : ℕ) → IsCode c → o ≡ entry_at c.entries address →
+    IfSome o (λ e. e.address < c.base + 4 * length c.words)
+begins_within c None address code found = tt
+begins_within c (Some e) address code found =
+    let p = word_place c e address code (sym found) in
+    let b = begins_at c e address code (sym found) in
+    omega (arith, p.at, p.within, b)
+
+-- and one that is no call site makes no call
+pub makes_no_call : (c : LaidCode) (o : Option Entry) (address : ℕ) → IsCode c → o ≡ entry_at c.entries address →
+    IfSome o (λ e. e.call ≡ false → entry_call c.framed e ≡ None)
+makes_no_call c None address code found = tt
+makes_no_call c (Some e) address code found = λ plain.
+    let b : e.address ≡ address = begins_at c e address code (sym found) in
+    no_call_at c e code (subst (λ (a : ℕ). entry_at c.entries a ≡ Some e) (sym b) (sym found)) plain

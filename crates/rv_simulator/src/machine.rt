@@ -1,9 +1,10 @@
 //! A machine that runs code.
 
-ghost use Rattle.std.specs.Prelude.{◌≡◌, ◌<◌, ◌^◌, ℕ, List, Some, None, true, IfOk, OnErr, slice_index};
+ghost use Rattle.std.specs.Prelude.{◌≡◌, ◌<◌, ◌+◌, ◌*◌, ◌^◌, ℕ, List, Some, None, true, false, IfSome, IfOk, OnErr};
+ghost use Rattle.std.specs.Prelude.{length, slice_index};
 ghost use Rattle.mir_func.specs.Objects.{area_of};
 ghost use Rattle.code_layout.specs.Machine.{Machine as State, register, register_in};
-ghost use Rattle.rv_simulator.specs.Shown.{entry_at};
+ghost use Rattle.rv_simulator.specs.Shown.{entry_at, entry_call};
 ghost use Rattle.rv_simulator.specs.Kept.{StandsFor};
 ghost use Rattle.rv_simulator.specs.Machines.{StartsCode};
 
@@ -77,6 +78,16 @@ impl<'a, A: CallAnswers + Drop> Machine<'a, A> {
         ensures { result ≡ self.now.hart.counter }
     {
         self.hart.counter
+    }
+
+    /// The entry that begins at the counter: `None` where none does.
+    pub fn entry(&self) -> Option<Entry>
+        ensures found { result ≡ entry_at self.now.code.entries self.now.hart.counter }
+        ensures begins { IfSome result (λ e. e.address ≡ self.now.hart.counter) }
+        ensures within { IfSome result (λ e. e.address < self.now.code.base + 4 * length self.now.code.words) }
+        ensures word { IfSome result (λ e. e.call ≡ false → entry_call self.now.code.framed e ≡ None) }
+    {
+        find(&self.probable, self.code, self.hart.counter)
     }
 
     /// The content of a physical register.

@@ -1,6 +1,6 @@
 //! What stands at an address.
 
-ghost use Rattle.std.specs.Prelude.{◌≡◌, ◌<◌, ◌+◌, ◌^◌, List, ℕ, Some, None, Option, true, false, IfSome};
+ghost use Rattle.std.specs.Prelude.{◌≡◌, ◌<◌, ◌+◌, ◌*◌, ◌^◌, List, ℕ, Some, None, Option, true, false, IfSome};
 ghost use Rattle.std.specs.Prelude.{MatchOption, length, slice_index};
 ghost use Rattle.rv64_instr.specs.Parts.{is_call};
 ghost use Rattle.rv64_instr.specs.Row.{row_of};
@@ -38,10 +38,13 @@ pub fn places(alloc: Global, code: &Code) -> Result<Places, AllocError> {
 pub fn find(probable: &Places, code: &Code, address: u64) -> Option<Entry>
     ensures found { result ≡ entry_at code.now.entries address }
     ensures begins { IfSome result (λ e. e.address ≡ address) }
+    ensures within { IfSome result (λ e. e.address < code.now.base + 4 * length code.now.words) }
+    ensures word { IfSome result (λ e. e.call ≡ false → entry_call code.now.framed e ≡ None) }
 {
+    let entries = code.entries.as_slice();
     match probable_entry(probable, code, address) {
         Some(entry) => Some(entry),
-        None => search(code.entries.as_slice(), address),
+        None => search(entries, address),
     }
 }
 

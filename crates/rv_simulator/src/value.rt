@@ -78,7 +78,7 @@ impl Hart {
     }
 
     /// What a place holds.
-    fn content(&self, place: Place) -> u64
+    pub fn content(&self, place: Place) -> u64
         requires { IsListed place }
         ensures { (s : State) → StandsFor self.now s → result ≡ place_content place s }
     {
@@ -94,7 +94,7 @@ impl Hart {
 }
 
 /// The low `count` bytes of a number.
-fn low_bytes(number: u64, count: u32) -> u64
+pub fn low_bytes(number: u64, count: u32) -> u64
     requires { count ≤ 8 }
     ensures { result ≡ number % 2 ^ (8 * count) }
 {

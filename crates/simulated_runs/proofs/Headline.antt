@@ -1,6 +1,5 @@
 -- The headline speaks of each state that the simulator comes to.
 use Rattle.std.proofs.Common.{◌⊎◌, ℕ, List, [], Option, true, sym, inl, inr}
-use Rattle.std.specs.List.{All}
 use Rattle.std.proofs.lemmas.List.{append-nil}
 use Rattle.rv64_instr.specs.declared.place.Place.{Place}
 use Rattle.rv64_instr.specs.declared.start.CallEvent.{CallEvent}
@@ -16,15 +15,15 @@ use Rattle.code_layout.specs.Machine.{machine_start}
 use Rattle.code_layout.proofs.EveryStep.{headline_reaches_every_step}
 use Rattle.rv_simulator.specs.declared.hart.Hart.{Hart}
 use Rattle.rv_simulator.specs.Kept.{StandsFor}
-use Rattle.simulated_runs.specs.Runs.{WasGiven, ComesTo}
+use Rattle.simulated_runs.specs.Runs.{WereGiven, ComesTo}
 use Rattle.simulated_runs.specs.Headline.{with_script, ComesAlong, IsBeside, RunsMeetTheHeadline}
-use Rattle.simulated_runs.proofs.Runs.{runs_are_the_machines}
+use Rattle.simulated_runs.proofs.Runs.{all_given, runs_are_the_machines}
 
 module _ (gives : CallEvent → Reply → Type 0) (lists : VarId → (address : ℕ) → Place → Type 0) (source : Function)
     (resolve : OperandPair → Option OperandPair) (image : Image) (headline : Headline source resolve image lists)
     (sound : (e : CallEvent) (r : Reply) → gives e r → IsReply r) where
   -- the same start with other answers
-  starts_with : (answers : List Reply) (s0 : State) → StartsAt source s0 → All (WasGiven gives) answers → StartsAt source (with_script answers s0)
+  starts_with : (answers : List Reply) (s0 : State) → StartsAt source s0 → WereGiven gives 1 answers → StartsAt source (with_script answers s0)
   starts_with answers s0 start given = record {
     pos = start.pos;
     regs = start.regs;
@@ -36,7 +35,7 @@ module _ (gives : CallEvent → Reply → Type 0) (lists : VarId → (address : 
     objects = start.objects;
     slots = start.slots;
     memory = start.memory;
-    script = λ k d l. sound (given k d l).call _ (given k d l).given;
+    script = all_given gives 1 IsReply answers sound given;
     events = start.events;
     pairs = start.pairs;
     marks = start.marks;

@@ -1,64 +1,91 @@
--- What a step does to the script: a call takes one answer, and nothing else takes any.
-use Rattle.std.proofs.Common.{◌≡◌, ℕ, ◌+◌, ◌/◌, ◌*◌, ◌%◌, ◌^◌, List, [], ◌∷◌, Option, Some, None, Bool, true, false, cond, nat_eq, map, sym, ap, ◌∙◌}
-use Rattle.rv64_instr.specs.Arithmetic.{taken}
+-- What a step does to the script and to the count of calls: a call takes one answer, and nothing else takes any.
+use Rattle.std.proofs.Common.{◌≡◌, ℕ, suc, ◌+◌, ◌/◌, ◌*◌, ◌%◌, ◌^◌, List, [], ◌∷◌, length, Option, Some, None, Bool, true, false, cond, nat_eq, map, refl, ap, subst}
+use Rattle.rv64_instr.specs.Arithmetic.{taken, store_width}
 use Rattle.rv64_instr.specs.declared.decoded.Base.TheVariants.{PointedBy, ObjectAt}
 use Rattle.rv64_instr.specs.Row.{Row, Fixes, Moves, Sets, Addresses, Loads, Stores, LoadsSlot, StoresSlot, Branches, Jumps, Calls, Returns, Unfit}
 use Rattle.rv64_instr.specs.Row.{implicit_uses}
 use Rattle.rv64_word.specs.declared.machine_op.MachineOp.{MachineOp}
 use Rattle.rv64_word.specs.Decoded.{decoded}
 use Rattle.rv64_word.specs.MachineRow.{MachineRow, Does, Links, LinksTo, machine_row}
-use Rattle.mir_meaning.specs.State.{Reply}
+use Rattle.mir_meaning.specs.State.{Reply, Event, Wrote, low_bytes, touches_frame}
 use Rattle.code_layout.specs.Image.{CodeLine}
 use Rattle.code_layout.specs.Machine.{Machine, register, address_of}
-use Rattle.code_layout.specs.MachineStep.{Continues, Ends, past, at, set_register, does_row, does, does_operation, does_word, answered, return_word}
+use Rattle.rv_simulator.specs.Kept.{calls_in}
+use Rattle.code_layout.specs.MachineStep.{Continues, Ends, past, at, set_register, store, does_row, does, does_operation, does_word, answered, return_word}
+
+-- the script and the count of calls are the same
+pub record Keeps (s u : Machine) : Type 0 where
+  pub script : u.script ≡ s.script
+  pub calls : calls_in u.events ≡ calls_in s.events
 
 -- what goes on goes on to one state
-same_script : (t u : Machine) → Continues t ≡ Continues u → u.script ≡ t.script
-same_script t u e = let same : t ≡ u = cc in ap (λ (m : Machine). m.script) (sym same)
+same_state : (t u : Machine) → Continues t ≡ Continues u → t ≡ u
+same_state t u e = cc
+
+one_state : (s t u : Machine) → Continues t ≡ Continues u → Keeps s t → Keeps s u
+one_state s t u e k = subst (Keeps s) (same_state t u e) k
+
+kept : (s t u : Machine) → Continues t ≡ Continues u → t.script ≡ s.script → t.events ≡ s.events → Keeps s u
+kept s t u e script events = one_state s t u e (record { script = script; calls = ap calls_in events })
 
 no_end : (results : List ℕ) (u : Machine) → Ends results ≡ Continues u → ⊥
 no_end results u e = cc
 
-row_keeps : (r : Row) (s u : Machine) → does_row r s ≡ Continues u → u.script ≡ s.script
+-- a store is no call
+store_calls : (b : Bool) (a : ℕ) (bytes : List ℕ) (events : List Event) → calls_in (cond b events (Wrote a bytes ∷ events)) ≡ calls_in events
+store_calls true a bytes events = refl
+store_calls false a bytes events = refl
+
+stored_keeps : (a : ℕ) (bytes : List ℕ) (s u : Machine) → Continues (past 4 (store a bytes s)) ≡ Continues u → Keeps s u
+stored_keeps a bytes s u e =
+    one_state s (past 4 (store a bytes s)) u e (record { script = refl; calls = store_calls (touches_frame s.entry s.area a (length bytes)) a bytes s.events })
+
+row_keeps : (r : Row) (s u : Machine) → does_row r s ≡ Continues u → Keeps s u
 unfolding does_row
-row_keeps (Fixes rd n) s u e = same_script _ u e
-row_keeps (Moves rd rs) s u e = same_script _ u e
-row_keeps (Sets rd op a b) s u e = same_script _ u e
+row_keeps (Fixes rd n) s u e = kept s _ u e refl refl
+row_keeps (Moves rd rs) s u e = kept s _ u e refl refl
+row_keeps (Sets rd op a b) s u e = kept s _ u e refl refl
 row_keeps (Addresses rd n offset) s u e = absurd cc
-row_keeps (Loads rd op (PointedBy r) offset) s u e = same_script _ u e
+row_keeps (Loads rd op (PointedBy r) offset) s u e = kept s _ u e refl refl
 row_keeps (Loads rd op (ObjectAt n) offset) s u e = absurd cc
-row_keeps (Stores op rs (PointedBy r) offset) s u e = same_script _ u e
+row_keeps (Stores op rs (PointedBy r) offset) s u e = stored_keeps (address_of s r offset) (low_bytes (store_width op) (register s rs)) s u e
 row_keeps (Stores op rs (ObjectAt n) offset) s u e = absurd cc
 row_keeps (LoadsSlot rd n) s u e = absurd cc
 row_keeps (StoresSlot rs n) s u e = absurd cc
 row_keeps (Branches op a b target) s u e = by_test (taken op (register s a) (register s b)) e where
-  by_test : (t : Bool) → Continues (cond t (at target s) (past 4 s)) ≡ Continues u → u.script ≡ s.script
-  by_test true q = same_script (at target s) u q
-  by_test false q = same_script (past 4 s) u q
-row_keeps (Jumps target) s u e = same_script _ u e
+  by_test : (t : Bool) → Continues (cond t (at target s) (past 4 s)) ≡ Continues u → Keeps s u
+  by_test true q = kept s (at target s) u q refl refl
+  by_test false q = kept s (past 4 s) u q refl refl
+row_keeps (Jumps target) s u e = kept s _ u e refl refl
 row_keeps (Calls name args) s u e = absurd cc
 row_keeps (Returns results) s u e = absurd cc
 row_keeps Unfit s u e = absurd cc
 
-machine_keeps : (r : MachineRow) (s u : Machine) → does r s ≡ Continues u → u.script ≡ s.script
+machine_keeps : (r : MachineRow) (s u : Machine) → does r s ≡ Continues u → Keeps s u
 machine_keeps (Does row) s u e = row_keeps row s u e
-machine_keeps (Links rd target) s u e = same_script (at target (set_register rd ((s.counter + 4) % 2 ^ 64) s)) u e
+machine_keeps (Links rd target) s u e = kept s (at target (set_register rd ((s.counter + 4) % 2 ^ 64) s)) u e refl refl
 machine_keeps (LinksTo rd base offset) s u e =
-    same_script (at (address_of s base offset / 2 * 2) (set_register rd ((s.counter + 4) % 2 ^ 64) s)) u e
+    kept s (at (address_of s base offset / 2 * 2) (set_register rd ((s.counter + 4) % 2 ^ 64) s)) u e refl refl
 
-operation_keeps : (o : Option MachineOp) (s u : Machine) → does_operation o s ≡ Continues u → u.script ≡ s.script
+operation_keeps : (o : Option MachineOp) (s u : Machine) → does_operation o s ≡ Continues u → Keeps s u
 operation_keeps None s u e = absurd cc
 operation_keeps (Some m) s u e = machine_keeps (machine_row s.counter m) s u e
 
-pub word_keeps : (l : CodeLine) (o : Option ℕ) (s u : Machine) → does_word l o s ≡ Continues u → u.script ≡ s.script
+pub word_keeps : (l : CodeLine) (o : Option ℕ) (s u : Machine) → does_word l o s ≡ Continues u → Keeps s u
 word_keeps l None s u e = absurd cc
 word_keeps l (Some w) s u e = by_test (nat_eq w return_word) e where
-  by_test : (t : Bool) → cond t (Ends (map (register s) (implicit_uses l.instruction.operands))) (does_operation (decoded w) s) ≡ Continues u →
-      u.script ≡ s.script
+  by_test : (t : Bool) → cond t (Ends (map (register s) (implicit_uses l.instruction.operands))) (does_operation (decoded w) s) ≡ Continues u → Keeps s u
   by_test true q = absurd (no_end _ u q)
   by_test false q = operation_keeps (decoded w) s u q
 
+-- a call takes one answer and counts
+pub record Takes (rest : List Reply) (s u : Machine) : Type 0 where
+  pub script : u.script ≡ rest
+  pub calls : calls_in u.events ≡ suc (calls_in s.events)
+
 pub call_takes : (name args : List ℕ) (s u : Machine) (r : Reply) (rest script : List Reply) → script ≡ r ∷ rest → answered name args s script ≡ Continues u →
-    u.script ≡ rest
+    Takes rest s u
 call_takes name args s u r rest [] q e = absurd cc
-call_takes name args s u r rest (x ∷ more) q e = let same : more ≡ rest = cc in same_script _ u e ∙ same
+call_takes name args s u r rest (x ∷ more) q e =
+    let same : more ≡ rest = cc in
+    subst (λ (t : Machine). Takes rest s t) (same_state _ u e) (record { script = same; calls = refl })

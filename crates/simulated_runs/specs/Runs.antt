@@ -1,5 +1,5 @@
 -- Runs of the simulator, and the runs of the machine of the definitions that they are.
-use Rattle.std.specs.Prelude.{◌≡◌, List, ◌++◌, All}
+use Rattle.std.specs.Prelude.{◌≡◌, ℕ, suc, ◌+◌, ◌%◌, ◌^◌, ◌≤◌, List, [], ◌∷◌, ◌++◌, length}
 use Rattle.rv64_instr.specs.declared.start.CallEvent.{CallEvent}
 use Rattle.mir_meaning.specs.State.{Reply}
 use Rattle.code_layout.specs.Image.{Image}
@@ -8,7 +8,7 @@ use Rattle.code_layout.specs.MachineStep.{Comes, Continues, machine_step}
 use Rattle.code_words.specs.Laid.{LaidCode}
 use Rattle.rv_simulator.specs.declared.ending.Stepped.TheVariants.{Went}
 use Rattle.rv_simulator.specs.declared.hart.Hart.{Hart}
-use Rattle.rv_simulator.specs.Kept.{StandsFor}
+use Rattle.rv_simulator.specs.Kept.{StandsFor, calls_in}
 use Rattle.rv_simulator.specs.Running.{StepsOn, CallsOn}
 use Rattle.rv_simulator.specs.Shown.{ShowsCode}
 
@@ -17,10 +17,20 @@ pub data Runs (gives : CallEvent → Reply → Type 0) (c : LaidCode) (from : Ha
   begins : Runs gives c from from
   goes_on : {h now : Hart} → Runs gives c from h → StepsOn c Went h now → CallsOn gives c Went h now → Runs gives c from now
 
--- an answer that was given to a call
-pub record WasGiven (gives : CallEvent → Reply → Type 0) (r : Reply) : Type 0 where
+-- an answer that was given to the call of a number
+pub record WasGiven (gives : CallEvent → Reply → Type 0) (number : ℕ) (r : Reply) : Type 0 where
   pub call : CallEvent
+  pub numbered : call.number ≡ number % 2 ^ 64
   pub given : gives call r
+
+-- answers that were given to the calls from a number on
+abbrev pub WereGiven : (gives : CallEvent → Reply → Type 0) → (number : ℕ) → List Reply → Type 0
+WereGiven gives n [] = Unit {0}
+WereGiven gives n (r ∷ rest) = WasGiven gives n r × WereGiven gives (suc n) rest
+
+-- the call that comes next has this number: calls are counted from 1
+abbrev pub next_call : Machine → ℕ
+next_call s = suc (calls_in s.events)
 
 -- with these answers first in its script, the machine's next step from s goes to a state that what is kept now stands for, and leaves the
 -- rest of the script: none is taken, or one at a call, to which it was given
@@ -29,7 +39,8 @@ pub record GoesTo (gives : CallEvent → Reply → Type 0) (image : Image) (take
   pub goes : machine_step image s ≡ Continues to
   pub stands : StandsFor now to
   pub left : to.script ≡ rest
-  pub given : All (WasGiven gives) taken
+  pub given : WereGiven gives (next_call s) taken
+  pub counted : next_call to ≡ next_call s + length taken
 
 -- from each state that h stands for, on each image of the code, the machine steps so to one that now stands for
 abbrev pub StepLeads : (gives : CallEvent → Reply → Type 0) → LaidCode → (h now : Hart) → List Reply → Type 0
@@ -37,13 +48,14 @@ StepLeads gives c h now taken = (image : Image) (s : Machine) (rest : List Reply
     GoesTo gives image taken rest now s
 
 -- the machine comes from s to a state that what is kept now stands for, and leaves the rest of its script. The answers that it
--- took were given to calls
+-- took were given to its calls, in their order
 pub record ComesTo (gives : CallEvent → Reply → Type 0) (image : Image) (answers rest : List Reply) (now : Hart) (s : Machine) : Type 0 where
   pub to : Machine
   pub comes : Comes image s to
   pub stands : StandsFor now to
   pub left : to.script ≡ rest
-  pub given : All (WasGiven gives) answers
+  pub given : WereGiven gives (next_call s) answers
+  pub counted : next_call to ≡ next_call s + length answers
 
 -- with these answers first in its script, the machine comes from each state that what was kept stands for to one that what is kept now
 -- stands for
@@ -55,7 +67,7 @@ AnswersLead gives c from now answers = (image : Image) (s : Machine) (rest : Lis
 -- as the first of the script.
 abbrev pub StepsAreTheMachines : (gives : CallEvent → Reply → Type 0) → Type 0
 StepsAreTheMachines gives = (c : LaidCode) (h now : Hart) → StepsOn c Went h now → CallsOn gives c Went h now →
-    (taken : List Reply) × StepLeads gives c h now taken
+    (taken : List Reply) × StepLeads gives c h now taken × (length taken ≤ 1)
 
 -- A run of the simulator is one of the machine on each image that shows the code, with the answers to its calls as the script.
 abbrev pub RunsAreTheMachines : (gives : CallEvent → Reply → Type 0) → Type 0

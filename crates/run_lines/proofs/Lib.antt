@@ -1,0 +1,5 @@
+pub mod Searching
+pub mod Turns
+pub mod Places
+pub mod Listed
+pub mod Lifting

@@ -1,0 +1,4 @@
+pub mod Variables
+pub mod Lines
+pub mod Run
+pub mod steps

@@ -1,0 +1,62 @@
+//! The line before a step.
+
+ghost use Rattle.std.specs.Prelude.{◌≡◌, ◌<◌, ◌^◌, ◌++◌, All, OnOk};
+ghost use Rattle.code_layout.specs.Machine.{Machine as State};
+ghost use Rattle.rv_simulator.specs.Kept.{StandsFor};
+ghost use Rattle.run_lines.specs.Lines.{position_text, origin_text, head_text, step_line};
+ghost use Rattle.run_lines.specs.steps.Readable.{IsReadable};
+
+use crate::value::push_variables;
+use crate::variable::Variable;
+use code_words::code::Entry;
+use compiled_text::hex::push_address;
+use mir_func::position::{Origin, Pos};
+use mir_printer::text::{Text, push_decimal, push_numbered, push_str};
+use rv_simulator::hart::Hart;
+use std::alloc::AllocError;
+
+/// Appends the line before a step at an entry.
+pub fn push_line(
+    text: &mut Text,
+    number: u32,
+    entry: &Entry,
+    hart: &Hart,
+    variables: &[Variable],
+) -> Result<(), AllocError>
+    requires readable { All IsReadable variables.now }
+    requires at { entry.now.address ≡ hart.now.counter }
+    requires low { entry.now.address < 2 ^ 32 }
+    ensures { OnOk result ((s : State) → StandsFor hart.now s
+        → text.new ≡ text.old ++ step_line number entry.now.origin variables.now s) }
+{
+    push_head(text, number, entry.address as u32, &entry.origin)?;
+    push_variables(text, hart, variables)?;
+    text.push(b'\n')
+}
+
+/// Appends a step's number, an address, and an origin.
+fn push_head(text: &mut Text, number: u32, address: u32, origin: &Origin) -> Result<(), AllocError>
+    ensures { OnOk result (text.new ≡ text.old ++ head_text number address origin.now) }
+{
+    push_decimal(text, number)?;
+    push_str(text, " ")?;
+    push_address(text, address)?;
+    push_origin(text, origin)
+}
+
+fn push_origin(text: &mut Text, origin: &Origin) -> Result<(), AllocError>
+    ensures { OnOk result (text.new ≡ text.old ++ origin_text origin.now) }
+{
+    match origin {
+        Origin::Kept(pos) => push_position(text, " =", *pos),
+        Origin::Before(pos) => push_position(text, " <", *pos),
+    }
+}
+
+/// Appends a sign and a position.
+fn push_position(text: &mut Text, sign: &str, pos: Pos) -> Result<(), AllocError>
+    ensures { OnOk result (text.new ≡ text.old ++ position_text sign.now pos) }
+{
+    push_numbered(text, sign, pos.block.number())?;
+    push_numbered(text, ".", pos.item)
+}
