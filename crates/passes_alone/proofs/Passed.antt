@@ -1,0 +1,87 @@
+-- The same passes make alike code of alike code.
+use Rattle.std.proofs.Common.{List, [], ◌∷◌}
+use Rattle.mir_func.specs.Function.{Function}
+use Rattle.mir_func.specs.Strip.{stripped}
+use Rattle.copy_rule.specs.Laws.{one_copied, same_copied}
+use Rattle.branch_fold.specs.Laws.{folding_has_one_result, folding_sees_code_alone}
+use Rattle.remat_pass.specs.Laws.{one_rematerialized, same_rematerialized}
+use Rattle.follow_law.specs.Change.{change}
+use Rattle.follow_law.specs.Code.{HasOneResult, SeesCodeAlone}
+use Rattle.follow_law.specs.Laws.{one_then, same_then}
+use Rattle.follow_law.specs.Steps.{EachCode}
+use Rattle.passes_alone.proofs.Made.{make_code_alone}
+use Rattle.frames_alike.specs.Alike.{HaveAlikeCode, HaveSameCode}
+use Rattle.pass_list.specs.declared.kind.PassKind.{PassKind}
+use Rattle.pass_list.specs.declared.kind.PassKind.TheVariants.{Copy, Remat, Fold}
+use Rattle.pass_loop.specs.Passes.{steps_of_pass, steps_of}
+use Rattle.text_alone.specs.Text.{OneByOne}
+use Rattle.text_alone.proofs.Text.{coded_alone, alike_text, same_text}
+use Rattle.passes_alone.specs.Passed.{IsPassed, PassesMakeCodeAlone, PassedIsMadeOfCode, PassedHasSameText, PassedHasSameCode}
+
+-- ---- the rules for code
+
+one_of_pass : (p : PassKind) → EachCode HasOneResult (steps_of_pass p)
+one_of_pass Copy = (one_copied, tt)
+one_of_pass Remat = (one_rematerialized, tt)
+one_of_pass Fold = (folding_has_one_result, tt)
+
+same_of_pass : (p : PassKind) → EachCode SeesCodeAlone (steps_of_pass p)
+same_of_pass Copy = (same_copied, tt)
+same_of_pass Remat = (same_rematerialized, tt)
+same_of_pass Fold = (folding_sees_code_alone, tt)
+
+one_each : (passes : List PassKind) → EachCode HasOneResult (steps_of passes)
+one_each [] = tt
+one_each (p ∷ ps) = one_then (steps_of_pass p) (steps_of ps) (one_of_pass p) (one_each ps)
+
+same_each : (passes : List PassKind) → EachCode SeesCodeAlone (steps_of passes)
+same_each [] = tt
+same_each (p ∷ ps) = same_then (steps_of_pass p) (steps_of ps) (same_of_pass p) (same_each ps)
+
+pub passes_alone : PassesMakeCodeAlone
+passes_alone passes = make_code_alone (steps_of passes) (one_each passes) (same_each passes)
+
+pub passed_made : PassedIsMadeOfCode
+passed_made passes f g base l is laid =
+    let h = coded_alone g base l laid in
+    record {
+      made = stripped g;
+      by_passes = (passes_alone passes).made (change f is.old_subs g is.new_subs) is.losses is.kept;
+      layout = h.layout;
+      laid = h.laid;
+      coded = h.coded;
+    }
+
+-- ---- one by one
+
+module _ {X Y Z W : Type 0} (R : X → Y → Type 0) (S : X → Z → Type 0) (T : Y → W → Type 0) (U : Z → W → Type 0)
+    (step : (x : X) (y : Y) (z : Z) (w : W) → R x y → S x z → T y w → U z w) where
+  each_step : (xs : List X) (ys : List Y) (zs : List Z) (ws : List W) → OneByOne R xs ys → OneByOne S xs zs → OneByOne T ys ws → OneByOne U zs ws
+  each_step [] [] [] [] r s t = tt
+  each_step [] [] [] (w ∷ ws) r s t = absurd t
+  each_step [] [] (z ∷ zs) ws r s t = absurd s
+  each_step [] (y ∷ ys) zs ws r s t = absurd r
+  each_step (x ∷ xs) [] zs ws r s t = absurd r
+  each_step (x ∷ xs) (y ∷ ys) [] ws r s t = absurd s
+  each_step (x ∷ xs) (y ∷ ys) (z ∷ zs) [] r s t = absurd t
+  each_step (x ∷ xs) (y ∷ ys) (z ∷ zs) (w ∷ ws) r s t = (step x y z w r.0 s.0 t.0, each_step xs ys zs ws r.1 s.1 t.1)
+
+alike_step : (passes : List PassKind) (f g f' g' : Function) → HaveAlikeCode f g → IsPassed passes f f' → IsPassed passes g g' → HaveAlikeCode f' g'
+alike_step passes f g f' g' alike is others =
+    (passes_alone passes).alike (change f is.old_subs f' is.new_subs) (change g others.old_subs g' others.new_subs) is.losses others.losses is.kept
+    others.kept alike
+
+same_step : (passes : List PassKind) (f g f' g' : Function) → HaveSameCode f g → IsPassed passes f f' → IsPassed passes g g' → HaveSameCode f' g'
+same_step passes f g f' g' same is others =
+    (passes_alone passes).same (change f is.old_subs f' is.new_subs) (change g others.old_subs g' others.new_subs) is.losses others.losses is.kept
+    others.kept same
+
+pub passed_text : PassedHasSameText
+passed_text passes fs gs new others base text other ls ms alike is are laid laid' =
+    alike_text new others base text other ls ms
+    (each_step HaveAlikeCode (IsPassed passes) (IsPassed passes) HaveAlikeCode (alike_step passes) fs gs new others alike is are) laid laid'
+
+pub passed_code : PassedHasSameCode
+passed_code passes fs gs new others base text other ls ms same is are laid laid' =
+    same_text new others base text other ls ms
+    (each_step HaveSameCode (IsPassed passes) (IsPassed passes) HaveSameCode (same_step passes) fs gs new others same is are) laid laid'

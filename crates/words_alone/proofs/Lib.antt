@@ -1,0 +1,5 @@
+pub mod Drops
+pub mod Sizes
+pub mod Settled
+pub mod Coded
+pub mod Alone
