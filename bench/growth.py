@@ -9,7 +9,7 @@
   bench/growth.py locations crates/mirdwarf_locations/out/mirdwarf_locations over crates/mirdwarf_reading/out/mirdwarf_reading, on blocks, items and variables
   bench/growth.py steps    crates/mirdwarf_steps/out/mirdwarf_steps, on steps of a loop with a call
   bench/growth.py sections crates/mirdwarf_sections/out/mirdwarf_sections, on sections of 1,000 to 8,000 parts
-  bench/growth.py passes   crates/mirdwarf_passes/out/mirdwarf_passes, on copies and constants in one block and in 1,024 blocks
+  bench/growth.py passes   crates/mirdwarf_passes/out/mirdwarf_passes, on copies, constants and spilled registers in one block and in 1,024 blocks
 
 Build the program first by `rt run` in its crate's folder. Each line has the input's size, the count and its growth.
 """
@@ -281,7 +281,7 @@ def main():
             for step, (call, before) in steps.items():
                 added(call, kind, step, before, (1000, 2000, 4000, 8000))
     elif what == ["passes"]:
-        for kind in ("copies", "constants"):
+        for kind in ("copies", "constants", "registers"):
             run_more("%s in one block, by items" % kind, kind, 1, (1024, 2048, 4096, 8192, 16384))
             run_more("%s in 1,024 blocks, by items" % kind, kind, 1024, (2048, 4096, 8192, 16384))
     elif what == ["compile"]:

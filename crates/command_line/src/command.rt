@@ -1,57 +1,73 @@
 //! Commands and their words.
 
-ghost use Rattle.std.specs.Prelude.{◌≡◌, ◌↔◌, ◌∷◌, [], map, string_bytes, IsTrue};
-ghost use Rattle.command_line.specs.Command.{words_of};
+ghost use Rattle.std.specs.Prelude.{◌≡◌, ◌↔◌, ◌∷◌, [], List, map, string_bytes, Some};
+ghost use Rattle.pass_list.specs.declared.kind.PassKind.{PassKind};
+ghost use Rattle.pass_list.specs.Names.{AreDistinct};
+ghost use Rattle.command_line.specs.Command.{option_of, IsCommand};
+
+use pass_list::kind::is_same;
+use pass_list::list::PassList;
+use pass_list::text::pass_list;
 
 /// What the program is asked to do.
-#[derive(Clone, Copy, Debug, PartialEq, Eq)]
+#[derive(Debug, Drop)]
 pub enum Command {
-    /// Writes the sections and the listing of each function, as it was read.
-    Compile,
-    /// Writes the listing of each function alone, as it was read.
-    Listing,
+    /// Writes the sections and the listing of each function after passes.
+    Compile(PassList),
+    /// Writes the listing of each function alone after passes.
+    Listing(PassList),
     /// Writes each function without its debug items.
     Strip,
 }
 
-/// Whether the words are this one alone.
-fn is_word(words: &[String], command: &str) -> bool
-    ensures { IsTrue result ↔ (map string_bytes words.now ≡ command.now ∷ []) }
-{
-    match words {
-        [word] => is_same(word.as_str(), command),
-        _ => false,
-    }
-}
-
-/// Whether the words are a command and an option, in this order.
-fn are_words(words: &[String], command: &str, option: &str) -> bool
-    ensures { IsTrue result ↔ (map string_bytes words.now ≡ command.now ∷ option.now ∷ []) }
-{
-    match words {
-        [first, second] => is_same(first.as_str(), command) && is_same(second.as_str(), option),
-        _ => false,
-    }
-}
-
-fn is_same(word: &str, wanted: &str) -> bool
-    ensures { IsTrue result ↔ (word.now ≡ wanted.now) }
-{
-    word == wanted
-}
-
-/// The command that the words are: `compile --passes=none`, `listing --passes=none` or `strip`. None where they are no
-/// command.
+/// The command that the words are: `compile` or `listing` with the option of a list of passes, as `--passes=copy,fold`
+/// or `--passes=none`, or `strip`. None where they are no command.
 pub fn parse(words: &[String]) -> Option<Command>
-    ensures { (command : Command) → (result ≡ Some command) ↔ (map string_bytes words.now ≡ words_of command) }
+    ensures { (command : Command) → (result ≡ Some command) ↔ IsCommand (map string_bytes words.now) command }
 {
-    if are_words(words, "compile", "--passes=none") {
-        Some(Command::Compile)
-    } else if are_words(words, "listing", "--passes=none") {
-        Some(Command::Listing)
-    } else if is_word(words, "strip") {
+    match words {
+        [name] => alone(name.as_str()),
+        [name, option] => with_option(name.as_str(), option.as_str()),
+        _ => None,
+    }
+}
+
+/// The command of one word.
+fn alone(name: &str) -> Option<Command>
+    ensures { (command : Command) → (result ≡ Some command) ↔ IsCommand (name.now ∷ []) command }
+{
+    if is_same(name, "strip") {
         Some(Command::Strip)
     } else {
         None
+    }
+}
+
+/// The command of a word and an option.
+fn with_option(name: &str, option: &str) -> Option<Command>
+    ensures { (command : Command) → (result ≡ Some command) ↔ IsCommand (name.now ∷ option.now ∷ []) command }
+{
+    match option_list(option) {
+        None => None,
+        Some(list) => {
+            if is_same(name, "compile") {
+                Some(Command::Compile(list))
+            } else if is_same(name, "listing") {
+                Some(Command::Listing(list))
+            } else {
+                None
+            }
+        }
+    }
+}
+
+/// The list of passes that an option asks for, as `--passes=copy,fold` or `--passes=none`. None where it is no such
+/// option.
+fn option_list(option: &str) -> Option<PassList>
+    ensures { (list : List PassKind) → (result ≡ Some list) ↔ ((option.now ≡ option_of list) × AreDistinct list) }
+{
+    match option.strip_prefix("--passes=") {
+        None => None,
+        Some(text) => pass_list(text),
     }
 }

@@ -3,15 +3,35 @@
 use crate::command::{Command, parse};
 use crate::fault::Fault;
 use crate::status::Status;
+use pass_list::kind::PassKind;
 use refusal::first::Refusal;
 use refusal::kind::RefusalKind;
 use std::test::Fail;
 
-/// Words of a command line, and the command that they are.
-const ROWS: [(&str, Option<Command>); 11] = [
-    ("compile --passes=none", Some(Command::Compile)),
-    ("listing --passes=none", Some(Command::Listing)),
-    ("strip", Some(Command::Strip)),
+/// Words of a command line, and the command that they are, as its name and its passes.
+const ROWS: [(&str, Option<(&str, &[PassKind])>); 22] = [
+    ("compile --passes=none", Some(("compile", &[]))),
+    (
+        "compile --passes=remat",
+        Some(("compile", &[PassKind::Remat])),
+    ),
+    (
+        "compile --passes=fold,copy",
+        Some(("compile", &[PassKind::Fold, PassKind::Copy])),
+    ),
+    (
+        "compile --passes=copy,remat,fold",
+        Some((
+            "compile",
+            &[PassKind::Copy, PassKind::Remat, PassKind::Fold],
+        )),
+    ),
+    ("listing --passes=none", Some(("listing", &[]))),
+    (
+        "listing --passes=copy",
+        Some(("listing", &[PassKind::Copy])),
+    ),
+    ("strip", Some(("strip", &[]))),
     ("listing", None),
     ("compile --passes=", None),
     ("", None),
@@ -19,8 +39,24 @@ const ROWS: [(&str, Option<Command>); 11] = [
     ("strip --passes=none", None),
     ("--passes=none compile", None),
     ("compile --passes=none strip", None),
+    ("compile --passes=none --passes=remat", None),
+    ("compile --passes=remat,remat", None),
+    ("compile --passes=copy,fold,copy", None),
+    ("compile --passes=none,remat", None),
+    ("compile --passes=copy,", None),
+    ("compile --passes=,copy", None),
+    ("compile --passes=Copy", None),
     ("Strip", None),
 ];
+
+/// Whether a command has this name and these passes.
+fn is_command(command: &Command, name: &str, passes: &[PassKind]) -> bool {
+    match command {
+        Command::Compile(list) => name == "compile" && list.as_slice() == passes,
+        Command::Listing(list) => name == "listing" && list.as_slice() == passes,
+        Command::Strip => name == "strip",
+    }
+}
 
 #[test]
 fn words_of_commands(rt: HostRuntime) -> Result<(), Fail> {
@@ -29,7 +65,14 @@ fn words_of_commands(rt: HostRuntime) -> Result<(), Fail> {
         for word in line.split_ascii_whitespace() {
             words.push(String::from_str(rt.alloc(), word)?)?;
         }
-        assert_eq!(rt; parse(&words), wanted);
+        match (parse(&words), wanted) {
+            (Some(command), Some((name, passes))) => {
+                assert!(rt; is_command(&command, name, passes));
+            }
+            (found, wanted) => {
+                assert!(rt; found.is_none() && wanted.is_none());
+            }
+        }
     }
     Ok(())
 }

@@ -1,5 +1,5 @@
--- The items of a function with its frame are printable: those that were there keep their numbers but for slots, which are named by
--- small offsets, and those that were added have small ones.
+-- The items of a function with its frame are printable where those of the function are: those that were there keep their numbers but for slots,
+-- which are named by small offsets, and those that were added have small ones. A function that was read has printable items.
 use Rattle.std.proofs.Common.{◌≡◌, ℕ, zero, suc, ◌<◌, ◌≤◌, ◌^◌, ℤ, pos, negsuc, Bool, true, false, ◌&&◌, cond, nat_eq, List, [], ◌∷◌, ◌++◌, length, map}
 use Rattle.std.proofs.Common.{Option, Some, None, refl, sym, subst, ◌∙◌, arith}
 use Rattle.std.specs.Prelude.{All, ◌-ℤ◌, Contains, nat_lt}
@@ -27,7 +27,7 @@ use Rattle.mir_func.specs.declared.position.Origin.TheVariants.{Kept, Before}
 use Rattle.mir_func.specs.declared.object.Object as func
 use Rattle.mir_func.specs.Function.{Function}
 use Rattle.mir_func.specs.Graph.{block_start}
-use Rattle.mir_func.specs.Sound.{AllItems, OriginIn, items_of, HasForm, HasForm as KindForm}
+use Rattle.mir_func.specs.Sound.{AllItems, OriginIn, items_of, IsSound, HasForm, HasForm as KindForm}
 use Rattle.mir_func.specs.SoundFrame.{SAVED, adds_to_pointer, saves, restores, prologue_code, epilogue_code, IsSlotOffset, IsFramed}
 use Rattle.frame_lower.proofs.Forms.{form_same}
 use Rattle.frame_rule.specs.Rule.{slots_before, slot_offset, added, added_all, position_in, epilogue, renamed_operand, renamed_place}
@@ -37,11 +37,12 @@ use Rattle.mir_func.specs.Exits.{exit_of, is_final}
 use Rattle.numbers.specs.Limits.{MAX_NUMBER}
 use Rattle.mir_body.specs.Limits.{MAX_ITEMS}
 use Rattle.mir_printer.specs.Printable.{IsNumber, IsSigned, HasNumbers, IsPrintablePlace}
-use Rattle.mir_printer.specs.Printable.{IsPrintableKind, IsPrintable}
+use Rattle.mir_printer.specs.Printable.{IsPrintableKind, IsPrintableLoc, IsPrintable}
 use Rattle.compiled_text.specs.Shown.{IsPrintableOrigin}
 use Rattle.function_listing.specs.Printable.{IsPrintableFramedKind, IsPrintableFramedItem, IsPrintableFramedBlock, IsPrintableFramed}
-use Rattle.reading_laws.specs.Read.{declared_in, IsReadFunction}
-use Rattle.listing_laws.specs.Laws.{inlined_in, ReadFunctionsArePrintable}
+use Rattle.reading_laws.specs.Read.{declared_in}
+use Rattle.listing_laws.specs.Laws.{inlined_in, IsPrintableBlock, IsPrintableBody, ReadFunctionsHavePrintableBodies, BodiesArePrintable}
+use Rattle.listing_laws.specs.Laws.{ReadFunctionsArePrintable}
 
 -- ---- numbers
 
@@ -88,31 +89,8 @@ unmapped P (s ∷ ss) all =
     All-cons (λ (x : SavedRegister). P x.offset) s ss (All-head P s.offset (map (λ x. x.offset) ss) all)
     (unmapped P ss (All-tail P s.offset (map (λ x. x.offset) ss) all))
 
--- ---- the numbers of a function that was read have 32 bits
-
--- those of a block: its number and its silent index
-record BlockHasNumbers (b : Block) : Type 0 where
-  id : IsNumber b.id
-  silent : IsNumber b.silent
-
-number : (n : ℕ) → n ≤ MAX_NUMBER → IsNumber n
-number n small = omega (arith, small)
-
-blocks_small : (bs : List Block) → length (items_of bs) ≤ MAX_ITEMS → All (λ b. b.id ≤ MAX_NUMBER) bs → All (λ b. b.silent ≡ length b.items) bs →
-    All BlockHasNumbers bs
-blocks_small [] few ids silent = All-nil BlockHasNumbers
-blocks_small (b ∷ bs) few ids silent =
-    let both = length-append b.items (items_of bs) in
-    let here = All-head (λ (x : Block). x.silent ≡ length x.items) b bs silent in
-    All-cons BlockHasNumbers b bs
-    (record { id = number b.id (All-head (λ (x : Block). x.id ≤ MAX_NUMBER) b bs ids); silent = omega (arith, few, both, here) })
-    (blocks_small bs (omega (arith, few, both)) (All-tail (λ (x : Block). x.id ≤ MAX_NUMBER) b bs ids)
-    (All-tail (λ (x : Block). x.silent ≡ length x.items) b bs silent))
-
-module _ (meta : Maps) (f : Function) (read : IsReadFunction meta f) (framed : IsFramed (framed_of f)) where
-  abbrev inlined : ℕ → Option ℕ
-  inlined = inlined_in meta
-
+module _ (inlined : ℕ → Option ℕ) (f : Function) (body : IsPrintableBody inlined f) (sound : IsSound f) (has_forms : AllItems (λ i. KindForm i.kind) f.blocks)
+    (framed : IsFramed (framed_of f)) where
   abbrev Fit : Item → Type 0
   Fit = IsPrintableFramedItem inlined
 
@@ -196,7 +174,7 @@ module _ (meta : Maps) (f : Function) (read : IsReadFunction meta f) (framed : I
   -- ---- what was there
 
   offset_small : (n : ℕ) → IsNumber (slot_offset f.slots n)
-  offset_small n = let few = read.sound.few_slots in let before = before_few f.slots n in omega (arith, few, before)
+  offset_small n = let few = sound.few_slots in let before = before_few f.slots n in omega (arith, few, before)
 
   renamed_number : (o : Operand) → HasNumbers o → HasNumbers (renamed_operand f.slots o)
   renamed_number (Def r) is = is
@@ -227,12 +205,12 @@ module _ (meta : Maps) (f : Function) (read : IsReadFunction meta f) (framed : I
   form_fits (Mark v m) is = tt
   form_fits (Phi p k) is = tt
 
-  kind_fits : (loc : Loc) (kind : ItemKind) → IsPrintableKind (declared_in meta f) loc kind → IsPrintableFramedKind inlined loc (renamed_kind f.slots kind)
-  kind_fits loc (Code c k) is = (renamed_numbers c.operands is.0.numbers, is.1)
-  kind_fits loc (Mark v m) is = (record { node = is.0.node; inlined = is.0.inlined; part = is.0.part }, is.1)
+  kind_fits : (loc : Loc) (kind : ItemKind) → IsPrintableFramedKind inlined loc kind → IsPrintableFramedKind inlined loc (renamed_kind f.slots kind)
+  kind_fits loc (Code c k) is = (renamed_numbers c.operands is.0, is.1)
+  kind_fits loc (Mark v m) is = is
   kind_fits loc (Phi p k) is = (place_fits p is.0, is.1)
 
-  origin_fits : (b : Block) (o : Origin) → BlockHasNumbers b → OriginIn b o → IsPrintableOrigin o
+  origin_fits : (b : Block) (o : Origin) → IsPrintableBlock inlined b → OriginIn b o → IsPrintableOrigin o
   origin_fits b (Kept p) has is = (subst IsNumber (sym is.0) has.id, omega (arith, is.1, has.silent))
   origin_fits b (Before p) has is = (subst IsNumber (sym is.0) has.id, omega (arith, is.1, has.silent))
 
@@ -243,7 +221,8 @@ module _ (meta : Maps) (f : Function) (read : IsReadFunction meta f) (framed : I
   -- what is known of an item that was there
   record Known (i : Item) : Type 0 where
     form : KindForm i.kind
-    printable : IsPrintable (declared_in meta f) i
+    kind : IsPrintableFramedKind inlined i.loc i.kind
+    loc : IsPrintableLoc i.loc
     origin : IsPrintableOrigin i.origin
 
   by_end : (b : Bool) (o : Origin) → IsPrintableOrigin o → All Fit (cond b (epilogue f o) [])
@@ -256,42 +235,43 @@ module _ (meta : Maps) (f : Function) (read : IsReadFunction meta f) (framed : I
       (by_end (is_final (exit_of i.kind)) i.origin known.origin)
       (All-cons Fit (renamed f.slots i) [] (record {
         form = form_fits i.kind known.form;
-        kind = kind_fits i.loc i.kind known.printable.kind;
+        kind = kind_fits i.loc i.kind known.kind;
         origin = known.origin;
-        loc = known.printable.loc;
+        loc = known.loc;
       }) (All-nil Fit))
 
   record KnownBlock (b : Block) : Type 0 where
-    numbers : BlockHasNumbers b
+    numbers : IsPrintableBlock inlined b
     items : All Known b.items
 
-  items_known : (b : Block) (items : List Item) → BlockHasNumbers b → All (λ i. KindForm i.kind) items → All (IsPrintable (declared_in meta f)) items →
-      All (λ i. OriginIn b i.origin) items → All Known items
-  items_known b [] has forms prints origins = All-nil Known
-  items_known b (i ∷ items) has forms prints origins =
+  items_known : (b : Block) (items : List Item) → IsPrintableBlock inlined b → All (λ i. KindForm i.kind) items →
+      All (λ i. IsPrintableFramedKind inlined i.loc i.kind) items → All (λ i. IsPrintableLoc i.loc) items → All (λ i. OriginIn b i.origin) items →
+      All Known items
+  items_known b [] has forms kinds locs origins = All-nil Known
+  items_known b (i ∷ items) has forms kinds locs origins =
       All-cons Known i items
       (record {
         form = All-head (λ (x : Item). KindForm x.kind) i items forms;
-        printable = All-head (IsPrintable (declared_in meta f)) i items prints;
+        kind = All-head (λ (x : Item). IsPrintableFramedKind inlined x.loc x.kind) i items kinds;
+        loc = All-head (λ (x : Item). IsPrintableLoc x.loc) i items locs;
         origin = origin_fits b i.origin has (All-head (λ (x : Item). OriginIn b x.origin) i items origins);
       })
-      (items_known b items has (All-tail (λ (x : Item). KindForm x.kind) i items forms) (All-tail (IsPrintable (declared_in meta f)) i items prints)
+      (items_known b items has (All-tail (λ (x : Item). KindForm x.kind) i items forms)
+      (All-tail (λ (x : Item). IsPrintableFramedKind inlined x.loc x.kind) i items kinds) (All-tail (λ (x : Item). IsPrintableLoc x.loc) i items locs)
       (All-tail (λ (x : Item). OriginIn b x.origin) i items origins))
 
-  blocks_known : (bs : List Block) → All BlockHasNumbers bs → AllItems (λ i. KindForm i.kind) bs → AllItems (IsPrintable (declared_in meta f)) bs →
+  blocks_known : (bs : List Block) → All (IsPrintableBlock inlined) bs → AllItems (λ i. KindForm i.kind) bs →
       All (λ b. All (λ i. OriginIn b i.origin) b.items) bs → All KnownBlock bs
-  blocks_known [] has forms prints origins = All-nil KnownBlock
-  blocks_known (b ∷ bs) has forms prints origins =
-      let here = All-head BlockHasNumbers b bs has in
+  blocks_known [] has forms origins = All-nil KnownBlock
+  blocks_known (b ∷ bs) has forms origins =
+      let here = All-head (IsPrintableBlock inlined) b bs has in
       All-cons KnownBlock b bs
       (record {
         numbers = here;
-        items = items_known b b.items here (All-head (λ (x : Block). All (λ i. KindForm i.kind) x.items) b bs forms)
-            (All-head (λ (x : Block). All (IsPrintable (declared_in meta f)) x.items) b bs prints)
+        items = items_known b b.items here (All-head (λ (x : Block). All (λ i. KindForm i.kind) x.items) b bs forms) here.kinds here.locs
             (All-head (λ (x : Block). All (λ i. OriginIn x i.origin) x.items) b bs origins);
       })
-      (blocks_known bs (All-tail BlockHasNumbers b bs has) (All-tail (λ (x : Block). All (λ i. KindForm i.kind) x.items) b bs forms)
-      (All-tail (λ (x : Block). All (IsPrintable (declared_in meta f)) x.items) b bs prints)
+      (blocks_known bs (All-tail (IsPrintableBlock inlined) b bs has) (All-tail (λ (x : Block). All (λ i. KindForm i.kind) x.items) b bs forms)
       (All-tail (λ (x : Block). All (λ i. OriginIn x i.origin) x.items) b bs origins))
 
   -- ---- all blocks
@@ -321,11 +301,48 @@ module _ (meta : Maps) (f : Function) (read : IsReadFunction meta f) (framed : I
       (all_blocks (b ∷ bs) known)
 
   fits : IsPrintableFramed inlined (framed_of f)
-  fits = record {
-    objects = All-weaker (λ (o : func.Object). o.id ≤ MAX_NUMBER) (λ (o : func.Object). IsNumber o.id) (λ o small. number o.id small) f.objects read.objects;
-    blocks = blocks_fit f.blocks (blocks_known f.blocks (blocks_small f.blocks read.few_items read.ids read.read.silent) read.form read.printable
-        read.sound.origins);
-  }
+  fits = record { objects = body.objects; blocks = blocks_fit f.blocks (blocks_known f.blocks body.blocks has_forms sound.origins) }
+
+pub bodies_are_printable : BodiesArePrintable
+bodies_are_printable inlined f body sound form framed = fits inlined f body sound form framed
+
+-- ---- the numbers of a function that was read have 32 bits
+
+number : (n : ℕ) → n ≤ MAX_NUMBER → IsNumber n
+number n small = omega (arith, small)
+
+module _ (meta : Maps) (f : Function) where
+  abbrev ReadItem : Item → Type 0
+  ReadItem = IsPrintable (declared_in meta f)
+
+  kind_known : (loc : Loc) (kind : ItemKind) → IsPrintableKind (declared_in meta f) loc kind → IsPrintableFramedKind (inlined_in meta) loc kind
+  kind_known loc (Code c k) is = (is.0.numbers, is.1)
+  kind_known loc (Mark v m) is = (record { node = is.0.node; inlined = is.0.inlined; part = is.0.part }, is.1)
+  kind_known loc (Phi p k) is = is
+
+  blocks_printable : (bs : List Block) → length (items_of bs) ≤ MAX_ITEMS → All (λ b. b.id ≤ MAX_NUMBER) bs → All (λ b. b.silent ≡ length b.items) bs →
+      AllItems ReadItem bs → All (IsPrintableBlock (inlined_in meta)) bs
+  blocks_printable [] few ids silent prints = All-nil (IsPrintableBlock (inlined_in meta))
+  blocks_printable (b ∷ bs) few ids silent prints =
+      let both = length-append b.items (items_of bs) in
+      let here = All-head (λ (x : Block). x.silent ≡ length x.items) b bs silent in
+      let items = All-head (λ (x : Block). All ReadItem x.items) b bs prints in
+      All-cons (IsPrintableBlock (inlined_in meta)) b bs
+      (record {
+        id = number b.id (All-head (λ (x : Block). x.id ≤ MAX_NUMBER) b bs ids);
+        silent = omega (arith, few, both, here);
+        kinds = All-weaker ReadItem (λ (i : Item). IsPrintableFramedKind (inlined_in meta) i.loc i.kind)
+            (λ i is. kind_known i.loc i.kind is.kind) b.items items;
+        locs = All-weaker ReadItem (λ (i : Item). IsPrintableLoc i.loc) (λ i is. is.loc) b.items items;
+      })
+      (blocks_printable bs (omega (arith, few, both)) (All-tail (λ (x : Block). x.id ≤ MAX_NUMBER) b bs ids)
+      (All-tail (λ (x : Block). x.silent ≡ length x.items) b bs silent) (All-tail (λ (x : Block). All ReadItem x.items) b bs prints))
+
+pub read_bodies : ReadFunctionsHavePrintableBodies
+read_bodies meta f read = record {
+  objects = All-weaker (λ (o : func.Object). o.id ≤ MAX_NUMBER) (λ (o : func.Object). IsNumber o.id) (λ o small. number o.id small) f.objects read.objects;
+  blocks = blocks_printable meta f f.blocks read.few_items read.ids read.read.silent read.printable;
+}
 
 pub printable : ReadFunctionsArePrintable
-printable meta f read framed = fits meta f read framed
+printable meta f read framed = bodies_are_printable (inlined_in meta) f (read_bodies meta f read) read.sound read.form framed

@@ -22,10 +22,16 @@ count_turn bs i b lt e =
 no_entries : (f : Function) → greatest_number f [] ≡ greatest (block_numbers f.blocks)
 no_entries f = ap greatest (append-nil (block_numbers f.blocks))
 
-pub room_numbers : (f : Function) → greatest (block_numbers f.blocks) < 2 ^ 29 → length (items_of f.blocks) < 2 ^ 30 →
+pub room_numbers : (f : Function) → greatest (block_numbers f.blocks) < 2 ^ 29 → length (items_of f.blocks) < 2 ^ 28 + 1 →
     greatest_number f [] + most_numbers 1 1 f < 2 ^ 31
 room_numbers f low few = let e = no_entries f in omega (arith, e, low, few)
 
-pub room_items : (f : Function) → greatest (block_numbers f.blocks) < 2 ^ 29 → length (items_of f.blocks) < 2 ^ 30 →
+pub room_items : (f : Function) → greatest (block_numbers f.blocks) < 2 ^ 29 → length (items_of f.blocks) < 2 ^ 28 + 1 →
     greatest_number f [] + item_count f + 1 < 2 ^ 31
 room_items f low few = let e = no_entries f in omega (arith, e, low, few)
+
+pub room_growing : (f : Function) → greatest (block_numbers f.blocks) < 2 ^ 29 → length (items_of f.blocks) < 2 ^ 28 + 1 →
+    greatest_number f [] + most_numbers 4 1 f < 2 ^ 31
+room_growing f low few = let e = no_entries f in omega (arith, e, low, few)
+
+pub ruleset rooms = (room_numbers, room_items, room_growing)

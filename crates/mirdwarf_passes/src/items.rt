@@ -11,6 +11,7 @@ use numbers::metadata::NodeId;
 use rv64_instr::instr::Instr;
 use rv64_instr::op::{ImmediateOp, LoadOp, Op, StoreOp};
 use rv64_instr::operand::{Operand, Operands};
+use rv64_instr::place::Place;
 use rv64_instr::reg::{Reg, physical};
 use std::alloc::Global;
 
@@ -27,7 +28,7 @@ pub fn read_at(kind: ItemKind, block: u32, item: u32) -> Item {
 }
 
 /// The register xN.
-fn register(n: u32) -> anyhow::Result<Reg> {
+pub fn register(n: u32) -> anyhow::Result<Reg> {
     physical(n).context("a register")
 }
 
@@ -87,18 +88,30 @@ pub fn return_of(alloc: Global) -> anyhow::Result<ItemKind> {
     code(Op::PseudoRet, Operands::new(alloc), None)
 }
 
-/// A mark of operand 0 of a number.
-pub fn mark(number: DebugNumber) -> ItemKind {
+/// A mark of this value.
+fn mark_of(value: MarkValue) -> ItemKind {
     let variable = VarId {
         node: NodeId(4),
         inlined_at: None,
         fragment: None,
     };
-    ItemKind::Mark(
-        variable,
-        MarkValue::Pair(OperandPair {
-            number,
-            operand: OperandIndex(0),
-        }),
-    )
+    ItemKind::Mark(variable, value)
+}
+
+/// A mark of operand 0 of a number.
+pub fn mark(number: DebugNumber) -> ItemKind {
+    mark_of(MarkValue::Pair(OperandPair {
+        number,
+        operand: OperandIndex(0),
+    }))
+}
+
+/// A mark of a register.
+pub fn register_mark(r: u32) -> anyhow::Result<ItemKind> {
+    Ok(mark_of(MarkValue::At(register(r)?)))
+}
+
+/// A phi of a register.
+pub fn register_phi(r: u32, number: DebugNumber) -> anyhow::Result<ItemKind> {
+    Ok(ItemKind::Phi(Some(Place::Register(register(r)?)), number))
 }

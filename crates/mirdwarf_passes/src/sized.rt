@@ -1,6 +1,6 @@
 //! Functions of a size: what instructions are counted of.
 
-use crate::items::{copy, load, mark, read_at, return_of, store, sum};
+use crate::items::{copy, load, mark, read_at, register_mark, register_phi, return_of, store, sum};
 use anyhow::bail;
 use lists::List;
 use mir_func::block::{Block, Blocks};
@@ -29,6 +29,8 @@ pub enum Kind {
     Copies,
     /// Copies of a constant, and stores and loads of it, with marks.
     Constants,
+    /// Sums of two registers that are spilled, with marks and phis of them and of a scratch register.
+    Registers,
 }
 
 /// The step of a name.
@@ -45,6 +47,7 @@ pub fn kind_named(name: &str) -> Option<Kind> {
     match name {
         "copies" => Some(Kind::Copies),
         "constants" => Some(Kind::Constants),
+        "registers" => Some(Kind::Registers),
         _ => None,
     }
 }
@@ -71,6 +74,7 @@ fn block(alloc: Global, kind: Kind, b: u32, items: u32, last: bool) -> anyhow::R
         let k = match kind {
             Kind::Copies => copies_item(alloc, n, number)?,
             Kind::Constants => constants_item(alloc, n, number)?,
+            Kind::Registers => registers_item(alloc, n, number)?,
         };
         list.push(read_at(k, b, n))?;
     }
@@ -111,5 +115,16 @@ fn constants_item(alloc: Global, n: u32, number: DebugNumber) -> anyhow::Result<
         2 => load(alloc, 11, slot, Some(number)),
         3 => Ok(mark(DebugNumber(number.number().saturating_sub(1)))),
         _ => copy(alloc, 12, 10, None),
+    }
+}
+
+/// Sums of x9 in x18 and of x18 in x9, a mark or a phi behind each, and marks of x5.
+fn registers_item(alloc: Global, n: u32, number: DebugNumber) -> anyhow::Result<ItemKind> {
+    match n % 5 {
+        0 => sum(alloc, 18, 9),
+        1 => register_mark(18),
+        2 => sum(alloc, 9, 18),
+        3 => register_phi(9, number),
+        _ => register_mark(5),
     }
 }

@@ -3,74 +3,84 @@ use Rattle.std.proofs.Common.{◌≡◌, ℕ, List}
 use Rattle.command_line.specs.declared.command.Command.TheVariants.{Compile}
 use Rattle.command_line.specs.Command.{words_of}
 use Rattle.compiled_text.specs.declared.output.Output.{Output}
+use Rattle.follow_law.specs.Steps.{Step}
 use Rattle.mir_parser.specs.declared.program.Program.{Program}
 use Rattle.output_promise.specs.Laws.{AreCompiledTo}
-use Rattle.output_promise.specs.Promise.{Promises, IsExact, AreLaidOut, ListsSources}
+use Rattle.output_promise.specs.Promise.{Promises, IsExact, AreLaidOut}
 use Rattle.output_promise.specs.Words.{HaveWords}
 use Rattle.output_promise.proofs.HaveWords.{compiled_has_words}
 use Rattle.output_promise.proofs.Headline.{compiled_promises}
 use Rattle.output_promise.proofs.IsExact.{compiled_is_exact}
-use Rattle.output_promise.proofs.LaidOut.{compiled_is_laid_out, compiled_lists_sources}
-use Rattle.program_compiler.specs.Program.{sources_of, names_of, HasSections}
-use Rattle.mirdwarf_tool.specs.Lines.{GivesLines}
+use Rattle.output_promise.proofs.LaidOut.{compiled_is_laid_out, compiled_lists_passed}
+use Rattle.function_emit.specs.Emitted.{names_of}
+use Rattle.program_compiler.specs.Program.{sources_of, IsOutputOf}
+use Rattle.pass_list.specs.declared.kind.PassKind.{PassKind}
+use Rattle.pass_loop.specs.Passes.{steps_of}
 use Rattle.mirdwarf_tool.specs.Promise.{AllGiveBack, AllStopWell, AllListKept}
 use Rattle.mirdwarf_tool.specs.Run.{Finishes, KeepsHeadline, KeepsRegisters, StopsAtReturns, WroteExactly, WroteLaidOut}
-use Rattle.mirdwarf_tool.specs.Run.{WroteKept, WroteSources, WroteWords, WroteSections, WroteRows}
+use Rattle.mirdwarf_tool.specs.Run.{WroteKept, WroteWords, ShowsPassed, WrotePassed}
 use Rattle.mirdwarf_tool.specs.Stream.{Change}
 use Rattle.mirdwarf_tool.proofs.Lines.{gives_lines}
 use Rattle.mirdwarf_tool.proofs.RunLemmas.{has_written}
-use Rattle.mirdwarf_tool.proofs.Sentences.{gives_back, stops_well, lists_kept}
+use Rattle.mirdwarf_tool.proofs.Sentences.{compiled_to, of_read, gives_back, stops_well, lists_kept}
 
-promised : (p : Program) (o : Output) → AreCompiledTo (names_of p.meta) (sources_of p.functions) o → Promises (sources_of p.functions) o
-promised p o to = compiled_promises (names_of p.meta) (sources_of p.functions) o to
+-- ---- an output of a program
 
-module _ (words : List (List ℕ)) (input output : Change) (finished : Finishes words input output) (asked : words ≡ words_of Compile) where
+module _ (steps : List Step) (p : Program) (o : Output) (is : IsOutputOf steps p o) where
+  to : AreCompiledTo (names_of p.meta) is.functions o
+  to = compiled_to steps p o is
+
+  promised : Promises (sources_of p.functions) o
+  promised = of_read (λ ss. Promises ss o) steps p o is (compiled_promises (names_of p.meta) is.functions o to)
+
+  exact : IsExact o
+  exact = compiled_is_exact (names_of p.meta) is.functions o to
+
+  laid_out : AreLaidOut (names_of p.meta) (sources_of p.functions) o
+  laid_out = of_read (λ ss. AreLaidOut (names_of p.meta) ss o) steps p o is (compiled_is_laid_out (names_of p.meta) is.functions o to)
+
+  shows_passed : ShowsPassed steps p o
+  shows_passed = record {
+    functions = is.functions;
+    passed = is.passed;
+    made = is.made;
+    lists = compiled_lists_passed (names_of p.meta) is.functions o to;
+    sections = is.sections;
+    rows = gives_lines p.meta is.functions o is.sections;
+  }
+
+-- ---- what was written
+
+module _ (words : List (List ℕ)) (input output : Change) (finished : Finishes words input output) (list : List PassKind)
+    (asked : words ≡ words_of (Compile list)) where
   pub headline_kept : KeepsHeadline input output
-  headline_kept =
-      has_written (λ p. Promises (sources_of p.functions))
-      (λ p o to sections. promised p o to) words input output finished asked
+  headline_kept = has_written list (λ p. Promises (sources_of p.functions)) (promised (steps_of list)) words input output finished asked
 
   pub registers_kept : KeepsRegisters input output
   registers_kept =
-      has_written (λ p. AllGiveBack (sources_of p.functions))
-      (λ p o to sections. gives_back (sources_of p.functions) o (promised p o to)) words input output finished asked
+      has_written list (λ p. AllGiveBack (sources_of p.functions))
+      (λ p o is. gives_back (sources_of p.functions) o (promised (steps_of list) p o is)) words input output finished asked
 
   pub stops_at_returns : StopsAtReturns input output
   stops_at_returns =
-      has_written (λ p. AllStopWell (sources_of p.functions))
-      (λ p o to sections. stops_well (sources_of p.functions) o (promised p o to)) words input output finished asked
+      has_written list (λ p. AllStopWell (sources_of p.functions))
+      (λ p o is. stops_well (sources_of p.functions) o (promised (steps_of list) p o is)) words input output finished asked
 
   pub wrote_exactly : WroteExactly input output
-  wrote_exactly =
-      has_written (λ p. IsExact)
-      (λ p o to sections. compiled_is_exact (names_of p.meta) (sources_of p.functions) o to) words input output finished asked
+  wrote_exactly = has_written list (λ p. IsExact) (exact (steps_of list)) words input output finished asked
 
   pub wrote_kept : WroteKept input output
   wrote_kept =
-      has_written (λ p. AllListKept)
-      (λ p o to sections. lists_kept o (compiled_is_exact (names_of p.meta) (sources_of p.functions) o to)) words input output finished asked
+      has_written list (λ p. AllListKept) (λ p o is. lists_kept o (exact (steps_of list) p o is)) words input output finished asked
 
   pub wrote_laid_out : WroteLaidOut input output
   wrote_laid_out =
-      has_written (λ p. AreLaidOut (names_of p.meta) (sources_of p.functions))
-      (λ p o to sections. compiled_is_laid_out (names_of p.meta) (sources_of p.functions) o to) words input output finished asked
-
-  pub wrote_sources : WroteSources input output
-  wrote_sources =
-      has_written (λ p. ListsSources (sources_of p.functions))
-      (λ p o to sections. compiled_lists_sources (names_of p.meta) (sources_of p.functions) o to) words input output finished asked
+      has_written list (λ p. AreLaidOut (names_of p.meta) (sources_of p.functions)) (laid_out (steps_of list)) words input output finished asked
 
   pub wrote_words : WroteWords input output
   wrote_words =
-      has_written (λ p. HaveWords)
-      (λ p o to sections. compiled_has_words (names_of p.meta) (sources_of p.functions) o to) words input output finished asked
+      has_written list (λ p. HaveWords) (λ p o is. compiled_has_words (names_of p.meta) is.functions o (to (steps_of list) p o is))
+      words input output finished asked
 
-  pub wrote_sections : WroteSections input output
-  wrote_sections =
-      has_written (HasSections)
-      (λ p o to sections. sections) words input output finished asked
-
-  pub wrote_rows : WroteRows input output
-  wrote_rows =
-      has_written GivesLines
-      (λ p o to sections. gives_lines p o sections) words input output finished asked
+  pub wrote_passed : WrotePassed (steps_of list) input output
+  wrote_passed = has_written list (ShowsPassed (steps_of list)) (shows_passed (steps_of list)) words input output finished asked

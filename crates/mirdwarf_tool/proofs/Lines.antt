@@ -11,7 +11,8 @@ use Rattle.frame_rule.specs.Rule.{framed_of}
 use Rattle.line_laws.proofs.Tables.{tables_give_lines, nothing_outside}
 use Rattle.line_laws.specs.Laws.{LieFrom}
 use Rattle.mir_func.specs.Function.{Function, FramedFunction}
-use Rattle.mir_parser.specs.declared.program.Program.{Program}
+use Rattle.meta_reader.specs.Maps.{Maps}
+use Rattle.output_promise.specs.Source.{PassedFunction}
 use Rattle.program_compiler.specs.Program.{AreCoded, HasSections}
 use Rattle.source_lines.specs.declared.compiled.Compiled.{Compiled}
 use Rattle.mirdwarf_tool.specs.Lines.{GivesLines}
@@ -39,13 +40,13 @@ lie base (f ∷ fs) (c ∷ cs) coded =
       lie (c.code.now.base + 4 * length c.code.now.words) fs cs more,
     )
 
-pub gives_lines : (program : Program) (o : Output) → HasSections program o → GivesLines program o
-gives_lines program o has =
-    let from = lie 0 (map (λ p. p.func) program.functions) has.compiled has.coded.coded in
+pub gives_lines : (meta : Maps) (functions : List PassedFunction) (o : Output) → HasSections meta functions o → GivesLines meta functions o
+gives_lines meta functions o has =
+    let from = lie 0 (map (λ p. p.function) functions) has.compiled has.coded.coded in
     record {
       compiled = has.compiled;
       coded = has.coded;
       rows = has.rows;
-      lines = tables_give_lines program.meta has.compiled 0 from;
-      outside = nothing_outside program.meta has.compiled 0 from;
+      lines = tables_give_lines meta has.compiled 0 from;
+      outside = nothing_outside meta has.compiled 0 from;
     }

@@ -1,11 +1,12 @@
 -- Why a run ended as it did.
 use Rattle.std.specs.Prelude.{◌⊎◌, Option, Some}
-use Rattle.std.proofs.Common.{◌≡◌, ℕ, List, [], ◌∷◌, ◌+◌, ap, sym, ◌∙◌, refl, subst, inr, arith}
+use Rattle.std.proofs.Common.{◌≡◌, ℕ, List, ◌+◌, ap, sym, ◌∙◌, refl, subst, inr, arith}
 use Rattle.io_edge.specs.Told.{Takes, TakesCount}
 use Rattle.io_edge.proofs.ToldLemmas.{Takes-told, TakesCount-told}
 use Rattle.command_line.specs.declared.command.Command.{Command}
-use Rattle.command_line.specs.declared.command.Command.TheVariants.{Compile, Listing, Strip}
-use Rattle.command_line.specs.Command.{words_of}
+use Rattle.command_line.specs.declared.command.Command.TheVariants.{Compile}
+use Rattle.command_line.specs.Command.{words_of, IsCommand}
+use Rattle.command_line.proofs.Words.{one_command}
 use Rattle.command_line.specs.declared.fault.Fault.{Fault}
 use Rattle.command_line.specs.declared.fault.Fault.TheVariants.{Usage, Read, TooLong, Refused, NoFunction, FrameTooLarge, SectionTooLarge, Write, Memory}
 use Rattle.command_line.specs.declared.status.Status.TheVariants as status
@@ -13,8 +14,9 @@ use Rattle.command_line.specs.Fault.{status_of, line_of}
 use Rattle.mir_parser.specs.declared.program.Program.{Program}
 use Rattle.compiled_text.specs.declared.output.Output.{Output}
 use Rattle.output_laws.proofs.Functions.{printable}
-use Rattle.output_promise.specs.Laws.{AreCompiledTo}
-use Rattle.program_compiler.specs.Program.{sources_of, names_of, HasSections}
+use Rattle.pass_list.specs.declared.kind.PassKind.{PassKind}
+use Rattle.pass_loop.specs.Passes.{steps_of}
+use Rattle.program_compiler.specs.Program.{IsOutputOf}
 use Rattle.reading_laws.proofs.Texts.{programs_are_as_read}
 use Rattle.mirdwarf_tool.specs.Limits.{INPUT_LIMIT}
 use Rattle.mirdwarf_tool.specs.Compiled.{IsCompiledText}
@@ -23,43 +25,24 @@ use Rattle.mirdwarf_tool.specs.Run.{Finishes, HasWritten, Explains, IsTooLong}
 use Rattle.mirdwarf_tool.specs.Run.{Refuses, RefusesRead, ReadingEnded, TellsRefusal, IsAnswerable, HasRead}
 use Rattle.mirdwarf_tool.specs.Stream.{Change, MetFault, IsReadWhole, IsWrittenWhole, IsTold}
 use Rattle.mirdwarf_tool.proofs.OneProgram.{program_not_refused, programs_one}
-use Rattle.mirdwarf_tool.proofs.Sentences.{compiled_to, of_shown}
-
--- ---- the words
-
--- the first byte of the first word
-abbrev first_byte : List (List ℕ) → ℕ
-first_byte [] = 0
-first_byte ([] ∷ words) = 0
-first_byte ((b ∷ word) ∷ words) = b
-
--- the command of words
-one_command : (a b : Command) → words_of a ≡ words_of b → a ≡ b
-one_command Compile Compile e = refl
-one_command Compile Listing e = absurd (let no : 99 ≡ 108 = ap first_byte e in omega (arith, no))
-one_command Compile Strip e = cc
-one_command Listing Compile e = absurd (let no : 108 ≡ 99 = ap first_byte e in omega (arith, no))
-one_command Listing Listing e = refl
-one_command Listing Strip e = absurd (let no : 108 ≡ 115 = ap first_byte e in omega (arith, no))
-one_command Strip Compile e = cc
-one_command Strip Listing e = absurd (let no : 115 ≡ 108 = ap first_byte e in omega (arith, no))
-one_command Strip Strip e = refl
+use Rattle.mirdwarf_tool.proofs.Sentences.{of_shown}
 
 -- ---- what is compiled
 
 -- what was read and written by the command that compiles
-record Compiled (input output : Change) : Type 0 where
+record Compiled (list : List PassKind) (input output : Change) : Type 0 where
   text : List ℕ
   read : HasRead input text
   program : Program
   has : HasFunctions text program
   bytes : List ℕ
-  compiles : IsCompiledText program bytes
+  compiles : IsCompiledText (steps_of list) program bytes
   written : IsWrittenWhole output bytes
 
-compiled : (words : List (List ℕ)) (input output : Change) → Finishes words input output → words ≡ words_of Compile → Compiled input output
-compiled words input output is asked =
-    let command : is.accepted.command ≡ Compile = one_command is.accepted.command Compile (sym is.accepted.asked ∙ asked) in
+compiled : (list : List PassKind) (words : List (List ℕ)) (input output : Change) → Finishes words input output → words ≡ words_of (Compile list) →
+    Compiled list input output
+compiled list words input output is asked =
+    let command : is.accepted.command ≡ Compile list = one_command is.accepted.command (Compile list) (sym is.accepted.asked.0 ∙ asked) in
     let answers = is.accepted.answers.answers in
     record {
       text = is.accepted.answers.text;
@@ -72,11 +55,11 @@ compiled words input output is asked =
     }
 
 -- what holds of each output that is a compilation of a program that was read holds of what was written
-pub has_written : (P : Program → Output → Type 0) →
-    ((program : Program) (o : Output) → AreCompiledTo (names_of program.meta) (sources_of program.functions) o → HasSections program o → P program o) →
-    (words : List (List ℕ)) (input output : Change) → Finishes words input output → words ≡ words_of Compile → HasWritten P input output
-has_written P holds words input output finished asked =
-    let is = compiled words input output finished asked in
+pub has_written : (list : List PassKind) (P : Program → Output → Type 0) →
+    ((program : Program) (o : Output) → IsOutputOf (steps_of list) program o → P program o) →
+    (words : List (List ℕ)) (input output : Change) → Finishes words input output → words ≡ words_of (Compile list) → HasWritten P input output
+has_written list P holds words input output finished asked =
+    let is = compiled list words input output finished asked in
     let read = programs_are_as_read is.text is.program is.has.reads in
     record {
       text = is.text;
@@ -85,8 +68,8 @@ has_written P holds words input output finished asked =
       has = is.has;
       bytes = is.bytes;
       written = is.written;
-      shown = of_shown printable is.program is.bytes read is.compiles (P is.program)
-          (holds is.program is.compiles.output (compiled_to is.program is.compiles.output read is.compiles.is) is.compiles.is.sections);
+      shown = of_shown printable (steps_of list) is.program is.bytes read is.compiles (P is.program)
+          (holds is.program is.compiles.output is.compiles.is);
     }
 
 -- ---- the fault by the status
@@ -207,15 +190,15 @@ not_too_long command input form long =
     let P : Option (List ℕ) → Type 0 = λ b. TakesCount b input.after.bytes (INPUT_LIMIT + 1) in
     omega (arith, form.within, TakesCount-told form.text input.after.bytes (INPUT_LIMIT + 1) (subst P form.told long))
 
-not_refused : (command : Command) (words : List (List ℕ)) (input : Change) (fault : Fault) → words ≡ words_of command →
+not_refused : (command : Command) (words : List (List ℕ)) (input : Change) (fault : Fault) → IsCommand words command →
     IsAnswerable command input.before.bytes → (ended : ReadingEnded words input fault) → RefusesRead ended.command input fault → fault ≡ Memory
 not_refused command words input fault asked form ended refused =
-    let same : ended.command ≡ command = one_command ended.command command (sym ended.asked ∙ asked) in
+    let same : ended.command ≡ command = one_command ended.command command (sym ended.asked.0 ∙ asked.0) in
     let text : refused.text ≡ form.text = read_told input refused.text form.text refused.read.whole form.told in
     answered_or_memory command form.text form.program fault form.has form.answered
     (subst (λ (t : List ℕ). RefusesText command t fault) text (subst (λ (c : Command). RefusesText c refused.text fault) same refused.refused))
 
-pub complete : (command : Command) (words : List (List ℕ)) (input output : Change) (fault : Fault) → words ≡ words_of command →
+pub complete : (command : Command) (words : List (List ℕ)) (input output : Change) (fault : Fault) → IsCommand words command →
     IsAnswerable command input.before.bytes → (MetFault input → ⊥) → (MetFault output → ⊥) → Explains words input output fault →
     (status_of fault ≡ status.Done) ⊎ (status_of fault ≡ status.Memory)
 complete command words input output Usage asked form no_read no_write explains = absurd (explains (command, asked))

@@ -1,46 +1,43 @@
 -- The text of a program's output shows it alone, so what holds of the output holds of what the text shows.
-use Rattle.std.proofs.Common.{ℕ, List, All, subst, inl, inr}
-use Rattle.std.proofs.lemmas.List.Elements.{All-map, All-weaker}
+use Rattle.std.proofs.Common.{ℕ, List, sym, subst, inl, inr}
+use Rattle.std.proofs.lemmas.List.Elements.{All-weaker}
 use Rattle.compiled_text.specs.declared.output.ListedFunction.{ListedFunction}
 use Rattle.compiled_text.specs.declared.output.Output.{Output}
 use Rattle.compiled_text.specs.Shown.{Shows, OfShown}
 use Rattle.compiled_text.proofs.OneOutput.{one_reading}
+use Rattle.follow_law.specs.Steps.{Step}
 use Rattle.kept_values.proofs.Keeping.{kept_values_are_wanted}
 use Rattle.listing_laws.specs.Laws.{inlined_in}
-use Rattle.meta_reader.specs.Maps.{Maps}
-use Rattle.mir_parser.specs.declared.closing.Parsed.{Parsed}
 use Rattle.mir_parser.specs.declared.program.Program.{Program}
 use Rattle.output_laws.specs.Laws.{OutputsArePrintable}
 use Rattle.output_promise.specs.Laws.{AreCompiledTo}
 use Rattle.output_promise.specs.Promise.{Promises, IsExactFor, IsExact}
-use Rattle.output_promise.specs.Source.{SourceFunction, IsSourceFunction}
+use Rattle.output_promise.specs.Source.{SourceFunction, sources_among}
 use Rattle.shown_program.specs.Program.{program_shown}
-use Rattle.program_compiler.specs.Program.{source_of, sources_of, names_of}
-use Rattle.reading_laws.specs.Read.{IsReadFunction, IsReadProgram}
-use Rattle.mirdwarf_tool.specs.Compiled.{IsOutputOf, IsCompiledText}
+use Rattle.function_emit.specs.Emitted.{names_of}
+use Rattle.program_compiler.specs.Program.{sources_of, IsOutputOf}
+use Rattle.program_compiler.proofs.Passed.{all_passed, passed_sources}
+use Rattle.reading_laws.specs.Read.{IsReadProgram}
+use Rattle.mirdwarf_tool.specs.Compiled.{IsCompiledText}
 use Rattle.mirdwarf_tool.specs.Promise.{AllGiveBack, AllStopWell, ListsKept, AllListKept}
 
 -- ---- the sources
 
-source_read : (meta : Maps) (p : Parsed) → IsReadFunction meta p.func → IsSourceFunction (source_of p)
-source_read meta p read = record { read = read.read; form = read.form; physical = read.physical; sound = read.sound }
+pub compiled_to : (steps : List Step) (program : Program) (o : Output) (is : IsOutputOf steps program o) → AreCompiledTo (names_of program.meta) is.functions o
+compiled_to steps program o is =
+    record { passed = all_passed program.meta program.functions is.functions is.passed; compiled = is.compiled }
 
-sources_read : (program : Program) → IsReadProgram program → All IsSourceFunction (sources_of program.functions)
-sources_read program read =
-    let each : All (λ p. IsSourceFunction (source_of p)) program.functions =
-    All-weaker (λ (p : Parsed). IsReadFunction program.meta p.func) (λ p. IsSourceFunction (source_of p)) (source_read program.meta)
-    program.functions read.functions in
-    All-map IsSourceFunction source_of program.functions each
-
-pub compiled_to : (program : Program) (o : Output) → IsReadProgram program → IsOutputOf program o →
-    AreCompiledTo (names_of program.meta) (sources_of program.functions) o
-compiled_to program o read is = record { read = sources_read program read; compiled = is.compiled }
+-- what holds of the sources of what passes made holds of the functions that were read
+pub of_read : (P : List SourceFunction → Type 0) (steps : List Step) (program : Program) (o : Output) (is : IsOutputOf steps program o) →
+    P (sources_among is.functions) → P (sources_of program.functions)
+of_read P steps program o is holds = subst P (sym (passed_sources program.meta program.functions is.functions is.passed)) holds
 
 -- ---- what the text shows
 
-module _ (printable : OutputsArePrintable) (program : Program) (text : List ℕ) (read : IsReadProgram program) (is : IsCompiledText program text) where
+module _ (printable : OutputsArePrintable) (steps : List Step) (program : Program) (text : List ℕ) (read : IsReadProgram program)
+    (is : IsCompiledText steps program text) where
   shows : Shows (inlined_in program.meta) text is.output
-  shows = record { spelled = is.spelled; printable = printable program is.output read is.is.compiled is.is.sections }
+  shows = record { spelled = is.spelled; printable = printable program is.is.functions is.output read is.is.passed is.is.compiled is.is.sections }
 
   pub of_shown : (P : Output → Type 0) → P is.output → OfShown (inlined_in program.meta) P text
   of_shown P holds = record {

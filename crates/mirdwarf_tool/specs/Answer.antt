@@ -1,9 +1,11 @@
 -- What a command writes of a text, or why it refuses it.
-use Rattle.std.specs.Prelude.{◌≡◌, ◌≢◌, ℕ, Bool, true, false, List, [], Ok, Err}
+use Rattle.std.specs.Prelude.{◌≡◌, ◌≢◌, ℕ, List, [], Ok, Err}
+use Rattle.follow_law.specs.Steps.{Step}
 use Rattle.refusal.specs.declared.first.Refusal.{Refusal}
 use Rattle.mir_parser.specs.declared.program.Program.{Program}
 use Rattle.mir_parser.specs.declared.error.ParseError.TheVariants as errors
 use Rattle.mir_parser.specs.Program.{ReadsText}
+use Rattle.pass_loop.specs.Passes.{steps_of}
 use Rattle.program_compiler.specs.Program.{HasLargeFrame, HasLargeSection}
 use Rattle.strip_text.specs.StripText.{stripped_text}
 use Rattle.command_line.specs.declared.command.Command.{Command}
@@ -19,25 +21,26 @@ pub record HasFunctions (text : List ℕ) (program : Program) : Type 0 where
 
 -- what a command writes of a program
 abbrev pub Answers : Command → Program → (output : List ℕ) → Type 0
-Answers Compile program output = IsCompiledText program output
-Answers Listing program output = IsListingText program output
+Answers (Compile list) program output = IsCompiledText (steps_of list) program output
+Answers (Listing list) program output = IsListingText (steps_of list) program output
 Answers Strip program output = output ≡ stripped_text program.functions
 
--- the commands that compile
-abbrev pub is_compiling : Command → Bool
-is_compiling Compile = true
-is_compiling Listing = true
-is_compiling Strip = false
+-- the program is too large for a command: what a command that compiles makes of it has a frame above the limit
+abbrev pub HasFrameTooLarge : Command → Program → Type 0
+HasFrameTooLarge (Compile list) program = HasLargeFrame (steps_of list) program.functions
+HasFrameTooLarge (Listing list) program = HasLargeFrame (steps_of list) program.functions
+HasFrameTooLarge Strip program = ⊥
 
--- the program is too large for a command that compiles: it has a frame or a section above the limit
-pub record IsTooLargeFor (command : Command) (large : Type 0) : Type 0 where
-  pub compiles : is_compiling command ≡ true
-  pub is : large
+-- or a section
+abbrev pub HasSectionTooLarge : Command → Program → Type 0
+HasSectionTooLarge (Compile list) program = HasLargeSection (steps_of list) program
+HasSectionTooLarge (Listing list) program = HasLargeSection (steps_of list) program
+HasSectionTooLarge Strip program = ⊥
 
 -- the programs of which a command writes something
 pub record IsAnswered (command : Command) (program : Program) : Type 0 where
-  pub frames : IsTooLargeFor command (HasLargeFrame program.functions) → ⊥
-  pub sections : IsTooLargeFor command (HasLargeSection program) → ⊥
+  pub frames : HasFrameTooLarge command program → ⊥
+  pub sections : HasSectionTooLarge command program → ⊥
 
 -- a text stands for a program without a function
 pub record HasNoFunction (text : List ℕ) : Type 0 where
@@ -67,22 +70,22 @@ RefusesProgram text Read = ⊥
 RefusesProgram text TooLong = ⊥
 RefusesProgram text Write = ⊥
 
--- why a program has no output
-abbrev pub RefusesToCompile : Program → Fault → Type 0
-RefusesToCompile program FrameTooLarge = HasLargeFrame program.functions
-RefusesToCompile program SectionTooLarge = HasLargeSection program
-RefusesToCompile program Memory = Unit {0}
-RefusesToCompile program (Refused r) = ⊥
-RefusesToCompile program NoFunction = ⊥
-RefusesToCompile program Usage = ⊥
-RefusesToCompile program Read = ⊥
-RefusesToCompile program TooLong = ⊥
-RefusesToCompile program Write = ⊥
+-- why a program has no output after steps of passes
+abbrev pub RefusesToCompile : List Step → Program → Fault → Type 0
+RefusesToCompile steps program FrameTooLarge = HasLargeFrame steps program.functions
+RefusesToCompile steps program SectionTooLarge = HasLargeSection steps program
+RefusesToCompile steps program Memory = Unit {0}
+RefusesToCompile steps program (Refused r) = ⊥
+RefusesToCompile steps program NoFunction = ⊥
+RefusesToCompile steps program Usage = ⊥
+RefusesToCompile steps program Read = ⊥
+RefusesToCompile steps program TooLong = ⊥
+RefusesToCompile steps program Write = ⊥
 
 -- why a command writes nothing of a program
 abbrev pub RefusesToWrite : Command → Program → Fault → Type 0
-RefusesToWrite command program FrameTooLarge = IsTooLargeFor command (HasLargeFrame program.functions)
-RefusesToWrite command program SectionTooLarge = IsTooLargeFor command (HasLargeSection program)
+RefusesToWrite command program FrameTooLarge = HasFrameTooLarge command program
+RefusesToWrite command program SectionTooLarge = HasSectionTooLarge command program
 RefusesToWrite command program Memory = Unit {0}
 RefusesToWrite command program (Refused r) = ⊥
 RefusesToWrite command program NoFunction = ⊥

@@ -2,23 +2,18 @@
 use Rattle.std.specs.Prelude.{◌≡◌, ℕ, List}
 use Rattle.compiled_text.specs.declared.output.Output.{Output}
 use Rattle.compiled_text.specs.Output.{spelling, listing_text}
+use Rattle.follow_law.specs.Steps.{Step}
 use Rattle.mir_parser.specs.declared.program.Program.{Program}
-use Rattle.output_promise.specs.Compiled.{IsCompiledProgram}
-use Rattle.program_compiler.specs.Program.{sources_of, names_of, HasSections}
+use Rattle.program_compiler.specs.Program.{IsOutputOf}
 
--- an output that is a compilation of a program's functions, with all its sections
-pub record IsOutputOf (program : Program) (o : Output) : Type 0 where
-  pub compiled : IsCompiledProgram (names_of program.meta) (sources_of program.functions) o
-  pub sections : HasSections program o
-
--- the text is that of such an output
-pub record IsCompiledText (program : Program) (text : List ℕ) : Type 0 where
+-- the text is that of an output of a program after steps of passes
+pub record IsCompiledText (steps : List Step) (program : Program) (text : List ℕ) : Type 0 where
   pub output : Output
-  pub is : IsOutputOf program output
+  pub is : IsOutputOf steps program output
   pub spelled : text ≡ spelling output
 
 -- the text is that of the functions of such an output
-pub record IsListingText (program : Program) (text : List ℕ) : Type 0 where
+pub record IsListingText (steps : List Step) (program : Program) (text : List ℕ) : Type 0 where
   pub output : Output
-  pub is : IsOutputOf program output
+  pub is : IsOutputOf steps program output
   pub spelled : text ≡ listing_text output.functions

@@ -1,26 +1,30 @@
 -- What a run of the command did to its input, its output and its faults.
-use Rattle.std.specs.Prelude.{◌≡◌, ℕ, ◌+◌, ◌≤◌, List, length, Option, Some}
+use Rattle.std.specs.Prelude.{◌≡◌, ℕ, ◌+◌, ◌≤◌, List, length, All, Option, Some}
 use Rattle.compiled_text.specs.declared.output.Output.{Output}
+use Rattle.follow_law.specs.Steps.{Step}
 use Rattle.compiled_text.specs.Shown.{OfShown}
 use Rattle.listing_laws.specs.Laws.{inlined_in}
 use Rattle.mir_parser.specs.declared.program.Program.{Program}
 use Rattle.command_line.specs.declared.command.Command.{Command}
 use Rattle.command_line.specs.declared.fault.Fault.{Fault}
 use Rattle.command_line.specs.declared.fault.Fault.TheVariants.{Usage, Read, TooLong, Refused, NoFunction, FrameTooLarge, SectionTooLarge, Write, Memory}
-use Rattle.command_line.specs.Command.{words_of}
+use Rattle.command_line.specs.Command.{IsCommand}
 use Rattle.command_line.specs.Fault.{line_of}
 use Rattle.mirdwarf_tool.specs.Limits.{INPUT_LIMIT}
 use Rattle.mirdwarf_tool.specs.Answer.{HasFunctions, AnswersText, IsAnswered, RefusesText}
-use Rattle.output_promise.specs.Promise.{AreLaidOut, Promises, IsExact, ListsSources}
+use Rattle.output_promise.specs.Promise.{AreLaidOut, Promises, IsExact, ListsPassed}
+use Rattle.output_promise.specs.Source.{PassedFunction}
 use Rattle.output_promise.specs.Words.{HaveWords}
-use Rattle.program_compiler.specs.Program.{sources_of, names_of, HasSections}
+use Rattle.function_emit.specs.Emitted.{names_of}
+use Rattle.function_passes.specs.Passed.{IsMadeBy}
+use Rattle.program_compiler.specs.Program.{sources_of, ArePassed, HasSections}
 use Rattle.mirdwarf_tool.specs.Lines.{GivesLines}
 use Rattle.mirdwarf_tool.specs.Promise.{AllGiveBack, AllStopWell, AllListKept}
 use Rattle.mirdwarf_tool.specs.Stream.{Change, MetFault, IsReadWhole, IsReadFor, IsWrittenWhole, IsWrittenInPart, IsTold}
 
 -- the words are those of a command
 abbrev pub AreCommand : (words : List (List ℕ)) → Type 0
-AreCommand words = (command : Command) × (words ≡ words_of command)
+AreCommand words = (command : Command) × IsCommand words command
 
 -- the input was read to its end, and these were its bytes
 pub record HasRead (input : Change) (text : List ℕ) : Type 0 where
@@ -36,7 +40,7 @@ pub record AnswersInput (command : Command) (input : Change) (output : List ℕ)
 -- the words are a command's, and this is what it writes of the text that was read
 pub record Accepts (words : List (List ℕ)) (input : Change) (output : List ℕ) : Type 0 where
   pub command : Command
-  pub asked : words ≡ words_of command
+  pub asked : IsCommand words command
   pub answers : AnswersInput command input output
 
 -- all that is to be written was written, and no fault was met
@@ -76,7 +80,7 @@ Refuses command input Memory = ⊥
 -- the words are a command's, the input is refused, and the line that stands on the faults says how
 pub record TellsRefusal (words : List (List ℕ)) (input faults : Change) : Type 0 where
   pub command : Command
-  pub asked : words ≡ words_of command
+  pub asked : IsCommand words command
   pub fault : Fault
   pub refused : Refuses command input fault
   pub told : IsTold faults (line_of fault)
@@ -128,21 +132,23 @@ WroteKept input output = HasWritten (λ p. AllListKept) input output
 abbrev pub WroteLaidOut : (input output : Change) → Type 0
 WroteLaidOut input output = HasWritten (λ p. AreLaidOut (names_of p.meta) (sources_of p.functions)) input output
 
--- the lines show the functions that were read, each with its frame, and their substitutions
-abbrev pub WroteSources : (input output : Change) → Type 0
-WroteSources input output = HasWritten (λ p. ListsSources (sources_of p.functions)) input output
-
 -- the bytes of its instruction stand at each line that has an address
 abbrev pub WroteWords : (input output : Change) → Type 0
 WroteWords input output = HasWritten (λ p. HaveWords) input output
 
--- the sections of entries and of lines are those of the program's unit and of its line number table, by the standard's one spelling
-abbrev pub WroteSections : (input output : Change) → Type 0
-WroteSections input output = HasWritten HasSections input output
+-- Steps of passes made of each function that was read the one whose code is written, which follows it. The lines show these functions, each with
+-- its frame, and their substitutions. The sections of entries and of lines are those of the program's unit and of its line number table, by the
+-- standard's one spelling; and the section of lines gives each byte of machine code its line of the source, and no other address one.
+pub record ShowsPassed (steps : List Step) (p : Program) (o : Output) : Type 0 where
+  pub functions : List PassedFunction
+  pub passed : ArePassed p.meta p.functions functions
+  pub made : All (IsMadeBy steps) functions
+  pub lists : ListsPassed functions o
+  pub sections : HasSections p.meta functions o
+  pub rows : GivesLines p.meta functions o
 
--- the section of lines gives each byte of machine code its line of the source, and no other address one
-abbrev pub WroteRows : (input output : Change) → Type 0
-WroteRows input output = HasWritten GivesLines input output
+abbrev pub WrotePassed : List Step → (input output : Change) → Type 0
+WrotePassed steps input output = HasWritten (ShowsPassed steps) input output
 
 -- why an input gave nothing to write
 abbrev pub ReadingEnds : Command → (input : Change) → Fault → Type 0
@@ -159,7 +165,7 @@ ReadingEnds command input Write = ⊥
 -- a command was asked for, and its input gave nothing to write
 pub record ReadingEnded (words : List (List ℕ)) (input : Change) (fault : Fault) : Type 0 where
   pub command : Command
-  pub asked : words ≡ words_of command
+  pub asked : IsCommand words command
   pub ended : ReadingEnds command input fault
 
 -- why a run ended in a fault

@@ -1,6 +1,6 @@
 //! What a command writes of a text.
 
-ghost use Rattle.std.specs.Prelude.{◌≡◌, ◌^◌, ◌<◌, length, Ok, IfOk, IfErr};
+ghost use Rattle.std.specs.Prelude.{◌^◌, ◌<◌, length, Ok, IfOk, IfErr};
 ghost use Rattle.mirdwarf_tool.specs.Answer.{Answers, AnswersText};
 ghost use Rattle.mirdwarf_tool.specs.Answer.{RefusesText, RefusesProgram, RefusesToWrite};
 ghost use Rattle.mir_parser.specs.Program.{ReadsText};
@@ -48,8 +48,8 @@ fn written(alloc: Global, command: Command, program: &Program) -> Result<Text, F
     ensures err { IfErr result (RefusesToWrite command program.now) }
 {
     match command {
-        Command::Compile => compiled_text(alloc, program),
-        Command::Listing => listing_text(alloc, program),
+        Command::Compile(list) => compiled_text(alloc, program, &list),
+        Command::Listing(list) => listing_text(alloc, program, &list),
         Command::Strip => Ok(strip_text(alloc, program.functions.as_slice())?),
     }
 }

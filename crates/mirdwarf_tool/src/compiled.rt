@@ -1,8 +1,10 @@
 //! What is written of a program by the commands that compile.
 
-ghost use Rattle.std.specs.Prelude.{◌≡◌, IfOk, IfErr};
+ghost use Rattle.std.specs.Prelude.{IfOk, IfErr};
 ghost use Rattle.mirdwarf_tool.specs.Answer.{RefusesToCompile};
-ghost use Rattle.mirdwarf_tool.specs.Compiled.{IsOutputOf, IsCompiledText, IsListingText};
+ghost use Rattle.mirdwarf_tool.specs.Compiled.{IsCompiledText, IsListingText};
+ghost use Rattle.pass_loop.specs.Passes.{steps_of};
+ghost use Rattle.program_compiler.specs.Program.{IsOutputOf};
 ghost use Rattle.reading_laws.specs.Read.{IsReadProgram};
 
 use command_line::fault::Fault;
@@ -10,36 +12,37 @@ use compiled_text::output::Output;
 use compiled_text::print::{print_listing, print_output};
 use mir_parser::program::Program;
 use mir_printer::text::Text;
+use pass_list::list::PassList;
 use program_compiler::compile::{CompileError, compile};
 use std::alloc::Global;
 
-/// The sections and the listing of a program.
-pub fn compiled_text(alloc: Global, program: &Program) -> Result<Text, Fault>
+/// The sections and the listing of a program after passes.
+pub fn compiled_text(alloc: Global, program: &Program, list: &PassList) -> Result<Text, Fault>
     requires { IsReadProgram program.now }
-    ensures ok { IfOk result (IsCompiledText program.now) }
-    ensures err { IfErr result (RefusesToCompile program.now) }
+    ensures ok { IfOk result (IsCompiledText (steps_of list.now) program.now) }
+    ensures err { IfErr result (RefusesToCompile (steps_of list.now) program.now) }
 {
-    let output = output(alloc, program)?;
+    let output = output(alloc, program, list)?;
     Ok(print_output(alloc, &output)?)
 }
 
-/// The listing of a program alone.
-pub fn listing_text(alloc: Global, program: &Program) -> Result<Text, Fault>
+/// The listing of a program alone after passes.
+pub fn listing_text(alloc: Global, program: &Program, list: &PassList) -> Result<Text, Fault>
     requires { IsReadProgram program.now }
-    ensures ok { IfOk result (IsListingText program.now) }
-    ensures err { IfErr result (RefusesToCompile program.now) }
+    ensures ok { IfOk result (IsListingText (steps_of list.now) program.now) }
+    ensures err { IfErr result (RefusesToCompile (steps_of list.now) program.now) }
 {
-    let output = output(alloc, program)?;
+    let output = output(alloc, program, list)?;
     Ok(print_listing(alloc, output.functions.as_slice())?)
 }
 
-/// The output of a program.
-fn output(alloc: Global, program: &Program) -> Result<Output, Fault>
+/// The output of a program after passes.
+fn output(alloc: Global, program: &Program, list: &PassList) -> Result<Output, Fault>
     requires { IsReadProgram program.now }
-    ensures ok { IfOk result (IsOutputOf program.now) }
-    ensures err { IfErr result (RefusesToCompile program.now) }
+    ensures ok { IfOk result (IsOutputOf (steps_of list.now) program.now) }
+    ensures err { IfErr result (RefusesToCompile (steps_of list.now) program.now) }
 {
-    match compile(alloc, program) {
+    match compile(alloc, program, list.as_slice()) {
         Ok(output) => Ok(output),
         Err(CompileError::FrameTooLarge) => Err(Fault::FrameTooLarge),
         Err(CompileError::SectionTooLarge) => Err(Fault::SectionTooLarge),

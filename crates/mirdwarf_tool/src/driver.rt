@@ -1,11 +1,13 @@
 //! The run of a command.
 
-ghost use Rattle.std.specs.Prelude.{◌≡◌, ◌≢◌, ◌≤◌, ◌↔◌, ◌⊎◌, IfOk, OnOk, IfErr, IsErrOf, map, string_bytes};
-ghost use Rattle.command_line.specs.Command.{words_of};
+ghost use Rattle.std.specs.Prelude.{◌≡◌, ◌≢◌, ◌≤◌, ◌↔◌, ◌⊎◌, IfOk, OnOk, IfErr, IsErrOf, List, map, string_bytes};
+ghost use Rattle.command_line.specs.Command.{words_of, IsCommand};
+ghost use Rattle.pass_list.specs.declared.kind.PassKind.{PassKind};
+ghost use Rattle.pass_loop.specs.Passes.{steps_of};
 ghost use Rattle.command_line.specs.Fault.{line_of};
 ghost use Rattle.mirdwarf_tool.specs.Run.{AreCommand, AnswersInput, Finishes, IsCutOff, TellsRefusal, IsAnswerable};
 ghost use Rattle.mirdwarf_tool.specs.Run.{KeepsHeadline, KeepsRegisters, StopsAtReturns, WroteExactly, WroteLaidOut};
-ghost use Rattle.mirdwarf_tool.specs.Run.{WroteKept, WroteSources, WroteWords, WroteSections, WroteRows};
+ghost use Rattle.mirdwarf_tool.specs.Run.{WroteKept, WroteWords, WrotePassed};
 ghost use Rattle.mirdwarf_tool.specs.Run.{Explains, ReadingEnds};
 ghost use Rattle.mirdwarf_tool.specs.Stream.{change, MetFault, IsTold};
 
@@ -25,8 +27,9 @@ use std::alloc::Global;
 pub const LIMIT: usize = 16_777_216;
 
 /// Runs the command that the words are: reads the input to its end, and writes what the command asks for of the
-/// functions that the text stands for. `compile --passes=none` writes their sections and their listing, `listing
-/// --passes=none` the listing alone, and `strip` the functions without their debug items. A fault is told by a line on
+/// functions that the text stands for. `compile` with the option of a list of passes writes the sections and the
+/// listing of what these passes make of them (`--passes=none`: of the functions as they were read), `listing` with such
+/// an option the listing alone, and `strip` the functions without their debug items. A fault is told by a line on
 /// `faults`.
 pub fn mirdwarf<S: Source, K: Sink, E: Sink>(
     alloc: Global,
@@ -46,38 +49,43 @@ pub fn mirdwarf<S: Source, K: Sink, E: Sink>(
 
     // What `compile` writes keeps its promise. The machine on the written code runs along with the source that was
     // read, and the written lists tell the truth.
-    ensures headline { result ≡ Status.Done → map string_bytes words.now ≡ words_of Command.Compile →
+    ensures headline { (list : List PassKind) → result ≡ Status.Done →
+        map string_bytes words.now ≡ words_of (Command.Compile list) →
         KeepsHeadline (change S.left S.faults input.old input.new) (change K.written K.faults output.old output.new) }
     // At a return the machine gives back the registers that a function is to keep.
-    ensures callee_saved { result ≡ Status.Done → map string_bytes words.now ≡ words_of Command.Compile →
+    ensures callee_saved { (list : List PassKind) → result ≡ Status.Done →
+        map string_bytes words.now ≡ words_of (Command.Compile list) →
         KeepsRegisters (change S.left S.faults input.old input.new) (change K.written K.faults output.old output.new) }
     // It stops nowhere but at a return, or where it waits for an answer.
-    ensures stops { result ≡ Status.Done → map string_bytes words.now ≡ words_of Command.Compile →
+    ensures stops { (list : List PassKind) → result ≡ Status.Done →
+        map string_bytes words.now ≡ words_of (Command.Compile list) →
         StopsAtReturns (change S.left S.faults input.old input.new) (change K.written K.faults output.old output.new) }
     // The lists say the place of a variable's value wherever the value is in one on every path, and nothing elsewhere.
-    ensures exact { result ≡ Status.Done → map string_bytes words.now ≡ words_of Command.Compile →
+    ensures exact { (list : List PassKind) → result ≡ Status.Done →
+        map string_bytes words.now ≡ words_of (Command.Compile list) →
         WroteExactly (change S.left S.faults input.old input.new) (change K.written K.faults output.old output.new) }
     // While a place keeps the value that a mark told of it, the lists give the variable a place.
-    ensures kept { result ≡ Status.Done → map string_bytes words.now ≡ words_of Command.Compile →
+    ensures kept { (list : List PassKind) → result ≡ Status.Done →
+        map string_bytes words.now ≡ words_of (Command.Compile list) →
         WroteKept (change S.left S.faults input.old input.new) (change K.written K.faults output.old output.new) }
     // Functions, lines, objects and variables stand where they should, with their names.
-    ensures laid_out { result ≡ Status.Done → map string_bytes words.now ≡ words_of Command.Compile →
+    ensures laid_out { (list : List PassKind) → result ≡ Status.Done →
+        map string_bytes words.now ≡ words_of (Command.Compile list) →
         WroteLaidOut (change S.left S.faults input.old input.new) (change K.written K.faults output.old output.new) }
-    // The lines show the functions that were read, with their frames.
-    ensures lists { result ≡ Status.Done → map string_bytes words.now ≡ words_of Command.Compile →
-        WroteSources (change S.left S.faults input.old input.new) (change K.written K.faults output.old output.new) }
     // At each line with an address stand the bytes of its instruction.
-    ensures words { result ≡ Status.Done → map string_bytes words.now ≡ words_of Command.Compile →
+    ensures words { (list : List PassKind) → result ≡ Status.Done →
+        map string_bytes words.now ≡ words_of (Command.Compile list) →
         WroteWords (change S.left S.faults input.old input.new) (change K.written K.faults output.old output.new) }
-    // The other sections are those of the program's unit and of its table of lines.
-    ensures sections { result ≡ Status.Done → map string_bytes words.now ≡ words_of Command.Compile →
-        WroteSections (change S.left S.faults input.old input.new) (change K.written K.faults output.old output.new) }
-    // The section of lines gives each byte of machine code its line of the source.
-    ensures rows { result ≡ Status.Done → map string_bytes words.now ≡ words_of Command.Compile →
-        WroteRows (change S.left S.faults input.old input.new) (change K.written K.faults output.old output.new) }
+    // The lines show the functions that passes made of those that were read, with their frames: without passes, those
+    // that were read. The other sections are those of the program's unit and of its table of lines, which gives each
+    // byte of machine code its line of the source.
+    ensures passed { (list : List PassKind) → result ≡ Status.Done →
+        map string_bytes words.now ≡ words_of (Command.Compile list) →
+        WrotePassed (steps_of list) (change S.left S.faults input.old input.new)
+        (change K.written K.faults output.old output.new) }
 
     // A text that the command answers is answered, unless a fault is met or memory runs out.
-    ensures complete { (command : Command) → map string_bytes words.now ≡ words_of command →
+    ensures complete { (command : Command) → IsCommand (map string_bytes words.now) command →
         IsAnswerable command (S.left input.old) →
         ¬ MetFault (change S.left S.faults input.old input.new) →
         ¬ MetFault (change K.written K.faults output.old output.new) →

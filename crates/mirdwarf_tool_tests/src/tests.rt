@@ -224,6 +224,83 @@ const FITS: &str = "stack:\n  - { id: 0, size: 2032 }\nbody: |\n  bb.0:\n    Pse
 
 const LARGE: &str = "stack:\n  - { id: 0, size: 2033 }\nbody: |\n  bb.0:\n    PseudoRET\n";
 
+/// A constant that is stored and loaded, and the listing where it is set again.
+const LOADED: &str = "stack:
+  - { id: 0, size: 8 }
+body: |
+  bb.0:
+    $x11 = ADDI $x0, 5
+    SD $x11, %stack.0, 0
+    $x10 = LD %stack.0, 0, debug-instr-number 1
+    DBG_INSTR_REF !7, !DIExpression(DW_OP_LLVM_arg, 0), dbg-instr-ref(1, 0), debug-location !5
+    PseudoRET implicit $x10
+";
+
+const SET_AGAIN: &str = "function f 00000000 00000018
+variable 0 !7 - s
+00000000 <0.0 $x2 = ADDI $x2, -16
+block 0
+00000004 =0.0 $x11 = ADDI $x0, 5
+00000008 =0.1 SD $x11, $x2, 0
+0000000c =0.2 $x10 = ADDI $x0, 5, debug-instr-number 1
+- =0.3 DBG_INSTR_REF !7, !DIExpression(DW_OP_LLVM_arg, 0), dbg-instr-ref(1, 0), debug-location !5
+00000010 <0.4 $x2 = ADDI $x2, 16
+00000014 =0.4 PseudoRET implicit $x10
+";
+
+/// A copy of what is there already, and the listing where it is gone: its number stands for the sum's.
+const COPIED: &str = "body: |
+  bb.0:
+    $x11 = ADDI $x10, 3
+    $x12 = COPY $x11
+    $x12 = COPY $x11, debug-instr-number 4
+    DBG_INSTR_REF !7, !DIExpression(DW_OP_LLVM_arg, 0), dbg-instr-ref(4, 0), debug-location !5
+    $x10 = ADD $x12, $x11
+    PseudoRET implicit $x10
+";
+
+const FEWER: &str = "function f 00000000 00000010
+variable 0 !7 - s
+substitute 4 0 5 0 0
+block 0
+00000000 =0.0 $x11 = ADDI $x10, 3, debug-instr-number 5
+00000004 =0.1 $x12 = COPY $x11
+- =0.3 DBG_INSTR_REF !7, !DIExpression(DW_OP_LLVM_arg, 0), dbg-instr-ref(4, 0), debug-location !5
+00000008 =0.4 $x10 = ADD $x11, $x11
+0000000c =0.5 PseudoRET implicit $x10
+";
+
+/// Blocks that only jump, and the listing where they are bypassed: what they would have assigned is assigned nothing.
+const BYPASSED: &str = "body: |
+  bb.0:
+    DBG_VALUE $x10, $noreg, !7, !DIExpression(), debug-location !5
+    BEQ $x10, $x0, %bb.2
+  bb.1:
+    DBG_VALUE $x11, $noreg, !7, !DIExpression(), debug-location !5
+    PseudoBR %bb.3
+  bb.2:
+    DBG_VALUE $x12, $noreg, !7, !DIExpression(), debug-location !5
+  bb.3:
+    PseudoRET implicit $x10
+";
+
+const FOLDED: &str = "function f 00000000 00000004
+variable 0 !7 - s
+block 0
+- =0.0 DBG_VALUE $x10, $noreg, !7, !DIExpression(), debug-location !5
+block 3
+- <3.0 DBG_VALUE $noreg, $noreg, !7, !DIExpression(), debug-location !5
+00000000 =3.0 PseudoRET implicit $x10
+";
+
+/// Lists of passes, a function and the listing after them.
+const PASSED: [(&str, &str, &str); 4] = [
+    ("--passes=remat", LOADED, SET_AGAIN),
+    ("--passes=copy", COPIED, FEWER),
+    ("--passes=fold", BYPASSED, FOLDED),
+    ("--passes=fold,copy,remat", LOADED, SET_AGAIN),
+];
+
 /// Words, a function and faults of runs, and how they end.
 const ENDINGS: [(&[&str], &str, Faulty, Ending<'static>); 16] = [
     (&[], RETURN, NO_FAULT, USAGE),
@@ -392,6 +469,22 @@ fn lists(rt: HostRuntime) -> Result<(), Fail> {
     Ok(())
 }
 
+/// The machine code and the list of a constant that is set again.
+#[test]
+fn sets_constants_again(rt: HostRuntime) -> Result<(), Fail> {
+    let alloc = rt.alloc();
+    let words = &["compile", "--passes=remat"];
+    let (status, output, _) = run_on(alloc, words, text_of(alloc, LOADED)?, &NO_FAULT)?;
+    assert_eq!(rt; status, 0);
+    let code = b"section .text 24\n130101ff930550002330b100130550001301010167800000\n";
+    assert!(rt; output.written().starts_with(code));
+    let list = "\n140000000500080001000000040000000410180311059f00\n";
+    let written = String::from_utf8(Vec::from_slice(alloc, output.written())?)?;
+    assert!(rt; written.contains(list));
+    assert!(rt; written.ends_with(SET_AGAIN));
+    Ok(())
+}
+
 #[test]
 fn ends_as_its_faults_say(rt: HostRuntime) -> Result<(), Fail> {
     let alloc = rt.alloc();
@@ -399,6 +492,25 @@ fn ends_as_its_faults_say(rt: HostRuntime) -> Result<(), Fail> {
         ends(&rt, alloc, words, text_of(alloc, lines)?, faulty, *want)?;
     }
     Ok(())
+}
+
+/// Passes run in the order of their list, and a list has none twice.
+#[test]
+fn passes_run(rt: HostRuntime) -> Result<(), Fail> {
+    let alloc = rt.alloc();
+    for (list, lines, want) in PASSED {
+        let words = &["listing", list];
+        ends(
+            &rt,
+            alloc,
+            words,
+            text_of(alloc, lines)?,
+            &NO_FAULT,
+            (0, want, ""),
+        )?;
+    }
+    let twice = &["compile", "--passes=remat,remat"];
+    ends(&rt, alloc, twice, text_of(alloc, RETURN)?, &NO_FAULT, USAGE)
 }
 
 /// A text that is read in four calls, the last of which finds its end.

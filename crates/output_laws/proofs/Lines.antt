@@ -1,8 +1,7 @@
 -- What is compiled of a program that was read tells its lines.
 use Rattle.std.proofs.Common.{◌≡◌, inl, inr, length-append, ℕ, zero, suc, ◌+◌, ◌*◌, ◌<◌, ◌≤◌, Bool, true, false, List, [], ◌∷◌, length, map, Some}
-use Rattle.std.proofs.Common.{refl, ap, sym, ◌∙◌, subst, arith, Contains, All}
+use Rattle.std.proofs.Common.{refl, ap, sym, ◌∙◌, subst, arith, Contains}
 use Rattle.std.specs.Prelude.{slice_get}
-use Rattle.std.proofs.lemmas.List.Elements.{All-head, All-tail}
 use Rattle.code_words.specs.declared.code.Entry.{Entry}
 use Rattle.code_words.specs.Laid.{StandFrom, LaidCode, IsCodeOf}
 use Rattle.code_words.specs.Long.{IsSettled}
@@ -20,7 +19,6 @@ use Rattle.line_laws.proofs.Members.{no_member, head_member, later_member, membe
 use Rattle.line_laws.proofs.Rows.{last_in, entry_from}
 use Rattle.line_laws.proofs.Sequences.{stands_of, row_has_code}
 use Rattle.line_laws.proofs.Tables.{tables_give_lines, none_is_line_zero}
-use Rattle.meta_reader.specs.Maps.{Maps}
 use Rattle.mir_func.specs.declared.position.Origin.{Origin}
 use Rattle.mir_func.specs.Function.{Function, FramedFunction}
 use Rattle.mir_func.specs.Sound.{AllItems}
@@ -30,8 +28,11 @@ use Rattle.output_promise.specs.Compiled.{bytes_of, IsCompiledFunction, AreCompi
 use Rattle.output_promise.specs.Promise.{variable_lines}
 use Rattle.output_promise.proofs.Framing.{forms_framed}
 use Rattle.output_promise.proofs.Functions.{words_length}
-use Rattle.program_compiler.specs.Program.{source_of, sources_of, names_of, AreCoded, HaveCode}
-use Rattle.reading_laws.specs.Read.{IsReadFunction}
+use Rattle.output_promise.specs.Source.{SourceFunction, PassedFunction}
+use Rattle.program_compiler.proofs.Passed.{passed_functions, passed_at}
+use Rattle.function_emit.specs.Emitted.{names_of}
+use Rattle.function_passes.specs.Passed.{source_of, IsCompilable}
+use Rattle.program_compiler.specs.Program.{ArePassed, AreCoded, HaveCode}
 use Rattle.source_lines.specs.declared.compiled.Compiled.{Compiled}
 use Rattle.source_lines.specs.declared.file.SourceFile.{SourceFile}
 use Rattle.source_lines.specs.Files.{unit_file}
@@ -89,14 +90,14 @@ codes_lie base (f ∷ fs) (c ∷ cs) are =
 
 -- ---- each function with its code
 
--- a function that was read, what is compiled of it, and its machine code
-record Paired (names : ℕ → List ℕ) (source : Parsed) (f : ListedFunction) (all : List Compiled) : Type 0 where
+-- a function that passes made, what is compiled of it, and its machine code
+record Paired (names : ℕ → List ℕ) (passed : PassedFunction) (f : ListedFunction) (all : List Compiled) : Type 0 where
   base : ℕ
   first : ℕ
-  function : IsCompiledFunction names (source_of source) base first f
+  function : IsCompiledFunction names passed base first f
   code : Compiled
   among : Contains all code
-  source_is : code.source.now ≡ source.func
+  source_is : code.source.now ≡ passed.source.function
   entries : code.code.now.entries ≡ entries_of function.layout
 
 abbrev sources : List Compiled → List Function
@@ -105,23 +106,27 @@ sources cs = map (λ (c : Compiled). c.source.now) cs
 abbrev codes : List Compiled → List LaidCode
 codes cs = map (λ (c : Compiled). c.code.now) cs
 
-abbrev functions : List Parsed → List Function
-functions ps = map (λ (p : Parsed). p.func) ps
+abbrev functions : List PassedFunction → List Function
+functions ps = map (λ (p : PassedFunction). p.function) ps
 
-paired : (names : ℕ → List ℕ) (base first : ℕ) (text : List ℕ) (lists : List (List Range)) (ps : List Parsed) (fs : List ListedFunction) (cs : List Compiled) →
-    sources cs ≡ functions ps → AreCoded base (functions ps) (codes cs) → AreCompiled names base first text lists (sources_of ps) fs →
-    (n : ℕ) (source : Parsed) (f : ListedFunction) → slice_get ps n ≡ Some source → slice_get fs n ≡ Some f → Paired names source f cs
-paired names base first text lists [] fs cs same coded are n source f s_is f_is = absurd cc
-paired names base first text lists (p ∷ ps) [] cs same coded are n source f s_is f_is = absurd cc
-paired names base first text lists (p ∷ ps) (g ∷ fs) [] same coded are n source f s_is f_is = absurd coded
-paired names base first text lists (p ∷ ps) (g ∷ fs) (c ∷ cs) same coded (made, more, rest, text_is, lists_is, onward) zero source f s_is f_is =
-    let source_same : p ≡ source = cc in
+abbrev read_of : List PassedFunction → List Function
+read_of ps = map (λ (p : PassedFunction). p.source.function) ps
+
+paired : (names : ℕ → List ℕ) (base first : ℕ) (text : List ℕ) (lists : List (List Range)) (ps : List PassedFunction) (fs : List ListedFunction)
+    (cs : List Compiled) →
+    sources cs ≡ read_of ps → AreCoded base (functions ps) (codes cs) → AreCompiled names base first text lists ps fs →
+    (n : ℕ) (passed : PassedFunction) (f : ListedFunction) → slice_get ps n ≡ Some passed → slice_get fs n ≡ Some f → Paired names passed f cs
+paired names base first text lists [] fs cs same coded are n passed f s_is f_is = absurd cc
+paired names base first text lists (p ∷ ps) [] cs same coded are n passed f s_is f_is = absurd cc
+paired names base first text lists (p ∷ ps) (g ∷ fs) [] same coded are n passed f s_is f_is = absurd coded
+paired names base first text lists (p ∷ ps) (g ∷ fs) (c ∷ cs) same coded (made, more, rest, text_is, lists_is, onward) zero passed f s_is f_is =
+    let passed_same : p ≡ passed = cc in
     let listed_same : g ≡ f = cc in
-    let func_same : c.source.now ≡ p.func = cc in
+    let func_same : c.source.now ≡ p.source.function = cc in
     let is = coded.0 in
     let layout : is.layout ≡ made.layout = same_layout is.layout made.layout (is.of ∙ sym made.laid.framed) (is.from ∙ sym made.laid.from) is.settled
     made.laid.settled in
-    subst (λ (x : Parsed). Paired names x f (c ∷ cs)) source_same (subst (λ (x : ListedFunction). Paired names p x (c ∷ cs)) listed_same (record {
+    subst (λ (x : PassedFunction). Paired names x f (c ∷ cs)) passed_same (subst (λ (x : ListedFunction). Paired names p x (c ∷ cs)) listed_same (record {
       base = base;
       first = first;
       function = made;
@@ -130,7 +135,7 @@ paired names base first text lists (p ∷ ps) (g ∷ fs) (c ∷ cs) same coded (
       source_is = func_same;
       entries = is.entries ∙ ap entries_of layout;
     }))
-paired names base first text lists (p ∷ ps) (g ∷ fs) (c ∷ cs) same coded (made, more, rest, text_is, lists_is, onward) (suc n) source f s_is f_is =
+paired names base first text lists (p ∷ ps) (g ∷ fs) (c ∷ cs) same coded (made, more, rest, text_is, lists_is, onward) (suc n) passed f s_is f_is =
     let is = coded.0 in
     let layout : is.layout ≡ made.layout = same_layout is.layout made.layout (is.of ∙ sym made.laid.framed) (is.from ∙ sym made.laid.from) is.settled
     made.laid.settled in
@@ -138,9 +143,9 @@ paired names base first text lists (p ∷ ps) (g ∷ fs) (c ∷ cs) same coded (
     let high : g.high ≡ made.layout.base + 4 * length (words_of made.layout) = ap (λ (x : ListedFunction). x.high) made.listed in
     let from = made.laid.from in
     let next : base + 4 * length c.code.now.words ≡ g.high = omega (arith, words, high, from) in
-    let tails : sources cs ≡ functions ps = cc in
+    let tails : sources cs ≡ read_of ps = cc in
     let found = paired names g.high (first + length made.lists) more rest ps fs cs tails
-    (subst (λ (x : ℕ). AreCoded x (functions ps) (codes cs)) next coded.1) onward n source f s_is f_is in
+    (subst (λ (x : ℕ). AreCoded x (functions ps) (codes cs)) next coded.1) onward n passed f s_is f_is in
     record {
       base = found.base;
       first = found.first;
@@ -152,8 +157,8 @@ paired names base first text lists (p ∷ ps) (g ∷ fs) (c ∷ cs) same coded (
     }
 
 -- the code of each ends within the text
-ends_within : (names : ℕ → List ℕ) (base first : ℕ) (text : List ℕ) (lists : List (List Range)) (ps : List Parsed) (fs : List ListedFunction)
-    (cs : List Compiled) → AreCoded base (functions ps) (codes cs) → AreCompiled names base first text lists (sources_of ps) fs →
+ends_within : (names : ℕ → List ℕ) (base first : ℕ) (text : List ℕ) (lists : List (List Range)) (ps : List PassedFunction) (fs : List ListedFunction)
+    (cs : List Compiled) → AreCoded base (functions ps) (codes cs) → AreCompiled names base first text lists ps fs →
     (c : Compiled) → Contains cs c → function_end c ≤ base + length text
 ends_within names base first text lists ps fs [] coded are c is = absurd (no_member c is)
 ends_within names base first text lists [] fs (d ∷ cs) coded are c is = absurd coded
@@ -178,33 +183,37 @@ ends_within names base first text lists (p ∷ ps) (g ∷ fs) (d ∷ cs) coded (
 
 -- ---- lines
 
-names_same : (cs : List Compiled) (ps : List Parsed) → sources cs ≡ functions ps →
+names_same : (cs : List Compiled) (ps : List Parsed) → sources cs ≡ map (λ (p : Parsed). p.func) ps →
     map (λ (c : Compiled). c.source.now.name) cs ≡ map (λ (p : Parsed). p.func.name) ps
 names_same [] [] same = refl
 names_same [] (p ∷ ps) same = absurd cc
 names_same (c ∷ cs) [] same = absurd cc
 names_same (c ∷ cs) (p ∷ ps) same =
     let func_same : c.source.now ≡ p.func = cc in
-    let tails : sources cs ≡ functions ps = cc in
+    let tails : sources cs ≡ map (λ (q : Parsed). q.func) ps = cc in
     ap (λ (f : Function). f.name ∷ map (λ (x : Compiled). x.source.now.name) cs) func_same
     ∙ ap (λ (ns : List (List ℕ)). p.func.name ∷ ns) (names_same cs ps tails)
 
-module _ (p : Program) (cs : List Compiled) (coded : HaveCode p.functions cs) where
+module _ (p : Program) (ps : List PassedFunction) (passed : ArePassed p.meta p.functions ps) (cs : List Compiled) (coded : HaveCode ps cs) where
   lie : LieFrom 0 cs
-  lie = codes_lie 0 (functions p.functions) cs coded.coded
+  lie = codes_lie 0 (functions ps) cs coded.coded
 
   unit_same : program_file p.meta cs ≡ file_of p
-  unit_same = ap (unit_file p.meta) (names_same cs p.functions coded.sources)
+  unit_same = ap (unit_file p.meta) (names_same cs p.functions (coded.sources ∙ sym (passed_functions p.meta p.functions ps passed)))
 
-  module _ (source : Parsed) (f : ListedFunction) (read : IsReadFunction p.meta source.func) (pair : Paired (names_of p.meta) source f cs) where
+  module _ (source : Parsed) (made : PassedFunction) (f : ListedFunction) (of : made.source ≡ source_of source) (is : IsCompilable p.meta made)
+      (pair : Paired (names_of p.meta) made f cs) where
+    source_is : pair.code.source.now ≡ source.func
+    source_is = pair.source_is ∙ ap (λ (s : SourceFunction). s.function) of
+
     forms : AllItems IsFormed pair.function.layout.framed.blocks
     forms = subst (λ (x : FramedFunction). AllItems IsFormed x.blocks) (sym pair.function.laid.framed)
-        (forms_framed source.func pair.function.laid.small read.form)
+        (forms_framed made.function pair.function.laid.small is.passed.follower.form)
 
     entered : (a : ℕ) (line : Line) → HasByte f a line → (e : Entry) × HasCodeAt cs a pair.code e × (e.origin ≡ origin_of line)
     entered a line has =
         let found = listing_entered a pair.function.layout
-        (variable_lines (names_of p.meta) pair.first (variables_of_function source.func.blocks)) source.subs forms line
+        (variable_lines (names_of p.meta) pair.first (variables_of_function made.source.function.blocks)) made.substitutions forms line
         (subst (λ (x : ListedFunction). Contains (Rattle.shown_program.specs.Program.lines_of x) line) pair.function.listed has.stands) has.first has.begins
         has.from has.within in (
           found.0,
@@ -223,29 +232,21 @@ module _ (p : Program) (cs : List Compiled) (coded : HaveCode p.functions cs) wh
           let at = entered a line has in
           subst (λ (u : SourceFile). GivesLine (table_of p.meta cs) a (line_of p.meta u source.func.blocks (origin_of line))) unit_same
           (subst (λ (o : Origin). GivesLine (table_of p.meta cs) a (line_of p.meta (program_file p.meta cs) source.func.blocks o)) at.2
-          (subst (λ (g : Function). GivesLine (table_of p.meta cs) a (line_of p.meta (program_file p.meta cs) g.blocks at.0.origin)) pair.source_is
+          (subst (λ (g : Function). GivesLine (table_of p.meta cs) a (line_of p.meta (program_file p.meta cs) g.blocks at.0.origin)) source_is
           (tables_give_lines p.meta cs 0 lie a pair.code at.0 at.1)));
-      none = λ a line has no row is.
+      none = λ a line has no row at_row.
           let at = entered a line has in
           none_is_line_zero p.meta cs 0 lie a pair.code at.0 at.1
-          (ap (λ (g : Function). scope_line p.meta (loc_of g.blocks (position_of at.0.origin))) pair.source_is
-          ∙ ap (λ (o : Origin). scope_line p.meta (loc_of source.func.blocks (position_of o))) at.2 ∙ no) row is;
+          (ap (λ (g : Function). scope_line p.meta (loc_of g.blocks (position_of at.0.origin))) source_is
+          ∙ ap (λ (o : Origin). scope_line p.meta (loc_of source.func.blocks (position_of o))) at.2 ∙ no) row at_row;
     }
 
-read_at : (meta : Maps) (ps : List Parsed) → All (λ (f : Parsed). IsReadFunction meta f.func) ps → (n : ℕ) (source : Parsed) → slice_get ps n ≡ Some source →
-    IsReadFunction meta source.func
-read_at meta [] all n source is = absurd cc
-read_at meta (p ∷ ps) all zero source is =
-    let same : p ≡ source = cc in
-    subst (λ (x : Parsed). IsReadFunction meta x.func) same (All-head (λ (f : Parsed). IsReadFunction meta f.func) p ps all)
-read_at meta (p ∷ ps) all (suc n) source is = read_at meta ps (All-tail (λ (f : Parsed). IsReadFunction meta f.func) p ps all) n source is
-
 -- a row is of an address below the end of one of the functions
-nothing_beyond : (p : Program) (cs : List Compiled) → HaveCode p.functions cs → (a : ℕ) (row : Row) → IsRowAt (table_of p.meta cs) a row →
+nothing_beyond : (p : Program) (ps : List PassedFunction) (cs : List Compiled) → HaveCode ps cs → (a : ℕ) (row : Row) → IsRowAt (table_of p.meta cs) a row →
     (c : Compiled) × Contains cs c × (a < function_end c)
 unfolding table_of
-nothing_beyond p cs coded a row is =
-    let lies = lie p cs coded in
+nothing_beyond p ps cs coded a row is =
+    let lies = codes_lie 0 (functions ps) cs coded.coded in
     let found = row_has_code (program_files p.meta cs) p.meta (program_file p.meta cs) 0 cs lies is.sequence is.among a row
     (last_in is.sequence.rows a row is.last) is.inside in
     let within = (entry_from found.0.code.now.base found.0.code.now.entries (function_end found.0) (stands_of 0 cs lies found.0 found.1) found.2 found.3).1 in
@@ -253,16 +254,17 @@ nothing_beyond p cs coded a row is =
     (found.0, found.1, omega (arith, within, below))
 
 pub tell_lines : OutputsTellLines
-tell_lines p o read compiled has = record {
+tell_lines p ps o passed compiled has = record {
   table = table_of p.meta has.compiled;
   spelled = has.rows;
   each = λ n source f s_is f_is.
-      tells p has.compiled has.coded source f (read_at p.meta p.functions read.functions n source s_is)
-      (paired (names_of p.meta) 0 0 o.text compiled.lists p.functions o.functions has.compiled has.coded.sources has.coded.coded compiled.functions n source f
-      s_is f_is);
+      let at = passed_at p.meta p.functions ps passed n source s_is in
+      tells p ps passed has.compiled has.coded source at.passed f at.source at.is
+      (paired (names_of p.meta) 0 0 o.text compiled.lists ps o.functions has.compiled has.coded.sources has.coded.coded compiled.functions n at.passed f
+      at.at f_is);
   beyond = λ a behind row is.
-      let found = nothing_beyond p has.compiled has.coded a row is in
-      let within = ends_within (names_of p.meta) 0 0 o.text compiled.lists p.functions o.functions has.compiled has.coded.coded compiled.functions found.0
+      let found = nothing_beyond p ps has.compiled has.coded a row is in
+      let within = ends_within (names_of p.meta) 0 0 o.text compiled.lists ps o.functions has.compiled has.coded.coded compiled.functions found.0
       found.1 in
       let below = found.2 in
       omega (arith, behind, within, below);

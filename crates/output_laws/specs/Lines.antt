@@ -1,5 +1,5 @@
 -- What the line number table of an output tells: from which place of the source each listed line comes.
-use Rattle.std.specs.Prelude.{◌≡◌, ℕ, ◌<◌, ◌≤◌, Some, map, length, slice_get, Contains}
+use Rattle.std.specs.Prelude.{◌≡◌, ℕ, ◌<◌, ◌≤◌, List, Some, map, length, slice_get, Contains}
 use Rattle.compiled_text.specs.declared.output.Line.{Line}
 use Rattle.compiled_text.specs.declared.output.Line.TheVariants.{Item, Skip}
 use Rattle.compiled_text.specs.declared.output.ListedFunction.{ListedFunction}
@@ -13,8 +13,9 @@ use Rattle.mir_func.specs.declared.position.Origin.{Origin}
 use Rattle.mir_parser.specs.declared.closing.Parsed.{Parsed}
 use Rattle.mir_parser.specs.declared.program.Program.{Program}
 use Rattle.output_promise.specs.Compiled.{IsCompiledProgram}
-use Rattle.program_compiler.specs.Program.{names_of, sources_of, HasSections}
-use Rattle.reading_laws.specs.Read.{IsReadProgram}
+use Rattle.output_promise.specs.Source.{PassedFunction}
+use Rattle.function_emit.specs.Emitted.{names_of}
+use Rattle.program_compiler.specs.Program.{ArePassed, HasSections}
 use Rattle.shown_program.specs.Program.{lines_of, address_of, past_line}
 use Rattle.source_lines.specs.declared.file.SourceFile.{SourceFile}
 use Rattle.source_lines.specs.Files.{unit_file}
@@ -54,7 +55,7 @@ pub record TellsLines (p : Program) (o : Output) : Type 0 where
       TellsLinesOf p table source f
   pub beyond : (address : ℕ) → length o.text ≤ address → (row : Row) → IsRowAt table address row → ⊥
 
--- What is compiled of a program that was read, with its sections, tells its lines.
+-- What is compiled of what passes made of a program that was read, with its sections, tells its lines.
 abbrev pub OutputsTellLines : Type 0
-OutputsTellLines = (p : Program) (o : Output) → IsReadProgram p → IsCompiledProgram (names_of p.meta) (sources_of p.functions) o → HasSections p o →
-    TellsLines p o
+OutputsTellLines = (p : Program) (functions : List PassedFunction) (o : Output) → ArePassed p.meta p.functions functions →
+    IsCompiledProgram (names_of p.meta) functions o → HasSections p.meta functions o → TellsLines p o

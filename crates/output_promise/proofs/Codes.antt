@@ -1,4 +1,4 @@
--- What a compiler's code makes is what is compiled: the code's layout is that of the source's function with its frame.
+-- What a compiler's code makes is what is compiled: the code's layout is that of the function with its frame.
 use Rattle.std.proofs.Common.{ℕ, ◌<◌, List, refl, sym, ap, subst}
 use Rattle.std.specs.List.{flat_map}
 use Rattle.std.specs.Int.{w32, to_le_bytes}
@@ -14,7 +14,7 @@ use Rattle.unit_entries.specs.Variables.{variables_of_function}
 use Rattle.output_promise.specs.Laws.{CodesAreCompiled}
 
 pub codes_are_compiled : CodesAreCompiled
-codes_are_compiled names source base first f code lists is low few small located listed = (
+codes_are_compiled names p base first f code lists is low few small located listed = (
   record {
     layout = is.layout;
     laid = record {
@@ -29,10 +29,10 @@ codes_are_compiled names source base first f code lists is low few small located
     listed = listed;
     lists = lists;
     located =
-        subst (λ (x : FramedFunction). AreListsOf (framed_program x.blocks (resolve source.substitutions)) (block_start 0)
-        (entries_of is.layout) (variables_of_function source.function.blocks) lists) (sym is.of)
-        (subst (λ (es : List Entry). AreListsOf (framed_program (framed_of source.function).blocks (resolve source.substitutions))
-        (block_start 0) es (variables_of_function source.function.blocks) lists) is.entries located);
+        subst (λ (x : FramedFunction). AreListsOf (framed_program x.blocks (resolve p.substitutions)) (block_start 0)
+        (entries_of is.layout) (variables_of_function p.source.function.blocks) lists) (sym is.of)
+        (subst (λ (es : List Entry). AreListsOf (framed_program (framed_of p.function).blocks (resolve p.substitutions))
+        (block_start 0) es (variables_of_function p.source.function.blocks) lists) is.entries located);
   },
   ap (flat_map (to_le_bytes w32)) (sym is.words),
   refl,

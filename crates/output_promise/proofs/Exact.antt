@@ -1,10 +1,12 @@
--- The lists that are compiled of a source give each part of each variable exactly the places that are wanted at the entries of its machine
+-- The lists that are compiled of a function give each part of each variable exactly the places that are wanted at the entries of its machine
 -- code: a list that a line of the variable names tells the wanted location, and a part of no listed variable is marked nowhere.
 use Rattle.std.proofs.Common.{◌≡◌, ◌⊎◌, ℕ, zero, suc, ◌+◌, List, [], ◌∷◌, length, Option, Some, None, Bool, true, false, refl, sym, ap, ◌∙◌, subst, inl, inr}
 use Rattle.std.proofs.Common.{arith}
-use Rattle.std.specs.Prelude.{slice_get, Contains}
+use Rattle.std.specs.Prelude.{slice_get, All, Contains}
+use Rattle.std.proofs.lemmas.List.Elements.{All-weaker}
 use Rattle.std.specs.List.{list_any}
 use Rattle.rv64_instr.specs.declared.place.Place.{Place}
+use Rattle.mir_func.specs.declared.block.Block.{Block}
 use Rattle.mir_func.specs.declared.entry.Entry.{Entry as Substitution}
 use Rattle.mir_func.specs.declared.item.Item.{Item}
 use Rattle.mir_func.specs.declared.position.Pos.{Pos}
@@ -34,7 +36,8 @@ use Rattle.output_promise.specs.Promise.{GivesPart, Gives, variable_lines, varia
 use Rattle.unit_entries.specs.Variables.{whole, variables_of_function}
 use Rattle.output_promise.proofs.Framing.{marks_framed}
 use Rattle.output_promise.proofs.Telling.{Tells, TellsWanted, location_tells}
-use Rattle.output_promise.proofs.Variables.{any_is, MarkIn, numbered, unmarked}
+use Rattle.output_promise.specs.Source.{MarksOneOf}
+use Rattle.output_promise.proofs.Variables.{any_is, MarkIn, mark_in, numbered, unmarked}
 
 -- ---- lists of a section
 
@@ -99,8 +102,9 @@ pub record IsByteOf (entries : List Entry) (address : ℕ) (p : Pos) : Type 0 wh
   pub byte : HasByte entry address
   pub point : point_of entry ≡ p
 
-module _ (names : ℕ → List ℕ) (o : Output) (lists : List (List Range)) (section : IsSection o.loclists lists) (source : Function) (subs : List Substitution)
-    (first : ℕ) (l : Layout) (framed : l.framed ≡ framed_of source) (f : ListedFunction)
+module _ (names : ℕ → List ℕ) (o : Output) (lists : List (List Range)) (section : IsSection o.loclists lists) (source now : Function) (subs : List Substitution)
+    (marks : AllItems (λ i. MarksOneOf (variables_of_function source.blocks) i.kind) now.blocks)
+    (first : ℕ) (l : Layout) (framed : l.framed ≡ framed_of now) (f : ListedFunction)
     (variables : f.variables ≡ variable_lines names first (variables_of_function source.blocks)) (own : List (List Range))
     (located : AreListsOf (framed_program l.framed.blocks (resolve subs)) (block_start 0) (entries_of l) (variables_of_function source.blocks) own)
     (numbers : (k : ℕ) (ranges : List Range) → slice_get own k ≡ Some ranges → slice_get lists (first + k) ≡ Some ranges) where
@@ -163,14 +167,20 @@ module _ (names : ℕ → List ℕ) (o : Output) (lists : List (List Range)) (se
   -- a variable is listed, or no part of it is wanted anywhere
   listed_or : (v : VarId) → ListOf v ⊎ ((p : Pos) → NoneIsWanted g (block_start 0) v p)
   listed_or v = by_test (list_any (is_same_variable v) vs) refl where
-    marks : (p : Pos) (i : Item) → g.fetch p ≡ Here i → MarkIn vs i.kind
-    marks p i here =
+    are_in : AllItems (λ i. MarkIn vs i.kind) now.blocks
+    are_in =
+        All-weaker (λ (b : Block). All (λ i. MarksOneOf vs i.kind) b.items) (λ (b : Block). All (λ i. MarkIn vs i.kind) b.items)
+        (λ b all. All-weaker (λ (i : Item). MarksOneOf vs i.kind) (λ (i : Item). MarkIn vs i.kind) (λ i is. mark_in vs i.kind is) b.items all)
+        now.blocks marks
+
+    at_marks : (p : Pos) (i : Item) → g.fetch p ≡ Here i → MarkIn vs i.kind
+    at_marks p i here =
         of_item l.framed (λ j. MarkIn vs j.kind)
-        (subst (λ x. AllItems (λ j. MarkIn vs j.kind) x.blocks) (sym framed) (marks_framed source)) p i here
+        (subst (λ x. AllItems (λ j. MarkIn vs j.kind) x.blocks) (sym framed) (marks_framed now vs are_in)) p i here
 
     by_test : (b : Bool) → list_any (is_same_variable v) vs ≡ b → ListOf v ⊎ ((p : Pos) → NoneIsWanted g (block_start 0) v p)
     by_test true e = let n = numbered source.blocks v (any_is vs v e) in inl (list_at v n.number n.stands)
-    by_test false e = inr (λ p. unmarked g vs marks v e (block_start 0) p)
+    by_test false e = inr (λ p. unmarked g vs at_marks v e (block_start 0) p)
 
   wanted_given : (v : VarId) (a : ℕ) (p : Pos) → IsByteOf (entries_of l) a p → (place : Place) → IsWanted g (block_start 0) v p place → Gives o f v a place
   wanted_given v a p at place wanted = by_list (listed_or v) where

@@ -1,5 +1,5 @@
--- What holds of each item of a source, and of the code that its frame adds, holds of each item of the function with its frame. So marks are
--- of the source's variables, and code has the form of its opcode: slots are renamed, and no form looks at a slot's number.
+-- What holds of each item of a function, and of the code that its frame adds, holds of each item of the function with its frame. So marks are
+-- of the same variables, and code has the form of its opcode: slots are renamed, and no form looks at a slot's number.
 use Rattle.std.proofs.Common.{◌≡◌, ℕ, zero, suc, ◌≤◌, pos, ◌-ℤ◌, List, [], ◌∷◌, ◌++◌, map, Bool, true, false, cond, ◌&&◌, None, refl, ap, ◌∙◌, arith}
 use Rattle.std.specs.Prelude.{All, IsTrue}
 use Rattle.std.specs.List.{list_all}
@@ -18,6 +18,7 @@ use Rattle.mir_func.specs.declared.item.Item.{Item}
 use Rattle.mir_func.specs.declared.item.ItemKind.{ItemKind}
 use Rattle.mir_func.specs.declared.item.ItemKind.TheVariants.{Code, Mark, Phi}
 use Rattle.mir_func.specs.declared.position.Origin.{Origin}
+use Rattle.mir_func.specs.declared.variable.VarId.{VarId}
 use Rattle.mir_func.specs.Exits.{exit_of, is_final}
 use Rattle.mir_func.specs.Function.{Function}
 use Rattle.mir_func.specs.Limits.{MAX_FRAME}
@@ -85,11 +86,10 @@ module _ (f : Function) (P : ItemKind → Type 0) (lowers : P (Code (adds_to_poi
 
 -- ---- marks
 
-pub marks_framed : (f : Function) → AllItems (λ i. MarkIn (variables_of_function f.blocks) i.kind) (framed_blocks f f.blocks)
-marks_framed f =
-    framed_all f (MarkIn (variables_of_function f.blocks)) tt tt (λ s. tt) (λ s. tt) stays f.blocks
-    (marks_among f.blocks) where
-      stays : (k : ItemKind) → MarkIn (variables_of_function f.blocks) k → MarkIn (variables_of_function f.blocks) (renamed_kind f.slots k)
+pub marks_framed : (f : Function) (vs : List VarId) → AllItems (λ i. MarkIn vs i.kind) f.blocks → AllItems (λ i. MarkIn vs i.kind) (framed_blocks f f.blocks)
+marks_framed f vs marks =
+    framed_all f (MarkIn vs) tt tt (λ s. tt) (λ s. tt) stays f.blocks marks where
+      stays : (k : ItemKind) → MarkIn vs k → MarkIn vs (renamed_kind f.slots k)
       stays (Mark v m) is = is
       stays (Code i k) is = tt
       stays (Phi p k) is = tt

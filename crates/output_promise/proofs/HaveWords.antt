@@ -57,7 +57,7 @@ use Rattle.shown_program.proofs.Framing.{blocks_whole}
 use Rattle.shown_program.proofs.Sizes.{is_call_form, calls_listed}
 use Rattle.output_promise.specs.Laws.{CompiledHasWords}
 use Rattle.output_promise.specs.Promise.{variable_lines}
-use Rattle.output_promise.specs.Source.{SourceFunction, IsSourceFunction}
+use Rattle.output_promise.specs.Source.{PassedFunction, IsPassedFunction}
 use Rattle.unit_entries.specs.Variables.{variables_of_function}
 use Rattle.output_promise.specs.Words.{target_of, IsOffset, bytes_at, HasBytes, HasSkip, HaveWordsOf}
 use Rattle.output_promise.proofs.Addresses.{start_shown}
@@ -262,25 +262,25 @@ module _ (l : Layout) (variables : List ListedVariable) (substitutions : List En
 
 -- ---- all functions
 
-module _ (names : ℕ → List ℕ) (o : Output) (lists : List (List Range)) (section : IsSection o.loclists lists) (source : SourceFunction) (f : ListedFunction)
-    (is : IsSourceFunction source) (c : IsCompiledIn names o.text lists source f) where
+module _ (names : ℕ → List ℕ) (o : Output) (lists : List (List Range)) (section : IsSection o.loclists lists) (passed : PassedFunction) (f : ListedFunction)
+    (is : IsPassedFunction passed) (c : IsCompiledIn names o.text lists passed f) where
   words_of_function : HaveWordsOf o f
   words_of_function =
       let l = c.compiled.layout in
-      let vs = variable_lines names c.first (variables_of_function source.function.blocks) in
-      let ok = framed names o lists section source f is c in
-      let fm = formed names o lists section source f is c in
+      let vs = variable_lines names c.first (variables_of_function passed.source.function.blocks) in
+      let ok = framed names o lists section passed f is c in
+      let fm = formed names o lists section passed f is c in
       let text = ap (λ (n : ℕ). drop n o.text) c.compiled.laid.from ∙ c.words in
-      let have = lines_have l vs source.substitutions o.text fm ok.targets c.compiled.laid.worded c.more ok text in
+      let have = lines_have l vs passed.substitutions o.text fm ok.targets c.compiled.laid.worded c.more ok text in
       subst (HaveWordsOf o) (sym c.compiled.listed) (record {
         items = λ n x a i k at begins kind.
-            all_at (HasItsBytes l vs source.substitutions o.text fm ok.targets c.compiled.laid.worded) (lines_of (listing_of l vs source.substitutions)) n
+            all_at (HasItsBytes l vs passed.substitutions o.text fm ok.targets c.compiled.laid.worded) (lines_of (listing_of l vs passed.substitutions)) n
             (OfItem x) at have a i k begins kind;
         skips = λ n s at.
-            all_at (HasItsBytes l vs source.substitutions o.text fm ok.targets c.compiled.laid.worded) (lines_of (listing_of l vs source.substitutions)) n
+            all_at (HasItsBytes l vs passed.substitutions o.text fm ok.targets c.compiled.laid.worded) (lines_of (listing_of l vs passed.substitutions)) n
             (Skip s) at have;
       })
 
 pub compiled_has_words : CompiledHasWords
-compiled_has_words names sources o are =
-    for_each (HaveWordsOf o) names sources o are (λ source f is c. words_of_function names o are.compiled.lists are.compiled.section source f is c)
+compiled_has_words names functions o are =
+    for_each (HaveWordsOf o) names functions o are (λ passed f is c. words_of_function names o are.compiled.lists are.compiled.section passed f is c)

@@ -1,4 +1,4 @@
--- The headline of each source and what is compiled of it: its listing is an image of its layout, and its lists give only what is wanted, since
+-- The headline of each source and what is compiled of the function that passes made of it: its listing is an image of its layout, and its lists give only what is wanted, since
 -- they are exact at the entries.
 use Rattle.std.proofs.Common.{◌≡◌, ℕ, zero, suc, ◌+◌, ◌<◌, List, [], ◌∷◌, ◌++◌, drop, Bool, true, false, cond, sym, ap, ◌∙◌, subst, arith}
 use Rattle.std.specs.Prelude.{Contains}
@@ -19,7 +19,7 @@ use Rattle.machine_layout.specs.Images.{IsImageOf}
 use Rattle.machine_runs.specs.Lists.{GiveWanted}
 use Rattle.machine_runs.proofs.Lists.{exact_give_wanted}
 use Rattle.machine_headline.specs.Entries.{IsEntryAt}
-use Rattle.machine_headline.proofs.LaidOut.{sources_meet_the_headline}
+use Rattle.machine_headline.proofs.LaidOut.{images_meet_the_headline}
 use Rattle.dwarf_loclists.specs.declared.range.Range.{Range}
 use Rattle.dwarf_loclists.specs.Grammar.{IsSection}
 use Rattle.compiled_text.specs.declared.output.ListedFunction.{ListedFunction}
@@ -31,11 +31,11 @@ use Rattle.output_promise.specs.Compiled.{bytes_of}
 use Rattle.output_promise.specs.Laws.{CompiledPromises}
 use Rattle.output_promise.specs.Promise.{Gives, MeetsHeadline, variable_lines}
 use Rattle.unit_entries.specs.Variables.{variables_of_function}
-use Rattle.output_promise.specs.Source.{SourceFunction, IsSourceFunction}
+use Rattle.output_promise.specs.Source.{PassedFunction, IsPassedFunction}
 use Rattle.output_promise.proofs.Exact.{IsByteOf, exact_at_entries}
 use Rattle.output_promise.proofs.Framing.{forms_framed}
 use Rattle.output_promise.proofs.Telling.{all_at}
-use Rattle.output_promise.proofs.Functions.{IsCompiledIn, compiled_in, as_many}
+use Rattle.output_promise.proofs.Functions.{IsCompiledIn, compiled_in, as_many, of_sources}
 
 -- ---- entries have bytes
 
@@ -59,15 +59,16 @@ first_byte l a p at =
 
 -- ---- one function
 
-module _ (names : ℕ → List ℕ) (o : Output) (lists : List (List Range)) (section : IsSection o.loclists lists) (source : SourceFunction) (f : ListedFunction)
-    (is : IsSourceFunction source) (c : IsCompiledIn names o.text lists source f) where
+module _ (names : ℕ → List ℕ) (o : Output) (lists : List (List Range)) (section : IsSection o.loclists lists) (passed : PassedFunction) (f : ListedFunction)
+    (is : IsPassedFunction passed) (c : IsCompiledIn names o.text lists passed f) where
   pub formed : AreFormed c.compiled.layout.framed
   formed = subst (λ (x : FramedFunction). AllItems IsFormed x.blocks) (sym c.compiled.laid.framed)
-      (forms_framed source.function c.compiled.laid.small is.form)
+      (forms_framed passed.function c.compiled.laid.small is.follower.form)
 
-  pub exact : AreExact (framed_program c.compiled.layout.framed.blocks (resolve source.substitutions)) (block_start 0)
+  pub exact : AreExact (framed_program c.compiled.layout.framed.blocks (resolve passed.substitutions)) (block_start 0)
       (IsByteOf (entries_of c.compiled.layout)) (Gives o f)
-  exact = exact_at_entries names o lists section source.function source.substitutions c.first c.compiled.layout c.compiled.laid.framed f
+  exact = exact_at_entries names o lists section passed.source.function passed.function passed.substitutions is.marks c.first c.compiled.layout
+      c.compiled.laid.framed f
       (ap (λ (x : ListedFunction). x.variables) c.compiled.listed) c.compiled.lists c.compiled.located c.numbers
 
   shows_image : IsImageOf c.compiled.layout (image_of o f)
@@ -75,19 +76,19 @@ module _ (names : ℕ → List ℕ) (o : Output) (lists : List (List Range)) (se
       let l = c.compiled.layout in
       let at : drop l.base o.text ≡ bytes_of l ++ c.more = ap (λ (n : ℕ). drop n o.text) c.compiled.laid.from ∙ c.words in
       subst (λ (x : ListedFunction). IsImageOf l (image_of o x)) (sym c.compiled.listed) (image_shown l (variable_lines names c.first
-      (variables_of_function source.function.blocks)) source.substitutions o c.more formed at)
+      (variables_of_function passed.source.function.blocks)) passed.substitutions o c.more formed at)
 
-  give_wanted : GiveWanted (framed_program (framed_of source.function).blocks (resolve source.substitutions)) (IsEntryAt c.compiled.layout) (Gives o f)
+  give_wanted : GiveWanted (framed_program (framed_of passed.function).blocks (resolve passed.substitutions)) (IsEntryAt c.compiled.layout) (Gives o f)
   give_wanted =
-      exact_give_wanted (framed_program c.compiled.layout.framed.blocks (resolve source.substitutions))
-      (framed_program (framed_of source.function).blocks (resolve source.substitutions)) (IsByteOf (entries_of c.compiled.layout))
+      exact_give_wanted (framed_program c.compiled.layout.framed.blocks (resolve passed.substitutions))
+      (framed_program (framed_of passed.function).blocks (resolve passed.substitutions)) (IsByteOf (entries_of c.compiled.layout))
       (IsEntryAt c.compiled.layout) (Gives o f) exact (first_byte c.compiled.layout)
-      (λ v p place wanted. subst (λ (x : FramedFunction). IsWanted (framed_program x.blocks (resolve source.substitutions)) (block_start 0) v p place)
+      (λ v p place wanted. subst (λ (x : FramedFunction). IsWanted (framed_program x.blocks (resolve passed.substitutions)) (block_start 0) v p place)
       c.compiled.laid.framed wanted)
 
-  pub meets : MeetsHeadline o source f
-  meets = sources_meet_the_headline (Gives o f) source.function (resolve source.substitutions) (image_of o f) is.read is.form is.physical is.sound
-      c.compiled.laid.small (record {
+  pub meets : MeetsHeadline o passed.source f
+  meets = images_meet_the_headline (Gives o f) passed.source.function passed.function (resolve passed.source.substitutions)
+      (resolve passed.substitutions) (image_of o f) is.follower is.physical c.compiled.laid.small (record {
         layout = c.compiled.layout;
         framed = c.compiled.laid.framed;
         low = c.compiled.laid.low;
@@ -99,9 +100,9 @@ module _ (names : ℕ → List ℕ) (o : Output) (lists : List (List Range)) (se
 -- ---- all functions
 
 pub compiled_promises : CompiledPromises
-compiled_promises names sources o are = record {
-  as_many = as_many names o.text are.compiled.lists 0 0 o.text are.compiled.lists sources o.functions are.compiled.functions;
-  each = λ n source f s_is f_is.
-      meets names o are.compiled.lists are.compiled.section source f (all_at IsSourceFunction sources n source s_is are.read)
-      (compiled_in names sources o are.compiled n source f s_is f_is);
-}
+compiled_promises names functions o are = of_sources (MeetsHeadline o) functions o.functions (record {
+  as_many = as_many names o.text are.compiled.lists 0 0 o.text are.compiled.lists functions o.functions are.compiled.functions;
+  each = λ n passed f s_is f_is.
+      meets names o are.compiled.lists are.compiled.section passed f (all_at IsPassedFunction functions n passed s_is are.passed)
+      (compiled_in names functions o are.compiled n passed f s_is f_is);
+})

@@ -28,7 +28,7 @@ use Rattle.shown_program.specs.Settled.{settled}
 use Rattle.shown_program.proofs.Places.{places_are_points}
 use Rattle.output_promise.specs.Laws.{AreCompiledTo, CompiledIsExact}
 use Rattle.output_promise.specs.Promise.{Gives, IsExactFor, variable_lines}
-use Rattle.output_promise.specs.Source.{SourceFunction, IsSourceFunction}
+use Rattle.output_promise.specs.Source.{PassedFunction, IsPassedFunction}
 use Rattle.unit_entries.specs.Variables.{variables_of_function}
 use Rattle.output_promise.proofs.Alike.{IsGood, wanted_to, wanted_from, none_to, none_from}
 use Rattle.output_promise.proofs.Exact.{IsByteOf}
@@ -75,22 +75,22 @@ all_good f (b ∷ blocks) forms objects =
 
 -- ---- one function
 
-module _ (names : ℕ → List ℕ) (o : Output) (lists : List (List Range)) (section : IsSection o.loclists lists) (source : SourceFunction) (f : ListedFunction)
-    (is : IsSourceFunction source) (c : IsCompiledIn names o.text lists source f) where
+module _ (names : ℕ → List ℕ) (o : Output) (lists : List (List Range)) (section : IsSection o.loclists lists) (passed : PassedFunction) (f : ListedFunction)
+    (is : IsPassedFunction passed) (c : IsCompiledIn names o.text lists passed f) where
   abbrev g : Program
-  g = framed_program c.compiled.layout.framed.blocks (resolve source.substitutions)
+  g = framed_program c.compiled.layout.framed.blocks (resolve passed.substitutions)
 
   good : AllItems (IsGood c.compiled.layout.framed) c.compiled.layout.framed.blocks
-  good = all_good c.compiled.layout.framed c.compiled.layout.framed.blocks (formed names o lists section source f is c)
-      (framed names o lists section source f is c).objects
+  good = all_good c.compiled.layout.framed c.compiled.layout.framed.blocks (formed names o lists section passed f is c)
+      (framed names o lists section passed f is c).objects
 
   same : map contents (blocks_shown f) ≡ map contents (map (settled c.compiled.layout.framed) c.compiled.layout.framed.blocks)
-  same = shown names o lists section source f is c
+  same = shown names o lists section passed f is c
 
   points_to : (a : ℕ) (p : Pos) → IsListedAt f a p → IsByteOf (entries_of c.compiled.layout) a p
   points_to a p at =
-      let here = (places_are_points c.compiled.layout (variable_lines names c.first (variables_of_function source.function.blocks)) source.substitutions
-      (framed names o lists section source f is c) (formed names o lists section source f is c) a p).0
+      let here = (places_are_points c.compiled.layout (variable_lines names c.first (variables_of_function passed.source.function.blocks)) passed.substitutions
+      (framed names o lists section passed f is c) (formed names o lists section passed f is c) a p).0
       (subst (λ (x : ListedFunction). IsListedAt x a p) c.compiled.listed at) in
       record {
         entry = here.entry;
@@ -102,8 +102,8 @@ module _ (names : ℕ → List ℕ) (o : Output) (lists : List (List Range)) (se
   points_from : (a : ℕ) (p : Pos) → IsByteOf (entries_of c.compiled.layout) a p → IsListedAt f a p
   points_from a p at =
       subst (λ (x : ListedFunction). IsListedAt x a p) (sym c.compiled.listed)
-      ((places_are_points c.compiled.layout (variable_lines names c.first (variables_of_function source.function.blocks)) source.substitutions
-      (framed names o lists section source f is c) (formed names o lists section source f is c) a p).1 (record {
+      ((places_are_points c.compiled.layout (variable_lines names c.first (variables_of_function passed.source.function.blocks)) passed.substitutions
+      (framed names o lists section passed f is c) (formed names o lists section passed f is c) a p).1 (record {
         entry = at.entry;
         among = at.among;
         point = ap as_point at.point;
@@ -114,34 +114,34 @@ module _ (names : ℕ → List ℕ) (o : Output) (lists : List (List Range)) (se
   pub exact_for : IsExactFor o f
   exact_for =
       let fr = c.compiled.layout.framed in
-      let re = resolve source.substitutions in
+      let re = resolve passed.substitutions in
       subst (λ (es : List Entry). AreExact (framed_program (blocks_shown f) (resolve es)) (block_start 0) (IsListedAt f) (Gives o f))
       (sym (ap (λ (x : ListedFunction). x.substitutions) c.compiled.listed))
       (carried g (framed_program (blocks_shown f) re) (block_start 0) (IsByteOf (entries_of c.compiled.layout)) (IsListedAt f) (Gives o f) points_to points_from
       (wanted_to fr (blocks_shown f) re good same) (wanted_from fr (blocks_shown f) re good same) (none_to fr (blocks_shown f) re good same)
-      (none_from fr (blocks_shown f) re good same) (exact names o lists section source f is c))
+      (none_from fr (blocks_shown f) re good same) (exact names o lists section passed f is c))
 
 -- ---- all functions
 
--- each that is listed is of a source
-of_source : (sources : List SourceFunction) (fs : List ListedFunction) (n : ℕ) (f : ListedFunction) → length fs ≡ length sources → slice_get fs n ≡ Some f →
-    (source : SourceFunction) × (slice_get sources n ≡ Some source)
-of_source sources [] n f same at = absurd cc
+-- each that is listed is of a function
+of_source : (functions : List PassedFunction) (fs : List ListedFunction) (n : ℕ) (f : ListedFunction) → length fs ≡ length functions → slice_get fs n ≡ Some f →
+    (passed : PassedFunction) × (slice_get functions n ≡ Some passed)
+of_source functions [] n f same at = absurd cc
 of_source [] (x ∷ fs) n f same at = absurd (omega (arith, same))
-of_source (s ∷ sources) (x ∷ fs) zero f same at = (s, refl)
-of_source (s ∷ sources) (x ∷ fs) (suc n) f same at = of_source sources fs n f (omega (arith, same)) at
+of_source (s ∷ functions) (x ∷ fs) zero f same at = (s, refl)
+of_source (s ∷ functions) (x ∷ fs) (suc n) f same at = of_source functions fs n f (omega (arith, same)) at
 
 all_by : (P : ListedFunction → Type 0) (fs : List ListedFunction) → ((n : ℕ) (f : ListedFunction) → slice_get fs n ≡ Some f → P f) → All P fs
 all_by P [] each = All-nil P
 all_by P (f ∷ fs) each = All-cons P f fs (each 0 f refl) (all_by P fs (λ n x at. each (suc n) x at))
 
-pub for_each : (P : ListedFunction → Type 0) (names : ℕ → List ℕ) (sources : List SourceFunction) (o : Output) (are : AreCompiledTo names sources o) →
-    ((source : SourceFunction) (f : ListedFunction) → IsSourceFunction source → IsCompiledIn names o.text are.compiled.lists source f → P f) → All P o.functions
-for_each P names sources o are each = all_by P o.functions (λ n f at.
-    let many = as_many names o.text are.compiled.lists 0 0 o.text are.compiled.lists sources o.functions are.compiled.functions in
-    let source = of_source sources o.functions n f many at in
-    each source.0 f (all_at IsSourceFunction sources n source.0 source.1 are.read) (compiled_in names sources o are.compiled n source.0 f source.1 at))
+pub for_each : (P : ListedFunction → Type 0) (names : ℕ → List ℕ) (functions : List PassedFunction) (o : Output) (are : AreCompiledTo names functions o) →
+    ((passed : PassedFunction) (f : ListedFunction) → IsPassedFunction passed → IsCompiledIn names o.text are.compiled.lists passed f → P f) → All P o.functions
+for_each P names functions o are each = all_by P o.functions (λ n f at.
+    let many = as_many names o.text are.compiled.lists 0 0 o.text are.compiled.lists functions o.functions are.compiled.functions in
+    let passed = of_source functions o.functions n f many at in
+    each passed.0 f (all_at IsPassedFunction functions n passed.0 passed.1 are.passed) (compiled_in names functions o are.compiled n passed.0 f passed.1 at))
 
 pub compiled_is_exact : CompiledIsExact
-compiled_is_exact names sources o are =
-    for_each (IsExactFor o) names sources o are (λ source f is c. exact_for names o are.compiled.lists are.compiled.section source f is c)
+compiled_is_exact names functions o are =
+    for_each (IsExactFor o) names functions o are (λ passed f is c. exact_for names o are.compiled.lists are.compiled.section passed f is c)

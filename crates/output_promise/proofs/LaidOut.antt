@@ -1,5 +1,5 @@
 -- The functions of an output that is compiled lie one after the other, their lines between their first addresses and their ends; and their lines
--- show the sources with their frames.
+-- show the functions that passes made, with their frames.
 use Rattle.std.proofs.Common.{◌≡◌, ℕ, suc, ◌+◌, List, [], ◌∷◌, length, map, refl, sym, ap, ◌∙◌, subst, arith}
 use Rattle.mir_func.specs.declared.variable.VarId.{VarId}
 use Rattle.mir_func.specs.Function.{FramedFunction}
@@ -15,35 +15,35 @@ use Rattle.shown_program.specs.Settled.{settled}
 use Rattle.shown_program.proofs.Framing.{function_shown}
 use Rattle.shown_program.proofs.Lying.{listings_lie}
 use Rattle.output_promise.specs.Compiled.{AreCompiled}
-use Rattle.output_promise.specs.Laws.{CompiledIsLaidOut, CompiledListsSources}
+use Rattle.output_promise.specs.Laws.{CompiledIsLaidOut, CompiledListsPassed}
 use Rattle.output_promise.specs.Promise.{IsLaidOut, ListVariables, variable_lines, ListsFramed}
-use Rattle.output_promise.specs.Source.{SourceFunction, IsSourceFunction}
+use Rattle.output_promise.specs.Source.{PassedFunction, sources_among, IsPassedFunction}
 use Rattle.unit_entries.specs.Variables.{variables_of_function}
-use Rattle.output_promise.proofs.Functions.{IsCompiledIn, compiled_in, as_many, functions_lie}
+use Rattle.output_promise.proofs.Functions.{IsCompiledIn, compiled_in, as_many, functions_lie, of_sources}
 use Rattle.output_promise.proofs.Telling.{all_at}
 use Rattle.output_promise.proofs.Headline.{formed}
 
-module _ (names : ℕ → List ℕ) (o : Output) (lists : List (List Range)) (section : IsSection o.loclists lists) (source : SourceFunction) (f : ListedFunction)
-    (is : IsSourceFunction source) (c : IsCompiledIn names o.text lists source f) where
+module _ (names : ℕ → List ℕ) (o : Output) (lists : List (List Range)) (section : IsSection o.loclists lists) (passed : PassedFunction) (f : ListedFunction)
+    (is : IsPassedFunction passed) (c : IsCompiledIn names o.text lists passed f) where
   pub framed : IsFramed c.compiled.layout.framed
-  framed = subst IsFramed (sym c.compiled.laid.framed) (is_framed source.function is.sound c.compiled.laid.small is.physical)
+  framed = subst IsFramed (sym c.compiled.laid.framed) (is_framed passed.function is.follower.sound c.compiled.laid.small is.physical)
 
-  laid_out : IsLaidOut source f
+  laid_out : IsLaidOut passed.source f
   laid_out = record {
-    named = ap (λ (x : ListedFunction). x.name) c.compiled.listed ∙ ap (λ (x : FramedFunction). x.name) c.compiled.laid.framed;
+    named = ap (λ (x : ListedFunction). x.name) c.compiled.listed ∙ ap (λ (x : FramedFunction). x.name) c.compiled.laid.framed ∙ is.name;
     objects = ap (λ (x : ListedFunction). x.objects) c.compiled.listed ∙
-        ap (λ (x : FramedFunction). map object_listed x.objects) c.compiled.laid.framed;
+        ap (λ (x : FramedFunction). map object_listed x.objects) c.compiled.laid.framed ∙ ap (map object_listed) is.follower.objects;
     lines = subst LinesLie (sym c.compiled.listed) (listings_lie c.compiled.layout (variable_lines names c.first
-        (variables_of_function source.function.blocks)) source.substitutions
-        (formed names o lists section source f is c) c.compiled.laid.worded);
+        (variables_of_function passed.source.function.blocks)) passed.substitutions
+        (formed names o lists section passed f is c) c.compiled.laid.worded);
   }
 
   pub shown : map contents (blocks_shown f) ≡ map contents (map (settled c.compiled.layout.framed) c.compiled.layout.framed.blocks)
   shown = ap (λ (x : ListedFunction). map contents (blocks_shown x)) c.compiled.listed ∙
-      function_shown c.compiled.layout (variable_lines names c.first (variables_of_function source.function.blocks)) source.substitutions framed
-      (formed names o lists section source f is c)
+      function_shown c.compiled.layout (variable_lines names c.first (variables_of_function passed.source.function.blocks)) passed.substitutions framed
+      (formed names o lists section passed f is c)
 
-  lists_framed : ListsFramed source f
+  lists_framed : ListsFramed passed f
   lists_framed = record {
     blocks = shown ∙ ap (λ (x : FramedFunction). map contents (map (settled x) x.blocks)) c.compiled.laid.framed;
     substitutions = ap (λ (x : ListedFunction). x.substitutions) c.compiled.listed;
@@ -53,35 +53,37 @@ lines_length : (names : ℕ → List ℕ) (k : ℕ) (vs : List VarId) → length
 lines_length names k [] = refl
 lines_length names k (v ∷ vs) = ap (λ (n : ℕ). suc n) (lines_length names (suc k) vs)
 
-list_variables : (names : ℕ → List ℕ) (base first : ℕ) (text : List ℕ) (lists : List (List Range)) (ss : List SourceFunction) (fs : List ListedFunction) →
-    AreCompiled names base first text lists ss fs → ListVariables names first ss fs
+list_variables : (names : ℕ → List ℕ) (base first : ℕ) (text : List ℕ) (lists : List (List Range)) (ss : List PassedFunction) (fs : List ListedFunction) →
+    AreCompiled names base first text lists ss fs → ListVariables names first (sources_among ss) fs
 list_variables names base first text lists [] [] are = tt
 list_variables names base first text lists [] (f ∷ fs) are = absurd are
 list_variables names base first text lists (s ∷ ss) [] are = absurd are
 list_variables names base first text lists (s ∷ ss) (f ∷ fs) (c, more, rest, text_is, lists_is, onward) =
-    let variables : f.variables ≡ variable_lines names first (variables_of_function s.function.blocks) = ap (λ (x : ListedFunction). x.variables) c.listed in
+    let variables : f.variables ≡ variable_lines names first (variables_of_function s.source.function.blocks) =
+    ap (λ (x : ListedFunction). x.variables) c.listed in
     let count : length c.lists ≡ length f.variables =
-    c.located.for_all ∙ sym (lines_length names first (variables_of_function s.function.blocks)) ∙ ap length (sym variables) in (
+    c.located.for_all ∙ sym (lines_length names first (variables_of_function s.source.function.blocks)) ∙ ap length (sym variables) in (
       variables,
-      subst (λ (n : ℕ). ListVariables names (first + n) ss fs) count (list_variables names f.high (first + length c.lists) more rest ss fs onward),
+      subst (λ (n : ℕ). ListVariables names (first + n) (sources_among ss) fs) count
+          (list_variables names f.high (first + length c.lists) more rest ss fs onward),
     )
 
 pub compiled_is_laid_out : CompiledIsLaidOut
-compiled_is_laid_out names sources o are = record {
-  each = record {
-    as_many = as_many names o.text are.compiled.lists 0 0 o.text are.compiled.lists sources o.functions are.compiled.functions;
-    each = λ n source f s_is f_is.
-        laid_out names o are.compiled.lists are.compiled.section source f (all_at IsSourceFunction sources n source s_is are.read)
-        (compiled_in names sources o are.compiled n source f s_is f_is);
-  };
-  variables = list_variables names 0 0 o.text are.compiled.lists sources o.functions are.compiled.functions;
-  functions = functions_lie names o.text are.compiled.lists 0 0 o.text are.compiled.lists sources o.functions (omega arith) are.compiled.functions;
+compiled_is_laid_out names functions o are = record {
+  each = of_sources IsLaidOut functions o.functions (record {
+    as_many = as_many names o.text are.compiled.lists 0 0 o.text are.compiled.lists functions o.functions are.compiled.functions;
+    each = λ n passed f s_is f_is.
+        laid_out names o are.compiled.lists are.compiled.section passed f (all_at IsPassedFunction functions n passed s_is are.passed)
+        (compiled_in names functions o are.compiled n passed f s_is f_is);
+  });
+  variables = list_variables names 0 0 o.text are.compiled.lists functions o.functions are.compiled.functions;
+  functions = functions_lie names o.text are.compiled.lists 0 0 o.text are.compiled.lists functions o.functions (omega arith) are.compiled.functions;
 }
 
-pub compiled_lists_sources : CompiledListsSources
-compiled_lists_sources names sources o are = record {
-  as_many = as_many names o.text are.compiled.lists 0 0 o.text are.compiled.lists sources o.functions are.compiled.functions;
-  each = λ n source f s_is f_is.
-      lists_framed names o are.compiled.lists are.compiled.section source f (all_at IsSourceFunction sources n source s_is are.read)
-      (compiled_in names sources o are.compiled n source f s_is f_is);
+pub compiled_lists_passed : CompiledListsPassed
+compiled_lists_passed names functions o are = record {
+  as_many = as_many names o.text are.compiled.lists 0 0 o.text are.compiled.lists functions o.functions are.compiled.functions;
+  each = λ n passed f s_is f_is.
+      lists_framed names o are.compiled.lists are.compiled.section passed f (all_at IsPassedFunction functions n passed s_is are.passed)
+      (compiled_in names functions o are.compiled n passed f s_is f_is);
 }

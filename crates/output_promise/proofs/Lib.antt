@@ -2,6 +2,7 @@ pub mod OneWanted
 pub mod Telling
 pub mod Variables
 pub mod Framing
+pub mod Passed
 pub mod Exact
 pub mod Functions
 pub mod Headline

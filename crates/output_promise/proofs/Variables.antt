@@ -1,8 +1,8 @@
 -- Each part that some item marks is one of a variable of its function. And a part that no item marks has no token on any path.
-use Rattle.std.proofs.Common.{◌≡◌, ◌⊎◌, ℕ, suc, List, [], ◌∷◌, ◌++◌, Option, Some, None, Bool, true, false, cond, refl, sym, ap, ◌∙◌, subst, inl, inr, arith}
-use Rattle.std.specs.Prelude.{slice_get, All, ◌||◌}
+use Rattle.std.proofs.Common.{◌≡◌, ◌⊎◌, ℕ, zero, suc, List, [], ◌∷◌, ◌++◌, Option, Some, None, Bool, true, false, cond, refl, sym, ap, ◌∙◌, subst, inl, inr, arith}
+use Rattle.std.specs.Prelude.{slice_get, All, Contains, ◌||◌}
 use Rattle.std.specs.List.{flat_map, list_any}
-use Rattle.std.proofs.lemmas.List.Elements.{All-cons}
+use Rattle.std.proofs.lemmas.List.Elements.{All-cons, All-weaker}
 use Rattle.std.proofs.lemmas.Bool.{and_from}
 use Rattle.mir_func.specs.declared.block.Block.{Block}
 use Rattle.mir_func.specs.Sound.{AllItems}
@@ -20,6 +20,7 @@ use Rattle.path_tokens.specs.Pullback.{OfVariable}
 use Rattle.path_tokens.proofs.Backwards.{tokens_pull_back}
 use Rattle.source_lines.specs.Files.{with_new, first_uses}
 use Rattle.unit_entries.specs.Variables.{whole, marked, marks_of, variables_of_function}
+use Rattle.output_promise.specs.Source.{MarksOneOf}
 
 -- ---- variables of a list
 
@@ -187,6 +188,38 @@ marks_among blocks =
     let marks = flat_map (λ b. marks_of b.items) blocks in
     every_block (variables_of_function blocks) blocks
     (blocks_more marks (variables_of_function blocks) (λ v is. uses_have [] marks v is) blocks (blocks_in blocks))
+
+-- the same in the words of what every pass keeps
+of_one : (vs : List VarId) (v : VarId) → Contains vs (whole v) → Has vs v
+of_one [] v (k, low, is) = absurd (omega (arith, low))
+of_one (x ∷ vs) v (zero, low, is) = inl (subst (λ (z : VarId). is_same_variable v z ≡ true) (sym is) (same_variable_refl v))
+of_one (x ∷ vs) v (suc k, low, is) = inr (of_one vs v (k, omega (arith, low), is))
+
+one_of : (vs : List VarId) (v : VarId) → Wholes vs → Has vs v → Contains vs (whole v)
+one_of [] v are none = absurd none
+one_of (x ∷ vs) v are (inl same) =
+    let is : x ≡ whole v = (λ i. record x { fragment = are.0 i }) ∙ sym (same_wholes v x same) in
+    (0, omega arith, is)
+one_of (x ∷ vs) v are (inr more) = let c = one_of vs v are.1 more in let low = c.1 in (suc c.0, omega (arith, low), c.2)
+
+pub mark_in : (vs : List VarId) (k : ItemKind) → MarksOneOf vs k → MarkIn vs k
+mark_in vs (Mark v m) is = of_one vs v is
+mark_in vs (Code i k) is = tt
+mark_in vs (Phi p k) is = tt
+
+marks_one : (vs : List VarId) → Wholes vs → (k : ItemKind) → MarkIn vs k → MarksOneOf vs k
+marks_one vs are (Mark v m) is = one_of vs v are is
+marks_one vs are (Code i k) is = tt
+marks_one vs are (Phi p k) is = tt
+
+-- a function marks its own variables
+pub own_marks : (blocks : List Block) → AllItems (λ i. MarksOneOf (variables_of_function blocks) i.kind) blocks
+own_marks blocks =
+    let vs = variables_of_function blocks in
+    let are : Wholes vs = wholes_uses [] (flat_map (λ b. marks_of b.items) blocks) tt (blocks_wholes blocks) in
+    All-weaker (λ (b : Block). All (λ i. MarkIn vs i.kind) b.items) (λ (b : Block). All (λ i. MarksOneOf vs i.kind) b.items)
+    (λ b all. All-weaker (λ (i : Item). MarkIn vs i.kind) (λ (i : Item). MarksOneOf vs i.kind) (λ i is. marks_one vs are i.kind is) b.items all)
+    blocks (marks_among blocks)
 
 -- ---- paths
 

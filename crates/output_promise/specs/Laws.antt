@@ -15,42 +15,48 @@ use Rattle.compiled_text.specs.declared.output.ListedFunction.{ListedFunction}
 use Rattle.shown_program.specs.Listing.{listing_of}
 use Rattle.compiled_text.specs.declared.output.Output.{Output}
 use Rattle.output_promise.specs.Compiled.{bytes_of, IsCompiledFunction, IsCompiledProgram}
-use Rattle.output_promise.specs.Promise.{variable_lines, Promises, IsExact, AreLaidOut, ListsSources}
-use Rattle.output_promise.specs.Source.{SourceFunction, IsSourceFunction}
+use Rattle.output_promise.specs.Promise.{variable_lines, Promises, IsExact, AreLaidOut, ListsPassed}
+use Rattle.output_promise.specs.Source.{SourceFunction, IsSourceFunction, PassedFunction, unpassed, sources_among, IsPassedFunction}
 use Rattle.output_promise.specs.Words.{HaveWords}
 
--- the sources are as functions are that are read, and this is their output
-pub record AreCompiledTo (names : ℕ → List ℕ) (sources : List SourceFunction) (o : Output) : Type 0 where
-  pub read : All IsSourceFunction sources
-  pub compiled : IsCompiledProgram names sources o
+-- the functions are as passes make them of sources that were read, and this is their output
+pub record AreCompiledTo (names : ℕ → List ℕ) (functions : List PassedFunction) (o : Output) : Type 0 where
+  pub passed : All IsPassedFunction functions
+  pub compiled : IsCompiledProgram names functions o
 
--- It keeps the promise of its sources: the machine does what they do, and what its lists give holds values of newest assignments.
+-- A source that was read is as passes make it of itself: it follows itself.
+abbrev pub SourcesFollowThemselves : Type 0
+SourcesFollowThemselves = (source : SourceFunction) → IsSourceFunction source → IsPassedFunction (unpassed source)
+
+-- It keeps the promise of the sources: the machine does what they do, and what its lists give holds values of newest assignments.
 abbrev pub CompiledPromises : Type 0
-CompiledPromises = (names : ℕ → List ℕ) (sources : List SourceFunction) (o : Output) → AreCompiledTo names sources o → Promises sources o
+CompiledPromises = (names : ℕ → List ℕ) (functions : List PassedFunction) (o : Output) → AreCompiledTo names functions o →
+    Promises (sources_among functions) o
 
 -- Its lists are exact.
 abbrev pub CompiledIsExact : Type 0
-CompiledIsExact = (names : ℕ → List ℕ) (sources : List SourceFunction) (o : Output) → AreCompiledTo names sources o → IsExact o
+CompiledIsExact = (names : ℕ → List ℕ) (functions : List PassedFunction) (o : Output) → AreCompiledTo names functions o → IsExact o
 
 -- Its functions lie one after the other, and in each its lines.
 abbrev pub CompiledIsLaidOut : Type 0
-CompiledIsLaidOut = (names : ℕ → List ℕ) (sources : List SourceFunction) (o : Output) → AreCompiledTo names sources o → AreLaidOut names sources o
+CompiledIsLaidOut = (names : ℕ → List ℕ) (functions : List PassedFunction) (o : Output) → AreCompiledTo names functions o →
+    AreLaidOut names (sources_among functions) o
 
--- Its lines show the sources with their frames.
-abbrev pub CompiledListsSources : Type 0
-CompiledListsSources = (names : ℕ → List ℕ) (sources : List SourceFunction) (o : Output) → AreCompiledTo names sources o → ListsSources sources o
+-- Its lines show the functions that passes made, with their frames.
+abbrev pub CompiledListsPassed : Type 0
+CompiledListsPassed = (names : ℕ → List ℕ) (functions : List PassedFunction) (o : Output) → AreCompiledTo names functions o → ListsPassed functions o
 
 -- At its lines stand the bytes of their instructions.
 abbrev pub CompiledHasWords : Type 0
-CompiledHasWords = (names : ℕ → List ℕ) (sources : List SourceFunction) (o : Output) → AreCompiledTo names sources o → HaveWords o
+CompiledHasWords = (names : ℕ → List ℕ) (functions : List PassedFunction) (o : Output) → AreCompiledTo names functions o → HaveWords o
 
--- What the code of a compiler makes of a source is compiled of it: its machine code from an address on, the lists of its variables over
--- the code's entries, and the listing of the code's layout.
+-- What the code of a compiler makes of a function that passes made is compiled of it: its machine code from an address on, the lists of its
+-- source's variables over the code's entries, and the listing of the code's layout.
 abbrev pub CodesAreCompiled : Type 0
-CodesAreCompiled = (names : ℕ → List ℕ) (source : SourceFunction) (base first : ℕ) (f : ListedFunction) (code : LaidCode) (lists : List (List Range)) →
-    (is : IsCodeOf (framed_of source.function) base code) → base < MAX_BASE → count_of (framed_of source.function).blocks < MAX_WORDS →
-    size_of source.function ≤ MAX_FRAME →
-    AreListsOf (framed_program (framed_of source.function).blocks (resolve source.substitutions)) (block_start 0) code.entries
-    (variables_of_function source.function.blocks) lists →
-    f ≡ listing_of is.layout (variable_lines names first (variables_of_function source.function.blocks)) source.substitutions →
-    (c : IsCompiledFunction names source base first f) × (bytes_of c.layout ≡ flat_map (to_le_bytes w32) code.words) × (c.lists ≡ lists)
+CodesAreCompiled = (names : ℕ → List ℕ) (p : PassedFunction) (base first : ℕ) (f : ListedFunction) (code : LaidCode) (lists : List (List Range)) →
+    (is : IsCodeOf (framed_of p.function) base code) → base < MAX_BASE → count_of (framed_of p.function).blocks < MAX_WORDS →
+    size_of p.function ≤ MAX_FRAME →
+    AreListsOf (framed_program (framed_of p.function).blocks (resolve p.substitutions)) (block_start 0) code.entries
+    (variables_of_function p.source.function.blocks) lists →
+    f ≡ listing_of is.layout (variable_lines names first (variables_of_function p.source.function.blocks)) p.substitutions →
+    (c : IsCompiledFunction names p base first f) × (bytes_of c.layout ≡ flat_map (to_le_bytes w32) code.words) × (c.lists ≡ lists)

@@ -15,7 +15,7 @@ use Rattle.compiled_text.specs.declared.output.Output.{Output}
 use Rattle.shown_program.specs.Program.{IsLaidOut as LinesLie, IsListedAt, image_of, program_shown, blocks_shown, contents}
 use Rattle.shown_program.specs.Listing.{object_listed}
 use Rattle.shown_program.specs.Settled.{settled}
-use Rattle.output_promise.specs.Source.{SourceFunction, OfEach}
+use Rattle.output_promise.specs.Source.{SourceFunction, PassedFunction, OfEach}
 use Rattle.unit_entries.specs.Variables.{whole, variables_of_function}
 
 -- ---- what its lists give
@@ -94,12 +94,12 @@ Promises sources o = OfEach (MeetsHeadline o) sources o.functions
 abbrev pub IsExact : Output → Type 0
 IsExact o = All (IsExactFor o) o.functions
 
--- the lines show the source's function with its frame, and its substitutions: nothing else is changed on the way. An address of a stack
--- object stands there as one of the object that it leads to
-pub record ListsFramed (source : SourceFunction) (f : ListedFunction) : Type 0 where
-  pub blocks : map contents (blocks_shown f) ≡ map contents (map (settled (framed_of source.function)) (framed_of source.function).blocks)
-  pub substitutions : f.substitutions ≡ source.substitutions
+-- the lines show a function with its frame, as passes made it, and its substitutions: nothing else is changed on the way. An address of a
+-- stack object stands there as one of the object that it leads to
+pub record ListsFramed (p : PassedFunction) (f : ListedFunction) : Type 0 where
+  pub blocks : map contents (blocks_shown f) ≡ map contents (map (settled (framed_of p.function)) (framed_of p.function).blocks)
+  pub substitutions : f.substitutions ≡ p.substitutions
 
--- each source is listed so, in order, and nothing else is
-abbrev pub ListsSources : List SourceFunction → Output → Type 0
-ListsSources sources o = OfEach ListsFramed sources o.functions
+-- each function is listed so, in order, and nothing else is
+abbrev pub ListsPassed : List PassedFunction → Output → Type 0
+ListsPassed functions o = OfEach ListsFramed functions o.functions

@@ -3,44 +3,56 @@
 use Rattle.std.proofs.Common.{◌≡◌, ℕ, suc, ◌+◌, ◌*◌, ◌%◌, ◌≤◌, ◌<◌, List, [], ◌∷◌, ◌++◌, map, length, refl, sym, ap, ◌∙◌, subst, arith}
 use Rattle.std.proofs.Common.{append_assoc, append-nil, length-append}
 use Rattle.std.specs.Prelude.{All}
-use Rattle.std.proofs.lemmas.List.Elements.{All-nil, All-append}
+use Rattle.std.proofs.lemmas.List.Elements.{All-nil, All-push, All-append}
 use Rattle.code_words.specs.Counts.{MAX_WORDS}
 use Rattle.code_words.specs.Laid.{LaidCode}
 use Rattle.code_words.specs.Rule.{words_of}
 use Rattle.compiled_text.specs.declared.output.ListedFunction.{ListedFunction}
 use Rattle.dwarf_loclists.specs.declared.range.Range.{Range}
 use Rattle.dwarf_loclists.specs.Ranges.{Ascend, ArePlaces}
+use Rattle.follow_law.specs.Steps.{Step}
+use Rattle.function_emit.specs.declared.emit.Made.{Made}
+use Rattle.function_emit.specs.Emitted.{names_of, AreWritable, IsPushed}
+use Rattle.function_passes.specs.Passed.{source_of, IsMadeBy, IsCompilable}
 use Rattle.meta_reader.specs.Maps.{Maps}
 use Rattle.mir_body.specs.Limits.{MAX_ITEMS}
 use Rattle.mir_func.specs.Function.{Function}
 use Rattle.mir_parser.specs.declared.closing.Parsed.{Parsed}
 use Rattle.output_promise.proofs.Functions.{words_length}
-use Rattle.output_promise.specs.Compiled.{IsCompiledFunction, AreCompiled, bytes_of}
-use Rattle.program_compiler.specs.declared.function.Made.{Made}
-use Rattle.program_compiler.specs.Program.{source_of, sources_of, names_of, AreCoded}
-use Rattle.program_compiler.specs.steps.Made.{AreWritable, IsPushed, AreMade}
+use Rattle.output_promise.specs.Compiled.{AreCompiled, bytes_of}
+use Rattle.output_promise.specs.Source.{PassedFunction}
+use Rattle.program_compiler.specs.Program.{ArePassed, AreCoded}
+use Rattle.program_compiler.specs.steps.Made.{AreMade}
 
-pub record SoFar (meta : Maps) (all rest : List Parsed) (m : Made) : Type 0 where
-  pub onward : (text : List ℕ) (lists : List (List Range)) (fs : List ListedFunction) →
-      AreCompiled (names_of meta) (length m.text) (length m.lists) text lists (sources_of rest) fs →
-      AreCompiled (names_of meta) 0 0 (m.text ++ text) (m.lists ++ lists) (sources_of all) (m.functions ++ fs)
-  pub codes : (cs : List LaidCode) → AreCoded (length m.text) (map (λ p. p.func) rest) cs → AreCoded 0 (map (λ p. p.func) all) (m.codes ++ cs)
+pub record SoFar (meta : Maps) (steps : List Step) (all rest : List Parsed) (m : Made) : Type 0 where
+  pub passed : List PassedFunction
+  pub are : (ps : List PassedFunction) → ArePassed meta rest ps → ArePassed meta all (passed ++ ps)
+  pub made : All (IsMadeBy steps) passed
+  pub onward : (ps : List PassedFunction) (text : List ℕ) (lists : List (List Range)) (fs : List ListedFunction) →
+      AreCompiled (names_of meta) (length m.text) (length m.lists) text lists ps fs →
+      AreCompiled (names_of meta) 0 0 (m.text ++ text) (m.lists ++ lists) (passed ++ ps) (m.functions ++ fs)
+  pub codes : (ps : List PassedFunction) (cs : List LaidCode) → AreCoded (length m.text) (map (λ p. p.function) ps) cs →
+      AreCoded 0 (map (λ p. p.function) (passed ++ ps)) (m.codes ++ cs)
   pub writable : AreWritable m.lists
   pub aligned : length m.text % 4 ≡ 0
   pub few_bytes : length m.text + length rest * (4 * MAX_WORDS) ≤ length all * (4 * MAX_WORDS)
   pub few_lists : length m.lists + length rest * MAX_ITEMS ≤ length all * MAX_ITEMS
 
-pub begins : (meta : Maps) (all : List Parsed) → SoFar meta all all (record { text = []; lists = []; functions = []; codes = [] })
-begins meta all = record {
-  onward = λ text lists fs are. are;
-  codes = λ cs are. are;
+pub begins : (meta : Maps) (steps : List Step) (all : List Parsed) →
+    SoFar meta steps all all (record { text = []; lists = []; functions = []; codes = [] })
+begins meta steps all = record {
+  passed = [];
+  are = λ ps are. are;
+  made = All-nil (IsMadeBy steps);
+  onward = λ ps text lists fs are. are;
+  codes = λ ps cs are. are;
   writable = record { ascend = All-nil Ascend; places = All-nil ArePlaces };
   aligned = refl;
   few_bytes = omega arith;
   few_lists = omega arith;
 }
 
-module _ (meta : Maps) (p : Parsed) (m n : Made) (one : IsPushed meta p m n) where
+module _ (meta : Maps) (p : PassedFunction) (m n : Made) (one : IsPushed meta p m n) where
   bytes_length : length (bytes_of one.compiled.layout) ≡ 4 * length (words_of one.compiled.layout)
   bytes_length = words_length (words_of one.compiled.layout)
 
@@ -64,31 +76,41 @@ module _ (meta : Maps) (p : Parsed) (m n : Made) (one : IsPushed meta p m n) whe
       let below = one.few_words in
       omega (arith, e, below)
 
-  pub more : (all rest : List Parsed) → SoFar meta all (p ∷ rest) m → SoFar meta all rest n
-  more all rest so = record {
-    onward = λ text lists fs are.
-        let A : ℕ → ℕ → Type 0 = λ b k. AreCompiled (names_of meta) b k text lists (sources_of rest) fs in
+  pub more : (steps : List Step) (all rest : List Parsed) (f : Parsed) → p.source ≡ source_of f → IsCompilable meta p → IsMadeBy steps p →
+      SoFar meta steps all (f ∷ rest) m →
+      SoFar meta steps all rest n
+  more steps all rest f of is by so = record {
+    passed = so.passed ++ p ∷ [];
+    are = λ ps are. subst (ArePassed meta all) (sym (append_assoc so.passed (p ∷ []) ps)) (so.are (p ∷ ps) (of, is, are));
+    made = All-push (IsMadeBy steps) so.passed p so.made by;
+    onward = λ ps text lists fs are.
+        let A : ℕ → ℕ → Type 0 = λ b k. AreCompiled (names_of meta) b k text lists ps fs in
         let from : A one.listed.high (length m.lists + length one.compiled.lists) =
         subst (λ (b : ℕ). A b (length m.lists + length one.compiled.lists)) (sym high_is) (subst (A (length n.text)) lists_length are) in
-        let whole = so.onward (bytes_of one.compiled.layout ++ text) (one.compiled.lists ++ lists) (one.listed ∷ fs)
+        let whole = so.onward (p ∷ ps) (bytes_of one.compiled.layout ++ text) (one.compiled.lists ++ lists) (one.listed ∷ fs)
         (one.compiled, text, lists, refl, refl, from) in
+        let passed_is : so.passed ++ (p ∷ ps) ≡ (so.passed ++ p ∷ []) ++ ps = sym (append_assoc so.passed (p ∷ []) ps) in
         let text_is : m.text ++ (bytes_of one.compiled.layout ++ text) ≡ n.text ++ text =
         sym (append_assoc m.text (bytes_of one.compiled.layout) text) ∙ ap (λ (t : List ℕ). t ++ text) (sym one.text) in
         let lists_is : m.lists ++ (one.compiled.lists ++ lists) ≡ n.lists ++ lists =
         sym (append_assoc m.lists one.compiled.lists lists) ∙ ap (λ (t : List (List Range)). t ++ lists) (sym one.lists) in
         let functions_is : m.functions ++ (one.listed ∷ fs) ≡ n.functions ++ fs =
         sym (append_assoc m.functions (one.listed ∷ []) fs) ∙ ap (λ (t : List ListedFunction). t ++ fs) (sym one.functions) in
-        subst (λ (t : List ℕ). AreCompiled (names_of meta) 0 0 t (n.lists ++ lists) (sources_of all) (n.functions ++ fs)) text_is
-        (subst (λ (t : List (List Range)). AreCompiled (names_of meta) 0 0 (m.text ++ (bytes_of one.compiled.layout ++ text)) t (sources_of all)
-        (n.functions ++ fs)) lists_is
+        subst (λ (t : List ℕ). AreCompiled (names_of meta) 0 0 t (n.lists ++ lists) ((so.passed ++ p ∷ []) ++ ps) (n.functions ++ fs)) text_is
+        (subst (λ (t : List (List Range)). AreCompiled (names_of meta) 0 0 (m.text ++ (bytes_of one.compiled.layout ++ text)) t
+        ((so.passed ++ p ∷ []) ++ ps) (n.functions ++ fs)) lists_is
+        (subst (λ (t : List PassedFunction). AreCompiled (names_of meta) 0 0 (m.text ++ (bytes_of one.compiled.layout ++ text))
+        (m.lists ++ (one.compiled.lists ++ lists)) t (n.functions ++ fs)) passed_is
         (subst (λ (t : List ListedFunction). AreCompiled (names_of meta) 0 0 (m.text ++ (bytes_of one.compiled.layout ++ text))
-        (m.lists ++ (one.compiled.lists ++ lists)) (sources_of all) t) functions_is whole));
-    codes = λ cs are.
-        let from : AreCoded (length m.text + 4 * length one.code.words) (map (λ q. q.func) rest) cs =
-        subst (λ (b : ℕ). AreCoded b (map (λ q. q.func) rest) cs) (sym end_is) are in
+        (m.lists ++ (one.compiled.lists ++ lists)) (so.passed ++ (p ∷ ps)) t) functions_is whole)));
+    codes = λ ps cs are.
+        let from : AreCoded (length m.text + 4 * length one.code.words) (map (λ q. q.function) ps) cs =
+        subst (λ (b : ℕ). AreCoded b (map (λ q. q.function) ps) cs) (sym end_is) are in
         let codes_is : m.codes ++ (one.code ∷ cs) ≡ n.codes ++ cs =
         sym (append_assoc m.codes (one.code ∷ []) cs) ∙ ap (λ (t : List LaidCode). t ++ cs) (sym one.codes) in
-        subst (λ (t : List LaidCode). AreCoded 0 (map (λ q. q.func) all) t) codes_is (so.codes (one.code ∷ cs) (one.coded, from));
+        subst (λ (t : List PassedFunction). AreCoded 0 (map (λ q. q.function) t) (n.codes ++ cs)) (sym (append_assoc so.passed (p ∷ []) ps))
+        (subst (λ (t : List LaidCode). AreCoded 0 (map (λ q. q.function) (so.passed ++ (p ∷ ps))) t) codes_is
+        (so.codes (p ∷ ps) (one.code ∷ cs) (one.coded, from)));
     writable = record {
       ascend = subst (All Ascend) (sym one.lists) (All-append Ascend m.lists one.compiled.lists so.writable.ascend one.writable.ascend);
       places = subst (All ArePlaces) (sym one.lists) (All-append ArePlaces m.lists one.compiled.lists so.writable.places one.writable.places);
@@ -109,14 +131,20 @@ module _ (meta : Maps) (p : Parsed) (m n : Made) (one : IsPushed meta p m n) whe
         omega (arith, long, below, was);
   }
 
-pub all_made : (meta : Maps) (all : List Parsed) (m : Made) → SoFar meta all [] m → AreMade meta all m
-all_made meta all m so = record {
+pub all_made : (meta : Maps) (steps : List Step) (all : List Parsed) (m : Made) → SoFar meta steps all [] m → AreMade meta steps all m
+all_made meta steps all m so = record {
+  passed = so.passed;
+  are = subst (ArePassed meta all) (append-nil so.passed) (so.are [] tt);
+  made = so.made;
   compiled =
-      subst (λ (t : List ℕ). AreCompiled (names_of meta) 0 0 t m.lists (sources_of all) m.functions) (append-nil m.text)
-      (subst (λ (t : List (List Range)). AreCompiled (names_of meta) 0 0 (m.text ++ []) t (sources_of all) m.functions) (append-nil m.lists)
-      (subst (λ (t : List ListedFunction). AreCompiled (names_of meta) 0 0 (m.text ++ []) (m.lists ++ []) (sources_of all) t) (append-nil m.functions)
-      (so.onward [] [] [] (refl, refl))));
-  coded = subst (λ (t : List LaidCode). AreCoded 0 (map (λ q. q.func) all) t) (append-nil m.codes) (so.codes [] tt);
+      subst (λ (t : List ℕ). AreCompiled (names_of meta) 0 0 t m.lists so.passed m.functions) (append-nil m.text)
+      (subst (λ (t : List (List Range)). AreCompiled (names_of meta) 0 0 (m.text ++ []) t so.passed m.functions) (append-nil m.lists)
+      (subst (λ (t : List PassedFunction). AreCompiled (names_of meta) 0 0 (m.text ++ []) (m.lists ++ []) t m.functions) (append-nil so.passed)
+      (subst (λ (t : List ListedFunction). AreCompiled (names_of meta) 0 0 (m.text ++ []) (m.lists ++ []) (so.passed ++ []) t) (append-nil m.functions)
+      (so.onward [] [] [] [] (refl, refl)))));
+  coded =
+      subst (λ (t : List PassedFunction). AreCoded 0 (map (λ q. q.function) t) m.codes) (append-nil so.passed)
+      (subst (λ (t : List LaidCode). AreCoded 0 (map (λ q. q.function) (so.passed ++ [])) t) (append-nil m.codes) (so.codes [] [] tt));
   writable = so.writable;
   aligned = so.aligned;
   few_bytes = let was = so.few_bytes in omega (arith, was);
@@ -129,3 +157,10 @@ coded_length base [] [] are = refl
 coded_length base [] (c ∷ cs) are = absurd are
 coded_length base (f ∷ fs) [] are = absurd are
 coded_length base (f ∷ fs) (c ∷ cs) are = ap (λ (n : ℕ). suc n) (coded_length (base + 4 * length c.words) fs cs are.1)
+
+-- and passes make as many
+pub passed_length : (meta : Maps) (fs : List Parsed) (ps : List PassedFunction) → ArePassed meta fs ps → length ps ≡ length fs
+passed_length meta [] [] are = refl
+passed_length meta [] (p ∷ ps) are = absurd are
+passed_length meta (f ∷ fs) [] are = absurd are
+passed_length meta (f ∷ fs) (p ∷ ps) are = ap (λ (n : ℕ). suc n) (passed_length meta fs ps are.2)

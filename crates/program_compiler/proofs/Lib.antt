@@ -1,5 +1,3 @@
-pub mod Few
 pub mod Listed
-pub mod Located
 pub mod Behind
-pub mod Pushed
+pub mod Passed

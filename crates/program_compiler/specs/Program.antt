@@ -1,5 +1,5 @@
 -- What compiling makes of a program that was read.
-use Rattle.std.specs.Prelude.{◌≡◌, ℕ, ◌+◌, ◌*◌, ◌<◌, ◌≤◌, ◌^◌, ◌⊎◌, List, [], ◌∷◌, length, map, Contains}
+use Rattle.std.specs.Prelude.{◌≡◌, ℕ, ◌+◌, ◌*◌, ◌<◌, ◌≤◌, ◌⊎◌, List, [], ◌∷◌, length, map, All, Contains}
 use Rattle.code_words.specs.Laid.{LaidCode, IsCodeOf}
 use Rattle.compiled_text.specs.declared.output.ListedFunction.{ListedFunction}
 use Rattle.compiled_text.specs.declared.output.Output.{Output}
@@ -9,33 +9,35 @@ use Rattle.dwarf_info.specs.Kinds.{abbreviations}
 use Rattle.dwarf_line.specs.Spelling.{spelling as rows_spelling}
 use Rattle.dwarf_loclists.specs.declared.range.Range.{Range}
 use Rattle.dwarf_loclists.specs.Spelling.{spelling as lists_spelling}
+use Rattle.follow_law.specs.Steps.{Step}
 use Rattle.frame_rule.specs.Rule.{size_of, framed_of}
-use Rattle.function_listing.specs.Variables.{name_of}
+use Rattle.function_emit.specs.Emitted.{names_of}
+use Rattle.function_passes.specs.Passed.{source_of, IsMadeBy, IsCompilable}
 use Rattle.meta_reader.specs.Maps.{Maps}
-use Rattle.meta_reader.specs.Metadata.{variable_at}
 use Rattle.mir_func.specs.Function.{Function}
 use Rattle.mir_func.specs.Limits.{MAX_FRAME}
 use Rattle.mir_parser.specs.declared.closing.Parsed.{Parsed}
 use Rattle.mir_parser.specs.declared.program.Program.{Program}
-use Rattle.output_promise.specs.Compiled.{AreCompiled}
-use Rattle.output_promise.specs.Source.{SourceFunction}
+use Rattle.output_promise.specs.Compiled.{AreCompiled, IsCompiledProgram}
+use Rattle.output_promise.specs.Source.{SourceFunction, PassedFunction}
 use Rattle.source_lines.specs.declared.compiled.Compiled.{Compiled}
 use Rattle.source_lines.specs.Program.{table_of}
 use Rattle.unit_entries.specs.Unit.{unit_of}
 
 -- ---- sources
 
--- a function as it was read, with its debug value substitutions
-abbrev pub source_of : Parsed → SourceFunction
-source_of p = record { function = p.func; substitutions = p.subs }
-
 -- the sources of functions that were read
 abbrev pub sources_of : List Parsed → List SourceFunction
 sources_of functions = map source_of functions
 
--- the name of the variable that a node describes
-abbrev pub names_of : Maps → (node : ℕ) → List ℕ
-names_of meta node = name_of (variable_at meta node)
+-- ---- passes
+
+-- what passes made of each of some functions that were read
+abbrev pub ArePassed : (meta : Maps) → List Parsed → List PassedFunction → Type 0
+ArePassed meta [] [] = Unit {0}
+ArePassed meta [] (p ∷ ps) = ⊥
+ArePassed meta (f ∷ fs) [] = ⊥
+ArePassed meta (f ∷ fs) (p ∷ ps) = (p.source ≡ source_of f) × IsCompilable meta p × ArePassed meta fs ps
 
 -- ---- machine code
 
@@ -46,44 +48,60 @@ AreCoded base [] (c ∷ cs) = ⊥
 AreCoded base (f ∷ fs) [] = ⊥
 AreCoded base (f ∷ fs) (c ∷ cs) = IsCodeOf (framed_of f) base c × AreCoded (base + 4 * length c.words) fs cs
 
--- functions that were read, each with its machine code: they lie one after the other from address 0
-pub record HaveCode (functions : List Parsed) (compiled : List Compiled) : Type 0 where
-  pub sources : map (λ c. c.source.now) compiled ≡ map (λ p. p.func) functions
-  pub coded : AreCoded 0 (map (λ p. p.func) functions) (map (λ c. c.code.now) compiled)
+-- functions that were read, each with the machine code of what passes made of it: they lie one after the other from address 0
+pub record HaveCode (functions : List PassedFunction) (compiled : List Compiled) : Type 0 where
+  pub sources : map (λ c. c.source.now) compiled ≡ map (λ p. p.source.function) functions
+  pub coded : AreCoded 0 (map (λ p. p.function) functions) (map (λ c. c.code.now) compiled)
 
 -- ---- sections
 
 -- the sections of a program's entries and lines are the spellings of its unit and of its line number table, and no section is too large
-pub record HasSections (p : Program) (o : Output) : Type 0 where
+pub record HasSections (meta : Maps) (functions : List PassedFunction) (o : Output) : Type 0 where
   pub compiled : List Compiled
-  pub coded : HaveCode p.functions compiled
+  pub coded : HaveCode functions compiled
   pub abbreviations : o.abbreviations ≡ abbreviations
-  pub info : o.info ≡ entries_spelling (unit_of p.meta (length o.text) compiled)
-  pub rows : o.rows ≡ rows_spelling (table_of p.meta compiled)
+  pub info : o.info ≡ entries_spelling (unit_of meta (length o.text) compiled)
+  pub rows : o.rows ≡ rows_spelling (table_of meta compiled)
   pub text_small : length o.text < SECTION_LIMIT
   pub info_small : length o.info < SECTION_LIMIT
   pub rows_small : length o.rows < SECTION_LIMIT
   pub loclists_small : length o.loclists < SECTION_LIMIT
 
+-- ---- outputs
+
+-- the output is compiled of what steps of passes made of a program's functions, with all its sections
+pub record IsOutputOf (steps : List Step) (p : Program) (o : Output) : Type 0 where
+  pub functions : List PassedFunction
+  pub passed : ArePassed p.meta p.functions functions
+  pub made : All (IsMadeBy steps) functions
+  pub compiled : IsCompiledProgram (names_of p.meta) functions o
+  pub sections : HasSections p.meta functions o
+
 -- ---- programs that have no output
 
--- the frame of one of the functions is too large
-pub record HasLargeFrame (functions : List Parsed) : Type 0 where
+-- the frame of what steps of passes made of one of the functions is too large
+pub record HasLargeFrame (steps : List Step) (functions : List Parsed) : Type 0 where
   pub function : Parsed
   pub among : Contains functions function
-  pub large : MAX_FRAME < size_of function.func
+  pub passed : PassedFunction
+  pub source : passed.source ≡ source_of function
+  pub made : IsMadeBy steps passed
+  pub large : MAX_FRAME < size_of passed.function
 
 -- one of these is too large as a section: the lists, the unit, and the line number table
 abbrev pub IsLarge : (meta : Maps) → (text_len : ℕ) → List (List Range) → List Compiled → Type 0
 IsLarge meta text_len lists compiled = (SECTION_LIMIT ≤ length (lists_spelling lists)) ⊎
     ((SECTION_LIMIT ≤ length (entries_spelling (unit_of meta text_len compiled))) ⊎ (SECTION_LIMIT ≤ length (rows_spelling (table_of meta compiled))))
 
--- what its functions are compiled to has a section that is too large
-pub record HasLargeSection (p : Program) : Type 0 where
+-- what its functions are compiled to after steps of passes has a section that is too large
+pub record HasLargeSection (steps : List Step) (p : Program) : Type 0 where
+  pub functions : List PassedFunction
+  pub passed : ArePassed p.meta p.functions functions
+  pub made : All (IsMadeBy steps) functions
   pub text : List ℕ
   pub lists : List (List Range)
   pub listed : List ListedFunction
   pub compiled : List Compiled
-  pub made : AreCompiled (names_of p.meta) 0 0 text lists (sources_of p.functions) listed
-  pub coded : HaveCode p.functions compiled
+  pub laid : AreCompiled (names_of p.meta) 0 0 text lists functions listed
+  pub coded : HaveCode functions compiled
   pub large : IsLarge p.meta (length text) lists compiled

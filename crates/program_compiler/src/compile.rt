@@ -1,17 +1,20 @@
 //! The compiling of a program.
 
-ghost use Rattle.std.specs.Prelude.{◌≡◌, ◌≤◌, ◌<◌, IfOk, IsErrOf, length};
-ghost use Rattle.output_promise.specs.Compiled.{IsCompiledProgram};
-ghost use Rattle.program_compiler.specs.Program.{sources_of, names_of, HasSections, HasLargeFrame, HasLargeSection};
+ghost use Rattle.std.specs.Prelude.{◌≡◌, ◌<◌, [], IfOk, IsErrOf};
+ghost use Rattle.pass_list.specs.Names.{AreDistinct};
+ghost use Rattle.pass_loop.specs.Passes.{steps_of};
+ghost use Rattle.program_compiler.specs.Program.{IsOutputOf, HasLargeFrame, HasLargeSection};
 ghost use Rattle.program_compiler.specs.declared.compile.CompileError.TheVariants.{Memory};
 ghost use Rattle.program_compiler.specs.steps.Made.{AreMade};
-ghost use Rattle.program_compiler.specs.steps.Fault.{of_section};
+ghost use Rattle.program_compiler.specs.steps.Fault.{of_emit, of_section};
 ghost use Rattle.reading_laws.specs.Read.{IsReadProgram};
 
-use crate::function::{Made, made_of};
+use crate::function::made_of;
 use compiled_text::output::Output;
 use dwarf_info::abbreviation::write_abbrev;
+use function_emit::emit::{EmitError, Made};
 use mir_parser::program::Program;
+use pass_list::kind::PassKind;
 use program_sections::sections::{SectionError, info, loclists, rows, with_code};
 use std::alloc::{AllocError, Global};
 use thiserror::Error;
@@ -38,6 +41,17 @@ impl From<AllocError> for CompileError {
     }
 }
 
+impl From<EmitError> for CompileError {
+    ghost from_gives = { λ e c. c ≡ of_emit e };
+
+    fn from(e: EmitError) -> CompileError {
+        match e {
+            EmitError::FrameTooLarge => CompileError::FrameTooLarge,
+            EmitError::Memory => CompileError::Memory,
+        }
+    }
+}
+
 impl From<SectionError> for CompileError {
     ghost from_gives = { λ e c. c ≡ of_section e };
 
@@ -49,30 +63,41 @@ impl From<SectionError> for CompileError {
     }
 }
 
-/// The output of a program that was read, without passes: each function with its frame, one after the other from
-/// address 0, and the lists of its variables. It is `FrameTooLarge` where a function's frame would have more than
-/// 2,032 bytes, and otherwise `SectionTooLarge` exactly where a section would have 2^31 bytes or more.
-pub fn compile(alloc: Global, program: &Program) -> Result<Output, CompileError>
-    requires { IsReadProgram program.now }
-    ensures compiled { IfOk result
-        (IsCompiledProgram (names_of program.now.meta) (sources_of program.now.functions)) }
-    ensures sections { IfOk result (HasSections program.now) }
-    ensures frame_too_large { IsErrOf result CompileError.FrameTooLarge → HasLargeFrame program.now.functions }
-    ensures section_too_large { IsErrOf result CompileError.SectionTooLarge → HasLargeSection program.now }
+/// The output of a program that was read: of each function what passes make of it, with its frame, one after the
+/// other from address 0, and the lists of the variables of the function that was read. It is `FrameTooLarge` where
+/// such a function's frame would have more than 2,032 bytes, and otherwise `SectionTooLarge` exactly where a section
+/// would have 2^31 bytes or more.
+pub fn compile(
+    alloc: Global,
+    program: &Program,
+    passes: &[PassKind],
+) -> Result<Output, CompileError>
+    requires read { IsReadProgram program.now }
+    requires distinct { AreDistinct passes.now }
+    ensures output { IfOk result (IsOutputOf (steps_of passes.now) program.now) }
+    ensures frame_too_large { IsErrOf result CompileError.FrameTooLarge →
+        HasLargeFrame (steps_of passes.now) program.now.functions }
+    ensures section_too_large { IsErrOf result CompileError.SectionTooLarge →
+        HasLargeSection (steps_of passes.now) program.now }
 {
-    let made = made_of(alloc, &program.meta, program.functions.as_slice())?;
-    output(alloc, program, made)
+    let made = made_of(alloc, &program.meta, program.functions.as_slice(), passes)?;
+    output(alloc, program, made, passes)
 }
 
-/// The output of functions that are compiled.
-fn output(alloc: Global, program: &Program, made: Made) -> Result<Output, CompileError>
+/// The output of functions that are compiled after passes.
+#[tactic(auto, using(crate::proofs::Passed::have_code))]
+fn output(
+    alloc: Global,
+    program: &Program,
+    made: Made,
+    _passes: &[PassKind],
+) -> Result<Output, CompileError>
     requires read { IsReadProgram program.now }
-    requires made { AreMade program.now.meta program.now.functions made }
-    ensures compiled { IfOk result
-        (IsCompiledProgram (names_of program.now.meta) (sources_of program.now.functions)) }
-    ensures sections { IfOk result (HasSections program.now) }
+    requires made { AreMade program.now.meta (steps_of _passes.now) program.now.functions made }
+    ensures output { IfOk result (IsOutputOf (steps_of _passes.now) program.now) }
     ensures no_frame { IsErrOf result CompileError.FrameTooLarge → ⊥ }
-    ensures section_too_large { IsErrOf result CompileError.SectionTooLarge → HasLargeSection program.now }
+    ensures section_too_large { IsErrOf result CompileError.SectionTooLarge →
+        HasLargeSection (steps_of _passes.now) program.now }
 {
     let meta = &program.meta;
     let Made {

@@ -5,6 +5,7 @@ ghost use Rattle.reading_laws.specs.Read.{IsReadProgram};
 
 use mir_parser::error::ParseError;
 use mir_parser::program::{Program, read_program};
+use pass_list::kind::PassKind;
 use program_compiler::compile::{CompileError, compile};
 use std::alloc::Global;
 use std::test::Fail;
@@ -139,7 +140,7 @@ fn programs(rt: HostRuntime) -> Result<(), Fail> {
         let mut text = String::from_str(alloc, HEADER)?;
         text.push_str(row.lines)?;
         let program = program(alloc, text.as_str())?;
-        let output = compile(alloc, &program)?;
+        let output = compile(alloc, &program, &[])?;
         assert_eq!(rt; output.text.as_slice(), row.text);
         assert_eq!(rt; output.loclists.as_slice(), row.loclists);
         assert_eq!(rt; output.info.len(), row.info);
@@ -150,6 +151,34 @@ fn programs(rt: HostRuntime) -> Result<(), Fail> {
             assert_eq!(rt; (function.low, function.high), *lie);
         }
     }
+    Ok(())
+}
+
+/// A constant that is stored and loaded is set again, and stays in its variable.
+#[test]
+fn constants_are_set_again(rt: HostRuntime) -> Result<(), Fail> {
+    let alloc = rt.alloc();
+    let mut text = String::from_str(alloc, HEADER)?;
+    text.push_str(
+        "stack:
+  - { id: 0, size: 8 }
+body: |
+  bb.0:
+    $x11 = ADDI $x0, 5
+    SD $x11, %stack.0, 0
+    $x10 = LD %stack.0, 0, debug-instr-number 1
+    DBG_INSTR_REF !4, !DIExpression(DW_OP_LLVM_arg, 0), dbg-instr-ref(1, 0)
+    PseudoRET implicit $x10
+...
+",
+    )?;
+    let program = program(alloc, text.as_str())?;
+    let output = compile(alloc, &program, &[PassKind::Remat])?;
+    let code =
+        b"\x13\x01\x01\xff\x93\x05\x50\x00\x23\x30\xb1\x00\x13\x05\x50\x00\x13\x01\x01\x01\x67\x80\x00\x00";
+    assert_eq!(rt; output.text.as_slice(), code.as_slice());
+    let lists = output.loclists.as_slice();
+    assert!(rt; lists.ends_with(b"\x04\x10\x18\x03\x11\x05\x9f\x00"));
     Ok(())
 }
 
@@ -165,7 +194,7 @@ fn frames_up_to_the_limit(rt: HostRuntime) -> Result<(), Fail> {
         text.push_str(size)?;
         text.push_str(" }\nbody: |\n  bb.0:\n    PseudoRET\n...\n")?;
         let program = program(alloc, text.as_str())?;
-        match compile(alloc, &program) {
+        match compile(alloc, &program, &[]) {
             Ok(_) => assert!(rt; fits),
             Err(CompileError::FrameTooLarge) => assert!(rt; !fits),
             Err(error) => return Err(Fail::from(error)),

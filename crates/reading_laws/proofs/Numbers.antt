@@ -1,4 +1,4 @@
--- The numbers that a document declares are within their limits: those of stack entries, so of objects, and those of substitutions.
+-- The numbers that a document declares are within their limits: those of stack entries, so of slots and objects, and those of substitutions.
 use Rattle.std.proofs.Common.{◌≡◌, ℕ, ◌≤◌, Bool, true, false, cond, ◌&&◌, ◌||◌, not, List, [], ◌∷◌, ◌++◌, All, Option, Some, None, Result, Ok, Err}
 use Rattle.std.proofs.Common.{subst, arith}
 use Rattle.std.specs.Prelude.{IfSome, codes, is_none, is_some}
@@ -29,7 +29,7 @@ use Rattle.mir_declarations.specs.Stack.{is_alignment, entry_with, unsized, stac
 use Rattle.mir_declarations.specs.Stream.{text_at}
 use Rattle.mir_declarations.specs.Substitutions.{pair_of, substitution_with, substitution_of, substituted, substitutions_behind}
 use Rattle.mir_body.specs.declared.frame.Laid.{Laid}
-use Rattle.mir_body.specs.Frame.{is_object, laid_at, with_object, objects_behind, objects_of}
+use Rattle.mir_body.specs.Frame.{is_object, with_slot, slots_behind, slots_of, laid_at, with_object, objects_behind, objects_of}
 use Rattle.reading_laws.specs.Read.{PairIsLimited, EntryIsLimited}
 use Rattle.reading_laws.proofs.Nodes.{Small, one_of, integer_small}
 
@@ -172,3 +172,20 @@ objects_more named laid (e ∷ es) small all = objects_more named (with_object n
 -- the objects among stack entries with small numbers
 pub objects_small : (named : List ℕ) (es : List StackEntry) → All HasSmallId es → All IsSmall (objects_of named es).objects
 objects_small named es small = objects_more named (record { objects = []; end = 0 }) es small (All-nil IsSmall)
+
+-- ---- slots
+
+slot_more : (b : Bool) (slots : List ℕ) (n : ℕ) → n ≤ MAX_NUMBER → All (λ k. k ≤ MAX_NUMBER) slots → All (λ k. k ≤ MAX_NUMBER) (cond b slots (slots ++ n ∷ []))
+slot_more true slots n small all = all
+slot_more false slots n small all = All-push (λ k. k ≤ MAX_NUMBER) slots n all small
+
+slots_more : (named slots : List ℕ) (es : List StackEntry) → All HasSmallId es → All (λ k. k ≤ MAX_NUMBER) slots →
+    All (λ k. k ≤ MAX_NUMBER) (slots_behind named slots es)
+unfolding slots_behind
+slots_more named slots [] small all = all
+slots_more named slots (e ∷ es) small all = slots_more named (with_slot named slots e) es (All-tail HasSmallId e es small)
+    (slot_more (is_object named e) slots e.id (All-head HasSmallId e es small) all)
+
+-- the slots among stack entries with small numbers
+pub slots_small : (named : List ℕ) (es : List StackEntry) → All HasSmallId es → All (λ k. k ≤ MAX_NUMBER) (slots_of named es)
+slots_small named es small = slots_more named [] es small (All-nil (λ k. k ≤ MAX_NUMBER))

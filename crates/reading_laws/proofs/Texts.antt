@@ -49,7 +49,7 @@ use Rattle.mir_parser.proofs.Judged.{judged_line}
 use Rattle.reading_laws.proofs.Kept.{physical, IsKept, item_kept}
 use Rattle.reading_laws.proofs.Labels.{ids_small, blocks_small}
 use Rattle.reading_laws.proofs.Nodes.{Small, IsLimited, node_limited}
-use Rattle.reading_laws.proofs.Numbers.{DeclaresSmall, declares_small, objects_small}
+use Rattle.reading_laws.proofs.Numbers.{DeclaresSmall, declares_small, objects_small, slots_small}
 use Rattle.mir_parser.proofs.Soundness.{sound_if_ends_well}
 use Rattle.mir_parser.proofs.Renamed.{ids_as, items_as, blocks_kept}
 
@@ -91,6 +91,7 @@ module _ (meta : Maps) (d : Declarations) (body : Body) (all : (n : ℕ) → is_
     few_items = omega (arith, items_as ids (blocks_of body), is.counted, is.few);
     ids = blocks_small ids (blocks_of body) (subst (λ (ns : List ℕ). All Small ns) is.ids small);
     objects = objects_small body.objects d.stack declares.stack;
+    slots = slots_small body.objects d.stack declares.stack;
   } where
     blocks : List Block
     blocks = blocks_as ids (blocks_of body)

@@ -52,6 +52,7 @@ pub record IsReadFunction (meta : Maps) (f : Function) : Type 0 where
   pub few_items : length (items_of f.blocks) ≤ MAX_ITEMS
   pub ids : All (λ b. b.id ≤ MAX_NUMBER) f.blocks
   pub objects : All (λ o. o.id ≤ MAX_NUMBER) f.objects
+  pub slots : All (λ n. n ≤ MAX_NUMBER) f.slots
 
 -- A program as it was read: it has few functions, each is as it was read, and so are their substitutions and the metadata.
 pub record IsReadProgram (p : Program) : Type 0 where

@@ -1,4 +1,6 @@
--- Why a program has no output, if a section isn't written.
+-- Why a program has no output, if a function isn't compiled or a section isn't written.
+use Rattle.function_emit.specs.declared.emit.EmitError.{EmitError}
+use Rattle.function_emit.specs.declared.emit.EmitError.TheVariants as emitting
 use Rattle.program_sections.specs.declared.sections.SectionError.{SectionError}
 use Rattle.program_sections.specs.declared.sections.SectionError.TheVariants as sections
 use Rattle.program_compiler.specs.declared.compile.CompileError.{CompileError}
@@ -8,3 +10,8 @@ use Rattle.program_compiler.specs.declared.compile.CompileError.TheVariants as c
 abbrev pub of_section : SectionError → CompileError
 of_section sections.TooLarge = compiling.SectionTooLarge
 of_section sections.Memory = compiling.Memory
+
+-- a frame that is too large, or want of memory
+abbrev pub of_emit : EmitError → CompileError
+of_emit emitting.FrameTooLarge = compiling.FrameTooLarge
+of_emit emitting.Memory = compiling.Memory

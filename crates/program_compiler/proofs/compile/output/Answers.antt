@@ -1,16 +1,18 @@
 use Rattle.std.proofs.Common.{◌≡◌, ℕ, ◌+◌, ◌*◌, ◌<◌, ◌≤◌, List, length, map, sym, ap, ◌∙◌, arith, rules}
 use Rattle.std.proofs.lemmas.List.{length-map}
 use Rattle.mir_parser.specs.declared.closing.Parsed.{Parsed}
+use Rattle.output_promise.specs.Source.{PassedFunction}
 use Rattle.source_lines.specs.declared.compiled.Compiled.{Compiled}
-use Rattle.program_compiler.proofs.Behind.{coded_length}
+use Rattle.program_compiler.proofs.Behind.{coded_length, passed_length}
 use Rattle.program_compiler.proofs.Listed.{program_few}
 use Rattle.program_compiler.proofs.compile.output.Goals as goal
 
 pub with_code-requires : goal.with_code-requires
 with_code-requires c =
     let many = coded_length 0 _ _ c.requires.made.coded in
-    let same = length-map c.args.program.now.functions (λ (p : Parsed). p.func) in
-    search (rules, many, same)
+    let as_many = passed_length _ _ _ c.requires.made.are in
+    let same = length-map c.requires.made.passed (λ (p : PassedFunction). p.function) in
+    search (rules, many, as_many, same)
 
 pub info-requires : goal.info-requires
 info-requires c =

@@ -1,19 +1,35 @@
-use Rattle.std.proofs.Common.{List, subst}
+use Rattle.std.proofs.Common.{◌≡◌, List, [], sym, subst}
 use Rattle.std.proofs.lemmas.List.{drop_all}
+use Rattle.function_emit.specs.declared.emit.Made.{Made}
 use Rattle.mir_parser.specs.declared.closing.Parsed.{Parsed}
+use Rattle.pass_loop.specs.Passes.{steps_of}
 use Rattle.source_lines.proofs.Split.{split_at}
-use Rattle.program_compiler.proofs.Behind.{SoFar, more, all_made}
+use Rattle.program_compiler.proofs.Behind.{SoFar, begins, more, all_made}
 use Rattle.program_compiler.proofs.function.made_of.Goals as goal
 
-pub loop-function-preserved : goal.loop-function-preserved
-loop-function-preserved c =
-    let P : List Parsed → Type 0 = λ rest. SoFar c.args.meta.now c.args.functions.now rest c.loop-function.made in
-    let split = split_at c.args.functions.now c.loop-function.function-index c.function-item.result c.loop-function-test.true c.function-item.is in
-    let so = subst P split c.loop-function.invariant in
-    more c.args.meta.now c.function-item.result c.loop-function.made c.push_function.new.made c.in_ok-push_function.ensures.pushed _ _ so
+pub loop-source-init : goal.loop-source-init
+loop-source-init c =
+    let begun : Made = record { text = []; lists = []; functions = []; codes = [] } in
+    let made : Made = record { text = c.new.result; lists = c.new-2.result; functions = c.new-3.result; codes = c.new-4.result } in
+    let text = sym c.new.ensures in
+    let lists = sym c.new-2.ensures in
+    let functions = sym c.new-3.ensures in
+    let codes = sym c.new-4.ensures in
+    let is : begun ≡ made = λ i. record { text = text i; lists = lists i; functions = functions i; codes = codes i } in
+    subst (SoFar c.args.meta.now (steps_of c.args.passes.now) c.args.functions.now c.args.functions.now) is
+    (begins c.args.meta.now (steps_of c.args.passes.now) c.args.functions.now)
+
+pub loop-source-preserved : goal.loop-source-preserved
+loop-source-preserved c =
+    let P : List Parsed → Type 0 = λ rest. SoFar c.args.meta.now (steps_of c.args.passes.now) c.args.functions.now rest c.loop-source.made in
+    let split = split_at c.args.functions.now c.loop-source.source-index c.source-item.result c.loop-source-test.true c.source-item.is in
+    let so = subst P split c.loop-source.invariant in
+    let one = c.in_ok-push_source.ensures.pushed in
+    more c.args.meta.now one.passed c.loop-source.made c.push_source.new.made one.pushed (steps_of c.args.passes.now) _ _ c.source-item.result
+    one.source one.compilable one.made so
 
 pub returns-clause-made : goal.returns-clause-made
 returns-clause-made c =
-    let P : List Parsed → Type 0 = λ rest. SoFar c.args.meta.now c.args.functions.now rest c.loop-function.made in
-    let so = subst P (drop_all c.loop-function.function-index c.args.functions.now c.loop-function-test.false) c.loop-function.invariant in
-    all_made _ _ _ so
+    let P : List Parsed → Type 0 = λ rest. SoFar c.args.meta.now (steps_of c.args.passes.now) c.args.functions.now rest c.loop-source.made in
+    let so = subst P (drop_all c.loop-source.source-index c.args.functions.now c.loop-source-test.false) c.loop-source.invariant in
+    all_made _ _ _ _ so

@@ -1,0 +1,4 @@
+pub mod Few
+pub mod Listed
+pub mod Located
+pub mod Pushed

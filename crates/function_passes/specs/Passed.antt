@@ -1,0 +1,35 @@
+-- What passes make of a function that was read.
+use Rattle.std.specs.Prelude.{ℕ, List, All}
+use Rattle.compiled_text.specs.Shown.{IsPrintableEntry}
+use Rattle.follow_law.specs.Change.{change}
+use Rattle.follow_law.specs.declared.loss.Loss.{Loss}
+use Rattle.follow_law.specs.Steps.{Step, KeepsSteps}
+use Rattle.listing_laws.specs.Laws.{inlined_in, IsPrintableBody}
+use Rattle.meta_reader.specs.Maps.{Maps}
+use Rattle.mir_func.specs.declared.entry.Entry.{Entry}
+use Rattle.mir_func.specs.Function.{Function}
+use Rattle.mir_parser.specs.declared.closing.Parsed.{Parsed}
+use Rattle.output_promise.specs.Source.{SourceFunction, PassedFunction, IsPassedFunction}
+
+-- how many items a function has at most after passes
+abbrev pub MAX_PASSED : ℕ
+MAX_PASSED = 65536
+
+-- a function as it was read, with its debug value substitutions
+abbrev pub source_of : Parsed → SourceFunction
+source_of p = record { function = p.func; substitutions = p.subs }
+
+-- a function that passes made of one that was read
+abbrev pub passed_of : Parsed → (function : Function) → (substitutions : List Entry) → PassedFunction
+passed_of p f subs = record { source = source_of p; function = f; substitutions = subs }
+
+-- steps of passes made the function of its source, one after the other
+pub record IsMadeBy (steps : List Step) (p : PassedFunction) : Type 0 where
+  pub losses : List Loss
+  pub kept : KeepsSteps steps (change p.source.function p.source.substitutions p.function p.substitutions) losses
+
+-- the function follows its source, it is as every pass keeps it, and its listing is printable
+pub record IsCompilable (meta : Maps) (p : PassedFunction) : Type 0 where
+  pub passed : IsPassedFunction p
+  pub printable : IsPrintableBody (inlined_in meta) p.function
+  pub substitutions : All IsPrintableEntry p.substitutions

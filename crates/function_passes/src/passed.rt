@@ -1,0 +1,53 @@
+//! What passes make of a function that was read.
+
+ghost use Rattle.std.specs.Prelude.{◌≤◌, All, IfOk, length};
+ghost use Rattle.function_passes.specs.Passed.{IsMadeBy, IsCompilable, MAX_PASSED, passed_of};
+ghost use Rattle.mir_func.specs.Sound.{items_of};
+ghost use Rattle.pass_list.specs.Names.{AreDistinct};
+ghost use Rattle.pass_loop.specs.Passes.{steps_of};
+ghost use Rattle.reading_laws.specs.Read.{IsReadFunction, EntryIsLimited};
+
+use meta_reader::metadata::Metadata;
+use mir_func::func::Func;
+use mir_parser::closing::Parsed;
+use pass_list::kind::PassKind;
+use pass_loop::run::run_passes;
+use std::alloc::{AllocError, Global};
+use substitution::substitutions::Substitutions;
+use typed_items::typed::{blocks_are_typed, entries_are_typed};
+
+/// What passes made of a source.
+#[derive(Drop)]
+pub struct Passed {
+    /// The function.
+    pub function: Func,
+    /// Its debug value substitutions, the source's among them.
+    pub substitutions: Substitutions,
+}
+
+/// What passes, each at most once, make of a function that was read beside metadata.
+pub fn after_passes(
+    alloc: Global,
+    _meta: &Metadata,
+    source: &Parsed,
+    passes: &[PassKind],
+) -> Result<Passed, AllocError>
+    requires read { IsReadFunction _meta.now source.now.func }
+    requires substitutions { All EntryIsLimited source.now.subs }
+    requires distinct { AreDistinct passes.now }
+    ensures compilable { IfOk result (λ p.
+        IsCompilable _meta.now (passed_of source.now p.function p.substitutions)) }
+    ensures made { IfOk result (λ p.
+        IsMadeBy (steps_of passes.now) (passed_of source.now p.function p.substitutions)) }
+    ensures few { IfOk result (λ p. length (items_of p.function.blocks) ≤ MAX_PASSED) }
+{
+    let mut function = source.func.copy()?;
+    let mut substitutions = source.subs.copy()?;
+    let _losses = run_passes(alloc, passes, &mut function, &mut substitutions)?;
+    blocks_are_typed(function.blocks.as_slice());
+    entries_are_typed(substitutions.entries());
+    Ok(Passed {
+        function,
+        substitutions,
+    })
+}

@@ -1,0 +1,21 @@
+use Rattle.std.proofs.Common.{refl}
+use Rattle.function_passes.specs.Passed.{passed_of}
+use Rattle.program_compiler.proofs.function.push_source.Goals as goal
+
+pub push_function-requires-clause-sound : goal.push_function-requires-clause-sound
+push_function-requires-clause-sound c = c.in_ok-passed.ensures.compilable.passed.follower.sound
+
+pub push_function-requires-clause-few : goal.push_function-requires-clause-few
+push_function-requires-clause-few c = c.in_ok-passed.ensures.few
+
+pub push_function-requires-clause-physical : goal.push_function-requires-clause-physical
+push_function-requires-clause-physical c = c.in_ok-passed.ensures.compilable.passed.physical
+
+pub returns-clause-pushed : goal.returns-clause-pushed
+returns-clause-pushed c = record {
+  passed = passed_of c.args.source.now c.in_ok-passed.passed.function c.in_ok-passed.passed.substitutions;
+  source = refl;
+  compilable = c.in_ok-passed.ensures.compilable;
+  made = c.in_ok-passed.ensures.made;
+  pushed = c.in_ok-push_function.ensures.pushed;
+}
