@@ -19,7 +19,7 @@ use Rattle.compiled_text.specs.declared.output.ItemLine.{ItemLine}
 use Rattle.compiled_text.specs.declared.output.ListedVariable.{ListedVariable}
 use Rattle.compiled_text.specs.declared.output.ListedObject.{ListedObject}
 use Rattle.compiled_text.specs.Output.{section_text, name_byte, name_text, function_line, inlined_text, variable_line}
-use Rattle.compiled_text.specs.Output.{substitution_line, position_text, origin_text, start_text, item_line, block_line, pair_text, object_line}
+use Rattle.compiled_text.specs.Output.{substitution_line, position_text, spaced_origin, start_text, item_line, block_line, pair_text, object_line}
 use Rattle.compiled_text.specs.Shown.{HasNumbersAt, IsPrintableOrigin, IsPrintableItem, IsPrintableVariable, IsPrintableEntry, declared_by, HasNumbers}
 use Rattle.compiled_text.specs.Shown.{IsPrintableObject}
 use Rattle.compiled_text.proofs.HexLemmas.{address_one, address_heads, bytes_one}
@@ -195,11 +195,11 @@ object_line_one x y r s is others e =
 
 -- ---- an item's line
 
-position_parts : (a b c d e rest : List ℕ) → (a ++ b ++ c ++ d ++ e) ++ rest ≡ a ++ (b ++ (c ++ (d ++ (e ++ rest))))
+position_parts : (a b c d e rest : List ℕ) → ((a ++ b ++ c ++ d) ++ e) ++ rest ≡ a ++ (b ++ (c ++ (d ++ (e ++ rest))))
 position_parts a b c d e rest = simp append_assoc
 
-position_one : (sign : List ℕ) (p q : Pos) (r s : List ℕ) → HasNumbersAt p → HasNumbersAt q → position_text sign p ++ r ≡ position_text sign q ++ s →
-    (p ≡ q) × (r ≡ s)
+position_one : (sign : List ℕ) (p q : Pos) (r s : List ℕ) → HasNumbersAt p → HasNumbersAt q →
+    (position_text sign p ++ codes " ") ++ r ≡ (position_text sign q ++ codes " ") ++ s → (p ≡ q) × (r ≡ s)
 position_one sign p q r s is others e =
     let whole = sym (position_parts sign (decimal p.block) (codes ".") (decimal p.item) (codes " ") r) ∙ (e ∙
     position_parts sign (decimal q.block) (codes ".") (decimal q.item) (codes " ") s) in
@@ -207,10 +207,10 @@ position_one sign p q r s is others e =
     let item = number_one p.item q.item (codes " " ++ r) (codes " " ++ s) is.1 others.1 refl refl (front_one (codes ".") _ _ block.1) in
     (λ k. record { block = block.0 k; item = item.0 k }, front_one (codes " ") r s item.1)
 
-signs_apart : (p q : Pos) (r s : List ℕ) → position_text (codes " =") p ++ r ≡ position_text (codes " <") q ++ s → ⊥
+signs_apart : (p q : Pos) (r s : List ℕ) → (position_text (codes " =") p ++ codes " ") ++ r ≡ (position_text (codes " <") q ++ codes " ") ++ s → ⊥
 signs_apart p q r s e = apart 61 60 _ _ refl (front_one (codes " ") _ _ e)
 
-pub origin_one : (a b : Origin) (r s : List ℕ) → IsPrintableOrigin a → IsPrintableOrigin b → origin_text a ++ r ≡ origin_text b ++ s → (a ≡ b) × (r ≡ s)
+pub origin_one : (a b : Origin) (r s : List ℕ) → IsPrintableOrigin a → IsPrintableOrigin b → spaced_origin a ++ r ≡ spaced_origin b ++ s → (a ≡ b) × (r ≡ s)
 origin_one (Kept p) (Kept q) r s is others e = let found = position_one (codes " =") p q r s is others e in (ap Kept found.0, found.1)
 origin_one (Before p) (Before q) r s is others e = let found = position_one (codes " <") p q r s is others e in (ap Before found.0, found.1)
 origin_one (Kept p) (Before q) r s is others e = absurd (signs_apart p q r s e)
@@ -235,8 +235,8 @@ line_parts a b c d rest = simp append_assoc
 pub item_one : (inlined : ℕ → Option ℕ) (l m : ItemLine) (r s : List ℕ) → IsPrintableItem inlined l → IsPrintableItem inlined m →
     item_line l ++ r ≡ item_line m ++ s → (l ≡ m) × (r ≡ s)
 item_one inlined l m r s is others e =
-    let whole = sym (line_parts (start_text l.address) (origin_text l.item.origin) (item_text l.item) (10 ∷ []) r) ∙ (e ∙
-    line_parts (start_text m.address) (origin_text m.item.origin) (item_text m.item) (10 ∷ []) s) in
+    let whole = sym (line_parts (start_text l.address) (spaced_origin l.item.origin) (item_text l.item) (10 ∷ []) r) ∙ (e ∙
+    line_parts (start_text m.address) (spaced_origin m.item.origin) (item_text m.item) (10 ∷ []) s) in
     let start = start_one l.address m.address _ _ is.address others.address whole in
     let origin = origin_one l.item.origin m.item.origin _ _ is.origin others.origin start.1 in
     let item = item_line_one (declared_by inlined) l.item m.item is.item others.item r s origin.1 in

@@ -16,7 +16,7 @@ use Rattle.compiled_text.specs.declared.output.Line.TheVariants.{Item, Skip}
 use Rattle.compiled_text.specs.declared.output.ListedBlock.{ListedBlock}
 use Rattle.compiled_text.specs.declared.output.ListedFunction.{ListedFunction}
 use Rattle.compiled_text.specs.declared.output.Output.{Output}
-use Rattle.compiled_text.specs.Output.{section_text, listing_text, function_line, variable_line, substitution_line, origin_text}
+use Rattle.compiled_text.specs.Output.{section_text, listing_text, function_line, variable_line, substitution_line, spaced_origin}
 use Rattle.compiled_text.specs.Output.{start_text, item_line, skip_line, skip_text, line_text, block_line, block_text, function_text, spelling, object_line}
 use Rattle.compiled_text.specs.Shown.{IsPrintableLine, IsPrintableVariable, IsPrintableEntry, IsPrintableBlock, IsPrintableFunction, IsPrintableOutput, Shows}
 use Rattle.compiled_text.specs.Shown.{IsPrintableObject, IsPrintableItem, IsPrintableSkip}
@@ -90,7 +90,7 @@ Anything t = Unit {0}
 line_parts : (a b c d rest : List ℕ) → (a ++ b ++ c ++ d) ++ rest ≡ a ++ (b ++ (c ++ (d ++ rest)))
 line_parts a b c d rest = simp append_assoc
 
-marked_begins : (o : Origin) (rest : List ℕ) → begins_line (codes "-" ++ (origin_text o ++ rest)) ≡ true
+marked_begins : (o : Origin) (rest : List ℕ) → begins_line (codes "-" ++ (spaced_origin o ++ rest)) ≡ true
 marked_begins (Kept p) rest = refl
 marked_begins (Before p) rest = refl
 
@@ -104,9 +104,9 @@ placed_other a b rest small high =
     let h = address_heads a rest small in
     ap (begins_with b) h.parts ∙ ne_eqb h.first b (λ e. omega (arith, e, h.first_high))
 
-start_begins : (a : Option ℕ) (o : Origin) (rest : List ℕ) → IfSome a IsNumber → begins_line (start_text a ++ (origin_text o ++ rest)) ≡ true
+start_begins : (a : Option ℕ) (o : Origin) (rest : List ℕ) → IfSome a IsNumber → begins_line (start_text a ++ (spaced_origin o ++ rest)) ≡ true
 start_begins None o rest small = marked_begins o rest
-start_begins (Some a) o rest small = placed_begins a (origin_text o ++ rest) small
+start_begins (Some a) o rest small = placed_begins a (spaced_origin o ++ rest) small
 
 start_other : (a : Option ℕ) (b : ℕ) (rest : List ℕ) → IfSome a IsNumber → 102 < b → begins_with b (start_text a ++ rest) ≡ false
 start_other None b rest small high = ne_eqb 45 b (λ e. omega (arith, e))
@@ -114,23 +114,23 @@ start_other (Some a) b rest small high = placed_other a b rest small high
 
 item_begins : (inlined : ℕ → Option ℕ) (l : ItemLine) (r : List ℕ) → IsPrintableItem inlined l → begins_line (item_line l ++ r) ≡ true
 item_begins inlined l r is =
-    ap begins_line (line_parts (start_text l.address) (origin_text l.item.origin) (item_text l.item) (10 ∷ []) r) ∙
+    ap begins_line (line_parts (start_text l.address) (spaced_origin l.item.origin) (item_text l.item) (10 ∷ []) r) ∙
     start_begins l.address l.item.origin (item_text l.item ++ (10 ∷ r)) is.address
 
 item_other : (inlined : ℕ → Option ℕ) (b : ℕ) → 102 < b → (l : ItemLine) (r : List ℕ) → IsPrintableItem inlined l → begins_with b (item_line l ++ r) ≡ false
 item_other inlined b high l r is =
-    ap (begins_with b) (line_parts (start_text l.address) (origin_text l.item.origin) (item_text l.item) (10 ∷ []) r) ∙
-    start_other l.address b (origin_text l.item.origin ++ (item_text l.item ++ (10 ∷ r))) is.address high
+    ap (begins_with b) (line_parts (start_text l.address) (spaced_origin l.item.origin) (item_text l.item) (10 ∷ []) r) ∙
+    start_other l.address b (spaced_origin l.item.origin ++ (item_text l.item ++ (10 ∷ r))) is.address high
 
 skip_begins : (s : SkipLine) (r : List ℕ) → IsPrintableSkip s → begins_line (skip_line s ++ r) ≡ true
 skip_begins s r is =
-    ap begins_line (line_parts (address_text s.address) (origin_text s.origin) (skip_text s) (10 ∷ []) r) ∙
-    placed_begins s.address (origin_text s.origin ++ (skip_text s ++ (10 ∷ r))) is.address
+    ap begins_line (line_parts (address_text s.address) (spaced_origin s.origin) (skip_text s) (10 ∷ []) r) ∙
+    placed_begins s.address (spaced_origin s.origin ++ (skip_text s ++ (10 ∷ r))) is.address
 
 skip_other : (b : ℕ) → 102 < b → (s : SkipLine) (r : List ℕ) → IsPrintableSkip s → begins_with b (skip_line s ++ r) ≡ false
 skip_other b high s r is =
-    ap (begins_with b) (line_parts (address_text s.address) (origin_text s.origin) (skip_text s) (10 ∷ []) r) ∙
-    placed_other s.address b (origin_text s.origin ++ (skip_text s ++ (10 ∷ r))) is.address high
+    ap (begins_with b) (line_parts (address_text s.address) (spaced_origin s.origin) (skip_text s) (10 ∷ []) r) ∙
+    placed_other s.address b (spaced_origin s.origin ++ (skip_text s ++ (10 ∷ r))) is.address high
 
 line_begins : (inlined : ℕ → Option ℕ) (l : Line) (r : List ℕ) → IsPrintableLine inlined l → begins_line (line_text l ++ r) ≡ true
 line_begins inlined (Item l) r is = item_begins inlined l r is

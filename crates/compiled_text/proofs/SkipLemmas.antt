@@ -41,7 +41,7 @@ use Rattle.compiled_text.specs.declared.output.SkipLine.{SkipLine}
 use Rattle.compiled_text.specs.declared.output.Line.{Line}
 use Rattle.compiled_text.specs.declared.output.Line.TheVariants.{Item, Skip}
 use Rattle.compiled_text.specs.Hex.{address_text}
-use Rattle.compiled_text.specs.Output.{origin_text, start_text, item_line, operand_of, implicit_text, skip_text, skip_line, line_text}
+use Rattle.compiled_text.specs.Output.{spaced_origin, start_text, item_line, operand_of, implicit_text, skip_text, skip_line, line_text}
 use Rattle.compiled_text.specs.Shown.{IsPrintableItem, IsPrintableImplicit, IsPrintableSkip, IsPrintableLine, declared_by}
 use Rattle.compiled_text.proofs.HexLemmas.{address_one}
 use Rattle.compiled_text.proofs.LineLemmas.{item_one, origin_one, no_address, line_parts}
@@ -145,9 +145,9 @@ skip_is s r =
 
 skip_one : (a b : SkipLine) (r s : List ℕ) → IsPrintableSkip a → IsPrintableSkip b → skip_line a ++ r ≡ skip_line b ++ s → (a ≡ b) × (r ≡ s)
 skip_one a b r s is others e =
-    let whole = sym (line_parts (address_text a.address) (origin_text a.origin) (skip_text a) (10 ∷ []) r) ∙ (e ∙
-    line_parts (address_text b.address) (origin_text b.origin) (skip_text b) (10 ∷ []) s) in
-    let address = address_one a.address b.address (origin_text a.origin ++ (skip_text a ++ (10 ∷ r))) (origin_text b.origin ++ (skip_text b ++
+    let whole = sym (line_parts (address_text a.address) (spaced_origin a.origin) (skip_text a) (10 ∷ []) r) ∙ (e ∙
+    line_parts (address_text b.address) (spaced_origin b.origin) (skip_text b) (10 ∷ []) s) in
+    let address = address_one a.address b.address (spaced_origin a.origin ++ (skip_text a ++ (10 ∷ r))) (spaced_origin b.origin ++ (skip_text b ++
     (10 ∷ s))) whole in
     let origin = origin_one a.origin b.origin (skip_text a ++ (10 ∷ r)) (skip_text b ++ (10 ∷ s)) is.origin others.origin address.1 in
     let branch = compared_one a.op b.op a.first b.first a.second b.second _ _ is.first others.first is.second others.second
@@ -319,11 +319,12 @@ no_item inlined l a r s is skips e =
 -- an item's line has no address, or one
 no_line_at : (inlined : ℕ → Option ℕ) (at : Option ℕ) (l : ItemLine) (a : SkipLine) (r s : List ℕ) → l.address ≡ at → IsPrintableItem inlined l →
     IsPrintableSkip a →
-    address_text a.address ++ (origin_text a.origin ++ (skip_text a ++ (10 ∷ r))) ≡ start_text at ++ (origin_text l.item.origin ++ (item_text l.item ++
+    address_text a.address ++ (spaced_origin a.origin ++ (skip_text a ++ (10 ∷ r))) ≡ start_text at ++ (spaced_origin l.item.origin ++ (item_text l.item ++
     (10 ∷ s))) → ⊥
 no_line_at inlined None l a r s here is skips e = no_address a.address _ _ skips.address e
 no_line_at inlined (Some n) l a r s here is skips e =
-    let address = address_one a.address n (origin_text a.origin ++ (skip_text a ++ (10 ∷ r))) (origin_text l.item.origin ++ (item_text l.item ++ (10 ∷ s))) e in
+    let address = address_one a.address n (spaced_origin a.origin ++ (skip_text a ++ (10 ∷ r)))
+        (spaced_origin l.item.origin ++ (item_text l.item ++ (10 ∷ s))) e in
     let origin = origin_one a.origin l.item.origin (skip_text a ++ (10 ∷ r)) (item_text l.item ++ (10 ∷ s)) skips.origin is.origin address.1 in
     no_item inlined l a r s is skips origin.1
 
@@ -331,8 +332,8 @@ no_line : (inlined : ℕ → Option ℕ) (l : ItemLine) (a : SkipLine) (r s : Li
     skip_line a ++ r ≡ item_line l ++ s → ⊥
 no_line inlined l a r s is skips e =
     no_line_at inlined l.address l a r s refl is skips
-    (sym (line_parts (address_text a.address) (origin_text a.origin) (skip_text a) (10 ∷ []) r) ∙ (e ∙
-    line_parts (start_text l.address) (origin_text l.item.origin) (item_text l.item) (10 ∷ []) s))
+    (sym (line_parts (address_text a.address) (spaced_origin a.origin) (skip_text a) (10 ∷ []) r) ∙ (e ∙
+    line_parts (start_text l.address) (spaced_origin l.item.origin) (item_text l.item) (10 ∷ []) s))
 
 -- ---- lines
 

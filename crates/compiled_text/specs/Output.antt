@@ -76,13 +76,17 @@ substitution_line e = codes "substitute " ++ pair_text e.src ++ pair_text e.dst 
 -- ---- the lines of its code
 
 -- a position in the source as block and item, behind a sign
-abbrev pub position_text : List ℕ → Pos → List ℕ
-position_text sign p = sign ++ decimal p.block ++ codes "." ++ decimal p.item ++ codes " "
+abbrev pub position_text : (sign : List ℕ) → Pos → List ℕ
+position_text sign p = sign ++ decimal p.block ++ codes "." ++ decimal p.item
 
--- an origin, between blanks
+-- an origin: ` =B.I` of what was kept, ` <B.I` of what was added before a position
 abbrev pub origin_text : Origin → List ℕ
 origin_text (Kept p) = position_text (codes " =") p
 origin_text (Before p) = position_text (codes " <") p
+
+-- an origin, between blanks
+abbrev pub spaced_origin : Origin → List ℕ
+spaced_origin o = origin_text o ++ codes " "
 
 -- an address, or `-`
 abbrev pub start_text : Option ℕ → List ℕ
@@ -91,7 +95,7 @@ start_text (Some address) = address_text address
 
 -- the line of an item: its address, its origin, and its text as in LLVM MIR
 abbrev pub item_line : ItemLine → List ℕ
-item_line l = start_text l.address ++ origin_text l.item.origin ++ item_text l.item ++ 10 ∷ []
+item_line l = start_text l.address ++ spaced_origin l.item.origin ++ item_text l.item ++ 10 ∷ []
 
 -- an implicit operand as an operand of an instruction
 abbrev pub operand_of : Implicit → Operand
@@ -109,7 +113,7 @@ skip_text s = branch_name s.op ++ codes " " ++ register_text s.first ++ codes ",
 
 -- the line of a branch over the next word, the first of the two of a long branch
 abbrev pub skip_line : SkipLine → List ℕ
-skip_line s = address_text s.address ++ origin_text s.origin ++ skip_text s ++ 10 ∷ []
+skip_line s = address_text s.address ++ spaced_origin s.origin ++ skip_text s ++ 10 ∷ []
 
 -- a line of code or of debug information
 abbrev pub line_text : Line → List ℕ

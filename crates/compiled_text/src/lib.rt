@@ -8,7 +8,7 @@
 mod functions;
 pub mod hex;
 pub mod laws;
-mod line;
+pub mod line;
 pub mod name;
 pub mod output;
 pub mod print;

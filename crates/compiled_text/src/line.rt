@@ -4,7 +4,7 @@ ghost use Rattle.std.specs.Prelude.{◌≡◌, ◌++◌, OnOk};
 ghost use Rattle.std.specs.List.{flat_map};
 ghost use Rattle.mir_printer.specs.Spelling.{operand_text, register_text};
 ghost use Rattle.compiled_text.specs.Output.{line_text, item_line, skip_line, skip_text, implicit_text, operand_of};
-ghost use Rattle.compiled_text.specs.Output.{start_text, origin_text, position_text};
+ghost use Rattle.compiled_text.specs.Output.{start_text, spaced_origin, origin_text, position_text};
 
 use crate::hex::push_address;
 use crate::output::{Implicit, ItemLine, Line, SkipLine};
@@ -37,7 +37,7 @@ fn push_item_line(text: &mut Text, line: &ItemLine) -> Result<(), AllocError>
     ensures { OnOk result (text.new ≡ text.old ++ item_line line.now) }
 {
     push_start(text, &line.address)?;
-    push_origin(text, &line.item.origin)?;
+    push_spaced(text, &line.item.origin)?;
     push_item(text, &line.item)?;
     text.push(b'\n')
 }
@@ -52,8 +52,16 @@ fn push_start(text: &mut Text, address: &Option<u32>) -> Result<(), AllocError>
     }
 }
 
-/// Appends an item's origin, between blanks.
-fn push_origin(text: &mut Text, origin: &Origin) -> Result<(), AllocError>
+/// Appends an origin, between blanks.
+fn push_spaced(text: &mut Text, origin: &Origin) -> Result<(), AllocError>
+    ensures { OnOk result (text.new ≡ text.old ++ spaced_origin origin.now) }
+{
+    push_origin(text, origin)?;
+    text.push(b' ')
+}
+
+/// Appends an origin, behind a blank: ` =B.I` of what was kept, ` <B.I` of what was added before a position.
+pub fn push_origin(text: &mut Text, origin: &Origin) -> Result<(), AllocError>
     ensures { OnOk result (text.new ≡ text.old ++ origin_text origin.now) }
 {
     match origin {
@@ -62,20 +70,19 @@ fn push_origin(text: &mut Text, origin: &Origin) -> Result<(), AllocError>
     }
 }
 
-/// Appends a sign and a position, and a blank.
+/// Appends a sign and a position.
 fn push_position(text: &mut Text, sign: &str, pos: Pos) -> Result<(), AllocError>
     ensures { OnOk result (text.new ≡ text.old ++ position_text sign.now pos) }
 {
     push_numbered(text, sign, pos.block.number())?;
-    push_numbered(text, ".", pos.item)?;
-    text.push(b' ')
+    push_numbered(text, ".", pos.item)
 }
 
 fn push_skip_line(text: &mut Text, line: &SkipLine) -> Result<(), AllocError>
     ensures { OnOk result (text.new ≡ text.old ++ skip_line line.now) }
 {
     push_address(text, line.address)?;
-    push_origin(text, &line.origin)?;
+    push_spaced(text, &line.origin)?;
     push_skip(text, line)?;
     text.push(b'\n')
 }

@@ -1,9 +1,23 @@
 //! Made-up functions, and the texts that tell them.
 
 use func_printer::print::print_func;
+use generated_text::print::print_generated;
 use mir_gen::generator::generate;
+use mir_printer::text::{Text, push_str};
 use std::test::Fail;
 use substitution::substitutions::Substitutions;
+
+/// The metadata of a made-up file.
+const METADATA: &str = "--- |
+  define void @gen() !dbg !2 { ret void }
+  !1 = !DIFile(filename: \"gen.c\", directory: \"/gen\")
+  !2 = distinct !DISubprogram(name: \"gen\", file: !1, line: 1)
+  !10 = !DILocalVariable(name: \"a\", scope: !2, file: !1, line: 1)
+  !11 = !DILocalVariable(name: \"b\", scope: !2, file: !1, line: 1)
+  !12 = !DILocalVariable(name: \"c\", scope: !2, file: !1, line: 1)
+  !13 = !DILocalVariable(name: \"d\", scope: !2, file: !1, line: 1)
+...
+";
 
 /// The function of number 0 with one block.
 const FIRST: &str = "---
@@ -38,6 +52,16 @@ fn makes_the_first_function(rt: HostRuntime) -> Result<(), Fail> {
     let f = generate(rt.alloc(), 0, 1)?;
     let text = print_func(rt.alloc(), &f, &Substitutions::new(rt.alloc()))?;
     assert_eq!(rt; text.as_slice(), FIRST.as_bytes());
+    Ok(())
+}
+
+#[test]
+fn prints_a_file(rt: HostRuntime) -> Result<(), Fail> {
+    let mut file = Text::new(rt.alloc());
+    push_str(&mut file, METADATA)?;
+    push_str(&mut file, FIRST)?;
+    let text = print_generated(rt.alloc(), 0, 1)?;
+    assert_eq!(rt; text.as_slice(), file.as_slice());
     Ok(())
 }
 

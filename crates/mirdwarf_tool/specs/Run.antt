@@ -147,6 +147,7 @@ pub record ShowsPassed (steps : List Step) (p : Program) (o : Output) : Type 0 w
   pub sections : HasSections p.meta functions o
   pub rows : GivesLines p.meta functions o
 
+-- one whole output of what passes made of the input's functions was written
 abbrev pub WrotePassed : List Step → (input output : Change) → Type 0
 WrotePassed steps input output = HasWritten (ShowsPassed steps) input output
 

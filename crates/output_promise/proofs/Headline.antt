@@ -1,5 +1,5 @@
--- The headline of each source and what is compiled of the function that passes made of it: its listing is an image of its layout, and its lists give only what is wanted, since
--- they are exact at the entries.
+-- The headline of each source and what is compiled of the function that passes made of it: its listing is an image of its
+-- layout, and its lists give only what is wanted, since they are exact at the entries.
 use Rattle.std.proofs.Common.{◌≡◌, ℕ, zero, suc, ◌+◌, ◌<◌, List, [], ◌∷◌, ◌++◌, drop, Bool, true, false, cond, sym, ap, ◌∙◌, subst, arith}
 use Rattle.std.specs.Prelude.{Contains}
 use Rattle.mir_func.specs.declared.position.Pos.{Pos}

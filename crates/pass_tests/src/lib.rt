@@ -2,6 +2,4 @@
 #![tactic(auto)]
 
 #[cfg(test)]
-mod fits;
-#[cfg(test)]
 mod tests;

@@ -4,7 +4,6 @@ ghost use Rattle.std.specs.Prelude.{◌+◌, ◌*◌, ◌<◌, ◌^◌, [], IfOk
 ghost use Rattle.mir_func.specs.Limits.{MAX_SLOTS};
 ghost use Rattle.follow_law.specs.Sizes.{greatest, greatest_number, most_numbers};
 
-use crate::fits::is_small;
 use copy_propagation::copies::CopyPass;
 use follow_law::pass::Pass;
 use mir_func::block::Block;
@@ -13,6 +12,7 @@ use mir_parser::program::read_program;
 use mir_printer::item::push_item;
 use mir_printer::text::{Text, push_numbered, push_str};
 use remat_pass::remat::RematPass;
+use small_functions::fits::is_small;
 use std::alloc::Global;
 use std::test::Fail;
 use substitution::substitutions::Substitutions;

@@ -10,7 +10,8 @@ use Rattle.run_lines.specs.Variables.{variable_of}
 
 -- those so far can be read, where all lists can
 pub readable : (lists : List (List Range)) (listed : List ListedVariable) (made : List Variable) (n : ℕ) → made ≡ map (variable_of lists) (take n listed) →
-    All (λ line. line.list < length lists) listed → All (λ ranges. Ascend ranges × ArePlaces ranges) lists → All (λ v. Ascend v.ranges × ArePlaces v.ranges) made
+    All (λ line. line.list < length lists) listed → All (λ ranges. Ascend ranges × ArePlaces ranges) lists →
+    All (λ v. Ascend v.ranges × ArePlaces v.ranges) made
 readable lists listed made n is low all =
     let P : Variable → Type 0 = λ v. Ascend v.ranges × ArePlaces v.ranges in
     All-same P made (map (variable_of lists) (take n listed)) is

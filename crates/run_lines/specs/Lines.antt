@@ -2,15 +2,13 @@
 use Rattle.std.specs.Prelude.{ℕ, ◌*◌, ◌%◌, ◌^◌, List, [], ◌∷◌, ◌++◌, codes, Option, Some, None}
 use Rattle.std.specs.List.{flat_map}
 use Rattle.std.specs.Fmt.{decimal}
-use Rattle.mir_func.specs.declared.position.Pos.{Pos}
 use Rattle.mir_func.specs.declared.position.Origin.{Origin}
-use Rattle.mir_func.specs.declared.position.Origin.TheVariants.{Kept, Before}
 use Rattle.dwarf_loclists.specs.declared.range.Part.{Part}
 use Rattle.dwarf_loclists.specs.declared.range.Location.{Location}
 use Rattle.dwarf_loclists.specs.declared.range.Location.TheVariants.{Whole, Parts}
 use Rattle.dwarf_loclists.specs.Ranges.{location_in}
 use Rattle.compiled_text.specs.Hex.{address_text}
-use Rattle.compiled_text.specs.Output.{name_text}
+use Rattle.compiled_text.specs.Output.{name_text, origin_text}
 use Rattle.code_layout.specs.Machine.{Machine, register, place_content}
 use Rattle.rv_simulator.specs.declared.ending.Stop.{Stop}
 use Rattle.rv_simulator.specs.declared.ending.Stop.TheVariants.{Returned, Left, BadWord}
@@ -54,15 +52,6 @@ abbrev pub variables_text : List Variable → Machine → List ℕ
 variables_text variables s = flat_map (variable_text s) variables
 
 -- ---- a line
-
--- a position, behind a sign
-abbrev pub position_text : (sign : List ℕ) → Pos → List ℕ
-position_text sign p = (sign ++ decimal p.block) ++ (codes "." ++ decimal p.item)
-
--- an origin: ` =B.I` of what was kept, ` <B.I` of what was added before a position
-abbrev pub origin_text : Origin → List ℕ
-origin_text (Kept p) = position_text (codes " =") p
-origin_text (Before p) = position_text (codes " <") p
 
 -- a step's number, the address where the machine stands, and where what stands there comes from
 abbrev pub head_text : (number address : ℕ) → Origin → List ℕ

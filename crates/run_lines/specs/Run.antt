@@ -46,7 +46,8 @@ pub record HasText (gives : CallEvent → Reply → Type 0) (image : Image) (var
 
 -- the text of the machine's run of some code from its start: on each image that shows the code, with the answers to its calls first in its
 -- script
-pub record IsTextOfRun (gives : CallEvent → Reply → Type 0) (c : LaidCode) (start : Start) (variables : List Variable) (limit : ℕ) (text : List ℕ) : Type 0 where
+pub record IsTextOfRun (gives : CallEvent → Reply → Type 0) (c : LaidCode) (start : Start) (variables : List Variable) (limit : ℕ)
+    (text : List ℕ) : Type 0 where
   pub answers : List Reply
   pub has : (image : Image) (s : Machine) (rest : List Reply) → ShowsCode c image → StartsCode c start s → s.script ≡ answers ++ rest →
       HasText gives image variables limit answers s text

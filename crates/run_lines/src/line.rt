@@ -3,15 +3,16 @@
 ghost use Rattle.std.specs.Prelude.{◌≡◌, ◌<◌, ◌^◌, ◌++◌, All, OnOk};
 ghost use Rattle.code_layout.specs.Machine.{Machine as State};
 ghost use Rattle.rv_simulator.specs.Kept.{StandsFor};
-ghost use Rattle.run_lines.specs.Lines.{position_text, origin_text, head_text, step_line};
+ghost use Rattle.run_lines.specs.Lines.{head_text, step_line};
 ghost use Rattle.run_lines.specs.steps.Readable.{IsReadable};
 
 use crate::value::push_variables;
 use crate::variable::Variable;
 use code_words::code::Entry;
 use compiled_text::hex::push_address;
-use mir_func::position::{Origin, Pos};
-use mir_printer::text::{Text, push_decimal, push_numbered, push_str};
+use compiled_text::line::push_origin;
+use mir_func::position::Origin;
+use mir_printer::text::{Text, push_decimal, push_str};
 use rv_simulator::hart::Hart;
 use std::alloc::AllocError;
 
@@ -42,21 +43,4 @@ fn push_head(text: &mut Text, number: u32, address: u32, origin: &Origin) -> Res
     push_str(text, " ")?;
     push_address(text, address)?;
     push_origin(text, origin)
-}
-
-fn push_origin(text: &mut Text, origin: &Origin) -> Result<(), AllocError>
-    ensures { OnOk result (text.new ≡ text.old ++ origin_text origin.now) }
-{
-    match origin {
-        Origin::Kept(pos) => push_position(text, " =", *pos),
-        Origin::Before(pos) => push_position(text, " <", *pos),
-    }
-}
-
-/// Appends a sign and a position.
-fn push_position(text: &mut Text, sign: &str, pos: Pos) -> Result<(), AllocError>
-    ensures { OnOk result (text.new ≡ text.old ++ position_text sign.now pos) }
-{
-    push_numbered(text, sign, pos.block.number())?;
-    push_numbered(text, ".", pos.item)
 }

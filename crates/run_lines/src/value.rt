@@ -5,7 +5,8 @@ ghost use Rattle.std.specs.List.{flat_map};
 ghost use Rattle.dwarf_loclists.specs.Ranges.{IsLocated};
 ghost use Rattle.code_layout.specs.Machine.{Machine as State};
 ghost use Rattle.rv_simulator.specs.Kept.{StandsFor};
-ghost use Rattle.run_lines.specs.Lines.{nowhere_text, whole_text, piece_text, located_text, variable_text, variables_text};
+ghost use Rattle.run_lines.specs.Lines.{nowhere_text, whole_text, piece_text, located_text};
+ghost use Rattle.run_lines.specs.Lines.{variable_text, variables_text};
 ghost use Rattle.run_lines.specs.Lines.{piece_value_text};
 ghost use Rattle.run_lines.specs.steps.Readable.{IsReadablePiece, IsReadable};
 

@@ -11,25 +11,7 @@ use rv64_instr::reg::physical;
 use rv64_instr::start::{Answer, CallEvent, Cells, Start};
 use std::alloc::Global;
 use std::test::Fail;
-
-/// A loop that calls `g` until its first argument is counted down, and sums what it gives.
-const SUM: &[u8] = b"---
-name: sum
-body: |
-  bb.0:
-    $x8 = COPY $x10
-    $x9 = ADDI $x0, 0
-  bb.1:
-    $x10 = COPY $x8
-    PseudoCALL @g, csr_ilp32_lp64, implicit-def dead $x1, implicit $x10, implicit-def $x10
-    $x9 = ADD $x9, $x10
-    $x8 = ADDI $x8, -1
-    BNE $x8, $x0, %bb.1
-  bb.2:
-    $x10 = COPY $x9
-    PseudoRET implicit $x10
-...
-";
+use summing_loop::SUM;
 
 /// A function of one word, which returns.
 const RETURN: &[u8] = b"---\nname: f\nbody: |\n  bb.0:\n    PseudoRET\n...\n";

@@ -64,7 +64,8 @@ module _ (reserve : List ℕ) (live : ℕ → Bool) (f : Function) (subs : List 
           by_homes [] n = absurd (n refl)
           by_homes (h ∷ hs) n = refl
 
-    pub some_spilled : (entry : List Home) (scratch losses : List Loss) → entry ≡ entry_of live s.homes → IsInOrder scratch → AreScratchLosses s f.blocks scratch →
+    pub some_spilled : (entry : List Home) (scratch losses : List Loss) → entry ≡ entry_of live s.homes → IsInOrder scratch →
+        AreScratchLosses s f.blocks scratch →
         losses ≡ scratch ++ registers_left reserve live f → IsSpilledWithLosses reserve f subs (spilled_by s entry k f) losses
     some_spilled entry scratch losses e ordered each are = record {
       live = live;

@@ -36,7 +36,8 @@ abbrev AllInside : Block → Type 0
 AllInside b = All (Inside b) b.items
 
 -- marks that ask by phis change no silent index
-pub silent_asked : (s : Spilling) (k : ℕ) (bs : List Block) → All (λ (b : Block). b.silent < 2 ^ 32) bs → All (λ (b : Block). b.silent < 2 ^ 32) (blocks_asked s k bs)
+pub silent_asked : (s : Spilling) (k : ℕ) (bs : List Block) → All (λ (b : Block). b.silent < 2 ^ 32) bs →
+    All (λ (b : Block). b.silent < 2 ^ 32) (blocks_asked s k bs)
 silent_asked s k [] h = All-nil IsSmall
 silent_asked s k (b ∷ bs) h =
     All-cons IsSmall (record { id = b.id; items = items_asked s k b.items; silent = b.silent })

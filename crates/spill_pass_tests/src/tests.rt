@@ -4,7 +4,6 @@ ghost use Rattle.std.specs.Prelude.{◌+◌, ◌*◌, ◌<◌, ◌^◌, [], IfOk
 ghost use Rattle.mir_func.specs.Limits.{MAX_SLOTS};
 ghost use Rattle.follow_law.specs.Sizes.{greatest, greatest_number, most_numbers};
 
-use crate::fits::is_small;
 use crate::shown::shown;
 use follow_law::pass::Pass;
 use mir_func::func::Func;
@@ -12,6 +11,7 @@ use mir_parser::program::read_program;
 use mir_printer::text::{Text, push_numbered, push_str};
 use rv64_instr::reg::{Registers, physical};
 use spill_pass::spill::SpillPass;
+use small_functions::fits::is_small;
 use std::alloc::Global;
 use std::test::Fail;
 use substitution::substitutions::Substitutions;

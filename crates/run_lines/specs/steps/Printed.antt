@@ -33,7 +33,8 @@ pub record IsPrintedStep (gives : CallEvent → Reply → Type 0) (c : LaidCode)
   pub stays : StaysIf r old new
 
 -- the steps so far, with their lines
-pub data Printed (gives : CallEvent → Reply → Type 0) (c : LaidCode) (variables : List Variable) (from : Hart) : (steps : ℕ) → Hart → (text : List ℕ) → Type 0 where
+pub data Printed (gives : CallEvent → Reply → Type 0) (c : LaidCode) (variables : List Variable) (from : Hart) :
+    (steps : ℕ) → Hart → (text : List ℕ) → Type 0 where
   begins : Printed gives c variables from 0 from []
   goes_on : {n : ℕ} {h now : Hart} {text more : List ℕ} → Printed gives c variables from n h text →
       IsPrintedStep gives c variables n Went h now text more → Printed gives c variables from (suc n) now more

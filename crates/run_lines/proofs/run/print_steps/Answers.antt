@@ -10,8 +10,8 @@ pub loop-n-init : goal.loop-n-init
 loop-n-init g c = record {
   code = refl;
   answers = refl;
-  printed = subst (λ (t : List ℕ). Printed (g.A.CallAnswers.gives c.args.machine.now.answers) c.args.machine.now.code c.args.variables.now c.args.machine.now.hart 0
-      c.args.machine.now.hart t) (sym c.requires.empty) begins;
+  printed = subst (λ (t : List ℕ). Printed (g.A.CallAnswers.gives c.args.machine.now.answers) c.args.machine.now.code c.args.variables.now
+      c.args.machine.now.hart 0 c.args.machine.now.hart t) (sym c.requires.empty) begins;
 }
 
 pub loop-n-preserved : goal.loop-n-preserved
@@ -23,8 +23,8 @@ loop-n-preserved g c =
     c.loop-n.text c.print_step.new.text) c.loop-n.invariant.code c.in_ok-print_step.ensures.printed in
     let made = subst (λ (a : g.row.A.Denot). IsPrintedStep (gives a) c.args.machine.now.code c.args.variables.now c.loop-n.n c.in_ok-print_step.field-0 m.hart
     now.hart c.loop-n.text c.print_step.new.text) c.loop-n.invariant.answers here in
-    let went = subst (λ (r : Stepped). IsPrintedStep (gives c.args.machine.now.answers) c.args.machine.now.code c.args.variables.now c.loop-n.n r m.hart now.hart
-    c.loop-n.text c.print_step.new.text) c.in-Went.is made in
+    let went = subst (λ (r : Stepped). IsPrintedStep (gives c.args.machine.now.answers) c.args.machine.now.code c.args.variables.now c.loop-n.n r m.hart
+    now.hart c.loop-n.text c.print_step.new.text) c.in-Went.is made in
     let one : suc c.loop-n.n ≡ c.loop-n.n + 1 = omega arith in
     record {
       code = c.print_step.ensures.code ∙ c.loop-n.invariant.code;
@@ -42,8 +42,8 @@ returns-in-Stopped g c =
     c.loop-n.text c.print_step.new.text) c.loop-n.invariant.code c.in_ok-print_step.ensures.printed in
     let made = subst (λ (a : g.row.A.Denot). IsPrintedStep (gives a) c.args.machine.now.code c.args.variables.now c.loop-n.n c.in_ok-print_step.field-0 m.hart
     now.hart c.loop-n.text c.print_step.new.text) c.loop-n.invariant.answers here in
-    let step = subst (λ (r : Stepped). IsPrintedStep (gives c.args.machine.now.answers) c.args.machine.now.code c.args.variables.now c.loop-n.n r m.hart now.hart
-    c.loop-n.text c.print_step.new.text) c.in-Stopped.is made in
+    let step = subst (λ (r : Stepped). IsPrintedStep (gives c.args.machine.now.answers) c.args.machine.now.code c.args.variables.now c.loop-n.n r m.hart
+    now.hart c.loop-n.text c.print_step.new.text) c.in-Stopped.is made in
     let below : c.loop-n.n < c.args.limit = c.loop-n-test.true in
     on_ok c.push_stop.result (IsStopAdded c.in-Stopped.stop c.hart.result.now c.print_step.new.text c.push_stop.new.text)
     (IsRunPrinted (gives c.args.machine.now.answers) c.args.machine.now.code c.args.variables.now c.args.limit c.args.machine.now.hart c.push_stop.new.text)

@@ -1,4 +1,4 @@
-//! Functions that are small enough for a pass.
+//! Functions that are small enough for each pass.
 
 ghost use Rattle.std.specs.Prelude.{◌+◌, ◌*◌, ◌<◌, ◌^◌, [], length, IsTrue};
 ghost use Rattle.mir_func.specs.Limits.{MAX_SLOTS};
@@ -10,9 +10,10 @@ use mir_func::func::Func;
 use numbers::code::SlotId;
 use salvage::fresh::greatest_in_blocks;
 
-/// Whether a function has one or two short blocks, at most two slots, and small numbers.
+/// Whether a function has one or two short blocks, and small numbers. Then a pass that adds up to four numbers for each
+/// item has room for them.
 pub fn is_small(f: &Func) -> bool
-    ensures numbers { IsTrue result → greatest_number f.now [] + most_numbers 1 1 f.now < 2 ^ 31 }
+    ensures numbers { IsTrue result → greatest_number f.now [] + most_numbers 4 1 f.now < 2 ^ 31 }
     ensures slots { IsTrue result → greatest f.now.slots + MAX_SLOTS * 1 < 2 ^ 31 }
 {
     let most = greatest_in_blocks(f.blocks.as_slice());
@@ -30,14 +31,14 @@ fn are_short(blocks: &[Block]) -> bool
     }
 }
 
-/// Whether there are two slots at most, with numbers below 100.
+/// Whether all slots have numbers below 1,000.
 fn are_low(slots: &[SlotId]) -> bool
-    ensures { IsTrue result → greatest slots.now < 100 }
+    ensures { IsTrue result → greatest slots.now < 1_000 }
 {
-    match slots {
-        [] => true,
-        [a] => a.number() < 100,
-        [a, b] => a.number() < 100 && b.number() < 100,
-        _ => false,
+    for slot in slots {
+        if 1_000 <= slot.number() {
+            return false;
+        }
     }
+    true
 }

@@ -1,5 +1,0 @@
-//! Tests of the files of made-up functions.
-#![tactic(auto)]
-
-#[cfg(test)]
-mod tests;

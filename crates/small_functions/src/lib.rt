@@ -1,0 +1,4 @@
+//! Functions of tests that are small enough for each pass.
+#![tactic(auto)]
+
+pub mod fits;
