@@ -85,7 +85,8 @@ same_step reserve passes f g f' g' same is others =
 pub passed_text : PassedHasSameText
 passed_text reserve passes fs gs new others base text other ls ms alike is are laid laid' =
     alike_text new others base text other ls ms
-    (each_step HaveAlikeCode (IsPassed reserve passes) (IsPassed reserve passes) HaveAlikeCode (alike_step reserve passes) fs gs new others alike is are) laid laid'
+    (each_step HaveAlikeCode (IsPassed reserve passes) (IsPassed reserve passes) HaveAlikeCode (alike_step reserve passes) fs gs new others alike
+    is are) laid laid'
 
 pub passed_code : PassedHasSameCode
 passed_code reserve passes fs gs new others base text other ls ms same is are laid laid' =
