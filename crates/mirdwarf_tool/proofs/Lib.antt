@@ -5,3 +5,4 @@ pub mod Lines
 pub mod AnswerLemmas
 pub mod RunLemmas
 pub mod Kept
+pub mod Stripped

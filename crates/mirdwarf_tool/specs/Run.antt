@@ -6,10 +6,14 @@ use Rattle.compiled_text.specs.Shown.{OfShown}
 use Rattle.listing_laws.specs.Laws.{inlined_in}
 use Rattle.mir_parser.specs.declared.program.Program.{Program}
 use Rattle.command_line.specs.declared.command.Command.{Command}
+use Rattle.command_line.specs.declared.command.Command.TheVariants.{Strip}
 use Rattle.command_line.specs.declared.fault.Fault.{Fault}
 use Rattle.command_line.specs.declared.fault.Fault.TheVariants.{Usage, Read, TooLong, Refused, NoFunction, FrameTooLarge, SectionTooLarge, Write, Memory}
 use Rattle.command_line.specs.Command.{IsCommand}
 use Rattle.command_line.specs.Fault.{line_of}
+use Rattle.names_of_bytes.specs.Bytes.{AreBytes}
+use Rattle.strip_read_back.specs.Text.{stripped_program}
+use Rattle.strip_text.specs.StripText.{stripped_text}
 use Rattle.mirdwarf_tool.specs.Limits.{INPUT_LIMIT}
 use Rattle.mirdwarf_tool.specs.Answer.{HasFunctions, AnswersText, IsAnswered, RefusesText}
 use Rattle.output_promise.specs.Promise.{AreLaidOut, Promises, IsExact, ListsPassed}
@@ -30,6 +34,7 @@ AreCommand words = (command : Command) × IsCommand words command
 pub record HasRead (input : Change) (text : List ℕ) : Type 0 where
   pub whole : IsReadWhole input text
   pub within : length text ≤ INPUT_LIMIT
+  pub bytes : AreBytes text
 
 -- this is what a command writes of the text that was read
 pub record AnswersInput (command : Command) (input : Change) (output : List ℕ) : Type 0 where
@@ -150,6 +155,17 @@ pub record ShowsPassed (steps : List Step) (p : Program) (o : Output) : Type 0 w
 -- one whole output of what passes made of the input's functions was written
 abbrev pub WrotePassed : List Step → (input output : Change) → Type 0
 WrotePassed steps input output = HasWritten (ShowsPassed steps) input output
+
+-- A text was read, and its functions were written without their debug items. What was written is read in turn: it stands for the program without
+-- its debug items, and the command that strips writes the same text of it again.
+pub record WroteStripped (input output : Change) : Type 0 where
+  pub text : List ℕ
+  pub read : HasRead input text
+  pub program : Program
+  pub has : HasFunctions text program
+  pub written : IsWrittenWhole output (stripped_text program.functions)
+  pub reads : HasFunctions (stripped_text program.functions) (stripped_program program)
+  pub again : AnswersText Strip (stripped_text program.functions) (stripped_text program.functions)
 
 -- why an input gave nothing to write
 abbrev pub ReadingEnds : Command → (input : Change) → Fault → Type 0

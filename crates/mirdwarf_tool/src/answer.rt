@@ -4,6 +4,7 @@ ghost use Rattle.std.specs.Prelude.{◌^◌, ◌<◌, length, Ok, IfOk, IfErr};
 ghost use Rattle.mirdwarf_tool.specs.Answer.{Answers, AnswersText};
 ghost use Rattle.mirdwarf_tool.specs.Answer.{RefusesText, RefusesProgram, RefusesToWrite};
 ghost use Rattle.mir_parser.specs.Program.{ReadsText};
+ghost use Rattle.names_of_bytes.specs.Bytes.{AreBytes};
 ghost use Rattle.reading_laws.specs.Read.{IsReadProgram};
 
 use crate::compiled::{compiled_text, listing_text};
@@ -20,13 +21,20 @@ pub fn answer(alloc: Global, command: Command, text: &[u8]) -> Result<Text, Faul
     requires { length text.now < 2 ^ 31 }
     ensures ok { IfOk result (AnswersText command text.now) }
     ensures err { IfErr result (RefusesText command text.now) }
+    ensures bytes { AreBytes text.now }
 {
+    are_bytes(text);
     let program = read(alloc, text)?;
     if program.functions.is_empty() {
         return Err(Fault::NoFunction);
     }
     written(alloc, command, &program)
 }
+
+/// What a slice has are bytes: numbers below 256.
+fn are_bytes(text: &[u8])
+    ensures { AreBytes text.now }
+{}
 
 /// The program of a text.
 fn read(alloc: Global, text: &[u8]) -> Result<Program, Fault>

@@ -7,7 +7,7 @@ ghost use Rattle.pass_loop.specs.Passes.{steps_of};
 ghost use Rattle.command_line.specs.Fault.{line_of};
 ghost use Rattle.mirdwarf_tool.specs.Run.{AreCommand, AnswersInput, Finishes, IsCutOff, TellsRefusal, IsAnswerable};
 ghost use Rattle.mirdwarf_tool.specs.Run.{KeepsHeadline, KeepsRegisters, StopsAtReturns, WroteExactly, WroteLaidOut};
-ghost use Rattle.mirdwarf_tool.specs.Run.{WroteKept, WroteWords, WrotePassed};
+ghost use Rattle.mirdwarf_tool.specs.Run.{WroteKept, WroteWords, WrotePassed, WroteStripped};
 ghost use Rattle.mirdwarf_tool.specs.Run.{Explains, ReadingEnds};
 ghost use Rattle.mirdwarf_tool.specs.Stream.{change, MetFault, IsTold};
 
@@ -82,6 +82,12 @@ pub fn mirdwarf<S: Source, K: Sink, E: Sink>(
     ensures passed { (list : List PassKind) → result ≡ Status.Done →
         map string_bytes words.now ≡ words_of (Command.Compile list) →
         WrotePassed (steps_of list) (change S.left S.faults input.old input.new)
+        (change K.written K.faults output.old output.new) }
+
+    // What `strip` writes is read in turn: it stands for the program without its debug items, and `strip` writes the
+    // same text of it again.
+    ensures stripped { result ≡ Status.Done → map string_bytes words.now ≡ words_of Command.Strip →
+        WroteStripped (change S.left S.faults input.old input.new)
         (change K.written K.faults output.old output.new) }
 
     // A text that the command answers is answered, unless a fault is met or memory runs out.

@@ -4,6 +4,7 @@ use Rattle.mirdwarf_tool.specs.Stream.{change}
 use Rattle.mirdwarf_tool.proofs.RunLemmas.{refusal, complete}
 use Rattle.mirdwarf_tool.proofs.Kept.{headline_kept, registers_kept, stops_at_returns, wrote_exactly, wrote_kept, wrote_laid_out}
 use Rattle.mirdwarf_tool.proofs.Kept.{wrote_words, wrote_passed}
+use Rattle.mirdwarf_tool.proofs.Stripped.{wrote_stripped}
 use Rattle.mirdwarf_tool.proofs.driver.mirdwarf.Goals as goal
 
 pub returns-in-Err-clause-refused : goal.returns-in-Err-clause-refused
@@ -52,6 +53,11 @@ pub returns-in-Ok-clause-words : goal.returns-in-Ok-clause-words
 returns-in-Ok-clause-words g c list done =
     wrote_words (map string_bytes c.args.words.now) (change g.S.Source.left g.S.Source.faults c.args.input.now c.run.new.input)
     (change g.K.Sink.written g.K.Sink.faults c.args.output.now c.run.new.output) c.in-Ok.ensures.done list
+
+pub returns-in-Ok-clause-stripped : goal.returns-in-Ok-clause-stripped
+returns-in-Ok-clause-stripped g c done =
+    wrote_stripped (map string_bytes c.args.words.now) (change g.S.Source.left g.S.Source.faults c.args.input.now c.run.new.input)
+    (change g.K.Sink.written g.K.Sink.faults c.args.output.now c.run.new.output) c.in-Ok.ensures.done
 
 pub returns-in-Err-clause-complete : goal.returns-in-Err-clause-complete
 returns-in-Err-clause-complete g c command asked form no_read no_write =
