@@ -6,3 +6,4 @@ pub mod AnswerLemmas
 pub mod RunLemmas
 pub mod Kept
 pub mod Stripped
+pub mod Generated

@@ -3,14 +3,14 @@ use Rattle.std.proofs.Common.{◌≡◌, ◌≢◌, ℕ, List, [], ◌∷◌, ma
 use Rattle.command_line.specs.declared.command.Command.{Command}
 use Rattle.command_line.specs.declared.command.Command.TheVariants.{Strip}
 use Rattle.command_line.specs.Command.{words_of}
-use Rattle.command_line.proofs.Words.{one_command}
+use Rattle.command_line.proofs.Words.{numbers_within, one_command}
 use Rattle.functions_read_back.specs.Stripped.{reread}
 use Rattle.mir_parser.specs.declared.closing.Parsed.{Parsed}
 use Rattle.strip_read_back.proofs.Texts.{stripped_texts_are_read}
 use Rattle.strip_read_back.specs.Text.{stripped_program, IsReadStripped}
 use Rattle.strip_text.specs.StripText.{stripped_text}
-use Rattle.mirdwarf_tool.specs.Answer.{HasFunctions, Answers}
-use Rattle.mirdwarf_tool.specs.Run.{Finishes, WroteStripped}
+use Rattle.mirdwarf_tool.specs.Answer.{HasFunctions}
+use Rattle.mirdwarf_tool.specs.Run.{Finishes, AnswersRead, AnswersInput, WroteStripped}
 use Rattle.mirdwarf_tool.specs.Stream.{Change, IsWrittenWhole}
 
 some_still : (functions : List Parsed) → functions ≢ [] → map reread functions ≢ []
@@ -21,20 +21,20 @@ module _ (words : List (List ℕ)) (input output : Change) (finished : Finishes 
   pub wrote_stripped : WroteStripped input output
   wrote_stripped =
       let accepted = finished.accepted in
-      let answers = accepted.answers.answers in
-      let written = stripped_text answers.program.functions in
-      let command : accepted.command ≡ Strip = one_command accepted.command Strip (sym accepted.asked.0 ∙ asked) in
-      let is : finished.text ≡ written = subst (λ (c : Command). Answers c answers.program finished.text) command answers.answers in
-      let back : IsReadStripped answers.program =
-          stripped_texts_are_read accepted.answers.text answers.program accepted.answers.read.bytes answers.has.reads in
-      let reads : HasFunctions written (stripped_program answers.program) =
-          record { reads = back.reads; some = some_still answers.program.functions answers.has.some } in
+      let command : accepted.command ≡ Strip =
+          one_command accepted.command Strip (numbers_within accepted.command accepted.asked.1) tt (sym accepted.asked.0 ∙ asked) in
+      let answers : AnswersRead Strip input finished.text = subst (λ (c : Command). AnswersInput c input finished.text) command accepted.answers in
+      let p = answers.answers.program in
+      let has : HasFunctions answers.text p = answers.answers.has in
+      let written = stripped_text p.functions in
+      let back : IsReadStripped p = stripped_texts_are_read answers.text p answers.read.bytes has.reads in
+      let reads : HasFunctions written (stripped_program p) = record { reads = back.reads; some = some_still p.functions has.some } in
       record {
-        text = accepted.answers.text;
-        read = accepted.answers.read;
-        program = answers.program;
-        has = answers.has;
-        written = subst (λ (bytes : List ℕ). IsWrittenWhole output bytes) is finished.written;
+        text = answers.text;
+        read = answers.read;
+        program = p;
+        has = has;
+        written = subst (λ (bytes : List ℕ). IsWrittenWhole output bytes) answers.answers.answers finished.written;
         reads = reads;
-        again = record { program = stripped_program answers.program; has = reads; answers = sym back.same };
+        again = record { program = stripped_program p; has = reads; answers = sym back.same };
       }
