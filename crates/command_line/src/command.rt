@@ -5,6 +5,7 @@ ghost use Rattle.pass_list.specs.declared.kind.PassKind.{PassKind};
 ghost use Rattle.pass_list.specs.Names.{AreDistinct};
 ghost use Rattle.command_line.specs.Command.{option_of, IsCommand};
 
+use command_numbers::generation::{Generation, asked};
 use pass_list::kind::is_same;
 use pass_list::list::PassList;
 use pass_list::text::pass_list;
@@ -18,16 +19,20 @@ pub enum Command {
     Listing(PassList),
     /// Writes each function without its debug items.
     Strip,
+    /// Writes a function that is made up, and reads nothing.
+    Gen(Generation),
 }
 
 /// The command that the words are: `compile` or `listing` with the option of a list of passes, as `--passes=copy,fold`
-/// or `--passes=none`, or `strip`. None where they are no command.
+/// or `--passes=none`; `strip`; or `gen` with the number of a function, 0 to 65,536, and how many blocks it has, 1 to
+/// 512. None where they are no command.
 pub fn parse(words: &[String]) -> Option<Command>
     ensures { (command : Command) → (result ≡ Some command) ↔ IsCommand (map string_bytes words.now) command }
 {
     match words {
         [name] => alone(name.as_str()),
         [name, option] => with_option(name.as_str(), option.as_str()),
+        [name, number, blocks] => with_numbers(name.as_str(), number.as_str(), blocks.as_str()),
         _ => None,
     }
 }
@@ -58,6 +63,21 @@ fn with_option(name: &str, option: &str) -> Option<Command>
                 None
             }
         }
+    }
+}
+
+/// The command of a word and two numbers.
+fn with_numbers(name: &str, number: &str, blocks: &str) -> Option<Command>
+    ensures { (command : Command) → (result ≡ Some command) ↔
+        IsCommand (name.now ∷ number.now ∷ blocks.now ∷ []) command }
+{
+    if is_same(name, "gen") {
+        match asked(number, blocks) {
+            Some(generation) => Some(Command::Gen(generation)),
+            None => None,
+        }
+    } else {
+        None
     }
 }
 

@@ -9,7 +9,7 @@ use refusal::kind::RefusalKind;
 use std::test::Fail;
 
 /// Words of a command line, and the command that they are, as its name and its passes.
-const ROWS: [(&str, Option<(&str, &[PassKind])>); 22] = [
+const ROWS: [(&str, Option<(&str, &[PassKind])>); 31] = [
     ("compile --passes=none", Some(("compile", &[]))),
     (
         "compile --passes=remat",
@@ -47,6 +47,15 @@ const ROWS: [(&str, Option<(&str, &[PassKind])>); 22] = [
     ("compile --passes=,copy", None),
     ("compile --passes=Copy", None),
     ("Strip", None),
+    ("gen 0 1", Some(("gen", &[]))),
+    ("gen 65536 512", Some(("gen", &[]))),
+    ("gen 65537 1", None),
+    ("gen 0 0", None),
+    ("gen 0 513", None),
+    ("gen 00 1", None),
+    ("gen 1", None),
+    ("gen 1 2 3", None),
+    ("strip 1 2", None),
 ];
 
 /// Whether a command has this name and these passes.
@@ -55,6 +64,7 @@ fn is_command(command: &Command, name: &str, passes: &[PassKind]) -> bool {
         Command::Compile(list) => name == "compile" && list.as_slice() == passes,
         Command::Listing(list) => name == "listing" && list.as_slice() == passes,
         Command::Strip => name == "strip",
+        Command::Gen(_) => name == "gen",
     }
 }
 

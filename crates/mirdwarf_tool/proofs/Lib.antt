@@ -5,3 +5,5 @@ pub mod Lines
 pub mod AnswerLemmas
 pub mod RunLemmas
 pub mod Kept
+pub mod Stripped
+pub mod Generated

@@ -1,12 +1,12 @@
 -- Why a run ended as it did.
-use Rattle.std.specs.Prelude.{◌⊎◌, Option, Some}
-use Rattle.std.proofs.Common.{◌≡◌, ℕ, List, ◌+◌, ap, sym, ◌∙◌, refl, subst, inr, arith}
+use Rattle.std.specs.Prelude.{Option, Some}
+use Rattle.std.proofs.Common.{◌≡◌, ℕ, List, ◌+◌, ap, sym, ◌∙◌, refl, subst, arith}
 use Rattle.io_edge.specs.Told.{Takes, TakesCount}
 use Rattle.io_edge.proofs.ToldLemmas.{Takes-told, TakesCount-told}
 use Rattle.command_line.specs.declared.command.Command.{Command}
-use Rattle.command_line.specs.declared.command.Command.TheVariants.{Compile}
+use Rattle.command_line.specs.declared.command.Command.TheVariants.{Compile, Listing, Strip, Gen}
 use Rattle.command_line.specs.Command.{words_of, IsCommand}
-use Rattle.command_line.proofs.Words.{one_command}
+use Rattle.command_line.proofs.Words.{numbers_within, one_command}
 use Rattle.command_line.specs.declared.fault.Fault.{Fault}
 use Rattle.command_line.specs.declared.fault.Fault.TheVariants.{Usage, Read, TooLong, Refused, NoFunction, FrameTooLarge, SectionTooLarge, Write, Memory}
 use Rattle.command_line.specs.declared.status.Status.TheVariants as status
@@ -20,9 +20,9 @@ use Rattle.program_compiler.specs.Program.{IsOutputOf}
 use Rattle.reading_laws.proofs.Texts.{programs_are_as_read}
 use Rattle.mirdwarf_tool.specs.Limits.{INPUT_LIMIT}
 use Rattle.mirdwarf_tool.specs.Compiled.{IsCompiledText}
-use Rattle.mirdwarf_tool.specs.Answer.{HasFunctions, Answers, IsAnswered, RefusesToWrite, RefusesText}
-use Rattle.mirdwarf_tool.specs.Run.{Finishes, HasWritten, Explains, IsTooLong}
-use Rattle.mirdwarf_tool.specs.Run.{Refuses, RefusesRead, ReadingEnded, TellsRefusal, IsAnswerable, HasRead}
+use Rattle.mirdwarf_tool.specs.Answer.{HasFunctions, IsReader, IsAnswered, RefusesToWrite, RefusesText}
+use Rattle.mirdwarf_tool.specs.Run.{Finishes, HasWritten, Explains, IsTooLong, AnswersRead, AnswersInput}
+use Rattle.mirdwarf_tool.specs.Run.{Refuses, RefusesRead, ReadingEnds, ReadingEnded, TellsRefusal, IsAnswerableText, IsAnswerable, HasRead}
 use Rattle.mirdwarf_tool.specs.Stream.{Change, MetFault, IsReadWhole, IsWrittenWhole, IsTold}
 use Rattle.mirdwarf_tool.proofs.OneProgram.{program_not_refused, programs_one}
 use Rattle.mirdwarf_tool.proofs.Sentences.{of_shown}
@@ -42,15 +42,17 @@ record Compiled (list : List PassKind) (input output : Change) : Type 0 where
 compiled : (list : List PassKind) (words : List (List ℕ)) (input output : Change) → Finishes words input output → words ≡ words_of (Compile list) →
     Compiled list input output
 compiled list words input output is asked =
-    let command : is.accepted.command ≡ Compile list = one_command is.accepted.command (Compile list) (sym is.accepted.asked.0 ∙ asked) in
-    let answers = is.accepted.answers.answers in
+    let accepted = is.accepted in
+    let command : accepted.command ≡ Compile list =
+        one_command accepted.command (Compile list) (numbers_within accepted.command accepted.asked.1) tt (sym accepted.asked.0 ∙ asked) in
+    let answers : AnswersRead (Compile list) input is.text = subst (λ (c : Command). AnswersInput c input is.text) command accepted.answers in
     record {
-      text = is.accepted.answers.text;
-      read = is.accepted.answers.read;
-      program = answers.program;
-      has = answers.has;
+      text = answers.text;
+      read = answers.read;
+      program = answers.answers.program;
+      has = answers.answers.has;
       bytes = is.text;
-      compiles = subst (λ (c : Command). Answers c answers.program is.text) command answers.answers;
+      compiles = answers.answers.answers;
       written = is.written;
     }
 
@@ -185,32 +187,49 @@ read_told input bytes text read told =
     let takes : Takes (Some text) input.after.bytes bytes = subst (λ (b : Option (List ℕ)). Takes b input.after.bytes bytes) told read.takes in
     sym (Takes-told text bytes input.after.bytes takes read.ended)
 
-not_too_long : (command : Command) (input : Change) → IsAnswerable command input.before.bytes → IsTooLong input → ⊥
+not_too_long : (command : Command) (input : Change) → IsAnswerableText command input.before.bytes → IsTooLong input → ⊥
 not_too_long command input form long =
     let P : Option (List ℕ) → Type 0 = λ b. TakesCount b input.after.bytes (INPUT_LIMIT + 1) in
     omega (arith, form.within, TakesCount-told form.text input.after.bytes (INPUT_LIMIT + 1) (subst P form.told long))
 
-not_refused : (command : Command) (words : List (List ℕ)) (input : Change) (fault : Fault) → IsCommand words command →
-    IsAnswerable command input.before.bytes → (ended : ReadingEnded words input fault) → RefusesRead ended.command input fault → fault ≡ Memory
-not_refused command words input fault asked form ended refused =
-    let same : ended.command ≡ command = one_command ended.command command (sym ended.asked.0 ∙ asked.0) in
+-- a command that reads is answered by its text
+by_text : (command : Command) (left : Option (List ℕ)) → IsReader command → IsAnswerable command left → IsAnswerableText command left
+by_text (Compile list) left reads form = form
+by_text (Listing list) left reads form = form
+by_text Strip left reads form = form
+by_text (Gen g) left reads form = absurd reads
+
+not_refused : (command : Command) (input : Change) (fault : Fault) → IsAnswerable command input.before.bytes → RefusesRead command input fault →
+    fault ≡ Memory
+not_refused command input fault answerable refused =
+    let form = by_text command input.before.bytes refused.reads answerable in
     let text : refused.text ≡ form.text = read_told input refused.text form.text refused.read.whole form.told in
     answered_or_memory command form.text form.program fault form.has form.answered
-    (subst (λ (t : List ℕ). RefusesText command t fault) text (subst (λ (c : Command). RefusesText c refused.text fault) same refused.refused))
+    (subst (λ (t : List ℕ). RefusesText command t fault) text refused.refused)
 
-pub complete : (command : Command) (words : List (List ℕ)) (input output : Change) (fault : Fault) → IsCommand words command →
-    IsAnswerable command input.before.bytes → (MetFault input → ⊥) → (MetFault output → ⊥) → Explains words input output fault →
-    (status_of fault ≡ status.Done) ⊎ (status_of fault ≡ status.Memory)
-complete command words input output Usage asked form no_read no_write explains = absurd (explains (command, asked))
-complete command words input output Write asked form no_read no_write explains = absurd (no_write explains.1)
-complete command words input output Read asked form no_read no_write explains = absurd (no_read explains.ended)
-complete command words input output Memory asked form no_read no_write explains = inr refl
-complete command words input output TooLong asked form no_read no_write explains = absurd (not_too_long command input form explains.ended)
-complete command words input output (Refused r) asked form no_read no_write explains =
-    absurd (let no : Refused r ≡ Memory = not_refused command words input (Refused r) asked form explains explains.ended in cc)
-complete command words input output NoFunction asked form no_read no_write explains =
-    absurd (let no : NoFunction ≡ Memory = not_refused command words input NoFunction asked form explains explains.ended in cc)
-complete command words input output FrameTooLarge asked form no_read no_write explains =
-    absurd (let no : FrameTooLarge ≡ Memory = not_refused command words input FrameTooLarge asked form explains explains.ended in cc)
-complete command words input output SectionTooLarge asked form no_read no_write explains =
-    absurd (let no : SectionTooLarge ≡ Memory = not_refused command words input SectionTooLarge asked form explains explains.ended in cc)
+-- the command that ended is the one that was asked for
+ended_as_asked : (command : Command) (words : List (List ℕ)) (input : Change) (fault : Fault) → IsCommand words command → ReadingEnded words input fault →
+    ReadingEnds command input fault
+ended_as_asked command words input fault asked ended =
+    let same : ended.command ≡ command =
+        one_command ended.command command (numbers_within ended.command ended.asked.1) (numbers_within command asked.1) (sym ended.asked.0 ∙ asked.0) in
+    subst (λ (c : Command). ReadingEnds c input fault) same ended.ended
+
+module _ (command : Command) (words : List (List ℕ)) (input output : Change) (asked : IsCommand words command)
+    (form : IsAnswerable command input.before.bytes) (no_read : MetFault input → ⊥) (no_write : MetFault output → ⊥) where
+  memory_alone : (fault : Fault) → Explains words input output fault → fault ≡ Memory
+  memory_alone Usage explains = absurd (explains (command, asked))
+  memory_alone Write explains = absurd (no_write explains.1)
+  memory_alone Read explains = absurd (no_read (ended_as_asked command words input Read asked explains).1)
+  memory_alone Memory explains = refl
+  memory_alone TooLong explains =
+      let ended = ended_as_asked command words input TooLong asked explains in
+      absurd (not_too_long command input (by_text command input.before.bytes ended.0 form) ended.1)
+  memory_alone (Refused r) explains = not_refused command input (Refused r) form (ended_as_asked command words input (Refused r) asked explains)
+  memory_alone NoFunction explains = not_refused command input NoFunction form (ended_as_asked command words input NoFunction asked explains)
+  memory_alone FrameTooLarge explains = not_refused command input FrameTooLarge form (ended_as_asked command words input FrameTooLarge asked explains)
+  memory_alone SectionTooLarge explains =
+      not_refused command input SectionTooLarge form (ended_as_asked command words input SectionTooLarge asked explains)
+
+  pub complete : (fault : Fault) → Explains words input output fault → status_of fault ≡ status.Memory
+  complete fault explains = ap status_of (memory_alone fault explains)

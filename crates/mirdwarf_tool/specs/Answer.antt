@@ -9,7 +9,7 @@ use Rattle.pass_loop.specs.Passes.{steps_of}
 use Rattle.program_compiler.specs.Program.{HasLargeFrame, HasLargeSection}
 use Rattle.strip_text.specs.StripText.{stripped_text}
 use Rattle.command_line.specs.declared.command.Command.{Command}
-use Rattle.command_line.specs.declared.command.Command.TheVariants.{Compile, Listing, Strip}
+use Rattle.command_line.specs.declared.command.Command.TheVariants.{Compile, Listing, Strip, Gen}
 use Rattle.command_line.specs.declared.fault.Fault.{Fault}
 use Rattle.command_line.specs.declared.fault.Fault.TheVariants.{Usage, Read, TooLong, Refused, NoFunction, FrameTooLarge, SectionTooLarge, Write, Memory}
 use Rattle.mirdwarf_tool.specs.Compiled.{IsCompiledText, IsListingText}
@@ -19,23 +19,33 @@ pub record HasFunctions (text : List ℕ) (program : Program) : Type 0 where
   pub reads : ReadsText text (Ok program)
   pub some : program.functions ≢ []
 
--- what a command writes of a program
+-- the commands that read the input
+abbrev pub IsReader : Command → Type 0
+IsReader (Compile list) = Unit {0}
+IsReader (Listing list) = Unit {0}
+IsReader Strip = Unit {0}
+IsReader (Gen g) = ⊥
+
+-- what a command writes of a program; one that doesn't read writes nothing of any
 abbrev pub Answers : Command → Program → (output : List ℕ) → Type 0
 Answers (Compile list) program output = IsCompiledText (steps_of list) program output
 Answers (Listing list) program output = IsListingText (steps_of list) program output
 Answers Strip program output = output ≡ stripped_text program.functions
+Answers (Gen g) program output = ⊥
 
 -- the program is too large for a command: what a command that compiles makes of it has a frame above the limit
 abbrev pub HasFrameTooLarge : Command → Program → Type 0
 HasFrameTooLarge (Compile list) program = HasLargeFrame (steps_of list) program.functions
 HasFrameTooLarge (Listing list) program = HasLargeFrame (steps_of list) program.functions
 HasFrameTooLarge Strip program = ⊥
+HasFrameTooLarge (Gen g) program = ⊥
 
 -- or a section
 abbrev pub HasSectionTooLarge : Command → Program → Type 0
 HasSectionTooLarge (Compile list) program = HasLargeSection (steps_of list) program
 HasSectionTooLarge (Listing list) program = HasLargeSection (steps_of list) program
 HasSectionTooLarge Strip program = ⊥
+HasSectionTooLarge (Gen g) program = ⊥
 
 -- the programs of which a command writes something
 pub record IsAnswered (command : Command) (program : Program) : Type 0 where
@@ -58,11 +68,11 @@ pub record AnswersText (command : Command) (text output : List ℕ) : Type 0 whe
 abbrev pub IsRefusedAt : (text : List ℕ) → Refusal → Type 0
 IsRefusedAt text r = ReadsText text (Err (errors.Refused r))
 
--- why no program is read
+-- why no program with a function is read
 abbrev pub RefusesProgram : (text : List ℕ) → Fault → Type 0
 RefusesProgram text (Refused r) = IsRefusedAt text r
 RefusesProgram text Memory = Unit {0}
-RefusesProgram text NoFunction = ⊥
+RefusesProgram text NoFunction = HasNoFunction text
 RefusesProgram text FrameTooLarge = ⊥
 RefusesProgram text SectionTooLarge = ⊥
 RefusesProgram text Usage = ⊥

@@ -6,12 +6,17 @@ use Rattle.compiled_text.specs.Shown.{OfShown}
 use Rattle.listing_laws.specs.Laws.{inlined_in}
 use Rattle.mir_parser.specs.declared.program.Program.{Program}
 use Rattle.command_line.specs.declared.command.Command.{Command}
+use Rattle.command_line.specs.declared.command.Command.TheVariants.{Compile, Listing, Strip, Gen}
 use Rattle.command_line.specs.declared.fault.Fault.{Fault}
 use Rattle.command_line.specs.declared.fault.Fault.TheVariants.{Usage, Read, TooLong, Refused, NoFunction, FrameTooLarge, SectionTooLarge, Write, Memory}
 use Rattle.command_line.specs.Command.{IsCommand}
 use Rattle.command_line.specs.Fault.{line_of}
+use Rattle.generated_text.specs.GeneratedText.{generated_text}
+use Rattle.names_of_bytes.specs.Bytes.{AreBytes}
+use Rattle.strip_read_back.specs.Text.{stripped_program}
+use Rattle.strip_text.specs.StripText.{stripped_text}
 use Rattle.mirdwarf_tool.specs.Limits.{INPUT_LIMIT}
-use Rattle.mirdwarf_tool.specs.Answer.{HasFunctions, AnswersText, IsAnswered, RefusesText}
+use Rattle.mirdwarf_tool.specs.Answer.{HasFunctions, IsReader, AnswersText, IsAnswered, RefusesProgram, RefusesText}
 use Rattle.output_promise.specs.Promise.{AreLaidOut, Promises, IsExact, ListsPassed}
 use Rattle.output_promise.specs.Source.{PassedFunction}
 use Rattle.output_promise.specs.Words.{HaveWords}
@@ -20,7 +25,7 @@ use Rattle.function_passes.specs.Passed.{IsMadeBy}
 use Rattle.program_compiler.specs.Program.{sources_of, ArePassed, HasSections}
 use Rattle.mirdwarf_tool.specs.Lines.{GivesLines}
 use Rattle.mirdwarf_tool.specs.Promise.{AllGiveBack, AllStopWell, AllListKept}
-use Rattle.mirdwarf_tool.specs.Stream.{Change, MetFault, IsReadWhole, IsReadFor, IsWrittenWhole, IsWrittenInPart, IsTold}
+use Rattle.mirdwarf_tool.specs.Stream.{Change, MetFault, IsUnread, IsReadWhole, IsReadFor, IsWrittenWhole, IsWrittenInPart, IsTold}
 
 -- the words are those of a command
 abbrev pub AreCommand : (words : List (List ℕ)) → Type 0
@@ -30,14 +35,28 @@ AreCommand words = (command : Command) × IsCommand words command
 pub record HasRead (input : Change) (text : List ℕ) : Type 0 where
   pub whole : IsReadWhole input text
   pub within : length text ≤ INPUT_LIMIT
+  pub bytes : AreBytes text
+
+-- a text was read that stands for a program with a function
+pub record HasReadProgram (input : Change) (program : Program) : Type 0 where
+  pub text : List ℕ
+  pub read : HasRead input text
+  pub has : HasFunctions text program
 
 -- this is what a command writes of the text that was read
-pub record AnswersInput (command : Command) (input : Change) (output : List ℕ) : Type 0 where
+pub record AnswersRead (command : Command) (input : Change) (output : List ℕ) : Type 0 where
   pub text : List ℕ
   pub read : HasRead input text
   pub answers : AnswersText command text output
 
--- the words are a command's, and this is what it writes of the text that was read
+-- this is what a command writes: of the text that was read, or the text of a function that is made up, for which nothing is read
+abbrev pub AnswersInput : Command → (input : Change) → (output : List ℕ) → Type 0
+AnswersInput (Compile list) input output = AnswersRead (Compile list) input output
+AnswersInput (Listing list) input output = AnswersRead (Listing list) input output
+AnswersInput Strip input output = AnswersRead Strip input output
+AnswersInput (Gen g) input output = IsUnread input × (output ≡ generated_text g.number g.blocks)
+
+-- the words are a command's, and this is what it writes
 pub record Accepts (words : List (List ℕ)) (input : Change) (output : List ℕ) : Type 0 where
   pub command : Command
   pub asked : IsCommand words command
@@ -59,15 +78,34 @@ pub record IsCutOff (words : List (List ℕ)) (input output : Change) : Type 0 w
 abbrev pub IsTooLong : (input : Change) → Type 0
 IsTooLong input = IsReadFor input (INPUT_LIMIT + 1)
 
--- the text that was read is refused so
+-- a text was read that stands for no program with a function
+pub record RefusesInput (input : Change) (fault : Fault) : Type 0 where
+  pub text : List ℕ
+  pub read : HasRead input text
+  pub refused : RefusesProgram text fault
+
+-- why no program is read of an input
+abbrev pub HasReadNone : (input : Change) → Fault → Type 0
+HasReadNone input Read = MetFault input
+HasReadNone input Memory = Unit {0}
+HasReadNone input TooLong = IsTooLong input
+HasReadNone input (Refused r) = RefusesInput input (Refused r)
+HasReadNone input NoFunction = RefusesInput input NoFunction
+HasReadNone input FrameTooLarge = ⊥
+HasReadNone input SectionTooLarge = ⊥
+HasReadNone input Usage = ⊥
+HasReadNone input Write = ⊥
+
+-- a command reads, and the text that was read is refused so
 pub record RefusesRead (command : Command) (input : Change) (fault : Fault) : Type 0 where
+  pub reads : IsReader command
   pub text : List ℕ
   pub read : HasRead input text
   pub refused : RefusesText command text fault
 
--- why a command refuses an input: it is too long, or its text is refused
+-- why a command refuses an input: it reads it, and it is too long, or its text is refused
 abbrev pub Refuses : Command → (input : Change) → Fault → Type 0
-Refuses command input TooLong = IsTooLong input
+Refuses command input TooLong = IsReader command × IsTooLong input
 Refuses command input (Refused r) = RefusesRead command input (Refused r)
 Refuses command input NoFunction = RefusesRead command input NoFunction
 Refuses command input FrameTooLarge = RefusesRead command input FrameTooLarge
@@ -86,13 +124,20 @@ pub record TellsRefusal (words : List (List ℕ)) (input faults : Change) : Type
   pub told : IsTold faults (line_of fault)
 
 -- the bytes of an input are told, they are within the limit, and they stand for a program with a function that a command answers
-pub record IsAnswerable (command : Command) (left : Option (List ℕ)) : Type 0 where
+pub record IsAnswerableText (command : Command) (left : Option (List ℕ)) : Type 0 where
   pub text : List ℕ
   pub told : left ≡ Some text
   pub within : length text ≤ INPUT_LIMIT
   pub program : Program
   pub has : HasFunctions text program
   pub answered : IsAnswered command program
+
+-- so they are for a command that reads; one that doesn't is answered whatever the input
+abbrev pub IsAnswerable : Command → (left : Option (List ℕ)) → Type 0
+IsAnswerable (Compile list) left = IsAnswerableText (Compile list) left
+IsAnswerable (Listing list) left = IsAnswerableText (Listing list) left
+IsAnswerable Strip left = IsAnswerableText Strip left
+IsAnswerable (Gen g) left = Unit {0}
 
 -- a text was read that stands for a program with a function, bytes were written, and this holds of every output that they show (there is one)
 pub record HasWritten (P : Program → Output → Type 0) (input output : Change) : Type 0 where
@@ -151,9 +196,20 @@ pub record ShowsPassed (steps : List Step) (p : Program) (o : Output) : Type 0 w
 abbrev pub WrotePassed : List Step → (input output : Change) → Type 0
 WrotePassed steps input output = HasWritten (ShowsPassed steps) input output
 
--- why an input gave nothing to write
+-- A text was read, and its functions were written without their debug items. What was written is read in turn: it stands for the program without
+-- its debug items, and the command that strips writes the same text of it again.
+pub record WroteStripped (input output : Change) : Type 0 where
+  pub text : List ℕ
+  pub read : HasRead input text
+  pub program : Program
+  pub has : HasFunctions text program
+  pub written : IsWrittenWhole output (stripped_text program.functions)
+  pub reads : HasFunctions (stripped_text program.functions) (stripped_program program)
+  pub again : AnswersText Strip (stripped_text program.functions) (stripped_text program.functions)
+
+-- why a command had nothing to write: memory ran out, or it reads, and its input gave nothing
 abbrev pub ReadingEnds : Command → (input : Change) → Fault → Type 0
-ReadingEnds command input Read = MetFault input
+ReadingEnds command input Read = IsReader command × MetFault input
 ReadingEnds command input Memory = Unit {0}
 ReadingEnds command input TooLong = Refuses command input TooLong
 ReadingEnds command input (Refused r) = Refuses command input (Refused r)
@@ -163,7 +219,7 @@ ReadingEnds command input SectionTooLarge = Refuses command input SectionTooLarg
 ReadingEnds command input Usage = ⊥
 ReadingEnds command input Write = ⊥
 
--- a command was asked for, and its input gave nothing to write
+-- a command was asked for, and it had nothing to write
 pub record ReadingEnded (words : List (List ℕ)) (input : Change) (fault : Fault) : Type 0 where
   pub command : Command
   pub asked : IsCommand words command

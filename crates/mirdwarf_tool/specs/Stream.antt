@@ -26,6 +26,10 @@ IsSteady c = c.after.faults ≡ c.before.faults
 abbrev pub MetFault : Change → Type 0
 MetFault c = CountRose c.before.faults c.after.faults
 
+-- nothing was read, and no fault was met
+abbrev pub IsUnread : Change → Type 0
+IsUnread c = c.after ≡ c.before
+
 -- all that was left was read, without a fault, and it was these bytes
 pub record IsReadWhole (input : Change) (text : List ℕ) : Type 0 where
   pub takes : Takes input.before.bytes input.after.bytes text

@@ -1,27 +1,33 @@
 //! The run of a command.
 
 ghost use Rattle.std.specs.Prelude.{◌≡◌, ◌≢◌, ◌≤◌, ◌↔◌, ◌⊎◌, IfOk, OnOk, IfErr, IsErrOf, List, map, string_bytes};
-ghost use Rattle.command_line.specs.Command.{words_of, IsCommand};
+ghost use Rattle.command_line.specs.Command.{words_of, IsAllowed, IsCommand};
+ghost use Rattle.command_numbers.specs.declared.generation.Generation.{Generation};
+ghost use Rattle.generated_text.specs.GeneratedText.{generated_text};
 ghost use Rattle.pass_list.specs.declared.kind.PassKind.{PassKind};
 ghost use Rattle.pass_loop.specs.Passes.{steps_of};
 ghost use Rattle.command_line.specs.Fault.{line_of};
 ghost use Rattle.mirdwarf_tool.specs.Run.{AreCommand, AnswersInput, Finishes, IsCutOff, TellsRefusal, IsAnswerable};
 ghost use Rattle.mirdwarf_tool.specs.Run.{KeepsHeadline, KeepsRegisters, StopsAtReturns, WroteExactly, WroteLaidOut};
-ghost use Rattle.mirdwarf_tool.specs.Run.{WroteKept, WroteWords, WrotePassed};
-ghost use Rattle.mirdwarf_tool.specs.Run.{Explains, ReadingEnds};
-ghost use Rattle.mirdwarf_tool.specs.Stream.{change, MetFault, IsTold};
+ghost use Rattle.mirdwarf_tool.specs.Run.{WroteKept, WroteWords, WrotePassed, WroteStripped};
+ghost use Rattle.mirdwarf_tool.specs.Run.{HasReadProgram, HasReadNone, Explains, ReadingEnds};
+ghost use Rattle.mirdwarf_tool.specs.Stream.{change, MetFault, IsWrittenWhole, IsTold};
 
-use crate::answer::answer;
+use crate::compiled::{compiled_text, listing_text};
+use crate::reading::program_of;
 use crate::telling::tell;
 use command_line::command::{Command, parse};
 use command_line::fault::Fault;
 use command_line::status::Status;
+use generated_text::print::print_generated;
 use io_edge::reading::{ReadError, read_all};
 use io_edge::sink::Sink;
 use io_edge::source::Source;
 use io_edge::writing::write_all;
+use mir_parser::program::Program;
 use mir_printer::text::Text;
 use std::alloc::Global;
+use strip_text::strip_text::strip_text;
 
 /// The most bytes that an input may have.
 pub const LIMIT: usize = 16_777_216;
@@ -29,8 +35,8 @@ pub const LIMIT: usize = 16_777_216;
 /// Runs the command that the words are: reads the input to its end, and writes what the command asks for of the
 /// functions that the text stands for. `compile` with the option of a list of passes writes the sections and the
 /// listing of what these passes make of them (`--passes=none`: of the functions as they were read), `listing` with such
-/// an option the listing alone, and `strip` the functions without their debug items. A fault is told by a line on
-/// `faults`.
+/// an option the listing alone, and `strip` the functions without their debug items. `gen` reads nothing, and writes the
+/// text of the function that is made up from its two numbers. A fault is told by a line on `faults`.
 pub fn mirdwarf<S: Source, K: Sink, E: Sink>(
     alloc: Global,
     words: &[String],
@@ -84,6 +90,19 @@ pub fn mirdwarf<S: Source, K: Sink, E: Sink>(
         WrotePassed (steps_of list) (change S.left S.faults input.old input.new)
         (change K.written K.faults output.old output.new) }
 
+    // What `strip` writes is read in turn: it stands for the program without its debug items, and `strip` writes the
+    // same text of it again.
+    ensures stripped { result ≡ Status.Done → map string_bytes words.now ≡ words_of Command.Strip →
+        WroteStripped (change S.left S.faults input.old input.new)
+        (change K.written K.faults output.old output.new) }
+
+    // `gen` reads nothing, and writes the text of the function that its words ask for.
+    ensures generated { (g : Generation) → result ≡ Status.Done →
+        IsCommand (map string_bytes words.now) (Command.Gen g) →
+        IsWrittenWhole (change K.written K.faults output.old output.new) (generated_text g.number g.blocks) }
+    ensures generated_unread { (g : Generation) → IsCommand (map string_bytes words.now) (Command.Gen g) →
+        input.new ≡ input.old }
+
     // A text that the command answers is answered, unless a fault is met or memory runs out.
     ensures complete { (command : Command) → IsCommand (map string_bytes words.now) command →
         IsAnswerable command (S.left input.old) →
@@ -131,6 +150,8 @@ fn run<S: Source, K: Sink>(
     ensures err { IfErr result (Explains (map string_bytes words.now)
         (change S.left S.faults input.old input.new) (change K.written K.faults output.old output.new)) }
     ensures unread { IsErrOf result Fault.Usage → input.new ≡ input.old }
+    ensures generated_unread { (g : Generation) → IsCommand (map string_bytes words.now) (Command.Gen g) →
+        input.new ≡ input.old }
     ensures unwritten { IfErr result (λ fault. fault ≢ Fault.Write → output.new ≡ output.old) }
     ensures input_counts { S.faults input.old ≤ S.faults input.new }
     ensures output_counts { K.faults output.old ≤ K.faults output.new }
@@ -145,14 +166,39 @@ fn run<S: Source, K: Sink>(
     }
 }
 
-/// What a command is to write of an input.
+/// What a command is to write.
 fn answered<S: Source>(alloc: Global, command: Command, input: &mut S) -> Result<Text, Fault>
+    requires { IsAllowed command }
     ensures ok { IfOk result (AnswersInput command (change S.left S.faults input.old input.new)) }
     ensures err { IfErr result (ReadingEnds command (change S.left S.faults input.old input.new)) }
+    ensures unread { (g : Generation) → command ≡ Command.Gen g → input.new ≡ input.old }
+    ensures counts { S.faults input.old ≤ S.faults input.new }
+{
+    match command {
+        Command::Compile(list) => {
+            let program = read(alloc, input)?;
+            compiled_text(alloc, &program, &list)
+        }
+        Command::Listing(list) => {
+            let program = read(alloc, input)?;
+            listing_text(alloc, &program, &list)
+        }
+        Command::Strip => {
+            let program = read(alloc, input)?;
+            Ok(strip_text(alloc, program.functions.as_slice())?)
+        }
+        Command::Gen(asked) => Ok(print_generated(alloc, asked.number, asked.blocks)?),
+    }
+}
+
+/// The program of an input, which is read to its end.
+fn read<S: Source>(alloc: Global, input: &mut S) -> Result<Program, Fault>
+    ensures ok { IfOk result (HasReadProgram (change S.left S.faults input.old input.new)) }
+    ensures err { IfErr result (HasReadNone (change S.left S.faults input.old input.new)) }
     ensures counts { S.faults input.old ≤ S.faults input.new }
 {
     match read_all(alloc, input, LIMIT) {
-        Ok(text) => answer(alloc, command, text.as_slice()),
+        Ok(text) => program_of(alloc, text.as_slice()),
         Err(ReadError::Failed) => Err(Fault::Read),
         Err(ReadError::TooLong) => Err(Fault::TooLong),
         Err(ReadError::Memory) => Err(Fault::Memory),

@@ -1,0 +1,40 @@
+-- What the command that strips wrote is read in turn.
+use Rattle.std.proofs.Common.{◌≡◌, ◌≢◌, ℕ, List, [], ◌∷◌, map, refl, sym, ◌∙◌, subst}
+use Rattle.command_line.specs.declared.command.Command.{Command}
+use Rattle.command_line.specs.declared.command.Command.TheVariants.{Strip}
+use Rattle.command_line.specs.Command.{words_of}
+use Rattle.command_line.proofs.Words.{numbers_within, one_command}
+use Rattle.functions_read_back.specs.Stripped.{reread}
+use Rattle.mir_parser.specs.declared.closing.Parsed.{Parsed}
+use Rattle.strip_read_back.proofs.Texts.{stripped_texts_are_read}
+use Rattle.strip_read_back.specs.Text.{stripped_program, IsReadStripped}
+use Rattle.strip_text.specs.StripText.{stripped_text}
+use Rattle.mirdwarf_tool.specs.Answer.{HasFunctions}
+use Rattle.mirdwarf_tool.specs.Run.{Finishes, AnswersRead, AnswersInput, WroteStripped}
+use Rattle.mirdwarf_tool.specs.Stream.{Change, IsWrittenWhole}
+
+some_still : (functions : List Parsed) → functions ≢ [] → map reread functions ≢ []
+some_still [] some none = some refl
+some_still (f ∷ fs) some none = cc
+
+module _ (words : List (List ℕ)) (input output : Change) (finished : Finishes words input output) (asked : words ≡ words_of Strip) where
+  pub wrote_stripped : WroteStripped input output
+  wrote_stripped =
+      let accepted = finished.accepted in
+      let command : accepted.command ≡ Strip =
+          one_command accepted.command Strip (numbers_within accepted.command accepted.asked.1) tt (sym accepted.asked.0 ∙ asked) in
+      let answers : AnswersRead Strip input finished.text = subst (λ (c : Command). AnswersInput c input finished.text) command accepted.answers in
+      let p = answers.answers.program in
+      let has : HasFunctions answers.text p = answers.answers.has in
+      let written = stripped_text p.functions in
+      let back : IsReadStripped p = stripped_texts_are_read answers.text p answers.read.bytes has.reads in
+      let reads : HasFunctions written (stripped_program p) = record { reads = back.reads; some = some_still p.functions has.some } in
+      record {
+        text = answers.text;
+        read = answers.read;
+        program = p;
+        has = has;
+        written = subst (λ (bytes : List ℕ). IsWrittenWhole output bytes) answers.answers.answers finished.written;
+        reads = reads;
+        again = record { program = stripped_program p; has = reads; answers = sym back.same };
+      }
