@@ -53,6 +53,12 @@ module _ (spell : ℕ → List ℕ) where
         let rest = one_list xs ys (All-tail Has x xs hx) (All-tail Has y ys hy) tail in
         ap (λ (z : ℕ). z ∷ xs) first ∙ ap (λ (zs : List ℕ). y ∷ zs) rest
 
+    -- a text lists one list
+    pub one_text : (xs ys : List ℕ) → xs ≢ [] → ys ≢ [] → All Has xs → All Has ys → join_with_byte 44 (map spell xs) ≡ join_with_byte 44 (map spell ys) →
+        xs ≡ ys
+    one_text xs ys some_x some_y hx hy e =
+        one_list xs ys hx hy (sym (split_listed xs some_x hx) ∙ (ap (slice_split (λ b. nat_eq b 44)) e ∙ split_listed ys some_y hy))
+
   -- ---- pieces in their order
 
   module _ (pieces : List (Bor (List ℕ))) where

@@ -3,12 +3,11 @@ use Rattle.std.specs.Prelude.{◌≡◌, ℕ, List, [], ◌∷◌, ◌++◌, cod
 use Rattle.std.specs.List.{join_with_byte}
 use Rattle.std.specs.Fmt.{decimal}
 use Rattle.command_numbers.specs.Numbers.{AreListed}
-use Rattle.pass_list.specs.declared.kind.PassKind.{PassKind}
 use Rattle.pass_list.specs.Names.{text_of, AreDistinct}
 use Rattle.reserve_list.specs.Reserve.{register_name, IsReserveText}
 use Rattle.command_options.specs.declared.option.CommandOption.{CommandOption}
 use Rattle.command_options.specs.declared.option.CommandOption.TheVariants.{Passes, Reserve, Arguments, Answers}
-use Rattle.command_options.specs.declared.options.Options.{Options}
+use Rattle.command_options.specs.declared.given.Options.{Options}
 
 -- the text of registers: their names with commas between them
 abbrev pub registers_text : List ℕ → List ℕ

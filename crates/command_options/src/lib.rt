@@ -2,6 +2,7 @@
 //! order and each at most once.
 #![tactic(auto)]
 
+pub mod given;
 pub mod option;
 pub mod options;
 #[cfg(test)]

@@ -4,9 +4,8 @@ use Rattle.std.specs.List.{All, AllPairs, Contains}
 use Rattle.std.proofs.lemmas.List.{get_or_default, get_or-take, length-take}
 use Rattle.std.proofs.lemmas.List.Quantifiers.{all_pairs_push}
 use Rattle.std.specs.Fmt.{decimal}
-use Rattle.std.proofs.lemmas.Fmt.{decimal_injective}
 use Rattle.std.proofs.lemmas.List.Elements.{All-from_recursion, All-cons, All-contains}
-use Rattle.command_numbers.proofs.Pieces.{NoComma, IsSpelling}
+use Rattle.command_numbers.proofs.Pieces.{IsSpelling}
 use Rattle.command_numbers.proofs.Decimals.{decimals}
 use Rattle.reserve_list.specs.Reserve.{RESERVABLE, register_name}
 
