@@ -1,5 +1,6 @@
 -- What words give one after the other.
-use Rattle.std.proofs.Common.{◌≡◌, ◌↔◌, ℕ, zero, suc, ◌+◌, ◌<◌, ◌≤◌, List, [], ◌∷◌, length, get_or, map, drop, Option, Some, None, refl, sym, ap, ◌∙◌, subst, arith, add-one}
+use Rattle.std.proofs.Common.{◌≡◌, ◌↔◌, ℕ, zero, suc, ◌+◌, ◌<◌, ◌≤◌, List, [], ◌∷◌, length, get_or, map, drop}
+use Rattle.std.proofs.Common.{Option, Some, None, refl, sym, ap, ◌∙◌, subst, arith, add-one}
 use Rattle.command_options.specs.declared.given.Options.{Options}
 use Rattle.command_options.specs.declared.option.CommandOption.{CommandOption}
 use Rattle.command_options.specs.Options.{IsWordOf, IsWith, GivesOption, GiveOptions}
@@ -46,10 +47,10 @@ pub left : {A : Type 0} (xs : List A) (f : A → List ℕ) (i : ℕ) (x : A) (wo
 left {A = A} xs f i x word below is spelled =
     at xs i below
     ∙ (ap (λ (w : List ℕ). w ∷ drop (suc i) (map f xs)) (sym (spelled ∙ ap f is)) ∙ ap (λ (n : ℕ). word ∷ drop n (map f xs)) (sym (add-one i))) where
-  at : (ys : List A) (k : ℕ) → k < length ys → drop k (map f ys) ≡ f (get_or ys k x) ∷ drop (suc k) (map f ys)
-  at [] k lt = absurd (omega (arith, lt))
-  at (y ∷ ys) zero lt = refl
-  at (y ∷ ys) (suc k) lt = at ys k (omega (arith, lt))
+      at : (ys : List A) (k : ℕ) → k < length ys → drop k (map f ys) ≡ f (get_or ys k x) ∷ drop (suc k) (map f ys)
+      at [] k lt = absurd (omega (arith, lt))
+      at (y ∷ ys) zero lt = refl
+      at (y ∷ ys) (suc k) lt = at ys k (omega (arith, lt))
 
 -- nothing is left in the end
 pub none_left : {A : Type 0} (xs : List A) (f : A → List ℕ) (i : ℕ) → length xs ≤ i → drop i (map f xs) ≡ []

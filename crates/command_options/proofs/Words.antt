@@ -18,7 +18,8 @@ use Rattle.command_options.specs.Options.{registers_text, numbers_text, word_of,
 one_reserve : (xs ys : List ℕ) → IsReserveText (registers_text xs) xs → IsReserveText (registers_text ys) ys → registers_text xs ≡ registers_text ys → xs ≡ ys
 one_reserve xs ys hx hy e = one_text register_name (Contains RESERVABLE) names xs ys hx.some hy.some hx.reservable hy.reservable e
 
-one_numbers : (most : ℕ) (xs ys : List ℕ) → AreListed most (numbers_text xs) xs → AreListed most (numbers_text ys) ys → numbers_text xs ≡ numbers_text ys → xs ≡ ys
+one_numbers : (most : ℕ) (xs ys : List ℕ) → AreListed most (numbers_text xs) xs → AreListed most (numbers_text ys) ys →
+    numbers_text xs ≡ numbers_text ys → xs ≡ ys
 one_numbers most xs ys hx hy e = one_text decimal (λ n. n < 2 ^ 64) decimals xs ys hx.some hy.some hx.small hy.small e
 
 -- a byte in which two words differ
@@ -68,7 +69,8 @@ one_value : (a b : CommandOption) → ◌≡◌ {A = Option CommandOption} (Some
 one_value a b e = cc
 
 -- an option that the word is is the one
-pub the_option : (word : List ℕ) (a : CommandOption) → IsWordOf a word → (b : CommandOption) → (◌≡◌ {A = Option CommandOption} (Some a) (Some b)) ↔ IsWordOf b word
+pub the_option : (word : List ℕ) (a : CommandOption) → IsWordOf a word → (b : CommandOption) →
+    (◌≡◌ {A = Option CommandOption} (Some a) (Some b)) ↔ IsWordOf b word
 the_option word a is b = (
   λ e. subst (λ (x : CommandOption). IsWordOf x word) (one_value a b e) is,
   λ other. ap (λ (x : CommandOption). Some x) (one_option a b is.1 other.1 (sym is.0 ∙ other.0)),
@@ -86,7 +88,8 @@ no_option word p r n a (Answers b) = (λ e. absurd cc, λ h. absurd (a b h))
 -- ---- numbers and registers as they are read
 
 -- an option of numbers, and its word
-pub numbers_word : (most : ℕ) (name word values : List ℕ) → IsOption most name word values → (word ≡ name ++ numbers_text values) × AreListed most (numbers_text values) values
+pub numbers_word : (most : ℕ) (name word values : List ℕ) → IsOption most name word values →
+    (word ≡ name ++ numbers_text values) × AreListed most (numbers_text values) values
 numbers_word most name word values h =
     (h.named ∙ ap (λ (t : List ℕ). name ++ t) h.lists.listed, subst (λ (t : List ℕ). AreListed most t values) h.lists.listed h.lists)
 

@@ -24,8 +24,8 @@ word_of (Reserve registers) = codes "--reserve=" ++ registers_text registers
 word_of (Arguments values) = codes "--args=" ++ numbers_text values
 word_of (Answers values) = codes "--answers=" ++ numbers_text values
 
--- An option may have its value: each pass stands once; one register at least, each may be in a reserve and stands once; there are one to eight
--- numbers of 64 bits, or one to 64.
+-- an option may have its value: passes that each stand once; registers that may be in a reserve, one at least and each once; one to eight numbers
+-- of 64 bits; one to 64 such numbers
 abbrev pub IsAllowed : CommandOption → Type 0
 IsAllowed (Passes list) = AreDistinct list
 IsAllowed (Reserve registers) = IsReserveText (registers_text registers) registers

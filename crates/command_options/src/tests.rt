@@ -10,18 +10,54 @@ const ROWS: [(&str, Option<[Option<usize>; 4]>); 24] = [
     ("--reserve=x8,x18", Some([None, Some(2), None, None])),
     ("--args=1,2,3,4,5,6,7,8", Some([None, None, Some(8), None])),
     ("--answers=9", Some([None, None, None, Some(1)])),
-    ("--passes=copy --reserve=x8", Some([Some(1), Some(1), None, None])),
-    ("--reserve=x8 --passes=copy", Some([Some(1), Some(1), None, None])),
-    ("--passes=copy --args=1,2", Some([Some(1), None, Some(2), None])),
-    ("--args=1,2 --passes=copy", Some([Some(1), None, Some(2), None])),
-    ("--passes=copy --answers=3", Some([Some(1), None, None, Some(1)])),
-    ("--answers=3 --passes=copy", Some([Some(1), None, None, Some(1)])),
-    ("--reserve=x9 --args=1,2", Some([None, Some(1), Some(2), None])),
-    ("--args=1,2 --reserve=x9", Some([None, Some(1), Some(2), None])),
-    ("--reserve=x9 --answers=3", Some([None, Some(1), None, Some(1)])),
-    ("--answers=3 --reserve=x9", Some([None, Some(1), None, Some(1)])),
-    ("--args=1,2 --answers=3", Some([None, None, Some(2), Some(1)])),
-    ("--answers=3 --args=1,2", Some([None, None, Some(2), Some(1)])),
+    (
+        "--passes=copy --reserve=x8",
+        Some([Some(1), Some(1), None, None]),
+    ),
+    (
+        "--reserve=x8 --passes=copy",
+        Some([Some(1), Some(1), None, None]),
+    ),
+    (
+        "--passes=copy --args=1,2",
+        Some([Some(1), None, Some(2), None]),
+    ),
+    (
+        "--args=1,2 --passes=copy",
+        Some([Some(1), None, Some(2), None]),
+    ),
+    (
+        "--passes=copy --answers=3",
+        Some([Some(1), None, None, Some(1)]),
+    ),
+    (
+        "--answers=3 --passes=copy",
+        Some([Some(1), None, None, Some(1)]),
+    ),
+    (
+        "--reserve=x9 --args=1,2",
+        Some([None, Some(1), Some(2), None]),
+    ),
+    (
+        "--args=1,2 --reserve=x9",
+        Some([None, Some(1), Some(2), None]),
+    ),
+    (
+        "--reserve=x9 --answers=3",
+        Some([None, Some(1), None, Some(1)]),
+    ),
+    (
+        "--answers=3 --reserve=x9",
+        Some([None, Some(1), None, Some(1)]),
+    ),
+    (
+        "--args=1,2 --answers=3",
+        Some([None, None, Some(2), Some(1)]),
+    ),
+    (
+        "--answers=3 --args=1,2",
+        Some([None, None, Some(2), Some(1)]),
+    ),
     (
         "--answers=4,5 --args=3 --reserve=x27 --passes=copy,spill",
         Some([Some(2), Some(1), Some(1), Some(2)]),

@@ -37,8 +37,8 @@ pub not_before : (registers front : List ℕ) (i : ℕ) → take i registers ≡
     Contains front (get_or registers i 0) → ⊥
 not_before registers front i same inside once h =
     at (get_or registers i 0) refl (subst (λ (rs : List ℕ). Contains rs (get_or registers i 0)) (sym same) h) where
-  at : (r : ℕ) → r ≡ get_or registers i 0 → Contains (take i registers) r → ⊥
-  at r is (k, lt, e) =
-      let few = length-take i registers in
-      let before : k < i = omega (arith, lt, few) in
-      once k i r before inside (sym (get_or-take i registers k r before) ∙ (e ∙ (is ∙ get_or_default registers i 0 r inside)))
+      at : (r : ℕ) → r ≡ get_or registers i 0 → Contains (take i registers) r → ⊥
+      at r is (k, lt, e) =
+          let few = length-take i registers in
+          let before : k < i = omega (arith, lt, few) in
+          once k i r before inside (sym (get_or-take i registers k r before) ∙ (e ∙ (is ∙ get_or_default registers i 0 r inside)))

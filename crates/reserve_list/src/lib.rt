@@ -3,6 +3,6 @@
 #![tactic(auto)]
 
 pub mod name;
-pub mod text;
 #[cfg(test)]
 mod tests;
+pub mod text;

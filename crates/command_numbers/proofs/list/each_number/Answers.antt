@@ -18,14 +18,15 @@ one_value xs ys e = cc
 pub loop-piece-preserved : goal.loop-piece-preserved
 loop-piece-preserved c =
     let i = c.loop-piece.piece-index in
+    let before = c.loop-piece.values in
     let is = (c.number.ensures c.in-Some.n).0 c.in-Some.is in
     let below : i < length c.args.pieces.now = c.loop-piece-test.true in
     let push = c.in_ok-push-in-Some.ensures.ok in
     record {
-      each = next_piece decimal c.args.pieces.now i c.loop-piece.values c.in-Some.n (record { ref_ptr = (0, 0); now = [] }) below c.loop-piece.invariant.each is.0
+      each = next_piece decimal c.args.pieces.now i before c.in-Some.n (record { ref_ptr = (0, 0); now = [] }) below c.loop-piece.invariant.each is.0
           ∙ ap (map decimal) (sym push);
       small = subst (All (λ n. n < 2 ^ 64)) (sym push)
-          (All-push (λ n. n < 2 ^ 64) c.loop-piece.values c.in-Some.n c.loop-piece.invariant.small (omega (arith, is.1)));
+          (All-push (λ n. n < 2 ^ 64) before c.in-Some.n c.loop-piece.invariant.small (omega (arith, is.1)));
     }
 
 pub returns-in-None : goal.returns-in-None

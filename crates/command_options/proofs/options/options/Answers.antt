@@ -16,9 +16,9 @@ loop-word-preserved c = λ whole.
     let words = map string_bytes c.args.words.now in
     let i = c.loop-word.word-index in
     let same : drop i words ≡ c.as_str.result.now ∷ drop (i + 1) words =
-        left c.args.words.now string_bytes i c.word-item.result c.as_str.result.now c.loop-word-test.true c.word-item.is c.as_str.ensures.value in
+    left c.args.words.now string_bytes i c.word-item.result c.as_str.result.now c.loop-word-test.true c.word-item.is c.as_str.ensures.value in
     let step = one_more c.loop-word.given c.as_str.result.now (drop (i + 1) words) (drop i words) same c.in_ok-next.field-0 (λ o. c.in_ok-next.ensures o) whole
-        c.in-Some.next c.in-Some.is in
+    c.in-Some.next c.in-Some.is in
     let before = c.loop-word.invariant whole in (
       λ h. before.0 (step.1 h),
       λ h. step.0 (before.1 h),
@@ -29,7 +29,7 @@ returns-in-None c = λ whole.
     let words = map string_bytes c.args.words.now in
     let i = c.loop-word.word-index in
     let same : drop i words ≡ c.as_str.result.now ∷ drop (i + 1) words =
-        left c.args.words.now string_bytes i c.word-item.result c.as_str.result.now c.loop-word-test.true c.word-item.is c.as_str.ensures.value in (
+    left c.args.words.now string_bytes i c.word-item.result c.as_str.result.now c.loop-word-test.true c.word-item.is c.as_str.ensures.value in (
       λ e. absurd (no_options whole e),
       λ h. absurd (no_more c.loop-word.given c.as_str.result.now (drop (i + 1) words) (drop i words) same c.in_ok-next.field-0 (λ o. c.in_ok-next.ensures o)
           whole c.in-None.is ((c.loop-word.invariant whole).1 h)),

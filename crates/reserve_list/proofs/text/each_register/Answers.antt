@@ -43,7 +43,7 @@ returns-in-None c = λ registers. (
       let r = get_or registers i 0 in
       let front = sym (take-map register_name i registers) ∙ (ap (take i) (sym h.each) ∙ c.loop-word.invariant.each) in
       let same = one_list register_name (Contains RESERVABLE) names (take i registers) c.loop-word.registers
-          (All-take (Contains RESERVABLE) i registers h.reservable) c.loop-word.invariant.reservable front in
+      (All-take (Contains RESERVABLE) i registers h.reservable) c.loop-word.invariant.reservable front in
       absurd (no_register r (sym c.in-None.is ∙ (c.another.ensures r).1 (record {
         named = piece_at register_name c.args.words.now registers i (record { ref_ptr = (0, 0); now = [] }) h.each below;
         reservable = All-get_or (Contains RESERVABLE) registers i 0 inside h.reservable;
