@@ -36,8 +36,8 @@ pub fn numbers(alloc: Global, text: &str, most: usize) -> Result<Option<Numbers>
     each_number(alloc, &pieces, most)
 }
 
-/// What stands between commas.
-fn pieces(alloc: Global, text: &str) -> Result<Vec<&str>, AllocError>
+/// What stands between the commas of a text.
+pub fn pieces(alloc: Global, text: &str) -> Result<Vec<&str>, AllocError>
     ensures { IfOk result (λ v. map (λ x. x.now) v.items ≡ slice_split (λ b. b == 44) text.now) }
 {
     text.split(',').collect(alloc)

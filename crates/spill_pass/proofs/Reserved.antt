@@ -1,12 +1,13 @@
 -- The reserve is one.
 use Rattle.std.proofs.Common.{◌≡◌, inl, inr, ℕ, zero, suc, ◌+◌, ◌<◌, ◌≤◌, List, length, Contains, slice_index, arith}
 use Rattle.std.proofs.lemmas.List.Kept.{AllPairs-filter, AllPairs-from_increasing}
+use Rattle.reserve_list.specs.Reserve.{RESERVABLE}
 use Rattle.spill_choice.specs.Incoming.{is_among}
 use Rattle.spill_rule.specs.Chosen.{IsReservable}
 use Rattle.spill_rule.proofs.Scratch.{kept_by}
 use Rattle.spill_causes.specs.Causes.{IsAscending}
 use Rattle.spill_kept.specs.Kept.{IsReserve}
-use Rattle.spill_pass.specs.Reserve.{RESERVABLE, reserve_of}
+use Rattle.spill_pass.specs.Reserve.{reserve_of}
 
 low : (r v : ℕ) → v ≡ r → 8 ≤ v → v ≤ 9 → IsReservable r
 low r v e a b = inl (omega (arith, e, a), omega (arith, e, b))

@@ -1,8 +1,9 @@
 //! Which registers may be spilled at all.
 
 ghost use Rattle.std.specs.Prelude.{◌≡◌, filter, IfOk};
+ghost use Rattle.reserve_list.specs.Reserve.{RESERVABLE};
 ghost use Rattle.spill_choice.specs.Incoming.{is_among};
-ghost use Rattle.spill_pass.specs.Reserve.{RESERVABLE, reserve_of};
+ghost use Rattle.spill_pass.specs.Reserve.{reserve_of};
 
 use rv64_instr::reg::{Reg, Registers};
 use spill_choice::among::is_among;
