@@ -1,22 +1,28 @@
 -- The words of the commands.
-use Rattle.std.specs.Prelude.{◌≡◌, ℕ, ◌≤◌, List, [], ◌∷◌, ◌++◌, codes}
+use Rattle.std.specs.Prelude.{◌≡◌, ℕ, ◌≤◌, List, [], ◌∷◌, codes, Option, Some, None}
 use Rattle.std.specs.Fmt.{decimal}
 use Rattle.command_numbers.specs.declared.generation.Generation.{Generation}
+use Rattle.command_options.specs.declared.given.Options.{Options}
+use Rattle.command_options.specs.Options.{none_given, GiveOptions}
 use Rattle.command_line.specs.declared.command.Command.{Command}
 use Rattle.command_line.specs.declared.command.Command.TheVariants.{Compile, Listing, Strip, Gen}
-use Rattle.pass_list.specs.declared.kind.PassKind.{PassKind}
-use Rattle.pass_list.specs.Names.{text_of, AreDistinct}
+use Rattle.command_line.specs.declared.command.Plan.{Plan}
 
--- the option that asks for a list of passes
-abbrev pub option_of : List PassKind → List ℕ
-option_of list = codes "--passes=" ++ text_of list
+-- the registers of a reserve: none where it isn't given
+abbrev pub reserve_in : Option (List ℕ) → List ℕ
+reserve_in None = []
+reserve_in (Some registers) = registers
 
--- each command's words
-abbrev pub words_of : Command → List (List ℕ)
-words_of (Compile list) = codes "compile" ∷ option_of list ∷ []
-words_of (Listing list) = codes "listing" ∷ option_of list ∷ []
-words_of Strip = codes "strip" ∷ []
-words_of (Gen g) = codes "gen" ∷ decimal g.number ∷ decimal g.blocks ∷ []
+-- options ask for a plan: a list of passes is given, and a reserve may be, and no numbers are
+pub record IsPlanOf (given : Options) (plan : Plan) : Type 0 where
+  pub passes : given.passes ≡ Some plan.passes
+  pub reserve : plan.reserve ≡ reserve_in given.reserve
+  pub no_arguments : given.arguments ≡ None
+  pub no_answers : given.answers ≡ None
+
+-- words are options, in any order and each at most once, that ask for a plan
+abbrev pub GivesPlan : (words : List (List ℕ)) → Plan → Type 0
+GivesPlan words plan = (given : Options) × GiveOptions none_given words given × IsPlanOf given plan
 
 -- a function that is made up has a number up to 65,536, and 1 to 512 blocks
 pub record IsWithin (g : Generation) : Type 0 where
@@ -24,13 +30,15 @@ pub record IsWithin (g : Generation) : Type 0 where
   pub some : 1 ≤ g.blocks
   pub few : g.blocks ≤ 512
 
--- each pass is asked for once, and numbers are within their limits
-abbrev pub IsAllowed : Command → Type 0
-IsAllowed (Compile list) = AreDistinct list
-IsAllowed (Listing list) = AreDistinct list
-IsAllowed Strip = Unit {0}
-IsAllowed (Gen g) = IsWithin g
-
--- the words are those of a command that is allowed
+-- the words are a name and what the command of this name asks for
 abbrev pub IsCommand : (words : List (List ℕ)) → Command → Type 0
-IsCommand words command = (words ≡ words_of command) × IsAllowed command
+IsCommand [] command = ⊥
+IsCommand (name ∷ words) (Compile plan) = (name ≡ codes "compile") × GivesPlan words plan
+IsCommand (name ∷ words) (Listing plan) = (name ≡ codes "listing") × GivesPlan words plan
+IsCommand (name ∷ words) Strip = (name ≡ codes "strip") × (words ≡ [])
+IsCommand (name ∷ words) (Gen g) = (name ≡ codes "gen") × (words ≡ decimal g.number ∷ decimal g.blocks ∷ []) × IsWithin g
+
+-- the name isn't that of a command with a plan
+pub record IsPlain (name : List ℕ) : Type 0 where
+  pub compile : name ≡ codes "compile" → ⊥
+  pub listing : name ≡ codes "listing" → ⊥

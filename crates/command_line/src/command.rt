@@ -1,93 +1,130 @@
 //! Commands and their words.
 
-ghost use Rattle.std.specs.Prelude.{◌≡◌, ◌↔◌, ◌∷◌, [], List, map, string_bytes, Some};
-ghost use Rattle.pass_list.specs.declared.kind.PassKind.{PassKind};
-ghost use Rattle.pass_list.specs.Names.{AreDistinct};
-ghost use Rattle.command_line.specs.Command.{option_of, IsCommand};
+ghost use Rattle.std.specs.Prelude.{◌≡◌, ◌↔◌, ◌∷◌, [], List, map, string_bytes, Some, IfOk};
+ghost use Rattle.command_line.specs.Command.{IsCommand, IsPlain, GivesPlan, IsPlanOf, reserve_in};
+ghost use Rattle.command_line.specs.declared.command.Command.{Command};
+ghost use Rattle.command_line.specs.declared.command.Plan.{Plan};
 
 use command_numbers::generation::{Generation, asked};
+use command_options::given::Options;
+use command_options::options::options;
 use pass_list::kind::is_same;
 use pass_list::list::PassList;
-use pass_list::text::pass_list;
+use rv64_instr::reg::Registers;
+use std::alloc::{AllocError, Global};
+
+/// What runs on each function before it is compiled.
+#[derive(Debug, Drop)]
+pub struct Plan {
+    /// The passes, in their order.
+    pub passes: PassList,
+    /// The registers that may be spilled.
+    pub reserve: Registers,
+}
 
 /// What the program is asked to do.
 #[derive(Debug, Drop)]
 pub enum Command {
     /// Writes the sections and the listing of each function after passes.
-    Compile(PassList),
+    Compile(Plan),
     /// Writes the listing of each function alone after passes.
-    Listing(PassList),
+    Listing(Plan),
     /// Writes each function without its debug items.
     Strip,
-    /// Writes a function that is made up, and reads nothing.
+    /// Writes a function that is made up.
     Gen(Generation),
 }
 
-/// The command that the words are: `compile` or `listing` with the option of a list of passes, as `--passes=copy,fold`
-/// or `--passes=none`; `strip`; or `gen` with the number of a function, 0 to 65,536, and how many blocks it has, 1 to
-/// 512. None where they are no command.
-pub fn parse(words: &[String]) -> Option<Command>
-    ensures { (command : Command) → (result ≡ Some command) ↔ IsCommand (map string_bytes words.now) command }
+/// The command that the words are: `compile` or `listing` with options in any order, a list of passes, as
+/// `--passes=copy,fold` or `--passes=none`, and if wanted registers that may be spilled, as `--reserve=x8,x18`; `strip`;
+/// or `gen` with the number of a function, 0 to 65,536, and how many blocks it has, 1 to 512. None where they are no
+/// command.
+pub fn parse(alloc: Global, words: &[String]) -> Result<Option<Command>, AllocError>
+    ensures { IfOk result (λ o. (command : Command) →
+        (o ≡ Some command) ↔ IsCommand (map string_bytes words.now) command) }
 {
     match words {
-        [name] => alone(name.as_str()),
-        [name, option] => with_option(name.as_str(), option.as_str()),
-        [name, number, blocks] => with_numbers(name.as_str(), number.as_str(), blocks.as_str()),
+        [name, rest @ ..] => named(alloc, name.as_str(), rest),
+        [] => Ok(None),
+    }
+}
+
+/// The command of a name and the words behind it.
+fn named(alloc: Global, name: &str, words: &[String]) -> Result<Option<Command>, AllocError>
+    ensures { IfOk result (λ o. (command : Command) →
+        (o ≡ Some command) ↔ IsCommand (name.now ∷ map string_bytes words.now) command) }
+{
+    if is_same(name, "compile") {
+        return match plan_asked(alloc, words)? {
+            Some(plan) => Ok(Some(Command::Compile(plan))),
+            None => Ok(None),
+        };
+    }
+    if is_same(name, "listing") {
+        return match plan_asked(alloc, words)? {
+            Some(plan) => Ok(Some(Command::Listing(plan))),
+            None => Ok(None),
+        };
+    }
+    Ok(without_plan(name, words))
+}
+
+/// The command without a plan of a name and the words behind it.
+fn without_plan(name: &str, words: &[String]) -> Option<Command>
+    requires { IsPlain name.now }
+    ensures { (command : Command) →
+        (result ≡ Some command) ↔ IsCommand (name.now ∷ map string_bytes words.now) command }
+{
+    match words {
+        [] if is_same(name, "strip") => Some(Command::Strip),
+        [number, blocks] if is_same(name, "gen") => {
+            match asked(number.as_str(), blocks.as_str()) {
+                Some(generation) => Some(Command::Gen(generation)),
+                None => None,
+            }
+        }
         _ => None,
     }
 }
 
-/// The command of one word.
-fn alone(name: &str) -> Option<Command>
-    ensures { (command : Command) → (result ≡ Some command) ↔ IsCommand (name.now ∷ []) command }
+/// The plan that options ask for. None where they are no options, where no passes are among them, and where others are.
+fn plan_asked(alloc: Global, words: &[String]) -> Result<Option<Plan>, AllocError>
+    ensures { IfOk result (λ o. (plan : Plan) → (o ≡ Some plan) ↔ GivesPlan (map string_bytes words.now) plan) }
 {
-    if is_same(name, "strip") {
-        Some(Command::Strip)
-    } else {
-        None
+    match options(alloc, words)? {
+        Some(given) => Ok(plan_of(alloc, given)),
+        None => Ok(None),
     }
 }
 
-/// The command of a word and an option.
-fn with_option(name: &str, option: &str) -> Option<Command>
-    ensures { (command : Command) → (result ≡ Some command) ↔ IsCommand (name.now ∷ option.now ∷ []) command }
+/// The plan of options.
+fn plan_of(alloc: Global, given: Options) -> Option<Plan>
+    ensures { (plan : Plan) → (result ≡ Some plan) ↔ IsPlanOf given plan }
 {
-    match option_list(option) {
+    let Options {
+        passes,
+        reserve,
+        arguments,
+        answers,
+    } = given;
+    if arguments.is_some() || answers.is_some() {
+        return None;
+    }
+    match passes {
+        Some(passes) => Some(Plan {
+            passes,
+            reserve: reserve_in(alloc, reserve),
+        }),
         None => None,
-        Some(list) => {
-            if is_same(name, "compile") {
-                Some(Command::Compile(list))
-            } else if is_same(name, "listing") {
-                Some(Command::Listing(list))
-            } else {
-                None
-            }
-        }
     }
 }
 
-/// The command of a word and two numbers.
-fn with_numbers(name: &str, number: &str, blocks: &str) -> Option<Command>
-    ensures { (command : Command) → (result ≡ Some command) ↔
-        IsCommand (name.now ∷ number.now ∷ blocks.now ∷ []) command }
+/// The registers of a reserve: none where there is no such option.
+fn reserve_in(alloc: Global, reserve: Option<Registers>) -> Registers
+    ensures { result ≡ reserve_in reserve }
 {
-    if is_same(name, "gen") {
-        match asked(number, blocks) {
-            Some(generation) => Some(Command::Gen(generation)),
-            None => None,
-        }
-    } else {
-        None
-    }
-}
-
-/// The list of passes that an option asks for, as `--passes=copy,fold` or `--passes=none`. None where it is no such
-/// option.
-fn option_list(option: &str) -> Option<PassList>
-    ensures { (list : List PassKind) → (result ≡ Some list) ↔ ((option.now ≡ option_of list) × AreDistinct list) }
-{
-    match option.strip_prefix("--passes=") {
-        None => None,
-        Some(text) => pass_list(text),
+    match reserve {
+        Some(registers) => registers,
+        None => Registers::new(alloc),
     }
 }

@@ -1,6 +1,6 @@
 //! Words, and what is told of faults.
 
-use crate::command::{Command, parse};
+use crate::command::{Command, Plan, parse};
 use crate::fault::Fault;
 use crate::status::Status;
 use pass_list::kind::PassKind;
@@ -8,61 +8,65 @@ use refusal::first::Refusal;
 use refusal::kind::RefusalKind;
 use std::test::Fail;
 
-/// Words of a command line, and the command that they are, as its name and its passes.
-const ROWS: [(&str, Option<(&str, &[PassKind])>); 31] = [
-    ("compile --passes=none", Some(("compile", &[]))),
+/// Words of a command line, and the command that they are, as its name, its passes, and how many registers it has in
+/// reserve.
+const ROWS: [(&str, Option<(&str, &[PassKind], usize)>); 26] = [
+    ("compile --passes=none", Some(("compile", &[], 0))),
     (
-        "compile --passes=remat",
-        Some(("compile", &[PassKind::Remat])),
-    ),
-    (
-        "compile --passes=fold,copy",
-        Some(("compile", &[PassKind::Fold, PassKind::Copy])),
-    ),
-    (
-        "compile --passes=copy,remat,fold",
+        "compile --passes=copy,remat,spill,fold",
         Some((
             "compile",
-            &[PassKind::Copy, PassKind::Remat, PassKind::Fold],
+            &[
+                PassKind::Copy,
+                PassKind::Remat,
+                PassKind::Spill,
+                PassKind::Fold,
+            ],
+            0,
         )),
     ),
-    ("listing --passes=none", Some(("listing", &[]))),
     (
-        "listing --passes=copy",
-        Some(("listing", &[PassKind::Copy])),
+        "compile --passes=spill --reserve=x8,x18",
+        Some(("compile", &[PassKind::Spill], 2)),
     ),
-    ("strip", Some(("strip", &[]))),
-    ("listing", None),
-    ("compile --passes=", None),
+    (
+        "listing --reserve=x9 --passes=copy",
+        Some(("listing", &[PassKind::Copy], 1)),
+    ),
+    ("strip", Some(("strip", &[], 0))),
+    ("gen 0 1", Some(("gen", &[], 0))),
+    ("gen 65536 512", Some(("gen", &[], 0))),
     ("", None),
     ("compile", None),
-    ("strip --passes=none", None),
-    ("--passes=none compile", None),
-    ("compile --passes=none strip", None),
+    ("listing", None),
+    ("compile --reserve=x8", None),
+    ("compile --passes=none --args=1", None),
+    ("compile --passes=none --answers=1", None),
     ("compile --passes=none --passes=remat", None),
     ("compile --passes=remat,remat", None),
-    ("compile --passes=copy,fold,copy", None),
-    ("compile --passes=none,remat", None),
-    ("compile --passes=copy,", None),
-    ("compile --passes=,copy", None),
-    ("compile --passes=Copy", None),
+    ("compile --passes=none strip", None),
+    ("--passes=none compile", None),
+    ("strip --passes=none", None),
     ("Strip", None),
-    ("gen 0 1", Some(("gen", &[]))),
-    ("gen 65536 512", Some(("gen", &[]))),
+    ("strip 1 2", None),
     ("gen 65537 1", None),
     ("gen 0 0", None),
     ("gen 0 513", None),
     ("gen 00 1", None),
     ("gen 1", None),
     ("gen 1 2 3", None),
-    ("strip 1 2", None),
 ];
 
-/// Whether a command has this name and these passes.
-fn is_command(command: &Command, name: &str, passes: &[PassKind]) -> bool {
+/// Whether a plan has these passes and so many registers.
+fn is_plan(plan: &Plan, passes: &[PassKind], registers: usize) -> bool {
+    plan.passes.as_slice() == passes && plan.reserve.len() == registers
+}
+
+/// Whether a command has this name, these passes and so many registers.
+fn is_command(command: &Command, name: &str, passes: &[PassKind], registers: usize) -> bool {
     match command {
-        Command::Compile(list) => name == "compile" && list.as_slice() == passes,
-        Command::Listing(list) => name == "listing" && list.as_slice() == passes,
+        Command::Compile(plan) => name == "compile" && is_plan(plan, passes, registers),
+        Command::Listing(plan) => name == "listing" && is_plan(plan, passes, registers),
         Command::Strip => name == "strip",
         Command::Gen(_) => name == "gen",
     }
@@ -75,9 +79,9 @@ fn words_of_commands(rt: HostRuntime) -> Result<(), Fail> {
         for word in line.split_ascii_whitespace() {
             words.push(String::from_str(rt.alloc(), word)?)?;
         }
-        match (parse(&words), wanted) {
-            (Some(command), Some((name, passes))) => {
-                assert!(rt; is_command(&command, name, passes));
+        match (parse(rt.alloc(), &words)?, wanted) {
+            (Some(command), Some((name, passes, registers))) => {
+                assert!(rt; is_command(&command, name, passes, registers));
             }
             (found, wanted) => {
                 assert!(rt; found.is_none() && wanted.is_none());

@@ -1,0 +1,29 @@
+use Rattle.std.proofs.Common.{◌∷◌, sym, ◌∙◌, map}
+use Rattle.std.specs.Prelude.{string_bytes}
+use Rattle.command_line.specs.declared.command.Command.TheVariants.{Compile, Listing}
+use Rattle.command_line.proofs.Words.{the_command, no_compile, no_listing, no_some}
+use Rattle.command_line.proofs.command.named.Goals as goal
+
+pub returns-in-Some : goal.returns-in-Some
+returns-in-Some c =
+    the_command (c.args.name.now ∷ map string_bytes c.args.words.now) (Compile c.in-Some.plan)
+    (c.is_same.ensures.0 c.if-is_same.true, (c.in_ok-plan.ensures c.in-Some.plan).0 c.in-Some.is)
+
+pub returns-in-None : goal.returns-in-None
+returns-in-None c = λ command. (
+  λ e. absurd (no_some command e),
+  λ h. absurd (no_compile c.args.name.now (map string_bytes c.args.words.now) (c.is_same.ensures.0 c.if-is_same.true)
+      (λ p given. no_some p (sym c.in-None.is ∙ (c.in_ok-plan.ensures p).1 given)) command h),
+)
+
+pub returns-in-Some-2 : goal.returns-in-Some-2
+returns-in-Some-2 c =
+    the_command (c.args.name.now ∷ map string_bytes c.args.words.now) (Listing c.in-Some-2.plan)
+    (c.is_same-2.ensures.0 c.if-is_same-2.true, (c.in_ok-plan-2.ensures c.in-Some-2.plan).0 c.in-Some-2.is)
+
+pub returns-in-None-2 : goal.returns-in-None-2
+returns-in-None-2 c = λ command. (
+  λ e. absurd (no_some command e),
+  λ h. absurd (no_listing c.args.name.now (map string_bytes c.args.words.now) (c.is_same-2.ensures.0 c.if-is_same-2.true)
+      (λ p given. no_some p (sym c.in-None-2.is ∙ (c.in_ok-plan-2.ensures p).1 given)) command h),
+)
