@@ -1,6 +1,6 @@
--- Passes of which each stands once may compile a program: folding comes once, so what it asks for is kept before it, and three passes make few
--- items, numbers and slots.
-use Rattle.std.proofs.Common.{◌≡◌, ℕ, ◌+◌, ◌*◌, ◌<◌, ◌≤◌, ◌^◌, List, [], ◌∷◌, length, refl, ap, arith}
+-- Passes of which each stands once may compile a program: folding comes once, so what it asks for is kept before it; and spilling comes once, so
+-- that the passes make few items, numbers and slots.
+use Rattle.std.proofs.Common.{◌≡◌, ◌⊎◌, inl, inr, ℕ, ◌+◌, ◌*◌, ◌<◌, ◌≤◌, ◌^◌, List, [], ◌∷◌, length, refl, ap, ◌∙◌, subst, arith}
 use Rattle.std.specs.Prelude.{Contains, IsTrue, true, false}
 use Rattle.std.proofs.lemmas.List.Elements.{Contains-append_left, Contains-append_right}
 use Rattle.mir_body.specs.Limits.{MAX_ITEMS}
@@ -9,7 +9,7 @@ use Rattle.numbers.specs.Limits.{MAX_NUMBER}
 use Rattle.follow_law.specs.Sizes.{most}
 use Rattle.pass_list.proofs.Distinct.{at_most}
 use Rattle.pass_list.specs.declared.kind.PassKind.{PassKind}
-use Rattle.pass_list.specs.declared.kind.PassKind.TheVariants.{Copy, Remat, Fold}
+use Rattle.pass_list.specs.declared.kind.PassKind.TheVariants.{Copy, Remat, Spill, Fold}
 use Rattle.pass_list.specs.Names.{AreDistinct}
 use Rattle.pass_loop.specs.Passes.{any_asks, factor, count, Fit, most_after, numbers_after, slots_after}
 use Rattle.function_passes.specs.Passed.{MAX_PASSED}
@@ -30,41 +30,103 @@ asks_fold : (ps : List PassKind) → IsTrue (any_asks ps) → Contains ps Fold
 asks_fold [] asks = absurd (let e : false ≡ true = asks in cc)
 asks_fold (Copy ∷ ps) asks = later Copy Fold ps (asks_fold ps asks)
 asks_fold (Remat ∷ ps) asks = later Remat Fold ps (asks_fold ps asks)
+asks_fold (Spill ∷ ps) asks = later Spill Fold ps (asks_fold ps asks)
 asks_fold (Fold ∷ ps) asks = Contains-append_left (Fold ∷ []) ps Fold (0, omega arith, refl)
 
 fits : (ps : List PassKind) → AreDistinct ps → Fit ps
 fits [] d = tt
 fits (Copy ∷ ps) d = (λ asks. refl, fits ps d.1)
 fits (Remat ∷ ps) d = (λ asks. refl, fits ps d.1)
+fits (Spill ∷ ps) d = (λ asks. refl, fits ps d.1)
 fits (Fold ∷ ps) d = (λ asks. absurd (d.0 (asks_fold ps asks)), fits ps d.1)
 
 -- ---- sizes
 
-most_is : (p : PassKind) (n : ℕ) → most (factor p) (count p) n ≡ n + 1024
-most_is Copy n = omega arith
-most_is Remat n = omega arith
-most_is Fold n = omega arith
-
 one_count : (p : PassKind) → count p ≡ 1
 one_count Copy = refl
 one_count Remat = refl
+one_count Spill = refl
 one_count Fold = refl
 
-few_items : (ps : List PassKind) (n : ℕ) → most_after ps n ≤ n + 1024 * length ps
-few_items [] n = omega arith
-few_items (p ∷ ps) n =
-    let here = most_is p n in
-    let rest = few_items ps (most (factor p) (count p) n) in
+-- how many items a pass makes of some: 1,024 more, and spilling four times as many as that
+abbrev times : PassKind → ℕ → ℕ
+times Spill n = 4 * (n + 1024)
+times Copy n = n + 1024
+times Remat n = n + 1024
+times Fold n = n + 1024
+
+most_is : (p : PassKind) (n : ℕ) → most (factor p) (count p) n ≡ times p n
+most_is Copy n = omega arith
+most_is Remat n = omega arith
+most_is Spill n = omega arith
+most_is Fold n = omega arith
+
+abbrev NoSpill : List PassKind → Type 0
+NoSpill ps = Contains ps Spill → ⊥
+
+not_later : (p : PassKind) (ps : List PassKind) → NoSpill (p ∷ ps) → NoSpill ps
+not_later p ps none h = none (later p Spill ps h)
+
+-- a pass of a list without spilling
+plain : (p : PassKind) (ps : List PassKind) (n : ℕ) → NoSpill (p ∷ ps) → times p n ≡ n + 1024
+plain Copy ps n none = refl
+plain Remat ps n none = refl
+plain Fold ps n none = refl
+plain Spill ps n none = absurd (none (Contains-append_left (Spill ∷ []) ps Spill (0, omega arith, refl)))
+
+-- spilling, or another pass
+spills : (p : PassKind) (n : ℕ) → (p ≡ Spill) ⊎ (times p n ≡ n + 1024)
+spills Copy n = inr refl
+spills Remat n = inr refl
+spills Fold n = inr refl
+spills Spill n = inl refl
+
+plain_items : (ps : List PassKind) (n : ℕ) → NoSpill ps → most_after ps n ≤ n + 1024 * length ps
+plain_items [] n none = omega arith
+plain_items (p ∷ ps) n none =
+    let here = most_is p n ∙ plain p ps n none in
+    let rest = plain_items ps (most (factor p) (count p) n) (not_later p ps none) in
     omega (arith, here, rest)
 
-few_numbers : (ps : List PassKind) (n : ℕ) → n + 1024 * length ps ≤ 11264 → numbers_after ps n ≤ 11264 * length ps
-few_numbers [] n fit = omega arith
-few_numbers (p ∷ ps) n fit =
-    let here = most_is p n in
-    let rest = few_numbers ps (most (factor p) (count p) n) (omega (arith, here, fit)) in
-    let times : count p * most (factor p) (count p) n ≡ 1 * most (factor p) (count p) n =
+few_items : (ps : List PassKind) (n : ℕ) → AreDistinct ps → most_after ps n ≤ 4 * (n + 1024 * length ps)
+few_items [] n d = omega arith
+few_items (p ∷ ps) n d = elim (spills p n) [
+  | inl is ↦ (
+      let none : NoSpill ps = subst (λ (q : PassKind). Contains ps q → ⊥) is d.0 in
+      let here = most_is p n ∙ ap (λ (q : PassKind). times q n) is in
+      let rest = plain_items ps (most (factor p) (count p) n) none in
+      omega (arith, here, rest))
+  | inr is ↦ (
+      let here = most_is p n ∙ is in
+      let rest = few_items ps (most (factor p) (count p) n) d.1 in
+      omega (arith, here, rest))
+]
+
+plain_numbers : (ps : List PassKind) (n : ℕ) → NoSpill ps → n + 1024 * length ps ≤ 49152 → numbers_after ps n ≤ 49152 * length ps
+plain_numbers [] n none fit = omega arith
+plain_numbers (p ∷ ps) n none fit =
+    let here = most_is p n ∙ plain p ps n none in
+    let rest = plain_numbers ps (most (factor p) (count p) n) (not_later p ps none) (omega (arith, here, fit)) in
+    let once : count p * most (factor p) (count p) n ≡ 1 * most (factor p) (count p) n =
     ap (λ (z : ℕ). z * most (factor p) (count p) n) (one_count p) in
-    omega (arith, here, rest, fit, times)
+    omega (arith, here, rest, fit, once)
+
+few_numbers : (ps : List PassKind) (n : ℕ) → AreDistinct ps → n + 1024 * length ps ≤ 12288 → numbers_after ps n ≤ 49152 * length ps
+few_numbers [] n d fit = omega arith
+few_numbers (p ∷ ps) n d fit =
+    let once : count p * most (factor p) (count p) n ≡ 1 * most (factor p) (count p) n =
+    ap (λ (z : ℕ). z * most (factor p) (count p) n) (one_count p) in
+    elim (spills p n) [
+      | inl is ↦ (
+          let none : NoSpill ps = subst (λ (q : PassKind). Contains ps q → ⊥) is d.0 in
+          let here = most_is p n ∙ ap (λ (q : PassKind). times q n) is in
+          let rest = plain_numbers ps (most (factor p) (count p) n) none (omega (arith, here, fit)) in
+          omega (arith, here, rest, fit, once))
+      | inr is ↦ (
+          let here = most_is p n ∙ is in
+          let rest = few_numbers ps (most (factor p) (count p) n) d.1 (omega (arith, here, fit)) in
+          omega (arith, here, rest, fit, once))
+    ]
 
 few_slots : (ps : List PassKind) → slots_after ps ≡ length ps
 few_slots [] = refl
@@ -72,8 +134,8 @@ few_slots (p ∷ ps) = let here = one_count p in let rest = few_slots ps in omeg
 
 pub accepted : (ps : List PassKind) → AreDistinct ps → IsAccepted ps
 accepted ps d =
-    let three = at_most ps d in
-    let items = few_items ps MAX_ITEMS in
-    let numbers = few_numbers ps MAX_ITEMS (omega (arith, three)) in
+    let four = at_most ps d in
+    let items = few_items ps MAX_ITEMS d in
+    let numbers = few_numbers ps MAX_ITEMS d (omega (arith, four)) in
     let slots = few_slots ps in
-    record { fit = fits ps d; numbers = omega (arith, three, numbers); slots = omega (arith, three, slots); items = omega (arith, three, items) }
+    record { fit = fits ps d; numbers = omega (arith, four, numbers); slots = omega (arith, four, slots); items = omega (arith, four, items) }

@@ -271,11 +271,12 @@ module _ (meta : Maps) (q : Parsed) (passes : List PassKind) (g : Function) (gs 
       let copied : item_count g ≤ MAX_ITEMS = subst (λ (h : Function). item_count h ≤ MAX_ITEMS) (sym same) few in
       le_trans growth.items (le_trans (after_more passes (item_count g) MAX_ITEMS copied) accepted.items)
 
-  pub made_after : (losses : List Loss) → KeepsSteps (steps_of passes) (change g gs f subs) losses → IsMadeBy (steps_of passes) (passed_of q f subs)
-  made_after losses kept = record {
+  pub made_after : (reserve : List ℕ) (losses : List Loss) → KeepsSteps (steps_of reserve passes) (change g gs f subs) losses →
+      IsMadeBy (steps_of reserve passes) (passed_of q f subs)
+  made_after reserve losses kept = record {
     losses = losses;
-    kept = subst (λ (es : List Entry). KeepsSteps (steps_of passes) (change q.func es f subs) losses) entries_same
-        (subst (λ (h : Function). KeepsSteps (steps_of passes) (change h gs f subs) losses) same kept);
+    kept = subst (λ (es : List Entry). KeepsSteps (steps_of reserve passes) (change q.func es f subs) losses) entries_same
+        (subst (λ (h : Function). KeepsSteps (steps_of reserve passes) (change h gs f subs) losses) same kept);
   }
 
   pub compilable_after : IsSound f → (Fit passes → KeepsFollowing (any_asks passes) (all_keep passes) (change g gs f subs)) →

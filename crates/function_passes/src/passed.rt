@@ -12,6 +12,7 @@ use mir_func::func::Func;
 use mir_parser::closing::Parsed;
 use pass_list::kind::PassKind;
 use pass_loop::run::run_passes;
+use rv64_instr::reg::Reg;
 use std::alloc::{AllocError, Global};
 use substitution::substitutions::Substitutions;
 use typed_items::typed::{blocks_are_typed, entries_are_typed};
@@ -25,12 +26,14 @@ pub struct Passed {
     pub substitutions: Substitutions,
 }
 
-/// What passes, each at most once, make of a function that was read beside metadata.
+/// What passes, each at most once, make of a function that was read beside metadata. The reserve has the registers that
+/// may be spilled.
 pub fn after_passes(
     alloc: Global,
     _meta: &Metadata,
     source: &Parsed,
     passes: &[PassKind],
+    reserve: &[Reg],
 ) -> Result<Passed, AllocError>
     requires read { IsReadFunction _meta.now source.now.func }
     requires substitutions { All EntryIsLimited source.now.subs }
@@ -38,12 +41,12 @@ pub fn after_passes(
     ensures compilable { IfOk result (λ p.
         IsCompilable _meta.now (passed_of source.now p.function p.substitutions)) }
     ensures made { IfOk result (λ p.
-        IsMadeBy (steps_of passes.now) (passed_of source.now p.function p.substitutions)) }
+        IsMadeBy (steps_of reserve.now passes.now) (passed_of source.now p.function p.substitutions)) }
     ensures few { IfOk result (λ p. length (items_of p.function.blocks) ≤ MAX_PASSED) }
 {
     let mut function = source.func.copy()?;
     let mut substitutions = source.subs.copy()?;
-    let _losses = run_passes(alloc, passes, &mut function, &mut substitutions)?;
+    let _losses = run_passes(alloc, passes, reserve, &mut function, &mut substitutions)?;
     blocks_are_typed(function.blocks.as_slice());
     entries_are_typed(substitutions.entries());
     Ok(Passed {

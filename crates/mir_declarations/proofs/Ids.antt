@@ -2,12 +2,10 @@
 use Rattle.std.proofs.Common.{Ordering, Less, Equal, Greater, ◌≡◌, ℕ, ◌<◌, Bool, true, false, ◌||◌, cond, eqb, List, [], ◌∷◌}
 use Rattle.std.proofs.Common.{◌++◌, Result, Ok, Err, refl, sym, ap, ◌∙◌, arith}
 use Rattle.std.specs.Prelude.{OnOk}
-use Rattle.std.specs.List.{list_any}
 use Rattle.std.specs.Ordering.{nat_cmp, is_eq, MatchOrdering}
 use Rattle.std.specs.BTreeSet.{BTreeSet, contains, Updates}
 use Rattle.std.proofs.lemmas.Bool.{ne_eqb, eq-eqb}
 use Rattle.std.proofs.lemmas.Cmp.{ranked}
-use Rattle.std.proofs.lemmas.List.{drop_more, drop_all}
 use Rattle.std.proofs.lemmas.List.Folds.{list_any-append}
 use Rattle.mir_declarations.specs.declared.stack.StackEntry.{StackEntry}
 use Rattle.mir_declarations.specs.Stack.{has_id, AreIds}
@@ -20,7 +18,7 @@ by_order k q Greater gt = sym (ne_eqb q k (λ e. omega (arith, gt, e)))
 pub same_key : (k q : ℕ) → is_eq (nat_cmp k q) ≡ eqb q k
 same_key k q = by_order k q (nat_cmp k q) (ranked k q (nat_cmp k q) refl)
 
-either : (a b : Bool) → cond b true a ≡ (a || (b || false))
+pub either : (a b : Bool) → cond b true a ≡ (a || (b || false))
 either true true = refl
 either true false = refl
 either false true = refl

@@ -1,3 +1,4 @@
 pub mod Streams
 pub mod Walks
 pub mod Ids
+pub mod Keys

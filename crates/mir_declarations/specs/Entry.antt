@@ -1,15 +1,18 @@
 -- The entries of a list: `- { key: value, .. }`. (YAML 1.2, "Block Sequences" and "Flow Mappings"; LLVM, "Machine IR (MIR)
 -- Format Reference Manual", has the lists.)
-use Rattle.std.specs.Prelude.{ℕ, Bool, not, ◌&&◌, ◌||◌, if◌then◌else◌, List, [], ◌∷◌, ◌++◌, Option, Some, None}
+use Rattle.std.specs.Prelude.{◌≡◌, ℕ, Bool, not, ◌&&◌, ◌||◌, if◌then◌else◌, List, [], ◌∷◌, ◌++◌, Option, Some, None}
 use Rattle.std.specs.List.{list_any}
 use Rattle.std.specs.Str.{bytes_eq}
+use Rattle.std.specs.Borrow.{Bor}
+use Rattle.std.specs.Ordering.{nat_cmp}
+use Rattle.std.specs.Cmp.Lexicographic.{slice_cmp}
+use Rattle.std.specs.BTreeSet.{BTreeSet, contains_by}
 use Rattle.mir_lexer.specs.declared.line.Line.{Line}
 use Rattle.meta_reader.specs.Token.{is_byte, is_word, is_integer, is_text}
 use Rattle.refusal.specs.declared.first.Refusal.{Refusal}
 use Rattle.refusal.specs.declared.kind.RefusalKind.TheVariants.{BadLine}
 use Rattle.mir_declarations.specs.declared.stream.Piece.{Piece}
 use Rattle.mir_declarations.specs.declared.entry.Field.{Field}
-use Rattle.mir_declarations.specs.declared.entry.Entry.{Entry}
 use Rattle.mir_declarations.specs.declared.entry.Place.{Place}
 use Rattle.mir_declarations.specs.declared.entry.Place.TheVariants.{Outside, Dash, Key, Colon, Value, Next}
 use Rattle.mir_declarations.specs.declared.entry.OpenList.{OpenList}
@@ -27,6 +30,18 @@ is_value p = is_word p.token || (is_integer p.token || is_text p.token)
 -- whether one of these fields has the same key
 abbrev pub has_key : List Line → List Field → Piece → Bool
 has_key lines fields key = list_any (λ f. bytes_eq (text_at lines f.key) (text_at lines key)) fields
+
+-- whether a set of texts has this one
+abbrev pub has_text : BTreeSet (Bor (List ℕ)) → List ℕ → Bool
+has_text keys t = contains_by (λ k. slice_cmp nat_cmp t k.now) keys
+
+-- a set has the keys of fields
+abbrev pub AreKeys : List Line → BTreeSet (Bor (List ℕ)) → List Field → Type 0
+AreKeys lines keys fields = (t : List ℕ) → has_text keys t ≡ list_any (λ f. bytes_eq (text_at lines f.key) t) fields
+
+-- a set that has the keys of fields comes to have those of others
+abbrev pub KeepsKeys : BTreeSet (Bor (List ℕ)) → List Field → BTreeSet (Bor (List ℕ)) → List Field → Type 0
+KeepsKeys keys fields new others = (lines : List Line) → AreKeys lines keys fields → AreKeys lines new others
 
 -- a line that has no form that is read
 abbrev pub bad_line : ℕ → Refusal

@@ -1,10 +1,13 @@
 //! The entries of a list, `- { key: value, .. }`, read token by token.
 
 ghost use Rattle.std.specs.Prelude.{◌≡◌, ◌↔◌, IfOk, OnOk, IsTrue};
+ghost use Rattle.mir_declarations.specs.Stream.{text_at};
 ghost use Rattle.mir_declarations.specs.Entry.{
   is_mark,
   is_value,
-  has_key,
+  has_text,
+  AreKeys,
+  KeepsKeys,
   fits_at,
   line_at,
   nothing_read,
@@ -23,6 +26,7 @@ use mir_lexer::line::Line;
 use refusal::first::Refusal;
 use refusal::kind::RefusalKind;
 use std::alloc::{AllocError, Global};
+use std::collections::BTreeSet;
 
 /// A field of an entry: the word before its colon, and the token behind it.
 #[derive(Clone, Copy, Debug)]
@@ -94,12 +98,11 @@ fn is_value(piece: Piece) -> bool
     is_word(piece.token) || is_integer(piece.token) || is_text(piece.token)
 }
 
-/// Whether one of these fields has the same key.
-fn has_key(lines: &[Line], fields: &[Field], key: Piece) -> bool
-    ensures { result ≡ has_key lines.now fields.now key }
+/// Whether a set has the text of a key.
+fn has_key(lines: &[Line], keys: &BTreeSet<&[u8]>, key: Piece) -> bool
+    ensures { result ≡ has_text keys.now (text_at lines.now key) }
 {
-    let name = text_at(lines, key);
-    fields.iter().any(|field| text_at(lines, field.key) == name)
+    keys.contains(text_at(lines, key))
 }
 
 /// The refusal of a line that has no form that is read.
@@ -125,8 +128,9 @@ impl OpenList {
         }
     }
 
-    /// Whether a token may stand next.
-    fn fits(&self, lines: &[Line], piece: Piece) -> bool
+    /// Whether a token may stand next. The set has the keys of the open entry.
+    fn fits(&self, lines: &[Line], keys: &BTreeSet<&[u8]>, piece: Piece) -> bool
+        requires { AreKeys lines.now keys.now self.now.fields }
         ensures { result ≡ fits_at lines.now self.now.fields self.now.place piece }
     {
         match self.place {
@@ -134,7 +138,7 @@ impl OpenList {
             Place::Dash => is_mark(b'{', piece),
             Place::Key => is_word(piece.token),
             Place::Colon(_) => is_mark(b':', piece),
-            Place::Value(key) => is_value(piece) && !has_key(lines, self.fields.as_slice(), key),
+            Place::Value(key) => is_value(piece) && !has_key(lines, keys, key),
             Place::Next => is_mark(b',', piece) || is_mark(b'}', piece),
         }
     }
@@ -149,9 +153,17 @@ impl OpenList {
         }
     }
 
-    /// Takes the next token, which may stand there.
-    fn take(&mut self, alloc: Global, piece: Piece) -> Result<(), AllocError>
-        ensures { OnOk result (self.new ≡ behind self.old self.old.place piece) }
+    /// Takes the next token, which may stand there. The set has the keys of the open entry.
+    fn take<'a>(
+        &mut self,
+        alloc: Global,
+        lines: &'a [Line],
+        keys: &mut BTreeSet<&'a [u8]>,
+        piece: Piece,
+    ) -> Result<(), AllocError>
+        requires { AreKeys lines.now keys.old self.old.fields }
+        ensures list { OnOk result (self.new ≡ behind self.old self.old.place piece) }
+        ensures keys { OnOk result (AreKeys lines.now keys.new self.new.fields) }
     {
         match self.place {
             Place::Outside => {
@@ -173,21 +185,29 @@ impl OpenList {
             }
             Place::Value(key) => {
                 self.place = Place::Next;
+                keys.insert(text_at(lines, key))?;
                 self.fields.push(Field { key, value: piece })
             }
-            Place::Next => self.take_behind_value(alloc, piece),
+            Place::Next => self.take_behind_value(alloc, keys, piece),
         }
     }
 
     /// Takes the token behind a value.
-    fn take_behind_value(&mut self, alloc: Global, piece: Piece) -> Result<(), AllocError>
-        ensures { OnOk result (self.new ≡ behind_value self.old piece) }
+    fn take_behind_value(
+        &mut self,
+        alloc: Global,
+        keys: &mut BTreeSet<&[u8]>,
+        piece: Piece,
+    ) -> Result<(), AllocError>
+        ensures list { OnOk result (self.new ≡ behind_value self.old piece) }
+        ensures keys { OnOk result (KeepsKeys keys.old self.old.fields keys.new self.new.fields) }
     {
         if is_mark(b',', piece) {
             self.place = Place::Key;
             return Ok(());
         }
         let fields = std::mem::replace(&mut self.fields, List::new(alloc));
+        keys.clear();
         self.place = Place::Outside;
         self.entries.push(Entry {
             line: self.line,
@@ -220,15 +240,16 @@ pub fn entries(
 ) -> Result<Listing, AllocError>
     ensures { IfOk result (λ read. read ≡ entries_of lines.now is_cut pieces.now) }
 {
+    let mut keys = BTreeSet::new(alloc);
     let mut so_far = OpenList::new(alloc);
     for piece in pieces {
-        if !so_far.fits(lines, *piece) {
+        if !so_far.fits(lines, &keys, *piece) {
             return Ok(Listing {
                 refused: Some(bad_line(so_far.line_at(*piece))),
                 entries: so_far.entries,
             });
         }
-        so_far.take(alloc, *piece)?;
+        so_far.take(alloc, lines, &mut keys, *piece)?;
     }
     Ok(so_far.ended(is_cut))
 }

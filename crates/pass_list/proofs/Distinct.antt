@@ -6,7 +6,7 @@ use Rattle.std.proofs.Math.Seq.{take-suc-set}
 use Rattle.std.proofs.lemmas.List.{length-take-le}
 use Rattle.std.proofs.lemmas.List.Elements.{Contains-append_left, Contains-append_right}
 use Rattle.pass_list.specs.declared.kind.PassKind.{PassKind}
-use Rattle.pass_list.specs.declared.kind.PassKind.TheVariants.{Copy, Remat, Fold}
+use Rattle.pass_list.specs.declared.kind.PassKind.TheVariants.{Copy, Remat, Spill, Fold}
 use Rattle.pass_list.specs.Names.{AreDistinct}
 
 first_in : (p : PassKind) (ps : List PassKind) → Contains (p ∷ ps) p
@@ -50,6 +50,7 @@ front (x ∷ xs) ys d = (λ h. d.0 (Contains-append_left xs ys x h), front xs ys
 weight : PassKind → PassKind → ℕ
 weight Copy Copy = 1
 weight Remat Remat = 1
+weight Spill Spill = 1
 weight Fold Fold = 1
 weight _ _ = 0
 
@@ -61,13 +62,20 @@ same_or_none : (p x : PassKind) → (weight p x ≡ 0) ⊎ ((weight p x ≡ 1) �
 unfolding weight
 same_or_none Copy Copy = inr (refl, refl)
 same_or_none Remat Remat = inr (refl, refl)
+same_or_none Spill Spill = inr (refl, refl)
 same_or_none Fold Fold = inr (refl, refl)
 same_or_none Copy Remat = inl refl
+same_or_none Copy Spill = inl refl
 same_or_none Copy Fold = inl refl
 same_or_none Remat Copy = inl refl
+same_or_none Remat Spill = inl refl
 same_or_none Remat Fold = inl refl
+same_or_none Spill Copy = inl refl
+same_or_none Spill Remat = inl refl
+same_or_none Spill Fold = inl refl
 same_or_none Fold Copy = inl refl
 same_or_none Fold Remat = inl refl
+same_or_none Fold Spill = inl refl
 
 none_occurs : (p : PassKind) (xs : List PassKind) → (Contains xs p → ⊥) → occurs p xs ≡ 0
 unfolding occurs
@@ -92,37 +100,39 @@ once p (x ∷ xs) d =
           omega (arith, one, none))
     ]
 
-all_occur : (xs : List PassKind) → length xs ≡ occurs Copy xs + (occurs Remat xs + occurs Fold xs)
+all_occur : (xs : List PassKind) → length xs ≡ occurs Copy xs + (occurs Remat xs + (occurs Spill xs + occurs Fold xs))
 unfolding occurs weight
 all_occur [] = refl
 all_occur (Copy ∷ xs) = let rest = all_occur xs in omega (arith, rest)
 all_occur (Remat ∷ xs) = let rest = all_occur xs in omega (arith, rest)
+all_occur (Spill ∷ xs) = let rest = all_occur xs in omega (arith, rest)
 all_occur (Fold ∷ xs) = let rest = all_occur xs in omega (arith, rest)
 
-pub at_most : (xs : List PassKind) → AreDistinct xs → length xs ≤ 3
+pub at_most : (xs : List PassKind) → AreDistinct xs → length xs ≤ 4
 at_most xs d =
     let all = all_occur xs in
     let copy = once Copy xs d in
     let remat = once Remat xs d in
+    let spill = once Spill xs d in
     let fold = once Fold xs d in
-    omega (arith, all, copy, remat, fold)
+    omega (arith, all, copy, remat, spill, fold)
 
 -- ---- a list in an array
 
 pub record Added (passes : List PassKind) (len : ℕ) (list : List PassKind) (p : PassKind) : Type 0 where
-  pub room : len < 3
+  pub room : len < 4
   pub now : take (len + 1) (slice_set passes len p) ≡ list ++ p ∷ []
   pub distinct : AreDistinct (list ++ p ∷ [])
 
-pub added : (passes : List PassKind) (len : ℕ) (list : List PassKind) (p : PassKind) → length passes ≡ 3 → len ≤ 3 → take len passes ≡ list → AreDistinct list →
+pub added : (passes : List PassKind) (len : ℕ) (list : List PassKind) (p : PassKind) → length passes ≡ 4 → len ≤ 4 → take len passes ≡ list → AreDistinct list →
     (Contains list p → ⊥) → Added passes len list p
-added passes len list p three fits same d new =
+added passes len list p four fits same d new =
     let whole : AreDistinct (list ++ p ∷ []) = one_more list p d new in
     let all = at_most (list ++ p ∷ []) whole in
     let both = length-append list (p ∷ []) in
-    let within : len ≤ length passes = omega (arith, three, fits) in
+    let within : len ≤ length passes = omega (arith, four, fits) in
     let front : length (take len passes) ≡ len = length-take-le len passes within in
     let is : length list ≡ len = ap length (sym same) ∙ front in
-    let room : len < 3 = omega (arith, all, both, is) in
-    let inside : len < length passes = omega (arith, three, room) in
+    let room : len < 4 = omega (arith, all, both, is) in
+    let inside : len < length passes = omega (arith, four, room) in
     record { room = room; now = rw add-one (take-suc-set passes len p inside ∙ ap (λ (z : List PassKind). z ++ p ∷ []) same); distinct = whole }

@@ -1,12 +1,13 @@
 -- The names of passes, and the texts of lists of them.
 use Rattle.std.specs.Prelude.{◌≡◌, ℕ, List, [], ◌∷◌, ◌++◌, codes, Contains}
 use Rattle.pass_list.specs.declared.kind.PassKind.{PassKind}
-use Rattle.pass_list.specs.declared.kind.PassKind.TheVariants.{Copy, Remat, Fold}
+use Rattle.pass_list.specs.declared.kind.PassKind.TheVariants.{Copy, Remat, Spill, Fold}
 
 -- a pass's name
 abbrev pub name_of : PassKind → List ℕ
 name_of Copy = codes "copy"
 name_of Remat = codes "remat"
+name_of Spill = codes "spill"
 name_of Fold = codes "fold"
 
 -- names behind a name, each after a comma

@@ -10,6 +10,8 @@ pub enum PassKind {
     Copy,
     /// Constants are set again where they are copied or loaded from a slot.
     Remat,
+    /// Registers of a reserve move to slots.
+    Spill,
     /// Ways through blocks that only jump go to their ends at once.
     Fold,
 }
@@ -22,6 +24,8 @@ pub fn named(name: &str) -> Option<PassKind>
         Some(PassKind::Copy)
     } else if is_same(name, "remat") {
         Some(PassKind::Remat)
+    } else if is_same(name, "spill") {
+        Some(PassKind::Spill)
     } else if is_same(name, "fold") {
         Some(PassKind::Fold)
     } else {

@@ -8,13 +8,13 @@ use crate::kind::PassKind;
 use std::marker::Model;
 
 /// How many passes there are.
-const PASSES: usize = 3;
+const PASSES: usize = 4;
 
 /// Passes in the order in which they run, each at most once. A contract sees it as the list of them.
 #[derive(Debug, Drop)]
 pub struct PassList {
     /// The passes, and any others after them.
-    passes: [PassKind; 3],
+    passes: [PassKind; 4],
     /// How many there are.
     len: usize,
 }
@@ -28,7 +28,7 @@ impl Model for PassList {
 
     ghost view = { λ l. take l.len l.passes };
 
-    ghost invariant = { λ l. (length l.passes ≡ 3) × (l.len ≤ 3) × AreDistinct (take l.len l.passes) };
+    ghost invariant = { λ l. (length l.passes ≡ 4) × (l.len ≤ 4) × AreDistinct (take l.len l.passes) };
 }
 
 impl PassList {

@@ -1,5 +1,5 @@
 -- What each pass leaves of what is shown: a record for each of its steps.
-use Rattle.std.proofs.Common.{List, ap, sym, subst}
+use Rattle.std.proofs.Common.{ℕ, List, ap, sym, subst}
 use Rattle.std.specs.Prelude.{All, Result, Ok, Err, IfOk, OnOk}
 use Rattle.std.proofs.lemmas.List.Elements.{All-nil}
 use Rattle.mir_func.specs.Function.{Function}
@@ -9,8 +9,9 @@ use Rattle.follow_law.specs.Steps.{KeepsSteps}
 use Rattle.copy_debug.specs.Rule.{copy_step}
 use Rattle.fold_debug.specs.Debug.{fold_step}
 use Rattle.pass_list.specs.declared.kind.PassKind.{PassKind}
-use Rattle.pass_list.specs.declared.kind.PassKind.TheVariants.{Copy, Remat, Fold}
+use Rattle.pass_list.specs.declared.kind.PassKind.TheVariants.{Copy, Remat, Spill, Fold}
 use Rattle.remat_pass.specs.Pass.{remat_step}
+use Rattle.spill_step.specs.Step.{spill_step}
 use Rattle.pass_loop.specs.Passes.{steps_of_pass}
 use Rattle.pass_loop.specs.Shown.{KeepsShown}
 use Rattle.pass_loop.proofs.Becoming.{WasShown}
@@ -34,6 +35,14 @@ remat_shows = record {
   kills = λ c b ks none. subst (All (WasShown remat_step.debug c)) (sym none) (All-nil (WasShown remat_step.debug c));
 }
 
+spill_shows : (reserve : List ℕ) → Shows (spill_step reserve)
+spill_shows reserve = record {
+  name = λ f g (live, decides, e). ap (λ (h : Function). h.name) e;
+  renames = λ c r now never. absurd never;
+  salvages = λ c at p never. absurd never;
+  kills = λ c b ks none. subst (All (WasShown (spill_step reserve).debug c)) (sym none) (All-nil (WasShown (spill_step reserve).debug c));
+}
+
 fold_shows : Shows fold_step
 fold_shows = record {
   name = λ f g e. ap (λ (h : Function). h.name) e.1;
@@ -42,12 +51,13 @@ fold_shows = record {
   kills = λ c b ks are. kills_shown c b ks are;
 }
 
-pass_shows : (p : PassKind) → EachShows (steps_of_pass p)
-pass_shows Copy = (copy_shows, tt)
-pass_shows Remat = (remat_shows, tt)
-pass_shows Fold = (fold_shows, tt)
+pass_shows : (reserve : List ℕ) (p : PassKind) → EachShows (steps_of_pass reserve p)
+pass_shows reserve Copy = (copy_shows, tt)
+pass_shows reserve Remat = (remat_shows, tt)
+pass_shows reserve Spill = (spill_shows (reserve_of reserve), tt)
+pass_shows reserve Fold = (fold_shows, tt)
 
-pub pass_shown : {E : Type 0} (p : PassKind) (r : Result (List Loss) E) (c : Change) → IfOk r (KeepsSteps (steps_of_pass p) c) →
-    OnOk r (KeepsShown c.old c.new)
-pass_shown p (Ok losses) c k = steps_shown (steps_of_pass p) (pass_shows p) c losses k
-pass_shown p (Err e) c k = tt
+pub pass_shown : {E : Type 0} (reserve : List ℕ) (p : PassKind) (r : Result (List Loss) E) (c : Change) →
+    IfOk r (KeepsSteps (steps_of_pass reserve p) c) → OnOk r (KeepsShown c.old c.new)
+pass_shown reserve p (Ok losses) c k = steps_shown (steps_of_pass reserve p) (pass_shows reserve p) c losses k
+pass_shown reserve p (Err e) c k = tt

@@ -1,5 +1,5 @@
 -- What a list of passes keeps, by its first and the rest.
-use Rattle.std.proofs.Common.{◌≡◌, ◌+◌, ◌*◌, ◌<◌, ◌^◌, List, ◌∷◌, ◌++◌, sym, subst}
+use Rattle.std.proofs.Common.{◌≡◌, ℕ, ◌+◌, ◌*◌, ◌<◌, ◌^◌, List, ◌∷◌, ◌++◌, sym, subst}
 use Rattle.mir_func.specs.declared.entry.Entry.{Entry}
 use Rattle.mir_func.specs.Function.{Function}
 use Rattle.mir_func.specs.Limits.{MAX_SLOTS}
@@ -34,12 +34,13 @@ module _ (passes : List PassKind) (p : PassKind) (ps : List PassKind) (is : pass
           subst (λ (z : List PassKind). Fit z → KeepsFollowing (any_asks z) (all_keep z) (change f fs h hs)) (sym is)
           (λ fit. following_then (asks p) (keeps p) (any_asks ps) (all_keep ps) f fs g gs h hs fit.0 x (y fit.1))
 
-      pub all_steps : (a b losses : List Loss) → losses ≡ a ++ b → KeepsSteps (steps_of_pass p) (change f fs g gs) a →
-          KeepsSteps (steps_of ps) (change g gs h hs) b → KeepsSteps (steps_of passes) (change f fs h hs) losses
-      all_steps a b losses e x y =
-          subst (λ (z : List PassKind). KeepsSteps (steps_of z) (change f fs h hs) losses) (sym is)
-          (subst (KeepsSteps (steps_of (p ∷ ps)) (change f fs h hs)) (sym e)
-          (steps_then (steps_of_pass p) (steps_of ps) f fs g gs h hs a b x y))
+      pub all_steps : (reserve : List ℕ) (a b losses : List Loss) → losses ≡ a ++ b →
+          KeepsSteps (steps_of_pass reserve p) (change f fs g gs) a → KeepsSteps (steps_of reserve ps) (change g gs h hs) b →
+          KeepsSteps (steps_of reserve passes) (change f fs h hs) losses
+      all_steps reserve a b losses e x y =
+          subst (λ (z : List PassKind). KeepsSteps (steps_of reserve z) (change f fs h hs) losses) (sym is)
+          (subst (KeepsSteps (steps_of reserve (p ∷ ps)) (change f fs h hs)) (sym e)
+          (steps_then (steps_of_pass reserve p) (steps_of reserve ps) f fs g gs h hs a b x y))
 
       pub all_growth : KeepsSizes (factor p) (count p) (change f fs g gs) → KeepsGrowth ps (change g gs h hs) → KeepsGrowth passes (change f fs h hs)
       all_growth x y =

@@ -7,47 +7,54 @@ use Rattle.follow_law.specs.Steps.{Step}
 use Rattle.copy_debug.specs.Rule.{copy_step}
 use Rattle.fold_debug.specs.Debug.{fold_step}
 use Rattle.pass_list.specs.declared.kind.PassKind.{PassKind}
-use Rattle.pass_list.specs.declared.kind.PassKind.TheVariants.{Copy, Remat, Fold}
+use Rattle.pass_list.specs.declared.kind.PassKind.TheVariants.{Copy, Remat, Spill, Fold}
 use Rattle.remat_pass.specs.Pass.{remat_step}
+use Rattle.spill_pass.specs.Reserve.{reserve_of}
+use Rattle.spill_step.specs.Step.{spill_step}
 
 -- ---- one pass: a line for each
 
--- its steps
-abbrev pub steps_of_pass : PassKind → List Step
-steps_of_pass Copy = copy_step ∷ []
-steps_of_pass Remat = remat_step ∷ []
-steps_of_pass Fold = fold_step ∷ []
+-- its steps, where these are the registers that may be spilled
+abbrev pub steps_of_pass : (reserve : List ℕ) → PassKind → List Step
+steps_of_pass reserve Copy = copy_step ∷ []
+steps_of_pass reserve Remat = remat_step ∷ []
+steps_of_pass reserve Spill = spill_step (reserve_of reserve) ∷ []
+steps_of_pass reserve Fold = fold_step ∷ []
 
 -- whether it is right only for functions with the source's ends of blocks
 abbrev pub asks : PassKind → Bool
 asks Copy = false
 asks Remat = false
+asks Spill = false
 asks Fold = true
 
 -- whether it keeps them
 abbrev pub keeps : PassKind → Bool
 keeps Copy = true
 keeps Remat = true
+keeps Spill = true
 keeps Fold = false
 
 -- how many times as many items there may be after it
 abbrev pub factor : PassKind → ℕ
 factor Copy = 1
 factor Remat = 1
+factor Spill = 4
 factor Fold = 1
 
 -- how many items more there may be for each block, how many numbers for each item, and how many times as many slots as a function may have
 abbrev pub count : PassKind → ℕ
 count Copy = 1
 count Remat = 1
+count Spill = 1
 count Fold = 1
 
 -- ---- passes in a row
 
 -- their steps
-abbrev pub steps_of : List PassKind → List Step
-steps_of [] = []
-steps_of (p ∷ ps) = steps_of_pass p ++ steps_of ps
+abbrev pub steps_of : (reserve : List ℕ) → List PassKind → List Step
+steps_of reserve [] = []
+steps_of reserve (p ∷ ps) = steps_of_pass reserve p ++ steps_of reserve ps
 
 -- whether one of them asks
 abbrev pub any_asks : List PassKind → Bool

@@ -18,14 +18,17 @@ use follow_law::pass::Pass;
 use mir_func::func::Func;
 use pass_list::kind::PassKind;
 use remat_pass::remat::RematPass;
+use rv64_instr::reg::{Reg, Registers};
+use spill_pass::spill::SpillPass;
 use std::alloc::{AllocError, Global};
 use substitution::substitutions::Substitutions;
 
-/// Runs passes one after the other, and gives what they lost, in their order. After an error the function and its
-/// substitutions are only to be dropped.
+/// Runs passes one after the other, and gives what they lost, in their order. The reserve has the registers that may be
+/// spilled. After an error the function and its substitutions are only to be dropped.
 pub fn run_passes(
     alloc: Global,
     passes: &[PassKind],
+    reserve: &[Reg],
     f: &mut Func,
     subs: &mut Substitutions,
 ) -> Result<Losses, AllocError>
@@ -33,15 +36,15 @@ pub fn run_passes(
     requires slots { greatest f.old.slots + MAX_SLOTS * slots_after passes.now < 2 ^ 31 }
     ensures follows { OnOk result (Fit passes.now →
         KeepsFollowing (any_asks passes.now) (all_keep passes.now) (change f.old subs.old f.new subs.new)) }
-    ensures steps { IfOk result (KeepsSteps (steps_of passes.now) (change f.old subs.old f.new subs.new)) }
+    ensures steps { IfOk result (KeepsSteps (steps_of reserve.now passes.now) (change f.old subs.old f.new subs.new)) }
     ensures growth { OnOk result (KeepsGrowth passes.now (change f.old subs.old f.new subs.new)) }
     ensures shown { OnOk result (KeepsShown f.old f.new) }
 {
     match passes.split_first() {
         None => Ok(Losses::new(alloc)),
         Some((first, rest)) => {
-            let mut losses = run_pass(alloc, *first, f, subs)?;
-            let later = run_passes(alloc, rest, f, subs)?;
+            let mut losses = run_pass(alloc, *first, reserve, f, subs)?;
+            let later = run_passes(alloc, rest, reserve, f, subs)?;
             losses.extend_from_slice(later.as_slice())?;
             Ok(losses)
         }
@@ -52,6 +55,7 @@ pub fn run_passes(
 fn run_pass(
     alloc: Global,
     pass: PassKind,
+    reserve: &[Reg],
     f: &mut Func,
     subs: &mut Substitutions,
 ) -> Result<Losses, AllocError>
@@ -59,13 +63,18 @@ fn run_pass(
     requires slots { greatest f.old.slots + MAX_SLOTS * count pass < 2 ^ 31 }
     ensures follows { OnOk result
         (KeepsFollowing (asks pass) (keeps pass) (change f.old subs.old f.new subs.new)) }
-    ensures steps { IfOk result (KeepsSteps (steps_of_pass pass) (change f.old subs.old f.new subs.new)) }
+    ensures steps { IfOk result
+        (KeepsSteps (steps_of_pass reserve.now pass) (change f.old subs.old f.new subs.new)) }
     ensures sizes { OnOk result (KeepsSizes (factor pass) (count pass) (change f.old subs.old f.new subs.new)) }
     ensures shown { OnOk result (KeepsShown f.old f.new) }
 {
     match pass {
         PassKind::Copy => CopyPass.run(alloc, f, subs),
         PassKind::Remat => RematPass.run(alloc, f, subs),
+        PassKind::Spill => {
+            let reserve = Registers::from_slice(alloc, reserve)?;
+            SpillPass { reserve }.run(alloc, f, subs)
+        }
         PassKind::Fold => FoldPass.run(alloc, f, subs),
     }
 }

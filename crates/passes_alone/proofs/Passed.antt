@@ -1,10 +1,12 @@
 -- The same passes make alike code of alike code.
-use Rattle.std.proofs.Common.{List, [], ◌∷◌}
+use Rattle.std.proofs.Common.{ℕ, List, [], ◌∷◌}
 use Rattle.mir_func.specs.Function.{Function}
 use Rattle.mir_func.specs.Strip.{stripped}
 use Rattle.copy_rule.specs.Laws.{one_copied, same_copied}
 use Rattle.branch_fold.specs.Laws.{folding_has_one_result, folding_sees_code_alone}
 use Rattle.remat_pass.specs.Laws.{one_rematerialized, same_rematerialized}
+use Rattle.spill_pass.specs.Reserve.{reserve_of}
+use Rattle.spill_rule.specs.Laws.{one_spilled, same_spilled}
 use Rattle.follow_law.specs.Change.{change}
 use Rattle.follow_law.specs.Code.{HasOneResult, SeesCodeAlone}
 use Rattle.follow_law.specs.Laws.{one_then, same_then}
@@ -12,7 +14,7 @@ use Rattle.follow_law.specs.Steps.{EachCode}
 use Rattle.passes_alone.proofs.Made.{make_code_alone}
 use Rattle.frames_alike.specs.Alike.{HaveAlikeCode, HaveSameCode}
 use Rattle.pass_list.specs.declared.kind.PassKind.{PassKind}
-use Rattle.pass_list.specs.declared.kind.PassKind.TheVariants.{Copy, Remat, Fold}
+use Rattle.pass_list.specs.declared.kind.PassKind.TheVariants.{Copy, Remat, Spill, Fold}
 use Rattle.pass_loop.specs.Passes.{steps_of_pass, steps_of}
 use Rattle.text_alone.specs.Text.{OneByOne}
 use Rattle.text_alone.proofs.Text.{coded_alone, alike_text, same_text}
@@ -20,33 +22,35 @@ use Rattle.passes_alone.specs.Passed.{IsPassed, PassesMakeCodeAlone, PassedIsMad
 
 -- ---- the rules for code
 
-one_of_pass : (p : PassKind) → EachCode HasOneResult (steps_of_pass p)
-one_of_pass Copy = (one_copied, tt)
-one_of_pass Remat = (one_rematerialized, tt)
-one_of_pass Fold = (folding_has_one_result, tt)
+one_of_pass : (reserve : List ℕ) (p : PassKind) → EachCode HasOneResult (steps_of_pass reserve p)
+one_of_pass reserve Copy = (one_copied, tt)
+one_of_pass reserve Remat = (one_rematerialized, tt)
+one_of_pass reserve Spill = (one_spilled (reserve_of reserve), tt)
+one_of_pass reserve Fold = (folding_has_one_result, tt)
 
-same_of_pass : (p : PassKind) → EachCode SeesCodeAlone (steps_of_pass p)
-same_of_pass Copy = (same_copied, tt)
-same_of_pass Remat = (same_rematerialized, tt)
-same_of_pass Fold = (folding_sees_code_alone, tt)
+same_of_pass : (reserve : List ℕ) (p : PassKind) → EachCode SeesCodeAlone (steps_of_pass reserve p)
+same_of_pass reserve Copy = (same_copied, tt)
+same_of_pass reserve Remat = (same_rematerialized, tt)
+same_of_pass reserve Spill = (same_spilled (reserve_of reserve), tt)
+same_of_pass reserve Fold = (folding_sees_code_alone, tt)
 
-one_each : (passes : List PassKind) → EachCode HasOneResult (steps_of passes)
-one_each [] = tt
-one_each (p ∷ ps) = one_then (steps_of_pass p) (steps_of ps) (one_of_pass p) (one_each ps)
+one_each : (reserve : List ℕ) (passes : List PassKind) → EachCode HasOneResult (steps_of reserve passes)
+one_each reserve [] = tt
+one_each reserve (p ∷ ps) = one_then (steps_of_pass reserve p) (steps_of reserve ps) (one_of_pass reserve p) (one_each reserve ps)
 
-same_each : (passes : List PassKind) → EachCode SeesCodeAlone (steps_of passes)
-same_each [] = tt
-same_each (p ∷ ps) = same_then (steps_of_pass p) (steps_of ps) (same_of_pass p) (same_each ps)
+same_each : (reserve : List ℕ) (passes : List PassKind) → EachCode SeesCodeAlone (steps_of reserve passes)
+same_each reserve [] = tt
+same_each reserve (p ∷ ps) = same_then (steps_of_pass reserve p) (steps_of reserve ps) (same_of_pass reserve p) (same_each reserve ps)
 
 pub passes_alone : PassesMakeCodeAlone
-passes_alone passes = make_code_alone (steps_of passes) (one_each passes) (same_each passes)
+passes_alone reserve passes = make_code_alone (steps_of reserve passes) (one_each reserve passes) (same_each reserve passes)
 
 pub passed_made : PassedIsMadeOfCode
-passed_made passes f g base l is laid =
+passed_made reserve passes f g base l is laid =
     let h = coded_alone g base l laid in
     record {
       made = stripped g;
-      by_passes = (passes_alone passes).made (change f is.old_subs g is.new_subs) is.losses is.kept;
+      by_passes = (passes_alone reserve passes).made (change f is.old_subs g is.new_subs) is.losses is.kept;
       layout = h.layout;
       laid = h.laid;
       coded = h.coded;
@@ -66,22 +70,25 @@ module _ {X Y Z W : Type 0} (R : X → Y → Type 0) (S : X → Z → Type 0) (T
   each_step (x ∷ xs) (y ∷ ys) (z ∷ zs) [] r s t = absurd t
   each_step (x ∷ xs) (y ∷ ys) (z ∷ zs) (w ∷ ws) r s t = (step x y z w r.0 s.0 t.0, each_step xs ys zs ws r.1 s.1 t.1)
 
-alike_step : (passes : List PassKind) (f g f' g' : Function) → HaveAlikeCode f g → IsPassed passes f f' → IsPassed passes g g' → HaveAlikeCode f' g'
-alike_step passes f g f' g' alike is others =
-    (passes_alone passes).alike (change f is.old_subs f' is.new_subs) (change g others.old_subs g' others.new_subs) is.losses others.losses is.kept
+alike_step : (reserve : List ℕ) (passes : List PassKind) (f g f' g' : Function) → HaveAlikeCode f g → IsPassed reserve passes f f' →
+    IsPassed reserve passes g g' → HaveAlikeCode f' g'
+alike_step reserve passes f g f' g' alike is others =
+    (passes_alone reserve passes).alike (change f is.old_subs f' is.new_subs) (change g others.old_subs g' others.new_subs) is.losses others.losses is.kept
     others.kept alike
 
-same_step : (passes : List PassKind) (f g f' g' : Function) → HaveSameCode f g → IsPassed passes f f' → IsPassed passes g g' → HaveSameCode f' g'
-same_step passes f g f' g' same is others =
-    (passes_alone passes).same (change f is.old_subs f' is.new_subs) (change g others.old_subs g' others.new_subs) is.losses others.losses is.kept
+same_step : (reserve : List ℕ) (passes : List PassKind) (f g f' g' : Function) → HaveSameCode f g → IsPassed reserve passes f f' →
+    IsPassed reserve passes g g' → HaveSameCode f' g'
+same_step reserve passes f g f' g' same is others =
+    (passes_alone reserve passes).same (change f is.old_subs f' is.new_subs) (change g others.old_subs g' others.new_subs) is.losses others.losses is.kept
     others.kept same
 
 pub passed_text : PassedHasSameText
-passed_text passes fs gs new others base text other ls ms alike is are laid laid' =
+passed_text reserve passes fs gs new others base text other ls ms alike is are laid laid' =
     alike_text new others base text other ls ms
-    (each_step HaveAlikeCode (IsPassed passes) (IsPassed passes) HaveAlikeCode (alike_step passes) fs gs new others alike is are) laid laid'
+    (each_step HaveAlikeCode (IsPassed reserve passes) (IsPassed reserve passes) HaveAlikeCode (alike_step reserve passes) fs gs new others alike
+    is are) laid laid'
 
 pub passed_code : PassedHasSameCode
-passed_code passes fs gs new others base text other ls ms same is are laid laid' =
+passed_code reserve passes fs gs new others base text other ls ms same is are laid laid' =
     same_text new others base text other ls ms
-    (each_step HaveSameCode (IsPassed passes) (IsPassed passes) HaveSameCode (same_step passes) fs gs new others same is are) laid laid'
+    (each_step HaveSameCode (IsPassed reserve passes) (IsPassed reserve passes) HaveSameCode (same_step reserve passes) fs gs new others same is are) laid laid'

@@ -13,38 +13,40 @@ use Rattle.pass_loop.specs.Passes.{steps_of}
 use Rattle.text_alone.specs.Text.{IsLaid, AreLaid, OneByOne}
 use Rattle.words_alone.specs.Alone.{AreCodedAlike, AreCodedSame}
 
--- passes in a row made the one function of the other, of some substitutions, with some losses
-pub record IsPassed (passes : List PassKind) (f g : Function) : Type 0 where
+-- passes in a row, with a reserve for spilling, made the one function of the other, of some substitutions, with some losses
+pub record IsPassed (reserve : List ℕ) (passes : List PassKind) (f g : Function) : Type 0 where
   pub old_subs : List Entry
   pub new_subs : List Entry
   pub losses : List Loss
-  pub kept : KeepsSteps (steps_of passes) (change f old_subs g new_subs) losses
+  pub kept : KeepsSteps (steps_of reserve passes) (change f old_subs g new_subs) losses
 
 -- the machine code is made of code without debug items: by the passes' rules for code, the frame and the layout
-pub record IsMadeOf (passes : List PassKind) (code : Function) (base : ℕ) (l : Layout) : Type 0 where
+pub record IsMadeOf (reserve : List ℕ) (passes : List PassKind) (code : Function) (base : ℕ) (l : Layout) : Type 0 where
   pub made : Function
-  pub by_passes : MakesInTurn (steps_of passes) code made
+  pub by_passes : MakesInTurn (steps_of reserve passes) code made
   pub layout : Layout
   pub laid : IsLaid made base layout
   pub coded : AreCodedSame l layout
 
 -- machine code is made of the code of the function before passes
 abbrev pub PassedIsMadeOfCode : Type 0
-PassedIsMadeOfCode = (passes : List PassKind) (f g : Function) (base : ℕ) (l : Layout) → IsPassed passes f g → IsLaid g base l →
-    IsMadeOf passes (stripped f) base l
+PassedIsMadeOfCode = (reserve : List ℕ) (passes : List PassKind) (f g : Function) (base : ℕ) (l : Layout) →
+    IsPassed reserve passes f g → IsLaid g base l → IsMadeOf reserve passes (stripped f) base l
 
 -- debug items don't change the code that passes make
 abbrev pub PassesMakeCodeAlone : Type 0
-PassesMakeCodeAlone = (passes : List PassKind) → MakeCodeAlone (steps_of passes)
+PassesMakeCodeAlone = (reserve : List ℕ) (passes : List PassKind) → MakeCodeAlone (steps_of reserve passes)
 
 -- of functions whose code is alike, one by one, the same passes make functions with the same `.text`, and alike machine code
 abbrev pub PassedHasSameText : Type 0
-PassedHasSameText = (passes : List PassKind) (fs gs new others : List Function) (base : ℕ) (text other : List ℕ) (ls ms : List Layout) →
-    OneByOne HaveAlikeCode fs gs → OneByOne (IsPassed passes) fs new → OneByOne (IsPassed passes) gs others →
+PassedHasSameText = (reserve : List ℕ) (passes : List PassKind) (fs gs new others : List Function) (base : ℕ) (text other : List ℕ)
+    (ls ms : List Layout) →
+    OneByOne HaveAlikeCode fs gs → OneByOne (IsPassed reserve passes) fs new → OneByOne (IsPassed reserve passes) gs others →
     AreLaid base text new ls → AreLaid base other others ms → (text ≡ other) × OneByOne AreCodedAlike ls ms
 
 -- of functions whose code is the same, one by one, the same passes make functions with the same `.text`, and the same machine code
 abbrev pub PassedHasSameCode : Type 0
-PassedHasSameCode = (passes : List PassKind) (fs gs new others : List Function) (base : ℕ) (text other : List ℕ) (ls ms : List Layout) →
-    OneByOne HaveSameCode fs gs → OneByOne (IsPassed passes) fs new → OneByOne (IsPassed passes) gs others →
+PassedHasSameCode = (reserve : List ℕ) (passes : List PassKind) (fs gs new others : List Function) (base : ℕ) (text other : List ℕ)
+    (ls ms : List Layout) →
+    OneByOne HaveSameCode fs gs → OneByOne (IsPassed reserve passes) fs new → OneByOne (IsPassed reserve passes) gs others →
     AreLaid base text new ls → AreLaid base other others ms → (text ≡ other) × OneByOne AreCodedSame ls ms

@@ -15,6 +15,7 @@ use dwarf_info::abbreviation::write_abbrev;
 use function_emit::emit::{EmitError, Made};
 use mir_parser::program::Program;
 use pass_list::kind::PassKind;
+use rv64_instr::reg::Reg;
 use program_sections::sections::{SectionError, info, loclists, rows, with_code};
 use std::alloc::{AllocError, Global};
 use thiserror::Error;
@@ -64,24 +65,26 @@ impl From<SectionError> for CompileError {
 }
 
 /// The output of a program that was read: of each function what passes make of it, with its frame, one after the
-/// other from address 0, and the lists of the variables of the function that was read. It is `FrameTooLarge` where
+/// other from address 0, and the lists of the variables of the function that was read. The reserve has the registers
+/// that may be spilled. It is `FrameTooLarge` where
 /// such a function's frame would have more than 2,032 bytes, and otherwise `SectionTooLarge` exactly where a section
 /// would have 2^31 bytes or more.
 pub fn compile(
     alloc: Global,
     program: &Program,
     passes: &[PassKind],
+    reserve: &[Reg],
 ) -> Result<Output, CompileError>
     requires read { IsReadProgram program.now }
     requires distinct { AreDistinct passes.now }
-    ensures output { IfOk result (IsOutputOf (steps_of passes.now) program.now) }
+    ensures output { IfOk result (IsOutputOf (steps_of reserve.now passes.now) program.now) }
     ensures frame_too_large { IsErrOf result CompileError.FrameTooLarge →
-        HasLargeFrame (steps_of passes.now) program.now.functions }
+        HasLargeFrame (steps_of reserve.now passes.now) program.now.functions }
     ensures section_too_large { IsErrOf result CompileError.SectionTooLarge →
-        HasLargeSection (steps_of passes.now) program.now }
+        HasLargeSection (steps_of reserve.now passes.now) program.now }
 {
-    let made = made_of(alloc, &program.meta, program.functions.as_slice(), passes)?;
-    output(alloc, program, made, passes)
+    let made = made_of(alloc, &program.meta, program.functions.as_slice(), passes, reserve)?;
+    output(alloc, program, made, passes, reserve)
 }
 
 /// The output of functions that are compiled after passes.
@@ -91,13 +94,14 @@ fn output(
     program: &Program,
     made: Made,
     _passes: &[PassKind],
+    _reserve: &[Reg],
 ) -> Result<Output, CompileError>
     requires read { IsReadProgram program.now }
-    requires made { AreMade program.now.meta (steps_of _passes.now) program.now.functions made }
-    ensures output { IfOk result (IsOutputOf (steps_of _passes.now) program.now) }
+    requires made { AreMade program.now.meta (steps_of _reserve.now _passes.now) program.now.functions made }
+    ensures output { IfOk result (IsOutputOf (steps_of _reserve.now _passes.now) program.now) }
     ensures no_frame { IsErrOf result CompileError.FrameTooLarge → ⊥ }
     ensures section_too_large { IsErrOf result CompileError.SectionTooLarge →
-        HasLargeSection (steps_of _passes.now) program.now }
+        HasLargeSection (steps_of _reserve.now _passes.now) program.now }
 {
     let meta = &program.meta;
     let Made {

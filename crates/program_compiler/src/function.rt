@@ -19,21 +19,25 @@ use function_passes::passed::after_passes;
 use meta_reader::metadata::Metadata;
 use mir_parser::closing::Parsed;
 use pass_list::kind::PassKind;
+use rv64_instr::reg::Reg;
 use std::alloc::Global;
 
-/// Compiles functions, one after the other from address 0 on: of each what passes make of it.
+/// Compiles functions, one after the other from address 0 on: of each what passes make of it. The reserve has the
+/// registers that may be spilled.
 pub fn made_of(
     alloc: Global,
     meta: &Metadata,
     functions: &[Parsed],
     passes: &[PassKind],
+    reserve: &[Reg],
 ) -> Result<Made, CompileError>
     requires few { length functions.now ≤ MAX_FUNCTIONS }
     requires read { All (λ (p : Parsed). IsReadFunction meta.now p.func) functions.now }
     requires substitutions { All (λ (p : Parsed). All EntryIsLimited p.subs) functions.now }
     requires distinct { AreDistinct passes.now }
-    ensures made { IfOk result (AreMade meta.now (steps_of passes.now) functions.now) }
-    ensures too_large { IsErrOf result CompileError.FrameTooLarge → HasLargeFrame (steps_of passes.now) functions.now }
+    ensures made { IfOk result (AreMade meta.now (steps_of reserve.now passes.now) functions.now) }
+    ensures too_large { IsErrOf result CompileError.FrameTooLarge →
+        HasLargeFrame (steps_of reserve.now passes.now) functions.now }
     ensures no_section { IsErrOf result CompileError.SectionTooLarge → ⊥ }
 {
     let mut made = Made {
@@ -43,7 +47,7 @@ pub fn made_of(
         codes: Codes::new(alloc),
     };
     for source in functions {
-        push_source(alloc, &mut made, meta, source, passes)?;
+        push_source(alloc, &mut made, meta, source, passes, reserve)?;
     }
     Ok(made)
 }
@@ -55,6 +59,7 @@ fn push_source(
     meta: &Metadata,
     source: &Parsed,
     passes: &[PassKind],
+    reserve: &[Reg],
 ) -> Result<(), CompileError>
     requires aligned { length made.old.text % 4 ≡ 0 }
     requires room { length made.old.text + 4 * MAX_WORDS < MAX_BASE }
@@ -62,11 +67,13 @@ fn push_source(
     requires read { IsReadFunction meta.now source.now.func }
     requires substitutions { All EntryIsLimited source.now.subs }
     requires distinct { AreDistinct passes.now }
-    ensures pushed { OnOk result (IsSourcePushed meta.now (steps_of passes.now) source.now made.old made.new) }
-    ensures too_large { IsErrOf result CompileError.FrameTooLarge → IsTooLarge (steps_of passes.now) source.now }
+    ensures pushed { OnOk result
+        (IsSourcePushed meta.now (steps_of reserve.now passes.now) source.now made.old made.new) }
+    ensures too_large { IsErrOf result CompileError.FrameTooLarge →
+        IsTooLarge (steps_of reserve.now passes.now) source.now }
     ensures no_section { IsErrOf result CompileError.SectionTooLarge → ⊥ }
 {
-    let passed = after_passes(alloc, meta, source, passes)?;
+    let passed = after_passes(alloc, meta, source, passes, reserve)?;
     push_function(
         alloc,
         made,

@@ -140,7 +140,7 @@ fn programs(rt: HostRuntime) -> Result<(), Fail> {
         let mut text = String::from_str(alloc, HEADER)?;
         text.push_str(row.lines)?;
         let program = program(alloc, text.as_str())?;
-        let output = compile(alloc, &program, &[])?;
+        let output = compile(alloc, &program, &[], &[])?;
         assert_eq!(rt; output.text.as_slice(), row.text);
         assert_eq!(rt; output.loclists.as_slice(), row.loclists);
         assert_eq!(rt; output.info.len(), row.info);
@@ -173,7 +173,7 @@ body: |
 ",
     )?;
     let program = program(alloc, text.as_str())?;
-    let output = compile(alloc, &program, &[PassKind::Remat])?;
+    let output = compile(alloc, &program, &[PassKind::Remat], &[])?;
     let code =
         b"\x13\x01\x01\xff\x93\x05\x50\x00\x23\x30\xb1\x00\x13\x05\x50\x00\x13\x01\x01\x01\x67\x80\x00\x00";
     assert_eq!(rt; output.text.as_slice(), code.as_slice());
@@ -194,7 +194,7 @@ fn frames_up_to_the_limit(rt: HostRuntime) -> Result<(), Fail> {
         text.push_str(size)?;
         text.push_str(" }\nbody: |\n  bb.0:\n    PseudoRET\n...\n")?;
         let program = program(alloc, text.as_str())?;
-        match compile(alloc, &program, &[]) {
+        match compile(alloc, &program, &[], &[]) {
             Ok(_) => assert!(rt; fits),
             Err(CompileError::FrameTooLarge) => assert!(rt; !fits),
             Err(error) => return Err(Fail::from(error)),

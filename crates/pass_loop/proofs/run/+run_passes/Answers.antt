@@ -30,8 +30,8 @@ returns-in_ok-extend_from_slice-in-Some-clause-steps t c =
     let joined : c.extend_from_slice.new.self ≡ c.in_ok-losses-in-Some.losses ++ c.in_ok-later-in-Some.later =
     c.in_ok-extend_from_slice-in-Some.ensures.ok ∙ ap (λ (l : List Loss). c.in_ok-losses-in-Some.losses ++ l) c.as_slice.ensures in
     all_steps c.args.passes.now c.in-Some.first.now c.in-Some.rest.now c.in-Some.ensures.cases.0 c.args.f.now c.args.subs.now
-    c.run_pass.new.f c.run_pass.new.subs c.run_passes.new.f c.run_passes.new.subs c.in_ok-losses-in-Some.losses c.in_ok-later-in-Some.later
-    c.extend_from_slice.new.self joined c.in_ok-losses-in-Some.ensures.steps c.in_ok-later-in-Some.ensures.steps
+    c.run_pass.new.f c.run_pass.new.subs c.run_passes.new.f c.run_passes.new.subs c.args.reserve.now c.in_ok-losses-in-Some.losses
+    c.in_ok-later-in-Some.later c.extend_from_slice.new.self joined c.in_ok-losses-in-Some.ensures.steps c.in_ok-later-in-Some.ensures.steps
 
 pub returns-in_ok-extend_from_slice-in-Some-clause-growth :
     goal.returns-in_ok-extend_from_slice-in-Some-clause-growth

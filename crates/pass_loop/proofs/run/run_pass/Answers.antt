@@ -5,12 +5,14 @@ use Rattle.pass_loop.proofs.run.run_pass.Goals as goal
 
 pub returns-in-Copy-clause-shown : goal.returns-in-Copy-clause-shown
 returns-in-Copy-clause-shown c =
-    pass_shown Copy c.run.result (change c.args.f.now c.args.subs.now c.run.new.f c.run.new.subs) c.run.ensures.steps
+    pass_shown c.args.reserve.now Copy c.run.result (change c.args.f.now c.args.subs.now c.run.new.f c.run.new.subs) c.run.ensures.steps
 
 pub returns-in-Remat-clause-shown : goal.returns-in-Remat-clause-shown
 returns-in-Remat-clause-shown c =
-    pass_shown Remat c.run-in-Remat.result (change c.args.f.now c.args.subs.now c.run-in-Remat.new.f c.run-in-Remat.new._subs) c.run-in-Remat.ensures.steps
+    pass_shown c.args.reserve.now Remat c.run-in-Remat.result (change c.args.f.now c.args.subs.now c.run-in-Remat.new.f c.run-in-Remat.new._subs)
+    c.run-in-Remat.ensures.steps
 
 pub returns-in-Fold-clause-shown : goal.returns-in-Fold-clause-shown
 returns-in-Fold-clause-shown c =
-    pass_shown Fold c.run-in-Fold.result (change c.args.f.now c.args.subs.now c.run-in-Fold.new.f c.run-in-Fold.new._subs) c.run-in-Fold.ensures.steps
+    pass_shown c.args.reserve.now Fold c.run-in-Fold.result (change c.args.f.now c.args.subs.now c.run-in-Fold.new.f c.run-in-Fold.new._subs)
+    c.run-in-Fold.ensures.steps

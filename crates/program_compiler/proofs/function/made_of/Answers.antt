@@ -16,20 +16,21 @@ loop-source-init c =
     let functions = sym c.new-3.ensures in
     let codes = sym c.new-4.ensures in
     let is : begun ≡ made = λ i. record { text = text i; lists = lists i; functions = functions i; codes = codes i } in
-    subst (SoFar c.args.meta.now (steps_of c.args.passes.now) c.args.functions.now c.args.functions.now) is
-    (begins c.args.meta.now (steps_of c.args.passes.now) c.args.functions.now)
+    subst (SoFar c.args.meta.now (steps_of c.args.reserve.now c.args.passes.now) c.args.functions.now c.args.functions.now) is
+    (begins c.args.meta.now (steps_of c.args.reserve.now c.args.passes.now) c.args.functions.now)
 
 pub loop-source-preserved : goal.loop-source-preserved
 loop-source-preserved c =
-    let P : List Parsed → Type 0 = λ rest. SoFar c.args.meta.now (steps_of c.args.passes.now) c.args.functions.now rest c.loop-source.made in
+    let P : List Parsed → Type 0 = λ rest. SoFar c.args.meta.now (steps_of c.args.reserve.now c.args.passes.now) c.args.functions.now rest c.loop-source.made in
     let split = split_at c.args.functions.now c.loop-source.source-index c.source-item.result c.loop-source-test.true c.source-item.is in
     let so = subst P split c.loop-source.invariant in
     let one = c.in_ok-push_source.ensures.pushed in
-    more c.args.meta.now one.passed c.loop-source.made c.push_source.new.made one.pushed (steps_of c.args.passes.now) _ _ c.source-item.result
+    more c.args.meta.now one.passed c.loop-source.made c.push_source.new.made one.pushed (steps_of c.args.reserve.now c.args.passes.now)
+    _ _ c.source-item.result
     one.source one.compilable one.made so
 
 pub returns-clause-made : goal.returns-clause-made
 returns-clause-made c =
-    let P : List Parsed → Type 0 = λ rest. SoFar c.args.meta.now (steps_of c.args.passes.now) c.args.functions.now rest c.loop-source.made in
+    let P : List Parsed → Type 0 = λ rest. SoFar c.args.meta.now (steps_of c.args.reserve.now c.args.passes.now) c.args.functions.now rest c.loop-source.made in
     let so = subst P (drop_all c.loop-source.source-index c.args.functions.now c.loop-source-test.false) c.loop-source.invariant in
     all_made _ _ _ _ so

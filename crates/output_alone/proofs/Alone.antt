@@ -1,0 +1,49 @@
+-- The same passes make alike code of alike code, function by function, and what is compiled of it has the same `.text`.
+use Rattle.std.proofs.Common.{◌≡◌, List, [], ◌∷◌, ℕ, sym, ap, subst}
+use Rattle.std.specs.Prelude.{All}
+use Rattle.std.proofs.lemmas.List.Elements.{All-head, All-tail}
+use Rattle.mir_func.specs.Function.{Function}
+use Rattle.compiled_alone.specs.Compiled.{functions_of}
+use Rattle.compiled_alone.proofs.Compiled.{same_text}
+use Rattle.follow_law.specs.Change.{change}
+use Rattle.follow_law.specs.Steps.{Step, MakeCodeAlone}
+use Rattle.frames_alike.specs.Alike.{HaveAlikeCode}
+use Rattle.function_emit.specs.Emitted.{names_of}
+use Rattle.function_passes.specs.Passed.{IsMadeBy, source_of}
+use Rattle.meta_reader.specs.Maps.{Maps}
+use Rattle.mir_parser.specs.declared.closing.Parsed.{Parsed}
+use Rattle.output_promise.specs.Source.{PassedFunction, SourceFunction}
+use Rattle.pass_loop.specs.Passes.{steps_of}
+use Rattle.passes_alone.proofs.Passed.{passes_alone}
+use Rattle.program_compiler.specs.Program.{ArePassed}
+use Rattle.text_alone.specs.Text.{OneByOne}
+use Rattle.output_alone.specs.Alone.{AreReadAlike, OutputsOfAlikeCode}
+
+module _ (steps : List Step) (alone : MakeCodeAlone steps) (meta meta' : Maps) where
+  one_alike : (f g : Parsed) (s t : PassedFunction) → s.source ≡ source_of f → t.source ≡ source_of g → AreReadAlike f g → IsMadeBy steps s → IsMadeBy steps t →
+      HaveAlikeCode s.function t.function
+  one_alike f g s t from_f from_g alike made made' =
+      alone.alike (change s.source.function s.source.substitutions s.function s.substitutions)
+      (change t.source.function t.source.substitutions t.function t.substitutions) made.losses made'.losses made.kept made'.kept
+      (subst (λ (x : SourceFunction). HaveAlikeCode x.function t.source.function) (sym from_f)
+      (subst (λ (x : SourceFunction). HaveAlikeCode f.func x.function) (sym from_g) alike))
+
+  each_alike : (fs gs : List Parsed) (ss ts : List PassedFunction) → OneByOne AreReadAlike fs gs → ArePassed meta fs ss → ArePassed meta' gs ts →
+      All (IsMadeBy steps) ss → All (IsMadeBy steps) ts → OneByOne HaveAlikeCode (functions_of ss) (functions_of ts)
+  each_alike [] [] [] [] alike is are made made' = tt
+  each_alike [] [] [] (t ∷ ts) alike is are made made' = absurd are
+  each_alike [] [] (s ∷ ss) ts alike is are made made' = absurd is
+  each_alike [] (g ∷ gs) ss ts alike is are made made' = absurd alike
+  each_alike (f ∷ fs) [] ss ts alike is are made made' = absurd alike
+  each_alike (f ∷ fs) (g ∷ gs) [] ts alike is are made made' = absurd is
+  each_alike (f ∷ fs) (g ∷ gs) (s ∷ ss) [] alike is are made made' = absurd are
+  each_alike (f ∷ fs) (g ∷ gs) (s ∷ ss) (t ∷ ts) alike is are made made' = (
+    one_alike f g s t is.0 are.0 alike.0 (All-head (IsMadeBy steps) s ss made) (All-head (IsMadeBy steps) t ts made'),
+    each_alike fs gs ss ts alike.1 is.2 are.2 (All-tail (IsMadeBy steps) s ss made) (All-tail (IsMadeBy steps) t ts made'),
+  )
+
+pub outputs_alone : OutputsOfAlikeCode
+outputs_alone reserve passes p q o o' alike is are =
+    same_text (names_of p.meta) (names_of q.meta) is.functions are.functions o o'
+    (each_alike (steps_of reserve passes) (passes_alone reserve passes) p.meta q.meta p.functions q.functions is.functions are.functions alike
+    is.passed are.passed is.made are.made) is.compiled are.compiled
