@@ -324,7 +324,7 @@ no_line_at : (inlined : ℕ → Option ℕ) (at : Option ℕ) (l : ItemLine) (a 
 no_line_at inlined None l a r s here is skips e = no_address a.address _ _ skips.address e
 no_line_at inlined (Some n) l a r s here is skips e =
     let address = address_one a.address n (spaced_origin a.origin ++ (skip_text a ++ (10 ∷ r)))
-        (spaced_origin l.item.origin ++ (item_text l.item ++ (10 ∷ s))) e in
+    (spaced_origin l.item.origin ++ (item_text l.item ++ (10 ∷ s))) e in
     let origin = origin_one a.origin l.item.origin (skip_text a ++ (10 ∷ r)) (item_text l.item ++ (10 ∷ s)) skips.origin is.origin address.1 in
     no_item inlined l a r s is skips origin.1
 

@@ -15,8 +15,8 @@ use dwarf_info::abbreviation::write_abbrev;
 use function_emit::emit::{EmitError, Made};
 use mir_parser::program::Program;
 use pass_list::kind::PassKind;
-use rv64_instr::reg::Reg;
 use program_sections::sections::{SectionError, info, loclists, rows, with_code};
+use rv64_instr::reg::Reg;
 use std::alloc::{AllocError, Global};
 use thiserror::Error;
 
@@ -83,7 +83,13 @@ pub fn compile(
     ensures section_too_large { IsErrOf result CompileError.SectionTooLarge →
         HasLargeSection (steps_of reserve.now passes.now) program.now }
 {
-    let made = made_of(alloc, &program.meta, program.functions.as_slice(), passes, reserve)?;
+    let made = made_of(
+        alloc,
+        &program.meta,
+        program.functions.as_slice(),
+        passes,
+        reserve,
+    )?;
     output(alloc, program, made, passes, reserve)
 }
 
