@@ -301,8 +301,45 @@ const PASSED: [(&str, &str, &str); 4] = [
     ("--passes=fold,copy,remat", LOADED, SET_AGAIN),
 ];
 
+/// The file of the function of number 0 with one block.
+const GENERATED: &str = "--- |
+  define void @gen() !dbg !2 { ret void }
+  !1 = !DIFile(filename: \"gen.c\", directory: \"/gen\")
+  !2 = distinct !DISubprogram(name: \"gen\", file: !1, line: 1)
+  !10 = !DILocalVariable(name: \"a\", scope: !2, file: !1, line: 1)
+  !11 = !DILocalVariable(name: \"b\", scope: !2, file: !1, line: 1)
+  !12 = !DILocalVariable(name: \"c\", scope: !2, file: !1, line: 1)
+  !13 = !DILocalVariable(name: \"d\", scope: !2, file: !1, line: 1)
+...
+---
+name: gen
+stack:
+  - { id: 0, size: 8 }
+  - { id: 1, size: 8 }
+  - { id: 2, size: 8 }
+  - { id: 3, size: 8 }
+body: |
+  bb.0:
+    SD $x10, %stack.0, 0
+    SD $x10, %stack.1, 0
+    SD $x10, %stack.2, 0
+    SD $x10, %stack.3, 0
+    $x8 = COPY $x13, debug-instr-number 1
+    DBG_PHI $x9, 2
+    DBG_INSTR_REF !11, !DIExpression(DW_OP_LLVM_arg, 0), dbg-instr-ref(2, 0)
+    DBG_INSTR_REF !10, !DIExpression(DW_OP_LLVM_arg, 0), dbg-instr-ref(1, 0)
+    DBG_PHI $x20, 3
+    DBG_INSTR_REF !12, !DIExpression(DW_OP_LLVM_arg, 0), dbg-instr-ref(3, 0)
+    DBG_PHI $x8, 4
+    DBG_INSTR_REF !11, !DIExpression(DW_OP_LLVM_arg, 0), dbg-instr-ref(4, 0)
+    SD $x8, %stack.1, 0
+    $x10 = COPY $x8
+    PseudoRET implicit $x10
+...
+";
+
 /// Words, a function and faults of runs, and how they end.
-const ENDINGS: [(&[&str], &str, Faulty, Ending<'static>); 16] = [
+const ENDINGS: [(&[&str], &str, Faulty, Ending<'static>); 18] = [
     (&[], RETURN, NO_FAULT, USAGE),
     (&["compile"], RETURN, NO_FAULT, USAGE),
     (&["--passes=none", "compile"], RETURN, NO_FAULT, USAGE),
@@ -314,6 +351,17 @@ const ENDINGS: [(&[&str], &str, Faulty, Ending<'static>); 16] = [
     ),
     (&["listing"], RETURN, NO_FAULT, USAGE),
     (&["strip", "--passes=none"], RETURN, NO_FAULT, USAGE),
+    (&["gen", "0", "0"], RETURN, NO_FAULT, USAGE),
+    (
+        &["gen", "0", "1"],
+        "no text",
+        Faulty {
+            read: 1,
+            room: ROOM,
+            write: 0,
+        },
+        (0, GENERATED, ""),
+    ),
     (
         COMPILE,
         "body: |\n  bb.0:\n    $x10 = FROB $x10\n    PseudoRET\n",
@@ -491,6 +539,21 @@ fn ends_as_its_faults_say(rt: HostRuntime) -> Result<(), Fail> {
     for (words, lines, faulty, want) in &ENDINGS {
         ends(&rt, alloc, words, text_of(alloc, lines)?, faulty, *want)?;
     }
+    Ok(())
+}
+
+/// A file with a function that was made up is read and compiled.
+#[test]
+fn compiles_what_is_made_up(rt: HostRuntime) -> Result<(), Fail> {
+    let alloc = rt.alloc();
+    let nothing = Bytes::new(alloc);
+    let (status, made_up, _) = run_on(alloc, &["gen", "7", "3"], nothing, &NO_FAULT)?;
+    assert_eq!(rt; status, 0);
+    let text = Bytes::from(Vec::from_slice(alloc, made_up.written())?);
+    let words = &["compile", "--passes=fold,copy,remat"];
+    let (status, output, _) = run_on(alloc, words, text, &NO_FAULT)?;
+    assert_eq!(rt; status, 0);
+    assert!(rt; output.written().starts_with(b"section .text "));
     Ok(())
 }
 

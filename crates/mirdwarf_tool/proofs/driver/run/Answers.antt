@@ -1,0 +1,20 @@
+-- The command that is asked for is the one that the words are.
+use Rattle.std.proofs.Common.{◌≡◌, Some}
+use Rattle.command_line.specs.declared.command.Command.{Command}
+use Rattle.command_line.specs.declared.command.Command.TheVariants.{Gen}
+use Rattle.mirdwarf_tool.proofs.driver.run.Goals as goal
+
+same_command : (a b : Command) → Some a ≡ Some b → a ≡ b
+same_command a b same = cc
+
+pub returns-in_err-text-clause-generated_unread : goal.returns-in_err-text-clause-generated_unread
+returns-in_err-text-clause-generated_unread g c asked is =
+    c.answered.ensures.unread asked (same_command c.in-Some.command (Gen asked) ((c.in-Some.ensures (Gen asked)).1 is))
+
+pub returns-in-Ok-clause-generated_unread : goal.returns-in-Ok-clause-generated_unread
+returns-in-Ok-clause-generated_unread g c asked is =
+    c.answered.ensures.unread asked (same_command c.in-Some.command (Gen asked) ((c.in-Some.ensures (Gen asked)).1 is))
+
+pub returns-clause-generated_unread : goal.returns-clause-generated_unread
+returns-clause-generated_unread g c asked is =
+    c.answered.ensures.unread asked (same_command c.in-Some.command (Gen asked) ((c.in-Some.ensures (Gen asked)).1 is))
