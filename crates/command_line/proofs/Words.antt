@@ -12,7 +12,7 @@ use Rattle.command_options.proofs.Words.{the_option}
 use Rattle.command_line.specs.declared.command.Command.{Command}
 use Rattle.command_line.specs.declared.command.Command.TheVariants.{Compile, Listing, Strip, Gen}
 use Rattle.command_line.specs.declared.command.Plan.{Plan}
-use Rattle.command_line.specs.Command.{IsPlanOf, GivesPlan, IsWithin, IsCommand}
+use Rattle.command_line.specs.Command.{IsPlanOf, GivesPlan, IsWithin, IsCommand, AreWithin}
 
 -- ---- one plan for words
 
@@ -144,3 +144,12 @@ the_command words a is b = (
   λ e. subst (IsCommand words) (one_of a b e) is,
   λ other. ap (λ (x : Command). Some x) (one_command words a b is other),
 )
+
+-- ---- numbers
+
+pub within : (words : List (List ℕ)) (c : Command) → IsCommand words c → AreWithin c
+within [] c is = absurd is
+within (name ∷ words) (Compile p) is = tt
+within (name ∷ words) (Listing p) is = tt
+within (name ∷ words) Strip is = tt
+within (name ∷ words) (Gen g) is = is.2

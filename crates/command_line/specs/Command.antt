@@ -38,6 +38,13 @@ IsCommand (name ∷ words) (Listing plan) = (name ≡ codes "listing") × GivesP
 IsCommand (name ∷ words) Strip = (name ≡ codes "strip") × (words ≡ [])
 IsCommand (name ∷ words) (Gen g) = (name ≡ codes "gen") × (words ≡ decimal g.number ∷ decimal g.blocks ∷ []) × IsWithin g
 
+-- the numbers of a command are within their limits
+abbrev pub AreWithin : Command → Type 0
+AreWithin (Compile plan) = Unit {0}
+AreWithin (Listing plan) = Unit {0}
+AreWithin Strip = Unit {0}
+AreWithin (Gen g) = IsWithin g
+
 -- the name isn't that of a command with a plan
 pub record IsPlain (name : List ℕ) : Type 0 where
   pub compile : name ≡ codes "compile" → ⊥

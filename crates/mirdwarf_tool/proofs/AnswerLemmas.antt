@@ -3,14 +3,14 @@ use Rattle.std.specs.Prelude.{Result, Ok, Err, IfOk, IfErr}
 use Rattle.std.proofs.Common.{◌≡◌, ℕ, List}
 use Rattle.mir_parser.specs.declared.program.Program.{Program}
 use Rattle.command_line.specs.declared.command.Command.{Command}
+use Rattle.command_line.specs.declared.command.Plan.{Plan}
 use Rattle.command_line.specs.declared.command.Command.TheVariants.{Compile, Listing, Strip, Gen}
 use Rattle.command_line.specs.declared.fault.Fault.{Fault}
 use Rattle.command_line.specs.declared.fault.Fault.TheVariants.{Usage, Read, TooLong, Refused, NoFunction, FrameTooLarge, SectionTooLarge, Write, Memory}
 use Rattle.mirdwarf_tool.specs.Answer.{HasFunctions, IsReader, Answers, RefusesProgram, RefusesToCompile, RefusesToWrite, RefusesText}
 use Rattle.mirdwarf_tool.specs.Run.{HasReadProgram, HasReadNone, RefusesRead, AnswersRead, AnswersInput, ReadingEnds}
 use Rattle.mirdwarf_tool.specs.Stream.{Change}
-use Rattle.pass_list.specs.declared.kind.PassKind.{PassKind}
-use Rattle.pass_loop.specs.Passes.{steps_of}
+use Rattle.mirdwarf_tool.specs.Compiled.{plan_steps}
 
 -- ---- a program was read
 
@@ -59,46 +59,46 @@ read_none command reads input Write none = absurd none
 
 -- ---- the commands that compile
 
-by_compile : (list : List PassKind) (program : Program) (fault : Fault) → RefusesToCompile (steps_of list) program fault →
-    RefusesToWrite (Compile list) program fault
-by_compile list program FrameTooLarge refused = refused
-by_compile list program SectionTooLarge refused = refused
-by_compile list program Memory refused = tt
-by_compile list program (Refused r) refused = refused
-by_compile list program NoFunction refused = refused
-by_compile list program Usage refused = refused
-by_compile list program Read refused = refused
-by_compile list program TooLong refused = refused
-by_compile list program Write refused = refused
+by_compile : (plan : Plan) (program : Program) (fault : Fault) → RefusesToCompile (plan_steps plan) program fault →
+    RefusesToWrite (Compile plan) program fault
+by_compile plan program FrameTooLarge refused = refused
+by_compile plan program SectionTooLarge refused = refused
+by_compile plan program Memory refused = tt
+by_compile plan program (Refused r) refused = refused
+by_compile plan program NoFunction refused = refused
+by_compile plan program Usage refused = refused
+by_compile plan program Read refused = refused
+by_compile plan program TooLong refused = refused
+by_compile plan program Write refused = refused
 
-by_listing : (list : List PassKind) (program : Program) (fault : Fault) → RefusesToCompile (steps_of list) program fault →
-    RefusesToWrite (Listing list) program fault
-by_listing list program FrameTooLarge refused = refused
-by_listing list program SectionTooLarge refused = refused
-by_listing list program Memory refused = tt
-by_listing list program (Refused r) refused = refused
-by_listing list program NoFunction refused = refused
-by_listing list program Usage refused = refused
-by_listing list program Read refused = refused
-by_listing list program TooLong refused = refused
-by_listing list program Write refused = refused
+by_listing : (plan : Plan) (program : Program) (fault : Fault) → RefusesToCompile (plan_steps plan) program fault →
+    RefusesToWrite (Listing plan) program fault
+by_listing plan program FrameTooLarge refused = refused
+by_listing plan program SectionTooLarge refused = refused
+by_listing plan program Memory refused = tt
+by_listing plan program (Refused r) refused = refused
+by_listing plan program NoFunction refused = refused
+by_listing plan program Usage refused = refused
+by_listing plan program Read refused = refused
+by_listing plan program TooLong refused = refused
+by_listing plan program Write refused = refused
 
-module _ (list : List PassKind) (input : Change) (program : Program) (read : HasReadProgram input program) where
-  pub compile_ok : (r : Result (List ℕ) Fault) → IfOk r (Answers (Compile list) program) → IfOk r (AnswersInput (Compile list) input)
-  compile_ok (Ok output) answers = read_answers (Compile list) input program read output answers
+module _ (plan : Plan) (input : Change) (program : Program) (read : HasReadProgram input program) where
+  pub compile_ok : (r : Result (List ℕ) Fault) → IfOk r (Answers (Compile plan) program) → IfOk r (AnswersInput (Compile plan) input)
+  compile_ok (Ok output) answers = read_answers (Compile plan) input program read output answers
   compile_ok (Err fault) answers = tt
 
-  pub listing_ok : (r : Result (List ℕ) Fault) → IfOk r (Answers (Listing list) program) → IfOk r (AnswersInput (Listing list) input)
-  listing_ok (Ok output) answers = read_answers (Listing list) input program read output answers
+  pub listing_ok : (r : Result (List ℕ) Fault) → IfOk r (Answers (Listing plan) program) → IfOk r (AnswersInput (Listing plan) input)
+  listing_ok (Ok output) answers = read_answers (Listing plan) input program read output answers
   listing_ok (Err fault) answers = tt
 
-  pub compile_err : (r : Result (List ℕ) Fault) → IfErr r (RefusesToCompile (steps_of list) program) → IfErr r (ReadingEnds (Compile list) input)
+  pub compile_err : (r : Result (List ℕ) Fault) → IfErr r (RefusesToCompile (plan_steps plan) program) → IfErr r (ReadingEnds (Compile plan) input)
   compile_err (Ok output) refused = tt
-  compile_err (Err fault) refused = held_back (Compile list) input program read tt fault (by_compile list program fault refused)
+  compile_err (Err fault) refused = held_back (Compile plan) input program read tt fault (by_compile plan program fault refused)
 
-  pub listing_err : (r : Result (List ℕ) Fault) → IfErr r (RefusesToCompile (steps_of list) program) → IfErr r (ReadingEnds (Listing list) input)
+  pub listing_err : (r : Result (List ℕ) Fault) → IfErr r (RefusesToCompile (plan_steps plan) program) → IfErr r (ReadingEnds (Listing plan) input)
   listing_err (Ok output) refused = tt
-  listing_err (Err fault) refused = held_back (Listing list) input program read tt fault (by_listing list program fault refused)
+  listing_err (Err fault) refused = held_back (Listing plan) input program read tt fault (by_listing plan program fault refused)
 
 -- ---- the others
 

@@ -3,7 +3,7 @@ use Rattle.std.proofs.Common.{◌≡◌, ℕ, List, sym, ◌∙◌, subst}
 use Rattle.command_line.specs.declared.command.Command.{Command}
 use Rattle.command_line.specs.declared.command.Command.TheVariants.{Gen}
 use Rattle.command_line.specs.Command.{IsCommand}
-use Rattle.command_line.proofs.Words.{numbers_within, one_command}
+use Rattle.command_line.proofs.Words.{one_command}
 use Rattle.command_numbers.specs.declared.generation.Generation.{Generation}
 use Rattle.generated_text.specs.GeneratedText.{generated_text}
 use Rattle.mirdwarf_tool.specs.Run.{Finishes, AnswersInput}
@@ -14,6 +14,6 @@ pub wrote_generated : (words : List (List ℕ)) (input output : Change) → Fini
 wrote_generated words input output finished g asked =
     let accepted = finished.accepted in
     let command : accepted.command ≡ Gen g =
-        one_command accepted.command (Gen g) (numbers_within accepted.command accepted.asked.1) asked.1 (sym accepted.asked.0 ∙ asked.0) in
+        one_command words accepted.command (Gen g) accepted.asked asked in
     let answers : AnswersInput (Gen g) input finished.text = subst (λ (c : Command). AnswersInput c input finished.text) command accepted.answers in
     subst (λ (bytes : List ℕ). IsWrittenWhole output bytes) answers.1 finished.written

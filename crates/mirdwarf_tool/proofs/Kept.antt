@@ -1,7 +1,8 @@
 -- What the command that compiles wrote keeps each promise of the output that it is the text of.
 use Rattle.std.proofs.Common.{◌≡◌, ℕ, List}
+use Rattle.command_line.specs.declared.command.Plan.{Plan}
 use Rattle.command_line.specs.declared.command.Command.TheVariants.{Compile}
-use Rattle.command_line.specs.Command.{words_of}
+use Rattle.command_line.specs.Command.{IsCommand}
 use Rattle.compiled_text.specs.declared.output.Output.{Output}
 use Rattle.follow_law.specs.Steps.{Step}
 use Rattle.mir_parser.specs.declared.program.Program.{Program}
@@ -14,8 +15,7 @@ use Rattle.output_promise.proofs.IsExact.{compiled_is_exact}
 use Rattle.output_promise.proofs.LaidOut.{compiled_is_laid_out, compiled_lists_passed}
 use Rattle.function_emit.specs.Emitted.{names_of}
 use Rattle.program_compiler.specs.Program.{sources_of, IsOutputOf}
-use Rattle.pass_list.specs.declared.kind.PassKind.{PassKind}
-use Rattle.pass_loop.specs.Passes.{steps_of}
+use Rattle.mirdwarf_tool.specs.Compiled.{plan_steps}
 use Rattle.mirdwarf_tool.specs.Promise.{AllGiveBack, AllStopWell, AllListKept}
 use Rattle.mirdwarf_tool.specs.Run.{Finishes, KeepsHeadline, KeepsRegisters, StopsAtReturns, WroteExactly, WroteLaidOut}
 use Rattle.mirdwarf_tool.specs.Run.{WroteKept, WroteWords, ShowsPassed, WrotePassed}
@@ -51,36 +51,36 @@ module _ (steps : List Step) (p : Program) (o : Output) (is : IsOutputOf steps p
 
 -- ---- what was written
 
-module _ (words : List (List ℕ)) (input output : Change) (finished : Finishes words input output) (list : List PassKind)
-    (asked : words ≡ words_of (Compile list)) where
+module _ (words : List (List ℕ)) (input output : Change) (finished : Finishes words input output) (plan : Plan)
+    (asked : IsCommand words (Compile plan)) where
   pub headline_kept : KeepsHeadline input output
-  headline_kept = has_written list (λ p. Promises (sources_of p.functions)) (promised (steps_of list)) words input output finished asked
+  headline_kept = has_written plan (λ p. Promises (sources_of p.functions)) (promised (plan_steps plan)) words input output finished asked
 
   pub registers_kept : KeepsRegisters input output
   registers_kept =
-      has_written list (λ p. AllGiveBack (sources_of p.functions))
-      (λ p o is. gives_back (sources_of p.functions) o (promised (steps_of list) p o is)) words input output finished asked
+      has_written plan (λ p. AllGiveBack (sources_of p.functions))
+      (λ p o is. gives_back (sources_of p.functions) o (promised (plan_steps plan) p o is)) words input output finished asked
 
   pub stops_at_returns : StopsAtReturns input output
   stops_at_returns =
-      has_written list (λ p. AllStopWell (sources_of p.functions))
-      (λ p o is. stops_well (sources_of p.functions) o (promised (steps_of list) p o is)) words input output finished asked
+      has_written plan (λ p. AllStopWell (sources_of p.functions))
+      (λ p o is. stops_well (sources_of p.functions) o (promised (plan_steps plan) p o is)) words input output finished asked
 
   pub wrote_exactly : WroteExactly input output
-  wrote_exactly = has_written list (λ p. IsExact) (exact (steps_of list)) words input output finished asked
+  wrote_exactly = has_written plan (λ p. IsExact) (exact (plan_steps plan)) words input output finished asked
 
   pub wrote_kept : WroteKept input output
   wrote_kept =
-      has_written list (λ p. AllListKept) (λ p o is. lists_kept o (exact (steps_of list) p o is)) words input output finished asked
+      has_written plan (λ p. AllListKept) (λ p o is. lists_kept o (exact (plan_steps plan) p o is)) words input output finished asked
 
   pub wrote_laid_out : WroteLaidOut input output
   wrote_laid_out =
-      has_written list (λ p. AreLaidOut (names_of p.meta) (sources_of p.functions)) (laid_out (steps_of list)) words input output finished asked
+      has_written plan (λ p. AreLaidOut (names_of p.meta) (sources_of p.functions)) (laid_out (plan_steps plan)) words input output finished asked
 
   pub wrote_words : WroteWords input output
   wrote_words =
-      has_written list (λ p. HaveWords) (λ p o is. compiled_has_words (names_of p.meta) is.functions o (to (steps_of list) p o is))
+      has_written plan (λ p. HaveWords) (λ p o is. compiled_has_words (names_of p.meta) is.functions o (to (plan_steps plan) p o is))
       words input output finished asked
 
-  pub wrote_passed : WrotePassed (steps_of list) input output
-  wrote_passed = has_written list (ShowsPassed (steps_of list)) (shows_passed (steps_of list)) words input output finished asked
+  pub wrote_passed : WrotePassed (plan_steps plan) input output
+  wrote_passed = has_written plan (ShowsPassed (plan_steps plan)) (shows_passed (plan_steps plan)) words input output finished asked

@@ -4,9 +4,10 @@ use Rattle.std.proofs.Common.{◌≡◌, ℕ, List, ◌+◌, ap, sym, ◌∙◌,
 use Rattle.io_edge.specs.Told.{Takes, TakesCount}
 use Rattle.io_edge.proofs.ToldLemmas.{Takes-told, TakesCount-told}
 use Rattle.command_line.specs.declared.command.Command.{Command}
+use Rattle.command_line.specs.declared.command.Plan.{Plan}
 use Rattle.command_line.specs.declared.command.Command.TheVariants.{Compile, Listing, Strip, Gen}
-use Rattle.command_line.specs.Command.{words_of, IsCommand}
-use Rattle.command_line.proofs.Words.{numbers_within, one_command}
+use Rattle.command_line.specs.Command.{IsCommand}
+use Rattle.command_line.proofs.Words.{one_command}
 use Rattle.command_line.specs.declared.fault.Fault.{Fault}
 use Rattle.command_line.specs.declared.fault.Fault.TheVariants.{Usage, Read, TooLong, Refused, NoFunction, FrameTooLarge, SectionTooLarge, Write, Memory}
 use Rattle.command_line.specs.declared.status.Status.TheVariants as status
@@ -14,12 +15,10 @@ use Rattle.command_line.specs.Fault.{status_of, line_of}
 use Rattle.mir_parser.specs.declared.program.Program.{Program}
 use Rattle.compiled_text.specs.declared.output.Output.{Output}
 use Rattle.output_laws.proofs.Functions.{printable}
-use Rattle.pass_list.specs.declared.kind.PassKind.{PassKind}
-use Rattle.pass_loop.specs.Passes.{steps_of}
 use Rattle.program_compiler.specs.Program.{IsOutputOf}
 use Rattle.reading_laws.proofs.Texts.{programs_are_as_read}
 use Rattle.mirdwarf_tool.specs.Limits.{INPUT_LIMIT}
-use Rattle.mirdwarf_tool.specs.Compiled.{IsCompiledText}
+use Rattle.mirdwarf_tool.specs.Compiled.{IsCompiledText, plan_steps}
 use Rattle.mirdwarf_tool.specs.Answer.{HasFunctions, IsReader, IsAnswered, RefusesToWrite, RefusesText}
 use Rattle.mirdwarf_tool.specs.Run.{Finishes, HasWritten, Explains, IsTooLong, AnswersRead, AnswersInput}
 use Rattle.mirdwarf_tool.specs.Run.{Refuses, RefusesRead, ReadingEnds, ReadingEnded, TellsRefusal, IsAnswerableText, IsAnswerable, HasRead}
@@ -30,22 +29,22 @@ use Rattle.mirdwarf_tool.proofs.Sentences.{of_shown}
 -- ---- what is compiled
 
 -- what was read and written by the command that compiles
-record Compiled (list : List PassKind) (input output : Change) : Type 0 where
+record Compiled (plan : Plan) (input output : Change) : Type 0 where
   text : List ℕ
   read : HasRead input text
   program : Program
   has : HasFunctions text program
   bytes : List ℕ
-  compiles : IsCompiledText (steps_of list) program bytes
+  compiles : IsCompiledText (plan_steps plan) program bytes
   written : IsWrittenWhole output bytes
 
-compiled : (list : List PassKind) (words : List (List ℕ)) (input output : Change) → Finishes words input output → words ≡ words_of (Compile list) →
-    Compiled list input output
-compiled list words input output is asked =
+compiled : (plan : Plan) (words : List (List ℕ)) (input output : Change) → Finishes words input output → IsCommand words (Compile plan) →
+    Compiled plan input output
+compiled plan words input output is asked =
     let accepted = is.accepted in
-    let command : accepted.command ≡ Compile list =
-        one_command accepted.command (Compile list) (numbers_within accepted.command accepted.asked.1) tt (sym accepted.asked.0 ∙ asked) in
-    let answers : AnswersRead (Compile list) input is.text = subst (λ (c : Command). AnswersInput c input is.text) command accepted.answers in
+    let command : accepted.command ≡ Compile plan =
+        one_command words accepted.command (Compile plan) accepted.asked asked in
+    let answers : AnswersRead (Compile plan) input is.text = subst (λ (c : Command). AnswersInput c input is.text) command accepted.answers in
     record {
       text = answers.text;
       read = answers.read;
@@ -57,11 +56,11 @@ compiled list words input output is asked =
     }
 
 -- what holds of each output that is a compilation of a program that was read holds of what was written
-pub has_written : (list : List PassKind) (P : Program → Output → Type 0) →
-    ((program : Program) (o : Output) → IsOutputOf (steps_of list) program o → P program o) →
-    (words : List (List ℕ)) (input output : Change) → Finishes words input output → words ≡ words_of (Compile list) → HasWritten P input output
-has_written list P holds words input output finished asked =
-    let is = compiled list words input output finished asked in
+pub has_written : (plan : Plan) (P : Program → Output → Type 0) →
+    ((program : Program) (o : Output) → IsOutputOf (plan_steps plan) program o → P program o) →
+    (words : List (List ℕ)) (input output : Change) → Finishes words input output → IsCommand words (Compile plan) → HasWritten P input output
+has_written plan P holds words input output finished asked =
+    let is = compiled plan words input output finished asked in
     let read = programs_are_as_read is.text is.program is.has.reads in
     record {
       text = is.text;
@@ -70,7 +69,7 @@ has_written list P holds words input output finished asked =
       has = is.has;
       bytes = is.bytes;
       written = is.written;
-      shown = of_shown printable (steps_of list) is.program is.bytes read is.compiles (P is.program)
+      shown = of_shown printable (plan_steps plan) is.program is.bytes read is.compiles (P is.program)
           (holds is.program is.compiles.output is.compiles.is);
     }
 
@@ -194,8 +193,8 @@ not_too_long command input form long =
 
 -- a command that reads is answered by its text
 by_text : (command : Command) (left : Option (List ℕ)) → IsReader command → IsAnswerable command left → IsAnswerableText command left
-by_text (Compile list) left reads form = form
-by_text (Listing list) left reads form = form
+by_text (Compile plan) left reads form = form
+by_text (Listing plan) left reads form = form
 by_text Strip left reads form = form
 by_text (Gen g) left reads form = absurd reads
 
@@ -212,7 +211,7 @@ ended_as_asked : (command : Command) (words : List (List ℕ)) (input : Change) 
     ReadingEnds command input fault
 ended_as_asked command words input fault asked ended =
     let same : ended.command ≡ command =
-        one_command ended.command command (numbers_within ended.command ended.asked.1) (numbers_within command asked.1) (sym ended.asked.0 ∙ asked.0) in
+        one_command words ended.command command ended.asked asked in
     subst (λ (c : Command). ReadingEnds c input fault) same ended.ended
 
 module _ (command : Command) (words : List (List ℕ)) (input output : Change) (asked : IsCommand words command)

@@ -2,8 +2,8 @@
 use Rattle.std.proofs.Common.{◌≡◌, ◌≢◌, ℕ, List, [], ◌∷◌, map, refl, sym, ◌∙◌, subst}
 use Rattle.command_line.specs.declared.command.Command.{Command}
 use Rattle.command_line.specs.declared.command.Command.TheVariants.{Strip}
-use Rattle.command_line.specs.Command.{words_of}
-use Rattle.command_line.proofs.Words.{numbers_within, one_command}
+use Rattle.command_line.specs.Command.{IsCommand}
+use Rattle.command_line.proofs.Words.{one_command}
 use Rattle.functions_read_back.specs.Stripped.{reread}
 use Rattle.mir_parser.specs.declared.closing.Parsed.{Parsed}
 use Rattle.strip_read_back.proofs.Texts.{stripped_texts_are_read}
@@ -17,12 +17,12 @@ some_still : (functions : List Parsed) → functions ≢ [] → map reread funct
 some_still [] some none = some refl
 some_still (f ∷ fs) some none = cc
 
-module _ (words : List (List ℕ)) (input output : Change) (finished : Finishes words input output) (asked : words ≡ words_of Strip) where
+module _ (words : List (List ℕ)) (input output : Change) (finished : Finishes words input output) (asked : IsCommand words Strip) where
   pub wrote_stripped : WroteStripped input output
   wrote_stripped =
       let accepted = finished.accepted in
       let command : accepted.command ≡ Strip =
-          one_command accepted.command Strip (numbers_within accepted.command accepted.asked.1) tt (sym accepted.asked.0 ∙ asked) in
+          one_command words accepted.command Strip accepted.asked asked in
       let answers : AnswersRead Strip input finished.text = subst (λ (c : Command). AnswersInput c input finished.text) command accepted.answers in
       let p = answers.answers.program in
       let has : HasFunctions answers.text p = answers.answers.has in

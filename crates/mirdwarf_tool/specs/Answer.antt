@@ -5,14 +5,13 @@ use Rattle.refusal.specs.declared.first.Refusal.{Refusal}
 use Rattle.mir_parser.specs.declared.program.Program.{Program}
 use Rattle.mir_parser.specs.declared.error.ParseError.TheVariants as errors
 use Rattle.mir_parser.specs.Program.{ReadsText}
-use Rattle.pass_loop.specs.Passes.{steps_of}
 use Rattle.program_compiler.specs.Program.{HasLargeFrame, HasLargeSection}
 use Rattle.strip_text.specs.StripText.{stripped_text}
 use Rattle.command_line.specs.declared.command.Command.{Command}
 use Rattle.command_line.specs.declared.command.Command.TheVariants.{Compile, Listing, Strip, Gen}
 use Rattle.command_line.specs.declared.fault.Fault.{Fault}
 use Rattle.command_line.specs.declared.fault.Fault.TheVariants.{Usage, Read, TooLong, Refused, NoFunction, FrameTooLarge, SectionTooLarge, Write, Memory}
-use Rattle.mirdwarf_tool.specs.Compiled.{IsCompiledText, IsListingText}
+use Rattle.mirdwarf_tool.specs.Compiled.{plan_steps, IsCompiledText, IsListingText}
 
 -- a text stands for a program with a function
 pub record HasFunctions (text : List ℕ) (program : Program) : Type 0 where
@@ -21,29 +20,29 @@ pub record HasFunctions (text : List ℕ) (program : Program) : Type 0 where
 
 -- the commands that read the input
 abbrev pub IsReader : Command → Type 0
-IsReader (Compile list) = Unit {0}
-IsReader (Listing list) = Unit {0}
+IsReader (Compile plan) = Unit {0}
+IsReader (Listing plan) = Unit {0}
 IsReader Strip = Unit {0}
 IsReader (Gen g) = ⊥
 
 -- what a command writes of a program; one that doesn't read writes nothing of any
 abbrev pub Answers : Command → Program → (output : List ℕ) → Type 0
-Answers (Compile list) program output = IsCompiledText (steps_of list) program output
-Answers (Listing list) program output = IsListingText (steps_of list) program output
+Answers (Compile plan) program output = IsCompiledText (plan_steps plan) program output
+Answers (Listing plan) program output = IsListingText (plan_steps plan) program output
 Answers Strip program output = output ≡ stripped_text program.functions
 Answers (Gen g) program output = ⊥
 
 -- the program is too large for a command: what a command that compiles makes of it has a frame above the limit
 abbrev pub HasFrameTooLarge : Command → Program → Type 0
-HasFrameTooLarge (Compile list) program = HasLargeFrame (steps_of list) program.functions
-HasFrameTooLarge (Listing list) program = HasLargeFrame (steps_of list) program.functions
+HasFrameTooLarge (Compile plan) program = HasLargeFrame (plan_steps plan) program.functions
+HasFrameTooLarge (Listing plan) program = HasLargeFrame (plan_steps plan) program.functions
 HasFrameTooLarge Strip program = ⊥
 HasFrameTooLarge (Gen g) program = ⊥
 
 -- or a section
 abbrev pub HasSectionTooLarge : Command → Program → Type 0
-HasSectionTooLarge (Compile list) program = HasLargeSection (steps_of list) program
-HasSectionTooLarge (Listing list) program = HasLargeSection (steps_of list) program
+HasSectionTooLarge (Compile plan) program = HasLargeSection (plan_steps plan) program
+HasSectionTooLarge (Listing plan) program = HasLargeSection (plan_steps plan) program
 HasSectionTooLarge Strip program = ⊥
 HasSectionTooLarge (Gen g) program = ⊥
 

@@ -2,9 +2,15 @@
 use Rattle.std.specs.Prelude.{◌≡◌, ℕ, List}
 use Rattle.compiled_text.specs.declared.output.Output.{Output}
 use Rattle.compiled_text.specs.Output.{spelling, listing_text}
+use Rattle.command_line.specs.declared.command.Plan.{Plan}
 use Rattle.follow_law.specs.Steps.{Step}
 use Rattle.mir_parser.specs.declared.program.Program.{Program}
+use Rattle.pass_loop.specs.Passes.{steps_of}
 use Rattle.program_compiler.specs.Program.{IsOutputOf}
+
+-- the steps of a plan: those of its passes, where its reserve may be spilled
+abbrev pub plan_steps : Plan → List Step
+plan_steps plan = steps_of plan.reserve plan.passes
 
 -- the text is that of an output of a program after steps of passes
 pub record IsCompiledText (steps : List Step) (program : Program) (text : List ℕ) : Type 0 where

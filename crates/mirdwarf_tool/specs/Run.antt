@@ -51,8 +51,8 @@ pub record AnswersRead (command : Command) (input : Change) (output : List ℕ) 
 
 -- this is what a command writes: of the text that was read, or the text of a function that is made up, for which nothing is read
 abbrev pub AnswersInput : Command → (input : Change) → (output : List ℕ) → Type 0
-AnswersInput (Compile list) input output = AnswersRead (Compile list) input output
-AnswersInput (Listing list) input output = AnswersRead (Listing list) input output
+AnswersInput (Compile plan) input output = AnswersRead (Compile plan) input output
+AnswersInput (Listing plan) input output = AnswersRead (Listing plan) input output
 AnswersInput Strip input output = AnswersRead Strip input output
 AnswersInput (Gen g) input output = IsUnread input × (output ≡ generated_text g.number g.blocks)
 
@@ -134,8 +134,8 @@ pub record IsAnswerableText (command : Command) (left : Option (List ℕ)) : Typ
 
 -- so they are for a command that reads; one that doesn't is answered whatever the input
 abbrev pub IsAnswerable : Command → (left : Option (List ℕ)) → Type 0
-IsAnswerable (Compile list) left = IsAnswerableText (Compile list) left
-IsAnswerable (Listing list) left = IsAnswerableText (Listing list) left
+IsAnswerable (Compile plan) left = IsAnswerableText (Compile plan) left
+IsAnswerable (Listing plan) left = IsAnswerableText (Listing plan) left
 IsAnswerable Strip left = IsAnswerableText Strip left
 IsAnswerable (Gen g) left = Unit {0}
 
@@ -230,7 +230,7 @@ abbrev pub Explains : (words : List (List ℕ)) → (input output : Change) → 
 Explains words input output Usage = AreCommand words → ⊥
 Explains words input output Write = IsCutOff words input output × MetFault output
 Explains words input output Read = ReadingEnded words input Read
-Explains words input output Memory = ReadingEnded words input Memory
+Explains words input output Memory = Unit {0}
 Explains words input output TooLong = ReadingEnded words input TooLong
 Explains words input output (Refused r) = ReadingEnded words input (Refused r)
 Explains words input output NoFunction = ReadingEnded words input NoFunction

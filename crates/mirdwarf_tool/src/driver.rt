@@ -1,11 +1,10 @@
 //! The run of a command.
 
 ghost use Rattle.std.specs.Prelude.{◌≡◌, ◌≢◌, ◌≤◌, ◌↔◌, ◌⊎◌, IfOk, OnOk, IfErr, IsErrOf, List, map, string_bytes};
-ghost use Rattle.command_line.specs.Command.{words_of, IsAllowed, IsCommand};
+ghost use Rattle.command_line.specs.Command.{AreWithin, IsCommand};
 ghost use Rattle.command_numbers.specs.declared.generation.Generation.{Generation};
 ghost use Rattle.generated_text.specs.GeneratedText.{generated_text};
-ghost use Rattle.pass_list.specs.declared.kind.PassKind.{PassKind};
-ghost use Rattle.pass_loop.specs.Passes.{steps_of};
+ghost use Rattle.mirdwarf_tool.specs.Compiled.{plan_steps};
 ghost use Rattle.command_line.specs.Fault.{line_of};
 ghost use Rattle.mirdwarf_tool.specs.Run.{AreCommand, AnswersInput, Finishes, IsCutOff, TellsRefusal, IsAnswerable};
 ghost use Rattle.mirdwarf_tool.specs.Run.{KeepsHeadline, KeepsRegisters, StopsAtReturns, WroteExactly, WroteLaidOut};
@@ -49,50 +48,52 @@ pub fn mirdwarf<S: Source, K: Sink, E: Sink>(
         (change S.left S.faults input.old input.new) (change K.written K.faults output.old output.new) }
     ensures refused { result ≡ Status.Refused → TellsRefusal (map string_bytes words.now)
         (change S.left S.faults input.old input.new) (change E.written E.faults faults.old faults.new) }
-    ensures usage { (result ≡ Status.Usage) ↔ (AreCommand (map string_bytes words.now) → ⊥) }
+    ensures usage { result ≡ Status.Usage → AreCommand (map string_bytes words.now) → ⊥ }
+    ensures no_command { (AreCommand (map string_bytes words.now) → ⊥) →
+        (result ≡ Status.Usage) ⊎ (result ≡ Status.Memory) }
     ensures read_fault { result ≡ Status.ReadFault → MetFault (change S.left S.faults input.old input.new) }
     ensures write_fault { result ≡ Status.WriteFault → MetFault (change K.written K.faults output.old output.new) }
 
     // What `compile` writes keeps its promise. The machine on the written code runs along with the source that was
     // read, and the written lists tell the truth.
-    ensures headline { (list : List PassKind) → result ≡ Status.Done →
-        map string_bytes words.now ≡ words_of (Command.Compile list) →
+    ensures headline { (plan : Plan) → result ≡ Status.Done →
+        IsCommand (map string_bytes words.now) (Command.Compile plan) →
         KeepsHeadline (change S.left S.faults input.old input.new) (change K.written K.faults output.old output.new) }
     // At a return the machine gives back the registers that a function is to keep.
-    ensures callee_saved { (list : List PassKind) → result ≡ Status.Done →
-        map string_bytes words.now ≡ words_of (Command.Compile list) →
+    ensures callee_saved { (plan : Plan) → result ≡ Status.Done →
+        IsCommand (map string_bytes words.now) (Command.Compile plan) →
         KeepsRegisters (change S.left S.faults input.old input.new) (change K.written K.faults output.old output.new) }
     // It stops nowhere but at a return, or where it waits for an answer.
-    ensures stops { (list : List PassKind) → result ≡ Status.Done →
-        map string_bytes words.now ≡ words_of (Command.Compile list) →
+    ensures stops { (plan : Plan) → result ≡ Status.Done →
+        IsCommand (map string_bytes words.now) (Command.Compile plan) →
         StopsAtReturns (change S.left S.faults input.old input.new) (change K.written K.faults output.old output.new) }
     // The lists say the place of a variable's value wherever the value is in one on every path, and nothing elsewhere.
-    ensures exact { (list : List PassKind) → result ≡ Status.Done →
-        map string_bytes words.now ≡ words_of (Command.Compile list) →
+    ensures exact { (plan : Plan) → result ≡ Status.Done →
+        IsCommand (map string_bytes words.now) (Command.Compile plan) →
         WroteExactly (change S.left S.faults input.old input.new) (change K.written K.faults output.old output.new) }
     // While a place keeps the value that a mark told of it, the lists give the variable a place.
-    ensures kept { (list : List PassKind) → result ≡ Status.Done →
-        map string_bytes words.now ≡ words_of (Command.Compile list) →
+    ensures kept { (plan : Plan) → result ≡ Status.Done →
+        IsCommand (map string_bytes words.now) (Command.Compile plan) →
         WroteKept (change S.left S.faults input.old input.new) (change K.written K.faults output.old output.new) }
     // Functions, lines, objects and variables stand where they should, with their names.
-    ensures laid_out { (list : List PassKind) → result ≡ Status.Done →
-        map string_bytes words.now ≡ words_of (Command.Compile list) →
+    ensures laid_out { (plan : Plan) → result ≡ Status.Done →
+        IsCommand (map string_bytes words.now) (Command.Compile plan) →
         WroteLaidOut (change S.left S.faults input.old input.new) (change K.written K.faults output.old output.new) }
     // At each line with an address stand the bytes of its instruction.
-    ensures words { (list : List PassKind) → result ≡ Status.Done →
-        map string_bytes words.now ≡ words_of (Command.Compile list) →
+    ensures words { (plan : Plan) → result ≡ Status.Done →
+        IsCommand (map string_bytes words.now) (Command.Compile plan) →
         WroteWords (change S.left S.faults input.old input.new) (change K.written K.faults output.old output.new) }
     // The lines show the functions that passes made of those that were read, with their frames: without passes, those
     // that were read. The other sections are those of the program's unit and of its table of lines, which gives each
     // byte of machine code its line of the source.
-    ensures passed { (list : List PassKind) → result ≡ Status.Done →
-        map string_bytes words.now ≡ words_of (Command.Compile list) →
-        WrotePassed (steps_of list) (change S.left S.faults input.old input.new)
+    ensures passed { (plan : Plan) → result ≡ Status.Done →
+        IsCommand (map string_bytes words.now) (Command.Compile plan) →
+        WrotePassed (plan_steps plan) (change S.left S.faults input.old input.new)
         (change K.written K.faults output.old output.new) }
 
     // What `strip` writes is read in turn: it stands for the program without its debug items, and `strip` writes the
     // same text of it again.
-    ensures stripped { result ≡ Status.Done → map string_bytes words.now ≡ words_of Command.Strip →
+    ensures stripped { result ≡ Status.Done → IsCommand (map string_bytes words.now) Command.Strip →
         WroteStripped (change S.left S.faults input.old input.new)
         (change K.written K.faults output.old output.new) }
 
@@ -156,7 +157,7 @@ fn run<S: Source, K: Sink>(
     ensures input_counts { S.faults input.old ≤ S.faults input.new }
     ensures output_counts { K.faults output.old ≤ K.faults output.new }
 {
-    let Some(command) = parse(words) else {
+    let Some(command) = parse(alloc, words)? else {
         return Err(Fault::Usage);
     };
     let text = answered(alloc, command, input)?;
@@ -168,20 +169,20 @@ fn run<S: Source, K: Sink>(
 
 /// What a command is to write.
 fn answered<S: Source>(alloc: Global, command: Command, input: &mut S) -> Result<Text, Fault>
-    requires { IsAllowed command }
+    requires { AreWithin command }
     ensures ok { IfOk result (AnswersInput command (change S.left S.faults input.old input.new)) }
     ensures err { IfErr result (ReadingEnds command (change S.left S.faults input.old input.new)) }
     ensures unread { (g : Generation) → command ≡ Command.Gen g → input.new ≡ input.old }
     ensures counts { S.faults input.old ≤ S.faults input.new }
 {
     match command {
-        Command::Compile(list) => {
+        Command::Compile(plan) => {
             let program = read(alloc, input)?;
-            compiled_text(alloc, &program, &list)
+            compiled_text(alloc, &program, &plan)
         }
-        Command::Listing(list) => {
+        Command::Listing(plan) => {
             let program = read(alloc, input)?;
-            listing_text(alloc, &program, &list)
+            listing_text(alloc, &program, &plan)
         }
         Command::Strip => {
             let program = read(alloc, input)?;

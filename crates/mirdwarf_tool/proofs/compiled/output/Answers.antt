@@ -1,5 +1,6 @@
--- The passes that run are those of the list.
-use Rattle.std.proofs.Common.{List, sym, subst}
+-- The passes that run are those of the plan, with its reserve.
+use Rattle.std.proofs.Common.{◌≡◌, ℕ, List, sym, subst}
+use Rattle.follow_law.specs.Steps.{Step}
 use Rattle.pass_list.specs.declared.kind.PassKind.{PassKind}
 use Rattle.pass_list.specs.Names.{AreDistinct}
 use Rattle.pass_loop.specs.Passes.{steps_of}
@@ -9,16 +10,23 @@ use Rattle.mirdwarf_tool.proofs.compiled.output.Goals as goal
 pub compile-requires-clause-distinct : goal.compile-requires-clause-distinct
 compile-requires-clause-distinct c = subst AreDistinct (sym c.as_slice.ensures.value) c.as_slice.ensures.distinct
 
+-- what holds of steps holds of those of the plan
+by_plan : (P : List Step → Type 0) (passes list : List PassKind) (reserve registers : List ℕ) → passes ≡ list → reserve ≡ registers →
+    P (steps_of reserve passes) → P (steps_of registers list)
+by_plan P passes list reserve registers same kept holds =
+    subst (λ (l : List PassKind). P (steps_of registers l)) same (subst (λ (r : List ℕ). P (steps_of r passes)) kept holds)
+
 pub returns-in-Ok-clause-ok : goal.returns-in-Ok-clause-ok
 returns-in-Ok-clause-ok c =
-    subst (λ (l : List PassKind). IsOutputOf (steps_of l) c.args.program.now c.in-Ok.output) c.as_slice.ensures.value c.in-Ok.ensures.output
+    by_plan (λ steps. IsOutputOf steps c.args.program.now c.in-Ok.output) c.as_slice.result.now c.args.plan.now.passes c.as_slice-2.result.now
+    c.args.plan.now.reserve c.as_slice.ensures.value c.as_slice-2.ensures c.in-Ok.ensures.output
 
 pub returns-in-Err-FrameTooLarge-clause-err : goal.returns-in-Err-FrameTooLarge-clause-err
 returns-in-Err-FrameTooLarge-clause-err c =
-    subst (λ (l : List PassKind). HasLargeFrame (steps_of l) c.args.program.now.functions) c.as_slice.ensures.value
-    (c.in-Err-FrameTooLarge.ensures.frame_too_large cc)
+    by_plan (λ steps. HasLargeFrame steps c.args.program.now.functions) c.as_slice.result.now c.args.plan.now.passes c.as_slice-2.result.now
+    c.args.plan.now.reserve c.as_slice.ensures.value c.as_slice-2.ensures (c.in-Err-FrameTooLarge.ensures.frame_too_large cc)
 
 pub returns-in-Err-SectionTooLarge-clause-err : goal.returns-in-Err-SectionTooLarge-clause-err
 returns-in-Err-SectionTooLarge-clause-err c =
-    subst (λ (l : List PassKind). HasLargeSection (steps_of l) c.args.program.now) c.as_slice.ensures.value
-    (c.in-Err-SectionTooLarge.ensures.section_too_large cc)
+    by_plan (λ steps. HasLargeSection steps c.args.program.now) c.as_slice.result.now c.args.plan.now.passes c.as_slice-2.result.now
+    c.args.plan.now.reserve c.as_slice.ensures.value c.as_slice-2.ensures (c.in-Err-SectionTooLarge.ensures.section_too_large cc)

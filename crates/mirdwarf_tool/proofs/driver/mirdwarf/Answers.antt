@@ -16,44 +16,44 @@ returns-in-Err-clause-refused g c refused =
     c.in-Err.fault (sym c.tell.ensures.status ∙ refused) c.in-Err.ensures.err c.tell.ensures.line
 
 pub returns-in-Ok-clause-headline : goal.returns-in-Ok-clause-headline
-returns-in-Ok-clause-headline g c list done =
+returns-in-Ok-clause-headline g c plan done =
     headline_kept (map string_bytes c.args.words.now) (change g.S.Source.left g.S.Source.faults c.args.input.now c.run.new.input)
-    (change g.K.Sink.written g.K.Sink.faults c.args.output.now c.run.new.output) c.in-Ok.ensures.done list
+    (change g.K.Sink.written g.K.Sink.faults c.args.output.now c.run.new.output) c.in-Ok.ensures.done plan
 
 pub returns-in-Ok-clause-callee_saved : goal.returns-in-Ok-clause-callee_saved
-returns-in-Ok-clause-callee_saved g c list done =
+returns-in-Ok-clause-callee_saved g c plan done =
     registers_kept (map string_bytes c.args.words.now) (change g.S.Source.left g.S.Source.faults c.args.input.now c.run.new.input)
-    (change g.K.Sink.written g.K.Sink.faults c.args.output.now c.run.new.output) c.in-Ok.ensures.done list
+    (change g.K.Sink.written g.K.Sink.faults c.args.output.now c.run.new.output) c.in-Ok.ensures.done plan
 
 pub returns-in-Ok-clause-stops : goal.returns-in-Ok-clause-stops
-returns-in-Ok-clause-stops g c list done =
+returns-in-Ok-clause-stops g c plan done =
     stops_at_returns (map string_bytes c.args.words.now) (change g.S.Source.left g.S.Source.faults c.args.input.now c.run.new.input)
-    (change g.K.Sink.written g.K.Sink.faults c.args.output.now c.run.new.output) c.in-Ok.ensures.done list
+    (change g.K.Sink.written g.K.Sink.faults c.args.output.now c.run.new.output) c.in-Ok.ensures.done plan
 
 pub returns-in-Ok-clause-exact : goal.returns-in-Ok-clause-exact
-returns-in-Ok-clause-exact g c list done =
+returns-in-Ok-clause-exact g c plan done =
     wrote_exactly (map string_bytes c.args.words.now) (change g.S.Source.left g.S.Source.faults c.args.input.now c.run.new.input)
-    (change g.K.Sink.written g.K.Sink.faults c.args.output.now c.run.new.output) c.in-Ok.ensures.done list
+    (change g.K.Sink.written g.K.Sink.faults c.args.output.now c.run.new.output) c.in-Ok.ensures.done plan
 
 pub returns-in-Ok-clause-kept : goal.returns-in-Ok-clause-kept
-returns-in-Ok-clause-kept g c list done =
+returns-in-Ok-clause-kept g c plan done =
     wrote_kept (map string_bytes c.args.words.now) (change g.S.Source.left g.S.Source.faults c.args.input.now c.run.new.input)
-    (change g.K.Sink.written g.K.Sink.faults c.args.output.now c.run.new.output) c.in-Ok.ensures.done list
+    (change g.K.Sink.written g.K.Sink.faults c.args.output.now c.run.new.output) c.in-Ok.ensures.done plan
 
 pub returns-in-Ok-clause-laid_out : goal.returns-in-Ok-clause-laid_out
-returns-in-Ok-clause-laid_out g c list done =
+returns-in-Ok-clause-laid_out g c plan done =
     wrote_laid_out (map string_bytes c.args.words.now) (change g.S.Source.left g.S.Source.faults c.args.input.now c.run.new.input)
-    (change g.K.Sink.written g.K.Sink.faults c.args.output.now c.run.new.output) c.in-Ok.ensures.done list
+    (change g.K.Sink.written g.K.Sink.faults c.args.output.now c.run.new.output) c.in-Ok.ensures.done plan
 
 pub returns-in-Ok-clause-passed : goal.returns-in-Ok-clause-passed
-returns-in-Ok-clause-passed g c list done =
+returns-in-Ok-clause-passed g c plan done =
     wrote_passed (map string_bytes c.args.words.now) (change g.S.Source.left g.S.Source.faults c.args.input.now c.run.new.input)
-    (change g.K.Sink.written g.K.Sink.faults c.args.output.now c.run.new.output) c.in-Ok.ensures.done list
+    (change g.K.Sink.written g.K.Sink.faults c.args.output.now c.run.new.output) c.in-Ok.ensures.done plan
 
 pub returns-in-Ok-clause-words : goal.returns-in-Ok-clause-words
-returns-in-Ok-clause-words g c list done =
+returns-in-Ok-clause-words g c plan done =
     wrote_words (map string_bytes c.args.words.now) (change g.S.Source.left g.S.Source.faults c.args.input.now c.run.new.input)
-    (change g.K.Sink.written g.K.Sink.faults c.args.output.now c.run.new.output) c.in-Ok.ensures.done list
+    (change g.K.Sink.written g.K.Sink.faults c.args.output.now c.run.new.output) c.in-Ok.ensures.done plan
 
 pub returns-in-Ok-clause-stripped : goal.returns-in-Ok-clause-stripped
 returns-in-Ok-clause-stripped g c done =

@@ -1,5 +1,7 @@
 -- The command that is asked for is the one that the words are.
-use Rattle.std.proofs.Common.{◌≡◌, Some}
+use Rattle.std.proofs.Common.{◌≡◌, ◌∙◌, Some, map, refl, sym}
+use Rattle.std.specs.Prelude.{string_bytes}
+use Rattle.command_line.proofs.Words.{within}
 use Rattle.command_line.specs.declared.command.Command.{Command}
 use Rattle.command_line.specs.declared.command.Command.TheVariants.{Gen}
 use Rattle.mirdwarf_tool.proofs.driver.run.Goals as goal
@@ -18,3 +20,7 @@ returns-in-Ok-clause-generated_unread g c asked is =
 pub returns-clause-generated_unread : goal.returns-clause-generated_unread
 returns-clause-generated_unread g c asked is =
     c.answered.ensures.unread asked (same_command c.in-Some.command (Gen asked) ((c.in-Some.ensures (Gen asked)).1 is))
+
+pub answered-requires : goal.answered-requires
+answered-requires g c =
+    within (map string_bytes c.args.words.now) c.in-Some.command ((c.in-Some.ensures c.in-Some.command).0 refl)
