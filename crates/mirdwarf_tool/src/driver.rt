@@ -32,10 +32,11 @@ use strip_text::strip_text::strip_text;
 pub const LIMIT: usize = 16_777_216;
 
 /// Runs the command that the words are: reads the input to its end, and writes what the command asks for of the
-/// functions that the text stands for. `compile` with the option of a list of passes writes the sections and the
-/// listing of what these passes make of them (`--passes=none`: of the functions as they were read), `listing` with such
-/// an option the listing alone, and `strip` the functions without their debug items. `gen` reads nothing, and writes the
-/// text of the function that is made up from its two numbers. A fault is told by a line on `faults`.
+/// functions that the text stands for. `compile` with the option of a list of passes, and if wanted of registers that
+/// may be spilled, writes the sections and the listing of what these passes make of them (`--passes=none`: of the
+/// functions as they were read), `listing` with such options the listing alone, and `strip` the functions without their
+/// debug items. `gen` reads nothing, and writes the text of the function that is made up from its two numbers. A fault
+/// is told by a line on `faults`.
 pub fn mirdwarf<S: Source, K: Sink, E: Sink>(
     alloc: Global,
     words: &[String],
