@@ -11,6 +11,7 @@ use Rattle.fold_debug.specs.Debug.{fold_step}
 use Rattle.pass_list.specs.declared.kind.PassKind.{PassKind}
 use Rattle.pass_list.specs.declared.kind.PassKind.TheVariants.{Copy, Remat, Spill, Fold}
 use Rattle.remat_pass.specs.Pass.{remat_step}
+use Rattle.spill_pass.specs.Reserve.{reserve_of}
 use Rattle.spill_step.specs.Step.{spill_step}
 use Rattle.pass_loop.specs.Passes.{steps_of_pass}
 use Rattle.pass_loop.specs.Shown.{KeepsShown}
