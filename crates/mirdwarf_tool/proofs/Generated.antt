@@ -14,6 +14,6 @@ pub wrote_generated : (words : List (List ℕ)) (input output : Change) → Fini
 wrote_generated words input output finished g asked =
     let accepted = finished.accepted in
     let command : accepted.command ≡ Gen g =
-        one_command words accepted.command (Gen g) accepted.asked asked in
+    one_command words accepted.command (Gen g) accepted.asked asked in
     let answers : AnswersInput (Gen g) input finished.text = subst (λ (c : Command). AnswersInput c input finished.text) command accepted.answers in
     subst (λ (bytes : List ℕ). IsWrittenWhole output bytes) answers.1 finished.written

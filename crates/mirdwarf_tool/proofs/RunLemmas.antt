@@ -43,7 +43,7 @@ compiled : (plan : Plan) (words : List (List ℕ)) (input output : Change) → F
 compiled plan words input output is asked =
     let accepted = is.accepted in
     let command : accepted.command ≡ Compile plan =
-        one_command words accepted.command (Compile plan) accepted.asked asked in
+    one_command words accepted.command (Compile plan) accepted.asked asked in
     let answers : AnswersRead (Compile plan) input is.text = subst (λ (c : Command). AnswersInput c input is.text) command accepted.answers in
     record {
       text = answers.text;
@@ -211,7 +211,7 @@ ended_as_asked : (command : Command) (words : List (List ℕ)) (input : Change) 
     ReadingEnds command input fault
 ended_as_asked command words input fault asked ended =
     let same : ended.command ≡ command =
-        one_command words ended.command command ended.asked asked in
+    one_command words ended.command command ended.asked asked in
     subst (λ (c : Command). ReadingEnds c input fault) same ended.ended
 
 module _ (command : Command) (words : List (List ℕ)) (input output : Change) (asked : IsCommand words command)

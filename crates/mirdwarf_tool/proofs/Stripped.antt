@@ -22,7 +22,7 @@ module _ (words : List (List ℕ)) (input output : Change) (finished : Finishes 
   wrote_stripped =
       let accepted = finished.accepted in
       let command : accepted.command ≡ Strip =
-          one_command words accepted.command Strip accepted.asked asked in
+      one_command words accepted.command Strip accepted.asked asked in
       let answers : AnswersRead Strip input finished.text = subst (λ (c : Command). AnswersInput c input finished.text) command accepted.answers in
       let p = answers.answers.program in
       let has : HasFunctions answers.text p = answers.answers.has in
