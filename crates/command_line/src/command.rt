@@ -36,9 +36,9 @@ pub enum Command {
 }
 
 /// The command that the words are: `compile` or `listing` with options in any order, a list of passes, as
-/// `--passes=copy,fold` or `--passes=none`, and if wanted registers that may be spilled, as `--reserve=x8,x18`; `strip`;
-/// or `gen` with the number of a function, 0 to 65,536, and how many blocks it has, 1 to 512. None where they are no
-/// command.
+/// `--passes=copy,fold` or `--passes=none`, and if wanted registers that may be spilled, as `--reserve=x8,x18`;
+/// `strip`; or `gen` with the number of a function, 0 to 65,536, and how many blocks it has, 1 to 512. None where they
+/// are no command.
 pub fn parse(alloc: Global, words: &[String]) -> Result<Option<Command>, AllocError>
     ensures { IfOk result (λ o. (command : Command) →
         (o ≡ Some command) ↔ IsCommand (map string_bytes words.now) command) }

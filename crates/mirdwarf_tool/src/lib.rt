@@ -6,8 +6,8 @@
 //! one before it ends. Values are followed over all paths of a function's graph, so that at each address the first
 //! place is known that holds each part of each variable; the ranges of these places are the variable's list. Code,
 //! lists, entries and lines become five sections, with a listing of each function; `listing` writes it alone. All that
-//! is written is one text, which is whole before its first byte stands on the output. `gen` reads nothing: it writes the
-//! text of a function that is made up.
+//! is written is one text, which is whole before its first byte stands on the output. `gen` reads nothing: it writes
+//! the text of a function that is made up.
 #![tactic(auto)]
 
 mod compiled;
