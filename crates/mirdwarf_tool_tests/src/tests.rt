@@ -293,12 +293,39 @@ block 3
 00000000 =3.0 PseudoRET implicit $x10
 ";
 
+/// A register that is set and counted up, and the listing where it lives in a slot.
+const COUNTED: &str = "body: |
+  bb.0:
+    $x18 = ADDI $x10, 7, debug-instr-number 1
+    DBG_INSTR_REF !7, !DIExpression(DW_OP_LLVM_arg, 0), dbg-instr-ref(1, 0), debug-location !5
+    $x10 = ADD $x18, $x10
+    PseudoRET implicit $x10
+";
+
+const IN_SLOT: &str = "function f 00000000 0000001c
+variable 0 !7 - s
+00000000 <0.0 $x2 = ADDI $x2, -16
+block 0
+00000004 =0.0 $x5 = ADDI $x10, 7, debug-instr-number 1
+00000008 <0.1 SD $x5, $x2, 0
+- =0.1 DBG_INSTR_REF !7, !DIExpression(DW_OP_LLVM_arg, 0), dbg-instr-ref(1, 0), debug-location !5
+0000000c <0.2 $x5 = LD $x2, 0
+00000010 =0.2 $x10 = ADD $x5, $x10
+00000014 <0.3 $x2 = ADDI $x2, 16
+00000018 =0.3 PseudoRET implicit $x10
+";
+
 /// Lists of passes, a function and the listing after them.
-const PASSED: [(&str, &str, &str); 4] = [
-    ("--passes=remat", LOADED, SET_AGAIN),
-    ("--passes=copy", COPIED, FEWER),
-    ("--passes=fold", BYPASSED, FOLDED),
-    ("--passes=fold,copy,remat", LOADED, SET_AGAIN),
+const PASSED: [(&[&str], &str, &str); 5] = [
+    (&["listing", "--passes=remat"], LOADED, SET_AGAIN),
+    (&["listing", "--passes=copy"], COPIED, FEWER),
+    (&["listing", "--passes=fold"], BYPASSED, FOLDED),
+    (&["listing", "--passes=fold,copy,remat"], LOADED, SET_AGAIN),
+    (
+        &["listing", "--reserve=x18", "--passes=spill"],
+        COUNTED,
+        IN_SLOT,
+    ),
 ];
 
 /// The file of the function of number 0 with one block.
@@ -561,8 +588,7 @@ fn compiles_what_is_made_up(rt: HostRuntime) -> Result<(), Fail> {
 #[test]
 fn passes_run(rt: HostRuntime) -> Result<(), Fail> {
     let alloc = rt.alloc();
-    for (list, lines, want) in PASSED {
-        let words = &["listing", list];
+    for (words, lines, want) in PASSED {
         ends(
             &rt,
             alloc,

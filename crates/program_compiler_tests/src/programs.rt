@@ -7,6 +7,7 @@ use mir_parser::error::ParseError;
 use mir_parser::program::{Program, read_program};
 use pass_list::kind::PassKind;
 use program_compiler::compile::{CompileError, compile};
+use rv64_instr::reg::physical;
 use std::alloc::Global;
 use std::test::Fail;
 
@@ -179,6 +180,33 @@ body: |
     assert_eq!(rt; output.text.as_slice(), code.as_slice());
     let lists = output.loclists.as_slice();
     assert!(rt; lists.ends_with(b"\x04\x10\x18\x03\x11\x05\x9f\x00"));
+    Ok(())
+}
+
+/// Its scratch register holds the variable where it is set, and the slot from the store on.
+#[test]
+fn registers_live_in_slots(rt: HostRuntime) -> Result<(), Fail> {
+    let alloc = rt.alloc();
+    let mut text = String::from_str(alloc, HEADER)?;
+    text.push_str(
+        "body: |
+  bb.0:
+    $x18 = ADDI $x10, 7, debug-instr-number 1
+    DBG_INSTR_REF !4, !DIExpression(DW_OP_LLVM_arg, 0), dbg-instr-ref(1, 0)
+    $x18 = ADDI $x18, 1, debug-instr-number 2
+    DBG_INSTR_REF !4, !DIExpression(DW_OP_LLVM_arg, 0), dbg-instr-ref(2, 0)
+    $x10 = ADD $x18, $x10
+    PseudoRET implicit $x10
+...
+",
+    )?;
+    let program = program(alloc, text.as_str())?;
+    let reserve = [physical(18).ok_or("a register")?];
+    let output = compile(alloc, &program, &[PassKind::Spill], &reserve)?;
+    assert_eq!(rt; output.text.len(), 40);
+    let lists = output.loclists.as_slice();
+    let list = b"\x04\x0c\x14\x01\x55\x04\x14\x18\x02\x72\x00\x04\x18\x28\x01\x55\x00";
+    assert!(rt; lists.ends_with(list));
     Ok(())
 }
 

@@ -1,5 +1,5 @@
 -- The command that is asked for is the one that the words are.
-use Rattle.std.proofs.Common.{◌≡◌, ◌∙◌, Some, map, refl, sym}
+use Rattle.std.proofs.Common.{◌≡◌, ◌∙◌, Some, map, sym}
 use Rattle.std.specs.Prelude.{string_bytes}
 use Rattle.command_line.proofs.Words.{within}
 use Rattle.command_line.specs.declared.command.Command.{Command}
@@ -11,16 +11,19 @@ same_command a b same = cc
 
 pub returns-in_err-text-clause-generated_unread : goal.returns-in_err-text-clause-generated_unread
 returns-in_err-text-clause-generated_unread g c asked is =
-    c.answered.ensures.unread asked (same_command c.in-Some.command (Gen asked) ((c.in-Some.ensures (Gen asked)).1 is))
+    c.answered.ensures.unread asked
+    (same_command c.in-Some.command (Gen asked) (sym c.in-Some.is ∙ (c.in_ok-command.ensures (Gen asked)).1 is))
 
 pub returns-in-Ok-clause-generated_unread : goal.returns-in-Ok-clause-generated_unread
 returns-in-Ok-clause-generated_unread g c asked is =
-    c.answered.ensures.unread asked (same_command c.in-Some.command (Gen asked) ((c.in-Some.ensures (Gen asked)).1 is))
+    c.answered.ensures.unread asked
+    (same_command c.in-Some.command (Gen asked) (sym c.in-Some.is ∙ (c.in_ok-command.ensures (Gen asked)).1 is))
 
 pub returns-clause-generated_unread : goal.returns-clause-generated_unread
 returns-clause-generated_unread g c asked is =
-    c.answered.ensures.unread asked (same_command c.in-Some.command (Gen asked) ((c.in-Some.ensures (Gen asked)).1 is))
+    c.answered.ensures.unread asked
+    (same_command c.in-Some.command (Gen asked) (sym c.in-Some.is ∙ (c.in_ok-command.ensures (Gen asked)).1 is))
 
 pub answered-requires : goal.answered-requires
 answered-requires g c =
-    within (map string_bytes c.args.words.now) c.in-Some.command ((c.in-Some.ensures c.in-Some.command).0 refl)
+    within (map string_bytes c.args.words.now) c.in-Some.command ((c.in_ok-command.ensures c.in-Some.command).0 c.in-Some.is)
