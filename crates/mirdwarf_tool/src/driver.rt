@@ -2,6 +2,7 @@
 
 ghost use Rattle.std.specs.Prelude.{◌≡◌, ◌≢◌, ◌≤◌, ◌↔◌, ◌⊎◌, IfOk, OnOk, IfErr, IsErrOf, List, map, string_bytes};
 ghost use Rattle.command_line.specs.Command.{AreWithin, IsCommand};
+ghost use Rattle.command_line.specs.declared.command.Plan.{Plan};
 ghost use Rattle.command_numbers.specs.declared.generation.Generation.{Generation};
 ghost use Rattle.generated_text.specs.GeneratedText.{generated_text};
 ghost use Rattle.mirdwarf_tool.specs.Compiled.{plan_steps};

@@ -1,0 +1,54 @@
+-- What each command that reads writes of the program that was read.
+use Rattle.std.proofs.Common.{sym, ap, ◌∙◌, subst, IfOk, IfErr}
+use Rattle.reading_laws.proofs.Texts.{programs_are_as_read}
+use Rattle.strip_text.specs.StripText.{stripped_text}
+use Rattle.command_line.specs.declared.command.Command.{Command}
+use Rattle.mirdwarf_tool.specs.Run.{AnswersInput, ReadingEnds}
+use Rattle.mirdwarf_tool.specs.Stream.{change}
+use Rattle.mirdwarf_tool.proofs.AnswerLemmas.{compile_ok, compile_err, listing_ok, listing_err, strip_ok}
+use Rattle.mirdwarf_tool.proofs.driver.answered.Goals as goal
+
+pub compiled_text-requires : goal.compiled_text-requires
+compiled_text-requires g c =
+    let read = c.in_ok-program-in-Compile.ensures.ok in
+    programs_are_as_read read.text c.in_ok-program-in-Compile.program read.has.reads
+
+pub listing_text-requires : goal.listing_text-requires
+listing_text-requires g c =
+    let read = c.in_ok-program-in-Listing.ensures.ok in
+    programs_are_as_read read.text c.in_ok-program-in-Listing.program read.has.reads
+
+pub returns-in_ok-program-in-Compile-clause-ok : goal.returns-in_ok-program-in-Compile-clause-ok
+returns-in_ok-program-in-Compile-clause-ok g c =
+    let input = change g.S.Source.left g.S.Source.faults c.args.input.now c.read.new.input in
+    subst (λ (k : Command). IfOk c.compiled_text.result (AnswersInput k input)) (sym c.in-Compile.is)
+    (compile_ok c.in-Compile.plan input c.in_ok-program-in-Compile.program c.in_ok-program-in-Compile.ensures.ok c.compiled_text.result
+    c.compiled_text.ensures.ok)
+
+pub returns-in_ok-program-in-Compile-clause-err : goal.returns-in_ok-program-in-Compile-clause-err
+returns-in_ok-program-in-Compile-clause-err g c =
+    let input = change g.S.Source.left g.S.Source.faults c.args.input.now c.read.new.input in
+    subst (λ (k : Command). IfErr c.compiled_text.result (ReadingEnds k input)) (sym c.in-Compile.is)
+    (compile_err c.in-Compile.plan input c.in_ok-program-in-Compile.program c.in_ok-program-in-Compile.ensures.ok c.compiled_text.result
+    c.compiled_text.ensures.err)
+
+pub returns-in_ok-program-in-Listing-clause-ok : goal.returns-in_ok-program-in-Listing-clause-ok
+returns-in_ok-program-in-Listing-clause-ok g c =
+    let input = change g.S.Source.left g.S.Source.faults c.args.input.now c.read-in-Listing.new.input in
+    subst (λ (k : Command). IfOk c.listing_text.result (AnswersInput k input)) (sym c.in-Listing.is)
+    (listing_ok c.in-Listing.plan input c.in_ok-program-in-Listing.program c.in_ok-program-in-Listing.ensures.ok c.listing_text.result
+    c.listing_text.ensures.ok)
+
+pub returns-in_ok-program-in-Listing-clause-err : goal.returns-in_ok-program-in-Listing-clause-err
+returns-in_ok-program-in-Listing-clause-err g c =
+    let input = change g.S.Source.left g.S.Source.faults c.args.input.now c.read-in-Listing.new.input in
+    subst (λ (k : Command). IfErr c.listing_text.result (ReadingEnds k input)) (sym c.in-Listing.is)
+    (listing_err c.in-Listing.plan input c.in_ok-program-in-Listing.program c.in_ok-program-in-Listing.ensures.ok c.listing_text.result
+    c.listing_text.ensures.err)
+
+pub returns-in_ok-strip_text-in-Strip-clause-ok : goal.returns-in_ok-strip_text-in-Strip-clause-ok
+returns-in_ok-strip_text-in-Strip-clause-ok g c =
+    let input = change g.S.Source.left g.S.Source.faults c.args.input.now c.read-in-Strip.new.input in
+    subst (λ (k : Command). AnswersInput k input c.in_ok-strip_text-in-Strip.field-0) (sym c.in-Strip.is)
+    (strip_ok input c.in_ok-program-in-Strip.program c.in_ok-strip_text-in-Strip.field-0 c.in_ok-program-in-Strip.ensures.ok
+    (c.in_ok-strip_text-in-Strip.ensures ∙ ap stripped_text c.as_slice.ensures))
