@@ -1,20 +1,17 @@
-//! Runs of machine code: where they stand, what variables hold, and how they stop.
+//! Runs of machine code: where they stand, and what variables hold.
 
-use code_words::code::{Code, Words};
+use code_words::code::Code;
 use dwarf_loclists::reader::list_count;
 use frame_layout::code::code_of;
 use mir_parser::program::read_program;
 use rv_simulator::answers::CallAnswers;
-use rv_simulator::ending::{Stepped, Stop};
+use rv_simulator::ending::Stepped;
 use rv_simulator::machine::Machine;
 use rv64_instr::reg::physical;
 use rv64_instr::start::{Answer, CallEvent, Cells, Start};
 use std::alloc::Global;
 use std::test::Fail;
 use summing_loop::SUM;
-
-/// A function of one word, which returns.
-const RETURN: &[u8] = b"---\nname: f\nbody: |\n  bb.0:\n    PseudoRET\n...\n";
 
 /// The location lists of n and s: n is in x10, then in x8; s is in x9, and at last in x10.
 const LISTS: [u8; 42] = [
@@ -36,21 +33,6 @@ const STEPS: [(u64, Option<u64>, Option<u64>); 12] = [
     (0x28, None, Some(5)),
     (0x2c, None, Some(5)),
     (0x18, None, Some(5)),
-];
-
-/// Words in the place of the one that returns, and how two steps of them end.
-const WORDS: [(u32, Stepped, Stepped); 3] = [
-    (
-        0x0000_8067,
-        Stepped::Stopped(Stop::Returned),
-        Stepped::Stopped(Stop::Returned),
-    ),
-    (
-        0x0000_0000,
-        Stepped::Stopped(Stop::BadWord(0)),
-        Stepped::Stopped(Stop::BadWord(0)),
-    ),
-    (0x0000_0013, Stepped::Went, Stepped::Stopped(Stop::Left)),
 ];
 
 /// Answers the n-th call with 3 + 2 n in x10, and with 9 in the other registers.
@@ -80,25 +62,6 @@ fn code(alloc: Global, text: &[u8]) -> Result<Code, Fail> {
     let program = read_program(alloc, text)?;
     let parsed = program.functions.as_slice().first().ok_or("a function")?;
     Ok(code_of(alloc, &parsed.func, 0)?)
-}
-
-/// The same code with another word, where it has one.
-fn with_word(alloc: Global, code: Code, word: u32) -> Result<Code, Fail> {
-    let Code {
-        base,
-        words,
-        entries,
-        framed,
-    } = code;
-    if words.len() != 1 {
-        return Err(Fail::from("not one word"));
-    }
-    Ok(Code {
-        base,
-        words: Words::from_slice(alloc, &[word])?,
-        entries,
-        framed,
-    })
 }
 
 /// A start with x1 4294967296, x2 1048576 and x10 2.
@@ -170,19 +133,6 @@ fn runs_a_loop_with_calls(rt: HostRuntime) -> Result<(), Fail> {
         (10, 12),
     ] {
         assert_eq!(rt; register(&machine, n), Some(value));
-    }
-    Ok(())
-}
-
-#[test]
-fn stops_at_words(rt: HostRuntime) -> Result<(), Fail> {
-    for (word, first, second) in WORDS {
-        let code = with_word(rt.alloc(), code(rt.alloc(), RETURN)?, word)?;
-        let mut machine = Machine::new(rt.alloc(), &code, &start(rt.alloc()), Odd)?;
-        let one = machine.step()?;
-        assert_eq!(rt; one, first);
-        let two = machine.step()?;
-        assert_eq!(rt; two, second);
     }
     Ok(())
 }
