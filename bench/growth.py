@@ -2,7 +2,9 @@
 """Counts the instructions of a built program at inputs that double, with valgrind's callgrind.
 
   bench/growth.py lex      crates/mirdwarf_bench/out/mirdwarf_bench, on texts of 1, 2 and 4 MiB
-  bench/growth.py compile  crates/mirdwarf/out/mirdwarf, on functions of 64 blocks and 512 items, and at the limits
+  bench/growth.py compile [OPTION..]  crates/mirdwarf/out/mirdwarf with these options, or with --passes=none, on functions of 64 blocks and 512
+                           items, and at the limits
+  bench/growth.py alone LIST  what a list of passes takes: the same program with --passes=LIST over --passes=none, on blocks and items
   bench/growth.py read     crates/mirdwarf_reading/out/mirdwarf_reading, on functions, blocks, functions of a text and keys of an entry
   bench/growth.py strip    crates/mirdwarf/out/mirdwarf, on functions of 1,024 blocks and 8,192 items, with its peak memory
   bench/growth.py layout   crates/mirdwarf_locations/out/mirdwarf_locations over crates/mirdwarf_reading/out/mirdwarf_reading, on items, blocks and slots
@@ -218,6 +220,18 @@ SECTIONS = {
 }
 
 
+def alone(name, passes, sizes, make):
+    """A table of the instructions that compiling takes with these passes more than without any."""
+    program = os.path.join(TOP, "crates/mirdwarf/out/mirdwarf")
+    print(name)
+    last = None
+    for size in sizes:
+        text = make(size)
+        instructions = count(program, ["compile", "--passes=" + passes], text) - count(program, ["compile", "--passes=none"], text)
+        print("  %9d  %13d  %s" % (size, instructions, "%.3f" % (instructions / last) if last else ""))
+        last = instructions
+
+
 def added(name, kind, step, before, sizes):
     """A table of the instructions that a step has more than the one before it."""
     program = os.path.join(TOP, "crates/mirdwarf_sections/out/mirdwarf_sections")
@@ -284,8 +298,12 @@ def main():
         for kind in ("copies", "constants", "registers"):
             run_more("%s in one block, by items" % kind, kind, 1, (1024, 2048, 4096, 8192, 16384))
             run_more("%s in 1,024 blocks, by items" % kind, kind, 1024, (2048, 4096, 8192, 16384))
-    elif what == ["compile"]:
-        program, words = "crates/mirdwarf/out/mirdwarf", ["compile", "--passes=none"]
+    elif len(what) == 2 and what[0] == "alone":
+        alone("1,024 blocks, 256 variables, by items", what[1], (2048, 4096, 8192), lambda n: located(1024, n, 256))
+        alone("one block, 256 variables, by items", what[1], (1024, 2048, 4096, 8192), lambda n: located(1, n, 256))
+        alone("8,192 items, 256 variables, by blocks", what[1], (256, 512, 1024), lambda n: located(n, 8192, 256))
+    elif what[:1] == ["compile"]:
+        program, words = "crates/mirdwarf/out/mirdwarf", ["compile", *(what[1:] or ["--passes=none"])]
         by_bytes("functions of 64 blocks and 512 items, by functions", program, words, (16, 32, 64, 128, 256), many_located)
         by_bytes("8,192 items, 256 variables, by blocks", program, words, (256, 512, 1024), lambda n: located(n, 8192, 256))
         by_bytes("1,024 blocks, 256 variables, by items", program, words, (2048, 4096, 8192), lambda n: located(1024, n, 256))

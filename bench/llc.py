@@ -1,10 +1,10 @@
 #!/usr/bin/env python3
 """Compares the program with `llc` on the same functions from the same stage, by counted instructions.
 
-  bench/llc.py [PROGRAM]
+  bench/llc.py [OPTION..]
 
 The functions are those of examples/ledger.c, 64, 128 and 256 of them under other names, by clang and `llc-19 -stop-after=virtregrewriter,1`. Each file is
-compiled by PROGRAM (crates/mirdwarf/out/mirdwarf) `compile --passes=none`, and by `llc-19 -start-after=virtregrewriter,1 -filetype=obj`, under valgrind's
+compiled by crates/mirdwarf/out/mirdwarf `compile` with the options (--passes=none where there are none), and by `llc-19 -start-after=virtregrewriter,1 -filetype=obj`, under valgrind's
 callgrind. What a program takes to start counts in neither growth: the last column is the ratio of what 128 more functions take.
 Debian's packages: clang, llvm-19, valgrind.
 """
@@ -51,13 +51,14 @@ def functions(room, number):
 
 
 def main():
-    program = sys.argv[1] if len(sys.argv) > 1 else os.path.join(TOP, "crates/mirdwarf/out/mirdwarf")
+    program = os.path.join(TOP, "crates/mirdwarf/out/mirdwarf")
+    options = sys.argv[1:] or ["--passes=none"]
     with tempfile.TemporaryDirectory() as room:
         last = None
         print("functions      bytes        mirdwarf             llc   ratio of growth")
         for number in (64, 128, 256):
             made = functions(room, number)
-            ours = count(room, [program, "compile", "--passes=none"], made)
+            ours = count(room, [program, "compile", *options], made)
             theirs = count(room, ["llc-19", *MACHINE, "-start-after=virtregrewriter,1", "-filetype=obj", made, "-o", os.path.join(room, "many.o")])
             ratio = "%.3f" % ((ours - last[0]) / (theirs - last[1])) if last else ""
             print("%9d  %9d  %14d  %14d  %s" % (number, os.path.getsize(made), ours, theirs, ratio), flush=True)
