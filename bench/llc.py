@@ -4,7 +4,8 @@
   bench/llc.py [OPTION..]
 
 The functions are those of examples/ledger.c, 64, 128 and 256 of them under other names, by clang and `llc-19 -stop-after=virtregrewriter,1`. Each file is
-compiled by crates/mirdwarf/out/mirdwarf `compile` with the options (--passes=none where there are none), and by `llc-19 -start-after=virtregrewriter,1 -filetype=obj`, under valgrind's
+compiled by crates/mirdwarf/out/mirdwarf `compile` with the options (--passes=none where there are none), and by
+`llc-19 -start-after=virtregrewriter,1 -filetype=obj`, under valgrind's
 callgrind. What a program takes to start counts in neither growth: the last column is the ratio of what 128 more functions take.
 Debian's packages: clang, llvm-19, valgrind.
 """
