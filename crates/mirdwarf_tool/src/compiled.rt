@@ -47,7 +47,7 @@ fn output(alloc: Global, program: &Program, plan: &Plan) -> Result<Output, Fault
         plan.passes.as_slice(),
         plan.reserve.as_slice(),
     ) {
-        Ok(output) => Ok(output),
+        Ok(compilation) => Ok(compilation.output),
         Err(CompileError::FrameTooLarge) => Err(Fault::FrameTooLarge),
         Err(CompileError::SectionTooLarge) => Err(Fault::SectionTooLarge),
         Err(CompileError::Memory) => Err(Fault::Memory),

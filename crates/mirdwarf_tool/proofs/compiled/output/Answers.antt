@@ -18,7 +18,7 @@ by_plan P passes list reserve registers same kept holds =
 
 pub returns-in-Ok-clause-ok : goal.returns-in-Ok-clause-ok
 returns-in-Ok-clause-ok c =
-    by_plan (λ steps. IsOutputOf steps c.args.program.now c.in-Ok.output) c.as_slice.result.now c.args.plan.now.passes c.as_slice-2.result.now
+    by_plan (λ steps. IsOutputOf steps c.args.program.now c.in-Ok.compilation.output) c.as_slice.result.now c.args.plan.now.passes c.as_slice-2.result.now
     c.args.plan.now.reserve c.as_slice.ensures.value c.as_slice-2.ensures c.in-Ok.ensures.output
 
 pub returns-in-Err-FrameTooLarge-clause-err : goal.returns-in-Err-FrameTooLarge-clause-err

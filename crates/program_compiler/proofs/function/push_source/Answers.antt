@@ -16,6 +16,6 @@ returns-clause-pushed c = record {
   passed = passed_of c.args.source.now c.in_ok-passed.passed.function c.in_ok-passed.passed.substitutions;
   source = refl;
   compilable = c.in_ok-passed.ensures.compilable;
-  made = c.in_ok-passed.ensures.made;
+  lost = c.in_ok-passed.ensures.made;
   pushed = c.in_ok-push_function.ensures.pushed;
 }
