@@ -126,7 +126,7 @@ fn words_of_runs(rt: HostRuntime) -> Result<(), Fail> {
     let Some(Command::Run(run)) = parse(rt.alloc(), &words)? else {
         return Err(Fail::from("no run"));
     };
-    assert_eq!(rt; run.name.as_slice(), b"sum");
+    assert_eq!(rt; run.name.as_slice(), b"sum".as_slice());
     assert_eq!(rt; run.steps, 44);
     assert_eq!(rt; run.arguments.as_slice(), [5, 6].as_slice());
     assert_eq!(rt; run.answers.as_slice(), [7].as_slice());
