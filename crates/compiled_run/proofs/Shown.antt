@@ -46,8 +46,8 @@ module _ (names : ℕ → List ℕ) (o : Output) (lists : List (List Range)) (se
   shows : (code : LaidCode) → IsCodeOf (framed_of passed.function) c.base code → ShowsCode code (image_of o f)
   shows code coded =
       let one : c.compiled.layout ≡ coded.layout =
-          same_layout c.compiled.layout coded.layout (c.compiled.laid.framed ∙ sym coded.of) (c.compiled.laid.from ∙ sym coded.from)
-          c.compiled.laid.settled coded.settled in
+      same_layout c.compiled.layout coded.layout (c.compiled.laid.framed ∙ sym coded.of) (c.compiled.laid.from ∙ sym coded.from)
+      c.compiled.laid.settled coded.settled in
       images_show_code (framed_of passed.function) c.base code coded (image_of o f)
       (subst (λ (l : Layout). IsImageOf l (image_of o f)) one shows_image)
 
@@ -84,8 +84,8 @@ code_at names base first text lists (p ∷ ps) (g ∷ fs) (c ∷ cs) (is, more, 
     }
 code_at names base first text lists (p ∷ ps) (g ∷ fs) (c ∷ cs) (is, more, rest, text_is, lists_is, onward) coded (suc n) f code f_is code_is =
     let later =
-        code_at names g.high (first + length is.lists) more rest ps fs cs onward
-        (subst (λ (b : ℕ). AreCoded b (map (λ q. q.function) ps) cs) (ends names p base first g is c coded.0) coded.1) n f code f_is code_is in
+    code_at names g.high (first + length is.lists) more rest ps fs cs onward
+    (subst (λ (b : ℕ). AreCoded b (map (λ q. q.function) ps) cs) (ends names p base first g is c coded.0) coded.1) n f code f_is code_is in
     record { passed = later.passed; stands = later.stands; here = later.here }
 
 pub compilation_shows_code : (steps : List Step) (p : Program) (c : Compilation) → IsCompilationOf steps p c → (number : ℕ) (f : ListedFunction)
@@ -93,11 +93,11 @@ pub compilation_shows_code : (steps : List Step) (p : Program) (c : Compilation)
 compilation_shows_code steps p c is n f code f_is code_is =
     let found = code_at (names_of p.meta) 0 0 c.output.text c.lists is.functions c.output.functions c.codes is.compiled is.coded n f code f_is code_is in
     let whole : IsCompiledProgram (names_of p.meta) is.functions c.output =
-        record { lists = c.lists; section = is.section; functions = is.compiled } in
+    record { lists = c.lists; section = is.section; functions = is.compiled } in
     let at = compiled_in (names_of p.meta) is.functions c.output whole n found.passed f found.stands f_is in
     let sound = all_at IsPassedFunction is.functions n found.passed found.stands (all_passed p.meta p.functions is.functions is.passed) in
     let base : found.here.base ≡ at.base =
-        sym found.here.begins ∙ ap (λ (x : ListedFunction). x.low) at.compiled.listed ∙ at.compiled.laid.from in
+    sym found.here.begins ∙ ap (λ (x : ListedFunction). x.low) at.compiled.listed ∙ at.compiled.laid.from in
     shows (names_of p.meta) c.output c.lists is.section found.passed f sound at code
     (subst (λ (b : ℕ). IsCodeOf (framed_of found.passed.function) b code) base found.here.coded)
 

@@ -66,7 +66,7 @@ same_names (p ∷ ps) [] many each = absurd (omega (arith, many))
 same_names (p ∷ ps) (f ∷ fs) many each =
     let here : f.name ≡ p.func.name = (each 0 (source_of p) f refl refl).named in
     let rest : listed_names fs ≡ read_names ps =
-        same_names ps fs (omega (arith, many)) (λ n s g s_is g_is. each (suc n) s g s_is g_is) in
+    same_names ps fs (omega (arith, many)) (λ n s g s_is g_is. each (suc n) s g s_is g_is) in
     λ i. here i ∷ rest i
 
 unknown : (name : List ℕ) (fs : List ListedFunction) (ps : List Parsed) → listed_names fs ≡ read_names ps → HasNone name fs → IsUnknown name ps
@@ -191,14 +191,14 @@ module _ (steps : List Step) (p : Program) (c : Compilation) (output : IsOutputO
       let f = run.named.function in
       let read : IsFirstRead name p.functions run.number = first_read name c.output.functions p.functions names_stay run.number run.named in
       let source : slice_get (sources_of p.functions) run.number ≡ Some (source_of read.function) =
-          slice_get-map source_of p.functions run.number ∙ ap (option_map source_of) read.stands in
+      slice_get-map source_of p.functions run.number ∙ ap (option_map source_of) read.stands in
       let shows : ShowsCode run.code (image_of c.output f) = compilation_shows_code steps p c is run.number f run.code run.named.stands run.coded in
       let can = compilation_can_run steps p c is in
       let below : All (λ (v : ListedVariable). v.list < length c.lists) f.variables =
-          all_at (λ (g : ListedFunction). All (λ (v : ListedVariable). v.list < length c.lists) g.variables) c.output.functions run.number f
-          run.named.stands can.listed in
+      all_at (λ (g : ListedFunction). All (λ (v : ListedVariable). v.list < length c.lists) g.variables) c.output.functions run.number f
+      run.named.stands can.listed in
       let headline : MeetsHeadline c.output (source_of read.function) f =
-          promised.each run.number (source_of read.function) f source run.named.stands in
+      promised.each run.number (source_of read.function) f source run.named.stands in
       record {
         number = run.number;
         read = read;

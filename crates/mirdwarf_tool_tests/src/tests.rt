@@ -328,6 +328,67 @@ const PASSED: [(&[&str], &str, &str); 5] = [
     ),
 ];
 
+/// Runs of a function whose variable is replaced, of one behind another, and of one after a pass; names that no
+/// function has; and reports.
+const TOLD: [(&[&str], &str, Ending<'static>); 10] = [
+    (
+        &["run", "f", "9", "--args=5,6", "--passes=none"],
+        COMPILED[0].0,
+        (
+            0,
+            "0 00000000 =0.1 s=6\n1 00000004 =0.3 s=18446744073709551609\n\
+                2 00000008 =0.4 s=18446744073709551609\nstop returned 12\n",
+            "",
+        ),
+    ),
+    (
+        &["run", "f", "1", "--passes=none", "--args=5,6"],
+        COMPILED[0].0,
+        (0, "0 00000000 =0.1 s=6\nstop steps\n", ""),
+    ),
+    (
+        &["run", "f", "0", "--passes=none"],
+        COMPILED[0].0,
+        (0, "stop steps\n", ""),
+    ),
+    (
+        &["run", "empty", "1000000", "--passes=none"],
+        COMPILED[1].0,
+        (
+            0,
+            "0 00000030 =2.1 s=18446744073709551615\nstop returned 1010\n",
+            "",
+        ),
+    ),
+    (
+        &["run", "f", "5", "--passes=copy", "--args=7"],
+        COPIED,
+        (
+            0,
+            "0 00000000 =0.0 s=-\n1 00000004 =0.1 s=-\n2 00000008 =0.4 s=10\n3 0000000c =0.5 s=10\n\
+                stop returned 20\n",
+            "",
+        ),
+    ),
+    (
+        &["run", "g", "1", "--passes=none"],
+        RETURN,
+        (1, "", "mirdwarf: line 0: UnknownFunction\n"),
+    ),
+    (
+        &["run", "", "1", "--passes=none"],
+        LARGE,
+        (1, "", "mirdwarf: line 0: UnknownFunction\n"),
+    ),
+    (&["run", "f", "1", "--passes=none"], LARGE, FRAME),
+    (
+        &["report", "--passes=copy"],
+        COPIED,
+        (0, "function f\nwords 4\ncover s 2 of 4\n", ""),
+    ),
+    (&["report", "--passes=none"], LARGE, FRAME),
+];
+
 /// The file of the function of number 0 with one block.
 const GENERATED: &str = "--- |
   define void @gen() !dbg !2 { ret void }
@@ -565,6 +626,16 @@ fn ends_as_its_faults_say(rt: HostRuntime) -> Result<(), Fail> {
     let alloc = rt.alloc();
     for (words, lines, faulty, want) in &ENDINGS {
         ends(&rt, alloc, words, text_of(alloc, lines)?, faulty, *want)?;
+    }
+    Ok(())
+}
+
+/// Steps of runs, with what variables hold, and reports.
+#[test]
+fn tells_of_runs_and_losses(rt: HostRuntime) -> Result<(), Fail> {
+    let alloc = rt.alloc();
+    for (words, lines, want) in &TOLD {
+        ends(&rt, alloc, words, text_of(alloc, lines)?, &NO_FAULT, *want)?;
     }
     Ok(())
 }

@@ -18,13 +18,13 @@ module _ (c : Compilation) (name : List ℕ) (limit : ℕ) (arguments values tex
       IsTextOfAskedRun code arguments values variables limit text → IsRunOf c name limit arguments values text
   run_found same same_codes as_many found code_is made runs =
       let stands : slice_get c.output.functions number ≡ Some found.function =
-          subst (λ (fs : List ListedFunction). slice_get fs number ≡ Some found.function) same found.stands in
+      subst (λ (fs : List ListedFunction). slice_get fs number ≡ Some found.function) same found.stands in
       let within : number < length c.output.functions = slice_get_within c.output.functions number found.function stands in
       let one : get_or functions number function ≡ found.function = get_or_from_slice_get functions number found.function function found.stands in
       let below : number < length codes = let many = ap length same_codes in omega (arith, within, as_many, many) in
       let code_stands : slice_get codes number ≡ Some code = slice_get_read codes (length codes) number code refl below code_is in
       let listed : variables ≡ map (variable_of c.lists) found.function.variables =
-          made ∙ ap (λ (f : ListedFunction). map (variable_of c.lists) f.variables) one in
+      made ∙ ap (λ (f : ListedFunction). map (variable_of c.lists) f.variables) one in
       record {
         number = number;
         named = record {
