@@ -1,4 +1,4 @@
-use Rattle.std.proofs.Common.{◌≡◌, ℕ, ◌+◌, ◌*◌, ◌<◌, ◌≤◌, List, length, map, sym, ap, ◌∙◌, arith, rules}
+use Rattle.std.proofs.Common.{◌≡◌, map, arith, rules}
 use Rattle.std.proofs.lemmas.List.{length-map}
 use Rattle.mir_parser.specs.declared.closing.Parsed.{Parsed}
 use Rattle.output_promise.specs.Source.{PassedFunction}

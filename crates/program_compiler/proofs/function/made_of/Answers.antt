@@ -1,4 +1,4 @@
-use Rattle.std.proofs.Common.{◌≡◌, List, [], ◌∷◌, ◌++◌, sym, subst}
+use Rattle.std.proofs.Common.{◌≡◌, ◌+◌, drop, List, [], sym, subst}
 use Rattle.std.proofs.lemmas.List.{drop_all}
 use Rattle.follow_law.specs.declared.loss.Loss.{Loss}
 use Rattle.follow_law.specs.Steps.{Step}
@@ -29,8 +29,9 @@ loop-source-preserved c =
     let split = split_at c.args.functions.now c.loop-source.source-index c.source-item.result c.loop-source-test.true c.source-item.is in
     let so = subst P split c.loop-source.invariant in
     let one = c.in_ok-lost.ensures.pushed in
-    subst (λ (ls : List (List Loss)). SoFar c.args.meta.now steps c.args.functions.now _ ls c.push_source-lost.new.made) (sym c.in_ok-push.ensures.ok)
-    (more c.args.meta.now one.passed c.loop-source.made c.push_source-lost.new.made one.pushed steps _ _ c.source-item.result c.loop-source.losses
+    subst (λ (ls : List (List Loss)). SoFar c.args.meta.now steps c.args.functions.now (drop (c.loop-source.source-index + 1) c.args.functions.now) ls
+    c.push_source.new.made) (sym c.in_ok-push.ensures.ok)
+    (more c.args.meta.now one.passed c.loop-source.made c.push_source.new.made one.pushed steps _ _ c.source-item.result c.loop-source.losses
     c.in_ok-lost.lost one.source one.compilable one.lost so)
 
 pub returns-clause-made : goal.returns-clause-made
