@@ -1,5 +1,5 @@
 -- Each part of a compilation is of its function: the lists of all functions are cut where those of one end.
-use Rattle.std.proofs.Common.{◌≡◌, ℕ, suc, ◌+◌, ◌*◌, ◌≤◌, List, [], ◌∷◌, ◌++◌, map, length, take, drop, refl, sym, ap, ◌∙◌, subst, arith}
+use Rattle.std.proofs.Common.{◌≡◌, ℕ, suc, ◌+◌, ◌*◌, ◌≤◌, List, [], ◌∷◌, map, length, take, drop, refl, sym, ap, ◌∙◌, subst, arith}
 use Rattle.std.proofs.Common.{length-append}
 use Rattle.std.proofs.Math.Seq.{take-append_seam, drop-append_seam}
 use Rattle.code_words.specs.Laid.{LaidCode, IsCodeOf}
@@ -11,14 +11,13 @@ use Rattle.follow_law.specs.Steps.{Step}
 use Rattle.frame_rule.specs.Rule.{framed_of}
 use Rattle.function_emit.specs.Emitted.{names_of}
 use Rattle.mir_func.specs.declared.variable.VarId.{VarId}
-use Rattle.output_promise.specs.Compiled.{IsCompiledFunction, AreCompiled, bytes_of}
+use Rattle.output_promise.specs.Compiled.{IsCompiledFunction, AreCompiled}
 use Rattle.output_promise.specs.Promise.{variable_lines}
 use Rattle.output_promise.specs.Source.{PassedFunction}
 use Rattle.mir_parser.specs.declared.program.Program.{Program}
 use Rattle.pass_loop.specs.Passes.{steps_of}
 use Rattle.program_compiler.specs.declared.compile.Compilation.{Compilation}
 use Rattle.program_compiler.specs.Program.{AreCoded, AreMadeLosing, IsCompilationOf}
-use Rattle.program_report.specs.declared.print.Compiled.{Compiled}
 use Rattle.unit_entries.specs.Variables.{variables_of_function}
 use Rattle.words_alone.proofs.Settled.{same_layout}
 use Rattle.compiled_report.specs.Reported.{parts_of, variable_count, AreReportedAs, IsReported, CompilationsAreReported}
@@ -40,7 +39,7 @@ module _ (names : ℕ → List ℕ) (p : PassedFunction) (base first : ℕ) (f :
   pub ends : (c : LaidCode) → IsCodeOf (framed_of p.function) base c → base + 4 * length c.words ≡ f.high
   ends c coded =
       let one : coded.layout ≡ is.layout =
-          same_layout coded.layout is.layout (coded.of ∙ sym is.laid.framed) (coded.from ∙ sym is.laid.from) coded.settled is.laid.settled in
+      same_layout coded.layout is.layout (coded.of ∙ sym is.laid.framed) (coded.from ∙ sym is.laid.from) coded.settled is.laid.settled in
       let words : length c.words ≡ length (words_of is.layout) = ap length coded.words ∙ ap (λ (l : Layout). length (words_of l)) one in
       let from = is.laid.from in
       let high : f.high ≡ is.layout.base + 4 * length (words_of is.layout) = ap (λ (g : ListedFunction). g.high) is.listed in
@@ -59,13 +58,12 @@ reported names steps base first text lists (p ∷ ps) (f ∷ fs) (c ∷ cs) [] a
 reported names steps base first text lists (p ∷ ps) (f ∷ fs) (c ∷ cs) (l ∷ ls) (is, more, rest, text_is, lists_is, onward) coded lost =
     let count : length is.lists ≡ length f.variables = many names p base first f is in
     let own : take (length f.variables) lists ≡ is.lists =
-        ap (λ (n : ℕ). take n lists) (sym count) ∙ ap (take (length is.lists)) lists_is ∙ take-append_seam is.lists rest in
+    ap (λ (n : ℕ). take n lists) (sym count) ∙ ap (take (length is.lists)) lists_is ∙ take-append_seam is.lists rest in
     let others : drop (length f.variables) lists ≡ rest =
-        ap (λ (n : ℕ). drop n lists) (sym count) ∙ ap (drop (length is.lists)) lists_is ∙ drop-append_seam is.lists rest in
+    ap (λ (n : ℕ). drop n lists) (sym count) ∙ ap (drop (length is.lists)) lists_is ∙ drop-append_seam is.lists rest in
     let later : AreReportedAs names steps f.high (first + length is.lists) ps fs (parts_of fs cs rest ls) =
-        reported names steps f.high (first + length is.lists) more rest ps fs cs ls onward
-        (subst (λ (b : ℕ). AreCoded b (map (λ q. q.function) ps) cs) (ends names p base first f is c coded.0) coded.1) lost.1 in
-    (
+    reported names steps f.high (first + length is.lists) more rest ps fs cs ls onward
+    (subst (λ (b : ℕ). AreCoded b (map (λ q. q.function) ps) cs) (ends names p base first f is c coded.0) coded.1) lost.1 in (
       record { compiled = is; code = coded.0; named = refl; lists = own; lost = lost.0 },
       subst (λ (n : ℕ). AreReportedAs names steps f.high n ps fs (parts_of fs cs (drop (length f.variables) lists) ls))
           (ap (λ (own_lists : List (List Range)). first + length own_lists) (sym own))

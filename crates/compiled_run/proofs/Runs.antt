@@ -10,7 +10,7 @@ use Rattle.dwarf_loclists.specs.Ranges.{Ascend, ArePlaces}
 use Rattle.function_emit.specs.Emitted.{names_of}
 use Rattle.mir_func.specs.declared.variable.VarId.{VarId}
 use Rattle.output_promise.proofs.Functions.{words_length}
-use Rattle.output_promise.specs.Compiled.{IsCompiledFunction, AreCompiled, bytes_of}
+use Rattle.output_promise.specs.Compiled.{AreCompiled, bytes_of}
 use Rattle.output_promise.specs.Promise.{variable_lines, variable_listed}
 use Rattle.output_promise.specs.Source.{PassedFunction}
 use Rattle.code_words.specs.Rule.{words_of}

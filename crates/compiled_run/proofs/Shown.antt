@@ -1,7 +1,6 @@
 -- The image that the sections show of a function is that of its layout, and the layout's image shows its code.
-use Rattle.std.proofs.Common.{◌≡◌, ℕ, zero, suc, ◌+◌, ◌*◌, List, [], ◌∷◌, ◌++◌, drop, map, length, Some, ap, ◌∙◌, sym, subst}
+use Rattle.std.proofs.Common.{◌≡◌, ℕ, zero, suc, ◌+◌, List, [], ◌∷◌, ◌++◌, drop, map, length, Some, ap, ◌∙◌, sym, subst}
 use Rattle.std.specs.Prelude.{slice_get}
-use Rattle.code_layout.specs.Image.{Image}
 use Rattle.code_words.specs.Laid.{LaidCode, IsCodeOf}
 use Rattle.code_words.specs.Rule.{Layout}
 use Rattle.compiled_text.specs.declared.output.ListedFunction.{ListedFunction}
@@ -14,7 +13,7 @@ use Rattle.machine_layout.specs.Images.{IsImageOf}
 use Rattle.output_promise.proofs.Functions.{IsCompiledIn, compiled_in}
 use Rattle.output_promise.proofs.Headline.{formed}
 use Rattle.output_promise.proofs.Telling.{all_at}
-use Rattle.output_promise.specs.Compiled.{IsCompiledFunction, AreCompiled, IsCompiledProgram, bytes_of}
+use Rattle.output_promise.specs.Compiled.{AreCompiled, IsCompiledProgram, bytes_of}
 use Rattle.output_promise.specs.Promise.{variable_lines}
 use Rattle.output_promise.specs.Source.{PassedFunction, IsPassedFunction}
 use Rattle.program_compiler.proofs.Passed.{all_passed}

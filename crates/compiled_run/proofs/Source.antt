@@ -1,6 +1,6 @@
 -- The run of a compilation is that of the function that was read: names stay as they were read, and the headline speaks of what lists tell.
-use Rattle.std.proofs.Common.{◌≡◌, ◌≢◌, ◌⊎◌, ℕ, zero, suc, ◌*◌, ◌%◌, ◌^◌, ◌<◌, ◌≤◌, List, [], ◌∷◌, map, take, length, All, Option, Some, None, true}
-use Rattle.std.proofs.Common.{refl, sym, ap, ◌∙◌, subst, inl, inr, get_or, arith}
+use Rattle.std.proofs.Common.{◌≡◌, ◌≢◌, ℕ, zero, suc, ◌*◌, ◌%◌, ◌^◌, ◌<◌, List, [], ◌∷◌, map, take, length, All, Some}
+use Rattle.std.proofs.Common.{refl, sym, ap, ◌∙◌, subst, inl, inr, arith}
 use Rattle.std.specs.Prelude.{slice_get, slice_index_or}
 use Rattle.std.proofs.lemmas.List.Elements.{All-nil, All-cons, All-head, All-tail}
 use Rattle.std.proofs.lemmas.Option.{slice_get-map, slice_get-get_or}
@@ -8,7 +8,6 @@ use Rattle.rv64_instr.specs.declared.place.Place.{Place}
 use Rattle.mir_func.specs.Variables.{part_value}
 use Rattle.std.specs.Prelude.{option_map}
 use Rattle.code_layout.specs.Machine.{Machine, machine_start, place_content}
-use Rattle.code_words.specs.Laid.{LaidCode}
 use Rattle.compiled_text.specs.declared.output.ListedFunction.{ListedFunction}
 use Rattle.compiled_text.specs.declared.output.ListedVariable.{ListedVariable}
 use Rattle.compiled_text.specs.declared.output.Output.{Output}
@@ -36,7 +35,6 @@ use Rattle.pass_loop.specs.Passes.{steps_of}
 use Rattle.program_compiler.proofs.Passed.{all_passed, passed_sources}
 use Rattle.program_compiler.specs.declared.compile.Compilation.{Compilation}
 use Rattle.program_compiler.specs.Program.{sources_of, IsCompilationOf, IsOutputOf}
-use Rattle.run_answer.specs.Asked.{BeginsRun}
 use Rattle.run_lines.specs.Variables.{variable_of}
 use Rattle.rv_simulator.specs.Shown.{ShowsCode}
 use Rattle.shown_program.specs.Program.{image_of}
@@ -46,7 +44,7 @@ use Rattle.variable_locations.specs.Wanted.{bytes_of}
 use Rattle.compiled_run.proofs.Runs.{compilation_can_run}
 use Rattle.compiled_run.proofs.Shown.{compilation_shows_code}
 use Rattle.compiled_run.specs.Runs.{HasNone, IsFirstNamed, IsRunOf}
-use Rattle.compiled_run.specs.Source.{IsUnknown, IsFirstRead, BeginsAsked, IsSourceValue, AreSourceValues, graph_of, TellsSource, IsRunOfProgram}
+use Rattle.compiled_run.specs.Source.{IsUnknown, IsFirstRead, AreSourceValues, TellsSource, IsRunOfProgram}
 use Rattle.compiled_run.specs.Source.{RunsAreOfPrograms, NamesAreRead}
 
 -- ---- names

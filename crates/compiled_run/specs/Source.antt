@@ -1,5 +1,5 @@
 -- A run of a function of a program, beside the source that was read.
-use Rattle.std.specs.Prelude.{◌≡◌, ◌≢◌, ◌⊎◌, ℕ, ◌*◌, ◌%◌, ◌^◌, ◌<◌, List, map, take, All, Option, Some, slice_get, true}
+use Rattle.std.specs.Prelude.{◌≡◌, ◌≢◌, ◌⊎◌, ℕ, ◌*◌, ◌%◌, ◌^◌, ◌<◌, List, map, take, All, Some, slice_get, true}
 use Rattle.code_layout.specs.Headline.{StartsAt, AlignsWith, FailsBeforeLine, MachineAlong}
 use Rattle.code_layout.specs.Image.{CodeLine, Image, line_at}
 use Rattle.code_layout.specs.Machine.{Machine, machine_start, register, place_content}
