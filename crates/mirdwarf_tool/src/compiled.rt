@@ -50,26 +50,52 @@ pub fn report_text(alloc: Global, program: &Program, plan: &Plan) -> Result<Text
 }
 
 /// The text of the run that is asked for of a program's function after passes.
-pub fn run_text(alloc: Global, program: &Program, plan: RunPlan) -> Result<Text, Fault>
+pub fn run_text(alloc: Global, program: &Program, asked: RunPlan) -> Result<Text, Fault>
     requires { IsReadProgram program.now }
-    ensures ok { IfOk result (IsRunOfProgram (plan_steps plan.plan) program.now plan.name plan.steps
-        plan.arguments plan.answers) }
-    ensures err { IfErr result (RefusesToRun plan program.now) }
+    ensures ok { IfOk result (IsRunOfProgram (plan_steps asked.plan) program.now asked.name asked.steps
+        asked.arguments asked.answers) }
+    ensures err { IfErr result (RefusesToRun asked program.now) }
 {
-    if is_unknown(program.functions.as_slice(), plan.name.as_slice()) {
+    if is_unknown(program.functions.as_slice(), asked.name.as_slice()) {
         return Err(Fault::UnknownFunction);
     }
-    let compilation = compilation(alloc, program, &plan.plan)?;
+    match compilation(alloc, program, &asked.plan) {
+        Ok(compilation) => run_of(alloc, program, &compilation, asked),
+        Err(fault) => Err(fault),
+    }
+}
+
+/// The text of the run that is asked for of a program that is compiled.
+fn run_of(
+    alloc: Global,
+    _program: &Program,
+    compilation: &Compilation,
+    asked: RunPlan,
+) -> Result<Text, Fault>
+    requires output { IsOutputOf (plan_steps asked.plan) _program.now compilation.now.output }
+    requires compilation { IsCompilationOf (plan_steps asked.plan) _program.now compilation.now }
+    ensures ok { IfOk result (IsRunOfProgram (plan_steps asked.plan) _program.now asked.name asked.steps
+        asked.arguments asked.answers) }
+    ensures err { IfErr result (RefusesToRun asked _program.now) }
+{
+    let RunPlan {
+        name,
+        steps,
+        plan: _plan,
+        arguments,
+        answers,
+    } = asked;
     match run(
         alloc,
-        &compilation,
-        plan.name.as_slice(),
-        plan.steps,
-        plan.arguments.as_slice(),
-        plan.answers,
-    )? {
-        Some(text) => Ok(text),
-        None => Err(Fault::UnknownFunction),
+        compilation,
+        name.as_slice(),
+        steps,
+        arguments.as_slice(),
+        answers,
+    ) {
+        Ok(Some(text)) => Ok(text),
+        Ok(None) => Err(Fault::UnknownFunction),
+        Err(_) => Err(Fault::Memory),
     }
 }
 
