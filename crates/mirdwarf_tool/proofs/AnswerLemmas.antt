@@ -5,12 +5,12 @@ use Rattle.mir_parser.specs.declared.program.Program.{Program}
 use Rattle.command_line.specs.declared.command.Command.{Command}
 use Rattle.command_line.specs.declared.command.Plan.{Plan}
 use Rattle.command_line.specs.declared.command.RunPlan.{RunPlan}
-use Rattle.command_line.specs.declared.command.Command.TheVariants.{Compile, Listing, Report, Run, Strip, Gen}
+use Rattle.command_line.specs.declared.command.Command.TheVariants.{Compile, Listing, Report, Run, Strip}
 use Rattle.command_line.specs.declared.fault.Fault.{Fault}
 use Rattle.command_line.specs.declared.fault.Fault.TheVariants.{Usage, Read, TooLong, Refused, NoFunction, UnknownFunction, FrameTooLarge, SectionTooLarge, Write, Memory}
 use Rattle.compiled_run.specs.Source.{IsUnknown}
-use Rattle.mirdwarf_tool.specs.Answer.{HasFunctions, IsReader, Answers, RefusesProgram, RefusesToCompile, RefusesToWrite, RefusesToRun, RefusesText}
-use Rattle.mirdwarf_tool.specs.Run.{HasReadProgram, HasReadNone, RefusesRead, AnswersRead, AnswersInput, ReadingEnds}
+use Rattle.mirdwarf_tool.specs.Answer.{IsReader, Answers, RefusesToCompile, RefusesToWrite, RefusesToRun}
+use Rattle.mirdwarf_tool.specs.Run.{HasReadProgram, HasReadNone, AnswersRead, AnswersInput, ReadingEnds}
 use Rattle.mirdwarf_tool.specs.Stream.{Change}
 use Rattle.mirdwarf_tool.specs.Compiled.{plan_steps}
 
