@@ -7,7 +7,8 @@ use Rattle.command_line.specs.declared.command.Plan.{Plan}
 use Rattle.command_line.specs.declared.command.RunPlan.{RunPlan}
 use Rattle.command_line.specs.declared.command.Command.TheVariants.{Compile, Listing, Report, Run, Strip}
 use Rattle.command_line.specs.declared.fault.Fault.{Fault}
-use Rattle.command_line.specs.declared.fault.Fault.TheVariants.{Usage, Read, TooLong, Refused, NoFunction, UnknownFunction, FrameTooLarge, SectionTooLarge, Write, Memory}
+use Rattle.command_line.specs.declared.fault.Fault.TheVariants.{Usage, Read, TooLong, Refused, NoFunction, UnknownFunction}
+use Rattle.command_line.specs.declared.fault.Fault.TheVariants.{FrameTooLarge, SectionTooLarge, Write, Memory}
 use Rattle.compiled_run.specs.Source.{IsUnknown}
 use Rattle.mirdwarf_tool.specs.Answer.{IsReader, Answers, RefusesToCompile, RefusesToWrite, RefusesToRun}
 use Rattle.mirdwarf_tool.specs.Run.{HasReadProgram, HasReadNone, AnswersRead, AnswersInput, ReadingEnds}

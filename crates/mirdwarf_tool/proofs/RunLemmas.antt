@@ -9,7 +9,8 @@ use Rattle.command_line.specs.declared.command.Command.TheVariants.{Compile, Lis
 use Rattle.command_line.specs.Command.{IsCommand}
 use Rattle.command_line.proofs.Words.{one_command}
 use Rattle.command_line.specs.declared.fault.Fault.{Fault}
-use Rattle.command_line.specs.declared.fault.Fault.TheVariants.{Usage, Read, TooLong, Refused, NoFunction, UnknownFunction, FrameTooLarge, SectionTooLarge, Write, Memory}
+use Rattle.command_line.specs.declared.fault.Fault.TheVariants.{Usage, Read, TooLong, Refused, NoFunction, UnknownFunction}
+use Rattle.command_line.specs.declared.fault.Fault.TheVariants.{FrameTooLarge, SectionTooLarge, Write, Memory}
 use Rattle.command_line.specs.declared.status.Status.TheVariants as status
 use Rattle.command_line.specs.Fault.{status_of, line_of}
 use Rattle.mir_parser.specs.declared.program.Program.{Program}

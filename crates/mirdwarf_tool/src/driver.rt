@@ -37,10 +37,10 @@ pub const LIMIT: usize = 16_777_216;
 /// functions that the text stands for. `compile` with the option of a list of passes, and if wanted of registers that
 /// may be spilled, writes the sections and the listing of what these passes make of them (`--passes=none`: of the
 /// functions as they were read), `listing` with such options the listing alone, and `report` of each function how many
-/// of its words each variable can be found at, and what the passes lost. `run` with a function's name, a number of steps
-/// and such options writes a line for each step of its machine code, with what its variables hold. `strip` writes the
-/// functions without their debug items. `gen` reads nothing, and writes the text of the function that is made up from its two numbers. A fault
-/// is told by a line on `faults`.
+/// of its words each variable can be found at, and what the passes lost. `run` with a function's name, a number of
+/// steps and such options writes a line for each step of its machine code, with what its variables hold. `strip` writes
+/// the functions without their debug items. `gen` reads nothing, and writes the text of the function that is made up
+/// from its two numbers. A fault is told by a line on `faults`.
 pub fn mirdwarf<S: Source, K: Sink, E: Sink>(
     alloc: Global,
     words: &[String],
