@@ -1,5 +1,5 @@
 -- Words tell their command.
-use Rattle.std.proofs.Common.{◌≡◌, ◌↔◌, ℕ, ◌≤◌, ◌<◌, List, [], ◌∷◌, Option, Some, None, sym, ap, ◌∙◌, subst, refl, arith}
+use Rattle.std.proofs.Common.{◌≡◌, ◌↔◌, ℕ, ◌+◌, ◌*◌, ◌≤◌, List, [], ◌∷◌, Option, Some, None, sym, ap, ◌∙◌, subst, refl, arith}
 use Rattle.std.specs.Prelude.{codes}
 use Rattle.std.specs.Fmt.{decimal}
 use Rattle.std.proofs.lemmas.Fmt.{decimal_injective}
@@ -10,9 +10,10 @@ use Rattle.command_options.specs.declared.option.CommandOption.TheVariants.{Pass
 use Rattle.command_options.specs.Options.{none_given, IsWith, GivesOption, GiveOptions}
 use Rattle.command_options.proofs.Words.{the_option}
 use Rattle.command_line.specs.declared.command.Command.{Command}
-use Rattle.command_line.specs.declared.command.Command.TheVariants.{Compile, Listing, Strip, Gen}
+use Rattle.command_line.specs.declared.command.Command.TheVariants.{Compile, Listing, Report, Run, Strip, Gen}
 use Rattle.command_line.specs.declared.command.Plan.{Plan}
-use Rattle.command_line.specs.Command.{IsPlanOf, GivesPlan, IsWithin, IsCommand, AreWithin}
+use Rattle.command_line.specs.declared.command.RunPlan.{RunPlan}
+use Rattle.command_line.specs.Command.{IsPlanOf, GivesPlan, IsRunPlanOf, GivesSteps, GivesRun, IsWithin, IsCommand, AreWithin}
 
 -- ---- one plan for words
 
@@ -48,18 +49,44 @@ one_plan words p q hp hq =
     let same : hp.0 ≡ hq.0 = one_given words none_given hp.0 hq.0 hp.1 hq.1 in
     plan_by hq.0 p q (subst (λ (o : Options). IsPlanOf o p) same hp.2) hq.2
 
+run_by : (name : List ℕ) (count : ℕ) (given : Options) (r s : RunPlan) → IsRunPlanOf name count given r → IsRunPlanOf name count given s → r ≡ s
+run_by name count given r s hr hs =
+    let named : r.name ≡ s.name = hr.named ∙ sym hs.named in
+    let steps : r.steps ≡ s.steps = hr.steps ∙ sym hs.steps in
+    let passes : r.plan.passes ≡ s.plan.passes = one_of r.plan.passes s.plan.passes (sym hr.passes ∙ hs.passes) in
+    let reserve : r.plan.reserve ≡ s.plan.reserve = hr.reserve ∙ sym hs.reserve in
+    let arguments : r.arguments ≡ s.arguments = hr.arguments ∙ sym hs.arguments in
+    let answers : r.answers ≡ s.answers = hr.answers ∙ sym hs.answers in
+    λ i. record {
+      name = named i;
+      steps = steps i;
+      plan = record { passes = passes i; reserve = reserve i };
+      arguments = arguments i;
+      answers = answers i;
+    }
+
+pub one_number : (m n : ℕ) → m ≤ 1000000 → n ≤ 1000000 → decimal m ≡ decimal n → m ≡ n
+one_number m n small also e = decimal_injective m n (omega (arith, small)) (omega (arith, also)) e
+
+one_steps : (name word : List ℕ) (words : List (List ℕ)) (r s : RunPlan) → GivesSteps name word words r → GivesSteps name word words s → r ≡ s
+one_steps name word words r s hr hs =
+    let count : hr.count ≡ hs.count = one_number hr.count hs.count hr.few hs.few (sym hr.spelled ∙ hs.spelled) in
+    let given : hr.given ≡ hs.given = one_given words none_given hr.given hs.given hr.give hs.give in
+    run_by name hs.count hs.given r s
+    (subst (λ (n : ℕ). IsRunPlanOf name n hs.given r) count (subst (λ (o : Options). IsRunPlanOf name hr.count o r) given hr.is)) hs.is
+
+one_run : (words : List (List ℕ)) (r s : RunPlan) → GivesRun words r → GivesRun words s → r ≡ s
+one_run [] r s hr hs = absurd hr
+one_run (name ∷ []) r s hr hs = absurd hr
+one_run (name ∷ word ∷ words) r s hr hs = one_steps name word words r s hr hs
+
 -- ---- one command for words
 
-abbrev pub first_byte : List ℕ → ℕ
-first_byte [] = 0
-first_byte (b ∷ bs) = b
-
--- a name isn't two names that begin otherwise
-pub apart : (m n : ℕ) (name a b : List ℕ) → first_byte a ≡ m → first_byte b ≡ n → (m ≡ n → ⊥) → name ≡ a → name ≡ b → ⊥
-apart m n name a b is other differs ha hb = differs (sym is ∙ (ap first_byte (sym ha ∙ hb) ∙ other))
-
-one_number : (m n : ℕ) → m ≤ 65536 → n ≤ 65536 → decimal m ≡ decimal n → m ≡ n
-one_number m n small also e = decimal_injective m n (omega (arith, small)) (omega (arith, also)) e
+-- the first two bytes of a name in one number, which tells each command's name from the others'
+abbrev pub sign : List ℕ → ℕ
+sign [] = 0
+sign (b ∷ []) = b
+sign (b ∷ c ∷ bs) = b + 2 * c
 
 one_word : (a b : List ℕ) (xs ys : List (List ℕ)) → ◌≡◌ {A = List (List ℕ)} (a ∷ xs) (b ∷ ys) → (a ≡ b) × (xs ≡ ys)
 one_word a b xs ys e = (cc, cc)
@@ -69,42 +96,66 @@ one_generation : (words : List (List ℕ)) (g h : Generation) → IsWithin g →
 one_generation words g h within also eg eh =
     let first = one_word (decimal g.number) (decimal h.number) (decimal g.blocks ∷ []) (decimal h.blocks ∷ []) (sym eg ∙ eh) in
     let second = one_word (decimal g.blocks) (decimal h.blocks) [] [] first.1 in
-    let number : g.number ≡ h.number = one_number g.number h.number within.small also.small first.0 in
+    let number : g.number ≡ h.number = one_number g.number h.number (omega (arith, within.small)) (omega (arith, also.small)) first.0 in
     let blocks : g.blocks ≡ h.blocks =
     one_number g.blocks h.blocks (omega (arith, within.few)) (omega (arith, also.few)) second.0 in
     λ i. record { number = number i; blocks = blocks i }
 
--- which command has this name
-abbrev letter : Command → ℕ
-letter (Compile p) = 99
-letter (Listing p) = 108
-letter Strip = 115
-letter (Gen g) = 103
+-- the sign of the name of a command
+abbrev pub sign_of : Command → ℕ
+sign_of (Compile p) = 321
+sign_of (Listing p) = 318
+sign_of (Report p) = 316
+sign_of (Run r) = 348
+sign_of Strip = 347
+sign_of (Gen g) = 305
 
-named_by : (name : List ℕ) (words : List (List ℕ)) (c : Command) → IsCommand (name ∷ words) c → first_byte name ≡ letter c
-named_by name words (Compile p) is = ap first_byte is.0
-named_by name words (Listing p) is = ap first_byte is.0
-named_by name words Strip is = ap first_byte is.0
-named_by name words (Gen g) is = ap first_byte is.0
+named_by : (name : List ℕ) (words : List (List ℕ)) (c : Command) → IsCommand (name ∷ words) c → sign name ≡ sign_of c
+named_by name words (Compile p) is = ap sign is.0
+named_by name words (Listing p) is = ap sign is.0
+named_by name words (Report p) is = ap sign is.0
+named_by name words (Run r) is = ap sign is.0
+named_by name words Strip is = ap sign is.0
+named_by name words (Gen g) is = ap sign is.0
 
-other : (name : List ℕ) (words : List (List ℕ)) (a b : Command) → IsCommand (name ∷ words) a → IsCommand (name ∷ words) b → letter a ≡ letter b
+other : (name : List ℕ) (words : List (List ℕ)) (a b : Command) → IsCommand (name ∷ words) a → IsCommand (name ∷ words) b → sign_of a ≡ sign_of b
 other name words a b ha hb = sym (named_by name words a ha) ∙ named_by name words b hb
 
-by_name : (name : List ℕ) (words : List (List ℕ)) (a b : Command) → letter a ≡ letter b → IsCommand (name ∷ words) a → IsCommand (name ∷ words) b → a ≡ b
+by_name : (name : List ℕ) (words : List (List ℕ)) (a b : Command) → sign_of a ≡ sign_of b → IsCommand (name ∷ words) a → IsCommand (name ∷ words) b → a ≡ b
 by_name name words (Compile p) (Compile q) e ha hb = ap (λ (x : Plan). Compile x) (one_plan words p q ha.1 hb.1)
 by_name name words (Compile p) (Listing q) e ha hb = absurd (omega (arith, e))
+by_name name words (Compile p) (Report q) e ha hb = absurd (omega (arith, e))
+by_name name words (Compile p) (Run s) e ha hb = absurd (omega (arith, e))
 by_name name words (Compile p) Strip e ha hb = absurd (omega (arith, e))
 by_name name words (Compile p) (Gen h) e ha hb = absurd (omega (arith, e))
 by_name name words (Listing p) (Compile q) e ha hb = absurd (omega (arith, e))
 by_name name words (Listing p) (Listing q) e ha hb = ap (λ (x : Plan). Listing x) (one_plan words p q ha.1 hb.1)
+by_name name words (Listing p) (Report q) e ha hb = absurd (omega (arith, e))
+by_name name words (Listing p) (Run s) e ha hb = absurd (omega (arith, e))
 by_name name words (Listing p) Strip e ha hb = absurd (omega (arith, e))
 by_name name words (Listing p) (Gen h) e ha hb = absurd (omega (arith, e))
+by_name name words (Report p) (Compile q) e ha hb = absurd (omega (arith, e))
+by_name name words (Report p) (Listing q) e ha hb = absurd (omega (arith, e))
+by_name name words (Report p) (Report q) e ha hb = ap (λ (x : Plan). Report x) (one_plan words p q ha.1 hb.1)
+by_name name words (Report p) (Run s) e ha hb = absurd (omega (arith, e))
+by_name name words (Report p) Strip e ha hb = absurd (omega (arith, e))
+by_name name words (Report p) (Gen h) e ha hb = absurd (omega (arith, e))
+by_name name words (Run r) (Compile q) e ha hb = absurd (omega (arith, e))
+by_name name words (Run r) (Listing q) e ha hb = absurd (omega (arith, e))
+by_name name words (Run r) (Report q) e ha hb = absurd (omega (arith, e))
+by_name name words (Run r) (Run s) e ha hb = ap (λ (x : RunPlan). Run x) (one_run words r s ha.1 hb.1)
+by_name name words (Run r) Strip e ha hb = absurd (omega (arith, e))
+by_name name words (Run r) (Gen h) e ha hb = absurd (omega (arith, e))
 by_name name words Strip (Compile q) e ha hb = absurd (omega (arith, e))
 by_name name words Strip (Listing q) e ha hb = absurd (omega (arith, e))
+by_name name words Strip (Report q) e ha hb = absurd (omega (arith, e))
+by_name name words Strip (Run s) e ha hb = absurd (omega (arith, e))
 by_name name words Strip Strip e ha hb = refl
 by_name name words Strip (Gen h) e ha hb = absurd (omega (arith, e))
 by_name name words (Gen g) (Compile q) e ha hb = absurd (omega (arith, e))
 by_name name words (Gen g) (Listing q) e ha hb = absurd (omega (arith, e))
+by_name name words (Gen g) (Report q) e ha hb = absurd (omega (arith, e))
+by_name name words (Gen g) (Run s) e ha hb = absurd (omega (arith, e))
 by_name name words (Gen g) Strip e ha hb = absurd (omega (arith, e))
 by_name name words (Gen g) (Gen h) e ha hb = ap (λ (x : Generation). Gen x) (one_generation words g h ha.2 hb.2 ha.1 hb.1)
 
@@ -113,24 +164,43 @@ pub one_command : (words : List (List ℕ)) (a b : Command) → IsCommand words 
 one_command [] a b ha hb = absurd ha
 one_command (name ∷ words) a b ha hb = by_name name words a b (other name words a b ha hb) ha hb
 
--- ---- names with a plan that isn't given
-
-differ : (m n : ℕ) → (m < n) → (m ≡ n → ⊥) × (n ≡ m → ⊥)
-differ m n lt = (λ e. omega (arith, e, lt), λ e. omega (arith, e, lt))
+-- ---- names whose options aren't given
 
 pub no_compile : (name : List ℕ) (words : List (List ℕ)) → name ≡ codes "compile" → ((p : Plan) → GivesPlan words p → ⊥) →
     (c : Command) → IsCommand (name ∷ words) c → ⊥
 no_compile name words is none (Compile p) h = none p h.1
-no_compile name words is none (Listing p) h = apart 99 108 name (codes "compile") (codes "listing") refl refl (differ 99 108 (omega arith)).0 is h.0
-no_compile name words is none Strip h = apart 99 115 name (codes "compile") (codes "strip") refl refl (differ 99 115 (omega arith)).0 is h.0
-no_compile name words is none (Gen g) h = apart 99 103 name (codes "compile") (codes "gen") refl refl (differ 99 103 (omega arith)).0 is h.0
+no_compile name words is none (Listing p) h = let e : 321 ≡ 318 = sym (ap sign is) ∙ ap sign h.0 in omega (arith, e)
+no_compile name words is none (Report p) h = let e : 321 ≡ 316 = sym (ap sign is) ∙ ap sign h.0 in omega (arith, e)
+no_compile name words is none (Run r) h = let e : 321 ≡ 348 = sym (ap sign is) ∙ ap sign h.0 in omega (arith, e)
+no_compile name words is none Strip h = let e : 321 ≡ 347 = sym (ap sign is) ∙ ap sign h.0 in omega (arith, e)
+no_compile name words is none (Gen g) h = let e : 321 ≡ 305 = sym (ap sign is) ∙ ap sign h.0 in omega (arith, e)
 
 pub no_listing : (name : List ℕ) (words : List (List ℕ)) → name ≡ codes "listing" → ((p : Plan) → GivesPlan words p → ⊥) →
     (c : Command) → IsCommand (name ∷ words) c → ⊥
+no_listing name words is none (Compile p) h = let e : 318 ≡ 321 = sym (ap sign is) ∙ ap sign h.0 in omega (arith, e)
 no_listing name words is none (Listing p) h = none p h.1
-no_listing name words is none (Compile p) h = apart 108 99 name (codes "listing") (codes "compile") refl refl (differ 99 108 (omega arith)).1 is h.0
-no_listing name words is none Strip h = apart 108 115 name (codes "listing") (codes "strip") refl refl (differ 108 115 (omega arith)).0 is h.0
-no_listing name words is none (Gen g) h = apart 108 103 name (codes "listing") (codes "gen") refl refl (differ 103 108 (omega arith)).1 is h.0
+no_listing name words is none (Report p) h = let e : 318 ≡ 316 = sym (ap sign is) ∙ ap sign h.0 in omega (arith, e)
+no_listing name words is none (Run r) h = let e : 318 ≡ 348 = sym (ap sign is) ∙ ap sign h.0 in omega (arith, e)
+no_listing name words is none Strip h = let e : 318 ≡ 347 = sym (ap sign is) ∙ ap sign h.0 in omega (arith, e)
+no_listing name words is none (Gen g) h = let e : 318 ≡ 305 = sym (ap sign is) ∙ ap sign h.0 in omega (arith, e)
+
+pub no_report : (name : List ℕ) (words : List (List ℕ)) → name ≡ codes "report" → ((p : Plan) → GivesPlan words p → ⊥) →
+    (c : Command) → IsCommand (name ∷ words) c → ⊥
+no_report name words is none (Compile p) h = let e : 316 ≡ 321 = sym (ap sign is) ∙ ap sign h.0 in omega (arith, e)
+no_report name words is none (Listing p) h = let e : 316 ≡ 318 = sym (ap sign is) ∙ ap sign h.0 in omega (arith, e)
+no_report name words is none (Report p) h = none p h.1
+no_report name words is none (Run r) h = let e : 316 ≡ 348 = sym (ap sign is) ∙ ap sign h.0 in omega (arith, e)
+no_report name words is none Strip h = let e : 316 ≡ 347 = sym (ap sign is) ∙ ap sign h.0 in omega (arith, e)
+no_report name words is none (Gen g) h = let e : 316 ≡ 305 = sym (ap sign is) ∙ ap sign h.0 in omega (arith, e)
+
+pub no_run : (name : List ℕ) (words : List (List ℕ)) → name ≡ codes "run" → ((r : RunPlan) → GivesRun words r → ⊥) →
+    (c : Command) → IsCommand (name ∷ words) c → ⊥
+no_run name words is none (Compile p) h = let e : 348 ≡ 321 = sym (ap sign is) ∙ ap sign h.0 in omega (arith, e)
+no_run name words is none (Listing p) h = let e : 348 ≡ 318 = sym (ap sign is) ∙ ap sign h.0 in omega (arith, e)
+no_run name words is none (Report p) h = let e : 348 ≡ 316 = sym (ap sign is) ∙ ap sign h.0 in omega (arith, e)
+no_run name words is none (Run r) h = none r h.1
+no_run name words is none Strip h = let e : 348 ≡ 347 = sym (ap sign is) ∙ ap sign h.0 in omega (arith, e)
+no_run name words is none (Gen g) h = let e : 348 ≡ 305 = sym (ap sign is) ∙ ap sign h.0 in omega (arith, e)
 
 -- ---- what is found
 
@@ -145,11 +215,35 @@ the_command words a is b = (
   λ other. ap (λ (x : Command). Some x) (one_command words a b is other),
 )
 
+-- words whose options ask for these runs ask for them too
+pub the_steps : (name named word : List ℕ) (words : List (List ℕ)) (count : ℕ) (given : Options) (found : Option RunPlan) → named ≡ name →
+    word ≡ decimal count → count ≤ 1000000 → GiveOptions none_given words given →
+    ((run : RunPlan) → (found ≡ Some run) ↔ IsRunPlanOf named count given run) → (run : RunPlan) →
+    (found ≡ Some run) ↔ GivesSteps name word words run
+the_steps name named word words count given found same spelled few give is run = (
+  λ e. record {
+    count = count;
+    spelled = spelled;
+    few = few;
+    given = given;
+    give = give;
+    is = subst (λ (n : List ℕ). IsRunPlanOf n count given run) same ((is run).0 e);
+  },
+  λ h.
+      let counted : h.count ≡ count = one_number h.count count h.few few (sym h.spelled ∙ spelled) in
+      let one : h.given ≡ given = one_given words none_given h.given given h.give give in
+      let asked : IsRunPlanOf name h.count given run = subst (λ (o : Options). IsRunPlanOf name h.count o run) one h.is in
+      let there : IsRunPlanOf name count given run = subst (λ (n : ℕ). IsRunPlanOf name n given run) counted asked in
+      (is run).1 (subst (λ (n : List ℕ). IsRunPlanOf n count given run) (sym same) there),
+)
+
 -- ---- numbers
 
 pub within : (words : List (List ℕ)) (c : Command) → IsCommand words c → AreWithin c
 within [] c is = absurd is
 within (name ∷ words) (Compile p) is = tt
 within (name ∷ words) (Listing p) is = tt
+within (name ∷ words) (Report p) is = tt
+within (name ∷ words) (Run r) is = tt
 within (name ∷ words) Strip is = tt
 within (name ∷ words) (Gen g) is = is.2

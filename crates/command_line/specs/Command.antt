@@ -5,13 +5,19 @@ use Rattle.command_numbers.specs.declared.generation.Generation.{Generation}
 use Rattle.command_options.specs.declared.given.Options.{Options}
 use Rattle.command_options.specs.Options.{none_given, GiveOptions}
 use Rattle.command_line.specs.declared.command.Command.{Command}
-use Rattle.command_line.specs.declared.command.Command.TheVariants.{Compile, Listing, Strip, Gen}
+use Rattle.command_line.specs.declared.command.Command.TheVariants.{Compile, Listing, Report, Run, Strip, Gen}
 use Rattle.command_line.specs.declared.command.Plan.{Plan}
+use Rattle.command_line.specs.declared.command.RunPlan.{RunPlan}
 
 -- the registers of a reserve: none where it isn't given
 abbrev pub reserve_in : Option (List ℕ) → List ℕ
 reserve_in None = []
 reserve_in (Some registers) = registers
+
+-- the numbers of an option: none where it isn't given
+abbrev pub numbers_in : Option (List ℕ) → List ℕ
+numbers_in None = []
+numbers_in (Some numbers) = numbers
 
 -- options ask for a plan: a list of passes is given, and a reserve may be, and no numbers are
 pub record IsPlanOf (given : Options) (plan : Plan) : Type 0 where
@@ -24,6 +30,30 @@ pub record IsPlanOf (given : Options) (plan : Plan) : Type 0 where
 abbrev pub GivesPlan : (words : List (List ℕ)) → Plan → Type 0
 GivesPlan words plan = (given : Options) × GiveOptions none_given words given × IsPlanOf given plan
 
+-- options ask for a run of the function of a name, of so many steps at most: a list of passes is given, and each other option may be
+pub record IsRunPlanOf (name : List ℕ) (count : ℕ) (given : Options) (run : RunPlan) : Type 0 where
+  pub named : run.name ≡ name
+  pub steps : run.steps ≡ count
+  pub passes : given.passes ≡ Some run.plan.passes
+  pub reserve : run.plan.reserve ≡ reserve_in given.reserve
+  pub arguments : run.arguments ≡ numbers_in given.arguments
+  pub answers : run.answers ≡ numbers_in given.answers
+
+-- a name, a word that is a number of steps, 0 to 1,000,000, and options, in any order and each at most once, ask for a run
+pub record GivesSteps (name word : List ℕ) (words : List (List ℕ)) (run : RunPlan) : Type 0 where
+  pub count : ℕ
+  pub spelled : word ≡ decimal count
+  pub few : count ≤ 1000000
+  pub given : Options
+  pub give : GiveOptions none_given words given
+  pub is : IsRunPlanOf name count given run
+
+-- so do words: a name, a number of steps, and options
+abbrev pub GivesRun : (words : List (List ℕ)) → RunPlan → Type 0
+GivesRun [] run = ⊥
+GivesRun (name ∷ []) run = ⊥
+GivesRun (name ∷ steps ∷ words) run = GivesSteps name steps words run
+
 -- a function that is made up has a number up to 65,536, and 1 to 512 blocks
 pub record IsWithin (g : Generation) : Type 0 where
   pub small : g.number ≤ 65536
@@ -35,6 +65,8 @@ abbrev pub IsCommand : (words : List (List ℕ)) → Command → Type 0
 IsCommand [] command = ⊥
 IsCommand (name ∷ words) (Compile plan) = (name ≡ codes "compile") × GivesPlan words plan
 IsCommand (name ∷ words) (Listing plan) = (name ≡ codes "listing") × GivesPlan words plan
+IsCommand (name ∷ words) (Report plan) = (name ≡ codes "report") × GivesPlan words plan
+IsCommand (name ∷ words) (Run run) = (name ≡ codes "run") × GivesRun words run
 IsCommand (name ∷ words) Strip = (name ≡ codes "strip") × (words ≡ [])
 IsCommand (name ∷ words) (Gen g) = (name ≡ codes "gen") × (words ≡ decimal g.number ∷ decimal g.blocks ∷ []) × IsWithin g
 
@@ -42,6 +74,8 @@ IsCommand (name ∷ words) (Gen g) = (name ≡ codes "gen") × (words ≡ decima
 abbrev pub AreWithin : Command → Type 0
 AreWithin (Compile plan) = Unit {0}
 AreWithin (Listing plan) = Unit {0}
+AreWithin (Report plan) = Unit {0}
+AreWithin (Run run) = Unit {0}
 AreWithin Strip = Unit {0}
 AreWithin (Gen g) = IsWithin g
 
@@ -49,3 +83,5 @@ AreWithin (Gen g) = IsWithin g
 pub record IsPlain (name : List ℕ) : Type 0 where
   pub compile : name ≡ codes "compile" → ⊥
   pub listing : name ≡ codes "listing" → ⊥
+  pub report : name ≡ codes "report" → ⊥
+  pub run : name ≡ codes "run" → ⊥

@@ -3,7 +3,8 @@ use Rattle.std.specs.Prelude.{ℕ, List, [], ◌∷◌, ◌++◌, codes, Option,
 use Rattle.std.specs.Fmt.{decimal}
 use Rattle.refusal.specs.Kind as kind
 use Rattle.command_line.specs.declared.fault.Fault.{Fault}
-use Rattle.command_line.specs.declared.fault.Fault.TheVariants.{Usage, Read, TooLong, Refused, NoFunction, FrameTooLarge, SectionTooLarge, Write, Memory}
+use Rattle.command_line.specs.declared.fault.Fault.TheVariants.{Usage, Read, TooLong, Refused, NoFunction, UnknownFunction}
+use Rattle.command_line.specs.declared.fault.Fault.TheVariants.{FrameTooLarge, SectionTooLarge, Write, Memory}
 use Rattle.command_line.specs.declared.status.Status.{Status}
 use Rattle.command_line.specs.declared.status.Status.TheVariants as status
 
@@ -12,6 +13,7 @@ abbrev pub input_line : Fault → Option ℕ
 input_line (Refused r) = Some r.line
 input_line TooLong = Some 0
 input_line NoFunction = Some 0
+input_line UnknownFunction = Some 0
 input_line FrameTooLarge = Some 0
 input_line SectionTooLarge = Some 0
 input_line Usage = None
@@ -24,6 +26,7 @@ abbrev pub name_of : Fault → List ℕ
 name_of (Refused r) = kind.name_of r.kind
 name_of TooLong = codes "TooLong"
 name_of NoFunction = codes "NoFunction"
+name_of UnknownFunction = codes "UnknownFunction"
 name_of FrameTooLarge = codes "FrameTooLarge"
 name_of SectionTooLarge = codes "SectionTooLarge"
 name_of Usage = codes "usage"
@@ -47,6 +50,7 @@ status_of Read = status.ReadFault
 status_of TooLong = status.Refused
 status_of (Refused r) = status.Refused
 status_of NoFunction = status.Refused
+status_of UnknownFunction = status.Refused
 status_of FrameTooLarge = status.Refused
 status_of SectionTooLarge = status.Refused
 status_of Write = status.WriteFault

@@ -2,16 +2,24 @@
 
 ghost use Rattle.std.specs.Prelude.{◌≡◌, ◌↔◌, ◌∷◌, [], List, map, string_bytes, Some, IfOk};
 ghost use Rattle.command_line.specs.Command.{IsCommand, IsPlain, GivesPlan, IsPlanOf, reserve_in};
+ghost use Rattle.command_line.specs.Command.{GivesRun, GivesSteps, IsRunPlanOf, numbers_in};
 ghost use Rattle.command_line.specs.declared.command.Command.{Command};
 ghost use Rattle.command_line.specs.declared.command.Plan.{Plan};
+ghost use Rattle.command_line.specs.declared.command.RunPlan.{RunPlan};
 
 use command_numbers::generation::{Generation, asked};
+use command_numbers::list::Numbers;
+use command_numbers::number::number;
 use command_options::given::Options;
 use command_options::options::options;
 use pass_list::kind::is_same;
 use pass_list::list::PassList;
+use rv64_instr::name::Name;
 use rv64_instr::reg::Registers;
 use std::alloc::{AllocError, Global};
+
+/// How many steps a run may have.
+const MAX_STEPS: u64 = 1_000_000;
 
 /// What runs on each function before it is compiled.
 #[derive(Debug, Drop)]
@@ -22,6 +30,21 @@ pub struct Plan {
     pub reserve: Registers,
 }
 
+/// The run of a function.
+#[derive(Debug, Drop)]
+pub struct RunPlan {
+    /// The function's name.
+    pub name: Name,
+    /// How many steps it makes at most: 0 to 1,000,000.
+    pub steps: u32,
+    /// What runs on each function before it is compiled.
+    pub plan: Plan,
+    /// The numbers that the function is called with.
+    pub arguments: Numbers,
+    /// The numbers that its calls answer.
+    pub answers: Numbers,
+}
+
 /// What the program is asked to do.
 #[derive(Debug, Drop)]
 pub enum Command {
@@ -29,16 +52,22 @@ pub enum Command {
     Compile(Plan),
     /// Writes the listing of each function alone after passes.
     Listing(Plan),
+    /// Writes of each function after passes how many of its words each variable can be found at, and what passes lost.
+    Report(Plan),
+    /// Writes the steps of a function's machine code, with what its variables hold.
+    Run(RunPlan),
     /// Writes each function without its debug items.
     Strip,
     /// Writes a function that is made up.
     Gen(Generation),
 }
 
-/// The command that the words are: `compile` or `listing` with options in any order, a list of passes, as
-/// `--passes=copy,fold` or `--passes=none`, and if wanted registers that may be spilled, as `--reserve=x8,x18`;
-/// `strip`; or `gen` with the number of a function, 0 to 65,536, and how many blocks it has, 1 to 512. None where they
-/// are no command.
+/// The command that the words are: `compile`, `listing` or `report` with options in any order, a list of passes, as
+/// `--passes=copy,fold` or `--passes=none`, and if wanted registers that may be spilled, as `--reserve=x8,x18`; `run`
+/// with a function's name, how many steps it makes at most, 0 to 1,000,000, and such options, among which may be the
+/// numbers that it is called with, as `--args=1,2`, and those that its calls answer, as `--answers=3`; `strip`; or
+/// `gen` with the number of a function, 0 to 65,536, and how many blocks it has, 1 to 512. None where they are no
+/// command.
 pub fn parse(alloc: Global, words: &[String]) -> Result<Option<Command>, AllocError>
     ensures { IfOk result (λ o. (command : Command) →
         (o ≡ Some command) ↔ IsCommand (map string_bytes words.now) command) }
@@ -63,6 +92,18 @@ fn named(alloc: Global, name: &str, words: &[String]) -> Result<Option<Command>,
     if is_same(name, "listing") {
         return match plan_asked(alloc, words)? {
             Some(plan) => Ok(Some(Command::Listing(plan))),
+            None => Ok(None),
+        };
+    }
+    if is_same(name, "report") {
+        return match plan_asked(alloc, words)? {
+            Some(plan) => Ok(Some(Command::Report(plan))),
+            None => Ok(None),
+        };
+    }
+    if is_same(name, "run") {
+        return match run_asked(alloc, words)? {
+            Some(found) => Ok(Some(Command::Run(found))),
             None => Ok(None),
         };
     }
@@ -116,6 +157,71 @@ fn plan_of(alloc: Global, given: Options) -> Option<Plan>
             reserve: reserve_in(alloc, reserve),
         }),
         None => None,
+    }
+}
+
+/// The run that words ask for: a function's name, how many steps, and options. None where they ask for none.
+fn run_asked(alloc: Global, words: &[String]) -> Result<Option<RunPlan>, AllocError>
+    ensures { IfOk result (λ o. (run : RunPlan) → (o ≡ Some run) ↔ GivesRun (map string_bytes words.now) run) }
+{
+    match words {
+        [name, steps, rest @ ..] => steps_asked(alloc, name.as_str(), steps.as_str(), rest),
+        _ => Ok(None),
+    }
+}
+
+/// The run of the function of a name that a word, how many steps, and options ask for.
+fn steps_asked(
+    alloc: Global,
+    name: &str,
+    steps: &str,
+    words: &[String],
+) -> Result<Option<RunPlan>, AllocError>
+    ensures { IfOk result (λ o. (run : RunPlan) →
+        (o ≡ Some run) ↔ GivesSteps name.now steps.now (map string_bytes words.now) run) }
+{
+    let Some(count) = number(steps, MAX_STEPS) else {
+        return Ok(None);
+    };
+    let Some(given) = options(alloc, words)? else {
+        return Ok(None);
+    };
+    let name = Name::from_slice(alloc, name.as_bytes())?;
+    Ok(run_of(alloc, name, count as u32, given))
+}
+
+/// The run of the function of a name, of so many steps, with options.
+fn run_of(alloc: Global, name: Name, steps: u32, given: Options) -> Option<RunPlan>
+    ensures { (run : RunPlan) → (result ≡ Some run) ↔ IsRunPlanOf name steps given run }
+{
+    let Options {
+        passes,
+        reserve,
+        arguments,
+        answers,
+    } = given;
+    match passes {
+        Some(passes) => Some(RunPlan {
+            name,
+            steps,
+            plan: Plan {
+                passes,
+                reserve: reserve_in(alloc, reserve),
+            },
+            arguments: numbers_in(alloc, arguments),
+            answers: numbers_in(alloc, answers),
+        }),
+        None => None,
+    }
+}
+
+/// The numbers of an option: none where there is no such option.
+fn numbers_in(alloc: Global, given: Option<Numbers>) -> Numbers
+    ensures { result ≡ numbers_in given }
+{
+    match given {
+        Some(numbers) => numbers,
+        None => Numbers::new(alloc),
     }
 }
 

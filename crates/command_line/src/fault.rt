@@ -21,6 +21,8 @@ pub enum Fault {
     Refused(Refusal),
     /// The input has no function.
     NoFunction,
+    /// The input has no function of the name that is asked for.
+    UnknownFunction,
     /// The frame of a function would have more than 2,032 bytes.
     FrameTooLarge,
     /// A section of the output would have 2^31 bytes or more.
@@ -47,7 +49,7 @@ impl Fault {
     {
         match self {
             Fault::Refused(refusal) => Some(refusal.line),
-            Fault::TooLong | Fault::NoFunction => Some(0),
+            Fault::TooLong | Fault::NoFunction | Fault::UnknownFunction => Some(0),
             Fault::FrameTooLarge | Fault::SectionTooLarge => Some(0),
             Fault::Usage | Fault::Read | Fault::Write | Fault::Memory => None,
         }
@@ -63,6 +65,7 @@ impl Fault {
             Fault::TooLong => "TooLong",
             Fault::Refused(refusal) => refusal.kind.name(),
             Fault::NoFunction => "NoFunction",
+            Fault::UnknownFunction => "UnknownFunction",
             Fault::FrameTooLarge => "FrameTooLarge",
             Fault::SectionTooLarge => "SectionTooLarge",
             Fault::Write => "write",
@@ -78,6 +81,7 @@ impl Fault {
             Fault::Usage => Status::Usage,
             Fault::Read => Status::ReadFault,
             Fault::TooLong | Fault::Refused(_) | Fault::NoFunction => Status::Refused,
+            Fault::UnknownFunction => Status::Refused,
             Fault::FrameTooLarge | Fault::SectionTooLarge => Status::Refused,
             Fault::Write => Status::WriteFault,
             Fault::Memory => Status::Memory,

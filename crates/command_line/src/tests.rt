@@ -10,7 +10,7 @@ use std::test::Fail;
 
 /// Words of a command line, and the command that they are, as its name, its passes, and how many registers it has in
 /// reserve.
-const ROWS: [(&str, Option<(&str, &[PassKind], usize)>); 26] = [
+const ROWS: [(&str, Option<(&str, &[PassKind], usize)>); 37] = [
     ("compile --passes=none", Some(("compile", &[], 0))),
     (
         "compile --passes=copy,remat,spill,fold",
@@ -33,6 +33,15 @@ const ROWS: [(&str, Option<(&str, &[PassKind], usize)>); 26] = [
         "listing --reserve=x9 --passes=copy",
         Some(("listing", &[PassKind::Copy], 1)),
     ),
+    (
+        "report --passes=copy,fold",
+        Some(("report", &[PassKind::Copy, PassKind::Fold], 0)),
+    ),
+    ("run f 1000000 --passes=none", Some(("run", &[], 0))),
+    (
+        "run strip 0 --answers=7 --passes=spill --reserve=x8 --args=1,2,3",
+        Some(("run", &[PassKind::Spill], 1)),
+    ),
     ("strip", Some(("strip", &[], 0))),
     ("gen 0 1", Some(("gen", &[], 0))),
     ("gen 65536 512", Some(("gen", &[], 0))),
@@ -45,6 +54,14 @@ const ROWS: [(&str, Option<(&str, &[PassKind], usize)>); 26] = [
     ("compile --passes=none --passes=remat", None),
     ("compile --passes=remat,remat", None),
     ("compile --passes=none strip", None),
+    ("report", None),
+    ("report --passes=none --answers=1", None),
+    ("run f --passes=none", None),
+    ("run f 1", None),
+    ("run f 1000001 --passes=none", None),
+    ("run 1 f --passes=none", None),
+    ("run --passes=none f 1", None),
+    ("run f 1 --passes=none --args=", None),
     ("--passes=none compile", None),
     ("strip --passes=none", None),
     ("Strip", None),
@@ -67,6 +84,8 @@ fn is_command(command: &Command, name: &str, passes: &[PassKind], registers: usi
     match command {
         Command::Compile(plan) => name == "compile" && is_plan(plan, passes, registers),
         Command::Listing(plan) => name == "listing" && is_plan(plan, passes, registers),
+        Command::Report(plan) => name == "report" && is_plan(plan, passes, registers),
+        Command::Run(run) => name == "run" && is_plan(&run.plan, passes, registers),
         Command::Strip => name == "strip",
         Command::Gen(_) => name == "gen",
     }
@@ -92,6 +111,29 @@ fn words_of_commands(rt: HostRuntime) -> Result<(), Fail> {
 }
 
 #[test]
+fn words_of_runs(rt: HostRuntime) -> Result<(), Fail> {
+    let mut words = Vec::new(rt.alloc());
+    for word in [
+        "run",
+        "sum",
+        "44",
+        "--args=5,6",
+        "--passes=none",
+        "--answers=7",
+    ] {
+        words.push(String::from_str(rt.alloc(), word)?)?;
+    }
+    let Some(Command::Run(run)) = parse(rt.alloc(), &words)? else {
+        return Err(Fail::from("no run"));
+    };
+    assert_eq!(rt; run.name.as_slice(), b"sum".as_slice());
+    assert_eq!(rt; run.steps, 44);
+    assert_eq!(rt; run.arguments.as_slice(), [5, 6].as_slice());
+    assert_eq!(rt; run.answers.as_slice(), [7].as_slice());
+    Ok(())
+}
+
+#[test]
 fn faults_tell(rt: HostRuntime) -> Result<(), Fail> {
     let refused = Fault::Refused(Refusal {
         line: 237,
@@ -105,6 +147,13 @@ fn faults_tell(rt: HostRuntime) -> Result<(), Fail> {
         (refused, Some(237), "TooMany", Status::Refused, 1),
         (Fault::TooLong, Some(0), "TooLong", Status::Refused, 1),
         (Fault::NoFunction, Some(0), "NoFunction", Status::Refused, 1),
+        (
+            Fault::UnknownFunction,
+            Some(0),
+            "UnknownFunction",
+            Status::Refused,
+            1,
+        ),
         (
             Fault::FrameTooLarge,
             Some(0),

@@ -7,7 +7,7 @@ ghost use Rattle.debugify_report.specs.Report.{cover_of, covers_of, report_of};
 use crate::covers::covered;
 use crate::report::{Cover, Covers, Names, Report};
 use code_words::code::Code;
-use dwarf_loclists::range::{RangeLists, Ranges};
+use dwarf_loclists::range::Ranges;
 use follow_law::loss::Losses;
 use rv64_instr::name::Name;
 use std::alloc::{AllocError, Global};
@@ -18,7 +18,7 @@ pub fn make_report(
     alloc: Global,
     code: &Code,
     names: &Names,
-    lists: &RangeLists,
+    lists: &[Ranges],
     losses: &Losses,
 ) -> Result<Report, AllocError>
     // There are as many names as lists.
@@ -30,7 +30,7 @@ pub fn make_report(
     Ok(Report {
         name: code.framed.name.copy()?,
         words: code.words.len() as u64,
-        covers: covers(alloc, code, names.as_slice(), lists.as_slice())?,
+        covers: covers(alloc, code, names.as_slice(), lists)?,
         losses: losses.copy()?,
     })
 }

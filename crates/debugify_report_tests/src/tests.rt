@@ -75,7 +75,7 @@ fn reports_covers_and_losses(rt: HostRuntime) -> Result<(), Fail> {
         return Err(Fail::from("lists that can't be written"));
     }
     let losses = losses(rt.alloc())?;
-    let report = make_report(rt.alloc(), &code, &names, &lists, &losses)?;
+    let report = make_report(rt.alloc(), &code, &names, lists.as_slice(), &losses)?;
     let text = print_report(rt.alloc(), &report)?;
     assert_eq!(rt;
         text.as_slice(),

@@ -44,7 +44,7 @@ use Rattle.pass_list.specs.declared.kind.PassKind.{PassKind}
 use Rattle.pass_loop.specs.Passes.{steps_of, any_asks, all_keep, Fit, numbers_after, slots_after, KeepsGrowth}
 use Rattle.pass_loop.specs.Shown.{HasMark, HasPhi, IsGiven, KeepsShown}
 use Rattle.function_passes.proofs.Accepted.{IsAccepted}
-use Rattle.function_passes.specs.Passed.{MAX_PASSED, IsMadeBy, IsCompilable, passed_of}
+use Rattle.function_passes.specs.Passed.{MAX_PASSED, IsMadeLosing, IsCompilable, passed_of}
 use Rattle.reading_laws.specs.Read.{EntryIsLimited, IsReadFunction}
 use Rattle.typed_items.specs.Typed.{IsTypedBlock, IsTypedItem, IsTypedKind, IsTypedPlace, IsTypedEntry}
 use Rattle.unit_entries.specs.Variables.{variables_of_function}
@@ -272,12 +272,10 @@ module _ (meta : Maps) (q : Parsed) (passes : List PassKind) (g : Function) (gs 
       le_trans growth.items (le_trans (after_more passes (item_count g) MAX_ITEMS copied) accepted.items)
 
   pub made_after : (reserve : List ℕ) (losses : List Loss) → KeepsSteps (steps_of reserve passes) (change g gs f subs) losses →
-      IsMadeBy (steps_of reserve passes) (passed_of q f subs)
-  made_after reserve losses kept = record {
-    losses = losses;
-    kept = subst (λ (es : List Entry). KeepsSteps (steps_of reserve passes) (change q.func es f subs) losses) entries_same
-        (subst (λ (h : Function). KeepsSteps (steps_of reserve passes) (change h gs f subs) losses) same kept);
-  }
+      IsMadeLosing (steps_of reserve passes) (passed_of q f subs) losses
+  made_after reserve losses kept =
+      subst (λ (es : List Entry). KeepsSteps (steps_of reserve passes) (change q.func es f subs) losses) entries_same
+      (subst (λ (h : Function). KeepsSteps (steps_of reserve passes) (change h gs f subs) losses) same kept)
 
   pub compilable_after : IsSound f → (Fit passes → KeepsFollowing (any_asks passes) (all_keep passes) (change g gs f subs)) →
       KeepsGrowth passes (change g gs f subs) → KeepsShown g f → All IsTypedBlock f.blocks → All IsTypedEntry subs →

@@ -23,10 +23,14 @@ source_of p = record { function = p.func; substitutions = p.subs }
 abbrev pub passed_of : Parsed → (function : Function) → (substitutions : List Entry) → PassedFunction
 passed_of p f subs = record { source = source_of p; function = f; substitutions = subs }
 
+-- steps of passes made the function of its source, one after the other, and lost this on the way
+abbrev pub IsMadeLosing : List Step → PassedFunction → List Loss → Type 0
+IsMadeLosing steps p losses = KeepsSteps steps (change p.source.function p.source.substitutions p.function p.substitutions) losses
+
 -- steps of passes made the function of its source, one after the other
 pub record IsMadeBy (steps : List Step) (p : PassedFunction) : Type 0 where
   pub losses : List Loss
-  pub kept : KeepsSteps steps (change p.source.function p.source.substitutions p.function p.substitutions) losses
+  pub kept : IsMadeLosing steps p losses
 
 -- the function follows its source, it is as every pass keeps it, and its listing is printable
 pub record IsCompilable (meta : Maps) (p : PassedFunction) : Type 0 where

@@ -1,12 +1,13 @@
 //! What passes make of a function that was read.
 
 ghost use Rattle.std.specs.Prelude.{◌≤◌, All, IfOk, length};
-ghost use Rattle.function_passes.specs.Passed.{IsMadeBy, IsCompilable, MAX_PASSED, passed_of};
+ghost use Rattle.function_passes.specs.Passed.{IsMadeLosing, IsCompilable, MAX_PASSED, passed_of};
 ghost use Rattle.mir_func.specs.Sound.{items_of};
 ghost use Rattle.pass_list.specs.Names.{AreDistinct};
 ghost use Rattle.pass_loop.specs.Passes.{steps_of};
 ghost use Rattle.reading_laws.specs.Read.{IsReadFunction, EntryIsLimited};
 
+use follow_law::loss::Losses;
 use meta_reader::metadata::Metadata;
 use mir_func::func::Func;
 use mir_parser::closing::Parsed;
@@ -24,6 +25,8 @@ pub struct Passed {
     pub function: Func,
     /// Its debug value substitutions, the source's among them.
     pub substitutions: Substitutions,
+    /// What the passes lost, in the order of the passes.
+    pub losses: Losses,
 }
 
 /// What passes, each at most once, make of a function that was read beside metadata. The reserve has the registers that
@@ -41,16 +44,17 @@ pub fn after_passes(
     ensures compilable { IfOk result (λ p.
         IsCompilable _meta.now (passed_of source.now p.function p.substitutions)) }
     ensures made { IfOk result (λ p.
-        IsMadeBy (steps_of reserve.now passes.now) (passed_of source.now p.function p.substitutions)) }
+        IsMadeLosing (steps_of reserve.now passes.now) (passed_of source.now p.function p.substitutions) p.losses) }
     ensures few { IfOk result (λ p. length (items_of p.function.blocks) ≤ MAX_PASSED) }
 {
     let mut function = source.func.copy()?;
     let mut substitutions = source.subs.copy()?;
-    let _losses = run_passes(alloc, passes, reserve, &mut function, &mut substitutions)?;
+    let losses = run_passes(alloc, passes, reserve, &mut function, &mut substitutions)?;
     blocks_are_typed(function.blocks.as_slice());
     entries_are_typed(substitutions.entries());
     Ok(Passed {
         function,
         substitutions,
+        losses,
     })
 }

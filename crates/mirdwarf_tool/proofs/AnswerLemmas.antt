@@ -4,11 +4,14 @@ use Rattle.std.proofs.Common.{◌≡◌, ℕ, List}
 use Rattle.mir_parser.specs.declared.program.Program.{Program}
 use Rattle.command_line.specs.declared.command.Command.{Command}
 use Rattle.command_line.specs.declared.command.Plan.{Plan}
-use Rattle.command_line.specs.declared.command.Command.TheVariants.{Compile, Listing, Strip, Gen}
+use Rattle.command_line.specs.declared.command.RunPlan.{RunPlan}
+use Rattle.command_line.specs.declared.command.Command.TheVariants.{Compile, Listing, Report, Run, Strip}
 use Rattle.command_line.specs.declared.fault.Fault.{Fault}
-use Rattle.command_line.specs.declared.fault.Fault.TheVariants.{Usage, Read, TooLong, Refused, NoFunction, FrameTooLarge, SectionTooLarge, Write, Memory}
-use Rattle.mirdwarf_tool.specs.Answer.{HasFunctions, IsReader, Answers, RefusesProgram, RefusesToCompile, RefusesToWrite, RefusesText}
-use Rattle.mirdwarf_tool.specs.Run.{HasReadProgram, HasReadNone, RefusesRead, AnswersRead, AnswersInput, ReadingEnds}
+use Rattle.command_line.specs.declared.fault.Fault.TheVariants.{Usage, Read, TooLong, Refused, NoFunction, UnknownFunction}
+use Rattle.command_line.specs.declared.fault.Fault.TheVariants.{FrameTooLarge, SectionTooLarge, Write, Memory}
+use Rattle.compiled_run.specs.Source.{IsUnknown}
+use Rattle.mirdwarf_tool.specs.Answer.{IsReader, Answers, RefusesToCompile, RefusesToWrite, RefusesToRun}
+use Rattle.mirdwarf_tool.specs.Run.{HasReadProgram, HasReadNone, AnswersRead, AnswersInput, ReadingEnds}
 use Rattle.mirdwarf_tool.specs.Stream.{Change}
 use Rattle.mirdwarf_tool.specs.Compiled.{plan_steps}
 
@@ -22,6 +25,13 @@ module _ (command : Command) (input : Change) (program : Program) (read : HasRea
 
   -- or why it writes nothing
   held_back : IsReader command → (fault : Fault) → RefusesToWrite command program fault → ReadingEnds command input fault
+  held_back reads UnknownFunction refused =
+      record {
+        reads = reads;
+        text = read.text;
+        read = read.read;
+        refused = record { program = program; has = read.has; refused = refused };
+      }
   held_back reads FrameTooLarge refused =
       record {
         reads = reads;
@@ -52,6 +62,7 @@ read_none command reads input Memory none = tt
 read_none command reads input TooLong none = (reads, none)
 read_none command reads input (Refused r) none = record { reads = reads; text = none.text; read = none.read; refused = none.refused }
 read_none command reads input NoFunction none = record { reads = reads; text = none.text; read = none.read; refused = none.refused }
+read_none command reads input UnknownFunction none = absurd none
 read_none command reads input FrameTooLarge none = absurd none
 read_none command reads input SectionTooLarge none = absurd none
 read_none command reads input Usage none = absurd none
@@ -66,6 +77,7 @@ by_compile plan program SectionTooLarge refused = refused
 by_compile plan program Memory refused = tt
 by_compile plan program (Refused r) refused = refused
 by_compile plan program NoFunction refused = refused
+by_compile plan program UnknownFunction refused = refused
 by_compile plan program Usage refused = refused
 by_compile plan program Read refused = refused
 by_compile plan program TooLong refused = refused
@@ -78,10 +90,38 @@ by_listing plan program SectionTooLarge refused = refused
 by_listing plan program Memory refused = tt
 by_listing plan program (Refused r) refused = refused
 by_listing plan program NoFunction refused = refused
+by_listing plan program UnknownFunction refused = refused
 by_listing plan program Usage refused = refused
 by_listing plan program Read refused = refused
 by_listing plan program TooLong refused = refused
 by_listing plan program Write refused = refused
+
+by_report : (plan : Plan) (program : Program) (fault : Fault) → RefusesToCompile (plan_steps plan) program fault →
+    RefusesToWrite (Report plan) program fault
+by_report plan program FrameTooLarge refused = refused
+by_report plan program SectionTooLarge refused = refused
+by_report plan program Memory refused = tt
+by_report plan program (Refused r) refused = refused
+by_report plan program NoFunction refused = refused
+by_report plan program UnknownFunction refused = refused
+by_report plan program Usage refused = refused
+by_report plan program Read refused = refused
+by_report plan program TooLong refused = refused
+by_report plan program Write refused = refused
+
+-- a run compiles a program that has the function
+pub by_run : (run : RunPlan) (program : Program) (fault : Fault) → (IsUnknown run.name program.functions → ⊥) →
+    RefusesToCompile (plan_steps run.plan) program fault → RefusesToRun run program fault
+by_run run program FrameTooLarge known refused = (known, refused)
+by_run run program SectionTooLarge known refused = (known, refused)
+by_run run program Memory known refused = tt
+by_run run program (Refused r) known refused = refused
+by_run run program NoFunction known refused = refused
+by_run run program UnknownFunction known refused = absurd refused
+by_run run program Usage known refused = refused
+by_run run program Read known refused = refused
+by_run run program TooLong known refused = refused
+by_run run program Write known refused = refused
 
 module _ (plan : Plan) (input : Change) (program : Program) (read : HasReadProgram input program) where
   pub compile_ok : (r : Result (List ℕ) Fault) → IfOk r (Answers (Compile plan) program) → IfOk r (AnswersInput (Compile plan) input)
@@ -100,6 +140,23 @@ module _ (plan : Plan) (input : Change) (program : Program) (read : HasReadProgr
   listing_err (Ok output) refused = tt
   listing_err (Err fault) refused = held_back (Listing plan) input program read tt fault (by_listing plan program fault refused)
 
+  pub report_ok : (r : Result (List ℕ) Fault) → IfOk r (Answers (Report plan) program) → IfOk r (AnswersInput (Report plan) input)
+  report_ok (Ok output) answers = read_answers (Report plan) input program read output answers
+  report_ok (Err fault) answers = tt
+
+  pub report_err : (r : Result (List ℕ) Fault) → IfErr r (RefusesToCompile (plan_steps plan) program) → IfErr r (ReadingEnds (Report plan) input)
+  report_err (Ok output) refused = tt
+  report_err (Err fault) refused = held_back (Report plan) input program read tt fault (by_report plan program fault refused)
+
+module _ (run : RunPlan) (input : Change) (program : Program) (read : HasReadProgram input program) where
+  pub run_ok : (r : Result (List ℕ) Fault) → IfOk r (Answers (Run run) program) → IfOk r (AnswersInput (Run run) input)
+  run_ok (Ok output) answers = read_answers (Run run) input program read output answers
+  run_ok (Err fault) answers = tt
+
+  pub run_err : (r : Result (List ℕ) Fault) → IfErr r (RefusesToRun run program) → IfErr r (ReadingEnds (Run run) input)
+  run_err (Ok output) refused = tt
+  run_err (Err fault) refused = held_back (Run run) input program read tt fault refused
+
 -- ---- the others
 
 pub strip_ok : (input : Change) (program : Program) (output : List ℕ) → HasReadProgram input program → Answers Strip program output →
@@ -108,6 +165,7 @@ strip_ok input program output read answers = read_answers Strip input program re
 
 pub memory_ends : (command : Command) (input : Change) (fault : Fault) → fault ≡ Memory → ReadingEnds command input fault
 memory_ends command input Memory is = tt
+memory_ends command input UnknownFunction is = absurd cc
 memory_ends command input FrameTooLarge is = absurd cc
 memory_ends command input SectionTooLarge is = absurd cc
 memory_ends command input (Refused r) is = absurd cc

@@ -1,5 +1,5 @@
 -- What the command that makes up a function wrote.
-use Rattle.std.proofs.Common.{◌≡◌, ℕ, List, sym, ◌∙◌, subst}
+use Rattle.std.proofs.Common.{◌≡◌, ℕ, List, subst}
 use Rattle.command_line.specs.declared.command.Command.{Command}
 use Rattle.command_line.specs.declared.command.Command.TheVariants.{Gen}
 use Rattle.command_line.specs.Command.{IsCommand}

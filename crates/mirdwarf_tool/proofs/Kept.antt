@@ -1,5 +1,5 @@
 -- What the command that compiles wrote keeps each promise of the output that it is the text of.
-use Rattle.std.proofs.Common.{◌≡◌, ℕ, List}
+use Rattle.std.proofs.Common.{ℕ, List}
 use Rattle.command_line.specs.declared.command.Plan.{Plan}
 use Rattle.command_line.specs.declared.command.Command.TheVariants.{Compile}
 use Rattle.command_line.specs.Command.{IsCommand}

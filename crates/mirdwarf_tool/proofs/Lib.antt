@@ -7,3 +7,4 @@ pub mod RunLemmas
 pub mod Kept
 pub mod Stripped
 pub mod Generated
+pub mod Written

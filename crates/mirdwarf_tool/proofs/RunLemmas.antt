@@ -5,11 +5,12 @@ use Rattle.io_edge.specs.Told.{Takes, TakesCount}
 use Rattle.io_edge.proofs.ToldLemmas.{Takes-told, TakesCount-told}
 use Rattle.command_line.specs.declared.command.Command.{Command}
 use Rattle.command_line.specs.declared.command.Plan.{Plan}
-use Rattle.command_line.specs.declared.command.Command.TheVariants.{Compile, Listing, Strip, Gen}
+use Rattle.command_line.specs.declared.command.Command.TheVariants.{Compile, Listing, Report, Run, Strip, Gen}
 use Rattle.command_line.specs.Command.{IsCommand}
 use Rattle.command_line.proofs.Words.{one_command}
 use Rattle.command_line.specs.declared.fault.Fault.{Fault}
-use Rattle.command_line.specs.declared.fault.Fault.TheVariants.{Usage, Read, TooLong, Refused, NoFunction, FrameTooLarge, SectionTooLarge, Write, Memory}
+use Rattle.command_line.specs.declared.fault.Fault.TheVariants.{Usage, Read, TooLong, Refused, NoFunction, UnknownFunction}
+use Rattle.command_line.specs.declared.fault.Fault.TheVariants.{FrameTooLarge, SectionTooLarge, Write, Memory}
 use Rattle.command_line.specs.declared.status.Status.TheVariants as status
 use Rattle.command_line.specs.Fault.{status_of, line_of}
 use Rattle.mir_parser.specs.declared.program.Program.{Program}
@@ -81,6 +82,7 @@ is_usage Read e = cc
 is_usage TooLong e = cc
 is_usage (Refused r) e = cc
 is_usage NoFunction e = cc
+is_usage UnknownFunction e = cc
 is_usage FrameTooLarge e = cc
 is_usage SectionTooLarge e = cc
 is_usage Write e = cc
@@ -92,6 +94,7 @@ is_read Read e = refl
 is_read TooLong e = cc
 is_read (Refused r) e = cc
 is_read NoFunction e = cc
+is_read UnknownFunction e = cc
 is_read FrameTooLarge e = cc
 is_read SectionTooLarge e = cc
 is_read Write e = cc
@@ -103,6 +106,7 @@ is_write Read e = cc
 is_write TooLong e = cc
 is_write (Refused r) e = cc
 is_write NoFunction e = cc
+is_write UnknownFunction e = cc
 is_write FrameTooLarge e = cc
 is_write SectionTooLarge e = cc
 is_write Write e = refl
@@ -114,6 +118,7 @@ is_memory Read e = cc
 is_memory TooLong e = cc
 is_memory (Refused r) e = cc
 is_memory NoFunction e = cc
+is_memory UnknownFunction e = cc
 is_memory FrameTooLarge e = cc
 is_memory SectionTooLarge e = cc
 is_memory Write e = cc
@@ -125,6 +130,7 @@ not_done Read e = cc
 not_done TooLong e = cc
 not_done (Refused r) e = cc
 not_done NoFunction e = cc
+not_done UnknownFunction e = cc
 not_done FrameTooLarge e = cc
 not_done SectionTooLarge e = cc
 not_done Write e = cc
@@ -142,6 +148,7 @@ pub refusal : (words : List (List ℕ)) (input output faults : Change) (fault : 
 refusal words input output faults TooLong e ended told = tells words input faults TooLong ended ended.ended told
 refusal words input output faults (Refused r) e ended told = tells words input faults (Refused r) ended ended.ended told
 refusal words input output faults NoFunction e ended told = tells words input faults NoFunction ended ended.ended told
+refusal words input output faults UnknownFunction e ended told = tells words input faults UnknownFunction ended ended.ended told
 refusal words input output faults FrameTooLarge e ended told = tells words input faults FrameTooLarge ended ended.ended told
 refusal words input output faults SectionTooLarge e ended told = tells words input faults SectionTooLarge ended ended.ended told
 refusal words input output faults Usage e ended told = absurd cc
@@ -152,6 +159,7 @@ refusal words input output faults Memory e ended told = absurd cc
 -- ---- what is answered isn't refused
 
 writes_or_memory : (command : Command) (program : Program) (fault : Fault) → IsAnswered command program → RefusesToWrite command program fault → fault ≡ Memory
+writes_or_memory command program UnknownFunction answered refused = absurd (answered.named refused)
 writes_or_memory command program FrameTooLarge answered refused = absurd (answered.frames refused)
 writes_or_memory command program SectionTooLarge answered refused = absurd (answered.sections refused)
 writes_or_memory command program Memory answered refused = refl
@@ -168,6 +176,9 @@ answered_or_memory command text program (Refused r) has answered refused = absur
 answered_or_memory command text program NoFunction has answered refused =
     let same : program ≡ refused.program = programs_one text program refused.program has.reads refused.reads in
     absurd (has.some (ap (λ (p : Program). p.functions) same ∙ refused.no_one))
+answered_or_memory command text program UnknownFunction has answered refused =
+    let same : refused.program ≡ program = programs_one text refused.program program refused.has.reads has.reads in
+    writes_or_memory command program UnknownFunction answered (subst (λ (p : Program). RefusesToWrite command p UnknownFunction) same refused.refused)
 answered_or_memory command text program FrameTooLarge has answered refused =
     let same : refused.program ≡ program = programs_one text refused.program program refused.has.reads has.reads in
     writes_or_memory command program FrameTooLarge answered (subst (λ (p : Program). RefusesToWrite command p FrameTooLarge) same refused.refused)
@@ -195,6 +206,8 @@ not_too_long command input form long =
 by_text : (command : Command) (left : Option (List ℕ)) → IsReader command → IsAnswerable command left → IsAnswerableText command left
 by_text (Compile plan) left reads form = form
 by_text (Listing plan) left reads form = form
+by_text (Report plan) left reads form = form
+by_text (Run run) left reads form = form
 by_text Strip left reads form = form
 by_text (Gen g) left reads form = absurd reads
 
@@ -226,6 +239,8 @@ module _ (command : Command) (words : List (List ℕ)) (input output : Change) (
       absurd (not_too_long command input (by_text command input.before.bytes ended.0 form) ended.1)
   memory_alone (Refused r) explains = not_refused command input (Refused r) form (ended_as_asked command words input (Refused r) asked explains)
   memory_alone NoFunction explains = not_refused command input NoFunction form (ended_as_asked command words input NoFunction asked explains)
+  memory_alone UnknownFunction explains =
+      not_refused command input UnknownFunction form (ended_as_asked command words input UnknownFunction asked explains)
   memory_alone FrameTooLarge explains = not_refused command input FrameTooLarge form (ended_as_asked command words input FrameTooLarge asked explains)
   memory_alone SectionTooLarge explains =
       not_refused command input SectionTooLarge form (ended_as_asked command words input SectionTooLarge asked explains)

@@ -8,9 +8,13 @@ use Rattle.mir_parser.specs.Program.{ReadsText}
 use Rattle.program_compiler.specs.Program.{HasLargeFrame, HasLargeSection}
 use Rattle.strip_text.specs.StripText.{stripped_text}
 use Rattle.command_line.specs.declared.command.Command.{Command}
-use Rattle.command_line.specs.declared.command.Command.TheVariants.{Compile, Listing, Strip, Gen}
+use Rattle.command_line.specs.declared.command.Command.TheVariants.{Compile, Listing, Report, Run, Strip, Gen}
 use Rattle.command_line.specs.declared.fault.Fault.{Fault}
-use Rattle.command_line.specs.declared.fault.Fault.TheVariants.{Usage, Read, TooLong, Refused, NoFunction, FrameTooLarge, SectionTooLarge, Write, Memory}
+use Rattle.command_line.specs.declared.fault.Fault.TheVariants.{Usage, Read, TooLong, Refused, NoFunction, UnknownFunction}
+use Rattle.command_line.specs.declared.fault.Fault.TheVariants.{FrameTooLarge, SectionTooLarge, Write, Memory}
+use Rattle.command_line.specs.declared.command.RunPlan.{RunPlan}
+use Rattle.compiled_report.specs.Reported.{IsReportText}
+use Rattle.compiled_run.specs.Source.{IsUnknown, IsRunOfProgram}
 use Rattle.mirdwarf_tool.specs.Compiled.{plan_steps, IsCompiledText, IsListingText}
 
 -- a text stands for a program with a function
@@ -22,6 +26,8 @@ pub record HasFunctions (text : List ℕ) (program : Program) : Type 0 where
 abbrev pub IsReader : Command → Type 0
 IsReader (Compile plan) = Unit {0}
 IsReader (Listing plan) = Unit {0}
+IsReader (Report plan) = Unit {0}
+IsReader (Run run) = Unit {0}
 IsReader Strip = Unit {0}
 IsReader (Gen g) = ⊥
 
@@ -29,13 +35,27 @@ IsReader (Gen g) = ⊥
 abbrev pub Answers : Command → Program → (output : List ℕ) → Type 0
 Answers (Compile plan) program output = IsCompiledText (plan_steps plan) program output
 Answers (Listing plan) program output = IsListingText (plan_steps plan) program output
+Answers (Report plan) program output = IsReportText (plan_steps plan) program output
+Answers (Run run) program output = IsRunOfProgram (plan_steps run.plan) program run.name run.steps run.arguments run.answers output
 Answers Strip program output = output ≡ stripped_text program.functions
 Answers (Gen g) program output = ⊥
 
--- the program is too large for a command: what a command that compiles makes of it has a frame above the limit
+-- the program has no function of the name that a command asks for
+abbrev pub HasNoNamed : Command → Program → Type 0
+HasNoNamed (Compile plan) program = ⊥
+HasNoNamed (Listing plan) program = ⊥
+HasNoNamed (Report plan) program = ⊥
+HasNoNamed (Run run) program = IsUnknown run.name program.functions
+HasNoNamed Strip program = ⊥
+HasNoNamed (Gen g) program = ⊥
+
+-- the program is too large for a command: what a command that compiles makes of it has a frame above the limit, and the function that it asks
+-- for is there
 abbrev pub HasFrameTooLarge : Command → Program → Type 0
 HasFrameTooLarge (Compile plan) program = HasLargeFrame (plan_steps plan) program.functions
 HasFrameTooLarge (Listing plan) program = HasLargeFrame (plan_steps plan) program.functions
+HasFrameTooLarge (Report plan) program = HasLargeFrame (plan_steps plan) program.functions
+HasFrameTooLarge (Run run) program = (IsUnknown run.name program.functions → ⊥) × HasLargeFrame (plan_steps run.plan) program.functions
 HasFrameTooLarge Strip program = ⊥
 HasFrameTooLarge (Gen g) program = ⊥
 
@@ -43,11 +63,14 @@ HasFrameTooLarge (Gen g) program = ⊥
 abbrev pub HasSectionTooLarge : Command → Program → Type 0
 HasSectionTooLarge (Compile plan) program = HasLargeSection (plan_steps plan) program
 HasSectionTooLarge (Listing plan) program = HasLargeSection (plan_steps plan) program
+HasSectionTooLarge (Report plan) program = HasLargeSection (plan_steps plan) program
+HasSectionTooLarge (Run run) program = (IsUnknown run.name program.functions → ⊥) × HasLargeSection (plan_steps run.plan) program
 HasSectionTooLarge Strip program = ⊥
 HasSectionTooLarge (Gen g) program = ⊥
 
 -- the programs of which a command writes something
 pub record IsAnswered (command : Command) (program : Program) : Type 0 where
+  pub named : HasNoNamed command program → ⊥
   pub frames : HasFrameTooLarge command program → ⊥
   pub sections : HasSectionTooLarge command program → ⊥
 
@@ -72,6 +95,7 @@ abbrev pub RefusesProgram : (text : List ℕ) → Fault → Type 0
 RefusesProgram text (Refused r) = IsRefusedAt text r
 RefusesProgram text Memory = Unit {0}
 RefusesProgram text NoFunction = HasNoFunction text
+RefusesProgram text UnknownFunction = ⊥
 RefusesProgram text FrameTooLarge = ⊥
 RefusesProgram text SectionTooLarge = ⊥
 RefusesProgram text Usage = ⊥
@@ -86,6 +110,7 @@ RefusesToCompile steps program SectionTooLarge = HasLargeSection steps program
 RefusesToCompile steps program Memory = Unit {0}
 RefusesToCompile steps program (Refused r) = ⊥
 RefusesToCompile steps program NoFunction = ⊥
+RefusesToCompile steps program UnknownFunction = ⊥
 RefusesToCompile steps program Usage = ⊥
 RefusesToCompile steps program Read = ⊥
 RefusesToCompile steps program TooLong = ⊥
@@ -93,6 +118,7 @@ RefusesToCompile steps program Write = ⊥
 
 -- why a command writes nothing of a program
 abbrev pub RefusesToWrite : Command → Program → Fault → Type 0
+RefusesToWrite command program UnknownFunction = HasNoNamed command program
 RefusesToWrite command program FrameTooLarge = HasFrameTooLarge command program
 RefusesToWrite command program SectionTooLarge = HasSectionTooLarge command program
 RefusesToWrite command program Memory = Unit {0}
@@ -102,6 +128,10 @@ RefusesToWrite command program Usage = ⊥
 RefusesToWrite command program Read = ⊥
 RefusesToWrite command program TooLong = ⊥
 RefusesToWrite command program Write = ⊥
+
+-- why a run that is asked for writes nothing of a program
+abbrev pub RefusesToRun : RunPlan → Program → Fault → Type 0
+RefusesToRun run program fault = RefusesToWrite (Run run) program fault
 
 -- a text stands for a program with a function, of which a command writes nothing
 pub record HoldsBack (command : Command) (text : List ℕ) (fault : Fault) : Type 0 where
@@ -113,6 +143,7 @@ pub record HoldsBack (command : Command) (text : List ℕ) (fault : Fault) : Typ
 abbrev pub RefusesText : Command → (text : List ℕ) → Fault → Type 0
 RefusesText command text (Refused r) = IsRefusedAt text r
 RefusesText command text NoFunction = HasNoFunction text
+RefusesText command text UnknownFunction = HoldsBack command text UnknownFunction
 RefusesText command text FrameTooLarge = HoldsBack command text FrameTooLarge
 RefusesText command text SectionTooLarge = HoldsBack command text SectionTooLarge
 RefusesText command text Memory = Unit {0}

@@ -6,16 +6,21 @@ use Rattle.compiled_text.specs.Shown.{OfShown}
 use Rattle.listing_laws.specs.Laws.{inlined_in}
 use Rattle.mir_parser.specs.declared.program.Program.{Program}
 use Rattle.command_line.specs.declared.command.Command.{Command}
-use Rattle.command_line.specs.declared.command.Command.TheVariants.{Compile, Listing, Strip, Gen}
+use Rattle.command_line.specs.declared.command.Command.TheVariants.{Compile, Listing, Report, Run, Strip, Gen}
+use Rattle.command_line.specs.declared.command.RunPlan.{RunPlan}
 use Rattle.command_line.specs.declared.fault.Fault.{Fault}
-use Rattle.command_line.specs.declared.fault.Fault.TheVariants.{Usage, Read, TooLong, Refused, NoFunction, FrameTooLarge, SectionTooLarge, Write, Memory}
+use Rattle.command_line.specs.declared.fault.Fault.TheVariants.{Usage, Read, TooLong, Refused, NoFunction, UnknownFunction}
+use Rattle.command_line.specs.declared.fault.Fault.TheVariants.{FrameTooLarge, SectionTooLarge, Write, Memory}
 use Rattle.command_line.specs.Command.{IsCommand}
 use Rattle.command_line.specs.Fault.{line_of}
+use Rattle.compiled_report.specs.Reported.{IsReportText}
+use Rattle.compiled_run.specs.Source.{IsRunOfProgram}
 use Rattle.generated_text.specs.GeneratedText.{generated_text}
 use Rattle.names_of_bytes.specs.Bytes.{AreBytes}
 use Rattle.strip_read_back.specs.Text.{stripped_program}
 use Rattle.strip_text.specs.StripText.{stripped_text}
 use Rattle.mirdwarf_tool.specs.Limits.{INPUT_LIMIT}
+use Rattle.mirdwarf_tool.specs.Compiled.{plan_steps}
 use Rattle.mirdwarf_tool.specs.Answer.{HasFunctions, IsReader, AnswersText, IsAnswered, RefusesProgram, RefusesText}
 use Rattle.output_promise.specs.Promise.{AreLaidOut, Promises, IsExact, ListsPassed}
 use Rattle.output_promise.specs.Source.{PassedFunction}
@@ -53,6 +58,8 @@ pub record AnswersRead (command : Command) (input : Change) (output : List ℕ) 
 abbrev pub AnswersInput : Command → (input : Change) → (output : List ℕ) → Type 0
 AnswersInput (Compile plan) input output = AnswersRead (Compile plan) input output
 AnswersInput (Listing plan) input output = AnswersRead (Listing plan) input output
+AnswersInput (Report plan) input output = AnswersRead (Report plan) input output
+AnswersInput (Run run) input output = AnswersRead (Run run) input output
 AnswersInput Strip input output = AnswersRead Strip input output
 AnswersInput (Gen g) input output = IsUnread input × (output ≡ generated_text g.number g.blocks)
 
@@ -91,6 +98,7 @@ HasReadNone input Memory = Unit {0}
 HasReadNone input TooLong = IsTooLong input
 HasReadNone input (Refused r) = RefusesInput input (Refused r)
 HasReadNone input NoFunction = RefusesInput input NoFunction
+HasReadNone input UnknownFunction = ⊥
 HasReadNone input FrameTooLarge = ⊥
 HasReadNone input SectionTooLarge = ⊥
 HasReadNone input Usage = ⊥
@@ -108,6 +116,7 @@ abbrev pub Refuses : Command → (input : Change) → Fault → Type 0
 Refuses command input TooLong = IsReader command × IsTooLong input
 Refuses command input (Refused r) = RefusesRead command input (Refused r)
 Refuses command input NoFunction = RefusesRead command input NoFunction
+Refuses command input UnknownFunction = RefusesRead command input UnknownFunction
 Refuses command input FrameTooLarge = RefusesRead command input FrameTooLarge
 Refuses command input SectionTooLarge = RefusesRead command input SectionTooLarge
 Refuses command input Usage = ⊥
@@ -136,6 +145,8 @@ pub record IsAnswerableText (command : Command) (left : Option (List ℕ)) : Typ
 abbrev pub IsAnswerable : Command → (left : Option (List ℕ)) → Type 0
 IsAnswerable (Compile plan) left = IsAnswerableText (Compile plan) left
 IsAnswerable (Listing plan) left = IsAnswerableText (Listing plan) left
+IsAnswerable (Report plan) left = IsAnswerableText (Report plan) left
+IsAnswerable (Run run) left = IsAnswerableText (Run run) left
 IsAnswerable Strip left = IsAnswerableText Strip left
 IsAnswerable (Gen g) left = Unit {0}
 
@@ -196,6 +207,25 @@ pub record ShowsPassed (steps : List Step) (p : Program) (o : Output) : Type 0 w
 abbrev pub WrotePassed : List Step → (input output : Change) → Type 0
 WrotePassed steps input output = HasWritten (ShowsPassed steps) input output
 
+-- a text was read that stands for a program with a function, and bytes were written that are so a text of it
+pub record WroteText (Is : Program → (text : List ℕ) → Type 0) (input output : Change) : Type 0 where
+  pub text : List ℕ
+  pub read : HasRead input text
+  pub program : Program
+  pub has : HasFunctions text program
+  pub bytes : List ℕ
+  pub is : Is program bytes
+  pub written : IsWrittenWhole output bytes
+
+-- the report of what steps of passes made of the functions that were read was written
+abbrev pub WroteReport : List Step → (input output : Change) → Type 0
+WroteReport steps input output = WroteText (IsReportText steps) input output
+
+-- the text of the run that is asked for was written
+abbrev pub WroteRun : RunPlan → (input output : Change) → Type 0
+WroteRun run input output =
+    WroteText (λ p. IsRunOfProgram (plan_steps run.plan) p run.name run.steps run.arguments run.answers) input output
+
 -- A text was read, and its functions were written without their debug items. What was written is read in turn: it stands for the program without
 -- its debug items, and the command that strips writes the same text of it again.
 pub record WroteStripped (input output : Change) : Type 0 where
@@ -214,6 +244,7 @@ ReadingEnds command input Memory = Unit {0}
 ReadingEnds command input TooLong = Refuses command input TooLong
 ReadingEnds command input (Refused r) = Refuses command input (Refused r)
 ReadingEnds command input NoFunction = Refuses command input NoFunction
+ReadingEnds command input UnknownFunction = Refuses command input UnknownFunction
 ReadingEnds command input FrameTooLarge = Refuses command input FrameTooLarge
 ReadingEnds command input SectionTooLarge = Refuses command input SectionTooLarge
 ReadingEnds command input Usage = ⊥
@@ -234,5 +265,6 @@ Explains words input output Memory = Unit {0}
 Explains words input output TooLong = ReadingEnded words input TooLong
 Explains words input output (Refused r) = ReadingEnded words input (Refused r)
 Explains words input output NoFunction = ReadingEnded words input NoFunction
+Explains words input output UnknownFunction = ReadingEnded words input UnknownFunction
 Explains words input output FrameTooLarge = ReadingEnded words input FrameTooLarge
 Explains words input output SectionTooLarge = ReadingEnded words input SectionTooLarge

@@ -1,18 +1,22 @@
 //! What is written of a program by the commands that compile.
 
-ghost use Rattle.std.specs.Prelude.{IfOk, IfErr};
-ghost use Rattle.mirdwarf_tool.specs.Answer.{RefusesToCompile};
+ghost use Rattle.std.specs.Prelude.{◌≡◌, ◌↔◌, IfOk, IfErr, IsTrue};
+ghost use Rattle.compiled_report.specs.Reported.{IsReportText};
+ghost use Rattle.compiled_run.specs.Source.{IsRunOfProgram};
+ghost use Rattle.mirdwarf_tool.specs.Answer.{RefusesToCompile, RefusesToRun};
 ghost use Rattle.mirdwarf_tool.specs.Compiled.{plan_steps, IsCompiledText, IsListingText};
-ghost use Rattle.program_compiler.specs.Program.{IsOutputOf};
+ghost use Rattle.program_compiler.specs.Program.{IsOutputOf, IsCompilationOf};
 ghost use Rattle.reading_laws.specs.Read.{IsReadProgram};
 
-use command_line::command::Plan;
+use command_line::command::{Plan, RunPlan};
 use command_line::fault::Fault;
-use compiled_text::output::Output;
+use compiled_report::report::report;
+use compiled_run::name::is_unknown;
+use compiled_run::run::run;
 use compiled_text::print::{print_listing, print_output};
 use mir_parser::program::Program;
 use mir_printer::text::Text;
-use program_compiler::compile::{CompileError, compile};
+use program_compiler::compile::{Compilation, CompileError, compile};
 use std::alloc::Global;
 
 /// The sections and the listing of a program after passes.
@@ -21,8 +25,8 @@ pub fn compiled_text(alloc: Global, program: &Program, plan: &Plan) -> Result<Te
     ensures ok { IfOk result (IsCompiledText (plan_steps plan.now) program.now) }
     ensures err { IfErr result (RefusesToCompile (plan_steps plan.now) program.now) }
 {
-    let output = output(alloc, program, plan)?;
-    Ok(print_output(alloc, &output)?)
+    let compilation = compilation(alloc, program, plan)?;
+    Ok(print_output(alloc, &compilation.output)?)
 }
 
 /// The listing of a program alone after passes.
@@ -31,14 +35,75 @@ pub fn listing_text(alloc: Global, program: &Program, plan: &Plan) -> Result<Tex
     ensures ok { IfOk result (IsListingText (plan_steps plan.now) program.now) }
     ensures err { IfErr result (RefusesToCompile (plan_steps plan.now) program.now) }
 {
-    let output = output(alloc, program, plan)?;
-    Ok(print_listing(alloc, output.functions.as_slice())?)
+    let compilation = compilation(alloc, program, plan)?;
+    Ok(print_listing(alloc, compilation.output.functions.as_slice())?)
 }
 
-/// The output of a program after passes.
-fn output(alloc: Global, program: &Program, plan: &Plan) -> Result<Output, Fault>
+/// The report of a program after passes.
+pub fn report_text(alloc: Global, program: &Program, plan: &Plan) -> Result<Text, Fault>
     requires { IsReadProgram program.now }
-    ensures ok { IfOk result (IsOutputOf (plan_steps plan.now) program.now) }
+    ensures ok { IfOk result (IsReportText (plan_steps plan.now) program.now) }
+    ensures err { IfErr result (RefusesToCompile (plan_steps plan.now) program.now) }
+{
+    let compilation = compilation(alloc, program, plan)?;
+    Ok(report(alloc, &compilation)?)
+}
+
+/// The text of the run that is asked for of a program's function after passes.
+pub fn run_text(alloc: Global, program: &Program, asked: RunPlan) -> Result<Text, Fault>
+    requires { IsReadProgram program.now }
+    ensures ok { IfOk result (IsRunOfProgram (plan_steps asked.plan) program.now asked.name asked.steps
+        asked.arguments asked.answers) }
+    ensures err { IfErr result (RefusesToRun asked program.now) }
+{
+    if is_unknown(program.functions.as_slice(), asked.name.as_slice()) {
+        return Err(Fault::UnknownFunction);
+    }
+    match compilation(alloc, program, &asked.plan) {
+        Ok(compilation) => run_of(alloc, program, &compilation, asked),
+        Err(fault) => Err(fault),
+    }
+}
+
+/// The text of the run that is asked for of a program that is compiled.
+fn run_of(
+    alloc: Global,
+    _program: &Program,
+    compilation: &Compilation,
+    asked: RunPlan,
+) -> Result<Text, Fault>
+    requires output { IsOutputOf (plan_steps asked.plan) _program.now compilation.now.output }
+    requires compilation { IsCompilationOf (plan_steps asked.plan) _program.now compilation.now }
+    ensures ok { IfOk result (IsRunOfProgram (plan_steps asked.plan) _program.now asked.name asked.steps
+        asked.arguments asked.answers) }
+    ensures err { IfErr result (RefusesToRun asked _program.now) }
+{
+    let RunPlan {
+        name,
+        steps,
+        plan: _plan,
+        arguments,
+        answers,
+    } = asked;
+    match run(
+        alloc,
+        compilation,
+        name.as_slice(),
+        steps,
+        arguments.as_slice(),
+        answers,
+    ) {
+        Ok(Some(text)) => Ok(text),
+        Ok(None) => Err(Fault::UnknownFunction),
+        Err(_) => Err(Fault::Memory),
+    }
+}
+
+/// A program that is compiled after passes.
+fn compilation(alloc: Global, program: &Program, plan: &Plan) -> Result<Compilation, Fault>
+    requires { IsReadProgram program.now }
+    ensures output { IfOk result (λ c. IsOutputOf (plan_steps plan.now) program.now c.output) }
+    ensures compilation { IfOk result (IsCompilationOf (plan_steps plan.now) program.now) }
     ensures err { IfErr result (RefusesToCompile (plan_steps plan.now) program.now) }
 {
     match compile(
@@ -47,7 +112,7 @@ fn output(alloc: Global, program: &Program, plan: &Plan) -> Result<Output, Fault
         plan.passes.as_slice(),
         plan.reserve.as_slice(),
     ) {
-        Ok(output) => Ok(output),
+        Ok(compilation) => Ok(compilation),
         Err(CompileError::FrameTooLarge) => Err(Fault::FrameTooLarge),
         Err(CompileError::SectionTooLarge) => Err(Fault::SectionTooLarge),
         Err(CompileError::Memory) => Err(Fault::Memory),

@@ -3,17 +3,18 @@
 ghost use Rattle.std.specs.Prelude.{◌≡◌, ◌≢◌, ◌≤◌, ◌↔◌, ◌⊎◌, IfOk, OnOk, IfErr, IsErrOf, List, map, string_bytes};
 ghost use Rattle.command_line.specs.Command.{AreWithin, IsCommand};
 ghost use Rattle.command_line.specs.declared.command.Plan.{Plan};
+ghost use Rattle.command_line.specs.declared.command.RunPlan.{RunPlan};
 ghost use Rattle.command_numbers.specs.declared.generation.Generation.{Generation};
 ghost use Rattle.generated_text.specs.GeneratedText.{generated_text};
 ghost use Rattle.mirdwarf_tool.specs.Compiled.{plan_steps};
 ghost use Rattle.command_line.specs.Fault.{line_of};
 ghost use Rattle.mirdwarf_tool.specs.Run.{AreCommand, AnswersInput, Finishes, IsCutOff, TellsRefusal, IsAnswerable};
 ghost use Rattle.mirdwarf_tool.specs.Run.{KeepsHeadline, KeepsRegisters, StopsAtReturns, WroteExactly, WroteLaidOut};
-ghost use Rattle.mirdwarf_tool.specs.Run.{WroteKept, WroteWords, WrotePassed, WroteStripped};
+ghost use Rattle.mirdwarf_tool.specs.Run.{WroteKept, WroteWords, WrotePassed, WroteReport, WroteRun, WroteStripped};
 ghost use Rattle.mirdwarf_tool.specs.Run.{HasReadProgram, HasReadNone, Explains, ReadingEnds};
 ghost use Rattle.mirdwarf_tool.specs.Stream.{change, MetFault, IsWrittenWhole, IsTold};
 
-use crate::compiled::{compiled_text, listing_text};
+use crate::compiled::{compiled_text, listing_text, report_text, run_text};
 use crate::reading::program_of;
 use crate::telling::tell;
 use command_line::command::{Command, parse};
@@ -35,9 +36,11 @@ pub const LIMIT: usize = 16_777_216;
 /// Runs the command that the words are: reads the input to its end, and writes what the command asks for of the
 /// functions that the text stands for. `compile` with the option of a list of passes, and if wanted of registers that
 /// may be spilled, writes the sections and the listing of what these passes make of them (`--passes=none`: of the
-/// functions as they were read), `listing` with such options the listing alone, and `strip` the functions without their
-/// debug items. `gen` reads nothing, and writes the text of the function that is made up from its two numbers. A fault
-/// is told by a line on `faults`.
+/// functions as they were read), `listing` with such options the listing alone, and `report` of each function how many
+/// of its words each variable can be found at, and what the passes lost. `run` with a function's name, a number of
+/// steps and such options writes a line for each step of its machine code, with what its variables hold. `strip` writes
+/// the functions without their debug items. `gen` reads nothing, and writes the text of the function that is made up
+/// from its two numbers. A fault is told by a line on `faults`.
 pub fn mirdwarf<S: Source, K: Sink, E: Sink>(
     alloc: Global,
     words: &[String],
@@ -91,6 +94,20 @@ pub fn mirdwarf<S: Source, K: Sink, E: Sink>(
     ensures passed { (plan : Plan) → result ≡ Status.Done →
         IsCommand (map string_bytes words.now) (Command.Compile plan) →
         WrotePassed (plan_steps plan) (change S.left S.faults input.old input.new)
+        (change K.written K.faults output.old output.new) }
+
+    // What `report` writes is the report of what passes made of the functions that were read: of each the words of its
+    // machine code, at how many of them the list of each variable gives it a place, and what passes lost of it.
+    ensures reported { (plan : Plan) → result ≡ Status.Done →
+        IsCommand (map string_bytes words.now) (Command.Report plan) →
+        WroteReport (plan_steps plan) (change S.left S.faults input.old input.new)
+        (change K.written K.faults output.old output.new) }
+
+    // What `run` writes is the run of the machine on the code of the first function of the name, line by line: it runs
+    // along with the source that was read, whose values are those that the lines tell.
+    ensures ran { (plan : RunPlan) → result ≡ Status.Done →
+        IsCommand (map string_bytes words.now) (Command.Run plan) →
+        WroteRun plan (change S.left S.faults input.old input.new)
         (change K.written K.faults output.old output.new) }
 
     // What `strip` writes is read in turn: it stands for the program without its debug items, and `strip` writes the
@@ -185,6 +202,14 @@ fn answered<S: Source>(alloc: Global, command: Command, input: &mut S) -> Result
         Command::Listing(plan) => {
             let program = read(alloc, input)?;
             listing_text(alloc, &program, &plan)
+        }
+        Command::Report(plan) => {
+            let program = read(alloc, input)?;
+            report_text(alloc, &program, &plan)
+        }
+        Command::Run(plan) => {
+            let program = read(alloc, input)?;
+            run_text(alloc, &program, plan)
         }
         Command::Strip => {
             let program = read(alloc, input)?;

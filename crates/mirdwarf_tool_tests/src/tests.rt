@@ -22,12 +22,8 @@ const HEADER: &[u8] = b"--- |
 name: f
 ";
 
-/// Functions, and the sections and the listing that are written of them: a variable whose value is replaced; a call, a
-/// branch back, a slot, an object and a substitution, with a second function behind; and an object whose address is
-/// taken.
-const COMPILED: [(&str, &str); 3] = [
-    (
-        "body: |
+/// A function with a variable whose value is replaced.
+const REPLACED: &str = "body: |
   bb.0:
     DBG_VALUE $x11, $noreg, !7, !DIExpression(), debug-location !5
     $x11 = XORI $x11, -1, debug-instr-number 2, debug-location !5
@@ -35,7 +31,44 @@ const COMPILED: [(&str, &str); 3] = [
     $x10 = SUB $x10, $x11
     PseudoRET implicit $x10
 ...
-",
+";
+
+/// A function with a call, a branch back, a slot, an object and a substitution, and a second function behind it.
+const CALLING: &str = "stack:
+  - { id: 5, size: 8 }
+  - { id: 2, size: 24, alignment: 8 }
+debugValueSubstitutions:
+  - { srcinst: 9, srcop: 0, dstinst: 4, dstop: 5, subreg: 0 }
+body: |
+  bb.3:
+    DBG_VALUE $x10, $noreg, !4, !DIExpression()
+    SD $x10, %stack.5, 0
+    $x10 = ADDI %stack.2, 16, debug-location !5
+  bb.1:
+    PseudoCALL @step, csr_ilp32_lp64, implicit-def dead $x1, implicit $x10, implicit-def $x10, debug-instr-number 4
+    DBG_INSTR_REF !7, !DIExpression(DW_OP_LLVM_arg, 0), dbg-instr-ref(9, 0)
+    BLT $x0, $x10, %bb.1
+  bb.2:
+    $x12 = LD %stack.5, 0, debug-instr-number 6
+    DBG_INSTR_REF !7, !DIExpression(DW_OP_LLVM_arg, 0), dbg-instr-ref(6, 0)
+    $x10 = SUB $x12, $x10, debug-location !5
+    PseudoRET implicit $x10
+...
+---
+name: empty
+body: |
+  bb.2:
+    DBG_VALUE -1, $noreg, !7, !DIExpression()
+    PseudoRET
+...
+";
+
+/// Functions, and the sections and the listing that are written of them: a variable whose value is replaced; a call, a
+/// branch back, a slot, an object and a substitution, with a second function behind; and an object whose address is
+/// taken.
+const COMPILED: [(&str, &str); 3] = [
+    (
+        REPLACED,
         "section .text 12
 93c5f5ff3305b54067800000
 section .debug_abbrev 83
@@ -63,34 +96,7 @@ block 0
 ",
     ),
     (
-        "stack:
-  - { id: 5, size: 8 }
-  - { id: 2, size: 24, alignment: 8 }
-debugValueSubstitutions:
-  - { srcinst: 9, srcop: 0, dstinst: 4, dstop: 5, subreg: 0 }
-body: |
-  bb.3:
-    DBG_VALUE $x10, $noreg, !4, !DIExpression()
-    SD $x10, %stack.5, 0
-    $x10 = ADDI %stack.2, 16, debug-location !5
-  bb.1:
-    PseudoCALL @step, csr_ilp32_lp64, implicit-def dead $x1, implicit $x10, implicit-def $x10, debug-instr-number 4
-    DBG_INSTR_REF !7, !DIExpression(DW_OP_LLVM_arg, 0), dbg-instr-ref(9, 0)
-    BLT $x0, $x10, %bb.1
-  bb.2:
-    $x12 = LD %stack.5, 0, debug-instr-number 6
-    DBG_INSTR_REF !7, !DIExpression(DW_OP_LLVM_arg, 0), dbg-instr-ref(6, 0)
-    $x10 = SUB $x12, $x10, debug-location !5
-    PseudoRET implicit $x10
-...
----
-name: empty
-body: |
-  bb.2:
-    DBG_VALUE -1, $noreg, !7, !DIExpression()
-    PseudoRET
-...
-",
+        CALLING,
         "section .text 52
 130101fd233411002330a1001305010297000000e7800000e34ca0fe03360100
 3305a64083308100130101036780000067800000
@@ -326,6 +332,67 @@ const PASSED: [(&[&str], &str, &str); 5] = [
         COUNTED,
         IN_SLOT,
     ),
+];
+
+/// Runs of a function whose variable is replaced, of one behind another, and of one after a pass; names that no
+/// function has; and reports.
+const TOLD: [(&[&str], &str, Ending<'static>); 10] = [
+    (
+        &["run", "f", "9", "--args=5,6", "--passes=none"],
+        REPLACED,
+        (
+            0,
+            "0 00000000 =0.1 s=6\n1 00000004 =0.3 s=18446744073709551609\n\
+                2 00000008 =0.4 s=18446744073709551609\nstop returned 12\n",
+            "",
+        ),
+    ),
+    (
+        &["run", "f", "1", "--passes=none", "--args=5,6"],
+        REPLACED,
+        (0, "0 00000000 =0.1 s=6\nstop steps\n", ""),
+    ),
+    (
+        &["run", "f", "0", "--passes=none"],
+        REPLACED,
+        (0, "stop steps\n", ""),
+    ),
+    (
+        &["run", "empty", "1000000", "--passes=none"],
+        CALLING,
+        (
+            0,
+            "0 00000030 =2.1 s=18446744073709551615\nstop returned 1010\n",
+            "",
+        ),
+    ),
+    (
+        &["run", "f", "5", "--passes=copy", "--args=7"],
+        COPIED,
+        (
+            0,
+            "0 00000000 =0.0 s=-\n1 00000004 =0.1 s=-\n2 00000008 =0.4 s=10\n3 0000000c =0.5 s=10\n\
+                stop returned 20\n",
+            "",
+        ),
+    ),
+    (
+        &["run", "g", "1", "--passes=none"],
+        RETURN,
+        (1, "", "mirdwarf: line 0: UnknownFunction\n"),
+    ),
+    (
+        &["run", "", "1", "--passes=none"],
+        LARGE,
+        (1, "", "mirdwarf: line 0: UnknownFunction\n"),
+    ),
+    (&["run", "f", "1", "--passes=none"], LARGE, FRAME),
+    (
+        &["report", "--passes=copy"],
+        COPIED,
+        (0, "function f\nwords 4\ncover s 2 of 4\n", ""),
+    ),
+    (&["report", "--passes=none"], LARGE, FRAME),
 ];
 
 /// The file of the function of number 0 with one block.
@@ -565,6 +632,16 @@ fn ends_as_its_faults_say(rt: HostRuntime) -> Result<(), Fail> {
     let alloc = rt.alloc();
     for (words, lines, faulty, want) in &ENDINGS {
         ends(&rt, alloc, words, text_of(alloc, lines)?, faulty, *want)?;
+    }
+    Ok(())
+}
+
+/// Steps of runs, with what variables hold, and reports.
+#[test]
+fn tells_of_runs_and_losses(rt: HostRuntime) -> Result<(), Fail> {
+    let alloc = rt.alloc();
+    for (words, lines, want) in &TOLD {
+        ends(&rt, alloc, words, text_of(alloc, lines)?, &NO_FAULT, *want)?;
     }
     Ok(())
 }

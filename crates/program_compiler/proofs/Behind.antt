@@ -10,10 +10,11 @@ use Rattle.code_words.specs.Rule.{words_of}
 use Rattle.compiled_text.specs.declared.output.ListedFunction.{ListedFunction}
 use Rattle.dwarf_loclists.specs.declared.range.Range.{Range}
 use Rattle.dwarf_loclists.specs.Ranges.{Ascend, ArePlaces}
+use Rattle.follow_law.specs.declared.loss.Loss.{Loss}
 use Rattle.follow_law.specs.Steps.{Step}
 use Rattle.function_emit.specs.declared.emit.Made.{Made}
 use Rattle.function_emit.specs.Emitted.{names_of, AreWritable, IsPushed}
-use Rattle.function_passes.specs.Passed.{source_of, IsMadeBy, IsCompilable}
+use Rattle.function_passes.specs.Passed.{source_of, IsMadeBy, IsMadeLosing, IsCompilable}
 use Rattle.meta_reader.specs.Maps.{Maps}
 use Rattle.mir_body.specs.Limits.{MAX_ITEMS}
 use Rattle.mir_func.specs.Function.{Function}
@@ -21,13 +22,14 @@ use Rattle.mir_parser.specs.declared.closing.Parsed.{Parsed}
 use Rattle.output_promise.proofs.Functions.{words_length}
 use Rattle.output_promise.specs.Compiled.{AreCompiled, bytes_of}
 use Rattle.output_promise.specs.Source.{PassedFunction}
-use Rattle.program_compiler.specs.Program.{ArePassed, AreCoded}
+use Rattle.program_compiler.specs.Program.{ArePassed, AreMadeLosing, AreCoded}
 use Rattle.program_compiler.specs.steps.Made.{AreMade}
 
-pub record SoFar (meta : Maps) (steps : List Step) (all rest : List Parsed) (m : Made) : Type 0 where
+pub record SoFar (meta : Maps) (steps : List Step) (all rest : List Parsed) (losses : List (List Loss)) (m : Made) : Type 0 where
   pub passed : List PassedFunction
   pub are : (ps : List PassedFunction) → ArePassed meta rest ps → ArePassed meta all (passed ++ ps)
   pub made : All (IsMadeBy steps) passed
+  pub lost : (ps : List PassedFunction) (ls : List (List Loss)) → AreMadeLosing steps ps ls → AreMadeLosing steps (passed ++ ps) (losses ++ ls)
   pub onward : (ps : List PassedFunction) (text : List ℕ) (lists : List (List Range)) (fs : List ListedFunction) →
       AreCompiled (names_of meta) (length m.text) (length m.lists) text lists ps fs →
       AreCompiled (names_of meta) 0 0 (m.text ++ text) (m.lists ++ lists) (passed ++ ps) (m.functions ++ fs)
@@ -39,11 +41,12 @@ pub record SoFar (meta : Maps) (steps : List Step) (all rest : List Parsed) (m :
   pub few_lists : length m.lists + length rest * MAX_ITEMS ≤ length all * MAX_ITEMS
 
 pub begins : (meta : Maps) (steps : List Step) (all : List Parsed) →
-    SoFar meta steps all all (record { text = []; lists = []; functions = []; codes = [] })
+    SoFar meta steps all all [] (record { text = []; lists = []; functions = []; codes = [] })
 begins meta steps all = record {
   passed = [];
   are = λ ps are. are;
   made = All-nil (IsMadeBy steps);
+  lost = λ ps ls are. are;
   onward = λ ps text lists fs are. are;
   codes = λ ps cs are. are;
   writable = record { ascend = All-nil Ascend; places = All-nil ArePlaces };
@@ -76,13 +79,15 @@ module _ (meta : Maps) (p : PassedFunction) (m n : Made) (one : IsPushed meta p 
       let below = one.few_words in
       omega (arith, e, below)
 
-  pub more : (steps : List Step) (all rest : List Parsed) (f : Parsed) → p.source ≡ source_of f → IsCompilable meta p → IsMadeBy steps p →
-      SoFar meta steps all (f ∷ rest) m →
-      SoFar meta steps all rest n
-  more steps all rest f of is by so = record {
+  pub more : (steps : List Step) (all rest : List Parsed) (f : Parsed) (losses : List (List Loss)) (l : List Loss) → p.source ≡ source_of f →
+      IsCompilable meta p → IsMadeLosing steps p l → SoFar meta steps all (f ∷ rest) losses m → SoFar meta steps all rest (losses ++ l ∷ []) n
+  more steps all rest f losses l of is by so = record {
     passed = so.passed ++ p ∷ [];
     are = λ ps are. subst (ArePassed meta all) (sym (append_assoc so.passed (p ∷ []) ps)) (so.are (p ∷ ps) (of, is, are));
-    made = All-push (IsMadeBy steps) so.passed p so.made by;
+    made = All-push (IsMadeBy steps) so.passed p so.made (record { losses = l; kept = by });
+    lost = λ ps ls are.
+        subst (λ (t : List PassedFunction). AreMadeLosing steps t ((losses ++ l ∷ []) ++ ls)) (sym (append_assoc so.passed (p ∷ []) ps))
+        (subst (AreMadeLosing steps (so.passed ++ (p ∷ ps))) (sym (append_assoc losses (l ∷ []) ls)) (so.lost (p ∷ ps) (l ∷ ls) (by, are)));
     onward = λ ps text lists fs are.
         let A : ℕ → ℕ → Type 0 = λ b k. AreCompiled (names_of meta) b k text lists ps fs in
         let from : A one.listed.high (length m.lists + length one.compiled.lists) =
@@ -131,11 +136,15 @@ module _ (meta : Maps) (p : PassedFunction) (m n : Made) (one : IsPushed meta p 
         omega (arith, long, below, was);
   }
 
-pub all_made : (meta : Maps) (steps : List Step) (all : List Parsed) (m : Made) → SoFar meta steps all [] m → AreMade meta steps all m
-all_made meta steps all m so = record {
+pub all_made : (meta : Maps) (steps : List Step) (all : List Parsed) (losses : List (List Loss)) (m : Made) → SoFar meta steps all [] losses m →
+    AreMade meta steps all losses m
+all_made meta steps all losses m so = record {
   passed = so.passed;
   are = subst (ArePassed meta all) (append-nil so.passed) (so.are [] tt);
   made = so.made;
+  lost =
+      subst (λ (t : List PassedFunction). AreMadeLosing steps t losses) (append-nil so.passed)
+      (subst (AreMadeLosing steps (so.passed ++ [])) (append-nil losses) (so.lost [] [] tt));
   compiled =
       subst (λ (t : List ℕ). AreCompiled (names_of meta) 0 0 t m.lists so.passed m.functions) (append-nil m.text)
       (subst (λ (t : List (List Range)). AreCompiled (names_of meta) 0 0 (m.text ++ []) t so.passed m.functions) (append-nil m.lists)

@@ -8,11 +8,13 @@ use Rattle.dwarf_info.specs.Entries.{spelling as entries_spelling}
 use Rattle.dwarf_info.specs.Kinds.{abbreviations}
 use Rattle.dwarf_line.specs.Spelling.{spelling as rows_spelling}
 use Rattle.dwarf_loclists.specs.declared.range.Range.{Range}
+use Rattle.dwarf_loclists.specs.Grammar.{IsSection}
 use Rattle.dwarf_loclists.specs.Spelling.{spelling as lists_spelling}
+use Rattle.follow_law.specs.declared.loss.Loss.{Loss}
 use Rattle.follow_law.specs.Steps.{Step}
 use Rattle.frame_rule.specs.Rule.{size_of, framed_of}
-use Rattle.function_emit.specs.Emitted.{names_of}
-use Rattle.function_passes.specs.Passed.{source_of, IsMadeBy, IsCompilable}
+use Rattle.function_emit.specs.Emitted.{names_of, AreWritable}
+use Rattle.function_passes.specs.Passed.{source_of, IsMadeBy, IsMadeLosing, IsCompilable}
 use Rattle.meta_reader.specs.Maps.{Maps}
 use Rattle.mir_func.specs.Function.{Function}
 use Rattle.mir_func.specs.Limits.{MAX_FRAME}
@@ -20,6 +22,7 @@ use Rattle.mir_parser.specs.declared.closing.Parsed.{Parsed}
 use Rattle.mir_parser.specs.declared.program.Program.{Program}
 use Rattle.output_promise.specs.Compiled.{AreCompiled, IsCompiledProgram}
 use Rattle.output_promise.specs.Source.{SourceFunction, PassedFunction}
+use Rattle.program_compiler.specs.declared.compile.Compilation.{Compilation}
 use Rattle.source_lines.specs.declared.compiled.Compiled.{Compiled}
 use Rattle.source_lines.specs.Program.{table_of}
 use Rattle.unit_entries.specs.Unit.{unit_of}
@@ -38,6 +41,13 @@ ArePassed meta [] [] = Unit {0}
 ArePassed meta [] (p ∷ ps) = ⊥
 ArePassed meta (f ∷ fs) [] = ⊥
 ArePassed meta (f ∷ fs) (p ∷ ps) = (p.source ≡ source_of f) × IsCompilable meta p × ArePassed meta fs ps
+
+-- steps of passes made each of some functions, and lost this of each
+abbrev pub AreMadeLosing : List Step → List PassedFunction → List (List Loss) → Type 0
+AreMadeLosing steps [] [] = Unit {0}
+AreMadeLosing steps [] (l ∷ ls) = ⊥
+AreMadeLosing steps (p ∷ ps) [] = ⊥
+AreMadeLosing steps (p ∷ ps) (l ∷ ls) = IsMadeLosing steps p l × AreMadeLosing steps ps ls
 
 -- ---- machine code
 
@@ -76,6 +86,19 @@ pub record IsOutputOf (steps : List Step) (p : Program) (o : Output) : Type 0 wh
   pub made : All (IsMadeBy steps) functions
   pub compiled : IsCompiledProgram (names_of p.meta) functions o
   pub sections : HasSections p.meta functions o
+
+-- a program is compiled so: the output, and beside it the machine code of each function, the lists of all variables, one function's behind the
+-- other's, and what passes lost of each function
+pub record IsCompilationOf (steps : List Step) (p : Program) (c : Compilation) : Type 0 where
+  pub functions : List PassedFunction
+  pub passed : ArePassed p.meta p.functions functions
+  pub made : All (IsMadeBy steps) functions
+  pub lost : AreMadeLosing steps functions c.losses
+  pub section : IsSection c.output.loclists c.lists
+  pub compiled : AreCompiled (names_of p.meta) 0 0 c.output.text c.lists functions c.output.functions
+  pub small : length c.output.text < SECTION_LIMIT
+  pub coded : AreCoded 0 (map (λ q. q.function) functions) c.codes
+  pub writable : AreWritable c.lists
 
 -- ---- programs that have no output
 

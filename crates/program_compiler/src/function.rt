@@ -1,6 +1,6 @@
 //! The functions of a program, one behind the other.
 
-ghost use Rattle.std.specs.Prelude.{◌+◌, ◌*◌, ◌%◌, ◌<◌, ◌≤◌, ◌^◌, ◌≡◌, All, IfOk, OnOk, IsErrOf, length};
+ghost use Rattle.std.specs.Prelude.{◌+◌, ◌*◌, ◌%◌, ◌<◌, ◌≤◌, ◌^◌, ◌≡◌, All, IfOk, IsErrOf, length};
 ghost use Rattle.code_words.specs.Counts.{MAX_WORDS, MAX_BASE};
 ghost use Rattle.mir_body.specs.Limits.{MAX_ITEMS};
 ghost use Rattle.mir_parser.specs.declared.closing.Parsed.{Parsed};
@@ -11,9 +11,10 @@ ghost use Rattle.program_compiler.specs.Program.{HasLargeFrame};
 ghost use Rattle.program_compiler.specs.steps.Made.{IsSourcePushed, IsTooLarge, AreMade};
 ghost use Rattle.reading_laws.specs.Read.{IsReadFunction, EntryIsLimited};
 
-use crate::compile::CompileError;
+use crate::compile::{CompileError, FunctionLosses};
 use compiled_text::output::{Bytes, ListedFunctions};
 use dwarf_loclists::range::RangeLists;
+use follow_law::loss::Losses;
 use function_emit::emit::{Codes, Made, push_function};
 use function_passes::passed::after_passes;
 use meta_reader::metadata::Metadata;
@@ -22,20 +23,20 @@ use pass_list::kind::PassKind;
 use rv64_instr::reg::Reg;
 use std::alloc::Global;
 
-/// Compiles functions, one after the other from address 0 on: of each what passes make of it. The reserve has the
-/// registers that may be spilled.
+/// Compiles functions, one after the other from address 0 on: of each what passes make of it, with what they lose. The
+/// reserve has the registers that may be spilled.
 pub fn made_of(
     alloc: Global,
     meta: &Metadata,
     functions: &[Parsed],
     passes: &[PassKind],
     reserve: &[Reg],
-) -> Result<Made, CompileError>
+) -> Result<(Made, FunctionLosses), CompileError>
     requires few { length functions.now ≤ MAX_FUNCTIONS }
     requires read { All (λ (p : Parsed). IsReadFunction meta.now p.func) functions.now }
     requires substitutions { All (λ (p : Parsed). All EntryIsLimited p.subs) functions.now }
     requires distinct { AreDistinct passes.now }
-    ensures made { IfOk result (AreMade meta.now (steps_of reserve.now passes.now) functions.now) }
+    ensures made { IfOk result (λ r. AreMade meta.now (steps_of reserve.now passes.now) functions.now r.1 r.0) }
     ensures too_large { IsErrOf result CompileError.FrameTooLarge →
         HasLargeFrame (steps_of reserve.now passes.now) functions.now }
     ensures no_section { IsErrOf result CompileError.SectionTooLarge → ⊥ }
@@ -46,13 +47,15 @@ pub fn made_of(
         functions: ListedFunctions::new(alloc),
         codes: Codes::new(alloc),
     };
+    let mut losses = FunctionLosses::new(alloc);
     for source in functions {
-        push_source(alloc, &mut made, meta, source, passes, reserve)?;
+        let lost = push_source(alloc, &mut made, meta, source, passes, reserve)?;
+        losses.push(lost)?;
     }
-    Ok(made)
+    Ok((made, losses))
 }
 
-/// Compiles what passes make of a source behind others.
+/// Compiles what passes make of a source behind others, and gives what they lose.
 fn push_source(
     alloc: Global,
     made: &mut Made,
@@ -60,15 +63,15 @@ fn push_source(
     source: &Parsed,
     passes: &[PassKind],
     reserve: &[Reg],
-) -> Result<(), CompileError>
+) -> Result<Losses, CompileError>
     requires aligned { length made.old.text % 4 ≡ 0 }
     requires room { length made.old.text + 4 * MAX_WORDS < MAX_BASE }
     requires numbers { length made.old.lists + MAX_ITEMS < 2 ^ 32 }
     requires read { IsReadFunction meta.now source.now.func }
     requires substitutions { All EntryIsLimited source.now.subs }
     requires distinct { AreDistinct passes.now }
-    ensures pushed { OnOk result
-        (IsSourcePushed meta.now (steps_of reserve.now passes.now) source.now made.old made.new) }
+    ensures pushed { IfOk result (λ losses.
+        IsSourcePushed meta.now (steps_of reserve.now passes.now) source.now losses made.old made.new) }
     ensures too_large { IsErrOf result CompileError.FrameTooLarge →
         IsTooLarge (steps_of reserve.now passes.now) source.now }
     ensures no_section { IsErrOf result CompileError.SectionTooLarge → ⊥ }
@@ -82,5 +85,5 @@ fn push_source(
         &passed.function,
         &passed.substitutions,
     )?;
-    Ok(())
+    Ok(passed.losses)
 }

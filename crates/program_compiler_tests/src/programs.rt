@@ -141,7 +141,7 @@ fn programs(rt: HostRuntime) -> Result<(), Fail> {
         let mut text = String::from_str(alloc, HEADER)?;
         text.push_str(row.lines)?;
         let program = program(alloc, text.as_str())?;
-        let output = compile(alloc, &program, &[], &[])?;
+        let output = compile(alloc, &program, &[], &[])?.output;
         assert_eq!(rt; output.text.as_slice(), row.text);
         assert_eq!(rt; output.loclists.as_slice(), row.loclists);
         assert_eq!(rt; output.info.len(), row.info);
@@ -174,7 +174,7 @@ body: |
 ",
     )?;
     let program = program(alloc, text.as_str())?;
-    let output = compile(alloc, &program, &[PassKind::Remat], &[])?;
+    let output = compile(alloc, &program, &[PassKind::Remat], &[])?.output;
     let code =
         b"\x13\x01\x01\xff\x93\x05\x50\x00\x23\x30\xb1\x00\x13\x05\x50\x00\x13\x01\x01\x01\x67\x80\x00\x00";
     assert_eq!(rt; output.text.as_slice(), code.as_slice());

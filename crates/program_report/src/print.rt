@@ -51,7 +51,7 @@ fn function_text(alloc: Global, function: &Compiled) -> Result<Text, AllocError>
         alloc,
         &function.code,
         &function.names,
-        &function.lists,
+        function.lists.as_slice(),
         &function.losses,
     )?;
     print_report(alloc, &report)

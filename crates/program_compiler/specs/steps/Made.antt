@@ -1,25 +1,26 @@
 -- What was made of functions so far, and of one more.
 use Rattle.std.specs.Prelude.{◌≡◌, ◌*◌, ◌%◌, ◌<◌, ◌≤◌, List, length, map, All}
 use Rattle.code_words.specs.Counts.{MAX_WORDS}
+use Rattle.follow_law.specs.declared.loss.Loss.{Loss}
 use Rattle.follow_law.specs.Steps.{Step}
 use Rattle.frame_rule.specs.Rule.{size_of}
 use Rattle.function_emit.specs.declared.emit.Made.{Made}
 use Rattle.function_emit.specs.Emitted.{names_of, AreWritable, IsPushed}
-use Rattle.function_passes.specs.Passed.{source_of, IsMadeBy, IsCompilable}
+use Rattle.function_passes.specs.Passed.{source_of, IsMadeBy, IsMadeLosing, IsCompilable}
 use Rattle.meta_reader.specs.Maps.{Maps}
 use Rattle.mir_body.specs.Limits.{MAX_ITEMS}
 use Rattle.mir_func.specs.Limits.{MAX_FRAME}
 use Rattle.mir_parser.specs.declared.closing.Parsed.{Parsed}
 use Rattle.output_promise.specs.Compiled.{AreCompiled}
 use Rattle.output_promise.specs.Source.{PassedFunction}
-use Rattle.program_compiler.specs.Program.{ArePassed, AreCoded}
+use Rattle.program_compiler.specs.Program.{ArePassed, AreMadeLosing, AreCoded}
 
--- what steps of passes make of a source is compiled behind others
-pub record IsSourcePushed (meta : Maps) (steps : List Step) (q : Parsed) (before after : Made) : Type 0 where
+-- what steps of passes make of a source, losing this, is compiled behind others
+pub record IsSourcePushed (meta : Maps) (steps : List Step) (q : Parsed) (losses : List Loss) (before after : Made) : Type 0 where
   pub passed : PassedFunction
   pub source : passed.source ≡ source_of q
   pub compilable : IsCompilable meta passed
-  pub made : IsMadeBy steps passed
+  pub lost : IsMadeLosing steps passed losses
   pub pushed : IsPushed meta passed before after
 
 -- the frame of what steps of passes make of a source is too large
@@ -29,11 +30,12 @@ pub record IsTooLarge (steps : List Step) (q : Parsed) : Type 0 where
   pub made : IsMadeBy steps passed
   pub large : MAX_FRAME < size_of passed.function
 
--- what steps of passes made of functions is compiled from address 0 on
-pub record AreMade (meta : Maps) (steps : List Step) (functions : List Parsed) (m : Made) : Type 0 where
+-- what steps of passes made of functions, losing this of each, is compiled from address 0 on
+pub record AreMade (meta : Maps) (steps : List Step) (functions : List Parsed) (losses : List (List Loss)) (m : Made) : Type 0 where
   pub passed : List PassedFunction
   pub are : ArePassed meta functions passed
   pub made : All (IsMadeBy steps) passed
+  pub lost : AreMadeLosing steps passed losses
   pub compiled : AreCompiled (names_of meta) 0 0 m.text m.lists passed m.functions
   pub coded : AreCoded 0 (map (λ p. p.function) passed) m.codes
   pub writable : AreWritable m.lists

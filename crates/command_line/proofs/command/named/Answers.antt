@@ -1,7 +1,7 @@
 use Rattle.std.proofs.Common.{◌∷◌, sym, ◌∙◌, map}
 use Rattle.std.specs.Prelude.{string_bytes}
-use Rattle.command_line.specs.declared.command.Command.TheVariants.{Compile, Listing}
-use Rattle.command_line.proofs.Words.{the_command, no_compile, no_listing, no_some}
+use Rattle.command_line.specs.declared.command.Command.TheVariants.{Compile, Listing, Report, Run}
+use Rattle.command_line.proofs.Words.{the_command, no_compile, no_listing, no_report, no_run, no_some}
 use Rattle.command_line.proofs.command.named.Goals as goal
 
 pub returns-in-Some : goal.returns-in-Some
@@ -26,4 +26,28 @@ returns-in-None-2 c = λ command. (
   λ e. absurd (no_some command e),
   λ h. absurd (no_listing c.args.name.now (map string_bytes c.args.words.now) (c.is_same-2.ensures.0 c.if-is_same-2.true)
       (λ p given. no_some p (sym c.in-None-2.is ∙ (c.in_ok-plan-2.ensures p).1 given)) command h),
+)
+
+pub returns-in-Some-3 : goal.returns-in-Some-3
+returns-in-Some-3 c =
+    the_command (c.args.name.now ∷ map string_bytes c.args.words.now) (Report c.in-Some-3.plan)
+    (c.is_same-3.ensures.0 c.if-is_same-3.true, (c.in_ok-plan-3.ensures c.in-Some-3.plan).0 c.in-Some-3.is)
+
+pub returns-in-None-3 : goal.returns-in-None-3
+returns-in-None-3 c = λ command. (
+  λ e. absurd (no_some command e),
+  λ h. absurd (no_report c.args.name.now (map string_bytes c.args.words.now) (c.is_same-3.ensures.0 c.if-is_same-3.true)
+      (λ p given. no_some p (sym c.in-None-3.is ∙ (c.in_ok-plan-3.ensures p).1 given)) command h),
+)
+
+pub returns-in-Some-4 : goal.returns-in-Some-4
+returns-in-Some-4 c =
+    the_command (c.args.name.now ∷ map string_bytes c.args.words.now) (Run c.in-Some-4.found)
+    (c.is_same-4.ensures.0 c.if-is_same-4.true, (c.in_ok-found.ensures c.in-Some-4.found).0 c.in-Some-4.is)
+
+pub returns-in-None-4 : goal.returns-in-None-4
+returns-in-None-4 c = λ command. (
+  λ e. absurd (no_some command e),
+  λ h. absurd (no_run c.args.name.now (map string_bytes c.args.words.now) (c.is_same-4.ensures.0 c.if-is_same-4.true)
+      (λ r given. no_some r (sym c.in-None-4.is ∙ (c.in_ok-found.ensures r).1 given)) command h),
 )

@@ -22,7 +22,7 @@ returns-clause-compilable c =
     let sound : IsSound c.run_passes.new.f = search rules in
     compilable_after c.args._meta.now c.args.source.now c.args.passes.now c.in_ok-function.function c.in_ok-substitutions.substitutions
     c.run_passes.new.f c.run_passes.new.subs c.in_ok-function.ensures c.in_ok-substitutions.ensures c.requires.read
-    (accepted c.args.passes.now c.requires.distinct) sound c.in_ok-_losses.ensures.follows c.in_ok-_losses.ensures.growth c.in_ok-_losses.ensures.shown
+    (accepted c.args.passes.now c.requires.distinct) sound c.in_ok-losses.ensures.follows c.in_ok-losses.ensures.growth c.in_ok-losses.ensures.shown
     (subst (All IsTypedBlock) (c.as_slice.ensures ∙ ap (λ (f : Function). f.blocks) c.function-2.view_is) c.blocks_are_typed.ensures)
     (subst (All IsTypedEntry) c.entries.ensures c.entries_are_typed.ensures)
 
@@ -30,10 +30,10 @@ pub returns-clause-made : goal.returns-clause-made
 returns-clause-made c =
     made_after c.args._meta.now c.args.source.now c.args.passes.now c.in_ok-function.function c.in_ok-substitutions.substitutions
     c.run_passes.new.f c.run_passes.new.subs c.in_ok-function.ensures c.in_ok-substitutions.ensures c.requires.read
-    (accepted c.args.passes.now c.requires.distinct) c.args.reserve.now c.in_ok-_losses._losses c.in_ok-_losses.ensures.steps
+    (accepted c.args.passes.now c.requires.distinct) c.args.reserve.now c.in_ok-losses.losses c.in_ok-losses.ensures.steps
 
 pub returns-clause-few : goal.returns-clause-few
 returns-clause-few c =
     few_after c.args._meta.now c.args.source.now c.args.passes.now c.in_ok-function.function c.in_ok-substitutions.substitutions
     c.run_passes.new.f c.run_passes.new.subs c.in_ok-function.ensures c.in_ok-substitutions.ensures c.requires.read
-    (accepted c.args.passes.now c.requires.distinct) c.in_ok-_losses.ensures.growth
+    (accepted c.args.passes.now c.requires.distinct) c.in_ok-losses.ensures.growth

@@ -5,7 +5,7 @@ use Rattle.strip_text.specs.StripText.{stripped_text}
 use Rattle.command_line.specs.declared.command.Command.{Command}
 use Rattle.mirdwarf_tool.specs.Run.{AnswersInput, ReadingEnds}
 use Rattle.mirdwarf_tool.specs.Stream.{change}
-use Rattle.mirdwarf_tool.proofs.AnswerLemmas.{compile_ok, compile_err, listing_ok, listing_err, strip_ok}
+use Rattle.mirdwarf_tool.proofs.AnswerLemmas.{compile_ok, compile_err, listing_ok, listing_err, report_ok, report_err, run_ok, run_err, strip_ok}
 use Rattle.mirdwarf_tool.proofs.driver.answered.Goals as goal
 
 pub compiled_text-requires : goal.compiled_text-requires
@@ -17,6 +17,16 @@ pub listing_text-requires : goal.listing_text-requires
 listing_text-requires g c =
     let read = c.in_ok-program-in-Listing.ensures.ok in
     programs_are_as_read read.text c.in_ok-program-in-Listing.program read.has.reads
+
+pub report_text-requires : goal.report_text-requires
+report_text-requires g c =
+    let read = c.in_ok-program-in-Report.ensures.ok in
+    programs_are_as_read read.text c.in_ok-program-in-Report.program read.has.reads
+
+pub run_text-requires : goal.run_text-requires
+run_text-requires g c =
+    let read = c.in_ok-program-in-Run.ensures.ok in
+    programs_are_as_read read.text c.in_ok-program-in-Run.program read.has.reads
 
 pub returns-in_ok-program-in-Compile-clause-ok : goal.returns-in_ok-program-in-Compile-clause-ok
 returns-in_ok-program-in-Compile-clause-ok g c =
@@ -45,6 +55,34 @@ returns-in_ok-program-in-Listing-clause-err g c =
     subst (λ (k : Command). IfErr c.listing_text.result (ReadingEnds k input)) (sym c.in-Listing.is)
     (listing_err c.in-Listing.plan input c.in_ok-program-in-Listing.program c.in_ok-program-in-Listing.ensures.ok c.listing_text.result
     c.listing_text.ensures.err)
+
+pub returns-in_ok-program-in-Report-clause-ok : goal.returns-in_ok-program-in-Report-clause-ok
+returns-in_ok-program-in-Report-clause-ok g c =
+    let input = change g.S.Source.left g.S.Source.faults c.args.input.now c.read-in-Report.new.input in
+    subst (λ (k : Command). IfOk c.report_text.result (AnswersInput k input)) (sym c.in-Report.is)
+    (report_ok c.in-Report.plan input c.in_ok-program-in-Report.program c.in_ok-program-in-Report.ensures.ok c.report_text.result
+    c.report_text.ensures.ok)
+
+pub returns-in_ok-program-in-Report-clause-err : goal.returns-in_ok-program-in-Report-clause-err
+returns-in_ok-program-in-Report-clause-err g c =
+    let input = change g.S.Source.left g.S.Source.faults c.args.input.now c.read-in-Report.new.input in
+    subst (λ (k : Command). IfErr c.report_text.result (ReadingEnds k input)) (sym c.in-Report.is)
+    (report_err c.in-Report.plan input c.in_ok-program-in-Report.program c.in_ok-program-in-Report.ensures.ok c.report_text.result
+    c.report_text.ensures.err)
+
+pub returns-in_ok-program-in-Run-clause-ok : goal.returns-in_ok-program-in-Run-clause-ok
+returns-in_ok-program-in-Run-clause-ok g c =
+    let input = change g.S.Source.left g.S.Source.faults c.args.input.now c.read-in-Run.new.input in
+    subst (λ (k : Command). IfOk c.run_text.result (AnswersInput k input)) (sym c.in-Run.is)
+    (run_ok c.in-Run.plan input c.in_ok-program-in-Run.program c.in_ok-program-in-Run.ensures.ok c.run_text.result
+    c.run_text.ensures.ok)
+
+pub returns-in_ok-program-in-Run-clause-err : goal.returns-in_ok-program-in-Run-clause-err
+returns-in_ok-program-in-Run-clause-err g c =
+    let input = change g.S.Source.left g.S.Source.faults c.args.input.now c.read-in-Run.new.input in
+    subst (λ (k : Command). IfErr c.run_text.result (ReadingEnds k input)) (sym c.in-Run.is)
+    (run_err c.in-Run.plan input c.in_ok-program-in-Run.program c.in_ok-program-in-Run.ensures.ok c.run_text.result
+    c.run_text.ensures.err)
 
 pub returns-in_ok-strip_text-in-Strip-clause-ok : goal.returns-in_ok-strip_text-in-Strip-clause-ok
 returns-in_ok-strip_text-in-Strip-clause-ok g c =

@@ -1,4 +1,9 @@
-use Rattle.std.proofs.Common.{refl}
+use Rattle.std.proofs.Common.{◌≡◌, Err, refl, sym, ap, ◌∙◌}
+use Rattle.std.proofs.lemmas.Result.{err_from_is_err_and}
+use Rattle.function_emit.specs.declared.emit.EmitError.{EmitError}
+use Rattle.function_emit.specs.declared.emit.EmitError.TheVariants as emitting
+use Rattle.program_compiler.specs.declared.compile.CompileError.TheVariants as compiling
+use Rattle.program_compiler.specs.steps.Fault.{of_emit}
 use Rattle.function_passes.specs.Passed.{passed_of}
 use Rattle.program_compiler.proofs.function.push_source.Goals as goal
 
@@ -16,6 +21,23 @@ returns-clause-pushed c = record {
   passed = passed_of c.args.source.now c.in_ok-passed.passed.function c.in_ok-passed.passed.substitutions;
   source = refl;
   compilable = c.in_ok-passed.ensures.compilable;
-  made = c.in_ok-passed.ensures.made;
+  lost = c.in_ok-passed.ensures.made;
   pushed = c.in_ok-push_function.ensures.pushed;
 }
+
+-- a frame is too large where the function's was
+frame_only : (e : EmitError) → of_emit e ≡ compiling.FrameTooLarge → e ≡ emitting.FrameTooLarge
+frame_only emitting.FrameTooLarge is = refl
+frame_only emitting.Memory is = absurd cc
+
+pub returns-in_err-push_function-clause-too_large : goal.returns-in_err-push_function-clause-too_large
+returns-in_err-push_function-clause-too_large c is =
+    let gave = err_from_is_err_and c.from_residual-in_err-push_function.result c.from_residual-in_err-push_function.ensures.1 in
+    let here : gave.0 ≡ compiling.FrameTooLarge = let same = gave.1 in cc in
+    let why = frame_only _ (sym gave.2 ∙ here) in
+    record {
+      passed = passed_of c.args.source.now c.in_ok-passed.passed.function c.in_ok-passed.passed.substitutions;
+      source = refl;
+      made = record { losses = c.in_ok-passed.passed.losses; kept = c.in_ok-passed.ensures.made };
+      large = c.in_err-push_function.ensures.too_large (ap (λ (e : EmitError). Err e) why);
+    }

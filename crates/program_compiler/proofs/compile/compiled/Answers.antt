@@ -1,11 +1,11 @@
-use Rattle.std.proofs.Common.{◌≡◌, ℕ, ◌+◌, ◌*◌, ◌<◌, ◌≤◌, List, length, map, sym, ap, ◌∙◌, arith, rules}
+use Rattle.std.proofs.Common.{◌≡◌, map, arith, rules}
 use Rattle.std.proofs.lemmas.List.{length-map}
 use Rattle.mir_parser.specs.declared.closing.Parsed.{Parsed}
 use Rattle.output_promise.specs.Source.{PassedFunction}
 use Rattle.source_lines.specs.declared.compiled.Compiled.{Compiled}
 use Rattle.program_compiler.proofs.Behind.{coded_length, passed_length}
 use Rattle.program_compiler.proofs.Listed.{program_few}
-use Rattle.program_compiler.proofs.compile.output.Goals as goal
+use Rattle.program_compiler.proofs.compile.compiled.Goals as goal
 
 pub with_code-requires : goal.with_code-requires
 with_code-requires c =

@@ -4,8 +4,8 @@ use Rattle.follow_law.specs.Steps.{Step}
 use Rattle.pass_list.specs.declared.kind.PassKind.{PassKind}
 use Rattle.pass_list.specs.Names.{AreDistinct}
 use Rattle.pass_loop.specs.Passes.{steps_of}
-use Rattle.program_compiler.specs.Program.{IsOutputOf, HasLargeFrame, HasLargeSection}
-use Rattle.mirdwarf_tool.proofs.compiled.output.Goals as goal
+use Rattle.program_compiler.specs.Program.{IsOutputOf, IsCompilationOf, HasLargeFrame, HasLargeSection}
+use Rattle.mirdwarf_tool.proofs.compiled.compilation.Goals as goal
 
 pub compile-requires-clause-distinct : goal.compile-requires-clause-distinct
 compile-requires-clause-distinct c = subst AreDistinct (sym c.as_slice.ensures.value) c.as_slice.ensures.distinct
@@ -16,10 +16,15 @@ by_plan : (P : List Step → Type 0) (passes list : List PassKind) (reserve regi
 by_plan P passes list reserve registers same kept holds =
     subst (λ (l : List PassKind). P (steps_of registers l)) same (subst (λ (r : List ℕ). P (steps_of r passes)) kept holds)
 
-pub returns-in-Ok-clause-ok : goal.returns-in-Ok-clause-ok
-returns-in-Ok-clause-ok c =
-    by_plan (λ steps. IsOutputOf steps c.args.program.now c.in-Ok.output) c.as_slice.result.now c.args.plan.now.passes c.as_slice-2.result.now
+pub returns-in-Ok-clause-output : goal.returns-in-Ok-clause-output
+returns-in-Ok-clause-output c =
+    by_plan (λ steps. IsOutputOf steps c.args.program.now c.in-Ok.compilation.output) c.as_slice.result.now c.args.plan.now.passes c.as_slice-2.result.now
     c.args.plan.now.reserve c.as_slice.ensures.value c.as_slice-2.ensures c.in-Ok.ensures.output
+
+pub returns-in-Ok-clause-compilation : goal.returns-in-Ok-clause-compilation
+returns-in-Ok-clause-compilation c =
+    by_plan (λ steps. IsCompilationOf steps c.args.program.now c.in-Ok.compilation) c.as_slice.result.now c.args.plan.now.passes
+    c.as_slice-2.result.now c.args.plan.now.reserve c.as_slice.ensures.value c.as_slice-2.ensures c.in-Ok.ensures.compilation
 
 pub returns-in-Err-FrameTooLarge-clause-err : goal.returns-in-Err-FrameTooLarge-clause-err
 returns-in-Err-FrameTooLarge-clause-err c =

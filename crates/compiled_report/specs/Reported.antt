@@ -1,0 +1,89 @@
+-- The report of a program that is compiled.
+use Rattle.std.specs.Prelude.{◌≡◌, ℕ, ◌+◌, ◌≤◌, List, [], ◌∷◌, length, map, take, drop, All}
+use Rattle.code_words.specs.Laid.{LaidCode, IsCodeOf}
+use Rattle.compiled_text.specs.declared.output.ListedFunction.{ListedFunction}
+use Rattle.dwarf_loclists.specs.declared.range.Range.{Range}
+use Rattle.dwarf_loclists.specs.Ranges.{Ascend}
+use Rattle.follow_law.specs.declared.loss.Loss.{Loss}
+use Rattle.follow_law.specs.Steps.{Step}
+use Rattle.frame_rule.specs.Rule.{framed_of}
+use Rattle.function_emit.specs.Emitted.{names_of}
+use Rattle.function_passes.specs.Passed.{IsMadeLosing}
+use Rattle.mir_parser.specs.declared.program.Program.{Program}
+use Rattle.output_promise.specs.Compiled.{IsCompiledFunction}
+use Rattle.output_promise.specs.Source.{PassedFunction}
+use Rattle.pass_list.specs.declared.kind.PassKind.{PassKind}
+use Rattle.pass_loop.specs.Passes.{steps_of}
+use Rattle.program_compiler.specs.declared.compile.Compilation.{Compilation}
+use Rattle.program_compiler.specs.Program.{ArePassed, IsCompilationOf}
+use Rattle.program_report.specs.declared.print.Compiled.{Compiled}
+use Rattle.program_report.specs.ProgramReport.{program_report}
+
+-- ---- the text
+
+-- what is reported of a function: its machine code, the names of its listed variables, their lists, and what was lost
+abbrev pub part_of : ListedFunction → LaidCode → List (List Range) → List Loss → Compiled
+part_of f code lists losses = record { code = code; names = map (λ v. v.name) f.variables; lists = lists; losses = losses }
+
+-- what is reported of functions: the lists of each stand behind those of the one before it, as many as it has variables
+abbrev pub parts_of : List ListedFunction → List LaidCode → List (List Range) → List (List Loss) → List Compiled
+parts_of [] codes lists losses = []
+parts_of (f ∷ fs) [] lists losses = []
+parts_of (f ∷ fs) (c ∷ cs) lists [] = []
+parts_of (f ∷ fs) (c ∷ cs) lists (l ∷ ls) =
+    part_of f c (take (length f.variables) lists) l ∷ parts_of fs cs (drop (length f.variables) lists) ls
+
+-- the report of a program that is compiled
+abbrev pub compilation_report : Compilation → List ℕ
+compilation_report c = program_report (parts_of c.output.functions c.codes c.lists c.losses)
+
+-- how many variables functions have
+abbrev pub variable_count : List ListedFunction → ℕ
+variable_count [] = 0
+variable_count (f ∷ fs) = length f.variables + variable_count fs
+
+-- each variable has a list, in which the ranges ascend
+pub record HasParts (c : Compilation) : Type 0 where
+  pub many : variable_count c.output.functions ≤ length c.lists
+  pub ascend : All Ascend c.lists
+
+-- ---- what it says
+
+-- what is reported of a function that steps of passes made of its source, and that is compiled from an address and a list's number on: its machine
+-- code, the names of the variables that the listing shows, the lists of their wanted locations, and what these passes lost
+pub record IsReportedAs (names : ℕ → List ℕ) (steps : List Step) (p : PassedFunction) (base first : ℕ) (f : ListedFunction) (r : Compiled) :
+    Type 0 where
+  pub compiled : IsCompiledFunction names p base first f
+  pub code : IsCodeOf (framed_of p.function) base r.code
+  pub named : r.names ≡ map (λ v. v.name) f.variables
+  pub lists : r.lists ≡ compiled.lists
+  pub lost : IsMadeLosing steps p r.losses
+
+-- so it is of functions that are compiled one after the other
+abbrev pub AreReportedAs : (names : ℕ → List ℕ) → List Step → (base first : ℕ) → List PassedFunction → List ListedFunction → List Compiled → Type 0
+AreReportedAs names steps base first [] [] [] = Unit {0}
+AreReportedAs names steps base first [] [] (r ∷ rs) = ⊥
+AreReportedAs names steps base first [] (f ∷ fs) rs = ⊥
+AreReportedAs names steps base first (p ∷ ps) [] rs = ⊥
+AreReportedAs names steps base first (p ∷ ps) (f ∷ fs) [] = ⊥
+AreReportedAs names steps base first (p ∷ ps) (f ∷ fs) (r ∷ rs) =
+    IsReportedAs names steps p base first f r × AreReportedAs names steps f.high (first + length r.lists) ps fs rs
+
+-- a text is the report of what steps of passes made of a program's functions
+pub record IsReportText (steps : List Step) (p : Program) (text : List ℕ) : Type 0 where
+  pub functions : List PassedFunction
+  pub passed : ArePassed p.meta p.functions functions
+  pub listed : List ListedFunction
+  pub reported : List Compiled
+  pub are : AreReportedAs (names_of p.meta) steps 0 0 functions listed reported
+  pub spelled : text ≡ program_report reported
+
+-- what is known of the report of each compilation
+pub record IsReported (steps : List Step) (p : Program) (c : Compilation) : Type 0 where
+  pub parts : HasParts c
+  pub text : IsReportText steps p (compilation_report c)
+
+-- Every compilation of a program has a report, and it is the report of what passes made of the program's functions.
+abbrev pub CompilationsAreReported : Type 0
+CompilationsAreReported = (reserve : List ℕ) (passes : List PassKind) (p : Program) (c : Compilation) →
+    IsCompilationOf (steps_of reserve passes) p c → IsReported (steps_of reserve passes) p c
