@@ -1,5 +1,5 @@
 mod Nowhere
 mod Under
-mod Copy
+pub mod Copy
 mod Same
 pub mod Chain

@@ -1,0 +1,11 @@
+pub mod Lines
+pub mod Blocks
+pub mod Places
+pub mod Here
+pub mod Become
+pub mod Kept
+pub mod Told
+pub mod Entries
+pub mod Added
+pub mod Whole
+pub mod Idle

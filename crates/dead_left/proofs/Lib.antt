@@ -1,0 +1,5 @@
+mod Steps
+mod Whole
+mod Told
+pub mod None
+pub mod Quiet

@@ -1,0 +1,50 @@
+//! Functions that are small enough for the pass.
+
+ghost use Rattle.std.specs.Prelude.{◌+◌, ◌*◌, ◌<◌, ◌^◌, [], length, IsTrue};
+ghost use Rattle.mir_func.specs.Limits.{MAX_SLOTS};
+ghost use Rattle.mir_func.specs.Sound.{items_of};
+ghost use Rattle.follow_law.specs.Sizes.{greatest, greatest_number, most_numbers};
+
+use mir_func::block::Block;
+use mir_func::func::Func;
+use numbers::code::SlotId;
+use salvage::fresh::greatest_in_blocks;
+
+/// Whether a function has up to three short blocks, and small numbers.
+pub fn is_small(f: &Func) -> bool
+    ensures numbers { IsTrue result → greatest_number f.now [] + most_numbers 1 1 f.now < 2 ^ 31 }
+    ensures slots { IsTrue result → greatest f.now.slots + MAX_SLOTS * 1 < 2 ^ 31 }
+{
+    let most = greatest_in_blocks(f.blocks.as_slice());
+    most < 1_000 && are_short(f.blocks.as_slice()) && are_low(f.slots.as_slice())
+}
+
+/// Whether there are one to three blocks, of fewer than 1,000 items each.
+fn are_short(blocks: &[Block]) -> bool
+    ensures { IsTrue result → length (items_of blocks.now) < 3_000 }
+{
+    match blocks {
+        [a] => is_short(a),
+        [a, b] => is_short(a) && is_short(b),
+        [a, b, c] => is_short(a) && is_short(b) && is_short(c),
+        _ => false,
+    }
+}
+
+fn is_short(block: &Block) -> bool
+    ensures { IsTrue result → length block.now.items < 1_000 }
+{
+    block.items.as_slice().len() < 1_000
+}
+
+/// Whether all slots have numbers below 1,000.
+fn are_low(slots: &[SlotId]) -> bool
+    ensures { IsTrue result → greatest slots.now < 1_000 }
+{
+    for slot in slots {
+        if 1_000 <= slot.number() {
+            return false;
+        }
+    }
+    true
+}

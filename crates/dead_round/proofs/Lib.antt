@@ -1,0 +1,4 @@
+mod SameCode
+pub mod Follows
+mod Losses
+mod Made

@@ -1,0 +1,4 @@
+mod Counts
+mod Off
+mod Numbers
+pub mod Round

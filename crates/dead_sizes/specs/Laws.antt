@@ -1,0 +1,21 @@
+-- How large a function is after a round.
+use Rattle.std.specs.Prelude.{◌≡◌, ◌+◌, ◌≤◌, List}
+use Rattle.mir_func.specs.declared.entry.Entry.{Entry}
+use Rattle.mir_func.specs.Function.{Function}
+use Rattle.mir_func.specs.Sound.{IsSound}
+use Rattle.follow_law.specs.declared.loss.Loss.{Loss}
+use Rattle.follow_law.specs.Sizes.{greatest_number, item_count, code_count, call_count, IsPhysical}
+use Rattle.dead_round.specs.Round.{IsDeadRound}
+
+-- the second function, with its substitutions, is no larger: for each debug instruction number that was taken an item went
+pub record IsNoLarger (f : Function) (subs : List Entry) (g : Function) (more : List Entry) : Type 0 where
+  pub items : item_count g ≤ item_count f
+  pub code : code_count g ≤ code_count f
+  pub calls : call_count g ≤ call_count f
+  pub physical : IsPhysical f → IsPhysical g
+  pub numbers : greatest_number g more + item_count g ≤ greatest_number f subs + item_count f
+  pub slots : g.slots ≡ f.slots
+
+-- so it is after a round
+abbrev pub RoundSizes : Type 0
+RoundSizes = (f g : Function) (subs more : List Entry) (losses : List Loss) → IsSound f → IsDeadRound f subs g more losses → IsNoLarger f subs g more

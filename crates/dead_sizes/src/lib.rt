@@ -1,0 +1,4 @@
+//! How large a function is after a round of dead code: no larger, and a number is taken only where an item went.
+#![tactic(auto)]
+
+pub mod laws;
