@@ -202,7 +202,7 @@ fn registers_live_in_slots(rt: HostRuntime) -> Result<(), Fail> {
     )?;
     let program = program(alloc, text.as_str())?;
     let reserve = [physical(18).ok_or("a register")?];
-    let output = compile(alloc, &program, &[PassKind::Spill], &reserve)?;
+    let output = compile(alloc, &program, &[PassKind::Spill], &reserve)?.output;
     assert_eq!(rt; output.text.len(), 40);
     let lists = output.loclists.as_slice();
     let list = b"\x04\x0c\x14\x01\x55\x04\x14\x18\x02\x72\x00\x04\x18\x28\x01\x55\x00";
