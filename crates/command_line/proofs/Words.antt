@@ -40,7 +40,7 @@ one_given (word ∷ words) given a b ha hb =
 
 plan_by : (given : Options) (p q : Plan) → IsPlanOf given p → IsPlanOf given q → p ≡ q
 plan_by given p q hp hq =
-    let passes : p.passes ≡ q.passes = one_of p.passes q.passes (sym hp.passes ∙ hq.passes) in
+    let passes : p.passes ≡ q.passes = hp.passes ∙ sym hq.passes in
     let reserve : p.reserve ≡ q.reserve = hp.reserve ∙ sym hq.reserve in
     λ i. record { passes = passes i; reserve = reserve i }
 
@@ -53,7 +53,7 @@ run_by : (name : List ℕ) (count : ℕ) (given : Options) (r s : RunPlan) → I
 run_by name count given r s hr hs =
     let named : r.name ≡ s.name = hr.named ∙ sym hs.named in
     let steps : r.steps ≡ s.steps = hr.steps ∙ sym hs.steps in
-    let passes : r.plan.passes ≡ s.plan.passes = one_of r.plan.passes s.plan.passes (sym hr.passes ∙ hs.passes) in
+    let passes : r.plan.passes ≡ s.plan.passes = hr.passes ∙ sym hs.passes in
     let reserve : r.plan.reserve ≡ s.plan.reserve = hr.reserve ∙ sym hs.reserve in
     let arguments : r.arguments ≡ s.arguments = hr.arguments ∙ sym hs.arguments in
     let answers : r.answers ≡ s.answers = hr.answers ∙ sym hs.answers in
@@ -216,10 +216,10 @@ the_command words a is b = (
 )
 
 -- words whose options ask for these runs ask for them too
-pub the_steps : (name named word : List ℕ) (words : List (List ℕ)) (count : ℕ) (given : Options) (found : Option RunPlan) → named ≡ name →
+pub the_steps : (name named word : List ℕ) (words : List (List ℕ)) (count : ℕ) (given : Options) (found : RunPlan) → named ≡ name →
     word ≡ decimal count → count ≤ 1000000 → GiveOptions none_given words given →
-    ((run : RunPlan) → (found ≡ Some run) ↔ IsRunPlanOf named count given run) → (run : RunPlan) →
-    (found ≡ Some run) ↔ GivesSteps name word words run
+    ((run : RunPlan) → (found ≡ run) ↔ IsRunPlanOf named count given run) → (run : RunPlan) →
+    (Some found ≡ Some run) ↔ GivesSteps name word words run
 the_steps name named word words count given found same spelled few give is run = (
   λ e. record {
     count = count;
@@ -227,14 +227,14 @@ the_steps name named word words count given found same spelled few give is run =
     few = few;
     given = given;
     give = give;
-    is = subst (λ (n : List ℕ). IsRunPlanOf n count given run) same ((is run).0 e);
+    is = subst (λ (n : List ℕ). IsRunPlanOf n count given run) same ((is run).0 (one_of found run e));
   },
   λ h.
       let counted : h.count ≡ count = one_number h.count count h.few few (sym h.spelled ∙ spelled) in
       let one : h.given ≡ given = one_given words none_given h.given given h.give give in
       let asked : IsRunPlanOf name h.count given run = subst (λ (o : Options). IsRunPlanOf name h.count o run) one h.is in
       let there : IsRunPlanOf name count given run = subst (λ (n : ℕ). IsRunPlanOf name n given run) counted asked in
-      (is run).1 (subst (λ (n : List ℕ). IsRunPlanOf n count given run) (sym same) there),
+      ap (λ (r : RunPlan). Some r) ((is run).1 (subst (λ (n : List ℕ). IsRunPlanOf n count given run) (sym same) there)),
 )
 
 -- ---- numbers

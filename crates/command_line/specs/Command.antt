@@ -8,6 +8,8 @@ use Rattle.command_line.specs.declared.command.Command.{Command}
 use Rattle.command_line.specs.declared.command.Command.TheVariants.{Compile, Listing, Report, Run, Strip, Gen}
 use Rattle.command_line.specs.declared.command.Plan.{Plan}
 use Rattle.command_line.specs.declared.command.RunPlan.{RunPlan}
+use Rattle.pass_list.specs.declared.kind.PassKind.{PassKind}
+use Rattle.pass_list.specs.Names.{STANDARD}
 
 -- the registers of a reserve: none where it isn't given
 abbrev pub reserve_in : Option (List ℕ) → List ℕ
@@ -19,9 +21,14 @@ abbrev pub numbers_in : Option (List ℕ) → List ℕ
 numbers_in None = []
 numbers_in (Some numbers) = numbers
 
--- options ask for a plan: a list of passes is given, and a reserve may be, and no numbers are
+-- the passes of a list: all of them where it isn't given
+abbrev pub passes_in : Option (List PassKind) → List PassKind
+passes_in None = STANDARD
+passes_in (Some passes) = passes
+
+-- options ask for a plan: a list of passes and a reserve may be given, and no numbers are
 pub record IsPlanOf (given : Options) (plan : Plan) : Type 0 where
-  pub passes : given.passes ≡ Some plan.passes
+  pub passes : plan.passes ≡ passes_in given.passes
   pub reserve : plan.reserve ≡ reserve_in given.reserve
   pub no_arguments : given.arguments ≡ None
   pub no_answers : given.answers ≡ None
@@ -30,11 +37,11 @@ pub record IsPlanOf (given : Options) (plan : Plan) : Type 0 where
 abbrev pub GivesPlan : (words : List (List ℕ)) → Plan → Type 0
 GivesPlan words plan = (given : Options) × GiveOptions none_given words given × IsPlanOf given plan
 
--- options ask for a run of the function of a name, of so many steps at most: a list of passes is given, and each other option may be
+-- options ask for a run of the function of a name, of so many steps at most: each option may be given
 pub record IsRunPlanOf (name : List ℕ) (count : ℕ) (given : Options) (run : RunPlan) : Type 0 where
   pub named : run.name ≡ name
   pub steps : run.steps ≡ count
-  pub passes : given.passes ≡ Some run.plan.passes
+  pub passes : run.plan.passes ≡ passes_in given.passes
   pub reserve : run.plan.reserve ≡ reserve_in given.reserve
   pub arguments : run.arguments ≡ numbers_in given.arguments
   pub answers : run.answers ≡ numbers_in given.answers

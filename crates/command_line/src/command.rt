@@ -2,7 +2,7 @@
 
 ghost use Rattle.std.specs.Prelude.{◌≡◌, ◌↔◌, ◌∷◌, [], List, map, string_bytes, Some, IfOk};
 ghost use Rattle.command_line.specs.Command.{IsCommand, IsPlain, GivesPlan, IsPlanOf, reserve_in};
-ghost use Rattle.command_line.specs.Command.{GivesRun, GivesSteps, IsRunPlanOf, numbers_in};
+ghost use Rattle.command_line.specs.Command.{GivesRun, GivesSteps, IsRunPlanOf, numbers_in, passes_in};
 ghost use Rattle.command_line.specs.declared.command.Command.{Command};
 ghost use Rattle.command_line.specs.declared.command.Plan.{Plan};
 ghost use Rattle.command_line.specs.declared.command.RunPlan.{RunPlan};
@@ -128,7 +128,7 @@ fn without_plan(name: &str, words: &[String]) -> Option<Command>
     }
 }
 
-/// The plan that options ask for. None where they are no options, where no passes are among them, and where others are.
+/// The plan that options ask for. None where they are no options, and where numbers are among them.
 fn plan_asked(alloc: Global, words: &[String]) -> Result<Option<Plan>, AllocError>
     ensures { IfOk result (λ o. (plan : Plan) → (o ≡ Some plan) ↔ GivesPlan (map string_bytes words.now) plan) }
 {
@@ -151,13 +151,10 @@ fn plan_of(alloc: Global, given: Options) -> Option<Plan>
     if arguments.is_some() || answers.is_some() {
         return None;
     }
-    match passes {
-        Some(passes) => Some(Plan {
-            passes,
-            reserve: reserve_in(alloc, reserve),
-        }),
-        None => None,
-    }
+    Some(Plan {
+        passes: passes_in(passes),
+        reserve: reserve_in(alloc, reserve),
+    })
 }
 
 /// The run that words ask for: a function's name, how many steps, and options. None where they ask for none.
@@ -187,12 +184,12 @@ fn steps_asked(
         return Ok(None);
     };
     let name = Name::from_slice(alloc, name.as_bytes())?;
-    Ok(run_of(alloc, name, count as u32, given))
+    Ok(Some(run_of(alloc, name, count as u32, given)))
 }
 
 /// The run of the function of a name, of so many steps, with options.
-fn run_of(alloc: Global, name: Name, steps: u32, given: Options) -> Option<RunPlan>
-    ensures { (run : RunPlan) → (result ≡ Some run) ↔ IsRunPlanOf name steps given run }
+fn run_of(alloc: Global, name: Name, steps: u32, given: Options) -> RunPlan
+    ensures { (run : RunPlan) → (result ≡ run) ↔ IsRunPlanOf name steps given run }
 {
     let Options {
         passes,
@@ -200,18 +197,25 @@ fn run_of(alloc: Global, name: Name, steps: u32, given: Options) -> Option<RunPl
         arguments,
         answers,
     } = given;
-    match passes {
-        Some(passes) => Some(RunPlan {
-            name,
-            steps,
-            plan: Plan {
-                passes,
-                reserve: reserve_in(alloc, reserve),
-            },
-            arguments: numbers_in(alloc, arguments),
-            answers: numbers_in(alloc, answers),
-        }),
-        None => None,
+    RunPlan {
+        name,
+        steps,
+        plan: Plan {
+            passes: passes_in(passes),
+            reserve: reserve_in(alloc, reserve),
+        },
+        arguments: numbers_in(alloc, arguments),
+        answers: numbers_in(alloc, answers),
+    }
+}
+
+/// The passes of a list: all of them where there is no such option.
+fn passes_in(given: Option<PassList>) -> PassList
+    ensures { result ≡ passes_in given }
+{
+    match given {
+        Some(passes) => passes,
+        None => PassList::standard(),
     }
 }
 

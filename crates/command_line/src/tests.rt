@@ -8,20 +8,24 @@ use refusal::first::Refusal;
 use refusal::kind::RefusalKind;
 use std::test::Fail;
 
+/// All passes, as they run where no list is asked for.
+const ALL: &[PassKind] = &[
+    PassKind::Copy,
+    PassKind::Remat,
+    PassKind::Spill,
+    PassKind::Dead,
+    PassKind::Fold,
+];
+
 /// Words of a command line, and the command that they are, as its name, its passes, and how many registers it has in
 /// reserve.
 const ROWS: [(&str, Option<(&str, &[PassKind], usize)>); 37] = [
     ("compile --passes=none", Some(("compile", &[], 0))),
     (
-        "compile --passes=copy,remat,spill,fold",
+        "compile --passes=fold,dead,spill",
         Some((
             "compile",
-            &[
-                PassKind::Copy,
-                PassKind::Remat,
-                PassKind::Spill,
-                PassKind::Fold,
-            ],
+            &[PassKind::Fold, PassKind::Dead, PassKind::Spill],
             0,
         )),
     ),
@@ -46,18 +50,18 @@ const ROWS: [(&str, Option<(&str, &[PassKind], usize)>); 37] = [
     ("gen 0 1", Some(("gen", &[], 0))),
     ("gen 65536 512", Some(("gen", &[], 0))),
     ("", None),
-    ("compile", None),
-    ("listing", None),
-    ("compile --reserve=x8", None),
+    ("compile", Some(("compile", ALL, 0))),
+    ("listing", Some(("listing", ALL, 0))),
+    ("compile --reserve=x8", Some(("compile", ALL, 1))),
     ("compile --passes=none --args=1", None),
     ("compile --passes=none --answers=1", None),
     ("compile --passes=none --passes=remat", None),
     ("compile --passes=remat,remat", None),
     ("compile --passes=none strip", None),
-    ("report", None),
+    ("report", Some(("report", ALL, 0))),
     ("report --passes=none --answers=1", None),
     ("run f --passes=none", None),
-    ("run f 1", None),
+    ("run f 1", Some(("run", ALL, 0))),
     ("run f 1000001 --passes=none", None),
     ("run 1 f --passes=none", None),
     ("run --passes=none f 1", None),

@@ -7,7 +7,6 @@ use Rattle.code_words.specs.Rule.{Layout, words_of}
 use Rattle.compiled_text.specs.declared.output.ListedFunction.{ListedFunction}
 use Rattle.dwarf_loclists.specs.declared.range.Range.{Range}
 use Rattle.follow_law.specs.declared.loss.Loss.{Loss}
-use Rattle.follow_law.specs.Steps.{Step}
 use Rattle.frame_rule.specs.Rule.{framed_of}
 use Rattle.function_emit.specs.Emitted.{names_of}
 use Rattle.mir_func.specs.declared.variable.VarId.{VarId}
@@ -15,7 +14,7 @@ use Rattle.output_promise.specs.Compiled.{IsCompiledFunction, AreCompiled}
 use Rattle.output_promise.specs.Promise.{variable_lines}
 use Rattle.output_promise.specs.Source.{PassedFunction}
 use Rattle.mir_parser.specs.declared.program.Program.{Program}
-use Rattle.pass_loop.specs.Passes.{steps_of}
+use Rattle.pass_list.specs.declared.kind.PassKind.{PassKind}
 use Rattle.program_compiler.specs.declared.compile.Compilation.{Compilation}
 use Rattle.program_compiler.specs.Program.{AreCoded, AreMadeLosing, IsCompilationOf}
 use Rattle.unit_entries.specs.Variables.{variables_of_function}
@@ -47,27 +46,30 @@ module _ (names : ℕ → List ℕ) (p : PassedFunction) (base first : ℕ) (f :
 
 -- ---- all functions
 
-reported : (names : ℕ → List ℕ) (steps : List Step) (base first : ℕ) (text : List ℕ) (lists : List (List Range)) (ps : List PassedFunction)
+reported : (names : ℕ → List ℕ) (reserve : List ℕ) (passes : List PassKind) (base first : ℕ) (text : List ℕ) (lists : List (List Range))
+    (ps : List PassedFunction)
     (fs : List ListedFunction) (cs : List LaidCode) (ls : List (List Loss)) → AreCompiled names base first text lists ps fs →
-    AreCoded base (map (λ p. p.function) ps) cs → AreMadeLosing steps ps ls → AreReportedAs names steps base first ps fs (parts_of fs cs lists ls)
-reported names steps base first text lists [] [] cs ls are coded lost = tt
-reported names steps base first text lists [] (f ∷ fs) cs ls are coded lost = absurd are
-reported names steps base first text lists (p ∷ ps) [] cs ls are coded lost = absurd are
-reported names steps base first text lists (p ∷ ps) (f ∷ fs) [] ls are coded lost = absurd coded
-reported names steps base first text lists (p ∷ ps) (f ∷ fs) (c ∷ cs) [] are coded lost = absurd lost
-reported names steps base first text lists (p ∷ ps) (f ∷ fs) (c ∷ cs) (l ∷ ls) (is, more, rest, text_is, lists_is, onward) coded lost =
+    AreCoded base (map (λ p. p.function) ps) cs → AreMadeLosing reserve passes ps ls → AreReportedAs names reserve passes base first ps fs
+    (parts_of fs cs lists ls)
+reported names reserve passes base first text lists [] [] cs ls are coded lost = tt
+reported names reserve passes base first text lists [] (f ∷ fs) cs ls are coded lost = absurd are
+reported names reserve passes base first text lists (p ∷ ps) [] cs ls are coded lost = absurd are
+reported names reserve passes base first text lists (p ∷ ps) (f ∷ fs) [] ls are coded lost = absurd coded
+reported names reserve passes base first text lists (p ∷ ps) (f ∷ fs) (c ∷ cs) [] are coded lost = absurd lost
+reported names reserve passes base first text lists (p ∷ ps) (f ∷ fs) (c ∷ cs) (l ∷ ls) (is, more, rest, text_is, lists_is, onward) coded lost =
     let count : length is.lists ≡ length f.variables = many names p base first f is in
     let own : take (length f.variables) lists ≡ is.lists =
     ap (λ (n : ℕ). take n lists) (sym count) ∙ ap (take (length is.lists)) lists_is ∙ take-append_seam is.lists rest in
     let others : drop (length f.variables) lists ≡ rest =
     ap (λ (n : ℕ). drop n lists) (sym count) ∙ ap (drop (length is.lists)) lists_is ∙ drop-append_seam is.lists rest in
-    let later : AreReportedAs names steps f.high (first + length is.lists) ps fs (parts_of fs cs rest ls) =
-    reported names steps f.high (first + length is.lists) more rest ps fs cs ls onward
+    let later : AreReportedAs names reserve passes f.high (first + length is.lists) ps fs (parts_of fs cs rest ls) =
+    reported names reserve passes f.high (first + length is.lists) more rest ps fs cs ls onward
     (subst (λ (b : ℕ). AreCoded b (map (λ q. q.function) ps) cs) (ends names p base first f is c coded.0) coded.1) lost.1 in (
       record { compiled = is; code = coded.0; named = refl; lists = own; lost = lost.0 },
-      subst (λ (n : ℕ). AreReportedAs names steps f.high n ps fs (parts_of fs cs (drop (length f.variables) lists) ls))
+      subst (λ (n : ℕ). AreReportedAs names reserve passes f.high n ps fs (parts_of fs cs (drop (length f.variables) lists) ls))
           (ap (λ (own_lists : List (List Range)). first + length own_lists) (sym own))
-          (subst (λ (left : List (List Range)). AreReportedAs names steps f.high (first + length is.lists) ps fs (parts_of fs cs left ls)) (sym others) later),
+          (subst (λ (left : List (List Range)). AreReportedAs names reserve passes f.high (first + length is.lists) ps fs (parts_of fs cs left ls))
+          (sym others) later),
     )
 
 enough : (names : ℕ → List ℕ) (base first : ℕ) (text : List ℕ) (lists : List (List Range)) (ps : List PassedFunction) (fs : List ListedFunction) →
@@ -81,8 +83,9 @@ enough names base first text lists (p ∷ ps) (f ∷ fs) (is, more, rest, text_i
     let whole : length lists ≡ length is.lists + length rest = ap length lists_is ∙ length-append is.lists rest in
     omega (arith, count, left, whole)
 
-pub compilation_reported : (steps : List Step) (p : Program) (c : Compilation) → IsCompilationOf steps p c → IsReported steps p c
-compilation_reported steps p c is = record {
+pub compilation_reported : (reserve : List ℕ) (passes : List PassKind) (p : Program) (c : Compilation) → IsCompilationOf reserve passes p c →
+    IsReported reserve passes p c
+compilation_reported reserve passes p c is = record {
   parts = record {
     many = enough (names_of p.meta) 0 0 c.output.text c.lists is.functions c.output.functions is.compiled;
     ascend = is.writable.ascend;
@@ -92,10 +95,10 @@ compilation_reported steps p c is = record {
     passed = is.passed;
     listed = c.output.functions;
     reported = parts_of c.output.functions c.codes c.lists c.losses;
-    are = reported (names_of p.meta) steps 0 0 c.output.text c.lists is.functions c.output.functions c.codes c.losses is.compiled is.coded is.lost;
+    are = reported (names_of p.meta) reserve passes 0 0 c.output.text c.lists is.functions c.output.functions c.codes c.losses is.compiled is.coded is.lost;
     spelled = refl;
   };
 }
 
 pub compilations_are_reported : CompilationsAreReported
-compilations_are_reported reserve passes p c is = compilation_reported (steps_of reserve passes) p c is
+compilations_are_reported reserve passes p c is = compilation_reported reserve passes p c is

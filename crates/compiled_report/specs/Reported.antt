@@ -5,7 +5,6 @@ use Rattle.compiled_text.specs.declared.output.ListedFunction.{ListedFunction}
 use Rattle.dwarf_loclists.specs.declared.range.Range.{Range}
 use Rattle.dwarf_loclists.specs.Ranges.{Ascend}
 use Rattle.follow_law.specs.declared.loss.Loss.{Loss}
-use Rattle.follow_law.specs.Steps.{Step}
 use Rattle.frame_rule.specs.Rule.{framed_of}
 use Rattle.function_emit.specs.Emitted.{names_of}
 use Rattle.function_passes.specs.Passed.{IsMadeLosing}
@@ -13,7 +12,6 @@ use Rattle.mir_parser.specs.declared.program.Program.{Program}
 use Rattle.output_promise.specs.Compiled.{IsCompiledFunction}
 use Rattle.output_promise.specs.Source.{PassedFunction}
 use Rattle.pass_list.specs.declared.kind.PassKind.{PassKind}
-use Rattle.pass_loop.specs.Passes.{steps_of}
 use Rattle.program_compiler.specs.declared.compile.Compilation.{Compilation}
 use Rattle.program_compiler.specs.Program.{ArePassed, IsCompilationOf}
 use Rattle.program_report.specs.declared.print.Compiled.{Compiled}
@@ -49,41 +47,43 @@ pub record HasParts (c : Compilation) : Type 0 where
 
 -- ---- what it says
 
--- what is reported of a function that steps of passes made of its source, and that is compiled from an address and a list's number on: its machine
+-- what is reported of a function that passes made of its source, and that is compiled from an address and a list's number on: its machine
 -- code, the names of the variables that the listing shows, the lists of their wanted locations, and what these passes lost
-pub record IsReportedAs (names : ℕ → List ℕ) (steps : List Step) (p : PassedFunction) (base first : ℕ) (f : ListedFunction) (r : Compiled) :
+pub record IsReportedAs (names : ℕ → List ℕ) (reserve : List ℕ) (passes : List PassKind) (p : PassedFunction) (base first : ℕ) (f : ListedFunction)
+    (r : Compiled) :
     Type 0 where
   pub compiled : IsCompiledFunction names p base first f
   pub code : IsCodeOf (framed_of p.function) base r.code
   pub named : r.names ≡ map (λ v. v.name) f.variables
   pub lists : r.lists ≡ compiled.lists
-  pub lost : IsMadeLosing steps p r.losses
+  pub lost : IsMadeLosing reserve passes p r.losses
 
 -- so it is of functions that are compiled one after the other
-abbrev pub AreReportedAs : (names : ℕ → List ℕ) → List Step → (base first : ℕ) → List PassedFunction → List ListedFunction → List Compiled → Type 0
-AreReportedAs names steps base first [] [] [] = Unit {0}
-AreReportedAs names steps base first [] [] (r ∷ rs) = ⊥
-AreReportedAs names steps base first [] (f ∷ fs) rs = ⊥
-AreReportedAs names steps base first (p ∷ ps) [] rs = ⊥
-AreReportedAs names steps base first (p ∷ ps) (f ∷ fs) [] = ⊥
-AreReportedAs names steps base first (p ∷ ps) (f ∷ fs) (r ∷ rs) =
-    IsReportedAs names steps p base first f r × AreReportedAs names steps f.high (first + length r.lists) ps fs rs
+abbrev pub AreReportedAs : (names : ℕ → List ℕ) → (reserve : List ℕ) → List PassKind → (base first : ℕ) → List PassedFunction → List ListedFunction →
+    List Compiled → Type 0
+AreReportedAs names reserve passes base first [] [] [] = Unit {0}
+AreReportedAs names reserve passes base first [] [] (r ∷ rs) = ⊥
+AreReportedAs names reserve passes base first [] (f ∷ fs) rs = ⊥
+AreReportedAs names reserve passes base first (p ∷ ps) [] rs = ⊥
+AreReportedAs names reserve passes base first (p ∷ ps) (f ∷ fs) [] = ⊥
+AreReportedAs names reserve passes base first (p ∷ ps) (f ∷ fs) (r ∷ rs) =
+    IsReportedAs names reserve passes p base first f r × AreReportedAs names reserve passes f.high (first + length r.lists) ps fs rs
 
--- a text is the report of what steps of passes made of a program's functions
-pub record IsReportText (steps : List Step) (p : Program) (text : List ℕ) : Type 0 where
+-- a text is the report of what passes made of a program's functions
+pub record IsReportText (reserve : List ℕ) (passes : List PassKind) (p : Program) (text : List ℕ) : Type 0 where
   pub functions : List PassedFunction
   pub passed : ArePassed p.meta p.functions functions
   pub listed : List ListedFunction
   pub reported : List Compiled
-  pub are : AreReportedAs (names_of p.meta) steps 0 0 functions listed reported
+  pub are : AreReportedAs (names_of p.meta) reserve passes 0 0 functions listed reported
   pub spelled : text ≡ program_report reported
 
 -- what is known of the report of each compilation
-pub record IsReported (steps : List Step) (p : Program) (c : Compilation) : Type 0 where
+pub record IsReported (reserve : List ℕ) (passes : List PassKind) (p : Program) (c : Compilation) : Type 0 where
   pub parts : HasParts c
-  pub text : IsReportText steps p (compilation_report c)
+  pub text : IsReportText reserve passes p (compilation_report c)
 
 -- Every compilation of a program has a report, and it is the report of what passes made of the program's functions.
 abbrev pub CompilationsAreReported : Type 0
 CompilationsAreReported = (reserve : List ℕ) (passes : List PassKind) (p : Program) (c : Compilation) →
-    IsCompilationOf (steps_of reserve passes) p c → IsReported (steps_of reserve passes) p c
+    IsCompilationOf reserve passes p c → IsReported reserve passes p c

@@ -14,9 +14,8 @@ use Rattle.output_promise.specs.Compiled.{AreCompiled, bytes_of}
 use Rattle.output_promise.specs.Promise.{variable_lines, variable_listed}
 use Rattle.output_promise.specs.Source.{PassedFunction}
 use Rattle.code_words.specs.Rule.{words_of}
-use Rattle.follow_law.specs.Steps.{Step}
 use Rattle.mir_parser.specs.declared.program.Program.{Program}
-use Rattle.pass_loop.specs.Passes.{steps_of}
+use Rattle.pass_list.specs.declared.kind.PassKind.{PassKind}
 use Rattle.program_compiler.specs.declared.compile.Compilation.{Compilation}
 use Rattle.program_compiler.specs.Program.{AreCoded, IsCompilationOf}
 use Rattle.unit_entries.specs.Variables.{variables_of_function}
@@ -93,8 +92,8 @@ readable (l ∷ ls) ascend places =
     All-cons (λ (ranges : List Range). Ascend ranges × ArePlaces ranges) l ls (All-head Ascend l ls ascend, All-head ArePlaces l ls places)
     (readable ls (All-tail Ascend l ls ascend) (All-tail ArePlaces l ls places))
 
-pub compilation_can_run : (steps : List Step) (p : Program) (c : Compilation) → IsCompilationOf steps p c → CanRun c
-compilation_can_run steps p c is =
+pub compilation_can_run : (reserve : List ℕ) (passes : List PassKind) (p : Program) (c : Compilation) → IsCompilationOf reserve passes p c → CanRun c
+compilation_can_run reserve passes p c is =
     let small : 0 + length c.output.text ≤ 2 ^ 32 = let below_limit : length c.output.text < SECTION_LIMIT = is.small in omega (arith, below_limit) in
     record {
       codes = as_many_codes (names_of p.meta) 0 0 c.output.text c.lists 0 is.functions c.output.functions c.codes is.compiled is.coded;
@@ -104,4 +103,4 @@ compilation_can_run steps p c is =
     }
 
 pub compilations_can_run : CompilationsCanRun
-compilations_can_run reserve passes p c is = compilation_can_run (steps_of reserve passes) p c is
+compilations_can_run reserve passes p c is = compilation_can_run reserve passes p c is

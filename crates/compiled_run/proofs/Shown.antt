@@ -16,10 +16,9 @@ use Rattle.output_promise.proofs.Telling.{all_at}
 use Rattle.output_promise.specs.Compiled.{AreCompiled, IsCompiledProgram, bytes_of}
 use Rattle.output_promise.specs.Promise.{variable_lines}
 use Rattle.output_promise.specs.Source.{PassedFunction, IsPassedFunction}
+use Rattle.pass_list.specs.declared.kind.PassKind.{PassKind}
 use Rattle.program_compiler.proofs.Passed.{all_passed}
-use Rattle.follow_law.specs.Steps.{Step}
 use Rattle.mir_parser.specs.declared.program.Program.{Program}
-use Rattle.pass_loop.specs.Passes.{steps_of}
 use Rattle.program_compiler.specs.declared.compile.Compilation.{Compilation}
 use Rattle.program_compiler.specs.Program.{AreCoded, IsCompilationOf}
 use Rattle.rv_simulator.specs.Shown.{ShowsCode}
@@ -87,9 +86,10 @@ code_at names base first text lists (p ∷ ps) (g ∷ fs) (c ∷ cs) (is, more, 
     (subst (λ (b : ℕ). AreCoded b (map (λ q. q.function) ps) cs) (ends names p base first g is c coded.0) coded.1) n f code f_is code_is in
     record { passed = later.passed; stands = later.stands; here = later.here }
 
-pub compilation_shows_code : (steps : List Step) (p : Program) (c : Compilation) → IsCompilationOf steps p c → (number : ℕ) (f : ListedFunction)
+pub compilation_shows_code : (reserve : List ℕ) (passes : List PassKind) (p : Program) (c : Compilation) → IsCompilationOf reserve passes p c →
+    (number : ℕ) (f : ListedFunction)
     (code : LaidCode) → slice_get c.output.functions number ≡ Some f → slice_get c.codes number ≡ Some code → ShowsCode code (image_of c.output f)
-compilation_shows_code steps p c is n f code f_is code_is =
+compilation_shows_code reserve passes p c is n f code f_is code_is =
     let found = code_at (names_of p.meta) 0 0 c.output.text c.lists is.functions c.output.functions c.codes is.compiled is.coded n f code f_is code_is in
     let whole : IsCompiledProgram (names_of p.meta) is.functions c.output =
     record { lists = c.lists; section = is.section; functions = is.compiled } in
@@ -101,4 +101,4 @@ compilation_shows_code steps p c is n f code f_is code_is =
     (subst (λ (b : ℕ). IsCodeOf (framed_of found.passed.function) b code) base found.here.coded)
 
 pub compilations_show_code : CompilationsShowCode
-compilations_show_code reserve passes p c is n f code f_is code_is = compilation_shows_code (steps_of reserve passes) p c is n f code f_is code_is
+compilations_show_code reserve passes p c is n f code f_is code_is = compilation_shows_code reserve passes p c is n f code f_is code_is

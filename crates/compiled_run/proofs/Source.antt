@@ -17,7 +17,6 @@ use Rattle.dwarf_loclists.specs.declared.range.Part.{Part}
 use Rattle.dwarf_loclists.specs.declared.range.Range.{Range}
 use Rattle.dwarf_loclists.specs.Grammar.{IsSection, LocationAt}
 use Rattle.dwarf_loclists.specs.Ranges.{location_in}
-use Rattle.follow_law.specs.Steps.{Step}
 use Rattle.function_emit.specs.Emitted.{names_of}
 use Rattle.function_passes.specs.Passed.{source_of}
 use Rattle.mir_func.specs.declared.variable.VarId.{VarId}
@@ -32,6 +31,7 @@ use Rattle.output_promise.specs.Laws.{AreCompiledTo}
 use Rattle.output_promise.specs.Promise.{Gives, IsLaidOut, AreLaidOut, MeetsHeadline, Promises}
 use Rattle.output_promise.specs.Source.{SourceFunction, OfEach, sources_among}
 use Rattle.pass_loop.specs.Passes.{steps_of}
+use Rattle.pass_list.specs.declared.kind.PassKind.{PassKind}
 use Rattle.program_compiler.proofs.Passed.{all_passed, passed_sources}
 use Rattle.program_compiler.specs.declared.compile.Compilation.{Compilation}
 use Rattle.program_compiler.specs.Program.{sources_of, IsCompilationOf, IsOutputOf}
@@ -163,7 +163,7 @@ module _ (o : Output) (f : ListedFunction) (lists : List (List Range)) (section 
 
 -- ---- the run
 
-module _ (steps : List Step) (p : Program) (c : Compilation) (output : IsOutputOf steps p c.output) where
+module _ (reserve : List ℕ) (passes : List PassKind) (p : Program) (c : Compilation) (output : IsOutputOf (steps_of reserve passes) p c.output) where
   to : AreCompiledTo (names_of p.meta) output.functions c.output
   to = record { passed = all_passed p.meta p.functions output.functions output.passed; compiled = output.compiled }
 
@@ -183,15 +183,15 @@ module _ (steps : List Step) (p : Program) (c : Compilation) (output : IsOutputO
   promised : Promises (sources_of p.functions) c.output
   promised = of_read (λ ss. Promises ss c.output) (compiled_promises (names_of p.meta) output.functions c.output to)
 
-  pub run_of_program : (is : IsCompilationOf steps p c) (name : List ℕ) (limit : ℕ) (arguments values text : List ℕ) →
-      IsRunOf c name limit arguments values text → IsRunOfProgram steps p name limit arguments values text
+  pub run_of_program : (is : IsCompilationOf reserve passes p c) (name : List ℕ) (limit : ℕ) (arguments values text : List ℕ) →
+      IsRunOf c name limit arguments values text → IsRunOfProgram (steps_of reserve passes) p name limit arguments values text
   run_of_program is name limit arguments values text run =
       let f = run.named.function in
       let read : IsFirstRead name p.functions run.number = first_read name c.output.functions p.functions names_stay run.number run.named in
       let source : slice_get (sources_of p.functions) run.number ≡ Some (source_of read.function) =
       slice_get-map source_of p.functions run.number ∙ ap (option_map source_of) read.stands in
-      let shows : ShowsCode run.code (image_of c.output f) = compilation_shows_code steps p c is run.number f run.code run.named.stands run.coded in
-      let can = compilation_can_run steps p c is in
+      let shows : ShowsCode run.code (image_of c.output f) = compilation_shows_code reserve passes p c is run.number f run.code run.named.stands run.coded in
+      let can = compilation_can_run reserve passes p c is in
       let below : All (λ (v : ListedVariable). v.list < length c.lists) f.variables =
       all_at (λ (g : ListedFunction). All (λ (v : ListedVariable). v.list < length c.lists) g.variables) c.output.functions run.number f
       run.named.stands can.listed in
@@ -220,7 +220,7 @@ module _ (steps : List Step) (p : Program) (c : Compilation) (output : IsOutputO
 
 pub runs_are_of_programs : RunsAreOfPrograms
 runs_are_of_programs reserve passes p c name limit arguments values text output is run =
-    run_of_program (steps_of reserve passes) p c output is name limit arguments values text run
+    run_of_program reserve passes p c output is name limit arguments values text run
 
 pub all_names_are_read : NamesAreRead
-all_names_are_read reserve passes p c name output none = names_are_read (steps_of reserve passes) p c output name none
+all_names_are_read reserve passes p c name output none = names_are_read reserve passes p c output name none

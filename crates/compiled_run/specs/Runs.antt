@@ -7,7 +7,6 @@ use Rattle.dwarf_loclists.specs.declared.range.Range.{Range}
 use Rattle.dwarf_loclists.specs.Ranges.{Ascend, ArePlaces}
 use Rattle.mir_parser.specs.declared.program.Program.{Program}
 use Rattle.pass_list.specs.declared.kind.PassKind.{PassKind}
-use Rattle.pass_loop.specs.Passes.{steps_of}
 use Rattle.program_compiler.specs.declared.compile.Compilation.{Compilation}
 use Rattle.program_compiler.specs.Program.{IsCompilationOf}
 use Rattle.run_answer.specs.Asked.{IsTextOfAskedRun}
@@ -43,10 +42,10 @@ pub record CanRun (c : Compilation) : Type 0 where
 
 -- Every compilation of a program is such.
 abbrev pub CompilationsCanRun : Type 0
-CompilationsCanRun = (reserve : List ℕ) (passes : List PassKind) (p : Program) (c : Compilation) → IsCompilationOf (steps_of reserve passes) p c → CanRun c
+CompilationsCanRun = (reserve : List ℕ) (passes : List PassKind) (p : Program) (c : Compilation) → IsCompilationOf reserve passes p c → CanRun c
 
 -- The image that the sections show of a function, of which the headline speaks, shows the code that runs.
 abbrev pub CompilationsShowCode : Type 0
-CompilationsShowCode = (reserve : List ℕ) (passes : List PassKind) (p : Program) (c : Compilation) → IsCompilationOf (steps_of reserve passes) p c →
+CompilationsShowCode = (reserve : List ℕ) (passes : List PassKind) (p : Program) (c : Compilation) → IsCompilationOf reserve passes p c →
     (number : ℕ) (f : ListedFunction) (code : LaidCode) → slice_get c.output.functions number ≡ Some f → slice_get c.codes number ≡ Some code →
     ShowsCode code (image_of c.output f)

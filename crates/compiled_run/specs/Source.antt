@@ -105,7 +105,7 @@ pub record IsRunOfProgram (steps : List Step) (p : Program) (name : List ℕ) (l
 -- The run of a compilation is one of its program.
 abbrev pub RunsAreOfPrograms : Type 0
 RunsAreOfPrograms = (reserve : List ℕ) (passes : List PassKind) (p : Program) (c : Compilation) (name : List ℕ) (limit : ℕ) (arguments values text : List ℕ) →
-    IsOutputOf (steps_of reserve passes) p c.output → IsCompilationOf (steps_of reserve passes) p c → IsRunOf c name limit arguments values text →
+    IsOutputOf (steps_of reserve passes) p c.output → IsCompilationOf reserve passes p c → IsRunOf c name limit arguments values text →
     IsRunOfProgram (steps_of reserve passes) p name limit arguments values text
 
 -- Where no function of a compilation has a name, none that was read has it.

@@ -9,7 +9,7 @@ use Rattle.numbers.specs.Limits.{MAX_NUMBER}
 use Rattle.follow_law.specs.Sizes.{most}
 use Rattle.pass_list.proofs.Distinct.{at_most}
 use Rattle.pass_list.specs.declared.kind.PassKind.{PassKind}
-use Rattle.pass_list.specs.declared.kind.PassKind.TheVariants.{Copy, Remat, Spill, Fold}
+use Rattle.pass_list.specs.declared.kind.PassKind.TheVariants.{Copy, Remat, Spill, Dead, Fold}
 use Rattle.pass_list.specs.Names.{AreDistinct}
 use Rattle.pass_loop.specs.Passes.{any_asks, factor, count, Fit, most_after, numbers_after, slots_after}
 use Rattle.function_passes.specs.Passed.{MAX_PASSED}
@@ -31,6 +31,7 @@ asks_fold [] asks = absurd (let e : false ≡ true = asks in cc)
 asks_fold (Copy ∷ ps) asks = later Copy Fold ps (asks_fold ps asks)
 asks_fold (Remat ∷ ps) asks = later Remat Fold ps (asks_fold ps asks)
 asks_fold (Spill ∷ ps) asks = later Spill Fold ps (asks_fold ps asks)
+asks_fold (Dead ∷ ps) asks = later Dead Fold ps (asks_fold ps asks)
 asks_fold (Fold ∷ ps) asks = Contains-append_left (Fold ∷ []) ps Fold (0, omega arith, refl)
 
 fits : (ps : List PassKind) → AreDistinct ps → Fit ps
@@ -38,6 +39,7 @@ fits [] d = tt
 fits (Copy ∷ ps) d = (λ asks. refl, fits ps d.1)
 fits (Remat ∷ ps) d = (λ asks. refl, fits ps d.1)
 fits (Spill ∷ ps) d = (λ asks. refl, fits ps d.1)
+fits (Dead ∷ ps) d = (λ asks. refl, fits ps d.1)
 fits (Fold ∷ ps) d = (λ asks. absurd (d.0 (asks_fold ps asks)), fits ps d.1)
 
 -- ---- sizes
@@ -46,6 +48,7 @@ one_count : (p : PassKind) → count p ≡ 1
 one_count Copy = refl
 one_count Remat = refl
 one_count Spill = refl
+one_count Dead = refl
 one_count Fold = refl
 
 -- how many items a pass makes of some: 1,024 more, and spilling four times as many as that
@@ -53,12 +56,14 @@ abbrev times : PassKind → ℕ → ℕ
 times Spill n = 4 * (n + 1024)
 times Copy n = n + 1024
 times Remat n = n + 1024
+times Dead n = n + 1024
 times Fold n = n + 1024
 
 most_is : (p : PassKind) (n : ℕ) → most (factor p) (count p) n ≡ times p n
 most_is Copy n = omega arith
 most_is Remat n = omega arith
 most_is Spill n = omega arith
+most_is Dead n = omega arith
 most_is Fold n = omega arith
 
 abbrev NoSpill : List PassKind → Type 0
@@ -71,6 +76,7 @@ not_later p ps none h = none (later p Spill ps h)
 plain : (p : PassKind) (ps : List PassKind) (n : ℕ) → NoSpill (p ∷ ps) → times p n ≡ n + 1024
 plain Copy ps n none = refl
 plain Remat ps n none = refl
+plain Dead ps n none = refl
 plain Fold ps n none = refl
 plain Spill ps n none = absurd (none (Contains-append_left (Spill ∷ []) ps Spill (0, omega arith, refl)))
 
@@ -78,6 +84,7 @@ plain Spill ps n none = absurd (none (Contains-append_left (Spill ∷ []) ps Spi
 spills : (p : PassKind) (n : ℕ) → (p ≡ Spill) ⊎ (times p n ≡ n + 1024)
 spills Copy n = inr refl
 spills Remat n = inr refl
+spills Dead n = inr refl
 spills Fold n = inr refl
 spills Spill n = inl refl
 
@@ -102,7 +109,7 @@ few_items (p ∷ ps) n d = elim (spills p n) [
       omega (arith, here, rest))
 ]
 
-plain_numbers : (ps : List PassKind) (n : ℕ) → NoSpill ps → n + 1024 * length ps ≤ 49152 → numbers_after ps n ≤ 49152 * length ps
+plain_numbers : (ps : List PassKind) (n : ℕ) → NoSpill ps → n + 1024 * length ps ≤ 65536 → numbers_after ps n ≤ 65536 * length ps
 plain_numbers [] n none fit = omega arith
 plain_numbers (p ∷ ps) n none fit =
     let here = most_is p n ∙ plain p ps n none in
@@ -111,7 +118,7 @@ plain_numbers (p ∷ ps) n none fit =
     ap (λ (z : ℕ). z * most (factor p) (count p) n) (one_count p) in
     omega (arith, here, rest, fit, once)
 
-few_numbers : (ps : List PassKind) (n : ℕ) → AreDistinct ps → n + 1024 * length ps ≤ 12288 → numbers_after ps n ≤ 49152 * length ps
+few_numbers : (ps : List PassKind) (n : ℕ) → AreDistinct ps → n + 1024 * length ps ≤ 16384 → numbers_after ps n ≤ 65536 * length ps
 few_numbers [] n d fit = omega arith
 few_numbers (p ∷ ps) n d fit =
     let once : count p * most (factor p) (count p) n ≡ 1 * most (factor p) (count p) n =
@@ -134,8 +141,8 @@ few_slots (p ∷ ps) = let here = one_count p in let rest = few_slots ps in omeg
 
 pub accepted : (ps : List PassKind) → AreDistinct ps → IsAccepted ps
 accepted ps d =
-    let four = at_most ps d in
+    let five = at_most ps d in
     let items = few_items ps MAX_ITEMS d in
-    let numbers = few_numbers ps MAX_ITEMS d (omega (arith, four)) in
+    let numbers = few_numbers ps MAX_ITEMS d (omega (arith, five)) in
     let slots = few_slots ps in
-    record { fit = fits ps d; numbers = omega (arith, four, numbers); slots = omega (arith, four, slots); items = omega (arith, four, items) }
+    record { fit = fits ps d; numbers = omega (arith, five, numbers); slots = omega (arith, five, slots); items = omega (arith, five, items) }

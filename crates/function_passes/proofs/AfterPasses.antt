@@ -38,13 +38,14 @@ use Rattle.function_listing.specs.Printable.{IsPrintableFramedKind}
 use Rattle.listing_laws.proofs.Framed.{read_bodies}
 use Rattle.listing_laws.specs.Laws.{inlined_in, IsPrintableBlock}
 use Rattle.output_promise.proofs.Variables.{own_marks}
-use Rattle.output_promise.specs.Source.{MarksOneOf}
-use Rattle.pass_loop.proofs.Row.{after_more, numbers_more}
+use Rattle.output_promise.specs.Source.{MarksOneOf, PassedFunction}
+use Rattle.pass_loop.proofs.Row.{told_steps, after_more, numbers_more}
 use Rattle.pass_list.specs.declared.kind.PassKind.{PassKind}
-use Rattle.pass_loop.specs.Passes.{steps_of, any_asks, all_keep, Fit, numbers_after, slots_after, KeepsGrowth}
+use Rattle.pass_loop.specs.Passes.{steps_of, passes_of, any_asks, all_keep, Fit, numbers_after, slots_after, KeepsGrowth}
 use Rattle.pass_loop.specs.Shown.{HasMark, HasPhi, IsGiven, KeepsShown}
+use Rattle.pass_loop.specs.Told.{KeepsPasses}
 use Rattle.function_passes.proofs.Accepted.{IsAccepted}
-use Rattle.function_passes.specs.Passed.{MAX_PASSED, IsMadeLosing, IsCompilable, passed_of}
+use Rattle.function_passes.specs.Passed.{MAX_PASSED, IsMadeBy, IsMadeLosing, IsCompilable, passed_of}
 use Rattle.reading_laws.specs.Read.{EntryIsLimited, IsReadFunction}
 use Rattle.typed_items.specs.Typed.{IsTypedBlock, IsTypedItem, IsTypedKind, IsTypedPlace, IsTypedEntry}
 use Rattle.unit_entries.specs.Variables.{variables_of_function}
@@ -271,11 +272,11 @@ module _ (meta : Maps) (q : Parsed) (passes : List PassKind) (g : Function) (gs 
       let copied : item_count g ≤ MAX_ITEMS = subst (λ (h : Function). item_count h ≤ MAX_ITEMS) (sym same) few in
       le_trans growth.items (le_trans (after_more passes (item_count g) MAX_ITEMS copied) accepted.items)
 
-  pub made_after : (reserve : List ℕ) (losses : List Loss) → KeepsSteps (steps_of reserve passes) (change g gs f subs) losses →
-      IsMadeLosing (steps_of reserve passes) (passed_of q f subs) losses
-  made_after reserve losses kept =
-      subst (λ (es : List Entry). KeepsSteps (steps_of reserve passes) (change q.func es f subs) losses) entries_same
-      (subst (λ (h : Function). KeepsSteps (steps_of reserve passes) (change h gs f subs) losses) same kept)
+  pub made_after : (reserve : List ℕ) (told : List Loss) → KeepsPasses (passes_of reserve passes) (change g gs f subs) told →
+      IsMadeLosing reserve passes (passed_of q f subs) told
+  made_after reserve told kept =
+      subst (λ (es : List Entry). KeepsPasses (passes_of reserve passes) (change q.func es f subs) told) entries_same
+      (subst (λ (h : Function). KeepsPasses (passes_of reserve passes) (change h gs f subs) told) same kept)
 
   pub compilable_after : IsSound f → (Fit passes → KeepsFollowing (any_asks passes) (all_keep passes) (change g gs f subs)) →
       KeepsGrowth passes (change g gs f subs) → KeepsShown g f → All IsTypedBlock f.blocks → All IsTypedEntry subs →
@@ -287,3 +288,10 @@ module _ (meta : Maps) (q : Parsed) (passes : List PassKind) (g : Function) (gs 
       (subst (λ (es : List Entry). KeepsGrowth passes (change q.func es f subs)) entries_same
       (subst (λ (h : Function). KeepsGrowth passes (change h gs f subs)) same growth))
       (subst (λ (h : Function). KeepsShown h f) same shown) typed entries
+
+-- so their steps made it
+pub made_by : (reserve : List ℕ) (passes : List PassKind) (p : PassedFunction) (told : List Loss) → IsMadeLosing reserve passes p told →
+    IsMadeBy (steps_of reserve passes) p
+made_by reserve passes p told kept =
+    let all = told_steps reserve passes (change p.source.function p.source.substitutions p.function p.substitutions) told kept in
+    record { losses = all.0; kept = all.1 }

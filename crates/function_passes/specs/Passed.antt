@@ -10,6 +10,9 @@ use Rattle.mir_func.specs.declared.entry.Entry.{Entry}
 use Rattle.mir_func.specs.Function.{Function}
 use Rattle.mir_parser.specs.declared.closing.Parsed.{Parsed}
 use Rattle.output_promise.specs.Source.{SourceFunction, PassedFunction, IsPassedFunction}
+use Rattle.pass_list.specs.declared.kind.PassKind.{PassKind}
+use Rattle.pass_loop.specs.Passes.{passes_of}
+use Rattle.pass_loop.specs.Told.{KeepsPasses}
 
 -- how many items a function has at most after passes
 abbrev pub MAX_PASSED : ℕ
@@ -23,14 +26,15 @@ source_of p = record { function = p.func; substitutions = p.subs }
 abbrev pub passed_of : Parsed → (function : Function) → (substitutions : List Entry) → PassedFunction
 passed_of p f subs = record { source = source_of p; function = f; substitutions = subs }
 
--- steps of passes made the function of its source, one after the other, and lost this on the way
-abbrev pub IsMadeLosing : List Step → PassedFunction → List Loss → Type 0
-IsMadeLosing steps p losses = KeepsSteps steps (change p.source.function p.source.substitutions p.function p.substitutions) losses
-
 -- steps of passes made the function of its source, one after the other
 pub record IsMadeBy (steps : List Step) (p : PassedFunction) : Type 0 where
   pub losses : List Loss
-  pub kept : IsMadeLosing steps p losses
+  pub kept : KeepsSteps steps (change p.source.function p.source.substitutions p.function p.substitutions) losses
+
+-- passes made the function of its source, one after the other, where these registers may be spilled, and this is told of what they lost
+abbrev pub IsMadeLosing : (reserve : List ℕ) → List PassKind → PassedFunction → (told : List Loss) → Type 0
+IsMadeLosing reserve passes p told =
+    KeepsPasses (passes_of reserve passes) (change p.source.function p.source.substitutions p.function p.substitutions) told
 
 -- the function follows its source, it is as every pass keeps it, and its listing is printable
 pub record IsCompilable (meta : Maps) (p : PassedFunction) : Type 0 where

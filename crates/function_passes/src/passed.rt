@@ -4,7 +4,6 @@ ghost use Rattle.std.specs.Prelude.{◌≤◌, All, IfOk, length};
 ghost use Rattle.function_passes.specs.Passed.{IsMadeLosing, IsCompilable, MAX_PASSED, passed_of};
 ghost use Rattle.mir_func.specs.Sound.{items_of};
 ghost use Rattle.pass_list.specs.Names.{AreDistinct};
-ghost use Rattle.pass_loop.specs.Passes.{steps_of};
 ghost use Rattle.reading_laws.specs.Read.{IsReadFunction, EntryIsLimited};
 
 use follow_law::loss::Losses;
@@ -25,7 +24,7 @@ pub struct Passed {
     pub function: Func,
     /// Its debug value substitutions, the source's among them.
     pub substitutions: Substitutions,
-    /// What the passes lost, in the order of the passes.
+    /// What the passes lost, in the order of the passes, and of each pass in order, each once.
     pub losses: Losses,
 }
 
@@ -44,7 +43,7 @@ pub fn after_passes(
     ensures compilable { IfOk result (λ p.
         IsCompilable _meta.now (passed_of source.now p.function p.substitutions)) }
     ensures made { IfOk result (λ p.
-        IsMadeLosing (steps_of reserve.now passes.now) (passed_of source.now p.function p.substitutions) p.losses) }
+        IsMadeLosing reserve.now passes.now (passed_of source.now p.function p.substitutions) p.losses) }
     ensures few { IfOk result (λ p. length (items_of p.function.blocks) ≤ MAX_PASSED) }
 {
     let mut function = source.func.copy()?;

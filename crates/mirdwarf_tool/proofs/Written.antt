@@ -6,7 +6,6 @@ use Rattle.command_line.specs.declared.command.RunPlan.{RunPlan}
 use Rattle.command_line.specs.declared.command.Command.TheVariants.{Report, Run}
 use Rattle.command_line.specs.Command.{IsCommand}
 use Rattle.command_line.proofs.Words.{one_command}
-use Rattle.mirdwarf_tool.specs.Compiled.{plan_steps}
 use Rattle.mirdwarf_tool.specs.Run.{Finishes, AnswersRead, AnswersInput, WroteReport, WroteRun}
 use Rattle.mirdwarf_tool.specs.Stream.{Change}
 
@@ -18,7 +17,7 @@ module _ (words : List (List ℕ)) (input output : Change) (finished : Finishes 
       let same : accepted.command ≡ command = one_command words accepted.command command accepted.asked asked in
       subst (λ (c : Command). AnswersInput c input finished.text) same accepted.answers
 
-  pub wrote_report : (plan : Plan) → IsCommand words (Report plan) → WroteReport (plan_steps plan) input output
+  pub wrote_report : (plan : Plan) → IsCommand words (Report plan) → WroteReport plan input output
   wrote_report plan asked =
       let answers : AnswersRead (Report plan) input finished.text = answers_asked (Report plan) asked in
       record {

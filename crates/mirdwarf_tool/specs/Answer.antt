@@ -35,7 +35,7 @@ IsReader (Gen g) = ⊥
 abbrev pub Answers : Command → Program → (output : List ℕ) → Type 0
 Answers (Compile plan) program output = IsCompiledText (plan_steps plan) program output
 Answers (Listing plan) program output = IsListingText (plan_steps plan) program output
-Answers (Report plan) program output = IsReportText (plan_steps plan) program output
+Answers (Report plan) program output = IsReportText plan.reserve plan.passes program output
 Answers (Run run) program output = IsRunOfProgram (plan_steps run.plan) program run.name run.steps run.arguments run.answers output
 Answers Strip program output = output ≡ stripped_text program.functions
 Answers (Gen g) program output = ⊥

@@ -7,6 +7,7 @@ use Rattle.listing_laws.specs.Laws.{inlined_in}
 use Rattle.mir_parser.specs.declared.program.Program.{Program}
 use Rattle.command_line.specs.declared.command.Command.{Command}
 use Rattle.command_line.specs.declared.command.Command.TheVariants.{Compile, Listing, Report, Run, Strip, Gen}
+use Rattle.command_line.specs.declared.command.Plan.{Plan}
 use Rattle.command_line.specs.declared.command.RunPlan.{RunPlan}
 use Rattle.command_line.specs.declared.fault.Fault.{Fault}
 use Rattle.command_line.specs.declared.fault.Fault.TheVariants.{Usage, Read, TooLong, Refused, NoFunction, UnknownFunction}
@@ -217,9 +218,9 @@ pub record WroteText (Is : Program → (text : List ℕ) → Type 0) (input outp
   pub is : Is program bytes
   pub written : IsWrittenWhole output bytes
 
--- the report of what steps of passes made of the functions that were read was written
-abbrev pub WroteReport : List Step → (input output : Change) → Type 0
-WroteReport steps input output = WroteText (IsReportText steps) input output
+-- the report of what the plan's passes made of the functions that were read was written
+abbrev pub WroteReport : Plan → (input output : Change) → Type 0
+WroteReport plan input output = WroteText (IsReportText plan.reserve plan.passes) input output
 
 -- the text of the run that is asked for was written
 abbrev pub WroteRun : RunPlan → (input output : Change) → Type 0

@@ -42,7 +42,7 @@ pub fn listing_text(alloc: Global, program: &Program, plan: &Plan) -> Result<Tex
 /// The report of a program after passes.
 pub fn report_text(alloc: Global, program: &Program, plan: &Plan) -> Result<Text, Fault>
     requires { IsReadProgram program.now }
-    ensures ok { IfOk result (IsReportText (plan_steps plan.now) program.now) }
+    ensures ok { IfOk result (IsReportText plan.now.reserve plan.now.passes program.now) }
     ensures err { IfErr result (RefusesToCompile (plan_steps plan.now) program.now) }
 {
     let compilation = compilation(alloc, program, plan)?;
@@ -73,7 +73,7 @@ fn run_of(
     asked: RunPlan,
 ) -> Result<Text, Fault>
     requires output { IsOutputOf (plan_steps asked.plan) _program.now compilation.now.output }
-    requires compilation { IsCompilationOf (plan_steps asked.plan) _program.now compilation.now }
+    requires compilation { IsCompilationOf asked.plan.reserve asked.plan.passes _program.now compilation.now }
     ensures ok { IfOk result (IsRunOfProgram (plan_steps asked.plan) _program.now asked.name asked.steps
         asked.arguments asked.answers) }
     ensures err { IfErr result (RefusesToRun asked _program.now) }
@@ -103,7 +103,7 @@ fn run_of(
 fn compilation(alloc: Global, program: &Program, plan: &Plan) -> Result<Compilation, Fault>
     requires { IsReadProgram program.now }
     ensures output { IfOk result (λ c. IsOutputOf (plan_steps plan.now) program.now c.output) }
-    ensures compilation { IfOk result (IsCompilationOf (plan_steps plan.now) program.now) }
+    ensures compilation { IfOk result (IsCompilationOf plan.now.reserve plan.now.passes program.now) }
     ensures err { IfErr result (RefusesToCompile (plan_steps plan.now) program.now) }
 {
     match compile(

@@ -34,13 +34,13 @@ use strip_text::strip_text::strip_text;
 pub const LIMIT: usize = 16_777_216;
 
 /// Runs the command that the words are: reads the input to its end, and writes what the command asks for of the
-/// functions that the text stands for. `compile` with the option of a list of passes, and if wanted of registers that
-/// may be spilled, writes the sections and the listing of what these passes make of them (`--passes=none`: of the
-/// functions as they were read), `listing` with such options the listing alone, and `report` of each function how many
-/// of its words each variable can be found at, and what the passes lost. `run` with a function's name, a number of
-/// steps and such options writes a line for each step of its machine code, with what its variables hold. `strip` writes
-/// the functions without their debug items. `gen` reads nothing, and writes the text of the function that is made up
-/// from its two numbers. A fault is told by a line on `faults`.
+/// functions that the text stands for. `compile`, with the options of a list of passes and of registers that may be
+/// spilled, writes the sections and the listing of what these passes make of them (`--passes=none`: of the functions as
+/// they were read; all passes where no list is given), `listing` with such options the listing alone, and `report` of
+/// each function at how many of its words each variable can be found, and what the passes lost. `run` with a
+/// function's name, a number of steps and such options writes a line for each step of its machine code, with what its
+/// variables hold. `strip` writes the functions without their debug items. `gen` reads nothing, and writes the text of
+/// the function that is made up from its two numbers. A fault is told by a line on `faults`.
 pub fn mirdwarf<S: Source, K: Sink, E: Sink>(
     alloc: Global,
     words: &[String],
@@ -100,7 +100,7 @@ pub fn mirdwarf<S: Source, K: Sink, E: Sink>(
     // machine code, at how many of them the list of each variable gives it a place, and what passes lost of it.
     ensures reported { (plan : Plan) → result ≡ Status.Done →
         IsCommand (map string_bytes words.now) (Command.Report plan) →
-        WroteReport (plan_steps plan) (change S.left S.faults input.old input.new)
+        WroteReport plan (change S.left S.faults input.old input.new)
         (change K.written K.faults output.old output.new) }
 
     // What `run` writes is the run of the machine on the code of the first function of the name, line by line: it runs

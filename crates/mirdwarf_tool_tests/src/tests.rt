@@ -435,7 +435,7 @@ body: |
 /// Words, a function and faults of runs, and how they end.
 const ENDINGS: [(&[&str], &str, Faulty, Ending<'static>); 18] = [
     (&[], RETURN, NO_FAULT, USAGE),
-    (&["compile"], RETURN, NO_FAULT, USAGE),
+    (&["compile", "none"], RETURN, NO_FAULT, USAGE),
     (&["--passes=none", "compile"], RETURN, NO_FAULT, USAGE),
     (
         &["compile", "--passes=none", "--passes=none"],

@@ -6,8 +6,8 @@ use Rattle.std.proofs.Math.Seq.{take-suc-set}
 use Rattle.std.proofs.lemmas.List.{length-take-le}
 use Rattle.std.proofs.lemmas.List.Elements.{Contains-append_left, Contains-append_right}
 use Rattle.pass_list.specs.declared.kind.PassKind.{PassKind}
-use Rattle.pass_list.specs.declared.kind.PassKind.TheVariants.{Copy, Remat, Spill, Fold}
-use Rattle.pass_list.specs.Names.{AreDistinct}
+use Rattle.pass_list.specs.declared.kind.PassKind.TheVariants.{Copy, Remat, Spill, Dead, Fold}
+use Rattle.pass_list.specs.Names.{AreDistinct, STANDARD}
 
 first_in : (p : PassKind) (ps : List PassKind) → Contains (p ∷ ps) p
 first_in p ps = Contains-append_left (p ∷ []) ps p (0, omega arith, refl)
@@ -51,6 +51,7 @@ weight : PassKind → PassKind → ℕ
 weight Copy Copy = 1
 weight Remat Remat = 1
 weight Spill Spill = 1
+weight Dead Dead = 1
 weight Fold Fold = 1
 weight _ _ = 0
 
@@ -63,19 +64,28 @@ unfolding weight
 same_or_none Copy Copy = inr (refl, refl)
 same_or_none Remat Remat = inr (refl, refl)
 same_or_none Spill Spill = inr (refl, refl)
+same_or_none Dead Dead = inr (refl, refl)
 same_or_none Fold Fold = inr (refl, refl)
 same_or_none Copy Remat = inl refl
 same_or_none Copy Spill = inl refl
+same_or_none Copy Dead = inl refl
 same_or_none Copy Fold = inl refl
 same_or_none Remat Copy = inl refl
 same_or_none Remat Spill = inl refl
+same_or_none Remat Dead = inl refl
 same_or_none Remat Fold = inl refl
 same_or_none Spill Copy = inl refl
 same_or_none Spill Remat = inl refl
+same_or_none Spill Dead = inl refl
 same_or_none Spill Fold = inl refl
+same_or_none Dead Copy = inl refl
+same_or_none Dead Remat = inl refl
+same_or_none Dead Spill = inl refl
+same_or_none Dead Fold = inl refl
 same_or_none Fold Copy = inl refl
 same_or_none Fold Remat = inl refl
 same_or_none Fold Spill = inl refl
+same_or_none Fold Dead = inl refl
 
 none_occurs : (p : PassKind) (xs : List PassKind) → (Contains xs p → ⊥) → occurs p xs ≡ 0
 unfolding occurs
@@ -100,39 +110,74 @@ once p (x ∷ xs) d =
           omega (arith, one, none))
     ]
 
-all_occur : (xs : List PassKind) → length xs ≡ occurs Copy xs + (occurs Remat xs + (occurs Spill xs + occurs Fold xs))
+all_occur : (xs : List PassKind) → length xs ≡ occurs Copy xs + (occurs Remat xs + (occurs Spill xs + (occurs Dead xs + occurs Fold xs)))
 unfolding occurs weight
 all_occur [] = refl
 all_occur (Copy ∷ xs) = let rest = all_occur xs in omega (arith, rest)
 all_occur (Remat ∷ xs) = let rest = all_occur xs in omega (arith, rest)
 all_occur (Spill ∷ xs) = let rest = all_occur xs in omega (arith, rest)
+all_occur (Dead ∷ xs) = let rest = all_occur xs in omega (arith, rest)
 all_occur (Fold ∷ xs) = let rest = all_occur xs in omega (arith, rest)
 
-pub at_most : (xs : List PassKind) → AreDistinct xs → length xs ≤ 4
+pub at_most : (xs : List PassKind) → AreDistinct xs → length xs ≤ 5
 at_most xs d =
     let all = all_occur xs in
     let copy = once Copy xs d in
     let remat = once Remat xs d in
     let spill = once Spill xs d in
+    let dead = once Dead xs d in
     let fold = once Fold xs d in
-    omega (arith, all, copy, remat, spill, fold)
+    omega (arith, all, copy, remat, spill, dead, fold)
+
+-- ---- all passes
+
+weighs_itself : (p : PassKind) → weight p p ≡ 1
+unfolding weight
+weighs_itself Copy = refl
+weighs_itself Remat = refl
+weighs_itself Spill = refl
+weighs_itself Dead = refl
+weighs_itself Fold = refl
+
+counted : (p : PassKind) (xs : List PassKind) → Contains xs p → 1 ≤ occurs p xs
+unfolding occurs
+counted p [] h = absurd (none_in p h)
+counted p (x ∷ xs) h = by_place h.0 h.1 h.2 (counted p xs) where
+  by_place : (k : ℕ) → k < length (x ∷ xs) → slice_index_or (x ∷ xs) k p ≡ p → (Contains xs p → 1 ≤ occurs p xs) → 1 ≤ occurs p (x ∷ xs)
+  by_place zero lt e rest =
+      let one : weight p x ≡ 1 = subst (λ (z : PassKind). weight p z ≡ 1) (sym e) (weighs_itself p) in
+      omega (arith, one)
+  by_place (suc k) lt e rest = let later = rest (k, omega (arith, lt), e) in omega (arith, later)
+
+pub standard_distinct : AreDistinct STANDARD
+unfolding occurs weight
+standard_distinct = (
+  λ h. let one = counted Copy (Remat ∷ Spill ∷ Dead ∷ Fold ∷ []) h in omega (arith, one),
+  (
+    λ h. let one = counted Remat (Spill ∷ Dead ∷ Fold ∷ []) h in omega (arith, one),
+    (
+      λ h. let one = counted Spill (Dead ∷ Fold ∷ []) h in omega (arith, one),
+      (λ h. let one = counted Dead (Fold ∷ []) h in omega (arith, one), (none_in Fold, tt)),
+    ),
+  ),
+)
 
 -- ---- a list in an array
 
 pub record Added (passes : List PassKind) (len : ℕ) (list : List PassKind) (p : PassKind) : Type 0 where
-  pub room : len < 4
+  pub room : len < 5
   pub now : take (len + 1) (slice_set passes len p) ≡ list ++ p ∷ []
   pub distinct : AreDistinct (list ++ p ∷ [])
 
-pub added : (passes : List PassKind) (len : ℕ) (list : List PassKind) (p : PassKind) → length passes ≡ 4 → len ≤ 4 → take len passes ≡ list → AreDistinct list →
+pub added : (passes : List PassKind) (len : ℕ) (list : List PassKind) (p : PassKind) → length passes ≡ 5 → len ≤ 5 → take len passes ≡ list → AreDistinct list →
     (Contains list p → ⊥) → Added passes len list p
-added passes len list p four fits same d new =
+added passes len list p five fits same d new =
     let whole : AreDistinct (list ++ p ∷ []) = one_more list p d new in
     let all = at_most (list ++ p ∷ []) whole in
     let both = length-append list (p ∷ []) in
-    let within : len ≤ length passes = omega (arith, four, fits) in
+    let within : len ≤ length passes = omega (arith, five, fits) in
     let front : length (take len passes) ≡ len = length-take-le len passes within in
     let is : length list ≡ len = ap length (sym same) ∙ front in
-    let room : len < 4 = omega (arith, all, both, is) in
-    let inside : len < length passes = omega (arith, four, room) in
+    let room : len < 5 = omega (arith, all, both, is) in
+    let inside : len < length passes = omega (arith, five, room) in
     record { room = room; now = rw add-one (take-suc-set passes len p inside ∙ ap (λ (z : List PassKind). z ++ p ∷ []) same); distinct = whole }

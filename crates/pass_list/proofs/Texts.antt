@@ -4,7 +4,7 @@ use Rattle.std.proofs.Common.{subst, arith, append-nil}
 use Rattle.std.specs.Prelude.{codes}
 use Rattle.std.proofs.lemmas.List.{append_assoc}
 use Rattle.pass_list.specs.declared.kind.PassKind.{PassKind}
-use Rattle.pass_list.specs.declared.kind.PassKind.TheVariants.{Copy, Remat, Spill, Fold}
+use Rattle.pass_list.specs.declared.kind.PassKind.TheVariants.{Copy, Remat, Spill, Dead, Fold}
 use Rattle.pass_list.specs.Names.{name_of, more_names, text_of, AreDistinct, IsNamedBehind, AreNamedBehind}
 use Rattle.pass_list.proofs.Distinct.{front}
 
@@ -19,25 +19,35 @@ pub one_name : (p q : PassKind) (xs ys : List ℕ) → name_of p ++ xs ≡ name_
 one_name Copy Copy xs ys e = (refl, ap (drop 4) e)
 one_name Remat Remat xs ys e = (refl, ap (drop 5) e)
 one_name Spill Spill xs ys e = (refl, ap (drop 5) e)
+one_name Dead Dead xs ys e = (refl, ap (drop 4) e)
 one_name Fold Fold xs ys e = (refl, ap (drop 4) e)
 one_name Copy Remat xs ys e = absurd (let b : 99 ≡ 114 = ap first_byte e in omega (arith, b))
 one_name Copy Spill xs ys e = absurd (let b : 99 ≡ 115 = ap first_byte e in omega (arith, b))
+one_name Copy Dead xs ys e = absurd (let b : 99 ≡ 100 = ap first_byte e in omega (arith, b))
 one_name Copy Fold xs ys e = absurd (let b : 99 ≡ 102 = ap first_byte e in omega (arith, b))
 one_name Remat Copy xs ys e = absurd (let b : 114 ≡ 99 = ap first_byte e in omega (arith, b))
 one_name Remat Spill xs ys e = absurd (let b : 114 ≡ 115 = ap first_byte e in omega (arith, b))
+one_name Remat Dead xs ys e = absurd (let b : 114 ≡ 100 = ap first_byte e in omega (arith, b))
 one_name Remat Fold xs ys e = absurd (let b : 114 ≡ 102 = ap first_byte e in omega (arith, b))
 one_name Spill Copy xs ys e = absurd (let b : 115 ≡ 99 = ap first_byte e in omega (arith, b))
 one_name Spill Remat xs ys e = absurd (let b : 115 ≡ 114 = ap first_byte e in omega (arith, b))
+one_name Spill Dead xs ys e = absurd (let b : 115 ≡ 100 = ap first_byte e in omega (arith, b))
 one_name Spill Fold xs ys e = absurd (let b : 115 ≡ 102 = ap first_byte e in omega (arith, b))
+one_name Dead Copy xs ys e = absurd (let b : 100 ≡ 99 = ap first_byte e in omega (arith, b))
+one_name Dead Remat xs ys e = absurd (let b : 100 ≡ 114 = ap first_byte e in omega (arith, b))
+one_name Dead Spill xs ys e = absurd (let b : 100 ≡ 115 = ap first_byte e in omega (arith, b))
+one_name Dead Fold xs ys e = absurd (let b : 100 ≡ 102 = ap first_byte e in omega (arith, b))
 one_name Fold Copy xs ys e = absurd (let b : 102 ≡ 99 = ap first_byte e in omega (arith, b))
 one_name Fold Remat xs ys e = absurd (let b : 102 ≡ 114 = ap first_byte e in omega (arith, b))
 one_name Fold Spill xs ys e = absurd (let b : 102 ≡ 115 = ap first_byte e in omega (arith, b))
+one_name Fold Dead xs ys e = absurd (let b : 102 ≡ 100 = ap first_byte e in omega (arith, b))
 
 -- no name begins as `none`
 not_none : (p : PassKind) (xs : List ℕ) → codes "none" ≡ name_of p ++ xs → ⊥
 not_none Copy xs e = let b : 110 ≡ 99 = ap first_byte e in omega (arith, b)
 not_none Remat xs e = let b : 110 ≡ 114 = ap first_byte e in omega (arith, b)
 not_none Spill xs e = let b : 110 ≡ 115 = ap first_byte e in omega (arith, b)
+not_none Dead xs e = let b : 110 ≡ 100 = ap first_byte e in omega (arith, b)
 not_none Fold xs e = let b : 110 ≡ 102 = ap first_byte e in omega (arith, b)
 
 one_more : (ps qs : List PassKind) → more_names ps ≡ more_names qs → ps ≡ qs
@@ -79,6 +89,7 @@ name_has_none Remat =
     (other 114 (omega arith), (other 101 (omega arith), (other 109 (omega arith), (other 97 (omega arith), (other 116 (omega arith), tt)))))
 name_has_none Spill =
     (other 115 (omega arith), (other 112 (omega arith), (other 105 (omega arith), (other 108 (omega arith), (other 108 (omega arith), tt)))))
+name_has_none Dead = (other 100 (omega arith), (other 101 (omega arith), (other 97 (omega arith), (other 100 (omega arith), tt))))
 name_has_none Fold = (other 102 (omega arith), (other 111 (omega arith), (other 108 (omega arith), (other 100 (omega arith), tt))))
 
 cut : (xs ys r s : List ℕ) → NoComma xs → NoComma ys → xs ++ 44 ∷ r ≡ ys ++ 44 ∷ s → (xs ≡ ys) × (r ≡ s)

@@ -1,13 +1,14 @@
 -- The names of passes, and the texts of lists of them.
 use Rattle.std.specs.Prelude.{◌≡◌, ℕ, List, [], ◌∷◌, ◌++◌, codes, Contains}
 use Rattle.pass_list.specs.declared.kind.PassKind.{PassKind}
-use Rattle.pass_list.specs.declared.kind.PassKind.TheVariants.{Copy, Remat, Spill, Fold}
+use Rattle.pass_list.specs.declared.kind.PassKind.TheVariants.{Copy, Remat, Spill, Dead, Fold}
 
 -- a pass's name
 abbrev pub name_of : PassKind → List ℕ
 name_of Copy = codes "copy"
 name_of Remat = codes "remat"
 name_of Spill = codes "spill"
+name_of Dead = codes "dead"
 name_of Fold = codes "fold"
 
 -- names behind a name, each after a comma
@@ -24,6 +25,10 @@ text_of (p ∷ ps) = name_of p ++ more_names ps
 abbrev pub AreDistinct : List PassKind → Type 0
 AreDistinct [] = Unit {0}
 AreDistinct (p ∷ ps) = (Contains ps p → ⊥) × AreDistinct ps
+
+-- the list that runs where none is asked for: all passes
+abbrev pub STANDARD : List PassKind
+STANDARD = Copy ∷ Remat ∷ Spill ∷ Dead ∷ Fold ∷ []
 
 -- the list is another with the pass of a name behind it, and each stands once
 pub record IsNamedBehind (list : List PassKind) (name : List ℕ) (whole : List PassKind) : Type 0 where

@@ -12,6 +12,8 @@ pub enum PassKind {
     Remat,
     /// Registers of a reserve move to slots.
     Spill,
+    /// Code goes whose value nothing needs.
+    Dead,
     /// Ways through blocks that only jump go to their ends at once.
     Fold,
 }
@@ -26,6 +28,8 @@ pub fn named(name: &str) -> Option<PassKind>
         Some(PassKind::Remat)
     } else if is_same(name, "spill") {
         Some(PassKind::Spill)
+    } else if is_same(name, "dead") {
+        Some(PassKind::Dead)
     } else if is_same(name, "fold") {
         Some(PassKind::Fold)
     } else {

@@ -2,19 +2,19 @@
 
 ghost use Rattle.std.specs.Prelude.{◌≡◌, ◌↔◌, ◌∷◌, ◌++◌, [], List, IsTrue, Some, Contains};
 ghost use Rattle.pass_list.specs.declared.kind.PassKind.{PassKind};
-ghost use Rattle.pass_list.specs.Names.{AreDistinct};
+ghost use Rattle.pass_list.specs.Names.{AreDistinct, STANDARD};
 
 use crate::kind::PassKind;
 use std::marker::Model;
 
 /// How many passes there are.
-const PASSES: usize = 4;
+const PASSES: usize = 5;
 
 /// Passes in the order in which they run, each at most once. A contract sees it as the list of them.
 #[derive(Debug, Drop)]
 pub struct PassList {
     /// The passes, and any others after them.
-    passes: [PassKind; 4],
+    passes: [PassKind; 5],
     /// How many there are.
     len: usize,
 }
@@ -28,7 +28,7 @@ impl Model for PassList {
 
     ghost view = { λ l. take l.len l.passes };
 
-    ghost invariant = { λ l. (length l.passes ≡ 4) × (l.len ≤ 4) × AreDistinct (take l.len l.passes) };
+    ghost invariant = { λ l. (length l.passes ≡ 5) × (l.len ≤ 5) × AreDistinct (take l.len l.passes) };
 }
 
 impl PassList {
@@ -39,6 +39,22 @@ impl PassList {
         PassList {
             passes: [PassKind::Copy; PASSES],
             len: 0,
+        }
+    }
+
+    /// The list of all passes, as they run where no list is asked for: copy, remat, spill, dead, fold.
+    pub fn standard() -> PassList
+        ensures { result ≡ STANDARD }
+    {
+        PassList {
+            passes: [
+                PassKind::Copy,
+                PassKind::Remat,
+                PassKind::Spill,
+                PassKind::Dead,
+                PassKind::Fold,
+            ],
+            len: PASSES,
         }
     }
 

@@ -1,5 +1,5 @@
 -- What each pass leaves of what is shown: a record for each of its steps.
-use Rattle.std.proofs.Common.{ℕ, List, ap, sym, subst}
+use Rattle.std.proofs.Common.{ℕ, zero, suc, List, ap, sym, subst}
 use Rattle.std.specs.Prelude.{All, Result, Ok, Err, IfOk, OnOk}
 use Rattle.std.proofs.lemmas.List.Elements.{All-nil}
 use Rattle.mir_func.specs.Function.{Function}
@@ -7,9 +7,11 @@ use Rattle.follow_law.specs.Change.{Change}
 use Rattle.follow_law.specs.declared.loss.Loss.{Loss}
 use Rattle.follow_law.specs.Steps.{KeepsSteps}
 use Rattle.copy_debug.specs.Rule.{copy_step}
+use Rattle.dead_debug.specs.Rule.{dead_rule}
+use Rattle.dead_steps.specs.Steps.{repeated, round_step, most_rounds}
 use Rattle.fold_debug.specs.Debug.{fold_step}
 use Rattle.pass_list.specs.declared.kind.PassKind.{PassKind}
-use Rattle.pass_list.specs.declared.kind.PassKind.TheVariants.{Copy, Remat, Spill, Fold}
+use Rattle.pass_list.specs.declared.kind.PassKind.TheVariants.{Copy, Remat, Spill, Dead, Fold}
 use Rattle.remat_pass.specs.Pass.{remat_step}
 use Rattle.spill_pass.specs.Reserve.{reserve_of}
 use Rattle.spill_step.specs.Step.{spill_step}
@@ -18,6 +20,7 @@ use Rattle.pass_loop.specs.Shown.{KeepsShown}
 use Rattle.pass_loop.proofs.Becoming.{WasShown}
 use Rattle.pass_loop.proofs.Shows.{Shows, EachShows, steps_shown}
 use Rattle.pass_loop.proofs.Copies.{phis_given}
+use Rattle.pass_loop.proofs.Dead.{dead_phis_given}
 use Rattle.pass_loop.proofs.Kills.{kills_shown}
 
 copy_shows : Shows copy_step
@@ -44,6 +47,18 @@ spill_shows reserve = record {
   kills = λ c b ks none. subst (All (WasShown (spill_step reserve).debug c)) (sym none) (All-nil (WasShown (spill_step reserve).debug c));
 }
 
+dead_shows : Shows (round_step dead_rule)
+dead_shows = record {
+  name = λ f g e. ap (λ (h : Function). h.name) e.thins;
+  renames = λ c r now never. absurd never;
+  salvages = λ c at p h. dead_phis_given c at p h;
+  kills = λ c b ks none. subst (All (WasShown dead_rule c)) (sym none) (All-nil (WasShown dead_rule c));
+}
+
+rounds_show : (n : ℕ) → EachShows (repeated n (round_step dead_rule))
+rounds_show zero = tt
+rounds_show (suc n) = (dead_shows, rounds_show n)
+
 fold_shows : Shows fold_step
 fold_shows = record {
   name = λ f g e. ap (λ (h : Function). h.name) e.1;
@@ -56,6 +71,7 @@ pass_shows : (reserve : List ℕ) (p : PassKind) → EachShows (steps_of_pass re
 pass_shows reserve Copy = (copy_shows, tt)
 pass_shows reserve Remat = (remat_shows, tt)
 pass_shows reserve Spill = (spill_shows (reserve_of reserve), tt)
+pass_shows reserve Dead = rounds_show most_rounds
 pass_shows reserve Fold = (fold_shows, tt)
 
 pub pass_shown : {E : Type 0} (reserve : List ℕ) (p : PassKind) (r : Result (List Loss) E) (c : Change) →

@@ -7,14 +7,15 @@ use Rattle.std.proofs.lemmas.List.{append_assoc}
 use Rattle.mir_func.specs.declared.entry.Entry.{Entry}
 use Rattle.mir_func.specs.Function.{Function}
 use Rattle.mir_func.specs.Limits.{MAX_BLOCKS, MAX_SLOTS}
-use Rattle.follow_law.specs.Change.{change}
+use Rattle.follow_law.specs.Change.{Change, change}
 use Rattle.follow_law.specs.declared.loss.Loss.{Loss}
 use Rattle.follow_law.specs.Following.{KeepsFollowing}
 use Rattle.follow_law.specs.Sizes.{greatest, greatest_number, most, item_count, code_count, KeepsSizes}
 use Rattle.follow_law.specs.Steps.{Step, KeepsSteps}
 use Rattle.pass_list.specs.declared.kind.PassKind.{PassKind}
-use Rattle.pass_loop.specs.Passes.{factor, count, most_after, numbers_after, slots_after, KeepsGrowth}
+use Rattle.pass_loop.specs.Passes.{steps_of_pass, steps_of, passes_of, factor, count, most_after, numbers_after, slots_after, KeepsGrowth}
 use Rattle.pass_loop.specs.Shown.{KeepsShown}
+use Rattle.pass_loop.specs.Told.{KeepsPass, KeepsPasses}
 
 -- ---- steps
 
@@ -27,6 +28,14 @@ steps_then [] more f fs g gs h hs a b (ef, es, ea) y =
     subst L (sym ea) (subst S es (subst P ef y))
 steps_then (s ∷ steps) more f fs g gs h hs a b (m, ms, here, later, k, rest, e) y =
     (m, ms, here, later ++ b, k, steps_then steps more m ms g gs h hs later b rest y, ap (λ x. x ++ b) e ∙ append_assoc here later b)
+
+-- passes that keep their steps keep those of all, with losses of which they are told
+pub told_steps : (reserve : List ℕ) (ps : List PassKind) (c : Change) (told : List Loss) → KeepsPasses (passes_of reserve ps) c told →
+    (lost : List Loss) × KeepsSteps (steps_of reserve ps) c lost
+told_steps reserve [] c told k = ([], (k.0, k.1, refl))
+told_steps reserve (p ∷ ps) c told (g, gs, here, later, k, rest, e) =
+    let more = told_steps reserve ps (record c { old = g; old_subs = gs }) later rest in
+    (k.lost ++ more.0, steps_then (steps_of_pass reserve p) (steps_of reserve ps) c.old c.old_subs g gs c.new c.new_subs k.lost more.0 k.kept more.1)
 
 -- ---- following
 

@@ -7,11 +7,11 @@ use Rattle.follow_law.specs.Change.{change}
 use Rattle.follow_law.specs.declared.loss.Loss.{Loss}
 use Rattle.follow_law.specs.Following.{KeepsFollowing}
 use Rattle.follow_law.specs.Sizes.{greatest, greatest_number, item_count, KeepsSizes}
-use Rattle.follow_law.specs.Steps.{KeepsSteps}
 use Rattle.pass_list.specs.declared.kind.PassKind.{PassKind}
 use Rattle.pass_loop.specs.Passes.{steps_of_pass, asks, keeps, factor, count}
-use Rattle.pass_loop.specs.Passes.{steps_of, any_asks, all_keep, Fit, numbers_after, slots_after, KeepsGrowth}
-use Rattle.pass_loop.proofs.Row.{steps_then, following_then, growth_then, later_numbers, later_slots}
+use Rattle.pass_loop.specs.Passes.{passes_of, any_asks, all_keep, Fit, numbers_after, slots_after, KeepsGrowth}
+use Rattle.pass_loop.specs.Told.{KeepsPass, KeepsPasses}
+use Rattle.pass_loop.proofs.Row.{following_then, growth_then, later_numbers, later_slots}
 
 module _ (passes : List PassKind) (p : PassKind) (ps : List PassKind) (is : passes ≡ p ∷ ps) (f : Function) (fs : List Entry) where
   module _ (g : Function) (gs : List Entry) where
@@ -34,13 +34,11 @@ module _ (passes : List PassKind) (p : PassKind) (ps : List PassKind) (is : pass
           subst (λ (z : List PassKind). Fit z → KeepsFollowing (any_asks z) (all_keep z) (change f fs h hs)) (sym is)
           (λ fit. following_then (asks p) (keeps p) (any_asks ps) (all_keep ps) f fs g gs h hs fit.0 x (y fit.1))
 
-      pub all_steps : (reserve : List ℕ) (a b losses : List Loss) → losses ≡ a ++ b →
-          KeepsSteps (steps_of_pass reserve p) (change f fs g gs) a → KeepsSteps (steps_of reserve ps) (change g gs h hs) b →
-          KeepsSteps (steps_of reserve passes) (change f fs h hs) losses
-      all_steps reserve a b losses e x y =
-          subst (λ (z : List PassKind). KeepsSteps (steps_of reserve z) (change f fs h hs) losses) (sym is)
-          (subst (KeepsSteps (steps_of reserve (p ∷ ps)) (change f fs h hs)) (sym e)
-          (steps_then (steps_of_pass reserve p) (steps_of reserve ps) f fs g gs h hs a b x y))
+      pub all_told : (reserve : List ℕ) (a b told : List Loss) → told ≡ a ++ b →
+          KeepsPass (steps_of_pass reserve p) (change f fs g gs) a → KeepsPasses (passes_of reserve ps) (change g gs h hs) b →
+          KeepsPasses (passes_of reserve passes) (change f fs h hs) told
+      all_told reserve a b told e x y =
+          subst (λ (z : List PassKind). KeepsPasses (passes_of reserve z) (change f fs h hs) told) (sym is) (g, gs, a, b, x, y, e)
 
       pub all_growth : KeepsSizes (factor p) (count p) (change f fs g gs) → KeepsGrowth ps (change g gs h hs) → KeepsGrowth passes (change f fs h hs)
       all_growth x y =

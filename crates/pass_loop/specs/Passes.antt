@@ -5,9 +5,10 @@ use Rattle.follow_law.specs.Change.{Change}
 use Rattle.follow_law.specs.Sizes.{greatest, greatest_number, item_count, code_count, call_count, IsPhysical, most}
 use Rattle.follow_law.specs.Steps.{Step}
 use Rattle.copy_debug.specs.Rule.{copy_step}
+use Rattle.dead_steps.specs.Steps.{dead_steps}
 use Rattle.fold_debug.specs.Debug.{fold_step}
 use Rattle.pass_list.specs.declared.kind.PassKind.{PassKind}
-use Rattle.pass_list.specs.declared.kind.PassKind.TheVariants.{Copy, Remat, Spill, Fold}
+use Rattle.pass_list.specs.declared.kind.PassKind.TheVariants.{Copy, Remat, Spill, Dead, Fold}
 use Rattle.remat_pass.specs.Pass.{remat_step}
 use Rattle.spill_pass.specs.Reserve.{reserve_of}
 use Rattle.spill_step.specs.Step.{spill_step}
@@ -19,6 +20,7 @@ abbrev pub steps_of_pass : (reserve : List ℕ) → PassKind → List Step
 steps_of_pass reserve Copy = copy_step ∷ []
 steps_of_pass reserve Remat = remat_step ∷ []
 steps_of_pass reserve Spill = spill_step (reserve_of reserve) ∷ []
+steps_of_pass reserve Dead = dead_steps
 steps_of_pass reserve Fold = fold_step ∷ []
 
 -- whether it is right only for functions with the source's ends of blocks
@@ -26,6 +28,7 @@ abbrev pub asks : PassKind → Bool
 asks Copy = false
 asks Remat = false
 asks Spill = false
+asks Dead = false
 asks Fold = true
 
 -- whether it keeps them
@@ -33,6 +36,7 @@ abbrev pub keeps : PassKind → Bool
 keeps Copy = true
 keeps Remat = true
 keeps Spill = true
+keeps Dead = true
 keeps Fold = false
 
 -- how many times as many items there may be after it
@@ -40,6 +44,7 @@ abbrev pub factor : PassKind → ℕ
 factor Copy = 1
 factor Remat = 1
 factor Spill = 4
+factor Dead = 1
 factor Fold = 1
 
 -- how many items more there may be for each block, how many numbers for each item, and how many times as many slots as a function may have
@@ -47,6 +52,7 @@ abbrev pub count : PassKind → ℕ
 count Copy = 1
 count Remat = 1
 count Spill = 1
+count Dead = 1
 count Fold = 1
 
 -- ---- passes in a row
@@ -55,6 +61,11 @@ count Fold = 1
 abbrev pub steps_of : (reserve : List ℕ) → List PassKind → List Step
 steps_of reserve [] = []
 steps_of reserve (p ∷ ps) = steps_of_pass reserve p ++ steps_of reserve ps
+
+-- those of each
+abbrev pub passes_of : (reserve : List ℕ) → List PassKind → List (List Step)
+passes_of reserve [] = []
+passes_of reserve (p ∷ ps) = steps_of_pass reserve p ∷ passes_of reserve ps
 
 -- whether one of them asks
 abbrev pub any_asks : List PassKind → Bool

@@ -8,11 +8,13 @@ ghost use Rattle.follow_law.specs.Sizes.{greatest, greatest_number, item_count, 
 ghost use Rattle.follow_law.specs.Sizes.{most_numbers};
 ghost use Rattle.follow_law.specs.Steps.{KeepsSteps};
 ghost use Rattle.pass_loop.specs.Passes.{steps_of_pass, asks, keeps, factor, count};
-ghost use Rattle.pass_loop.specs.Passes.{steps_of, any_asks, all_keep, Fit, numbers_after, slots_after, KeepsGrowth};
+ghost use Rattle.pass_loop.specs.Passes.{passes_of, any_asks, all_keep, Fit, numbers_after, slots_after, KeepsGrowth};
 ghost use Rattle.pass_loop.specs.Shown.{KeepsShown};
+ghost use Rattle.pass_loop.specs.Told.{KeepsPass, KeepsPasses};
 
 use branch_fold::fold::FoldPass;
 use copy_propagation::copies::CopyPass;
+use dead_pass::dead::DeadPass;
 use follow_law::loss::Losses;
 use follow_law::pass::Pass;
 use mir_func::func::Func;
@@ -22,9 +24,11 @@ use rv64_instr::reg::{Reg, Registers};
 use spill_pass::spill::SpillPass;
 use std::alloc::{AllocError, Global};
 use substitution::substitutions::Substitutions;
+use told_losses::told::told;
 
-/// Runs passes one after the other, and gives what they lost, in their order. The reserve has the registers that may be
-/// spilled. After an error the function and its substitutions are only to be dropped.
+/// Runs passes one after the other, and tells what they lost, one after the other: what a pass lost stands in order,
+/// each once. The reserve has the registers that may be spilled. After an error the function and its substitutions are
+/// only to be dropped.
 pub fn run_passes(
     alloc: Global,
     passes: &[PassKind],
@@ -36,7 +40,7 @@ pub fn run_passes(
     requires slots { greatest f.old.slots + MAX_SLOTS * slots_after passes.now < 2 ^ 31 }
     ensures follows { OnOk result (Fit passes.now →
         KeepsFollowing (any_asks passes.now) (all_keep passes.now) (change f.old subs.old f.new subs.new)) }
-    ensures steps { IfOk result (KeepsSteps (steps_of reserve.now passes.now) (change f.old subs.old f.new subs.new)) }
+    ensures told { IfOk result (KeepsPasses (passes_of reserve.now passes.now) (change f.old subs.old f.new subs.new)) }
     ensures growth { OnOk result (KeepsGrowth passes.now (change f.old subs.old f.new subs.new)) }
     ensures shown { OnOk result (KeepsShown f.old f.new) }
 {
@@ -51,8 +55,31 @@ pub fn run_passes(
     }
 }
 
-/// Runs one pass, and gives what it lost. After an error the function and its substitutions are only to be dropped.
+/// Runs one pass, and tells what it lost, in order, each once. After an error the function and its substitutions are
+/// only to be dropped.
 fn run_pass(
+    alloc: Global,
+    pass: PassKind,
+    reserve: &[Reg],
+    f: &mut Func,
+    subs: &mut Substitutions,
+) -> Result<Losses, AllocError>
+    requires numbers { greatest_number f.old subs.old + most_numbers (factor pass) (count pass) f.old < 2 ^ 31 }
+    requires slots { greatest f.old.slots + MAX_SLOTS * count pass < 2 ^ 31 }
+    ensures follows { OnOk result
+        (KeepsFollowing (asks pass) (keeps pass) (change f.old subs.old f.new subs.new)) }
+    ensures told { IfOk result
+        (KeepsPass (steps_of_pass reserve.now pass) (change f.old subs.old f.new subs.new)) }
+    ensures sizes { OnOk result (KeepsSizes (factor pass) (count pass) (change f.old subs.old f.new subs.new)) }
+    ensures shown { OnOk result (KeepsShown f.old f.new) }
+{
+    let lost = run_by_kind(alloc, pass, reserve, f, subs)?;
+    Ok(told(lost))
+}
+
+/// Runs one pass, and gives what it lost, as it came. After an error the function and its substitutions are only to be
+/// dropped.
+fn run_by_kind(
     alloc: Global,
     pass: PassKind,
     reserve: &[Reg],
@@ -75,6 +102,7 @@ fn run_pass(
             let reserve = Registers::from_slice(alloc, reserve)?;
             SpillPass { reserve }.run(alloc, f, subs)
         }
+        PassKind::Dead => DeadPass.run(alloc, f, subs),
         PassKind::Fold => FoldPass.run(alloc, f, subs),
     }
 }

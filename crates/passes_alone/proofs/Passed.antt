@@ -3,6 +3,7 @@ use Rattle.std.proofs.Common.{ℕ, List, [], ◌∷◌}
 use Rattle.mir_func.specs.Function.{Function}
 use Rattle.mir_func.specs.Strip.{stripped}
 use Rattle.copy_rule.specs.Laws.{one_copied, same_copied}
+use Rattle.dead_pass.specs.Laws.{rounds_have_one_result, rounds_see_code_alone}
 use Rattle.branch_fold.specs.Laws.{folding_has_one_result, folding_sees_code_alone}
 use Rattle.remat_pass.specs.Laws.{one_rematerialized, same_rematerialized}
 use Rattle.spill_pass.specs.Reserve.{reserve_of}
@@ -14,7 +15,7 @@ use Rattle.follow_law.specs.Steps.{EachCode}
 use Rattle.passes_alone.proofs.Made.{make_code_alone}
 use Rattle.frames_alike.specs.Alike.{HaveAlikeCode, HaveSameCode}
 use Rattle.pass_list.specs.declared.kind.PassKind.{PassKind}
-use Rattle.pass_list.specs.declared.kind.PassKind.TheVariants.{Copy, Remat, Spill, Fold}
+use Rattle.pass_list.specs.declared.kind.PassKind.TheVariants.{Copy, Remat, Spill, Dead, Fold}
 use Rattle.pass_loop.specs.Passes.{steps_of_pass, steps_of}
 use Rattle.text_alone.specs.Text.{OneByOne}
 use Rattle.text_alone.proofs.Text.{coded_alone, alike_text, same_text}
@@ -26,12 +27,14 @@ one_of_pass : (reserve : List ℕ) (p : PassKind) → EachCode HasOneResult (ste
 one_of_pass reserve Copy = (one_copied, tt)
 one_of_pass reserve Remat = (one_rematerialized, tt)
 one_of_pass reserve Spill = (one_spilled (reserve_of reserve), tt)
+one_of_pass reserve Dead = rounds_have_one_result
 one_of_pass reserve Fold = (folding_has_one_result, tt)
 
 same_of_pass : (reserve : List ℕ) (p : PassKind) → EachCode SeesCodeAlone (steps_of_pass reserve p)
 same_of_pass reserve Copy = (same_copied, tt)
 same_of_pass reserve Remat = (same_rematerialized, tt)
 same_of_pass reserve Spill = (same_spilled (reserve_of reserve), tt)
+same_of_pass reserve Dead = rounds_see_code_alone
 same_of_pass reserve Fold = (folding_sees_code_alone, tt)
 
 one_each : (reserve : List ℕ) (passes : List PassKind) → EachCode HasOneResult (steps_of reserve passes)

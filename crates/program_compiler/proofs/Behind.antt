@@ -11,9 +11,9 @@ use Rattle.compiled_text.specs.declared.output.ListedFunction.{ListedFunction}
 use Rattle.dwarf_loclists.specs.declared.range.Range.{Range}
 use Rattle.dwarf_loclists.specs.Ranges.{Ascend, ArePlaces}
 use Rattle.follow_law.specs.declared.loss.Loss.{Loss}
-use Rattle.follow_law.specs.Steps.{Step}
 use Rattle.function_emit.specs.declared.emit.Made.{Made}
 use Rattle.function_emit.specs.Emitted.{names_of, AreWritable, IsPushed}
+use Rattle.function_passes.proofs.AfterPasses.{made_by}
 use Rattle.function_passes.specs.Passed.{source_of, IsMadeBy, IsMadeLosing, IsCompilable}
 use Rattle.meta_reader.specs.Maps.{Maps}
 use Rattle.mir_body.specs.Limits.{MAX_ITEMS}
@@ -22,14 +22,17 @@ use Rattle.mir_parser.specs.declared.closing.Parsed.{Parsed}
 use Rattle.output_promise.proofs.Functions.{words_length}
 use Rattle.output_promise.specs.Compiled.{AreCompiled, bytes_of}
 use Rattle.output_promise.specs.Source.{PassedFunction}
+use Rattle.pass_list.specs.declared.kind.PassKind.{PassKind}
+use Rattle.pass_loop.specs.Passes.{steps_of}
 use Rattle.program_compiler.specs.Program.{ArePassed, AreMadeLosing, AreCoded}
 use Rattle.program_compiler.specs.steps.Made.{AreMade}
 
-pub record SoFar (meta : Maps) (steps : List Step) (all rest : List Parsed) (losses : List (List Loss)) (m : Made) : Type 0 where
+pub record SoFar (meta : Maps) (reserve : List ℕ) (passes : List PassKind) (all rest : List Parsed) (losses : List (List Loss)) (m : Made) : Type 0 where
   pub passed : List PassedFunction
   pub are : (ps : List PassedFunction) → ArePassed meta rest ps → ArePassed meta all (passed ++ ps)
-  pub made : All (IsMadeBy steps) passed
-  pub lost : (ps : List PassedFunction) (ls : List (List Loss)) → AreMadeLosing steps ps ls → AreMadeLosing steps (passed ++ ps) (losses ++ ls)
+  pub made : All (IsMadeBy (steps_of reserve passes)) passed
+  pub lost : (ps : List PassedFunction) (ls : List (List Loss)) → AreMadeLosing reserve passes ps ls → AreMadeLosing reserve passes (passed ++ ps)
+      (losses ++ ls)
   pub onward : (ps : List PassedFunction) (text : List ℕ) (lists : List (List Range)) (fs : List ListedFunction) →
       AreCompiled (names_of meta) (length m.text) (length m.lists) text lists ps fs →
       AreCompiled (names_of meta) 0 0 (m.text ++ text) (m.lists ++ lists) (passed ++ ps) (m.functions ++ fs)
@@ -40,12 +43,12 @@ pub record SoFar (meta : Maps) (steps : List Step) (all rest : List Parsed) (los
   pub few_bytes : length m.text + length rest * (4 * MAX_WORDS) ≤ length all * (4 * MAX_WORDS)
   pub few_lists : length m.lists + length rest * MAX_ITEMS ≤ length all * MAX_ITEMS
 
-pub begins : (meta : Maps) (steps : List Step) (all : List Parsed) →
-    SoFar meta steps all all [] (record { text = []; lists = []; functions = []; codes = [] })
-begins meta steps all = record {
+pub begins : (meta : Maps) (reserve : List ℕ) (passes : List PassKind) (all : List Parsed) →
+    SoFar meta reserve passes all all [] (record { text = []; lists = []; functions = []; codes = [] })
+begins meta reserve passes all = record {
   passed = [];
   are = λ ps are. are;
-  made = All-nil (IsMadeBy steps);
+  made = All-nil (IsMadeBy (steps_of reserve passes));
   lost = λ ps ls are. are;
   onward = λ ps text lists fs are. are;
   codes = λ ps cs are. are;
@@ -79,15 +82,17 @@ module _ (meta : Maps) (p : PassedFunction) (m n : Made) (one : IsPushed meta p 
       let below = one.few_words in
       omega (arith, e, below)
 
-  pub more : (steps : List Step) (all rest : List Parsed) (f : Parsed) (losses : List (List Loss)) (l : List Loss) → p.source ≡ source_of f →
-      IsCompilable meta p → IsMadeLosing steps p l → SoFar meta steps all (f ∷ rest) losses m → SoFar meta steps all rest (losses ++ l ∷ []) n
-  more steps all rest f losses l of is by so = record {
+  pub more : (reserve : List ℕ) (passes : List PassKind) (all rest : List Parsed) (f : Parsed) (losses : List (List Loss)) (l : List Loss) →
+      p.source ≡ source_of f →
+      IsCompilable meta p → IsMadeLosing reserve passes p l → SoFar meta reserve passes all (f ∷ rest) losses m → SoFar meta reserve passes all rest
+      (losses ++ l ∷ []) n
+  more reserve passes all rest f losses l of is by so = record {
     passed = so.passed ++ p ∷ [];
     are = λ ps are. subst (ArePassed meta all) (sym (append_assoc so.passed (p ∷ []) ps)) (so.are (p ∷ ps) (of, is, are));
-    made = All-push (IsMadeBy steps) so.passed p so.made (record { losses = l; kept = by });
+    made = All-push (IsMadeBy (steps_of reserve passes)) so.passed p so.made (made_by reserve passes p l by);
     lost = λ ps ls are.
-        subst (λ (t : List PassedFunction). AreMadeLosing steps t ((losses ++ l ∷ []) ++ ls)) (sym (append_assoc so.passed (p ∷ []) ps))
-        (subst (AreMadeLosing steps (so.passed ++ (p ∷ ps))) (sym (append_assoc losses (l ∷ []) ls)) (so.lost (p ∷ ps) (l ∷ ls) (by, are)));
+        subst (λ (t : List PassedFunction). AreMadeLosing reserve passes t ((losses ++ l ∷ []) ++ ls)) (sym (append_assoc so.passed (p ∷ []) ps))
+        (subst (AreMadeLosing reserve passes (so.passed ++ (p ∷ ps))) (sym (append_assoc losses (l ∷ []) ls)) (so.lost (p ∷ ps) (l ∷ ls) (by, are)));
     onward = λ ps text lists fs are.
         let A : ℕ → ℕ → Type 0 = λ b k. AreCompiled (names_of meta) b k text lists ps fs in
         let from : A one.listed.high (length m.lists + length one.compiled.lists) =
@@ -136,15 +141,16 @@ module _ (meta : Maps) (p : PassedFunction) (m n : Made) (one : IsPushed meta p 
         omega (arith, long, below, was);
   }
 
-pub all_made : (meta : Maps) (steps : List Step) (all : List Parsed) (losses : List (List Loss)) (m : Made) → SoFar meta steps all [] losses m →
-    AreMade meta steps all losses m
-all_made meta steps all losses m so = record {
+pub all_made : (meta : Maps) (reserve : List ℕ) (passes : List PassKind) (all : List Parsed) (losses : List (List Loss)) (m : Made) →
+    SoFar meta reserve passes all [] losses m →
+    AreMade meta reserve passes all losses m
+all_made meta reserve passes all losses m so = record {
   passed = so.passed;
   are = subst (ArePassed meta all) (append-nil so.passed) (so.are [] tt);
   made = so.made;
   lost =
-      subst (λ (t : List PassedFunction). AreMadeLosing steps t losses) (append-nil so.passed)
-      (subst (AreMadeLosing steps (so.passed ++ [])) (append-nil losses) (so.lost [] [] tt));
+      subst (λ (t : List PassedFunction). AreMadeLosing reserve passes t losses) (append-nil so.passed)
+      (subst (AreMadeLosing reserve passes (so.passed ++ [])) (append-nil losses) (so.lost [] [] tt));
   compiled =
       subst (λ (t : List ℕ). AreCompiled (names_of meta) 0 0 t m.lists so.passed m.functions) (append-nil m.text)
       (subst (λ (t : List (List Range)). AreCompiled (names_of meta) 0 0 (m.text ++ []) t so.passed m.functions) (append-nil m.lists)

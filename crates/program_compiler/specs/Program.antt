@@ -22,6 +22,8 @@ use Rattle.mir_parser.specs.declared.closing.Parsed.{Parsed}
 use Rattle.mir_parser.specs.declared.program.Program.{Program}
 use Rattle.output_promise.specs.Compiled.{AreCompiled, IsCompiledProgram}
 use Rattle.output_promise.specs.Source.{SourceFunction, PassedFunction}
+use Rattle.pass_list.specs.declared.kind.PassKind.{PassKind}
+use Rattle.pass_loop.specs.Passes.{steps_of}
 use Rattle.program_compiler.specs.declared.compile.Compilation.{Compilation}
 use Rattle.source_lines.specs.declared.compiled.Compiled.{Compiled}
 use Rattle.source_lines.specs.Program.{table_of}
@@ -42,12 +44,12 @@ ArePassed meta [] (p ∷ ps) = ⊥
 ArePassed meta (f ∷ fs) [] = ⊥
 ArePassed meta (f ∷ fs) (p ∷ ps) = (p.source ≡ source_of f) × IsCompilable meta p × ArePassed meta fs ps
 
--- steps of passes made each of some functions, and lost this of each
-abbrev pub AreMadeLosing : List Step → List PassedFunction → List (List Loss) → Type 0
-AreMadeLosing steps [] [] = Unit {0}
-AreMadeLosing steps [] (l ∷ ls) = ⊥
-AreMadeLosing steps (p ∷ ps) [] = ⊥
-AreMadeLosing steps (p ∷ ps) (l ∷ ls) = IsMadeLosing steps p l × AreMadeLosing steps ps ls
+-- passes made each of some functions, and this is told of what they lost of each
+abbrev pub AreMadeLosing : (reserve : List ℕ) → List PassKind → List PassedFunction → (told : List (List Loss)) → Type 0
+AreMadeLosing reserve passes [] [] = Unit {0}
+AreMadeLosing reserve passes [] (l ∷ ls) = ⊥
+AreMadeLosing reserve passes (p ∷ ps) [] = ⊥
+AreMadeLosing reserve passes (p ∷ ps) (l ∷ ls) = IsMadeLosing reserve passes p l × AreMadeLosing reserve passes ps ls
 
 -- ---- machine code
 
@@ -88,12 +90,12 @@ pub record IsOutputOf (steps : List Step) (p : Program) (o : Output) : Type 0 wh
   pub sections : HasSections p.meta functions o
 
 -- a program is compiled so: the output, and beside it the machine code of each function, the lists of all variables, one function's behind the
--- other's, and what passes lost of each function
-pub record IsCompilationOf (steps : List Step) (p : Program) (c : Compilation) : Type 0 where
+-- other's, and what is told of the losses of each function
+pub record IsCompilationOf (reserve : List ℕ) (passes : List PassKind) (p : Program) (c : Compilation) : Type 0 where
   pub functions : List PassedFunction
   pub passed : ArePassed p.meta p.functions functions
-  pub made : All (IsMadeBy steps) functions
-  pub lost : AreMadeLosing steps functions c.losses
+  pub made : All (IsMadeBy (steps_of reserve passes)) functions
+  pub lost : AreMadeLosing reserve passes functions c.losses
   pub section : IsSection c.output.loclists c.lists
   pub compiled : AreCompiled (names_of p.meta) 0 0 c.output.text c.lists functions c.output.functions
   pub small : length c.output.text < SECTION_LIMIT

@@ -96,7 +96,7 @@ pub fn compile(
     requires read { IsReadProgram program.now }
     requires distinct { AreDistinct passes.now }
     ensures output { IfOk result (λ c. IsOutputOf (steps_of reserve.now passes.now) program.now c.output) }
-    ensures compilation { IfOk result (IsCompilationOf (steps_of reserve.now passes.now) program.now) }
+    ensures compilation { IfOk result (IsCompilationOf reserve.now passes.now program.now) }
     ensures frame_too_large { IsErrOf result CompileError.FrameTooLarge →
         HasLargeFrame (steps_of reserve.now passes.now) program.now.functions }
     ensures section_too_large { IsErrOf result CompileError.SectionTooLarge →
@@ -123,9 +123,9 @@ fn compiled(
     _reserve: &[Reg],
 ) -> Result<Compilation, CompileError>
     requires read { IsReadProgram program.now }
-    requires made { AreMade program.now.meta (steps_of _reserve.now _passes.now) program.now.functions losses made }
+    requires made { AreMade program.now.meta _reserve.now _passes.now program.now.functions losses made }
     ensures output { IfOk result (λ c. IsOutputOf (steps_of _reserve.now _passes.now) program.now c.output) }
-    ensures compilation { IfOk result (IsCompilationOf (steps_of _reserve.now _passes.now) program.now) }
+    ensures compilation { IfOk result (IsCompilationOf _reserve.now _passes.now program.now) }
     ensures no_frame { IsErrOf result CompileError.FrameTooLarge → ⊥ }
     ensures section_too_large { IsErrOf result CompileError.SectionTooLarge →
         HasLargeSection (steps_of _reserve.now _passes.now) program.now }

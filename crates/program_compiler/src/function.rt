@@ -36,7 +36,7 @@ pub fn made_of(
     requires read { All (λ (p : Parsed). IsReadFunction meta.now p.func) functions.now }
     requires substitutions { All (λ (p : Parsed). All EntryIsLimited p.subs) functions.now }
     requires distinct { AreDistinct passes.now }
-    ensures made { IfOk result (λ r. AreMade meta.now (steps_of reserve.now passes.now) functions.now r.1 r.0) }
+    ensures made { IfOk result (λ r. AreMade meta.now reserve.now passes.now functions.now r.1 r.0) }
     ensures too_large { IsErrOf result CompileError.FrameTooLarge →
         HasLargeFrame (steps_of reserve.now passes.now) functions.now }
     ensures no_section { IsErrOf result CompileError.SectionTooLarge → ⊥ }
@@ -71,7 +71,7 @@ fn push_source(
     requires substitutions { All EntryIsLimited source.now.subs }
     requires distinct { AreDistinct passes.now }
     ensures pushed { IfOk result (λ losses.
-        IsSourcePushed meta.now (steps_of reserve.now passes.now) source.now losses made.old made.new) }
+        IsSourcePushed meta.now reserve.now passes.now source.now losses made.old made.new) }
     ensures too_large { IsErrOf result CompileError.FrameTooLarge →
         IsTooLarge (steps_of reserve.now passes.now) source.now }
     ensures no_section { IsErrOf result CompileError.SectionTooLarge → ⊥ }

@@ -1,5 +1,5 @@
 -- What was made of functions so far, and of one more.
-use Rattle.std.specs.Prelude.{◌≡◌, ◌*◌, ◌%◌, ◌<◌, ◌≤◌, List, length, map, All}
+use Rattle.std.specs.Prelude.{◌≡◌, ℕ, ◌*◌, ◌%◌, ◌<◌, ◌≤◌, List, length, map, All}
 use Rattle.code_words.specs.Counts.{MAX_WORDS}
 use Rattle.follow_law.specs.declared.loss.Loss.{Loss}
 use Rattle.follow_law.specs.Steps.{Step}
@@ -13,14 +13,16 @@ use Rattle.mir_func.specs.Limits.{MAX_FRAME}
 use Rattle.mir_parser.specs.declared.closing.Parsed.{Parsed}
 use Rattle.output_promise.specs.Compiled.{AreCompiled}
 use Rattle.output_promise.specs.Source.{PassedFunction}
+use Rattle.pass_list.specs.declared.kind.PassKind.{PassKind}
+use Rattle.pass_loop.specs.Passes.{steps_of}
 use Rattle.program_compiler.specs.Program.{ArePassed, AreMadeLosing, AreCoded}
 
--- what steps of passes make of a source, losing this, is compiled behind others
-pub record IsSourcePushed (meta : Maps) (steps : List Step) (q : Parsed) (losses : List Loss) (before after : Made) : Type 0 where
+-- what passes make of a source, losing this, is compiled behind others
+pub record IsSourcePushed (meta : Maps) (reserve : List ℕ) (passes : List PassKind) (q : Parsed) (losses : List Loss) (before after : Made) : Type 0 where
   pub passed : PassedFunction
   pub source : passed.source ≡ source_of q
   pub compilable : IsCompilable meta passed
-  pub lost : IsMadeLosing steps passed losses
+  pub lost : IsMadeLosing reserve passes passed losses
   pub pushed : IsPushed meta passed before after
 
 -- the frame of what steps of passes make of a source is too large
@@ -30,12 +32,12 @@ pub record IsTooLarge (steps : List Step) (q : Parsed) : Type 0 where
   pub made : IsMadeBy steps passed
   pub large : MAX_FRAME < size_of passed.function
 
--- what steps of passes made of functions, losing this of each, is compiled from address 0 on
-pub record AreMade (meta : Maps) (steps : List Step) (functions : List Parsed) (losses : List (List Loss)) (m : Made) : Type 0 where
+-- what passes made of functions, losing this of each, is compiled from address 0 on
+pub record AreMade (meta : Maps) (reserve : List ℕ) (passes : List PassKind) (functions : List Parsed) (losses : List (List Loss)) (m : Made) : Type 0 where
   pub passed : List PassedFunction
   pub are : ArePassed meta functions passed
-  pub made : All (IsMadeBy steps) passed
-  pub lost : AreMadeLosing steps passed losses
+  pub made : All (IsMadeBy (steps_of reserve passes)) passed
+  pub lost : AreMadeLosing reserve passes passed losses
   pub compiled : AreCompiled (names_of meta) 0 0 m.text m.lists passed m.functions
   pub coded : AreCoded 0 (map (λ p. p.function) passed) m.codes
   pub writable : AreWritable m.lists

@@ -30,7 +30,7 @@ pub returns-clause-made : goal.returns-clause-made
 returns-clause-made c =
     made_after c.args._meta.now c.args.source.now c.args.passes.now c.in_ok-function.function c.in_ok-substitutions.substitutions
     c.run_passes.new.f c.run_passes.new.subs c.in_ok-function.ensures c.in_ok-substitutions.ensures c.requires.read
-    (accepted c.args.passes.now c.requires.distinct) c.args.reserve.now c.in_ok-losses.losses c.in_ok-losses.ensures.steps
+    (accepted c.args.passes.now c.requires.distinct) c.args.reserve.now c.in_ok-losses.losses c.in_ok-losses.ensures.told
 
 pub returns-clause-few : goal.returns-clause-few
 returns-clause-few c =

@@ -1,6 +1,5 @@
 -- The passes that run are those of the plan, with its reserve.
 use Rattle.std.proofs.Common.{◌≡◌, ℕ, List, sym, subst}
-use Rattle.follow_law.specs.Steps.{Step}
 use Rattle.pass_list.specs.declared.kind.PassKind.{PassKind}
 use Rattle.pass_list.specs.Names.{AreDistinct}
 use Rattle.pass_loop.specs.Passes.{steps_of}
@@ -10,28 +9,28 @@ use Rattle.mirdwarf_tool.proofs.compiled.compilation.Goals as goal
 pub compile-requires-clause-distinct : goal.compile-requires-clause-distinct
 compile-requires-clause-distinct c = subst AreDistinct (sym c.as_slice.ensures.value) c.as_slice.ensures.distinct
 
--- what holds of steps holds of those of the plan
-by_plan : (P : List Step → Type 0) (passes list : List PassKind) (reserve registers : List ℕ) → passes ≡ list → reserve ≡ registers →
-    P (steps_of reserve passes) → P (steps_of registers list)
-by_plan P passes list reserve registers same kept holds =
-    subst (λ (l : List PassKind). P (steps_of registers l)) same (subst (λ (r : List ℕ). P (steps_of r passes)) kept holds)
+-- what holds of a reserve and of passes holds of those of the plan
+by_plan : (P : List ℕ → List PassKind → Type 0) (passes list : List PassKind) (reserve registers : List ℕ) → passes ≡ list → reserve ≡ registers →
+    P reserve passes → P registers list
+by_plan P passes list reserve registers same kept holds = subst (P registers) same (subst (λ (r : List ℕ). P r passes) kept holds)
 
 pub returns-in-Ok-clause-output : goal.returns-in-Ok-clause-output
 returns-in-Ok-clause-output c =
-    by_plan (λ steps. IsOutputOf steps c.args.program.now c.in-Ok.compilation.output) c.as_slice.result.now c.args.plan.now.passes c.as_slice-2.result.now
+    by_plan (λ r l. IsOutputOf (steps_of r l) c.args.program.now c.in-Ok.compilation.output) c.as_slice.result.now c.args.plan.now.passes
+    c.as_slice-2.result.now
     c.args.plan.now.reserve c.as_slice.ensures.value c.as_slice-2.ensures c.in-Ok.ensures.output
 
 pub returns-in-Ok-clause-compilation : goal.returns-in-Ok-clause-compilation
 returns-in-Ok-clause-compilation c =
-    by_plan (λ steps. IsCompilationOf steps c.args.program.now c.in-Ok.compilation) c.as_slice.result.now c.args.plan.now.passes
+    by_plan (λ r l. IsCompilationOf r l c.args.program.now c.in-Ok.compilation) c.as_slice.result.now c.args.plan.now.passes
     c.as_slice-2.result.now c.args.plan.now.reserve c.as_slice.ensures.value c.as_slice-2.ensures c.in-Ok.ensures.compilation
 
 pub returns-in-Err-FrameTooLarge-clause-err : goal.returns-in-Err-FrameTooLarge-clause-err
 returns-in-Err-FrameTooLarge-clause-err c =
-    by_plan (λ steps. HasLargeFrame steps c.args.program.now.functions) c.as_slice.result.now c.args.plan.now.passes c.as_slice-2.result.now
+    by_plan (λ r l. HasLargeFrame (steps_of r l) c.args.program.now.functions) c.as_slice.result.now c.args.plan.now.passes c.as_slice-2.result.now
     c.args.plan.now.reserve c.as_slice.ensures.value c.as_slice-2.ensures (c.in-Err-FrameTooLarge.ensures.frame_too_large cc)
 
 pub returns-in-Err-SectionTooLarge-clause-err : goal.returns-in-Err-SectionTooLarge-clause-err
 returns-in-Err-SectionTooLarge-clause-err c =
-    by_plan (λ steps. HasLargeSection steps c.args.program.now) c.as_slice.result.now c.args.plan.now.passes c.as_slice-2.result.now
+    by_plan (λ r l. HasLargeSection (steps_of r l) c.args.program.now) c.as_slice.result.now c.args.plan.now.passes c.as_slice-2.result.now
     c.args.plan.now.reserve c.as_slice.ensures.value c.as_slice-2.ensures (c.in-Err-SectionTooLarge.ensures.section_too_large cc)

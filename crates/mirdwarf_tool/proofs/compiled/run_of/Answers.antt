@@ -14,17 +14,17 @@ use Rattle.mirdwarf_tool.proofs.compiled.run_of.Goals as goal
 
 module _ (asked : RunPlan) (p : Program) (c : Compilation) (output : IsOutputOf (plan_steps asked.plan) p c.output) (name : List ℕ)
     (named : name ≡ asked.name) where
-  ran : (is : IsCompilationOf (plan_steps asked.plan) p c) (arguments : List ℕ) (given : arguments ≡ asked.arguments) (text : List ℕ) →
+  ran : (is : IsCompilationOf asked.plan.reserve asked.plan.passes p c) (arguments : List ℕ) (given : arguments ≡ asked.arguments) (text : List ℕ) →
       IsRunOf c name asked.steps arguments asked.answers text →
       IsRunOfProgram (plan_steps asked.plan) p asked.name asked.steps asked.arguments asked.answers text
   ran is arguments given text run =
-      run_of_program (plan_steps asked.plan) p c output is asked.name asked.steps asked.arguments asked.answers text
+      run_of_program asked.plan.reserve asked.plan.passes p c output is asked.name asked.steps asked.arguments asked.answers text
       (subst (λ (n : List ℕ). IsRunOf c n asked.steps asked.arguments asked.answers text) named
       (subst (λ (xs : List ℕ). IsRunOf c name asked.steps xs asked.answers text) given run))
 
   unknown : HasNone name c.output.functions → IsUnknown asked.name p.functions
   unknown none =
-      names_are_read (plan_steps asked.plan) p c output asked.name (subst (λ (n : List ℕ). HasNone n c.output.functions) named none)
+      names_are_read asked.plan.reserve asked.plan.passes p c output asked.name (subst (λ (n : List ℕ). HasNone n c.output.functions) named none)
 
 -- what a run gave
 some_given : (o : Option (List ℕ)) (text : List ℕ) (P : Type 0) (Q : List ℕ → Type 0) → o ≡ Some text → MatchOption o P Q → Q text
@@ -34,7 +34,8 @@ none_given : (o : Option (List ℕ)) (P : Type 0) (Q : List ℕ → Type 0) → 
 none_given o P Q is given = subst (λ (x : Option (List ℕ)). MatchOption x P Q) is given
 
 pub run-requires : goal.run-requires
-run-requires c = compilation_can_run (plan_steps c.args.asked.plan) c.args._program.now c.args.compilation.now c.requires.compilation
+run-requires c =
+    compilation_can_run c.args.asked.plan.reserve c.args.asked.plan.passes c.args._program.now c.args.compilation.now c.requires.compilation
 
 pub returns-in-Ok-Some-clause-ok : goal.returns-in-Ok-Some-clause-ok
 returns-in-Ok-Some-clause-ok c =

@@ -1,7 +1,7 @@
 use Rattle.std.proofs.Common.{◌≡◌, List, ◌++◌, ◌∙◌, ap, arith}
 use Rattle.follow_law.specs.declared.loss.Loss.{Loss}
 use Rattle.pass_loop.proofs.Row.{shown_then}
-use Rattle.pass_loop.proofs.Whole.{then_numbers, then_slots, all_follow, all_steps, all_growth}
+use Rattle.pass_loop.proofs.Whole.{then_numbers, then_slots, all_follow, all_told, all_growth}
 use Rattle.pass_loop.proofs.run.+run_passes.Goals as goal
 
 pub run_passes-requires : goal.run_passes-requires
@@ -24,14 +24,14 @@ returns-in_ok-extend_from_slice-in-Some-clause-follows t c =
     c.run_pass.new.f c.run_pass.new.subs c.run_passes.new.f c.run_passes.new.subs c.in_ok-losses-in-Some.ensures.follows
     c.in_ok-later-in-Some.ensures.follows
 
-pub returns-in_ok-extend_from_slice-in-Some-clause-steps :
-    goal.returns-in_ok-extend_from_slice-in-Some-clause-steps
-returns-in_ok-extend_from_slice-in-Some-clause-steps t c =
+pub returns-in_ok-extend_from_slice-in-Some-clause-told :
+    goal.returns-in_ok-extend_from_slice-in-Some-clause-told
+returns-in_ok-extend_from_slice-in-Some-clause-told t c =
     let joined : c.extend_from_slice.new.self ≡ c.in_ok-losses-in-Some.losses ++ c.in_ok-later-in-Some.later =
     c.in_ok-extend_from_slice-in-Some.ensures.ok ∙ ap (λ (l : List Loss). c.in_ok-losses-in-Some.losses ++ l) c.as_slice.ensures in
-    all_steps c.args.passes.now c.in-Some.first.now c.in-Some.rest.now c.in-Some.ensures.cases.0 c.args.f.now c.args.subs.now
+    all_told c.args.passes.now c.in-Some.first.now c.in-Some.rest.now c.in-Some.ensures.cases.0 c.args.f.now c.args.subs.now
     c.run_pass.new.f c.run_pass.new.subs c.run_passes.new.f c.run_passes.new.subs c.args.reserve.now c.in_ok-losses-in-Some.losses
-    c.in_ok-later-in-Some.later c.extend_from_slice.new.self joined c.in_ok-losses-in-Some.ensures.steps c.in_ok-later-in-Some.ensures.steps
+    c.in_ok-later-in-Some.later c.extend_from_slice.new.self joined c.in_ok-losses-in-Some.ensures.told c.in_ok-later-in-Some.ensures.told
 
 pub returns-in_ok-extend_from_slice-in-Some-clause-growth :
     goal.returns-in_ok-extend_from_slice-in-Some-clause-growth

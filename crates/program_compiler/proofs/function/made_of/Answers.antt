@@ -1,10 +1,8 @@
 use Rattle.std.proofs.Common.{◌≡◌, ◌+◌, drop, List, [], sym, subst}
 use Rattle.std.proofs.lemmas.List.{drop_all}
 use Rattle.follow_law.specs.declared.loss.Loss.{Loss}
-use Rattle.follow_law.specs.Steps.{Step}
 use Rattle.function_emit.specs.declared.emit.Made.{Made}
 use Rattle.mir_parser.specs.declared.closing.Parsed.{Parsed}
-use Rattle.pass_loop.specs.Passes.{steps_of}
 use Rattle.source_lines.proofs.Split.{split_at}
 use Rattle.program_compiler.proofs.Behind.{SoFar, begins, more, all_made}
 use Rattle.program_compiler.proofs.function.made_of.Goals as goal
@@ -18,25 +16,28 @@ loop-source-init c =
     let functions = sym c.new-3.ensures in
     let codes = sym c.new-4.ensures in
     let is : begun ≡ made = λ i. record { text = text i; lists = lists i; functions = functions i; codes = codes i } in
-    let steps : List Step = steps_of c.args.reserve.now c.args.passes.now in
-    subst (λ (ls : List (List Loss)). SoFar c.args.meta.now steps c.args.functions.now c.args.functions.now ls made) (sym c.new-losses.ensures)
-    (subst (SoFar c.args.meta.now steps c.args.functions.now c.args.functions.now []) is (begins c.args.meta.now steps c.args.functions.now))
+    subst (λ (ls : List (List Loss)). SoFar c.args.meta.now c.args.reserve.now c.args.passes.now c.args.functions.now c.args.functions.now ls made)
+    (sym c.new-losses.ensures)
+    (subst (SoFar c.args.meta.now c.args.reserve.now c.args.passes.now c.args.functions.now c.args.functions.now []) is
+    (begins c.args.meta.now c.args.reserve.now c.args.passes.now c.args.functions.now))
 
 pub loop-source-preserved : goal.loop-source-preserved
 loop-source-preserved c =
-    let steps : List Step = steps_of c.args.reserve.now c.args.passes.now in
-    let P : List Parsed → Type 0 = λ rest. SoFar c.args.meta.now steps c.args.functions.now rest c.loop-source.losses c.loop-source.made in
+    let P : List Parsed → Type 0 = λ rest. SoFar c.args.meta.now c.args.reserve.now c.args.passes.now c.args.functions.now rest c.loop-source.losses
+    c.loop-source.made in
     let split = split_at c.args.functions.now c.loop-source.source-index c.source-item.result c.loop-source-test.true c.source-item.is in
     let so = subst P split c.loop-source.invariant in
     let one = c.in_ok-lost.ensures.pushed in
-    subst (λ (ls : List (List Loss)). SoFar c.args.meta.now steps c.args.functions.now (drop (c.loop-source.source-index + 1) c.args.functions.now) ls
+    subst (λ (ls : List (List Loss)). SoFar c.args.meta.now c.args.reserve.now c.args.passes.now c.args.functions.now
+    (drop (c.loop-source.source-index + 1) c.args.functions.now) ls
     c.push_source.new.made) (sym c.in_ok-push.ensures.ok)
-    (more c.args.meta.now one.passed c.loop-source.made c.push_source.new.made one.pushed steps _ _ c.source-item.result c.loop-source.losses
+    (more c.args.meta.now one.passed c.loop-source.made c.push_source.new.made one.pushed c.args.reserve.now c.args.passes.now _ _ c.source-item.result
+    c.loop-source.losses
     c.in_ok-lost.lost one.source one.compilable one.lost so)
 
 pub returns-clause-made : goal.returns-clause-made
 returns-clause-made c =
-    let steps : List Step = steps_of c.args.reserve.now c.args.passes.now in
-    let P : List Parsed → Type 0 = λ rest. SoFar c.args.meta.now steps c.args.functions.now rest c.loop-source.losses c.loop-source.made in
+    let P : List Parsed → Type 0 = λ rest. SoFar c.args.meta.now c.args.reserve.now c.args.passes.now c.args.functions.now rest c.loop-source.losses
+    c.loop-source.made in
     let so = subst P (drop_all c.loop-source.source-index c.args.functions.now c.loop-source-test.false) c.loop-source.invariant in
-    all_made _ _ _ _ _ so
+    all_made _ _ _ _ _ _ so

@@ -4,6 +4,7 @@ use Rattle.function_emit.specs.declared.emit.EmitError.{EmitError}
 use Rattle.function_emit.specs.declared.emit.EmitError.TheVariants as emitting
 use Rattle.program_compiler.specs.declared.compile.CompileError.TheVariants as compiling
 use Rattle.program_compiler.specs.steps.Fault.{of_emit}
+use Rattle.function_passes.proofs.AfterPasses.{made_by}
 use Rattle.function_passes.specs.Passed.{passed_of}
 use Rattle.program_compiler.proofs.function.push_source.Goals as goal
 
@@ -38,6 +39,6 @@ returns-in_err-push_function-clause-too_large c is =
     record {
       passed = passed_of c.args.source.now c.in_ok-passed.passed.function c.in_ok-passed.passed.substitutions;
       source = refl;
-      made = record { losses = c.in_ok-passed.passed.losses; kept = c.in_ok-passed.ensures.made };
+      made = made_by _ _ _ _ c.in_ok-passed.ensures.made;
       large = c.in_err-push_function.ensures.too_large (ap (λ (e : EmitError). Err e) why);
     }

@@ -2,10 +2,10 @@ use Rattle.std.proofs.Common.{ℕ, List, IfOk, sym, subst}
 use Rattle.follow_law.specs.Change.{change}
 use Rattle.follow_law.specs.Steps.{KeepsSteps}
 use Rattle.pass_list.specs.declared.kind.PassKind.{PassKind}
-use Rattle.pass_list.specs.declared.kind.PassKind.TheVariants.{Copy, Remat, Spill, Fold}
+use Rattle.pass_list.specs.declared.kind.PassKind.TheVariants.{Copy, Remat, Spill, Dead, Fold}
 use Rattle.pass_loop.specs.Passes.{steps_of_pass}
 use Rattle.pass_loop.proofs.Passes.{pass_shown}
-use Rattle.pass_loop.proofs.run.run_pass.Goals as goal
+use Rattle.pass_loop.proofs.run.run_by_kind.Goals as goal
 
 pub returns-in-Copy-clause-shown : goal.returns-in-Copy-clause-shown
 returns-in-Copy-clause-shown c =
@@ -15,6 +15,11 @@ pub returns-in-Remat-clause-shown : goal.returns-in-Remat-clause-shown
 returns-in-Remat-clause-shown c =
     pass_shown c.args.reserve.now Remat c.run-in-Remat.result (change c.args.f.now c.args.subs.now c.run-in-Remat.new.f c.run-in-Remat.new._subs)
     c.run-in-Remat.ensures.steps
+
+pub returns-in-Dead-clause-shown : goal.returns-in-Dead-clause-shown
+returns-in-Dead-clause-shown c =
+    pass_shown c.args.reserve.now Dead c.run-in-Dead.result (change c.args.f.now c.args.subs.now c.run-in-Dead.new.f c.run-in-Dead.new.subs)
+    c.run-in-Dead.ensures.steps
 
 pub returns-in-Fold-clause-shown : goal.returns-in-Fold-clause-shown
 returns-in-Fold-clause-shown c =
