@@ -2,7 +2,6 @@
 
 ghost use Rattle.std.specs.Prelude.{◌≡◌, ◌++◌, ◌+◌, ◌<◌, ◌≤◌, ◌^◌, length, take, true, OnOk};
 ghost use Rattle.rv64_instr.specs.Row.{row_of};
-ghost use Rattle.mir_meaning.specs.Align.{position_of};
 ghost use Rattle.salvage.specs.Way.{way};
 ghost use Rattle.salvage.specs.Salvage.{entries_for, fresh_after};
 ghost use Rattle.dead_copies.specs.Off.{copied_by, numbered_copy, without_number, phi_off, lost_off, items_off};
@@ -12,7 +11,8 @@ use crate::verdicts::verdict;
 use follow_law::loss::{Loss, Lost, Reason};
 use mir_func::item::{Item, ItemKind};
 use mir_func::location::Loc;
-use mir_func::position::{Origin, Pos};
+use mir_func::position::Origin;
+use mir_meaning::align::position_of;
 use numbers::code::DebugNumber;
 use rv64_instr::decoded::Decoded;
 use rv64_instr::instr::Instr;
@@ -201,15 +201,7 @@ fn phi_off(copied: Copied, origin: &Origin) -> Item
     };
     Item {
         kind: ItemKind::Phi(place, copied.number),
-        origin: Origin::Before(position_of(origin)),
+        origin: Origin::Before(position_of(*origin)),
         loc: Loc::Absent,
-    }
-}
-
-fn position_of(origin: &Origin) -> Pos
-    ensures { result ≡ position_of origin.now }
-{
-    match origin {
-        Origin::Kept(p) | Origin::Before(p) => *p,
     }
 }

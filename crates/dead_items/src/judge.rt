@@ -4,6 +4,7 @@ ghost use Rattle.std.specs.Prelude.{◌≡◌, ◌<◌, All, length, slice_index
 ghost use Rattle.rv64_instr.specs.Row.{row_of};
 ghost use Rattle.mir_func.specs.Sound.{SlotsIn, ids_of};
 ghost use Rattle.live_flow.specs.Sets.{has};
+ghost use Rattle.live_flow.specs.Liveness.{AreLiveSets};
 ghost use Rattle.dead_code.specs.Dead.{is_dead_row, is_dead};
 ghost use Rattle.rv64_instr.specs.Parts.{defines_of};
 ghost use Rattle.rv64_instr.specs.declared.place.Place.TheVariants.{Register};
@@ -21,16 +22,16 @@ use std::alloc::{AllocError, Global};
 
 /// For each block of a function whether each of its items is dead code, where the places that are live at the block's
 /// end are needed there.
-pub fn judge(alloc: Global, f: &Func) -> Result<List<List<bool>>, AllocError>
+pub fn judge(alloc: Global, f: &Func, live: &Live) -> Result<List<List<bool>>, AllocError>
+    requires { AreLiveSets f.now live.now }
     ensures { IfOk result (AreJudged f.now) }
 {
-    let live = Live::solve(alloc, f)?;
     let mut dead = List::new(alloc);
     for block in 0..f.blocks.len() {
         let mut needed = live.past_block(f, block);
         dead.push(judge_items(
             alloc,
-            &live,
+            live,
             f.blocks.as_slice()[block].items.as_slice(),
             &mut needed,
         )?)?;

@@ -2,6 +2,7 @@
 
 use crate::text::function_of;
 use dead_items::judge::judge;
+use live_flow::live::Live;
 use std::alloc::{AllocError, Global};
 use std::test::Fail;
 
@@ -9,7 +10,8 @@ use std::test::Fail;
 fn verdicts(alloc: Global, stack: &str, body: &str) -> Result<String, Fail> {
     let parts = ["---\nname: f\n", stack, "body: |\n", body, "...\n"];
     let parsed = function_of(alloc, parts.as_slice())?;
-    let dead = judge(alloc, &parsed.func)?;
+    let live = Live::solve(alloc, &parsed.func)?;
+    let dead = judge(alloc, &parsed.func, &live)?;
     Ok(shown(alloc, dead.as_slice())?)
 }
 

@@ -3,7 +3,6 @@
 ghost use Rattle.std.specs.Prelude.{◌≡◌, ◌++◌, map, cond, Some, None, All, IfOk, OnOk, option_to_list};
 ghost use Rattle.mir_func.specs.declared.item.ItemKind.TheVariants.{Mark, Phi};
 ghost use Rattle.mir_func.specs.Sound.{SlotsIn};
-ghost use Rattle.mir_meaning.specs.Align.{position_of};
 ghost use Rattle.live_flow.specs.Sets.{has};
 ghost use Rattle.dead_code.specs.Dead.{Ends};
 ghost use Rattle.dead_code.specs.Wrong.{silenced, silenced_block};
@@ -19,8 +18,9 @@ use live_flow::set::PlaceSet;
 use mir_func::block::Block;
 use mir_func::func::Func;
 use mir_func::item::{Item, ItemKind};
-use mir_func::position::{Origin, Pos};
+use mir_func::position::Origin;
 use mir_func::variable::{MarkValue, VarId};
+use mir_meaning::align::position_of;
 use numbers::code::DebugNumber;
 use rv64_instr::place::Place;
 use std::alloc::{AllocError, Global};
@@ -233,13 +233,4 @@ fn tell_where(
         lost.push(Loss { what, reason })?;
     }
     Ok(())
-}
-
-/// The position of the source that an origin names.
-fn position_of(origin: Origin) -> Pos
-    ensures { result ≡ position_of origin }
-{
-    match origin {
-        Origin::Kept(p) | Origin::Before(p) => p,
-    }
 }

@@ -3,6 +3,7 @@
 ghost use Rattle.std.specs.Prelude.{◌≡◌, ◌++◌, List, IfOk};
 ghost use Rattle.std.specs.List.{list_any};
 ghost use Rattle.follow_law.specs.declared.loss.Loss.{Loss as IsLoss};
+ghost use Rattle.live_flow.specs.Liveness.{AreLiveSets};
 ghost use Rattle.dead_left.specs.Round.{IsTakenOut};
 
 use crate::left::left_blocks;
@@ -10,6 +11,7 @@ use dead_items::judge::judge;
 use dead_places::places::WrongPlaces;
 use follow_law::loss::Loss;
 use lists::List;
+use live_flow::live::Live;
 use mir_func::func::Func;
 use std::alloc::{AllocError, Global};
 use type_facts::blocks::know_forms;
@@ -18,12 +20,18 @@ use type_facts::blocks::know_forms;
 /// that are wrong without it give nothing. What is lost is appended to `lost`, in the order of the text, also the
 /// number of a copy: its caller gives it to other code first. Tells whether there was dead code; where there was none
 /// the function stays as it is, and nothing is lost. After an error the function is as it was.
-pub fn take_out_dead(alloc: Global, f: &mut Func, lost: &mut Vec<Loss>) -> Result<bool, AllocError>
+pub fn take_out_dead(
+    alloc: Global,
+    f: &mut Func,
+    live: &Live,
+    lost: &mut Vec<Loss>,
+) -> Result<bool, AllocError>
+    requires { AreLiveSets f.old live.now }
     ensures { IfOk result (λ any. (here : List IsLoss) × (lost.new.items ≡ lost.old.items ++ here)
         × IsTakenOut f.old f.new here any) }
 {
     know_forms(f.blocks.as_slice());
-    let dead = judge(alloc, f)?;
+    let dead = judge(alloc, f, live)?;
     if !has_dead(dead.as_slice()) {
         return Ok(false);
     }

@@ -1,4 +1,5 @@
 mod SameCode
 pub mod Follows
+mod Live
 mod Losses
 mod Made

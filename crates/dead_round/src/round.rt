@@ -11,6 +11,7 @@ use dead_items::judge::judge;
 use dead_left::round::{has_dead, take_out_dead};
 use follow_law::loss::{Loss, Losses};
 use lists::List;
+use live_flow::live::Live;
 use loss_order::order::put_in_order;
 use mir_func::block::{Blocks, copy_blocks};
 use mir_func::func::Func;
@@ -31,12 +32,13 @@ pub fn dead_round(
     ensures sound { IsSound f.old }
 {
     let _ = &f.blocks;
-    let dead = judge(alloc, f)?;
+    let live = Live::solve(alloc, f)?;
+    let dead = judge(alloc, f, &live)?;
     if !has_dead(dead.as_slice()) {
         return Ok(None);
     }
     let mut lost = copies_off(alloc, f, dead.as_slice(), subs)?;
-    take_out_dead(alloc, f, &mut lost)?;
+    take_out_dead(alloc, f, &live, &mut lost)?;
     put_in_order(&mut lost);
     Ok(Some(List::from(lost)))
 }

@@ -3,7 +3,6 @@
 ghost use Rattle.std.specs.Prelude.{◌≡◌, ◌++◌, ◌∷◌, [], ◌↔◌, ℕ, IfOk, OnOk, Contains, nat_eq};
 ghost use Rattle.std.specs.HashSet.{contains};
 ghost use Rattle.std.specs.List.{cons_option};
-ghost use Rattle.mir_meaning.specs.Align.{position_of};
 ghost use Rattle.follow_law.specs.declared.loss.Loss.{Loss};
 ghost use Rattle.follow_law.specs.Order.{IsInOrder};
 ghost use Rattle.fold_ways.specs.Leads.{lead};
@@ -15,7 +14,7 @@ use follow_law::loss::{Loss, Losses, Lost, Reason};
 use kill_code::bypassed::{OldWays, end_past};
 use mir_func::block::Block;
 use mir_func::item::{Item, ItemKind};
-use mir_func::position::{Origin, Pos};
+use mir_meaning::align::position_of;
 use numbers::code::BlockId;
 use std::alloc::{AllocError, Global};
 
@@ -94,15 +93,6 @@ fn push_one(what: Lost, reason: Reason, losses: &mut Vec<Loss>) -> Result<(), Al
 {
     losses.push(Loss { what, reason })?;
     Ok(())
-}
-
-/// The position from which an item comes, or before which it was added.
-fn position_of(origin: Origin) -> Pos
-    ensures { result ≡ position_of origin }
-{
-    match origin {
-        Origin::Kept(p) | Origin::Before(p) => p,
-    }
 }
 
 /// Whether it is said of blocks that aren't reached.

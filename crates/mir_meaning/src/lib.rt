@@ -4,5 +4,6 @@
 //! functions is proved of these definitions. They never look at opcodes or operand lists, only at rows.
 #![tactic(auto)]
 
+pub mod align;
 pub mod laws;
 pub mod operand;

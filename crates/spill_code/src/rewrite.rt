@@ -15,6 +15,7 @@ use mir_func::block::{Block, Blocks};
 use mir_func::item::{Item, ItemKind, Items};
 use mir_func::location::Loc;
 use mir_func::position::{Origin, Pos};
+use mir_meaning::align::position_of;
 use numbers::code::DebugNumber;
 use rv64_instr::instr::Instr;
 use rv64_instr::place::Place;
@@ -139,14 +140,6 @@ fn push_code(
     match first_defined(s.homes.as_slice(), code.operands.as_slice()) {
         None => Ok(()),
         Some(slot) => push_store(alloc, below(p), s.first, slot, made),
-    }
-}
-
-fn position_of(origin: Origin) -> Pos
-    ensures { result ≡ position_of origin }
-{
-    match origin {
-        Origin::Kept(position) | Origin::Before(position) => position,
     }
 }
 

@@ -1,7 +1,6 @@
 //! Marks and phis of blocks whose registers live in slots.
 
 ghost use Rattle.std.specs.Prelude.{◌≡◌, ◌++◌, ◌+◌, ◌<◌, ◌^◌, Some, IfOk, OnOk};
-ghost use Rattle.mir_meaning.specs.Align.{position_of};
 ghost use Rattle.follow_law.specs.Rule.{item, item_before, first_operand};
 ghost use Rattle.spill_code.specs.Rewrite.{slot_of};
 ghost use Rattle.spill_marks.specs.Asked.{is_scratch, is_scratch_place, value_left, place_left, phi_and_mark};
@@ -12,8 +11,9 @@ use mir_func::block::{Block, Blocks};
 use mir_func::entry::OperandPair;
 use mir_func::item::{Item, ItemKind, Items};
 use mir_func::location::Loc;
-use mir_func::position::{Origin, Pos};
+use mir_func::position::Origin;
 use mir_func::variable::{MarkValue, VarId};
+use mir_meaning::align::position_of;
 use numbers::code::{DebugNumber, OperandIndex};
 use rv64_instr::place::Place;
 use rv64_instr::reg::Reg;
@@ -142,7 +142,7 @@ fn phi_of(number: u32, r: Reg, origin: &Origin) -> Item
 {
     Item {
         kind: ItemKind::Phi(Some(Place::Register(r)), DebugNumber(number)),
-        origin: Origin::Before(position_of(origin)),
+        origin: Origin::Before(position_of(*origin)),
         loc: Loc::Absent,
     }
 }
@@ -159,14 +159,6 @@ fn mark_of(number: u32, v: &VarId, origin: Origin, loc: Loc) -> Item
         kind: ItemKind::Mark(*v, MarkValue::Pair(pair)),
         origin,
         loc,
-    }
-}
-
-fn position_of(origin: &Origin) -> Pos
-    ensures { result ≡ position_of origin.now }
-{
-    match origin {
-        Origin::Kept(position) | Origin::Before(position) => *position,
     }
 }
 

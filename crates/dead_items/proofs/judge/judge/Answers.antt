@@ -26,12 +26,12 @@ loop-block-preserved c =
     let at = get_at f.blocks i b within is in
     let id = id_is f.blocks i b at in
     let judged : JudgedBlock f b c.in_ok-judge_items.field-0 = record {
-      needed = has c.in_ok-live.live.slots c.past_block-needed.result;
-      live = λ x. subst (λ (n : ℕ). (has c.in_ok-live.live.slots c.past_block-needed.result x ≡ true) ↔ LiveAtEnd f n x) id
+      needed = has c.args.live.now.slots c.past_block-needed.result;
+      live = λ x. subst (λ (n : ℕ). (has c.args.live.now.slots c.past_block-needed.result x ≡ true) ↔ LiveAtEnd f n x) id
           (c.past_block-needed.ensures x false (λ q. None));
       is = c.in_ok-judge_items.ensures ∙
-          ap (λ (is : List Item). verdicts is (has c.in_ok-live.live.slots c.past_block-needed.result)) c.as_slice-in-loop-block.ensures ∙
-          ap (λ (z : Block). verdicts z.items (has c.in_ok-live.live.slots c.past_block-needed.result)) (sym c.index-as_slice-block.is);
+          ap (λ (is : List Item). verdicts is (has c.args.live.now.slots c.past_block-needed.result)) c.as_slice-in-loop-block.ensures ∙
+          ap (λ (z : Block). verdicts z.items (has c.args.live.now.slots c.past_block-needed.result)) (sym c.index-as_slice-block.is);
     } in
     let more : JudgedBlocks f (take i f.blocks ++ b ∷ []) (c.loop-block.dead ++ c.in_ok-judge_items.field-0 ∷ []) =
     one_more c.loop-block.invariant b c.in_ok-judge_items.field-0 judged in
