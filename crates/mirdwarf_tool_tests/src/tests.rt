@@ -321,6 +321,17 @@ block 0
 00000018 =0.3 PseudoRET implicit $x10
 ";
 
+/// A variable that asks for a register that only a copy sets, which is dead; another one stays in its register.
+const SILENCED: &str = "body: |
+  bb.0:
+    DBG_VALUE $x11, $noreg, !4, !DIExpression()
+    $x12 = COPY $x10, debug-instr-number 1
+    DBG_PHI $x12, 2
+    DBG_INSTR_REF !7, !DIExpression(DW_OP_LLVM_arg, 0), dbg-instr-ref(2, 0)
+    $x10 = ADDI $x0, 0
+    PseudoRET implicit $x10
+";
+
 /// Lists of passes, a function and the listing after them.
 const PASSED: [(&[&str], &str, &str); 5] = [
     (&["listing", "--passes=remat"], LOADED, SET_AGAIN),
@@ -336,7 +347,7 @@ const PASSED: [(&[&str], &str, &str); 5] = [
 
 /// Runs of a function whose variable is replaced, of one behind another, and of one after a pass; names that no
 /// function has; and reports.
-const TOLD: [(&[&str], &str, Ending<'static>); 10] = [
+const TOLD: [(&[&str], &str, Ending<'static>); 11] = [
     (
         &["run", "f", "9", "--args=5,6", "--passes=none"],
         REPLACED,
@@ -391,6 +402,15 @@ const TOLD: [(&[&str], &str, Ending<'static>); 10] = [
         &["report", "--passes=copy"],
         COPIED,
         (0, "function f\nwords 4\ncover s 2 of 4\n", ""),
+    ),
+    (
+        &["report"],
+        SILENCED,
+        (
+            0,
+            "function f\nwords 2\ncover n 2 of 2\ncover s 0 of 2\nlost number 2 wrong-place\n",
+            "",
+        ),
     ),
     (&["report", "--passes=none"], LARGE, FRAME),
 ];

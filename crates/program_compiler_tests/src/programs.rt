@@ -210,6 +210,56 @@ fn registers_live_in_slots(rt: HostRuntime) -> Result<(), Fail> {
     Ok(())
 }
 
+/// A copy in a loop whose number a mark behind the loop asks for, with a mark of it between: it leaves a phi, and the
+/// mark between, on the way in, gives nothing. And a phi of a register that only a dead copy sets. With the lists behind.
+const DEAD: [(&str, &[u8], &[u8]); 2] = [
+    (
+        "body: |
+  bb.0:
+    $x12 = ADDI $x0, 0
+  bb.1:
+    $x11 = ADD $x11, $x10, debug-instr-number 1
+    DBG_INSTR_REF !4, !DIExpression(DW_OP_LLVM_arg, 0), dbg-instr-ref(2, 0)
+    $x12 = COPY $x11, debug-instr-number 2
+    BNE $x11, $x13, %bb.1
+  bb.2:
+    DBG_INSTR_REF !6, !DIExpression(DW_OP_LLVM_arg, 0), dbg-instr-ref(2, 0)
+    PseudoRET implicit $x11
+...
+",
+        b"\xb3\x85\xa5\x00\xe3\x9e\xd5\xfe\x67\x80\x00\x00",
+        b"\x08\x00\x00\x00\x09\x00\x00\x00\x00\x04\x08\x0c\x01\x5b\x00",
+    ),
+    (
+        "body: |
+  bb.0:
+    DBG_VALUE $x11, $noreg, !6, !DIExpression()
+    $x12 = COPY $x10, debug-instr-number 1
+    DBG_PHI $x12, 2
+    DBG_INSTR_REF !4, !DIExpression(DW_OP_LLVM_arg, 0), dbg-instr-ref(2, 0)
+    $x10 = ADDI $x0, 0
+    PseudoRET implicit $x10
+...
+",
+        b"\x13\x05\x00\x00\x67\x80\x00\x00",
+        b"\x08\x00\x00\x00\x0e\x00\x00\x00\x04\x00\x08\x01\x5b\x00\x00",
+    ),
+];
+
+#[test]
+fn dead_code_goes(rt: HostRuntime) -> Result<(), Fail> {
+    let alloc = rt.alloc();
+    for (body, code, lists) in DEAD {
+        let mut text = String::from_str(alloc, HEADER)?;
+        text.push_str(body)?;
+        let program = program(alloc, text.as_str())?;
+        let output = compile(alloc, &program, &[PassKind::Dead], &[])?.output;
+        assert_eq!(rt; output.text.as_slice(), code);
+        assert!(rt; output.loclists.as_slice().ends_with(lists));
+    }
+    Ok(())
+}
+
 #[test]
 fn frames_up_to_the_limit(rt: HostRuntime) -> Result<(), Fail> {
     let alloc = rt.alloc();
