@@ -463,7 +463,7 @@ const ENDINGS: [(&[&str], &str, Faulty, Ending<'static>); 18] = [
         NO_FAULT,
         USAGE,
     ),
-    (&["listing"], RETURN, NO_FAULT, USAGE),
+    (&["listing", "--passes="], RETURN, NO_FAULT, USAGE),
     (&["strip", "--passes=none"], RETURN, NO_FAULT, USAGE),
     (&["gen", "0", "0"], RETURN, NO_FAULT, USAGE),
     (

@@ -1,0 +1,12 @@
+-- Starts that are asked for.
+use Rattle.std.specs.Prelude.{ℕ, ◌<◌, ◌^◌, List, All}
+use Rattle.code_layout.specs.Image.{Image}
+use Rattle.compiled_run.specs.Source.{BeginsAsked}
+use Rattle.mir_func.specs.Function.{Function}
+use Rattle.mir_meaning.specs.State.{State}
+
+-- From arguments and values of 64 bits, and for a number of steps of 64 bits, a run of any function can start, beside which the machine begins on
+-- any image.
+abbrev pub RunsCanStart : Type 0
+RunsCanStart = (source : Function) (image : Image) (arguments values : List ℕ) (limit : ℕ) → All (λ a. a < 2 ^ 64) arguments →
+    All (λ v. v < 2 ^ 64) values → limit < 2 ^ 64 → (s : State) × BeginsAsked source image arguments values limit s

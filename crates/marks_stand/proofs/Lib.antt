@@ -1,0 +1,3 @@
+mod Marks
+mod Order
+pub mod Stand

@@ -1,0 +1,60 @@
+-- Marks stand between the same kept code as in the source.
+use Rattle.std.specs.Prelude.{◌≡◌, ◌↔◌, ℕ, ◌<◌, List, [], ◌∷◌, Contains, Some, slice_get, true}
+use Rattle.mir_func.specs.declared.block.Block.{Block}
+use Rattle.mir_func.specs.declared.item.Item.{Item}
+use Rattle.mir_func.specs.declared.item.ItemKind.TheVariants.{Mark}
+use Rattle.mir_func.specs.declared.position.Origin.TheVariants.{Kept}
+use Rattle.mir_func.specs.declared.position.Pos.{Pos}
+use Rattle.mir_func.specs.declared.variable.MarkValue.{MarkValue}
+use Rattle.mir_func.specs.declared.variable.VarId.{VarId}
+use Rattle.mir_func.specs.Function.{Function}
+use Rattle.mir_meaning.specs.Align.{is_code}
+use Rattle.follow_law.specs.declared.loss.Loss.{Loss}
+use Rattle.follow_law.specs.declared.loss.Reason.{Reason}
+use Rattle.follow_law.specs.Rule.{StandsAt, mark_lost}
+use Rattle.function_passes.specs.Passed.{IsMadeLosing}
+use Rattle.mir_parser.specs.declared.program.Program.{Program}
+use Rattle.output_promise.specs.Source.{PassedFunction, IsPassedFunction}
+use Rattle.pass_list.specs.declared.kind.PassKind.{PassKind}
+use Rattle.program_compiler.specs.declared.compile.Compilation.{Compilation}
+use Rattle.program_compiler.specs.Program.{IsCompilationOf}
+
+-- no loss of the mark that was read at the position is told
+abbrev pub IsUntold : (told : List Loss) → Pos → Type 0
+IsUntold told p = (why : Reason) → Contains told (mark_lost (Kept p) why) → ⊥
+
+-- A mark of the part of a variable, which was read at the position, stands in the function, in the block of the position. Code of this block that
+-- was kept stands before the mark just where it did in the source.
+pub record StandsBetween (f : Function) (p : Pos) (v : VarId) : Type 0 where
+  pub block : Block
+  pub among : Contains f.blocks block
+  pub number : block.id ≡ p.block
+  pub index : ℕ
+  pub mark : Item
+  pub stands : slice_get block.items index ≡ Some mark
+  pub marks : (m : MarkValue) × (mark.kind ≡ Mark v m)
+  pub kept : mark.origin ≡ Kept p
+  pub beside : (k : ℕ) (i : Item) (q : Pos) → slice_get block.items k ≡ Some i → is_code i.kind ≡ true → i.origin ≡ Kept q →
+      (q.block ≡ p.block) × ((k < index) ↔ (q.item < p.item))
+
+-- so stands each mark of the source of which no loss is told
+abbrev pub MarksStandIn : PassedFunction → (told : List Loss) → Type 0
+MarksStandIn p told = (at : Pos) (i : Item) (v : VarId) (m : MarkValue) → StandsAt p.source.function at i → i.kind ≡ Mark v m → IsUntold told at →
+    StandsBetween p.function at v
+
+-- So it is in whatever passes make of a function that was read.
+abbrev pub MarksStand : Type 0
+MarksStand = (reserve : List ℕ) (passes : List PassKind) (p : PassedFunction) (told : List Loss) → IsPassedFunction p →
+    IsMadeLosing reserve passes p told → MarksStandIn p told
+
+-- each of these functions has the marks of its source, but those of which a loss is told
+abbrev pub AllStand : List PassedFunction → (told : List (List Loss)) → Type 0
+AllStand [] [] = Unit {0}
+AllStand [] (l ∷ ls) = ⊥
+AllStand (p ∷ ps) [] = ⊥
+AllStand (p ∷ ps) (l ∷ ls) = MarksStandIn p l × AllStand ps ls
+
+-- So it is in every compilation of a program, of the functions whose code and lists it has.
+abbrev pub CompiledMarksStand : Type 0
+CompiledMarksStand = (reserve : List ℕ) (passes : List PassKind) (p : Program) (c : Compilation) →
+    (is : IsCompilationOf reserve passes p c) → AllStand is.functions c.losses
