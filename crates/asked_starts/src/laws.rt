@@ -2,8 +2,8 @@
 
 ghost use Rattle.asked_starts.specs.Starts.{RunsCanStart};
 
-/// A run of a function can start as it is asked for, whatever its arguments and the values of its calls are: what is said
-/// of a run from every such start is said of one.
+/// A run of a function can start as it is asked for, whatever its arguments and the values of its calls are: what is
+/// said of a run from every such start is said of one.
 pub fn runs_can_start()
     ensures { RunsCanStart }
 {}

@@ -8,7 +8,6 @@ use Rattle.compiled_text.specs.declared.output.ListedFunction.{ListedFunction}
 use Rattle.dwarf_loclists.specs.declared.range.Range.{Range}
 use Rattle.follow_law.specs.declared.loss.Loss.{Loss}
 use Rattle.frame_rule.specs.Rule.{framed_of}
-use Rattle.function_emit.specs.Emitted.{names_of}
 use Rattle.mir_func.specs.declared.variable.VarId.{VarId}
 use Rattle.output_promise.specs.Compiled.{IsCompiledFunction, AreCompiled}
 use Rattle.output_promise.specs.Promise.{variable_lines}
@@ -16,7 +15,7 @@ use Rattle.output_promise.specs.Source.{PassedFunction}
 use Rattle.mir_parser.specs.declared.program.Program.{Program}
 use Rattle.pass_list.specs.declared.kind.PassKind.{PassKind}
 use Rattle.program_compiler.specs.declared.compile.Compilation.{Compilation}
-use Rattle.program_compiler.specs.Program.{AreCoded, AreMadeLosing, IsCompilationOf}
+use Rattle.program_compiler.specs.Program.{AreCoded, AreMadeLosing, IsCompilationOf, names_of}
 use Rattle.unit_entries.specs.Variables.{variables_of_function}
 use Rattle.words_alone.proofs.Settled.{same_layout}
 use Rattle.compiled_report.specs.Reported.{parts_of, variable_count, AreReportedAs, IsReported, CompilationsAreReported}

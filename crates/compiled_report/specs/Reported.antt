@@ -6,14 +6,12 @@ use Rattle.dwarf_loclists.specs.declared.range.Range.{Range}
 use Rattle.dwarf_loclists.specs.Ranges.{Ascend}
 use Rattle.follow_law.specs.declared.loss.Loss.{Loss}
 use Rattle.frame_rule.specs.Rule.{framed_of}
-use Rattle.function_emit.specs.Emitted.{names_of}
-use Rattle.function_passes.specs.Passed.{IsMadeLosing}
 use Rattle.mir_parser.specs.declared.program.Program.{Program}
 use Rattle.output_promise.specs.Compiled.{IsCompiledFunction}
 use Rattle.output_promise.specs.Source.{PassedFunction}
 use Rattle.pass_list.specs.declared.kind.PassKind.{PassKind}
 use Rattle.program_compiler.specs.declared.compile.Compilation.{Compilation}
-use Rattle.program_compiler.specs.Program.{ArePassed, IsCompilationOf}
+use Rattle.program_compiler.specs.Program.{ArePassed, IsCompilationOf, IsMadeLosing, names_of}
 use Rattle.program_report.specs.declared.print.Compiled.{Compiled}
 use Rattle.program_report.specs.ProgramReport.{program_report}
 

@@ -7,7 +7,6 @@ use Rattle.compiled_text.specs.declared.output.ListedVariable.{ListedVariable}
 use Rattle.dwarf_base.specs.Limits.{SECTION_LIMIT}
 use Rattle.dwarf_loclists.specs.declared.range.Range.{Range}
 use Rattle.dwarf_loclists.specs.Ranges.{Ascend, ArePlaces}
-use Rattle.function_emit.specs.Emitted.{names_of}
 use Rattle.mir_func.specs.declared.variable.VarId.{VarId}
 use Rattle.output_promise.proofs.Functions.{words_length}
 use Rattle.output_promise.specs.Compiled.{AreCompiled, bytes_of}
@@ -17,7 +16,7 @@ use Rattle.code_words.specs.Rule.{words_of}
 use Rattle.mir_parser.specs.declared.program.Program.{Program}
 use Rattle.pass_list.specs.declared.kind.PassKind.{PassKind}
 use Rattle.program_compiler.specs.declared.compile.Compilation.{Compilation}
-use Rattle.program_compiler.specs.Program.{AreCoded, IsCompilationOf}
+use Rattle.program_compiler.specs.Program.{AreCoded, IsCompilationOf, names_of}
 use Rattle.unit_entries.specs.Variables.{variables_of_function}
 use Rattle.compiled_report.proofs.Reported.{ends}
 use Rattle.compiled_run.specs.Runs.{CanRun, CompilationsCanRun}

@@ -8,7 +8,6 @@ use Rattle.compiled_text.specs.declared.output.Output.{Output}
 use Rattle.dwarf_loclists.specs.declared.range.Range.{Range}
 use Rattle.dwarf_loclists.specs.Grammar.{IsSection}
 use Rattle.frame_rule.specs.Rule.{framed_of}
-use Rattle.function_emit.specs.Emitted.{names_of}
 use Rattle.machine_layout.specs.Images.{IsImageOf}
 use Rattle.output_promise.proofs.Functions.{IsCompiledIn, compiled_in}
 use Rattle.output_promise.proofs.Headline.{formed}
@@ -20,7 +19,7 @@ use Rattle.pass_list.specs.declared.kind.PassKind.{PassKind}
 use Rattle.program_compiler.proofs.Passed.{all_passed}
 use Rattle.mir_parser.specs.declared.program.Program.{Program}
 use Rattle.program_compiler.specs.declared.compile.Compilation.{Compilation}
-use Rattle.program_compiler.specs.Program.{AreCoded, IsCompilationOf}
+use Rattle.program_compiler.specs.Program.{AreCoded, IsCompilationOf, names_of}
 use Rattle.rv_simulator.specs.Shown.{ShowsCode}
 use Rattle.shown_program.proofs.Images.{image_shown}
 use Rattle.shown_program.specs.Program.{image_of}

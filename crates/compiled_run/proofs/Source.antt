@@ -17,8 +17,6 @@ use Rattle.dwarf_loclists.specs.declared.range.Part.{Part}
 use Rattle.dwarf_loclists.specs.declared.range.Range.{Range}
 use Rattle.dwarf_loclists.specs.Grammar.{IsSection, LocationAt}
 use Rattle.dwarf_loclists.specs.Ranges.{location_in}
-use Rattle.function_emit.specs.Emitted.{names_of}
-use Rattle.function_passes.specs.Passed.{source_of}
 use Rattle.mir_func.specs.declared.variable.VarId.{VarId}
 use Rattle.mir_meaning.specs.Align.{Tells}
 use Rattle.mir_meaning.specs.State.{State}
@@ -30,11 +28,10 @@ use Rattle.output_promise.proofs.Telling.{all_at}
 use Rattle.output_promise.specs.Laws.{AreCompiledTo}
 use Rattle.output_promise.specs.Promise.{Gives, IsLaidOut, AreLaidOut, MeetsHeadline, Promises}
 use Rattle.output_promise.specs.Source.{SourceFunction, OfEach, sources_among}
-use Rattle.pass_loop.specs.Passes.{steps_of}
 use Rattle.pass_list.specs.declared.kind.PassKind.{PassKind}
 use Rattle.program_compiler.proofs.Passed.{all_passed, passed_sources}
 use Rattle.program_compiler.specs.declared.compile.Compilation.{Compilation}
-use Rattle.program_compiler.specs.Program.{sources_of, IsCompilationOf, IsOutputOf}
+use Rattle.program_compiler.specs.Program.{sources_of, IsCompilationOf, IsOutputOf, steps_of, source_of, names_of}
 use Rattle.run_lines.specs.Variables.{variable_of}
 use Rattle.rv_simulator.specs.Shown.{ShowsCode}
 use Rattle.shown_program.specs.Program.{image_of}

@@ -12,7 +12,6 @@ use Rattle.dwarf_loclists.specs.declared.range.Range.{Range}
 use Rattle.dwarf_loclists.specs.Grammar.{IsSection}
 use Rattle.dwarf_loclists.specs.Ranges.{location_in}
 use Rattle.follow_law.specs.Steps.{Step}
-use Rattle.function_passes.specs.Passed.{source_of}
 use Rattle.mir_func.specs.declared.variable.VarId.{VarId}
 use Rattle.mir_func.specs.Function.{Function}
 use Rattle.mir_func.specs.Graph.{Program as Graph, program_of}
@@ -23,9 +22,8 @@ use Rattle.mir_parser.specs.declared.closing.Parsed.{Parsed}
 use Rattle.mir_parser.specs.declared.program.Program.{Program}
 use Rattle.output_promise.specs.Source.{SourceFunction}
 use Rattle.pass_list.specs.declared.kind.PassKind.{PassKind}
-use Rattle.pass_loop.specs.Passes.{steps_of}
 use Rattle.program_compiler.specs.declared.compile.Compilation.{Compilation}
-use Rattle.program_compiler.specs.Program.{IsCompilationOf, IsOutputOf}
+use Rattle.program_compiler.specs.Program.{IsCompilationOf, IsOutputOf, steps_of, source_of}
 use Rattle.run_answer.specs.Asked.{start_register, replies}
 use Rattle.run_lines.specs.Run.{IsRunText}
 use Rattle.run_lines.specs.Variables.{variable_of}

@@ -11,7 +11,7 @@ use Rattle.mir_func.specs.Function.{Function}
 use Rattle.mir_parser.specs.declared.closing.Parsed.{Parsed}
 use Rattle.output_promise.specs.Source.{SourceFunction, PassedFunction, IsPassedFunction}
 use Rattle.pass_list.specs.declared.kind.PassKind.{PassKind}
-use Rattle.pass_loop.specs.Passes.{passes_of}
+pub use Rattle.pass_loop.specs.Passes.{steps_of, passes_of}
 use Rattle.pass_loop.specs.Told.{KeepsPasses}
 
 -- how many items a function has at most after passes

@@ -24,8 +24,7 @@ use Rattle.meta_reader.specs.Maps.{Maps}
 use Rattle.mir_parser.specs.declared.closing.Parsed.{Parsed}
 use Rattle.output_promise.specs.Source.{PassedFunction}
 use Rattle.pass_list.specs.declared.kind.PassKind.{PassKind}
-use Rattle.pass_loop.specs.Passes.{passes_of}
-use Rattle.program_compiler.specs.Program.{ArePassed, AreMadeLosing}
+use Rattle.program_compiler.specs.Program.{ArePassed, AreMadeLosing, passes_of}
 use Rattle.marks_stand.specs.Stand.{StandsBetween, MarksStand, AllStand, CompiledMarksStand}
 use Rattle.marks_stand.proofs.Marks.{IsMark, HaveMark, passes_keep}
 use Rattle.marks_stand.proofs.Order.{at_least, kept_later}

@@ -12,12 +12,11 @@ use Rattle.mir_meaning.specs.Align.{is_code}
 use Rattle.follow_law.specs.declared.loss.Loss.{Loss}
 use Rattle.follow_law.specs.declared.loss.Reason.{Reason}
 use Rattle.follow_law.specs.Rule.{StandsAt, mark_lost}
-use Rattle.function_passes.specs.Passed.{IsMadeLosing}
 use Rattle.mir_parser.specs.declared.program.Program.{Program}
 use Rattle.output_promise.specs.Source.{PassedFunction, IsPassedFunction}
 use Rattle.pass_list.specs.declared.kind.PassKind.{PassKind}
 use Rattle.program_compiler.specs.declared.compile.Compilation.{Compilation}
-use Rattle.program_compiler.specs.Program.{IsCompilationOf}
+use Rattle.program_compiler.specs.Program.{IsCompilationOf, IsMadeLosing}
 
 -- no loss of the mark that was read at the position is told
 abbrev pub IsUntold : (told : List Loss) → Pos → Type 0

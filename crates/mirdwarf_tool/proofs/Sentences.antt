@@ -14,8 +14,7 @@ use Rattle.output_promise.specs.Laws.{AreCompiledTo}
 use Rattle.output_promise.specs.Promise.{Promises, IsExactFor, IsExact}
 use Rattle.output_promise.specs.Source.{SourceFunction, sources_among}
 use Rattle.shown_program.specs.Program.{program_shown}
-use Rattle.function_emit.specs.Emitted.{names_of}
-use Rattle.program_compiler.specs.Program.{sources_of, IsOutputOf}
+use Rattle.program_compiler.specs.Program.{sources_of, IsOutputOf, names_of}
 use Rattle.program_compiler.proofs.Passed.{all_passed, passed_sources}
 use Rattle.reading_laws.specs.Read.{IsReadProgram}
 use Rattle.mirdwarf_tool.specs.Compiled.{IsCompiledText}

@@ -26,9 +26,7 @@ use Rattle.mirdwarf_tool.specs.Answer.{HasFunctions, IsReader, AnswersText, IsAn
 use Rattle.output_promise.specs.Promise.{AreLaidOut, Promises, IsExact, ListsPassed}
 use Rattle.output_promise.specs.Source.{PassedFunction}
 use Rattle.output_promise.specs.Words.{HaveWords}
-use Rattle.function_emit.specs.Emitted.{names_of}
-use Rattle.function_passes.specs.Passed.{IsMadeBy}
-use Rattle.program_compiler.specs.Program.{sources_of, ArePassed, HasSections}
+use Rattle.program_compiler.specs.Program.{sources_of, ArePassed, HasSections, IsMadeBy, names_of}
 use Rattle.mirdwarf_tool.specs.Lines.{GivesLines}
 use Rattle.mirdwarf_tool.specs.Promise.{AllGiveBack, AllStopWell, AllListKept}
 use Rattle.mirdwarf_tool.specs.Stream.{Change, MetFault, IsUnread, IsReadWhole, IsReadFor, IsWrittenWhole, IsWrittenInPart, IsTold}

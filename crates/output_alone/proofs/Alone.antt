@@ -8,14 +8,11 @@ use Rattle.compiled_alone.proofs.Compiled.{same_text}
 use Rattle.follow_law.specs.Change.{change}
 use Rattle.follow_law.specs.Steps.{Step, MakeCodeAlone}
 use Rattle.frames_alike.specs.Alike.{HaveAlikeCode}
-use Rattle.function_emit.specs.Emitted.{names_of}
-use Rattle.function_passes.specs.Passed.{IsMadeBy, source_of}
 use Rattle.meta_reader.specs.Maps.{Maps}
 use Rattle.mir_parser.specs.declared.closing.Parsed.{Parsed}
 use Rattle.output_promise.specs.Source.{PassedFunction, SourceFunction}
-use Rattle.pass_loop.specs.Passes.{steps_of}
 use Rattle.passes_alone.proofs.Passed.{passes_alone}
-use Rattle.program_compiler.specs.Program.{ArePassed}
+use Rattle.program_compiler.specs.Program.{ArePassed, steps_of, IsMadeBy, source_of, names_of}
 use Rattle.text_alone.specs.Text.{OneByOne}
 use Rattle.output_alone.specs.Alone.{AreReadAlike, OutputsOfAlikeCode}
 

@@ -5,8 +5,7 @@ use Rattle.frames_alike.specs.Alike.{HaveAlikeCode}
 use Rattle.mir_parser.specs.declared.closing.Parsed.{Parsed}
 use Rattle.mir_parser.specs.declared.program.Program.{Program}
 use Rattle.pass_list.specs.declared.kind.PassKind.{PassKind}
-use Rattle.pass_loop.specs.Passes.{steps_of}
-use Rattle.program_compiler.specs.Program.{IsOutputOf}
+use Rattle.program_compiler.specs.Program.{IsOutputOf, steps_of}
 use Rattle.text_alone.specs.Text.{OneByOne}
 
 -- two functions that were read have alike code

@@ -23,9 +23,7 @@ use Rattle.output_promise.specs.Compiled.{bytes_of, IsCompiledFunction, AreCompi
 use Rattle.output_promise.specs.Promise.{variable_lines}
 use Rattle.output_promise.proofs.Functions.{words_length}
 use Rattle.output_promise.specs.Source.{SourceFunction, PassedFunction}
-use Rattle.function_emit.specs.Emitted.{names_of}
-use Rattle.function_passes.specs.Passed.{source_of, IsCompilable}
-use Rattle.program_compiler.specs.Program.{ArePassed}
+use Rattle.program_compiler.specs.Program.{ArePassed, source_of, IsCompilable, names_of}
 use Rattle.reading_laws.specs.Read.{LocationsAreLimited, IsReadFunction}
 use Rattle.unit_entries.specs.Variables.{variables_of_function}
 use Rattle.output_laws.specs.Laws.{OutputsArePrintable}

@@ -30,9 +30,7 @@ use Rattle.output_promise.proofs.Framing.{forms_framed}
 use Rattle.output_promise.proofs.Functions.{words_length}
 use Rattle.output_promise.specs.Source.{SourceFunction, PassedFunction}
 use Rattle.program_compiler.proofs.Passed.{passed_functions, passed_at}
-use Rattle.function_emit.specs.Emitted.{names_of}
-use Rattle.function_passes.specs.Passed.{source_of, IsCompilable}
-use Rattle.program_compiler.specs.Program.{ArePassed, AreCoded, HaveCode}
+use Rattle.program_compiler.specs.Program.{ArePassed, AreCoded, HaveCode, source_of, IsCompilable, names_of}
 use Rattle.source_lines.specs.declared.compiled.Compiled.{Compiled}
 use Rattle.source_lines.specs.declared.file.SourceFile.{SourceFile}
 use Rattle.source_lines.specs.Files.{unit_file}

@@ -6,8 +6,7 @@ use Rattle.listing_laws.specs.Laws.{inlined_in}
 use Rattle.mir_parser.specs.declared.program.Program.{Program}
 use Rattle.output_promise.specs.Compiled.{IsCompiledProgram}
 use Rattle.output_promise.specs.Source.{PassedFunction}
-use Rattle.function_emit.specs.Emitted.{names_of}
-use Rattle.program_compiler.specs.Program.{ArePassed, HasSections}
+use Rattle.program_compiler.specs.Program.{ArePassed, HasSections, names_of}
 use Rattle.reading_laws.specs.Read.{IsReadProgram}
 
 -- What is compiled of what passes made of a program that was read, with its sections, is printable: its numbers and addresses have 32 bits, and

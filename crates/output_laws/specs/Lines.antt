@@ -14,8 +14,7 @@ use Rattle.mir_parser.specs.declared.closing.Parsed.{Parsed}
 use Rattle.mir_parser.specs.declared.program.Program.{Program}
 use Rattle.output_promise.specs.Compiled.{IsCompiledProgram}
 use Rattle.output_promise.specs.Source.{PassedFunction}
-use Rattle.function_emit.specs.Emitted.{names_of}
-use Rattle.program_compiler.specs.Program.{ArePassed, HasSections}
+use Rattle.program_compiler.specs.Program.{ArePassed, HasSections, names_of}
 use Rattle.shown_program.specs.Program.{lines_of, address_of, past_line}
 use Rattle.source_lines.specs.declared.file.SourceFile.{SourceFile}
 use Rattle.source_lines.specs.Files.{unit_file}

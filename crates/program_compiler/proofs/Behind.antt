@@ -14,7 +14,7 @@ use Rattle.follow_law.specs.declared.loss.Loss.{Loss}
 use Rattle.function_emit.specs.declared.emit.Made.{Made}
 use Rattle.function_emit.specs.Emitted.{names_of, AreWritable, IsPushed}
 use Rattle.function_passes.proofs.AfterPasses.{made_by}
-use Rattle.function_passes.specs.Passed.{source_of, IsMadeBy, IsMadeLosing, IsCompilable}
+use Rattle.function_passes.specs.Passed.{source_of, IsMadeBy, IsMadeLosing, IsCompilable, steps_of}
 use Rattle.meta_reader.specs.Maps.{Maps}
 use Rattle.mir_body.specs.Limits.{MAX_ITEMS}
 use Rattle.mir_func.specs.Function.{Function}
@@ -23,7 +23,6 @@ use Rattle.output_promise.proofs.Functions.{words_length}
 use Rattle.output_promise.specs.Compiled.{AreCompiled, bytes_of}
 use Rattle.output_promise.specs.Source.{PassedFunction}
 use Rattle.pass_list.specs.declared.kind.PassKind.{PassKind}
-use Rattle.pass_loop.specs.Passes.{steps_of}
 use Rattle.program_compiler.specs.Program.{ArePassed, AreMadeLosing, AreCoded}
 use Rattle.program_compiler.specs.steps.Made.{AreMade}
 

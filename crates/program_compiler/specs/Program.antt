@@ -13,8 +13,8 @@ use Rattle.dwarf_loclists.specs.Spelling.{spelling as lists_spelling}
 use Rattle.follow_law.specs.declared.loss.Loss.{Loss}
 use Rattle.follow_law.specs.Steps.{Step}
 use Rattle.frame_rule.specs.Rule.{size_of, framed_of}
-use Rattle.function_emit.specs.Emitted.{names_of, AreWritable}
-use Rattle.function_passes.specs.Passed.{source_of, IsMadeBy, IsMadeLosing, IsCompilable}
+pub use Rattle.function_emit.specs.Emitted.{names_of, AreWritable}
+pub use Rattle.function_passes.specs.Passed.{source_of, IsMadeBy, IsMadeLosing, IsCompilable, steps_of, passes_of}
 use Rattle.meta_reader.specs.Maps.{Maps}
 use Rattle.mir_func.specs.Function.{Function}
 use Rattle.mir_func.specs.Limits.{MAX_FRAME}
@@ -23,7 +23,6 @@ use Rattle.mir_parser.specs.declared.program.Program.{Program}
 use Rattle.output_promise.specs.Compiled.{AreCompiled, IsCompiledProgram}
 use Rattle.output_promise.specs.Source.{SourceFunction, PassedFunction}
 use Rattle.pass_list.specs.declared.kind.PassKind.{PassKind}
-use Rattle.pass_loop.specs.Passes.{steps_of}
 use Rattle.program_compiler.specs.declared.compile.Compilation.{Compilation}
 use Rattle.source_lines.specs.declared.compiled.Compiled.{Compiled}
 use Rattle.source_lines.specs.Program.{table_of}

@@ -6,7 +6,7 @@ ghost use Rattle.mir_body.specs.Limits.{MAX_ITEMS};
 ghost use Rattle.mir_parser.specs.declared.closing.Parsed.{Parsed};
 ghost use Rattle.mir_parser.specs.Program.{MAX_FUNCTIONS};
 ghost use Rattle.pass_list.specs.Names.{AreDistinct};
-ghost use Rattle.pass_loop.specs.Passes.{steps_of};
+ghost use Rattle.function_passes.specs.Passed.{steps_of};
 ghost use Rattle.program_compiler.specs.Program.{HasLargeFrame};
 ghost use Rattle.program_compiler.specs.steps.Made.{IsSourcePushed, IsTooLarge, AreMade};
 ghost use Rattle.reading_laws.specs.Read.{IsReadFunction, EntryIsLimited};

@@ -210,8 +210,8 @@ fn registers_live_in_slots(rt: HostRuntime) -> Result<(), Fail> {
     Ok(())
 }
 
-/// A copy in a loop whose number a mark behind the loop asks for, with a mark of it between: it leaves a phi, and the
-/// mark between, on the way in, gives nothing. And a phi of a register that only a dead copy sets. With the lists behind.
+/// A copy in a loop whose number a mark behind the loop asks for, with a mark of it above: it leaves a phi, and the
+/// mark above gives nothing on the way in. And a phi of a register that only a dead copy sets. With code and lists.
 const DEAD: [(&str, &[u8], &[u8]); 2] = [
     (
         "body: |

@@ -2,8 +2,7 @@
 use Rattle.std.proofs.Common.{◌≡◌, ℕ, List, sym, subst}
 use Rattle.pass_list.specs.declared.kind.PassKind.{PassKind}
 use Rattle.pass_list.specs.Names.{AreDistinct}
-use Rattle.pass_loop.specs.Passes.{steps_of}
-use Rattle.program_compiler.specs.Program.{IsOutputOf, IsCompilationOf, HasLargeFrame, HasLargeSection}
+use Rattle.program_compiler.specs.Program.{IsOutputOf, IsCompilationOf, HasLargeFrame, HasLargeSection, steps_of}
 use Rattle.mirdwarf_tool.proofs.compiled.compilation.Goals as goal
 
 pub compile-requires-clause-distinct : goal.compile-requires-clause-distinct
