@@ -1,11 +1,23 @@
 -- The answers to calls are answers.
-use Rattle.std.proofs.Common.{◌≡◌, ℕ, zero, suc, ◌+◌, ◌-◌, ◌^◌, ◌<◌, ◌≤◌, List, [], ◌∷◌, length, map, All, Bool, true, false, cond, nat_eq, nat_lt, slice_index}
+use Rattle.std.proofs.Common.{◌≡◌, ℕ, zero, suc, ◌+◌, ◌-◌, ◌^◌, ◌<◌, ◌≤◌, List, [], ◌∷◌, length, All, Bool, true, false, cond, ◌&&◌, nat_eq, nat_lt, slice_index}
 use Rattle.std.proofs.Common.{refl, arith}
 use Rattle.std.proofs.lemmas.Bool.{ltb-true}
 use Rattle.std.proofs.lemmas.List.Elements.{All-nil, All-cons, All-map}
 use Rattle.rv64_instr.specs.Access.{caller_saved}
-use Rattle.mir_meaning.specs.State.{Reply, IsReply}
+use Rattle.mir_meaning.specs.State.{IsReply}
 use Rattle.run_answer.specs.Asked.{call_value, call_register, reply_to, replies}
+
+-- registers that all are below 32
+abbrev all_low : List ℕ → Bool
+all_low [] = true
+all_low (r ∷ rs) = nat_lt r 32 && all_low rs
+
+low_if : (rs : List ℕ) → all_low rs ≡ true → All (λ r. r < 32) rs
+low_if [] e = All-nil (λ r. r < 32)
+low_if (r ∷ rs) e = by_test (nat_lt r 32) refl e (low_if rs) where
+  by_test : (z : Bool) → nat_lt r 32 ≡ z → (z && all_low rs) ≡ true → (all_low rs ≡ true → All (λ r. r < 32) rs) → All (λ r. r < 32) (r ∷ rs)
+  by_test true lt e rest = All-cons (λ r. r < 32) r rs (ltb-true r 32 lt) (rest e)
+  by_test false lt e rest = cc
 
 module _ (values : List ℕ) (small : All (λ v. v < 2 ^ 64) values) where
   value_small : (n : ℕ) → n < 2 ^ 64 → call_value values n < 2 ^ 64
@@ -21,13 +33,7 @@ module _ (values : List ℕ) (small : All (λ v. v < 2 ^ 64) values) where
     by_test false = omega (arith, low)
 
   saved_low : All (λ r. r < 32) caller_saved
-  saved_low =
-      let low : ℕ → Type 0 = λ r. r < 32 in
-      All-cons low 1 _ (omega arith) (All-cons low 5 _ (omega arith) (All-cons low 6 _ (omega arith) (All-cons low 7 _ (omega arith)
-      (All-cons low 10 _ (omega arith) (All-cons low 11 _ (omega arith) (All-cons low 12 _ (omega arith) (All-cons low 13 _ (omega arith)
-      (All-cons low 14 _ (omega arith) (All-cons low 15 _ (omega arith) (All-cons low 16 _ (omega arith) (All-cons low 17 _ (omega arith)
-      (All-cons low 28 _ (omega arith) (All-cons low 29 _ (omega arith) (All-cons low 30 _ (omega arith) (All-cons low 31 _ (omega arith)
-      (All-nil low))))))))))))))))
+  saved_low = low_if caller_saved refl
 
   reply_is : (n : ℕ) → n < 2 ^ 64 → IsReply (reply_to values n)
   reply_is n lt = record {
