@@ -1,8 +1,5 @@
 -- What a round keeps.
-use Rattle.std.proofs.Common.{◌≡◌, ◌<◌, List, Bool, true, refl, sym, ap, ◌∙◌, subst, arith}
-use Rattle.rv64_instr.specs.declared.place.Place.{Place}
-use Rattle.mir_func.specs.declared.position.Pos.{Pos}
-use Rattle.mir_func.specs.declared.block.Block.{Block}
+use Rattle.std.proofs.Common.{◌≡◌, ◌<◌, List, sym, ap, subst, arith}
 use Rattle.mir_func.specs.declared.entry.Entry.{Entry}
 use Rattle.mir_func.specs.Function.{Function}
 use Rattle.mir_func.specs.Sound.{IsSound}
@@ -18,7 +15,6 @@ use Rattle.dead_code.proofs.Live.{live_closed}
 use Rattle.dead_code.proofs.Sound.{sound_taken}
 use Rattle.dead_code.proofs.Follows.{dead_follows}
 use Rattle.dead_code.proofs.Stripped.{round_stripped}
-use Rattle.dead_left.specs.Round.{IsTakenOut}
 use Rattle.copy_removal.proofs.Chain.{then}
 use Rattle.dead_salvage.specs.Laws.{all_off, function_off, KeepsOff}
 use Rattle.dead_salvage.proofs.Chain.{numbers_off}

@@ -1,7 +1,7 @@
 -- What is lost in a round is of dead code.
-use Rattle.std.proofs.Common.{◌≡◌, ◌↔◌, ◌<◌, ℕ, zero, suc, List, [], ◌∷◌, ◌++◌, length, get_or, drop, take, All, Contains}
+use Rattle.std.proofs.Common.{◌≡◌, ◌↔◌, ℕ, zero, suc, List, [], ◌∷◌, ◌++◌, length, get_or, drop, take, All, Contains}
 use Rattle.std.proofs.Common.{Option, Some, None, Bool, true, false}
-use Rattle.std.proofs.Common.{slice_get, refl, sym, ap, ◌∙◌, subst, arith}
+use Rattle.std.proofs.Common.{slice_get, refl, sym, subst}
 use Rattle.std.proofs.lemmas.List.Elements.{All-nil, All-cons, All-append}
 use Rattle.mir_func.specs.declared.entry.Entry.{Entry}
 use Rattle.mir_func.specs.declared.position.Pos.{Pos}
@@ -13,7 +13,6 @@ use Rattle.mir_func.specs.declared.item.ItemKind.{ItemKind}
 use Rattle.mir_func.specs.declared.item.ItemKind.TheVariants.{Code, Mark, Phi}
 use Rattle.mir_func.specs.Function.{Function}
 use Rattle.mir_meaning.specs.Align.{position_of}
-use Rattle.follow_law.specs.declared.loss.Reason.TheVariants.{Removed, WrongPlace}
 use Rattle.follow_law.specs.declared.loss.Loss.{Loss}
 use Rattle.salvage.specs.declared.way.Way.{Way}
 use Rattle.salvage.specs.declared.way.Way.TheVariants.{HasEntry, GetsEntry, GetsPhi}
@@ -22,7 +21,7 @@ use Rattle.dead_code.specs.Dead.{Ends}
 use Rattle.dead_code.specs.Out.{LosesOf, LosesAt}
 use Rattle.dead_copies.specs.declared.off.Copied.{Copied}
 use Rattle.dead_copies.specs.Off.{numbered_copy, lost_if_own, lost_off, SoFar, off_copy, copy_in, off_at, off_down}
-use Rattle.dead_copies.specs.Blocks.{going_from, BlocksSoFar, in_block, next_off, blocks_off}
+use Rattle.dead_copies.specs.Blocks.{going_from, BlocksSoFar, in_block, blocks_off}
 use Rattle.dead_salvage.specs.Laws.{begins_off, all_off}
 use Rattle.loss_order.specs.OfDeadCode.{IsOfDeadCode, number_removed, number_wrong, mark_wrong}
 

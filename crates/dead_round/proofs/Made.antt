@@ -1,15 +1,13 @@
 -- What a round makes is a function.
-use Rattle.std.proofs.Common.{◌≡◌, ◌↔◌, List, ◌++◌, All, Contains, Bool, true, false, refl, sym, ap, ◌∙◌, subst}
+use Rattle.std.proofs.Common.{◌≡◌, ◌↔◌, List, ◌++◌, All, Contains, Bool, true, false, sym, ap, ◌∙◌, subst}
 use Rattle.std.specs.List.{list_any}
 use Rattle.mir_func.specs.declared.block.Block.{Block}
 use Rattle.mir_func.specs.declared.entry.Entry.{Entry}
-use Rattle.mir_func.specs.declared.position.Pos.{Pos}
 use Rattle.mir_func.specs.Function.{Function}
 use Rattle.mir_func.specs.Sound.{IsSound}
 use Rattle.follow_law.specs.declared.loss.Loss.{Loss}
 use Rattle.follow_law.specs.Order.{IsInOrder}
 use Rattle.dead_code.specs.Dead.{Ends, IsRound}
-use Rattle.dead_code.specs.Out.{LosesAt}
 use Rattle.dead_code.proofs.Rounds.{ends_one}
 use Rattle.dead_items.specs.Judged.{AreJudged}
 use Rattle.dead_left.specs.Round.{has_dead, IsTakenOut}

@@ -1,7 +1,7 @@
 -- Functions with the same code: where dead code is, and how much code there is.
-use Rattle.std.proofs.Common.{◌≡◌, ℕ, suc, ◌+◌, List, [], ◌∷◌, ◌++◌, map, length, count_by, Option, None, Bool, true, false, cond, ◌||◌}
+use Rattle.std.proofs.Common.{◌≡◌, ℕ, ◌+◌, List, [], ◌∷◌, ◌++◌, length, count_by, Bool, cond, ◌||◌}
 use Rattle.std.proofs.Common.{refl, sym, ap, ◌∙◌, arith, length-append}
-use Rattle.std.specs.List.{list_any, cons_option}
+use Rattle.std.specs.List.{list_any}
 use Rattle.std.proofs.lemmas.List.Sums.{sum_by-cons, sum_by-append}
 use Rattle.rv64_instr.specs.Row.{row_of}
 use Rattle.mir_func.specs.declared.position.Origin.{Origin}
@@ -11,10 +11,10 @@ use Rattle.mir_func.specs.declared.item.Item.{Item}
 use Rattle.mir_func.specs.declared.item.ItemKind.{ItemKind}
 use Rattle.mir_func.specs.declared.item.ItemKind.TheVariants.{Code, Mark, Phi}
 use Rattle.mir_func.specs.Sound.{items_of}
-use Rattle.mir_func.specs.Strip.{bare, stripped_items, stripped_blocks}
+use Rattle.mir_func.specs.Strip.{stripped_items, stripped_blocks}
 use Rattle.mir_meaning.specs.Align.{is_code}
 use Rattle.follow_law.specs.Rule.{item}
-use Rattle.dead_code.specs.Dead.{Places, Ends, is_dead, is_dead_row, needed_before, needed_at}
+use Rattle.dead_code.specs.Dead.{Places, Ends, is_dead_row, needed_before, needed_at}
 use Rattle.dead_items.specs.Judged.{verdicts}
 use Rattle.dead_left.specs.Round.{has_dead}
 
