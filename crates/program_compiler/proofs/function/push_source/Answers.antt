@@ -39,6 +39,6 @@ returns-in_err-push_function-clause-too_large c is =
     record {
       passed = passed_of c.args.source.now c.in_ok-passed.passed.function c.in_ok-passed.passed.substitutions;
       source = refl;
-      made = made_by _ _ _ _ c.in_ok-passed.ensures.made;
+      made = made_by c.args.reserve.now c.args.passes.now _ c.in_ok-passed.passed.losses c.in_ok-passed.ensures.made;
       large = c.in_err-push_function.ensures.too_large (ap (λ (e : EmitError). Err e) why);
     }
