@@ -5,6 +5,8 @@
   bench/growth.py compile [OPTION..]  crates/mirdwarf/out/mirdwarf with these options, or with --passes=none, on functions of 64 blocks and 512
                            items, and at the limits
   bench/growth.py alone LIST  what a list of passes takes: the same program with --passes=LIST over --passes=none, on blocks and items
+  bench/growth.py inside LIST FUNCTION  what a function of the program takes with all that it calls, by its name (`nm`), with --passes=LIST: '*' stands
+                           for any letters, and those of the names that fit must not call each other
   bench/growth.py read     crates/mirdwarf_reading/out/mirdwarf_reading, on functions, blocks, functions of a text and keys of an entry
   bench/growth.py strip    crates/mirdwarf/out/mirdwarf, on functions of 1,024 blocks and 8,192 items, with its peak memory
   bench/growth.py layout   crates/mirdwarf_locations/out/mirdwarf_locations over crates/mirdwarf_reading/out/mirdwarf_reading, on items, blocks and slots
@@ -24,11 +26,11 @@ import tempfile
 TOP = os.path.join(os.path.dirname(os.path.abspath(__file__)), "..")
 
 
-def count(program, words, text):
-    """The instructions that one run executes."""
+def count(program, words, text, *how):
+    """The instructions that one run executes, or, by words for callgrind, those of a function."""
     with tempfile.TemporaryDirectory() as folder:
         run = subprocess.run(
-            ["valgrind", "--tool=callgrind", "--callgrind-out-file=" + os.path.join(folder, "out"), program, *words],
+            ["valgrind", "--tool=callgrind", "--callgrind-out-file=" + os.path.join(folder, "out"), *how, program, *words],
             input=text, capture_output=True)
     if run.returncode != 0:
         raise SystemExit("%s ended with %d: %s" % (program, run.returncode, run.stderr.decode()))
@@ -232,6 +234,17 @@ def alone(name, passes, sizes, make):
         last = instructions
 
 
+def inside(name, passes, function, sizes, make):
+    """A table of the instructions that a function of the program takes, with all that it calls, where these passes run."""
+    program = os.path.join(TOP, "crates/mirdwarf/out/mirdwarf")
+    print(name)
+    last = None
+    for size in sizes:
+        instructions = count(program, ["compile", "--passes=" + passes], make(size), "--toggle-collect=" + function)
+        print("  %9d  %13d  %s" % (size, instructions, "%.3f" % (instructions / last) if last else ""))
+        last = instructions
+
+
 def added(name, kind, step, before, sizes):
     """A table of the instructions that a step has more than the one before it."""
     program = os.path.join(TOP, "crates/mirdwarf_sections/out/mirdwarf_sections")
@@ -298,6 +311,11 @@ def main():
         for kind in ("copies", "constants", "registers"):
             run_more("%s in one block, by items" % kind, kind, 1, (1024, 2048, 4096, 8192, 16384))
             run_more("%s in 1,024 blocks, by items" % kind, kind, 1024, (2048, 4096, 8192, 16384))
+    elif len(what) == 3 and what[0] == "inside":
+        inside("1,024 blocks, 256 variables, by items", what[1], what[2], (2048, 4096, 8192), lambda n: located(1024, n, 256))
+        inside("one block, 256 variables, by items", what[1], what[2], (1024, 2048, 4096, 8192), lambda n: located(1, n, 256))
+        inside("8,192 items, 256 variables, by blocks", what[1], what[2], (256, 512, 1024), lambda n: located(n, 8192, 256))
+        inside("8,001 items, by slots", what[1], what[2], (28, 56, 112, 224), slots)
     elif len(what) == 2 and what[0] == "alone":
         alone("1,024 blocks, 256 variables, by items", what[1], (2048, 4096, 8192), lambda n: located(1024, n, 256))
         alone("one block, 256 variables, by items", what[1], (1024, 2048, 4096, 8192), lambda n: located(1, n, 256))
