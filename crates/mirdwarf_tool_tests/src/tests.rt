@@ -1,5 +1,6 @@
 //! What no clause says: that each run succeeds with ample memory, its bytes, and runs that meet faults in mid-stream.
 
+use generated_text::print::print_generated;
 use io_edge::bytes::{Bytes, CallNumbers};
 use io_edge::memory_sink::MemorySink;
 use io_edge::memory_source::MemorySource;
@@ -415,45 +416,8 @@ const TOLD: [(&[&str], &str, Ending<'static>); 11] = [
     (&["report", "--passes=none"], LARGE, FRAME),
 ];
 
-/// The file of the function of number 0 with one block.
-const GENERATED: &str = "--- |
-  define void @gen() !dbg !2 { ret void }
-  !1 = !DIFile(filename: \"gen.c\", directory: \"/gen\")
-  !2 = distinct !DISubprogram(name: \"gen\", file: !1, line: 1)
-  !10 = !DILocalVariable(name: \"a\", scope: !2, file: !1, line: 1)
-  !11 = !DILocalVariable(name: \"b\", scope: !2, file: !1, line: 1)
-  !12 = !DILocalVariable(name: \"c\", scope: !2, file: !1, line: 1)
-  !13 = !DILocalVariable(name: \"d\", scope: !2, file: !1, line: 1)
-...
----
-name: gen
-stack:
-  - { id: 0, size: 8 }
-  - { id: 1, size: 8 }
-  - { id: 2, size: 8 }
-  - { id: 3, size: 8 }
-body: |
-  bb.0:
-    SD $x10, %stack.0, 0
-    SD $x10, %stack.1, 0
-    SD $x10, %stack.2, 0
-    SD $x10, %stack.3, 0
-    $x8 = COPY $x13, debug-instr-number 1
-    DBG_PHI $x9, 2
-    DBG_INSTR_REF !11, !DIExpression(DW_OP_LLVM_arg, 0), dbg-instr-ref(2, 0)
-    DBG_INSTR_REF !10, !DIExpression(DW_OP_LLVM_arg, 0), dbg-instr-ref(1, 0)
-    DBG_PHI $x20, 3
-    DBG_INSTR_REF !12, !DIExpression(DW_OP_LLVM_arg, 0), dbg-instr-ref(3, 0)
-    DBG_PHI $x8, 4
-    DBG_INSTR_REF !11, !DIExpression(DW_OP_LLVM_arg, 0), dbg-instr-ref(4, 0)
-    SD $x8, %stack.1, 0
-    $x10 = COPY $x8
-    PseudoRET implicit $x10
-...
-";
-
 /// Words, a function and faults of runs, and how they end.
-const ENDINGS: [(&[&str], &str, Faulty, Ending<'static>); 18] = [
+const ENDINGS: [(&[&str], &str, Faulty, Ending<'static>); 17] = [
     (&[], RETURN, NO_FAULT, USAGE),
     (&["compile", "none"], RETURN, NO_FAULT, USAGE),
     (&["--passes=none", "compile"], RETURN, NO_FAULT, USAGE),
@@ -466,16 +430,6 @@ const ENDINGS: [(&[&str], &str, Faulty, Ending<'static>); 18] = [
     (&["listing", "--passes="], RETURN, NO_FAULT, USAGE),
     (&["strip", "--passes=none"], RETURN, NO_FAULT, USAGE),
     (&["gen", "0", "0"], RETURN, NO_FAULT, USAGE),
-    (
-        &["gen", "0", "1"],
-        "no text",
-        Faulty {
-            read: 1,
-            room: ROOM,
-            write: 0,
-        },
-        (0, GENERATED, ""),
-    ),
     (
         COMPILE,
         "body: |\n  bb.0:\n    $x10 = FROB $x10\n    PseudoRET\n",
@@ -663,6 +617,23 @@ fn tells_of_runs_and_losses(rt: HostRuntime) -> Result<(), Fail> {
     for (words, lines, want) in &TOLD {
         ends(&rt, alloc, words, text_of(alloc, lines)?, &NO_FAULT, *want)?;
     }
+    Ok(())
+}
+
+/// A file with a function that was made up is written without a read.
+#[test]
+fn writes_what_is_made_up(rt: HostRuntime) -> Result<(), Fail> {
+    let alloc = rt.alloc();
+    let faulty = Faulty {
+        read: 1,
+        room: ROOM,
+        write: 0,
+    };
+    let text = Bytes::from(Vec::from_slice(alloc, b"no text")?);
+    let (status, output, faults) = run_on(alloc, &["gen", "0", "1"], text, &faulty)?;
+    assert_eq!(rt; status, 0);
+    assert_eq!(rt; output.written(), print_generated(alloc, 0, 1)?.as_slice());
+    assert!(rt; faults.written().is_empty());
     Ok(())
 }
 

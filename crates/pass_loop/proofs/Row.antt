@@ -15,7 +15,7 @@ use Rattle.follow_law.specs.Steps.{Step, KeepsSteps}
 use Rattle.pass_list.specs.declared.kind.PassKind.{PassKind}
 use Rattle.pass_loop.specs.Passes.{steps_of_pass, steps_of, passes_of, factor, count, most_after, numbers_after, slots_after, KeepsGrowth}
 use Rattle.pass_loop.specs.Shown.{KeepsShown}
-use Rattle.pass_loop.specs.Told.{KeepsPass, KeepsPasses}
+use Rattle.pass_loop.specs.Told.{KeepsPasses}
 
 -- ---- steps
 

@@ -10,7 +10,7 @@ ghost use Rattle.follow_law.specs.Steps.{KeepsSteps};
 ghost use Rattle.pass_loop.specs.Passes.{steps_of_pass, asks, keeps, factor, count};
 ghost use Rattle.pass_loop.specs.Passes.{passes_of, any_asks, all_keep, Fit, numbers_after, slots_after, KeepsGrowth};
 ghost use Rattle.pass_loop.specs.Shown.{KeepsShown};
-ghost use Rattle.pass_loop.specs.Told.{KeepsPass, KeepsPasses};
+ghost use Rattle.pass_loop.specs.Told.{KeepsPasses};
 
 use branch_fold::fold::FoldPass;
 use copy_propagation::copies::CopyPass;
@@ -47,7 +47,7 @@ pub fn run_passes(
     match passes.split_first() {
         None => Ok(Losses::new(alloc)),
         Some((first, rest)) => {
-            let mut losses = run_pass(alloc, *first, reserve, f, subs)?;
+            let mut losses = told(run_pass(alloc, *first, reserve, f, subs)?);
             let later = run_passes(alloc, rest, reserve, f, subs)?;
             losses.extend_from_slice(later.as_slice())?;
             Ok(losses)
@@ -55,31 +55,9 @@ pub fn run_passes(
     }
 }
 
-/// Runs one pass, and tells what it lost, in order, each once. After an error the function and its substitutions are
-/// only to be dropped.
-fn run_pass(
-    alloc: Global,
-    pass: PassKind,
-    reserve: &[Reg],
-    f: &mut Func,
-    subs: &mut Substitutions,
-) -> Result<Losses, AllocError>
-    requires numbers { greatest_number f.old subs.old + most_numbers (factor pass) (count pass) f.old < 2 ^ 31 }
-    requires slots { greatest f.old.slots + MAX_SLOTS * count pass < 2 ^ 31 }
-    ensures follows { OnOk result
-        (KeepsFollowing (asks pass) (keeps pass) (change f.old subs.old f.new subs.new)) }
-    ensures told { IfOk result
-        (KeepsPass (steps_of_pass reserve.now pass) (change f.old subs.old f.new subs.new)) }
-    ensures sizes { OnOk result (KeepsSizes (factor pass) (count pass) (change f.old subs.old f.new subs.new)) }
-    ensures shown { OnOk result (KeepsShown f.old f.new) }
-{
-    let lost = run_by_kind(alloc, pass, reserve, f, subs)?;
-    Ok(told(lost))
-}
-
 /// Runs one pass, and gives what it lost, as it came. After an error the function and its substitutions are only to be
 /// dropped.
-fn run_by_kind(
+fn run_pass(
     alloc: Global,
     pass: PassKind,
     reserve: &[Reg],

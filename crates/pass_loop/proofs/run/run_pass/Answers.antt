@@ -5,7 +5,7 @@ use Rattle.pass_list.specs.declared.kind.PassKind.{PassKind}
 use Rattle.pass_list.specs.declared.kind.PassKind.TheVariants.{Copy, Remat, Spill, Dead, Fold}
 use Rattle.pass_loop.specs.Passes.{steps_of_pass}
 use Rattle.pass_loop.proofs.Passes.{pass_shown}
-use Rattle.pass_loop.proofs.run.run_by_kind.Goals as goal
+use Rattle.pass_loop.proofs.run.run_pass.Goals as goal
 
 pub returns-in-Copy-clause-shown : goal.returns-in-Copy-clause-shown
 returns-in-Copy-clause-shown c =
