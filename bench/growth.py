@@ -12,6 +12,8 @@
   bench/growth.py layout   crates/mirdwarf_locations/out/mirdwarf_locations over crates/mirdwarf_reading/out/mirdwarf_reading, on items, blocks and slots
   bench/growth.py locations crates/mirdwarf_locations/out/mirdwarf_locations over crates/mirdwarf_reading/out/mirdwarf_reading, on blocks, items and variables
   bench/growth.py steps    crates/mirdwarf_steps/out/mirdwarf_steps, on steps of a loop with a call
+  bench/growth.py run      crates/mirdwarf/out/mirdwarf, on steps of the same loop with two variables, whose values are read before each step
+  bench/growth.py selftest crates/mirdwarf/out/mirdwarf, on the blocks of functions that are made up
   bench/growth.py sections crates/mirdwarf_sections/out/mirdwarf_sections, on sections of 1,000 to 8,000 parts
   bench/growth.py passes   crates/mirdwarf_passes/out/mirdwarf_passes, on copies, constants and spilled registers in one block and in 1,024 blocks
 
@@ -127,6 +129,12 @@ body: |
     PseudoRET implicit $x10
 ...
 """
+
+# The same with a variable in each of the two registers that live across the call.
+READ_LOOP = LOOP
+for line, register, variable in ((b"$x8 = COPY $x10", 8, 4), (b"$x9 = ADDI $x0, 0", 9, 5), (b"$x9 = ADD $x9, $x10", 9, 5), (b"$x8 = ADDI $x8, -1", 8, 4)):
+    mark = b"\n    DBG_VALUE $x%d, $noreg, !%d, !DIExpression()" % (register, variable)
+    READ_LOOP = READ_LOOP.replace(line, line + mark)
 
 
 def functions(number):
@@ -303,6 +311,24 @@ def main():
             instructions = count(program, [str(steps)], LOOP) - none
             print("  %9d  %13d  %d a step  %s" % (steps, instructions, instructions // steps, "%.3f" % (instructions / last) if last else ""))
             last = instructions
+    elif what == ["run"]:
+        program = os.path.join(TOP, "crates/mirdwarf/out/mirdwarf")
+        print("steps of a loop with two variables")
+        words, last = ["--args=1000000", "--answers=5,7", "--passes=none"], None
+        none = count(program, ["run", "sum", "0", *words], READ_LOOP)
+        for steps in (125000, 250000, 500000, 1000000):
+            instructions = count(program, ["run", "sum", str(steps), *words], READ_LOOP) - none
+            print("  %9d  %13d  %d a step  %s" % (steps, instructions, instructions // steps, "%.3f" % (instructions / last) if last else ""))
+            last = instructions
+    elif what == ["selftest"]:
+        program = os.path.join(TOP, "crates/mirdwarf/out/mirdwarf")
+        for number in (0, 1, 7):
+            print("the functions of number %d, by blocks" % number)
+            last = None
+            for size in (64, 128, 256, 512):
+                instructions = count(program, ["selftest", str(number), str(size)], b"")
+                print("  %9d  %13d  %s" % (size, instructions, "%.3f" % (instructions / last) if last else ""))
+                last = instructions
     elif what == ["sections"]:
         for kind, steps in SECTIONS.items():
             for step, (call, before) in steps.items():

@@ -4,16 +4,19 @@ use Rattle.std.specs.Prelude.{codes}
 use Rattle.std.specs.Fmt.{decimal}
 use Rattle.std.proofs.lemmas.Fmt.{decimal_injective}
 use Rattle.command_numbers.specs.declared.generation.Generation.{Generation}
+use Rattle.command_numbers.specs.Numbers.{IsGeneration}
 use Rattle.command_options.specs.declared.given.Options.{Options}
 use Rattle.command_options.specs.declared.option.CommandOption.{CommandOption}
 use Rattle.command_options.specs.declared.option.CommandOption.TheVariants.{Passes, Reserve, Arguments, Answers}
 use Rattle.command_options.specs.Options.{none_given, IsWith, GivesOption, GiveOptions}
 use Rattle.command_options.proofs.Words.{the_option}
 use Rattle.command_line.specs.declared.command.Command.{Command}
-use Rattle.command_line.specs.declared.command.Command.TheVariants.{Compile, Listing, Report, Run, Strip, Gen}
+use Rattle.command_line.specs.declared.command.Command.TheVariants.{Compile, Listing, Report, Run, Strip, Gen, SelfTest}
 use Rattle.command_line.specs.declared.command.Plan.{Plan}
 use Rattle.command_line.specs.declared.command.RunPlan.{RunPlan}
-use Rattle.command_line.specs.Command.{IsPlanOf, GivesPlan, IsRunPlanOf, GivesSteps, GivesRun, IsWithin, IsCommand, AreWithin}
+use Rattle.command_line.specs.declared.command.TestPlan.{TestPlan}
+use Rattle.command_line.specs.Command.{MAX_STEPS, IsPlanOf, GivesPlan, IsRunPlanOf, GivesSteps, GivesRun, GivesTestOf, GivesTest}
+use Rattle.command_line.specs.Command.{IsWithin, IsCommand, AreWithin}
 
 -- ---- one plan for words
 
@@ -65,7 +68,7 @@ run_by name count given r s hr hs =
       answers = answers i;
     }
 
-pub one_number : (m n : ℕ) → m ≤ 1000000 → n ≤ 1000000 → decimal m ≡ decimal n → m ≡ n
+pub one_number : (m n : ℕ) → m ≤ MAX_STEPS → n ≤ MAX_STEPS → decimal m ≡ decimal n → m ≡ n
 one_number m n small also e = decimal_injective m n (omega (arith, small)) (omega (arith, also)) e
 
 one_steps : (name word : List ℕ) (words : List (List ℕ)) (r s : RunPlan) → GivesSteps name word words r → GivesSteps name word words s → r ≡ s
@@ -79,6 +82,25 @@ one_run : (words : List (List ℕ)) (r s : RunPlan) → GivesRun words r → Giv
 one_run [] r s hr hs = absurd hr
 one_run (name ∷ []) r s hr hs = absurd hr
 one_run (name ∷ word ∷ words) r s hr hs = one_steps name word words r s hr hs
+
+one_function : (number blocks : List ℕ) (g h : Generation) → IsGeneration number blocks g → IsGeneration number blocks h → g ≡ h
+one_function number blocks g h hg hh =
+    let first : g.number ≡ h.number =
+    one_number g.number h.number (omega (arith, hg.small)) (omega (arith, hh.small)) (sym hg.number ∙ hh.number) in
+    let second : g.blocks ≡ h.blocks =
+    one_number g.blocks h.blocks (omega (arith, hg.few)) (omega (arith, hh.few)) (sym hg.blocks ∙ hh.blocks) in
+    λ i. record { number = first i; blocks = second i }
+
+one_test_of : (number blocks : List ℕ) (words : List (List ℕ)) (t u : TestPlan) → GivesTestOf number blocks words t → GivesTestOf number blocks words u → t ≡ u
+one_test_of number blocks words t u ht hu =
+    let function : t.function ≡ u.function = one_function number blocks t.function u.function ht.function hu.function in
+    let plan : t.plan ≡ u.plan = one_plan words t.plan u.plan ht.plan hu.plan in
+    λ i. record { function = function i; plan = plan i }
+
+one_test : (words : List (List ℕ)) (t u : TestPlan) → GivesTest words t → GivesTest words u → t ≡ u
+one_test [] t u ht hu = absurd ht
+one_test (number ∷ []) t u ht hu = absurd ht
+one_test (number ∷ blocks ∷ words) t u ht hu = one_test_of number blocks words t u ht hu
 
 -- ---- one command for words
 
@@ -109,6 +131,7 @@ sign_of (Report p) = 316
 sign_of (Run r) = 348
 sign_of Strip = 347
 sign_of (Gen g) = 305
+sign_of (SelfTest t) = 317
 
 named_by : (name : List ℕ) (words : List (List ℕ)) (c : Command) → IsCommand (name ∷ words) c → sign name ≡ sign_of c
 named_by name words (Compile p) is = ap sign is.0
@@ -117,6 +140,7 @@ named_by name words (Report p) is = ap sign is.0
 named_by name words (Run r) is = ap sign is.0
 named_by name words Strip is = ap sign is.0
 named_by name words (Gen g) is = ap sign is.0
+named_by name words (SelfTest t) is = ap sign is.0
 
 other : (name : List ℕ) (words : List (List ℕ)) (a b : Command) → IsCommand (name ∷ words) a → IsCommand (name ∷ words) b → sign_of a ≡ sign_of b
 other name words a b ha hb = sym (named_by name words a ha) ∙ named_by name words b hb
@@ -128,36 +152,49 @@ by_name name words (Compile p) (Report q) e ha hb = absurd (omega (arith, e))
 by_name name words (Compile p) (Run s) e ha hb = absurd (omega (arith, e))
 by_name name words (Compile p) Strip e ha hb = absurd (omega (arith, e))
 by_name name words (Compile p) (Gen h) e ha hb = absurd (omega (arith, e))
+by_name name words (Compile p) (SelfTest u) e ha hb = absurd (omega (arith, e))
 by_name name words (Listing p) (Compile q) e ha hb = absurd (omega (arith, e))
 by_name name words (Listing p) (Listing q) e ha hb = ap (λ (x : Plan). Listing x) (one_plan words p q ha.1 hb.1)
 by_name name words (Listing p) (Report q) e ha hb = absurd (omega (arith, e))
 by_name name words (Listing p) (Run s) e ha hb = absurd (omega (arith, e))
 by_name name words (Listing p) Strip e ha hb = absurd (omega (arith, e))
 by_name name words (Listing p) (Gen h) e ha hb = absurd (omega (arith, e))
+by_name name words (Listing p) (SelfTest u) e ha hb = absurd (omega (arith, e))
 by_name name words (Report p) (Compile q) e ha hb = absurd (omega (arith, e))
 by_name name words (Report p) (Listing q) e ha hb = absurd (omega (arith, e))
 by_name name words (Report p) (Report q) e ha hb = ap (λ (x : Plan). Report x) (one_plan words p q ha.1 hb.1)
 by_name name words (Report p) (Run s) e ha hb = absurd (omega (arith, e))
 by_name name words (Report p) Strip e ha hb = absurd (omega (arith, e))
 by_name name words (Report p) (Gen h) e ha hb = absurd (omega (arith, e))
+by_name name words (Report p) (SelfTest u) e ha hb = absurd (omega (arith, e))
 by_name name words (Run r) (Compile q) e ha hb = absurd (omega (arith, e))
 by_name name words (Run r) (Listing q) e ha hb = absurd (omega (arith, e))
 by_name name words (Run r) (Report q) e ha hb = absurd (omega (arith, e))
 by_name name words (Run r) (Run s) e ha hb = ap (λ (x : RunPlan). Run x) (one_run words r s ha.1 hb.1)
 by_name name words (Run r) Strip e ha hb = absurd (omega (arith, e))
 by_name name words (Run r) (Gen h) e ha hb = absurd (omega (arith, e))
+by_name name words (Run r) (SelfTest u) e ha hb = absurd (omega (arith, e))
 by_name name words Strip (Compile q) e ha hb = absurd (omega (arith, e))
 by_name name words Strip (Listing q) e ha hb = absurd (omega (arith, e))
 by_name name words Strip (Report q) e ha hb = absurd (omega (arith, e))
 by_name name words Strip (Run s) e ha hb = absurd (omega (arith, e))
 by_name name words Strip Strip e ha hb = refl
 by_name name words Strip (Gen h) e ha hb = absurd (omega (arith, e))
+by_name name words Strip (SelfTest u) e ha hb = absurd (omega (arith, e))
 by_name name words (Gen g) (Compile q) e ha hb = absurd (omega (arith, e))
 by_name name words (Gen g) (Listing q) e ha hb = absurd (omega (arith, e))
 by_name name words (Gen g) (Report q) e ha hb = absurd (omega (arith, e))
 by_name name words (Gen g) (Run s) e ha hb = absurd (omega (arith, e))
 by_name name words (Gen g) Strip e ha hb = absurd (omega (arith, e))
 by_name name words (Gen g) (Gen h) e ha hb = ap (λ (x : Generation). Gen x) (one_generation words g h ha.2 hb.2 ha.1 hb.1)
+by_name name words (Gen g) (SelfTest u) e ha hb = absurd (omega (arith, e))
+by_name name words (SelfTest t) (Compile q) e ha hb = absurd (omega (arith, e))
+by_name name words (SelfTest t) (Listing q) e ha hb = absurd (omega (arith, e))
+by_name name words (SelfTest t) (Report q) e ha hb = absurd (omega (arith, e))
+by_name name words (SelfTest t) (Run s) e ha hb = absurd (omega (arith, e))
+by_name name words (SelfTest t) Strip e ha hb = absurd (omega (arith, e))
+by_name name words (SelfTest t) (Gen h) e ha hb = absurd (omega (arith, e))
+by_name name words (SelfTest t) (SelfTest u) e ha hb = ap (λ (x : TestPlan). SelfTest x) (one_test words t u ha.1 hb.1)
 
 -- no words are two commands
 pub one_command : (words : List (List ℕ)) (a b : Command) → IsCommand words a → IsCommand words b → a ≡ b
@@ -174,6 +211,7 @@ no_compile name words is none (Report p) h = let e : 321 ≡ 316 = sym (ap sign 
 no_compile name words is none (Run r) h = let e : 321 ≡ 348 = sym (ap sign is) ∙ ap sign h.0 in omega (arith, e)
 no_compile name words is none Strip h = let e : 321 ≡ 347 = sym (ap sign is) ∙ ap sign h.0 in omega (arith, e)
 no_compile name words is none (Gen g) h = let e : 321 ≡ 305 = sym (ap sign is) ∙ ap sign h.0 in omega (arith, e)
+no_compile name words is none (SelfTest t) h = let e : 321 ≡ 317 = sym (ap sign is) ∙ ap sign h.0 in omega (arith, e)
 
 pub no_listing : (name : List ℕ) (words : List (List ℕ)) → name ≡ codes "listing" → ((p : Plan) → GivesPlan words p → ⊥) →
     (c : Command) → IsCommand (name ∷ words) c → ⊥
@@ -183,6 +221,7 @@ no_listing name words is none (Report p) h = let e : 318 ≡ 316 = sym (ap sign 
 no_listing name words is none (Run r) h = let e : 318 ≡ 348 = sym (ap sign is) ∙ ap sign h.0 in omega (arith, e)
 no_listing name words is none Strip h = let e : 318 ≡ 347 = sym (ap sign is) ∙ ap sign h.0 in omega (arith, e)
 no_listing name words is none (Gen g) h = let e : 318 ≡ 305 = sym (ap sign is) ∙ ap sign h.0 in omega (arith, e)
+no_listing name words is none (SelfTest t) h = let e : 318 ≡ 317 = sym (ap sign is) ∙ ap sign h.0 in omega (arith, e)
 
 pub no_report : (name : List ℕ) (words : List (List ℕ)) → name ≡ codes "report" → ((p : Plan) → GivesPlan words p → ⊥) →
     (c : Command) → IsCommand (name ∷ words) c → ⊥
@@ -192,6 +231,7 @@ no_report name words is none (Report p) h = none p h.1
 no_report name words is none (Run r) h = let e : 316 ≡ 348 = sym (ap sign is) ∙ ap sign h.0 in omega (arith, e)
 no_report name words is none Strip h = let e : 316 ≡ 347 = sym (ap sign is) ∙ ap sign h.0 in omega (arith, e)
 no_report name words is none (Gen g) h = let e : 316 ≡ 305 = sym (ap sign is) ∙ ap sign h.0 in omega (arith, e)
+no_report name words is none (SelfTest t) h = let e : 316 ≡ 317 = sym (ap sign is) ∙ ap sign h.0 in omega (arith, e)
 
 pub no_run : (name : List ℕ) (words : List (List ℕ)) → name ≡ codes "run" → ((r : RunPlan) → GivesRun words r → ⊥) →
     (c : Command) → IsCommand (name ∷ words) c → ⊥
@@ -201,6 +241,17 @@ no_run name words is none (Report p) h = let e : 348 ≡ 316 = sym (ap sign is) 
 no_run name words is none (Run r) h = none r h.1
 no_run name words is none Strip h = let e : 348 ≡ 347 = sym (ap sign is) ∙ ap sign h.0 in omega (arith, e)
 no_run name words is none (Gen g) h = let e : 348 ≡ 305 = sym (ap sign is) ∙ ap sign h.0 in omega (arith, e)
+no_run name words is none (SelfTest t) h = let e : 348 ≡ 317 = sym (ap sign is) ∙ ap sign h.0 in omega (arith, e)
+
+pub no_test : (name : List ℕ) (words : List (List ℕ)) → name ≡ codes "selftest" → ((t : TestPlan) → GivesTest words t → ⊥) →
+    (c : Command) → IsCommand (name ∷ words) c → ⊥
+no_test name words is none (Compile p) h = let e : 317 ≡ 321 = sym (ap sign is) ∙ ap sign h.0 in omega (arith, e)
+no_test name words is none (Listing p) h = let e : 317 ≡ 318 = sym (ap sign is) ∙ ap sign h.0 in omega (arith, e)
+no_test name words is none (Report p) h = let e : 317 ≡ 316 = sym (ap sign is) ∙ ap sign h.0 in omega (arith, e)
+no_test name words is none (Run r) h = let e : 317 ≡ 348 = sym (ap sign is) ∙ ap sign h.0 in omega (arith, e)
+no_test name words is none Strip h = let e : 317 ≡ 347 = sym (ap sign is) ∙ ap sign h.0 in omega (arith, e)
+no_test name words is none (Gen g) h = let e : 317 ≡ 305 = sym (ap sign is) ∙ ap sign h.0 in omega (arith, e)
+no_test name words is none (SelfTest t) h = none t h.1
 
 -- ---- what is found
 
@@ -217,7 +268,7 @@ the_command words a is b = (
 
 -- words whose options ask for these runs ask for them too
 pub the_steps : (name named word : List ℕ) (words : List (List ℕ)) (count : ℕ) (given : Options) (found : RunPlan) → named ≡ name →
-    word ≡ decimal count → count ≤ 1000000 → GiveOptions none_given words given →
+    word ≡ decimal count → count ≤ MAX_STEPS → GiveOptions none_given words given →
     ((run : RunPlan) → (found ≡ run) ↔ IsRunPlanOf named count given run) → (run : RunPlan) →
     (Some found ≡ Some run) ↔ GivesSteps name word words run
 the_steps name named word words count given found same spelled few give is run = (
@@ -237,7 +288,20 @@ the_steps name named word words count given found same spelled few give is run =
       ap (λ (r : RunPlan). Some r) ((is run).1 (subst (λ (n : List ℕ). IsRunPlanOf n count given run) (sym same) there)),
 )
 
+-- words that ask for this function and this plan ask for no other
+pub the_test : (number blocks : List ℕ) (words : List (List ℕ)) (found : TestPlan) → GivesTestOf number blocks words found → (test : TestPlan) →
+    (◌≡◌ {A = Option TestPlan} (Some found) (Some test)) ↔ GivesTestOf number blocks words test
+the_test number blocks words found is test = (
+  λ e. subst (GivesTestOf number blocks words) (one_of found test e) is,
+  λ other. ap (λ (x : TestPlan). Some x) (one_test_of number blocks words found test is other),
+)
+
 -- ---- numbers
+
+pub test_within : (words : List (List ℕ)) (t : TestPlan) → GivesTest words t → IsWithin t.function
+test_within [] t h = absurd h
+test_within (number ∷ []) t h = absurd h
+test_within (number ∷ blocks ∷ words) t h = let is = h.function in record { small = is.small; some = is.some; few = is.few }
 
 pub within : (words : List (List ℕ)) (c : Command) → IsCommand words c → AreWithin c
 within [] c is = absurd is
@@ -247,3 +311,4 @@ within (name ∷ words) (Report p) is = tt
 within (name ∷ words) (Run r) is = tt
 within (name ∷ words) Strip is = tt
 within (name ∷ words) (Gen g) is = is.2
+within (name ∷ words) (SelfTest t) is = test_within words t is.1

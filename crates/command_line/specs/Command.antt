@@ -2,12 +2,14 @@
 use Rattle.std.specs.Prelude.{◌≡◌, ℕ, ◌≤◌, List, [], ◌∷◌, codes, Option, Some, None}
 use Rattle.std.specs.Fmt.{decimal}
 use Rattle.command_numbers.specs.declared.generation.Generation.{Generation}
+use Rattle.command_numbers.specs.Numbers.{IsGeneration}
 use Rattle.command_options.specs.declared.given.Options.{Options}
 use Rattle.command_options.specs.Options.{none_given, GiveOptions}
 use Rattle.command_line.specs.declared.command.Command.{Command}
-use Rattle.command_line.specs.declared.command.Command.TheVariants.{Compile, Listing, Report, Run, Strip, Gen}
+use Rattle.command_line.specs.declared.command.Command.TheVariants.{Compile, Listing, Report, Run, Strip, Gen, SelfTest}
 use Rattle.command_line.specs.declared.command.Plan.{Plan}
 use Rattle.command_line.specs.declared.command.RunPlan.{RunPlan}
+use Rattle.command_line.specs.declared.command.TestPlan.{TestPlan}
 use Rattle.pass_list.specs.declared.kind.PassKind.{PassKind}
 use Rattle.pass_list.specs.Names.{STANDARD}
 
@@ -46,11 +48,15 @@ pub record IsRunPlanOf (name : List ℕ) (count : ℕ) (given : Options) (run : 
   pub arguments : run.arguments ≡ numbers_in given.arguments
   pub answers : run.answers ≡ numbers_in given.answers
 
+-- how many steps a run may have
+abbrev pub MAX_STEPS : ℕ
+MAX_STEPS = 1000000
+
 -- a name, a word that is a number of steps, 0 to 1,000,000, and options, in any order and each at most once, ask for a run
 pub record GivesSteps (name word : List ℕ) (words : List (List ℕ)) (run : RunPlan) : Type 0 where
   pub count : ℕ
   pub spelled : word ≡ decimal count
-  pub few : count ≤ 1000000
+  pub few : count ≤ MAX_STEPS
   pub given : Options
   pub give : GiveOptions none_given words given
   pub is : IsRunPlanOf name count given run
@@ -67,6 +73,18 @@ pub record IsWithin (g : Generation) : Type 0 where
   pub some : 1 ≤ g.blocks
   pub few : g.blocks ≤ 512
 
+-- two words, the number of a function that is made up and how many blocks it has, and options, in any order and each at most once, that ask for a
+-- plan, ask for its self-test
+pub record GivesTestOf (number blocks : List ℕ) (words : List (List ℕ)) (test : TestPlan) : Type 0 where
+  pub function : IsGeneration number blocks test.function
+  pub plan : GivesPlan words test.plan
+
+-- so do words: a number, a number of blocks, and options
+abbrev pub GivesTest : (words : List (List ℕ)) → TestPlan → Type 0
+GivesTest [] test = ⊥
+GivesTest (number ∷ []) test = ⊥
+GivesTest (number ∷ blocks ∷ words) test = GivesTestOf number blocks words test
+
 -- the words are a name and what the command of this name asks for
 abbrev pub IsCommand : (words : List (List ℕ)) → Command → Type 0
 IsCommand [] command = ⊥
@@ -76,6 +94,7 @@ IsCommand (name ∷ words) (Report plan) = (name ≡ codes "report") × GivesPla
 IsCommand (name ∷ words) (Run run) = (name ≡ codes "run") × GivesRun words run
 IsCommand (name ∷ words) Strip = (name ≡ codes "strip") × (words ≡ [])
 IsCommand (name ∷ words) (Gen g) = (name ≡ codes "gen") × (words ≡ decimal g.number ∷ decimal g.blocks ∷ []) × IsWithin g
+IsCommand (name ∷ words) (SelfTest test) = (name ≡ codes "selftest") × GivesTest words test
 
 -- the numbers of a command are within their limits
 abbrev pub AreWithin : Command → Type 0
@@ -85,6 +104,7 @@ AreWithin (Report plan) = Unit {0}
 AreWithin (Run run) = Unit {0}
 AreWithin Strip = Unit {0}
 AreWithin (Gen g) = IsWithin g
+AreWithin (SelfTest test) = IsWithin test.function
 
 -- the name isn't that of a command with a plan
 pub record IsPlain (name : List ℕ) : Type 0 where
@@ -92,3 +112,4 @@ pub record IsPlain (name : List ℕ) : Type 0 where
   pub listing : name ≡ codes "listing" → ⊥
   pub report : name ≡ codes "report" → ⊥
   pub run : name ≡ codes "run" → ⊥
+  pub self_test : name ≡ codes "selftest" → ⊥

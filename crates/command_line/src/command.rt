@@ -3,9 +3,11 @@
 ghost use Rattle.std.specs.Prelude.{◌≡◌, ◌↔◌, ◌∷◌, [], List, map, string_bytes, Some, IfOk};
 ghost use Rattle.command_line.specs.Command.{IsCommand, IsPlain, GivesPlan, IsPlanOf, reserve_in};
 ghost use Rattle.command_line.specs.Command.{GivesRun, GivesSteps, IsRunPlanOf, numbers_in, passes_in};
+ghost use Rattle.command_line.specs.Command.{GivesTest, GivesTestOf};
 ghost use Rattle.command_line.specs.declared.command.Command.{Command};
 ghost use Rattle.command_line.specs.declared.command.Plan.{Plan};
 ghost use Rattle.command_line.specs.declared.command.RunPlan.{RunPlan};
+ghost use Rattle.command_line.specs.declared.command.TestPlan.{TestPlan};
 
 use command_numbers::generation::{Generation, asked};
 use command_numbers::list::Numbers;
@@ -45,6 +47,15 @@ pub struct RunPlan {
     pub answers: Numbers,
 }
 
+/// The self-test of a function.
+#[derive(Debug, Drop)]
+pub struct TestPlan {
+    /// The function, which is made up.
+    pub function: Generation,
+    /// What runs on it before it is compiled.
+    pub plan: Plan,
+}
+
 /// What the program is asked to do.
 #[derive(Debug, Drop)]
 pub enum Command {
@@ -60,14 +71,16 @@ pub enum Command {
     Strip,
     /// Writes a function that is made up.
     Gen(Generation),
+    /// Writes how much of a function that is made up its location lists tell along a run of its machine code.
+    SelfTest(TestPlan),
 }
 
 /// The command that the words are: `compile`, `listing` or `report` with options in any order, a list of passes, as
 /// `--passes=copy,fold` or `--passes=none`, and if wanted registers that may be spilled, as `--reserve=x8,x18`; `run`
 /// with a function's name, how many steps it makes at most, 0 to 1,000,000, and such options, among which may be the
-/// numbers that it is called with, as `--args=1,2`, and those that its calls answer, as `--answers=3`; `strip`; or
-/// `gen` with the number of a function, 0 to 65,536, and how many blocks it has, 1 to 512. None where they are no
-/// command.
+/// numbers that it is called with, as `--args=1,2`, and those that its calls answer, as `--answers=3`; `strip`; `gen`
+/// with the number of a function, 0 to 65,536, and how many blocks it has, 1 to 512; or `selftest` with such numbers
+/// and the options of `compile`. None where they are no command.
 pub fn parse(alloc: Global, words: &[String]) -> Result<Option<Command>, AllocError>
     ensures { IfOk result (λ o. (command : Command) →
         (o ≡ Some command) ↔ IsCommand (map string_bytes words.now) command) }
@@ -104,6 +117,12 @@ fn named(alloc: Global, name: &str, words: &[String]) -> Result<Option<Command>,
     if is_same(name, "run") {
         return match run_asked(alloc, words)? {
             Some(found) => Ok(Some(Command::Run(found))),
+            None => Ok(None),
+        };
+    }
+    if is_same(name, "selftest") {
+        return match test_asked(alloc, words)? {
+            Some(test) => Ok(Some(Command::SelfTest(test))),
             None => Ok(None),
         };
     }
@@ -206,6 +225,36 @@ fn run_of(alloc: Global, name: Name, steps: u32, given: Options) -> RunPlan
         },
         arguments: numbers_in(alloc, arguments),
         answers: numbers_in(alloc, answers),
+    }
+}
+
+/// The self-test that words ask for: a function's number, how many blocks it has, and options. None where they ask for
+/// none.
+fn test_asked(alloc: Global, words: &[String]) -> Result<Option<TestPlan>, AllocError>
+    ensures { IfOk result (λ o. (test : TestPlan) → (o ≡ Some test) ↔ GivesTest (map string_bytes words.now) test) }
+{
+    match words {
+        [number, blocks, rest @ ..] => test_of(alloc, number.as_str(), blocks.as_str(), rest),
+        _ => Ok(None),
+    }
+}
+
+/// The self-test of the function of two words, with options.
+fn test_of(
+    alloc: Global,
+    number: &str,
+    blocks: &str,
+    words: &[String],
+) -> Result<Option<TestPlan>, AllocError>
+    ensures { IfOk result (λ o. (test : TestPlan) →
+        (o ≡ Some test) ↔ GivesTestOf number.now blocks.now (map string_bytes words.now) test) }
+{
+    let Some(function) = asked(number, blocks) else {
+        return Ok(None);
+    };
+    match plan_asked(alloc, words)? {
+        Some(plan) => Ok(Some(TestPlan { function, plan })),
+        None => Ok(None),
     }
 }
 

@@ -19,7 +19,7 @@ const ALL: &[PassKind] = &[
 
 /// Words of a command line, and the command that they are, as its name, its passes, and how many registers it has in
 /// reserve.
-const ROWS: [(&str, Option<(&str, &[PassKind], usize)>); 37] = [
+const ROWS: [(&str, Option<(&str, &[PassKind], usize)>); 44] = [
     ("compile --passes=none", Some(("compile", &[], 0))),
     (
         "compile --passes=fold,dead,spill",
@@ -76,6 +76,16 @@ const ROWS: [(&str, Option<(&str, &[PassKind], usize)>); 37] = [
     ("gen 00 1", None),
     ("gen 1", None),
     ("gen 1 2 3", None),
+    ("selftest 0 1", Some(("selftest", ALL, 0))),
+    (
+        "selftest 65536 512 --reserve=x9 --passes=dead",
+        Some(("selftest", &[PassKind::Dead], 1)),
+    ),
+    ("selftest 65537 1", None),
+    ("selftest 0 513", None),
+    ("selftest 0 0", None),
+    ("selftest 0", None),
+    ("selftest 0 1 --args=1", None),
 ];
 
 /// Whether a plan has these passes and so many registers.
@@ -92,6 +102,7 @@ fn is_command(command: &Command, name: &str, passes: &[PassKind], registers: usi
         Command::Run(run) => name == "run" && is_plan(&run.plan, passes, registers),
         Command::Strip => name == "strip",
         Command::Gen(_) => name == "gen",
+        Command::SelfTest(test) => name == "selftest" && is_plan(&test.plan, passes, registers),
     }
 }
 

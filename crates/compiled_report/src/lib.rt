@@ -3,4 +3,7 @@
 #![tactic(auto)]
 
 pub mod laws;
+
+pub use program_compiler::compile as compile;
+
 pub mod report;

@@ -15,8 +15,8 @@ use Rattle.output_promise.specs.Source.{PassedFunction}
 use Rattle.code_words.specs.Rule.{words_of}
 use Rattle.mir_parser.specs.declared.program.Program.{Program}
 use Rattle.pass_list.specs.declared.kind.PassKind.{PassKind}
-use Rattle.program_compiler.specs.declared.compile.Compilation.{Compilation}
-use Rattle.program_compiler.specs.Program.{AreCoded, IsCompilationOf, names_of}
+use Rattle.compiled_report.specs.Compilation.{Compilation}
+use Rattle.compiled_report.specs.Program.{AreCoded, IsCompilationOf, names_of}
 use Rattle.unit_entries.specs.Variables.{variables_of_function}
 use Rattle.compiled_report.proofs.Reported.{ends}
 use Rattle.compiled_run.specs.Runs.{CanRun, CompilationsCanRun}

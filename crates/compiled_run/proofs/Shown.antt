@@ -16,10 +16,10 @@ use Rattle.output_promise.specs.Compiled.{AreCompiled, IsCompiledProgram, bytes_
 use Rattle.output_promise.specs.Promise.{variable_lines}
 use Rattle.output_promise.specs.Source.{PassedFunction, IsPassedFunction}
 use Rattle.pass_list.specs.declared.kind.PassKind.{PassKind}
-use Rattle.program_compiler.proofs.Passed.{all_passed}
+use Rattle.compiled_report.proofs.Passed.{all_passed}
 use Rattle.mir_parser.specs.declared.program.Program.{Program}
-use Rattle.program_compiler.specs.declared.compile.Compilation.{Compilation}
-use Rattle.program_compiler.specs.Program.{AreCoded, IsCompilationOf, names_of}
+use Rattle.compiled_report.specs.Compilation.{Compilation}
+use Rattle.compiled_report.specs.Program.{AreCoded, IsCompilationOf, names_of}
 use Rattle.rv_simulator.specs.Shown.{ShowsCode}
 use Rattle.shown_program.proofs.Images.{image_shown}
 use Rattle.shown_program.specs.Program.{image_of}

@@ -29,9 +29,9 @@ use Rattle.output_promise.specs.Laws.{AreCompiledTo}
 use Rattle.output_promise.specs.Promise.{Gives, IsLaidOut, AreLaidOut, MeetsHeadline, Promises}
 use Rattle.output_promise.specs.Source.{SourceFunction, OfEach, sources_among}
 use Rattle.pass_list.specs.declared.kind.PassKind.{PassKind}
-use Rattle.program_compiler.proofs.Passed.{all_passed, passed_sources}
-use Rattle.program_compiler.specs.declared.compile.Compilation.{Compilation}
-use Rattle.program_compiler.specs.Program.{sources_of, IsCompilationOf, IsOutputOf, steps_of, source_of, names_of}
+use Rattle.compiled_report.proofs.Passed.{all_passed, passed_sources}
+use Rattle.compiled_report.specs.Compilation.{Compilation}
+use Rattle.compiled_report.specs.Program.{sources_of, IsCompilationOf, IsOutputOf, steps_of, source_of, names_of}
 use Rattle.run_lines.specs.Variables.{variable_of}
 use Rattle.rv_simulator.specs.Shown.{ShowsCode}
 use Rattle.shown_program.specs.Program.{image_of}

@@ -7,8 +7,8 @@ use Rattle.dwarf_loclists.specs.declared.range.Range.{Range}
 use Rattle.dwarf_loclists.specs.Ranges.{Ascend, ArePlaces}
 use Rattle.mir_parser.specs.declared.program.Program.{Program}
 use Rattle.pass_list.specs.declared.kind.PassKind.{PassKind}
-use Rattle.program_compiler.specs.declared.compile.Compilation.{Compilation}
-use Rattle.program_compiler.specs.Program.{IsCompilationOf}
+use Rattle.compiled_report.specs.Compilation.{Compilation}
+use Rattle.compiled_report.specs.Program.{IsCompilationOf}
 use Rattle.run_answer.specs.Asked.{IsTextOfAskedRun}
 use Rattle.run_lines.specs.Variables.{variable_of}
 use Rattle.rv_simulator.specs.Shown.{ShowsCode}

@@ -22,8 +22,8 @@ use Rattle.mir_parser.specs.declared.closing.Parsed.{Parsed}
 use Rattle.mir_parser.specs.declared.program.Program.{Program}
 use Rattle.output_promise.specs.Source.{SourceFunction}
 use Rattle.pass_list.specs.declared.kind.PassKind.{PassKind}
-use Rattle.program_compiler.specs.declared.compile.Compilation.{Compilation}
-use Rattle.program_compiler.specs.Program.{IsCompilationOf, IsOutputOf, steps_of, source_of}
+use Rattle.compiled_report.specs.Compilation.{Compilation}
+use Rattle.compiled_report.specs.Program.{IsCompilationOf, IsOutputOf, steps_of, source_of}
 use Rattle.run_answer.specs.Asked.{start_register, replies}
 use Rattle.run_lines.specs.Run.{IsRunText}
 use Rattle.run_lines.specs.Variables.{variable_of}

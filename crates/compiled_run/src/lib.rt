@@ -2,6 +2,11 @@
 //! lists.
 #![tactic(auto)]
 
+pub use compiled_report::compile as compile;
+
 pub mod laws;
 pub mod name;
+
+pub use compiled_report::report as report;
+
 pub mod run;

@@ -3,9 +3,9 @@
 ghost use Rattle.std.specs.Prelude.{◌≡◌, ◌↔◌, IfOk, IsTrue, MatchOption};
 ghost use Rattle.compiled_run.specs.Runs.{IsFirstNamed, HasNone, IsRunOf, CanRun};
 
+use compiled_report::compile::Compilation;
 use compiled_text::output::ListedFunction;
 use mir_printer::text::Text;
-use program_compiler::compile::Compilation;
 use run_answer::text::run_text;
 use run_lines::variable::variables_of;
 use rv64_instr::start::Values;

@@ -41,7 +41,7 @@ blocks_self (b ∷ bs) = one_more b b refl (items_self b.items) (blocks_self bs)
 
 -- ---- one result
 
-one_round : (f g h : Function) → IsRound f g → IsRound f h → g ≡ h
+pub one_round : HasOneResult IsRound
 one_round f g h r s =
     let e = ends_one f f (blocks_self f.blocks) r.ends s.ends r.live s.live in
     r.thins ∙ ap (λ (ends : Ends). thinned ends f) e ∙ sym s.thins
@@ -112,7 +112,7 @@ blocks_placeless ends (b ∷ bs) =
 thinned_placeless : (ends : Ends) (f : Function) → placeless (thinned ends f) ≡ thinned ends (placeless f)
 thinned_placeless ends f = let e = blocks_placeless ends f.blocks in λ i. record f { blocks = e i }
 
-round_alike : (f f' g g' : Function) → AreAlike f f' → IsRound f g → IsRound f' g' → AreAlike g g'
+pub round_alike : SeesCodeAlone IsRound
 round_alike f f' g g' alike r r' =
     let e = ends_one f f' (alike_blocks f.blocks f'.blocks (ap (λ (z : Function). z.blocks) alike)) r.ends r'.ends r.live r'.live in
     ap placeless r.thins ∙ thinned_placeless r.ends f ∙ (λ i. thinned (e i) (alike i)) ∙ sym (thinned_placeless r'.ends f') ∙ ap placeless (sym r'.thins)

@@ -1,5 +1,4 @@
 mod SameCode
 pub mod Follows
 mod Live
-mod Losses
 mod Made

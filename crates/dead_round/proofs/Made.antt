@@ -1,5 +1,5 @@
 -- What a round makes is a function.
-use Rattle.std.proofs.Common.{◌≡◌, ◌↔◌, List, ◌++◌, All, Contains, Bool, true, false, sym, ap, ◌∙◌, subst}
+use Rattle.std.proofs.Common.{◌≡◌, ◌↔◌, List, ◌++◌, Contains, Bool, true, false, sym, ap, ◌∙◌, subst}
 use Rattle.std.specs.List.{list_any}
 use Rattle.mir_func.specs.declared.block.Block.{Block}
 use Rattle.mir_func.specs.declared.entry.Entry.{Entry}
@@ -14,10 +14,8 @@ use Rattle.dead_left.specs.Round.{has_dead, IsTakenOut}
 use Rattle.dead_left.proofs.None.{settled}
 use Rattle.dead_salvage.specs.Laws.{all_off, function_off, KeepsOff}
 use Rattle.dead_salvage.proofs.Chain.{numbers_off}
-use Rattle.loss_order.specs.OfDeadCode.{IsOfDeadCode}
 use Rattle.dead_round.specs.Round.{IsDeadRound}
 use Rattle.dead_round.proofs.SameCode.{dead_same}
-use Rattle.dead_round.proofs.Losses.{all_of_dead_code}
 
 pub sound_off : (f : Function) (subs : List Entry) (dead : List (List Bool)) (bs : List Block) → IsSound f → bs ≡ (all_off f subs dead).blocks →
     IsSound (record { name = f.name; slots = f.slots; objects = f.objects; blocks = bs })
@@ -46,10 +44,6 @@ module _ (f : Function) (subs : List Entry) (dead : List (List Bool)) (judged : 
       dead_same judged.ends f.blocks (function_off f subs dead).blocks (ap (λ (h : Function). h.blocks) off.stripped_is) ∙
       ap some_dead (sym judged.verdicts_are) ∙ some
 
-  pub of_dead_code : (lost : List Loss) → lost ≡ (all_off f subs dead).lost ++ here → All IsOfDeadCode lost
-  of_dead_code lost is =
-      subst (λ (ls : List Loss). All IsOfDeadCode ls) (sym is) (all_of_dead_code f subs dead out.ends (function_off f subs dead) here out.told)
-
   pub made : (more : List Entry) (losses lost : List Loss) → more ≡ (all_off f subs dead).subs → lost ≡ (all_off f subs dead).lost ++ here →
       IsInOrder losses → ((l : Loss) → Contains losses l ↔ Contains lost l) → IsDeadRound f subs g more losses
   made more losses lost entries is ordered same = record {
@@ -73,9 +67,6 @@ module _ (f : Function) (subs : List Entry) (dead : List (List Bool)) (judged : 
 
   after_is : after ≡ (all_off f subs dead).lost ++ out.0
   after_is = out.1 ∙ ap (λ (ls : List Loss). ls ++ out.0) before_is
-
-  pub all_dead : All IsOfDeadCode after
-  all_dead = of_dead_code f subs dead judged sound some g out.0 any taken after after_is
 
   pub round_made : (more : List Entry) (losses : List Loss) → more ≡ (all_off f subs dead).subs → IsInOrder losses →
       ((l : Loss) → Contains losses l ↔ Contains after l) → IsDeadRound f subs g more losses

@@ -12,12 +12,12 @@ use dead_left::round::{has_dead, take_out_dead};
 use follow_law::loss::{Loss, Losses};
 use lists::List;
 use live_flow::live::Live;
-use loss_order::order::put_in_order;
 use mir_func::block::{Blocks, copy_blocks};
 use mir_func::func::Func;
 use salvage::fresh::fresh_number;
 use std::alloc::{AllocError, Global};
 use substitution::substitutions::Substitutions;
+use told_losses::told::put_in_order;
 
 /// Takes the dead code out of a function, once, and salvages the numbers of its copies. It gives what is lost, in
 /// order, or None where nothing is dead: then all stays as it was. After an error the function and the substitutions

@@ -21,8 +21,8 @@ use Rattle.dead_code.specs.Wrong.{silenced, silenced_left, silenced_block, taken
 use Rattle.dead_code.specs.Loose.{KeepsLoosely}
 use Rattle.dead_code.proofs.Stripped.{round_stripped}
 use Rattle.dead_code.proofs.Chain.{loose_laws}
-use Rattle.dead_round.specs.Round.{IsDeadRound}
-use Rattle.dead_round.proofs.Follows.{round_follows, round_code}
+use Rattle.dead_sizes.specs.Round.{IsDeadRound}
+use Rattle.dead_sizes.proofs.Follows.{round_follows, round_code}
 use Rattle.dead_sizes.specs.Laws.{IsNoLarger}
 use Rattle.dead_sizes.proofs.Round.{round_sizes}
 use Rattle.dead_rounds.specs.Rounds.{AreDeadRounds, ended, and_round}

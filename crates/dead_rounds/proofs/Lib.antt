@@ -1,2 +1,3 @@
 pub mod Keeps
 mod Loop
+pub use Rattle.dead_sizes.proofs.Follows

@@ -7,7 +7,7 @@ use Rattle.mir_func.specs.Sound.{IsSound}
 use Rattle.follow_law.specs.declared.loss.Loss.{Loss}
 use Rattle.follow_law.specs.Sizes.{greatest_number, item_count}
 use Rattle.dead_code.specs.Dead.{IsRound}
-use Rattle.dead_round.specs.Round.{IsDeadRound}
+use Rattle.dead_sizes.specs.Round.{IsDeadRound}
 use Rattle.dead_sizes.proofs.Round.{round_sizes}
 use Rattle.dead_rounds.specs.Rounds.{AreDeadRounds, ended, and_round}
 

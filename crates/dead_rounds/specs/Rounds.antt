@@ -4,7 +4,7 @@ use Rattle.mir_func.specs.declared.entry.Entry.{Entry}
 use Rattle.mir_func.specs.Function.{Function}
 use Rattle.follow_law.specs.declared.loss.Loss.{Loss}
 use Rattle.dead_code.specs.Dead.{IsRound}
-use Rattle.dead_round.specs.Round.{IsDeadRound}
+use Rattle.dead_sizes.specs.Round.{IsDeadRound}
 
 -- nothing is dead, or a round and then more; the losses are those of one round after those of the other
 pub data AreDeadRounds : Function → List Entry → Function → List Entry → List Loss → Type 0 where

@@ -5,7 +5,7 @@ ghost use Rattle.mir_func.specs.Sound.{IsSound};
 ghost use Rattle.follow_law.specs.Sizes.{greatest_number, item_count};
 ghost use Rattle.dead_rounds.specs.Rounds.{AreDeadRounds};
 
-use dead_round::round::dead_round;
+use dead_sizes::one_round::dead_round;
 use follow_law::loss::Losses;
 use mir_func::func::Func;
 use std::alloc::{AllocError, Global};

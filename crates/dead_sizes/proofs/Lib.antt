@@ -2,3 +2,4 @@ mod Counts
 mod Off
 mod Numbers
 pub mod Round
+pub use Rattle.dead_round.proofs.Follows

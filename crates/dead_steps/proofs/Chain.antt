@@ -14,12 +14,12 @@ use Rattle.dead_code.specs.Dead.{IsRound}
 use Rattle.dead_debug.specs.Rule.{dead_rule}
 use Rattle.dead_debug.proofs.Whole.{round_keeps}
 use Rattle.dead_debug.proofs.Idle.{idle_keeps}
-use Rattle.dead_round.specs.Round.{IsDeadRound}
-use Rattle.dead_round.proofs.Follows.{round_follows, round_code}
+use Rattle.dead_rounds.specs.Round.{IsDeadRound}
+use Rattle.dead_rounds.proofs.Follows.{round_follows, round_code}
 use Rattle.dead_rounds.specs.Rounds.{AreDeadRounds, ended, and_round}
 use Rattle.dead_rounds.proofs.Keeps.{settled_stripped}
 use Rattle.dead_steps.specs.Steps.{repeated, round_step, most_rounds, dead_steps, RoundsKeepSteps}
-use Rattle.dead_steps.proofs.Alike.{one_round, round_alike}
+use Rattle.dead_code.proofs.Rounds.{one_round, round_alike}
 
 most_is : most_rounds ≡ 2 ^ 31
 unfolding most_rounds

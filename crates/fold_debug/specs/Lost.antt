@@ -12,12 +12,6 @@ use Rattle.follow_law.specs.declared.loss.Reason.TheVariants.{Bypassed, Unreacha
 use Rattle.follow_law.specs.declared.loss.Loss.{Loss}
 use Rattle.follow_law.specs.Rule.{number_lost, mark_lost}
 
--- the reasons of folding
-abbrev pub IsFoldReason : Reason → Type 0
-IsFoldReason Bypassed = Unit {0}
-IsFoldReason Unreachable = Unit {0}
-IsFoldReason _ = ⊥
-
 -- the one reason for which the numbers of code are lost too
 abbrev pub is_unreachable : Reason → Bool
 is_unreachable Unreachable = true

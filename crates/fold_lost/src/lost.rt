@@ -9,7 +9,6 @@ ghost use Rattle.fold_ways.specs.Leads.{lead};
 ghost use Rattle.fold_ways.specs.Ends.{told, end_in};
 ghost use Rattle.fold_debug.specs.Lost.{is_unreachable, reason_for, loss_of, lost_in, all_lost};
 
-use crate::order::put_in_order;
 use follow_law::loss::{Loss, Losses, Lost, Reason};
 use kill_code::bypassed::{OldWays, end_past};
 use mir_func::block::Block;
@@ -17,6 +16,7 @@ use mir_func::item::{Item, ItemKind};
 use mir_meaning::align::position_of;
 use numbers::code::BlockId;
 use std::alloc::{AllocError, Global};
+use told_losses::told::put_in_order;
 
 /// What is lost of blocks that are folded, each once and in order.
 pub fn fold_losses(alloc: Global, blocks: &[Block], ways: &OldWays) -> Result<Losses, AllocError>

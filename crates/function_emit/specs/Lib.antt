@@ -1,1 +1,2 @@
 pub mod Emitted
+pub use Rattle.function_passes.specs.Passed

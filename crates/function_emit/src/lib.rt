@@ -3,3 +3,5 @@
 #![tactic(auto)]
 
 pub mod emit;
+
+pub use function_passes::passed as passed;

@@ -1,18 +1,19 @@
 -- What a command writes of an input, by what it writes of the program that was read.
 use Rattle.std.specs.Prelude.{Result, Ok, Err, IfOk, IfErr}
-use Rattle.std.proofs.Common.{◌≡◌, ℕ, List}
+use Rattle.std.proofs.Common.{◌≡◌, ℕ, List, inl, inr}
 use Rattle.mir_parser.specs.declared.program.Program.{Program}
 use Rattle.command_line.specs.declared.command.Command.{Command}
 use Rattle.command_line.specs.declared.command.Plan.{Plan}
 use Rattle.command_line.specs.declared.command.RunPlan.{RunPlan}
-use Rattle.command_line.specs.declared.command.Command.TheVariants.{Compile, Listing, Report, Run, Strip}
+use Rattle.command_line.specs.declared.command.TestPlan.{TestPlan}
+use Rattle.command_line.specs.declared.command.Command.TheVariants.{Compile, Listing, Report, Run, Strip, SelfTest}
 use Rattle.command_line.specs.declared.fault.Fault.{Fault}
 use Rattle.command_line.specs.declared.fault.Fault.TheVariants.{Usage, Read, TooLong, Refused, NoFunction, UnknownFunction}
 use Rattle.command_line.specs.declared.fault.Fault.TheVariants.{FrameTooLarge, SectionTooLarge, Write, Memory}
 use Rattle.compiled_run.specs.Source.{IsUnknown}
-use Rattle.mirdwarf_tool.specs.Answer.{IsReader, Answers, RefusesToCompile, RefusesToWrite, RefusesToRun}
+use Rattle.mirdwarf_tool.specs.Answer.{IsReader, Answers, IsTestText, RefusesToCompile, RefusesToTest, RefusesToWrite, RefusesToRun}
 use Rattle.mirdwarf_tool.specs.Run.{HasReadProgram, HasReadNone, AnswersRead, AnswersInput, ReadingEnds}
-use Rattle.mirdwarf_tool.specs.Stream.{Change}
+use Rattle.mirdwarf_tool.specs.Stream.{Change, IsUnread}
 use Rattle.mirdwarf_tool.specs.Compiled.{plan_steps}
 
 -- ---- a program was read
@@ -33,19 +34,19 @@ module _ (command : Command) (input : Change) (program : Program) (read : HasRea
         refused = record { program = program; has = read.has; refused = refused };
       }
   held_back reads FrameTooLarge refused =
-      record {
+      inl (record {
         reads = reads;
         text = read.text;
         read = read.read;
         refused = record { program = program; has = read.has; refused = refused };
-      }
+      })
   held_back reads SectionTooLarge refused =
-      record {
+      inl (record {
         reads = reads;
         text = read.text;
         read = read.read;
         refused = record { program = program; has = read.has; refused = refused };
-      }
+      })
   held_back reads Memory refused = tt
   held_back reads (Refused r) refused = absurd refused
   held_back reads NoFunction refused = absurd refused
@@ -156,6 +157,29 @@ module _ (run : RunPlan) (input : Change) (program : Program) (read : HasReadPro
   pub run_err : (r : Result (List ℕ) Fault) → IfErr r (RefusesToRun run program) → IfErr r (ReadingEnds (Run run) input)
   run_err (Ok output) refused = tt
   run_err (Err fault) refused = held_back (Run run) input program read tt fault refused
+
+-- ---- self-tests
+
+test_fails : (test : TestPlan) (input : Change) (fault : Fault) → RefusesToTest test fault → ReadingEnds (SelfTest test) input fault
+test_fails test input FrameTooLarge refused = inr refused
+test_fails test input SectionTooLarge refused = inr refused
+test_fails test input Memory refused = tt
+test_fails test input (Refused r) refused = absurd refused
+test_fails test input NoFunction refused = absurd refused
+test_fails test input UnknownFunction refused = absurd refused
+test_fails test input Usage refused = absurd refused
+test_fails test input Read refused = absurd refused
+test_fails test input TooLong refused = absurd refused
+test_fails test input Write refused = absurd refused
+
+module _ (test : TestPlan) (input : Change) where
+  pub test_ok : IsUnread input → (r : Result (List ℕ) Fault) → IfOk r (IsTestText test) → IfOk r (AnswersInput (SelfTest test) input)
+  test_ok unread (Ok output) is = (unread, is)
+  test_ok unread (Err fault) is = tt
+
+  pub test_err : (r : Result (List ℕ) Fault) → IfErr r (RefusesToTest test) → IfErr r (ReadingEnds (SelfTest test) input)
+  test_err (Ok output) refused = tt
+  test_err (Err fault) refused = test_fails test input fault refused
 
 -- ---- the others
 

@@ -13,7 +13,7 @@ use Rattle.output_promise.proofs.HaveWords.{compiled_has_words}
 use Rattle.output_promise.proofs.Headline.{compiled_promises}
 use Rattle.output_promise.proofs.IsExact.{compiled_is_exact}
 use Rattle.output_promise.proofs.LaidOut.{compiled_is_laid_out, compiled_lists_passed}
-use Rattle.program_compiler.specs.Program.{sources_of, IsOutputOf, names_of}
+use Rattle.compiled_run.specs.Program.{sources_of, IsOutputOf, names_of}
 use Rattle.mirdwarf_tool.specs.Compiled.{plan_steps}
 use Rattle.mirdwarf_tool.specs.Promise.{AllGiveBack, AllStopWell, AllListKept}
 use Rattle.mirdwarf_tool.specs.Run.{Finishes, KeepsHeadline, KeepsRegisters, StopsAtReturns, WroteExactly, WroteLaidOut}

@@ -8,3 +8,4 @@ pub mod Kept
 pub mod Stripped
 pub mod Generated
 pub mod Written
+pub mod Plans

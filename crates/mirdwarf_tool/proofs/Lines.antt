@@ -13,7 +13,7 @@ use Rattle.line_laws.specs.Laws.{LieFrom}
 use Rattle.mir_func.specs.Function.{Function, FramedFunction}
 use Rattle.meta_reader.specs.Maps.{Maps}
 use Rattle.output_promise.specs.Source.{PassedFunction}
-use Rattle.program_compiler.specs.Program.{AreCoded, HasSections}
+use Rattle.compiled_run.specs.Program.{AreCoded, HasSections}
 use Rattle.source_lines.specs.declared.compiled.Compiled.{Compiled}
 use Rattle.mirdwarf_tool.specs.Lines.{GivesLines}
 

@@ -1,11 +1,12 @@
 -- Why a run ended as it did.
 use Rattle.std.specs.Prelude.{Option, Some}
-use Rattle.std.proofs.Common.{◌≡◌, ℕ, List, ◌+◌, ap, sym, ◌∙◌, refl, subst, arith}
+use Rattle.std.proofs.Common.{◌≡◌, ℕ, List, ◌+◌, ap, sym, ◌∙◌, refl, subst, inl, inr, arith}
 use Rattle.io_edge.specs.Told.{Takes, TakesCount}
 use Rattle.io_edge.proofs.ToldLemmas.{Takes-told, TakesCount-told}
 use Rattle.command_line.specs.declared.command.Command.{Command}
 use Rattle.command_line.specs.declared.command.Plan.{Plan}
-use Rattle.command_line.specs.declared.command.Command.TheVariants.{Compile, Listing, Report, Run, Strip, Gen}
+use Rattle.command_line.specs.declared.command.TestPlan.{TestPlan}
+use Rattle.command_line.specs.declared.command.Command.TheVariants.{Compile, Listing, Report, Run, Strip, Gen, SelfTest}
 use Rattle.command_line.specs.Command.{IsCommand}
 use Rattle.command_line.proofs.Words.{one_command}
 use Rattle.command_line.specs.declared.fault.Fault.{Fault}
@@ -16,12 +17,12 @@ use Rattle.command_line.specs.Fault.{status_of, line_of}
 use Rattle.mir_parser.specs.declared.program.Program.{Program}
 use Rattle.compiled_text.specs.declared.output.Output.{Output}
 use Rattle.output_laws.proofs.Functions.{printable}
-use Rattle.program_compiler.specs.Program.{IsOutputOf}
+use Rattle.compiled_run.specs.Program.{IsOutputOf}
 use Rattle.reading_laws.proofs.Texts.{programs_are_as_read}
 use Rattle.mirdwarf_tool.specs.Limits.{INPUT_LIMIT}
 use Rattle.mirdwarf_tool.specs.Compiled.{IsCompiledText, plan_steps}
-use Rattle.mirdwarf_tool.specs.Answer.{HasFunctions, IsReader, IsAnswered, RefusesToWrite, RefusesText}
-use Rattle.mirdwarf_tool.specs.Run.{Finishes, HasWritten, Explains, IsTooLong, AnswersRead, AnswersInput}
+use Rattle.mirdwarf_tool.specs.Answer.{HasFunctions, IsReader, IsAnswered, IsTestable, FailsToTest, RefusesToTest, RefusesToWrite, RefusesText}
+use Rattle.mirdwarf_tool.specs.Run.{Finishes, HasWritten, Explains, IsTooLarge, IsTooLong, AnswersRead, AnswersInput}
 use Rattle.mirdwarf_tool.specs.Run.{Refuses, RefusesRead, ReadingEnds, ReadingEnded, TellsRefusal, IsAnswerableText, IsAnswerable, HasRead}
 use Rattle.mirdwarf_tool.specs.Stream.{Change, MetFault, IsReadWhole, IsWrittenWhole, IsTold}
 use Rattle.mirdwarf_tool.proofs.OneProgram.{program_not_refused, programs_one}
@@ -210,6 +211,7 @@ by_text (Report plan) left reads form = form
 by_text (Run run) left reads form = form
 by_text Strip left reads form = form
 by_text (Gen g) left reads form = absurd reads
+by_text (SelfTest test) left reads form = absurd reads
 
 not_refused : (command : Command) (input : Change) (fault : Fault) → IsAnswerable command input.before.bytes → RefusesRead command input fault →
     fault ≡ Memory
@@ -218,6 +220,36 @@ not_refused command input fault answerable refused =
     let text : refused.text ≡ form.text = read_told input refused.text form.text refused.read.whole form.told in
     answered_or_memory command form.text form.program fault form.has form.answered
     (subst (λ (t : List ℕ). RefusesText command t fault) text refused.refused)
+
+-- nor does a self-test fail whose function can be compiled
+tests_or_memory : (test : TestPlan) (fault : Fault) → IsTestable test → RefusesToTest test fault → fault ≡ Memory
+tests_or_memory test FrameTooLarge testable refused = absurd (testable.frames refused)
+tests_or_memory test SectionTooLarge testable refused = absurd (testable.sections refused)
+tests_or_memory test Memory testable refused = refl
+tests_or_memory test (Refused r) testable refused = absurd refused
+tests_or_memory test NoFunction testable refused = absurd refused
+tests_or_memory test UnknownFunction testable refused = absurd refused
+tests_or_memory test Usage testable refused = absurd refused
+tests_or_memory test Read testable refused = absurd refused
+tests_or_memory test TooLong testable refused = absurd refused
+tests_or_memory test Write testable refused = absurd refused
+
+no_test_fails : (command : Command) (left : Option (List ℕ)) (fault : Fault) → IsAnswerable command left → FailsToTest command fault → fault ≡ Memory
+no_test_fails (Compile plan) left fault form fails = absurd fails
+no_test_fails (Listing plan) left fault form fails = absurd fails
+no_test_fails (Report plan) left fault form fails = absurd fails
+no_test_fails (Run run) left fault form fails = absurd fails
+no_test_fails Strip left fault form fails = absurd fails
+no_test_fails (Gen g) left fault form fails = absurd fails
+no_test_fails (SelfTest test) left fault form fails = tests_or_memory test fault form fails
+
+not_too_large : (command : Command) (input : Change) (fault : Fault) → IsAnswerable command input.before.bytes → IsTooLarge command input fault →
+    fault ≡ Memory
+not_too_large command input fault answerable large =
+    elim large [
+      | inl refused ↦ not_refused command input fault answerable refused
+      | inr fails ↦ no_test_fails command input.before.bytes fault answerable fails
+    ]
 
 -- the command that ended is the one that was asked for
 ended_as_asked : (command : Command) (words : List (List ℕ)) (input : Change) (fault : Fault) → IsCommand words command → ReadingEnded words input fault →
@@ -241,9 +273,9 @@ module _ (command : Command) (words : List (List ℕ)) (input output : Change) (
   memory_alone NoFunction explains = not_refused command input NoFunction form (ended_as_asked command words input NoFunction asked explains)
   memory_alone UnknownFunction explains =
       not_refused command input UnknownFunction form (ended_as_asked command words input UnknownFunction asked explains)
-  memory_alone FrameTooLarge explains = not_refused command input FrameTooLarge form (ended_as_asked command words input FrameTooLarge asked explains)
+  memory_alone FrameTooLarge explains = not_too_large command input FrameTooLarge form (ended_as_asked command words input FrameTooLarge asked explains)
   memory_alone SectionTooLarge explains =
-      not_refused command input SectionTooLarge form (ended_as_asked command words input SectionTooLarge asked explains)
+      not_too_large command input SectionTooLarge form (ended_as_asked command words input SectionTooLarge asked explains)
 
   pub complete : (fault : Fault) → Explains words input output fault → status_of fault ≡ status.Memory
   complete fault explains = ap status_of (memory_alone fault explains)

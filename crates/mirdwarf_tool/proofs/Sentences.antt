@@ -14,8 +14,8 @@ use Rattle.output_promise.specs.Laws.{AreCompiledTo}
 use Rattle.output_promise.specs.Promise.{Promises, IsExactFor, IsExact}
 use Rattle.output_promise.specs.Source.{SourceFunction, sources_among}
 use Rattle.shown_program.specs.Program.{program_shown}
-use Rattle.program_compiler.specs.Program.{sources_of, IsOutputOf, names_of}
-use Rattle.program_compiler.proofs.Passed.{all_passed, passed_sources}
+use Rattle.compiled_run.specs.Program.{sources_of, IsOutputOf, names_of}
+use Rattle.compiled_run.proofs.Passed.{all_passed, passed_sources}
 use Rattle.reading_laws.specs.Read.{IsReadProgram}
 use Rattle.mirdwarf_tool.specs.Compiled.{IsCompiledText}
 use Rattle.mirdwarf_tool.specs.Promise.{AllGiveBack, AllStopWell, ListsKept, AllListKept}

@@ -1,12 +1,13 @@
--- What the commands that report and that run wrote.
+-- What the commands that report, that run and that test wrote.
 use Rattle.std.proofs.Common.{◌≡◌, ℕ, List, subst}
 use Rattle.command_line.specs.declared.command.Command.{Command}
 use Rattle.command_line.specs.declared.command.Plan.{Plan}
 use Rattle.command_line.specs.declared.command.RunPlan.{RunPlan}
-use Rattle.command_line.specs.declared.command.Command.TheVariants.{Report, Run}
+use Rattle.command_line.specs.declared.command.TestPlan.{TestPlan}
+use Rattle.command_line.specs.declared.command.Command.TheVariants.{Report, Run, SelfTest}
 use Rattle.command_line.specs.Command.{IsCommand}
 use Rattle.command_line.proofs.Words.{one_command}
-use Rattle.mirdwarf_tool.specs.Run.{Finishes, AnswersRead, AnswersInput, WroteReport, WroteRun}
+use Rattle.mirdwarf_tool.specs.Run.{Finishes, AnswersRead, AnswersInput, WroteReport, WroteRun, WroteTest}
 use Rattle.mirdwarf_tool.specs.Stream.{Change}
 
 module _ (words : List (List ℕ)) (input output : Change) (finished : Finishes words input output) where
@@ -42,3 +43,8 @@ module _ (words : List (List ℕ)) (input output : Change) (finished : Finishes 
         is = answers.answers.answers;
         written = finished.written;
       }
+
+  pub wrote_test : (test : TestPlan) → IsCommand words (SelfTest test) → WroteTest test output
+  wrote_test test asked =
+      let answers : AnswersInput (SelfTest test) input finished.text = answers_asked (SelfTest test) asked in
+      record { text = finished.text; is = answers.1; written = finished.written }

@@ -5,16 +5,19 @@ use Rattle.refusal.specs.declared.first.Refusal.{Refusal}
 use Rattle.mir_parser.specs.declared.program.Program.{Program}
 use Rattle.mir_parser.specs.declared.error.ParseError.TheVariants as errors
 use Rattle.mir_parser.specs.Program.{ReadsText}
-use Rattle.program_compiler.specs.Program.{HasLargeFrame, HasLargeSection}
+use Rattle.compiled_run.specs.Program.{HasLargeFrame, HasLargeSection}
 use Rattle.strip_text.specs.StripText.{stripped_text}
 use Rattle.command_line.specs.declared.command.Command.{Command}
-use Rattle.command_line.specs.declared.command.Command.TheVariants.{Compile, Listing, Report, Run, Strip, Gen}
+use Rattle.command_line.specs.declared.command.Command.TheVariants.{Compile, Listing, Report, Run, Strip, Gen, SelfTest}
 use Rattle.command_line.specs.declared.fault.Fault.{Fault}
 use Rattle.command_line.specs.declared.fault.Fault.TheVariants.{Usage, Read, TooLong, Refused, NoFunction, UnknownFunction}
 use Rattle.command_line.specs.declared.fault.Fault.TheVariants.{FrameTooLarge, SectionTooLarge, Write, Memory}
 use Rattle.command_line.specs.declared.command.RunPlan.{RunPlan}
-use Rattle.compiled_report.specs.Reported.{IsReportText}
+use Rattle.command_line.specs.declared.command.TestPlan.{TestPlan}
+use Rattle.compiled_run.specs.Reported.{IsReportText}
 use Rattle.compiled_run.specs.Source.{IsUnknown, IsRunOfProgram}
+use Rattle.generated_program.specs.Program.{generated_program}
+use Rattle.self_test.specs.Tested.{IsSelfTestOf}
 use Rattle.mirdwarf_tool.specs.Compiled.{plan_steps, IsCompiledText, IsListingText}
 
 -- a text stands for a program with a function
@@ -30,6 +33,7 @@ IsReader (Report plan) = Unit {0}
 IsReader (Run run) = Unit {0}
 IsReader Strip = Unit {0}
 IsReader (Gen g) = ⊥
+IsReader (SelfTest test) = ⊥
 
 -- what a command writes of a program; one that doesn't read writes nothing of any
 abbrev pub Answers : Command → Program → (output : List ℕ) → Type 0
@@ -39,6 +43,7 @@ Answers (Report plan) program output = IsReportText plan.reserve plan.passes pro
 Answers (Run run) program output = IsRunOfProgram (plan_steps run.plan) program run.name run.steps run.arguments run.answers output
 Answers Strip program output = output ≡ stripped_text program.functions
 Answers (Gen g) program output = ⊥
+Answers (SelfTest test) program output = ⊥
 
 -- the program has no function of the name that a command asks for
 abbrev pub HasNoNamed : Command → Program → Type 0
@@ -48,6 +53,7 @@ HasNoNamed (Report plan) program = ⊥
 HasNoNamed (Run run) program = IsUnknown run.name program.functions
 HasNoNamed Strip program = ⊥
 HasNoNamed (Gen g) program = ⊥
+HasNoNamed (SelfTest test) program = ⊥
 
 -- the program is too large for a command: what a command that compiles makes of it has a frame above the limit, and the function that it asks
 -- for is there
@@ -58,6 +64,7 @@ HasFrameTooLarge (Report plan) program = HasLargeFrame (plan_steps plan) program
 HasFrameTooLarge (Run run) program = (IsUnknown run.name program.functions → ⊥) × HasLargeFrame (plan_steps run.plan) program.functions
 HasFrameTooLarge Strip program = ⊥
 HasFrameTooLarge (Gen g) program = ⊥
+HasFrameTooLarge (SelfTest test) program = ⊥
 
 -- or a section
 abbrev pub HasSectionTooLarge : Command → Program → Type 0
@@ -67,6 +74,7 @@ HasSectionTooLarge (Report plan) program = HasLargeSection (plan_steps plan) pro
 HasSectionTooLarge (Run run) program = (IsUnknown run.name program.functions → ⊥) × HasLargeSection (plan_steps run.plan) program
 HasSectionTooLarge Strip program = ⊥
 HasSectionTooLarge (Gen g) program = ⊥
+HasSectionTooLarge (SelfTest test) program = ⊥
 
 -- the programs of which a command writes something
 pub record IsAnswered (command : Command) (program : Program) : Type 0 where
@@ -115,6 +123,37 @@ RefusesToCompile steps program Usage = ⊥
 RefusesToCompile steps program Read = ⊥
 RefusesToCompile steps program TooLong = ⊥
 RefusesToCompile steps program Write = ⊥
+
+-- ---- self-tests
+
+-- the program of the function that a self-test makes up
+abbrev pub tested_program : TestPlan → Program
+tested_program test = generated_program test.function.number test.function.blocks
+
+-- the text of a self-test
+abbrev pub IsTestText : TestPlan → (text : List ℕ) → Type 0
+IsTestText test text = IsSelfTestOf test.plan.reserve test.plan.passes test.function.number test.function.blocks text
+
+-- why a self-test has no text: its function can't be compiled
+abbrev pub RefusesToTest : TestPlan → Fault → Type 0
+RefusesToTest test fault = RefusesToCompile (plan_steps test.plan) (tested_program test) fault
+
+-- its function can be compiled
+pub record IsTestable (test : TestPlan) : Type 0 where
+  pub frames : HasLargeFrame (plan_steps test.plan) (tested_program test).functions → ⊥
+  pub sections : HasLargeSection (plan_steps test.plan) (tested_program test) → ⊥
+
+-- a command is a self-test that has no text
+abbrev pub FailsToTest : Command → Fault → Type 0
+FailsToTest (Compile plan) fault = ⊥
+FailsToTest (Listing plan) fault = ⊥
+FailsToTest (Report plan) fault = ⊥
+FailsToTest (Run run) fault = ⊥
+FailsToTest Strip fault = ⊥
+FailsToTest (Gen g) fault = ⊥
+FailsToTest (SelfTest test) fault = RefusesToTest test fault
+
+-- ---- programs that were read
 
 -- why a command writes nothing of a program
 abbrev pub RefusesToWrite : Command → Program → Fault → Type 0

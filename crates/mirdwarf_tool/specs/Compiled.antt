@@ -5,7 +5,7 @@ use Rattle.compiled_text.specs.Output.{spelling, listing_text}
 use Rattle.command_line.specs.declared.command.Plan.{Plan}
 use Rattle.follow_law.specs.Steps.{Step}
 use Rattle.mir_parser.specs.declared.program.Program.{Program}
-use Rattle.program_compiler.specs.Program.{IsOutputOf, steps_of}
+use Rattle.compiled_run.specs.Program.{IsOutputOf, steps_of}
 
 -- the steps of a plan: those of its passes, where its reserve may be spilled
 abbrev pub plan_steps : Plan → List Step

@@ -8,7 +8,7 @@ use Rattle.line_laws.specs.Laws.{HasCodeAt}
 use Rattle.line_laws.specs.Rows.{GivesLine, IsRowAt}
 use Rattle.meta_reader.specs.Maps.{Maps}
 use Rattle.output_promise.specs.Source.{PassedFunction}
-use Rattle.program_compiler.specs.Program.{HaveCode}
+use Rattle.compiled_run.specs.Program.{HaveCode}
 use Rattle.source_lines.specs.declared.compiled.Compiled.{Compiled}
 use Rattle.source_lines.specs.Program.{program_file, table_of}
 use Rattle.source_lines.specs.Table.{entry_line}

@@ -1,20 +1,21 @@
 -- What a run of the command did to its input, its output and its faults.
-use Rattle.std.specs.Prelude.{◌≡◌, ℕ, ◌+◌, ◌≤◌, List, length, All, Option, Some}
+use Rattle.std.specs.Prelude.{◌≡◌, ◌⊎◌, ℕ, ◌+◌, ◌≤◌, List, length, All, Option, Some}
 use Rattle.compiled_text.specs.declared.output.Output.{Output}
 use Rattle.follow_law.specs.Steps.{Step}
 use Rattle.compiled_text.specs.Shown.{OfShown}
 use Rattle.listing_laws.specs.Laws.{inlined_in}
 use Rattle.mir_parser.specs.declared.program.Program.{Program}
 use Rattle.command_line.specs.declared.command.Command.{Command}
-use Rattle.command_line.specs.declared.command.Command.TheVariants.{Compile, Listing, Report, Run, Strip, Gen}
+use Rattle.command_line.specs.declared.command.Command.TheVariants.{Compile, Listing, Report, Run, Strip, Gen, SelfTest}
 use Rattle.command_line.specs.declared.command.Plan.{Plan}
 use Rattle.command_line.specs.declared.command.RunPlan.{RunPlan}
+use Rattle.command_line.specs.declared.command.TestPlan.{TestPlan}
 use Rattle.command_line.specs.declared.fault.Fault.{Fault}
 use Rattle.command_line.specs.declared.fault.Fault.TheVariants.{Usage, Read, TooLong, Refused, NoFunction, UnknownFunction}
 use Rattle.command_line.specs.declared.fault.Fault.TheVariants.{FrameTooLarge, SectionTooLarge, Write, Memory}
 use Rattle.command_line.specs.Command.{IsCommand}
 use Rattle.command_line.specs.Fault.{line_of}
-use Rattle.compiled_report.specs.Reported.{IsReportText}
+use Rattle.compiled_run.specs.Reported.{IsReportText}
 use Rattle.compiled_run.specs.Source.{IsRunOfProgram}
 use Rattle.generated_text.specs.GeneratedText.{generated_text}
 use Rattle.names_of_bytes.specs.Bytes.{AreBytes}
@@ -23,10 +24,11 @@ use Rattle.strip_text.specs.StripText.{stripped_text}
 use Rattle.mirdwarf_tool.specs.Limits.{INPUT_LIMIT}
 use Rattle.mirdwarf_tool.specs.Compiled.{plan_steps}
 use Rattle.mirdwarf_tool.specs.Answer.{HasFunctions, IsReader, AnswersText, IsAnswered, RefusesProgram, RefusesText}
+use Rattle.mirdwarf_tool.specs.Answer.{IsTestText, IsTestable, FailsToTest}
 use Rattle.output_promise.specs.Promise.{AreLaidOut, Promises, IsExact, ListsPassed}
 use Rattle.output_promise.specs.Source.{PassedFunction}
 use Rattle.output_promise.specs.Words.{HaveWords}
-use Rattle.program_compiler.specs.Program.{sources_of, ArePassed, HasSections, IsMadeBy, names_of}
+use Rattle.compiled_run.specs.Program.{sources_of, ArePassed, HasSections, IsMadeBy, names_of}
 use Rattle.mirdwarf_tool.specs.Lines.{GivesLines}
 use Rattle.mirdwarf_tool.specs.Promise.{AllGiveBack, AllStopWell, AllListKept}
 use Rattle.mirdwarf_tool.specs.Stream.{Change, MetFault, IsUnread, IsReadWhole, IsReadFor, IsWrittenWhole, IsWrittenInPart, IsTold}
@@ -53,7 +55,7 @@ pub record AnswersRead (command : Command) (input : Change) (output : List ℕ) 
   pub read : HasRead input text
   pub answers : AnswersText command text output
 
--- this is what a command writes: of the text that was read, or the text of a function that is made up, for which nothing is read
+-- this is what a command writes: of the text that was read, or the text of a function that is made up or of its self-test, for which nothing is read
 abbrev pub AnswersInput : Command → (input : Change) → (output : List ℕ) → Type 0
 AnswersInput (Compile plan) input output = AnswersRead (Compile plan) input output
 AnswersInput (Listing plan) input output = AnswersRead (Listing plan) input output
@@ -61,6 +63,7 @@ AnswersInput (Report plan) input output = AnswersRead (Report plan) input output
 AnswersInput (Run run) input output = AnswersRead (Run run) input output
 AnswersInput Strip input output = AnswersRead Strip input output
 AnswersInput (Gen g) input output = IsUnread input × (output ≡ generated_text g.number g.blocks)
+AnswersInput (SelfTest test) input output = IsUnread input × IsTestText test output
 
 -- the words are a command's, and this is what it writes
 pub record Accepts (words : List (List ℕ)) (input : Change) (output : List ℕ) : Type 0 where
@@ -110,14 +113,18 @@ pub record RefusesRead (command : Command) (input : Change) (fault : Fault) : Ty
   pub read : HasRead input text
   pub refused : RefusesText command text fault
 
--- why a command refuses an input: it reads it, and it is too long, or its text is refused
+-- what a command would compile is too large: of the text that was read, or the function of a self-test
+abbrev pub IsTooLarge : Command → (input : Change) → Fault → Type 0
+IsTooLarge command input fault = RefusesRead command input fault ⊎ FailsToTest command fault
+
+-- why a command refuses an input: it reads it, and it is too long, or its text is refused; or a self-test can't be compiled
 abbrev pub Refuses : Command → (input : Change) → Fault → Type 0
 Refuses command input TooLong = IsReader command × IsTooLong input
 Refuses command input (Refused r) = RefusesRead command input (Refused r)
 Refuses command input NoFunction = RefusesRead command input NoFunction
 Refuses command input UnknownFunction = RefusesRead command input UnknownFunction
-Refuses command input FrameTooLarge = RefusesRead command input FrameTooLarge
-Refuses command input SectionTooLarge = RefusesRead command input SectionTooLarge
+Refuses command input FrameTooLarge = IsTooLarge command input FrameTooLarge
+Refuses command input SectionTooLarge = IsTooLarge command input SectionTooLarge
 Refuses command input Usage = ⊥
 Refuses command input Read = ⊥
 Refuses command input Write = ⊥
@@ -140,7 +147,7 @@ pub record IsAnswerableText (command : Command) (left : Option (List ℕ)) : Typ
   pub has : HasFunctions text program
   pub answered : IsAnswered command program
 
--- so they are for a command that reads; one that doesn't is answered whatever the input
+-- so they are for a command that reads; one that doesn't is answered whatever the input, a self-test if its function can be compiled
 abbrev pub IsAnswerable : Command → (left : Option (List ℕ)) → Type 0
 IsAnswerable (Compile plan) left = IsAnswerableText (Compile plan) left
 IsAnswerable (Listing plan) left = IsAnswerableText (Listing plan) left
@@ -148,6 +155,7 @@ IsAnswerable (Report plan) left = IsAnswerableText (Report plan) left
 IsAnswerable (Run run) left = IsAnswerableText (Run run) left
 IsAnswerable Strip left = IsAnswerableText Strip left
 IsAnswerable (Gen g) left = Unit {0}
+IsAnswerable (SelfTest test) left = IsTestable test
 
 -- a text was read that stands for a program with a function, bytes were written, and this holds of every output that they show (there is one)
 pub record HasWritten (P : Program → Output → Type 0) (input output : Change) : Type 0 where
@@ -224,6 +232,12 @@ WroteReport plan input output = WroteText (IsReportText plan.reserve plan.passes
 abbrev pub WroteRun : RunPlan → (input output : Change) → Type 0
 WroteRun run input output =
     WroteText (λ p. IsRunOfProgram (plan_steps run.plan) p run.name run.steps run.arguments run.answers) input output
+
+-- the text of the self-test that is asked for was written
+pub record WroteTest (test : TestPlan) (output : Change) : Type 0 where
+  pub text : List ℕ
+  pub is : IsTestText test text
+  pub written : IsWrittenWhole output text
 
 -- A text was read, and its functions were written without their debug items. What was written is read in turn: it stands for the program without
 -- its debug items, and the command that strips writes the same text of it again.

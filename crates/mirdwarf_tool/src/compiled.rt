@@ -1,22 +1,24 @@
 //! What is written of a program by the commands that compile.
 
 ghost use Rattle.std.specs.Prelude.{◌≡◌, ◌↔◌, IfOk, IfErr, IsTrue};
-ghost use Rattle.compiled_report.specs.Reported.{IsReportText};
+ghost use Rattle.compiled_run.specs.Reported.{IsReportText};
 ghost use Rattle.compiled_run.specs.Source.{IsRunOfProgram};
-ghost use Rattle.mirdwarf_tool.specs.Answer.{RefusesToCompile, RefusesToRun};
+ghost use Rattle.command_line.specs.Command.{IsWithin};
+ghost use Rattle.mirdwarf_tool.specs.Answer.{IsTestText, RefusesToCompile, RefusesToRun, RefusesToTest};
 ghost use Rattle.mirdwarf_tool.specs.Compiled.{plan_steps, IsCompiledText, IsListingText};
-ghost use Rattle.program_compiler.specs.Program.{IsOutputOf, IsCompilationOf};
+ghost use Rattle.compiled_run.specs.Program.{IsOutputOf, IsCompilationOf};
 ghost use Rattle.reading_laws.specs.Read.{IsReadProgram};
 
-use command_line::command::{Plan, RunPlan};
+use command_line::command::{Plan, RunPlan, TestPlan};
 use command_line::fault::Fault;
-use compiled_report::report::report;
+use compiled_run::compile::{Compilation, CompileError, compile};
 use compiled_run::name::is_unknown;
+use compiled_run::report::report;
 use compiled_run::run::run;
 use compiled_text::print::{print_listing, print_output};
 use mir_parser::program::Program;
 use mir_printer::text::Text;
-use program_compiler::compile::{Compilation, CompileError, compile};
+use self_test::text::self_test;
 use std::alloc::Global;
 
 /// The sections and the listing of a program after passes.
@@ -96,6 +98,30 @@ fn run_of(
         Ok(Some(text)) => Ok(text),
         Ok(None) => Err(Fault::UnknownFunction),
         Err(_) => Err(Fault::Memory),
+    }
+}
+
+/// The text of the self-test that is asked for. Memory runs out too where its function makes 2^64 - 1 steps before it
+/// comes to a line of its machine code.
+pub fn test_text(alloc: Global, asked: &TestPlan) -> Result<Text, Fault>
+    requires { IsWithin asked.now.function }
+    ensures ok { IfOk result (IsTestText asked.now) }
+    ensures err { IfErr result (RefusesToTest asked.now) }
+{
+    match self_test(
+        alloc,
+        asked.function.number,
+        asked.function.blocks,
+        asked.plan.passes.as_slice(),
+        asked.plan.reserve.as_slice(),
+    ) {
+        Ok(Some(text)) => Ok(text),
+        Ok(None) => Err(Fault::Memory),
+        Err(error) => match error {
+            CompileError::FrameTooLarge => Err(Fault::FrameTooLarge),
+            CompileError::SectionTooLarge => Err(Fault::SectionTooLarge),
+            CompileError::Memory => Err(Fault::Memory),
+        },
     }
 }
 

@@ -4,17 +4,19 @@ ghost use Rattle.std.specs.Prelude.{◌≡◌, ◌≢◌, ◌≤◌, ◌↔◌, 
 ghost use Rattle.command_line.specs.Command.{AreWithin, IsCommand};
 ghost use Rattle.command_line.specs.declared.command.Plan.{Plan};
 ghost use Rattle.command_line.specs.declared.command.RunPlan.{RunPlan};
+ghost use Rattle.command_line.specs.declared.command.TestPlan.{TestPlan};
 ghost use Rattle.command_numbers.specs.declared.generation.Generation.{Generation};
 ghost use Rattle.generated_text.specs.GeneratedText.{generated_text};
 ghost use Rattle.mirdwarf_tool.specs.Compiled.{plan_steps};
 ghost use Rattle.command_line.specs.Fault.{line_of};
 ghost use Rattle.mirdwarf_tool.specs.Run.{AreCommand, AnswersInput, Finishes, IsCutOff, TellsRefusal, IsAnswerable};
 ghost use Rattle.mirdwarf_tool.specs.Run.{KeepsHeadline, KeepsRegisters, StopsAtReturns, WroteExactly, WroteLaidOut};
-ghost use Rattle.mirdwarf_tool.specs.Run.{WroteKept, WroteWords, WrotePassed, WroteReport, WroteRun, WroteStripped};
+ghost use Rattle.mirdwarf_tool.specs.Run.{WroteKept, WroteWords, WrotePassed, WroteReport, WroteRun, WroteTest};
+ghost use Rattle.mirdwarf_tool.specs.Run.{WroteStripped};
 ghost use Rattle.mirdwarf_tool.specs.Run.{HasReadProgram, HasReadNone, Explains, ReadingEnds};
 ghost use Rattle.mirdwarf_tool.specs.Stream.{change, MetFault, IsWrittenWhole, IsTold};
 
-use crate::compiled::{compiled_text, listing_text, report_text, run_text};
+use crate::compiled::{compiled_text, listing_text, report_text, run_text, test_text};
 use crate::reading::program_of;
 use crate::telling::tell;
 use command_line::command::{Command, parse};
@@ -40,7 +42,9 @@ pub const LIMIT: usize = 16_777_216;
 /// each function at how many of its words each variable can be found, and what the passes lost. `run` with a
 /// function's name, a number of steps and such options writes a line for each step of its machine code, with what its
 /// variables hold. `strip` writes the functions without their debug items. `gen` reads nothing, and writes the text of
-/// the function that is made up from its two numbers. A fault is told by a line on `faults`.
+/// the function that is made up from its two numbers; `selftest`, with such numbers and the options of `compile`, reads
+/// nothing either, and writes how much of such a function its location lists tell along a run of its machine code. A
+/// fault is told by a line on `faults`.
 pub fn mirdwarf<S: Source, K: Sink, E: Sink>(
     alloc: Global,
     words: &[String],
@@ -123,6 +127,15 @@ pub fn mirdwarf<S: Source, K: Sink, E: Sink>(
     ensures generated_unread { (g : Generation) → IsCommand (map string_bytes words.now) (Command.Gen g) →
         input.new ≡ input.old }
 
+    // `selftest` reads nothing, and writes the self-test that its words ask for: of what passes make of the function
+    // that is made up, of the run of its machine code beside it, how many values its lists give and how many of its
+    // variables' values are known. No more are given than are known.
+    ensures tested { (test : TestPlan) → result ≡ Status.Done →
+        IsCommand (map string_bytes words.now) (Command.SelfTest test) →
+        WroteTest test (change K.written K.faults output.old output.new) }
+    ensures tested_unread { (test : TestPlan) → IsCommand (map string_bytes words.now) (Command.SelfTest test) →
+        input.new ≡ input.old }
+
     // A text that the command answers is answered, unless a fault is met or memory runs out.
     ensures complete { (command : Command) → IsCommand (map string_bytes words.now) command →
         IsAnswerable command (S.left input.old) →
@@ -172,6 +185,8 @@ fn run<S: Source, K: Sink>(
     ensures unread { IsErrOf result Fault.Usage → input.new ≡ input.old }
     ensures generated_unread { (g : Generation) → IsCommand (map string_bytes words.now) (Command.Gen g) →
         input.new ≡ input.old }
+    ensures tested_unread { (test : TestPlan) → IsCommand (map string_bytes words.now) (Command.SelfTest test) →
+        input.new ≡ input.old }
     ensures unwritten { IfErr result (λ fault. fault ≢ Fault.Write → output.new ≡ output.old) }
     ensures input_counts { S.faults input.old ≤ S.faults input.new }
     ensures output_counts { K.faults output.old ≤ K.faults output.new }
@@ -192,6 +207,7 @@ fn answered<S: Source>(alloc: Global, command: Command, input: &mut S) -> Result
     ensures ok { IfOk result (AnswersInput command (change S.left S.faults input.old input.new)) }
     ensures err { IfErr result (ReadingEnds command (change S.left S.faults input.old input.new)) }
     ensures unread { (g : Generation) → command ≡ Command.Gen g → input.new ≡ input.old }
+    ensures test_unread { (test : TestPlan) → command ≡ Command.SelfTest test → input.new ≡ input.old }
     ensures counts { S.faults input.old ≤ S.faults input.new }
 {
     match command {
@@ -216,6 +232,7 @@ fn answered<S: Source>(alloc: Global, command: Command, input: &mut S) -> Result
             Ok(strip_text(alloc, program.functions.as_slice())?)
         }
         Command::Gen(asked) => Ok(print_generated(alloc, asked.number, asked.blocks)?),
+        Command::SelfTest(asked) => test_text(alloc, &asked),
     }
 }
 

@@ -9,6 +9,7 @@
 //! writes how many of each function's words its variables can be found at, and what passes lost; `run` the run of a
 //! function's machine code, step by step, with what its variables hold. All that is written is one text, which is whole
 //! before its first byte stands on the output. `gen` reads nothing: it writes the text of a function that is made up.
+//! Nor does `selftest`, which compiles such a function, runs it, and writes how much its location lists tell.
 #![tactic(auto)]
 
 mod compiled;

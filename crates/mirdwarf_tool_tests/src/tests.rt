@@ -416,6 +416,18 @@ const TOLD: [(&[&str], &str, Ending<'static>); 11] = [
     (&["report", "--passes=none"], LARGE, FRAME),
 ];
 
+/// Words of self-tests, and what they write.
+const TESTED: [(&[&str], &str); 2] = [
+    (
+        &["selftest", "0", "1"],
+        "items 15\nwords 4\nsteps 4\nreads 6\nknown 9\n",
+    ),
+    (
+        &["selftest", "0", "1", "--passes=none"],
+        "items 15\nwords 12\nsteps 12\nreads 15\nknown 15\n",
+    ),
+];
+
 /// Words, a function and faults of runs, and how they end.
 const ENDINGS: [(&[&str], &str, Faulty, Ending<'static>); 17] = [
     (&[], RETURN, NO_FAULT, USAGE),
@@ -650,6 +662,23 @@ fn compiles_what_is_made_up(rt: HostRuntime) -> Result<(), Fail> {
     assert_eq!(rt; status, 0);
     assert!(rt; output.written().starts_with(b"section .text "));
     Ok(())
+}
+
+/// A self-test reads nothing: of the function of number 0 with one block it tells how many known values passes leave.
+#[test]
+fn tests_itself(rt: HostRuntime) -> Result<(), Fail> {
+    let alloc = rt.alloc();
+    let faulty = Faulty {
+        read: 1,
+        room: ROOM,
+        write: 0,
+    };
+    for (words, want) in TESTED {
+        let text = text_of(alloc, "no text")?;
+        ends(&rt, alloc, words, text, &faulty, (0, want, ""))?;
+    }
+    let many = &["selftest", "65537", "1"];
+    ends(&rt, alloc, many, text_of(alloc, RETURN)?, &NO_FAULT, USAGE)
 }
 
 /// Passes run in the order of their list, and a list has none twice.

@@ -21,8 +21,8 @@ use Rattle.dead_copies.specs.declared.off.Copied.{Copied}
 use Rattle.dead_copies.specs.Off.{copied_by, numbered_copy, SoFar, off_at}
 use Rattle.dead_copies.specs.Blocks.{going_from, BlocksSoFar, in_block, blocks_off}
 use Rattle.dead_salvage.specs.Laws.{begins_off}
-use Rattle.dead_debug.specs.Ledger.{Line, line_by, line_of, line_of_copy, lines_of, lines_down, lines_in, ledger}
-use Rattle.dead_debug.specs.Rule.{dead_rule}
+use Rattle.dead_pass.specs.Ledger.{Line, line_by, line_of, line_of_copy, lines_of, lines_down, lines_in, ledger}
+use Rattle.dead_pass.specs.Rule.{dead_rule}
 use Rattle.pass_loop.specs.Shown.{IsGiven}
 
 -- the register of its phi isn't x0

@@ -7,8 +7,8 @@ use Rattle.follow_law.specs.Change.{Change}
 use Rattle.follow_law.specs.declared.loss.Loss.{Loss}
 use Rattle.follow_law.specs.Steps.{KeepsSteps}
 use Rattle.copy_debug.specs.Rule.{copy_step}
-use Rattle.dead_debug.specs.Rule.{dead_rule}
-use Rattle.dead_steps.specs.Steps.{repeated, round_step, most_rounds}
+use Rattle.dead_pass.specs.Rule.{dead_rule}
+use Rattle.dead_pass.specs.Steps.{repeated, round_step, most_rounds}
 use Rattle.fold_debug.specs.Debug.{fold_step}
 use Rattle.pass_list.specs.declared.kind.PassKind.{PassKind}
 use Rattle.pass_list.specs.declared.kind.PassKind.TheVariants.{Copy, Remat, Spill, Dead, Fold}

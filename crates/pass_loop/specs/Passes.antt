@@ -5,7 +5,7 @@ use Rattle.follow_law.specs.Change.{Change}
 use Rattle.follow_law.specs.Sizes.{greatest, greatest_number, item_count, code_count, call_count, IsPhysical, most}
 use Rattle.follow_law.specs.Steps.{Step}
 use Rattle.copy_debug.specs.Rule.{copy_step}
-use Rattle.dead_steps.specs.Steps.{dead_steps}
+use Rattle.dead_pass.specs.Steps.{dead_steps}
 use Rattle.fold_debug.specs.Debug.{fold_step}
 use Rattle.pass_list.specs.declared.kind.PassKind.{PassKind}
 use Rattle.pass_list.specs.declared.kind.PassKind.TheVariants.{Copy, Remat, Spill, Dead, Fold}

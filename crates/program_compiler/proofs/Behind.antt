@@ -13,8 +13,8 @@ use Rattle.dwarf_loclists.specs.Ranges.{Ascend, ArePlaces}
 use Rattle.follow_law.specs.declared.loss.Loss.{Loss}
 use Rattle.function_emit.specs.declared.emit.Made.{Made}
 use Rattle.function_emit.specs.Emitted.{names_of, AreWritable, IsPushed}
-use Rattle.function_passes.proofs.AfterPasses.{made_by}
-use Rattle.function_passes.specs.Passed.{source_of, IsMadeBy, IsMadeLosing, IsCompilable, steps_of}
+use Rattle.function_emit.proofs.AfterPasses.{made_by}
+use Rattle.function_emit.specs.Passed.{source_of, IsMadeBy, IsMadeLosing, IsCompilable, steps_of}
 use Rattle.meta_reader.specs.Maps.{Maps}
 use Rattle.mir_body.specs.Limits.{MAX_ITEMS}
 use Rattle.mir_func.specs.Function.{Function}

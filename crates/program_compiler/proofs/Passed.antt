@@ -3,7 +3,7 @@ use Rattle.std.proofs.Common.{◌≡◌, ◌∙◌, ℕ, zero, suc, List, [], �
 use Rattle.std.specs.Prelude.{slice_get}
 use Rattle.std.proofs.lemmas.List.Elements.{All-nil, All-cons}
 use Rattle.code_words.specs.Laid.{LaidCode}
-use Rattle.function_passes.specs.Passed.{source_of, IsCompilable}
+use Rattle.function_emit.specs.Passed.{source_of, IsCompilable}
 use Rattle.meta_reader.specs.Maps.{Maps}
 use Rattle.mir_parser.specs.declared.closing.Parsed.{Parsed}
 use Rattle.output_promise.specs.Source.{SourceFunction, PassedFunction, IsPassedFunction, sources_among}

@@ -2,7 +2,7 @@
 
 ghost use Rattle.std.specs.Prelude.{◌≡◌, ◌<◌, [], IfOk, IsErrOf};
 ghost use Rattle.pass_list.specs.Names.{AreDistinct};
-ghost use Rattle.function_passes.specs.Passed.{steps_of};
+ghost use Rattle.function_emit.specs.Passed.{steps_of};
 ghost use Rattle.program_compiler.specs.Program.{IsOutputOf, IsCompilationOf, HasLargeFrame, HasLargeSection};
 ghost use Rattle.program_compiler.specs.declared.compile.CompileError.TheVariants.{Memory};
 ghost use Rattle.program_compiler.specs.steps.Made.{AreMade};

@@ -76,7 +76,7 @@ module _ (a b : ℕ) where
   others_same (c ∷ bs) =
       let e = items_same c.items in let es = others_same bs in λ i. record { id = c.id; items = e i; silent = c.silent } ∷ es i
 
-  blocks_same : (bs : List Block) → spilled_blocks s [] bs ≡ bs
+  pub blocks_same : (bs : List Block) → spilled_blocks s [] bs ≡ bs
   blocks_same [] = refl
   blocks_same (c ∷ bs) =
       let e = items_same c.items in let es = others_same bs in λ i. record { id = c.id; items = e i; silent = c.silent } ∷ es i

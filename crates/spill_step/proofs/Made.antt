@@ -12,7 +12,7 @@ use Rattle.spill_rule.specs.Choice.{homes_of, spilling_of, entry_of, spilled}
 use Rattle.spill_whole.specs.Whole.{spilled_by, where_spilled}
 use Rattle.spill_whole.proofs.Bare.{choice_is_bare}
 use Rattle.spill_step.specs.Laws.{SpilledCodeIsMade}
-use Rattle.spill_step.proofs.Same.{blocks_same}
+use Rattle.spill_rule.proofs.RuleFollows.{blocks_same}
 
 module _ (reserve : List ℕ) (live : ℕ → Bool) (k : ℕ) (f : Function) where
   abbrev s : Spilling

@@ -1,11 +1,12 @@
 use Rattle.std.proofs.Common.{◌≤◌, map, ◌∙◌, arith}
 use Rattle.std.specs.Prelude.{string_bytes}
+use Rattle.command_line.specs.Command.{MAX_STEPS}
 use Rattle.command_line.proofs.Words.{the_steps}
 use Rattle.command_line.proofs.command.steps_asked.Goals as goal
 
 pub overflow_cast-count : goal.overflow_cast-count
 overflow_cast-count c =
-    let few : c.in-Some.count ≤ 1000000 = ((c.number.ensures c.in-Some.count).0 c.in-Some.is).1 in
+    let few : c.in-Some.count ≤ MAX_STEPS = ((c.number.ensures c.in-Some.count).0 c.in-Some.is).1 in
     omega (arith, few)
 
 pub returns : goal.returns

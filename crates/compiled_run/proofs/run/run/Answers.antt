@@ -3,7 +3,7 @@ use Rattle.std.specs.Prelude.{slice_get}
 use Rattle.std.proofs.lemmas.Option.{get_or_from_slice_get, slice_get_read, slice_get_within}
 use Rattle.code_words.specs.Laid.{LaidCode}
 use Rattle.compiled_text.specs.declared.output.ListedFunction.{ListedFunction}
-use Rattle.program_compiler.specs.declared.compile.Compilation.{Compilation}
+use Rattle.compiled_report.specs.Compilation.{Compilation}
 use Rattle.run_answer.specs.Asked.{IsTextOfAskedRun}
 use Rattle.run_lines.specs.declared.variable.Variable.{Variable}
 use Rattle.run_lines.specs.Variables.{variable_of}

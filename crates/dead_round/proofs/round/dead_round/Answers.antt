@@ -8,7 +8,7 @@ use Rattle.dead_round.specs.Round.{IsDeadRound}
 use Rattle.live_flow.specs.Liveness.{AreLiveSets}
 use Rattle.dead_salvage.proofs.Chain.{numbers_off}
 use Rattle.dead_round.proofs.Live.{still_live}
-use Rattle.dead_round.proofs.Made.{some_dead, none_dead, all_dead, round_made}
+use Rattle.dead_round.proofs.Made.{some_dead, none_dead, round_made}
 use Rattle.dead_round.proofs.round.dead_round.Goals as goal
 
 pub returns-then-not-has_dead-clause-round : goal.returns-then-not-has_dead-clause-round
@@ -17,18 +17,6 @@ returns-then-not-has_dead-clause-round c =
     let dead : List (List Bool) = c.in_ok-dead.dead in
     let none : some_dead dead ≡ false = ap some_dead (sym c.as_slice.ensures) ∙ sym c.has_dead.ensures ∙ c.if-not-has_dead.true in
     (refl, refl, none_dead f dead c.in_ok-dead.ensures (subst IsSound c.f.view_is c.f.invariant) none)
-
-pub put_in_order-requires : goal.put_in_order-requires
-put_in_order-requires c =
-    let f : Function = c.args.f.now in
-    let subs : List Entry = c.args.subs.now in
-    let dead : List (List Bool) = c.in_ok-dead.dead in
-    let some : some_dead dead ≡ true = ap some_dead (sym c.as_slice.ensures) ∙ sym c.has_dead.ensures ∙ c.if-not-has_dead.false in
-    let mid_is : c.copies_off.new.f ≡ function_off f subs dead = c.in_ok-lost.ensures.function ∙ ap (function_off f subs) c.as_slice-2.ensures in
-    let before_is : c.in_ok-lost.lost.items ≡ (all_off f subs dead).lost =
-    c.in_ok-lost.ensures.lost ∙ ap (λ (ds : List (List Bool)). (all_off f subs ds).lost) c.as_slice-2.ensures in
-    all_dead f subs dead c.in_ok-dead.ensures (subst IsSound c.f.view_is c.f.invariant) some c.copies_off.new.f c.take_out_dead.new.f mid_is
-    c.in_ok-lost.lost.items c.take_out_dead.new.lost.items before_is _ c.in_ok-take_out_dead.ensures
 
 pub returns-clause-round : goal.returns-clause-round
 returns-clause-round c =

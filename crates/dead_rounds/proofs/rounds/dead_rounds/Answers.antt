@@ -4,8 +4,8 @@ use Rattle.mir_func.specs.Function.{Function}
 use Rattle.follow_law.specs.declared.loss.Loss.{Loss}
 use Rattle.follow_law.specs.Sizes.{code_count}
 use Rattle.dead_code.specs.Dead.{IsRound}
-use Rattle.dead_round.specs.Round.{IsDeadRound, IsRoundWith}
-use Rattle.dead_round.proofs.Follows.{round_code}
+use Rattle.dead_sizes.specs.Round.{IsDeadRound, IsRoundWith}
+use Rattle.dead_sizes.proofs.Follows.{round_code}
 use Rattle.dead_rounds.proofs.Loop.{going_begins, room, going_on, going_stops, going_ends}
 use Rattle.dead_rounds.proofs.rounds.dead_rounds.Goals as goal
 

@@ -1,16 +1,10 @@
-use Rattle.std.proofs.Common.{◌≡◌, ◌↔◌, ℕ, List, All, Contains, Bool, Option, nat_eq, subst, sym, ap, ◌∙◌}
+use Rattle.std.proofs.Common.{◌≡◌, ◌↔◌, ℕ, List, Contains, Bool, Option, nat_eq, subst, sym, ap, ◌∙◌}
 use Rattle.std.specs.HashSet.{contains}
 use Rattle.follow_law.specs.declared.loss.Loss.{Loss}
 use Rattle.fold_ways.specs.Leads.{lead}
 use Rattle.fold_ways.specs.Ends.{told, end_in}
-use Rattle.fold_debug.specs.Lost.{IsFoldReason, all_lost}
-use Rattle.fold_lost.proofs.Turns.{lost_reasons}
+use Rattle.fold_debug.specs.Lost.{all_lost}
 use Rattle.fold_lost.proofs.lost.fold_losses.Goals as goal
-
-pub put_in_order-requires : goal.put_in_order-requires
-put_in_order-requires c =
-    subst (λ (ls : List Loss). All (λ (l : Loss). IsFoldReason l.reason) ls) (sym c.in_ok-losses.ensures)
-    (lost_reasons (end_in c.args.ways.now.ends) (contains nat_eq c.args.ways.now.reached) (told c.args.ways.now.leads) c.args.blocks.now)
 
 pub returns-clause-each : goal.returns-clause-each
 returns-clause-each c = λ l.

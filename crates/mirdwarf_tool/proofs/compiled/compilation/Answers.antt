@@ -1,17 +1,12 @@
 -- The passes that run are those of the plan, with its reserve.
-use Rattle.std.proofs.Common.{◌≡◌, ℕ, List, sym, subst}
-use Rattle.pass_list.specs.declared.kind.PassKind.{PassKind}
+use Rattle.std.proofs.Common.{sym, subst}
 use Rattle.pass_list.specs.Names.{AreDistinct}
-use Rattle.program_compiler.specs.Program.{IsOutputOf, IsCompilationOf, HasLargeFrame, HasLargeSection, steps_of}
+use Rattle.compiled_run.specs.Program.{IsOutputOf, IsCompilationOf, HasLargeFrame, HasLargeSection, steps_of}
+use Rattle.mirdwarf_tool.proofs.Plans.{by_plan}
 use Rattle.mirdwarf_tool.proofs.compiled.compilation.Goals as goal
 
 pub compile-requires-clause-distinct : goal.compile-requires-clause-distinct
 compile-requires-clause-distinct c = subst AreDistinct (sym c.as_slice.ensures.value) c.as_slice.ensures.distinct
-
--- what holds of a reserve and of passes holds of those of the plan
-by_plan : (P : List ℕ → List PassKind → Type 0) (passes list : List PassKind) (reserve registers : List ℕ) → passes ≡ list → reserve ≡ registers →
-    P reserve passes → P registers list
-by_plan P passes list reserve registers same kept holds = subst (P registers) same (subst (λ (r : List ℕ). P r passes) kept holds)
 
 pub returns-in-Ok-clause-output : goal.returns-in-Ok-clause-output
 returns-in-Ok-clause-output c =

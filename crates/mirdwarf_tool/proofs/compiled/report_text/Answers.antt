@@ -1,11 +1,11 @@
 -- The report of a compilation is the program's.
 use Rattle.std.proofs.Common.{◌≡◌, ℕ, List, sym, subst}
-use Rattle.compiled_report.proofs.Reported.{compilation_reported}
-use Rattle.compiled_report.specs.Reported.{IsReportText, compilation_report}
+use Rattle.compiled_run.proofs.Reported.{compilation_reported}
+use Rattle.compiled_run.specs.Reported.{IsReportText, compilation_report}
 use Rattle.mir_parser.specs.declared.program.Program.{Program}
 use Rattle.pass_list.specs.declared.kind.PassKind.{PassKind}
-use Rattle.program_compiler.specs.declared.compile.Compilation.{Compilation}
-use Rattle.program_compiler.specs.Program.{IsCompilationOf}
+use Rattle.compiled_run.specs.Compilation.{Compilation}
+use Rattle.compiled_run.specs.Program.{IsCompilationOf}
 use Rattle.mirdwarf_tool.proofs.compiled.report_text.Goals as goal
 
 pub report-requires : goal.report-requires

@@ -7,8 +7,8 @@ use Rattle.compiled_run.proofs.Source.{run_of_program, names_are_read}
 use Rattle.compiled_run.specs.Runs.{HasNone, IsRunOf}
 use Rattle.compiled_run.specs.Source.{IsUnknown, IsRunOfProgram}
 use Rattle.mir_parser.specs.declared.program.Program.{Program}
-use Rattle.program_compiler.specs.declared.compile.Compilation.{Compilation}
-use Rattle.program_compiler.specs.Program.{IsCompilationOf, IsOutputOf}
+use Rattle.compiled_run.specs.Compilation.{Compilation}
+use Rattle.compiled_run.specs.Program.{IsCompilationOf, IsOutputOf}
 use Rattle.mirdwarf_tool.specs.Compiled.{plan_steps}
 use Rattle.mirdwarf_tool.proofs.compiled.run_of.Goals as goal
 

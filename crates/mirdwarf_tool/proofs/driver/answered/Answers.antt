@@ -1,11 +1,13 @@
--- What each command that reads writes of the program that was read.
-use Rattle.std.proofs.Common.{sym, ap, ◌∙◌, subst, IfOk, IfErr}
+-- What each command writes: those that read, of the program that was read.
+use Rattle.std.proofs.Common.{sym, ap, ◌∙◌, subst, refl, IfOk, IfErr}
 use Rattle.reading_laws.proofs.Texts.{programs_are_as_read}
 use Rattle.strip_text.specs.StripText.{stripped_text}
+use Rattle.command_line.specs.Command.{AreWithin}
 use Rattle.command_line.specs.declared.command.Command.{Command}
 use Rattle.mirdwarf_tool.specs.Run.{AnswersInput, ReadingEnds}
 use Rattle.mirdwarf_tool.specs.Stream.{change}
 use Rattle.mirdwarf_tool.proofs.AnswerLemmas.{compile_ok, compile_err, listing_ok, listing_err, report_ok, report_err, run_ok, run_err, strip_ok}
+use Rattle.mirdwarf_tool.proofs.AnswerLemmas.{test_ok, test_err}
 use Rattle.mirdwarf_tool.proofs.driver.answered.Goals as goal
 
 pub compiled_text-requires : goal.compiled_text-requires
@@ -90,3 +92,18 @@ returns-in_ok-strip_text-in-Strip-clause-ok g c =
     subst (λ (k : Command). AnswersInput k input c.in_ok-strip_text-in-Strip.field-0) (sym c.in-Strip.is)
     (strip_ok input c.in_ok-program-in-Strip.program c.in_ok-strip_text-in-Strip.field-0 c.in_ok-program-in-Strip.ensures.ok
     (c.in_ok-strip_text-in-Strip.ensures ∙ ap stripped_text c.as_slice.ensures))
+
+pub test_text-requires : goal.test_text-requires
+test_text-requires g c = subst AreWithin c.in-SelfTest.is c.requires
+
+pub returns-in-SelfTest-clause-ok : goal.returns-in-SelfTest-clause-ok
+returns-in-SelfTest-clause-ok g c =
+    let input = change g.S.Source.left g.S.Source.faults c.args.input.now c.args.input.now in
+    subst (λ (k : Command). IfOk c.test_text.result (AnswersInput k input)) (sym c.in-SelfTest.is)
+    (test_ok c.in-SelfTest.asked input refl c.test_text.result c.test_text.ensures.ok)
+
+pub returns-in-SelfTest-clause-err : goal.returns-in-SelfTest-clause-err
+returns-in-SelfTest-clause-err g c =
+    let input = change g.S.Source.left g.S.Source.faults c.args.input.now c.args.input.now in
+    subst (λ (k : Command). IfErr c.test_text.result (ReadingEnds k input)) (sym c.in-SelfTest.is)
+    (test_err c.in-SelfTest.asked input c.test_text.result c.test_text.ensures.err)

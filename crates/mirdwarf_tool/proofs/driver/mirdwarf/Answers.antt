@@ -6,7 +6,7 @@ use Rattle.mirdwarf_tool.proofs.Kept.{headline_kept, registers_kept, stops_at_re
 use Rattle.mirdwarf_tool.proofs.Kept.{wrote_words, wrote_passed}
 use Rattle.mirdwarf_tool.proofs.Stripped.{wrote_stripped}
 use Rattle.mirdwarf_tool.proofs.Generated.{wrote_generated}
-use Rattle.mirdwarf_tool.proofs.Written.{wrote_report, wrote_run}
+use Rattle.mirdwarf_tool.proofs.Written.{wrote_report, wrote_run, wrote_test}
 use Rattle.mirdwarf_tool.proofs.driver.mirdwarf.Goals as goal
 
 pub returns-in-Err-clause-refused : goal.returns-in-Err-clause-refused
@@ -65,6 +65,11 @@ pub returns-in-Ok-clause-ran : goal.returns-in-Ok-clause-ran
 returns-in-Ok-clause-ran g c plan done =
     wrote_run (map string_bytes c.args.words.now) (change g.S.Source.left g.S.Source.faults c.args.input.now c.run.new.input)
     (change g.K.Sink.written g.K.Sink.faults c.args.output.now c.run.new.output) c.in-Ok.ensures.done plan
+
+pub returns-in-Ok-clause-tested : goal.returns-in-Ok-clause-tested
+returns-in-Ok-clause-tested g c test done =
+    wrote_test (map string_bytes c.args.words.now) (change g.S.Source.left g.S.Source.faults c.args.input.now c.run.new.input)
+    (change g.K.Sink.written g.K.Sink.faults c.args.output.now c.run.new.output) c.in-Ok.ensures.done test
 
 pub returns-in-Ok-clause-stripped : goal.returns-in-Ok-clause-stripped
 returns-in-Ok-clause-stripped g c done =

@@ -3,7 +3,7 @@ use Rattle.std.proofs.Common.{◌≡◌, ◌∙◌, Some, map, sym}
 use Rattle.std.specs.Prelude.{string_bytes}
 use Rattle.command_line.proofs.Words.{within}
 use Rattle.command_line.specs.declared.command.Command.{Command}
-use Rattle.command_line.specs.declared.command.Command.TheVariants.{Gen}
+use Rattle.command_line.specs.declared.command.Command.TheVariants.{Gen, SelfTest}
 use Rattle.mirdwarf_tool.proofs.driver.run.Goals as goal
 
 same_command : (a b : Command) → Some a ≡ Some b → a ≡ b
@@ -23,6 +23,21 @@ pub returns-clause-generated_unread : goal.returns-clause-generated_unread
 returns-clause-generated_unread g c asked is =
     c.answered.ensures.unread asked
     (same_command c.in-Some.command (Gen asked) (sym c.in-Some.is ∙ (c.in_ok-command.ensures (Gen asked)).1 is))
+
+pub returns-in_err-text-clause-tested_unread : goal.returns-in_err-text-clause-tested_unread
+returns-in_err-text-clause-tested_unread g c test is =
+    c.answered.ensures.test_unread test
+    (same_command c.in-Some.command (SelfTest test) (sym c.in-Some.is ∙ (c.in_ok-command.ensures (SelfTest test)).1 is))
+
+pub returns-in-Ok-clause-tested_unread : goal.returns-in-Ok-clause-tested_unread
+returns-in-Ok-clause-tested_unread g c test is =
+    c.answered.ensures.test_unread test
+    (same_command c.in-Some.command (SelfTest test) (sym c.in-Some.is ∙ (c.in_ok-command.ensures (SelfTest test)).1 is))
+
+pub returns-clause-tested_unread : goal.returns-clause-tested_unread
+returns-clause-tested_unread g c test is =
+    c.answered.ensures.test_unread test
+    (same_command c.in-Some.command (SelfTest test) (sym c.in-Some.is ∙ (c.in_ok-command.ensures (SelfTest test)).1 is))
 
 pub answered-requires : goal.answered-requires
 answered-requires g c =

@@ -4,8 +4,8 @@ use Rattle.function_emit.specs.declared.emit.EmitError.{EmitError}
 use Rattle.function_emit.specs.declared.emit.EmitError.TheVariants as emitting
 use Rattle.program_compiler.specs.declared.compile.CompileError.TheVariants as compiling
 use Rattle.program_compiler.specs.steps.Fault.{of_emit}
-use Rattle.function_passes.proofs.AfterPasses.{made_by}
-use Rattle.function_passes.specs.Passed.{passed_of}
+use Rattle.function_emit.proofs.AfterPasses.{made_by}
+use Rattle.function_emit.specs.Passed.{passed_of}
 use Rattle.program_compiler.proofs.function.push_source.Goals as goal
 
 pub push_function-requires-clause-sound : goal.push_function-requires-clause-sound

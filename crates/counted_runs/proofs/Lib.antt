@@ -1,0 +1,5 @@
+mod Sources
+mod Few
+mod Turns
+mod Starts
+mod Counting

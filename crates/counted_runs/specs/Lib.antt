@@ -1,0 +1,5 @@
+pub mod Counts
+pub mod Apart
+pub mod Runs
+pub mod Text
+pub mod steps

@@ -1,0 +1,31 @@
+-- What holds of generated functions and their runs.
+use Rattle.std.specs.Prelude.{◌≡◌, ℕ, ◌≤◌, Option, None, true}
+use Rattle.mir_func.specs.declared.entry.OperandPair.{OperandPair}
+use Rattle.mir_func.specs.declared.item.ItemKind.{ItemKind}
+use Rattle.mir_func.specs.declared.item.ItemKind.TheVariants.{Code, Mark, Phi}
+use Rattle.mir_func.specs.Function.{Function}
+use Rattle.mir_func.specs.Graph.{program_of}
+use Rattle.mir_func.specs.Sound.{AllItems}
+use Rattle.mir_meaning.specs.Follow.{first_of, IsStart}
+use Rattle.mir_meaning.specs.State.{State}
+use Rattle.mir_meaning.specs.Step.{Faulted, run}
+use Rattle.mir_gen.specs.Generator.{generated}
+
+-- no run of the function from a start stops on a frame fault, whatever its pairs resolve to
+abbrev pub NeverFaults : Function → (OperandPair → Option OperandPair) → Type 0
+NeverFaults f resolve = (s : State) → IsStart f.objects (first_of f.blocks) s → (n : ℕ) → run (program_of true f.blocks resolve) n s ≡ Faulted → ⊥
+
+-- No generated function has a frame fault.
+abbrev pub GeneratedRunsDontFault : Type 0
+GeneratedRunsDontFault = (number count : ℕ) → 1 ≤ count → count ≤ 512 → (resolve : OperandPair → Option OperandPair) →
+    NeverFaults (generated number count) resolve
+
+-- a mark is of a whole variable
+abbrev pub MarksWhole : ItemKind → Type 0
+MarksWhole (Mark v m) = v.fragment ≡ None
+MarksWhole (Code i k) = Unit {0}
+MarksWhole (Phi p k) = Unit {0}
+
+-- The marks of generated functions are of whole variables.
+abbrev pub GeneratedFunctionsMarkWholes : Type 0
+GeneratedFunctionsMarkWholes = (number count : ℕ) → 1 ≤ count → count ≤ 512 → AllItems (λ i. MarksWhole i.kind) (generated number count).blocks

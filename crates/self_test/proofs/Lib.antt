@@ -1,0 +1,3 @@
+mod NoCalls
+mod Uses
+mod Joined

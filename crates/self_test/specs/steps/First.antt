@@ -1,0 +1,29 @@
+-- A self-test of the first function of a program that is compiled.
+use Rattle.std.specs.Prelude.{◌≡◌, ℕ, List, Some, slice_get}
+use Rattle.code_words.specs.Laid.{LaidCode}
+use Rattle.counted_runs.specs.Runs.{GoApart}
+use Rattle.counted_runs.specs.Text.{IsSelfTest}
+use Rattle.mir_func.specs.Resolve.{resolve}
+use Rattle.mir_parser.specs.declared.closing.Parsed.{Parsed}
+use Rattle.mir_parser.specs.declared.program.Program.{Program}
+use Rattle.program_compiler.specs.declared.compile.Compilation.{Compilation}
+use Rattle.unit_entries.specs.Variables.{variables_of_function}
+
+-- the first function of a program and its machine code
+pub record IsFirst (p : Program) (c : Compilation) (source : Parsed) (code : LaidCode) : Type 0 where
+  pub read : slice_get p.functions 0 ≡ Some source
+  pub coded : slice_get c.codes 0 ≡ Some code
+
+-- the text is that of a self-test of them
+pub record TestsFirst (p : Program) (c : Compilation) (text : List ℕ) : Type 0 where
+  pub source : Parsed
+  pub code : LaidCode
+  pub first : IsFirst p c source code
+  pub tests : IsSelfTest source.func (resolve source.subs) code c.lists (variables_of_function source.func.blocks) text
+
+-- their runs don't go together
+pub record FirstGoesApart (p : Program) (c : Compilation) : Type 0 where
+  pub source : Parsed
+  pub code : LaidCode
+  pub first : IsFirst p c source code
+  pub apart : GoApart source.func (resolve source.subs) code c.lists (variables_of_function source.func.blocks) 10000

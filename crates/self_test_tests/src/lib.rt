@@ -1,0 +1,5 @@
+//! Tests of self-tests.
+#![tactic(auto)]
+
+#[cfg(test)]
+mod tests;
