@@ -56,6 +56,7 @@ returns-in-Stopped-BadWord-clause-leads c =
     stops_there src code c.args.lists.now c.args.parts.now c.args.counts.now c.count.new.self h h' c.args.state.now c.meet.new.state c.args.moved.now
     c.is_kept.result c.in-Some.entry c.reads.result c.known.result
     (subst (λ (o : Option Entry). IfSome o (Meets src code c.args.moved.now h c.args.state.now c.meet.new.state)) c.in-Some.is c.in_ok-meet.ensures.meets)
-    (c.reads.ensures.is ∙ ap (read_at c.args.lists.now) c.counter.ensures) c.known.ensures c.count.ensures.counted c.is_kept.ensures c.in-Stopped-BadWord.field-0-0
+    (c.reads.ensures.is ∙ ap (read_at c.args.lists.now) c.counter.ensures) c.known.ensures c.count.ensures.counted c.is_kept.ensures
+    c.in-Stopped-BadWord.field-0-0
     (subst (λ (stop : Stop). StepsOn code (Stopped stop) h h') c.in-Stopped-BadWord.field-0-is
     (subst (λ (r : Stepped). StepsOn code r h h') c.in-Stopped-BadWord.is c.in_ok-step-in-Some.ensures.step))
