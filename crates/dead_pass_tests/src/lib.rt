@@ -2,8 +2,6 @@
 #![tactic(auto)]
 
 #[cfg(test)]
-mod fits;
-#[cfg(test)]
 mod shown;
 #[cfg(test)]
 mod tests;

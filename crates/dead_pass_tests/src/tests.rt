@@ -4,13 +4,13 @@ ghost use Rattle.std.specs.Prelude.{◌+◌, ◌*◌, ◌<◌, ◌^◌, [], IfOk
 ghost use Rattle.mir_func.specs.Limits.{MAX_SLOTS};
 ghost use Rattle.follow_law.specs.Sizes.{greatest, greatest_number, most_numbers};
 
-use crate::fits::is_small;
 use crate::shown::shown;
 use dead_pass::dead::DeadPass;
 use follow_law::pass::Pass;
 use mir_func::func::Func;
 use mir_parser::program::read_program;
 use mir_printer::text::{Text, push_str};
+use small_functions::fits::is_small;
 use std::alloc::Global;
 use std::test::Fail;
 use substitution::substitutions::Substitutions;

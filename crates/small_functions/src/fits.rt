@@ -10,7 +10,7 @@ use mir_func::func::Func;
 use numbers::code::SlotId;
 use salvage::fresh::greatest_in_blocks;
 
-/// Whether a function has one or two short blocks, and small numbers. Then a pass that adds up to four numbers for each
+/// Whether a function has one to four short blocks, and small numbers. Then a pass that adds up to four numbers for each
 /// item has room for them.
 pub fn is_small(f: &Func) -> bool
     ensures numbers { IsTrue result → greatest_number f.now [] + most_numbers 4 1 f.now < 2 ^ 31 }
@@ -20,15 +20,23 @@ pub fn is_small(f: &Func) -> bool
     most < 1_000 && are_short(f.blocks.as_slice()) && are_low(f.slots.as_slice())
 }
 
-/// Whether there are one or two blocks, of fewer than 1,000 items each.
+/// Whether there are one to four blocks, of fewer than 1,000 items each.
 fn are_short(blocks: &[Block]) -> bool
-    ensures { IsTrue result → length (items_of blocks.now) < 2_000 }
+    ensures { IsTrue result → length (items_of blocks.now) < 4_000 }
 {
     match blocks {
-        [a] => a.items.as_slice().len() < 1_000,
-        [a, b] => a.items.as_slice().len() < 1_000 && b.items.as_slice().len() < 1_000,
+        [a] => is_short(a),
+        [a, b] => is_short(a) && is_short(b),
+        [a, b, c] => is_short(a) && is_short(b) && is_short(c),
+        [a, b, c, d] => is_short(a) && is_short(b) && is_short(c) && is_short(d),
         _ => false,
     }
+}
+
+fn is_short(block: &Block) -> bool
+    ensures { IsTrue result → length block.now.items < 1_000 }
+{
+    block.items.as_slice().len() < 1_000
 }
 
 /// Whether all slots have numbers below 1,000.
