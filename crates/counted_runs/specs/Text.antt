@@ -25,9 +25,13 @@ counts_text items words n =
     count_line (codes "items ") (decimal items) ++ count_line (codes "words ") (decimal words) ++ count_line (codes "steps ") (decimal n.steps)
     ++ count_line (codes "reads ") (decimal n.reads) ++ count_line (codes "known ") (decimal n.known)
 
--- The text tells the items of the source, the words of its machine code, and the counts of a run of 10,000 steps at most.
+-- how many steps of machine code a self-test makes at most
+abbrev pub MAX_STEPS : ℕ
+MAX_STEPS = 10000
+
+-- The text tells the items of the source, the words of its machine code, and the counts of a run of so many steps at most.
 pub record IsSelfTest (source : Function) (resolve : OperandPair → Option OperandPair) (c : LaidCode) (lists : List (List Range)) (parts : List VarId)
     (text : List ℕ) : Type 0 where
   pub counts : Counts
-  pub counted : AreCountsOf source resolve c lists parts 10000 counts
+  pub counted : AreCountsOf source resolve c lists parts MAX_STEPS counts
   pub is : text ≡ counts_text (items_of source.blocks) (length c.words) counts

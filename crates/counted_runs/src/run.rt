@@ -1,6 +1,6 @@
 //! A whole run, counted.
 
-ghost use Rattle.std.specs.Prelude.{◌≡◌, ◌≤◌, All, IfNone, IfOk, IfSome};
+ghost use Rattle.std.specs.Prelude.{All, IfNone, IfOk, IfSome};
 ghost use Rattle.mir_func.specs.Resolve.{resolve};
 ghost use Rattle.dwarf_loclists.specs.Ranges.{Ascend, ArePlaces};
 ghost use Rattle.mir_semantics.specs.StandsFor.{IsPosition, AreCounted};

@@ -1,11 +1,11 @@
 //! Counts as text.
 
-ghost use Rattle.std.specs.Prelude.{◌≡◌, ◌++◌, ◌≤◌, ◌^◌, All, IfNone, IfOk, IfSome, OnOk, length};
+ghost use Rattle.std.specs.Prelude.{◌≡◌, ◌++◌, All, IfNone, IfOk, IfSome, OnOk};
 ghost use Rattle.mir_func.specs.Resolve.{resolve};
 ghost use Rattle.dwarf_loclists.specs.Ranges.{Ascend, ArePlaces};
 ghost use Rattle.mir_semantics.specs.StandsFor.{AreCounted};
 ghost use Rattle.counted_runs.specs.Runs.{GoApart};
-ghost use Rattle.counted_runs.specs.Text.{count_line, counts_text, items_of, IsSelfTest};
+ghost use Rattle.counted_runs.specs.Text.{count_line, counts_text, items_of, MAX_STEPS, IsSelfTest};
 
 use crate::counts::Counts;
 use crate::run::count_run;
@@ -37,7 +37,7 @@ pub fn self_test_text(
     ensures text { IfOk result (λ o.
         IfSome o (IsSelfTest source.now (resolve subs.now) code.now lists.now parts.now)) }
     ensures apart { IfOk result (λ o.
-        IfNone o (GoApart source.now (resolve subs.now) code.now lists.now parts.now 10000)) }
+        IfNone o (GoApart source.now (resolve subs.now) code.now lists.now parts.now MAX_STEPS)) }
 {
     match count_run(alloc, source, subs, code, lists, parts, MAX_STEPS)? {
         None => Ok(None),

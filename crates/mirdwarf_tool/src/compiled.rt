@@ -1,6 +1,6 @@
 //! What is written of a program by the commands that compile.
 
-ghost use Rattle.std.specs.Prelude.{◌≡◌, ◌↔◌, IfOk, IfErr, IsTrue};
+ghost use Rattle.std.specs.Prelude.{IfOk, IfErr};
 ghost use Rattle.compiled_run.specs.Reported.{IsReportText};
 ghost use Rattle.compiled_run.specs.Source.{IsRunOfProgram};
 ghost use Rattle.command_line.specs.Command.{IsWithin};

@@ -1,6 +1,6 @@
 //! The run of a command.
 
-ghost use Rattle.std.specs.Prelude.{◌≡◌, ◌≢◌, ◌≤◌, ◌↔◌, ◌⊎◌, IfOk, OnOk, IfErr, IsErrOf, List, map, string_bytes};
+ghost use Rattle.std.specs.Prelude.{◌≡◌, ◌≢◌, ◌≤◌, ◌⊎◌, IfOk, OnOk, IfErr, IsErrOf, map, string_bytes};
 ghost use Rattle.command_line.specs.Command.{AreWithin, IsCommand};
 ghost use Rattle.command_line.specs.declared.command.Plan.{Plan};
 ghost use Rattle.command_line.specs.declared.command.RunPlan.{RunPlan};

@@ -1,15 +1,21 @@
 -- The self-test of a generated function, by the headline of what is compiled.
 use Rattle.std.proofs.Common.{◌≡◌, ℕ, zero, suc, ◌+◌, ◌*◌, ◌<◌, ◌≤◌, ◌^◌, List, [], ◌∷◌, ◌++◌, map, length, All, Contains, Option, Some, None, refl, sym, ap}
-use Rattle.std.proofs.Common.{drop, ◌∙◌, subst, arith, append-nil}
+use Rattle.std.proofs.Common.{◌∙◌, subst, arith, append-nil}
 use Rattle.std.specs.Prelude.{slice_get, true, false, IfSome, IfNone}
 use Rattle.std.proofs.lemmas.List.Elements.{All-nil, All-cons, All-head, All-tail, All-weaker}
 use Rattle.rv64_instr.specs.declared.place.Place.{Place}
 use Rattle.code_words.specs.Laid.{LaidCode, IsCodeOf}
 use Rattle.code_words.specs.Rule.{Layout, words_of}
+use Rattle.compiled_run.proofs.Passed.{all_passed, passed_sources}
+use Rattle.compiled_run.proofs.Runs.{compilation_can_run}
+use Rattle.compiled_run.proofs.Shown.{compilation_shows_code}
+use Rattle.compiled_run.specs.Compilation.{Compilation}
+use Rattle.compiled_run.specs.Program.{ArePassed, AreCoded, sources_of, IsCompilationOf, IsOutputOf, HasLargeFrame, HasLargeSection}
+use Rattle.compiled_run.specs.Program.{names_of, source_of, IsCompilable, steps_of}
 use Rattle.compiled_text.specs.declared.output.ListedFunction.{ListedFunction}
 use Rattle.compiled_text.specs.declared.output.ListedVariable.{ListedVariable}
 use Rattle.counted_runs.specs.Runs.{GoApart}
-use Rattle.counted_runs.specs.Text.{IsSelfTest}
+use Rattle.counted_runs.specs.Text.{MAX_STEPS, IsSelfTest}
 use Rattle.dwarf_loclists.specs.declared.range.Location.{Location}
 use Rattle.dwarf_loclists.specs.declared.range.Location.TheVariants.{Whole, Parts}
 use Rattle.dwarf_loclists.specs.declared.range.Part.{Part}
@@ -27,7 +33,6 @@ use Rattle.known_reads.specs.Together.{HasNoFault, HasNoCall, RunsLong}
 use Rattle.known_reads.proofs.Known.{reads_are_known}
 use Rattle.known_reads.proofs.Start.{starts_at}
 use Rattle.known_reads.proofs.Together.{runs_go_together}
-use Rattle.machine_layout.specs.Images.{IsImageOf}
 use Rattle.meta_reader.specs.Maps.{Maps}
 use Rattle.mir_func.specs.declared.block.Block.{Block}
 use Rattle.mir_func.specs.declared.item.ItemKind.{ItemKind}
@@ -42,21 +47,15 @@ use Rattle.mir_meaning.specs.Follow.{Shape}
 use Rattle.mir_parser.specs.declared.closing.Parsed.{Parsed}
 use Rattle.mir_parser.specs.declared.program.Program.{Program}
 use Rattle.mir_semantics.specs.StandsFor.{AreCounted}
-use Rattle.output_promise.proofs.Functions.{IsCompiledIn, words_length}
-use Rattle.output_promise.proofs.Headline.{compiled_promises, formed}
+use Rattle.output_promise.proofs.Functions.{words_length}
+use Rattle.output_promise.proofs.Headline.{compiled_promises}
 use Rattle.output_promise.proofs.Variables.{own_marks}
 use Rattle.output_promise.specs.Compiled.{IsCompiledFunction, AreCompiled, bytes_of}
 use Rattle.output_promise.specs.Promise.{Gives, MeetsHeadline, Promises, variable_lines, variable_listed}
 use Rattle.output_promise.specs.Source.{SourceFunction, PassedFunction, MarksOneOf}
 use Rattle.pass_list.specs.declared.kind.PassKind.{PassKind}
-use Rattle.program_compiler.proofs.Passed.{all_passed, passed_sources}
-use Rattle.program_compiler.specs.declared.compile.Compilation.{Compilation}
-use Rattle.program_compiler.specs.Program.{ArePassed, AreCoded, sources_of, IsCompilationOf, IsOutputOf, HasLargeFrame, HasLargeSection}
-use Rattle.program_compiler.specs.Program.{names_of, source_of, IsCompilable, steps_of}
 use Rattle.rv_simulator.specs.Shown.{ShowsCode}
-use Rattle.shown_program.proofs.Images.{image_shown}
 use Rattle.shown_program.specs.Program.{image_of}
-use Rattle.simulated_image.proofs.Shows.{images_show_code}
 use Rattle.unit_entries.specs.Variables.{whole, variables_of_function}
 use Rattle.variable_locations.specs.Groups.{part_of}
 use Rattle.variable_locations.specs.Wanted.{bytes_of as piece_bytes}
@@ -176,45 +175,16 @@ module _ (number count : ℕ) (some : 1 ≤ count) (few : count ≤ 512) (reserv
   headline : MeetsHeadline c.output (source_of parsed) one.listed
   headline = promised.each 0 (source_of parsed) one.listed refl listed_first
 
-  -- ---- the code that the sections show
-
-  same_layouts : one.compiled.layout ≡ one.coded.layout
-  same_layouts =
-      let laid = one.compiled.laid in
-      same_layout one.compiled.layout one.coded.layout (laid.framed ∙ sym one.coded.of) (laid.from ∙ sym one.coded.from) laid.settled one.coded.settled
-
-  text_whole : c.output.text ≡ bytes_of one.compiled.layout ++ []
-  text_whole = one.text_is ∙ sym (append-nil (bytes_of one.compiled.layout))
-
-  placed : IsCompiledIn names c.output.text c.lists one.passed one.listed
-  placed = record {
-    base = 0;
-    first = 0;
-    compiled = one.compiled;
-    more = [];
-    words = text_whole;
-    numbers = λ k ranges e. ap (λ (n : ℕ). slice_get c.lists n) (zero_plus k) ∙ ap (λ (lists : List (List Range)). slice_get lists k) one.lists_is ∙ e;
-  } where
-    zero_plus : (k : ℕ) → 0 + k ≡ k
-    zero_plus k = omega arith
-
   shows : ShowsCode one.code (image_of c.output one.listed)
-  unfolding placed
-  shows =
-      let l = one.compiled.layout in
-      let lines = variable_lines names 0 (variables_of_function one.passed.source.function.blocks) in
-      let at : drop l.base c.output.text ≡ bytes_of l ++ [] = ap (λ (n : ℕ). drop n c.output.text) one.compiled.laid.from ∙ text_whole in
-      let image = image_of c.output one.listed in
-      images_show_code (framed_of one.passed.function) 0 one.code one.coded image
-      (subst (λ (m : Layout). IsImageOf m image) same_layouts
-      (subst (λ (f : ListedFunction). IsImageOf l (image_of c.output f)) (sym one.compiled.listed)
-      (image_shown l lines one.passed.substitutions c.output []
-      (formed names c.output c.lists is.section one.passed one.listed one.compilable.passed placed) at)))
+  shows = compilation_shows_code reserve passes program c is 0 one.listed one.code listed_first code_first
 
   words : length c.output.text ≡ 4 * length one.code.words
   words =
+      let laid = one.compiled.laid in
+      let same : one.coded.layout ≡ one.compiled.layout =
+      same_layout one.coded.layout one.compiled.layout (one.coded.of ∙ sym laid.framed) (one.coded.from ∙ sym laid.from) one.coded.settled laid.settled in
       let count : length one.code.words ≡ length (words_of one.compiled.layout) =
-      ap length one.coded.words ∙ ap (λ (l : Layout). length (words_of l)) (sym same_layouts) in
+      ap length one.coded.words ∙ ap (λ (l : Layout). length (words_of l)) same in
       ap length one.text_is ∙ words_length (words_of one.compiled.layout) ∙ ap (λ (n : ℕ). 4 * n) (sym count)
 
   -- ---- what the lists tell
@@ -313,17 +283,17 @@ module _ (number count : ℕ) (some : 1 ≤ count) (few : count ≤ 512) (reserv
         shows = shows;
         words = words;
         tests = tests;
-        known = reads_are_known gives source (resolve []) (image_of c.output one.listed) one.code c.lists vs vs 10000 tests.counts headline shows are_given
+        known = reads_are_known gives source (resolve []) (image_of c.output one.listed) one.code c.lists vs vs MAX_STEPS tests.counts headline shows are_given
             tests.counted;
       }
 
   pub runs_long : FirstGoesApart (generated_program number count) c → RunsLong (generated number count) (resolve [])
   runs_long t =
       let apart =
-      subst (λ (k : LaidCode). GoApart source (resolve []) k c.lists vs 10000) (sym (same_code t.code t.first.coded))
-      (subst (λ (p : Parsed). GoApart p.func (resolve p.subs) t.code c.lists (variables_of_function p.func.blocks) 10000)
+      subst (λ (k : LaidCode). GoApart source (resolve []) k c.lists vs MAX_STEPS) (sym (same_code t.code t.first.coded))
+      (subst (λ (p : Parsed). GoApart p.func (resolve p.subs) t.code c.lists (variables_of_function p.func.blocks) MAX_STEPS)
       (sym (same_source t.source t.first.read)) t.apart) in
-      runs_go_together gives source (resolve []) (image_of c.output one.listed) one.code c.lists vs 10000 headline shows no_fault no_call apart
+      runs_go_together gives source (resolve []) (image_of c.output one.listed) one.code c.lists vs MAX_STEPS headline shows no_fault no_call apart
 
   pub has_code : 0 < length c.codes
   has_code = let e = ap length one.code_is in omega (arith, e)
@@ -342,7 +312,7 @@ is_counted number count few =
 
 pub can_be_read : (reserve : List ℕ) (passes : List PassKind) (p : Program) (c : Compilation) → IsCompilationOf reserve passes p c →
     All (λ (ranges : List Range). Ascend ranges × ArePlaces ranges) c.lists
-can_be_read reserve passes p c is = λ k d low. (is.writable.ascend k d low, is.writable.places k d low)
+can_be_read reserve passes p c is = (compilation_can_run reserve passes p c is).readable
 
 -- ---- the same of a program that is the generated one
 

@@ -7,8 +7,8 @@ use Rattle.generated_program.specs.Program.{generated_program}
 use Rattle.mir_func.specs.Resolve.{resolve}
 use Rattle.mir_gen.specs.Generator.{generated}
 use Rattle.pass_list.specs.declared.kind.PassKind.{PassKind}
-use Rattle.program_compiler.specs.declared.compile.Compilation.{Compilation}
-use Rattle.program_compiler.specs.Program.{IsCompilationOf, IsOutputOf, steps_of}
+use Rattle.compiled_run.specs.Compilation.{Compilation}
+use Rattle.compiled_run.specs.Program.{IsCompilationOf, IsOutputOf, steps_of}
 use Rattle.rv_simulator.specs.Shown.{ShowsCode}
 use Rattle.shown_program.specs.Program.{image_of}
 use Rattle.unit_entries.specs.Variables.{variables_of_function}

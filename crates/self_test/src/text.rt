@@ -9,16 +9,16 @@ ghost use Rattle.mir_gen.specs.Generator.{generated};
 ghost use Rattle.mir_parser.specs.declared.closing.Parsed.{Parsed};
 ghost use Rattle.mir_semantics.specs.StandsFor.{AreCounted};
 ghost use Rattle.pass_list.specs.Names.{AreDistinct};
-ghost use Rattle.program_compiler.specs.Program.{HasLargeFrame, HasLargeSection, steps_of};
+ghost use Rattle.compiled_run.specs.Program.{HasLargeFrame, HasLargeSection, steps_of};
 ghost use Rattle.self_test.specs.Tested.{IsSelfTestOf};
 ghost use Rattle.self_test.specs.steps.First.{TestsFirst, FirstGoesApart};
 
+use compiled_run::compile::{Compilation, CompileError, compile};
 use counted_runs::text::self_test_text;
 use generated_program::program::generated_program;
 use mir_parser::program::Program;
 use mir_printer::text::Text;
 use pass_list::kind::PassKind;
-use program_compiler::compile::{Compilation, CompileError, compile};
 use rv64_instr::reg::Reg;
 use std::alloc::{AllocError, Global};
 use unit_entries::variables::variables;

@@ -2,11 +2,11 @@
 use Rattle.std.specs.Prelude.{◌≡◌, ℕ, List, Some, slice_get}
 use Rattle.code_words.specs.Laid.{LaidCode}
 use Rattle.counted_runs.specs.Runs.{GoApart}
-use Rattle.counted_runs.specs.Text.{IsSelfTest}
+use Rattle.counted_runs.specs.Text.{MAX_STEPS, IsSelfTest}
 use Rattle.mir_func.specs.Resolve.{resolve}
 use Rattle.mir_parser.specs.declared.closing.Parsed.{Parsed}
 use Rattle.mir_parser.specs.declared.program.Program.{Program}
-use Rattle.program_compiler.specs.declared.compile.Compilation.{Compilation}
+use Rattle.compiled_run.specs.Compilation.{Compilation}
 use Rattle.unit_entries.specs.Variables.{variables_of_function}
 
 -- the first function of a program and its machine code
@@ -26,4 +26,4 @@ pub record FirstGoesApart (p : Program) (c : Compilation) : Type 0 where
   pub source : Parsed
   pub code : LaidCode
   pub first : IsFirst p c source code
-  pub apart : GoApart source.func (resolve source.subs) code c.lists (variables_of_function source.func.blocks) 10000
+  pub apart : GoApart source.func (resolve source.subs) code c.lists (variables_of_function source.func.blocks) MAX_STEPS
