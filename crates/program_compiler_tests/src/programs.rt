@@ -6,6 +6,7 @@ ghost use Rattle.reading_laws.specs.Read.{IsReadProgram};
 use mir_parser::error::ParseError;
 use mir_parser::program::{Program, read_program};
 use pass_list::kind::PassKind;
+use pass_list::list::PassList;
 use program_compiler::compile::{CompileError, compile};
 use rv64_instr::reg::physical;
 use std::alloc::Global;
@@ -257,6 +258,22 @@ fn dead_code_goes(rt: HostRuntime) -> Result<(), Fail> {
         assert_eq!(rt; output.text.as_slice(), code);
         assert!(rt; output.loclists.as_slice().ends_with(lists));
     }
+    Ok(())
+}
+
+/// An empty first block below a prologue: folding gives it a jump to itself, behind the frame's code.
+#[test]
+fn an_empty_first_block_gets_a_jump(rt: HostRuntime) -> Result<(), Fail> {
+    let alloc = rt.alloc();
+    let mut text = String::from_str(alloc, HEADER)?;
+    text.push_str(
+        "stack:\n  - { id: 0, size: 8 }\nbody: |\n  bb.0:\n  bb.1:\n    PseudoBR %bb.0\n...\n",
+    )?;
+    let program = program(alloc, text.as_str())?;
+    let passes = PassList::standard();
+    let output = compile(alloc, &program, passes.as_slice(), &[])?.output;
+    let code = b"\x13\x01\x01\xff\x6f\x00\x00\x00";
+    assert_eq!(rt; output.text.as_slice(), code.as_slice());
     Ok(())
 }
 
