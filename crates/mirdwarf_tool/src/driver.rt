@@ -117,8 +117,7 @@ pub fn mirdwarf<S: Source, K: Sink, E: Sink>(
     // What `strip` writes is read in turn: it stands for the program without its debug items, and `strip` writes the
     // same text of it again.
     ensures stripped { result ≡ Status.Done → IsCommand (map string_bytes words.now) Command.Strip →
-        WroteStripped (change S.left S.faults input.old input.new)
-        (change K.written K.faults output.old output.new) }
+        WroteStripped (change S.left S.faults input.old input.new) (change K.written K.faults output.old output.new) }
 
     // `gen` reads nothing, and writes the text of the function that its words ask for.
     ensures generated { (g : Generation) → result ≡ Status.Done →
