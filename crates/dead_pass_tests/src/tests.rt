@@ -10,7 +10,7 @@ use follow_law::pass::Pass;
 use mir_func::func::Func;
 use mir_parser::program::read_program;
 use mir_printer::text::{Text, push_str};
-use small_functions::fits::is_small;
+use small_functions::fits::first_small;
 use std::alloc::Global;
 use std::test::Fail;
 use substitution::substitutions::Substitutions;
@@ -25,12 +25,7 @@ fn function_of(alloc: Global, body: &str) -> Result<Func, Fail>
         return Err(Fail::from("a long text"));
     }
     let program = read_program(alloc, text.as_slice())?;
-    let parsed = program.functions.as_slice().first().ok_or("a function")?;
-    let f = parsed.func.copy()?;
-    if !is_small(&f) {
-        return Err(Fail::from("a large function"));
-    }
-    Ok(f)
+    Ok(first_small(&program)?.ok_or("a small function")?)
 }
 
 fn text_of(alloc: Global, body: &str) -> Result<Text, Fail> {

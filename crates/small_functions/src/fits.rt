@@ -1,14 +1,31 @@
 //! Functions that are small enough for each pass.
 
-ghost use Rattle.std.specs.Prelude.{◌+◌, ◌*◌, ◌<◌, ◌^◌, [], length, IsTrue};
+ghost use Rattle.std.specs.Prelude.{◌+◌, ◌*◌, ◌<◌, ◌^◌, [], length, IsTrue, IfOk, IfSome};
 ghost use Rattle.mir_func.specs.Limits.{MAX_SLOTS};
 ghost use Rattle.mir_func.specs.Sound.{items_of};
 ghost use Rattle.follow_law.specs.Sizes.{greatest, greatest_number, most_numbers};
 
 use mir_func::block::Block;
 use mir_func::func::Func;
+use mir_parser::program::Program;
 use numbers::code::SlotId;
 use salvage::fresh::greatest_in_blocks;
+use std::alloc::AllocError;
+
+/// A copy of the first function of a program, if it is small.
+pub fn first_small(program: &Program) -> Result<Option<Func>, AllocError>
+    ensures numbers { IfOk result (λ o. IfSome o (λ f. greatest_number f [] + most_numbers 4 1 f < 2 ^ 31)) }
+    ensures slots { IfOk result (λ o. IfSome o (λ f. greatest f.slots + MAX_SLOTS * 1 < 2 ^ 31)) }
+{
+    let Some(parsed) = program.functions.as_slice().first() else {
+        return Ok(None);
+    };
+    let f = parsed.func.copy()?;
+    if !is_small(&f) {
+        return Ok(None);
+    }
+    Ok(Some(f))
+}
 
 /// Whether a function has one to four short blocks, and small numbers. Then a pass that adds up to four numbers for each
 /// item has room for them.

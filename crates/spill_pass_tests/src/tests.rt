@@ -10,7 +10,7 @@ use mir_func::func::Func;
 use mir_parser::program::read_program;
 use mir_printer::text::{Text, push_numbered, push_str};
 use rv64_instr::reg::{Registers, physical};
-use small_functions::fits::is_small;
+use small_functions::fits::{first_small, is_small};
 use spill_pass::spill::SpillPass;
 use std::alloc::Global;
 use std::test::Fail;
@@ -26,12 +26,7 @@ fn function_of(alloc: Global, slots: u32, object: Option<u32>, body: &str) -> Re
         return Err(Fail::from("a long text"));
     }
     let program = read_program(alloc, text.as_slice())?;
-    let parsed = program.functions.as_slice().first().ok_or("a function")?;
-    let f = parsed.func.copy()?;
-    if !is_small(&f) {
-        return Err(Fail::from("a large function"));
-    }
-    Ok(f)
+    Ok(first_small(&program)?.ok_or("a small function")?)
 }
 
 fn text_of(alloc: Global, slots: u32, object: Option<u32>, body: &str) -> Result<Text, Fail> {
