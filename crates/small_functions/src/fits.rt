@@ -1,6 +1,6 @@
 //! Functions that are small enough for each pass.
 
-ghost use Rattle.std.specs.Prelude.{◌+◌, ◌*◌, ◌<◌, ◌^◌, [], length, IsTrue, IfOk, IfSome};
+ghost use Rattle.std.specs.Prelude.{◌+◌, ◌*◌, ◌≡◌, ◌<◌, ◌^◌, [], length, slice_get, IsTrue, IfOk, IfSome};
 ghost use Rattle.mir_func.specs.Limits.{MAX_SLOTS};
 ghost use Rattle.mir_func.specs.Sound.{items_of};
 ghost use Rattle.follow_law.specs.Sizes.{greatest, greatest_number, most_numbers};
@@ -12,8 +12,10 @@ use numbers::code::SlotId;
 use salvage::fresh::greatest_in_blocks;
 use std::alloc::AllocError;
 
-/// A copy of the first function of a program, if it is small.
+/// A copy of the first function of a program, if there is one and it is small. It fails only if memory runs out.
 pub fn first_small(program: &Program) -> Result<Option<Func>, AllocError>
+    ensures first { IfOk result (λ o. IfSome o (λ f.
+        IfSome (slice_get program.now.functions 0) (λ p. f ≡ p.func))) }
     ensures numbers { IfOk result (λ o. IfSome o (λ f. greatest_number f [] + most_numbers 4 1 f < 2 ^ 31)) }
     ensures slots { IfOk result (λ o. IfSome o (λ f. greatest f.slots + MAX_SLOTS * 1 < 2 ^ 31)) }
 {
