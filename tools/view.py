@@ -107,15 +107,15 @@ body { font: 14px/1.4 system-ui, sans-serif; margin: 2rem; }
 h2 { font-size: 1.15rem; margin: 1.6rem 0 .4rem; }
 .scroll { overflow-x: auto; }
 table { border-collapse: collapse; }
-td, th { padding: 1px 4px; border: 1px solid var(--line); font-weight: normal; text-align: center; white-space: nowrap; }
-td.code { font-family: ui-monospace, monospace; text-align: left; white-space: pre; border: 0; padding-right: 1rem; }
+td, th { padding: 1px 3px; border: 1px solid var(--line); font-weight: normal; text-align: center; white-space: nowrap; }
+td.code { font-family: ui-monospace, monospace; text-align: left; white-space: pre; border: 0; padding-right: 1rem; max-width: 25rem; overflow: hidden; text-overflow: ellipsis; }
 td.number { color: #888; border: 0; text-align: right; }
 td.gap, th.gap { border: 0; min-width: 1.2rem; }
 th.name { writing-mode: vertical-rl; transform: rotate(180deg); padding: 4px 1px; text-align: left; }
 th.title { border: 0; text-align: left; font-weight: 600; padding-top: .4rem; }
 th.blank { border: 0; }
 .all { background: var(--all); color: #fff; } .some { background: var(--some); color: #000; } .none { background: var(--none); }
-td.cell { min-width: 2.2rem; font-size: 11px; }
+td.cell { min-width: 1.6rem; font-size: 10px; }
 .legend span { display: inline-block; padding: 0 .6rem; margin-right: .4rem; }
 </style>
 <p class="legend"><span class="all">found at each word of the line</span><span class="some">at some</span><span class="none">at none</span></p>
