@@ -1,19 +1,17 @@
 -- A function that is compiled behind others, in an output's words: its layout is that of its machine code.
-use Rattle.std.proofs.Common.{◌≡◌, ℕ, ◌+◌, ◌<◌, ◌≤◌, List, [], ◌∷◌, ◌++◌, length, sym, ap, ◌∙◌, subst, arith}
+use Rattle.std.proofs.Common.{◌≡◌, ℕ, ◌<◌, ◌≤◌, List, [], ◌∷◌, ◌++◌, length, sym, ap, ◌∙◌, subst, arith}
 use Rattle.std.specs.List.{flat_map}
 use Rattle.std.specs.Int.{w32, to_le_bytes}
 use Rattle.code_words.specs.Counts.{MAX_WORDS, MAX_BASE, count_of}
 use Rattle.code_words.specs.declared.code.Entry.{Entry}
 use Rattle.code_words.specs.Rule.{Layout, entries_of}
 use Rattle.compiled_text.specs.declared.output.ListedFunction.{ListedFunction}
-use Rattle.compiled_text.specs.declared.output.ListedVariable.{ListedVariable}
 use Rattle.frame_rule.specs.Rule.{framed_of}
 use Rattle.function_compiler.specs.declared.compile.CompiledFunction.{CompiledFunction}
 use Rattle.function_listing.specs.Laid.{IsLaid}
 use Rattle.function_listing.specs.Variables.{variables_listed}
 use Rattle.meta_reader.specs.Maps.{Maps}
 use Rattle.mir_body.specs.Limits.{MAX_ITEMS}
-use Rattle.mir_func.specs.declared.entry.Entry.{Entry as Substitute}
 use Rattle.mir_func.specs.declared.variable.VarId.{VarId}
 use Rattle.mir_func.specs.Function.{FramedFunction}
 use Rattle.mir_func.specs.Graph.{block_start, framed_program}
@@ -79,25 +77,25 @@ module _ (meta : Maps) (q : Parsed) (p : PassedFunction) (m : Made) (c : Compile
       c.lists) one.variables
       one.lists))
 
-  pub pushed : (lines : List ListedVariable) (subs : List Substitute) (listed : ListedFunction) (after : Made) →
+  pub pushed : (listed : ListedFunction) (after : Made) →
       length c.code.words < MAX_WORDS →
-      lines ≡ variables_listed meta (length m.lists) c.variables →
-      subs ≡ p.substitutions →
-      ((l : Layout) → IsLaid l c.code → listed ≡ listing_of l lines subs) →
+      (first : ℕ) → first ≡ length m.lists →
+      ((l : Layout) → IsLaid l c.code → listed ≡ listing_of l (variables_listed meta first c.variables) p.substitutions) →
       after.text ≡ m.text ++ flat_map (to_le_bytes w32) c.code.words →
       after.lists ≡ m.lists ++ c.lists →
       after.functions ≡ m.functions ++ listed ∷ [] →
       after.codes ≡ m.codes ++ c.code ∷ [] →
       IsPushed meta p m after
-  pushed lines subs listed after few lines_are subs_are listed_is text_is lists_are functions_are codes_are =
-      let told : lines ≡ variable_lines (names_of meta) (length m.lists) vs =
-      lines_are ∙ lines_same meta (length m.lists) c.variables ∙ ap (variable_lines (names_of meta) (length m.lists)) one.variables in
+  pushed listed after few first is_first listed_is text_is lists_are functions_are codes_are =
+      let told : variables_listed meta first c.variables ≡ variable_lines (names_of meta) (length m.lists) vs =
+      ap (λ (k : ℕ). variables_listed meta k c.variables) is_first
+      ∙ lines_same meta (length m.lists) c.variables ∙ ap (variable_lines (names_of meta) (length m.lists)) one.variables in
       record {
         listed = listed;
         compiled = record {
           layout = layout;
           laid = layout_of;
-          listed = listed_is layout is_laid ∙ (λ i. listing_of layout (told i) (subs_are i));
+          listed = listed_is layout is_laid ∙ (λ i. listing_of layout (told i) p.substitutions);
           lists = c.lists;
           located = are_located;
         };

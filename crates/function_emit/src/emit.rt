@@ -1,22 +1,26 @@
 //! The compiling of a function behind others.
 
-ghost use Rattle.std.specs.Prelude.{◌≡◌, ◌+◌, ◌*◌, ◌%◌, ◌<◌, ◌≤◌, ◌^◌, ◌++◌, IfOk, OnOk, IsErrOf, length};
+ghost use Rattle.std.specs.Prelude.{◌≡◌, ◌+◌, ◌*◌, ◌%◌, ◌<◌, ◌≤◌, ◌^◌, [], ◌∷◌, ◌++◌, IfOk, OnOk, IsErrOf, length};
 ghost use Rattle.std.specs.List.{flat_map};
 ghost use Rattle.std.specs.Int.{w32, to_le_bytes};
 ghost use Rattle.code_words.specs.Counts.{MAX_WORDS, MAX_BASE, count_of};
 ghost use Rattle.code_words.specs.Laid.{IsCodeOf};
+ghost use Rattle.code_words.specs.Rule.{Layout};
 ghost use Rattle.frame_rule.specs.Rule.{size_of, framed_of};
 ghost use Rattle.function_emit.specs.declared.emit.EmitError.TheVariants.{Memory};
 ghost use Rattle.function_emit.specs.Emitted.{IsOneCompiled, IsPushed};
+ghost use Rattle.function_listing.specs.Laid.{IsLaid};
+ghost use Rattle.function_listing.specs.Variables.{variables_listed};
 ghost use Rattle.function_passes.specs.Passed.{MAX_PASSED, passed_of};
 ghost use Rattle.mir_body.specs.Limits.{MAX_ITEMS};
 ghost use Rattle.mir_func.specs.Limits.{MAX_FRAME};
 ghost use Rattle.mir_func.specs.Sound.{AllItems, IsSound, items_of};
 ghost use Rattle.mir_func.specs.SoundFrame.{HasPhysical};
 ghost use Rattle.reading_laws.specs.Read.{IsReadFunction};
+ghost use Rattle.shown_program.specs.Listing.{listing_of};
 
 use code_words::code::Code;
-use compiled_text::output::{Bytes, ListedFunctions};
+use compiled_text::output::{Bytes, ListedFunction, ListedFunctions};
 use dwarf_loclists::range::RangeLists;
 use frame_layout::code::{CodeError, code_of};
 use function_compiler::compile::CompiledFunction;
@@ -89,19 +93,50 @@ pub fn push_function(
 {
     let base = made.text.len() as u64;
     let first = made.lists.len() as u32;
+    let compiled = compiled(alloc, source, function, subs, base)?;
+    let listed = listed(alloc, meta, first, subs, &compiled)?;
+    push_compiled(made, compiled, listed)?;
+    Ok(())
+}
+
+/// The listing of a compiled function whose variables' lists have numbers from the first on.
+fn listed(
+    alloc: Global,
+    meta: &Metadata,
+    first: u32,
+    subs: &Substitutions,
+    compiled: &CompiledFunction,
+) -> Result<ListedFunction, AllocError>
+    requires low { compiled.now.code.base + 4 * length compiled.now.code.words < 2 ^ 32 }
+    requires numbers { first + length compiled.now.variables < 2 ^ 32 }
+    ensures { (l : Layout) → IsLaid l compiled.now.code →
+        IfOk result (λ f. f ≡ listing_of l (variables_listed meta.now first compiled.now.variables) subs.now) }
+{
+    let lines = variable_lines(alloc, meta, first, compiled.variables.as_slice())?;
+    let substitutions = List::from_slice(alloc, subs.entries())?;
+    listing(alloc, &compiled.code, lines, substitutions)
+}
+
+/// Appends what was made of a function.
+fn push_compiled(
+    made: &mut Made,
+    compiled: CompiledFunction,
+    listed: ListedFunction,
+) -> Result<(), AllocError>
+    ensures text { OnOk result (made.new.text ≡ made.old.text ++ flat_map (to_le_bytes w32) compiled.code.words) }
+    ensures lists { OnOk result (made.new.lists ≡ made.old.lists ++ compiled.lists) }
+    ensures functions { OnOk result (made.new.functions ≡ made.old.functions ++ listed ∷ []) }
+    ensures codes { OnOk result (made.new.codes ≡ made.old.codes ++ compiled.code ∷ []) }
+{
     let CompiledFunction {
         code,
-        variables,
+        variables: _,
         lists,
-    } = compiled(alloc, source, function, subs, base)?;
-    let lines = variable_lines(alloc, meta, first, variables.as_slice())?;
-    let substitutions = List::from_slice(alloc, subs.entries())?;
-    let listed = listing(alloc, &code, lines, substitutions)?;
+    } = compiled;
     push_words(&mut made.text, code.words.as_slice())?;
     push_lists(&mut made.lists, lists)?;
     made.functions.push(listed)?;
-    made.codes.push(code)?;
-    Ok(())
+    made.codes.push(code)
 }
 
 /// A function that passes made of a source, from an address on, with lists of the source's variables.
