@@ -125,9 +125,10 @@ impl Row {
     fn take(&mut self, part: Part<'_>, texts: &Texts) -> anyhow::Result<()> {
         let rest = part.rest;
         match part.word {
-            "words" => self
-                .words
-                .push(String::from_str(*self.words.allocator(), rest)?)?,
+            "words" => {
+                let words = String::from_str(*self.words.allocator(), rest)?;
+                self.words.push(words)?;
+            }
             "text" => self.text = texts.bytes(part)?,
             "read" => self.faulty.read = rest.parse::<u64>()?,
             "write" => self.faulty.write = rest.parse::<u64>()?,
@@ -169,7 +170,10 @@ pub fn rows_of(alloc: Global, text: &str) -> anyhow::Result<Vec<Row>> {
         match part.word {
             "let" => texts.name(part)?,
             "row" => rows.push(Row::new(alloc, part.rest)?)?,
-            _ => rows.last_mut().context("a row above")?.take(part, &texts)?,
+            word => match rows.last_mut() {
+                Some(row) => row.take(part, &texts)?,
+                None => bail!("no row is above {word}"),
+            },
         }
     }
     Ok(rows)
