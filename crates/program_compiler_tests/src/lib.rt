@@ -1,5 +1,0 @@
-//! Tests of whole programs, compiled.
-#![tactic(auto)]
-
-#[cfg(test)]
-mod programs;

@@ -1,0 +1,173 @@
+//! The runs of a row.
+
+use crate::row::{Ending, Faulty, Output, Place, Row};
+use anyhow::Context;
+use io_edge::bytes::{Bytes, CallNumbers};
+use io_edge::memory_sink::MemorySink;
+use io_edge::memory_source::MemorySource;
+use mirdwarf_tool::driver::mirdwarf;
+use std::alloc::{AllocError, Global};
+
+/// Room for what is told.
+const TOLD: usize = 1 << 10;
+
+/// How many runs came out as written, and how many others there are.
+#[derive(Clone, Copy, Default)]
+pub struct Tally {
+    pub as_written: u32,
+    pub others: u32,
+}
+
+/// How a run ended: the number of its status, its output, and what was told.
+#[derive(Drop)]
+struct Ended {
+    status: u8,
+    output: MemorySink,
+    told: MemorySink,
+}
+
+/// The words of a run.
+fn words_of(alloc: Global, text: &str) -> Result<Vec<String>, AllocError> {
+    let mut words = Vec::new(alloc);
+    if text.is_empty() {
+        return Ok(words);
+    }
+    for word in text.split(' ') {
+        let word = if word == "\"\"" { "" } else { word };
+        words.push(String::from_str(alloc, word)?)?;
+    }
+    Ok(words)
+}
+
+/// The numbers of the calls that fail: this one.
+fn calls(alloc: Global, number: u64) -> Result<CallNumbers, AllocError> {
+    CallNumbers::from_slice(alloc, &[number])
+}
+
+/// Runs words on a text.
+fn run_on(alloc: Global, words: &str, text: &[u8], faulty: Faulty) -> Result<Ended, AllocError> {
+    let words = words_of(alloc, words)?;
+    let text = Bytes::from_slice(alloc, text)?;
+    let mut input = MemorySource::new(text, calls(alloc, faulty.read)?);
+    let mut output = MemorySink::new(alloc, faulty.room, calls(alloc, faulty.write)?)?;
+    let mut told = MemorySink::new(alloc, TOLD, CallNumbers::new(alloc))?;
+    let status = mirdwarf(alloc, &words, &mut input, &mut output, &mut told).number();
+    Ok(Ended {
+        status,
+        output,
+        told,
+    })
+}
+
+/// Whether bytes stand on the output where they should.
+fn stands(output: &Output, written: &[u8]) -> bool {
+    let bytes = output.bytes.as_slice();
+    match output.place {
+        Place::Whole => written == bytes,
+        Place::Begins => written.starts_with(bytes),
+        Place::Ends => written.ends_with(bytes),
+        Place::Holds => bytes.is_empty() || written.windows(bytes.len()).any(|it| it == bytes),
+    }
+}
+
+/// Whether a run ended as it should.
+fn is_as_written(ended: &Ended, want: &Ending) -> bool {
+    let written = ended.output.written();
+    let is_said = written.is_empty() || !want.outputs.is_empty();
+    let is_told = ended.told.written() == want.told.as_slice();
+    let all_stand = want.outputs.iter().all(|it| stands(it, written));
+    ended.status == want.status && is_said && is_told && all_stand
+}
+
+/// A run of a row, and how it is to end.
+#[derive(Clone, Copy)]
+struct Run<'a> {
+    row: &'a Row,
+    words: &'a str,
+    faulty: Faulty,
+    want: &'a Ending,
+}
+
+/// Prints a run that didn't end as it should.
+fn tell(rt: &impl Print, alloc: Global, run: &Run<'_>, ended: &Ended) -> anyhow::Result<()> {
+    let name = run.row.name.as_str();
+    let words = run.words;
+    let faulty = run.faulty;
+    let status = ended.status;
+    let told = String::from_utf8_lossy(alloc, ended.told.written())?;
+    let output = String::from_utf8_lossy(alloc, ended.output.written())?;
+    println!(rt; "{name}: {words}: {faulty:?}: status {status}, told {told:?}, output:")?;
+    println!(rt; "{output}")?;
+    Ok(())
+}
+
+/// Makes a run and counts it; one that doesn't end as it should is printed.
+fn make_run(rt: &impl Print, alloc: Global, run: Run<'_>, tally: &mut Tally) -> anyhow::Result<()> {
+    let ended = run_on(alloc, run.words, run.row.text.as_slice(), run.faulty)?;
+    if is_as_written(&ended, run.want) != run.row.differs {
+        tally.as_written = tally.as_written.saturating_add(1);
+        return Ok(());
+    }
+    tally.others = tally.others.saturating_add(1);
+    tell(rt, alloc, &run, &ended)
+}
+
+/// Makes a run again with each call of its input failing, up to that of this number.
+fn fail_reads(
+    rt: &impl Print,
+    alloc: Global,
+    run: Run<'_>,
+    tally: &mut Tally,
+) -> anyhow::Result<()> {
+    let want = Ending::new(alloc, 4, b"", b"mirdwarf: read\n")?;
+    for read in 1..=run.row.reads {
+        let faulty = Faulty { read, ..run.faulty };
+        let want = &want;
+        let failing = Run {
+            faulty,
+            want,
+            ..run
+        };
+        make_run(rt, alloc, failing, tally)?;
+    }
+    Ok(())
+}
+
+/// Makes a run again with each room that is too small for its output.
+fn fill_rooms(
+    rt: &impl Print,
+    alloc: Global,
+    run: Run<'_>,
+    tally: &mut Tally,
+) -> anyhow::Result<()> {
+    let whole = run.want.whole().context("rooms without a whole output")?;
+    for room in 0..whole.len() {
+        let faulty = Faulty { room, ..run.faulty };
+        let want = &Ending::new(alloc, 5, &whole[..room], b"mirdwarf: write\n")?;
+        let failing = Run {
+            faulty,
+            want,
+            ..run
+        };
+        make_run(rt, alloc, failing, tally)?;
+    }
+    Ok(())
+}
+
+/// Makes all runs of a row.
+pub fn run_row(rt: &impl Print, alloc: Global, row: &Row, tally: &mut Tally) -> anyhow::Result<()> {
+    for words in &row.words {
+        let run = Run {
+            row,
+            words: words.as_str(),
+            faulty: row.faulty,
+            want: &row.ending,
+        };
+        make_run(rt, alloc, run, tally)?;
+        fail_reads(rt, alloc, run, tally)?;
+        if row.rooms {
+            fill_rooms(rt, alloc, run, tally)?;
+        }
+    }
+    Ok(())
+}
