@@ -1,7 +1,7 @@
 //! Functions from texts. Lines `slots FIRST LAST` and `object ID SIZE ALIGN OFFSET` declare, and a line `bb FIRST LAST
 //! SILENT` begins a block, or one of each number up to the last: the last number and the silent index may be left out.
-//! Each further line is an item: an opcode and its operands, after `#K` where it has a number; `mark V`, `inlined V AT` or
-//! `part V OFFSET LENGTH` and what the variable or its part is assigned; or `phi K` and a place.
+//! Each further line is an item: an opcode and its operands, after `#K` where it has a number; `mark V`, `inlined V AT`
+//! or `part V OFFSET LENGTH` and what the variable or its part is assigned; or `phi K` and a place.
 
 use lists::List;
 use mir_func::block::{Block, Blocks};
@@ -143,7 +143,7 @@ fn kind(alloc: Global, line: &str) -> Option<ItemKind> {
     }
 }
 
-/// The items of a block as it is read: each is kept at its own place.
+/// The items of a block as it is read: each is kept at its own place. All but the first have a debug location.
 fn items(alloc: Global, id: BlockId, text: &str) -> Option<Items> {
     let mut items: Items = List::new(alloc);
     for line in text.lines() {
@@ -153,7 +153,11 @@ fn items(alloc: Global, id: BlockId, text: &str) -> Option<Items> {
         let item = items.len() as u32;
         let kind = kind(alloc, line)?;
         let origin = Origin::Kept(Pos { block: id, item });
-        let loc = Loc::Node(NodeId(7));
+        let loc = if item == 0 {
+            Loc::Absent
+        } else {
+            Loc::Node(NodeId(7))
+        };
         items.push(Item { kind, origin, loc }).ok()?;
     }
     Some(items)

@@ -166,11 +166,11 @@ fn copies_and_strips(rt: HostRuntime) {
         None => panic!(rt; "no form"),
     };
     let copied = f.copy().expect(&rt, "memory");
-    assert_eq!(rt; counts(&copied), [10, 4, 10]);
+    assert_eq!(rt; counts(&copied), [10, 4, 7]);
     assert_eq!(rt; copied.slots.len(), 2);
     assert_eq!(rt; copied.objects.len(), 2);
     let stripped = strip(rt.alloc(), &f).expect(&rt, "memory");
-    assert_eq!(rt; counts(&stripped), [7, 0, 7]);
+    assert_eq!(rt; counts(&stripped), [7, 0, 5]);
 }
 
 #[test]
