@@ -166,8 +166,8 @@ fn words_of_instructions(rt: HostRuntime) {
             Some(m) => encode(&m),
             None => 0,
         };
-        assert_eq!(rt; found, word, "{op:?} at {offset}");
-        assert_eq!(rt; object_named(&instr), object_in(parts), "{op:?}");
+        assert_eq!(rt; found, word);
+        assert!(rt; object_named(&instr) == object_in(parts), "{word:#x}");
     }
 }
 

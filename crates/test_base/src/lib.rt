@@ -1,5 +1,5 @@
-//! Tests of lists, instructions and their words, memory, reading and writing, and of what is told of faults: what no
-//! row of a whole run shows.
+//! Tests of lists, instructions and their words, reading and writing, and of what is told of faults: what no row of a
+//! whole run shows.
 #![tactic(auto)]
 
 #[cfg(test)]
@@ -7,7 +7,7 @@ mod command;
 #[cfg(test)]
 mod instructions;
 #[cfg(test)]
-mod memory;
+mod items;
 #[cfg(test)]
 mod streams;
 #[cfg(test)]

@@ -14,8 +14,11 @@ use std::process::Abort;
 use std::str::SplitWhitespace;
 use substitution::substitutions::Substitutions;
 
-/// Eight bytes 0x11, and then 0x8182838485868788.
-const CELLS: [(u64, u8); 16] = [
+/// A byte twice and the last byte of all, and then eight bytes 0x11 and 0x8182838485868788.
+const CELLS: [(u64, u8); 19] = [
+    (16, 1),
+    (u64::MAX, 2),
+    (16, 3),
     (4096, 0x11),
     (4097, 0x11),
     (4098, 0x11),
@@ -437,21 +440,29 @@ const SLOTS: &str = "slots 0 1\nbb 0\n";
 const WITH_OBJECT: &str = "slots 0 1\nobject 5 16 8 0\nbb 0\n";
 
 /// Sees lines of code before a return.
-fn sees_lines(rt: &impl Abort, alloc: Global, front: &str, lines: &str, x10: u64, looks: &str) {
+fn sees_lines(
+    rt: &impl Abort,
+    alloc: Global,
+    front: &str,
+    lines: &str,
+    x10: u64,
+    written: (u64, u8),
+    looks: &str,
+) {
     let text = format!(in alloc; "{front}{lines}\nPseudoRET").expect(rt, "memory");
-    assert!(rt; sees(rt, alloc, text.as_str(), x10, (x10, 1), looks).is_some());
+    assert!(rt; sees(rt, alloc, text.as_str(), x10, written, looks).is_some());
 }
 
 #[test]
 fn accesses(rt: HostRuntime) {
     for (line, x10, looks) in EDGES {
-        sees_lines(&rt, rt.alloc(), SLOTS, line, x10, looks);
+        sees_lines(&rt, rt.alloc(), SLOTS, line, x10, (x10, 1), looks);
     }
     for (lines, looks) in OBJECTS {
-        sees_lines(&rt, rt.alloc(), WITH_OBJECT, lines, 77, looks);
+        sees_lines(&rt, rt.alloc(), WITH_OBJECT, lines, 77, (0, 0), looks);
     }
     for (line, x10, looks) in OBJECT_EDGES {
-        sees_lines(&rt, rt.alloc(), WITH_OBJECT, line, x10, looks);
+        sees_lines(&rt, rt.alloc(), WITH_OBJECT, line, x10, (x10, 1), looks);
     }
 }
 
@@ -482,6 +493,34 @@ const WRAPS: (&str, &str) = (
      mark 2 18446744073709551614",
 );
 
+/// Where x10 is the last address, its byte and those from 0 on are read, written and written by an answer. What isn't
+/// written is 0, and the last of two bytes of an address counts.
+const BYTES: (&str, &str) = (
+    "ADDI def:8 use:10 0
+       LBU def:12 use:0 16
+       mark 1 reg 12
+       LBU def:12 use:0 17
+       mark 2 reg 12
+       LHU def:13 use:8 0
+       mark 3 reg 13
+       LUI def:11 20576
+       ADDI def:11 use:11 1800
+       SW use:11 use:8 0
+       LD def:13 use:8 0
+       mark 4 reg 13
+       PseudoCALL g mask
+       LD def:13 use:8 0
+       mark 5 reg 13",
+    "went 12 0 12
+     mark 1 3
+     mark 2 0
+     mark 3 2
+     mark 4 84281096
+     answer went 0 13
+     went 2 0 15
+     mark 5 84281864",
+);
+
 #[test]
 fn widths(rt: HostRuntime) {
     for (store, load, wanted) in WIDTHS {
@@ -489,7 +528,24 @@ fn widths(rt: HostRuntime) {
             "LD def:11 use:10 8\n{store} use:11 use:10 0\n{load} def:12 use:10 0\nmark 1 reg 12"
         ).expect(&rt, "memory");
         let looks = format!(in rt.alloc(); "went 4 0 4\nmark 1 {wanted}").expect(&rt, "memory");
-        sees_lines(&rt, rt.alloc(), SLOTS, lines.as_str(), 4096, looks.as_str());
+        sees_lines(
+            &rt,
+            rt.alloc(),
+            SLOTS,
+            lines.as_str(),
+            4096,
+            (0, 0),
+            looks.as_str(),
+        );
     }
-    sees_lines(&rt, rt.alloc(), SLOTS, WRAPS.0, u64::MAX - 1, WRAPS.1);
+    sees_lines(
+        &rt,
+        rt.alloc(),
+        SLOTS,
+        WRAPS.0,
+        u64::MAX - 1,
+        (0, 0),
+        WRAPS.1,
+    );
+    sees_lines(&rt, rt.alloc(), SLOTS, BYTES.0, u64::MAX, (0, 10), BYTES.1);
 }
