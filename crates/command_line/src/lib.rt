@@ -5,5 +5,3 @@
 pub mod command;
 pub mod fault;
 pub mod status;
-#[cfg(test)]
-mod tests;

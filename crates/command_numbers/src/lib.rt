@@ -4,5 +4,3 @@
 pub mod generation;
 pub mod list;
 pub mod number;
-#[cfg(test)]
-mod tests;

@@ -5,5 +5,3 @@
 pub mod given;
 pub mod option;
 pub mod options;
-#[cfg(test)]
-mod tests;

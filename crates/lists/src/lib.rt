@@ -105,26 +105,3 @@ impl<T> From<Vec<T>> for List<T> {
         List { items }
     }
 }
-
-#[cfg(test)]
-mod tests {
-    use super::*;
-    use std::test::Fail;
-
-    #[test]
-    fn keeps_its_items(rt: HostRuntime) -> Result<(), Fail> {
-        let mut list = List::new(rt.alloc());
-        assert!(rt; list.is_empty());
-        for n in 0..9u32 {
-            list.push(n)?;
-        }
-        let other = list.copy()?;
-        assert_eq!(rt; list.len(), 9);
-        assert_eq!(rt; other.as_slice(), [0, 1, 2, 3, 4, 5, 6, 7, 8].as_slice());
-        let more = List::from_slice(rt.alloc(), other.as_slice())?;
-        let mut again: List<u32> = List::from(more.into_vec());
-        again.extend_from_slice(&[9, 10])?;
-        assert_eq!(rt; again.len(), 11);
-        Ok(())
-    }
-}

@@ -6,5 +6,3 @@
 
 pub mod first;
 pub mod kind;
-#[cfg(test)]
-mod tests;

@@ -3,6 +3,4 @@
 #![tactic(auto)]
 
 pub mod name;
-#[cfg(test)]
-mod tests;
 pub mod text;

@@ -3,5 +3,3 @@
 #![tactic(auto)]
 
 pub mod strip_text;
-#[cfg(test)]
-mod tests;

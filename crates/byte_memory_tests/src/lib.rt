@@ -1,5 +1,0 @@
-//! Tests of memory.
-#![tactic(auto)]
-
-#[cfg(test)]
-mod tests;

@@ -1,5 +1,0 @@
-use Rattle.mir_semantics.specs.StandsFor.{IsPosition}
-use Rattle.mir_semantics_tests.proofs.tests.steps.Given as goal
-
-abbrev pub invariant-loop-i : goal.invariant-loop-i
-invariant-loop-i g l = IsPosition l.f.blocks l.state.pos

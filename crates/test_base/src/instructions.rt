@@ -1,0 +1,193 @@
+//! Arithmetic, names, effects and words of instructions, against values worked out by hand and those of an assembler.
+
+use lists::List;
+use numbers::code::{BlockId, ObjectId, SlotId};
+use rv64_instr::arithmetic::{compute, extend, is_taken};
+use rv64_instr::instr::Instr;
+use rv64_instr::op::BranchOp::*;
+use rv64_instr::op::ImmediateOp::*;
+use rv64_instr::op::LoadOp::*;
+use rv64_instr::op::RegisterOp::*;
+use rv64_instr::op::StoreOp::*;
+use rv64_instr::op::{Op, RegisterOp};
+use rv64_instr::operand::{Operand, Operands};
+use rv64_instr::place::Place;
+use rv64_instr::reg::physical;
+use rv64_word::lowering::{lower, object_named};
+use rv64_word::machine_op::encode;
+use std::alloc::Global;
+use std::process::Abort;
+
+/// An operation on registers, their contents, and what it gives.
+const RESULTS: [(RegisterOp, u64, u64, u64); 15] = [
+    (Add, 0xffff_ffff_ffff_ffff, 2, 1),
+    (Sub, 0, 1, 0xffff_ffff_ffff_ffff),
+    (Sll, 1, 65, 2),
+    (Srl, 0x8000_0000_0000_0000, 63, 1),
+    (Sra, 0x8000_0000_0000_0000, 63, 0xffff_ffff_ffff_ffff),
+    (Slt, 0xffff_ffff_ffff_ffff, 0, 1),
+    (Sltu, 0xffff_ffff_ffff_ffff, 0, 0),
+    (Xor, 6, 3, 5),
+    (Or, 6, 3, 7),
+    (And, 6, 3, 2),
+    (Addw, 0x7fff_ffff, 1, 0xffff_ffff_8000_0000),
+    (Subw, 0, 1, 0xffff_ffff_ffff_ffff),
+    (Sllw, 1, 63, 0xffff_ffff_8000_0000),
+    (Srlw, 0xffff_ffff_8000_0000, 4, 0x0800_0000),
+    (Sraw, 0x8000_0000, 31, 0xffff_ffff_ffff_ffff),
+];
+
+#[test]
+fn arithmetic_of_the_standard(rt: HostRuntime) {
+    for (op, a, b, wanted) in RESULTS {
+        assert_eq!(rt; compute(op, a, b), wanted, "{op:?}");
+    }
+    assert!(rt; is_taken(Blt, u64::MAX, 0));
+    assert!(rt; is_taken(Bgeu, u64::MAX, 0));
+    assert_eq!(rt; extend(Lb, 0x80), 0xffff_ffff_ffff_ff80);
+    assert_eq!(rt; extend(Lhu, 0x8000), 0x8000);
+    assert_eq!(rt; Op::from_mnemonic(b"SRAIW"), Some(Op::Immediate(Sraiw)));
+    assert_eq!(rt; Op::from_mnemonic(b"AUIPC"), None);
+}
+
+/// An operand by its number, or a call's.
+#[derive(Clone, Copy)]
+enum Part {
+    Def(u32),
+    Use(u32),
+    Takes(u32),
+    Imm(i64),
+    Slot(u32),
+    Object(u32),
+    Block(u32),
+    Symbol,
+    Mask,
+}
+
+use Part::*;
+
+fn operand(alloc: Global, part: Part) -> Option<Operand> {
+    match part {
+        Def(n) => Some(Operand::Def(physical(n)?)),
+        Use(n) => Some(Operand::Use(physical(n)?)),
+        Takes(n) => Some(Operand::ImplicitUse(physical(n)?)),
+        Imm(i) => Some(Operand::Imm(i)),
+        Slot(n) => Some(Operand::Slot(SlotId(n))),
+        Object(n) => Some(Operand::Object(ObjectId(n))),
+        Block(n) => Some(Operand::Block(BlockId(n))),
+        Symbol => Some(Operand::Symbol(List::new(alloc))),
+        Mask => Some(Operand::Mask),
+    }
+}
+
+fn operands(alloc: Global, parts: &[Part]) -> Option<Operands> {
+    let mut operands = Operands::new(alloc);
+    for part in parts {
+        operands.push(operand(alloc, *part)?).ok()?;
+    }
+    Some(operands)
+}
+
+fn made(alloc: Global, op: Op, parts: &[Part]) -> Option<Instr> {
+    Instr::new(op, operands(alloc, parts)?)
+}
+
+fn object_in(parts: &[Part]) -> Option<ObjectId> {
+    for part in parts {
+        if let Object(n) = part {
+            return Some(ObjectId(*n));
+        }
+    }
+    None
+}
+
+const ADD: Op = Op::Registers(Add);
+
+const ADDI: Op = Op::Immediate(Addi);
+
+const SRAI: Op = Op::Immediate(Srai);
+
+const LW: Op = Op::Load(Lw);
+
+const LD: Op = Op::Load(Ld);
+
+const SB: Op = Op::Store(Sb);
+
+const SD: Op = Op::Store(Sd);
+
+const BEQ: Op = Op::Branch(Beq);
+
+const BGEU: Op = Op::Branch(Bgeu);
+
+const LBU: Op = Op::Load(Lbu);
+
+const SH: Op = Op::Store(Sh);
+
+/// An opcode, its operands, the target's offset, the stack object's offset, and the word that `llvm-mc` of LLVM 14
+/// writes for the instruction, or 0 where an offset is out of range, and for a call, which has no one word.
+const ROWS: [(Op, &[Part], i64, u32, u32); 30] = [
+    (ADD, &[Def(5), Use(6), Use(7)], 0, 0, 0x007302b3),
+    (ADDI, &[Def(11), Use(12), Imm(-2048)], 0, 0, 0x80060593),
+    (ADDI, &[Def(11), Object(3), Imm(-8)], 0, 2055, 0x7ff10593),
+    (ADDI, &[Def(11), Object(3), Imm(-8)], 0, 8, 0x00010593),
+    (ADDI, &[Def(11), Object(3), Imm(0)], 0, 2048, 0),
+    (SRAI, &[Def(5), Use(6), Imm(63)], 0, 0, 0x43f35293),
+    (Op::Lui, &[Def(10), Imm(1_048_575)], 0, 0, 0xfffff537),
+    (LW, &[Def(5), Use(6), Imm(-4)], 0, 0, 0xffc32283),
+    (LW, &[Def(5), Object(2), Imm(-4)], 0, 0, 0xffc12283),
+    (LD, &[Def(10), Slot(16), Imm(0)], 0, 0, 0x01013503),
+    (LD, &[Def(10), Slot(2048), Imm(0)], 0, 0, 0),
+    (SB, &[Use(7), Use(8), Imm(2047)], 0, 0, 0x7e740fa3),
+    (SB, &[Use(7), Object(2), Imm(3)], 0, 2044, 0x7e710fa3),
+    (SB, &[Use(7), Object(2), Imm(4)], 0, 2044, 0),
+    (SD, &[Use(11), Slot(24), Imm(0)], 0, 0, 0x00b13c23),
+    (BEQ, &[Use(5), Use(6), Block(1)], -8, 0, 0xfe628ce3),
+    (BGEU, &[Use(10), Use(11), Block(1)], 4094, 0, 0x7eb57fe3),
+    (BEQ, &[Use(5), Use(6), Block(1)], 4096, 0, 0),
+    (Op::Copy, &[Def(10), Use(11)], 0, 0, 0x00058513),
+    (Op::PseudoBr, &[Block(1)], 2048, 0, 0x0010006f),
+    (Op::PseudoBr, &[Block(1)], 1, 0, 0),
+    (Op::PseudoRet, &[], 0, 0, 0x00008067),
+    (Op::PseudoRet, &[], 3, 3, 0x00008067),
+    (ADDI, &[Def(11), Object(3), Imm(8)], 0, 0, 0x00810593),
+    (ADDI, &[Def(11), Use(2), Imm(8)], 0, 0, 0x00810593),
+    (LBU, &[Def(11), Object(4), Imm(8)], 0, 0, 0x00814583),
+    (LD, &[Def(11), Slot(5), Imm(0)], 0, 0, 0x00513583),
+    (SH, &[Use(11), Object(6), Imm(8)], 0, 0, 0x00b11423),
+    (BEQ, &[Use(11), Use(0), Block(7)], 0, 0, 0x00058063),
+    (Op::PseudoCall, &[Symbol, Mask], 0, 0, 0),
+];
+
+#[test]
+fn words_of_instructions(rt: HostRuntime) {
+    for (op, parts, offset, object, word) in ROWS {
+        let instr = made(rt.alloc(), op, parts).expect(&rt, "an instruction");
+        let found = match lower(&instr, offset, object) {
+            Some(m) => encode(&m),
+            None => 0,
+        };
+        assert_eq!(rt; found, word);
+        assert!(rt; object_named(&instr) == object_in(parts), "{word:#x}");
+    }
+}
+
+fn register(rt: &impl Abort, n: u32) -> Place {
+    Place::Register(physical(n).expect(rt, "a register"))
+}
+
+/// A call with an argument in x10.
+fn is_call(rt: &impl Abort, call: &Instr) {
+    assert!(rt; call.effect().call);
+    assert!(rt; call.uses(register(rt, 10)));
+    assert!(rt; call.defines(register(rt, 1)));
+    assert!(rt; !call.defines(register(rt, 8)));
+}
+
+#[test]
+fn a_call_and_its_copy(rt: HostRuntime) {
+    let call = made(rt.alloc(), Op::PseudoCall, &[Symbol, Mask, Takes(10)]).expect(&rt, "a call");
+    is_call(&rt, &call);
+    is_call(&rt, &call.copy().expect(&rt, "memory"));
+    let operands = call.operands.copy().expect(&rt, "memory");
+    assert_eq!(rt; operands.as_slice().len(), 3);
+}

@@ -1,0 +1,199 @@
+//! Reading and writing over memory with planned faults, and the adapters over the standard library.
+
+ghost use Rattle.std.specs.Prelude.{◌<◌};
+
+use io_edge::bytes::{Bytes, CallNumbers};
+use io_edge::fault::Failed;
+use io_edge::memory_sink::MemorySink;
+use io_edge::memory_source::MemorySource;
+use io_edge::reading::{ReadError, read_all};
+use io_edge::sink::Sink;
+use io_edge::source::Source;
+use io_edge::std_sink::StdSink;
+use io_edge::std_source::StdSource;
+use io_edge::writing::write_all;
+use std::alloc::Global;
+use std::io;
+use std::io::{ErrorKind, Read, Write};
+use std::process::Abort;
+
+fn source(rt: &impl Abort, alloc: Global, bytes: &[u8], fails: &[u64]) -> MemorySource {
+    let bytes = Bytes::from_slice(alloc, bytes).expect(rt, "memory");
+    let fails = CallNumbers::from_slice(alloc, fails).expect(rt, "memory");
+    MemorySource::new(bytes, fails)
+}
+
+fn sink(rt: &impl Abort, alloc: Global, room: usize, fails: &[u64]) -> MemorySink {
+    let fails = CallNumbers::from_slice(alloc, fails).expect(rt, "memory");
+    MemorySink::new(alloc, room, fails).expect(rt, "memory")
+}
+
+#[test]
+fn pieces_and_planned_faults(rt: HostRuntime) {
+    let mut input = source(&rt, rt.alloc(), b"hello", &[2, 4]);
+    let rows: [(usize, Result<usize, Failed>, &[u8]); 6] = [
+        (2, Ok(2), b"he"),
+        (2, Err(Failed), b".."),
+        (2, Ok(2), b"ll"),
+        (2, Err(Failed), b".."),
+        (4, Ok(1), b"o..."),
+        (4, Ok(0), b"...."),
+    ];
+    for (size, answer, filled) in rows {
+        let mut buf = [b'.'; 4];
+        assert!(rt; size <= 4);
+        let piece = &mut buf[..size];
+        assert_eq!(rt; input.read(piece), answer);
+        assert_eq!(rt; &*piece, filled);
+    }
+    let mut output = sink(&rt, rt.alloc(), 4, &[2]);
+    let rows: [(&[u8], Result<usize, Failed>, &[u8]); 6] = [
+        (b"ab", Ok(2), b"ab"),
+        (b"cd", Err(Failed), b"ab"),
+        (b"", Ok(0), b"ab"),
+        (b"cde", Ok(2), b"abcd"),
+        (b"e", Err(Failed), b"abcd"),
+        (b"", Ok(0), b"abcd"),
+    ];
+    for (piece, answer, written) in rows {
+        assert_eq!(rt; output.write(piece), answer);
+        assert_eq!(rt; output.written(), written);
+    }
+}
+
+#[test]
+fn whole_texts(rt: HostRuntime) {
+    // The input, the calls that fail, the limit, and the error if there is one. A short input takes two reads.
+    let rows: [(&[u8], &[u64], usize, Option<ReadError>); 8] = [
+        (b"", &[], 0, None),
+        (b"hello", &[], 5, None),
+        (b"hello", &[], 6, None),
+        (b"hello", &[3], 6, None),
+        (b"h", &[], 0, Some(ReadError::TooLong)),
+        (b"hello", &[], 4, Some(ReadError::TooLong)),
+        (b"hello", &[1], 5, Some(ReadError::Failed)),
+        (b"hello", &[2], 5, Some(ReadError::Failed)),
+    ];
+    for (bytes, fails, limit, error) in rows {
+        let mut input = source(&rt, rt.alloc(), bytes, fails);
+        assert!(rt; limit < 100);
+        match read_all(rt.alloc(), &mut input, limit) {
+            Ok(read) => {
+                assert_eq!(rt; error, None);
+                assert_eq!(rt; read.as_slice(), bytes);
+            }
+            Err(e) => assert_eq!(rt; Some(e), error),
+        }
+    }
+    // The room, the calls that fail, the answer, and what was written of the piece.
+    let rows: [(usize, &[u64], Result<(), Failed>, &[u8]); 4] = [
+        (5, &[], Ok(()), b"hello"),
+        (9, &[2], Ok(()), b"hello"),
+        (3, &[], Err(Failed), b"hel"),
+        (9, &[1], Err(Failed), b""),
+    ];
+    for (room, fails, answer, written) in rows {
+        let mut output = sink(&rt, rt.alloc(), room, fails);
+        assert_eq!(rt; write_all(&mut output, b"hello"), answer);
+        assert_eq!(rt; output.written(), written);
+    }
+}
+
+/// A reader that gives a byte a call, counting down to 1, and fails at one of its calls.
+#[derive(Drop)]
+struct Countdown {
+    left: u8,
+    calls_to_fault: u8,
+}
+
+impl Read for Countdown {
+    fn read(&mut self, buf: &mut [u8]) -> io::Result<usize> {
+        if self.calls_to_fault == 0 {
+            return Err(io::Error::from(ErrorKind::Other));
+        }
+        self.calls_to_fault -= 1;
+        if buf.is_empty() || self.left == 0 {
+            return Ok(0);
+        }
+        buf[0] = self.left;
+        self.left -= 1;
+        Ok(1)
+    }
+}
+
+/// A writer that takes a byte a call. With its room full it fails, or takes nothing.
+#[derive(Drop)]
+struct Drip {
+    taken: Vec<u8>,
+    room: usize,
+    fails: bool,
+}
+
+impl Write for Drip {
+    fn write(&mut self, buf: &[u8]) -> io::Result<usize> {
+        if buf.is_empty() || (self.taken.len() >= self.room && !self.fails) {
+            return Ok(0);
+        }
+        if self.taken.len() >= self.room {
+            return Err(io::Error::from(ErrorKind::Other));
+        }
+        self.taken.push(buf[0])?;
+        Ok(1)
+    }
+
+    fn flush(&mut self) -> io::Result<()> {
+        Ok(())
+    }
+}
+
+#[test]
+fn the_standard_library_passes_bytes_and_faults_on(rt: HostRuntime) {
+    // The third read fails, or none does.
+    let rows: [(u8, Result<&[u8], ReadError>); 2] = [
+        (2, Err(ReadError::Failed)),
+        (9, Ok(&[3, 2, 1])),
+    ];
+    for (calls_to_fault, wanted) in rows {
+        let mut input = StdSource::new(Countdown {
+            left: 3,
+            calls_to_fault,
+        });
+        match read_all(rt.alloc(), &mut input, 3) {
+            Ok(read) => assert_eq!(rt; Ok(read.as_slice()), wanted),
+            Err(e) => assert_eq!(rt; Err(e), wanted),
+        }
+    }
+    let rows: [(usize, bool, Result<(), Failed>, &[u8]); 3] = [
+        (5, true, Ok(()), b"hello"),
+        (3, true, Err(Failed), b"hel"),
+        (3, false, Err(Failed), b"hel"),
+    ];
+    for (room, fails, answer, taken) in rows {
+        let mut drip = Drip {
+            taken: Vec::new(rt.alloc()),
+            room,
+            fails,
+        };
+        assert_eq!(rt; write_all(&mut StdSink::new(&mut drip), b"hello"), answer);
+        assert_eq!(rt; drip.taken.as_slice(), taken);
+    }
+    let mut bytes = Vec::new(rt.alloc());
+    assert_eq!(rt; write_all(&mut StdSink::new(&mut bytes), b"hello"), Ok(()));
+    assert_eq!(rt; bytes.as_slice(), b"hello".as_slice());
+}
+
+#[test]
+fn read_all_grows_its_room(rt: HostRuntime) {
+    // Three times as many bytes as the first room has.
+    for (size, wanted) in [(200_000, None), (200_001, Some(ReadError::TooLong))] {
+        let mut input = StdSource::new(io::repeat(b'x').take(size));
+        match read_all(rt.alloc(), &mut input, 200_000) {
+            Ok(read) => {
+                assert_eq!(rt; wanted, None);
+                assert_eq!(rt; read.len(), 200_000);
+                assert!(rt; read.as_slice().iter().all(|byte| *byte == b'x'));
+            }
+            Err(e) => assert_eq!(rt; Some(e), wanted),
+        }
+    }
+}

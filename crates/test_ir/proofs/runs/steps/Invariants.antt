@@ -1,0 +1,5 @@
+use Rattle.mir_semantics.specs.StandsFor.{IsPosition}
+use Rattle.test_ir.proofs.runs.steps.Given as goal
+
+abbrev pub invariant-loop-i : goal.invariant-loop-i
+invariant-loop-i g l = IsPosition l.f.blocks l.state.pos

@@ -1,0 +1,222 @@
+//! Functions from texts. Lines `slots FIRST LAST` and `object ID SIZE ALIGN OFFSET` declare, and a line `bb FIRST LAST
+//! SILENT` begins a block, or one of each number up to the last: the last number and the silent index may be left out.
+//! Each further line is an item: an opcode and its operands, after `#K` where it has a number; `mark V`, `inlined V AT`
+//! or `part V OFFSET LENGTH` and what the variable or its part is assigned; or `phi K` and a place.
+
+use lists::List;
+use mir_func::block::{Block, Blocks};
+use mir_func::entry::{Entry, OperandPair};
+use mir_func::func::{Func, FuncError, SlotIds};
+use mir_func::item::{Item, ItemKind, Items};
+use mir_func::location::Loc;
+use mir_func::object::{Object, Objects};
+use mir_func::position::{Origin, Pos};
+use mir_func::variable::{Fragment, MarkValue, VarId};
+use numbers::code::{BlockId, DebugNumber, ObjectId, OperandIndex, SlotId};
+use numbers::metadata::NodeId;
+use rv64_instr::instr::Instr;
+use rv64_instr::op::Op;
+use rv64_instr::operand::{Operand, Operands};
+use rv64_instr::place::Place;
+use rv64_instr::reg::Reg;
+use std::alloc::{AllocError, Global};
+use std::str::SplitWhitespace;
+use substitution::substitutions::Substitutions;
+
+pub fn pair(number: u32, operand: u32) -> OperandPair {
+    OperandPair {
+        number: DebugNumber(number),
+        operand: OperandIndex(operand),
+    }
+}
+
+/// The entry by which one number's operand 0 stands for another's.
+pub fn entry(src: u32, dst: u32, subreg: u32) -> Entry {
+    Entry {
+        src: pair(src, 0),
+        dst: pair(dst, 0),
+        subreg,
+    }
+}
+
+/// The entries of such numbers, in their order.
+pub fn entries(alloc: Global, list: &[(u32, u32, u32)]) -> Result<Substitutions, AllocError> {
+    let mut subs = Substitutions::new(alloc);
+    for (src, dst, subreg) in list {
+        subs.add(entry(*src, *dst, *subreg))?;
+    }
+    Ok(subs)
+}
+
+/// The number of a word.
+pub fn number(word: Option<&str>) -> Option<u32> {
+    word?.parse::<u32>().ok()
+}
+
+fn register(word: Option<&str>) -> Option<Reg> {
+    Reg::new(number(word)?)
+}
+
+/// An operand, as `def:5`, or `mask`, `g` or a number.
+fn operand(alloc: Global, word: &str) -> Option<Operand> {
+    let (class, n) = match word.split_once(':') {
+        Some((class, rest)) => (class, number(Some(rest))?),
+        None => (word, 0),
+    };
+    match class {
+        "def" => Some(Operand::Def(Reg::new(n)?)),
+        "use" => Some(Operand::Use(Reg::new(n)?)),
+        "gives" => Some(Operand::ImplicitDef(Reg::new(n)?)),
+        "takes" => Some(Operand::ImplicitUse(Reg::new(n)?)),
+        "slot" => Some(Operand::Slot(SlotId(n))),
+        "object" => Some(Operand::Object(ObjectId(n))),
+        "to" => Some(Operand::Block(BlockId(n))),
+        "mask" => Some(Operand::Mask),
+        "g" => Some(Operand::Symbol(List::from_slice(alloc, b"g").ok()?)),
+        _ => Some(Operand::Imm(word.parse::<i64>().ok()?)),
+    }
+}
+
+fn code(alloc: Global, opcode: &str, words: SplitWhitespace) -> Option<Instr> {
+    let op = Op::from_mnemonic(opcode.as_bytes())?;
+    let mut operands = Operands::new(alloc);
+    for word in words {
+        operands.push(operand(alloc, word)?).ok()?;
+    }
+    Instr::new(op, operands)
+}
+
+fn mark_value(words: &mut SplitWhitespace) -> Option<MarkValue> {
+    match words.next()? {
+        "reg" => Some(MarkValue::At(register(words.next())?)),
+        "pair" => Some(MarkValue::Pair(pair(number(words.next())?, number(words.next())?))),
+        "none" => Some(MarkValue::Nothing),
+        word => Some(MarkValue::Constant(word.parse::<i64>().ok()?)),
+    }
+}
+
+fn place(words: &mut SplitWhitespace) -> Option<Place> {
+    match words.next()? {
+        "reg" => Some(Place::Register(register(words.next())?)),
+        "slot" => Some(Place::Slot(SlotId(number(words.next())?))),
+        _ => None,
+    }
+}
+
+/// A variable after its word: `mark V`, `inlined V AT` or `part V OFFSET LENGTH`. None after another word.
+pub fn variable(first: &str, words: &mut SplitWhitespace) -> Option<VarId> {
+    if !matches!(first, "mark" | "inlined" | "part") {
+        return None;
+    }
+    let node = NodeId(number(words.next())?);
+    let mut v = VarId {
+        node,
+        inlined_at: None,
+        fragment: None,
+    };
+    if first == "inlined" {
+        v.inlined_at = Some(NodeId(number(words.next())?));
+    }
+    if first == "part" {
+        v.fragment = Fragment::new(number(words.next())?, number(words.next())?);
+    }
+    Some(v)
+}
+
+fn kind(alloc: Global, line: &str) -> Option<ItemKind> {
+    let mut words = line.split_whitespace();
+    let first = words.next()?;
+    if let Some(v) = variable(first, &mut words) {
+        return Some(ItemKind::Mark(v, mark_value(&mut words)?));
+    }
+    if first == "phi" {
+        let k = DebugNumber(number(words.next())?);
+        return Some(ItemKind::Phi(place(&mut words), k));
+    }
+    match first.strip_prefix("#") {
+        Some(k) => {
+            let k = DebugNumber(number(Some(k))?);
+            let opcode = words.next()?;
+            Some(ItemKind::Code(code(alloc, opcode, words)?, Some(k)))
+        }
+        None => Some(ItemKind::Code(code(alloc, first, words)?, None)),
+    }
+}
+
+/// The items of a block as it is read: each is kept at its own place. All but the first have a debug location.
+fn items(alloc: Global, id: BlockId, text: &str) -> Option<Items> {
+    let mut items: Items = List::new(alloc);
+    for line in text.lines() {
+        if line.trim().is_empty() {
+            continue;
+        }
+        let item = items.len() as u32;
+        let kind = kind(alloc, line)?;
+        let origin = Origin::Kept(Pos { block: id, item });
+        let loc = if item == 0 {
+            Loc::Absent
+        } else {
+            Loc::Node(NodeId(7))
+        };
+        items.push(Item { kind, origin, loc }).ok()?;
+    }
+    Some(items)
+}
+
+/// Adds the blocks of a text, whose first line has their numbers.
+fn add_blocks(alloc: Global, text: &str, blocks: &mut Blocks) -> Option<()> {
+    let (head, text) = text.split_once('\n')?;
+    let mut words = head.split_whitespace();
+    let first = number(words.next())?;
+    let last = number(words.next()).unwrap_or(first);
+    let silent = number(words.next());
+    for n in first..last.saturating_add(1) {
+        let id = BlockId(n);
+        let items = items(alloc, id, text)?;
+        let silent = silent.unwrap_or(items.len() as u32);
+        blocks.push(Block { id, items, silent }).ok()?;
+    }
+    Some(())
+}
+
+fn add_slots(words: &mut SplitWhitespace, slots: &mut SlotIds) -> Option<()> {
+    let first = number(words.next())?;
+    let last = number(words.next())?;
+    for n in first..last.saturating_add(1) {
+        slots.push(SlotId(n)).ok()?;
+    }
+    Some(())
+}
+
+fn object(words: &mut SplitWhitespace) -> Option<Object> {
+    Some(Object {
+        id: ObjectId(number(words.next())?),
+        size: number(words.next())?,
+        align: number(words.next())?,
+        offset: u64::from(number(words.next())?),
+    })
+}
+
+fn declare(line: &str, slots: &mut SlotIds, objects: &mut Objects) -> Option<()> {
+    let mut words = line.split_whitespace();
+    match words.next() {
+        None => Some(()),
+        Some("slots") => add_slots(&mut words, slots),
+        Some(_) => objects.push(object(&mut words)?).ok(),
+    }
+}
+
+/// The function of a text, or why there is none. None where the text has another form.
+pub fn function(alloc: Global, text: &str) -> Option<Result<Func, FuncError>> {
+    let mut slots = SlotIds::new(alloc);
+    let mut objects = Objects::new(alloc);
+    let mut blocks = Blocks::new(alloc);
+    let (front, rest) = text.split_once("bb ")?;
+    for line in front.lines() {
+        declare(line, &mut slots, &mut objects)?;
+    }
+    for part in rest.split("bb ") {
+        add_blocks(alloc, part, &mut blocks)?;
+    }
+    Some(Func::new(alloc, List::new(alloc), slots, objects, blocks))
+}
