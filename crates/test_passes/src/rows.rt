@@ -38,7 +38,7 @@ pub const ROWS: &[Row] = &[
         text: "---\nname: f\nbody: |\n  bb.0:\n    $x12 = ADDI $x10, 1\n    $x13 = ADDI $x12, 1\n    \
                $x14 = ADDI $x13, 1\n    $x11 = ADDI $x10, 2\n  bb.1:\n    $x15 = ADDI $x11, 1\n    \
                $x16 = ADDI $x16, 1\n    BNE $x10, $x0, %bb.1\n  bb.2:\n    PseudoRET\n...\n",
-        wanted: " 10 16; 10 11 16; 10 16\n 10 11 16; 10 11 16; 10 11 16\n;;\n---+ -++ +\n",
+        wanted: " 0 10 16; 0 10 11 16; 0 10 16\n 0 10 11 16; 0 10 11 16; 0 10 11 16\n;;\n---+ -++ +\n",
     },
     Row {
         shows: "code that defines x0, with its uses",
@@ -60,7 +60,7 @@ pub const ROWS: &[Row] = &[
         text: "---\nname: f\nstack:\n  - { id: 0, size: 8, alignment: 8 }\nbody: |\n  bb.0:\n    \
                SD $x10, %stack.0, 0\n    SD $x11, $x10, 0\n    BEQ $x10, $x0, %bb.2\n  bb.1:\n    \
                $x10 = LD %stack.0, 0\n  bb.2:\n    PseudoRET implicit $x10\n...\n",
-        wanted: " 10 11; 10 s; 10 11\n s; 10; s\n 10;; 10\n+++ + +\n",
+        wanted: " 0 10 11; 10 s; 0 10 11\n s; 10; s\n 10;; 10\n+++ + +\n",
     },
     Row {
         shows: "an unreachable block counts; a call sets its registers",
@@ -69,7 +69,7 @@ pub const ROWS: &[Row] = &[
                PseudoCALL @g, csr_ilp32_lp64, implicit-def dead $x1, implicit-def $x10\n    PseudoBR %bb.2\n  \
                bb.1:\n    $x12 = ADDI $x8, 1\n    $x13 = ADDI $x12, 1\n    BEQ $x13, $x0, %bb.0\n  bb.2:\n    \
                PseudoRET implicit $x10\n...\n",
-        wanted: " 10; 10; 10\n 8 10; 10; 8 10\n 10;; 10\n--++ +++ +\n",
+        wanted: " 10; 10; 10\n 0 8 10; 10; 0 8 10\n 10;; 10\n--++ +++ +\n",
     },
     Row {
         shows: "a branch over a block: both ways count, a phi is no use, and a slot that is saved is not read",
