@@ -1,5 +1,0 @@
-//! Tests of what becomes of functions whose constants are set again.
-#![tactic(auto)]
-
-#[cfg(test)]
-mod tests;

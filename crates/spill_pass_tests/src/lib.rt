@@ -1,7 +1,0 @@
-//! Tests of spilling: what becomes of functions, and what is lost.
-#![tactic(auto)]
-
-#[cfg(test)]
-mod shown;
-#[cfg(test)]
-mod tests;
