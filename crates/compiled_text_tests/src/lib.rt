@@ -1,5 +1,0 @@
-//! Tests of the text of outputs.
-#![tactic(auto)]
-
-#[cfg(test)]
-mod outputs;

@@ -1,0 +1,107 @@
+//! Limits whose texts have thousands of lines, each at its number, where the text is read, and one above, where it is
+//! refused.
+
+use mir_parser::error::ParseError;
+use mir_parser::program::read_program;
+use refusal::first::Refusal;
+use refusal::kind::RefusalKind;
+use std::alloc::Global;
+use std::fmt::Write;
+use std::test::Fail;
+
+/// A text with something that is counted: lines before, numbered lines, and lines behind.
+struct Row {
+    before: &'static str,
+    /// What stands in a numbered line before and behind its number.
+    line: (&'static str, &'static str),
+    /// The first number.
+    first: usize,
+    /// How many numbered lines there may be.
+    most: usize,
+    /// At which line one more is refused.
+    refused_at: u32,
+}
+
+/// The head of a function up to its first label, which is line 4.
+const HEAD: &str = "---\nname: f\nbody: |\n  bb.0:\n";
+
+const ROWS: [Row; 4] = [
+    // labels
+    Row {
+        before: "---\nname: f\nbody: |\n",
+        line: ("  bb.", ":\n"),
+        first: 0,
+        most: 1024,
+        refused_at: 1028,
+    },
+    // variables
+    Row {
+        before: HEAD,
+        line: ("    DBG_VALUE $x10, $noreg, !", ", !DIExpression()\n"),
+        first: 100,
+        most: 1024,
+        refused_at: 1029,
+    },
+    // numbers on items
+    Row {
+        before: HEAD,
+        line: ("    $x10 = ADDI $x10, 1, debug-instr-number ", "\n"),
+        first: 1,
+        most: 4096,
+        refused_at: 4101,
+    },
+    // constants
+    Row {
+        before: HEAD,
+        line: ("    $x10 = ADDI $x0, ", "\n"),
+        first: 0,
+        most: 256,
+        refused_at: 261,
+    },
+];
+
+/// A row's text with so many numbered lines.
+fn text_of(alloc: Global, row: &Row, count: usize) -> Result<String, Fail> {
+    let mut text = String::from_str(alloc, row.before)?;
+    for k in 0..count {
+        write!(
+            text,
+            "{}{}{}",
+            row.line.0,
+            row.first.wrapping_add(k),
+            row.line.1
+        )?;
+    }
+    text.push_str("    PseudoRET\n...\n")?;
+    Ok(text)
+}
+
+/// The refusal of a row's text with so many numbered lines.
+fn refusal(alloc: Global, row: &Row, count: usize) -> Result<Option<Refusal>, Fail> {
+    let text = text_of(alloc, row, count)?;
+    let bytes = text.as_bytes();
+    if bytes.len() >= 1 << 31 {
+        return Err(Fail::from("a text of this size"));
+    }
+    match read_program(alloc, bytes) {
+        Ok(_) => Ok(None),
+        Err(ParseError::Refused(refusal)) => Ok(Some(refusal)),
+        Err(ParseError::Memory) => Err(Fail::from("memory ran out")),
+    }
+}
+
+#[test]
+fn one_more_is_refused(rt: HostRuntime) -> Result<(), Fail> {
+    for row in &ROWS {
+        assert_eq!(rt; refusal(rt.alloc(), row, row.most)?, None);
+        let wanted = Refusal {
+            line: row.refused_at,
+            kind: RefusalKind::TooMany,
+        };
+        assert_eq!(rt;
+            refusal(rt.alloc(), row, row.most.wrapping_add(1))?,
+            Some(wanted)
+        );
+    }
+    Ok(())
+}

@@ -1,0 +1,11 @@
+//! Texts of what is read.
+
+use std::alloc::AllocError;
+
+/// Appends bytes, each as a character.
+pub fn push_bytes(told: &mut String, bytes: &[u8]) -> Result<(), AllocError> {
+    for b in bytes {
+        told.push(char::from(*b))?;
+    }
+    Ok(())
+}
