@@ -1,23 +1,21 @@
 #!/usr/bin/env python3
-"""Counts the instructions of a built program at inputs that double, with valgrind's callgrind.
+"""Counts the instructions of the built program at inputs that double, with valgrind's callgrind.
 
-  bench/growth.py lex      crates/mirdwarf_bench/out/mirdwarf_bench, on texts of 1, 2 and 4 MiB
-  bench/growth.py compile [OPTION..]  crates/mirdwarf/out/mirdwarf with these options, or with --passes=none, on functions of 64 blocks and 512
-                           items, and at the limits
-  bench/growth.py alone LIST  what a list of passes takes: the same program with --passes=LIST over --passes=none, on blocks and items
+  bench/growth.py compile [OPTION..]  the whole run with these options, or with --passes=none, on functions of 64 blocks and 512 items, and at the limits
+  bench/growth.py strip               the whole run, on functions of 1,024 blocks and 8,192 items, with its peak memory
+  bench/growth.py run                 the whole run, on steps of a loop with two variables, whose values are read before each step
+  bench/growth.py selftest            the whole run, on the blocks of functions that are made up
+  bench/growth.py alone LIST          what a list of passes takes: --passes=LIST over --passes=none, on blocks and items
   bench/growth.py inside LIST FUNCTION  what a function of the program takes with all that it calls, by its name (`nm`), with --passes=LIST: '*' stands
-                           for any letters, and those of the names that fit must not call each other
-  bench/growth.py read     crates/mirdwarf_reading/out/mirdwarf_reading, on functions, blocks, functions of a text and keys of an entry
-  bench/growth.py strip    crates/mirdwarf/out/mirdwarf, on functions of 1,024 blocks and 8,192 items, with its peak memory
-  bench/growth.py layout   crates/mirdwarf_locations/out/mirdwarf_locations over crates/mirdwarf_reading/out/mirdwarf_reading, on items, blocks and slots
-  bench/growth.py locations crates/mirdwarf_locations/out/mirdwarf_locations over crates/mirdwarf_reading/out/mirdwarf_reading, on blocks, items and variables
-  bench/growth.py steps    crates/mirdwarf_steps/out/mirdwarf_steps, on steps of a loop with a call
-  bench/growth.py run      crates/mirdwarf/out/mirdwarf, on steps of the same loop with two variables, whose values are read before each step
-  bench/growth.py selftest crates/mirdwarf/out/mirdwarf, on the blocks of functions that are made up
-  bench/growth.py sections crates/mirdwarf_sections/out/mirdwarf_sections, on sections of 1,000 to 8,000 parts
-  bench/growth.py passes   crates/mirdwarf_passes/out/mirdwarf_passes, on copies, constants and spilled registers in one block and in 1,024 blocks
+                                      for any letters, and those of the names that fit must not call each other
+  bench/growth.py read                the same of the reading of a text, on functions, blocks, functions of a text and keys of an entry
+  bench/growth.py layout              of frame and layout, on items, blocks and slots
+  bench/growth.py locations           of values over all paths and location lists, on blocks, items and variables
+  bench/growth.py sections            of the writers of sections, on functions with variables and lines
+  bench/growth.py passes              of copies, constants and spilled registers, in one block and in 1,024 blocks
+  bench/growth.py lex                 the whole run of crates/mirdwarf_bench/out/mirdwarf_bench, on texts of 1, 2 and 4 MiB
 
-Build the program first by `rt run` in its crate's folder. Each line has the input's size, the count and its growth.
+The program is crates/mirdwarf/out/mirdwarf, as the gate leaves it. Each line has the input's size, the count and its growth.
 """
 import os
 import re
@@ -182,6 +180,73 @@ def entry_keys(number):
     return b"---\nname: f\nstack:\n  - { id: 0, size: 8, " + keys + b" }\nbody: |\n  bb.0:\n    PseudoRET\n...\n"
 
 
+MARK = b"    DBG_INSTR_REF !4, !DIExpression(DW_OP_LLVM_arg, 0), dbg-instr-ref(%d, 0)\n"
+
+
+def copies_line(n, number):
+    """First the sum that is copied, and a copy of it that stays; then copies with numbers, and a mark behind each."""
+    if n < 2:
+        return (b"    $x10 = ADDI $x10, 5\n", b"    $x11 = COPY $x10\n")[n]
+    return b"    $x11 = COPY $x10, debug-instr-number %d\n" % number if n % 2 == 0 else MARK % number
+
+
+def constants_line(n, number):
+    """First the constant; then stores of it, loads of the slot with numbers, a mark behind each, and copies."""
+    if n == 0:
+        return b"    $x10 = ADDI $x0, 5\n"
+    load = b"    $x11 = LD %%stack.0, 0, debug-instr-number %d\n" % number
+    return (b"    $x12 = COPY $x10\n", b"    SD $x10, %stack.0, 0\n", load, MARK % number)[n % 4]
+
+
+def registers_line(n, number):
+    """Sums of x9 in x18 and of x18 in x9, a mark or a phi behind each, and marks of x5."""
+    mark = b"    DBG_VALUE $x%d, $noreg, !4, !DIExpression()\n"
+    phi = b"    DBG_PHI $x9, %d\n" % number
+    return (b"    $x18 = ADDI $x9, 5\n", mark % 18, b"    $x9 = ADDI $x18, 5\n", phi, mark % 5)[n % 5]
+
+
+def repeated(line, number, items):
+    """A function of so many blocks and items: each block begins anew, and each number is used once."""
+    text = [b"---\nname: f\nstack:\n  - { id: 0, size: 8 }\nbody: |\n"]
+    given = 0
+    for block in range(number):
+        text.append(b"  bb.%d:\n" % block)
+        for n in range(items // number - (block == number - 1)):
+            if line(n, 0) != line(n, 1) and not line(n, 0).startswith(b"    DBG_INSTR_REF"):
+                given += 1
+            text.append(line(n, given))
+    text.append(b"    PseudoRET\n...\n")
+    return b"".join(text)
+
+
+# Of each kind of function: the options of its pass, the function of the program that is the pass, and the function's lines.
+PASSES = {
+    "copies": (["--passes=copy"], "copy_pass*CopyPass*run*", copies_line),
+    "constants": (["--passes=remat"], "remat_pass*RematPass*run*", constants_line),
+    "registers": (["--passes=spill", "--reserve=x9,x18"], "spill_pass*spill*", registers_line),
+}
+
+READING, LAYOUT, LOCATIONS = "mir_parser::program::read_program*", "frame_layout::code::code_of*", "function_compiler::location_lists::location_lists*"
+
+# The writers of sections.
+WRITERS = {
+    ".debug_loclists": "program_sections::sections::loclists*",
+    ".debug_line": "program_sections::sections::rows*",
+    ".debug_info": "program_sections::sections::info*",
+}
+
+
+def lined(number):
+    """So many functions of four variables and 64 lines."""
+    head = [b"--- |\n  !1 = !DIFile(filename: \"t.c\", directory: \"/d\")\n  !2 = !DIBasicType(name: \"long\", size: 64, encoding: DW_ATE_signed)\n"]
+    head.append(b"  !3 = distinct !DISubprogram(name: \"f\", scope: !1, file: !1, line: 1)\n")
+    head += [b"  !%d = !DILocalVariable(name: \"v%d\", scope: !3, file: !1, line: 1, type: !2)\n" % (4 + n, n) for n in range(4)]
+    head += [b"  !%d = !DILocation(line: %d, column: %d, scope: !3)\n" % (10 + n, n * 7 % 64 + 2, n % 9 + 1) for n in range(64)]
+    body = b"".join(b"    DBG_VALUE $x%d, $noreg, !%d, !DIExpression()\n    $x%d = ADDI $x%d, 1, debug-location !%d\n"
+                    % (10 + n % 4, 4 + n % 4, 10 + (n + 2) % 4, 10 + n % 4, 10 + n) for n in range(64))
+    return b"".join(head) + b"...\n" + b"".join(b"---\nname: f%d\nbody: |\n  bb.0:\n%s    PseudoRET\n...\n" % (n, body) for n in range(number))
+
+
 def table(name, program, words, sizes, make):
     print(name)
     before = None
@@ -210,26 +275,6 @@ def peak(program, words, text):
     return int(run.stderr.split()[-1])
 
 
-def over(name, program, words, base, sizes, make):
-    """A table of the instructions that a program has with these words more than another without any at the same input."""
-    print(name)
-    last = None
-    for size in sizes:
-        text = make(size)
-        instructions = count(os.path.join(TOP, program), words, text) - count(os.path.join(TOP, base), [], text)
-        print("  %9d  %13d  %s" % (size, instructions, "%.3f" % (instructions / last) if last else ""))
-        last = instructions
-
-
-# Of each kind of section: the steps, the call that each adds, and the step before it.
-SECTIONS = {
-    "lists": {"size": ("lists_size, by lists of ten ranges", "make"), "write": ("write_lists", "size"), "read": ("list_count", "write")},
-    "list": {"size": ("lists_size, by ranges of one list", "make"), "write": ("write_lists", "size"), "read": ("list_count", "write")},
-    "rows": {"size": ("line_size, by rows", "make"), "write": ("write_line", "size"), "read": ("rows", "write")},
-    "functions": {"size": ("info_size, by functions of four variables", "make"), "write": ("write_info", "size")},
-}
-
-
 def alone(name, passes, sizes, make):
     """A table of the instructions that compiling takes with these passes more than without any."""
     program = os.path.join(TOP, "crates/mirdwarf/out/mirdwarf")
@@ -242,38 +287,14 @@ def alone(name, passes, sizes, make):
         last = instructions
 
 
-def inside(name, passes, function, sizes, make):
-    """A table of the instructions that a function of the program takes, with all that it calls, where these passes run."""
+def inside(name, words, function, sizes, make):
+    """A table of the instructions that a function of the program takes, with all that it calls, in a run with these words."""
     program = os.path.join(TOP, "crates/mirdwarf/out/mirdwarf")
     print(name)
     last = None
     for size in sizes:
-        instructions = count(program, ["compile", "--passes=" + passes], make(size), "--toggle-collect=" + function)
+        instructions = count(program, words, make(size), "--toggle-collect=" + function)
         print("  %9d  %13d  %s" % (size, instructions, "%.3f" % (instructions / last) if last else ""))
-        last = instructions
-
-
-def added(name, kind, step, before, sizes):
-    """A table of the instructions that a step has more than the one before it."""
-    program = os.path.join(TOP, "crates/mirdwarf_sections/out/mirdwarf_sections")
-    print(name)
-    last = None
-    for size in sizes:
-        instructions = count(program, [kind, step, str(size)], b"") - count(program, [kind, before, str(size)], b"")
-        print("  %9d  %13d  %s" % (size, instructions, "%.3f" % (instructions / last) if last else ""))
-        last = instructions
-
-
-def run_more(name, kind, blocks, sizes):
-    """A table of the instructions that a pass takes on functions of so many blocks, by items, beside those of making the function."""
-    program = os.path.join(TOP, "crates/mirdwarf_passes/out/mirdwarf_passes")
-    print(name)
-    last = None
-    for size in sizes:
-        words = [str(blocks), str(size)]
-        instructions = count(program, [kind, "run", *words], b"") - count(program, [kind, "make", *words], b"")
-        growth = "%.3f" % (instructions / last) if last else ""
-        print("  %9d  %13d  %d an item  %s" % (size, instructions, instructions // size, growth))
         last = instructions
 
 
@@ -284,33 +305,24 @@ def main():
         table("functions of one line, by bytes", program, [], sizes, one_line_functions)
         table("one long line, by bytes", program, [], sizes, one_long_line)
     elif what == ["read"]:
-        program = "crates/mirdwarf_reading/out/mirdwarf_reading"
-        table("one block, by items", program, [], (1000, 2000, 4000, 8000), one_block)
-        table("one function, by blocks of eight items", program, [], (128, 256, 512, 1024), blocks)
-        table("functions of sixteen blocks, by functions", program, [], (32, 64, 128, 256), functions)
-        table("one long line, by bytes", program, [], [n << 18 for n in (1, 2, 4)], one_long_line)
-        table("one stack entry, by its keys", program, [], (500, 1000, 2000, 4000), entry_keys)
+        words, function = ["strip"], READING
+        inside("one block, by items", words, function, (1000, 2000, 4000, 8000), one_block)
+        inside("one function, by blocks of eight items", words, function, (128, 256, 512, 1024), blocks)
+        inside("functions of sixteen blocks, by functions", words, function, (32, 64, 128, 256), functions)
+        inside("one stack entry, by its keys", words, function, (500, 1000, 2000, 4000), entry_keys)
     elif what == ["strip"]:
         by_bytes("functions of 1,024 blocks, by functions", "crates/mirdwarf/out/mirdwarf", ["strip"], (1, 2, 4, 8, 16), large_functions)
     elif what == ["layout"]:
-        program, words, base = "crates/mirdwarf_locations/out/mirdwarf_locations", ["words"], "crates/mirdwarf_reading/out/mirdwarf_reading"
-        over("one block, by items", program, words, base, (1000, 2000, 4000, 8000), one_block)
-        over("one function, by blocks of eight items", program, words, base, (128, 256, 512, 1024), blocks)
-        over("8,001 items, by slots", program, words, base, (28, 56, 112, 224), slots)
+        words, function = ["listing", "--passes=none"], LAYOUT
+        inside("one block, by items", words, function, (1000, 2000, 4000, 8000), one_block)
+        inside("one function, by blocks of eight items", words, function, (128, 256, 512, 1024), blocks)
+        inside("8,001 items, by slots", words, function, (28, 56, 112, 224), slots)
     elif what == ["locations"]:
-        program, words, base = "crates/mirdwarf_locations/out/mirdwarf_locations", ["variables"], "crates/mirdwarf_reading/out/mirdwarf_reading"
-        over("8,192 items, 256 variables, by blocks", program, words, base, (64, 128, 256, 512, 1024), lambda n: located(n, 8192, 256))
-        over("one block, 256 variables, by items", program, words, base, (1024, 2048, 4096, 8192), lambda n: located(1, n, 256))
-        over("1,024 blocks, 256 variables, by items", program, words, base, (2048, 4096, 8192), lambda n: located(1024, n, 256))
-        over("1,024 blocks of eight items, by variables", program, words, base, (16, 32, 64, 128, 256, 512, 1024), lambda n: located(1024, 8192, n))
-    elif what == ["steps"]:
-        program = os.path.join(TOP, "crates/mirdwarf_steps/out/mirdwarf_steps")
-        print("steps of a loop")
-        last, none = None, count(program, ["0"], LOOP)
-        for steps in (125000, 250000, 500000, 1000000):
-            instructions = count(program, [str(steps)], LOOP) - none
-            print("  %9d  %13d  %d a step  %s" % (steps, instructions, instructions // steps, "%.3f" % (instructions / last) if last else ""))
-            last = instructions
+        words, function = ["listing", "--passes=none"], LOCATIONS
+        inside("8,192 items, 256 variables, by blocks", words, function, (64, 128, 256, 512, 1024), lambda n: located(n, 8192, 256))
+        inside("one block, 256 variables, by items", words, function, (1024, 2048, 4096, 8192), lambda n: located(1, n, 256))
+        inside("1,024 blocks, 256 variables, by items", words, function, (2048, 4096, 8192), lambda n: located(1024, n, 256))
+        inside("1,024 blocks of eight items, by variables", words, function, (16, 32, 64, 128, 256, 512, 1024), lambda n: located(1024, 8192, n))
     elif what == ["run"]:
         program = os.path.join(TOP, "crates/mirdwarf/out/mirdwarf")
         print("steps of a loop with two variables")
@@ -330,18 +342,17 @@ def main():
                 print("  %9d  %13d  %s" % (size, instructions, "%.3f" % (instructions / last) if last else ""))
                 last = instructions
     elif what == ["sections"]:
-        for kind, steps in SECTIONS.items():
-            for step, (call, before) in steps.items():
-                added(call, kind, step, before, (1000, 2000, 4000, 8000))
+        for name, function in WRITERS.items():
+            inside(name + ", by functions of four variables and 64 lines", ["compile", "--passes=none"], function, (32, 64, 128, 256), lined)
     elif what == ["passes"]:
-        for kind in ("copies", "constants", "registers"):
-            run_more("%s in one block, by items" % kind, kind, 1, (1024, 2048, 4096, 8192, 16384))
-            run_more("%s in 1,024 blocks, by items" % kind, kind, 1024, (2048, 4096, 8192, 16384))
+        for kind, (passes, function, line) in PASSES.items():
+            inside("%s in one block, by items" % kind, ["listing", *passes], function, (1024, 2048, 4096, 8192), lambda n: repeated(line, 1, n))
+            inside("%s in 1,024 blocks, by items" % kind, ["listing", *passes], function, (4096, 8192), lambda n: repeated(line, 1024, n))
     elif len(what) == 3 and what[0] == "inside":
-        inside("1,024 blocks, 256 variables, by items", what[1], what[2], (2048, 4096, 8192), lambda n: located(1024, n, 256))
-        inside("one block, 256 variables, by items", what[1], what[2], (1024, 2048, 4096, 8192), lambda n: located(1, n, 256))
-        inside("8,192 items, 256 variables, by blocks", what[1], what[2], (256, 512, 1024), lambda n: located(n, 8192, 256))
-        inside("8,001 items, by slots", what[1], what[2], (28, 56, 112, 224), slots)
+        inside("1,024 blocks, 256 variables, by items", ["compile", "--passes=" + what[1]], what[2], (2048, 4096, 8192), lambda n: located(1024, n, 256))
+        inside("one block, 256 variables, by items", ["compile", "--passes=" + what[1]], what[2], (1024, 2048, 4096, 8192), lambda n: located(1, n, 256))
+        inside("8,192 items, 256 variables, by blocks", ["compile", "--passes=" + what[1]], what[2], (256, 512, 1024), lambda n: located(n, 8192, 256))
+        inside("8,001 items, by slots", ["compile", "--passes=" + what[1]], what[2], (28, 56, 112, 224), slots)
     elif len(what) == 2 and what[0] == "alone":
         alone("1,024 blocks, 256 variables, by items", what[1], (2048, 4096, 8192), lambda n: located(1024, n, 256))
         alone("one block, 256 variables, by items", what[1], (1024, 2048, 4096, 8192), lambda n: located(1, n, 256))

@@ -3,8 +3,8 @@
 
   bench/sections.py
 
-Build crates/mirdwarf_sections first by `rt run` in its folder: it gives the sections as the writers write them. Each example becomes
-an ELF file for 64-bit RISC-V, and what the tools say of it is compared with what the example says. It ends with 1 where they differ.
+It needs the built program, crates/mirdwarf/out/mirdwarf, which compiles the examples. The sections of each become an ELF file for 64-bit
+RISC-V, and what the tools say of it is compared with what the example says. It ends with 1 where they differ.
 """
 import os
 import re
@@ -15,11 +15,37 @@ import sys
 import tempfile
 
 TOP = os.path.join(os.path.dirname(os.path.abspath(__file__)), "..")
-PROGRAM = os.path.join(TOP, "crates", "mirdwarf_sections", "out", "mirdwarf_sections")
+PROGRAM = os.path.join(TOP, "crates", "mirdwarf", "out", "mirdwarf")
 TOOLS = {"llvm-dwarfdump": "llvm", "readelf": "binutils-multiarch"}
 
 # readelf 2.40 tells the offset of a variable's list only where there is a section of texts, though no entry here names a text in it.
 TEXTS = {".debug_str": bytes(1)}
+
+# A function of two words at one line, with a variable.
+TEXT = """--- |
+  define i64 @f(i64 %%v) !dbg !1 { ret i64 0 }
+  !1 = distinct !DISubprogram(name: "f", scope: !2, file: !2, line: 3)
+  !2 = !DIFile(filename: "t.c", directory: "/d")
+  !3 = !DIBasicType(name: "long", size: 64, encoding: DW_ATE_signed)
+  !4 = !DILocalVariable(name: "v", scope: !1, file: !2, line: 3, type: !3)
+  !5 = !DILocation(line: 3, column: 1, scope: !1)
+...
+---
+name: f
+body: |
+  bb.0:
+%s    $x11 = ADDI $x0, 0, debug-location !5
+    PseudoRET implicit $x10, debug-location !5
+...
+"""
+
+MARK = "    DBG_VALUE $x%d, $noreg, !4, !DIExpression(%s), debug-location !5\n"
+
+# Where the variable is: in x10 throughout; or its low four bytes in x10 throughout, and the next four in x11 until that is set to 0.
+EXAMPLES = {
+    "whole": TEXT % (MARK % (10, "")),
+    "pieces": TEXT % (MARK % (10, "DW_OP_LLVM_fragment, 0, 32") + MARK % (11, "DW_OP_LLVM_fragment, 32, 32")),
+}
 
 # Each range of the variable's list: its ends, and its location in the words of llvm-dwarfdump and of readelf.
 LISTS = {
@@ -46,23 +72,23 @@ ENTRIES = [
 ROWS = [(0, 3, 1, 1, False), (8, 3, 1, 1, True)]
 
 
-def examples(text):
-    """The sections of each example, by the program's output."""
-    found = {}
-    for line in text.splitlines():
+def sections_of(text):
+    """The sections that the program writes of a text."""
+    ran = subprocess.run([PROGRAM, "compile", "--passes=none"], input=text, capture_output=True, text=True)
+    if ran.returncode:
+        raise SystemExit("%s ended with %d: %s" % (PROGRAM, ran.returncode, ran.stderr))
+    sections, left = {}, 0
+    for line in ran.stdout.splitlines():
         words = line.split()
-        if words[0] == "example":
-            sections = found[words[1]] = {}
+        if left:
+            sections[name] += bytes.fromhex(line)
+            left = size - len(sections[name])
         elif words[0] == "section":
             name, size = words[1], int(words[2])
-            sections[name] = (size, b"")
+            sections[name], left = b"", size
         else:
-            sections[name] = (size, sections[name][1] + bytes.fromhex(line))
-    for sections in found.values():
-        for name, (size, content) in sections.items():
-            if size != len(content):
-                raise SystemExit("%s has %d bytes in place of %d" % (name, len(content), size))
-    return {name: {n: content for n, (_, content) in sections.items()} for name, sections in found.items()}
+            break
+    return sections
 
 
 def elf(sections):
@@ -144,13 +170,12 @@ def main():
     for tool, package in TOOLS.items():
         if not shutil.which(tool):
             raise SystemExit("%s is missing: Debian's package %s has it" % (tool, package))
-    written = subprocess.run([PROGRAM], capture_output=True, text=True, check=True).stdout
     wrong = 0
     with tempfile.TemporaryDirectory() as folder:
-        for name, sections in examples(written).items():
+        for name, text in EXAMPLES.items():
             path = os.path.join(folder, name + ".elf")
             with open(path, "wb") as file:
-                file.write(elf({**sections, **TEXTS}))
+                file.write(elf({**sections_of(text), **TEXTS}))
             for what, found, wanted in check(name, path):
                 print("%-8s %-38s %s" % (name, what, "ok" if found == wanted else "differs"))
                 if found != wanted:

@@ -1,0 +1,197 @@
+#!/usr/bin/env python3
+"""Tests of ./mirdwarf, examples/debug.py and tools/view.py, run by hand.
+
+  bench/scripts.py [PROGRAM]
+
+PROGRAM is the built program where it isn't crates/mirdwarf/out/mirdwarf. Debian's packages: llvm, gdb-multiarch, qemu-user. The last line is
+'N passed, M failed'."""
+import os
+import re
+import subprocess
+import sys
+import tempfile
+
+TOP = os.path.realpath(os.path.join(os.path.dirname(os.path.abspath(__file__)), ".."))
+PROGRAM = os.path.abspath(sys.argv[1]) if sys.argv[1:] else os.path.join(TOP, "crates", "mirdwarf", "out", "mirdwarf")
+LEDGER, TOTALS = "examples/ledger.mir", "examples/totals.mir"
+
+# Words that the wrapper refuses, and what its first line has.
+WORDS = [
+    ("compil", "no command `compil`. Did you mean `compile`?"),
+    ("--version", "no command `--version`"),
+    ("--passes=none compile", "the command stands first"),
+    ("compile --pases=none", "no option `--pases`. Did you mean `--passes`?"),
+    ("compile --passes", "wants its value behind `=`"),
+    ("compile --passes none " + LEDGER, "wants its value behind `=`"),
+    ("compile --passes=", "names ``, which is no pass"),
+    ("compile --passes=nope", "names `nope`, which is no pass"),
+    ("compile --passes=copy,copy", "names `copy` twice"),
+    ("compile --passes=none --passes=none", "--passes is given twice"),
+    ("compile --reserve=x5", "`x5`, which is no register that may be reserved"),
+    ("compile --reserve=s0", "`s0`, which is no register that may be reserved"),
+    ("compile --args=5", "`compile` takes no --args"),
+    ("compile nofile.mir", "there is no file `nofile.mir`"),
+    (f"compile {LEDGER} {TOTALS}", "takes one file"),
+    ("run", "NAME is missing"),
+    ("run price", "STEPS is missing"),
+    ("run price abc", "STEPS is `abc`, and has to be a number"),
+    ("run price 05", "STEPS is `05`, and has to be a number"),
+    ("run price 2000000", "STEPS is 2000000, and has to be from 0 to 1,000,000"),
+    ("run price 5 --args=1,2,3,4,5,6,7,8,9", "--args has 9 numbers"),
+    ("run price 5 --args=-1", "--args has `-1`"),
+    ("gen 0 0", "BLOCKS is 0, and has to be from 1 to 512"),
+    ("gen 70000 1", "NUMBER is 70000, and has to be from 0 to 65,536"),
+    ("gen 0 1 file", "`gen` reads nothing"),
+    ("selftest 0", "BLOCKS is missing"),
+    ("strip --passes=none", "`strip` takes no --passes"),
+]
+
+# A line that a function of a text has in front of its return, and what is told of its refusal.
+REFUSED = [
+    ("PseudoTAIL target-flags(riscv-call) @g, implicit $x2, implicit $x10", "UnknownOpcode", "A tail call isn't read", "-fno-optimize-sibling-calls"),
+    ("PseudoCALLIndirect killed renamable $x12, csr_ilp32_lp64, implicit-def dead $x1", "UnknownOpcode", "by a pointer isn't read", "by its name"),
+    ("$x10 = PseudoMovAddr target-flags(riscv-hi) @.str, target-flags(riscv-lo) @.str", "UnknownOpcode", "The address of a global", "as an argument"),
+    ("$x10 = PseudoMovAddr target-flags(riscv-hi) @switch.table.f, target-flags(riscv-lo) @switch.table.f", "UnknownOpcode", "a switch", "-fno-jump-tables"),
+    ("$x11 = LUI target-flags(riscv-hi) @counter", "BadOperands", "The address of a global", "as an argument"),
+    ("$x11 = LUI target-flags(riscv-hi) %const.0", "BadLine", "constant pool", "-riscv-disable-using-constant-pool-for-large-ints"),
+    ("INLINEASM &nop, 1 /* sideeffect attdialect */", "BadByte", "Inline assembler", "call a function"),
+    ("UNIMP", "UnknownOpcode", "A trap isn't read", "return"),
+    ("$x10 = MUL $x10, $x11", "UnknownOpcode", "M extension", "-march=rv64i"),
+    ("$x10 = ADDI %5, 1", "VirtualRegister", "A virtual register", "virtregrewriter"),
+    ("$x2 = ADDI $x2, -16", "StackPointerUse", "the stack pointer", "virtregrewriter"),
+]
+
+BODY = "--- |\n...\n---\nname: small\nbody: |\n  bb.0:\n    PseudoRET\n...\n---\nname: f\n%sbody: |\n  bb.0:\n%s    PseudoRET\n...\n"
+
+# Words for examples/debug.py with the file of ledger.mir, and what it writes; and those with the file of totals.mir.
+DEBUGGED = [
+    ("price 5 3", r"0014 line 4: long each = item \+ 3;\n     item=5 count=3 each=- left=3 whole=0\n", r"result 22\n\Z", 0),
+    ("ledger 5 2 1 2 8 3 4 10", r"No errors", r"result 70\n\Z", 0),
+    ("price 5 3000", r"No errors", r"stopped after 2000 steps, at line \d+\n\Z", 1),
+    ("nope 5", r"has no function nope; it has price, ledger", r"", 1),
+    ("price x", r"the argument `x` is no number", r"", 1),
+    ("price @1", r"@1 names no --bytes or --longs", r"", 1),
+    ("price 1 2 3 4 5 6 7 8 9", r"9 arguments", r"", 1),
+    ("price 99999999999999999999", r"doesn't fit into 64 bits", r"", 1),
+]
+CALLED = [
+    ("total 3 4", r"\Anot in .*: price, called by total\n", r"stopped in a call of price, which the output doesn't have; .*\n\Z", 1),
+    ("--answers 5,6,7,8 total 3 4", r"cost=8\*", r"result 26\n\Z", 0),
+    ("--answers 5 total 3 4", r"cost=5\*", r"stopped in a call of price, .*\n\Z", 1),
+]
+# A variable in two parts, and then in one.
+PARTS = """--- |
+  define i64 @f(i64 %v) !dbg !1 { ret i64 0 }
+  !1 = distinct !DISubprogram(name: "f", scope: !2, file: !2, line: 3)
+  !2 = !DIFile(filename: "t.c", directory: "/d")
+  !3 = !DIBasicType(name: "long", size: 64, encoding: DW_ATE_signed)
+  !4 = !DILocalVariable(name: "v", scope: !1, file: !2, line: 3, type: !3)
+  !5 = !DILocation(line: 3, column: 1, scope: !1)
+  !6 = !DILocation(line: 4, column: 1, scope: !1)
+...
+---
+name: f
+body: |
+  bb.0:
+    DBG_VALUE $x10, $noreg, !4, !DIExpression(DW_OP_LLVM_fragment, 0, 32), debug-location !5
+    DBG_VALUE $x11, $noreg, !4, !DIExpression(DW_OP_LLVM_fragment, 32, 32), debug-location !5
+    $x11 = ADDI $x0, 0, debug-location !5
+    $x12 = LBU $x10, 1, debug-location !6
+    PseudoRET
+...
+"""
+
+passed = failed = 0
+
+
+def run(*words, given=""):
+    ran = subprocess.run(words, cwd=TOP, input=given, capture_output=True, text=True, env={**os.environ, "MIRDWARF": PROGRAM})
+    return ran.returncode, ran.stdout, ran.stderr
+
+
+def check(what, holds, got):
+    global passed, failed
+    passed, failed = passed + bool(holds), failed + (not holds)
+    if not holds:
+        print(f"FAILED {what}:\n{got}")
+
+
+def wrapper(room):
+    status, said, _ = run("./mirdwarf")
+    check("no words", status == 2 and "./mirdwarf run price 12 --args=5,3 examples/ledger.mir" in said, said)
+    status, said, _ = run("./mirdwarf", "--help")
+    check("--help", status == 0 and "COMMAND WORDS.. [FILE]" in said, said)
+    for words, wanted in WORDS:
+        status, said, told = run("./mirdwarf", *words.split(" "))
+        check(words, status == 2 and not said and wanted in told.split("\n")[0], told)
+    for words in (["compile", "--passes=none"], ["report"], ["strip"], ["run", "price", "12", "--args=5,3"]):
+        with open(os.path.join(TOP, LEDGER), encoding="utf-8") as it:
+            text = it.read()
+        plain = subprocess.run([PROGRAM, *words], input=text, capture_output=True, text=True)
+        for got in (run("./mirdwarf", *words, LEDGER), run("./mirdwarf", *words, given=text)):
+            check(" ".join(words), got == (plain.returncode, plain.stdout, plain.stderr), got[2])
+    file = os.path.join(room, "f.mir")
+    for line, name, cause, helps in REFUSED:
+        with open(file, "w", encoding="utf-8") as it:
+            it.write(BODY % ("", f"    {line}\n"))
+        status, said, told = run("./mirdwarf", "listing", "--passes=none", file)
+        wanted = [f"mirdwarf: line 13: {name}\n{file}:13: {name}, in function f\n    {line[:60]}", cause, helps]
+        check(line, status == 1 and not said and all(it in told for it in wanted), told)
+    with open(file, "w", encoding="utf-8") as it:
+        it.write(BODY % ("stack:\n  - { id: 0, size: 2033 }\n", ""))
+    status, _, told = run("./mirdwarf", "listing", file)
+    check("a large frame", status == 1 and "FrameTooLarge, in function f\n" in told, told)
+    with open(file, "w", encoding="utf-8") as it:
+        it.write(BODY % ("fixedStack:\n  - { id: 0, type: default, offset: 0, size: 8 }\n", ""))
+    status, _, told = run("./mirdwarf", "listing", file)
+    check("an argument on the stack", status == 1 and f"{file}:12: StackObject, in function f\n" in told, told)
+    status, _, told = run("./mirdwarf", "run", "pricy", "5", LEDGER)
+    check("another name", status == 1 and "The file has: price, ledger. Did you mean `price`?" in told, told)
+
+
+def compiled(room, name, text):
+    status, said, told = run("./mirdwarf", "compile", "--passes=none", given=text)
+    check(f"compile of {name}", status == 0, told)
+    file = os.path.join(room, name)
+    with open(file, "w", encoding="utf-8") as it:
+        it.write(said)
+    return file
+
+
+def debugger(room):
+    files = {}
+    for name in (LEDGER, TOTALS):
+        with open(os.path.join(TOP, name), encoding="utf-8") as it:
+            files[name] = compiled(room, os.path.basename(name) + ".txt", it.read())
+    for name, rows in ((LEDGER, DEBUGGED), (TOTALS, CALLED)):
+        for words, wanted, ending, wants in rows:
+            words = words.split(" ")
+            options = words[:2] if words[0].startswith("--") else []
+            status, said, told = run("examples/debug.py", *options, files[name], *words[len(options):])
+            check(f"debug.py {' '.join(words)}", status == wants and re.search(wanted, said + told) and re.search(ending, said), said + told)
+    status, said, told = run("examples/debug.py", files[LEDGER] + ".not", "price")
+    check("debug.py without a file", status == 1 and "there is no file" in told, told)
+    parts = compiled(room, "parts.txt", PARTS)
+    status, said, told = run("examples/debug.py", "--bytes", "ab\\n", parts, "f", "@1", "7")
+    check("debug.py with parts and memory", status == 0 and "v=30066868224" in said and "v=(4 of 8 bytes)*" in said, said + told)
+    return files[LEDGER]
+
+
+def view(room, ledger):
+    status, said, told = run("tools/view.py", "--plain", "--function", "price", "--names", "a,b", ledger, ledger, "examples/ledger.c")
+    check("view.py", status == 0 and "  a: 54 of 80 (67 %)\n  b: 54 of 80 (67 %)\n" in said and "long each = item + 3;" in said, said + told)
+    page = os.path.join(room, "page.html")
+    status, said, told = run("tools/view.py", "--html", page, ledger, "examples/ledger.c")
+    with open(page, encoding="utf-8") as it:
+        check("view.py --html", status == 0 and not said and "item: 4 of 6 words" in it.read(), told)
+
+
+def main():
+    with tempfile.TemporaryDirectory() as room:
+        wrapper(room)
+        view(room, debugger(room))
+    print(f"{passed} passed, {failed} failed")
+    return 1 if failed else 0
+
+
+sys.exit(main())
