@@ -4,10 +4,10 @@ use crate::table::{are_named, are_names, are_sequences};
 use dwarf_line::fault::LineError;
 use dwarf_line::read::rows;
 use dwarf_line::size::line_size;
-use dwarf_line::table::{FileEntry, LineTable, Row, Sequence};
+use dwarf_line::table::{FileEntries, FileEntry, LineTable, NameList, Row, Sequence};
 use dwarf_line::write::write_line;
 use lists::List;
-use std::alloc::Global;
+use std::alloc::{AllocError, Global};
 use std::test::Fail;
 
 /// One file, one row.
@@ -29,7 +29,7 @@ static TWO: [u8; 116] = [
 
 /// A byte of a section that is changed, what it becomes, and the first wrong field's first byte: the section's length
 /// where none is.
-const DAMAGED_ONE: [(usize, u8, usize); 23] = [
+const DAMAGED_ONE: &[(usize, u8, usize)] = &[
     (0, 0x45, 0),
     (3, 1, 0),
     (5, 1, 4),
@@ -58,7 +58,7 @@ const DAMAGED_ONE: [(usize, u8, usize); 23] = [
 ];
 
 /// The same for the other one.
-const DAMAGED_TWO: [(usize, u8, usize); 14] = [
+const DAMAGED_TWO: &[(usize, u8, usize)] = &[
     // A number that isn't the shortest
     (54, 0, 53),
     // A register is set to the value that it has
@@ -83,9 +83,9 @@ const DAMAGED_TWO: [(usize, u8, usize); 14] = [
 /// Addresses, files, lines and columns of rows, and where their sequence ends.
 type Rows = (&'static [(u64, u32, u32, u32)], u64);
 
-const ROWS_ONE: [Rows; 1] = [(&[(0, 1, 3, 1)], 8)];
+const ROWS_ONE: &[Rows] = &[(&[(0, 1, 3, 1)], 8)];
 
-const ROWS_TWO: [Rows; 2] = [
+const ROWS_TWO: &[Rows] = &[
     (
         &[
             (0x1000, 0, 0, 0),
@@ -144,32 +144,27 @@ fn fault(alloc: Global, bytes: &[u8]) -> Option<usize> {
 }
 
 /// The directories and files of the second, with their directories.
-const DIRS: [&[u8]; 2] = [b"/a", b""];
+const DIRS: &[&[u8]] = &[b"/a", b""];
 
-const FILES: [(&[u8], u32); 2] = [(b"a.c", 0), (b"b.h", 200)];
+const FILES: &[(&[u8], u32)] = &[(b"a.c", 0), (b"b.h", 200)];
 
-/// The table of directories and files and of the sequences of a section.
-fn table_of(
-    alloc: Global,
-    dirs: &[&[u8]],
-    files: &[(&[u8], u32)],
-    bytes: &[u8],
-) -> Result<LineTable, Fail> {
-    let mut table = LineTable {
-        dirs: List::new(alloc),
-        files: List::new(alloc),
-        sequences: rows(alloc, bytes).ok().ok_or("sequences")?,
-    };
-    for name in dirs {
-        table.dirs.push(List::from_slice(alloc, name)?)?;
+/// Directories of these names.
+fn dirs_of(alloc: Global, names: &[&[u8]]) -> Result<NameList, AllocError> {
+    let mut dirs = List::new(alloc);
+    for name in names {
+        dirs.push(List::from_slice(alloc, name)?)?;
     }
-    for (name, dir) in files {
-        table.files.push(FileEntry {
-            name: List::from_slice(alloc, name)?,
-            dir: *dir,
-        })?;
+    Ok(dirs)
+}
+
+/// Files of these names and directories.
+fn files_of(alloc: Global, named: &[(&[u8], u32)]) -> Result<FileEntries, AllocError> {
+    let mut files = List::new(alloc);
+    for (name, dir) in named {
+        let name = List::from_slice(alloc, name)?;
+        files.push(FileEntry { name, dir: *dir })?;
     }
-    Ok(table)
+    Ok(files)
 }
 
 /// The section of a table, and that its size is as told.
@@ -189,38 +184,54 @@ fn section(alloc: Global, table: &LineTable) -> Result<List<u8>, Fail> {
     }
 }
 
-/// Whether the section of such a table is the section again.
+/// Whether the section of directories and files and of the sequences of a section is that section.
 fn is_written(
     alloc: Global,
     dirs: &[&[u8]],
     files: &[(&[u8], u32)],
     bytes: &[u8],
 ) -> Result<bool, Fail> {
-    let table = table_of(alloc, dirs, files, bytes)?;
+    let dirs = dirs_of(alloc, dirs)?;
+    let files = files_of(alloc, files)?;
+    let table = LineTable {
+        dirs,
+        files,
+        sequences: rows(alloc, bytes).ok().ok_or("sequences")?,
+    };
     Ok(section(alloc, &table)?.as_slice() == bytes)
+}
+
+/// The first byte of a table of changes where the fault is another one.
+fn other_fault(
+    alloc: Global,
+    bytes: &[u8],
+    damaged: &[(usize, u8, usize)],
+) -> Result<Option<usize>, Fail> {
+    for (at, byte, wanted) in damaged {
+        let mut changed = bytes.to_vec(alloc)?;
+        match changed.get_mut(*at) {
+            Some(place) => *place = *byte,
+            None => return Ok(Some(*at)),
+        }
+        if fault(alloc, &changed) != Some(*wanted) {
+            return Ok(Some(*at));
+        }
+    }
+    Ok(None)
 }
 
 #[test]
 fn tables_are_read_and_written(rt: HostRuntime) -> Result<(), Fail> {
     let alloc = rt.alloc();
-    assert!(rt; are_read(alloc, &ONE, &ROWS_ONE));
-    assert!(rt; are_read(alloc, &TWO, &ROWS_TWO));
-    for (at, byte, wanted) in DAMAGED_ONE {
-        let mut bytes = ONE;
-        assert!(rt; at < bytes.len());
-        bytes[at] = byte;
-        assert_eq!(rt; fault(alloc, &bytes), Some(wanted), "byte {at}");
+    let one: &[u8] = &ONE;
+    let two: &[u8] = &TWO;
+    assert!(rt; are_read(alloc, one, ROWS_ONE));
+    assert!(rt; are_read(alloc, two, ROWS_TWO));
+    assert_eq!(rt; other_fault(alloc, one, DAMAGED_ONE)?, None);
+    assert_eq!(rt; other_fault(alloc, two, DAMAGED_TWO)?, None);
+    for end in 0..one.len() {
+        assert_eq!(rt; fault(alloc, &one[..end]), Some(0), "at {end}");
     }
-    for (at, byte, wanted) in DAMAGED_TWO {
-        let mut bytes = TWO;
-        assert!(rt; at < bytes.len());
-        bytes[at] = byte;
-        assert_eq!(rt; fault(alloc, &bytes), Some(wanted), "byte {at}");
-    }
-    for end in 0..ONE.len() {
-        assert_eq!(rt; fault(alloc, &ONE[..end]), Some(0), "at {end}");
-    }
-    assert!(rt; is_written(alloc, &[b"/d"], &[(b"t.c", 0), (b"t.c", 0)], &ONE)?);
-    assert!(rt; is_written(alloc, &DIRS, &FILES, &TWO)?);
+    assert!(rt; is_written(alloc, DIRS, FILES, two)?);
     Ok(())
 }

@@ -15,7 +15,7 @@ static ONE: [u8; 22] = [
 ];
 
 /// A byte of it that is changed, what it becomes, and where the first wrong field is.
-const DAMAGED: [(usize, u8, usize); 11] = [
+const DAMAGED: &[(usize, u8, usize)] = &[
     (0, 0x13, 0),
     (4, 4, 4),
     (6, 4, 6),
@@ -30,7 +30,7 @@ const DAMAGED: [(usize, u8, usize); 11] = [
 ];
 
 /// Sections of one range, of which a number is beyond its bounds: an end at 2^64, and a constant of 2^63.
-const BEYOND: [(&[u8], usize); 2] = [
+const BEYOND: &[(&[u8], usize)] = &[
     (
         &[
             0x1b, 0, 0, 0, 5, 0, 8, 0, 1, 0, 0, 0, 4, 0, 0, 0, 4, 0, 0x80, 0x80, 0x80, 0x80, 0x80,
@@ -60,10 +60,10 @@ static PIECES: [u8; 34] = [
 ];
 
 /// Addresses, and the number of the register that has the whole there, or 0.
-const WHOLE: [(u64, u32); 4] = [(3, 0), (4, 11), (7, 11), (8, 0)];
+const WHOLE: &[(u64, u32)] = &[(3, 0), (4, 11), (7, 11), (8, 0)];
 
 /// Addresses, numbers of pieces, and the piece: its first byte, its length and the number of its register, or 0.
-const PARTS: [(u64, u32, u32, u32, u32); 5] = [
+const PARTS: &[(u64, u32, u32, u32, u32)] = &[
     (7, 0, 0, 0, 0),
     (8, 0, 2, 4, 10),
     (15, 1, 6, 1, 11),
@@ -109,30 +109,51 @@ fn piece(bytes: &[u8], k: u32, address: u64, n: u32) -> Result<Option<Part>, Lis
     }
 }
 
+/// Whether a section is wrong from a byte on.
+fn is_wrong(bytes: &[u8], at: usize) -> bool {
+    list_count(bytes) == Err(ListFault { at })
+}
+
+/// The first byte of a table of changes where the fault is another one.
+fn other_fault(bytes: &[u8; 22], damaged: &[(usize, u8, usize)]) -> Option<usize> {
+    for (index, value, at) in damaged {
+        let mut changed = *bytes;
+        if *index >= changed.len() {
+            return Some(*index);
+        }
+        changed[*index] = *value;
+        if !is_wrong(&changed, *at) {
+            return Some(*index);
+        }
+    }
+    None
+}
+
 #[test]
 fn lists_are_read_and_written(rt: HostRuntime) -> Result<(), Fail> {
+    let two: &[u8] = &TWO;
+    let pieces: &[u8] = &PIECES;
     assert_eq!(rt; list_count(&ONE), Ok(1));
-    for (index, value, at) in DAMAGED {
-        let mut bytes = ONE;
-        assert!(rt; index < bytes.len());
-        bytes[index] = value;
-        assert_eq!(rt; list_count(&bytes), Err(ListFault { at }));
-    }
+    assert_eq!(rt; list_count(two), Ok(2));
+    assert_eq!(rt; list_count(pieces), Ok(1));
+    assert_eq!(rt; other_fault(&ONE, DAMAGED), None);
     for (bytes, at) in BEYOND {
-        assert_eq!(rt; list_count(bytes), Err(ListFault { at }));
+        assert!(rt; is_wrong(bytes, *at), "{at}");
     }
-    assert_eq!(rt; list_count(&TWO), Ok(2));
     // Each proper prefix is wrong from its length on
-    for n in 0..TWO.len() {
-        assert_eq!(rt; list_count(&TWO[..n]), Err(ListFault { at: 0 }));
+    for n in 0..two.len() {
+        assert!(rt; is_wrong(&two[..n], 0), "{n}");
     }
-    assert_eq!(rt; list_count(&PIECES), Ok(1));
     for (address, n) in WHOLE {
-        assert_eq!(rt; place(&PIECES, 0, address), Ok(register(n)));
+        assert!(rt; place(pieces, 0, *address) == Ok(register(*n)), "{address}");
     }
     for (address, k, offset, length, n) in PARTS {
-        assert_eq!(rt; piece(&PIECES, 0, address, k), Ok(part(offset, length, n)));
-    } // The entry of a slot at an offset that no frame of a text reaches
+        assert!(rt;
+            piece(pieces, 0, *address, *k) == Ok(part(*offset, *length, *n)),
+            "{address}"
+        );
+    }
+    // The entry of a slot at an offset that no frame of a text reaches
     let slot = Range {
         lo: 200,
         hi: 300,

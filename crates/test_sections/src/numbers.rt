@@ -1,10 +1,10 @@
 //! Numbers of variable length, by the examples of DWARF 5 section 7.6, and the extremes.
 
 use dwarf_base::front::{split_sleb, split_u32, split_uleb};
-use dwarf_base::leb::{sleb, uleb};
+use dwarf_base::leb::{Leb, sleb, uleb};
 
 /// Numbers, and their bytes with others behind them.
-const UNSIGNED: [(u64, &[u8], usize); 6] = [
+const UNSIGNED: &[(u64, &[u8], usize)] = &[
     (2, &[2, 9, 9], 2),
     (127, &[127, 9, 9], 2),
     (128, &[0x80, 1, 9], 1),
@@ -18,7 +18,7 @@ const UNSIGNED: [(u64, &[u8], usize); 6] = [
 ];
 
 /// The same with a sign.
-const SIGNED: [(i64, &[u8], usize); 10] = [
+const SIGNED: &[(i64, &[u8], usize)] = &[
     (2, &[2, 9, 9], 2),
     (-2, &[0x7e, 9, 9], 2),
     (127, &[0xff, 0, 9], 1),
@@ -40,37 +40,50 @@ const SIGNED: [(i64, &[u8], usize); 10] = [
 ];
 
 /// Not the shortest, cut off, of more than 64 bits.
-const NOT_UNSIGNED: [&[u8]; 3] = [
+const NOT_UNSIGNED: &[&[u8]] = &[
     &[0x80, 0],
     &[0x80],
     &[0xff, 0xff, 0xff, 0xff, 0xff, 0xff, 0xff, 0xff, 0xff, 2],
 ];
 
 /// Not the shortest, and of more than 64 bits.
-const NOT_SIGNED: [&[u8]; 2] = [
+const NOT_SIGNED: &[&[u8]] = &[
     &[0xff, 0x7f],
     &[0x80, 0x80, 0x80, 0x80, 0x80, 0x80, 0x80, 0x80, 0x80, 1],
 ];
 
+/// Whether bytes begin with those of a number, and with them so many.
+fn is_front(bytes: &[u8], number: &Leb, after: usize) -> bool {
+    bytes.starts_with(number.as_slice()) && bytes.len().saturating_sub(number.len()) == after
+}
+
+/// Whether bytes begin with a number without a sign, written and read.
+fn is_unsigned(bytes: &[u8], number: u64, after: usize) -> bool {
+    match split_uleb(bytes) {
+        Some((n, rest)) => n == number
+            && rest.len() == after
+            && is_front(bytes, &uleb(number), after),
+        None => false,
+    }
+}
+
+/// The same with a sign.
+fn is_signed(bytes: &[u8], number: i64, after: usize) -> bool {
+    match split_sleb(bytes) {
+        Some((n, rest)) => n == number
+            && rest.len() == after
+            && is_front(bytes, &sleb(number), after),
+        None => false,
+    }
+}
+
 #[test]
 fn numbers_are_written_and_read(rt: HostRuntime) {
     for (number, bytes, after) in UNSIGNED {
-        let number_bytes = uleb(number);
-        assert!(rt; bytes.starts_with(number_bytes.as_slice()), "{number}");
-        assert_eq!(rt; number_bytes.len() + after, bytes.len());
-        assert_eq!(rt;
-            split_uleb(bytes).map(|(n, rest)| (n, rest.len())),
-            Some((number, after))
-        );
+        assert!(rt; is_unsigned(bytes, *number, *after), "{number}");
     }
     for (number, bytes, after) in SIGNED {
-        let number_bytes = sleb(number);
-        assert!(rt; bytes.starts_with(number_bytes.as_slice()), "{number}");
-        assert_eq!(rt; number_bytes.len() + after, bytes.len());
-        assert_eq!(rt;
-            split_sleb(bytes).map(|(n, rest)| (n, rest.len())),
-            Some((number, after))
-        );
+        assert!(rt; is_signed(bytes, *number, *after), "{number}");
     }
     for bytes in NOT_UNSIGNED {
         assert!(rt; split_uleb(bytes).is_none());
