@@ -1,5 +1,6 @@
 //! Line number tables written by hand from DWARF 5, sections 6.2.4 and 6.2.5, and the same with one byte changed.
 
+use crate::changed::changed;
 use crate::table::{are_named, are_names, are_sequences};
 use dwarf_line::fault::LineError;
 use dwarf_line::read::rows;
@@ -167,38 +168,37 @@ fn files_of(alloc: Global, named: &[(&[u8], u32)]) -> Result<FileEntries, AllocE
     Ok(files)
 }
 
-/// The section of a table, and that its size is as told.
-fn section(alloc: Global, table: &LineTable) -> Result<List<u8>, Fail> {
+/// Whether the section of a table is this one, and its size is as told.
+fn is_section(alloc: Global, table: &LineTable, bytes: &[u8]) -> bool {
     if !are_names(table.dirs.as_slice()) || !are_named(table.files.as_slice()) {
-        return Err(Fail::from("a name with a zero byte"));
+        return false;
     }
     if !are_sequences(table.sequences.as_slice()) {
-        return Err(Fail::from("sequences that can't be written"));
+        return false;
     }
-    let size = line_size(table).ok_or("too many bytes")?;
-    let bytes = write_line(alloc, table)?;
-    if bytes.len() == size as usize {
-        Ok(bytes)
-    } else {
-        Err(Fail::from("another size"))
+    let Some(size) = line_size(table) else {
+        return false;
+    };
+    match write_line(alloc, table) {
+        Ok(written) => written.as_slice() == bytes && bytes.len() == size as usize,
+        Err(_) => false,
     }
 }
 
 /// Whether the section of directories and files and of the sequences of a section is that section.
-fn is_written(
-    alloc: Global,
-    dirs: &[&[u8]],
-    files: &[(&[u8], u32)],
-    bytes: &[u8],
-) -> Result<bool, Fail> {
-    let dirs = dirs_of(alloc, dirs)?;
-    let files = files_of(alloc, files)?;
-    let table = LineTable {
-        dirs,
-        files,
-        sequences: rows(alloc, bytes).ok().ok_or("sequences")?,
-    };
-    Ok(section(alloc, &table)?.as_slice() == bytes)
+fn is_written(alloc: Global, dirs: NameList, files: FileEntries, bytes: &[u8]) -> bool {
+    match rows(alloc, bytes) {
+        Ok(sequences) => is_section(
+            alloc,
+            &LineTable {
+                dirs,
+                files,
+                sequences,
+            },
+            bytes,
+        ),
+        Err(_) => false,
+    }
 }
 
 /// The first byte of a table of changes where the fault is another one.
@@ -208,12 +208,8 @@ fn other_fault(
     damaged: &[(usize, u8, usize)],
 ) -> Result<Option<usize>, Fail> {
     for (at, byte, wanted) in damaged {
-        let mut changed = bytes.to_vec(alloc)?;
-        match changed.get_mut(*at) {
-            Some(place) => *place = *byte,
-            None => return Ok(Some(*at)),
-        }
-        if fault(alloc, &changed) != Some(*wanted) {
+        let bytes = changed(alloc, bytes, *at, *byte)?;
+        if fault(alloc, &bytes) != Some(*wanted) {
             return Ok(Some(*at));
         }
     }
@@ -232,6 +228,7 @@ fn tables_are_read_and_written(rt: HostRuntime) -> Result<(), Fail> {
     for end in 0..one.len() {
         assert_eq!(rt; fault(alloc, &one[..end]), Some(0), "at {end}");
     }
-    assert!(rt; is_written(alloc, DIRS, FILES, two)?);
+    let dirs = dirs_of(alloc, DIRS)?;
+    assert!(rt; is_written(alloc, dirs, files_of(alloc, FILES)?, two));
     Ok(())
 }

@@ -1,5 +1,6 @@
 //! Location lists written by hand from DWARF 5 section 7.29, and damaged ones.
 
+use crate::changed::changed;
 use dwarf_loclists::entry::push_entry;
 use dwarf_loclists::fault::ListFault;
 use dwarf_loclists::range::{Location, Part, Range};
@@ -7,6 +8,7 @@ use dwarf_loclists::reader::{list_count, piece_at, place_at};
 use numbers::code::SlotId;
 use rv64_instr::place::Place;
 use rv64_instr::reg::physical;
+use std::alloc::Global;
 use std::test::Fail;
 
 /// The section of one list of one range: x10 from 0 to 8.
@@ -115,28 +117,29 @@ fn is_wrong(bytes: &[u8], at: usize) -> bool {
 }
 
 /// The first byte of a table of changes where the fault is another one.
-fn other_fault(bytes: &[u8; 22], damaged: &[(usize, u8, usize)]) -> Option<usize> {
-    for (index, value, at) in damaged {
-        let mut changed = *bytes;
-        if *index >= changed.len() {
-            return Some(*index);
-        }
-        changed[*index] = *value;
-        if !is_wrong(&changed, *at) {
-            return Some(*index);
+fn other_fault(
+    alloc: Global,
+    bytes: &[u8],
+    damaged: &[(usize, u8, usize)],
+) -> Result<Option<usize>, Fail> {
+    for (at, byte, wanted) in damaged {
+        let bytes = changed(alloc, bytes, *at, *byte)?;
+        if !is_wrong(&bytes, *wanted) {
+            return Ok(Some(*at));
         }
     }
-    None
+    Ok(None)
 }
 
 #[test]
 fn lists_are_read_and_written(rt: HostRuntime) -> Result<(), Fail> {
+    let one: &[u8] = &ONE;
     let two: &[u8] = &TWO;
     let pieces: &[u8] = &PIECES;
-    assert_eq!(rt; list_count(&ONE), Ok(1));
+    assert_eq!(rt; list_count(one), Ok(1));
     assert_eq!(rt; list_count(two), Ok(2));
     assert_eq!(rt; list_count(pieces), Ok(1));
-    assert_eq!(rt; other_fault(&ONE, DAMAGED), None);
+    assert_eq!(rt; other_fault(rt.alloc(), one, DAMAGED)?, None);
     for (bytes, at) in BEYOND {
         assert!(rt; is_wrong(bytes, *at), "{at}");
     }
