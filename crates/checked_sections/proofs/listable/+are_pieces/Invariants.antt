@@ -1,5 +1,0 @@
-use Rattle.std.proofs.Common.{length}
-use Rattle.checked_sections.proofs.listable.+are_pieces.Given as goal
-
-abbrev pub decreases-are_pieces : goal.decreases-are_pieces
-decreases-are_pieces l = length l.parts.now

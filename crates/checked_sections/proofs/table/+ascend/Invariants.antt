@@ -1,5 +1,0 @@
-use Rattle.std.proofs.Common.{length}
-use Rattle.checked_sections.proofs.table.+ascend.Given as goal
-
-abbrev pub decreases-ascend : goal.decreases-ascend
-decreases-ascend l = length l.rows.now

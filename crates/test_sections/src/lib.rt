@@ -1,0 +1,17 @@
+//! Tests of what only calls within the program show: numbers of variable length, readers of sections on damaged ones,
+//! writers at bounds that no text reaches, and the sections of a program without functions. Whole sections of texts
+//! are rows of `test_program`.
+#![tactic(auto)]
+
+#[cfg(test)]
+mod changed;
+#[cfg(test)]
+mod line_tables;
+#[cfg(test)]
+mod location_lists;
+#[cfg(test)]
+mod no_functions;
+#[cfg(test)]
+mod numbers;
+#[cfg(test)]
+mod table;

@@ -1,0 +1,172 @@
+//! Location lists written by hand from DWARF 5 section 7.29, and damaged ones.
+
+use crate::changed::changed;
+use dwarf_loclists::entry::push_entry;
+use dwarf_loclists::fault::ListFault;
+use dwarf_loclists::range::{Location, Part, Range};
+use dwarf_loclists::reader::{list_count, piece_at, place_at};
+use numbers::code::SlotId;
+use rv64_instr::place::Place;
+use rv64_instr::reg::physical;
+use std::alloc::Global;
+use std::test::Fail;
+
+/// The section of one list of one range: x10 from 0 to 8.
+static ONE: [u8; 22] = [
+    0x12, 0, 0, 0, 5, 0, 8, 0, 1, 0, 0, 0, 4, 0, 0, 0, 4, 0, 8, 1, 0x5a, 0,
+];
+
+/// A byte of it that is changed, what it becomes, and where the first wrong field is.
+const DAMAGED: &[(usize, u8, usize)] = &[
+    (0, 0x13, 0),
+    (4, 4, 4),
+    (6, 4, 6),
+    (7, 1, 7),
+    (8, 2, 12),
+    (12, 5, 12),
+    (16, 5, 16),
+    (17, 8, 18),
+    (18, 0, 18),
+    (20, 0x52, 20),
+    (21, 1, 21),
+];
+
+/// Sections of one range, of which a number is beyond its bounds: an end at 2^64, and a constant of 2^63.
+const BEYOND: &[(&[u8], usize)] = &[
+    (
+        &[
+            0x1b, 0, 0, 0, 5, 0, 8, 0, 1, 0, 0, 0, 4, 0, 0, 0, 4, 0, 0x80, 0x80, 0x80, 0x80, 0x80,
+            0x80, 0x80, 0x80, 0x80, 2, 1, 0x5a, 0,
+        ],
+        18,
+    ),
+    (
+        &[
+            0x1d, 0, 0, 0, 5, 0, 8, 0, 1, 0, 0, 0, 4, 0, 0, 0, 4, 0, 4, 12, 0x11, 0x80, 0x80, 0x80,
+            0x80, 0x80, 0x80, 0x80, 0x80, 0x80, 1, 0x9f, 0,
+        ],
+        20,
+    ),
+];
+
+/// A section of two lists of two ranges each.
+static TWO: [u8; 42] = [
+    0x26, 0, 0, 0, 5, 0, 8, 0, 2, 0, 0, 0, 8, 0, 0, 0, 0x13, 0, 0, 0, 4, 0x10, 0x14, 1, 0x5a, 4,
+    0x14, 0x18, 1, 0x58, 0, 4, 0x18, 0x40, 1, 0x59, 4, 0x40, 0x48, 1, 0x5a, 0,
+];
+
+/// A section of one list of two ranges: x11, and in two pieces behind a gap x10 and x11.
+static PIECES: [u8; 34] = [
+    0x1e, 0, 0, 0, 5, 0, 8, 0, 1, 0, 0, 0, 4, 0, 0, 0, 4, 4, 8, 1, 0x5b, 4, 8, 16, 8, 0x93, 2,
+    0x5a, 0x93, 4, 0x5b, 0x93, 1, 0,
+];
+
+/// Addresses, and the number of the register that has the whole there, or 0.
+const WHOLE: &[(u64, u32)] = &[(3, 0), (4, 11), (7, 11), (8, 0)];
+
+/// Addresses, numbers of pieces, and the piece: its first byte, its length and the number of its register, or 0.
+const PARTS: &[(u64, u32, u32, u32, u32)] = &[
+    (7, 0, 0, 0, 0),
+    (8, 0, 2, 4, 10),
+    (15, 1, 6, 1, 11),
+    (15, 2, 0, 0, 0),
+    (16, 0, 0, 0, 0),
+];
+
+/// The place of a register's number, and none of 0.
+fn register(n: u32) -> Option<Place> {
+    match physical(n) {
+        Some(register) if n > 0 => Some(Place::Register(register)),
+        _ => None,
+    }
+}
+
+/// A part in a register, and none where its number is 0.
+fn part(offset: u32, length: u32, n: u32) -> Option<Part> {
+    match register(n) {
+        Some(place) => Some(Part {
+            offset,
+            length,
+            place,
+        }),
+        None => None,
+    }
+}
+
+/// What a list of a section that is right gives at an address, and none where it has fewer lists.
+fn place(bytes: &[u8], k: u32, address: u64) -> Result<Option<Place>, ListFault> {
+    if k < list_count(bytes)? {
+        place_at(bytes, k, address)
+    } else {
+        Ok(None)
+    }
+}
+
+/// The piece of such a number.
+fn piece(bytes: &[u8], k: u32, address: u64, n: u32) -> Result<Option<Part>, ListFault> {
+    if k < list_count(bytes)? {
+        piece_at(bytes, k, address, n)
+    } else {
+        Ok(None)
+    }
+}
+
+/// Whether a section is wrong from a byte on.
+fn is_wrong(bytes: &[u8], at: usize) -> bool {
+    list_count(bytes) == Err(ListFault { at })
+}
+
+/// The first byte of a table of changes where the fault is another one.
+fn other_fault(
+    alloc: Global,
+    bytes: &[u8],
+    damaged: &[(usize, u8, usize)],
+) -> Result<Option<usize>, Fail> {
+    for (at, byte, wanted) in damaged {
+        let bytes = changed(alloc, bytes, *at, *byte)?;
+        if !is_wrong(&bytes, *wanted) {
+            return Ok(Some(*at));
+        }
+    }
+    Ok(None)
+}
+
+#[test]
+fn lists_are_read_and_written(rt: HostRuntime) -> Result<(), Fail> {
+    let one: &[u8] = &ONE;
+    let two: &[u8] = &TWO;
+    let pieces: &[u8] = &PIECES;
+    assert_eq!(rt; list_count(one), Ok(1));
+    assert_eq!(rt; list_count(two), Ok(2));
+    assert_eq!(rt; list_count(pieces), Ok(1));
+    assert_eq!(rt; other_fault(rt.alloc(), one, DAMAGED)?, None);
+    for (bytes, at) in BEYOND {
+        assert!(rt; is_wrong(bytes, *at), "{at}");
+    }
+    // Each proper prefix is wrong from its length on
+    for n in 0..two.len() {
+        assert!(rt; is_wrong(&two[..n], 0), "{n}");
+    }
+    for (address, n) in WHOLE {
+        assert!(rt; place(pieces, 0, *address) == Ok(register(*n)), "{address}");
+    }
+    for (address, k, offset, length, n) in PARTS {
+        assert!(rt;
+            piece(pieces, 0, *address, *k) == Ok(part(*offset, *length, *n)),
+            "{address}"
+        );
+    }
+    // The entry of a slot at an offset that no frame of a text reaches
+    let slot = Range {
+        lo: 200,
+        hi: 300,
+        location: Location::Whole(Place::Slot(SlotId(2024))),
+    };
+    let mut bytes = Vec::new(rt.alloc());
+    push_entry(&mut bytes, &slot)?;
+    assert_eq!(rt;
+        bytes.as_slice(),
+        [4, 0xc8, 1, 0xac, 2, 3, 0x72, 0xe8, 0x0f].as_slice()
+    );
+    Ok(())
+}

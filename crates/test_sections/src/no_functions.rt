@@ -1,0 +1,18 @@
+//! The sections of a program without functions, which no text is.
+
+use lists::List;
+use meta_reader::metadata::read_meta;
+use source_lines::line_table::line_table;
+use std::test::Fail;
+use unit_entries::unit::make_unit;
+
+#[test]
+fn no_functions_make_an_empty_unit(rt: HostRuntime) -> Result<(), Fail> {
+    let alloc = rt.alloc();
+    let meta = read_meta(alloc, &List::new(alloc))?;
+    let unit = make_unit(alloc, &[], &meta, 0)?;
+    assert!(rt; unit.types.is_empty() && unit.functions.is_empty());
+    let table = line_table(alloc, &[], &meta)?;
+    assert!(rt; table.dirs.len() == 1 && table.files.len() == 2 && table.sequences.is_empty());
+    Ok(())
+}

@@ -1,0 +1,243 @@
+//! What is known at the start of blocks, over all paths to them.
+
+use crate::text::{framed_of, function_of, register, variable};
+use class_entries::entry::BlockEntry;
+use class_entries::tracked::Tracked;
+use machine_values::values::{MachineValues, solve};
+use std::alloc::Global;
+use std::fmt::Write;
+use std::test::Fail;
+
+/// Bodies, and the registers that have the first variable's value at the start of each block, the prologue's first.
+const BODIES: [(&str, &str); 3] = [
+    // two paths meet again
+    (
+        "  bb.0:\n    DBG_VALUE $x10, $noreg, !4, !DIExpression()\n    $x12 = COPY $x10\n    BEQ $x11, $x0, %bb.2\n  \
+         bb.1:\n    $x10 = ADDI $x10, 1\n    $x13 = COPY $x12\n    PseudoBR %bb.3\n  bb.2:\n    $x13 = COPY $x10\n  \
+         bb.3:\n    PseudoRET implicit $x13\n",
+        "; ; x10 x12 ; x10 x12 ; x12 x13 ; ",
+    ),
+    // each turn of a loop gives the variable a new value in x13
+    (
+        "  bb.0:\n    DBG_VALUE $x13, $noreg, !4, !DIExpression()\n    $x12 = COPY $x13\n  bb.1:\n    \
+         $x13 = ADDI $x13, 1, debug-instr-number 1\n    \
+         DBG_INSTR_REF !4, !DIExpression(DW_OP_LLVM_arg, 0), dbg-instr-ref(1, 0)\n    BNE $x13, $x11, %bb.1\n  \
+         bb.2:\n    PseudoRET implicit $x13\n",
+        "; ; x13 ; x13 ; ",
+    ),
+    // no path leads to a block that marks the variable
+    (
+        "  bb.0:\n    DBG_VALUE $x10, $noreg, !4, !DIExpression()\n    PseudoBR %bb.2\n  bb.1:\n    \
+         DBG_VALUE $x11, $noreg, !4, !DIExpression()\n  bb.2:\n    PseudoRET implicit $x10\n",
+        "; ; unreached; x10 ; ",
+    ),
+];
+
+/// Variable 4 gets what x10 has on one path, and on the other what x11 has; variable 5 gets a value on one path alone;
+/// variable 6 gets what x10 has on both.
+const DIAMOND: &str =
+    "  bb.0:\n    BEQ $x15, $x0, %bb.2\n  bb.1:\n    $x12 = ADDI $x12, 5, debug-instr-number 1\n    \
+    DBG_VALUE $x10, $noreg, !4, !DIExpression()\n    \
+    DBG_INSTR_REF !5, !DIExpression(DW_OP_LLVM_arg, 0), dbg-instr-ref(1, 0)\n    \
+    DBG_VALUE $x10, $noreg, !6, !DIExpression()\n    PseudoBR %bb.3\n  bb.2:\n    \
+    DBG_VALUE $x10, $noreg, !6, !DIExpression()\n    DBG_VALUE $x11, $noreg, !4, !DIExpression()\n  bb.3:\n    \
+    DBG_VALUE 7, $noreg, !7, !DIExpression()\n    PseudoRET\n";
+
+/// Blocks 1 and 2 are each followed by the other, and no one of them is before the other. Block 1 sets x10, block 3
+/// follows on block 2, block 4 on none.
+const IRREDUCIBLE: &str =
+    "  bb.0:\n    $x10 = COPY $x11\n    BEQ $x12, $x0, %bb.2\n  bb.1:\n    $x10 = ADDI $x10, 1\n  bb.2:\n    \
+    BNE $x12, $x0, %bb.1\n  bb.3:\n    PseudoCALL @g, csr_ilp32_lp64, implicit-def dead $x1\n    \
+    DBG_VALUE 7, $noreg, !4, !DIExpression()\n    PseudoRET\n  bb.4:\n    PseudoBR %bb.3\n";
+
+/// A loop hands copies of x10 down and sets x10: each sweep parts one of them from the rest.
+const CHAIN: &str =
+    "  bb.0:\n    $x11 = COPY $x10\n    $x12 = COPY $x10\n    $x13 = COPY $x10\n    $x14 = COPY $x10\n    \
+    $x15 = COPY $x10\n  bb.1:\n    $x15 = COPY $x14\n    $x14 = COPY $x13\n    $x13 = COPY $x12\n    \
+    $x12 = COPY $x11\n    $x11 = COPY $x10\n    $x10 = ADDI $x10, 1\n    BNE $x10, $x0, %bb.1\n  bb.2:\n    \
+    DBG_VALUE 7, $noreg, !4, !DIExpression()\n    PseudoRET\n";
+
+/// The same, and a variable has the value of the last of them.
+const MARKED_CHAIN: &str =
+    "  bb.0:\n    $x11 = COPY $x10\n    $x12 = COPY $x10\n    $x13 = COPY $x10\n    $x14 = COPY $x10\n    \
+    DBG_VALUE $x14, $noreg, !4, !DIExpression()\n    $x10 = ADDI $x0, 0\n  bb.1:\n    $x14 = COPY $x13\n    \
+    $x13 = COPY $x12\n    $x12 = COPY $x11\n    $x11 = ADDI $x11, 1\n    BNE $x11, $x15, %bb.1\n  bb.2:\n    \
+    PseudoRET implicit $x14\n";
+
+/// Bodies, registers and variables, and at the start of each block the classes of the number 7 and of these: the place
+/// of the first that has the same class, or 0 where there is none, and + where there is a token on every path.
+const CLASSES: [(&str, &[u32], &[u32], &str); 3] = [
+    (
+        DIAMOND,
+        &[10, 11],
+        &[4, 5, 6],
+        "1+ 2+ 3+ 0- 0- 0- ; 1+ 2+ 3+ 0- 0- 0- ; 1+ 2+ 3+ 0- 0- 0- ; 1+ 2+ 3+ 0- 0- 0- ; 1+ 2+ 3+ 4+ 5- 2+ ; ",
+    ),
+    (
+        IRREDUCIBLE,
+        &[10, 11],
+        &[4],
+        "1+ 2+ 3+ 0- ; 1+ 2+ 3+ 0- ; 1+ 2+ 3+ 0- ; 1+ 2+ 3+ 0- ; 1+ 2+ 3+ 0- ; unreached; ",
+    ),
+    (
+        CHAIN,
+        &[10, 11, 12, 13, 14, 15],
+        &[],
+        "1+ 2+ 3+ 4+ 5+ 6+ 7+ ; 1+ 2+ 3+ 4+ 5+ 6+ 7+ ; 1+ 2+ 3+ 4+ 5+ 6+ 7+ ; 1+ 2+ 3+ 4+ 5+ 6+ 7+ ; ",
+    ),
+];
+
+/// What is known of the function with this body.
+fn values_of(alloc: Global, body: &str) -> Result<MachineValues, Fail> {
+    let parsed = function_of(alloc, body)?;
+    let framed = framed_of(alloc, &parsed)?;
+    Ok(solve(alloc, &framed, &parsed.subs)?)
+}
+
+/// Writes the registers that have the first variable's value at an entry on every path.
+fn write_registers(shown: &mut String, things: &[Tracked], entry: &BlockEntry) -> Result<(), Fail> {
+    let classes = entry.classes.as_slice();
+    let has_value = *entry.given.as_slice().first().ok_or("a variable")?;
+    for (thing, class) in things.iter().zip(classes) {
+        match thing {
+            Tracked::Register(r) if has_value && classes.first() == Some(class) => write!(
+                shown,
+                "x{} ",
+                r.number()
+            )?,
+            _ => {}
+        }
+    }
+    Ok(())
+}
+
+/// What is written at the start of each block.
+fn registers_in(alloc: Global, body: &str) -> Result<String, Fail> {
+    let values = values_of(alloc, body)?;
+    let mut shown = String::new(alloc);
+    for entry in values.entries.as_slice() {
+        if entry.reached {
+            write_registers(&mut shown, values.things.as_slice(), entry)?;
+        } else {
+            shown.push_str("unreached")?;
+        }
+        shown.push_str("; ")?;
+    }
+    Ok(shown)
+}
+
+/// The number 7, registers and variables.
+fn tracked(alloc: Global, registers: &[u32], variables: &[u32]) -> Result<Vec<Tracked>, Fail> {
+    let mut things = Vec::new(alloc);
+    things.push(Tracked::Number(7))?;
+    for n in registers {
+        things.push(Tracked::Register(register(*n)?))?;
+    }
+    for node in variables {
+        things.push(Tracked::Part(variable(*node)))?;
+    }
+    Ok(things)
+}
+
+/// The class of a thing at an entry, and whether it is there on every path.
+fn class_of(things: &[Tracked], entry: &BlockEntry, wanted: &Tracked) -> Option<(u32, bool)> {
+    for ((thing, class), given) in things
+        .iter()
+        .zip(entry.classes.as_slice())
+        .zip(entry.given.as_slice())
+    {
+        if *thing == *wanted {
+            return Some((*class, *given));
+        }
+    }
+    None
+}
+
+/// Writes the classes of things at an entry.
+fn write_classes(
+    shown: &mut String,
+    classes: &mut Vec<u32>,
+    things: &[Tracked],
+    entry: &BlockEntry,
+    wanted: &[Tracked],
+) -> Result<(), Fail> {
+    for thing in wanted {
+        let (class, given) = class_of(things, entry, thing).ok_or("a thing")?;
+        let mut first = classes.len();
+        for (i, seen) in classes.as_slice().iter().enumerate() {
+            if *seen == class && i < first {
+                first = i;
+            }
+        }
+        classes.push(class)?;
+        let first = if class == 0 {
+            0
+        } else {
+            first.saturating_add(1)
+        };
+        write!(shown, "{first}{} ", if given { "+" } else { "-" })?;
+    }
+    Ok(())
+}
+
+/// What is written at the start of each block.
+fn classes_in(
+    alloc: Global,
+    body: &str,
+    registers: &[u32],
+    variables: &[u32],
+) -> Result<String, Fail> {
+    let wanted = tracked(alloc, registers, variables)?;
+    let values = values_of(alloc, body)?;
+    let mut shown = String::new(alloc);
+    for entry in values.entries.as_slice() {
+        if entry.reached {
+            let things = values.things.as_slice();
+            write_classes(
+                &mut shown,
+                &mut Vec::new(alloc),
+                things,
+                entry,
+                wanted.as_slice(),
+            )?;
+        } else if entry.classes.is_empty() && entry.given.is_empty() {
+            shown.push_str("unreached")?;
+        }
+        shown.push_str("; ")?;
+    }
+    Ok(shown)
+}
+
+/// How many blocks and things a body has, and how many sweeps it took.
+fn sweeps_in(alloc: Global, body: &str) -> Result<(u64, u64, u64), Fail> {
+    let values = values_of(alloc, body)?;
+    Ok((
+        values.entries.len() as u64,
+        values.things.len() as u64,
+        values.sweeps,
+    ))
+}
+
+#[test]
+fn paths_join(rt: HostRuntime) -> Result<(), Fail> {
+    let alloc = rt.alloc();
+    for (body, wanted) in BODIES {
+        assert_eq!(rt; registers_in(alloc, body)?.as_str(), wanted);
+    }
+    for (body, registers, variables, wanted) in CLASSES {
+        assert_eq!(rt;
+            classes_in(alloc, body, registers, variables)?.as_str(),
+            wanted
+        );
+    }
+    // Each sweep takes one register away from the value, so that there are more sweeps than blocks.
+    for body in [CHAIN, MARKED_CHAIN] {
+        let (blocks, things, sweeps) = sweeps_in(alloc, body)?;
+        let most = blocks
+            .saturating_mul(things)
+            .saturating_mul(2)
+            .saturating_add(1);
+        assert!(rt; blocks < sweeps && sweeps <= most, "{sweeps} sweeps");
+    }
+    Ok(())
+}

@@ -1,0 +1,209 @@
+//! What sits in registers at points, and where a variable is.
+
+ghost use Rattle.std.specs.Prelude.{◌≡◌, ◌≤◌, length};
+ghost use Rattle.class_places.specs.Things.{AreThings};
+
+use crate::text::{framed_of, function_of, pair, register, variable};
+use machine_values::values::{MachineValues, solve, solve_asking};
+use mir_func::entry::OperandPair;
+use mir_func::framed::Framed;
+use rv64_instr::place::Place;
+use std::alloc::Global;
+use std::test::Fail;
+use substitution::substitutions::Substitutions;
+use transfer_emit::values::Values;
+use value_queries::machine::{holds as holds_pair, kept, same};
+use value_queries::point::{Point, point_at};
+use value_queries::variable::{first_place, holds};
+
+/// Variable 4 is in x10, which is copied to x12; variable 5 is the sum in x13, which is copied to x14.
+const COPIES: &str =
+    "  bb.0:\n    DBG_VALUE $x10, $noreg, !4, !DIExpression()\n    $x12 = COPY $x10, debug-instr-number 3\n    \
+    $x13 = ADDI $x10, 1, debug-instr-number 1\n    \
+    DBG_INSTR_REF !5, !DIExpression(DW_OP_LLVM_arg, 0), dbg-instr-ref(1, 0)\n    \
+    $x14 = COPY $x13, debug-instr-number 4\n    PseudoRET\n";
+
+/// Two paths meet again. The prologue is block 0.
+const JOIN: &str =
+    "  bb.0:\n    DBG_VALUE $x10, $noreg, !4, !DIExpression()\n    $x12 = COPY $x10\n    BEQ $x11, $x0, %bb.2\n  \
+    bb.1:\n    $x10 = ADDI $x10, 1\n    $x13 = COPY $x12\n    PseudoBR %bb.3\n  bb.2:\n    $x13 = COPY $x10\n  \
+    bb.3:\n    $x12 = ADDI $x0, 5\n    PseudoRET implicit $x13\n";
+
+/// Items of the first, the number of a pair, a register, and whether in it there sit the value of variable 4, that of
+/// variable 5, that of the pair, and what x10 holds. Of a pair that isn't tracked the answer is 9.
+type Answers = (usize, u32, u32, (u32, u32, u32, u32));
+
+/// Nothing is asked for.
+const ANSWERS: [Answers; 8] = [
+    // before the mark, behind it, and behind the copy
+    (0, 1, 10, (0, 0, 0, 1)),
+    (1, 1, 10, (1, 0, 0, 1)),
+    (2, 1, 12, (1, 0, 0, 1)),
+    // where the pair has a value, where its variable is marked, and where it was copied
+    (3, 1, 13, (0, 0, 1, 0)),
+    (4, 1, 13, (0, 1, 1, 0)),
+    (5, 1, 14, (0, 1, 1, 0)),
+    (5, 1, 12, (1, 0, 0, 1)),
+    // no mark asks for this pair
+    (5, 2, 14, (0, 1, 9, 0)),
+];
+
+/// The pair of the first copy is asked for.
+const ASKED: [Answers; 6] = [
+    // before the copy that gives it, and behind it
+    (1, 3, 12, (0, 0, 0, 0)),
+    (2, 3, 12, (1, 0, 1, 1)),
+    (5, 3, 10, (1, 0, 1, 1)),
+    (5, 3, 14, (0, 1, 0, 0)),
+    // one that a mark asks for, and one that nothing does
+    (5, 1, 14, (0, 1, 1, 0)),
+    (5, 4, 14, (0, 1, 9, 0)),
+];
+
+/// Blocks and items of the second, and the register where the variable is, or 0.
+const FIRST: [(usize, usize, u32); 7] = [
+    // before the mark, behind it, and behind the copy
+    (1, 0, 0),
+    (1, 1, 10),
+    (1, 2, 10),
+    // where x10 was set again
+    (2, 0, 10),
+    (2, 1, 12),
+    // where both paths meet, and where x12 was set
+    (4, 0, 12),
+    (4, 1, 13),
+];
+
+fn answers(
+    values: &Values,
+    point: &Point,
+    number: u32,
+    place: &Place,
+) -> Result<(u32, u32, u32, u32), Fail> {
+    let x10 = Place::Register(register(10)?);
+    let pair = match holds_pair(values, point, &pair(number), place) {
+        None => 9,
+        Some(sits) => u32::from(sits),
+    };
+    Ok((
+        u32::from(holds(values, point, &variable(4), place)),
+        u32::from(holds(values, point, &variable(5), place)),
+        pair,
+        u32::from(same(values, point, &x10, place)),
+    ))
+}
+
+/// The answers before an item, by what is known of the function's values.
+fn answers_by(
+    alloc: Global,
+    framed: &Framed,
+    known: &MachineValues,
+    subs: &Substitutions,
+    item: usize,
+    number: u32,
+    in_register: u32,
+) -> Result<(u32, u32, u32, u32), Fail>
+    requires things { AreThings known.now.variables known.now.things }
+    requires fewer { length known.now.variables ≤ length known.now.things }
+    requires for_all { length known.now.entries ≡ length framed.now.blocks }
+{
+    let blocks = framed.blocks.as_slice();
+    if 1 >= blocks.len() || item > blocks[1].items.len() {
+        return Err(Fail::from("no such point"));
+    }
+    let place = Place::Register(register(in_register)?);
+    let values = Values {
+        variables: known.variables.as_slice(),
+        things: known.things.as_slice(),
+        entries: known.entries.as_slice(),
+        subs,
+    };
+    let point = point_at(alloc, &values, blocks, 1, item)?;
+    answers(&values, &point, number, &place)
+}
+
+fn answers_at(
+    alloc: Global,
+    framed: &Framed,
+    asked: &[OperandPair],
+    item: usize,
+    number: u32,
+    in_register: u32,
+) -> Result<(u32, u32, u32, u32), Fail> {
+    let subs = Substitutions::new(alloc);
+    let known = solve_asking(alloc, framed, &subs, asked)?;
+    answers_by(alloc, framed, &known, &subs, item, number, in_register)
+}
+
+/// The number of the register where variable 4 is before an item: 64 for a number or a slot, and 0 where it is nowhere.
+fn register_by(
+    alloc: Global,
+    framed: &Framed,
+    known: &MachineValues,
+    subs: &Substitutions,
+    block: usize,
+    item: usize,
+) -> Result<u32, Fail>
+    requires things { AreThings known.now.variables known.now.things }
+    requires fewer { length known.now.variables ≤ length known.now.things }
+    requires for_all { length known.now.entries ≡ length framed.now.blocks }
+{
+    let values = Values {
+        variables: known.variables.as_slice(),
+        things: known.things.as_slice(),
+        entries: known.entries.as_slice(),
+        subs,
+    };
+    let blocks = framed.blocks.as_slice();
+    if block >= blocks.len() || item > blocks[block].items.len() {
+        return Err(Fail::from("no such point"));
+    }
+    Ok(number_of(first_place(alloc, &values, blocks, &variable(4), block, item)?))
+}
+
+fn register_at(alloc: Global, framed: &Framed, block: usize, item: usize) -> Result<u32, Fail> {
+    let subs = Substitutions::new(alloc);
+    let known = solve(alloc, framed, &subs)?;
+    register_by(alloc, framed, &known, &subs, block, item)
+}
+
+fn number_of(place: Option<Place>) -> u32 {
+    match place {
+        Some(Place::Register(r)) => r.number(),
+        Some(Place::Slot(_)) => 64,
+        Some(Place::Const(_)) => 64,
+        None => 0,
+    }
+}
+
+/// How many class numbers are kept.
+fn kept_in(alloc: Global, framed: &Framed) -> Result<u64, Fail> {
+    let subs = Substitutions::new(alloc);
+    let known = solve(alloc, framed, &subs)?;
+    Ok(kept(known.entries.as_slice()))
+}
+
+#[test]
+fn values_sit_in_places(rt: HostRuntime) -> Result<(), Fail> {
+    let alloc = rt.alloc();
+    let copies = framed_of(alloc, &function_of(alloc, COPIES)?)?;
+    for (item, number, in_register, wanted) in ANSWERS {
+        let found = answers_at(alloc, &copies, &[], item, number, in_register)?;
+        assert!(rt; found == wanted, "{in_register} at {item}");
+    }
+    for (item, number, in_register, wanted) in ASKED {
+        let found = answers_at(alloc, &copies, &[pair(3)], item, number, in_register)?;
+        assert!(rt; found == wanted, "{in_register} at {item}, asked for");
+    }
+    // The prologue and the block keep a class number for each of two variables, 30 registers, a number and a pair.
+    assert_eq!(rt; kept_in(alloc, &copies)?, 68);
+    let join = framed_of(alloc, &function_of(alloc, JOIN)?)?;
+    for (block, item, wanted) in FIRST {
+        assert_eq!(rt;
+            register_at(alloc, &join, block, item)?,
+            wanted,
+            "{item} of {block}"
+        );
+    }
+    Ok(())
+}
