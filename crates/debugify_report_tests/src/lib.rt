@@ -1,5 +1,0 @@
-//! Tests of reports by their texts.
-#![tactic(auto)]
-
-#[cfg(test)]
-mod tests;

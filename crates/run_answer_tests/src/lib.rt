@@ -1,5 +1,0 @@
-//! Tests of the lines of runs by their text.
-#![tactic(auto)]
-
-#[cfg(test)]
-mod tests;

@@ -1,5 +1,0 @@
-//! Tests of the simulator by whole runs.
-#![tactic(auto)]
-
-#[cfg(test)]
-mod tests;

@@ -1,5 +1,0 @@
-//! Tests of self-tests.
-#![tactic(auto)]
-
-#[cfg(test)]
-mod tests;

@@ -1,0 +1,224 @@
+//! Machine code of small functions.
+
+ghost use Rattle.std.specs.Prelude.{IfOk};
+ghost use Rattle.program_report.specs.ProgramReport.{IsReportable};
+
+use code_words::code::{Code, Words};
+use dwarf_loclists::reader::list_count;
+use frame_layout::code::code_of;
+use lists::List;
+use mir_parser::program::read_program;
+use program_report::print::{Compiled, print_reports};
+use rv_simulator::answers::CallAnswers;
+use rv_simulator::ending::{Stepped, Stop};
+use rv_simulator::machine::Machine;
+use rv64_instr::reg::physical;
+use rv64_instr::start::{Answer, CallEvent, Cells, Start};
+use std::alloc::Global;
+use std::test::Fail;
+
+/// A function of two words.
+const TWO: &[u8] =
+    b"---\nname: f\nbody: |\n  bb.0:\n    $x10 = ADDI $x0, 0\n    PseudoRET implicit $x10\n...\n";
+
+/// A function of one word, which returns.
+const RETURN: &[u8] = b"---\nname: g\nbody: |\n  bb.0:\n    PseudoRET\n...\n";
+
+/// A loop that calls `g` until its first argument is counted down, and sums what it gives.
+const SUM: &[u8] = b"---
+name: sum
+body: |
+  bb.0:
+    $x8 = COPY $x10
+    $x9 = ADDI $x0, 0
+  bb.1:
+    $x10 = COPY $x8
+    PseudoCALL @g, csr_ilp32_lp64, implicit-def dead $x1, implicit $x10, implicit-def $x10
+    $x9 = ADD $x9, $x10
+    $x8 = ADDI $x8, -1
+    BNE $x8, $x0, %bb.1
+  bb.2:
+    $x10 = COPY $x9
+    PseudoRET implicit $x10
+...
+";
+
+/// The location lists of n and s: n is in x10, then in x8; s is in x9, and at last in x10.
+const LISTS: [u8; 42] = [
+    0x26, 0, 0, 0, 5, 0, 8, 0, 2, 0, 0, 0, 8, 0, 0, 0, 0x13, 0, 0, 0, 4, 0x10, 0x14, 1, 0x5a, 4,
+    0x14, 0x18, 1, 0x58, 0, 4, 0x18, 0x40, 1, 0x59, 4, 0x40, 0x48, 1, 0x5a, 0,
+];
+
+/// Where the sum stands before each step, and what n and s hold there.
+const STEPS: [(u64, [Option<u64>; 2]); 21] = [
+    (0x00, [None, None]),
+    (0x04, [None, None]),
+    (0x08, [None, None]),
+    (0x0c, [None, None]),
+    (0x10, [Some(2), None]),
+    (0x14, [Some(2), None]),
+    (0x18, [None, Some(0)]),
+    (0x1c, [None, Some(0)]),
+    (0x24, [None, Some(0)]),
+    (0x28, [None, Some(5)]),
+    (0x2c, [None, Some(5)]),
+    (0x18, [None, Some(5)]),
+    (0x1c, [None, Some(5)]),
+    (0x24, [None, Some(5)]),
+    (0x28, [None, Some(12)]),
+    (0x2c, [None, Some(12)]),
+    (0x30, [None, Some(12)]),
+    (0x34, [None, Some(12)]),
+    (0x38, [None, Some(12)]),
+    (0x3c, [None, Some(12)]),
+    (0x40, [None, Some(12)]),
+];
+
+/// What registers hold when the sum returns.
+const RETURNED: [(u32, u64); 6] = [
+    (0, 0),
+    (1, 4_294_967_296),
+    (2, 1_048_576),
+    (8, 7),
+    (9, 7),
+    (10, 12),
+];
+
+/// Words in the place of the one that returns, and how two steps of them end.
+const WORDS: [(u32, Stepped, Stepped); 3] = [
+    (
+        0x0000_8067,
+        Stepped::Stopped(Stop::Returned),
+        Stepped::Stopped(Stop::Returned),
+    ),
+    (
+        0x0000_0000,
+        Stepped::Stopped(Stop::BadWord(0)),
+        Stepped::Stopped(Stop::BadWord(0)),
+    ),
+    (0x0000_0013, Stepped::Went, Stepped::Stopped(Stop::Left)),
+];
+
+/// Answers the n-th call with 3 + 2 n in x10, and with 9 in the other registers.
+#[derive(Drop)]
+struct Odd;
+
+impl CallAnswers for Odd {
+    ghost gives = { λ _ _ _. Unit {0} };
+
+    ghost spares = { λ _ _ _. Unit {0} };
+
+    fn answer(&self, call: &CallEvent) -> Answer {
+        let mut regs = [9u64; 16];
+        regs[4] = call.number.wrapping_mul(2).wrapping_add(3);
+        Answer {
+            regs,
+            writes: [None; 8],
+        }
+    }
+}
+
+/// The machine code of the first function of a text, from address 0 on.
+fn code(alloc: Global, text: &[u8]) -> Result<Code, Fail> {
+    if 16_777_216 < text.len() {
+        return Err(Fail::from("a long text"));
+    }
+    let program = read_program(alloc, text)?;
+    let parsed = program.functions.as_slice().first().ok_or("a function")?;
+    Ok(code_of(alloc, &parsed.func, 0)?)
+}
+
+/// A code of one word with another word in its place.
+fn with_word(alloc: Global, code: Code, word: u32) -> Result<Code, Fail> {
+    let words = Words::from_slice(alloc, &[word])?;
+    if code.words.len() != words.len() {
+        return Err(Fail::from("not one word"));
+    }
+    Ok(Code { words, ..code })
+}
+
+/// A machine at the start of a code, where x1 is 4294967296, x2 is 1048576, x10 is 2 and every other register is 7.
+fn machine<'a>(alloc: Global, code: &'a Code) -> Result<Machine<'a, Odd>, Fail> {
+    let mut regs = [7u64; 32];
+    regs[1] = 4_294_967_296;
+    regs[2] = 1_048_576;
+    regs[10] = 2;
+    let start = Start {
+        regs,
+        memory: Cells::new(alloc),
+    };
+    Ok(Machine::new(alloc, code, &start, Odd)?)
+}
+
+fn step(machine: &mut Machine<Odd>) -> Result<Stepped, Fail> {
+    Ok(machine.step()?)
+}
+
+/// The content of a register.
+fn register(machine: &Machine<Odd>, n: u32) -> Option<u64> {
+    match physical(n) {
+        Some(r) => Some(machine.register(r)),
+        None => None,
+    }
+}
+
+/// What two lists give where the machine stands.
+fn variables(machine: &Machine<Odd>, lists: &[u8]) -> Result<[Option<u64>; 2], Fail> {
+    if list_count(lists)? != 2 {
+        return Err(Fail::from("not two lists"));
+    }
+    let first = machine.read_variable(lists, 0)?;
+    let second = machine.read_variable(lists, 1)?;
+    Ok([first, second])
+}
+
+/// A function without variables, of which nothing was lost.
+fn compiled(alloc: Global, text: &[u8]) -> Result<Compiled, Fail>
+    ensures { IfOk result IsReportable }
+{
+    Ok(Compiled {
+        code: code(alloc, text)?,
+        names: List::new(alloc),
+        lists: List::new(alloc),
+        losses: List::new(alloc),
+    })
+}
+
+#[test]
+fn runs_a_loop_with_calls(rt: HostRuntime) -> Result<(), Fail> {
+    let code = code(rt.alloc(), SUM)?;
+    let mut machine = machine(rt.alloc(), &code)?;
+    for (n, (address, held)) in STEPS.iter().enumerate() {
+        assert_eq!(rt; machine.counter(), *address, "before step {n}");
+        assert_eq!(rt; variables(&machine, &LISTS)?, *held, "before step {n}");
+        assert_eq!(rt; step(&mut machine)?, Stepped::Went, "at step {n}");
+    }
+    assert_eq!(rt; step(&mut machine)?, Stepped::Stopped(Stop::Returned));
+    assert_eq!(rt; machine.counter(), 0x44);
+    for (n, value) in RETURNED {
+        assert_eq!(rt; register(&machine, n), Some(value), "of x{n}");
+    }
+    Ok(())
+}
+
+#[test]
+fn stops_at_words(rt: HostRuntime) -> Result<(), Fail> {
+    for (word, first, second) in WORDS {
+        let code = with_word(rt.alloc(), code(rt.alloc(), RETURN)?, word)?;
+        let mut machine = machine(rt.alloc(), &code)?;
+        assert_eq!(rt; step(&mut machine)?, first, "of {word}");
+        assert_eq!(rt; step(&mut machine)?, second, "of {word}");
+    }
+    Ok(())
+}
+
+#[test]
+fn reports_functions_in_their_order(rt: HostRuntime) -> Result<(), Fail> {
+    let functions = [compiled(rt.alloc(), TWO)?, compiled(rt.alloc(), RETURN)?];
+    let text = print_reports(rt.alloc(), &functions)?;
+    assert_eq!(rt;
+        text.as_slice(),
+        b"function f\nwords 2\nfunction g\nwords 1\n".as_slice()
+    );
+    Ok(())
+}
