@@ -158,16 +158,27 @@ const ROWS: [(Op, &[Part], i64, u32, u32); 30] = [
     (Op::PseudoCall, &[Symbol, Mask], 0, 0, 0),
 ];
 
+/// The word of an instruction, or 0, and the stack object that it names.
+fn lowered(
+    alloc: Global,
+    op: Op,
+    parts: &[Part],
+    offset: i64,
+    object: u32,
+) -> Option<(u32, Option<ObjectId>)> {
+    let instr = made(alloc, op, parts)?;
+    let word = match lower(&instr, offset, object) {
+        Some(m) => encode(&m),
+        None => 0,
+    };
+    Some((word, object_named(&instr)))
+}
+
 #[test]
 fn words_of_instructions(rt: HostRuntime) {
     for (op, parts, offset, object, word) in ROWS {
-        let instr = made(rt.alloc(), op, parts).expect(&rt, "an instruction");
-        let found = match lower(&instr, offset, object) {
-            Some(m) => encode(&m),
-            None => 0,
-        };
-        assert_eq!(rt; found, word);
-        assert!(rt; object_named(&instr) == object_in(parts), "{word:#x}");
+        let found = lowered(rt.alloc(), op, parts, offset, object);
+        assert!(rt; found == Some((word, object_in(parts))), "{word:#x}");
     }
 }
 

@@ -61,44 +61,6 @@ fn pieces_and_planned_faults(rt: HostRuntime) {
     }
 }
 
-#[test]
-fn whole_texts(rt: HostRuntime) {
-    // The input, the calls that fail, the limit, and the error if there is one. A short input takes two reads.
-    let rows: [(&[u8], &[u64], usize, Option<ReadError>); 8] = [
-        (b"", &[], 0, None),
-        (b"hello", &[], 5, None),
-        (b"hello", &[], 6, None),
-        (b"hello", &[3], 6, None),
-        (b"h", &[], 0, Some(ReadError::TooLong)),
-        (b"hello", &[], 4, Some(ReadError::TooLong)),
-        (b"hello", &[1], 5, Some(ReadError::Failed)),
-        (b"hello", &[2], 5, Some(ReadError::Failed)),
-    ];
-    for (bytes, fails, limit, error) in rows {
-        let mut input = source(&rt, rt.alloc(), bytes, fails);
-        assert!(rt; limit < 100);
-        match read_all(rt.alloc(), &mut input, limit) {
-            Ok(read) => {
-                assert_eq!(rt; error, None);
-                assert_eq!(rt; read.as_slice(), bytes);
-            }
-            Err(e) => assert_eq!(rt; Some(e), error),
-        }
-    }
-    // The room, the calls that fail, the answer, and what was written of the piece.
-    let rows: [(usize, &[u64], Result<(), Failed>, &[u8]); 4] = [
-        (5, &[], Ok(()), b"hello"),
-        (9, &[2], Ok(()), b"hello"),
-        (3, &[], Err(Failed), b"hel"),
-        (9, &[1], Err(Failed), b""),
-    ];
-    for (room, fails, answer, written) in rows {
-        let mut output = sink(&rt, rt.alloc(), room, fails);
-        assert_eq!(rt; write_all(&mut output, b"hello"), answer);
-        assert_eq!(rt; output.written(), written);
-    }
-}
-
 /// A reader that gives a byte a call, counting down to 1, and fails at one of its calls.
 #[derive(Drop)]
 struct Countdown {
@@ -180,20 +142,4 @@ fn the_standard_library_passes_bytes_and_faults_on(rt: HostRuntime) {
     let mut bytes = Vec::new(rt.alloc());
     assert_eq!(rt; write_all(&mut StdSink::new(&mut bytes), b"hello"), Ok(()));
     assert_eq!(rt; bytes.as_slice(), b"hello".as_slice());
-}
-
-#[test]
-fn read_all_grows_its_room(rt: HostRuntime) {
-    // Three times as many bytes as the first room has.
-    for (size, wanted) in [(200_000, None), (200_001, Some(ReadError::TooLong))] {
-        let mut input = StdSource::new(io::repeat(b'x').take(size));
-        match read_all(rt.alloc(), &mut input, 200_000) {
-            Ok(read) => {
-                assert_eq!(rt; wanted, None);
-                assert_eq!(rt; read.len(), 200_000);
-                assert!(rt; read.as_slice().iter().all(|byte| *byte == b'x'));
-            }
-            Err(e) => assert_eq!(rt; Some(e), wanted),
-        }
-    }
 }

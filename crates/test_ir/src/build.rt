@@ -143,7 +143,7 @@ fn kind(alloc: Global, line: &str) -> Option<ItemKind> {
     }
 }
 
-/// The items of a block as it is read: each is kept at its own place. All but the first have a debug location.
+/// The items of a block as it is read: each is kept at its own place.
 fn items(alloc: Global, id: BlockId, text: &str) -> Option<Items> {
     let mut items: Items = List::new(alloc);
     for line in text.lines() {
@@ -153,11 +153,7 @@ fn items(alloc: Global, id: BlockId, text: &str) -> Option<Items> {
         let item = items.len() as u32;
         let kind = kind(alloc, line)?;
         let origin = Origin::Kept(Pos { block: id, item });
-        let loc = if item == 0 {
-            Loc::Absent
-        } else {
-            Loc::Node(NodeId(7))
-        };
+        let loc = Loc::Absent;
         items.push(Item { kind, origin, loc }).ok()?;
     }
     Some(items)

@@ -1,11 +1,8 @@
-//! Which functions are sound, where control goes in them, and their copies; parts of variables; substitutions.
+//! Which functions are sound, and where control goes in them; parts of variables; substitutions.
 
 use crate::build::{entries, entry, function, pair};
 use mir_func::func::{Func, FuncError};
-use mir_func::item::ItemKind;
-use mir_func::location::Loc;
 use mir_func::object::up_to;
-use mir_func::strip::strip;
 use mir_func::successors::Successors;
 use mir_func::variable::Fragment;
 use numbers::code::BlockId;
@@ -138,39 +135,6 @@ fn where_control_may_go(rt: HostRuntime) {
             "{to}"
         );
     }
-}
-
-/// How many items a function has, how many of these have a number, and how many a debug location.
-fn counts(f: &Func) -> [usize; 3] {
-    let mut items = 0usize;
-    let mut numbered = 0usize;
-    let mut located = 0usize;
-    for b in f.blocks.as_slice() {
-        for i in b.items.as_slice() {
-            items = items.saturating_add(1);
-            if matches!(&i.kind, ItemKind::Code(_, Some(_)) | ItemKind::Phi(_, _)) {
-                numbered = numbered.saturating_add(1);
-            }
-            if i.loc != Loc::Absent {
-                located = located.saturating_add(1);
-            }
-        }
-    }
-    [items, numbered, located]
-}
-
-#[test]
-fn copies_and_strips(rt: HostRuntime) {
-    let f = match changed(rt.alloc(), "bb 0", "bb 0") {
-        Some(made) => made.expect(&rt, "a function"),
-        None => panic!(rt; "no form"),
-    };
-    let copied = f.copy().expect(&rt, "memory");
-    assert_eq!(rt; counts(&copied), [10, 4, 7]);
-    assert_eq!(rt; copied.slots.len(), 2);
-    assert_eq!(rt; copied.objects.len(), 2);
-    let stripped = strip(rt.alloc(), &f).expect(&rt, "memory");
-    assert_eq!(rt; counts(&stripped), [7, 0, 5]);
 }
 
 #[test]
