@@ -10,8 +10,8 @@
                                       for any letters, and those of the names that fit must not call each other
   bench/growth.py read                the same of the reading of a text, on functions, blocks, functions of a text and keys of an entry
   bench/growth.py layout              of frame and layout, on items, blocks and slots
-  bench/growth.py locations           of values over all paths and location lists, on blocks, items and variables
-  bench/growth.py sections            of the writers of sections, on functions with variables and lines
+  bench/growth.py locations           of frame, layout, values over all paths and location lists, on blocks, items and variables
+  bench/growth.py sections            what the sections of `compile` take beside its listing, on functions with variables and lines
   bench/growth.py passes              of copies, constants and spilled registers, in one block and in 1,024 blocks
   bench/growth.py lex                 the whole run of crates/mirdwarf_bench/out/mirdwarf_bench, on texts of 1, 2 and 4 MiB
 
@@ -219,21 +219,16 @@ def repeated(line, number, items):
     return b"".join(text)
 
 
-# Of each kind of function: the options of its pass, the function of the program that is the pass, and the function's lines.
+# Of each kind of function: the options of its pass, and the function's lines.
 PASSES = {
-    "copies": (["--passes=copy"], "copy_pass*CopyPass*run*", copies_line),
-    "constants": (["--passes=remat"], "remat_pass*RematPass*run*", constants_line),
-    "registers": (["--passes=spill", "--reserve=x9,x18"], "spill_pass*spill*", registers_line),
+    "copies": (["--passes=copy"], copies_line),
+    "constants": (["--passes=remat"], constants_line),
+    "registers": (["--passes=spill", "--reserve=x9,x18"], registers_line),
 }
 
-READING, LAYOUT, LOCATIONS = "mir_parser::program::read_program*", "frame_layout::code::code_of*", "function_compiler::location_lists::location_lists*"
-
-# The writers of sections.
-WRITERS = {
-    ".debug_loclists": "program_sections::sections::loclists*",
-    ".debug_line": "program_sections::sections::rows*",
-    ".debug_info": "program_sections::sections::info*",
-}
+# What is counted inside the program: the reading of a text; frame and layout; these with values over all paths and location lists; all passes.
+READING, LAYOUT, LOCATIONS = "mir_parser::program::read_program", "frame_layout::code::code_of", "function_emit::emit::compiled"
+RUN_PASSES = "pass_loop::run::run_passes"
 
 
 def lined(number):
@@ -275,14 +270,14 @@ def peak(program, words, text):
     return int(run.stderr.split()[-1])
 
 
-def alone(name, passes, sizes, make):
-    """A table of the instructions that compiling takes with these passes more than without any."""
+def more(name, words, others, sizes, make):
+    """A table of the instructions that a run with these words takes more than one with others."""
     program = os.path.join(TOP, "crates/mirdwarf/out/mirdwarf")
     print(name)
     last = None
     for size in sizes:
         text = make(size)
-        instructions = count(program, ["compile", "--passes=" + passes], text) - count(program, ["compile", "--passes=none"], text)
+        instructions = count(program, words, text) - count(program, others, text)
         print("  %9d  %13d  %s" % (size, instructions, "%.3f" % (instructions / last) if last else ""))
         last = instructions
 
@@ -342,21 +337,22 @@ def main():
                 print("  %9d  %13d  %s" % (size, instructions, "%.3f" % (instructions / last) if last else ""))
                 last = instructions
     elif what == ["sections"]:
-        for name, function in WRITERS.items():
-            inside(name + ", by functions of four variables and 64 lines", ["compile", "--passes=none"], function, (32, 64, 128, 256), lined)
+        more("functions of four variables and 64 lines, by functions", ["compile", "--passes=none"], ["listing", "--passes=none"], (32, 64, 128, 256), lined)
     elif what == ["passes"]:
-        for kind, (passes, function, line) in PASSES.items():
-            inside("%s in one block, by items" % kind, ["listing", *passes], function, (1024, 2048, 4096, 8192), lambda n: repeated(line, 1, n))
-            inside("%s in 1,024 blocks, by items" % kind, ["listing", *passes], function, (4096, 8192), lambda n: repeated(line, 1024, n))
+        for kind, (passes, line) in PASSES.items():
+            words = ["listing", *passes]
+            inside("%s in one block, by items" % kind, words, RUN_PASSES, (1024, 2048, 4096, 8192), lambda n: repeated(line, 1, n))
+            inside("%s in 1,024 blocks, by items" % kind, words, RUN_PASSES, (4096, 8192), lambda n: repeated(line, 1024, n))
     elif len(what) == 3 and what[0] == "inside":
         inside("1,024 blocks, 256 variables, by items", ["compile", "--passes=" + what[1]], what[2], (2048, 4096, 8192), lambda n: located(1024, n, 256))
         inside("one block, 256 variables, by items", ["compile", "--passes=" + what[1]], what[2], (1024, 2048, 4096, 8192), lambda n: located(1, n, 256))
         inside("8,192 items, 256 variables, by blocks", ["compile", "--passes=" + what[1]], what[2], (256, 512, 1024), lambda n: located(n, 8192, 256))
         inside("8,001 items, by slots", ["compile", "--passes=" + what[1]], what[2], (28, 56, 112, 224), slots)
     elif len(what) == 2 and what[0] == "alone":
-        alone("1,024 blocks, 256 variables, by items", what[1], (2048, 4096, 8192), lambda n: located(1024, n, 256))
-        alone("one block, 256 variables, by items", what[1], (1024, 2048, 4096, 8192), lambda n: located(1, n, 256))
-        alone("8,192 items, 256 variables, by blocks", what[1], (256, 512, 1024), lambda n: located(n, 8192, 256))
+        words, none = ["compile", "--passes=" + what[1]], ["compile", "--passes=none"]
+        more("1,024 blocks, 256 variables, by items", words, none, (2048, 4096, 8192), lambda n: located(1024, n, 256))
+        more("one block, 256 variables, by items", words, none, (1024, 2048, 4096, 8192), lambda n: located(1, n, 256))
+        more("8,192 items, 256 variables, by blocks", words, none, (256, 512, 1024), lambda n: located(n, 8192, 256))
     elif what[:1] == ["compile"]:
         program, words = "crates/mirdwarf/out/mirdwarf", ["compile", *(what[1:] or ["--passes=none"])]
         by_bytes("functions of 64 blocks and 512 items, by functions", program, words, (16, 32, 64, 128, 256), many_located)
