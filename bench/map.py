@@ -3,6 +3,7 @@
 
     bench/map.py             what docs/MAP.md says otherwise than crates.txt, bench/rooms.txt and the crates; ends with 1 if there is any
     bench/map.py --write     writes docs/MAP.md anew
+    bench/map.py --above NAME     the crates that stand on a crate: what a change of its contracts has proved again
 
 The rooms and their order are those of bench/rooms.txt. What a crate is says the first sentence of its `src/lib.rt` (of a program `src/main.rt`);
 what it stands on says crates.txt, without what the crates that are named already stand on. A crate with no function that does anything is one of laws.
@@ -176,6 +177,11 @@ def reach(stands, at):
 
 
 def main():
+    if sys.argv[1:2] == ["--above"]:
+        found = below(crates())
+        above = sorted(it for it in found if sys.argv[2] in found[it])
+        print(f"{len(above)} of {len(found)}: {' '.join(above)}")
+        return
     text, faults = page()
     path = os.path.join(TOP, "docs", "MAP.md")
     if "--write" in sys.argv[1:]:
