@@ -26,7 +26,7 @@ WIDE = 80
 WORD = re.compile(r"[A-Za-z_][\w']*")
 # Words in backquotes that no code of this repository has: of LLVM, of debuggers, of the toolchain's commands and files.
 OTHERS = set("""ADDI LD SD LUI COPY FENCE PseudoTAIL DBG_VALUE DBG_INSTR_REF DBG_PHI alloca switch clang llc rt gdb qemu python3 binutils valgrind
-backtrace virtregrewriter gen echo DW_AT_type MachineFunction MachineBasicBlock MachineInstr DebugVariable InstrRefBasedLDV up void""".split())
+backtrace virtregrewriter gen echo __muldi3 DW_AT_type MachineFunction MachineBasicBlock MachineInstr DebugVariable InstrRefBasedLDV up void""".split())
 
 
 def sources():
@@ -93,7 +93,7 @@ class Pages:
 
     def name(self, page, number, text):
         """Checks one text in backquotes."""
-        word = text.split(" ")[0] if re.match(r"(?:bench|examples|tools|docs|crates)/|\./", text) else text
+        word = text.split(" ")[0] if re.match(r"(?:bench|examples|tools|docs|crates)/\S+ ", text) else text
         if re.fullmatch(r"[\w.+-]*(?:/[\w.+*{},-]*)+", word) and not word.startswith("/"):
             if not self.is_path(page, word) and not re.search(r"/out/|^X/|^proofs/NAME", word):
                 self.fault(page, number, f"no such path: {text}")
