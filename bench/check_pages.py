@@ -72,7 +72,11 @@ class Pages:
             if os.path.isfile(it):
                 with open(it, encoding="utf-8", errors="replace") as file:
                     self.words |= set(WORD.findall(file.read()))
+        for at, folders, files in os.walk(TOP):
+            folders[:] = [it for it in folders if it not in ("out", ".inc", ".git")]
+            self.words |= {it[:-len(".edit")] for it in files if it.endswith(".edit")}
         self.known = house.crates()
+        self.tests = {it for name, _, members in house.rooms(self.known)[0] if name == proved.LEFT_OUT for it in members}
         self.below = house.below(self.known)
         self.words |= set(self.known) | OTHERS
         self.words |= set(WORD.findall(house.read("crates.txt")))
@@ -85,7 +89,7 @@ class Pages:
     def is_path(self, page, path):
         """Whether a path is there."""
         roots = [TOP, os.path.join(TOP, os.path.dirname(page)), os.path.join(TOP, "crates"), os.path.join(TOP, "crates", "*")]
-        for it in braces(path.rstrip("/")):
+        for it in braces(re.sub(r"\bNAME\b", "*", path.rstrip("/"))):
             at = [os.path.join(root, it + ending) for root in roots for ending in ("", ".antt", ".rt")]
             if not any(glob.glob(one) for one in at):
                 return False
@@ -95,7 +99,7 @@ class Pages:
         """Checks one text in backquotes."""
         word = text.split(" ")[0] if re.match(r"(?:bench|examples|tools|docs|crates)/\S+ ", text) else text
         if re.fullmatch(r"[\w.+-]*(?:/[\w.+*{},-]*)+", word) and not word.startswith("/"):
-            if not self.is_path(page, word) and not re.search(r"/out/|^X/|^proofs/NAME", word):
+            if not self.is_path(page, word) and "/out/" not in word:
                 self.fault(page, number, f"no such path: {text}")
         elif re.fullmatch(r"[\w{},]+\.(?:antt|rt)", word):
             for it in braces(word):
@@ -112,7 +116,7 @@ class Pages:
                 if it not in among:
                     self.fault(page, number, f"no such name: {text}")
                     break
-        elif re.fullmatch(r"[A-Za-z_]\w*", word) and word not in self.words:
+        elif re.fullmatch(r"[A-Za-z_]\w*", word) and word not in self.words and not word.endswith("_"):
             self.fault(page, number, f"no such name: {text}")
 
     def page(self, page, text):
@@ -146,10 +150,10 @@ class Pages:
                     self.fault(page, 1, f"no clause of the top call: {word}")
 
     def files_with(self, names):
-        """How many of some names each file has, but for those of crates of tests."""
+        """How many of some names each file has, but for those of crates that test or measure."""
         found = {}
         for path, text in self.code.items():
-            if not re.match(r"test_|\w+_tests/", path):
+            if not re.match(r"test_|\w+_tests/", path) and path.split("/")[0] not in self.tests:
                 count = sum(1 for it in names if re.search(rf"(?<!\w){it}(?!\w)", text))
                 if count:
                     found[path] = count
