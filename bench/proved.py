@@ -11,6 +11,7 @@ import os
 import re
 import sys
 
+sys.dont_write_bytecode = True
 import map as house
 from definitions import uses_in
 
