@@ -21,6 +21,7 @@ fn a_return_has_a_layout_and_values(rt: HostRuntime) -> Result<(), Fail> {
     one_reading();
     listings_are_printable();
     let alloc = rt.alloc();
+    assert!(rt; RETURN.len() < 100);
     let program = read_program(alloc, RETURN.as_bytes())?;
     for parsed in program.functions.as_slice() {
         let code = code_of(alloc, &parsed.func, 16)?;

@@ -5,7 +5,7 @@ use mir_parser::error::ParseError;
 use mir_parser::program::read_program;
 use refusal::first::Refusal;
 use refusal::kind::RefusalKind;
-use std::alloc::Global;
+use std::alloc::{AllocError, Global};
 use std::fmt::Write;
 use std::test::Fail;
 
@@ -60,25 +60,21 @@ const ROWS: [Row; 4] = [
     },
 ];
 
-/// A row's text with so many numbered lines.
-fn text_of(alloc: Global, row: &Row, count: usize) -> Result<String, Fail> {
-    let mut text = String::from_str(alloc, row.before)?;
+/// Appends a row's text with so many numbered lines.
+fn push_text(text: &mut String, row: &Row, count: usize) -> Result<(), AllocError> {
+    text.push_str(row.before)?;
     for k in 0..count {
-        write!(
-            text,
-            "{}{}{}",
-            row.line.0,
-            row.first.wrapping_add(k),
-            row.line.1
-        )?;
+        text.push_str(row.line.0)?;
+        write!(text, "{}", row.first.wrapping_add(k))?;
+        text.push_str(row.line.1)?;
     }
-    text.push_str("    PseudoRET\n...\n")?;
-    Ok(text)
+    text.push_str("    PseudoRET\n...\n")
 }
 
 /// The refusal of a row's text with so many numbered lines.
 fn refusal(alloc: Global, row: &Row, count: usize) -> Result<Option<Refusal>, Fail> {
-    let text = text_of(alloc, row, count)?;
+    let mut text = String::new(alloc);
+    push_text(&mut text, row, count)?;
     let bytes = text.as_bytes();
     if bytes.len() >= 1 << 31 {
         return Err(Fail::from("a text of this size"));

@@ -4,7 +4,7 @@ use crate::metadata::Meta;
 use crate::text::push_bytes;
 use crate::{documents, metadata, tokens};
 use mir_lexer::comment::{before_comment, before_memory_operands};
-use std::alloc::Global;
+use std::alloc::{AllocError, Global};
 use std::test::Fail;
 
 /// What is asked of a text.
@@ -385,25 +385,24 @@ const ROWS: &[(Asked, &[(&str, &str)])] = &[
     (Asked::Documents, &[(TWO, TWO_TOLD)]),
 ];
 
-/// What is told of a text.
-fn told(alloc: Global, asked: Asked, text: &str) -> Result<String, Fail> {
+/// Appends what is told of a text.
+fn push_told(alloc: Global, told: &mut String, asked: Asked, text: &str) -> Result<(), AllocError> {
     let bytes = text.as_bytes();
-    let mut told = String::new(alloc);
     match asked {
-        Asked::Tokens => tokens::push_tokens(alloc, &mut told, bytes)?,
-        Asked::Comment => push_bytes(&mut told, before_comment(bytes))?,
-        Asked::MemoryOperands => push_bytes(&mut told, before_memory_operands(bytes))?,
-        Asked::Documents => documents::push_documents_of(alloc, &mut told, bytes)?,
-        Asked::Meta(asked) => metadata::push_meta(alloc, &mut told, asked, text)?,
+        Asked::Tokens => tokens::push_tokens(alloc, told, bytes),
+        Asked::Comment => push_bytes(told, before_comment(bytes)),
+        Asked::MemoryOperands => push_bytes(told, before_memory_operands(bytes)),
+        Asked::Documents => documents::push_documents_of(alloc, told, bytes),
+        Asked::Meta(asked) => metadata::push_meta(alloc, told, asked, text),
     }
-    Ok(told)
 }
 
 #[test]
 fn reads(rt: HostRuntime) -> Result<(), Fail> {
     for (asked, rows) in ROWS {
         for (text, wanted) in *rows {
-            let told = told(rt.alloc(), *asked, text)?;
+            let mut told = String::new(rt.alloc());
+            push_told(rt.alloc(), &mut told, *asked, text)?;
             assert_eq!(rt; told.as_str(), *wanted, "{text:?}");
         }
     }
