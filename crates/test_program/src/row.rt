@@ -62,7 +62,7 @@ pub struct Row {
     /// Whether it is run with each room that is less than the output's length too.
     pub rooms: bool,
     /// With how many calls of the input failing, one after the other, it is run too.
-    pub reads: u64,
+    pub reads: u32,
     /// Whether each run is to end otherwise than it says.
     pub differs: bool,
 }
@@ -141,7 +141,7 @@ impl Row {
             }
             "told" => self.ending.told = texts.bytes(part)?,
             "rooms" => self.rooms = true,
-            "reads" => self.reads = rest.parse::<u64>()?,
+            "reads" => self.reads = rest.parse::<u32>()?,
             "differs" => self.differs = true,
             word => bail!("no part is called {word}"),
         }

@@ -120,7 +120,8 @@ fn fail_reads(
     tally: &mut Tally,
 ) -> anyhow::Result<()> {
     let want = Ending::new(alloc, 4, b"", b"mirdwarf: read\n")?;
-    for read in 1..=run.row.reads {
+    for earlier in 0..run.row.reads {
+        let read = u64::from(earlier) + 1;
         let faulty = Faulty { read, ..run.faulty };
         let want = &want;
         let failing = Run {
