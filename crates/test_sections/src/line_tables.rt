@@ -226,7 +226,7 @@ fn tables_are_read_and_written(rt: HostRuntime) -> Result<(), Fail> {
     assert_eq!(rt; other_fault(alloc, one, DAMAGED_ONE)?, None);
     assert_eq!(rt; other_fault(alloc, two, DAMAGED_TWO)?, None);
     for end in 0..one.len() {
-        assert_eq!(rt; fault(alloc, &one[..end]), Some(0), "at {end}");
+        assert!(rt; fault(alloc, &one[..end]) == Some(0), "at {end}");
     }
     let dirs = dirs_of(alloc, DIRS)?;
     assert!(rt; is_written(alloc, dirs, files_of(alloc, FILES)?, two));

@@ -111,9 +111,12 @@ fn piece(bytes: &[u8], k: u32, address: u64, n: u32) -> Result<Option<Part>, Lis
     }
 }
 
-/// Whether a section is wrong from a byte on.
-fn is_wrong(bytes: &[u8], at: usize) -> bool {
-    list_count(bytes) == Err(ListFault { at })
+/// Where a section's first wrong field is.
+fn fault(bytes: &[u8]) -> Option<usize> {
+    match list_count(bytes) {
+        Err(fault) => Some(fault.at),
+        Ok(_) => None,
+    }
 }
 
 /// The first byte of a table of changes where the fault is another one.
@@ -124,7 +127,7 @@ fn other_fault(
 ) -> Result<Option<usize>, Fail> {
     for (at, byte, wanted) in damaged {
         let bytes = changed(alloc, bytes, *at, *byte)?;
-        if !is_wrong(&bytes, *wanted) {
+        if fault(&bytes) != Some(*wanted) {
             return Ok(Some(*at));
         }
     }
@@ -141,11 +144,11 @@ fn lists_are_read_and_written(rt: HostRuntime) -> Result<(), Fail> {
     assert_eq!(rt; list_count(pieces), Ok(1));
     assert_eq!(rt; other_fault(rt.alloc(), one, DAMAGED)?, None);
     for (bytes, at) in BEYOND {
-        assert!(rt; is_wrong(bytes, *at), "{at}");
+        assert!(rt; fault(bytes) == Some(*at), "{at}");
     }
     // Each proper prefix is wrong from its length on
     for n in 0..two.len() {
-        assert!(rt; is_wrong(&two[..n], 0), "{n}");
+        assert!(rt; fault(&two[..n]) == Some(0), "{n}");
     }
     for (address, n) in WHOLE {
         assert!(rt; place(pieces, 0, *address) == Ok(register(*n)), "{address}");

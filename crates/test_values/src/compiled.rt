@@ -1,7 +1,7 @@
 //! A function that is compiled alone: the program compiles functions by `function_emit`.
 
 use crate::text::{function_of, register};
-use dwarf_loclists::range::{Location, Range};
+use dwarf_loclists::range::{Location, Range, Ranges};
 use function_compiler::compile::compile_function;
 use rv64_instr::place::Place;
 use std::alloc::Global;
@@ -14,7 +14,7 @@ const CALL: &str =
     $x10 = ADD $x10, $x18\n    PseudoRET implicit $x10\n";
 
 /// The variable is in x10 up to the call, and in x18 until the epilogue restores it.
-const RANGES: [(u64, u64, u32); 2] = [(0x0c, 0x18, 10), (0x18, 0x24, 18)];
+const RANGES: &[(u64, u64, u32)] = &[(0x0c, 0x18, 10), (0x18, 0x24, 18)];
 
 /// Whether a range is this one.
 fn is_range(range: &Range, wanted: &(u64, u64, u32)) -> Result<bool, Fail> {
@@ -23,20 +23,31 @@ fn is_range(range: &Range, wanted: &(u64, u64, u32)) -> Result<bool, Fail> {
     Ok(range.lo == lo && range.hi == hi && range.location.equals(&location))
 }
 
+/// Whether the ranges of a list are these.
+fn are_ranges(list: &Ranges, wanted: &[(u64, u64, u32)]) -> Result<bool, Fail> {
+    if list.len() != wanted.len() {
+        return Ok(false);
+    }
+    for (range, wanted) in list.as_slice().iter().zip(wanted) {
+        if !is_range(range, wanted)? {
+            return Ok(false);
+        }
+    }
+    Ok(true)
+}
+
 /// Whether the ranges of a function's first variable are these.
 fn has_ranges(alloc: Global, body: &str, wanted: &[(u64, u64, u32)]) -> Result<bool, Fail> {
     let parsed = function_of(alloc, body)?;
     let compiled = compile_function(alloc, &parsed.func, &parsed.subs, 0)?;
-    let list = compiled.lists.as_slice().first().ok_or("a list")?;
-    let mut same = list.len() == wanted.len();
-    for (range, wanted) in list.as_slice().iter().zip(wanted) {
-        same = same && is_range(range, wanted)?;
+    match compiled.lists.as_slice().first() {
+        Some(list) => are_ranges(list, wanted),
+        None => Ok(false),
     }
-    Ok(same)
 }
 
 #[test]
 fn a_function_is_compiled(rt: HostRuntime) -> Result<(), Fail> {
-    assert!(rt; has_ranges(rt.alloc(), CALL, &RANGES)?);
+    assert!(rt; has_ranges(rt.alloc(), CALL, RANGES)?);
     Ok(())
 }

@@ -9,7 +9,7 @@ use std::fmt::Write;
 use std::test::Fail;
 
 /// Bodies, and the registers that have the first variable's value at the start of each block, the prologue's first.
-const BODIES: [(&str, &str); 3] = [
+const BODIES: &[(&str, &str)] = &[
     // two paths meet again
     (
         "  bb.0:\n    DBG_VALUE $x10, $noreg, !4, !DIExpression()\n    $x12 = COPY $x10\n    BEQ $x11, $x0, %bb.2\n  \
@@ -66,7 +66,7 @@ const MARKED_CHAIN: &str =
 
 /// Bodies, registers and variables, and at the start of each block the classes of the number 7 and of these: the place
 /// of the first that has the same class, or 0 where there is none, and + where there is a token on every path.
-const CLASSES: [(&str, &[u32], &[u32], &str); 3] = [
+const CLASSES: &[(&str, &[u32], &[u32], &str)] = &[
     (
         DIAMOND,
         &[10, 11],
@@ -111,18 +111,24 @@ fn write_registers(shown: &mut String, things: &[Tracked], entry: &BlockEntry) -
     Ok(())
 }
 
-/// What is written at the start of each block.
-fn registers_in(alloc: Global, body: &str) -> Result<String, Fail> {
-    let values = values_of(alloc, body)?;
-    let mut shown = String::new(alloc);
+/// Writes them at the start of each block.
+fn write_all_registers(shown: &mut String, values: &MachineValues) -> Result<(), Fail> {
     for entry in values.entries.as_slice() {
         if entry.reached {
-            write_registers(&mut shown, values.things.as_slice(), entry)?;
+            write_registers(shown, values.things.as_slice(), entry)?;
         } else {
             shown.push_str("unreached")?;
         }
         shown.push_str("; ")?;
     }
+    Ok(())
+}
+
+/// What is written of a body.
+fn registers_in(alloc: Global, body: &str) -> Result<String, Fail> {
+    let values = values_of(alloc, body)?;
+    let mut shown = String::new(alloc);
+    write_all_registers(&mut shown, &values)?;
     Ok(shown)
 }
 
@@ -180,7 +186,26 @@ fn write_classes(
     Ok(())
 }
 
-/// What is written at the start of each block.
+/// Writes them at the start of each block.
+fn write_all_classes(
+    alloc: Global,
+    shown: &mut String,
+    values: &MachineValues,
+    wanted: &[Tracked],
+) -> Result<(), Fail> {
+    for entry in values.entries.as_slice() {
+        if entry.reached {
+            let mut classes = Vec::new(alloc);
+            write_classes(shown, &mut classes, values.things.as_slice(), entry, wanted)?;
+        } else if entry.classes.is_empty() && entry.given.is_empty() {
+            shown.push_str("unreached")?;
+        }
+        shown.push_str("; ")?;
+    }
+    Ok(())
+}
+
+/// What is written of a body.
 fn classes_in(
     alloc: Global,
     body: &str,
@@ -190,21 +215,7 @@ fn classes_in(
     let wanted = tracked(alloc, registers, variables)?;
     let values = values_of(alloc, body)?;
     let mut shown = String::new(alloc);
-    for entry in values.entries.as_slice() {
-        if entry.reached {
-            let things = values.things.as_slice();
-            write_classes(
-                &mut shown,
-                &mut Vec::new(alloc),
-                things,
-                entry,
-                wanted.as_slice(),
-            )?;
-        } else if entry.classes.is_empty() && entry.given.is_empty() {
-            shown.push_str("unreached")?;
-        }
-        shown.push_str("; ")?;
-    }
+    write_all_classes(alloc, &mut shown, &values, wanted.as_slice())?;
     Ok(shown)
 }
 
@@ -222,12 +233,12 @@ fn sweeps_in(alloc: Global, body: &str) -> Result<(u64, u64, u64), Fail> {
 fn paths_join(rt: HostRuntime) -> Result<(), Fail> {
     let alloc = rt.alloc();
     for (body, wanted) in BODIES {
-        assert_eq!(rt; registers_in(alloc, body)?.as_str(), wanted);
+        assert_eq!(rt; registers_in(alloc, body)?.as_str(), *wanted);
     }
     for (body, registers, variables, wanted) in CLASSES {
         assert_eq!(rt;
             classes_in(alloc, body, registers, variables)?.as_str(),
-            wanted
+            *wanted
         );
     }
     // Each sweep takes one register away from the value, so that there are more sweeps than blocks.

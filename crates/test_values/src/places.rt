@@ -78,7 +78,7 @@ fn kinds(alloc: Global) -> Result<Vec<ItemKind>, Fail> {
 }
 
 /// Behind each of them: a place, its class, and the classes of the parts.
-const CLASSES: [(usize, usize, [usize; 3]); 4] = [
+const CLASSES: &[(usize, usize, [usize; 3])] = &[
     (11, 6, [1, 2, 3]),
     (11, 6, [6, 2, 0]),
     (12, 5, [0, 0, 5]),
@@ -103,7 +103,7 @@ fn places_have_classes(rt: HostRuntime) -> Result<(), Fail> {
     let kinds = kinds(alloc)?;
     let mut held = held(alloc)?;
     assert_eq!(rt; kinds.len(), CLASSES.len());
-    for (kind, (place, class, parts)) in kinds.as_slice().iter().zip(CLASSES.as_slice()) {
+    for (kind, (place, class, parts)) in kinds.as_slice().iter().zip(CLASSES) {
         pass(&mut held, &block, kind)?;
         assert_eq!(rt; held.place(*place), *class);
         assert_eq!(rt; held.parts.as_slice(), parts.as_slice());

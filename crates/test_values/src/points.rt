@@ -34,7 +34,7 @@ const JOIN: &str =
 type Answers = (usize, u32, u32, (u32, u32, u32, u32));
 
 /// Nothing is asked for.
-const ANSWERS: [Answers; 8] = [
+const ANSWERS: &[Answers] = &[
     // before the mark, behind it, and behind the copy
     (0, 1, 10, (0, 0, 0, 1)),
     (1, 1, 10, (1, 0, 0, 1)),
@@ -49,7 +49,7 @@ const ANSWERS: [Answers; 8] = [
 ];
 
 /// The pair of the first copy is asked for.
-const ASKED: [Answers; 6] = [
+const ASKED: &[Answers] = &[
     // before the copy that gives it, and behind it
     (1, 3, 12, (0, 0, 0, 0)),
     (2, 3, 12, (1, 0, 1, 1)),
@@ -61,7 +61,7 @@ const ASKED: [Answers; 6] = [
 ];
 
 /// Blocks and items of the second, and the register where the variable is, or 0.
-const FIRST: [(usize, usize, u32); 7] = [
+const FIRST: &[(usize, usize, u32)] = &[
     // before the mark, behind it, and behind the copy
     (1, 0, 0),
     (1, 1, 10),
@@ -122,17 +122,36 @@ fn answers_by(
     answers(&values, &point, number, &place)
 }
 
-fn answers_at(
+/// The number of the first row of answers that are others.
+fn other_answers(
     alloc: Global,
     framed: &Framed,
+    known: &MachineValues,
+    subs: &Substitutions,
+    rows: &[Answers],
+) -> Result<Option<usize>, Fail>
+    requires things { AreThings known.now.variables known.now.things }
+    requires fewer { length known.now.variables ≤ length known.now.things }
+    requires for_all { length known.now.entries ≡ length framed.now.blocks }
+{
+    for (row, (item, number, in_register, wanted)) in rows.iter().enumerate() {
+        if answers_by(alloc, framed, known, subs, *item, *number, *in_register)? != *wanted {
+            return Ok(Some(row));
+        }
+    }
+    Ok(None)
+}
+
+/// The same, where these pairs are asked for.
+fn other_asking(
+    alloc: Global,
     asked: &[OperandPair],
-    item: usize,
-    number: u32,
-    in_register: u32,
-) -> Result<(u32, u32, u32, u32), Fail> {
-    let subs = Substitutions::new(alloc);
-    let known = solve_asking(alloc, framed, &subs, asked)?;
-    answers_by(alloc, framed, &known, &subs, item, number, in_register)
+    rows: &[Answers],
+) -> Result<Option<usize>, Fail> {
+    let parsed = function_of(alloc, COPIES)?;
+    let framed = framed_of(alloc, &parsed)?;
+    let known = solve_asking(alloc, &framed, &parsed.subs, asked)?;
+    other_answers(alloc, &framed, &known, &parsed.subs, rows)
 }
 
 /// The number of the register where variable 4 is before an item: 64 for a number or a slot, and 0 where it is nowhere.
@@ -161,10 +180,31 @@ fn register_by(
     Ok(number_of(first_place(alloc, &values, blocks, &variable(4), block, item)?))
 }
 
-fn register_at(alloc: Global, framed: &Framed, block: usize, item: usize) -> Result<u32, Fail> {
-    let subs = Substitutions::new(alloc);
-    let known = solve(alloc, framed, &subs)?;
-    register_by(alloc, framed, &known, &subs, block, item)
+/// The number of the first row whose register is another.
+fn other_registers(
+    alloc: Global,
+    framed: &Framed,
+    known: &MachineValues,
+    subs: &Substitutions,
+    rows: &[(usize, usize, u32)],
+) -> Result<Option<usize>, Fail>
+    requires things { AreThings known.now.variables known.now.things }
+    requires fewer { length known.now.variables ≤ length known.now.things }
+    requires for_all { length known.now.entries ≡ length framed.now.blocks }
+{
+    for (row, (block, item, wanted)) in rows.iter().enumerate() {
+        if register_by(alloc, framed, known, subs, *block, *item)? != *wanted {
+            return Ok(Some(row));
+        }
+    }
+    Ok(None)
+}
+
+fn other_places(alloc: Global, rows: &[(usize, usize, u32)]) -> Result<Option<usize>, Fail> {
+    let parsed = function_of(alloc, JOIN)?;
+    let framed = framed_of(alloc, &parsed)?;
+    let known = solve(alloc, &framed, &parsed.subs)?;
+    other_registers(alloc, &framed, &known, &parsed.subs, rows)
 }
 
 fn number_of(place: Option<Place>) -> u32 {
@@ -177,33 +217,20 @@ fn number_of(place: Option<Place>) -> u32 {
 }
 
 /// How many class numbers are kept.
-fn kept_in(alloc: Global, framed: &Framed) -> Result<u64, Fail> {
-    let subs = Substitutions::new(alloc);
-    let known = solve(alloc, framed, &subs)?;
+fn kept_numbers(alloc: Global) -> Result<u64, Fail> {
+    let parsed = function_of(alloc, COPIES)?;
+    let framed = framed_of(alloc, &parsed)?;
+    let known = solve(alloc, &framed, &parsed.subs)?;
     Ok(kept(known.entries.as_slice()))
 }
 
 #[test]
 fn values_sit_in_places(rt: HostRuntime) -> Result<(), Fail> {
     let alloc = rt.alloc();
-    let copies = framed_of(alloc, &function_of(alloc, COPIES)?)?;
-    for (item, number, in_register, wanted) in ANSWERS {
-        let found = answers_at(alloc, &copies, &[], item, number, in_register)?;
-        assert!(rt; found == wanted, "{in_register} at {item}");
-    }
-    for (item, number, in_register, wanted) in ASKED {
-        let found = answers_at(alloc, &copies, &[pair(3)], item, number, in_register)?;
-        assert!(rt; found == wanted, "{in_register} at {item}, asked for");
-    }
+    assert_eq!(rt; other_asking(alloc, &[], ANSWERS)?, None);
+    assert_eq!(rt; other_asking(alloc, &[pair(3)], ASKED)?, None);
+    assert_eq!(rt; other_places(alloc, FIRST)?, None);
     // The prologue and the block keep a class number for each of two variables, 30 registers, a number and a pair.
-    assert_eq!(rt; kept_in(alloc, &copies)?, 68);
-    let join = framed_of(alloc, &function_of(alloc, JOIN)?)?;
-    for (block, item, wanted) in FIRST {
-        assert_eq!(rt;
-            register_at(alloc, &join, block, item)?,
-            wanted,
-            "{item} of {block}"
-        );
-    }
+    assert_eq!(rt; kept_numbers(alloc)?, 68);
     Ok(())
 }
