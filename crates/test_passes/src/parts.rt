@@ -2,12 +2,14 @@
 
 ghost use Rattle.std.specs.Prelude.{◌+◌, ◌*◌, ◌<◌, ◌^◌, [], IsTrue};
 ghost use Rattle.mir_func.specs.Limits.{MAX_SLOTS};
+ghost use Rattle.live_flow.specs.Liveness.{AreLiveSets};
 ghost use Rattle.follow_law.specs.Sizes.{greatest, greatest_number, most_numbers};
 
-use crate::shown::{push_blocks, push_items, push_losses};
+use crate::shown::{push_blocks, push_entries, push_items, push_losses};
 use dead_items::judge::judge;
 use fold_sound::fold::fold;
 use follow_law::pass::Pass;
+use lists::List;
 use live_flow::live::Live;
 use live_flow::set::PlaceSet;
 use mir_func::block::copy_blocks;
@@ -29,8 +31,8 @@ use substitution::substitutions::Substitutions;
 /// What is run on a function.
 pub enum Part {
     /// Liveness, and which items are dead: for each block a line with the places that are live at its start, past it,
-    /// and at its start by a walk up its items; and then for each block `-` for each item that is dead. Places are the
-    /// numbers of registers, and `s` for slot 0.
+    /// and at its start by a walk up its items; and then for each block a line with `-` for each item that is dead.
+    /// Places are the numbers of registers, and `s` for slot 0.
     Lives,
     /// Folding by the rule for code.
     Folded,
@@ -44,12 +46,9 @@ pub enum Part {
 /// What a part makes of the first function of a text.
 pub fn made(alloc: Global, part: &Part, text: &str) -> Result<Text, Fail> {
     let mut parsed = function_of(alloc, text)?;
-    match part {
-        Part::Lives => Ok(lives(alloc, &parsed.func)?),
-        Part::Folded => Ok(folded(alloc, &mut parsed.func)?),
-        Part::TakenOut(at, removed) => taken_out(alloc, &mut parsed, *at, removed),
-        Part::Spilled(reserves) => spilled(alloc, &mut parsed.func, reserves),
-    }
+    let mut made = Text::new(alloc);
+    push_made(alloc, part, &mut parsed, &mut made)?;
+    Ok(made)
 }
 
 fn function_of(alloc: Global, text: &str) -> Result<Parsed, Fail> {
@@ -61,33 +60,40 @@ fn function_of(alloc: Global, text: &str) -> Result<Parsed, Fail> {
     Ok(functions.pop().ok_or("a function")?)
 }
 
-fn lives(alloc: Global, f: &Func) -> Result<Text, AllocError> {
-    let live = Live::solve(alloc, f)?;
-    let mut text = Text::new(alloc);
-    for block in 0..f.blocks.len() {
-        let mut set = live.past_block(f, block);
-        push_places(&mut text, &live, &live.at_start(block))?;
-        push_str(&mut text, ";")?;
-        push_places(&mut text, &live, &set)?;
-        push_str(&mut text, ";")?;
-        walk_up(&live, &mut set, f.blocks.as_slice()[block].items.as_slice());
-        push_places(&mut text, &live, &set)?;
-        push_str(&mut text, "\n")?;
+fn push_made(alloc: Global, part: &Part, parsed: &mut Parsed, text: &mut Text) -> Result<(), Fail> {
+    match part {
+        Part::Lives => push_lives(alloc, &parsed.func, text)?,
+        Part::Folded => push_folded(alloc, &mut parsed.func, text)?,
+        Part::TakenOut(at, removed) => push_left(alloc, parsed, *at, removed, text)?,
+        Part::Spilled(reserves) => push_spilled(alloc, &mut parsed.func, reserves, text)?,
     }
-    let verdicts = judge(alloc, f, &live)?;
-    let mut between = "";
-    for block in verdicts.as_slice() {
-        push_str(&mut text, between)?;
-        between = " ";
-        for dead in block.as_slice() {
-            push_str(&mut text, if *dead { "-" } else { "+" })?;
-        }
-    }
-    push_str(&mut text, "\n")?;
-    Ok(text)
+    Ok(())
 }
 
-fn push_places(text: &mut Text, live: &Live, set: &PlaceSet) -> Result<(), AllocError> {
+fn push_lives(alloc: Global, f: &Func, text: &mut Text) -> Result<(), AllocError> {
+    let live = Live::solve(alloc, f)?;
+    push_live(f, &live, text)?;
+    let verdicts = judge(alloc, f, &live)?;
+    push_verdicts(verdicts.as_slice(), text)
+}
+
+fn push_live(f: &Func, live: &Live, text: &mut Text) -> Result<(), AllocError>
+    requires { AreLiveSets f.now live.now }
+{
+    for block in 0..f.blocks.len() {
+        let mut set = live.past_block(f, block);
+        push_places(live, &live.at_start(block), text)?;
+        push_str(text, ";")?;
+        push_places(live, &set, text)?;
+        push_str(text, ";")?;
+        walk_up(live, &mut set, f.blocks.as_slice()[block].items.as_slice());
+        push_places(live, &set, text)?;
+        push_str(text, "\n")?;
+    }
+    Ok(())
+}
+
+fn push_places(live: &Live, set: &PlaceSet, text: &mut Text) -> Result<(), AllocError> {
     for n in 0..32u32 {
         if let Some(r) = physical(n) {
             if live.contains(set, Place::Register(r)) {
@@ -107,86 +113,90 @@ fn walk_up(live: &Live, set: &mut PlaceSet, items: &[Item]) {
     }
 }
 
-fn folded(alloc: Global, f: &mut Func) -> Result<Text, AllocError> {
-    fold(alloc, f)?;
-    let mut text = Text::new(alloc);
-    push_blocks(&mut text, f.blocks.as_slice())?;
-    Ok(text)
+fn push_verdicts(blocks: &[List<bool>], text: &mut Text) -> Result<(), AllocError> {
+    for block in blocks {
+        for dead in block.as_slice() {
+            push_str(text, if *dead { "-" } else { "+" })?;
+        }
+        push_str(text, "\n")?;
+    }
+    Ok(())
 }
 
-/// The items that are left, then the substitutions and the next fresh number.
-fn taken_out(
+fn push_folded(alloc: Global, f: &mut Func, text: &mut Text) -> Result<(), AllocError> {
+    fold(alloc, f)?;
+    push_blocks(text, f.blocks.as_slice())
+}
+
+fn push_left(
     alloc: Global,
     parsed: &mut Parsed,
     at: usize,
     removed: &[usize],
-) -> Result<Text, Fail> {
+    text: &mut Text,
+) -> Result<(), Fail> {
     let mut blocks = copy_blocks(alloc, parsed.func.blocks.as_slice())?.into_vec();
-    let mut block = blocks.pop().ok_or("a block")?;
-    if block.items.as_slice().len() <= at {
+    match blocks.first_mut() {
+        Some(block) => take_out(&mut block.items.items, &mut parsed.subs, at, removed, text),
+        None => Err(Fail::from("a block")),
+    }
+}
+
+/// Takes a copy out, and appends the items that are left, the substitutions and the next fresh number.
+fn take_out(
+    items: &mut Vec<Item>,
+    subs: &mut Substitutions,
+    at: usize,
+    removed: &[usize],
+    text: &mut Text,
+) -> Result<(), Fail> {
+    if items.len() <= at {
         return Err(Fail::from("too few items"));
     }
     let source = Reg::new(11).ok_or("a register")?;
-    let subs = &mut parsed.subs;
     let mut fresh: u32 = 100;
-    salvage(
-        &mut block.items.items,
-        subs,
-        at,
-        DebugNumber(1),
-        source,
-        removed,
-        &mut fresh,
-    )?;
-    Ok(what_is_left(alloc, block.items.as_slice(), subs, fresh)?)
+    salvage(items, subs, at, DebugNumber(1), source, removed, &mut fresh)?;
+    push_items(text, items.as_slice())?;
+    push_entries(text, subs.entries())?;
+    push_numbered(text, "fresh ", fresh)?;
+    push_str(text, "\n")?;
+    Ok(())
 }
 
-fn what_is_left(
+/// Spills, and appends what each spilling loses, the function behind them all, and how many slots it has.
+fn push_spilled(
     alloc: Global,
-    items: &[Item],
-    subs: &Substitutions,
-    fresh: u32,
-) -> Result<Text, AllocError> {
-    let mut text = Text::new(alloc);
-    push_items(&mut text, items)?;
-    for e in subs.entries() {
-        push_numbered(&mut text, "", e.src.number.number())?;
-        push_numbered(&mut text, " is ", e.dst.number.number())?;
-        push_numbered(&mut text, " ", e.dst.operand.number())?;
-        push_str(&mut text, "\n")?;
-    }
-    push_numbered(&mut text, "fresh ", fresh)?;
-    push_str(&mut text, "\n")?;
-    Ok(text)
-}
-
-/// What each spilling loses, the function behind them all, and how many slots it has.
-fn spilled(alloc: Global, f: &mut Func, reserves: &[&[u32]]) -> Result<Text, Fail> {
-    let mut text = Text::new(alloc);
+    f: &mut Func,
+    reserves: &[&[u32]],
+    text: &mut Text,
+) -> Result<(), Fail> {
     for reserve in reserves {
-        spill_from(alloc, reserve, f, &mut text)?;
+        let mut pass = pass_of(alloc, reserve)?;
+        spill(alloc, &mut pass, f, text)?;
     }
-    push_blocks(&mut text, f.blocks.as_slice())?;
+    push_blocks(text, f.blocks.as_slice())?;
     let slots = u32::try_from(f.slots.len()).unwrap_or(u32::MAX);
-    push_numbered(&mut text, "slots ", slots)?;
-    push_str(&mut text, "\n")?;
-    Ok(text)
+    push_numbered(text, "slots ", slots)?;
+    push_str(text, "\n")?;
+    Ok(())
 }
 
-fn spill_from(alloc: Global, numbers: &[u32], f: &mut Func, text: &mut Text) -> Result<(), Fail> {
+fn pass_of(alloc: Global, numbers: &[u32]) -> Result<SpillPass, Fail> {
     let mut reserve = Registers::new(alloc);
     for n in numbers {
         reserve.push(physical(*n).ok_or("a register")?)?;
     }
+    Ok(SpillPass { reserve })
+}
+
+fn spill(alloc: Global, pass: &mut SpillPass, f: &mut Func, text: &mut Text) -> Result<(), Fail> {
     if !is_small(f) {
         return Err(Fail::from("a large function"));
     }
     let mut subs = Substitutions::new(alloc);
-    let losses = SpillPass { reserve }.run(alloc, f, &mut subs)?;
-    if !subs.entries().is_empty() {
-        return Err(Fail::from("a substitution"));
-    }
+    let losses = pass.run(alloc, f, &mut subs)?;
     push_losses(text, losses.as_slice())?;
+    push_entries(text, subs.entries())?;
     Ok(())
 }
 

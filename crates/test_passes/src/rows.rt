@@ -21,7 +21,7 @@ pub const ROWS: &[Row] = &[
                $x12 = COPY $x11, debug-instr-number 2\n    BNE $x11, $x13, %bb.1\n  bb.2:\n    \
                DBG_INSTR_REF !4, !DIExpression(DW_OP_LLVM_arg, 0), dbg-instr-ref(2, 0)\n    \
                PseudoRET implicit $x11\n...\n",
-        wanted: " 10 11 13; 10 11 13; 10 11 13\n 10 11 13; 10 11 13; 10 11 13\n 11;; 11\n- ++-+ ++\n",
+        wanted: " 10 11 13; 10 11 13; 10 11 13\n 10 11 13; 10 11 13; 10 11 13\n 11;; 11\n-\n++-+\n++\n",
     },
     Row {
         shows: "a phi is no use",
@@ -38,7 +38,7 @@ pub const ROWS: &[Row] = &[
         text: "---\nname: f\nbody: |\n  bb.0:\n    $x12 = ADDI $x10, 1\n    $x13 = ADDI $x12, 1\n    \
                $x14 = ADDI $x13, 1\n    $x11 = ADDI $x10, 2\n  bb.1:\n    $x15 = ADDI $x11, 1\n    \
                $x16 = ADDI $x16, 1\n    BNE $x10, $x0, %bb.1\n  bb.2:\n    PseudoRET\n...\n",
-        wanted: " 0 10 16; 0 10 11 16; 0 10 16\n 0 10 11 16; 0 10 11 16; 0 10 11 16\n;;\n---+ -++ +\n",
+        wanted: " 0 10 16; 0 10 11 16; 0 10 16\n 0 10 11 16; 0 10 11 16; 0 10 11 16\n;;\n---+\n-++\n+\n",
     },
     Row {
         shows: "code that defines x0, with its uses",
@@ -60,7 +60,7 @@ pub const ROWS: &[Row] = &[
         text: "---\nname: f\nstack:\n  - { id: 0, size: 8, alignment: 8 }\nbody: |\n  bb.0:\n    \
                SD $x10, %stack.0, 0\n    SD $x11, $x10, 0\n    BEQ $x10, $x0, %bb.2\n  bb.1:\n    \
                $x10 = LD %stack.0, 0\n  bb.2:\n    PseudoRET implicit $x10\n...\n",
-        wanted: " 0 10 11; 10 s; 0 10 11\n s; 10; s\n 10;; 10\n+++ + +\n",
+        wanted: " 0 10 11; 10 s; 0 10 11\n s; 10; s\n 10;; 10\n+++\n+\n+\n",
     },
     Row {
         shows: "an unreachable block counts; a call sets its registers",
@@ -69,7 +69,7 @@ pub const ROWS: &[Row] = &[
                PseudoCALL @g, csr_ilp32_lp64, implicit-def dead $x1, implicit-def $x10\n    PseudoBR %bb.2\n  \
                bb.1:\n    $x12 = ADDI $x8, 1\n    $x13 = ADDI $x12, 1\n    BEQ $x13, $x0, %bb.0\n  bb.2:\n    \
                PseudoRET implicit $x10\n...\n",
-        wanted: " 10; 10; 10\n 0 8 10; 10; 0 8 10\n 10;; 10\n--++ +++ +\n",
+        wanted: " 10; 10; 10\n 0 8 10; 10; 0 8 10\n 10;; 10\n--++\n+++\n+\n",
     },
     Row {
         shows: "a branch over a block: both ways count, a phi is no use, and a slot that is saved is not read",
@@ -78,8 +78,8 @@ pub const ROWS: &[Row] = &[
                $x10 = ADDI $x0, 1\n    BEQ $x5, $x6, %bb.2\n  bb.7:\n    SD $x10, %stack.0, 0\n    \
                DBG_PHI $x20, 1\n    PseudoBR %bb.3\n  bb.2:\n    $x11 = ADD $x12, $x13\n  bb.3:\n    \
                PseudoRET implicit $x11\n...\n",
-        wanted: " 5 6 11 12 13; 10 11 12 13; 5 6 11 12 13\n 10 11; 11; 10 11\n 12 13; 11; 12 13\n 11;; 11\n\
-                 ++ -++ + +\n",
+        wanted: " 5 6 11 12 13; 10 11 12 13; 5 6 11 12 13\n 10 11; 11; 10 11\n 12 13; 11; 12 13\n 11;; 11\n++\n\
+                 -++\n+\n+\n",
     },
     Row {
         shows: "a loop with a call, and a slot that is saved after it is loaded",
@@ -89,14 +89,14 @@ pub const ROWS: &[Row] = &[
                PseudoCALL @g, csr_ilp32_lp64, implicit-def dead $x1, implicit $x10, implicit-def $x10\n    \
                $x7 = LD %stack.0, 0\n    $x9 = ADD $x8, $x7\n    SD $x9, %stack.0, 0\n    BEQ $x9, $x18, %bb.1\n  \
                bb.2:\n    PseudoRET implicit $x10\n...\n",
-        wanted: " 10 18 s; 8 10 18 s; 10 18 s\n 8 10 18 s; 8 10 18 s; 8 10 18 s\n 10;; 10\n+ +++++ +\n",
+        wanted: " 10 18 s; 8 10 18 s; 10 18 s\n 8 10 18 s; 8 10 18 s; 8 10 18 s\n 10;; 10\n+\n+++++\n+\n",
     },
     Row {
         shows: "a block that no path reaches counts",
         part: Part::Lives,
         text: "---\nname: f\nbody: |\n  bb.0:\n    $x11 = ADDI $x10, 1\n    PseudoBR %bb.2\n  bb.1:\n    \
                $x12 = ADDI $x8, 1\n    BEQ $x12, $x9, %bb.0\n  bb.2:\n    PseudoRET implicit $x11\n...\n",
-        wanted: " 10; 11; 10\n 8 9 10 11; 10 11; 8 9 10 11\n 11;; 11\n++ ++ +\n",
+        wanted: " 10; 11; 10\n 8 9 10 11; 10 11; 8 9 10 11\n 11;; 11\n++\n++\n+\n",
     },
     Row {
         shows: "a chain of two jump-only blocks, the second one empty",

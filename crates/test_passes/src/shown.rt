@@ -1,7 +1,8 @@
-//! Items with their origins, and losses, a line for each.
+//! Items with their origins, substitutions, and losses, a line for each.
 
 use follow_law::loss::{Loss, Lost, Reason};
 use mir_func::block::Block;
+use mir_func::entry::Entry;
 use mir_func::item::Item;
 use mir_func::position::{Origin, Pos};
 use mir_printer::item::push_item;
@@ -41,6 +42,17 @@ pub fn push_losses(text: &mut Text, losses: &[Loss]) -> Result<(), AllocError> {
         }
         let named = loss.reason == Reason::CallNamed;
         push_str(text, if named { " call-named\n" } else { "\n" })?;
+    }
+    Ok(())
+}
+
+/// Appends substitutions, a line for each.
+pub fn push_entries(text: &mut Text, entries: &[Entry]) -> Result<(), AllocError> {
+    for e in entries {
+        push_numbered(text, "", e.src.number.number())?;
+        push_numbered(text, " is ", e.dst.number.number())?;
+        push_numbered(text, " ", e.dst.operand.number())?;
+        push_str(text, "\n")?;
     }
     Ok(())
 }
