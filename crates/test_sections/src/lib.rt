@@ -6,12 +6,12 @@
 #[cfg(test)]
 mod changed;
 #[cfg(test)]
+mod leb128;
+#[cfg(test)]
 mod line_tables;
 #[cfg(test)]
 mod location_lists;
 #[cfg(test)]
 mod no_functions;
-#[cfg(test)]
-mod numbers;
 #[cfg(test)]
 mod table;
