@@ -5,6 +5,7 @@ use crate::text::push_bytes;
 use crate::{documents, metadata, tokens};
 use mir_lexer::comment::{before_comment, before_memory_operands};
 use std::alloc::{AllocError, Global};
+use std::process::Abort;
 use std::test::Fail;
 
 /// What is asked of a text.
@@ -343,47 +344,36 @@ const DEFINITIONS: &[(&str, &str)] = &[
     ("declare void @f() !dbg !7", "None"),
 ];
 
-/// What is asked, texts, and what is told of each: nothing where no line says it.
-const ROWS: &[(Asked, &[(&str, &str)])] = &[
-    (Asked::Tokens, TOKENS),
-    (Asked::Comment, BEFORE_COMMENTS),
-    (Asked::MemoryOperands, BEFORE_MEMORY_OPERANDS),
-    (Asked::Meta(Meta::Location(1)), LOCATIONS),
-    (Asked::Meta(Meta::BaseType(1073741823)), BASE_TYPES),
-    (Asked::Meta(Meta::Variable(7)), NAMES),
-    (Asked::Meta(Meta::Subprogram("f")), DEFINITIONS),
-    (Asked::Meta(Meta::Variable(16)), &[(BLOCK, "n 1 Some(14)")]),
-    (Asked::Meta(Meta::Variable(17)), &[(BLOCK, "s 0 Some(14)")]),
-    (Asked::Meta(Meta::Variable(14)), &[(BLOCK, "")]),
-    (Asked::Meta(Meta::Variable(15)), &[(BLOCK, "")]),
-    (Asked::Meta(Meta::Variable(18)), &[(BLOCK, "")]),
-    (Asked::Meta(Meta::File(11)), &[(BLOCK, "sum.c /src")]),
-    (Asked::Meta(Meta::File(20)), &[(BLOCK, "sum.c /src")]),
-    (Asked::Meta(Meta::File(25)), &[(BLOCK, "h.h /inc")]),
-    (Asked::Meta(Meta::File(0)), &[(BLOCK, "")]),
-    (Asked::Meta(Meta::File(1)), &[(BLOCK, "")]),
-    (Asked::Meta(Meta::File(16)), &[(BLOCK, "")]),
-    (Asked::Meta(Meta::File(27)), &[(BLOCK, "")]),
-    (Asked::Meta(Meta::File(33)), &[(BLOCK, "")]),
-    (
-        Asked::Meta(Meta::Location(22)),
-        &[(BLOCK, "5 12 Some(20) Some(24)")],
-    ),
-    (Asked::Meta(Meta::BaseType(14)), &[(BLOCK, "8 5")]),
-    (Asked::Meta(Meta::Subprogram("sum")), &[(BLOCK, "Some(11)")]),
-    (Asked::Meta(Meta::Subprogram("g")), &[(BLOCK, "None")]),
-    (
-        Asked::Meta(Meta::BaseType(1073741824)),
-        &[(
-            "!1073741824 = !DIBasicType(name: \"t\", size: 8, encoding: DW_ATE_signed)",
-            "",
-        )],
-    ),
-    (Asked::Meta(Meta::Location(1)), &[(AGAIN, "3 0 None None")]),
-    (Asked::Meta(Meta::Variable(1)), &[(AGAIN, "")]),
-    (Asked::Meta(Meta::Subprogram("f")), &[(AGAIN, "Some(7)")]),
-    (Asked::Documents, &[(TWO, TWO_TOLD)]),
+/// What is asked of the block of metadata, and what is told: nothing where no line says it.
+const OF_BLOCK: &[(Meta, &str)] = &[
+    (Meta::Variable(16), "n 1 Some(14)"),
+    (Meta::Variable(17), "s 0 Some(14)"),
+    (Meta::Variable(14), ""),
+    (Meta::Variable(15), ""),
+    (Meta::Variable(18), ""),
+    (Meta::File(11), "sum.c /src"),
+    (Meta::File(20), "sum.c /src"),
+    (Meta::File(25), "h.h /inc"),
+    (Meta::File(0), ""),
+    (Meta::File(1), ""),
+    (Meta::File(16), ""),
+    (Meta::File(27), ""),
+    (Meta::File(33), ""),
+    (Meta::Location(22), "5 12 Some(20) Some(24)"),
+    (Meta::BaseType(14), "8 5"),
+    (Meta::Subprogram("sum"), "Some(11)"),
+    (Meta::Subprogram("g"), "None"),
 ];
+
+/// The same of lines that give one node or one function again.
+const OF_AGAIN: &[(Meta, &str)] = &[
+    (Meta::Location(1), "3 0 None None"),
+    (Meta::Variable(1), ""),
+    (Meta::Subprogram("f"), "Some(7)"),
+];
+
+/// A line whose number is above the limit.
+const BEYOND: &str = "!1073741824 = !DIBasicType(name: \"t\", size: 8, encoding: DW_ATE_signed)";
 
 /// Appends what is told of a text.
 fn push_told(alloc: Global, told: &mut String, asked: Asked, text: &str) -> Result<(), AllocError> {
@@ -397,14 +387,70 @@ fn push_told(alloc: Global, told: &mut String, asked: Asked, text: &str) -> Resu
     }
 }
 
-#[test]
-fn reads(rt: HostRuntime) -> Result<(), Fail> {
-    for (asked, rows) in ROWS {
-        for (text, wanted) in *rows {
-            let mut told = String::new(rt.alloc());
-            push_told(rt.alloc(), &mut told, *asked, text)?;
-            assert_eq!(rt; told.as_str(), *wanted, "{text:?}");
-        }
+/// Compares what is told of texts.
+fn ask(rt: &impl Abort, alloc: Global, asked: Asked, rows: &[(&str, &str)]) -> Result<(), Fail> {
+    for (text, wanted) in rows {
+        let mut told = String::new(alloc);
+        push_told(alloc, &mut told, asked, text)?;
+        assert_eq!(rt; told.as_str(), *wanted, "{text:?}");
     }
     Ok(())
+}
+
+/// Compares what is told of one text of metadata.
+fn ask_meta(rt: &impl Abort, alloc: Global, text: &str, rows: &[(Meta, &str)]) -> Result<(), Fail> {
+    for (asked, wanted) in rows {
+        ask(rt, alloc, Asked::Meta(*asked), &[(text, *wanted)])?;
+    }
+    Ok(())
+}
+
+#[test]
+fn reads_tokens(rt: HostRuntime) -> Result<(), Fail> {
+    ask(&rt, rt.alloc(), Asked::Tokens, TOKENS)
+}
+
+#[test]
+fn reads_ends_of_lines(rt: HostRuntime) -> Result<(), Fail> {
+    ask(&rt, rt.alloc(), Asked::Comment, BEFORE_COMMENTS)?;
+    ask(
+        &rt,
+        rt.alloc(),
+        Asked::MemoryOperands,
+        BEFORE_MEMORY_OPERANDS,
+    )
+}
+
+#[test]
+fn reads_locations(rt: HostRuntime) -> Result<(), Fail> {
+    ask(&rt, rt.alloc(), Asked::Meta(Meta::Location(1)), LOCATIONS)
+}
+
+#[test]
+fn reads_types(rt: HostRuntime) -> Result<(), Fail> {
+    ask(
+        &rt,
+        rt.alloc(),
+        Asked::Meta(Meta::BaseType(1073741823)),
+        BASE_TYPES,
+    )?;
+    ask_meta(&rt, rt.alloc(), BEYOND, &[(Meta::BaseType(1073741824), "")])
+}
+
+#[test]
+fn reads_names(rt: HostRuntime) -> Result<(), Fail> {
+    ask(&rt, rt.alloc(), Asked::Meta(Meta::Variable(7)), NAMES)?;
+    ask(
+        &rt,
+        rt.alloc(),
+        Asked::Meta(Meta::Subprogram("f")),
+        DEFINITIONS,
+    )
+}
+
+#[test]
+fn reads_blocks(rt: HostRuntime) -> Result<(), Fail> {
+    ask_meta(&rt, rt.alloc(), BLOCK, OF_BLOCK)?;
+    ask_meta(&rt, rt.alloc(), AGAIN, OF_AGAIN)?;
+    ask(&rt, rt.alloc(), Asked::Documents, &[(TWO, TWO_TOLD)])
 }
