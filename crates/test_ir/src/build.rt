@@ -150,7 +150,7 @@ fn items(alloc: Global, id: BlockId, text: &str) -> Option<Items> {
         if line.trim().is_empty() {
             continue;
         }
-        let item = items.len() as u32;
+        let item = u32::try_from(items.len()).ok()?;
         let kind = kind(alloc, line)?;
         let origin = Origin::Kept(Pos { block: id, item });
         let loc = Loc::Absent;
@@ -169,7 +169,8 @@ fn add_blocks(alloc: Global, text: &str, blocks: &mut Blocks) -> Option<()> {
     for n in first..last.saturating_add(1) {
         let id = BlockId(n);
         let items = items(alloc, id, text)?;
-        let silent = silent.unwrap_or(items.len() as u32);
+        let count = u32::try_from(items.len()).ok()?;
+        let silent = silent.unwrap_or(count);
         blocks.push(Block { id, items, silent }).ok()?;
     }
     Some(())
