@@ -4,7 +4,6 @@ ghost use Rattle.std.specs.Prelude.{IfOk};
 ghost use Rattle.program_report.specs.ProgramReport.{IsReportable};
 
 use code_words::code::{Code, Words};
-use dwarf_loclists::reader::list_count;
 use frame_layout::code::code_of;
 use lists::List;
 use mir_parser::program::read_program;
@@ -47,56 +46,6 @@ body: |
 const LISTS: [u8; 42] = [
     0x26, 0, 0, 0, 5, 0, 8, 0, 2, 0, 0, 0, 8, 0, 0, 0, 0x13, 0, 0, 0, 4, 0x10, 0x14, 1, 0x5a, 4,
     0x14, 0x18, 1, 0x58, 0, 4, 0x18, 0x40, 1, 0x59, 4, 0x40, 0x48, 1, 0x5a, 0,
-];
-
-/// Where the sum stands before each step, and what n and s hold there.
-const STEPS: [(u64, [Option<u64>; 2]); 21] = [
-    (0x00, [None, None]),
-    (0x04, [None, None]),
-    (0x08, [None, None]),
-    (0x0c, [None, None]),
-    (0x10, [Some(2), None]),
-    (0x14, [Some(2), None]),
-    (0x18, [None, Some(0)]),
-    (0x1c, [None, Some(0)]),
-    (0x24, [None, Some(0)]),
-    (0x28, [None, Some(5)]),
-    (0x2c, [None, Some(5)]),
-    (0x18, [None, Some(5)]),
-    (0x1c, [None, Some(5)]),
-    (0x24, [None, Some(5)]),
-    (0x28, [None, Some(12)]),
-    (0x2c, [None, Some(12)]),
-    (0x30, [None, Some(12)]),
-    (0x34, [None, Some(12)]),
-    (0x38, [None, Some(12)]),
-    (0x3c, [None, Some(12)]),
-    (0x40, [None, Some(12)]),
-];
-
-/// What registers hold when the sum returns.
-const RETURNED: [(u32, u64); 6] = [
-    (0, 0),
-    (1, 4_294_967_296),
-    (2, 1_048_576),
-    (8, 7),
-    (9, 7),
-    (10, 12),
-];
-
-/// Words in the place of the one that returns, and how two steps of them end.
-const WORDS: [(u32, Stepped, Stepped); 3] = [
-    (
-        0x0000_8067,
-        Stepped::Stopped(Stop::Returned),
-        Stepped::Stopped(Stop::Returned),
-    ),
-    (
-        0x0000_0000,
-        Stepped::Stopped(Stop::BadWord(0)),
-        Stepped::Stopped(Stop::BadWord(0)),
-    ),
-    (0x0000_0013, Stepped::Went, Stepped::Stopped(Stop::Left)),
 ];
 
 /// Answers the n-th call with 3 + 2 n in x10, and with 9 in the other registers.
@@ -150,10 +99,6 @@ fn machine<'a>(alloc: Global, code: &'a Code) -> Result<Machine<'a, Odd>, Fail> 
     Ok(Machine::new(alloc, code, &start, Odd)?)
 }
 
-fn step(machine: &mut Machine<Odd>) -> Result<Stepped, Fail> {
-    Ok(machine.step()?)
-}
-
 /// The content of a register.
 fn register(machine: &Machine<Odd>, n: u32) -> Option<u64> {
     match physical(n) {
@@ -162,14 +107,67 @@ fn register(machine: &Machine<Odd>, n: u32) -> Option<u64> {
     }
 }
 
-/// What two lists give where the machine stands.
-fn variables(machine: &Machine<Odd>, lists: &[u8]) -> Result<[Option<u64>; 2], Fail> {
-    if list_count(lists)? != 2 {
-        return Err(Fail::from("not two lists"));
+/// Whether a number of steps are made, none of which stops.
+fn goes_on(machine: &mut Machine<Odd>, steps: u32) -> bool {
+    for _ in 0..steps {
+        if !matches!(machine.step(), Ok(Stepped::Went)) {
+            return false;
+        }
     }
-    let first = machine.read_variable(lists, 0)?;
-    let second = machine.read_variable(lists, 1)?;
-    Ok([first, second])
+    true
+}
+
+/// Whether the machine stands at an address, where two lists give these values.
+fn stands(machine: &Machine<Odd>, address: u64, n: Option<u64>, s: Option<u64>) -> bool {
+    let Ok(first) = machine.read_variable(&LISTS, 0) else {
+        return false;
+    };
+    let Ok(second) = machine.read_variable(&LISTS, 1) else {
+        return false;
+    };
+    machine.counter() == address && first == n && second == s
+}
+
+/// Whether the next step returns, with 12 in x10 and what was saved in x8, x9, x1 and x2.
+fn returns(machine: &mut Machine<Odd>) -> bool {
+    matches!(machine.step(), Ok(Stepped::Stopped(Stop::Returned)))
+        && machine.counter() == 0x44
+        && register(machine, 0) == Some(0)
+        && register(machine, 1) == Some(4_294_967_296)
+        && register(machine, 2) == Some(1_048_576)
+        && register(machine, 8) == Some(7)
+        && register(machine, 9) == Some(7)
+        && register(machine, 10) == Some(12)
+}
+
+/// Whether a run of the sum stands where it should between its steps; what it holds before each is a row of `run.rows`.
+fn sums(alloc: Global, code: &Code) -> Result<bool, Fail> {
+    let mut machine = machine(alloc, code)?;
+    Ok(
+        stands(&machine, 0x00, None, None)
+            && goes_on(&mut machine, 4)
+            && stands(&machine, 0x10, Some(2), None)
+            && goes_on(&mut machine, 5)
+            && stands(&machine, 0x28, None, Some(5))
+            && goes_on(&mut machine, 5)
+            && stands(&machine, 0x28, None, Some(12))
+            && goes_on(&mut machine, 6)
+            && stands(&machine, 0x40, None, Some(12))
+            && goes_on(&mut machine, 1)
+            && returns(&mut machine),
+    )
+}
+
+/// Whether two steps of a code of one word end so.
+fn stops(alloc: Global, code: &Code, first: Stepped, second: Stepped) -> Result<bool, Fail> {
+    let mut machine = machine(alloc, code)?;
+    Ok(machine.step()? == first && machine.step()? == second)
+}
+
+/// The same, with another word in the place of the one that returns.
+fn stops_at(alloc: Global, word: u32, first: Stepped, second: Stepped) -> Result<bool, Fail> {
+    let code = with_word(alloc, code(alloc, RETURN)?, word)?;
+    stops(alloc, &code, first, second)
 }
 
 /// A function without variables, of which nothing was lost.
@@ -187,28 +185,18 @@ fn compiled(alloc: Global, text: &[u8]) -> Result<Compiled, Fail>
 #[test]
 fn runs_a_loop_with_calls(rt: HostRuntime) -> Result<(), Fail> {
     let code = code(rt.alloc(), SUM)?;
-    let mut machine = machine(rt.alloc(), &code)?;
-    for (n, (address, held)) in STEPS.iter().enumerate() {
-        assert_eq!(rt; machine.counter(), *address, "before step {n}");
-        assert_eq!(rt; variables(&machine, &LISTS)?, *held, "before step {n}");
-        assert_eq!(rt; step(&mut machine)?, Stepped::Went, "at step {n}");
-    }
-    assert_eq!(rt; step(&mut machine)?, Stepped::Stopped(Stop::Returned));
-    assert_eq!(rt; machine.counter(), 0x44);
-    for (n, value) in RETURNED {
-        assert_eq!(rt; register(&machine, n), Some(value), "of x{n}");
-    }
+    assert!(rt; sums(rt.alloc(), &code)?);
     Ok(())
 }
 
 #[test]
 fn stops_at_words(rt: HostRuntime) -> Result<(), Fail> {
-    for (word, first, second) in WORDS {
-        let code = with_word(rt.alloc(), code(rt.alloc(), RETURN)?, word)?;
-        let mut machine = machine(rt.alloc(), &code)?;
-        assert_eq!(rt; step(&mut machine)?, first, "of {word}");
-        assert_eq!(rt; step(&mut machine)?, second, "of {word}");
-    }
+    let returned = Stepped::Stopped(Stop::Returned);
+    let bad = Stepped::Stopped(Stop::BadWord(0));
+    let left = Stepped::Stopped(Stop::Left);
+    assert!(rt; stops_at(rt.alloc(), 0x0000_8067, returned, returned)?);
+    assert!(rt; stops_at(rt.alloc(), 0x0000_0000, bad, bad)?);
+    assert!(rt; stops_at(rt.alloc(), 0x0000_0013, Stepped::Went, left)?);
     Ok(())
 }
 

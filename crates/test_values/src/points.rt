@@ -154,15 +154,16 @@ fn other_asking(
     other_answers(alloc, &framed, &known, &parsed.subs, rows)
 }
 
-/// The number of the register where variable 4 is before an item: 64 for a number or a slot, and 0 where it is nowhere.
-fn register_by(
+/// Whether variable 4 is in a register before an item, or nowhere where the number is 0.
+fn is_first(
     alloc: Global,
     framed: &Framed,
     known: &MachineValues,
     subs: &Substitutions,
     block: usize,
     item: usize,
-) -> Result<u32, Fail>
+    number: u32,
+) -> Result<bool, Fail>
     requires things { AreThings known.now.variables known.now.things }
     requires fewer { length known.now.variables ≤ length known.now.things }
     requires for_all { length known.now.entries ≡ length framed.now.blocks }
@@ -177,7 +178,11 @@ fn register_by(
     if block >= blocks.len() || item > blocks[block].items.len() {
         return Err(Fail::from("no such point"));
     }
-    Ok(number_of(first_place(alloc, &values, blocks, &variable(4), block, item)?))
+    let found = first_place(alloc, &values, blocks, &variable(4), block, item)?;
+    if number == 0 {
+        return Ok(found.is_none());
+    }
+    Ok(found == Some(Place::Register(register(number)?)))
 }
 
 /// The number of the first row whose register is another.
@@ -193,7 +198,7 @@ fn other_registers(
     requires for_all { length known.now.entries ≡ length framed.now.blocks }
 {
     for (row, (block, item, wanted)) in rows.iter().enumerate() {
-        if register_by(alloc, framed, known, subs, *block, *item)? != *wanted {
+        if !is_first(alloc, framed, known, subs, *block, *item, *wanted)? {
             return Ok(Some(row));
         }
     }
@@ -205,15 +210,6 @@ fn other_places(alloc: Global, rows: &[(usize, usize, u32)]) -> Result<Option<us
     let framed = framed_of(alloc, &parsed)?;
     let known = solve(alloc, &framed, &parsed.subs)?;
     other_registers(alloc, &framed, &known, &parsed.subs, rows)
-}
-
-fn number_of(place: Option<Place>) -> u32 {
-    match place {
-        Some(Place::Register(r)) => r.number(),
-        Some(Place::Slot(_)) => 64,
-        Some(Place::Const(_)) => 64,
-        None => 0,
-    }
 }
 
 /// How many class numbers are kept.
