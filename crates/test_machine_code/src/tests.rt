@@ -4,6 +4,7 @@ ghost use Rattle.std.specs.Prelude.{IfOk};
 ghost use Rattle.program_report.specs.ProgramReport.{IsReportable};
 
 use code_words::code::{Code, Words};
+use dwarf_loclists::reader::list_count;
 use frame_layout::code::code_of;
 use lists::List;
 use mir_parser::program::read_program;
@@ -117,15 +118,22 @@ fn goes_on(machine: &mut Machine<Odd>, steps: u32) -> bool {
     true
 }
 
+/// What two lists give where the machine stands.
+fn variables(machine: &Machine<Odd>, lists: &[u8]) -> Result<[Option<u64>; 2], Fail> {
+    if list_count(lists)? != 2 {
+        return Err(Fail::from("not two lists"));
+    }
+    let first = machine.read_variable(lists, 0)?;
+    let second = machine.read_variable(lists, 1)?;
+    Ok([first, second])
+}
+
 /// Whether the machine stands at an address, where two lists give these values.
 fn stands(machine: &Machine<Odd>, address: u64, n: Option<u64>, s: Option<u64>) -> bool {
-    let Ok(first) = machine.read_variable(&LISTS, 0) else {
-        return false;
-    };
-    let Ok(second) = machine.read_variable(&LISTS, 1) else {
-        return false;
-    };
-    machine.counter() == address && first == n && second == s
+    match variables(machine, &LISTS) {
+        Ok([first, second]) => machine.counter() == address && first == n && second == s,
+        Err(_) => false,
+    }
 }
 
 /// Whether the next step returns, with 12 in x10 and what was saved in x8, x9, x1 and x2.
