@@ -119,20 +119,27 @@ fn goes_on(machine: &mut Machine<Odd>, steps: u32) -> bool {
 }
 
 /// What two lists give where the machine stands.
-fn variables(machine: &Machine<Odd>, lists: &[u8]) -> Result<[Option<u64>; 2], Fail> {
-    if list_count(lists)? != 2 {
-        return Err(Fail::from("not two lists"));
+fn variables(machine: &Machine<Odd>, lists: &[u8]) -> Option<[Option<u64>; 2]> {
+    let Ok(count) = list_count(lists) else {
+        return None;
+    };
+    if count != 2 {
+        return None;
     }
-    let first = machine.read_variable(lists, 0)?;
-    let second = machine.read_variable(lists, 1)?;
-    Ok([first, second])
+    let Ok(first) = machine.read_variable(lists, 0) else {
+        return None;
+    };
+    let Ok(second) = machine.read_variable(lists, 1) else {
+        return None;
+    };
+    Some([first, second])
 }
 
 /// Whether the machine stands at an address, where two lists give these values.
 fn stands(machine: &Machine<Odd>, address: u64, n: Option<u64>, s: Option<u64>) -> bool {
     match variables(machine, &LISTS) {
-        Ok([first, second]) => machine.counter() == address && first == n && second == s,
-        Err(_) => false,
+        Some([first, second]) => machine.counter() == address && first == n && second == s,
+        None => false,
     }
 }
 
