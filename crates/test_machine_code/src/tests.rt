@@ -118,29 +118,26 @@ fn goes_on(machine: &mut Machine<Odd>, steps: u32) -> bool {
     true
 }
 
-/// What two lists give where the machine stands.
-fn variables(machine: &Machine<Odd>, lists: &[u8]) -> Option<[Option<u64>; 2]> {
+/// Whether two lists give these values where the machine stands.
+fn give(machine: &Machine<Odd>, lists: &[u8], n: Option<u64>, s: Option<u64>) -> bool {
     let Ok(count) = list_count(lists) else {
-        return None;
+        return false;
     };
     if count != 2 {
-        return None;
+        return false;
     }
     let Ok(first) = machine.read_variable(lists, 0) else {
-        return None;
+        return false;
     };
     let Ok(second) = machine.read_variable(lists, 1) else {
-        return None;
+        return false;
     };
-    Some([first, second])
+    first == n && second == s
 }
 
 /// Whether the machine stands at an address, where two lists give these values.
 fn stands(machine: &Machine<Odd>, address: u64, n: Option<u64>, s: Option<u64>) -> bool {
-    match variables(machine, &LISTS) {
-        Some([first, second]) => machine.counter() == address && first == n && second == s,
-        None => false,
-    }
+    machine.counter() == address && give(machine, &LISTS, n, s)
 }
 
 /// Whether the next step returns, with 12 in x10 and what was saved in x8, x9, x1 and x2.
