@@ -10,48 +10,27 @@ use rv64_instr::instr::Instr;
 use rv64_instr::op::{BranchOp, Op};
 use rv64_instr::operand::{Operand, Operands};
 use rv64_instr::reg::Reg;
-use std::alloc::{AllocError, Global};
 use std::test::Fail;
-
-/// Appends the operands of a branch to block 2 that compares two registers and uses a third one.
-fn push_operands(
-    operands: &mut Operands,
-    first: Reg,
-    second: Reg,
-    third: Reg,
-) -> Result<(), AllocError> {
-    operands.push(Operand::Use(first))?;
-    operands.push(Operand::Use(second))?;
-    operands.push(Operand::Block(BlockId(2)))?;
-    operands.push(Operand::ImplicitUse(third))
-}
-
-/// The text of a branch by these operands, and nothing where they are none of a branch.
-fn text_of(alloc: Global, operands: Operands) -> Result<Text, AllocError> {
-    let mut text = Text::new(alloc);
-    if let Some(branch) = Instr::new(Op::Branch(BranchOp::Beq), operands) {
-        let item = Item {
-            kind: ItemKind::Code(branch, None),
-            origin: Origin::Kept(Pos {
-                block: BlockId(0),
-                item: 0,
-            }),
-            loc: Loc::Absent,
-        };
-        push_item(&mut text, &item)?;
-    }
-    Ok(text)
-}
 
 #[test]
 fn virtual_registers_are_printed(rt: HostRuntime) -> Result<(), Fail> {
-    let registers = (Reg::new(10), Reg::new(32), Reg::new(11));
-    let (Some(first), Some(second), Some(third)) = registers else {
-        return Err(Fail::from("no registers"));
+    let alloc = rt.alloc();
+    let mut operands = Operands::new(alloc);
+    operands.push(Operand::Use(Reg::new(10).ok_or("no register")?))?;
+    operands.push(Operand::Use(Reg::new(32).ok_or("no register")?))?;
+    operands.push(Operand::Block(BlockId(2)))?;
+    operands.push(Operand::ImplicitUse(Reg::new(11).ok_or("no register")?))?;
+    let branch = Instr::new(Op::Branch(BranchOp::Beq), operands).ok_or("no instruction")?;
+    let item = Item {
+        kind: ItemKind::Code(branch, None),
+        origin: Origin::Kept(Pos {
+            block: BlockId(0),
+            item: 0,
+        }),
+        loc: Loc::Absent,
     };
-    let mut operands = Operands::new(rt.alloc());
-    push_operands(&mut operands, first, second, third)?;
-    let text = text_of(rt.alloc(), operands)?;
+    let mut text = Text::new(alloc);
+    push_item(&mut text, &item)?;
     assert_eq!(rt;
         text.as_slice(),
         b"BEQ $x10, %0, %bb.2, implicit $x11".as_slice()
