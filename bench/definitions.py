@@ -5,7 +5,7 @@
     bench/definitions.py --write     writes the table into docs/DEFINITIONS.md anew
     bench/definitions.py --list      each definition, with its file
 
-It begins with the names in the contract of `mirdwarf_tool::driver::mirdwarf`, finds each by the `ghost use` lines of that file, and goes on from
+It begins with the names in the contract of `tool_driver::driver::mirdwarf`, finds each by the `ghost use` lines of that file, and goes on from
 the text of each definition by the `use` lines of the file where it stands. A type of code that a definition names stands for its `Model`: what
 its view and its invariant name belongs to it.
 """
@@ -16,7 +16,7 @@ import sys
 TOP = os.path.join(os.path.dirname(os.path.abspath(__file__)), "..")
 CRATES = os.path.join(TOP, "crates")
 PAGE = os.path.join(TOP, "docs", "DEFINITIONS.md")
-CALL = ("mirdwarf_tool", "driver", "mirdwarf")
+CALL = ("tool_driver", "driver", "mirdwarf")
 NAME = re.compile(r"(?<![\w.'])[A-Za-z_][\w']*")
 USE = re.compile(r"^\s*(?:pub )?(?:ghost )?use Rattle\.([a-z0-9_]+)\.specs\.([\w.]+)\.\{([^}]*)\}", re.M)
 HEAD = re.compile(r"^( *)(?:(?:abbrev|unfoldable)(?: pub)?|(?:pub )?(?:record|data)) (◌\S+◌|[A-Za-z_][\w']*)")

@@ -227,8 +227,8 @@ PASSES = {
 }
 
 # What is counted inside the program: the reading of a text; frame and layout; these with values over all paths and location lists; all passes.
-READING, LAYOUT, LOCATIONS = "mir_parser::program::read_program", "frame_layout::code::code_of", "function_emit::emit::compiled"
-RUN_PASSES = "pass_loop::run::run_passes"
+READING, LAYOUT, LOCATIONS = "read_program::program::read_program", "emit_function::code::code_of", "function_emit::emit::compiled"
+RUN_PASSES = "pass_manager::run::run_passes"
 
 
 def lined(number):

@@ -17,7 +17,7 @@ from definitions import uses_in
 
 TOP = house.TOP
 PAGE = os.path.join(TOP, "docs", "PROVED.md")
-CALL = ("mirdwarf_tool", "driver", "mirdwarf")
+CALL = ("tool_driver", "driver", "mirdwarf")
 LEFT_OUT = "Tests and measuring"
 
 

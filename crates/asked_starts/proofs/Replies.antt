@@ -4,8 +4,8 @@ use Rattle.std.proofs.Common.{cond, nat_eq, nat_lt, slice_index, refl, arith}
 use Rattle.std.proofs.lemmas.Bool.{ltb-true}
 use Rattle.std.proofs.lemmas.List.Elements.{All-nil, All-cons, All-map}
 use Rattle.rv64_instr.specs.Access.{caller_saved}
-use Rattle.mir_meaning.specs.State.{IsReply}
-use Rattle.run_answer.specs.Asked.{call_value, call_register, reply_to, replies}
+use Rattle.sem_mir.specs.State.{IsReply}
+use Rattle.sim_start.specs.Asked.{call_value, call_register, reply_to, replies}
 
 -- registers that all are below 32
 abbrev all_low : List ℕ → Bool

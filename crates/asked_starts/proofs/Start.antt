@@ -2,17 +2,17 @@
 use Rattle.std.proofs.Common.{◌≡◌, ℕ, zero, suc, ◌+◌, ◌-◌, ◌^◌, ◌<◌, ◌≤◌, List, [], length, Option, Some, None, Bool, true, false, cond, ◌&&◌, nat_le, nat_lt}
 use Rattle.std.proofs.Common.{All, slice_index, refl, ap, arith}
 use Rattle.std.proofs.lemmas.Bool.{lt-ltb, ltb-true}
-use Rattle.code_layout.specs.Headline.{StartsAt}
-use Rattle.code_layout.specs.Image.{Image}
-use Rattle.code_layout.specs.Machine.{machine_start, register}
-use Rattle.compiled_run.specs.Source.{BeginsAsked}
+use Rattle.sem_machine.specs.Headline.{StartsAt}
+use Rattle.sem_machine.specs.Image.{Image}
+use Rattle.sem_machine.specs.Machine.{machine_start, register}
+use Rattle.run_command.specs.Source.{BeginsAsked}
 use Rattle.mir_func.specs.Function.{Function}
 use Rattle.mir_func.specs.Graph.{block_start}
 use Rattle.mir_func.specs.Objects.{area_of, offset_of}
-use Rattle.mir_meaning.specs.Follow.{first_of}
-use Rattle.mir_meaning.specs.State.{State, content}
-use Rattle.mir_meaning.specs.Step.{or_zero}
-use Rattle.run_answer.specs.Asked.{start_register, other_register, replies}
+use Rattle.sem_mir.specs.Follow.{first_of}
+use Rattle.sem_mir.specs.State.{State, content}
+use Rattle.sem_mir.specs.Step.{or_zero}
+use Rattle.sim_start.specs.Asked.{start_register, other_register, replies}
 use Rattle.asked_starts.specs.Starts.{RunsCanStart}
 use Rattle.asked_starts.proofs.Replies.{all_replies}
 

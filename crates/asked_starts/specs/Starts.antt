@@ -1,9 +1,9 @@
 -- Starts that are asked for.
 use Rattle.std.specs.Prelude.{ℕ, ◌<◌, ◌^◌, List, All}
-use Rattle.code_layout.specs.Image.{Image}
-use Rattle.compiled_run.specs.Source.{BeginsAsked}
+use Rattle.sem_machine.specs.Image.{Image}
+use Rattle.run_command.specs.Source.{BeginsAsked}
 use Rattle.mir_func.specs.Function.{Function}
-use Rattle.mir_meaning.specs.State.{State}
+use Rattle.sem_mir.specs.State.{State}
 
 -- From arguments and values of 64 bits, and for a number of steps of 64 bits, a run of any function can start, beside which the machine begins on
 -- any image.

@@ -2,13 +2,13 @@
 use Rattle.std.proofs.Common.{◌≡◌, ℕ, ◌+◌, List, [], ◌∷◌, ◌++◌, length, map, All, Option, Some, None, Ok, refl, sym, ap, ◌∙◌, arith}
 use Rattle.std.specs.Prelude.{IfSome}
 use Rattle.std.proofs.lemmas.List.Elements.{All-nil, All-cons}
-use Rattle.meta_reader.specs.Maps.{Maps}
-use Rattle.mir_lexer.specs.declared.line.Line.{Line}
+use Rattle.read_metadata.specs.Maps.{Maps}
+use Rattle.read_lexer.specs.declared.line.Line.{Line}
 use Rattle.mir_func.specs.declared.block.Block.{Block}
 use Rattle.mir_func.specs.declared.item.Item.{Item}
 use Rattle.mir_func.specs.Sound.{items_of, number_of}
-use Rattle.mir_body.specs.Body.{nothing_read}
-use Rattle.mir_body.specs.Met.{is_met}
+use Rattle.read_body.specs.Body.{nothing_read}
+use Rattle.read_body.specs.Met.{is_met}
 use Rattle.body_read_back.specs.Body.{body_lines, texts_of, judged_constant, VariableIn, IsReadableItem, AreWithin, ReadsBlocks, BodiesReadBack}
 use Rattle.body_read_back.proofs.Made.{AllMade, blocks_made}
 use Rattle.body_read_back.proofs.Room.{Fits, all_front, all_behind, blocks_walk, nothing_room}

@@ -5,17 +5,17 @@ use Rattle.std.specs.List.{flat_map, list_any}
 use Rattle.std.proofs.lemmas.List.{append-nil}
 use Rattle.std.proofs.lemmas.List.Concat.{flat_map-append}
 use Rattle.std.proofs.lemmas.List.Folds.{list_any-append}
-use Rattle.refusal.specs.declared.kind.RefusalKind.{RefusalKind}
-use Rattle.refusal.specs.declared.kind.RefusalKind.TheVariants as kinds
+use Rattle.read_refusal.specs.declared.kind.RefusalKind.{RefusalKind}
+use Rattle.read_refusal.specs.declared.kind.RefusalKind.TheVariants as kinds
 use Rattle.mir_func.specs.declared.block.Block.{Block}
 use Rattle.mir_func.specs.declared.item.Item.{Item}
 use Rattle.mir_func.specs.Sound.{ids_of, items_of}
 use Rattle.mir_func.specs.Limits.{MAX_BLOCKS}
-use Rattle.mir_body.specs.declared.body.Body.{Body}
-use Rattle.mir_body.specs.Body.{object_named, and_last, blocks_of, block_with, label_cause, with_label}
-use Rattle.mir_body.specs.Met.{is_met}
-use Rattle.mir_parser.proofs.Bodies.{facts_apart}
-use Rattle.mir_parser.proofs.Lists.{met_new}
+use Rattle.read_body.specs.declared.body.Body.{Body}
+use Rattle.read_body.specs.Body.{object_named, and_last, blocks_of, block_with, label_cause, with_label}
+use Rattle.read_body.specs.Met.{is_met}
+use Rattle.read_program.proofs.Bodies.{facts_apart}
+use Rattle.read_program.proofs.Lists.{met_new}
 use Rattle.code_read_back.specs.Code.{judged_kind}
 use Rattle.body_read_back.specs.Body.{item_at, items_from, judged_block, entries_named, names_object}
 use Rattle.body_read_back.proofs.Facts.{item_facts, objects_behind}

@@ -7,8 +7,8 @@ use Rattle.std.proofs.lemmas.Bool.{cases_Bool, and_parts, eqb-true, eq-eqb, le-l
 use Rattle.std.proofs.lemmas.List.{length-append, append-nil}
 use Rattle.std.proofs.lemmas.List.Elements.{All-head, All-tail}
 use Rattle.std.proofs.lemmas.Option.{slice_get_within}
-use Rattle.refusal.specs.declared.kind.RefusalKind.{RefusalKind}
-use Rattle.refusal.specs.declared.kind.RefusalKind.TheVariants as kinds
+use Rattle.read_refusal.specs.declared.kind.RefusalKind.{RefusalKind}
+use Rattle.read_refusal.specs.declared.kind.RefusalKind.TheVariants as kinds
 use Rattle.mir_func.specs.declared.block.Block.{Block}
 use Rattle.mir_func.specs.declared.item.Item.{Item}
 use Rattle.mir_func.specs.declared.item.ItemKind.{ItemKind}
@@ -18,14 +18,14 @@ use Rattle.mir_func.specs.Parts.{Bytes}
 use Rattle.mir_func.specs.Sound.{AreApart, ids_of, items_of, number_of, code_number, NumbersOnce}
 use Rattle.mir_func.specs.Variables.{is_same_node, is_same_variable, are_same_bytes, is_same}
 use Rattle.mir_func.specs.Limits.{MAX_BLOCKS}
-use Rattle.mir_body.specs.declared.body.Body.{Body}
-use Rattle.mir_body.specs.Body.{repeats, exceeds, item_cause, label_cause, with_label, with_item, with_number, with_constant, with_variable, constant_of}
-use Rattle.mir_body.specs.Body.{object_named, nothing_read}
-use Rattle.mir_body.specs.Limits.{MAX_ITEMS, MAX_VARIABLES, MAX_NUMBERS, MAX_CONSTANTS}
-use Rattle.mir_body.specs.Met.{is_met, met, is_known, known}
-use Rattle.mir_parser.proofs.Bodies.{facts_apart}
-use Rattle.mir_parser.proofs.Entries.{met_cases}
-use Rattle.mir_parser.proofs.Lists.{found, All-front}
+use Rattle.read_body.specs.declared.body.Body.{Body}
+use Rattle.read_body.specs.Body.{repeats, exceeds, item_cause, label_cause, with_label, with_item, with_number, with_constant, with_variable, constant_of}
+use Rattle.read_body.specs.Body.{object_named, nothing_read}
+use Rattle.read_body.specs.Limits.{MAX_ITEMS, MAX_VARIABLES, MAX_NUMBERS, MAX_CONSTANTS}
+use Rattle.read_body.specs.Met.{is_met, met, is_known, known}
+use Rattle.read_program.proofs.Bodies.{facts_apart}
+use Rattle.read_program.proofs.Entries.{met_cases}
+use Rattle.read_program.proofs.Lists.{found, All-front}
 use Rattle.code_read_back.specs.Code.{judged_kind}
 use Rattle.body_read_back.specs.Body.{judged_constant, VariableIn, entries_named}
 use Rattle.body_read_back.proofs.Counted.{Among, none_among, few_among, more_among}

@@ -3,19 +3,19 @@ use Rattle.std.proofs.Common.{◌≡◌, ℕ, ◌≤◌, List, [], ◌∷◌, �
 use Rattle.std.specs.Prelude.{option_map}
 use Rattle.std.specs.List.{flat_map}
 use Rattle.std.proofs.lemmas.List.Elements.{All-head, All-tail}
-use Rattle.refusal.specs.declared.kind.RefusalKind.{RefusalKind}
-use Rattle.meta_reader.specs.Maps.{Maps}
-use Rattle.mir_lexer.specs.declared.line.Line.{Line}
+use Rattle.read_refusal.specs.declared.kind.RefusalKind.{RefusalKind}
+use Rattle.read_metadata.specs.Maps.{Maps}
+use Rattle.read_lexer.specs.declared.line.Line.{Line}
 use Rattle.mir_func.specs.declared.block.Block.{Block}
 use Rattle.mir_func.specs.declared.item.Item.{Item}
-use Rattle.numbers.specs.Limits.{MAX_NUMBER}
-use Rattle.mir_line.specs.declared.form.BodyLine.{BodyLine}
-use Rattle.mir_line.specs.declared.form.LineError.{LineError}
-use Rattle.mir_item.specs.declared.judged.Judged.{Judged}
-use Rattle.mir_body.specs.declared.body.Body.{Body}
-use Rattle.mir_body.specs.Body.{block_with, label_cause, with_label, with_item, item_cause}
-use Rattle.mir_parser.specs.BodyLines.{unless, label_said, judged_said, item_said, line_said, behind_line, and_then, body_behind}
-use Rattle.mir_parser.proofs.Bodies.{facts_apart}
+use Rattle.base_ids.specs.Limits.{MAX_NUMBER}
+use Rattle.read_line.specs.declared.form.BodyLine.{BodyLine}
+use Rattle.read_line.specs.declared.form.LineError.{LineError}
+use Rattle.read_item.specs.declared.judged.Judged.{Judged}
+use Rattle.read_body.specs.declared.body.Body.{Body}
+use Rattle.read_body.specs.Body.{block_with, label_cause, with_label, with_item, item_cause}
+use Rattle.read_program.specs.BodyLines.{unless, label_said, judged_said, item_said, line_said, behind_line, and_then, body_behind}
+use Rattle.read_program.proofs.Bodies.{facts_apart}
 use Rattle.read_back.specs.Forms.{form_of}
 use Rattle.read_back.proofs.Labels.{labels_read_back}
 use Rattle.read_back.proofs.Said.{lines_say_forms}

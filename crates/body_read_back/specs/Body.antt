@@ -3,8 +3,8 @@ use Rattle.std.specs.Prelude.{◌≡◌, ℕ, ◌+◌, ◌≤◌, Bool, true, fa
 use Rattle.std.specs.List.{flat_map, list_any}
 use Rattle.std.specs.Option.{option_map_or}
 use Rattle.std.specs.Fmt.{decimal}
-use Rattle.meta_reader.specs.Maps.{Maps}
-use Rattle.mir_lexer.specs.declared.line.Line.{Line}
+use Rattle.read_metadata.specs.Maps.{Maps}
+use Rattle.read_lexer.specs.declared.line.Line.{Line}
 use Rattle.mir_func.specs.declared.block.Block.{Block}
 use Rattle.mir_func.specs.declared.item.Item.{Item}
 use Rattle.mir_func.specs.declared.item.ItemKind.{ItemKind}
@@ -13,13 +13,13 @@ use Rattle.mir_func.specs.declared.position.Origin.TheVariants.{Kept}
 use Rattle.mir_func.specs.declared.variable.VarId.{VarId}
 use Rattle.mir_func.specs.Sound.{AreApart, ids_of, items_of, number_of, NumbersOnce}
 use Rattle.mir_func.specs.Limits.{MAX_BLOCKS}
-use Rattle.numbers.specs.Limits.{MAX_NUMBER}
-use Rattle.mir_item.specs.Judge.{entries_of}
-use Rattle.mir_body.specs.declared.body.Body.{Body}
-use Rattle.mir_body.specs.Body.{constant_of, object_named, blocks_of}
-use Rattle.mir_body.specs.Limits.{MAX_ITEMS, MAX_VARIABLES, MAX_NUMBERS, MAX_CONSTANTS}
-use Rattle.mir_body.specs.Met.{is_met, is_known}
-use Rattle.mir_parser.specs.BodyLines.{body_of}
+use Rattle.base_ids.specs.Limits.{MAX_NUMBER}
+use Rattle.read_item.specs.Judge.{entries_of}
+use Rattle.read_body.specs.declared.body.Body.{Body}
+use Rattle.read_body.specs.Body.{constant_of, object_named, blocks_of}
+use Rattle.read_body.specs.Limits.{MAX_ITEMS, MAX_VARIABLES, MAX_NUMBERS, MAX_CONSTANTS}
+use Rattle.read_body.specs.Met.{is_met, is_known}
+use Rattle.read_program.specs.BodyLines.{body_of}
 use Rattle.mir_printer.specs.Spelling.{item_text}
 use Rattle.read_back.specs.Forms.{form_of}
 use Rattle.read_back.specs.Laws.{IsWritable}

@@ -2,11 +2,11 @@
 use Rattle.std.proofs.Common.{◌≡◌, ◌↔◌, ℕ, List, map, Contains, Bool, IsTrue, sym, ◌∙◌, subst}
 use Rattle.mir_func.specs.declared.block.Block.{Block}
 use Rattle.mir_func.specs.Function.{Function}
-use Rattle.follow_law.specs.declared.loss.Loss.{Loss}
-use Rattle.follow_law.specs.Order.{IsInOrder}
-use Rattle.fold_ways.specs.Ways.{EndsAt}
-use Rattle.fold_ways.specs.Leads.{lead}
-use Rattle.fold_ways.proofs.Ways.{one_end}
+use Rattle.pass_trait.specs.declared.loss.Loss.{Loss}
+use Rattle.pass_trait.specs.Order.{IsInOrder}
+use Rattle.fold_targets.specs.Ways.{EndsAt}
+use Rattle.fold_targets.specs.Leads.{lead}
+use Rattle.fold_targets.proofs.Ways.{one_end}
 use Rattle.fold_rule.specs.Reached.{Reached}
 use Rattle.fold_rule.specs.Rule.{AreFolded}
 use Rattle.fold_kills.specs.Kills.{with_kills, IsFoldedWithKills}

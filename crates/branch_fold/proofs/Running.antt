@@ -3,9 +3,9 @@ use Rattle.std.proofs.Common.{◌≡◌, List, [], ◌∷◌, refl, sym, append-
 use Rattle.mir_func.specs.declared.entry.Entry.{Entry}
 use Rattle.mir_func.specs.Function.{Function}
 use Rattle.mir_func.specs.Sound.{IsSound}
-use Rattle.follow_law.specs.declared.loss.Loss.{Loss}
-use Rattle.follow_law.specs.Change.{change}
-use Rattle.follow_law.specs.Steps.{KeepsSteps}
+use Rattle.pass_trait.specs.declared.loss.Loss.{Loss}
+use Rattle.pass_trait.specs.Change.{change}
+use Rattle.pass_trait.specs.Steps.{KeepsSteps}
 use Rattle.fold_kills.specs.Kills.{IsFoldedWithKills}
 use Rattle.fold_kills.proofs.Sound.{sound_killed}
 use Rattle.fold_follows.specs.Follows.{KillsStrip}

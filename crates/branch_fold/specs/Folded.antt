@@ -1,9 +1,9 @@
 -- Folded blocks with their kills, and what was lost.
 use Rattle.std.specs.Prelude.{◌≡◌, ◌↔◌, ℕ, List, map, Bool, Contains, IsTrue}
 use Rattle.mir_func.specs.declared.block.Block.{Block}
-use Rattle.follow_law.specs.declared.loss.Loss.{Loss}
-use Rattle.follow_law.specs.Order.{IsInOrder}
-use Rattle.fold_ways.specs.Leads.{lead}
+use Rattle.pass_trait.specs.declared.loss.Loss.{Loss}
+use Rattle.pass_trait.specs.Order.{IsInOrder}
+use Rattle.fold_targets.specs.Leads.{lead}
 use Rattle.fold_rule.specs.Reached.{Reached}
 use Rattle.fold_rule.specs.Rule.{AreFolded}
 use Rattle.fold_kills.specs.Kills.{with_kills}

@@ -1,6 +1,6 @@
 -- Proofs of what the pass owes of its rule for code. They stand here, and not in proofs/, since an implementation of the
 -- trait of passes cites them; nothing here is to be believed.
-use Rattle.follow_law.specs.Code.{HasOneResult, SeesCodeAlone}
+use Rattle.pass_trait.specs.Code.{HasOneResult, SeesCodeAlone}
 use Rattle.fold_rule.specs.Rule.{IsFolded}
 use Rattle.fold_laws.proofs.One.{one_folded}
 use Rattle.fold_laws.proofs.Alike.{sees_code}

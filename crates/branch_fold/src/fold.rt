@@ -12,14 +12,14 @@ use fold_follows::laws::{folded_follows, kills_strip};
 use fold_lost::lost::fold_losses;
 use fold_rule::fold::fold_blocks;
 use fold_sizes::laws::folded_keeps_sizes;
-use follow_law::loss::Losses;
-use follow_law::pass::Pass;
-use kill_code::bypassed::old_ways;
-use kill_code::put::put_kills;
+use pass_trait::loss::Losses;
+use pass_trait::pass::Pass;
+use fold_undef::bypassed::old_ways;
+use fold_undef::put::put_kills;
 use mir_func::block::{Block, copy_blocks};
 use mir_func::func::Func;
 use std::alloc::{AllocError, Global};
-use substitution::substitutions::Substitutions;
+use mir_substitution::substitutions::Substitutions;
 use type_facts::blocks::know_forms;
 
 /// Folds branches. The marks and phis of blocks that are bypassed, and all debug items of blocks that weren't reached,

@@ -8,7 +8,7 @@ use Rattle.std.proofs.lemmas.Nat.{pow-add}
 use Rattle.std.proofs.lemmas.Bool.{cases_eq, eq-eqb, ne_eqb}
 use Rattle.std.specs.Prelude.{nat_eq, unwrap_or}
 use Rattle.std.specs.Map.{lookup}
-use Rattle.mir_meaning.specs.State.{updated, spelled, stored, low_bytes, written}
+use Rattle.sem_mir.specs.State.{updated, spelled, stored, low_bytes, written}
 use Rattle.byte_memory.specs.Held.{MemoryHolds, some_writes}
 
 pub memory_put : (es fs : List (ℕ × ℕ)) (f : ℕ → ℕ) (k b : ℕ) → MemoryHolds es f →

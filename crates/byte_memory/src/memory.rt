@@ -1,7 +1,7 @@
 //! Memory.
 
 ghost use Rattle.std.specs.Prelude.{◌≡◌, ◌<◌, ◌≤◌, ◌*◌, ◌^◌, ℕ, IfOk, OnOk, OnErr};
-ghost use Rattle.mir_meaning.specs.State.{spelled, stored, low_bytes, written};
+ghost use Rattle.sem_mir.specs.State.{spelled, stored, low_bytes, written};
 ghost use Rattle.byte_memory.specs.Held.{MemoryHolds, number_in, some_writes};
 
 use indexmap::IndexMap;

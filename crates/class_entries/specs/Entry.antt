@@ -1,9 +1,9 @@
 -- What an entry of a block says of all paths to the block's start.
 use Rattle.std.specs.Prelude.{◌≡◌, ◌↔◌, ℕ, List, [], length, slice_get, Some, None, Bool, false, IsTrue, IsSome}
 use Rattle.mir_func.specs.Graph.{Program, block_start}
-use Rattle.mir_meaning.specs.Token.{Tokens, Path}
-use Rattle.path_tokens.specs.Pullback as path
-use Rattle.path_tokens.specs.Pullback.{InRegister, InSlot, OfPair, OfVariable, OfNumber, token_of}
+use Rattle.sem_mir.specs.Token.{Tokens, Path}
+use Rattle.sem_value_ids.specs.Pullback as path
+use Rattle.sem_value_ids.specs.Pullback.{InRegister, InSlot, OfPair, OfVariable, OfNumber, token_of}
 use Rattle.class_entries.specs.declared.tracked.Tracked.{Tracked}
 use Rattle.class_entries.specs.declared.tracked.Tracked.TheVariants.{Register, Slot, Pair, Part, Number}
 use Rattle.class_entries.specs.declared.entry.BlockEntry.{BlockEntry}

@@ -1,6 +1,6 @@
 //! What is known at the start of a block.
 
-use lists::List;
+use base_list::List;
 
 /// Class numbers, one for each tracked thing (LLVM: value numbers, `ValueIDNum`).
 pub type Numbers = List<u32>;

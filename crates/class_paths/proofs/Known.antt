@@ -11,11 +11,11 @@ use Rattle.mir_func.specs.declared.variable.MarkValue.{MarkValue}
 use Rattle.mir_func.specs.declared.item.ItemKind.{ItemKind}
 use Rattle.mir_func.specs.declared.item.ItemKind.TheVariants.{Code, Mark, Phi}
 use Rattle.mir_func.specs.Variables.{is_same, overlaps}
-use Rattle.mir_meaning.proofs.Assignments.{same_is}
+use Rattle.sem_mir.proofs.Assignments.{same_is}
 use Rattle.mir_func.specs.declared.position.Pos.{Pos}
 use Rattle.mir_func.specs.Graph.{Program, Fetch, Here, Silent, Outside}
-use Rattle.mir_meaning.specs.Token.{Entry, Fixed, Tokens, Path, begin, onward, after_fetch, entry_tokens, sets_pointer}
-use Rattle.path_tokens.specs.Pullback.{
+use Rattle.sem_mir.specs.Token.{Entry, Fixed, Tokens, Path, begin, onward, after_fetch, entry_tokens, sets_pointer}
+use Rattle.sem_value_ids.specs.Pullback.{
   Tracked,
   InRegister,
   InSlot,
@@ -37,7 +37,7 @@ use Rattle.path_tokens.specs.Pullback.{
   back_value,
   back_mark,
 }
-use Rattle.path_tokens.proofs.Backwards.{tokens_pull_back}
+use Rattle.sem_value_ids.proofs.Backwards.{tokens_pull_back}
 use Rattle.class_paths.specs.Classes.{IsKnown, KnowsRow, KnowsItem}
 use Rattle.class_paths.specs.Wanted.{AreThingsOf}
 use Rattle.class_paths.proofs.Passing.{Knows, known_back}

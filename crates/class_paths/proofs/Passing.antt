@@ -19,10 +19,10 @@ use Rattle.mir_func.specs.declared.item.ItemKind.{ItemKind}
 use Rattle.mir_func.specs.declared.item.ItemKind.TheVariants.{Code, Mark, Phi}
 use Rattle.mir_func.specs.Variables.{is_same, overlaps}
 use Rattle.mir_func.specs.Graph.{Program, Fetch, Here, Silent, Outside, below, block_start, Edge, FetchEdge, KindEdge, RowEdge}
-use Rattle.mir_meaning.specs.Step.{defined}
-use Rattle.mir_meaning.specs.Token.{Tokens, Path, begin, onward, after_fetch, after_item, sets_pointer}
-use Rattle.path_tokens.specs.Pullback.{Tracked, InRegister, InSlot, OfPair, OfVariable, OfNumber, token_of, Back, Was, New, Nameless, back, Share, BacksShare}
-use Rattle.path_tokens.specs.Pullback.{
+use Rattle.sem_mir.specs.Step.{defined}
+use Rattle.sem_mir.specs.Token.{Tokens, Path, begin, onward, after_fetch, after_item, sets_pointer}
+use Rattle.sem_value_ids.specs.Pullback.{Tracked, InRegister, InSlot, OfPair, OfVariable, OfNumber, token_of, Back, Was, New, Nameless, back, Share, BacksShare}
+use Rattle.sem_value_ids.specs.Pullback.{
   put_back,
   back_register,
   slot_stored,
@@ -35,7 +35,7 @@ use Rattle.path_tokens.specs.Pullback.{
   back_mark,
   back_phi,
 }
-use Rattle.path_tokens.proofs.Sharing.{sharing_pulls_back}
+use Rattle.sem_value_ids.proofs.Sharing.{sharing_pulls_back}
 use Rattle.class_paths.specs.Classes.{
   Classes,
   IsKnown,

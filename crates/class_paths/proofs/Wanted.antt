@@ -7,8 +7,8 @@ use Rattle.rv64_instr.specs.Arithmetic.{word}
 use Rattle.mir_func.specs.declared.position.Pos.{Pos}
 use Rattle.mir_func.specs.declared.variable.VarId.{VarId}
 use Rattle.mir_func.specs.Graph.{Program}
-use Rattle.mir_meaning.specs.Token.{Fixed, Tokens, IsPlace, SitsIn, place_token, variable_token}
-use Rattle.path_tokens.specs.Pullback.{Tracked, InSlot, OfVariable, token_of}
+use Rattle.sem_mir.specs.Token.{Fixed, Tokens, IsPlace, SitsIn, place_token, variable_token}
+use Rattle.sem_value_ids.specs.Pullback.{Tracked, InSlot, OfVariable, token_of}
 use Rattle.class_paths.specs.Classes.{Classes, IsKnown, ShareOnPaths, AreClasses}
 use Rattle.class_paths.specs.Wanted.{thing_at, HasItsClass, IsFirstByClass, IsWantedOrNone, AreThingsOf, FirstByClassIsWanted, UnmarkedIsNowhere}
 use Rattle.class_paths.proofs.Known.{path_knows, path_bare, slot, variable}

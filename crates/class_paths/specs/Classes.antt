@@ -14,9 +14,9 @@ use Rattle.mir_func.specs.declared.item.Item.{Item}
 use Rattle.mir_func.specs.declared.item.ItemKind.{ItemKind}
 use Rattle.mir_func.specs.declared.item.ItemKind.TheVariants.{Code, Mark, Phi}
 use Rattle.mir_func.specs.Graph.{Program, Here, below, Edge}
-use Rattle.mir_meaning.specs.Step.{defined}
-use Rattle.mir_meaning.specs.Token.{Tokens, Path}
-use Rattle.path_tokens.specs.Pullback.{Tracked, InRegister, InSlot, OfPair, OfVariable, OfNumber, token_of, Back, Was, New, Nameless, back, Share}
+use Rattle.sem_mir.specs.Step.{defined}
+use Rattle.sem_mir.specs.Token.{Tokens, Path}
+use Rattle.sem_value_ids.specs.Pullback.{Tracked, InRegister, InSlot, OfPair, OfVariable, OfNumber, token_of, Back, Was, New, Nameless, back, Share}
 
 -- a class for each thing, and 0 for what has no class
 abbrev pub Classes : Type 0

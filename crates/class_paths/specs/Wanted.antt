@@ -7,8 +7,8 @@ use Rattle.mir_func.specs.declared.position.Pos.{Pos}
 use Rattle.mir_func.specs.declared.variable.VarId.{VarId}
 use Rattle.mir_func.specs.declared.item.Item.{Item}
 use Rattle.mir_func.specs.Graph.{Program, Here}
-use Rattle.mir_meaning.specs.Token.{IsPlace, Precedes, IsWanted, NoneIsWanted}
-use Rattle.path_tokens.specs.Pullback.{Tracked, InRegister, InSlot, OfVariable, OfNumber}
+use Rattle.sem_mir.specs.Token.{IsPlace, Precedes, IsWanted, NoneIsWanted}
+use Rattle.sem_value_ids.specs.Pullback.{Tracked, InRegister, InSlot, OfVariable, OfNumber}
 use Rattle.class_paths.specs.Classes.{Classes, IsKnown, HaveOneClass, AreClasses, KnowsItem}
 
 -- what a place holds: a constant's number modulo 2^64

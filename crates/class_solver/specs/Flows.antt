@@ -1,8 +1,8 @@
 -- What flows are of a program: what its blocks do to the tokens of tracked things, and the paths between them.
 use Rattle.std.specs.Prelude.{◌≡◌, ◌↔◌, ◌⊎◌, ℕ, zero, suc, ◌+◌, ◌<◌, List, length, slice_get, slice_index_or, true, false, Option, None, Some, IsSome, Contains}
 use Rattle.mir_func.specs.Graph.{Program}
-use Rattle.mir_meaning.specs.Token.{Token, Made, Tokens, entry_tokens}
-use Rattle.path_tokens.specs.Pullback.{token_of}
+use Rattle.sem_mir.specs.Token.{Token, Made, Tokens, entry_tokens}
+use Rattle.sem_value_ids.specs.Pullback.{token_of}
 use Rattle.class_entries.specs.declared.tracked.Tracked.{Tracked}
 use Rattle.class_entries.specs.declared.entry.BlockEntry.{BlockEntry}
 use Rattle.class_entries.specs.Entry.{thing, PathTo}

@@ -1,6 +1,6 @@
 //! What a block does to the tokens of tracked things, and where control goes from it.
 
-use lists::List;
+use base_list::List;
 use rv64_instr::reg::Reg;
 
 /// Where a thing's token past a block comes from. Things are named by their indices.

@@ -6,7 +6,7 @@ ghost use Rattle.class_solver.specs.Joining.{Hand, IsJoin, IsPast};
 use crate::hand::Exit;
 use crate::meet::{Pairs, meet};
 use class_entries::entry::BlockEntry;
-use lists::List;
+use base_list::List;
 use std::alloc::{AllocError, Global};
 
 /// The join of nothing: all things have one class, and each is given.

@@ -5,7 +5,7 @@ ghost use Rattle.class_solver.specs.declared.flow.Flow.{Flow};
 ghost use Rattle.class_solver.specs.Hands.{ArePredecessors, preds_at};
 
 use crate::flow::{Flow, Ways};
-use lists::List;
+use base_list::List;
 use std::alloc::{AllocError, Global};
 
 /// Notes a block as predecessor of those to which it goes.

@@ -15,7 +15,7 @@ use crate::flow::{Flow, Ways};
 use crate::order::{order, predecessors};
 use crate::turn::sweep;
 use class_entries::entry::{BlockEntries, BlockEntry};
-use lists::List;
+use base_list::List;
 use std::alloc::{AllocError, Global};
 
 /// The entries of all blocks, and how many sweeps there were.

@@ -7,10 +7,10 @@ use Rattle.std.proofs.lemmas.List.Elements.{All-head, All-tail}
 use Rattle.rv64_instr.specs.declared.operand.Operand.{Operand}
 use Rattle.rv64_instr.specs.declared.operand.Operand.TheVariants.{Def, Use, ImplicitDef, ImplicitUse, Imm, Slot, Object, Block, Symbol, Mask}
 use Rattle.mir_func.specs.Sound.{IsNotPointer}
-use Rattle.mir_lexeme.specs.declared.lexeme.Flag.TheVariants as flags
-use Rattle.mir_line.specs.declared.form.OperandForm.{OperandForm}
-use Rattle.mir_line.specs.declared.form.RegisterForm.{RegisterForm}
-use Rattle.mir_item.specs.Code.{is_virtual, is_virtual_operand, is_pointer, is_pointer_operand}
+use Rattle.read_token.specs.declared.lexeme.Flag.TheVariants as flags
+use Rattle.read_line.specs.declared.form.OperandForm.{OperandForm}
+use Rattle.read_line.specs.declared.form.RegisterForm.{RegisterForm}
+use Rattle.read_item.specs.Code.{is_virtual, is_virtual_operand, is_pointer, is_pointer_operand}
 use Rattle.mir_printer.specs.Spelling.{is_definition}
 use Rattle.read_back.specs.Forms.{register_form, operand_form, set_register}
 

@@ -16,7 +16,7 @@ use Rattle.rv64_instr.specs.Arithmetic.{load_width, store_width}
 use Rattle.rv64_instr.specs.Form.{has_12_bits, is_immediate, is_addi, moves_slot, is_implicit, fits_registers, fits_immediate, fits_upper, fits_branch}
 use Rattle.rv64_instr.specs.Form.{fits_load, fits_store, fits_copy, fits_jump, fits_call, has_form, is_within}
 use Rattle.std.specs.Prelude.{pos}
-use Rattle.mir_item.specs.Code.{before, joined, definitions, placed}
+use Rattle.read_item.specs.Code.{before, joined, definitions, placed}
 use Rattle.code_read_back.specs.Code.{judged_operands}
 use Rattle.code_read_back.proofs.Clean.{sets_of, uses_of}
 use Rattle.code_read_back.proofs.Operands.{Gives, given_same, given_slots, given_objects}

@@ -3,33 +3,33 @@ use Rattle.std.proofs.Common.{◌≡◌, ℕ, ◌+◌, ◌≤◌, Bool, true, fa
 use Rattle.std.proofs.Common.{subst, ◌∙◌, arith}
 use Rattle.std.specs.List.{list_any, zip}
 use Rattle.std.proofs.lemmas.Bool.{le-ltb}
-use Rattle.refusal.specs.declared.kind.RefusalKind.{RefusalKind}
-use Rattle.refusal.specs.declared.kind.RefusalKind.TheVariants as kinds
+use Rattle.read_refusal.specs.declared.kind.RefusalKind.{RefusalKind}
+use Rattle.read_refusal.specs.declared.kind.RefusalKind.TheVariants as kinds
 use Rattle.rv64_instr.specs.declared.op.Op.{Op}
 use Rattle.rv64_instr.specs.declared.operand.Operand.{Operand}
 use Rattle.rv64_instr.specs.Instruction.{Instruction}
 use Rattle.rv64_instr.specs.Mnemonic.{mnemonic_of}
 use Rattle.rv64_instr.proofs.Names.{mnemonic_of-injective}
-use Rattle.meta_reader.specs.Maps.{Maps}
+use Rattle.read_metadata.specs.Maps.{Maps}
 use Rattle.mir_func.specs.declared.item.Item.{Item}
 use Rattle.mir_func.specs.declared.item.ItemKind.{ItemKind}
 use Rattle.mir_func.specs.declared.item.ItemKind.TheVariants.{Code, Mark, Phi}
 use Rattle.mir_func.specs.declared.location.Loc.{Loc}
 use Rattle.mir_func.specs.declared.position.Origin.{Origin}
-use Rattle.mir_line.specs.declared.form.BodyLine.{BodyLine}
-use Rattle.mir_line.specs.declared.form.BodyLine.TheVariants.{Item as OfItem}
-use Rattle.mir_line.specs.declared.form.ItemForm.{ItemForm}
-use Rattle.mir_line.specs.declared.form.LineError.{LineError}
-use Rattle.mir_item.specs.declared.judged.Judged.{Judged}
-use Rattle.mir_item.specs.declared.judged.Judged.TheVariants as judged_as
-use Rattle.mir_item.specs.declared.opcode.Opcode.{Opcode}
-use Rattle.mir_item.specs.declared.opcode.Opcode.TheVariants as opcodes
-use Rattle.mir_item.specs.Code.{refusal_by, joined, definitions, placed, names_slot, places_of, fits, is_virtual, is_virtual_operand, is_pointer}
-use Rattle.mir_item.specs.Code.{is_pointer_operand, is_misplaced, is_long, code_rules, operands_of, instruction, unless_refused, code_of}
-use Rattle.mir_item.specs.Judge.{entries_of, numbered, item_of, judged_by, judged}
-use Rattle.mir_item.specs.Opcode.{op_named, debug_opcode_of, opcode_or, opcode_of}
-use Rattle.mir_item.specs.Place.{places}
-use Rattle.mir_item.proofs.Named.{named_op}
+use Rattle.read_line.specs.declared.form.BodyLine.{BodyLine}
+use Rattle.read_line.specs.declared.form.BodyLine.TheVariants.{Item as OfItem}
+use Rattle.read_line.specs.declared.form.ItemForm.{ItemForm}
+use Rattle.read_line.specs.declared.form.LineError.{LineError}
+use Rattle.read_item.specs.declared.judged.Judged.{Judged}
+use Rattle.read_item.specs.declared.judged.Judged.TheVariants as judged_as
+use Rattle.read_item.specs.declared.opcode.Opcode.{Opcode}
+use Rattle.read_item.specs.declared.opcode.Opcode.TheVariants as opcodes
+use Rattle.read_item.specs.Code.{refusal_by, joined, definitions, placed, names_slot, places_of, fits, is_virtual, is_virtual_operand, is_pointer}
+use Rattle.read_item.specs.Code.{is_pointer_operand, is_misplaced, is_long, code_rules, operands_of, instruction, unless_refused, code_of}
+use Rattle.read_item.specs.Judge.{entries_of, numbered, item_of, judged_by, judged}
+use Rattle.read_item.specs.Opcode.{op_named, debug_opcode_of, opcode_or, opcode_of}
+use Rattle.read_item.specs.Place.{places}
+use Rattle.read_item.proofs.Named.{named_op}
 use Rattle.read_back.specs.Debug.{IsDebug}
 use Rattle.read_back.specs.Forms.{code_form, kind_form, form_of}
 use Rattle.read_back.specs.Laws.{IsWritable}

@@ -8,10 +8,10 @@ use Rattle.std.proofs.lemmas.List.Elements.{filter-append}
 use Rattle.rv64_instr.specs.declared.op.Op.{Op}
 use Rattle.rv64_instr.specs.declared.operand.Operand.{Operand}
 use Rattle.rv64_instr.specs.Form.{has_form}
-use Rattle.mir_line.specs.declared.form.OperandForm.{OperandForm}
-use Rattle.mir_line.specs.declared.form.RegisterForm.{RegisterForm}
-use Rattle.mir_item.specs.Code.{joined, definitions, placed, names_slot, is_misplaced}
-use Rattle.mir_item.specs.Place.{places}
+use Rattle.read_line.specs.declared.form.OperandForm.{OperandForm}
+use Rattle.read_line.specs.declared.form.RegisterForm.{RegisterForm}
+use Rattle.read_item.specs.Code.{joined, definitions, placed, names_slot, is_misplaced}
+use Rattle.read_item.specs.Place.{places}
 use Rattle.mir_printer.specs.Printable.{as_slot}
 use Rattle.mir_printer.specs.Spelling.{is_definition}
 use Rattle.read_back.specs.Forms.{operand_form, set_register}

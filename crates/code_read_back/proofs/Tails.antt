@@ -6,7 +6,7 @@ use Rattle.std.proofs.lemmas.Bool.{and_parts}
 use Rattle.rv64_instr.specs.declared.operand.Operand.{Operand}
 use Rattle.rv64_instr.specs.declared.operand.Operand.TheVariants.{Def, Use, ImplicitDef, ImplicitUse, Imm, Slot, Object, Block, Symbol, Mask}
 use Rattle.rv64_instr.specs.Form.{is_implicit, is_argument, is_result}
-use Rattle.mir_item.specs.Code.{before, placed}
+use Rattle.read_item.specs.Code.{before, placed}
 use Rattle.mir_printer.specs.Printable.{as_slot}
 use Rattle.mir_printer.specs.Spelling.{is_definition}
 use Rattle.read_back.specs.Forms.{operand_form, set_register}

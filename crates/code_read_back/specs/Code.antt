@@ -4,15 +4,15 @@ use Rattle.rv64_instr.specs.declared.op.Op.{Op}
 use Rattle.rv64_instr.specs.declared.operand.Operand.{Operand}
 use Rattle.rv64_instr.specs.Form.{has_form}
 use Rattle.rv64_instr.specs.Instruction.{Instruction}
-use Rattle.meta_reader.specs.Maps.{Maps}
+use Rattle.read_metadata.specs.Maps.{Maps}
 use Rattle.mir_func.specs.declared.item.Item.{Item}
 use Rattle.mir_func.specs.declared.item.ItemKind.{ItemKind}
 use Rattle.mir_func.specs.declared.item.ItemKind.TheVariants.{Code, Mark, Phi}
 use Rattle.mir_func.specs.declared.location.Loc.{Loc}
 use Rattle.mir_func.specs.Sound.{IsNotPointer}
-use Rattle.mir_item.specs.declared.judged.Judged.TheVariants as judged_as
-use Rattle.mir_item.specs.Code.{MAX_OPERANDS}
-use Rattle.mir_item.specs.Judge.{entries_of, judged}
+use Rattle.read_item.specs.declared.judged.Judged.TheVariants as judged_as
+use Rattle.read_item.specs.Code.{MAX_OPERANDS}
+use Rattle.read_item.specs.Judge.{entries_of, judged}
 use Rattle.mir_printer.specs.Printable.{as_slot}
 use Rattle.read_back.specs.Debug.{IsDebug}
 use Rattle.read_back.specs.Forms.{form_of}

@@ -5,7 +5,7 @@ ghost use Rattle.command_line.specs.Fault.{input_line, name_of, status_of};
 ghost use Rattle.command_line.specs.declared.fault.Fault.TheVariants.{Memory};
 
 use crate::status::Status;
-use refusal::first::Refusal;
+use read_refusal::first::Refusal;
 use std::alloc::AllocError;
 
 /// Why a run didn't come to its end.

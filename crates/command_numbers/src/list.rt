@@ -5,7 +5,7 @@ ghost use Rattle.std.specs.List.{slice_split};
 ghost use Rattle.command_numbers.specs.Numbers.{AreListed, AreSpelled, IsOption};
 
 use crate::number::number;
-use lists::List;
+use base_list::List;
 use std::alloc::{AllocError, Global};
 
 /// Numbers, in their order.

@@ -1,7 +1,7 @@
 -- What is compiled of functions whose code is alike has the same `.text`.
 use Rattle.std.proofs.Common.{◌≡◌, ℕ, ◌+◌, ◌*◌, [], ◌∷◌, length, ap, subst}
-use Rattle.code_words.specs.Rule.{words_of}
-use Rattle.compiled_text.specs.declared.output.ListedFunction.{ListedFunction}
+use Rattle.emit_code.specs.Rule.{words_of}
+use Rattle.listing_text.specs.declared.output.ListedFunction.{ListedFunction}
 use Rattle.text_alone.specs.Text.{AreLaid}
 use Rattle.text_alone.proofs.Text.{alike_text}
 use Rattle.compiled_alone.specs.Compiled.{functions_of, CompiledIsLaid, CompiledHasSameText}

@@ -1,13 +1,13 @@
 -- Outputs of what passes made of sources, whatever debug items stand in it.
 use Rattle.std.specs.Prelude.{◌≡◌, ℕ, List, map}
 use Rattle.mir_func.specs.Function.{Function}
-use Rattle.code_words.specs.Rule.{Layout}
-use Rattle.compiled_text.specs.declared.output.ListedFunction.{ListedFunction}
-use Rattle.compiled_text.specs.declared.output.Output.{Output}
+use Rattle.emit_code.specs.Rule.{Layout}
+use Rattle.listing_text.specs.declared.output.ListedFunction.{ListedFunction}
+use Rattle.listing_text.specs.declared.output.Output.{Output}
 use Rattle.dwarf_loclists.specs.declared.range.Range.{Range}
 use Rattle.frames_alike.specs.Alike.{HaveAlikeCode}
-use Rattle.output_promise.specs.Compiled.{AreCompiled, IsCompiledProgram}
-use Rattle.output_promise.specs.Source.{PassedFunction}
+use Rattle.compile_theorem.specs.Compiled.{AreCompiled, IsCompiledProgram}
+use Rattle.compile_theorem.specs.Source.{PassedFunction}
 use Rattle.text_alone.specs.Text.{AreLaid, OneByOne}
 
 -- the functions that passes made of sources

@@ -23,17 +23,17 @@ use Rattle.mir_func.specs.declared.variable.MarkValue.{MarkValue}
 use Rattle.mir_func.specs.declared.variable.MarkValue.TheVariants.{Nothing, Constant, At, Pair}
 use Rattle.mir_func.specs.Function.{Function}
 use Rattle.mir_func.specs.Sound.{AreApart, ids_of, items_of, OriginIn, IsSound}
-use Rattle.mir_meaning.specs.Align.{position_of, is_code}
-use Rattle.mir_meaning.proofs.Reading.{apart_tail, within_list}
-use Rattle.follow_law.specs.Causes.{is_position, is_origin, IsFewer, IsRemoved}
-use Rattle.follow_law.specs.Change.{Change, change}
-use Rattle.follow_law.specs.Rule.{IsCopy, item}
-use Rattle.follow_law.specs.Debug.{RegisterStays, ValueStays, PlaceStays, IsKillAt, Becomes, mark_stays, phi_stays, code_stays, code_numbered}
-use Rattle.follow_law.specs.Debug.{code_unnumbered, code_goes, substituted, salvaged}
-use Rattle.follow_law.specs.Debug.{BecomeAll, over, next, BlocksBecome, none, stays as block_stays}
-use Rattle.salvage.specs.Salvage.{phi_for}
-use Rattle.copy_pass.specs.Copied.{SoFar, over_items, at_block, BlocksSoFar, next_block, over_blocks}
-use Rattle.copy_rule.specs.Rule.{begins, salvaged_function, salvaged_entries}
+use Rattle.sem_mir.specs.Align.{position_of, is_code}
+use Rattle.sem_mir.proofs.Reading.{apart_tail, within_list}
+use Rattle.pass_trait.specs.Causes.{is_position, is_origin, IsFewer, IsRemoved}
+use Rattle.pass_trait.specs.Change.{Change, change}
+use Rattle.pass_trait.specs.Rule.{IsCopy, item}
+use Rattle.pass_trait.specs.Debug.{RegisterStays, ValueStays, PlaceStays, IsKillAt, Becomes, mark_stays, phi_stays, code_stays, code_numbered}
+use Rattle.pass_trait.specs.Debug.{code_unnumbered, code_goes, substituted, salvaged}
+use Rattle.pass_trait.specs.Debug.{BecomeAll, over, next, BlocksBecome, none, stays as block_stays}
+use Rattle.pass_salvage.specs.Salvage.{phi_for}
+use Rattle.copyprop_block.specs.Copied.{SoFar, over_items, at_block, BlocksSoFar, next_block, over_blocks}
+use Rattle.copyprop_rule.specs.Rule.{begins, salvaged_function, salvaged_entries}
 use Rattle.copy_debug.specs.Ledger.{Line, line, over_lines, lines_in, ledger}
 use Rattle.copy_debug.specs.Rule.{HasLine, copy_debug_rule}
 use Rattle.copy_debug.proofs.Lines.{IsEnteredIn, LineIs, mark, phi, code, numbered, out, out_entered, out_phi, LinesAre, no_lines, next_line, all_now}

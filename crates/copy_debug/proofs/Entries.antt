@@ -20,16 +20,16 @@ use Rattle.mir_func.specs.declared.item.ItemKind.TheVariants.{Code, Mark, Phi}
 use Rattle.mir_func.specs.Function.{Function}
 use Rattle.mir_func.specs.Resolve.{is_pair, entry_of}
 use Rattle.mir_func.specs.Sound.{items_of, number_of, code_number, IsSound}
-use Rattle.follow_law.specs.Rule.{item, first_operand}
-use Rattle.substitution.proofs.Entries.{entry_of-push, is_pair-true}
-use Rattle.salvage.specs.declared.way.Way.{Way}
-use Rattle.salvage.specs.declared.way.Way.TheVariants.{HasEntry, GetsEntry, GetsPhi}
-use Rattle.salvage.specs.Way.{or_fresh, has_entry, asks_for, may_stand, way}
-use Rattle.salvage.specs.Salvage.{with_number, numbered_at, phi_for, entry_for}
-use Rattle.salvage.proofs.Chosen.{IsEntered, entered}
+use Rattle.pass_trait.specs.Rule.{item, first_operand}
+use Rattle.mir_substitution.proofs.Entries.{entry_of-push, is_pair-true}
+use Rattle.pass_salvage.specs.declared.way.Way.{Way}
+use Rattle.pass_salvage.specs.declared.way.Way.TheVariants.{HasEntry, GetsEntry, GetsPhi}
+use Rattle.pass_salvage.specs.Way.{or_fresh, has_entry, asks_for, may_stand, way}
+use Rattle.pass_salvage.specs.Salvage.{with_number, numbered_at, phi_for, entry_for}
+use Rattle.pass_salvage.proofs.Chosen.{IsEntered, entered}
 use Rattle.sound_edits.proofs.Numbers.{IsUnlike, AreUnlike, all_first, all_second}
-use Rattle.copy_pass.specs.Roots.{renamed, known_source}
-use Rattle.copy_pass.specs.Copied.{SoFar, renamed_kind, goes_by, by_fate, salvaged, next_item}
+use Rattle.copyprop_block.specs.Roots.{renamed, known_source}
+use Rattle.copyprop_block.specs.Copied.{SoFar, renamed_kind, goes_by, by_fate, salvaged, next_item}
 use Rattle.copy_removal.proofs.Around.{with_block}
 use Rattle.copy_removal.proofs.Others.{BlocksUnlike, flat_unlike, Others, others_of}
 use Rattle.copy_removal.proofs.Under.{KindUnder, AreUnder, EntryUnder, under_unlike, no_entry}

@@ -17,23 +17,23 @@ use Rattle.mir_func.specs.declared.item.ItemKind.TheVariants.{Code, Mark, Phi}
 use Rattle.mir_func.specs.Function.{Function}
 use Rattle.mir_func.specs.Resolve.{Ends, at}
 use Rattle.mir_func.specs.Sound.{items_of, number_of, code_number, IsSound}
-use Rattle.follow_law.specs.Change.{Change, change}
-use Rattle.follow_law.specs.Rule.{item, numbers_on}
-use Rattle.follow_law.specs.Debug.{IsFor, KeepsItems}
-use Rattle.follow_law.specs.Steps.{KeepsSteps}
-use Rattle.follow_law.specs.declared.loss.Loss.{Loss}
-use Rattle.salvage.specs.declared.way.Way.{Way}
-use Rattle.salvage.specs.declared.way.Way.TheVariants.{HasEntry, GetsEntry, GetsPhi}
-use Rattle.salvage.specs.Way.{way}
-use Rattle.salvage.specs.Salvage.{numbered_at, phi_for, entry_for}
-use Rattle.salvage.proofs.Chosen.{entered}
+use Rattle.pass_trait.specs.Change.{Change, change}
+use Rattle.pass_trait.specs.Rule.{item, numbers_on}
+use Rattle.pass_trait.specs.Debug.{IsFor, KeepsItems}
+use Rattle.pass_trait.specs.Steps.{KeepsSteps}
+use Rattle.pass_trait.specs.declared.loss.Loss.{Loss}
+use Rattle.pass_salvage.specs.declared.way.Way.{Way}
+use Rattle.pass_salvage.specs.declared.way.Way.TheVariants.{HasEntry, GetsEntry, GetsPhi}
+use Rattle.pass_salvage.specs.Way.{way}
+use Rattle.pass_salvage.specs.Salvage.{numbered_at, phi_for, entry_for}
+use Rattle.pass_salvage.proofs.Chosen.{entered}
 use Rattle.sound_edits.proofs.Numbers.{IsUnlike, AreUnlike, all_second}
-use Rattle.copy_pass.specs.declared.roots.Root.{Root}
-use Rattle.copy_pass.specs.Roots.{renamed, known_source}
-use Rattle.copy_pass.specs.Copied.{SoFar, renamed_kind, renamed_item, roots_with, goes_by, by_fate, salvaged, next_item, over_items, at_block}
-use Rattle.copy_pass.specs.Copied.{BlocksSoFar, next_block, over_blocks}
-use Rattle.copy_rule.specs.Rule.{begins, salvaged_function, salvaged_entries}
-use Rattle.copy_rule.proofs.Stripped.{code_is_copied}
+use Rattle.copyprop_block.specs.declared.roots.Root.{Root}
+use Rattle.copyprop_block.specs.Roots.{renamed, known_source}
+use Rattle.copyprop_block.specs.Copied.{SoFar, renamed_kind, renamed_item, roots_with, goes_by, by_fate, salvaged, next_item, over_items, at_block}
+use Rattle.copyprop_block.specs.Copied.{BlocksSoFar, next_block, over_blocks}
+use Rattle.copyprop_rule.specs.Rule.{begins, salvaged_function, salvaged_entries}
+use Rattle.copyprop_rule.proofs.Stripped.{code_is_copied}
 use Rattle.copy_runs.specs.Renamed.{known_after, renamed_items, renamed_block}
 use Rattle.copy_removal.proofs.Around.{block_of, with_block}
 use Rattle.copy_removal.proofs.Others.{Others}

@@ -21,20 +21,20 @@ use Rattle.mir_func.specs.declared.variable.VarId.{VarId}
 use Rattle.mir_func.specs.declared.variable.MarkValue.{MarkValue}
 use Rattle.rv64_instr.specs.declared.place.Place.{Place}
 use Rattle.mir_func.specs.Resolve.{is_pair, entry_of}
-use Rattle.mir_meaning.specs.Align.{is_code}
-use Rattle.follow_law.specs.Causes.{is_origin}
-use Rattle.follow_law.specs.Rule.{IsCopy, item, first_operand}
-use Rattle.salvage.specs.declared.way.Way.{Way}
-use Rattle.salvage.specs.declared.way.Way.TheVariants.{HasEntry, GetsEntry, GetsPhi}
-use Rattle.salvage.specs.Way.{has_entry, or_fresh, may_stand, way_by, way_of_kind, way_at, way_from, way, first_definition, last_definition}
-use Rattle.salvage.specs.Salvage.{with_number, numbered_at, phi_for, entry_for, entries_for, above_after, put_for}
-use Rattle.substitution.proofs.Entries.{is_pair-same, entry_of-push}
-use Rattle.salvage.proofs.Chosen.{IsEntered, entered}
-use Rattle.copy_pass.specs.declared.roots.Root.{Root}
-use Rattle.copy_pass.specs.Roots.{renamed, known_source, roots_after}
-use Rattle.copy_pass.specs.Copied.{SoFar, goes_with, goes_by, by_fate, salvaged, next_item, over_items, at_block}
-use Rattle.copy_rule.proofs.Rows.{rooted, KeepsZero, row_renamed}
-use Rattle.copy_rule.proofs.Sizes.{known_moves}
+use Rattle.sem_mir.specs.Align.{is_code}
+use Rattle.pass_trait.specs.Causes.{is_origin}
+use Rattle.pass_trait.specs.Rule.{IsCopy, item, first_operand}
+use Rattle.pass_salvage.specs.declared.way.Way.{Way}
+use Rattle.pass_salvage.specs.declared.way.Way.TheVariants.{HasEntry, GetsEntry, GetsPhi}
+use Rattle.pass_salvage.specs.Way.{has_entry, or_fresh, may_stand, way_by, way_of_kind, way_at, way_from, way, first_definition, last_definition}
+use Rattle.pass_salvage.specs.Salvage.{with_number, numbered_at, phi_for, entry_for, entries_for, above_after, put_for}
+use Rattle.mir_substitution.proofs.Entries.{is_pair-same, entry_of-push}
+use Rattle.pass_salvage.proofs.Chosen.{IsEntered, entered}
+use Rattle.copyprop_block.specs.declared.roots.Root.{Root}
+use Rattle.copyprop_block.specs.Roots.{renamed, known_source, roots_after}
+use Rattle.copyprop_block.specs.Copied.{SoFar, goes_with, goes_by, by_fate, salvaged, next_item, over_items, at_block}
+use Rattle.copyprop_rule.proofs.Rows.{rooted, KeepsZero, row_renamed}
+use Rattle.copyprop_rule.proofs.Sizes.{known_moves}
 use Rattle.copy_runs.proofs.Known.{IsClean, keeps_zero}
 use Rattle.copy_debug.specs.Ledger.{Line, gained_by, numbered_in, numbered_line, line, lines_above, phi_of, lines_by_fate, next_lines, over_lines}
 

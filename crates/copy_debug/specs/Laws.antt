@@ -3,9 +3,9 @@ use Rattle.std.specs.Prelude.{List, [], ◌∷◌}
 use Rattle.mir_func.specs.declared.entry.Entry.{Entry}
 use Rattle.mir_func.specs.Function.{Function}
 use Rattle.mir_func.specs.Sound.{IsSound}
-use Rattle.follow_law.specs.Change.{change}
-use Rattle.follow_law.specs.Steps.{KeepsSteps}
-use Rattle.copy_rule.specs.Rule.{salvaged_function, salvaged_entries}
+use Rattle.pass_trait.specs.Change.{change}
+use Rattle.pass_trait.specs.Steps.{KeepsSteps}
+use Rattle.copyprop_rule.specs.Rule.{salvaged_function, salvaged_entries}
 use Rattle.copy_debug.specs.Rule.{copy_step}
 
 -- each mark, phi and number stays, or an entry or a phi stands for it, and nothing is lost

@@ -6,14 +6,14 @@ use Rattle.mir_func.specs.declared.item.Item.{Item}
 use Rattle.mir_func.specs.declared.item.ItemKind.{ItemKind}
 use Rattle.mir_func.specs.declared.item.ItemKind.TheVariants.{Code, Mark, Phi}
 use Rattle.mir_func.specs.Function.{Function}
-use Rattle.salvage.specs.declared.way.Way.{Way}
-use Rattle.salvage.specs.declared.way.Way.TheVariants.{HasEntry, GetsEntry, GetsPhi}
-use Rattle.salvage.specs.Way.{way}
-use Rattle.salvage.specs.Salvage.{with_number, put_for}
-use Rattle.copy_pass.specs.declared.copies.Fate.{Fate}
-use Rattle.copy_pass.specs.declared.copies.Fate.TheVariants.{Stays, Goes, GoesWith}
-use Rattle.copy_pass.specs.Copied.{SoFar, renamed_item, fate_of, next_item, at_block, BlocksSoFar, next_block}
-use Rattle.copy_rule.specs.Rule.{begins}
+use Rattle.pass_salvage.specs.declared.way.Way.{Way}
+use Rattle.pass_salvage.specs.declared.way.Way.TheVariants.{HasEntry, GetsEntry, GetsPhi}
+use Rattle.pass_salvage.specs.Way.{way}
+use Rattle.pass_salvage.specs.Salvage.{with_number, put_for}
+use Rattle.copyprop_block.specs.declared.copies.Fate.{Fate}
+use Rattle.copyprop_block.specs.declared.copies.Fate.TheVariants.{Stays, Goes, GoesWith}
+use Rattle.copyprop_block.specs.Copied.{SoFar, renamed_item, fate_of, next_item, at_block, BlocksSoFar, next_block}
+use Rattle.copyprop_rule.specs.Rule.{begins}
 
 -- what stands for an item, the number that it got, and the register of the phi that stands for it
 pub record Line : Type 0 where

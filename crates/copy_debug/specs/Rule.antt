@@ -3,10 +3,10 @@ use Rattle.std.specs.Prelude.{◌≡◌, ℕ, List, [], ◌++◌, Option, Some, 
 use Rattle.rv64_instr.specs.declared.place.Place.{Place}
 use Rattle.rv64_instr.specs.declared.place.Place.TheVariants.{Register}
 use Rattle.mir_func.specs.declared.position.Pos.{Pos}
-use Rattle.follow_law.specs.Change.{Change}
-use Rattle.follow_law.specs.Rule.{Rule}
-use Rattle.follow_law.specs.Steps.{Step}
-use Rattle.copy_rule.specs.Rule.{IsCopied, salvaged_entries}
+use Rattle.pass_trait.specs.Change.{Change}
+use Rattle.pass_trait.specs.Rule.{Rule}
+use Rattle.pass_trait.specs.Steps.{Step}
+use Rattle.copyprop_rule.specs.Rule.{IsCopied, salvaged_entries}
 use Rattle.copy_debug.specs.Ledger.{Line, ledger}
 
 -- the ledger's line of the item at a place

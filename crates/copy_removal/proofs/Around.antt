@@ -4,8 +4,8 @@ use Rattle.std.proofs.lemmas.List.Elements.{All-head, All-tail}
 use Rattle.mir_func.specs.declared.block.Block.{Block}
 use Rattle.mir_func.specs.declared.item.Item.{Item}
 use Rattle.mir_func.specs.Function.{Function}
-use Rattle.salvage.proofs.Kin.{kin_itself}
-use Rattle.salvage.proofs.Edits.{Edits, Edited, over, pair, BlocksEdited, no_blocks, next_block}
+use Rattle.pass_salvage.proofs.Kin.{kin_itself}
+use Rattle.pass_salvage.proofs.Edits.{Edits, Edited, over, pair, BlocksEdited, no_blocks, next_block}
 use Rattle.sound_edits.specs.Edits.{AreEdited, AreBlocksEdited, no_items, stays, with_phi, goes, same_kind, no_blocks as nothing_edited}
 use Rattle.sound_edits.specs.Edits.{next_block as and_edited}
 

@@ -17,22 +17,22 @@ use Rattle.mir_func.specs.declared.item.ItemKind.{ItemKind}
 use Rattle.mir_func.specs.declared.item.ItemKind.TheVariants.{Code, Mark, Phi}
 use Rattle.mir_func.specs.Function.{Function}
 use Rattle.mir_func.specs.Sound.{items_of, IsSound}
-use Rattle.follow_law.specs.Change.{change}
-use Rattle.follow_law.specs.Rule.{item}
-use Rattle.salvage.specs.declared.way.Way.{Way}
-use Rattle.salvage.specs.declared.way.Way.TheVariants.{HasEntry, GetsEntry, GetsPhi}
-use Rattle.salvage.specs.Way.{or_fresh, way}
-use Rattle.salvage.specs.Salvage.{with_number, numbered_at, phi_for, entry_for, fresh_after}
-use Rattle.salvage.proofs.Chosen.{IsEntered, entered}
+use Rattle.pass_trait.specs.Change.{change}
+use Rattle.pass_trait.specs.Rule.{item}
+use Rattle.pass_salvage.specs.declared.way.Way.{Way}
+use Rattle.pass_salvage.specs.declared.way.Way.TheVariants.{HasEntry, GetsEntry, GetsPhi}
+use Rattle.pass_salvage.specs.Way.{or_fresh, way}
+use Rattle.pass_salvage.specs.Salvage.{with_number, numbered_at, phi_for, entry_for, fresh_after}
+use Rattle.pass_salvage.proofs.Chosen.{IsEntered, entered}
 use Rattle.dead_code.specs.Loose.{KeepsLoosely}
 use Rattle.sound_edits.proofs.Numbers.{AreUnlike, all_second}
-use Rattle.copy_pass.specs.declared.roots.Root.{Root}
-use Rattle.copy_pass.specs.Roots.{root_of, renamed, known_source, roots_after}
-use Rattle.copy_pass.specs.Copied.{SoFar, renamed_kind, renamed_item, roots_with, goes_by, by_fate, salvaged, next_item, over_items, at_block}
-use Rattle.copy_pass.specs.Copied.{BlocksSoFar, next_block, over_blocks}
-use Rattle.copy_rule.specs.Rule.{goes}
-use Rattle.copy_rule.proofs.Rows.{row_renamed, moves_by}
-use Rattle.copy_rule.proofs.Sizes.{known_moves}
+use Rattle.copyprop_block.specs.declared.roots.Root.{Root}
+use Rattle.copyprop_block.specs.Roots.{root_of, renamed, known_source, roots_after}
+use Rattle.copyprop_block.specs.Copied.{SoFar, renamed_kind, renamed_item, roots_with, goes_by, by_fate, salvaged, next_item, over_items, at_block}
+use Rattle.copyprop_block.specs.Copied.{BlocksSoFar, next_block, over_blocks}
+use Rattle.copyprop_rule.specs.Rule.{goes}
+use Rattle.copyprop_rule.proofs.Rows.{row_renamed, moves_by}
+use Rattle.copyprop_rule.proofs.Sizes.{known_moves}
 use Rattle.copy_runs.specs.Renamed.{known_after, renamed_items, renamed_block}
 use Rattle.copy_runs.proofs.Known.{IsClean, clean_none, keeps_zero, clean_after, not_itself}
 use Rattle.copy_runs.proofs.Renaming.{rooted_moves, none_known}

@@ -10,15 +10,15 @@ use Rattle.mir_func.specs.Function.{Function}
 use Rattle.mir_func.specs.Graph.{Program, program_of}
 use Rattle.mir_func.specs.Resolve.{resolve}
 use Rattle.mir_func.specs.Sound.{items_of, IsSound}
-use Rattle.follow_law.specs.Change.{change}
-use Rattle.follow_law.specs.Following.{KeepsFollowing}
-use Rattle.follow_law.specs.Sizes.{numbers_of, greatest_number}
-use Rattle.salvage.proofs.Edits.{no_blocks}
+use Rattle.pass_trait.specs.Change.{change}
+use Rattle.pass_trait.specs.Following.{KeepsFollowing}
+use Rattle.pass_trait.specs.Sizes.{numbers_of, greatest_number}
+use Rattle.pass_salvage.proofs.Edits.{no_blocks}
 use Rattle.dead_code.specs.Loose.{KeepsLoosely}
 use Rattle.dead_code.proofs.Settled.{loosely}
 use Rattle.sound_edits.proofs.Numbers.{all_first, all_second}
-use Rattle.copy_pass.specs.Copied.{BlocksSoFar, over_blocks}
-use Rattle.copy_rule.specs.Rule.{begins, salvaged_function, salvaged_entries}
+use Rattle.copyprop_block.specs.Copied.{BlocksSoFar, over_blocks}
+use Rattle.copyprop_rule.specs.Rule.{begins, salvaged_function, salvaged_entries}
 use Rattle.copy_runs.specs.Renamed.{renamed_block, renamed_function}
 use Rattle.copy_runs.proofs.Renamed.{renaming_follows}
 use Rattle.copy_removal.specs.Laws.{CopiesFollow}

@@ -6,10 +6,10 @@ use Rattle.std.proofs.lemmas.List.Elements.{All-nil, All-cons}
 use Rattle.rv64_instr.specs.declared.operand.Operand.{Operand}
 use Rattle.rv64_instr.specs.declared.place.Place.TheVariants.{Register}
 use Rattle.mir_func.specs.declared.item.Item.{Item}
-use Rattle.mir_meaning.specs.Step.{defined}
-use Rattle.follow_law.specs.Causes.{defines}
-use Rattle.salvage.specs.Salvage.{with_number, numbered_at}
-use Rattle.salvage.specs.Way.{further, last_definition, is_register, here_or, first_definition}
+use Rattle.sem_mir.specs.Step.{defined}
+use Rattle.pass_trait.specs.Causes.{defines}
+use Rattle.pass_salvage.specs.Salvage.{with_number, numbered_at}
+use Rattle.pass_salvage.specs.Way.{further, last_definition, is_register, here_or, first_definition}
 
 -- what stands above an item of a list and behind it
 pub record Split (xs : List Item) (d n : ℕ) (x : Item) : Type 0 where

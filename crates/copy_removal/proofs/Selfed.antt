@@ -16,23 +16,23 @@ use Rattle.mir_func.specs.declared.item.Item.{Item}
 use Rattle.mir_func.specs.declared.item.ItemKind.{ItemKind}
 use Rattle.mir_func.specs.declared.item.ItemKind.TheVariants.{Code, Mark, Phi}
 use Rattle.mir_func.specs.Graph.{below, block_start, KindEdge, RowEdge}
-use Rattle.mir_meaning.specs.Align.{is_code}
-use Rattle.mir_meaning.specs.Follow.{OnRow, Counts}
-use Rattle.follow_law.specs.Rule.{item}
-use Rattle.salvage.specs.declared.way.Way.{Way}
-use Rattle.salvage.specs.declared.way.Way.TheVariants.{HasEntry, GetsEntry, GetsPhi}
-use Rattle.salvage.specs.Way.{way}
-use Rattle.salvage.specs.Salvage.{with_number, numbered_at, phi_for}
-use Rattle.salvage.proofs.Kin.{Kin, code_kin, mark_kin, phi_kin, kin_itself, kin_save, kin_edge}
-use Rattle.salvage.proofs.Edits.{Edits, Edited, over, pair, out, put, BlocksEdited, no_blocks, next_block}
+use Rattle.sem_mir.specs.Align.{is_code}
+use Rattle.sem_mir.specs.Follow.{OnRow, Counts}
+use Rattle.pass_trait.specs.Rule.{item}
+use Rattle.pass_salvage.specs.declared.way.Way.{Way}
+use Rattle.pass_salvage.specs.declared.way.Way.TheVariants.{HasEntry, GetsEntry, GetsPhi}
+use Rattle.pass_salvage.specs.Way.{way}
+use Rattle.pass_salvage.specs.Salvage.{with_number, numbered_at, phi_for}
+use Rattle.pass_salvage.proofs.Kin.{Kin, code_kin, mark_kin, phi_kin, kin_itself, kin_save, kin_edge}
+use Rattle.pass_salvage.proofs.Edits.{Edits, Edited, over, pair, out, put, BlocksEdited, no_blocks, next_block}
 use Rattle.sound_edits.specs.Edits.{IsMove}
-use Rattle.copy_pass.specs.declared.roots.Root.{Root}
-use Rattle.copy_pass.specs.Roots.{root_of, renamed, known_source, outlives, roots_after}
-use Rattle.copy_pass.specs.Copied.{SoFar, renamed_kind, renamed_item, roots_with, goes_by, by_fate, salvaged, next_item, over_items, at_block}
-use Rattle.copy_pass.specs.Copied.{BlocksSoFar, next_block as block_next, over_blocks}
-use Rattle.copy_rule.specs.Rule.{goes}
-use Rattle.copy_rule.proofs.Rows.{rooted, row_renamed, moves_by}
-use Rattle.copy_rule.proofs.Sizes.{known_moves}
+use Rattle.copyprop_block.specs.declared.roots.Root.{Root}
+use Rattle.copyprop_block.specs.Roots.{root_of, renamed, known_source, outlives, roots_after}
+use Rattle.copyprop_block.specs.Copied.{SoFar, renamed_kind, renamed_item, roots_with, goes_by, by_fate, salvaged, next_item, over_items, at_block}
+use Rattle.copyprop_block.specs.Copied.{BlocksSoFar, next_block as block_next, over_blocks}
+use Rattle.copyprop_rule.specs.Rule.{goes}
+use Rattle.copyprop_rule.proofs.Rows.{rooted, row_renamed, moves_by}
+use Rattle.copyprop_rule.proofs.Sizes.{known_moves}
 use Rattle.copy_runs.specs.Renamed.{known_after}
 use Rattle.copy_runs.proofs.Known.{IsClean, keeps_zero, not_itself}
 use Rattle.copy_runs.proofs.Renaming.{rooted_moves, none_known, some_known}

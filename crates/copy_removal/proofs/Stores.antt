@@ -21,23 +21,23 @@ use Rattle.mir_func.specs.declared.item.ItemKind.TheVariants.{Code, Mark, Phi}
 use Rattle.mir_func.specs.Graph.{Fetch, Here, Silent, Outside, Program, below, block_start, end_of, front, fetch_in, from_block, program_of, KindEdge}
 use Rattle.mir_func.specs.Graph.{RowEdge, FetchEdge, Edge, Leads, stay, go}
 use Rattle.mir_func.specs.Sound.{AreApart, ids_of, OriginIn}
-use Rattle.mir_meaning.specs.Align.{position_of, is_code}
-use Rattle.mir_meaning.specs.Follow.{OnRow, Counts, IsMetApart, KindFits, MayAdd}
-use Rattle.mir_meaning.proofs.Reading.{found, found_in, front_item, item_front, within_list}
-use Rattle.follow_law.specs.Rule.{item}
-use Rattle.salvage.specs.declared.way.Way.{Way}
-use Rattle.salvage.specs.declared.way.Way.TheVariants.{HasEntry, GetsEntry, GetsPhi}
-use Rattle.salvage.specs.Way.{way}
-use Rattle.salvage.specs.Salvage.{with_number, numbered_at, phi_for}
-use Rattle.salvage.proofs.Kin.{Kin, code_kin, mark_kin, phi_kin, kin_itself}
-use Rattle.salvage.proofs.Edits.{Edits, Edited, over, pair, out, put, BlocksEdited, no_blocks, next_block}
-use Rattle.salvage.proofs.EditPaths.{stores_on}
+use Rattle.sem_mir.specs.Align.{position_of, is_code}
+use Rattle.sem_mir.specs.Follow.{OnRow, Counts, IsMetApart, KindFits, MayAdd}
+use Rattle.sem_mir.proofs.Reading.{found, found_in, front_item, item_front, within_list}
+use Rattle.pass_trait.specs.Rule.{item}
+use Rattle.pass_salvage.specs.declared.way.Way.{Way}
+use Rattle.pass_salvage.specs.declared.way.Way.TheVariants.{HasEntry, GetsEntry, GetsPhi}
+use Rattle.pass_salvage.specs.Way.{way}
+use Rattle.pass_salvage.specs.Salvage.{with_number, numbered_at, phi_for}
+use Rattle.pass_salvage.proofs.Kin.{Kin, code_kin, mark_kin, phi_kin, kin_itself}
+use Rattle.pass_salvage.proofs.Edits.{Edits, Edited, over, pair, out, put, BlocksEdited, no_blocks, next_block}
+use Rattle.pass_salvage.proofs.EditPaths.{stores_on}
 use Rattle.sound_edits.specs.Edits.{IsMove}
-use Rattle.copy_pass.specs.declared.roots.Root.{Root}
-use Rattle.copy_pass.specs.Roots.{renamed, known_source, roots_after}
-use Rattle.copy_pass.specs.Copied.{SoFar, renamed_kind, roots_with, goes_by, by_fate, salvaged, next_item, over_items, at_block, BlocksSoFar}
-use Rattle.copy_pass.specs.Copied.{next_block as block_next, over_blocks}
-use Rattle.copy_rule.specs.Rule.{goes}
+use Rattle.copyprop_block.specs.declared.roots.Root.{Root}
+use Rattle.copyprop_block.specs.Roots.{renamed, known_source, roots_after}
+use Rattle.copyprop_block.specs.Copied.{SoFar, renamed_kind, roots_with, goes_by, by_fate, salvaged, next_item, over_items, at_block, BlocksSoFar}
+use Rattle.copyprop_block.specs.Copied.{next_block as block_next, over_blocks}
+use Rattle.copyprop_rule.specs.Rule.{goes}
 use Rattle.copy_runs.specs.Renamed.{known_after}
 use Rattle.copy_runs.proofs.Known.{IsClean, clean_none}
 use Rattle.copy_removal.proofs.Chain.{clean_next, next_roots}

@@ -11,17 +11,17 @@ use Rattle.mir_func.specs.Function.{Function}
 use Rattle.mir_func.specs.Graph.{Program, program_of}
 use Rattle.mir_func.specs.Resolve.{resolve}
 use Rattle.mir_func.specs.Sound.{IsSound}
-use Rattle.follow_law.specs.Change.{change}
-use Rattle.salvage.specs.Salvage.{with_number, numbered_at}
-use Rattle.salvage.proofs.Kin.{kin_itself}
-use Rattle.salvage.proofs.Edits.{Edited, pair, out}
+use Rattle.pass_trait.specs.Change.{change}
+use Rattle.pass_salvage.specs.Salvage.{with_number, numbered_at}
+use Rattle.pass_salvage.proofs.Kin.{kin_itself}
+use Rattle.pass_salvage.proofs.Edits.{Edited, pair, out}
 use Rattle.dead_code.specs.Loose.{KeepsLoosely}
 use Rattle.dead_numbers.proofs.Edited.{edited_loosely}
 use Rattle.sound_edits.specs.Edits.{IsMove, AreEdited, goes}
 use Rattle.sound_edits.proofs.Numbers.{IsUnlike, AreUnlike, drops, fewer_same, fewer_behind}
 use Rattle.sound_edits.proofs.Sound.{edited_sound}
-use Rattle.copy_pass.specs.declared.roots.Root.{Root}
-use Rattle.copy_pass.specs.Copied.{roots_with}
+use Rattle.copyprop_block.specs.declared.roots.Root.{Root}
+use Rattle.copyprop_block.specs.Copied.{roots_with}
 use Rattle.copy_removal.proofs.Around.{with_block, stays_items, stays_blocks, around, edited_same, edited_above, edited_around}
 use Rattle.copy_removal.proofs.Others.{BlocksUnlike, Others, once_around}
 use Rattle.copy_removal.proofs.Taken.{IsNoSelfCopy, TakenPair, teaches, passes, TakenOut, takes, taken_edits, taken_allows, TakenCores, taken_keeps}

@@ -14,30 +14,30 @@ use Rattle.mir_func.specs.declared.item.Item.{Item}
 use Rattle.mir_func.specs.declared.item.ItemKind.{ItemKind}
 use Rattle.mir_func.specs.declared.item.ItemKind.TheVariants.{Code, Mark, Phi}
 use Rattle.mir_func.specs.Graph.{Program, below, KindEdge, RowEdge}
-use Rattle.mir_meaning.specs.State.{Core}
-use Rattle.mir_meaning.specs.Step.{Outcome, Falls, Goes, Gives, Traps, Asks, Breaks, act, numbered, do_item}
-use Rattle.mir_meaning.specs.Effects.{held_in, OnCore, EndAlike, FallsInto}
-use Rattle.mir_meaning.specs.Align.{is_code, is_jump, is_jump_row}
-use Rattle.mir_meaning.specs.Follow.{KindFits, MayAdd, OnRow, GoesTo, SameEnd, KindsEndAlike, MarkFits}
-use Rattle.mir_meaning.proofs.Outcomes.{alike_weaker}
-use Rattle.simulation.specs.Sides.{OutcomesAlike}
-use Rattle.simulation.specs.InPlace.{FallsOrTraps}
-use Rattle.simulation.proofs.Outcomes.{alike_of}
-use Rattle.follow_law.specs.Rule.{item}
-use Rattle.held_alike.specs.Alike.{Alike, ButDefined}
-use Rattle.held_alike.proofs.Outcomes.{alike_both, falls_both, falls_weaker, on_with, held_numbered, leaves_pair}
-use Rattle.held_alike.proofs.Held.{held_itself}
-use Rattle.held_alike.proofs.Told.{tells_itself}
-use Rattle.held_alike.proofs.Items.{code_first}
-use Rattle.held_alike.proofs.Views.{falls_or_traps, pure_form, shows_alike}
-use Rattle.salvage.proofs.Edits.{Edits}
-use Rattle.salvage.proofs.EditRuns.{Keeps}
-use Rattle.salvage.proofs.EditFollows.{Allows}
-use Rattle.salvage.proofs.NumberOff.{Everywhere}
+use Rattle.sem_mir.specs.State.{Core}
+use Rattle.sem_mir.specs.Step.{Outcome, Falls, Goes, Gives, Traps, Asks, Breaks, act, numbered, do_item}
+use Rattle.sem_mir.specs.Effects.{held_in, OnCore, EndAlike, FallsInto}
+use Rattle.sem_mir.specs.Align.{is_code, is_jump, is_jump_row}
+use Rattle.sem_mir.specs.Follow.{KindFits, MayAdd, OnRow, GoesTo, SameEnd, KindsEndAlike, MarkFits}
+use Rattle.sem_mir.proofs.Outcomes.{alike_weaker}
+use Rattle.sem_simulation.specs.Sides.{OutcomesAlike}
+use Rattle.sem_simulation.specs.InPlace.{FallsOrTraps}
+use Rattle.sem_simulation.proofs.Outcomes.{alike_of}
+use Rattle.pass_trait.specs.Rule.{item}
+use Rattle.sem_agreement.specs.Alike.{Alike, ButDefined}
+use Rattle.sem_agreement.proofs.Outcomes.{alike_both, falls_both, falls_weaker, on_with, held_numbered, leaves_pair}
+use Rattle.sem_agreement.proofs.Held.{held_itself}
+use Rattle.sem_agreement.proofs.Told.{tells_itself}
+use Rattle.sem_agreement.proofs.Items.{code_first}
+use Rattle.sem_agreement.proofs.Views.{falls_or_traps, pure_form, shows_alike}
+use Rattle.pass_salvage.proofs.Edits.{Edits}
+use Rattle.pass_salvage.proofs.EditRuns.{Keeps}
+use Rattle.pass_salvage.proofs.EditFollows.{Allows}
+use Rattle.pass_salvage.proofs.NumberOff.{Everywhere}
 use Rattle.sound_edits.proofs.Numbers.{IsUnlike}
-use Rattle.copy_pass.specs.declared.roots.Root.{Root}
-use Rattle.copy_pass.specs.Roots.{root_of, roots_after}
-use Rattle.copy_pass.specs.Copied.{roots_with}
+use Rattle.copyprop_block.specs.declared.roots.Root.{Root}
+use Rattle.copyprop_block.specs.Roots.{root_of, roots_after}
+use Rattle.copyprop_block.specs.Copied.{roots_with}
 use Rattle.copy_runs.proofs.Known.{Holds, holds_none, act_holds, known_leaves, holds_same}
 use Rattle.copy_runs.proofs.Renaming.{NoFree, item_same}
 

@@ -26,18 +26,18 @@ use Rattle.mir_func.specs.Function.{Function}
 use Rattle.mir_func.specs.Graph.{Program, program_of}
 use Rattle.mir_func.specs.Resolve.{is_pair, entry_of, resolve}
 use Rattle.mir_func.specs.Sound.{items_of, number_of, code_number, LeavesPointer, EndsWell, IsSound, NumbersOnce}
-use Rattle.mir_meaning.specs.Step.{defined, do_item}
-use Rattle.mir_meaning.specs.Live.{KindDefines}
-use Rattle.follow_law.specs.Causes.{defines}
-use Rattle.follow_law.specs.Change.{change}
-use Rattle.follow_law.specs.Rule.{item, first_operand}
-use Rattle.substitution.proofs.Entries.{is_pair-same}
-use Rattle.salvage.specs.Salvage.{numbered_at, entry_for}
-use Rattle.salvage.specs.Way.{has_entry, or_fresh, asks_for, is_just, may_stand}
-use Rattle.salvage.proofs.Chosen.{IsEntered}
-use Rattle.salvage.proofs.Kin.{row_itself, code_kin}
-use Rattle.salvage.proofs.Edits.{Edits, Edited, pair}
-use Rattle.salvage.proofs.NumberOff.{Side, Outside, Inside, Off, outside, opens, inside, closes, off_edits, IsOther, AsksOutside, AsksInside}
+use Rattle.sem_mir.specs.Step.{defined, do_item}
+use Rattle.sem_mir.specs.Live.{KindDefines}
+use Rattle.pass_trait.specs.Causes.{defines}
+use Rattle.pass_trait.specs.Change.{change}
+use Rattle.pass_trait.specs.Rule.{item, first_operand}
+use Rattle.mir_substitution.proofs.Entries.{is_pair-same}
+use Rattle.pass_salvage.specs.Salvage.{numbered_at, entry_for}
+use Rattle.pass_salvage.specs.Way.{has_entry, or_fresh, asks_for, is_just, may_stand}
+use Rattle.pass_salvage.proofs.Chosen.{IsEntered}
+use Rattle.pass_salvage.proofs.Kin.{row_itself, code_kin}
+use Rattle.pass_salvage.proofs.Edits.{Edits, Edited, pair}
+use Rattle.pass_salvage.proofs.NumberOff.{Side, Outside, Inside, Off, outside, opens, inside, closes, off_edits, IsOther, AsksOutside, AsksInside}
 use Rattle.dead_numbers.proofs.Numbers.{number_to_code}
 use Rattle.sound_edits.specs.Edits.{AreEdited, stays, same_code}
 use Rattle.sound_edits.proofs.Numbers.{IsUnlike, AreUnlike, all_first, all_second, unlike_above, unlike_behind, HasNoOther, has_same, HaveFewer}

@@ -15,11 +15,11 @@ use Rattle.mir_func.specs.Function.{Function}
 use Rattle.mir_func.specs.Graph.{Program, program_of}
 use Rattle.mir_func.specs.Resolve.{resolve}
 use Rattle.mir_func.specs.Sound.{LeavesPointer, IsSound}
-use Rattle.follow_law.specs.Change.{change}
-use Rattle.follow_law.specs.Rule.{item}
-use Rattle.salvage.proofs.Kin.{row_itself, code_kin}
-use Rattle.salvage.proofs.Edits.{Edits, Edited, pair, put}
-use Rattle.salvage.proofs.NumberPhi.{Spot, Elsewhere, Behind, PhiPair, elsewhere, closes, PhiPut, puts, phi_edits}
+use Rattle.pass_trait.specs.Change.{change}
+use Rattle.pass_trait.specs.Rule.{item}
+use Rattle.pass_salvage.proofs.Kin.{row_itself, code_kin}
+use Rattle.pass_salvage.proofs.Edits.{Edits, Edited, pair, put}
+use Rattle.pass_salvage.proofs.NumberPhi.{Spot, Elsewhere, Behind, PhiPair, elsewhere, closes, PhiPut, puts, phi_edits}
 use Rattle.dead_numbers.proofs.Numbers.{number_to_phi}
 use Rattle.sound_edits.specs.Edits.{phi_before, with_phi, same_code}
 use Rattle.sound_edits.proofs.Numbers.{IsUnlike, AreUnlike, HasNoOther, keeps, puts as puts_none, fewer_same, fewer_behind}

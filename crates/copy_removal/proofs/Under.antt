@@ -13,12 +13,12 @@ use Rattle.mir_func.specs.declared.item.ItemKind.TheVariants.{Code, Mark, Phi}
 use Rattle.mir_func.specs.declared.variable.MarkValue.TheVariants.{Nothing, Constant, At, Pair}
 use Rattle.mir_func.specs.Resolve.{is_pair, entry_of, resolve, Ends, at, by}
 use Rattle.mir_func.specs.Sound.{items_of, AllItems}
-use Rattle.follow_law.specs.Sizes.{greatest, numbers_of}
-use Rattle.substitution.proofs.Chains.{resolve_ends}
-use Rattle.salvage.specs.Salvage.{with_number}
+use Rattle.pass_trait.specs.Sizes.{greatest, numbers_of}
+use Rattle.mir_substitution.proofs.Chains.{resolve_ends}
+use Rattle.pass_salvage.specs.Salvage.{with_number}
 use Rattle.sound_edits.proofs.Numbers.{IsUnlike, all_first, all_second}
-use Rattle.copy_pass.specs.declared.roots.Root.{Root}
-use Rattle.copy_pass.specs.Copied.{renamed_kind}
+use Rattle.copyprop_block.specs.declared.roots.Root.{Root}
+use Rattle.copyprop_block.specs.Copied.{renamed_kind}
 
 -- the numbers of an item, and of a substitution
 abbrev pub KindUnder : ℕ → ItemKind → Type 0

@@ -18,13 +18,13 @@ use Rattle.rv64_instr.specs.Access.{reads}
 use Rattle.rv64_instr.specs.Parts.{is_call}
 use Rattle.mir_func.specs.declared.item.ItemKind.TheVariants.{Code}
 use Rattle.mir_func.specs.Graph.{Program}
-use Rattle.mir_meaning.specs.State.{Core, content, updated}
-use Rattle.mir_meaning.specs.Step.{Outcome, Falls, Goes, Traps, or_zero, read, input_value, base_value, address_at, is_fault, set_register, loaded}
-use Rattle.mir_meaning.specs.Step.{put_in_memory}
-use Rattle.mir_meaning.specs.Step.{does, are_written, act, numbered, given, defined, with_core, do_item}
-use Rattle.copy_pass.specs.declared.roots.Root.{Root}
-use Rattle.copy_pass.specs.Roots.{root_of, renamed_operand, renamed}
-use Rattle.copy_rule.proofs.Rows.{rooted_input, rooted_base, rooted, KeepsZero, row_renamed, call_rooted}
+use Rattle.sem_mir.specs.State.{Core, content, updated}
+use Rattle.sem_mir.specs.Step.{Outcome, Falls, Goes, Traps, or_zero, read, input_value, base_value, address_at, is_fault, set_register, loaded}
+use Rattle.sem_mir.specs.Step.{put_in_memory}
+use Rattle.sem_mir.specs.Step.{does, are_written, act, numbered, given, defined, with_core, do_item}
+use Rattle.copyprop_block.specs.declared.roots.Root.{Root}
+use Rattle.copyprop_block.specs.Roots.{root_of, renamed_operand, renamed}
+use Rattle.copyprop_rule.proofs.Rows.{rooted_input, rooted_base, rooted, KeepsZero, row_renamed, call_rooted}
 
 module _ (e : List Root) (d : Core) (holds : (r : ℕ) → content d.regs r ≡ content d.regs (root_of e r)) where
   read_root : (r : ℕ) → read d (root_of e r) ≡ read d r

@@ -9,15 +9,15 @@ use Rattle.rv64_instr.specs.declared.place.Place.TheVariants.{Register, Slot, Co
 use Rattle.rv64_instr.specs.Instruction.{Instruction}
 use Rattle.rv64_instr.specs.Row.{Row, Fixes, Moves, Sets, Addresses, Loads, Stores, LoadsSlot, StoresSlot, Branches, Jumps, Calls, Returns, Unfit, row_of}
 use Rattle.rv64_instr.specs.Parts.{defines_of, moved_by, set_by}
-use Rattle.mir_meaning.specs.State.{Core, content}
-use Rattle.mir_meaning.specs.Step.{Outcome, Falls, Goes, Gives, Traps, Asks, Breaks, act}
-use Rattle.mir_meaning.specs.Effects.{held_in, OnCore}
-use Rattle.mir_meaning.proofs.Parts.{effects_hold}
-use Rattle.mir_meaning.proofs.Places.{contains_head, contains_tail}
-use Rattle.held_alike.proofs.Outcomes.{on_all, on_given}
-use Rattle.copy_pass.specs.declared.roots.Root.{Root}
-use Rattle.copy_pass.specs.Roots.{root_of, known_source, outlives, forgotten, learned, roots_after}
-use Rattle.copy_rule.proofs.Rows.{KeepsZero}
+use Rattle.sem_mir.specs.State.{Core, content}
+use Rattle.sem_mir.specs.Step.{Outcome, Falls, Goes, Gives, Traps, Asks, Breaks, act}
+use Rattle.sem_mir.specs.Effects.{held_in, OnCore}
+use Rattle.sem_mir.proofs.Parts.{effects_hold}
+use Rattle.sem_mir.proofs.Places.{contains_head, contains_tail}
+use Rattle.sem_agreement.proofs.Outcomes.{on_all, on_given}
+use Rattle.copyprop_block.specs.declared.roots.Root.{Root}
+use Rattle.copyprop_block.specs.Roots.{root_of, known_source, outlives, forgotten, learned, roots_after}
+use Rattle.copyprop_rule.proofs.Rows.{KeepsZero}
 
 -- ---- lists
 

@@ -28,16 +28,16 @@ use Rattle.mir_func.specs.Resolve.{resolve}
 use Rattle.mir_func.specs.Graph.{Program, program_of}
 use Rattle.mir_func.specs.Sound.{AreApart, AllItems, ids_of, items_of, number_of, code_number, NumbersOnce, OriginIn, TargetIn, TargetsIn, SlotIn, SlotsIn}
 use Rattle.mir_func.specs.Sound.{BaseHasBytes, ObjectIn, ObjectsIn, IsNotPointer, LeavesPointer, IsJumpAtMost, MayFollow, EndsWell, Closes, LastCloses, IsSound}
-use Rattle.mir_meaning.specs.State.{Core}
-use Rattle.salvage.proofs.Edits.{Edited, over, pair, BlocksEdited, no_blocks, next_block}
-use Rattle.salvage.proofs.EditFollows.{Allows}
+use Rattle.sem_mir.specs.State.{Core}
+use Rattle.pass_salvage.proofs.Edits.{Edited, over, pair, BlocksEdited, no_blocks, next_block}
+use Rattle.pass_salvage.proofs.EditFollows.{Allows}
 use Rattle.dead_numbers.proofs.Edited.{edited_loosely}
-use Rattle.copy_pass.specs.declared.roots.Root.{Root}
-use Rattle.copy_pass.specs.Roots.{root_of, renamed_operand, renamed, known_source, outlives, roots_after}
-use Rattle.copy_pass.specs.Copied.{renamed_kind, renamed_item, roots_with}
-use Rattle.copy_rule.specs.Rule.{goes}
-use Rattle.copy_rule.proofs.Rows.{rooted_base, rooted, KeepsZero, row_renamed, MovesBy, moves_by}
-use Rattle.copy_rule.proofs.Roots.{Reals, real_root, real_after}
+use Rattle.copyprop_block.specs.declared.roots.Root.{Root}
+use Rattle.copyprop_block.specs.Roots.{root_of, renamed_operand, renamed, known_source, outlives, roots_after}
+use Rattle.copyprop_block.specs.Copied.{renamed_kind, renamed_item, roots_with}
+use Rattle.copyprop_rule.specs.Rule.{goes}
+use Rattle.copyprop_rule.proofs.Rows.{rooted_base, rooted, KeepsZero, row_renamed, MovesBy, moves_by}
+use Rattle.copyprop_rule.proofs.Roots.{Reals, real_root, real_after}
 use Rattle.copy_runs.specs.Renamed.{known_after, renamed_items, renamed_block, renamed_function, RenamingFollows}
 use Rattle.copy_runs.proofs.Known.{IsClean, clean_none, keeps_zero, clean_after}
 use Rattle.copy_runs.proofs.RootedKind.{kind_kin}

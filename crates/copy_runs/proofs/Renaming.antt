@@ -10,28 +10,28 @@ use Rattle.mir_func.specs.declared.item.ItemKind.{ItemKind}
 use Rattle.mir_func.specs.declared.item.ItemKind.TheVariants.{Code, Mark, Phi}
 use Rattle.mir_func.specs.declared.variable.MarkValue.TheVariants.{Nothing, Constant, At, Pair}
 use Rattle.mir_func.specs.Graph.{Program}
-use Rattle.mir_meaning.specs.State.{Core}
-use Rattle.mir_meaning.specs.Step.{Outcome, Falls, Goes, Gives, Traps, Asks, Breaks, act, numbered, pair_value, do_item}
-use Rattle.mir_meaning.specs.Effects.{held_in, OnCore, EndAlike}
-use Rattle.mir_meaning.specs.Align.{is_code}
-use Rattle.mir_meaning.proofs.Outcomes.{alike_weaker}
-use Rattle.simulation.specs.Sides.{OutcomesAlike, ShowsSame}
-use Rattle.simulation.proofs.Outcomes.{alike_of}
-use Rattle.held_alike.specs.Alike.{TellsNoMore, Alike, OrDefined, HeldAfter, NumbersHeld, Depends}
-use Rattle.held_alike.proofs.Outcomes.{alike_both, on_with, held_numbered}
-use Rattle.held_alike.proofs.Held.{held_fewer, held_itself}
-use Rattle.held_alike.proofs.Told.{tells_itself}
-use Rattle.held_alike.proofs.Items.{item_both}
-use Rattle.held_alike.proofs.Views.{shows_alike}
-use Rattle.salvage.proofs.Edits.{Edits}
-use Rattle.salvage.proofs.EditRuns.{Keeps}
-use Rattle.salvage.proofs.NumberOff.{Everywhere}
-use Rattle.copy_pass.specs.declared.roots.Root.{Root}
-use Rattle.copy_pass.specs.Roots.{root_of, renamed, known_source, roots_after}
-use Rattle.copy_pass.specs.Copied.{renamed_kind, renamed_item, roots_with}
-use Rattle.copy_rule.specs.Rule.{goes}
-use Rattle.copy_rule.proofs.Rows.{rooted, row_renamed}
-use Rattle.copy_rule.proofs.Sizes.{known_moves}
+use Rattle.sem_mir.specs.State.{Core}
+use Rattle.sem_mir.specs.Step.{Outcome, Falls, Goes, Gives, Traps, Asks, Breaks, act, numbered, pair_value, do_item}
+use Rattle.sem_mir.specs.Effects.{held_in, OnCore, EndAlike}
+use Rattle.sem_mir.specs.Align.{is_code}
+use Rattle.sem_mir.proofs.Outcomes.{alike_weaker}
+use Rattle.sem_simulation.specs.Sides.{OutcomesAlike, ShowsSame}
+use Rattle.sem_simulation.proofs.Outcomes.{alike_of}
+use Rattle.sem_agreement.specs.Alike.{TellsNoMore, Alike, OrDefined, HeldAfter, NumbersHeld, Depends}
+use Rattle.sem_agreement.proofs.Outcomes.{alike_both, on_with, held_numbered}
+use Rattle.sem_agreement.proofs.Held.{held_fewer, held_itself}
+use Rattle.sem_agreement.proofs.Told.{tells_itself}
+use Rattle.sem_agreement.proofs.Items.{item_both}
+use Rattle.sem_agreement.proofs.Views.{shows_alike}
+use Rattle.pass_salvage.proofs.Edits.{Edits}
+use Rattle.pass_salvage.proofs.EditRuns.{Keeps}
+use Rattle.pass_salvage.proofs.NumberOff.{Everywhere}
+use Rattle.copyprop_block.specs.declared.roots.Root.{Root}
+use Rattle.copyprop_block.specs.Roots.{root_of, renamed, known_source, roots_after}
+use Rattle.copyprop_block.specs.Copied.{renamed_kind, renamed_item, roots_with}
+use Rattle.copyprop_rule.specs.Rule.{goes}
+use Rattle.copyprop_rule.proofs.Rows.{rooted, row_renamed}
+use Rattle.copyprop_rule.proofs.Sizes.{known_moves}
 use Rattle.copy_runs.proofs.Known.{IsClean, keeps_zero, not_itself, Holds, holds_none, holds_root, act_holds, known_leaves, holds_same, on_weaker}
 use Rattle.copy_runs.proofs.Acts.{do_root}
 

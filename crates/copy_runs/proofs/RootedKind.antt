@@ -7,12 +7,12 @@ use Rattle.mir_func.specs.declared.item.ItemKind.{ItemKind}
 use Rattle.mir_func.specs.declared.item.ItemKind.TheVariants.{Code, Mark, Phi}
 use Rattle.mir_func.specs.declared.position.Pos.{Pos}
 use Rattle.mir_func.specs.Graph.{RowEdge, below, block_start}
-use Rattle.mir_meaning.specs.Follow.{SameEnd, IsEnd}
-use Rattle.salvage.proofs.Kin.{GoesAlike, RowKin, row_itself, Kin, code_kin, kin_itself}
-use Rattle.copy_pass.specs.declared.roots.Root.{Root}
-use Rattle.copy_pass.specs.Roots.{root_of, renamed}
-use Rattle.copy_pass.specs.Copied.{renamed_kind}
-use Rattle.copy_rule.proofs.Rows.{rooted, KeepsZero, row_renamed}
+use Rattle.sem_mir.specs.Follow.{SameEnd, IsEnd}
+use Rattle.pass_salvage.proofs.Kin.{GoesAlike, RowKin, row_itself, Kin, code_kin, kin_itself}
+use Rattle.copyprop_block.specs.declared.roots.Root.{Root}
+use Rattle.copyprop_block.specs.Roots.{root_of, renamed}
+use Rattle.copyprop_block.specs.Copied.{renamed_kind}
+use Rattle.copyprop_rule.proofs.Rows.{rooted, KeepsZero, row_renamed}
 
 -- no end of a block is of these rows
 abbrev NoEnd : Row → Type 0

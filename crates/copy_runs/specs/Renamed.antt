@@ -6,11 +6,11 @@ use Rattle.mir_func.specs.declared.item.Item.{Item}
 use Rattle.mir_func.specs.declared.item.ItemKind.{ItemKind}
 use Rattle.mir_func.specs.Function.{Function}
 use Rattle.mir_func.specs.Sound.{IsSound}
-use Rattle.follow_law.specs.Change.{change}
+use Rattle.pass_trait.specs.Change.{change}
 use Rattle.dead_code.specs.Loose.{KeepsLoosely}
-use Rattle.copy_pass.specs.declared.roots.Root.{Root}
-use Rattle.copy_pass.specs.Copied.{renamed_kind, renamed_item, roots_with}
-use Rattle.copy_rule.specs.Rule.{goes}
+use Rattle.copyprop_block.specs.declared.roots.Root.{Root}
+use Rattle.copyprop_block.specs.Copied.{renamed_kind, renamed_item, roots_with}
+use Rattle.copyprop_rule.specs.Rule.{goes}
 
 -- what is known after a renamed item: a copy that is known teaches nothing
 abbrev pub known_after : List Root → ItemKind → List Root

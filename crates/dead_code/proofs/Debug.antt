@@ -19,20 +19,20 @@ use Rattle.mir_func.specs.Function.{Function}
 use Rattle.mir_func.specs.Sound.{ids_of, OriginIn, IsSound}
 use Rattle.mir_func.specs.Graph.{Fetch, Here, front, fetch_in, from_block}
 use Rattle.mir_func.specs.Successors.{pos_in}
-use Rattle.mir_meaning.specs.Align.{position_of, is_code}
-use Rattle.mir_meaning.specs.Live.{Defines, KindDefines}
-use Rattle.mir_meaning.proofs.Reading.{found, found_in}
-use Rattle.simulation.proofs.Laid.{rest_in, rest_of}
-use Rattle.follow_law.specs.declared.loss.Reason.TheVariants.{Removed, WrongPlace}
-use Rattle.follow_law.specs.declared.loss.Loss.{Loss}
-use Rattle.follow_law.specs.Change.{Change}
-use Rattle.follow_law.specs.Rule.{item, StandsAt}
-use Rattle.follow_law.specs.Causes.{is_position, is_origin, old_program, defines, Comes}
-use Rattle.follow_law.specs.Causes.{begins, goes_on, IsFewer, IsRemoved, IsRemovedDefinition, IsKeptDefinition}
-use Rattle.follow_law.specs.Causes.{IsAfter, IsWrong, removed, HasCause, code_removed, place_wrong}
-use Rattle.follow_law.specs.Debug.{RegisterStays, ValueStays, PlaceStays, IsKillAt, Becomes}
-use Rattle.follow_law.specs.Debug.{mark_stays, phi_stays, code_stays, code_unnumbered, code_goes, number_goes}
-use Rattle.follow_law.specs.Debug.{mark_silenced, phi_silenced, BecomeAll, over, next, BlocksBecome, none, stays as block_stays, IsLoss, IsFor, KeepsItems}
+use Rattle.sem_mir.specs.Align.{position_of, is_code}
+use Rattle.sem_mir.specs.Live.{Defines, KindDefines}
+use Rattle.sem_mir.proofs.Reading.{found, found_in}
+use Rattle.sem_simulation.proofs.Laid.{rest_in, rest_of}
+use Rattle.pass_trait.specs.declared.loss.Reason.TheVariants.{Removed, WrongPlace}
+use Rattle.pass_trait.specs.declared.loss.Loss.{Loss}
+use Rattle.pass_trait.specs.Change.{Change}
+use Rattle.pass_trait.specs.Rule.{item, StandsAt}
+use Rattle.pass_trait.specs.Causes.{is_position, is_origin, old_program, defines, Comes}
+use Rattle.pass_trait.specs.Causes.{begins, goes_on, IsFewer, IsRemoved, IsRemovedDefinition, IsKeptDefinition}
+use Rattle.pass_trait.specs.Causes.{IsAfter, IsWrong, removed, HasCause, code_removed, place_wrong}
+use Rattle.pass_trait.specs.Debug.{RegisterStays, ValueStays, PlaceStays, IsKillAt, Becomes}
+use Rattle.pass_trait.specs.Debug.{mark_stays, phi_stays, code_stays, code_unnumbered, code_goes, number_goes}
+use Rattle.pass_trait.specs.Debug.{mark_silenced, phi_silenced, BecomeAll, over, next, BlocksBecome, none, stays as block_stays, IsLoss, IsFor, KeepsItems}
 use Rattle.dead_code.specs.Dead.{Places, Ends, is_dead, needed_at, paths_of}
 use Rattle.dead_code.specs.Wrong.{begins_dead, silenced, silenced_left, taken_out, is_dead_at, IsWrongAt, made, on}
 use Rattle.dead_code.specs.Out.{LosesOf, LosesAt, NoCopies, AreLosses, AreWrong, out_rule}

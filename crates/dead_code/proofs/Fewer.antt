@@ -18,10 +18,10 @@ use Rattle.mir_func.specs.Sound.{items_of}
 use Rattle.mir_func.specs.SoundFrame.{HasPhysical}
 use Rattle.mir_func.specs.Graph.{from_block}
 use Rattle.mir_func.specs.Successors.{pos_in}
-use Rattle.mir_meaning.specs.Align.{is_code}
-use Rattle.simulation.proofs.Laid.{rest_in, rest_of}
-use Rattle.follow_law.specs.Change.{change}
-use Rattle.follow_law.specs.Sizes.{greatest, most_numbers, numbers_of, calls, KeepsSizes}
+use Rattle.sem_mir.specs.Align.{is_code}
+use Rattle.sem_simulation.proofs.Laid.{rest_in, rest_of}
+use Rattle.pass_trait.specs.Change.{change}
+use Rattle.pass_trait.specs.Sizes.{greatest, most_numbers, numbers_of, calls, KeepsSizes}
 use Rattle.dead_code.specs.Dead.{Places, Ends, is_dead, needed_at}
 use Rattle.dead_code.specs.Wrong.{silenced, silenced_left, taken_out}
 use Rattle.dead_code.proofs.Lists.{quiet, quiet_is, taken}

@@ -24,26 +24,26 @@ use Rattle.mir_func.specs.Sound.{AllItems, IsSound, OriginIn, HasForm}
 use Rattle.mir_func.specs.Graph.{Fetch, Here, Silent, Outside, Program, below, block_start, fetch_in, from_block, program_of, KindEdge, RowEdge, FetchEdge}
 use Rattle.mir_func.specs.Resolve.{resolve}
 use Rattle.mir_func.specs.Successors.{pos_in}
-use Rattle.mir_meaning.specs.State.{State}
-use Rattle.mir_meaning.specs.Step.{Faulted, moved, do_fetch}
-use Rattle.mir_meaning.specs.Align.{is_jump, is_jump_row, waits_at, moves_on, Count, ByItems, ByEnds, station_at, Arrives, here, onward, AnyOrigin, RunsAlong}
-use Rattle.mir_meaning.specs.Align.{After, since_of}
-use Rattle.mir_meaning.specs.Follow.{MayAdd, KindFits, MarkFits, InOrder, next_rank, Among, none}
-use Rattle.mir_meaning.specs.Follow.{same, left, first_of, OnRow, GoesTo, IsStart, SameEnd, ItemHasClass}
-use Rattle.mir_meaning.specs.Follow.{IsEnd, KindsEndAlike, EndIsKept, EndComesFrom, IsRead}
-use Rattle.mir_meaning.proofs.Edges.{step_edge}
-use Rattle.mir_meaning.proofs.Reading.{found, found_in, front_item, front_end, end_index, within_list}
-use Rattle.simulation.specs.Refinement.{FaultsAt}
-use Rattle.simulation.specs.Sides.{Laid}
-use Rattle.simulation.specs.InPlace.{IsIdleAt}
-use Rattle.simulation.proofs.Ahead.{idles_ahead}
-use Rattle.simulation.proofs.Order.{rank_next}
-use Rattle.simulation.proofs.Written.{HasPhysicalResults, has_physical_results}
-use Rattle.simulation.proofs.Laid.{rest_of, laid_out}
-use Rattle.held_alike.proofs.Held.{held_itself}
-use Rattle.held_alike.proofs.Told.{tells_itself}
-use Rattle.follow_law.specs.Change.{change}
-use Rattle.follow_law.specs.Following.{Source}
+use Rattle.sem_mir.specs.State.{State}
+use Rattle.sem_mir.specs.Step.{Faulted, moved, do_fetch}
+use Rattle.sem_mir.specs.Align.{is_jump, is_jump_row, waits_at, moves_on, Count, ByItems, ByEnds, station_at, Arrives, here, onward, AnyOrigin, RunsAlong}
+use Rattle.sem_mir.specs.Align.{After, since_of}
+use Rattle.sem_mir.specs.Follow.{MayAdd, KindFits, MarkFits, InOrder, next_rank, Among, none}
+use Rattle.sem_mir.specs.Follow.{same, left, first_of, OnRow, GoesTo, IsStart, SameEnd, ItemHasClass}
+use Rattle.sem_mir.specs.Follow.{IsEnd, KindsEndAlike, EndIsKept, EndComesFrom, IsRead}
+use Rattle.sem_mir.proofs.Edges.{step_edge}
+use Rattle.sem_mir.proofs.Reading.{found, found_in, front_item, front_end, end_index, within_list}
+use Rattle.sem_simulation.specs.Refinement.{FaultsAt}
+use Rattle.sem_simulation.specs.Sides.{Laid}
+use Rattle.sem_simulation.specs.InPlace.{IsIdleAt}
+use Rattle.sem_simulation.proofs.Ahead.{idles_ahead}
+use Rattle.sem_simulation.proofs.Order.{rank_next}
+use Rattle.sem_simulation.proofs.Written.{HasPhysicalResults, has_physical_results}
+use Rattle.sem_simulation.proofs.Laid.{rest_of, laid_out}
+use Rattle.sem_agreement.proofs.Held.{held_itself}
+use Rattle.sem_agreement.proofs.Told.{tells_itself}
+use Rattle.pass_trait.specs.Change.{change}
+use Rattle.pass_trait.specs.Following.{Source}
 use Rattle.dead_code.specs.Dead.{Places, Ends, is_dead_row, is_dead, needed_at}
 use Rattle.dead_code.specs.Wrong.{silenced, silenced_left, taken_out, IsWrongAt, IsClosed}
 use Rattle.dead_code.specs.Loose.{LooseShape, KeepsLoosely}

@@ -19,9 +19,9 @@ use Rattle.rv64_instr.specs.Row.{Row, Calls, row_by, row_of, immediate_row, obje
 use Rattle.rv64_instr.specs.Access.{sets, caller_saved}
 use Rattle.rv64_instr.specs.Parts.{is_pure, is_call, defines_of}
 use Rattle.mir_func.specs.Sound.{IsNotPointer}
-use Rattle.mir_meaning.specs.Step.{defined}
-use Rattle.mir_meaning.proofs.Parts.{row_defines}
-use Rattle.held_alike.specs.Alike.{OrDefined, NumbersHeld}
+use Rattle.sem_mir.specs.Step.{defined}
+use Rattle.sem_mir.proofs.Parts.{row_defines}
+use Rattle.sem_agreement.specs.Alike.{OrDefined, NumbersHeld}
 
 -- ---- operands that define nothing
 

@@ -16,8 +16,8 @@ use Rattle.mir_func.specs.declared.item.ItemKind.TheVariants.{Code, Mark, Phi}
 use Rattle.mir_func.specs.Graph.{Here, Silent, Program, block_start, end_of, front, fetch_in, from_block, program_of}
 use Rattle.mir_func.specs.Successors.{pos_in}
 use Rattle.mir_func.specs.Sound.{items_of}
-use Rattle.mir_meaning.proofs.Reading.{found_in}
-use Rattle.simulation.proofs.Laid.{rest_in, rest_of}
+use Rattle.sem_mir.proofs.Reading.{found_in}
+use Rattle.sem_simulation.proofs.Laid.{rest_in, rest_of}
 use Rattle.dead_code.specs.Dead.{Places, Ends, is_dead, needed_at}
 use Rattle.dead_code.specs.Wrong.{silenced, silenced_left, silenced_block}
 use Rattle.dead_code.specs.Gone.{judged, judged_of}

@@ -16,9 +16,9 @@ use Rattle.mir_func.specs.Function.{Function}
 use Rattle.mir_func.specs.Sound.{EndsWell}
 use Rattle.mir_func.specs.Graph.{Fetch, Here, Program, below, block_start, from_block, fetch_in, end_of, front, Edge, FetchEdge}
 use Rattle.mir_func.specs.Successors.{pos_in, ComesDown}
-use Rattle.mir_meaning.specs.Live.{Uses, KindUses, Defines, KindDefines, Live, used, later}
-use Rattle.simulation.specs.Sides.{Laid}
-use Rattle.simulation.proofs.Laid.{rest_in, rest_of, laid_out}
+use Rattle.sem_mir.specs.Live.{Uses, KindUses, Defines, KindDefines, Live, used, later}
+use Rattle.sem_simulation.specs.Sides.{Laid}
+use Rattle.sem_simulation.proofs.Laid.{rest_in, rest_of, laid_out}
 use Rattle.dead_code.specs.Dead.{Places, Ends, is_dead_row, needed_before, needed_at, paths_of, LiveAtEnd}
 use Rattle.dead_code.specs.Wrong.{IsClosed}
 use Rattle.dead_code.proofs.Unneeded.{dead_sets, ends_at, passes_on}

@@ -6,8 +6,8 @@ use Rattle.mir_func.specs.declared.item.Item.{Item}
 use Rattle.mir_func.specs.declared.item.ItemKind.{ItemKind}
 use Rattle.mir_func.specs.declared.item.ItemKind.TheVariants.{Code, Mark, Phi}
 use Rattle.mir_func.specs.Function.{Function}
-use Rattle.mir_meaning.specs.Align.{is_code}
-use Rattle.follow_law.specs.Code.{HasOneResult, SeesCodeAlone, AreAlike, placeless_item, placeless_block, placeless}
+use Rattle.sem_mir.specs.Align.{is_code}
+use Rattle.pass_trait.specs.Code.{HasOneResult, SeesCodeAlone, AreAlike, placeless_item, placeless_block, placeless}
 use Rattle.dead_code.specs.Dead.{Places, Ends, is_dead, needed_before, needed_at, without_dead}
 use Rattle.dead_code.specs.Dead.{thinned_block, thinned, LiveAtEnd, IsRound, IsThinnedOut, over, again}
 use Rattle.dead_code.specs.Same.{SameItems, none, both, first, second, SameBlocks, no_blocks, one_more}

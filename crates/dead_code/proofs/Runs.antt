@@ -21,28 +21,28 @@ use Rattle.mir_func.specs.Function.{Function}
 use Rattle.mir_func.specs.Sound.{AllItems, IsSound, number_of, code_number, LeavesPointer, OriginIn, HasForm}
 use Rattle.mir_func.specs.Graph.{Fetch, Here, Silent, Program, below, block_start, from_block, index_of, program_of, Edge, FetchEdge}
 use Rattle.mir_func.specs.Successors.{pos_in}
-use Rattle.mir_meaning.specs.State.{Core, State}
-use Rattle.mir_meaning.specs.Step.{Outcome, Falls, Goes, Gives, Traps, Asks, Breaks, Went, moved, do_item, do_fetch}
-use Rattle.mir_meaning.specs.Step.{pair_value}
-use Rattle.mir_meaning.specs.Align.{position_of, is_code, is_jump, is_jump_row, Count, moves_on}
-use Rattle.mir_meaning.specs.Align.{end_station, station_at, IsOrigin, Since, After, AnyOrigin, RunsAlong}
-use Rattle.mir_meaning.specs.Align.{since_of, waits_at, station_of}
-use Rattle.mir_meaning.specs.Effects.{held_in, EndAlike, OnCore, FallsInto}
-use Rattle.mir_meaning.specs.Live.{Defines, KindDefines}
-use Rattle.mir_meaning.specs.Follow.{InOrder}
-use Rattle.mir_meaning.proofs.Edges.{step_edge}
-use Rattle.mir_meaning.proofs.Reading.{found_in}
-use Rattle.simulation.specs.Refinement.{FaultsAt}
-use Rattle.simulation.specs.Sides.{Sides, Relation, since_item, Laid, DoBoth}
-use Rattle.simulation.specs.InPlace.{FallsOrTraps, DoAlike, MayTrap, IsIdleAt, View, ended, both, taken as view_taken, paired, InPlace}
-use Rattle.simulation.proofs.Stations.{moves_on_less, code_station, end_is_station, IsStationOf, of_item, of_end, station_is_of}
-use Rattle.simulation.proofs.Laid.{rest_in, rest_of, laid_out, in_order_at, one_end, from_home, from_within, from_before_end, falls_down}
-use Rattle.simulation.proofs.InPlace.{in_place_follows}
-use Rattle.held_alike.specs.Alike.{Alike, ButDefined, HeldAfter, Depends}
-use Rattle.held_alike.specs.Laws.{ItemsAreAlike}
-use Rattle.held_alike.proofs.Items.{items_are_alike}
-use Rattle.held_alike.proofs.Views.{does_both, pure_form}
-use Rattle.held_alike.proofs.Outcomes.{leaves_pair}
+use Rattle.sem_mir.specs.State.{Core, State}
+use Rattle.sem_mir.specs.Step.{Outcome, Falls, Goes, Gives, Traps, Asks, Breaks, Went, moved, do_item, do_fetch}
+use Rattle.sem_mir.specs.Step.{pair_value}
+use Rattle.sem_mir.specs.Align.{position_of, is_code, is_jump, is_jump_row, Count, moves_on}
+use Rattle.sem_mir.specs.Align.{end_station, station_at, IsOrigin, Since, After, AnyOrigin, RunsAlong}
+use Rattle.sem_mir.specs.Align.{since_of, waits_at, station_of}
+use Rattle.sem_mir.specs.Effects.{held_in, EndAlike, OnCore, FallsInto}
+use Rattle.sem_mir.specs.Live.{Defines, KindDefines}
+use Rattle.sem_mir.specs.Follow.{InOrder}
+use Rattle.sem_mir.proofs.Edges.{step_edge}
+use Rattle.sem_mir.proofs.Reading.{found_in}
+use Rattle.sem_simulation.specs.Refinement.{FaultsAt}
+use Rattle.sem_simulation.specs.Sides.{Sides, Relation, since_item, Laid, DoBoth}
+use Rattle.sem_simulation.specs.InPlace.{FallsOrTraps, DoAlike, MayTrap, IsIdleAt, View, ended, both, taken as view_taken, paired, InPlace}
+use Rattle.sem_simulation.proofs.Stations.{moves_on_less, code_station, end_is_station, IsStationOf, of_item, of_end, station_is_of}
+use Rattle.sem_simulation.proofs.Laid.{rest_in, rest_of, laid_out, in_order_at, one_end, from_home, from_within, from_before_end, falls_down}
+use Rattle.sem_simulation.proofs.InPlace.{in_place_follows}
+use Rattle.sem_agreement.specs.Alike.{Alike, ButDefined, HeldAfter, Depends}
+use Rattle.sem_agreement.specs.Laws.{ItemsAreAlike}
+use Rattle.sem_agreement.proofs.Items.{items_are_alike}
+use Rattle.sem_agreement.proofs.Views.{does_both, pure_form}
+use Rattle.sem_agreement.proofs.Outcomes.{leaves_pair}
 use Rattle.dead_code.specs.Dead.{Places, Ends, is_dead_row, is_dead, needed_at, paths_of}
 use Rattle.dead_code.specs.Wrong.{silenced, silenced_left, is_dead_at, IsWrongAt, made, on, IsClosed, begins_dead}
 use Rattle.dead_code.specs.Gone.{IsGone, judged_of}

@@ -13,10 +13,10 @@ use Rattle.mir_func.specs.Function.{Function}
 use Rattle.mir_func.specs.Graph.{Fetch, Here, Silent, Outside, Program, below, block_start}
 use Rattle.mir_func.specs.Graph.{end_of, front, fetch_in, from_block, Edge, FetchEdge, KindEdge, RowEdge}
 use Rattle.mir_func.specs.Successors.{pos_in, ComesDown, GoesTo}
-use Rattle.mir_meaning.specs.Align.{is_code}
-use Rattle.mir_meaning.specs.Live.{Uses, Defines, KindUses, KindDefines, Live, used, later}
-use Rattle.simulation.specs.Sides.{Laid, IsPastItems}
-use Rattle.simulation.proofs.Laid.{rest_in, rest_of, laid_out}
+use Rattle.sem_mir.specs.Align.{is_code}
+use Rattle.sem_mir.specs.Live.{Uses, Defines, KindUses, KindDefines, Live, used, later}
+use Rattle.sem_simulation.specs.Sides.{Laid, IsPastItems}
+use Rattle.sem_simulation.proofs.Laid.{rest_in, rest_of, laid_out}
 use Rattle.dead_code.specs.Dead.{paths_of, LiveAtEnd}
 use Rattle.dead_code.specs.Same.{SameItems, none, both, first, second, SameBlocks, no_blocks, one_more}
 

@@ -22,14 +22,14 @@ use Rattle.mir_func.specs.Graph.{Fetch, Here, Silent, Outside, Program, below, b
 use Rattle.mir_func.specs.Graph.{program_of, Edge, FetchEdge, KindEdge, RowEdge, Leads, stay, go}
 use Rattle.mir_func.specs.Resolve.{resolve}
 use Rattle.mir_func.specs.Successors.{pos_in, ComesDown}
-use Rattle.mir_meaning.specs.Align.{position_of}
-use Rattle.mir_meaning.specs.Live.{Uses, KindUses, Live, used, later}
-use Rattle.mir_meaning.specs.Follow.{MayAdd, KindFits, HasClass, OnRow, Counts, IsMetApart}
-use Rattle.mir_meaning.proofs.Edges.{leads_on, leads_trans}
-use Rattle.mir_meaning.proofs.Reading.{found, found_in}
-use Rattle.simulation.specs.Sides.{Laid}
-use Rattle.simulation.proofs.Laid.{rest_in, rest_of, laid_out}
-use Rattle.follow_law.specs.Following.{Source, FollowsSource}
+use Rattle.sem_mir.specs.Align.{position_of}
+use Rattle.sem_mir.specs.Live.{Uses, KindUses, Live, used, later}
+use Rattle.sem_mir.specs.Follow.{MayAdd, KindFits, HasClass, OnRow, Counts, IsMetApart}
+use Rattle.sem_mir.proofs.Edges.{leads_on, leads_trans}
+use Rattle.sem_mir.proofs.Reading.{found, found_in}
+use Rattle.sem_simulation.specs.Sides.{Laid}
+use Rattle.sem_simulation.proofs.Laid.{rest_in, rest_of, laid_out}
+use Rattle.pass_trait.specs.Following.{Source, FollowsSource}
 use Rattle.dead_code.specs.Dead.{Places, Ends, is_dead_row, is_dead, needed_at, without_dead, thinned_block, paths_of, IsRound}
 use Rattle.dead_code.specs.Loose.{LooseShape, FollowsLoosely}
 use Rattle.dead_code.proofs.Unneeded.{ends_at, two_above}

@@ -20,11 +20,11 @@ use Rattle.mir_func.specs.Sound.{EndsWell, MayFollow, IsJumpAtMost}
 use Rattle.mir_func.specs.Exits.{exit_of, row_exit, IsAlways}
 use Rattle.mir_func.specs.Graph.{Fetch, Here, Silent, Outside, Program, below, block_start, from_block, Edge, FetchEdge, KindEdge, RowEdge}
 use Rattle.mir_func.specs.Successors.{pos_in, ComesDown}
-use Rattle.mir_meaning.specs.Live.{Defines, KindDefines}
-use Rattle.mir_meaning.proofs.Parts.{effects_hold}
-use Rattle.mir_meaning.proofs.Reading.{found_in}
-use Rattle.simulation.specs.Sides.{Laid, IsPastItems}
-use Rattle.simulation.proofs.Laid.{rest_in, rest_of, laid_out}
+use Rattle.sem_mir.specs.Live.{Defines, KindDefines}
+use Rattle.sem_mir.proofs.Parts.{effects_hold}
+use Rattle.sem_mir.proofs.Reading.{found_in}
+use Rattle.sem_simulation.specs.Sides.{Laid, IsPastItems}
+use Rattle.sem_simulation.proofs.Laid.{rest_in, rest_of, laid_out}
 use Rattle.dead_code.specs.Dead.{Places, Ends, sets_unneeded, is_dead_row, is_dead, needed_before, needed_at, paths_of}
 use Rattle.dead_code.specs.Wrong.{begins_dead, IsWrongAt, made, on, IsClosed}
 

@@ -11,7 +11,7 @@ use Rattle.mir_func.specs.declared.item.ItemKind.TheVariants.{Code, Mark, Phi}
 use Rattle.mir_func.specs.Function.{Function}
 use Rattle.mir_func.specs.Graph.{Program, block_start, program_of}
 use Rattle.mir_func.specs.Successors.{GoesTo}
-use Rattle.mir_meaning.specs.Live.{Live}
+use Rattle.sem_mir.specs.Live.{Live}
 
 -- some places, as a test
 abbrev pub Places : Type 0

@@ -6,13 +6,13 @@ use Rattle.mir_func.specs.declared.entry.Entry.{Entry}
 use Rattle.mir_func.specs.Function.{Function}
 use Rattle.mir_func.specs.Sound.{AllItems, IsSound, HasForm}
 use Rattle.mir_func.specs.Strip.{stripped}
-use Rattle.follow_law.specs.Change.{change}
-use Rattle.follow_law.specs.Following.{Source, FollowsSource}
+use Rattle.pass_trait.specs.Change.{change}
+use Rattle.pass_trait.specs.Following.{Source, FollowsSource}
 use Rattle.dead_code.specs.Dead.{Places, Ends, LiveAtEnd, IsRound}
 use Rattle.dead_code.specs.Wrong.{taken_out, IsWrongAt, IsClosed}
-use Rattle.follow_law.specs.declared.loss.Loss.{Loss}
-use Rattle.follow_law.specs.Debug.{KeepsItems}
-use Rattle.follow_law.specs.Sizes.{KeepsSizes}
+use Rattle.pass_trait.specs.declared.loss.Loss.{Loss}
+use Rattle.pass_trait.specs.Debug.{KeepsItems}
+use Rattle.pass_trait.specs.Sizes.{KeepsSizes}
 use Rattle.dead_code.specs.Loose.{FollowsLoosely, KeepsLoosely}
 use Rattle.dead_code.specs.Out.{NoCopies, AreLosses, AreWrong, out_rule}
 

@@ -8,11 +8,11 @@ use Rattle.mir_func.specs.declared.entry.Entry.{Entry}
 use Rattle.mir_func.specs.Function.{Function}
 use Rattle.mir_func.specs.Graph.{Program, Here, block_start, program_of, Edge, Leads}
 use Rattle.mir_func.specs.Resolve.{resolve}
-use Rattle.mir_meaning.specs.State.{State}
-use Rattle.mir_meaning.specs.Align.{ByItems, station_at, AnyOrigin, RunsAlong}
-use Rattle.mir_meaning.specs.Follow.{Among, InOrder, KindFits, MarkFits, OnRow, GoesTo, first_of, IsStart}
-use Rattle.follow_law.specs.Change.{Change}
-use Rattle.follow_law.specs.Following.{Source, EndsAsSource}
+use Rattle.sem_mir.specs.State.{State}
+use Rattle.sem_mir.specs.Align.{ByItems, station_at, AnyOrigin, RunsAlong}
+use Rattle.sem_mir.specs.Follow.{Among, InOrder, KindFits, MarkFits, OnRow, GoesTo, first_of, IsStart}
+use Rattle.pass_trait.specs.Change.{Change}
+use Rattle.pass_trait.specs.Following.{Source, EndsAsSource}
 
 -- the shape of a function that follows a source, but for its stores
 pub record LooseShape (src f : List Block) (srcp fp : Program) : Type 0 where

@@ -10,10 +10,10 @@ use Rattle.mir_func.specs.declared.item.Item.{Item}
 use Rattle.mir_func.specs.declared.item.ItemKind.{ItemKind}
 use Rattle.mir_func.specs.declared.item.ItemKind.TheVariants.{Code, Mark, Phi}
 use Rattle.mir_func.specs.Function.{Function}
-use Rattle.follow_law.specs.declared.loss.Reason.TheVariants.{Removed, WrongPlace}
-use Rattle.follow_law.specs.declared.loss.Loss.{Loss}
-use Rattle.follow_law.specs.Order.{IsInOrder}
-use Rattle.follow_law.specs.Rule.{Rule, IsCopy, StandsAt, number_lost, mark_lost}
+use Rattle.pass_trait.specs.declared.loss.Reason.TheVariants.{Removed, WrongPlace}
+use Rattle.pass_trait.specs.declared.loss.Loss.{Loss}
+use Rattle.pass_trait.specs.Order.{IsInOrder}
+use Rattle.pass_trait.specs.Rule.{Rule, IsCopy, StandsAt, number_lost, mark_lost}
 use Rattle.dead_code.specs.Dead.{Places, Ends}
 use Rattle.dead_code.specs.Wrong.{is_dead_at, IsWrongAt}
 

@@ -3,8 +3,8 @@ use Rattle.std.specs.Prelude.{List, true, false}
 use Rattle.mir_func.specs.declared.entry.Entry.{Entry}
 use Rattle.mir_func.specs.Function.{Function}
 use Rattle.mir_func.specs.Sound.{IsSound}
-use Rattle.follow_law.specs.Change.{change}
-use Rattle.follow_law.specs.Following.{KeepsFollowing}
+use Rattle.pass_trait.specs.Change.{change}
+use Rattle.pass_trait.specs.Following.{KeepsFollowing}
 use Rattle.dead_code.specs.Dead.{IsRound, IsThinnedOut}
 use Rattle.dead_code.specs.Loose.{KeepsLoosely}
 

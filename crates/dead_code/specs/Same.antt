@@ -4,7 +4,7 @@ use Rattle.rv64_instr.specs.Instruction.{Instruction}
 use Rattle.mir_func.specs.declared.block.Block.{Block}
 use Rattle.mir_func.specs.declared.item.Item.{Item}
 use Rattle.mir_func.specs.declared.item.ItemKind.TheVariants.{Code}
-use Rattle.mir_meaning.specs.Align.{is_code}
+use Rattle.sem_mir.specs.Align.{is_code}
 
 -- items with the same code in order; debug items may stand anywhere
 pub data SameItems : List Item → List Item → Type 0 where

@@ -11,8 +11,8 @@ use Rattle.mir_func.specs.declared.item.ItemKind.TheVariants.{Code, Mark, Phi}
 use Rattle.mir_func.specs.Function.{Function}
 use Rattle.mir_func.specs.Graph.{block_start, Edge}
 use Rattle.mir_func.specs.Successors.{GoesTo}
-use Rattle.mir_meaning.specs.Live.{Defines}
-use Rattle.simulation.proofs.Laid.{rest_of}
+use Rattle.sem_mir.specs.Live.{Defines}
+use Rattle.sem_simulation.proofs.Laid.{rest_of}
 use Rattle.dead_code.specs.Dead.{Places, Ends, is_dead, needed_at, paths_of}
 
 -- dead code stands first

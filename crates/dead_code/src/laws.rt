@@ -1,6 +1,6 @@
 //! Laws of dead code: each is the contract of a function that does nothing.
 
-ghost use Rattle.follow_law.specs.Code.{HasOneResult, SeesCodeAlone};
+ghost use Rattle.pass_trait.specs.Code.{HasOneResult, SeesCodeAlone};
 ghost use Rattle.dead_code.specs.Dead.{IsThinnedOut};
 ghost use Rattle.dead_code.specs.Laws.{LiveIsClosed, DeadCodeFollows, SettledFollows, RoundIsStripped};
 ghost use Rattle.dead_code.specs.Laws.{DeadCodeKeepsItems, DeadCodeKeepsSizes};

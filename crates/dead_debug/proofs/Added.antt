@@ -15,18 +15,18 @@ use Rattle.mir_func.specs.Function.{Function}
 use Rattle.mir_func.specs.Resolve.{entry_of}
 use Rattle.rv64_instr.specs.Instruction.{Instruction}
 use Rattle.mir_func.specs.Sound.{items_of, IsSound}
-use Rattle.follow_law.specs.Rule.{item}
-use Rattle.follow_law.specs.Sizes.{numbers_of, greatest_number}
-use Rattle.salvage.specs.declared.way.Way.{Way}
-use Rattle.salvage.specs.declared.way.Way.TheVariants.{HasEntry, GetsEntry, GetsPhi}
-use Rattle.salvage.specs.Way.{way}
-use Rattle.salvage.specs.Salvage.{entry_for, entries_for, above_after, fresh_after}
+use Rattle.pass_trait.specs.Rule.{item}
+use Rattle.pass_trait.specs.Sizes.{numbers_of, greatest_number}
+use Rattle.pass_salvage.specs.declared.way.Way.{Way}
+use Rattle.pass_salvage.specs.declared.way.Way.TheVariants.{HasEntry, GetsEntry, GetsPhi}
+use Rattle.pass_salvage.specs.Way.{way}
+use Rattle.pass_salvage.specs.Salvage.{entry_for, entries_for, above_after, fresh_after}
 use Rattle.sound_edits.proofs.Numbers.{AreUnlike, all_first, all_second}
 use Rattle.copy_removal.proofs.Under.{KindUnder, BlocksUnder, EntryUnder, greatest_under, items_under, blocks_under, entries_under}
-use Rattle.dead_copies.specs.declared.off.Copied.{Copied}
-use Rattle.dead_copies.specs.Off.{numbered_copy, put_off, behind_off, items_off, SoFar, off_by, off_copy, copy_in, off_at, off_down}
-use Rattle.dead_copies.specs.Blocks.{going_from, BlocksSoFar, in_block, block_off, next_off, blocks_off}
-use Rattle.dead_copies.proofs.Down.{off_long}
+use Rattle.dce_copies.specs.declared.off.Copied.{Copied}
+use Rattle.dce_copies.specs.Off.{numbered_copy, put_off, behind_off, items_off, SoFar, off_by, off_copy, copy_in, off_at, off_down}
+use Rattle.dce_copies.specs.Blocks.{going_from, BlocksSoFar, in_block, block_off, next_off, blocks_off}
+use Rattle.dce_copies.proofs.Down.{off_long}
 use Rattle.dead_salvage.specs.Laws.{begins_off, all_off}
 use Rattle.dead_salvage.proofs.Copy.{IsCopyOf, copy_of, SplitAt, split_at, Ready, copy_goes}
 use Rattle.dead_salvage.proofs.Chain.{BlocksReady}

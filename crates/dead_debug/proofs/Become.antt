@@ -21,22 +21,22 @@ use Rattle.mir_func.specs.Function.{Function}
 use Rattle.mir_func.specs.Graph.{Fetch, Here, below, block_start, RowEdge, FetchEdge, Edge}
 use Rattle.mir_func.specs.Resolve.{entry_of}
 use Rattle.mir_func.specs.Sound.{IsSound}
-use Rattle.mir_meaning.specs.Align.{is_code}
-use Rattle.mir_meaning.specs.Live.{Defines, KindDefines}
-use Rattle.follow_law.specs.declared.loss.Reason.{Reason}
-use Rattle.follow_law.specs.declared.loss.Reason.TheVariants.{Removed, WrongPlace}
-use Rattle.follow_law.specs.declared.loss.Loss.{Loss}
-use Rattle.follow_law.specs.Change.{Change}
-use Rattle.follow_law.specs.Rule.{IsCopy, StandsAt, item, item_before, number_lost, mark_lost, first_operand}
-use Rattle.follow_law.specs.Causes.{IsWrong, removed, HasCause, code_removed, place_wrong, salvage_wrong, Comes, goes_on, IsRemoved, IsKeptDefinition}
-use Rattle.follow_law.specs.Debug.{RegisterStays, ValueStays, PlaceStays, Becomes, mark_stays, phi_stays, code_stays, code_numbered, code_unnumbered, code_goes}
-use Rattle.follow_law.specs.Debug.{number_goes, substituted, salvaged, salvaged_wrong, mark_silenced, phi_silenced}
+use Rattle.sem_mir.specs.Align.{is_code}
+use Rattle.sem_mir.specs.Live.{Defines, KindDefines}
+use Rattle.pass_trait.specs.declared.loss.Reason.{Reason}
+use Rattle.pass_trait.specs.declared.loss.Reason.TheVariants.{Removed, WrongPlace}
+use Rattle.pass_trait.specs.declared.loss.Loss.{Loss}
+use Rattle.pass_trait.specs.Change.{Change}
+use Rattle.pass_trait.specs.Rule.{IsCopy, StandsAt, item, item_before, number_lost, mark_lost, first_operand}
+use Rattle.pass_trait.specs.Causes.{IsWrong, removed, HasCause, code_removed, place_wrong, salvage_wrong, Comes, goes_on, IsRemoved, IsKeptDefinition}
+use Rattle.pass_trait.specs.Debug.{RegisterStays, ValueStays, PlaceStays, Becomes, mark_stays, phi_stays, code_stays, code_numbered, code_unnumbered, code_goes}
+use Rattle.pass_trait.specs.Debug.{number_goes, substituted, salvaged, salvaged_wrong, mark_silenced, phi_silenced}
 use Rattle.dead_code.specs.Dead.{Places, Ends, is_dead, needed_at, paths_of}
 use Rattle.dead_code.specs.Wrong.{silenced, taken_out, is_dead_at, IsWrongAt, made, on}
 use Rattle.dead_code.proofs.Lists.{quiet}
-use Rattle.dead_items.specs.Judged.{AreJudged}
-use Rattle.dead_copies.specs.declared.off.Copied.{Copied}
-use Rattle.dead_copies.specs.Off.{copied_by, numbered_copy, phi_by, phi_off}
+use Rattle.dce_mark.specs.Judged.{AreJudged}
+use Rattle.dce_copies.specs.declared.off.Copied.{Copied}
+use Rattle.dce_copies.specs.Off.{copied_by, numbered_copy, phi_by, phi_off}
 use Rattle.dead_salvage.specs.Laws.{all_off, function_off}
 use Rattle.dead_salvage.proofs.Copy.{IsCopyOf, copy_of}
 use Rattle.dead_debug.specs.Ledger.{Line, line_of}

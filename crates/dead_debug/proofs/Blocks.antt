@@ -10,12 +10,12 @@ use Rattle.mir_func.specs.declared.block.Block.{Block}
 use Rattle.mir_func.specs.declared.item.Item.{Item}
 use Rattle.mir_func.specs.Graph.{Silent, end_of, from_block}
 use Rattle.mir_func.specs.Sound.{AreApart, ids_of}
-use Rattle.mir_meaning.proofs.Reading.{apart_tail}
-use Rattle.follow_law.specs.declared.loss.Loss.{Loss}
+use Rattle.sem_mir.proofs.Reading.{apart_tail}
+use Rattle.pass_trait.specs.declared.loss.Loss.{Loss}
 use Rattle.dead_code.specs.Dead.{Ends}
-use Rattle.dead_items.specs.Judged.{verdicts}
-use Rattle.dead_copies.specs.Off.{SoFar, off_down}
-use Rattle.dead_copies.specs.Blocks.{going_from, BlocksSoFar, in_block, block_off, next_off, blocks_off}
+use Rattle.dce_mark.specs.Judged.{verdicts}
+use Rattle.dce_copies.specs.Off.{SoFar, off_down}
+use Rattle.dce_copies.specs.Blocks.{going_from, BlocksSoFar, in_block, block_off, next_off, blocks_off}
 use Rattle.dead_debug.specs.Ledger.{Line, lines_down, lines_in}
 use Rattle.dead_debug.proofs.Lines.{LinesAre, LineAt, lines_from, lines_more, all_now, Own, Done, down}
 

@@ -21,21 +21,21 @@ use Rattle.mir_func.specs.declared.item.ItemKind.TheVariants.{Code, Mark, Phi}
 use Rattle.mir_func.specs.Function.{Function}
 use Rattle.mir_func.specs.Resolve.{is_pair, entry_of}
 use Rattle.mir_func.specs.Sound.{items_of, number_of, code_number}
-use Rattle.follow_law.specs.Rule.{item, first_operand}
-use Rattle.substitution.proofs.Entries.{entry_of-push, is_pair-true}
-use Rattle.salvage.specs.declared.way.Way.{Way}
-use Rattle.salvage.specs.declared.way.Way.TheVariants.{HasEntry, GetsEntry, GetsPhi}
-use Rattle.salvage.specs.Way.{or_fresh, has_entry, asks_for, may_stand, way}
-use Rattle.salvage.specs.Salvage.{with_number, numbered_at, entry_for, entries_for, above_after}
-use Rattle.salvage.proofs.Chosen.{IsEntered, entered}
+use Rattle.pass_trait.specs.Rule.{item, first_operand}
+use Rattle.mir_substitution.proofs.Entries.{entry_of-push, is_pair-true}
+use Rattle.pass_salvage.specs.declared.way.Way.{Way}
+use Rattle.pass_salvage.specs.declared.way.Way.TheVariants.{HasEntry, GetsEntry, GetsPhi}
+use Rattle.pass_salvage.specs.Way.{or_fresh, has_entry, asks_for, may_stand, way}
+use Rattle.pass_salvage.specs.Salvage.{with_number, numbered_at, entry_for, entries_for, above_after}
+use Rattle.pass_salvage.proofs.Chosen.{IsEntered, entered}
 use Rattle.sound_edits.proofs.Numbers.{IsUnlike, AreUnlike, all_first, all_second}
 use Rattle.copy_removal.proofs.Around.{with_block}
 use Rattle.copy_removal.proofs.Others.{flat_unlike, Others, others_of}
 use Rattle.copy_removal.proofs.Under.{KindUnder, EntryUnder, no_entry}
 use Rattle.copy_removal.proofs.Found.{last_two, not_is}
-use Rattle.dead_copies.specs.declared.off.Copied.{Copied}
-use Rattle.dead_copies.specs.Off.{phi_by, put_off}
-use Rattle.dead_copies.specs.Blocks.{going_from}
+use Rattle.dce_copies.specs.declared.off.Copied.{Copied}
+use Rattle.dce_copies.specs.Off.{phi_by, put_off}
+use Rattle.dce_copies.specs.Blocks.{going_from}
 use Rattle.dead_salvage.proofs.Copy.{Ready}
 use Rattle.dead_debug.proofs.Lines.{giver_stays, number_other, number_same, get_left, above_long}
 

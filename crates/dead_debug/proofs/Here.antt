@@ -17,14 +17,14 @@ use Rattle.mir_func.specs.declared.item.ItemKind.TheVariants.{Code, Mark, Phi}
 use Rattle.mir_func.specs.Function.{Function}
 use Rattle.mir_func.specs.Sound.{ids_of, items_of, OriginIn, IsSound}
 use Rattle.mir_func.specs.Graph.{Fetch, Here, below, fetch_in, from_block}
-use Rattle.mir_meaning.specs.Align.{position_of, is_code}
-use Rattle.mir_meaning.specs.Live.{Defines, KindDefines}
-use Rattle.mir_meaning.proofs.Reading.{found_in}
-use Rattle.simulation.proofs.Laid.{rest_in, rest_of, laid_out}
-use Rattle.follow_law.specs.Change.{Change, change}
-use Rattle.follow_law.specs.Rule.{StandsAt}
-use Rattle.follow_law.specs.Causes.{is_position, is_origin, old_program, defines, Comes, begins, goes_on, IsFewer, IsRemoved, IsRemovedDefinition}
-use Rattle.follow_law.specs.Causes.{IsKeptDefinition, IsAfter}
+use Rattle.sem_mir.specs.Align.{position_of, is_code}
+use Rattle.sem_mir.specs.Live.{Defines, KindDefines}
+use Rattle.sem_mir.proofs.Reading.{found_in}
+use Rattle.sem_simulation.proofs.Laid.{rest_in, rest_of, laid_out}
+use Rattle.pass_trait.specs.Change.{Change, change}
+use Rattle.pass_trait.specs.Rule.{StandsAt}
+use Rattle.pass_trait.specs.Causes.{is_position, is_origin, old_program, defines, Comes, begins, goes_on, IsFewer, IsRemoved, IsRemovedDefinition}
+use Rattle.pass_trait.specs.Causes.{IsKeptDefinition, IsAfter}
 use Rattle.dead_code.specs.Dead.{Places, Ends, is_dead, needed_at, paths_of}
 use Rattle.dead_code.specs.Laws.{AreLive}
 use Rattle.dead_code.specs.Wrong.{begins_dead, silenced, taken_out, is_dead_at, IsWrongAt, made, on}
@@ -32,9 +32,9 @@ use Rattle.dead_code.proofs.Lists.{quiet, quiet_is, taken, rest_at}
 use Rattle.dead_code.proofs.Fewer.{fewer_of}
 use Rattle.dead_code.proofs.Sound.{ids_taken}
 use Rattle.dead_code.proofs.Rounds.{ends_one, blocks_self}
-use Rattle.dead_items.specs.Judged.{AreJudged}
-use Rattle.dead_copies.specs.declared.off.Copied.{Copied}
-use Rattle.dead_copies.specs.Off.{without_number, phi_by, phi_off}
+use Rattle.dce_mark.specs.Judged.{AreJudged}
+use Rattle.dce_copies.specs.declared.off.Copied.{Copied}
+use Rattle.dce_copies.specs.Off.{without_number, phi_by, phi_off}
 use Rattle.dead_salvage.specs.Laws.{begins_off, all_off, function_off}
 use Rattle.dead_debug.specs.Ledger.{Line, ledger}
 use Rattle.dead_debug.specs.Rule.{HasLine}

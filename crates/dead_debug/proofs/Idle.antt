@@ -12,17 +12,17 @@ use Rattle.mir_func.specs.declared.item.ItemKind.{ItemKind}
 use Rattle.mir_func.specs.declared.item.ItemKind.TheVariants.{Code, Mark, Phi}
 use Rattle.mir_func.specs.Function.{Function}
 use Rattle.mir_func.specs.Sound.{IsSound}
-use Rattle.follow_law.specs.declared.loss.Loss.{Loss}
-use Rattle.follow_law.specs.Change.{change}
-use Rattle.follow_law.specs.Debug.{KeepsItems}
+use Rattle.pass_trait.specs.declared.loss.Loss.{Loss}
+use Rattle.pass_trait.specs.Change.{change}
+use Rattle.pass_trait.specs.Debug.{KeepsItems}
 use Rattle.dead_code.specs.Dead.{Places, Ends, is_dead, needed_at, without_dead, thinned_block, thinned, IsRound}
 use Rattle.dead_code.specs.Wrong.{taken_out, IsWrongAt}
 use Rattle.dead_code.specs.Out.{LosesAt, AreWrong}
-use Rattle.dead_items.specs.Judged.{verdicts, AreJudged}
-use Rattle.dead_copies.specs.Off.{SoFar, off_at, off_down}
-use Rattle.dead_copies.specs.Blocks.{going_from, BlocksSoFar, in_block, block_off, with_front, next_off, blocks_off}
+use Rattle.dce_mark.specs.Judged.{verdicts, AreJudged}
+use Rattle.dce_copies.specs.Off.{SoFar, off_at, off_down}
+use Rattle.dce_copies.specs.Blocks.{going_from, BlocksSoFar, in_block, block_off, with_front, next_off, blocks_off}
 use Rattle.dead_salvage.specs.Laws.{begins_off, all_off, function_off}
-use Rattle.dead_left.proofs.None.{some_true, some_dead, blocks_same, never_wrong, loses_none}
+use Rattle.dce_sweep.proofs.None.{some_true, some_dead, blocks_same, never_wrong, loses_none}
 use Rattle.dead_debug.specs.Rule.{dead_rule}
 use Rattle.dead_debug.specs.Laws.{IdleKeepsItems}
 use Rattle.dead_debug.proofs.Blocks.{verdicts_of}

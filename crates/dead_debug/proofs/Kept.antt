@@ -24,23 +24,23 @@ use Rattle.mir_func.specs.Graph.{Fetch, Here, front, fetch_in, from_block}
 use Rattle.mir_func.specs.Resolve.{entry_of, at as ends_here}
 use Rattle.mir_func.specs.Sound.{AreApart, ids_of, items_of, number_of, code_number, IsSound}
 use Rattle.mir_func.specs.Successors.{pos_in}
-use Rattle.mir_meaning.proofs.Reading.{found}
-use Rattle.mir_meaning.specs.Align.{is_code}
-use Rattle.simulation.proofs.Laid.{rest_in, rest_of, laid_out}
-use Rattle.follow_law.specs.declared.loss.Reason.TheVariants.{Removed, WrongPlace}
-use Rattle.follow_law.specs.declared.loss.Loss.{Loss}
-use Rattle.follow_law.specs.Change.{Change, change}
-use Rattle.follow_law.specs.Order.{IsInOrder}
-use Rattle.follow_law.specs.Rule.{StandsAt, item, first_operand, number_lost, mark_lost, numbers_on}
-use Rattle.follow_law.specs.Debug.{IsKillAt, Becomes, BecomeAll, over, next, BlocksBecome, none, stays as block_stays, IsLoss, IsFor, IsGivenOrLost, KeepsItems}
+use Rattle.sem_mir.proofs.Reading.{found}
+use Rattle.sem_mir.specs.Align.{is_code}
+use Rattle.sem_simulation.proofs.Laid.{rest_in, rest_of, laid_out}
+use Rattle.pass_trait.specs.declared.loss.Reason.TheVariants.{Removed, WrongPlace}
+use Rattle.pass_trait.specs.declared.loss.Loss.{Loss}
+use Rattle.pass_trait.specs.Change.{Change, change}
+use Rattle.pass_trait.specs.Order.{IsInOrder}
+use Rattle.pass_trait.specs.Rule.{StandsAt, item, first_operand, number_lost, mark_lost, numbers_on}
+use Rattle.pass_trait.specs.Debug.{IsKillAt, Becomes, BecomeAll, over, next, BlocksBecome, none, stays as block_stays, IsLoss, IsFor, IsGivenOrLost, KeepsItems}
 use Rattle.dead_code.specs.Dead.{Places, Ends, is_dead, needed_at}
 use Rattle.dead_code.specs.Wrong.{begins_dead, silenced, silenced_left, taken_out, is_dead_at, IsWrongAt}
 use Rattle.dead_code.specs.Out.{LosesOf, LosesAt, AreWrong}
 use Rattle.dead_code.proofs.Lists.{quiet, quiet_is, taken}
 use Rattle.dead_code.proofs.Sound.{Left, none as left_none, kept as left_kept, gone as left_gone, left_items}
-use Rattle.dead_items.specs.Judged.{AreJudged}
-use Rattle.dead_copies.specs.declared.off.Copied.{Copied}
-use Rattle.dead_copies.specs.Off.{without_number, numbered_copy, phi_by, phi_off}
+use Rattle.dce_mark.specs.Judged.{AreJudged}
+use Rattle.dce_copies.specs.declared.off.Copied.{Copied}
+use Rattle.dce_copies.specs.Off.{without_number, numbered_copy, phi_by, phi_off}
 use Rattle.dead_salvage.specs.Laws.{begins_off, all_off, function_off}
 use Rattle.dead_salvage.proofs.Copy.{IsCopyOf, copy_of as copy_is}
 use Rattle.dead_debug.specs.Ledger.{Line, line_of, ledger}

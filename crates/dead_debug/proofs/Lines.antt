@@ -18,22 +18,22 @@ use Rattle.mir_func.specs.declared.item.Item.{Item}
 use Rattle.mir_func.specs.declared.item.ItemKind.{ItemKind}
 use Rattle.mir_func.specs.declared.item.ItemKind.TheVariants.{Code, Mark, Phi}
 use Rattle.mir_func.specs.Resolve.{is_pair, entry_of}
-use Rattle.follow_law.specs.Rule.{item, first_operand, number_lost}
-use Rattle.follow_law.specs.declared.loss.Reason.TheVariants.{WrongPlace}
-use Rattle.follow_law.specs.declared.loss.Loss.{Loss}
-use Rattle.salvage.specs.declared.way.Way.{Way}
-use Rattle.salvage.specs.declared.way.Way.TheVariants.{HasEntry, GetsEntry, GetsPhi}
-use Rattle.salvage.specs.Way.{has_entry, or_fresh, asks_for, may_stand, way_by, way_of_kind, way_at, way_from, way, first_definition, last_definition}
-use Rattle.salvage.specs.Salvage.{with_number, numbered_at, entry_for, entries_for, above_after, fresh_after}
-use Rattle.substitution.proofs.Entries.{is_pair-same, entry_of-push}
-use Rattle.salvage.proofs.Chosen.{IsEntered, entered}
+use Rattle.pass_trait.specs.Rule.{item, first_operand, number_lost}
+use Rattle.pass_trait.specs.declared.loss.Reason.TheVariants.{WrongPlace}
+use Rattle.pass_trait.specs.declared.loss.Loss.{Loss}
+use Rattle.pass_salvage.specs.declared.way.Way.{Way}
+use Rattle.pass_salvage.specs.declared.way.Way.TheVariants.{HasEntry, GetsEntry, GetsPhi}
+use Rattle.pass_salvage.specs.Way.{has_entry, or_fresh, asks_for, may_stand, way_by, way_of_kind, way_at, way_from, way, first_definition, last_definition}
+use Rattle.pass_salvage.specs.Salvage.{with_number, numbered_at, entry_for, entries_for, above_after, fresh_after}
+use Rattle.mir_substitution.proofs.Entries.{is_pair-same, entry_of-push}
+use Rattle.pass_salvage.proofs.Chosen.{IsEntered, entered}
 use Rattle.copy_removal.proofs.Found.{not_is}
 use Rattle.dead_code.specs.Dead.{Places, is_dead, needed_at}
-use Rattle.dead_items.specs.Judged.{verdicts}
-use Rattle.dead_copies.specs.declared.off.Copied.{Copied}
-use Rattle.dead_copies.specs.Off.{without_number, numbered_copy, phi_off, put_off, lost_if_own, lost_off, behind_off}
-use Rattle.dead_copies.specs.Off.{items_off, SoFar, off_by, off_copy, copy_in, off_at, off_down}
-use Rattle.dead_copies.specs.Blocks.{going_from}
+use Rattle.dce_mark.specs.Judged.{verdicts}
+use Rattle.dce_copies.specs.declared.off.Copied.{Copied}
+use Rattle.dce_copies.specs.Off.{without_number, numbered_copy, phi_off, put_off, lost_if_own, lost_off, behind_off}
+use Rattle.dce_copies.specs.Off.{items_off, SoFar, off_by, off_copy, copy_in, off_at, off_down}
+use Rattle.dce_copies.specs.Blocks.{going_from}
 use Rattle.dead_salvage.proofs.Copy.{SplitAt, split_at}
 use Rattle.dead_debug.specs.Ledger.{Line, phi_source, line_by, line_of, line_of_copy, lines_of, lines_down}
 use Rattle.rv64_instr.specs.Row.{row_of}

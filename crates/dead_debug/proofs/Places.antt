@@ -14,13 +14,13 @@ use Rattle.mir_func.specs.declared.item.ItemKind.TheVariants.{Code, Mark, Phi}
 use Rattle.mir_func.specs.Function.{Function}
 use Rattle.mir_func.specs.Graph.{Fetch, Here, Silent, Outside, Program, below, block_start}
 use Rattle.mir_func.specs.Graph.{end_of, front, fetch_in, from_block, RowEdge, KindEdge, FetchEdge, Edge}
-use Rattle.mir_meaning.specs.Align.{is_code}
-use Rattle.mir_meaning.specs.Live.{Defines, KindDefines}
-use Rattle.simulation.proofs.Laid.{rest_in, rest_of}
+use Rattle.sem_mir.specs.Align.{is_code}
+use Rattle.sem_mir.specs.Live.{Defines, KindDefines}
+use Rattle.sem_simulation.proofs.Laid.{rest_in, rest_of}
 use Rattle.dead_code.specs.Dead.{Places, Ends, is_dead, needed_before, needed_at, paths_of}
 use Rattle.dead_code.specs.Wrong.{begins_dead, is_dead_at, IsWrongAt, made, on}
-use Rattle.dead_copies.specs.declared.off.Copied.{Copied}
-use Rattle.dead_copies.specs.Off.{without_number, numbered_copy, phi_by, phi_off}
+use Rattle.dce_copies.specs.declared.off.Copied.{Copied}
+use Rattle.dce_copies.specs.Off.{without_number, numbered_copy, phi_by, phi_off}
 use Rattle.dead_debug.specs.Ledger.{Line}
 use Rattle.dead_debug.proofs.Lines.{bare_of, LineIs, as_it_was, numbered, by_entry, by_phi, LinesAre, no_lines, next_line, all_now}
 use Rattle.dead_debug.proofs.Blocks.{BlocksAre, Found, nowhere, there, lines_for, found_at}

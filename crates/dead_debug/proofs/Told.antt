@@ -18,22 +18,22 @@ use Rattle.mir_func.specs.declared.item.ItemKind.{ItemKind}
 use Rattle.mir_func.specs.declared.item.ItemKind.TheVariants.{Code, Mark, Phi}
 use Rattle.mir_func.specs.declared.variable.MarkValue.TheVariants.{Nothing, Constant, At, Pair}
 use Rattle.mir_func.specs.Function.{Function}
-use Rattle.mir_meaning.specs.Live.{Defines, KindDefines}
+use Rattle.sem_mir.specs.Live.{Defines, KindDefines}
 use Rattle.mir_func.specs.Graph.{Fetch, Here, below, front, fetch_in, from_block}
 use Rattle.mir_func.specs.Sound.{IsSound}
 use Rattle.mir_func.specs.Successors.{pos_in}
-use Rattle.mir_meaning.proofs.Reading.{found, found_in}
-use Rattle.simulation.proofs.Laid.{rest_in, rest_of, laid_out}
-use Rattle.follow_law.specs.declared.loss.Reason.TheVariants.{Removed, WrongPlace}
-use Rattle.follow_law.specs.declared.loss.Loss.{Loss}
-use Rattle.follow_law.specs.Rule.{IsCopy, StandsAt, item, number_lost, mark_lost}
+use Rattle.sem_mir.proofs.Reading.{found, found_in}
+use Rattle.sem_simulation.proofs.Laid.{rest_in, rest_of, laid_out}
+use Rattle.pass_trait.specs.declared.loss.Reason.TheVariants.{Removed, WrongPlace}
+use Rattle.pass_trait.specs.declared.loss.Loss.{Loss}
+use Rattle.pass_trait.specs.Rule.{IsCopy, StandsAt, item, number_lost, mark_lost}
 use Rattle.dead_code.specs.Dead.{Places, Ends, is_dead, needed_at}
 use Rattle.dead_code.specs.Wrong.{begins_dead, is_dead_at, IsWrongAt}
 use Rattle.dead_code.specs.Out.{LosesOf, LosesAt}
 use Rattle.dead_code.proofs.Lists.{rest_at}
-use Rattle.dead_items.specs.Judged.{AreJudged}
-use Rattle.dead_copies.specs.declared.off.Copied.{Copied}
-use Rattle.dead_copies.specs.Off.{without_number, numbered_copy, phi_by, phi_off}
+use Rattle.dce_mark.specs.Judged.{AreJudged}
+use Rattle.dce_copies.specs.declared.off.Copied.{Copied}
+use Rattle.dce_copies.specs.Off.{without_number, numbered_copy, phi_by, phi_off}
 use Rattle.dead_salvage.specs.Laws.{begins_off, all_off, function_off}
 use Rattle.dead_salvage.proofs.Copy.{IsCopyOf, copy_of as copy_is, SplitAt, split_at}
 use Rattle.dead_debug.specs.Ledger.{Line, line_of, ledger}

@@ -17,26 +17,26 @@ use Rattle.mir_func.specs.Graph.{front, fetch_in}
 use Rattle.mir_func.specs.Resolve.{at as ends_here}
 use Rattle.mir_func.specs.Sound.{items_of, number_of, code_number, IsSound}
 use Rattle.mir_func.specs.Successors.{pos_in}
-use Rattle.mir_meaning.proofs.Reading.{found}
-use Rattle.simulation.proofs.Laid.{rest_in, rest_of}
-use Rattle.follow_law.specs.declared.loss.Reason.{Reason}
-use Rattle.follow_law.specs.declared.loss.Reason.TheVariants.{Removed}
-use Rattle.follow_law.specs.declared.loss.Loss.{Loss}
-use Rattle.follow_law.specs.Change.{Change, change}
-use Rattle.follow_law.specs.Order.{IsInOrder}
-use Rattle.follow_law.specs.Rule.{StandsAt, number_lost, numbers_on}
-use Rattle.follow_law.specs.Debug.{IsLoss, IsFor, IsGivenOrLost, KeepsItems}
+use Rattle.sem_mir.proofs.Reading.{found}
+use Rattle.sem_simulation.proofs.Laid.{rest_in, rest_of}
+use Rattle.pass_trait.specs.declared.loss.Reason.{Reason}
+use Rattle.pass_trait.specs.declared.loss.Reason.TheVariants.{Removed}
+use Rattle.pass_trait.specs.declared.loss.Loss.{Loss}
+use Rattle.pass_trait.specs.Change.{Change, change}
+use Rattle.pass_trait.specs.Order.{IsInOrder}
+use Rattle.pass_trait.specs.Rule.{StandsAt, number_lost, numbers_on}
+use Rattle.pass_trait.specs.Debug.{IsLoss, IsFor, IsGivenOrLost, KeepsItems}
 use Rattle.dead_code.specs.Dead.{Places, Ends, is_dead, needed_at}
 use Rattle.dead_code.specs.Wrong.{begins_dead, silenced, silenced_left, taken_out, is_dead_at}
 use Rattle.dead_code.specs.Out.{LosesOf, LosesAt, AreWrong}
 use Rattle.dead_code.proofs.Lists.{quiet, quiet_is, taken}
 use Rattle.dead_code.proofs.Rounds.{ends_one}
 use Rattle.dead_code.proofs.Sound.{Left, none as left_none, kept as left_kept, gone as left_gone, left_items}
-use Rattle.dead_items.specs.Judged.{AreJudged}
+use Rattle.dce_mark.specs.Judged.{AreJudged}
 use Rattle.dead_salvage.specs.Laws.{begins_off, all_off, function_off, KeepsOff}
 use Rattle.dead_salvage.proofs.Chain.{numbers_off}
 use Rattle.sound_edits.proofs.Numbers.{IsUnlike, AreUnlike}
-use Rattle.dead_round.specs.Round.{IsDeadRound}
+use Rattle.dce_round.specs.Round.{IsDeadRound}
 use Rattle.dead_debug.specs.Rule.{dead_rule}
 use Rattle.dead_debug.specs.Laws.{RoundKeepsItems}
 use Rattle.dead_debug.proofs.Blocks.{lost_there}

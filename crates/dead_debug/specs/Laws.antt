@@ -3,11 +3,11 @@ use Rattle.std.specs.Prelude.{List, []}
 use Rattle.mir_func.specs.declared.entry.Entry.{Entry}
 use Rattle.mir_func.specs.Function.{Function}
 use Rattle.mir_func.specs.Sound.{IsSound}
-use Rattle.follow_law.specs.declared.loss.Loss.{Loss}
-use Rattle.follow_law.specs.Change.{change}
-use Rattle.follow_law.specs.Debug.{KeepsItems}
+use Rattle.pass_trait.specs.declared.loss.Loss.{Loss}
+use Rattle.pass_trait.specs.Change.{change}
+use Rattle.pass_trait.specs.Debug.{KeepsItems}
 use Rattle.dead_code.specs.Dead.{IsRound}
-use Rattle.dead_round.specs.Round.{IsDeadRound}
+use Rattle.dce_round.specs.Round.{IsDeadRound}
 use Rattle.dead_debug.specs.Rule.{dead_rule}
 
 -- each mark, phi and number stays, or an entry or a phi stands for it, or it is among the losses with its cause

@@ -5,12 +5,12 @@ use Rattle.mir_func.specs.declared.block.Block.{Block}
 use Rattle.mir_func.specs.declared.item.Item.{Item}
 use Rattle.mir_func.specs.declared.entry.Entry.{Entry}
 use Rattle.mir_func.specs.Function.{Function}
-use Rattle.salvage.specs.declared.way.Way.{Way}
-use Rattle.salvage.specs.declared.way.Way.TheVariants.{HasEntry, GetsEntry, GetsPhi}
-use Rattle.salvage.specs.Way.{way}
-use Rattle.dead_copies.specs.declared.off.Copied.{Copied}
-use Rattle.dead_copies.specs.Off.{without_number, numbered_copy, put_off, SoFar, off_at}
-use Rattle.dead_copies.specs.Blocks.{going_from, BlocksSoFar, in_block, blocks_off}
+use Rattle.pass_salvage.specs.declared.way.Way.{Way}
+use Rattle.pass_salvage.specs.declared.way.Way.TheVariants.{HasEntry, GetsEntry, GetsPhi}
+use Rattle.pass_salvage.specs.Way.{way}
+use Rattle.dce_copies.specs.declared.off.Copied.{Copied}
+use Rattle.dce_copies.specs.Off.{without_number, numbered_copy, put_off, SoFar, off_at}
+use Rattle.dce_copies.specs.Blocks.{going_from, BlocksSoFar, in_block, blocks_off}
 use Rattle.dead_salvage.specs.Laws.{begins_off}
 
 -- what stands for an item, and the register whose content the phi before it has, if one was put

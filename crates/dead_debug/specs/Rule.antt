@@ -13,12 +13,12 @@ use Rattle.mir_func.specs.declared.item.Item.{Item}
 use Rattle.mir_func.specs.declared.item.ItemKind.{ItemKind}
 use Rattle.mir_func.specs.declared.item.ItemKind.TheVariants.{Code, Mark, Phi}
 use Rattle.mir_func.specs.Graph.{below}
-use Rattle.follow_law.specs.declared.loss.Reason.TheVariants.{Removed, WrongPlace}
-use Rattle.follow_law.specs.declared.loss.Loss.{Loss}
-use Rattle.follow_law.specs.Change.{Change}
-use Rattle.follow_law.specs.Rule.{Rule, IsCopy, StandsAt, number_lost, mark_lost, item}
+use Rattle.pass_trait.specs.declared.loss.Reason.TheVariants.{Removed, WrongPlace}
+use Rattle.pass_trait.specs.declared.loss.Loss.{Loss}
+use Rattle.pass_trait.specs.Change.{Change}
+use Rattle.pass_trait.specs.Rule.{Rule, IsCopy, StandsAt, number_lost, mark_lost, item}
 use Rattle.dead_code.specs.Wrong.{is_dead_at, IsWrongAt}
-use Rattle.dead_items.specs.Judged.{AreJudged}
+use Rattle.dce_mark.specs.Judged.{AreJudged}
 use Rattle.dead_salvage.specs.Laws.{all_off}
 use Rattle.dead_debug.specs.Ledger.{Line, ledger}
 

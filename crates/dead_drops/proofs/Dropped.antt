@@ -13,24 +13,24 @@ use Rattle.mir_func.specs.declared.item.ItemKind.TheVariants.{Code, Mark, Phi}
 use Rattle.mir_func.specs.declared.variable.MarkValue.TheVariants.{Nothing, Constant, At, Pair}
 use Rattle.mir_func.specs.Sound.{number_of}
 use Rattle.mir_func.specs.Graph.{Program}
-use Rattle.mir_meaning.specs.State.{Core, updated}
-use Rattle.mir_meaning.specs.Step.{numbered, given, defined, pair_value, do_item}
-use Rattle.mir_meaning.specs.Effects.{EndAlike, FallsInto}
-use Rattle.mir_meaning.specs.Align.{is_code}
-use Rattle.mir_meaning.proofs.Outcomes.{alike_weaker}
-use Rattle.mir_meaning.proofs.Places.{updated_same, updated_other}
-use Rattle.simulation.specs.Sides.{OutcomesAlike, ShowsSame}
-use Rattle.simulation.proofs.Outcomes.{alike_of}
-use Rattle.follow_law.specs.Rule.{item}
-use Rattle.held_alike.specs.Alike.{HeldAlike, TellsNoMore, Alike, OrDefined, HeldAfter, NumbersHeld, Depends}
-use Rattle.held_alike.proofs.Outcomes.{TellsAs, alike_both, code_alike, leaves_pair}
-use Rattle.held_alike.proofs.Held.{held_fewer, held_itself, held_number, held_by, act_held}
-use Rattle.held_alike.proofs.Told.{tells_itself, tells_of}
-use Rattle.held_alike.proofs.Items.{item_both}
-use Rattle.held_alike.proofs.Views.{shows_alike}
+use Rattle.sem_mir.specs.State.{Core, updated}
+use Rattle.sem_mir.specs.Step.{numbered, given, defined, pair_value, do_item}
+use Rattle.sem_mir.specs.Effects.{EndAlike, FallsInto}
+use Rattle.sem_mir.specs.Align.{is_code}
+use Rattle.sem_mir.proofs.Outcomes.{alike_weaker}
+use Rattle.sem_mir.proofs.Places.{updated_same, updated_other}
+use Rattle.sem_simulation.specs.Sides.{OutcomesAlike, ShowsSame}
+use Rattle.sem_simulation.proofs.Outcomes.{alike_of}
+use Rattle.pass_trait.specs.Rule.{item}
+use Rattle.sem_agreement.specs.Alike.{HeldAlike, TellsNoMore, Alike, OrDefined, HeldAfter, NumbersHeld, Depends}
+use Rattle.sem_agreement.proofs.Outcomes.{TellsAs, alike_both, code_alike, leaves_pair}
+use Rattle.sem_agreement.proofs.Held.{held_fewer, held_itself, held_number, held_by, act_held}
+use Rattle.sem_agreement.proofs.Told.{tells_itself, tells_of}
+use Rattle.sem_agreement.proofs.Items.{item_both}
+use Rattle.sem_agreement.proofs.Views.{shows_alike}
 use Rattle.std.specs.Prelude.{slice_get}
-use Rattle.salvage.proofs.EditRuns.{Keeps}
-use Rattle.salvage.proofs.NumberOff.{Everywhere}
+use Rattle.pass_salvage.proofs.EditRuns.{Keeps}
+use Rattle.pass_salvage.proofs.NumberOff.{Everywhere}
 use Rattle.dead_drops.specs.Dropped.{IsUnlike, DropPair, elsewhere, drops, DropPut, puts, drop_edits}
 
 -- where code loses number k. Pairs resolve alike in both

@@ -5,8 +5,8 @@ use Rattle.mir_func.specs.declared.item.Item.{Item}
 use Rattle.mir_func.specs.Function.{Function}
 use Rattle.mir_func.specs.Resolve.{resolve}
 use Rattle.mir_func.specs.Graph.{Program, program_of}
-use Rattle.mir_meaning.specs.Follow.{MarkFits}
-use Rattle.salvage.proofs.EditFollows.{Allows}
+use Rattle.sem_mir.specs.Follow.{MarkFits}
+use Rattle.pass_salvage.proofs.EditFollows.{Allows}
 use Rattle.dead_numbers.proofs.Edited.{edited_loosely}
 use Rattle.dead_drops.specs.Dropped.{DropPut, puts, drop_edits}
 use Rattle.dead_drops.proofs.Dropped.{DropCores, drop_keeps, drop_itself}

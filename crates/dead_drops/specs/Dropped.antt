@@ -7,8 +7,8 @@ use Rattle.mir_func.specs.declared.item.Item.{Item}
 use Rattle.mir_func.specs.declared.item.ItemKind.{ItemKind}
 use Rattle.mir_func.specs.declared.item.ItemKind.TheVariants.{Code, Mark, Phi}
 use Rattle.mir_func.specs.Sound.{number_of}
-use Rattle.follow_law.specs.Rule.{item}
-use Rattle.salvage.proofs.Edits.{Edits}
+use Rattle.pass_trait.specs.Rule.{item}
+use Rattle.pass_salvage.proofs.Edits.{Edits}
 
 module _ (k : ℕ) where
   -- it gives another number, or none

@@ -3,8 +3,8 @@ use Rattle.std.specs.Prelude.{◌≡◌, ℕ, List}
 use Rattle.mir_func.specs.declared.entry.Entry.{Entry}
 use Rattle.mir_func.specs.Function.{Function}
 use Rattle.mir_func.specs.Sound.{IsSound}
-use Rattle.follow_law.specs.Change.{change}
-use Rattle.salvage.proofs.Edits.{BlocksEdited}
+use Rattle.pass_trait.specs.Change.{change}
+use Rattle.pass_salvage.proofs.Edits.{BlocksEdited}
 use Rattle.dead_code.specs.Loose.{KeepsLoosely}
 use Rattle.dead_drops.specs.Dropped.{drop_edits}
 

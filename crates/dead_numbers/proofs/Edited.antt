@@ -13,15 +13,15 @@ use Rattle.mir_func.specs.Function.{Function}
 use Rattle.mir_func.specs.Sound.{IsSound}
 use Rattle.mir_func.specs.Resolve.{resolve}
 use Rattle.mir_func.specs.Graph.{Here, Program, program_of}
-use Rattle.mir_meaning.specs.State.{Core, State}
-use Rattle.mir_meaning.specs.Align.{is_code, is_jump, moves_on, Count, ByItems, ByEnds, station_at, AnyOrigin, RunsAlong, since_of, waits_at}
-use Rattle.mir_meaning.specs.Follow.{KindFits, MarkFits, InOrder, Among, none, same, left, first_of, OnRow, IsStart, IsEnd}
-use Rattle.mir_meaning.specs.Follow.{EndIsKept, EndComesFrom}
-use Rattle.follow_law.specs.Change.{change}
-use Rattle.salvage.proofs.Kin.{kin_fits, kin_marks, kin_goes, kin_end, kin_is_end, moves_after}
-use Rattle.salvage.proofs.Edits.{Edits, BlocksEdited, no_blocks, next_block, order_edited, item_back, item_on}
-use Rattle.salvage.proofs.EditRuns.{Keeps, IsSteady, runs_edited}
-use Rattle.salvage.proofs.EditFollows.{Allows, each_edited}
+use Rattle.sem_mir.specs.State.{Core, State}
+use Rattle.sem_mir.specs.Align.{is_code, is_jump, moves_on, Count, ByItems, ByEnds, station_at, AnyOrigin, RunsAlong, since_of, waits_at}
+use Rattle.sem_mir.specs.Follow.{KindFits, MarkFits, InOrder, Among, none, same, left, first_of, OnRow, IsStart, IsEnd}
+use Rattle.sem_mir.specs.Follow.{EndIsKept, EndComesFrom}
+use Rattle.pass_trait.specs.Change.{change}
+use Rattle.pass_salvage.proofs.Kin.{kin_fits, kin_marks, kin_goes, kin_end, kin_is_end, moves_after}
+use Rattle.pass_salvage.proofs.Edits.{Edits, BlocksEdited, no_blocks, next_block, order_edited, item_back, item_on}
+use Rattle.pass_salvage.proofs.EditRuns.{Keeps, IsSteady, runs_edited}
+use Rattle.pass_salvage.proofs.EditFollows.{Allows, each_edited}
 use Rattle.dead_code.specs.Loose.{LooseShape, KeepsLoosely}
 
 all_none : {A : Type 0} (P : A → Type 0) → All P []

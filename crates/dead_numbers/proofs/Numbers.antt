@@ -6,12 +6,12 @@ use Rattle.mir_func.specs.declared.item.Item.{Item}
 use Rattle.mir_func.specs.Function.{Function}
 use Rattle.mir_func.specs.Resolve.{resolve}
 use Rattle.mir_func.specs.Graph.{Program, program_of}
-use Rattle.mir_meaning.specs.Follow.{MarkFits}
-use Rattle.salvage.specs.Salvage.{entry_for}
-use Rattle.salvage.proofs.EditFollows.{Allows}
-use Rattle.salvage.proofs.OneMore.{one_more}
-use Rattle.salvage.proofs.NumberOff.{off_edits, OffCores, off_keeps, off_itself}
-use Rattle.salvage.proofs.NumberPhi.{Spot, PhiPut, puts, phi_edits, PhiCores, phi_keeps, phi_itself}
+use Rattle.sem_mir.specs.Follow.{MarkFits}
+use Rattle.pass_salvage.specs.Salvage.{entry_for}
+use Rattle.pass_salvage.proofs.EditFollows.{Allows}
+use Rattle.pass_salvage.proofs.OneMore.{one_more}
+use Rattle.pass_salvage.proofs.NumberOff.{off_edits, OffCores, off_keeps, off_itself}
+use Rattle.pass_salvage.proofs.NumberPhi.{Spot, PhiPut, puts, phi_edits, PhiCores, phi_keeps, phi_itself}
 use Rattle.dead_numbers.specs.Laws.{NumberGoesToCode, NumberGoesToPhi}
 use Rattle.dead_numbers.proofs.Edited.{edited_loosely}
 

@@ -6,12 +6,12 @@ use Rattle.mir_func.specs.Sound.{IsSound}
 use Rattle.mir_func.specs.Graph.{program_of}
 use Rattle.mir_func.specs.Resolve.{entry_of, resolve}
 use Rattle.std.proofs.Common.{refl}
-use Rattle.follow_law.specs.Change.{change}
-use Rattle.follow_law.specs.Rule.{first_operand}
-use Rattle.salvage.specs.Salvage.{entry_for}
-use Rattle.salvage.proofs.Edits.{BlocksEdited}
-use Rattle.salvage.proofs.NumberOff.{off_edits}
-use Rattle.salvage.proofs.NumberPhi.{phi_edits}
+use Rattle.pass_trait.specs.Change.{change}
+use Rattle.pass_trait.specs.Rule.{first_operand}
+use Rattle.pass_salvage.specs.Salvage.{entry_for}
+use Rattle.pass_salvage.proofs.Edits.{BlocksEdited}
+use Rattle.pass_salvage.proofs.NumberOff.{off_edits}
+use Rattle.pass_salvage.proofs.NumberPhi.{phi_edits}
 use Rattle.dead_code.specs.Loose.{KeepsLoosely}
 
 -- number k of a copy of s goes to operand o of number n, which code above the copy has or gets; other numbers are free meanwhile

@@ -4,8 +4,8 @@ use Rattle.std.proofs.lemmas.List.Sums.{sum_by-cons}
 use Rattle.mir_func.specs.declared.item.Item.{Item}
 use Rattle.mir_func.specs.Function.{Function}
 use Rattle.mir_func.specs.Sound.{items_of}
-use Rattle.mir_meaning.specs.Align.{is_code}
-use Rattle.follow_law.specs.Sizes.{code_count, item_count}
+use Rattle.sem_mir.specs.Align.{is_code}
+use Rattle.pass_trait.specs.Sizes.{code_count, item_count}
 
 one_at_most : (z : Bool) → cond z 1 0 ≤ 1
 one_at_most true = omega arith

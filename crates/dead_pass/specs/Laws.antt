@@ -1,7 +1,7 @@
 -- Proofs of what the pass owes of its rules for code. They stand here, and not in proofs/, since an implementation of the
 -- trait of passes cites them; nothing here is to be believed.
-use Rattle.follow_law.specs.Code.{HasOneResult, SeesCodeAlone}
-use Rattle.follow_law.specs.Steps.{EachCode}
+use Rattle.pass_trait.specs.Code.{HasOneResult, SeesCodeAlone}
+use Rattle.pass_trait.specs.Steps.{EachCode}
 use Rattle.dead_steps.specs.Steps.{dead_steps}
 use Rattle.dead_steps.proofs.Chain.{each_one, each_same}
 

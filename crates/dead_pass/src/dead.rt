@@ -8,11 +8,11 @@ ghost use Rattle.std.proofs.Common.{rules};
 use dead_rounds::laws::rounds_keep;
 use dead_rounds::rounds::dead_rounds;
 use dead_steps::laws::rounds_keep_steps;
-use follow_law::loss::Losses;
-use follow_law::pass::Pass;
+use pass_trait::loss::Losses;
+use pass_trait::pass::Pass;
 use mir_func::func::Func;
 use std::alloc::{AllocError, Global};
-use substitution::substitutions::Substitutions;
+use mir_substitution::substitutions::Substitutions;
 
 /// Takes out dead code in rounds, until nothing is dead (LLVM: dead machine instruction elimination). Lost are the
 /// numbers of what goes, but for those of copies, and marks and phis of places that it leaves wrong. The losses of each

@@ -13,9 +13,9 @@ use Rattle.mir_func.specs.Function.{Function}
 use Rattle.mir_func.specs.Limits.{MAX_BLOCKS, MAX_SLOTS}
 use Rattle.mir_func.specs.Sound.{IsSound}
 use Rattle.mir_func.specs.Strip.{stripped}
-use Rattle.follow_law.specs.declared.loss.Loss.{Loss}
-use Rattle.follow_law.specs.Change.{change}
-use Rattle.follow_law.specs.Sizes.{greatest, item_count, greatest_number, most_numbers, KeepsSizes}
+use Rattle.pass_trait.specs.declared.loss.Loss.{Loss}
+use Rattle.pass_trait.specs.Change.{change}
+use Rattle.pass_trait.specs.Sizes.{greatest, item_count, greatest_number, most_numbers, KeepsSizes}
 use Rattle.dead_code.specs.Dead.{Places, Ends, is_dead, needed_at, without_dead, thinned_block, thinned, IsRound, IsThinnedOut, over, again}
 use Rattle.dead_code.specs.Wrong.{silenced, silenced_left, silenced_block, taken_out}
 use Rattle.dead_code.specs.Loose.{KeepsLoosely}

@@ -4,8 +4,8 @@ use Rattle.std.proofs.Math.Nat.{le_refl, le_trans}
 use Rattle.mir_func.specs.declared.entry.Entry.{Entry}
 use Rattle.mir_func.specs.Function.{Function}
 use Rattle.mir_func.specs.Sound.{IsSound}
-use Rattle.follow_law.specs.declared.loss.Loss.{Loss}
-use Rattle.follow_law.specs.Sizes.{greatest_number, item_count}
+use Rattle.pass_trait.specs.declared.loss.Loss.{Loss}
+use Rattle.pass_trait.specs.Sizes.{greatest_number, item_count}
 use Rattle.dead_code.specs.Dead.{IsRound}
 use Rattle.dead_sizes.specs.Round.{IsDeadRound}
 use Rattle.dead_sizes.proofs.Round.{round_sizes}

@@ -4,10 +4,10 @@ use Rattle.mir_func.specs.declared.entry.Entry.{Entry}
 use Rattle.mir_func.specs.Function.{Function}
 use Rattle.mir_func.specs.Sound.{IsSound}
 use Rattle.mir_func.specs.Strip.{stripped}
-use Rattle.follow_law.specs.declared.loss.Loss.{Loss}
-use Rattle.follow_law.specs.Change.{change}
-use Rattle.follow_law.specs.Following.{KeepsFollowing}
-use Rattle.follow_law.specs.Sizes.{KeepsSizes}
+use Rattle.pass_trait.specs.declared.loss.Loss.{Loss}
+use Rattle.pass_trait.specs.Change.{change}
+use Rattle.pass_trait.specs.Following.{KeepsFollowing}
+use Rattle.pass_trait.specs.Sizes.{KeepsSizes}
 use Rattle.dead_code.specs.Dead.{IsThinnedOut}
 use Rattle.dead_rounds.specs.Rounds.{AreDeadRounds}
 

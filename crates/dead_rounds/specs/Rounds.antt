@@ -2,7 +2,7 @@
 use Rattle.std.specs.Prelude.{List, [], ◌++◌}
 use Rattle.mir_func.specs.declared.entry.Entry.{Entry}
 use Rattle.mir_func.specs.Function.{Function}
-use Rattle.follow_law.specs.declared.loss.Loss.{Loss}
+use Rattle.pass_trait.specs.declared.loss.Loss.{Loss}
 use Rattle.dead_code.specs.Dead.{IsRound}
 use Rattle.dead_sizes.specs.Round.{IsDeadRound}
 

@@ -2,14 +2,14 @@
 
 ghost use Rattle.std.specs.Prelude.{◌≡◌, ◌+◌, ◌<◌, ◌^◌, IfOk};
 ghost use Rattle.mir_func.specs.Sound.{IsSound};
-ghost use Rattle.follow_law.specs.Sizes.{greatest_number, item_count};
+ghost use Rattle.pass_trait.specs.Sizes.{greatest_number, item_count};
 ghost use Rattle.dead_rounds.specs.Rounds.{AreDeadRounds};
 
 use dead_sizes::one_round::dead_round;
-use follow_law::loss::Losses;
+use pass_trait::loss::Losses;
 use mir_func::func::Func;
 use std::alloc::{AllocError, Global};
-use substitution::substitutions::Substitutions;
+use mir_substitution::substitutions::Substitutions;
 
 /// Takes dead code out of a function in rounds, until nothing is dead, and gives what was lost, round by round. After
 /// an error the function and the substitutions are only to be dropped.

@@ -9,14 +9,14 @@ use Rattle.mir_func.specs.declared.block.Block.{Block}
 use Rattle.mir_func.specs.declared.item.Item.{Item}
 use Rattle.mir_func.specs.Function.{Function}
 use Rattle.mir_func.specs.Sound.{items_of, IsSound}
-use Rattle.follow_law.specs.Change.{change}
-use Rattle.follow_law.specs.Sizes.{numbers_of, greatest_number}
+use Rattle.pass_trait.specs.Change.{change}
+use Rattle.pass_trait.specs.Sizes.{numbers_of, greatest_number}
 use Rattle.dead_code.specs.Loose.{KeepsLoosely}
 use Rattle.sound_edits.proofs.Numbers.{all_first, all_second}
 use Rattle.copy_removal.proofs.Under.{KindUnder, BlocksUnder, EntryUnder, greatest_under, items_under, blocks_under, entries_under}
 use Rattle.copy_removal.proofs.Chain.{then}
-use Rattle.dead_copies.specs.Off.{SoFar}
-use Rattle.dead_copies.specs.Blocks.{going_from, BlocksSoFar, in_block, block_off, next_off, blocks_off}
+use Rattle.dce_copies.specs.Off.{SoFar}
+use Rattle.dce_copies.specs.Blocks.{going_from, BlocksSoFar, in_block, block_off, next_off, blocks_off}
 use Rattle.dead_salvage.specs.Laws.{begins_off, all_off, NumbersGoOff}
 use Rattle.dead_salvage.proofs.Copy.{all_down}
 use Rattle.dead_salvage.proofs.Same.{blocks_same, off_stripped}

@@ -14,13 +14,13 @@ use Rattle.mir_func.specs.declared.item.ItemKind.{ItemKind}
 use Rattle.mir_func.specs.declared.item.ItemKind.TheVariants.{Code, Mark, Phi}
 use Rattle.mir_func.specs.Function.{Function}
 use Rattle.mir_func.specs.Sound.{IsSound}
-use Rattle.follow_law.specs.Change.{change}
-use Rattle.follow_law.specs.Rule.{item}
-use Rattle.salvage.specs.declared.way.Way.{Way}
-use Rattle.salvage.specs.declared.way.Way.TheVariants.{HasEntry, GetsEntry, GetsPhi}
-use Rattle.salvage.specs.Way.{way}
-use Rattle.salvage.specs.Salvage.{numbered_at, phi_for, entry_for, entries_for, fresh_after, above_after}
-use Rattle.salvage.proofs.Chosen.{IsEntered, entered}
+use Rattle.pass_trait.specs.Change.{change}
+use Rattle.pass_trait.specs.Rule.{item}
+use Rattle.pass_salvage.specs.declared.way.Way.{Way}
+use Rattle.pass_salvage.specs.declared.way.Way.TheVariants.{HasEntry, GetsEntry, GetsPhi}
+use Rattle.pass_salvage.specs.Way.{way}
+use Rattle.pass_salvage.specs.Salvage.{numbered_at, phi_for, entry_for, entries_for, fresh_after, above_after}
+use Rattle.pass_salvage.proofs.Chosen.{IsEntered, entered}
 use Rattle.dead_code.specs.Loose.{KeepsLoosely}
 use Rattle.sound_edits.proofs.Numbers.{all_first, all_second}
 use Rattle.copy_removal.proofs.Around.{with_block}
@@ -28,8 +28,8 @@ use Rattle.copy_removal.proofs.Under.{KindUnder, AreUnder, BlocksUnder, EntryUnd
 use Rattle.copy_removal.proofs.TakeOut.{Step}
 use Rattle.copy_removal.proofs.ToPhi.{to_phi}
 use Rattle.copy_removal.proofs.ToCode.{to_code}
-use Rattle.dead_copies.specs.declared.off.Copied.{Copied}
-use Rattle.dead_copies.specs.Off.{copied_by, numbered_copy, phi_by, put_off, behind_off, items_off, SoFar, off_copy, copy_in, off_at, off_down}
+use Rattle.dce_copies.specs.declared.off.Copied.{Copied}
+use Rattle.dce_copies.specs.Off.{copied_by, numbered_copy, phi_by, put_off, behind_off, items_off, SoFar, off_copy, copy_in, off_at, off_down}
 use Rattle.dead_salvage.proofs.Nowhere.{phi_none, to_nowhere, to_phi_none}
 use Rattle.dead_salvage.proofs.Under.{with_none, Counted, counted}
 

@@ -20,9 +20,9 @@ use Rattle.rv64_instr.specs.declared.place.Place.{Place}
 use Rattle.rv64_instr.specs.declared.place.Place.TheVariants.{Register}
 use Rattle.mir_func.specs.Sound.{AreApart, AllItems, ids_of, OriginIn, PlaceIn, TargetsIn, SlotsIn, ObjectsIn, LeavesPointer, IsJumpAtMost, MayFollow, EndsWell}
 use Rattle.mir_func.specs.Sound.{Closes, LastCloses, IsSound}
-use Rattle.follow_law.specs.Rule.{item, item_before}
-use Rattle.salvage.proofs.Kin.{row_itself, code_kin}
-use Rattle.salvage.proofs.Edits.{Edits, pair, put}
+use Rattle.pass_trait.specs.Rule.{item, item_before}
+use Rattle.pass_salvage.proofs.Kin.{row_itself, code_kin}
+use Rattle.pass_salvage.proofs.Edits.{Edits, pair, put}
 use Rattle.dead_drops.specs.Dropped.{DropPair, elsewhere, drops, puts, drop_edits}
 use Rattle.dead_drops.proofs.Nowhere.{number_to_nowhere}
 use Rattle.sound_edits.specs.Edits.{stays, same_code}

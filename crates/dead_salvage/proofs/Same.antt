@@ -14,15 +14,15 @@ use Rattle.mir_func.specs.declared.item.ItemKind.{ItemKind}
 use Rattle.mir_func.specs.declared.item.ItemKind.TheVariants.{Code, Mark, Phi}
 use Rattle.mir_func.specs.Function.{Function}
 use Rattle.mir_func.specs.Strip.{bare, stripped_item, stripped_items, stripped_blocks, stripped}
-use Rattle.follow_law.specs.Rule.{item}
-use Rattle.salvage.specs.declared.way.Way.{Way}
-use Rattle.salvage.specs.declared.way.Way.TheVariants.{HasEntry, GetsEntry, GetsPhi}
-use Rattle.salvage.specs.Way.{way}
-use Rattle.salvage.specs.Salvage.{with_number, numbered_at, above_after}
+use Rattle.pass_trait.specs.Rule.{item}
+use Rattle.pass_salvage.specs.declared.way.Way.{Way}
+use Rattle.pass_salvage.specs.declared.way.Way.TheVariants.{HasEntry, GetsEntry, GetsPhi}
+use Rattle.pass_salvage.specs.Way.{way}
+use Rattle.pass_salvage.specs.Salvage.{with_number, numbered_at, above_after}
 use Rattle.dead_code.specs.Same.{SameItems, none, both, first, second, SameBlocks, no_blocks, one_more}
-use Rattle.dead_copies.specs.declared.off.Copied.{Copied}
-use Rattle.dead_copies.specs.Off.{without_number, numbered_copy, phi_by, behind_off, items_off, SoFar, off_copy, copy_in, off_at, off_down}
-use Rattle.dead_copies.specs.Blocks.{going_from, BlocksSoFar, in_block, block_off, blocks_off}
+use Rattle.dce_copies.specs.declared.off.Copied.{Copied}
+use Rattle.dce_copies.specs.Off.{without_number, numbered_copy, phi_by, behind_off, items_off, SoFar, off_copy, copy_in, off_at, off_down}
+use Rattle.dce_copies.specs.Blocks.{going_from, BlocksSoFar, in_block, block_off, blocks_off}
 use Rattle.dead_salvage.specs.Laws.{begins_off, function_off}
 
 -- ---- items with the same code

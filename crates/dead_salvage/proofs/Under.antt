@@ -8,11 +8,11 @@ use Rattle.std.proofs.lemmas.Option.{slice_get_within, get_or_from_slice_get}
 use Rattle.mir_func.specs.declared.entry.Entry.{Entry}
 use Rattle.mir_func.specs.declared.item.Item.{Item}
 use Rattle.mir_func.specs.declared.item.ItemKind.TheVariants.{Code}
-use Rattle.follow_law.specs.Rule.{item}
-use Rattle.salvage.specs.declared.way.Way.TheVariants.{GetsEntry}
-use Rattle.salvage.specs.Salvage.{numbered_at, fresh_after}
-use Rattle.salvage.specs.Way.{has_entry, or_fresh, asks_for}
-use Rattle.salvage.proofs.Chosen.{IsEntered}
+use Rattle.pass_trait.specs.Rule.{item}
+use Rattle.pass_salvage.specs.declared.way.Way.TheVariants.{GetsEntry}
+use Rattle.pass_salvage.specs.Salvage.{numbered_at, fresh_after}
+use Rattle.pass_salvage.specs.Way.{has_entry, or_fresh, asks_for}
+use Rattle.pass_salvage.proofs.Chosen.{IsEntered}
 use Rattle.sound_edits.proofs.Numbers.{all_first, all_second}
 use Rattle.copy_removal.proofs.Found.{Split, split_at}
 use Rattle.copy_removal.proofs.Under.{KindUnder, AreUnder, items_more}

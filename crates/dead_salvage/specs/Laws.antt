@@ -4,11 +4,11 @@ use Rattle.mir_func.specs.declared.entry.Entry.{Entry}
 use Rattle.mir_func.specs.Function.{Function}
 use Rattle.mir_func.specs.Sound.{IsSound}
 use Rattle.mir_func.specs.Strip.{stripped}
-use Rattle.follow_law.specs.Change.{change}
-use Rattle.follow_law.specs.Sizes.{greatest_number}
+use Rattle.pass_trait.specs.Change.{change}
+use Rattle.pass_trait.specs.Sizes.{greatest_number}
 use Rattle.dead_code.specs.Loose.{KeepsLoosely}
 use Rattle.dead_code.specs.Same.{SameBlocks}
-use Rattle.dead_copies.specs.Blocks.{BlocksSoFar, blocks_off}
+use Rattle.dce_copies.specs.Blocks.{BlocksSoFar, blocks_off}
 
 -- where the first copy, which is the last of the text, loses its number: the next fresh number is above all
 abbrev pub begins_off : Function → List Entry → BlocksSoFar

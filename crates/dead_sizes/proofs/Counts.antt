@@ -15,12 +15,12 @@ use Rattle.mir_func.specs.declared.item.ItemKind.TheVariants.{Code, Mark, Phi}
 use Rattle.mir_func.specs.Sound.{items_of}
 use Rattle.mir_func.specs.Strip.{stripped_items, stripped_blocks}
 use Rattle.mir_func.specs.Successors.{pos_in}
-use Rattle.follow_law.specs.Rule.{item}
-use Rattle.follow_law.specs.Sizes.{calls}
+use Rattle.pass_trait.specs.Rule.{item}
+use Rattle.pass_trait.specs.Sizes.{calls}
 use Rattle.rv64_instr.specs.Parts.{is_call}
 use Rattle.dead_code.specs.Dead.{Places, Ends, is_dead, is_dead_row, needed_before, needed_at}
 use Rattle.dead_code.specs.Wrong.{silenced, silenced_left, silenced_block}
-use Rattle.dead_items.specs.Judged.{verdicts}
+use Rattle.dce_mark.specs.Judged.{verdicts}
 
 -- ---- verdicts
 

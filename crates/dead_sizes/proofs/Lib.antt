@@ -2,4 +2,4 @@ mod Counts
 mod Off
 mod Numbers
 pub mod Round
-pub use Rattle.dead_round.proofs.Follows
+pub use Rattle.dce_round.proofs.Follows

@@ -14,18 +14,18 @@ use Rattle.mir_func.specs.declared.item.ItemKind.{ItemKind}
 use Rattle.mir_func.specs.declared.item.ItemKind.TheVariants.{Code, Mark, Phi}
 use Rattle.mir_func.specs.Sound.{items_of, AllItems}
 use Rattle.mir_func.specs.SoundFrame.{IsPhysical, HasPhysical}
-use Rattle.salvage.specs.declared.way.Way.{Way}
-use Rattle.salvage.specs.declared.way.Way.TheVariants.{HasEntry, GetsEntry, GetsPhi}
-use Rattle.salvage.specs.Way.{way}
-use Rattle.salvage.specs.Salvage.{with_number, numbered_at, above_after}
+use Rattle.pass_salvage.specs.declared.way.Way.{Way}
+use Rattle.pass_salvage.specs.declared.way.Way.TheVariants.{HasEntry, GetsEntry, GetsPhi}
+use Rattle.pass_salvage.specs.Way.{way}
+use Rattle.pass_salvage.specs.Salvage.{with_number, numbered_at, above_after}
 use Rattle.sound_edits.proofs.Numbers.{all_first, all_second}
-use Rattle.copy_rule.proofs.Rows.{moves_by}
-use Rattle.dead_copies.specs.declared.off.Copied.{Copied}
-use Rattle.dead_copies.specs.Off.{without_number, numbered_copy, phi_by, put_off, behind_off, items_off, SoFar, off_copy, copy_in, off_at, off_down}
-use Rattle.dead_copies.specs.Blocks.{going_from, BlocksSoFar, in_block, block_off, next_off, blocks_off}
-use Rattle.dead_copies.proofs.Down.{off_grows, fresh_least}
+use Rattle.copyprop_rule.proofs.Rows.{moves_by}
+use Rattle.dce_copies.specs.declared.off.Copied.{Copied}
+use Rattle.dce_copies.specs.Off.{without_number, numbered_copy, phi_by, put_off, behind_off, items_off, SoFar, off_copy, copy_in, off_at, off_down}
+use Rattle.dce_copies.specs.Blocks.{going_from, BlocksSoFar, in_block, block_off, next_off, blocks_off}
+use Rattle.dce_copies.proofs.Down.{off_grows, fresh_least}
 use Rattle.dead_code.specs.Dead.{Ends}
-use Rattle.dead_items.specs.Judged.{verdicts}
+use Rattle.dce_mark.specs.Judged.{verdicts}
 use Rattle.dead_salvage.proofs.Copy.{IsCopyOf, copy_of, SplitAt, split_at}
 use Rattle.dead_sizes.proofs.Counts.{trues, below, below_all, dead_in}
 

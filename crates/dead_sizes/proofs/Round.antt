@@ -6,19 +6,19 @@ use Rattle.mir_func.specs.declared.entry.Entry.{Entry}
 use Rattle.mir_func.specs.Function.{Function}
 use Rattle.mir_func.specs.Sound.{IsSound, items_of, AllItems}
 use Rattle.mir_func.specs.SoundFrame.{HasPhysical}
-use Rattle.follow_law.specs.declared.loss.Loss.{Loss}
-use Rattle.follow_law.specs.Change.{change}
-use Rattle.follow_law.specs.Sizes.{greatest, numbers_in, greatest_number, item_count, code_count, call_count, IsPhysical, KeepsSizes}
+use Rattle.pass_trait.specs.declared.loss.Loss.{Loss}
+use Rattle.pass_trait.specs.Change.{change}
+use Rattle.pass_trait.specs.Sizes.{greatest, numbers_in, greatest_number, item_count, code_count, call_count, IsPhysical, KeepsSizes}
 use Rattle.copy_removal.proofs.Under.{BlocksUnder, EntryUnder}
 use Rattle.dead_code.specs.Dead.{Ends}
 use Rattle.dead_code.specs.Wrong.{silenced_block, taken_out}
 use Rattle.dead_code.proofs.Fewer.{sizes_taken}
 use Rattle.dead_code.proofs.Rounds.{ends_one}
-use Rattle.dead_copies.specs.Blocks.{BlocksSoFar, blocks_off}
+use Rattle.dce_copies.specs.Blocks.{BlocksSoFar, blocks_off}
 use Rattle.dead_salvage.specs.Laws.{begins_off, all_off, function_off, KeepsOff}
 use Rattle.dead_salvage.proofs.Chain.{all_went, numbers_off}
-use Rattle.dead_round.specs.Round.{IsDeadRound}
-use Rattle.dead_round.proofs.Follows.{round_code}
+use Rattle.dce_round.specs.Round.{IsDeadRound}
+use Rattle.dce_round.proofs.Follows.{round_code}
 use Rattle.dead_sizes.specs.Laws.{IsNoLarger, RoundSizes}
 use Rattle.dead_sizes.proofs.Counts.{dead_in, dead_same, all_left, calls_same}
 use Rattle.dead_sizes.proofs.Off.{BlocksGrow, verdicts_of, blocks_grow, blocks_physical}

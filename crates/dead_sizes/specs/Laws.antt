@@ -3,9 +3,9 @@ use Rattle.std.specs.Prelude.{◌≡◌, ◌+◌, ◌≤◌, List}
 use Rattle.mir_func.specs.declared.entry.Entry.{Entry}
 use Rattle.mir_func.specs.Function.{Function}
 use Rattle.mir_func.specs.Sound.{IsSound}
-use Rattle.follow_law.specs.declared.loss.Loss.{Loss}
-use Rattle.follow_law.specs.Sizes.{greatest_number, item_count, code_count, call_count, IsPhysical}
-use Rattle.dead_round.specs.Round.{IsDeadRound}
+use Rattle.pass_trait.specs.declared.loss.Loss.{Loss}
+use Rattle.pass_trait.specs.Sizes.{greatest_number, item_count, code_count, call_count, IsPhysical}
+use Rattle.dce_round.specs.Round.{IsDeadRound}
 
 -- the second function, with its substitutions, is no larger: for each debug instruction number that was taken an item went
 pub record IsNoLarger (f : Function) (subs : List Entry) (g : Function) (more : List Entry) : Type 0 where

@@ -1,2 +1,2 @@
 pub mod Laws
-pub use Rattle.dead_round.specs.Round
+pub use Rattle.dce_round.specs.Round

@@ -3,4 +3,4 @@
 
 pub mod laws;
 
-pub use dead_round::round as one_round;
+pub use dce_round::round as one_round;

@@ -3,13 +3,13 @@ use Rattle.std.proofs.Common.{◌≡◌, ℕ, zero, suc, ◌+◌, ◌<◌, ◌�
 use Rattle.mir_func.specs.declared.entry.Entry.{Entry}
 use Rattle.mir_func.specs.Function.{Function}
 use Rattle.mir_func.specs.Sound.{IsSound}
-use Rattle.follow_law.specs.declared.loss.Loss.{Loss}
-use Rattle.follow_law.specs.Change.{change}
-use Rattle.follow_law.specs.Rule.{Rule}
-use Rattle.follow_law.specs.Sizes.{code_count}
-use Rattle.follow_law.specs.Steps.{KeepsStep, KeepsSteps}
-use Rattle.follow_law.specs.Code.{CodeRule, HasOneResult, SeesCodeAlone}
-use Rattle.follow_law.specs.Steps.{EachCode}
+use Rattle.pass_trait.specs.declared.loss.Loss.{Loss}
+use Rattle.pass_trait.specs.Change.{change}
+use Rattle.pass_trait.specs.Rule.{Rule}
+use Rattle.pass_trait.specs.Sizes.{code_count}
+use Rattle.pass_trait.specs.Steps.{KeepsStep, KeepsSteps}
+use Rattle.pass_trait.specs.Code.{CodeRule, HasOneResult, SeesCodeAlone}
+use Rattle.pass_trait.specs.Steps.{EachCode}
 use Rattle.dead_code.specs.Dead.{IsRound}
 use Rattle.dead_debug.specs.Rule.{dead_rule}
 use Rattle.dead_debug.proofs.Whole.{round_keeps}

@@ -3,11 +3,11 @@ use Rattle.std.specs.Prelude.{ℕ, zero, suc, ◌^◌, ◌<◌, List, [], ◌∷
 use Rattle.mir_func.specs.declared.entry.Entry.{Entry}
 use Rattle.mir_func.specs.Function.{Function}
 use Rattle.mir_func.specs.Sound.{IsSound}
-use Rattle.follow_law.specs.declared.loss.Loss.{Loss}
-use Rattle.follow_law.specs.Change.{change}
-use Rattle.follow_law.specs.Rule.{Rule}
-use Rattle.follow_law.specs.Sizes.{code_count}
-use Rattle.follow_law.specs.Steps.{Step, KeepsSteps}
+use Rattle.pass_trait.specs.declared.loss.Loss.{Loss}
+use Rattle.pass_trait.specs.Change.{change}
+use Rattle.pass_trait.specs.Rule.{Rule}
+use Rattle.pass_trait.specs.Sizes.{code_count}
+use Rattle.pass_trait.specs.Steps.{Step, KeepsSteps}
 use Rattle.dead_code.specs.Dead.{IsRound}
 use Rattle.dead_rounds.specs.Rounds.{AreDeadRounds}
 use Rattle.dead_debug.specs.Rule.{dead_rule}

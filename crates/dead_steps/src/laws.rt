@@ -1,7 +1,7 @@
 //! The law of rounds as steps: it is the contract of a function that does nothing.
 
-ghost use Rattle.follow_law.specs.Code.{HasOneResult, SeesCodeAlone};
-ghost use Rattle.follow_law.specs.Steps.{EachCode};
+ghost use Rattle.pass_trait.specs.Code.{HasOneResult, SeesCodeAlone};
+ghost use Rattle.pass_trait.specs.Steps.{EachCode};
 ghost use Rattle.dead_steps.specs.Steps.{RoundsKeepSteps, dead_steps};
 
 /// Rounds that end keep their rules one after the other, and each makes of one function's code one, whatever debug

@@ -1,8 +1,8 @@
 -- What a report says.
 use Rattle.std.specs.Prelude.{ℕ, zero, suc, ◌+◌, ◌*◌, List, [], ◌∷◌, cond, ◌&&◌, nat_le, nat_lt, length, sum_by}
-use Rattle.code_words.specs.Laid.{LaidCode}
+use Rattle.emit_code.specs.Laid.{LaidCode}
 use Rattle.dwarf_loclists.specs.declared.range.Range.{Range}
-use Rattle.follow_law.specs.declared.loss.Loss.{Loss}
+use Rattle.pass_trait.specs.declared.loss.Loss.{Loss}
 use Rattle.debugify_report.specs.declared.report.Cover.{Cover}
 use Rattle.debugify_report.specs.declared.report.Report.{Report}
 

@@ -2,12 +2,12 @@
 use Rattle.std.specs.Prelude.{ℕ, List, [], ◌∷◌, ◌++◌, codes}
 use Rattle.std.specs.List.{flat_map}
 use Rattle.std.specs.Fmt.{decimal}
-use Rattle.compiled_text.specs.Output.{name_text}
-use Rattle.follow_law.specs.declared.loss.Reason.{Reason}
-use Rattle.follow_law.specs.declared.loss.Reason.TheVariants.{Removed, WrongPlace, Scratch, Bypassed, Unreachable, NoScratch, CallNamed, EntryLoop, NoSlot}
-use Rattle.follow_law.specs.declared.loss.Lost.{Lost}
-use Rattle.follow_law.specs.declared.loss.Lost.TheVariants.{Number, Mark, Register}
-use Rattle.follow_law.specs.declared.loss.Loss.{Loss}
+use Rattle.listing_text.specs.Output.{name_text}
+use Rattle.pass_trait.specs.declared.loss.Reason.{Reason}
+use Rattle.pass_trait.specs.declared.loss.Reason.TheVariants.{Removed, WrongPlace, Scratch, Bypassed, Unreachable, NoScratch, CallNamed, EntryLoop, NoSlot}
+use Rattle.pass_trait.specs.declared.loss.Lost.{Lost}
+use Rattle.pass_trait.specs.declared.loss.Lost.TheVariants.{Number, Mark, Register}
+use Rattle.pass_trait.specs.declared.loss.Loss.{Loss}
 use Rattle.debugify_report.specs.declared.report.Cover.{Cover}
 use Rattle.debugify_report.specs.declared.report.Report.{Report}
 

@@ -6,9 +6,9 @@ ghost use Rattle.debugify_report.specs.Report.{cover_of, covers_of, report_of};
 
 use crate::covers::covered;
 use crate::report::{Cover, Covers, Names, Report};
-use code_words::code::Code;
+use emit_code::code::Code;
 use dwarf_loclists::range::Ranges;
-use follow_law::loss::Losses;
+use pass_trait::loss::Losses;
 use rv64_instr::name::Name;
 use std::alloc::{AllocError, Global};
 

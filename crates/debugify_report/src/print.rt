@@ -5,8 +5,8 @@ ghost use Rattle.std.specs.List.{flat_map};
 ghost use Rattle.debugify_report.specs.Text.{reason_text, lost_text, loss_line, cover_line, head_text, report_text};
 
 use crate::report::{Cover, Report};
-use compiled_text::name::push_name;
-use follow_law::loss::{Loss, Lost, Reason};
+use listing_text::name::push_name;
+use pass_trait::loss::{Loss, Lost, Reason};
 use mir_printer::text::{Text, push_decimal, push_numbered, push_str};
 use std::alloc::{AllocError, Global};
 

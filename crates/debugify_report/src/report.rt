@@ -1,7 +1,7 @@
 //! Reports.
 
-use follow_law::loss::Losses;
-use lists::List;
+use pass_trait::loss::Losses;
+use base_list::List;
 use rv64_instr::name::Name;
 
 /// How many words the ranges of a variable have.

@@ -4,20 +4,20 @@ use Rattle.std.proofs.Common.{refl, sym, ap, ◌∙◌, arith, append_assoc, app
 use Rattle.std.specs.Prelude.{is_some, drop}
 use Rattle.std.specs.List.{slice_get}
 use Rattle.std.proofs.lemmas.List.{length-append}
-use Rattle.mir_lexer.specs.declared.fault.LexError.{LexError}
-use Rattle.mir_lexer.specs.declared.line.Line.{Line}
-use Rattle.mir_lexer.specs.declared.parts.Token.{Token}
-use Rattle.mir_lexer.specs.Comment.{before}
-use Rattle.mir_lexer.specs.Line.{tokens_of}
-use Rattle.mir_declarations.specs.declared.stream.Piece as stream
-use Rattle.mir_declarations.specs.declared.stream.TokenStream.{TokenStream}
-use Rattle.mir_declarations.specs.declared.entry.Field.{Field}
-use Rattle.mir_declarations.specs.declared.entry.Entry.{Entry}
-use Rattle.mir_declarations.specs.declared.entry.OpenList.{OpenList}
-use Rattle.mir_declarations.specs.declared.entry.Place.TheVariants.{Outside}
-use Rattle.mir_declarations.specs.Entry.{entries_from, entries_of}
-use Rattle.mir_declarations.specs.List.{list_in, with_fault, list_of}
-use Rattle.mir_declarations.specs.Stream.{line_tokens_of, piece_of, with_line, stream_from}
+use Rattle.read_lexer.specs.declared.fault.LexError.{LexError}
+use Rattle.read_lexer.specs.declared.line.Line.{Line}
+use Rattle.read_lexer.specs.declared.parts.Token.{Token}
+use Rattle.read_lexer.specs.Comment.{before}
+use Rattle.read_lexer.specs.Line.{tokens_of}
+use Rattle.read_declarations.specs.declared.stream.Piece as stream
+use Rattle.read_declarations.specs.declared.stream.TokenStream.{TokenStream}
+use Rattle.read_declarations.specs.declared.entry.Field.{Field}
+use Rattle.read_declarations.specs.declared.entry.Entry.{Entry}
+use Rattle.read_declarations.specs.declared.entry.OpenList.{OpenList}
+use Rattle.read_declarations.specs.declared.entry.Place.TheVariants.{Outside}
+use Rattle.read_declarations.specs.Entry.{entries_from, entries_of}
+use Rattle.read_declarations.specs.List.{list_in, with_fault, list_of}
+use Rattle.read_declarations.specs.Stream.{line_tokens_of, piece_of, with_line, stream_from}
 use Rattle.read_back.proofs.Cuts.{AllPass, pieces_pass, semicolon_mark}
 use Rattle.read_back.proofs.Lexing.{Piece, spelled, AllRead}
 use Rattle.documents_read_back.specs.Document.{lines_from}

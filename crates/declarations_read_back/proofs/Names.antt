@@ -8,15 +8,15 @@ use Rattle.std.proofs.lemmas.Bool.{and_parts, and_from, cond-true, eqb-true, lt-
 use Rattle.std.proofs.lemmas.Bool.Decides.{nat_tests}
 use Rattle.std.proofs.lemmas.List.{length-append}
 use Rattle.std.proofs.lemmas.List.Elements.{All-head, All-tail}
-use Rattle.mir_lexer.specs.declared.parts.Class.TheVariants as class
-use Rattle.mir_lexer.specs.declared.parts.Token.{Token}
-use Rattle.mir_lexer.specs.Bytes.{is_word_start, is_word_byte, is_blank}
-use Rattle.mir_lexer.specs.Front.{closed, quoted, token_at}
-use Rattle.meta_reader.specs.Text.{escape, unescaped_behind, unescaped, inside_quotes}
-use Rattle.meta_reader.specs.Token.{text_of}
-use Rattle.mir_declarations.specs.Name.{spelling_alone, spelling_of, name_by, refused_by, name_read, name_of}
+use Rattle.read_lexer.specs.declared.parts.Class.TheVariants as class
+use Rattle.read_lexer.specs.declared.parts.Token.{Token}
+use Rattle.read_lexer.specs.Bytes.{is_word_start, is_word_byte, is_blank}
+use Rattle.read_lexer.specs.Front.{closed, quoted, token_at}
+use Rattle.read_metadata.specs.Text.{escape, unescaped_behind, unescaped, inside_quotes}
+use Rattle.read_metadata.specs.Token.{text_of}
+use Rattle.read_declarations.specs.Name.{spelling_alone, spelling_of, name_by, refused_by, name_read, name_of}
 use Rattle.mir_printer.specs.Spelling.{upper_hex_digit, quoted_byte}
-use Rattle.func_printer.specs.FuncText.{is_name_start, is_name_byte, is_plain_name, quoted_text}
+use Rattle.mir_func_printer.specs.FuncText.{is_name_start, is_name_byte, is_plain_name, quoted_text}
 use Rattle.read_back.proofs.Lexing.{Reads, Piece, spelled, AllRead}
 use Rattle.read_back.proofs.Phrases.{piece}
 use Rattle.read_back.proofs.Registers.{all_below, below}

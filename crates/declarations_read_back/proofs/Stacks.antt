@@ -10,32 +10,32 @@ use Rattle.std.proofs.lemmas.Bool.{and_parts, cond-true, cond-false, le-leb, lt-
 use Rattle.std.proofs.lemmas.Fmt.{decimal_by_steps}
 use Rattle.std.proofs.lemmas.List.{length-append, map-append}
 use Rattle.std.proofs.lemmas.List.Elements.{All-head, All-tail}
-use Rattle.numbers.specs.Limits.{MAX_NUMBER}
-use Rattle.mir_lexer.specs.declared.line.Line.{Line}
-use Rattle.mir_lexer.specs.declared.parts.Class.TheVariants as class
-use Rattle.mir_lexer.specs.declared.parts.Class.TheVariants.{Single}
-use Rattle.mir_lexer.specs.declared.parts.Token.{Token}
-use Rattle.mir_lexer.specs.Comment.{before}
-use Rattle.mir_lexer.specs.Bytes.{is_blank, is_word_start, is_word_byte}
-use Rattle.mir_lexer.specs.Front.{token, token_at}
-use Rattle.meta_reader.specs.Number.{within_limit, value_behind, spelled as spelt, integer_of, unsigned_of}
-use Rattle.meta_reader.specs.Token.{text_of}
+use Rattle.base_ids.specs.Limits.{MAX_NUMBER}
+use Rattle.read_lexer.specs.declared.line.Line.{Line}
+use Rattle.read_lexer.specs.declared.parts.Class.TheVariants as class
+use Rattle.read_lexer.specs.declared.parts.Class.TheVariants.{Single}
+use Rattle.read_lexer.specs.declared.parts.Token.{Token}
+use Rattle.read_lexer.specs.Comment.{before}
+use Rattle.read_lexer.specs.Bytes.{is_blank, is_word_start, is_word_byte}
+use Rattle.read_lexer.specs.Front.{token, token_at}
+use Rattle.read_metadata.specs.Number.{within_limit, value_behind, spelled as spelt, integer_of, unsigned_of}
+use Rattle.read_metadata.specs.Token.{text_of}
 use Rattle.mir_func.specs.declared.object.Object.{Object}
 use Rattle.mir_func.specs.Sound.{AreApart}
 use Rattle.mir_func.specs.Limits.{MAX_SLOTS}
-use Rattle.refusal.specs.declared.kind.RefusalKind.{RefusalKind}
-use Rattle.refusal.specs.declared.kind.RefusalKind.TheVariants.{StackObject, TooMany}
-use Rattle.mir_declarations.specs.declared.stream.Piece as stream
-use Rattle.mir_declarations.specs.declared.entry.Field.{Field}
-use Rattle.mir_declarations.specs.declared.entry.Entry.{Entry}
-use Rattle.mir_declarations.specs.declared.entry.Listing.{Listing}
-use Rattle.mir_declarations.specs.declared.stack.StackEntry.{StackEntry}
-use Rattle.mir_declarations.specs.declared.stack.StackRead.{StackRead}
-use Rattle.mir_declarations.specs.Entry.{has_key, entries_from}
-use Rattle.mir_declarations.specs.Field.{value_at, number_in, needed, given, says}
-use Rattle.mir_declarations.specs.List.{list_in}
-use Rattle.mir_declarations.specs.Stack.{is_alignment, entry_with, unsized, stack_entry_of, has_id, clash, refusal_at, judged, stack_behind, stack_of}
-use Rattle.mir_declarations.specs.Stream.{piece_of, stream_from, text_in, text_at}
+use Rattle.read_refusal.specs.declared.kind.RefusalKind.{RefusalKind}
+use Rattle.read_refusal.specs.declared.kind.RefusalKind.TheVariants.{StackObject, TooMany}
+use Rattle.read_declarations.specs.declared.stream.Piece as stream
+use Rattle.read_declarations.specs.declared.entry.Field.{Field}
+use Rattle.read_declarations.specs.declared.entry.Entry.{Entry}
+use Rattle.read_declarations.specs.declared.entry.Listing.{Listing}
+use Rattle.read_declarations.specs.declared.stack.StackEntry.{StackEntry}
+use Rattle.read_declarations.specs.declared.stack.StackRead.{StackRead}
+use Rattle.read_declarations.specs.Entry.{has_key, entries_from}
+use Rattle.read_declarations.specs.Field.{value_at, number_in, needed, given, says}
+use Rattle.read_declarations.specs.List.{list_in}
+use Rattle.read_declarations.specs.Stack.{is_alignment, entry_with, unsized, stack_entry_of, has_id, clash, refusal_at, judged, stack_behind, stack_of}
+use Rattle.read_declarations.specs.Stream.{piece_of, stream_from, text_in, text_at}
 use Rattle.read_back.proofs.Cuts.{is_safe, AllPass, safe_passes, decimal_safe, semicolon_mark, semicolon_colon}
 use Rattle.read_back.proofs.Lexing.{Piece, spelled, AllRead}
 use Rattle.read_back.proofs.Numbers.{decimal_of, no_digit}

@@ -1,14 +1,14 @@
 -- The lines of what a function declares as they are printed, and what is read of them.
 use Rattle.std.specs.Prelude.{◌≡◌, ℕ, ◌<◌, ◌≤◌, true, cond, ◌&&◌, codes, List, [], ◌∷◌, ◌++◌, map, length, All, None}
 use Rattle.std.specs.Fmt.{decimal}
-use Rattle.numbers.specs.Limits.{MAX_NUMBER}
+use Rattle.base_ids.specs.Limits.{MAX_NUMBER}
 use Rattle.mir_func.specs.declared.object.Object.{Object}
 use Rattle.mir_func.specs.Sound.{AreApart}
 use Rattle.mir_func.specs.Limits.{MAX_SLOTS}
-use Rattle.mir_declarations.specs.declared.stack.StackEntry.{StackEntry}
-use Rattle.mir_declarations.specs.Name.{name_of}
-use Rattle.mir_declarations.specs.Stack.{is_alignment, stack_of}
-use Rattle.func_printer.specs.FuncText.{name_text, is_nothing}
+use Rattle.read_declarations.specs.declared.stack.StackEntry.{StackEntry}
+use Rattle.read_declarations.specs.Name.{name_of}
+use Rattle.read_declarations.specs.Stack.{is_alignment, stack_of}
+use Rattle.mir_func_printer.specs.FuncText.{name_text, is_nothing}
 use Rattle.documents_read_back.specs.Document.{lines_from}
 
 -- ---- names

@@ -10,8 +10,8 @@ use Rattle.std.proofs.lemmas.List.Elements.{All-nil, All-cons, All-head, All-tai
 use Rattle.std.proofs.lemmas.List.Folds.{list_all-append}
 use Rattle.std.proofs.lemmas.List.Splits.{slice_split_at, length-slice_split}
 use Rattle.std.proofs.lemmas.List.Sums.{suffix_len-take_no}
-use Rattle.mir_lexer.specs.declared.line.Line.{Line}
-use Rattle.mir_frame.specs.Lines.{trimmed, numbered, lines_of}
+use Rattle.read_lexer.specs.declared.line.Line.{Line}
+use Rattle.read_documents.specs.Lines.{trimmed, numbered, lines_of}
 use Rattle.documents_read_back.specs.Document.{is_printed, ends_visibly, IsLine, text_of_lines, lines_from}
 
 -- ---- the last byte of a line

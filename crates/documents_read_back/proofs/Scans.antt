@@ -7,16 +7,16 @@ use Rattle.std.specs.Option.{option_map_or}
 use Rattle.std.specs.Str.{bytes_eq}
 use Rattle.std.proofs.lemmas.Bool.{and_parts, eqb-true}
 use Rattle.std.proofs.lemmas.List.Elements.{All-nil, All-head, All-tail, All-append}
-use Rattle.mir_lexer.specs.declared.line.Line.{Line}
-use Rattle.mir_frame.specs.declared.key.Key.{Key}
-use Rattle.mir_frame.specs.declared.key.Key.TheVariants.{Name, Stack, FixedStack, DebugValueSubstitutions, Body, Other}
-use Rattle.mir_frame.specs.declared.open_function.OpenFunction.{OpenFunction}
-use Rattle.mir_frame.specs.declared.scan.Scan.{Scan}
-use Rattle.mir_frame.specs.declared.parts.FunctionDocument.{FunctionDocument}
-use Rattle.mir_frame.specs.declared.parts.Documents.{Documents}
-use Rattle.mir_frame.specs.Key.{is_close, opens_block, opens_function, is_plain, heading}
-use Rattle.mir_frame.specs.steps.Scan.{just_opened, has, can_not_take, with_line, with_key, taken_under, taken, can_close, closed_at, start, scan, scan_or_stop}
-use Rattle.mir_frame.proofs.Scanned.{scan-lines_of}
+use Rattle.read_lexer.specs.declared.line.Line.{Line}
+use Rattle.read_documents.specs.declared.key.Key.{Key}
+use Rattle.read_documents.specs.declared.key.Key.TheVariants.{Name, Stack, FixedStack, DebugValueSubstitutions, Body, Other}
+use Rattle.read_documents.specs.declared.open_function.OpenFunction.{OpenFunction}
+use Rattle.read_documents.specs.declared.scan.Scan.{Scan}
+use Rattle.read_documents.specs.declared.parts.FunctionDocument.{FunctionDocument}
+use Rattle.read_documents.specs.declared.parts.Documents.{Documents}
+use Rattle.read_documents.specs.Key.{is_close, opens_block, opens_function, is_plain, heading}
+use Rattle.read_documents.specs.steps.Scan.{just_opened, has, can_not_take, with_line, with_key, taken_under, taken, can_close, closed_at, start, scan, scan_or_stop}
+use Rattle.read_documents.proofs.Scanned.{scan-lines_of}
 use Rattle.documents_read_back.specs.Document.{IsLine, IsIndented, text_of_lines, lines_from, Document, behind_name, document_lines, IsSection, IsDocument}
 use Rattle.documents_read_back.specs.Document.{document_at, documents_at, DocumentsReadBack}
 use Rattle.documents_read_back.proofs.Lines.{lines_are}

@@ -1,12 +1,12 @@
 -- The documents of functions as they are printed, and what is read of them.
 use Rattle.std.specs.Prelude.{◌≡◌, ℕ, ◌+◌, Bool, true, not, ◌&&◌, ◌==◌, nat_le, codes, List, [], ◌∷◌, ◌++◌, length, All, Some, None}
 use Rattle.std.specs.List.{flat_map, list_all}
-use Rattle.mir_lexer.specs.declared.line.Line.{Line}
-use Rattle.mir_frame.specs.declared.key.Key.{Key}
-use Rattle.mir_frame.specs.declared.key.Key.TheVariants.{Name, Stack, DebugValueSubstitutions}
-use Rattle.mir_frame.specs.declared.parts.FunctionDocument.{FunctionDocument}
-use Rattle.mir_frame.specs.Documents.{documents_of}
-use Rattle.mir_frame.specs.Key.{heading}
+use Rattle.read_lexer.specs.declared.line.Line.{Line}
+use Rattle.read_documents.specs.declared.key.Key.{Key}
+use Rattle.read_documents.specs.declared.key.Key.TheVariants.{Name, Stack, DebugValueSubstitutions}
+use Rattle.read_documents.specs.declared.parts.FunctionDocument.{FunctionDocument}
+use Rattle.read_documents.specs.Documents.{documents_of}
+use Rattle.read_documents.specs.Key.{heading}
 
 -- ---- lines
 

@@ -9,7 +9,7 @@ use crate::constants::*;
 use crate::kind::{Attribute, Form, Kind};
 use dwarf_base::constants::DW_FORM_string;
 use dwarf_base::leb::{Leb, uleb};
-use lists::List;
+use base_list::List;
 use std::alloc::{AllocError, Global};
 
 /// Bytes, in order.

@@ -1,6 +1,6 @@
 //! What a unit has: types, functions and variables.
 
-use lists::List;
+use base_list::List;
 
 /// A name, by its bytes. It counts up to its first zero byte.
 pub type Name = List<u8>;

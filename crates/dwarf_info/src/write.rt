@@ -13,7 +13,7 @@ use crate::entry::{
 use crate::size::section_len;
 use crate::unit::{BaseEntry, FunctionEntry, Unit, VariableEntry};
 use dwarf_base::constants::{ADDRESS_SIZE, VERSION};
-use lists::List;
+use base_list::List;
 use std::alloc::{AllocError, Global};
 
 /// The bytes of the section's length, which doesn't count them.

@@ -1,6 +1,6 @@
 //! A line number table: directories, files, and sequences of rows.
 
-use lists::List;
+use base_list::List;
 
 /// A name, by its bytes.
 pub type Name = List<u8>;

@@ -14,7 +14,7 @@ use crate::size::{registers, section_len, tables_len};
 use crate::table::{FileEntry, LineTable, Name, Row, Sequence};
 use dwarf_base::constants::{ADDRESS_SIZE, SEGMENT_SELECTOR_SIZE, VERSION};
 use dwarf_base::leb::{Leb, sleb, uleb};
-use lists::List;
+use base_list::List;
 use std::alloc::{AllocError, Global};
 
 /// Bytes, in order.

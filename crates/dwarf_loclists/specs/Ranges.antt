@@ -2,7 +2,7 @@
 use Rattle.std.specs.Prelude.{◌≡◌, ◌≢◌, ℕ, ◌+◌, ◌%◌, ◌^◌, ◌<◌, ◌≤◌, List, [], ◌∷◌, Option, Some, None, nat_le, nat_lt, ◌&&◌, if◌then◌else◌}
 use Rattle.std.specs.Prelude.{All, FitsSigned, slice_get, length}
 use Rattle.std.specs.Int.{w64}
-use Rattle.numbers.specs.Limits.{MAX_OFFSET}
+use Rattle.base_ids.specs.Limits.{MAX_OFFSET}
 use Rattle.rv64_instr.specs.declared.place.Place.{Place}
 use Rattle.rv64_instr.specs.declared.place.Place.TheVariants.{Register, Slot, Const}
 use Rattle.dwarf_loclists.specs.declared.range.Part.{Part}

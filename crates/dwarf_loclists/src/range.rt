@@ -2,7 +2,7 @@
 
 ghost use Rattle.std.specs.Prelude.{◌≡◌, ◌↔◌, IsTrue, IfOk};
 
-use lists::List;
+use base_list::List;
 use rv64_instr::place::Place;
 use std::alloc::AllocError;
 

@@ -11,7 +11,7 @@ use crate::entry::{entry_len, push_entry};
 use crate::range::{Range, RangeLists, Ranges};
 use dwarf_base::constants::*;
 use dwarf_base::limits::SECTION_LIMIT;
-use lists::List;
+use base_list::List;
 use std::alloc::{AllocError, Global};
 
 /// Bytes, in order.

@@ -23,14 +23,14 @@ use Rattle.mir_func.specs.declared.variable.MarkValue.{MarkValue}
 use Rattle.mir_func.specs.declared.variable.MarkValue.TheVariants.{Nothing, Constant, At, Pair}
 use Rattle.mir_func.specs.Exits.{row_exit, exit_of, Leaves}
 use Rattle.mir_func.specs.Sound.{IsJumpAtMost, MayFollow, EndsWell, Closes}
-use Rattle.mir_meaning.specs.Align.{position_of, is_code, is_jump, is_jump_row}
-use Rattle.follow_law.specs.Change.{Change}
-use Rattle.follow_law.specs.Rule.{IsJump, item}
-use Rattle.follow_law.specs.Causes.{IsFewer}
-use Rattle.follow_law.specs.Debug.{is_other_code, RegisterStays, ValueStays, PlaceStays, Becomes}
-use Rattle.follow_law.specs.Debug.{mark_stays, phi_stays, code_stays, code_unnumbered, jump_stays}
-use Rattle.follow_law.specs.Debug.{code_goes, idle_goes, BecomeAll, over, next as step, added}
-use Rattle.follow_law.specs.declared.loss.Loss.{Loss}
+use Rattle.sem_mir.specs.Align.{position_of, is_code, is_jump, is_jump_row}
+use Rattle.pass_trait.specs.Change.{Change}
+use Rattle.pass_trait.specs.Rule.{IsJump, item}
+use Rattle.pass_trait.specs.Causes.{IsFewer}
+use Rattle.pass_trait.specs.Debug.{is_other_code, RegisterStays, ValueStays, PlaceStays, Becomes}
+use Rattle.pass_trait.specs.Debug.{mark_stays, phi_stays, code_stays, code_unnumbered, jump_stays}
+use Rattle.pass_trait.specs.Debug.{code_goes, idle_goes, BecomeAll, over, next as step, added}
+use Rattle.pass_trait.specs.declared.loss.Loss.{Loss}
 use Rattle.fold_rule.specs.Turned.{to_block, inverse_to, with_code, sent, turned, made_jump}
 use Rattle.fold_rule.specs.Tails.{first_of, else_way, is_number, if_needed, jump_at_end}
 use Rattle.fold_rule.specs.Tails.{jump_for_branch, branch_tail, plain_tail, branch_tail_to, tail_by, rewritten}
@@ -153,7 +153,7 @@ module _ (c : Change) (b : ℕ) (unlost : (n : ℕ) (loss : Loss) → IsLostAt c
   counts test x e = let o = same_origin x.origin in ap weight (λ i. e i && o i)
 
   counts_none : (test : ItemKind → Bool) (o : Origin) (y : Item) → test y.kind ≡ false → weight (Passes test o y) ≡ 0
-  counts_none test o y e = ap (λ (z : Bool). weight (z && Rattle.follow_law.specs.Causes.is_origin y.origin o)) e
+  counts_none test o y e = ap (λ (z : Bool). weight (z && Rattle.pass_trait.specs.Causes.is_origin y.origin o)) e
 
   fewer_none : (test : ItemKind → Bool) (x : Item) (xs : List Item) → test x.kind ≡ true →
       count_by (Passes test x.origin) [] < count_by (Passes test x.origin) (x ∷ xs)
@@ -179,7 +179,7 @@ module _ (c : Change) (b : ℕ) (unlost : (n : ℕ) (loss : Loss) → IsLostAt c
       let m = count_first (Passes is_code j.origin) y [] in
       let one = counts is_code j e in
       let same : weight (Passes is_code j.origin y) ≡ weight (Passes is_code j.origin x) =
-      (λ i. weight (d i && Rattle.follow_law.specs.Causes.is_origin (o i) j.origin)) in
+      (λ i. weight (d i && Rattle.pass_trait.specs.Causes.is_origin (o i) j.origin)) in
       omega (arith, k, l, m, one, same)
 
   fewer_second : (x j : Item) → is_code j.kind ≡ true → count_by (Passes is_code j.origin) [] < count_by (Passes is_code j.origin) (x ∷ j ∷ [])

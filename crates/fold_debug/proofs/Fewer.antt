@@ -16,11 +16,11 @@ use Rattle.mir_func.specs.declared.position.Origin.TheVariants.{Kept, Before}
 use Rattle.mir_func.specs.Function.{Function}
 use Rattle.mir_func.specs.Graph.{from_block}
 use Rattle.mir_func.specs.Sound.{AreApart, ids_of, items_of, OriginIn, IsSound}
-use Rattle.mir_meaning.specs.Align.{position_of, is_code}
-use Rattle.follow_law.specs.Causes.{is_position, is_origin, IsFewer}
-use Rattle.fold_ways.specs.Leads.{first_id}
-use Rattle.fold_ways.proofs.Ways.{test_of}
-use Rattle.fold_ways.proofs.Blocks.{apart_tail}
+use Rattle.sem_mir.specs.Align.{position_of, is_code}
+use Rattle.pass_trait.specs.Causes.{is_position, is_origin, IsFewer}
+use Rattle.fold_targets.specs.Leads.{first_id}
+use Rattle.fold_targets.proofs.Ways.{test_of}
+use Rattle.fold_targets.proofs.Blocks.{apart_tail}
 use Rattle.fold_rule.specs.Rule.{folded_block, staying}
 use Rattle.fold_kills.specs.Kills.{kills, IsFoldedWithKills}
 use Rattle.fold_kills.proofs.Kills.{IsKillKind, IsKill, each_kill}

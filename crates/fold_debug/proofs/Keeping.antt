@@ -18,18 +18,18 @@ use Rattle.mir_func.specs.declared.position.Origin.TheVariants.{Before}
 use Rattle.mir_func.specs.Function.{Function}
 use Rattle.mir_func.specs.Graph.{from_block}
 use Rattle.mir_func.specs.Sound.{AreApart, ids_of, OriginIn, EndsWell, Closes, LastCloses, IsSound}
-use Rattle.mir_meaning.specs.Align.{position_of, is_code}
-use Rattle.follow_law.specs.declared.loss.Reason.TheVariants.{Bypassed, Unreachable}
-use Rattle.follow_law.specs.declared.loss.Loss.{Loss}
-use Rattle.follow_law.specs.Order.{IsInOrder}
-use Rattle.follow_law.specs.Rule.{IsJump, item}
-use Rattle.follow_law.specs.Causes.{IsJumpOrDebug}
-use Rattle.follow_law.specs.Debug.{IsKillAt, Becomes, code_goes, idle_goes, number_goes, mark_goes}
-use Rattle.follow_law.specs.Debug.{phi_goes, BecomeAll, over, next as step, BlocksBecome, none, stays as block_stays}
-use Rattle.follow_law.specs.Debug.{goes as block_goes, IsLoss, KeepsItems}
-use Rattle.fold_ways.specs.Leads.{first_id, lead}
-use Rattle.fold_ways.proofs.Blocks.{apart_tail}
-use Rattle.fold_ways.proofs.Ways.{test_of}
+use Rattle.sem_mir.specs.Align.{position_of, is_code}
+use Rattle.pass_trait.specs.declared.loss.Reason.TheVariants.{Bypassed, Unreachable}
+use Rattle.pass_trait.specs.declared.loss.Loss.{Loss}
+use Rattle.pass_trait.specs.Order.{IsInOrder}
+use Rattle.pass_trait.specs.Rule.{IsJump, item}
+use Rattle.pass_trait.specs.Causes.{IsJumpOrDebug}
+use Rattle.pass_trait.specs.Debug.{IsKillAt, Becomes, code_goes, idle_goes, number_goes, mark_goes}
+use Rattle.pass_trait.specs.Debug.{phi_goes, BecomeAll, over, next as step, BlocksBecome, none, stays as block_stays}
+use Rattle.pass_trait.specs.Debug.{goes as block_goes, IsLoss, KeepsItems}
+use Rattle.fold_targets.specs.Leads.{first_id, lead}
+use Rattle.fold_targets.proofs.Blocks.{apart_tail}
+use Rattle.fold_targets.proofs.Ways.{test_of}
 use Rattle.fold_rule.specs.Tails.{rewritten}
 use Rattle.fold_rule.specs.Rule.{folded_block, staying, folded_blocks}
 use Rattle.fold_kills.specs.Kills.{kill_by, is_bypassed, kills, with_kills, IsFoldedWithKills}
@@ -74,7 +74,7 @@ module _ (f g : Function) (subs : List Entry) (sound : IsSound f) (h : IsFoldedW
   abbrev was : ℕ → Bool
   was = h.was
 
-  abbrev ch : Rattle.follow_law.specs.Change.Change
+  abbrev ch : Rattle.pass_trait.specs.Change.Change
   ch = c f g subs sound h
 
   abbrev put : Block → Block
@@ -101,13 +101,13 @@ module _ (f g : Function) (subs : List Entry) (sound : IsSound f) (h : IsFoldedW
     at : Pos
     at = record { block = w.block.id; item = n }
 
-    stands : Rattle.follow_law.specs.Rule.StandsAt f at w.item
+    stands : Rattle.pass_trait.specs.Rule.StandsAt f at w.item
     stands = stands_in f g subs sound h w.block w.member n w.item (slice_get-get_or w.block.items n w.item w.stood.1 ∙ ap (λ (z : Item). Some z) w.stood.2)
 
     passed : IsPassed old w.block.id
     passed = passed_by e w.block w.bypassed
 
-    by_kind : (k : ItemKind) (o : Origin) (l : Loc) → Rattle.follow_law.specs.Rule.StandsAt f at (item k o l) → kill_by e k l ≡ Some i →
+    by_kind : (k : ItemKind) (o : Origin) (l : Loc) → Rattle.pass_trait.specs.Rule.StandsAt f at (item k o l) → kill_by e k l ≡ Some i →
         IsKillAt fold_debug ch e i
     by_kind (Mark v m) o l s q =
         let same : item (Mark v Rattle.mir_func.specs.declared.variable.MarkValue.TheVariants.Nothing) (Before (record { block = e; item = 0 })) l ≡ i = cc in
@@ -127,7 +127,7 @@ module _ (f g : Function) (subs : List Entry) (sound : IsSound f) (h : IsFoldedW
     Gone n x = Becomes fold_debug ch (place n) x []
 
     passed_item : (n : ℕ) → IsPassed old b.id → (k : ItemKind) (o : Origin) (l : Loc) → slice_get b.items n ≡ Some (item k o l) →
-        Rattle.follow_law.specs.Rule.StandsAt f (place n) (item k o l) → Gone n (item k o l)
+        Rattle.pass_trait.specs.Rule.StandsAt f (place n) (item k o l) → Gone n (item k o l)
     passed_item n p (Mark v m) o l e s = mark_goes Bypassed refl (record { found = item (Mark v m) o l; stands = s; why = p; is = refl })
     passed_item n p (Phi q k) o l e s = phi_goes Bypassed refl (record { found = item (Phi q k) o l; stands = s; why = p; is = refl })
     passed_item n p (Code i None) o l e s = code_goes (λ k z. z)
@@ -140,7 +140,7 @@ module _ (f g : Function) (subs : List Entry) (sound : IsSound f) (h : IsFoldedW
         idle_goes (jump_sets (row_of i) jump) (inl (fewer_gone is_code o f g subs sound h (λ k t. t) b x member inside out home (same_origin o)))
 
     unreached_item : (n : ℕ) → IsLostFor old b.id Unreachable → (k : ItemKind) (o : Origin) (l : Loc) →
-        Rattle.follow_law.specs.Rule.StandsAt f (place n) (item k o l) → Gone n (item k o l)
+        Rattle.pass_trait.specs.Rule.StandsAt f (place n) (item k o l) → Gone n (item k o l)
     unreached_item n p (Mark v m) o l s = mark_goes Unreachable refl (record { found = item (Mark v m) o l; stands = s; why = p; is = refl })
     unreached_item n p (Phi q k) o l s = phi_goes Unreachable refl (record { found = item (Phi q k) o l; stands = s; why = p; is = refl })
     unreached_item n p (Code i None) o l s = code_goes (λ k z. z)

@@ -16,13 +16,13 @@ use Rattle.mir_func.specs.declared.position.Origin.{Origin}
 use Rattle.mir_func.specs.Function.{Function}
 use Rattle.mir_func.specs.Graph.{Here, fetch_in, from_block}
 use Rattle.mir_func.specs.Sound.{IsSound}
-use Rattle.mir_meaning.proofs.Reading.{found, found_in, front_item, item_front}
-use Rattle.follow_law.specs.declared.loss.Reason.{Reason}
-use Rattle.follow_law.specs.declared.loss.Reason.TheVariants.{Removed, WrongPlace, Scratch, Bypassed, Unreachable, NoScratch, CallNamed, EntryLoop, NoSlot}
-use Rattle.follow_law.specs.declared.loss.Loss.{Loss}
-use Rattle.follow_law.specs.Rule.{number_lost, mark_lost, item, StandsAt}
-use Rattle.follow_law.specs.Causes.{HasCause, block_bypassed, block_unreachable, code_unreachable}
-use Rattle.fold_ways.specs.Leads.{lead}
+use Rattle.sem_mir.proofs.Reading.{found, found_in, front_item, item_front}
+use Rattle.pass_trait.specs.declared.loss.Reason.{Reason}
+use Rattle.pass_trait.specs.declared.loss.Reason.TheVariants.{Removed, WrongPlace, Scratch, Bypassed, Unreachable, NoScratch, CallNamed, EntryLoop, NoSlot}
+use Rattle.pass_trait.specs.declared.loss.Loss.{Loss}
+use Rattle.pass_trait.specs.Rule.{number_lost, mark_lost, item, StandsAt}
+use Rattle.pass_trait.specs.Causes.{HasCause, block_bypassed, block_unreachable, code_unreachable}
+use Rattle.fold_targets.specs.Leads.{lead}
 use Rattle.fold_kills.specs.Kills.{IsFoldedWithKills}
 use Rattle.fold_debug.specs.Lost.{is_unreachable, loss_of, lost_in, lost_for, reason_for, all_lost}
 use Rattle.fold_debug.specs.Debug.{IsPassed, IsLostFor, IsLostAt, fold_debug}
@@ -161,7 +161,7 @@ module _ (f g : Function) (subs : List Entry) (sound : IsSound f) (h : IsFoldedW
   Cause at loss = HasCause fold_debug (c f g subs sound h) at loss
 
   abbrev Gone : ℕ → Type 0
-  Gone n = Rattle.follow_law.specs.Causes.IsGoneBlock (c f g subs sound h) n
+  Gone n = Rattle.pass_trait.specs.Causes.IsGoneBlock (c f g subs sound h) n
 
   mark_cause : (at : Pos) (why : Reason) (v : Rattle.mir_func.specs.declared.variable.VarId.VarId)
       (m : Rattle.mir_func.specs.declared.variable.MarkValue.MarkValue)

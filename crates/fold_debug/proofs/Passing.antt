@@ -14,16 +14,16 @@ use Rattle.mir_func.specs.Function.{Function}
 use Rattle.mir_func.specs.Graph.{from_block, block_start, program_of}
 use Rattle.mir_func.specs.Resolve.{resolve}
 use Rattle.mir_func.specs.Sound.{AreApart, ids_of, MayFollow, EndsWell, IsSound}
-use Rattle.mir_meaning.proofs.Reading.{found_in}
+use Rattle.sem_mir.proofs.Reading.{found_in}
 use Rattle.std.proofs.lemmas.List.Elements.{All-nil, All-cons, All-contains}
-use Rattle.follow_law.specs.Change.{Change, change}
-use Rattle.follow_law.specs.Rule.{IsJump}
-use Rattle.follow_law.specs.Causes.{IsJumpOrDebug, IsReached, IsGoneBlock, IsBypassed}
-use Rattle.follow_law.specs.declared.loss.Reason.{Reason}
-use Rattle.follow_law.specs.declared.loss.Reason.TheVariants.{Bypassed, Unreachable}
-use Rattle.fold_ways.specs.Ways.{EndsAt, leads_nowhere, comes_round, goes_on}
-use Rattle.fold_ways.specs.Leads.{first_id, always_to, lead_by, lead_of, lead}
-use Rattle.fold_ways.proofs.Ways.{one_end}
+use Rattle.pass_trait.specs.Change.{Change, change}
+use Rattle.pass_trait.specs.Rule.{IsJump}
+use Rattle.pass_trait.specs.Causes.{IsJumpOrDebug, IsReached, IsGoneBlock, IsBypassed}
+use Rattle.pass_trait.specs.declared.loss.Reason.{Reason}
+use Rattle.pass_trait.specs.declared.loss.Reason.TheVariants.{Bypassed, Unreachable}
+use Rattle.fold_targets.specs.Ways.{EndsAt, leads_nowhere, comes_round, goes_on}
+use Rattle.fold_targets.specs.Leads.{first_id, always_to, lead_by, lead_of, lead}
+use Rattle.fold_targets.proofs.Ways.{one_end}
 use Rattle.fold_rule.specs.Reached.{Reached, first, onward}
 use Rattle.fold_sound.proofs.Blocks.{has_from}
 use Rattle.fold_kills.specs.Kills.{with_kills, IsFoldedWithKills}

@@ -18,9 +18,9 @@ use Rattle.mir_func.specs.Function.{Function}
 use Rattle.mir_func.specs.Graph.{Program, Fetch, Here, Silent, Outside, below, block_start, front, fetch_in, from_block, program_of}
 use Rattle.mir_func.specs.Graph.{RowEdge, KindEdge, FetchEdge, Edge, Leads as LeadsFrom, stay, go}
 use Rattle.mir_func.specs.Sound.{AreApart, ids_of, EndsWell, LastCloses, IsSound}
-use Rattle.mir_meaning.specs.Follow.{first_of as first_number}
-use Rattle.mir_meaning.proofs.Reading.{found_in, item_front}
-use Rattle.fold_ways.specs.Leads.{first_id, always_to}
+use Rattle.sem_mir.specs.Follow.{first_of as first_number}
+use Rattle.sem_mir.proofs.Reading.{found_in, item_front}
+use Rattle.fold_targets.specs.Leads.{first_id, always_to}
 use Rattle.fold_rule.specs.declared.ways.Ways.{Ways}
 use Rattle.fold_rule.specs.Tails.{first_of, else_way, ways_by, ways_of}
 use Rattle.fold_rule.specs.Reached.{ways_in, LeadTo, Reached, first, onward}

@@ -4,13 +4,13 @@ use Rattle.mir_func.specs.declared.block.Block.{Block}
 use Rattle.mir_func.specs.declared.item.Item.{Item}
 use Rattle.mir_func.specs.declared.position.Pos.{Pos}
 use Rattle.mir_func.specs.Function.{Function}
-use Rattle.follow_law.specs.declared.loss.Reason.{Reason}
-use Rattle.follow_law.specs.declared.loss.Reason.TheVariants.{Bypassed, Unreachable}
-use Rattle.follow_law.specs.declared.loss.Loss.{Loss}
-use Rattle.follow_law.specs.Rule.{Rule, StandsAt}
-use Rattle.follow_law.specs.Steps.{Step}
-use Rattle.fold_ways.specs.Leads.{lead}
-use Rattle.fold_ways.specs.Ways.{EndsAt}
+use Rattle.pass_trait.specs.declared.loss.Reason.{Reason}
+use Rattle.pass_trait.specs.declared.loss.Reason.TheVariants.{Bypassed, Unreachable}
+use Rattle.pass_trait.specs.declared.loss.Loss.{Loss}
+use Rattle.pass_trait.specs.Rule.{Rule, StandsAt}
+use Rattle.pass_trait.specs.Steps.{Step}
+use Rattle.fold_targets.specs.Leads.{lead}
+use Rattle.fold_targets.specs.Ways.{EndsAt}
 use Rattle.fold_rule.specs.Reached.{Reached}
 use Rattle.fold_rule.specs.Rule.{IsFolded}
 use Rattle.fold_kills.specs.Kills.{kills}

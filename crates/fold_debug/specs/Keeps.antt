@@ -3,11 +3,11 @@ use Rattle.std.specs.Prelude.{◌↔◌, List, Contains}
 use Rattle.mir_func.specs.declared.entry.Entry.{Entry}
 use Rattle.mir_func.specs.Function.{Function}
 use Rattle.mir_func.specs.Sound.{IsSound}
-use Rattle.follow_law.specs.declared.loss.Loss.{Loss}
-use Rattle.follow_law.specs.Change.{change}
-use Rattle.follow_law.specs.Debug.{KeepsItems}
-use Rattle.follow_law.specs.Order.{IsInOrder}
-use Rattle.fold_ways.specs.Leads.{lead}
+use Rattle.pass_trait.specs.declared.loss.Loss.{Loss}
+use Rattle.pass_trait.specs.Change.{change}
+use Rattle.pass_trait.specs.Debug.{KeepsItems}
+use Rattle.pass_trait.specs.Order.{IsInOrder}
+use Rattle.fold_targets.specs.Leads.{lead}
 use Rattle.fold_kills.specs.Kills.{IsFoldedWithKills}
 use Rattle.fold_debug.specs.Lost.{all_lost}
 use Rattle.fold_debug.specs.Debug.{fold_debug}

@@ -12,9 +12,9 @@ use Rattle.mir_func.specs.Function.{Function}
 use Rattle.mir_func.specs.Graph.{Program, block_start, program_of}
 use Rattle.mir_func.specs.Resolve.{resolve}
 use Rattle.mir_func.specs.Sound.{AllItems, IsSound, HasForm, HasForm as InForm}
-use Rattle.mir_meaning.specs.Follow.{Follows, first_of}
-use Rattle.follow_law.specs.Change.{change}
-use Rattle.follow_law.specs.Following.{Source, FollowsSource, EndsAsSource, KeepsFollowing}
+use Rattle.sem_mir.specs.Follow.{Follows, first_of}
+use Rattle.pass_trait.specs.Change.{change}
+use Rattle.pass_trait.specs.Following.{Source, FollowsSource, EndsAsSource, KeepsFollowing}
 use Rattle.fold_kills.specs.Kills.{IsFoldedWithKills}
 use Rattle.fold_runs.proofs.Along.{folded_runs_along}
 use Rattle.fold_shape.proofs.Shape.{folded_has_shape}

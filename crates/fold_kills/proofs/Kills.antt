@@ -11,7 +11,7 @@ use Rattle.mir_func.specs.declared.item.ItemKind.TheVariants.{Code, Mark, Phi}
 use Rattle.mir_func.specs.declared.location.Loc.{Loc}
 use Rattle.mir_func.specs.declared.position.Origin.TheVariants.{Before}
 use Rattle.mir_func.specs.declared.variable.MarkValue.TheVariants.{Nothing}
-use Rattle.mir_meaning.proofs.Places.{contains_head, contains_tail}
+use Rattle.sem_mir.proofs.Places.{contains_head, contains_tail}
 use Rattle.fold_kills.specs.Kills.{kill_by, kills_same, once, is_bypassed, lost_ways, kills}
 
 abbrev pub IsKillKind : ItemKind → Type 0

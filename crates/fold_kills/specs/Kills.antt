@@ -11,7 +11,7 @@ use Rattle.mir_func.specs.declared.position.Origin.TheVariants.{Before}
 use Rattle.mir_func.specs.declared.variable.MarkValue.TheVariants.{Nothing}
 use Rattle.mir_func.specs.Variables.{is_same}
 use Rattle.mir_func.specs.Function.{Function}
-use Rattle.fold_ways.specs.Leads.{lead}
+use Rattle.fold_targets.specs.Leads.{lead}
 use Rattle.fold_rule.specs.Reached.{Reached}
 use Rattle.fold_rule.specs.Rule.{AreFolded}
 

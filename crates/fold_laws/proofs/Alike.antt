@@ -9,8 +9,8 @@ use Rattle.mir_func.specs.declared.position.Origin.{Origin}
 use Rattle.mir_func.specs.declared.position.Origin.TheVariants.{Kept, Before}
 use Rattle.mir_func.specs.Function.{Function}
 use Rattle.mir_func.specs.Exits.{exit_of}
-use Rattle.follow_law.specs.Code.{SeesCodeAlone, placeless_origin, placeless_item, placeless_block, placeless}
-use Rattle.fold_ways.specs.Leads.{first_id, lead_by, lead_of, lead_in, lead}
+use Rattle.pass_trait.specs.Code.{SeesCodeAlone, placeless_origin, placeless_item, placeless_block, placeless}
+use Rattle.fold_targets.specs.Leads.{first_id, lead_by, lead_of, lead_in, lead}
 use Rattle.fold_rule.specs.Turned.{sent, turned}
 use Rattle.fold_rule.specs.Tails.{first_of, else_way, ways_by, ways_of, is_number, if_needed, jump_at_end, jump_for_branch, branch_tail, plain_tail}
 use Rattle.fold_rule.specs.Tails.{branch_tail_to, tail_by, rewritten}

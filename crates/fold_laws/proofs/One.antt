@@ -1,10 +1,10 @@
 -- Of one function folding makes one.
 use Rattle.std.proofs.Common.{◌≡◌, ℕ, List, Option, Bool, true, false, IsTrue, refl, sym, ◌∙◌, subst}
 use Rattle.mir_func.specs.declared.block.Block.{Block}
-use Rattle.follow_law.specs.Code.{HasOneResult}
-use Rattle.fold_ways.specs.Ways.{EndsAt}
-use Rattle.fold_ways.specs.Leads.{first_id, lead}
-use Rattle.fold_ways.proofs.Ways.{one_end}
+use Rattle.pass_trait.specs.Code.{HasOneResult}
+use Rattle.fold_targets.specs.Ways.{EndsAt}
+use Rattle.fold_targets.specs.Leads.{first_id, lead}
+use Rattle.fold_targets.proofs.Ways.{one_end}
 use Rattle.fold_rule.specs.Reached.{ways_in, Reached, first, onward}
 use Rattle.fold_rule.specs.Rule.{folded_blocks, AreFolded, IsFolded}
 

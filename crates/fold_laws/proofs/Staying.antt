@@ -1,9 +1,9 @@
 -- Which blocks stay.
 use Rattle.std.proofs.Common.{◌≡◌, ◌⊎◌, ℕ, List, Option, Some, inl, inr}
 use Rattle.mir_func.specs.declared.block.Block.{Block}
-use Rattle.fold_ways.specs.Ways.{EndsAt, leads_nowhere, comes_round, goes_on}
-use Rattle.fold_ways.specs.Leads.{first_id, lead}
-use Rattle.fold_ways.proofs.Ways.{one_end}
+use Rattle.fold_targets.specs.Ways.{EndsAt, leads_nowhere, comes_round, goes_on}
+use Rattle.fold_targets.specs.Leads.{first_id, lead}
+use Rattle.fold_targets.proofs.Ways.{one_end}
 use Rattle.fold_rule.specs.Reached.{Reached, first, onward}
 use Rattle.fold_rule.specs.Rule.{AreFolded}
 use Rattle.fold_laws.specs.Strips.{EndsStay}

@@ -15,8 +15,8 @@ use Rattle.mir_func.specs.declared.location.Loc.{Loc}
 use Rattle.mir_func.specs.Exits.{row_exit, exit_of, IsAlways}
 use Rattle.mir_func.specs.Sound.{IsJumpAtMost, MayFollow, EndsWell}
 use Rattle.mir_func.specs.Strip.{stripped_items, stripped_block, stripped_blocks, stripped}
-use Rattle.fold_ways.specs.Ways.{EndsAt}
-use Rattle.fold_ways.specs.Leads.{first_id, lead_by, lead_of, lead_in, lead}
+use Rattle.fold_targets.specs.Ways.{EndsAt}
+use Rattle.fold_targets.specs.Leads.{first_id, lead_by, lead_of, lead_in, lead}
 use Rattle.fold_rule.specs.Turned.{sent, turned}
 use Rattle.fold_rule.specs.Tails.{first_of, else_way, ways_by, ways_of, is_number, if_needed, jump_at_end, jump_for_branch, branch_tail, plain_tail}
 use Rattle.fold_rule.specs.Tails.{branch_tail_to, tail_by, rewritten}

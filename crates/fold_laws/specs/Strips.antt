@@ -4,7 +4,7 @@ use Rattle.mir_func.specs.declared.block.Block.{Block}
 use Rattle.mir_func.specs.Function.{Function}
 use Rattle.mir_func.specs.Sound.{IsSound}
 use Rattle.mir_func.specs.Strip.{stripped}
-use Rattle.fold_ways.specs.Leads.{first_id}
+use Rattle.fold_targets.specs.Leads.{first_id}
 use Rattle.fold_rule.specs.Rule.{AreFolded, IsFolded}
 
 -- a sound function that is folded, without its debug items, is the function without its debug items, folded

@@ -1,6 +1,6 @@
 //! Laws of folding: each is the contract of a function that does nothing.
 
-ghost use Rattle.follow_law.specs.Code.{HasOneResult, SeesCodeAlone};
+ghost use Rattle.pass_trait.specs.Code.{HasOneResult, SeesCodeAlone};
 ghost use Rattle.fold_rule.specs.Rule.{IsFolded};
 ghost use Rattle.fold_laws.specs.Strips.{FoldsStripped, EndsStay};
 

@@ -3,7 +3,7 @@ use Rattle.std.proofs.Common.{◌≡◌, ℕ, ◌+◌, ◌<◌, List, [], ◌∷
 use Rattle.std.proofs.Common.{Option, Bool, append_assoc, append-nil, sym, ap, ◌∙◌}
 use Rattle.std.proofs.lemmas.List.{take_more}
 use Rattle.mir_func.specs.declared.block.Block.{Block}
-use Rattle.follow_law.specs.declared.loss.Loss.{Loss}
+use Rattle.pass_trait.specs.declared.loss.Loss.{Loss}
 use Rattle.fold_debug.specs.Lost.{lost_for, reason_for, all_lost}
 
 module _ (end : ℕ → ℕ) (was : ℕ → Bool) (lead : ℕ → Option ℕ) where

@@ -3,20 +3,20 @@
 ghost use Rattle.std.specs.Prelude.{◌≡◌, ◌++◌, ◌∷◌, [], ◌↔◌, ℕ, IfOk, OnOk, Contains, nat_eq};
 ghost use Rattle.std.specs.HashSet.{contains};
 ghost use Rattle.std.specs.List.{cons_option};
-ghost use Rattle.follow_law.specs.declared.loss.Loss.{Loss};
-ghost use Rattle.follow_law.specs.Order.{IsInOrder};
-ghost use Rattle.fold_ways.specs.Leads.{lead};
-ghost use Rattle.fold_ways.specs.Ends.{told, end_in};
+ghost use Rattle.pass_trait.specs.declared.loss.Loss.{Loss};
+ghost use Rattle.pass_trait.specs.Order.{IsInOrder};
+ghost use Rattle.fold_targets.specs.Leads.{lead};
+ghost use Rattle.fold_targets.specs.Ends.{told, end_in};
 ghost use Rattle.fold_debug.specs.Lost.{is_unreachable, reason_for, loss_of, lost_in, all_lost};
 
-use follow_law::loss::{Loss, Losses, Lost, Reason};
-use kill_code::bypassed::{OldWays, end_past};
+use pass_trait::loss::{Loss, Losses, Lost, Reason};
+use fold_undef::bypassed::{OldWays, end_past};
 use mir_func::block::Block;
 use mir_func::item::{Item, ItemKind};
-use mir_meaning::align::position_of;
-use numbers::code::BlockId;
+use sem_mir::align::position_of;
+use base_ids::code::BlockId;
 use std::alloc::{AllocError, Global};
-use told_losses::told::put_in_order;
+use pass_losses::told::put_in_order;
 
 /// What is lost of blocks that are folded, each once and in order.
 pub fn fold_losses(alloc: Global, blocks: &[Block], ways: &OldWays) -> Result<Losses, AllocError>

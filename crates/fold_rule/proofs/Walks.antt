@@ -7,9 +7,9 @@ use Rattle.std.specs.Map.{lookup}
 use Rattle.std.proofs.lemmas.List.Folds.{list_any-append}
 use Rattle.std.proofs.lemmas.Bool.{eq-eqb}
 use Rattle.mir_func.specs.declared.block.Block.{Block}
-use Rattle.fold_ways.specs.Leads.{first_id}
-use Rattle.fold_ways.specs.steps.Settled.{is_among}
-use Rattle.fold_ways.proofs.Ways.{test_of}
+use Rattle.fold_targets.specs.Leads.{first_id}
+use Rattle.fold_targets.specs.steps.Settled.{is_among}
+use Rattle.fold_targets.proofs.Ways.{test_of}
 use Rattle.fold_rule.specs.declared.ways.Ways.{Ways}
 use Rattle.fold_rule.specs.Tails.{is_number}
 use Rattle.fold_rule.specs.Reached.{ways_in, LeadTo, Reached, first, onward}

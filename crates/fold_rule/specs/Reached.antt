@@ -1,7 +1,7 @@
 -- Which blocks stay: those that are reached once every way goes to its end.
 use Rattle.std.specs.Prelude.{◌≡◌, ◌⊎◌, ℕ, List, [], ◌∷◌, Option, Some, None, cond, nat_eq}
 use Rattle.mir_func.specs.declared.block.Block.{Block}
-use Rattle.fold_ways.specs.Leads.{first_id}
+use Rattle.fold_targets.specs.Leads.{first_id}
 use Rattle.fold_rule.specs.declared.ways.Ways.{Ways}
 use Rattle.fold_rule.specs.Tails.{ways_of}
 

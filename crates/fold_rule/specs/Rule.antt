@@ -3,8 +3,8 @@
 use Rattle.std.specs.Prelude.{◌≡◌, ◌↔◌, ℕ, List, [], ◌∷◌, Option, Bool, cond, filter, IsTrue}
 use Rattle.mir_func.specs.declared.block.Block.{Block}
 use Rattle.mir_func.specs.Function.{Function}
-use Rattle.fold_ways.specs.Ways.{EndsAt}
-use Rattle.fold_ways.specs.Leads.{first_id, lead}
+use Rattle.fold_targets.specs.Ways.{EndsAt}
+use Rattle.fold_targets.specs.Leads.{first_id, lead}
 use Rattle.fold_rule.specs.Tails.{rewritten}
 use Rattle.fold_rule.specs.Reached.{Reached}
 

@@ -7,7 +7,7 @@ use Rattle.mir_func.specs.declared.location.Loc.TheVariants.{Absent}
 use Rattle.mir_func.specs.declared.position.Pos.{Pos}
 use Rattle.mir_func.specs.declared.position.Origin.TheVariants.{Before}
 use Rattle.mir_func.specs.Exits.{exit_of}
-use Rattle.fold_ways.specs.Leads.{always_to}
+use Rattle.fold_targets.specs.Leads.{always_to}
 use Rattle.fold_rule.specs.declared.ways.Ways.{Ways}
 use Rattle.fold_rule.specs.Turned.{sent, turned, made_jump}
 

@@ -3,16 +3,16 @@
 ghost use Rattle.std.specs.Prelude.{◌≡◌, IfOk, OnOk, nat_eq};
 ghost use Rattle.std.specs.HashSet.{contains};
 ghost use Rattle.mir_func.specs.Sound.{AreApart, ids_of};
-ghost use Rattle.fold_ways.specs.Ends.{end_in};
+ghost use Rattle.fold_targets.specs.Ends.{end_in};
 ghost use Rattle.fold_rule.specs.Rule.{folded_block, folded_blocks, AreFolded};
 
 use crate::reached::reached;
 use crate::tail::{Place, rewrite};
-use fold_ways::ends::ends;
-use fold_ways::leads::leads;
+use fold_targets::ends::ends;
+use fold_targets::leads::leads;
 use mir_func::block::Block;
 use mir_func::position::Pos;
-use numbers::code::BlockId;
+use base_ids::code::BlockId;
 use std::alloc::{AllocError, Global};
 use std::collections::{HashMap, HashSet};
 

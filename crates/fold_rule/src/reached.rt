@@ -2,15 +2,15 @@
 
 ghost use Rattle.std.specs.Prelude.{◌≡◌, ◌++◌, ◌||◌, ◌↔◌, ℕ, IfOk, OnOk, IsTrue, nat_eq};
 ghost use Rattle.std.specs.HashSet.{contains};
-ghost use Rattle.fold_ways.specs.Leads.{first_id};
-ghost use Rattle.fold_ways.specs.Ends.{end_in};
+ghost use Rattle.fold_targets.specs.Leads.{first_id};
+ghost use Rattle.fold_targets.specs.Ends.{end_in};
 ghost use Rattle.fold_rule.specs.Tails.{is_number};
 ghost use Rattle.fold_rule.specs.Reached.{Reached};
 ghost use Rattle.fold_rule.specs.steps.Walked.{fresh};
 
 use crate::ways::ways_to_ends;
 use mir_func::block::Block;
-use numbers::code::BlockId;
+use base_ids::code::BlockId;
 use std::alloc::{AllocError, Global};
 use std::collections::{HashMap, HashSet};
 

@@ -1,7 +1,7 @@
 //! Ends of blocks, written anew.
 
 ghost use Rattle.std.specs.Prelude.{◌≡◌, ◌≤◌, ◌++◌, length, option_to_list, IfOk, OnOk};
-ghost use Rattle.fold_ways.specs.Ends.{end_in};
+ghost use Rattle.fold_targets.specs.Ends.{end_in};
 ghost use Rattle.fold_rule.specs.Tails.{
   else_way,
   is_number,
@@ -17,12 +17,12 @@ ghost use Rattle.fold_rule.specs.steps.Onward.{onward_count};
 
 use crate::turned::{made_jump, send, turn};
 use crate::ways::end_of;
-use fold_ways::leads::always_to;
+use fold_targets::leads::always_to;
 use mir_func::exit::Exit;
 use mir_func::item::Item;
 use mir_func::location::Loc;
 use mir_func::position::{Origin, Pos};
-use numbers::code::BlockId;
+use base_ids::code::BlockId;
 use std::alloc::{AllocError, Global};
 use std::collections::HashMap;
 

@@ -8,7 +8,7 @@ ghost use Rattle.fold_rule.specs.Turned.{inverse, inverse_op, aimed, to_block, i
 use mir_func::item::{Item, ItemKind};
 use mir_func::location::Loc;
 use mir_func::position::Origin;
-use numbers::code::BlockId;
+use base_ids::code::BlockId;
 use rv64_instr::instr::Instr;
 use rv64_instr::op::{BranchOp, Op};
 use rv64_instr::operand::{Operand, Operands};

@@ -3,16 +3,16 @@
 ghost use Rattle.std.specs.Prelude.{◌≡◌, ℕ, IfOk, nat_eq};
 ghost use Rattle.std.specs.Option.{option_map};
 ghost use Rattle.std.specs.HashMap.{get};
-ghost use Rattle.fold_ways.specs.Ends.{end_in};
+ghost use Rattle.fold_targets.specs.Ends.{end_in};
 ghost use Rattle.fold_rule.specs.Tails.{first_of, else_way, ways_of};
 ghost use Rattle.fold_rule.specs.Reached.{ways_in};
 ghost use Rattle.fold_rule.specs.steps.Walked.{ended};
 
-use fold_ways::leads::always_to;
+use fold_targets::leads::always_to;
 use mir_func::block::Block;
 use mir_func::exit::Exit;
 use mir_func::item::Item;
-use numbers::code::BlockId;
+use base_ids::code::BlockId;
 use std::alloc::{AllocError, Global};
 use std::collections::HashMap;
 

@@ -16,15 +16,15 @@ use Rattle.mir_func.specs.declared.position.Origin.{Origin}
 use Rattle.mir_func.specs.Exits.{exit_of, Leaves}
 use Rattle.mir_func.specs.Graph.{Program, Here, Silent, block_start, front, fetch_in, from_block, index_of, program_of}
 use Rattle.mir_func.specs.Sound.{IsJumpAtMost, MayFollow, EndsWell, Closes, LastCloses, IsSound, AllItems}
-use Rattle.mir_meaning.specs.State.{State}
-use Rattle.mir_meaning.specs.Align.{position_of, is_code, ByItems, ByEnds, station_of, station_at, IsOrigin, AnyOrigin, RunsAlong, Station}
-use Rattle.mir_meaning.specs.Follow.{first_of as first_number}
-use Rattle.mir_meaning.proofs.Reading.{found_in, item_front, front_item}
-use Rattle.simulation.specs.Rewired.{Rewired, RewiredFollows}
-use Rattle.simulation.proofs.Rewired.{rewired_follows}
-use Rattle.simulation.proofs.Stations.{code_station, end_is_station, IsStationOf, of_item, of_end, station_is_of}
-use Rattle.simulation.proofs.Laid.{rest_in, rest_of, laid_out, in_order_at, from_home, from_before_end, falls_down}
-use Rattle.fold_ways.specs.Leads.{first_id, always_to}
+use Rattle.sem_mir.specs.State.{State}
+use Rattle.sem_mir.specs.Align.{position_of, is_code, ByItems, ByEnds, station_of, station_at, IsOrigin, AnyOrigin, RunsAlong, Station}
+use Rattle.sem_mir.specs.Follow.{first_of as first_number}
+use Rattle.sem_mir.proofs.Reading.{found_in, item_front, front_item}
+use Rattle.sem_simulation.specs.Rewired.{Rewired, RewiredFollows}
+use Rattle.sem_simulation.proofs.Rewired.{rewired_follows}
+use Rattle.sem_simulation.proofs.Stations.{code_station, end_is_station, IsStationOf, of_item, of_end, station_is_of}
+use Rattle.sem_simulation.proofs.Laid.{rest_in, rest_of, laid_out, in_order_at, from_home, from_before_end, falls_down}
+use Rattle.fold_targets.specs.Leads.{first_id, always_to}
 use Rattle.fold_rule.specs.Turned.{sent, turned, made_jump}
 use Rattle.fold_rule.specs.Tails.{first_of, else_way, is_number, if_needed, jump_at_end, jump_for_branch, branch_tail, plain_tail, branch_tail_to, tail_by}
 use Rattle.fold_rule.specs.Tails.{rewritten}

@@ -19,16 +19,16 @@ use Rattle.mir_func.specs.Exits.{row_exit, exit_of}
 use Rattle.mir_func.specs.Function.{Function}
 use Rattle.mir_func.specs.Graph.{Program, Here, below, block_start, fetch_in, from_block, program_of, KindEdge, RowEdge, FetchEdge}
 use Rattle.mir_func.specs.Sound.{AllItems, AreApart, ids_of, OriginIn, IsSound, HasForm}
-use Rattle.mir_meaning.specs.State.{Core, State}
-use Rattle.mir_meaning.specs.Step.{Outcome, Falls, Goes, Went, do_item, step}
-use Rattle.mir_meaning.specs.Align.{position_of, is_code, is_jump, is_jump_row, waits_at, moves_on, Count, since_of, After}
-use Rattle.mir_meaning.specs.Follow.{OnRow, IsEnd, InOrder}
-use Rattle.mir_meaning.proofs.Edges.{step_edge}
-use Rattle.mir_meaning.proofs.Outcomes.{step_item}
-use Rattle.mir_meaning.proofs.Reading.{found_in, front_item, within_list}
-use Rattle.simulation.specs.Sides.{since_item}
-use Rattle.fold_ways.specs.Ways.{EndsAt}
-use Rattle.fold_ways.specs.Leads.{first_id, lead}
+use Rattle.sem_mir.specs.State.{Core, State}
+use Rattle.sem_mir.specs.Step.{Outcome, Falls, Goes, Went, do_item, step}
+use Rattle.sem_mir.specs.Align.{position_of, is_code, is_jump, is_jump_row, waits_at, moves_on, Count, since_of, After}
+use Rattle.sem_mir.specs.Follow.{OnRow, IsEnd, InOrder}
+use Rattle.sem_mir.proofs.Edges.{step_edge}
+use Rattle.sem_mir.proofs.Outcomes.{step_item}
+use Rattle.sem_mir.proofs.Reading.{found_in, front_item, within_list}
+use Rattle.sem_simulation.specs.Sides.{since_item}
+use Rattle.fold_targets.specs.Ways.{EndsAt}
+use Rattle.fold_targets.specs.Leads.{first_id, lead}
 use Rattle.fold_rule.specs.Turned.{with_code}
 use Rattle.fold_rule.specs.Reached.{Reached}
 use Rattle.fold_sound.proofs.Rows.{Leads}

@@ -10,8 +10,8 @@ use Rattle.mir_func.specs.declared.item.ItemKind.{ItemKind}
 use Rattle.mir_func.specs.declared.item.ItemKind.TheVariants.{Code, Mark, Phi}
 use Rattle.mir_func.specs.declared.variable.VarId.{VarId}
 use Rattle.mir_func.specs.Variables.{is_same, overlaps}
-use Rattle.mir_meaning.specs.Align.{is_code}
-use Rattle.mir_meaning.proofs.Assignments.{same_is}
+use Rattle.sem_mir.specs.Align.{is_code}
+use Rattle.sem_mir.proofs.Assignments.{same_is}
 use Rattle.fold_kills.specs.Kills.{kill_by, kills_same, once, is_bypassed, lost_ways, kills}
 use Rattle.fold_runs.proofs.Told.{kills_part, kills_number, part_killed, number_killed, IsCovered}
 

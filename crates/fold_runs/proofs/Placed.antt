@@ -8,9 +8,9 @@ use Rattle.mir_func.specs.declared.item.Item.{Item}
 use Rattle.mir_func.specs.declared.position.Pos.{Pos}
 use Rattle.mir_func.specs.Sound.{ids_of}
 use Rattle.mir_func.specs.Graph.{Silent, end_of, front, fetch_in, from_block}
-use Rattle.simulation.proofs.Laid.{rest_in, rest_of}
-use Rattle.fold_ways.specs.Leads.{first_id}
-use Rattle.fold_ways.proofs.Ways.{test_of}
+use Rattle.sem_simulation.proofs.Laid.{rest_in, rest_of}
+use Rattle.fold_targets.specs.Leads.{first_id}
+use Rattle.fold_targets.proofs.Ways.{test_of}
 use Rattle.fold_rule.specs.Rule.{folded_block, staying, folded_blocks}
 use Rattle.fold_kills.specs.Kills.{with_kills}
 

@@ -16,19 +16,19 @@ use Rattle.mir_func.specs.declared.position.Origin.TheVariants.{Kept, Before}
 use Rattle.mir_func.specs.Exits.{row_exit, exit_of, IsAlways, Leaves as LeavesBlock}
 use Rattle.mir_func.specs.Graph.{Program, Here, Silent, Outside, below, block_start, front, fetch_in, from_block, index_of, program_of}
 use Rattle.mir_func.specs.Sound.{IsJumpAtMost, MayFollow, EndsWell, Closes, HasForm}
-use Rattle.mir_meaning.specs.State.{Core, State}
-use Rattle.mir_meaning.specs.Step.{Outcome, Falls, Goes, Gives, Traps, Asks, Breaks, do_item}
-use Rattle.mir_meaning.specs.Align.{position_of, is_code, ByItems, ByEnds, station_at, IsOrigin, Since, After, AnyOrigin, RunsAlong}
-use Rattle.mir_meaning.specs.Effects.{EndAlike}
-use Rattle.mir_meaning.proofs.Told.{TellsLess, SeesLess, item_less}
-use Rattle.simulation.specs.Sides.{Sides, Relation, since_item}
-use Rattle.simulation.specs.Rewired.{RewiredRelation, IsAbsent, Reaches, arrived, debug, jump, finish, Leaves, by_end, by_jump, by_branch, FallsTo, DoAlike}
-use Rattle.simulation.specs.Rewired.{View, both, added, paired, closes, ended, Jumps as JumpsTo}
-use Rattle.simulation.proofs.Stations.{IsStationOf, of_item, of_end, station_is_of}
-use Rattle.simulation.proofs.Laid.{rest_in, rest_of, laid_out, from_home}
-use Rattle.fold_ways.specs.Ways.{EndsAt, leads_nowhere, comes_round, goes_on}
-use Rattle.fold_ways.specs.Leads.{first_id, always_to, lead_by, lead_of, lead}
-use Rattle.fold_ways.proofs.Ways.{one_end}
+use Rattle.sem_mir.specs.State.{Core, State}
+use Rattle.sem_mir.specs.Step.{Outcome, Falls, Goes, Gives, Traps, Asks, Breaks, do_item}
+use Rattle.sem_mir.specs.Align.{position_of, is_code, ByItems, ByEnds, station_at, IsOrigin, Since, After, AnyOrigin, RunsAlong}
+use Rattle.sem_mir.specs.Effects.{EndAlike}
+use Rattle.sem_mir.proofs.Told.{TellsLess, SeesLess, item_less}
+use Rattle.sem_simulation.specs.Sides.{Sides, Relation, since_item}
+use Rattle.sem_simulation.specs.Rewired.{RewiredRelation, IsAbsent, Reaches, arrived, debug, jump, finish, Leaves, by_end, by_jump, by_branch, FallsTo, DoAlike}
+use Rattle.sem_simulation.specs.Rewired.{View, both, added, paired, closes, ended, Jumps as JumpsTo}
+use Rattle.sem_simulation.proofs.Stations.{IsStationOf, of_item, of_end, station_is_of}
+use Rattle.sem_simulation.proofs.Laid.{rest_in, rest_of, laid_out, from_home}
+use Rattle.fold_targets.specs.Ways.{EndsAt, leads_nowhere, comes_round, goes_on}
+use Rattle.fold_targets.specs.Leads.{first_id, always_to, lead_by, lead_of, lead}
+use Rattle.fold_targets.proofs.Ways.{one_end}
 use Rattle.fold_rule.specs.Turned.{to_block, sent, turned, made_jump}
 use Rattle.fold_rule.specs.Tails.{first_of, else_way, ways_by, ways_of, is_number, if_needed, jump_at_end, jump_for_branch, branch_tail, plain_tail}
 use Rattle.fold_rule.specs.Tails.{branch_tail_to, tail_by, rewritten}
@@ -47,7 +47,7 @@ use Rattle.fold_runs.proofs.Ways.{always_is, ways_at, LeadsOn, lead_at, lead_way
 use Rattle.fold_runs.proofs.Folding.{Folding, old, end, stays, was, new, fp, gp, ends, origins_new, apart_new, found_staying, was_staying, form_at}
 use Rattle.fold_runs.proofs.Folding.{after_end, end_kind, leads_to, code_leads, code_final, branch_no_jump, still_code, onward_never_goes, final_never_falls}
 use Rattle.fold_runs.proofs.Folding.{final_never_goes}
-use Rattle.mir_meaning.proofs.Reading.{found_in}
+use Rattle.sem_mir.proofs.Reading.{found_in}
 
 module _ (fold : Folding) (s : State) where
   abbrev f : Program
@@ -135,7 +135,7 @@ module _ (fold : Folding) (s : State) where
     by_station : IsStationOf ByItems g o.place o.station → ⊥
     by_station (of_item x at code st) =
         empty x (sym (from_home false (new fold) fold.resolve (origins_new fold) o.place x at) ∙
-        ap (λ (z : Rattle.mir_meaning.specs.Align.Station). z.pos.block) st ∙ ap (λ (z : Pos). z.block) o.from) at
+        ap (λ (z : Rattle.sem_mir.specs.Align.Station). z.pos.block) st ∙ ap (λ (z : Pos). z.block) o.from) at
     by_station (of_end k n at ends st) = cc
 
   -- control goes on from what is left of a block that is bypassed

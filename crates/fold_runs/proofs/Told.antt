@@ -24,14 +24,14 @@ use Rattle.mir_func.specs.Exits.{exit_of, row_exit}
 use Rattle.mir_func.specs.Graph.{Program}
 use Rattle.mir_func.specs.Variables.{is_same, overlaps}
 use Rattle.mir_func.specs.Sound.{HasForm}
-use Rattle.mir_meaning.specs.State.{Core, updated, assigned}
-use Rattle.mir_meaning.specs.Step.{Outcome, Falls, Goes, Traps, act, does, are_written, read, with_core, numbered, given, defined, part_of}
-use Rattle.mir_meaning.specs.Step.{mark_value, place_value, do_item}
-use Rattle.mir_meaning.specs.Align.{is_code}
-use Rattle.mir_meaning.proofs.Effects.{told_by}
-use Rattle.mir_meaning.proofs.Told.{Below, TellsLess}
-use Rattle.simulation.specs.Sides.{Does, ShowsSame}
-use Rattle.simulation.specs.Rewired.{Jumps as JumpsTo}
+use Rattle.sem_mir.specs.State.{Core, updated, assigned}
+use Rattle.sem_mir.specs.Step.{Outcome, Falls, Goes, Traps, act, does, are_written, read, with_core, numbered, given, defined, part_of}
+use Rattle.sem_mir.specs.Step.{mark_value, place_value, do_item}
+use Rattle.sem_mir.specs.Align.{is_code}
+use Rattle.sem_mir.proofs.Effects.{told_by}
+use Rattle.sem_mir.proofs.Told.{Below, TellsLess}
+use Rattle.sem_simulation.specs.Sides.{Does, ShowsSame}
+use Rattle.sem_simulation.specs.Rewired.{Jumps as JumpsTo}
 use Rattle.fold_kills.proofs.Kills.{IsKillKind}
 use Rattle.fold_sound.proofs.Rows.{Leads, IsEnding, branch, jump, is_ending}
 

@@ -15,9 +15,9 @@ use Rattle.mir_func.specs.Exits.{row_exit, exit_of}
 use Rattle.mir_func.specs.Function.{Function}
 use Rattle.mir_func.specs.Graph.{from_block}
 use Rattle.mir_func.specs.Sound.{AreApart, ids_of, TargetsIn, IsSound}
-use Rattle.fold_ways.specs.Ways.{OnWay, here, further, IsOnCircle, EndsAt, leads_nowhere, comes_round, goes_on}
-use Rattle.fold_ways.specs.Leads.{first_id, always_to, lead_by, lead_of, lead_in, lead}
-use Rattle.fold_ways.proofs.Ways.{test_of, one_end}
+use Rattle.fold_targets.specs.Ways.{OnWay, here, further, IsOnCircle, EndsAt, leads_nowhere, comes_round, goes_on}
+use Rattle.fold_targets.specs.Leads.{first_id, always_to, lead_by, lead_of, lead_in, lead}
+use Rattle.fold_targets.proofs.Ways.{test_of, one_end}
 use Rattle.fold_rule.specs.declared.ways.Ways.{Ways}
 use Rattle.fold_rule.specs.Tails.{first_of, ways_by, ways_of}
 use Rattle.fold_rule.specs.Reached.{ways_in, LeadTo, Reached, first, onward}

@@ -7,9 +7,9 @@ use Rattle.mir_func.specs.declared.position.Origin.TheVariants.{Kept}
 use Rattle.mir_func.specs.Function.{Function}
 use Rattle.mir_func.specs.Sound.{AllItems, IsSound, HasForm}
 use Rattle.mir_func.specs.Graph.{Here, Program, program_of, block_start}
-use Rattle.mir_meaning.specs.State.{State}
-use Rattle.mir_meaning.specs.Align.{ByItems, ByEnds, station_at, AnyOrigin, RunsAlong}
-use Rattle.mir_meaning.specs.Follow.{InOrder, OnRow, IsEnd, first_of}
+use Rattle.sem_mir.specs.State.{State}
+use Rattle.sem_mir.specs.Align.{ByItems, ByEnds, station_at, AnyOrigin, RunsAlong}
+use Rattle.sem_mir.specs.Follow.{InOrder, OnRow, IsEnd, first_of}
 use Rattle.fold_kills.specs.Kills.{IsFoldedWithKills}
 
 -- branches, jumps and returns are kept from the source

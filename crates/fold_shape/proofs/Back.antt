@@ -16,9 +16,9 @@ use Rattle.mir_func.specs.declared.item.ItemKind.TheVariants.{Code, Mark, Phi}
 use Rattle.mir_func.specs.declared.position.Pos.{Pos}
 use Rattle.mir_func.specs.Exits.{row_exit, exit_of, IsAlways, Leaves}
 use Rattle.mir_func.specs.Sound.{ids_of, IsJumpAtMost, MayFollow, EndsWell, Closes, LastCloses}
-use Rattle.mir_meaning.specs.Follow.{OnRow, GoesTo, KindsEndAlike, SameEnd}
-use Rattle.fold_ways.specs.Leads.{first_id, always_to, lead}
-use Rattle.fold_ways.specs.Ways.{EndsAt, leads_nowhere, comes_round, goes_on}
+use Rattle.sem_mir.specs.Follow.{OnRow, GoesTo, KindsEndAlike, SameEnd}
+use Rattle.fold_targets.specs.Leads.{first_id, always_to, lead}
+use Rattle.fold_targets.specs.Ways.{EndsAt, leads_nowhere, comes_round, goes_on}
 use Rattle.fold_rule.specs.declared.ways.Ways.{Ways}
 use Rattle.fold_rule.specs.Turned.{sent, turned, made_jump}
 use Rattle.fold_rule.specs.Tails.{first_of, else_way, ways_by, ways_of, is_number, if_needed, jump_at_end, jump_for_branch, branch_tail, plain_tail}
@@ -215,7 +215,7 @@ module _ (old : List Block) (apart : Rattle.mir_func.specs.Sound.AreApart (ids_o
           let same_ways : w ≡ record { branch = None; onward = Some m } = cc in
           let go : LeadTo (record { branch = None; onward = Some m }) n = subst (λ (y : Ways). LeadTo y n) same_ways l in
           let to_m : m ≡ n = one go in
-          let end_m : end m ≡ z = Rattle.fold_ways.proofs.Ways.one_end (lead old) (ends m) rest in
+          let end_m : end m ≡ z = Rattle.fold_targets.proofs.Ways.one_end (lead old) (ends m) rest in
           record {
             block = way.block;
             stay = way.stay;

@@ -20,14 +20,14 @@ use Rattle.mir_func.specs.Exits.{row_exit, exit_of, Leaves}
 use Rattle.mir_func.specs.Graph.{Program, Fetch, Here, Silent, Outside, below, block_start, end_of, front, fetch_in, from_block, index_of, program_of}
 use Rattle.mir_func.specs.Graph.{RowEdge, KindEdge, FetchEdge, Edge, Leads as LeadsFrom, stay, go}
 use Rattle.mir_func.specs.Sound.{ids_of, EndsWell, Closes, LastCloses}
-use Rattle.mir_meaning.specs.Align.{position_of}
-use Rattle.mir_meaning.specs.Follow.{class_of, Odd, HasClass, ItemHasClass, RowFits, KindFits, Shape, OnRow, GoesTo, IsEnd, SameEnd, KindsEndAlike, EndIsKept}
-use Rattle.mir_meaning.specs.Follow.{EndComesFrom, first_of as first_number}
-use Rattle.mir_meaning.proofs.Reading.{found_in, front_item, item_front, front_end}
-use Rattle.simulation.proofs.Laid.{rest_in, rest_of, from_home, falls_down}
-use Rattle.fold_ways.specs.Ways.{EndsAt, leads_nowhere}
-use Rattle.fold_ways.specs.Leads.{first_id, lead}
-use Rattle.fold_ways.proofs.Ways.{one_end}
+use Rattle.sem_mir.specs.Align.{position_of}
+use Rattle.sem_mir.specs.Follow.{class_of, Odd, HasClass, ItemHasClass, RowFits, KindFits, Shape, OnRow, GoesTo, IsEnd, SameEnd, KindsEndAlike, EndIsKept}
+use Rattle.sem_mir.specs.Follow.{EndComesFrom, first_of as first_number}
+use Rattle.sem_mir.proofs.Reading.{found_in, front_item, item_front, front_end}
+use Rattle.sem_simulation.proofs.Laid.{rest_in, rest_of, from_home, falls_down}
+use Rattle.fold_targets.specs.Ways.{EndsAt, leads_nowhere}
+use Rattle.fold_targets.specs.Leads.{first_id, lead}
+use Rattle.fold_targets.proofs.Ways.{one_end}
 use Rattle.fold_rule.specs.declared.ways.Ways.{Ways}
 use Rattle.fold_rule.specs.Tails.{ways_of, is_number, rewritten}
 use Rattle.fold_rule.specs.Rule.{staying}

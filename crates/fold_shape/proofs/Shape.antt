@@ -19,10 +19,10 @@ use Rattle.mir_func.specs.declared.position.Origin.TheVariants.{Before}
 use Rattle.mir_func.specs.Exits.{row_exit, exit_of, IsAlways}
 use Rattle.mir_func.specs.Graph.{Program, Here, block_start, fetch_in, from_block, program_of, Leads as LeadsFrom, stay}
 use Rattle.mir_func.specs.Sound.{IsJumpAtMost, MayFollow, EndsWell, Closes}
-use Rattle.mir_meaning.specs.Align.{position_of}
-use Rattle.mir_meaning.specs.Follow.{InOrder, KindFits, MarkFits, OnRow, IsEnd, Shape, IsMetApart, EndIsKept, EndComesFrom}
-use Rattle.mir_meaning.proofs.Reading.{found, found_in, item_front}
-use Rattle.fold_ways.specs.Leads.{first_id}
+use Rattle.sem_mir.specs.Align.{position_of}
+use Rattle.sem_mir.specs.Follow.{InOrder, KindFits, MarkFits, OnRow, IsEnd, Shape, IsMetApart, EndIsKept, EndComesFrom}
+use Rattle.sem_mir.proofs.Reading.{found, found_in, item_front}
+use Rattle.fold_targets.specs.Leads.{first_id}
 use Rattle.fold_rule.specs.Tails.{rewritten}
 use Rattle.fold_rule.specs.Reached.{first}
 use Rattle.fold_rule.specs.Rule.{staying}
@@ -112,7 +112,7 @@ module _ (fold : Folding) (src : List Block) (subs : OperandPair → Option Oper
           | inl c ↦ absurd (store_kind i.kind (All-contains (IsKill w.block.id) lost i (each_kill (end fold) (was fold) (old fold) w.block.id) c).kind save)
           | inr k ↦ was_store k.0 k.1 k.2
         ] where
-          there : Rattle.mir_meaning.proofs.Reading.FoundAt (new fold) b
+          there : Rattle.sem_mir.proofs.Reading.FoundAt (new fold) b
           there = found (new fold) (apart_new fold) b member
 
           w : Rattle.fold_runs.proofs.Placed.WasBlock (end fold) (stays fold) (was fold) (old fold) b.id b there.rest

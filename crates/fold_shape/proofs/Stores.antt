@@ -19,13 +19,13 @@ use Rattle.mir_func.specs.Exits.{row_exit, exit_of, IsAlways, Leaves}
 use Rattle.mir_func.specs.Graph.{Program, Fetch, Here, Silent, Outside, below, block_start, front, fetch_in, from_block, RowEdge, KindEdge, FetchEdge, Edge}
 use Rattle.mir_func.specs.Graph.{Leads as LeadsFrom, stay, go}
 use Rattle.mir_func.specs.Sound.{IsJumpAtMost, MayFollow, EndsWell, Closes}
-use Rattle.mir_meaning.specs.Follow.{OnRow, Counts}
-use Rattle.mir_meaning.proofs.Edges.{leads_on}
-use Rattle.mir_meaning.proofs.Reading.{found_in, item_front}
-use Rattle.simulation.proofs.Laid.{rest_in, rest_of, laid_out}
-use Rattle.fold_ways.specs.Ways.{EndsAt, leads_nowhere, comes_round, goes_on}
-use Rattle.fold_ways.specs.Leads.{first_id, always_to, lead_by, lead_of, lead}
-use Rattle.fold_ways.proofs.Ways.{one_end}
+use Rattle.sem_mir.specs.Follow.{OnRow, Counts}
+use Rattle.sem_mir.proofs.Edges.{leads_on}
+use Rattle.sem_mir.proofs.Reading.{found_in, item_front}
+use Rattle.sem_simulation.proofs.Laid.{rest_in, rest_of, laid_out}
+use Rattle.fold_targets.specs.Ways.{EndsAt, leads_nowhere, comes_round, goes_on}
+use Rattle.fold_targets.specs.Leads.{first_id, always_to, lead_by, lead_of, lead}
+use Rattle.fold_targets.proofs.Ways.{one_end}
 use Rattle.fold_rule.specs.Turned.{sent, turned, made_jump}
 use Rattle.fold_rule.specs.Tails.{first_of, else_way, ways_by, ways_of, is_number, if_needed, jump_at_end, jump_for_branch, branch_tail, plain_tail}
 use Rattle.fold_rule.specs.Tails.{branch_tail_to, tail_by, rewritten}
@@ -230,7 +230,7 @@ kill_onward (Phi p n) h = refl
 kill_onward (Code i n) h = absurd h
 
 -- debug items at the start are passed
-walk_kills : (g : Program) (rest : Pos → List Item) → Rattle.simulation.specs.Sides.Laid g rest → ((n : ℕ) → g.enter n ≡ n) → (b n : ℕ) (ks xs : List Item) →
+walk_kills : (g : Program) (rest : Pos → List Item) → Rattle.sem_simulation.specs.Sides.Laid g rest → ((n : ℕ) → g.enter n ≡ n) → (b n : ℕ) (ks xs : List Item) →
     All (IsKill b) ks → (p : ℕ) → rest (record { block = n; item = p }) ≡ ks ++ xs → (p0 : Pos) → LeadsFrom g p0 (record { block = n; item = p }) →
     (enter : g.enter ≡ (λ m. m)) → LeadsFrom g p0 (record { block = n; item = p + length ks })
 walk_kills g rest laid same b n [] xs h p e p0 l enter =
@@ -381,7 +381,7 @@ module _ (fold : Folding) (p0 : Pos) where
   rest_at : (p : Pos) (b : Block) (after : List Block) → from_block (old fold) p.block ≡ b ∷ after → (x : Item) → f.fetch p ≡ Here x →
       (slice_get b.items p.item ≡ Some x) × ((ys : List Item) × (drop p.item b.items ≡ x ∷ ys))
   rest_at p b after at x e =
-      let k = Rattle.mir_meaning.proofs.Reading.front_item b.items p.item b.silent after x (ap (λ (z : List Block). fetch_in z p.item) (sym at) ∙ e) in
+      let k = Rattle.sem_mir.proofs.Reading.front_item b.items p.item b.silent after x (ap (λ (z : List Block). fetch_in z p.item) (sym at) ∙ e) in
       (k, drop_at b.items p.item x k)
 
   drop_more : (xs : List Item) (k : ℕ) (x : Item) (ys : List Item) → drop k xs ≡ x ∷ ys → drop (k + 1) xs ≡ ys

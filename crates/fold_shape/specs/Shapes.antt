@@ -7,7 +7,7 @@ use Rattle.mir_func.specs.declared.position.Pos.{Pos}
 use Rattle.mir_func.specs.Function.{Function}
 use Rattle.mir_func.specs.Sound.{AllItems, IsSound, HasForm}
 use Rattle.mir_func.specs.Graph.{Here, program_of}
-use Rattle.mir_meaning.specs.Follow.{OnRow, IsEnd, Shape, EndIsKept, EndComesFrom}
+use Rattle.sem_mir.specs.Follow.{OnRow, IsEnd, Shape, EndIsKept, EndComesFrom}
 use Rattle.fold_kills.specs.Kills.{IsFoldedWithKills}
 
 -- where a function has the source's shape, its blocks and its branches and returns, the folded one has the source's shape

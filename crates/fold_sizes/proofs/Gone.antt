@@ -10,8 +10,8 @@ use Rattle.mir_func.specs.declared.entry.Entry.{Entry}
 use Rattle.mir_func.specs.declared.item.Item.{Item}
 use Rattle.mir_func.specs.Function.{Function}
 use Rattle.mir_func.specs.Sound.{AreApart, ids_of, IsSound}
-use Rattle.fold_ways.specs.Leads.{lead}
-use Rattle.fold_ways.proofs.Blocks.{apart_tail}
+use Rattle.fold_targets.specs.Leads.{lead}
+use Rattle.fold_targets.proofs.Blocks.{apart_tail}
 use Rattle.fold_kills.specs.Kills.{kill_by, kills_same, once, is_bypassed, lost_ways, kills, IsFoldedWithKills}
 use Rattle.fold_debug.specs.Debug.{IsPassed}
 use Rattle.fold_debug.proofs.Passing.{passed_gone}

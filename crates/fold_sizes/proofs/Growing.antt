@@ -25,10 +25,10 @@ use Rattle.mir_func.specs.Function.{Function}
 use Rattle.mir_func.specs.Limits.{MAX_BLOCKS, MAX_SLOTS}
 use Rattle.mir_func.specs.Sound.{AreApart, ids_of, items_of, EndsWell, Closes, LastCloses, IsSound}
 use Rattle.mir_func.specs.SoundFrame.{IsPhysical as OperandIsPhysical, HasPhysical}
-use Rattle.mir_meaning.specs.Align.{is_code}
-use Rattle.follow_law.specs.Change.{change}
-use Rattle.follow_law.specs.Sizes.{greatest, numbers_in, most_numbers, numbers_of, calls, KeepsSizes}
-use Rattle.fold_ways.specs.Leads.{first_id}
+use Rattle.sem_mir.specs.Align.{is_code}
+use Rattle.pass_trait.specs.Change.{change}
+use Rattle.pass_trait.specs.Sizes.{greatest, numbers_in, most_numbers, numbers_of, calls, KeepsSizes}
+use Rattle.fold_targets.specs.Leads.{first_id}
 use Rattle.fold_rule.specs.Turned.{aimed, to_block, inverse_to, with_code}
 use Rattle.fold_rule.specs.Rule.{folded_block, staying, folded_blocks}
 use Rattle.fold_sound.proofs.Rows.{Leads}

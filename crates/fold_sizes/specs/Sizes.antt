@@ -3,8 +3,8 @@ use Rattle.std.specs.Prelude.{List}
 use Rattle.mir_func.specs.declared.entry.Entry.{Entry}
 use Rattle.mir_func.specs.Function.{Function}
 use Rattle.mir_func.specs.Sound.{IsSound}
-use Rattle.follow_law.specs.Change.{change}
-use Rattle.follow_law.specs.Sizes.{KeepsSizes}
+use Rattle.pass_trait.specs.Change.{change}
+use Rattle.pass_trait.specs.Sizes.{KeepsSizes}
 use Rattle.fold_kills.specs.Kills.{IsFoldedWithKills}
 
 -- a function that is folded, with its kills, keeps the bounds of a pass with factor 1 and count 1

@@ -15,10 +15,10 @@ use Rattle.mir_func.specs.declared.item.ItemKind.TheVariants.{Code, Mark, Phi}
 use Rattle.mir_func.specs.declared.object.Object.{Object}
 use Rattle.mir_func.specs.Exits.{row_exit, exit_of}
 use Rattle.mir_func.specs.Sound.{AreApart, ids_of, EndsWell, Closes, LastCloses}
-use Rattle.fold_ways.specs.Ways.{EndsAt, leads_nowhere, comes_round, goes_on}
-use Rattle.fold_ways.specs.Leads.{first_id, always_to, lead_by, lead_of, lead_in, lead}
-use Rattle.fold_ways.proofs.Ways.{test_of}
-use Rattle.fold_ways.proofs.Blocks.{apart_tail}
+use Rattle.fold_targets.specs.Ways.{EndsAt, leads_nowhere, comes_round, goes_on}
+use Rattle.fold_targets.specs.Leads.{first_id, always_to, lead_by, lead_of, lead_in, lead}
+use Rattle.fold_targets.proofs.Ways.{test_of}
+use Rattle.fold_targets.proofs.Blocks.{apart_tail}
 use Rattle.fold_rule.specs.declared.ways.Ways.{Ways}
 use Rattle.fold_rule.specs.Tails.{first_of, else_way, ways_by, ways_of, rewritten}
 use Rattle.fold_rule.specs.Reached.{ways_in, LeadTo}

@@ -6,7 +6,7 @@ use Rattle.mir_func.specs.declared.item.Item.{Item}
 use Rattle.mir_func.specs.Function.{Function}
 use Rattle.mir_func.specs.Exits.{exit_of}
 use Rattle.mir_func.specs.Sound.{ids_of, TargetsIn, SlotsIn, ObjectsIn, LeavesPointer, OriginIn, LastCloses, IsSound}
-use Rattle.fold_ways.specs.Leads.{first_id, lead}
+use Rattle.fold_targets.specs.Leads.{first_id, lead}
 use Rattle.fold_rule.specs.Reached.{first, onward}
 use Rattle.fold_rule.specs.Rule.{staying, folded_blocks, AreFolded}
 use Rattle.fold_sound.proofs.Rows.{GoesIn, targets_kind}

@@ -15,7 +15,7 @@ use Rattle.mir_func.specs.declared.position.Origin.{Origin}
 use Rattle.mir_func.specs.declared.position.Origin.TheVariants.{Before}
 use Rattle.mir_func.specs.Exits.{exit_of, IsAlways, Leaves}
 use Rattle.mir_func.specs.Sound.{TargetsIn, SlotsIn, ObjectsIn, LeavesPointer, IsNotPointer, OriginIn, IsJumpAtMost, MayFollow, EndsWell, Closes}
-use Rattle.fold_ways.specs.Leads.{always_to}
+use Rattle.fold_targets.specs.Leads.{always_to}
 use Rattle.fold_rule.specs.Turned.{sent, turned, made_jump}
 use Rattle.fold_rule.specs.Tails.{first_of, else_way, ways_by, ways_of, is_number, if_needed, jump_at_end, jump_for_branch, branch_tail, plain_tail}
 use Rattle.fold_rule.specs.Tails.{branch_tail_to, tail_by, rewritten}

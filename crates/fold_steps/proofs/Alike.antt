@@ -15,8 +15,8 @@ use Rattle.mir_func.specs.declared.item.ItemKind.{ItemKind}
 use Rattle.mir_func.specs.declared.item.ItemKind.TheVariants.{Code, Mark, Phi}
 use Rattle.mir_func.specs.Exits.{row_exit, exit_of}
 use Rattle.mir_func.specs.Graph.{Program}
-use Rattle.mir_meaning.specs.State.{Core, updated}
-use Rattle.mir_meaning.specs.Step.{Outcome, Falls, Goes, Gives, Traps, Asks, Breaks, read, are_written, does, act, with_core, numbered, given, defined, do_item}
+use Rattle.sem_mir.specs.State.{Core, updated}
+use Rattle.sem_mir.specs.Step.{Outcome, Falls, Goes, Gives, Traps, Asks, Breaks, read, are_written, does, act, with_core, numbered, given, defined, do_item}
 use Rattle.fold_rule.specs.Turned.{inverse, inverse_op, aimed, to_block, inverse_to, with_code}
 use Rattle.fold_sound.proofs.Rows.{Leads, IsEnding, branch, jump, is_ending}
 use Rattle.fold_steps.specs.Alike.{aimed_at, swapped, FoldedItemsDoAlike}

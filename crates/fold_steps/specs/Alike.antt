@@ -6,8 +6,8 @@ use Rattle.mir_func.specs.declared.location.Loc.{Loc}
 use Rattle.mir_func.specs.declared.position.Origin.{Origin}
 use Rattle.mir_func.specs.Exits.{exit_of}
 use Rattle.mir_func.specs.Graph.{Program}
-use Rattle.mir_meaning.specs.State.{Core}
-use Rattle.mir_meaning.specs.Step.{Outcome, Falls, Goes, Gives, Traps, Asks, Breaks, do_item}
+use Rattle.sem_mir.specs.State.{Core}
+use Rattle.sem_mir.specs.Step.{Outcome, Falls, Goes, Gives, Traps, Asks, Breaks, do_item}
 use Rattle.fold_rule.specs.Turned.{sent, turned, made_jump}
 
 -- where it goes elsewhere, to this block

@@ -12,7 +12,7 @@ use Rattle.mir_func.specs.Function.{Function}
 use Rattle.mir_func.specs.Graph.{block_start}
 use Rattle.mir_func.specs.SoundFrame.{prologue_code, epilogue_code}
 use Rattle.mir_func.specs.Strip.{stripped}
-use Rattle.follow_law.specs.Code.{placeless_origin, placeless_item, placeless_block, placeless}
+use Rattle.pass_trait.specs.Code.{placeless_origin, placeless_item, placeless_block, placeless}
 use Rattle.frame_rule.specs.Rule.{sets_register, is_set, saved_of, size_of, added, added_all, position_in, epilogue, prologue}
 use Rattle.frame_rule.specs.Rule.{slot_places, renamed, framed_item, framed_items, framed_block, framed_blocks, framed_of}
 use Rattle.frames_alike.specs.Alike.{placeless_framed, FramesAlike}

@@ -2,7 +2,7 @@
 use Rattle.std.specs.Prelude.{◌≡◌, map}
 use Rattle.mir_func.specs.Function.{Function, FramedFunction}
 use Rattle.mir_func.specs.Strip.{stripped_blocks, stripped}
-use Rattle.follow_law.specs.Code.{placeless_block, AreAlike}
+use Rattle.pass_trait.specs.Code.{placeless_block, AreAlike}
 use Rattle.frame_rule.specs.Rule.{framed_of}
 
 -- ---- functions

@@ -5,11 +5,11 @@ use Rattle.std.proofs.lemmas.Bool.{or_parts, eq-eqb, ne_eqb, eqb-false, false≢
 use Rattle.std.proofs.lemmas.List.{map-append}
 use Rattle.mir_func.specs.declared.object.Object.{Object}
 use Rattle.mir_func.specs.Sound.{AreApart}
-use Rattle.mir_declarations.specs.declared.stack.StackEntry.{StackEntry}
-use Rattle.mir_body.specs.declared.frame.Laid.{Laid}
-use Rattle.mir_body.specs.Frame.{is_object, with_slot, slots_behind, laid_at, with_object, objects_behind}
-use Rattle.mir_body.specs.Met.{is_met}
-use Rattle.mir_parser.proofs.Lists.{found, met_at}
+use Rattle.read_declarations.specs.declared.stack.StackEntry.{StackEntry}
+use Rattle.read_body.specs.declared.frame.Laid.{Laid}
+use Rattle.read_body.specs.Frame.{is_object, with_slot, slots_behind, laid_at, with_object, objects_behind}
+use Rattle.read_body.specs.Met.{is_met}
+use Rattle.read_program.proofs.Lists.{found, met_at}
 
 -- no number stands twice
 abbrev pub Once : List ℕ → Type 0

@@ -1,13 +1,13 @@
 -- The slots and objects of a function as stack entries that are read again.
 use Rattle.std.specs.Prelude.{◌≡◌, ℕ, ◌≤◌, true, List, map, length, All}
-use Rattle.numbers.specs.Limits.{MAX_NUMBER}
+use Rattle.base_ids.specs.Limits.{MAX_NUMBER}
 use Rattle.mir_func.specs.declared.object.Object.{Object}
 use Rattle.mir_func.specs.Limits.{MAX_SLOTS}
 use Rattle.mir_func.specs.Sound.{AreApart}
-use Rattle.mir_declarations.specs.declared.stack.StackEntry.{StackEntry}
-use Rattle.mir_body.specs.Frame.{slots_of, objects_of}
-use Rattle.mir_body.specs.Met.{is_met}
-use Rattle.mir_parser.specs.Closing.{entry_ids}
+use Rattle.read_declarations.specs.declared.stack.StackEntry.{StackEntry}
+use Rattle.read_body.specs.Frame.{slots_of, objects_of}
+use Rattle.read_body.specs.Met.{is_met}
+use Rattle.read_program.specs.Closing.{entry_ids}
 use Rattle.declarations_read_back.specs.Declared.{IsEntry, entries_read}
 
 -- stack entries as they were read: few, each within its limits, and no number twice

@@ -9,9 +9,9 @@ use Rattle.class_entries.specs.declared.tracked.Tracked.{Tracked}
 use Rattle.class_entries.specs.declared.entry.BlockEntry.{BlockEntry}
 use Rattle.class_entries.specs.Entry.{thing, IsEntry}
 use Rattle.class_paths.specs.Wanted.{AreThingsOf}
-use Rattle.class_places.specs.Things.{AreThings}
-use Rattle.transfer_emit.specs.declared.values.Values.{Values}
-use Rattle.transfer_emit.specs.Stands.{AreValuesOf}
+use Rattle.value_tracker.specs.Things.{AreThings}
+use Rattle.location_ranges.specs.declared.values.Values.{Values}
+use Rattle.location_ranges.specs.Stands.{AreValuesOf}
 
 pub are_values : (f g : FramedFunction) (v : Values) (parts : List VarId) (things : List Tracked) (entries : List BlockEntry) → f ≡ g →
     v.variables.now ≡ parts → v.things.now ≡ things → v.entries.now ≡ entries → AreThings parts things →

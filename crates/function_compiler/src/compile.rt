@@ -7,20 +7,20 @@ ghost use Rattle.mir_func.specs.Resolve.{resolve};
 ghost use Rattle.mir_func.specs.Sound.{AllItems};
 ghost use Rattle.mir_func.specs.SoundFrame.{HasPhysical};
 ghost use Rattle.frame_rule.specs.Rule.{size_of, framed_of};
-ghost use Rattle.code_words.specs.Counts.{MAX_WORDS, MAX_BASE, count_of};
-ghost use Rattle.code_words.specs.Laid.{IsCodeOf};
+ghost use Rattle.emit_code.specs.Counts.{MAX_WORDS, MAX_BASE, count_of};
+ghost use Rattle.emit_code.specs.Laid.{IsCodeOf};
 ghost use Rattle.dwarf_loclists.specs.Ranges.{Ascend};
-ghost use Rattle.transfer_emit.specs.Lists.{AreListsOf};
-ghost use Rattle.unit_entries.specs.Variables.{variables_of_function};
+ghost use Rattle.location_ranges.specs.Lists.{AreListsOf};
+ghost use Rattle.dwarf_unit.specs.Variables.{variables_of_function};
 
 use crate::location_lists::location_lists;
-use code_words::code::Code;
+use emit_code::code::Code;
 use dwarf_loclists::range::RangeLists;
-use frame_layout::code::{CodeError, code_of};
+use emit_function::code::{CodeError, code_of};
 use mir_func::func::Func;
 use std::alloc::Global;
-use substitution::substitutions::Substitutions;
-use unit_entries::variables::{VarIds, variables};
+use mir_substitution::substitutions::Substitutions;
+use dwarf_unit::variables::{VarIds, variables};
 
 /// A function that is compiled.
 #[derive(Debug, Drop)]

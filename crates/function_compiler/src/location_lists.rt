@@ -4,17 +4,17 @@ ghost use Rattle.std.specs.Prelude.{◌≡◌, ◌≤◌, All, IfOk, length};
 ghost use Rattle.mir_func.specs.Graph.{block_start, framed_program};
 ghost use Rattle.mir_func.specs.Resolve.{resolve};
 ghost use Rattle.dwarf_loclists.specs.Ranges.{Ascend};
-ghost use Rattle.transfer_emit.specs.Lists.{AreListsOf};
+ghost use Rattle.location_ranges.specs.Lists.{AreListsOf};
 
-use code_words::code::Code;
+use emit_code::code::Code;
 use dwarf_loclists::range::RangeLists;
-use machine_values::values::{MachineValues, solve};
+use value_live_ins::values::{MachineValues, solve};
 use mir_func::framed::Framed;
 use mir_func::variable::VarId;
 use std::alloc::{AllocError, Global};
-use substitution::substitutions::Substitutions;
-use transfer_emit::ranges::all_ranges;
-use transfer_emit::values::Values;
+use mir_substitution::substitutions::Substitutions;
+use location_ranges::ranges::all_ranges;
+use location_ranges::values::Values;
 
 /// The location lists of variables over the machine code of a function, in the variables' order: at the address of each
 /// byte of code the location that is wanted for the variable there, by all paths of the function with its frame, and

@@ -21,11 +21,11 @@ use Rattle.mir_func.specs.Exits.{exit_of, is_final}
 use Rattle.mir_func.specs.Function.{Function}
 use Rattle.mir_func.specs.Sound.{items_of, MayFollow, EndsWell, IsSound}
 use Rattle.mir_func.specs.SoundFrame.{SAVED, saves, restores, adds_to_pointer, prologue_code, epilogue_code}
-use Rattle.code_words.specs.Counts.{MAX_WORDS, row_words, kind_count, item_count, count_of}
+use Rattle.emit_code.specs.Counts.{MAX_WORDS, row_words, kind_count, item_count, count_of}
 use Rattle.frame_rule.specs.Rule.{size_of, saved_of, saved_places, saved_registers, is_set, position_in}
 use Rattle.frame_rule.specs.Rule.{added, added_all, prologue, epilogue, renamed, framed_item}
 use Rattle.frame_rule.specs.Rule.{framed_items, framed_block, prologue_block, framed_blocks, framed_of}
-use Rattle.function_passes.specs.Passed.{MAX_PASSED}
+use Rattle.compile_passes.specs.Passed.{MAX_PASSED}
 
 row_few : (row : Row) → row_words row ≤ 2
 row_few (Fixes rd n) = omega arith

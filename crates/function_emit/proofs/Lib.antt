@@ -2,4 +2,4 @@ pub mod Few
 pub mod Listed
 pub mod Located
 pub mod Pushed
-pub use Rattle.function_passes.proofs.AfterPasses
+pub use Rattle.compile_passes.proofs.AfterPasses

@@ -2,9 +2,9 @@
 -- promises.
 use Rattle.std.proofs.Common.{◌≡◌, ℕ, suc, ◌+◌, ◌≤◌, List, [], ◌∷◌, ◌++◌, length, Bool, true, false, cond, refl, ap, arith, length-append}
 use Rattle.std.specs.List.{flat_map, list_any}
-use Rattle.compiled_text.specs.declared.output.ListedVariable.{ListedVariable}
-use Rattle.function_listing.specs.Variables.{variables_listed}
-use Rattle.meta_reader.specs.Maps.{Maps}
+use Rattle.listing_text.specs.declared.output.ListedVariable.{ListedVariable}
+use Rattle.listing_function.specs.Variables.{variables_listed}
+use Rattle.read_metadata.specs.Maps.{Maps}
 use Rattle.mir_func.specs.declared.block.Block.{Block}
 use Rattle.mir_func.specs.declared.item.Item.{Item}
 use Rattle.mir_func.specs.declared.item.ItemKind.{ItemKind}
@@ -12,10 +12,10 @@ use Rattle.mir_func.specs.declared.item.ItemKind.TheVariants.{Code, Mark, Phi}
 use Rattle.mir_func.specs.declared.variable.VarId.{VarId}
 use Rattle.mir_func.specs.Sound.{items_of}
 use Rattle.mir_func.specs.Variables.{is_same_variable}
-use Rattle.output_promise.specs.Promise.{variable_lines, variable_listed}
+use Rattle.compile_theorem.specs.Promise.{variable_lines, variable_listed}
 use Rattle.function_emit.specs.Emitted.{names_of}
 use Rattle.source_lines.specs.Files.{first_uses, with_new}
-use Rattle.unit_entries.specs.Variables.{marked, marks_of, variables_of_function}
+use Rattle.dwarf_unit.specs.Variables.{marked, marks_of, variables_of_function}
 
 -- ---- how many there are
 

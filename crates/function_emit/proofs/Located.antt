@@ -4,10 +4,10 @@ use Rattle.std.specs.Prelude.{All, slice_get}
 use Rattle.std.proofs.lemmas.List.Elements.{All-nil, All-cons}
 use Rattle.mir_func.specs.declared.variable.VarId.{VarId}
 use Rattle.mir_func.specs.Graph.{Program, block_start}
-use Rattle.code_words.specs.declared.code.Entry.{Entry}
+use Rattle.emit_code.specs.declared.code.Entry.{Entry}
 use Rattle.dwarf_loclists.specs.declared.range.Range.{Range}
 use Rattle.dwarf_loclists.specs.Ranges.{ArePlaces}
-use Rattle.transfer_emit.specs.Lists.{AreListsOf}
+use Rattle.location_ranges.specs.Lists.{AreListsOf}
 
 all_each : {X Y : Type 0} (P : Y → Type 0) (xs : List X) (ys : List Y) → length ys ≡ length xs →
     ((k : ℕ) (x : X) (y : Y) → slice_get xs k ≡ Some x → slice_get ys k ≡ Some y → P y) → All P ys

@@ -2,33 +2,33 @@
 use Rattle.std.proofs.Common.{◌≡◌, ℕ, ◌<◌, ◌≤◌, List, [], ◌∷◌, ◌++◌, length, sym, ap, ◌∙◌, subst, arith}
 use Rattle.std.specs.List.{flat_map}
 use Rattle.std.specs.Int.{w32, to_le_bytes}
-use Rattle.code_words.specs.Counts.{MAX_WORDS, MAX_BASE, count_of}
-use Rattle.code_words.specs.declared.code.Entry.{Entry}
-use Rattle.code_words.specs.Rule.{Layout, entries_of}
-use Rattle.compiled_text.specs.declared.output.ListedFunction.{ListedFunction}
+use Rattle.emit_code.specs.Counts.{MAX_WORDS, MAX_BASE, count_of}
+use Rattle.emit_code.specs.declared.code.Entry.{Entry}
+use Rattle.emit_code.specs.Rule.{Layout, entries_of}
+use Rattle.listing_text.specs.declared.output.ListedFunction.{ListedFunction}
 use Rattle.frame_rule.specs.Rule.{framed_of}
 use Rattle.function_compiler.specs.declared.compile.CompiledFunction.{CompiledFunction}
-use Rattle.function_listing.specs.Laid.{IsLaid}
-use Rattle.function_listing.specs.Variables.{variables_listed}
-use Rattle.meta_reader.specs.Maps.{Maps}
-use Rattle.mir_body.specs.Limits.{MAX_ITEMS}
+use Rattle.listing_function.specs.Laid.{IsLaid}
+use Rattle.listing_function.specs.Variables.{variables_listed}
+use Rattle.read_metadata.specs.Maps.{Maps}
+use Rattle.read_body.specs.Limits.{MAX_ITEMS}
 use Rattle.mir_func.specs.declared.variable.VarId.{VarId}
 use Rattle.mir_func.specs.Function.{FramedFunction}
 use Rattle.mir_func.specs.Graph.{block_start, framed_program}
 use Rattle.mir_func.specs.Resolve.{resolve}
-use Rattle.mir_parser.specs.declared.closing.Parsed.{Parsed}
-use Rattle.output_promise.specs.Compiled.{IsLayoutOf}
-use Rattle.output_promise.specs.Promise.{variable_lines}
-use Rattle.output_promise.specs.Source.{SourceFunction, PassedFunction}
+use Rattle.read_program.specs.declared.closing.Parsed.{Parsed}
+use Rattle.compile_theorem.specs.Compiled.{IsLayoutOf}
+use Rattle.compile_theorem.specs.Promise.{variable_lines}
+use Rattle.compile_theorem.specs.Source.{SourceFunction, PassedFunction}
 use Rattle.function_emit.proofs.Listed.{variables_few, lines_same}
 use Rattle.function_emit.proofs.Located.{places}
 use Rattle.function_emit.specs.declared.emit.Made.{Made}
 use Rattle.function_emit.specs.Emitted.{names_of, IsOneCompiled, IsPushed}
-use Rattle.function_passes.specs.Passed.{source_of}
-use Rattle.reading_laws.specs.Read.{IsReadFunction}
-use Rattle.shown_program.specs.Listing.{listing_of}
-use Rattle.transfer_emit.specs.Lists.{AreListsOf}
-use Rattle.unit_entries.specs.Variables.{variables_of_function}
+use Rattle.compile_passes.specs.Passed.{source_of}
+use Rattle.read_proof.specs.Read.{IsReadFunction}
+use Rattle.listing_meaning.specs.Listing.{listing_of}
+use Rattle.location_ranges.specs.Lists.{AreListsOf}
+use Rattle.dwarf_unit.specs.Variables.{variables_of_function}
 
 -- it has as many variables as its source has items or fewer
 pub few_variables : (meta : Maps) (q : Parsed) (p : PassedFunction) (base : ℕ) (c : CompiledFunction) → p.source ≡ source_of q → IsReadFunction meta q.func →

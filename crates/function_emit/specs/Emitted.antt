@@ -1,25 +1,25 @@
 -- A function that is compiled behind others.
 use Rattle.std.specs.Prelude.{◌≡◌, ℕ, ◌<◌, ◌≤◌, List, [], ◌∷◌, ◌++◌, length, All}
-use Rattle.code_words.specs.Counts.{MAX_WORDS, count_of}
-use Rattle.code_words.specs.Laid.{LaidCode, IsCodeOf}
-use Rattle.code_words.specs.Rule.{words_of}
-use Rattle.compiled_text.specs.declared.output.ListedFunction.{ListedFunction}
+use Rattle.emit_code.specs.Counts.{MAX_WORDS, count_of}
+use Rattle.emit_code.specs.Laid.{LaidCode, IsCodeOf}
+use Rattle.emit_code.specs.Rule.{words_of}
+use Rattle.listing_text.specs.declared.output.ListedFunction.{ListedFunction}
 use Rattle.dwarf_loclists.specs.declared.range.Range.{Range}
 use Rattle.dwarf_loclists.specs.Ranges.{Ascend, ArePlaces}
 use Rattle.frame_rule.specs.Rule.{framed_of, size_of}
 use Rattle.function_compiler.specs.declared.compile.CompiledFunction.{CompiledFunction}
 use Rattle.function_emit.specs.declared.emit.Made.{Made}
-use Rattle.function_listing.specs.Variables.{name_of}
-use Rattle.meta_reader.specs.Maps.{Maps}
-use Rattle.meta_reader.specs.Metadata.{variable_at}
-use Rattle.mir_body.specs.Limits.{MAX_ITEMS}
+use Rattle.listing_function.specs.Variables.{name_of}
+use Rattle.read_metadata.specs.Maps.{Maps}
+use Rattle.read_metadata.specs.Metadata.{variable_at}
+use Rattle.read_body.specs.Limits.{MAX_ITEMS}
 use Rattle.mir_func.specs.Graph.{block_start, framed_program}
 use Rattle.mir_func.specs.Limits.{MAX_FRAME}
 use Rattle.mir_func.specs.Resolve.{resolve}
-use Rattle.output_promise.specs.Compiled.{IsCompiledFunction, bytes_of}
-use Rattle.output_promise.specs.Source.{PassedFunction}
-use Rattle.transfer_emit.specs.Lists.{AreListsOf}
-use Rattle.unit_entries.specs.Variables.{variables_of_function}
+use Rattle.compile_theorem.specs.Compiled.{IsCompiledFunction, bytes_of}
+use Rattle.compile_theorem.specs.Source.{PassedFunction}
+use Rattle.location_ranges.specs.Lists.{AreListsOf}
+use Rattle.dwarf_unit.specs.Variables.{variables_of_function}
 
 -- the name of the variable that a node describes
 abbrev pub names_of : Maps → (node : ℕ) → List ℕ

@@ -1,2 +1,2 @@
 pub mod Emitted
-pub use Rattle.function_passes.specs.Passed
+pub use Rattle.compile_passes.specs.Passed

@@ -4,4 +4,4 @@
 
 pub mod emit;
 
-pub use function_passes::passed as passed;
+pub use compile_passes::passed as passed;

@@ -24,12 +24,12 @@ use Rattle.mir_func.specs.declared.exit.Exit.TheVariants.{Onward, Perhaps, Alway
 use Rattle.mir_func.specs.Exits.{exit_of}
 use Rattle.mir_func.specs.Sound.{AllItems, items_of, ids_of, IsJumpAtMost, MayFollow, EndsWell, Closes, LastCloses}
 use Rattle.mir_func.specs.Strip.{bare, stripped_items, stripped_block, stripped_blocks}
-use Rattle.mir_item.specs.Judge.{entry_of, entries_of}
-use Rattle.mir_body.specs.Body.{object_named}
-use Rattle.mir_body.specs.Closing.{goes_to_one_of, item_goes_to, blocks_go_to, all_met}
-use Rattle.mir_body.specs.Met.{is_met}
-use Rattle.mir_parser.specs.Objects.{instr_as, kind_as, item_as, blocks_as, kind_stays, block_stays, blocks_stay}
-use Rattle.mir_parser.proofs.Operands.{NamesAmong}
+use Rattle.read_item.specs.Judge.{entry_of, entries_of}
+use Rattle.read_body.specs.Body.{object_named}
+use Rattle.read_body.specs.Closing.{goes_to_one_of, item_goes_to, blocks_go_to, all_met}
+use Rattle.read_body.specs.Met.{is_met}
+use Rattle.read_program.specs.Objects.{instr_as, kind_as, item_as, blocks_as, kind_stays, block_stays, blocks_stay}
+use Rattle.read_program.proofs.Operands.{NamesAmong}
 use Rattle.mir_printer.specs.Spelling.{is_definition}
 use Rattle.read_back.specs.Forms.{operand_form}
 use Rattle.body_read_back.specs.Body.{item_at, items_from, judged_block, entries_named, names_object}

@@ -3,41 +3,41 @@ use Rattle.std.proofs.Common.{◌≡◌, ℕ, ◌≤◌, Bool, true, false, cond
 use Rattle.std.proofs.Common.{refl, sym, ap, subst, ◌∙◌, arith}
 use Rattle.std.proofs.lemmas.List.{length-map}
 use Rattle.std.proofs.lemmas.List.Elements.{All-map, All-weaker}
-use Rattle.refusal.specs.declared.kind.RefusalKind.{RefusalKind}
+use Rattle.read_refusal.specs.declared.kind.RefusalKind.{RefusalKind}
 use Rattle.rv64_instr.specs.declared.op.Op.{Op}
 use Rattle.rv64_instr.specs.declared.operand.Operand.{Operand}
 use Rattle.rv64_instr.specs.declared.operand.Operand.TheVariants.{Def, Use, ImplicitDef, ImplicitUse, Imm, Slot, Object, Block as OfBlock, Symbol, Mask}
 use Rattle.rv64_instr.specs.Form.{has_form}
 use Rattle.rv64_instr.specs.Instruction.{Instruction}
-use Rattle.meta_reader.specs.Maps.{Maps}
+use Rattle.read_metadata.specs.Maps.{Maps}
 use Rattle.mir_func.specs.declared.item.Item.{Item}
 use Rattle.mir_func.specs.declared.item.ItemKind.{ItemKind}
 use Rattle.mir_func.specs.declared.item.ItemKind.TheVariants.{Code, Mark, Phi}
 use Rattle.mir_func.specs.declared.location.Loc.{Loc}
 use Rattle.mir_func.specs.Sound.{IsNotPointer}
-use Rattle.mir_line.specs.declared.form.BodyLine.TheVariants.{Item as OfItem}
-use Rattle.mir_line.specs.declared.form.ItemForm.{ItemForm}
-use Rattle.mir_line.specs.Body.{body_line_of}
-use Rattle.mir_item.specs.declared.judged.Judged.TheVariants as judged_as
-use Rattle.mir_item.specs.declared.judged.JudgedItem.{JudgedItem}
-use Rattle.mir_item.specs.declared.debug.MarkForm.{MarkForm}
-use Rattle.mir_item.specs.declared.debug.PhiForm.{PhiForm}
-use Rattle.mir_item.specs.declared.opcode.DebugOpcode.{DebugOpcode}
-use Rattle.mir_item.specs.declared.opcode.DebugOpcode.TheVariants as debug
-use Rattle.mir_item.specs.declared.opcode.Opcode.{Opcode}
-use Rattle.mir_item.specs.declared.opcode.Opcode.TheVariants as opcodes
-use Rattle.mir_item.specs.Code.{MAX_OPERANDS, code_of}
-use Rattle.mir_item.specs.Debug.{value_mark, reference_mark, list_mark, phi_of, inlined_at, mark_kind, phi_kind, debug_kind, debug_of}
-use Rattle.mir_item.specs.Judge.{entries_of, numbered, item_of, passed_if, judged_by, judged}
-use Rattle.mir_item.specs.Opcode.{opcode_of}
-use Rattle.mir_body.specs.Met.{is_met}
-use Rattle.mir_parser.specs.Limited.{IsLimited, LocIsLimited}
-use Rattle.mir_parser.specs.Objects.{operand_as, operands_as, instr_as}
-use Rattle.mir_parser.proofs.Forms.{line_fits}
-use Rattle.mir_parser.proofs.Items.{IsReadItem, item_reads}
-use Rattle.mir_parser.proofs.Judged.{code_line, debug_line, judged_line}
-use Rattle.mir_parser.proofs.Operands.{NamesAmong}
-use Rattle.mir_parser.proofs.Printed.{form_kept, renamed}
+use Rattle.read_line.specs.declared.form.BodyLine.TheVariants.{Item as OfItem}
+use Rattle.read_line.specs.declared.form.ItemForm.{ItemForm}
+use Rattle.read_line.specs.Body.{body_line_of}
+use Rattle.read_item.specs.declared.judged.Judged.TheVariants as judged_as
+use Rattle.read_item.specs.declared.judged.JudgedItem.{JudgedItem}
+use Rattle.read_item.specs.declared.debug.MarkForm.{MarkForm}
+use Rattle.read_item.specs.declared.debug.PhiForm.{PhiForm}
+use Rattle.read_item.specs.declared.opcode.DebugOpcode.{DebugOpcode}
+use Rattle.read_item.specs.declared.opcode.DebugOpcode.TheVariants as debug
+use Rattle.read_item.specs.declared.opcode.Opcode.{Opcode}
+use Rattle.read_item.specs.declared.opcode.Opcode.TheVariants as opcodes
+use Rattle.read_item.specs.Code.{MAX_OPERANDS, code_of}
+use Rattle.read_item.specs.Debug.{value_mark, reference_mark, list_mark, phi_of, inlined_at, mark_kind, phi_kind, debug_kind, debug_of}
+use Rattle.read_item.specs.Judge.{entries_of, numbered, item_of, passed_if, judged_by, judged}
+use Rattle.read_item.specs.Opcode.{opcode_of}
+use Rattle.read_body.specs.Met.{is_met}
+use Rattle.read_program.specs.Limited.{IsLimited, LocIsLimited}
+use Rattle.read_program.specs.Objects.{operand_as, operands_as, instr_as}
+use Rattle.read_program.proofs.Forms.{line_fits}
+use Rattle.read_program.proofs.Items.{IsReadItem, item_reads}
+use Rattle.read_program.proofs.Judged.{code_line, debug_line, judged_line}
+use Rattle.read_program.proofs.Operands.{NamesAmong}
+use Rattle.read_program.proofs.Printed.{form_kept, renamed}
 use Rattle.code_read_back.specs.Code.{judged_instruction, IsCode}
 use Rattle.objects_read_back.proofs.Again.{code_is_judged_again}
 use Rattle.readable_items.proofs.Few.{few_operands}

@@ -5,15 +5,15 @@ use Rattle.std.specs.Prelude.{codes}
 use Rattle.std.specs.Fmt.{decimal}
 use Rattle.std.proofs.lemmas.Bool.Decides.{nat_tests}
 use Rattle.std.proofs.lemmas.List.Elements.{All-nil, All-cons, All-head, All-tail, All-append, All-map, All-weaker}
-use Rattle.numbers.specs.Limits.{MAX_NUMBER}
-use Rattle.mir_frame.specs.declared.key.Key.TheVariants.{Name, Stack}
-use Rattle.mir_frame.specs.Key.{heading}
+use Rattle.base_ids.specs.Limits.{MAX_NUMBER}
+use Rattle.read_documents.specs.declared.key.Key.TheVariants.{Name, Stack}
+use Rattle.read_documents.specs.Key.{heading}
 use Rattle.mir_func.specs.declared.block.Block.{Block}
 use Rattle.mir_func.specs.declared.item.Item.{Item}
 use Rattle.mir_func.specs.declared.object.Object.{Object}
 use Rattle.mir_func.specs.Sound.{items_of}
-use Rattle.mir_declarations.specs.Stack.{is_alignment}
-use Rattle.mir_parser.proofs.Lists.{All-front}
+use Rattle.read_declarations.specs.Stack.{is_alignment}
+use Rattle.read_program.proofs.Lists.{All-front}
 use Rattle.read_back.specs.Laws.{IsWritable}
 use Rattle.body_read_back.specs.Body.{label_line, item_line, block_lines, body_lines}
 use Rattle.body_read_back.proofs.Room.{all_behind}

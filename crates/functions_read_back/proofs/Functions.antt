@@ -3,14 +3,14 @@ use Rattle.std.proofs.Common.{◌≡◌, ℕ, ◌+◌, ◌≤◌, Bool, true, fa
 use Rattle.std.proofs.Common.{refl, sym, ap, subst, ◌∙◌, arith}
 use Rattle.std.specs.Prelude.{is_some, IfSome}
 use Rattle.std.proofs.lemmas.List.Elements.{All-nil, All-cons, All-head, All-tail, All-map, All-weaker}
-use Rattle.refusal.specs.declared.first.Refusal.{Refusal}
-use Rattle.refusal.specs.declared.kind.RefusalKind.TheVariants.{StackObject, UnknownBlock}
-use Rattle.refusal.specs.First.{earlier}
+use Rattle.read_refusal.specs.declared.first.Refusal.{Refusal}
+use Rattle.read_refusal.specs.declared.kind.RefusalKind.TheVariants.{StackObject, UnknownBlock}
+use Rattle.read_refusal.specs.First.{earlier}
 use Rattle.rv64_instr.specs.Instruction.{Instruction}
-use Rattle.meta_reader.specs.Maps.{Maps}
-use Rattle.numbers.specs.Limits.{MAX_NUMBER}
-use Rattle.mir_lexer.specs.declared.line.Line.{Line}
-use Rattle.mir_frame.specs.declared.parts.FunctionDocument.{FunctionDocument}
+use Rattle.read_metadata.specs.Maps.{Maps}
+use Rattle.base_ids.specs.Limits.{MAX_NUMBER}
+use Rattle.read_lexer.specs.declared.line.Line.{Line}
+use Rattle.read_documents.specs.declared.parts.FunctionDocument.{FunctionDocument}
 use Rattle.mir_func.specs.declared.block.Block.{Block}
 use Rattle.mir_func.specs.declared.item.Item.{Item}
 use Rattle.mir_func.specs.declared.item.ItemKind.TheVariants.{Code}
@@ -20,30 +20,30 @@ use Rattle.mir_func.specs.Objects.{object_of}
 use Rattle.mir_func.specs.Sound.{AllItems, items_of, number_of, IsSound}
 use Rattle.mir_func.specs.Strip.{stripped_block, stripped}
 use Rattle.mir_func.proofs.Stripping.{stripped_sound}
-use Rattle.mir_declarations.specs.declared.declarations.Declarations.{Declarations}
-use Rattle.mir_declarations.specs.Declarations.{fixed_refusal, checked, declarations_of}
-use Rattle.mir_declarations.specs.Entry.{entries_from}
-use Rattle.mir_declarations.specs.List.{list_in}
-use Rattle.mir_declarations.specs.Stream.{stream_from}
-use Rattle.mir_declarations.specs.Substitutions.{substitutions_behind, substitutions_of}
-use Rattle.mir_body.specs.declared.body.Body.{Body}
-use Rattle.mir_body.specs.Body.{constant_of, blocks_of}
-use Rattle.mir_body.specs.Closing.{blocks_go_to, all_met}
-use Rattle.mir_body.specs.Frame.{ids_of_objects}
-use Rattle.mir_body.specs.Met.{is_met}
-use Rattle.mir_parser.specs.declared.closing.Parsed.{Parsed}
-use Rattle.mir_parser.specs.declared.closing.Parts.{Parts}
-use Rattle.mir_parser.specs.declared.error.ParseError.{ParseError}
-use Rattle.mir_parser.specs.BodyLines.{body_of}
-use Rattle.mir_parser.specs.Closing.{entry_ids, laid_out, stays, parts_of, closing_cause, function_of, EndWell, Closes, ParsesParts, Parses}
-use Rattle.mir_parser.specs.Objects.{instr_as, kind_as, item_as, block_as, blocks_as, blocks_stay}
-use Rattle.mir_parser.proofs.Bodies.{IsReadBlock, IsReadBody, ComesFromLine, body_reads}
-use Rattle.mir_parser.proofs.Entries.{declared_if_met, ids_are_objects}
-use Rattle.mir_parser.proofs.Lists.{both, All-front}
-use Rattle.mir_parser.proofs.Soundness.{sound_if_ends_well}
-use Rattle.mir_parser.proofs.Stack.{IsReadEntry, declared_stack}
-use Rattle.reading_laws.proofs.Labels.{ids_small, blocks_small}
-use Rattle.reading_laws.proofs.Numbers.{HasSmallId, declares_small}
+use Rattle.read_declarations.specs.declared.declarations.Declarations.{Declarations}
+use Rattle.read_declarations.specs.Declarations.{fixed_refusal, checked, declarations_of}
+use Rattle.read_declarations.specs.Entry.{entries_from}
+use Rattle.read_declarations.specs.List.{list_in}
+use Rattle.read_declarations.specs.Stream.{stream_from}
+use Rattle.read_declarations.specs.Substitutions.{substitutions_behind, substitutions_of}
+use Rattle.read_body.specs.declared.body.Body.{Body}
+use Rattle.read_body.specs.Body.{constant_of, blocks_of}
+use Rattle.read_body.specs.Closing.{blocks_go_to, all_met}
+use Rattle.read_body.specs.Frame.{ids_of_objects}
+use Rattle.read_body.specs.Met.{is_met}
+use Rattle.read_program.specs.declared.closing.Parsed.{Parsed}
+use Rattle.read_program.specs.declared.closing.Parts.{Parts}
+use Rattle.read_program.specs.declared.error.ParseError.{ParseError}
+use Rattle.read_program.specs.BodyLines.{body_of}
+use Rattle.read_program.specs.Closing.{entry_ids, laid_out, stays, parts_of, closing_cause, function_of, EndWell, Closes, ParsesParts, Parses}
+use Rattle.read_program.specs.Objects.{instr_as, kind_as, item_as, block_as, blocks_as, blocks_stay}
+use Rattle.read_program.proofs.Bodies.{IsReadBlock, IsReadBody, ComesFromLine, body_reads}
+use Rattle.read_program.proofs.Entries.{declared_if_met, ids_are_objects}
+use Rattle.read_program.proofs.Lists.{both, All-front}
+use Rattle.read_program.proofs.Soundness.{sound_if_ends_well}
+use Rattle.read_program.proofs.Stack.{IsReadEntry, declared_stack}
+use Rattle.read_proof.proofs.Labels.{ids_small, blocks_small}
+use Rattle.read_proof.proofs.Numbers.{HasSmallId, declares_small}
 use Rattle.read_back.specs.Laws.{HasByteNames, IsWritable}
 use Rattle.body_read_back.specs.Body.{body_lines, texts_of, entries_named, judged_constant, VariableIn, IsReadableItem, AreWithin, ReadsBlocks}
 use Rattle.body_read_back.proofs.Bodies.{bodies_read_back}

@@ -1,15 +1,15 @@
 -- The document of a function without its debug items, and what is read of it.
 use Rattle.std.specs.Prelude.{ℕ, ◌+◌, ◌<◌, List, [], ◌∷◌, length, map, All, Ok}
-use Rattle.meta_reader.specs.Maps.{Maps}
-use Rattle.mir_frame.specs.declared.parts.FunctionDocument.{FunctionDocument}
+use Rattle.read_metadata.specs.Maps.{Maps}
+use Rattle.read_documents.specs.declared.parts.FunctionDocument.{FunctionDocument}
 use Rattle.mir_func.specs.declared.block.Block.{Block}
 use Rattle.mir_func.specs.declared.item.Item.{Item}
 use Rattle.mir_func.specs.declared.position.Origin.TheVariants.{Kept}
 use Rattle.mir_func.specs.Function.{Function}
 use Rattle.mir_func.specs.Sound.{AllItems}
 use Rattle.mir_func.specs.Strip.{stripped}
-use Rattle.mir_parser.specs.declared.closing.Parsed.{Parsed}
-use Rattle.mir_parser.specs.Closing.{Parses}
+use Rattle.read_program.specs.declared.closing.Parsed.{Parsed}
+use Rattle.read_program.specs.Closing.{Parses}
 use Rattle.read_back.specs.Laws.{HasByteNames}
 use Rattle.body_read_back.specs.Body.{body_lines}
 use Rattle.documents_read_back.specs.Document.{Document, IsDocument, document_at}

@@ -9,10 +9,10 @@ use Rattle.std.specs.FinMap.{get-from_entries}
 use Rattle.std.proofs.lemmas.List.Elements.{All-nil, All-cons, All-weaker}
 use Rattle.rv64_instr.specs.declared.operand.Operand.{Operand}
 use Rattle.rv64_instr.specs.Form.{has_12_bits}
-use Rattle.meta_reader.specs.declared.node.LocationNode.{LocationNode}
-use Rattle.meta_reader.specs.declared.node.Node.{Node}
-use Rattle.meta_reader.specs.Maps.{Maps}
-use Rattle.meta_reader.specs.Metadata.{metadata_of, location_at, as_location}
+use Rattle.read_metadata.specs.declared.node.LocationNode.{LocationNode}
+use Rattle.read_metadata.specs.declared.node.Node.{Node}
+use Rattle.read_metadata.specs.Maps.{Maps}
+use Rattle.read_metadata.specs.Metadata.{metadata_of, location_at, as_location}
 use Rattle.mir_func.specs.declared.block.Block.{Block}
 use Rattle.mir_func.specs.declared.item.Item.{Item}
 use Rattle.mir_func.specs.declared.item.ItemKind.{ItemKind}
@@ -22,15 +22,15 @@ use Rattle.mir_func.specs.declared.object.Object.{Object}
 use Rattle.mir_func.specs.declared.position.Origin.TheVariants.{Kept}
 use Rattle.mir_func.specs.Sound.{HasForm}
 use Rattle.mir_func.specs.SoundFrame.{IsPhysical, HasPhysical}
-use Rattle.mir_gen.specs.Generator.{generated}
-use Rattle.mir_gen.proofs.Sound.{generated_is_sound}
-use Rattle.mir_item.specs.Debug.{inlined_at_node}
-use Rattle.mir_parser.specs.declared.closing.Parsed.{Parsed}
-use Rattle.mir_parser.specs.declared.program.Program.{Program}
-use Rattle.mir_parser.specs.Limited.{IsLimited, KindIsLimited, LocIsLimited}
+use Rattle.gen_function.specs.Generator.{generated}
+use Rattle.gen_function.proofs.Sound.{generated_is_sound}
+use Rattle.read_item.specs.Debug.{inlined_at_node}
+use Rattle.read_program.specs.declared.closing.Parsed.{Parsed}
+use Rattle.read_program.specs.declared.program.Program.{Program}
+use Rattle.read_program.specs.Limited.{IsLimited, KindIsLimited, LocIsLimited}
 use Rattle.mir_printer.specs.Printable.{Declared, IsNumber, HasNumbers, IsAsDeclared, IsPrintable, IsPrintableKind, IsPrintableLoc}
-use Rattle.numbers.specs.Limits.{MAX_NUMBER}
-use Rattle.reading_laws.specs.Read.{declared_in, EntryIsLimited, IsReadFunction, IsReadProgram}
+use Rattle.base_ids.specs.Limits.{MAX_NUMBER}
+use Rattle.read_proof.specs.Read.{declared_in, EntryIsLimited, IsReadFunction, IsReadProgram}
 use Rattle.generated_program.specs.Program.{generated_program}
 use Rattle.generated_runs.proofs.Made.{IsMade, adds, copies, gives, sets, stores, loads, phis, marks, branches, jumps, returns, IsMadeItem, IsMadeBlock}
 use Rattle.generated_runs.proofs.Made.{few_items}

@@ -2,15 +2,15 @@
 
 ghost use Rattle.std.specs.Prelude.{◌≡◌, ◌<◌, ◌≤◌, IfOk};
 ghost use Rattle.generated_program.specs.Program.{generated_program};
-ghost use Rattle.reading_laws.specs.Read.{IsReadProgram};
+ghost use Rattle.read_proof.specs.Read.{IsReadProgram};
 
-use meta_reader::metadata::read_meta;
-use mir_gen::generator::generate;
-use mir_lexer::line::Lines;
-use mir_parser::closing::Parsed;
-use mir_parser::program::{ParsedFunctions, Program};
+use read_metadata::metadata::read_meta;
+use gen_function::generator::generate;
+use read_lexer::line::Lines;
+use read_program::closing::Parsed;
+use read_program::program::{ParsedFunctions, Program};
 use std::alloc::{AllocError, Global};
-use substitution::substitutions::Substitutions;
+use mir_substitution::substitutions::Substitutions;
 
 /// The program whose one function is generated from a number below 65,537, with 1 to 512 blocks. It has no metadata and
 /// no substitutions.

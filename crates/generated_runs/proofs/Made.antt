@@ -12,11 +12,11 @@ use Rattle.mir_func.specs.declared.item.ItemKind.{ItemKind}
 use Rattle.mir_func.specs.declared.location.Loc.TheVariants.{Absent}
 use Rattle.mir_func.specs.declared.position.Origin.TheVariants.{Kept}
 use Rattle.mir_func.specs.Sound.{items_of}
-use Rattle.mir_gen.specs.Draws.{Drawn, next, draw}
-use Rattle.mir_gen.specs.Items.{register_of, variable_of, add, copy, constant, store, load, phi, mark, branch, jump, return}
-use Rattle.mir_gen.specs.Generator.{group_of, group, groups, last_end, end_of, end, beginning, block_items, placed, block_of, blocks_made}
-use Rattle.mir_gen.proofs.Given.{groups_give, blocks_give}
-use Rattle.mir_gen.proofs.Placing.{item_at, length-placed}
+use Rattle.gen_function.specs.Draws.{Drawn, next, draw}
+use Rattle.gen_function.specs.Items.{register_of, variable_of, add, copy, constant, store, load, phi, mark, branch, jump, return}
+use Rattle.gen_function.specs.Generator.{group_of, group, groups, last_end, end_of, end, beginning, block_items, placed, block_of, blocks_made}
+use Rattle.gen_function.proofs.Given.{groups_give, blocks_give}
+use Rattle.gen_function.proofs.Placing.{item_at, length-placed}
 
 -- a register of a generated function: a physical one, and not x0
 abbrev pub IsDrawn : ℕ → Type 0

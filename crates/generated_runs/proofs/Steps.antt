@@ -27,15 +27,15 @@ use Rattle.mir_func.specs.declared.item.ItemKind.TheVariants.{Code, Mark, Phi}
 use Rattle.mir_func.specs.declared.position.Pos.{Pos}
 use Rattle.mir_func.specs.Graph.{Fetch, Here, Silent, Outside, Program, below, block_start, end_of, front, fetch_in, from_block, program_of}
 use Rattle.mir_func.specs.Sound.{AllItems}
-use Rattle.mir_meaning.specs.Follow.{first_of}
-use Rattle.mir_meaning.specs.State.{Core, State, content, put, updated}
-use Rattle.mir_meaning.specs.Step.{Went, Returned, Faulted, Waits, Lost, Outcome, Falls, Goes, Gives, Traps, Asks, Breaks, moved, read, set_register}
-use Rattle.mir_meaning.specs.Step.{slot_loaded, does, are_written, act, with_core, numbered, do_item, do_fetch, Next, after, step, run}
-use Rattle.mir_meaning.proofs.Places.{put_same, put_other, updated_same, updated_other}
-use Rattle.mir_gen.specs.Draws.{Drawn}
-use Rattle.mir_gen.specs.Items.{copy, store}
-use Rattle.mir_gen.specs.Generator.{blocks_made}
-use Rattle.mir_gen.proofs.Placing.{item_at}
+use Rattle.sem_mir.specs.Follow.{first_of}
+use Rattle.sem_mir.specs.State.{Core, State, content, put, updated}
+use Rattle.sem_mir.specs.Step.{Went, Returned, Faulted, Waits, Lost, Outcome, Falls, Goes, Gives, Traps, Asks, Breaks, moved, read, set_register}
+use Rattle.sem_mir.specs.Step.{slot_loaded, does, are_written, act, with_core, numbered, do_item, do_fetch, Next, after, step, run}
+use Rattle.sem_mir.proofs.Places.{put_same, put_other, updated_same, updated_other}
+use Rattle.gen_function.specs.Draws.{Drawn}
+use Rattle.gen_function.specs.Items.{copy, store}
+use Rattle.gen_function.specs.Generator.{blocks_made}
+use Rattle.gen_function.proofs.Placing.{item_at}
 use Rattle.generated_runs.specs.Laws.{GeneratedRunsDontFault, MarksWhole, GeneratedFunctionsMarkWholes}
 use Rattle.generated_runs.proofs.Made.{IsMade, adds, copies, gives, sets, stores, loads, phis, marks, branches, jumps, returns}
 use Rattle.generated_runs.proofs.Made.{IsMadeItem, IsMadeBlock, blocks_are_made, BeginsByStoring, begins_by_storing}

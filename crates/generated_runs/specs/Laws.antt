@@ -6,10 +6,10 @@ use Rattle.mir_func.specs.declared.item.ItemKind.TheVariants.{Code, Mark, Phi}
 use Rattle.mir_func.specs.Function.{Function}
 use Rattle.mir_func.specs.Graph.{program_of}
 use Rattle.mir_func.specs.Sound.{AllItems}
-use Rattle.mir_meaning.specs.Follow.{first_of, IsStart}
-use Rattle.mir_meaning.specs.State.{State}
-use Rattle.mir_meaning.specs.Step.{Faulted, run}
-use Rattle.mir_gen.specs.Generator.{generated}
+use Rattle.sem_mir.specs.Follow.{first_of, IsStart}
+use Rattle.sem_mir.specs.State.{State}
+use Rattle.sem_mir.specs.Step.{Faulted, run}
+use Rattle.gen_function.specs.Generator.{generated}
 
 -- no run of the function from a start stops on a frame fault, whatever its pairs resolve to
 abbrev pub NeverFaults : Function → (OperandPair → Option OperandPair) → Type 0

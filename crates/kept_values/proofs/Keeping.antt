@@ -10,9 +10,9 @@ use Rattle.mir_func.specs.declared.item.Item.{Item}
 use Rattle.mir_func.specs.declared.item.ItemKind.{ItemKind}
 use Rattle.mir_func.specs.declared.item.ItemKind.TheVariants.{Mark}
 use Rattle.mir_func.specs.Graph.{Program, Fetch, Here, Edge, below, block_start}
-use Rattle.mir_meaning.specs.Token.{Token, Tokens, Path, onward, after_fetch, Sits, SitsIn, IsPlace, NoneIsWanted, mark_token, place_token, variable_token}
-use Rattle.path_tokens.specs.Pullback.{OfVariable, token_of, token_back, Was, back}
-use Rattle.path_tokens.proofs.Backwards.{tokens_pull_back}
+use Rattle.sem_mir.specs.Token.{Token, Tokens, Path, onward, after_fetch, Sits, SitsIn, IsPlace, NoneIsWanted, mark_token, place_token, variable_token}
+use Rattle.sem_value_ids.specs.Pullback.{OfVariable, token_of, token_back, Was, back}
+use Rattle.sem_value_ids.proofs.Backwards.{tokens_pull_back}
 use Rattle.class_paths.specs.Wanted.{thing_at}
 use Rattle.class_paths.proofs.Passing.{path_above}
 use Rattle.kept_values.specs.Kept.{LeavesAlone, IsKept, here, down, IsToldAndKept, KeptValuesSit, KeptValuesAreWanted}

@@ -17,9 +17,9 @@ use Rattle.mir_func.specs.declared.variable.MarkValue.TheVariants.{Nothing, Cons
 use Rattle.mir_func.specs.declared.item.ItemKind.{ItemKind}
 use Rattle.mir_func.specs.declared.item.ItemKind.TheVariants.{Code, Mark, Phi}
 use Rattle.mir_func.specs.Variables.{is_same, overlaps}
-use Rattle.mir_meaning.specs.Token.{Tokens, mark_token, pair_token, place_token, sets_pointer}
-use Rattle.mir_meaning.proofs.Assignments.{same_refl}
-use Rattle.path_tokens.specs.Pullback.{
+use Rattle.sem_mir.specs.Token.{Tokens, mark_token, pair_token, place_token, sets_pointer}
+use Rattle.sem_mir.proofs.Assignments.{same_refl}
+use Rattle.sem_value_ids.specs.Pullback.{
   Tracked,
   InRegister,
   InSlot,

@@ -12,7 +12,7 @@ use Rattle.mir_func.specs.declared.item.ItemKind.{ItemKind}
 use Rattle.mir_func.specs.declared.item.ItemKind.TheVariants.{Code, Mark, Phi}
 use Rattle.mir_func.specs.Graph.{Program, Here, Edge, below, block_start}
 use Rattle.mir_func.specs.Variables.{is_same, overlaps}
-use Rattle.mir_meaning.specs.Token.{IsPlace, Sits, SitsIn, NoneIsWanted, mark_token, place_token, sets_pointer}
+use Rattle.sem_mir.specs.Token.{IsPlace, Sits, SitsIn, NoneIsWanted, mark_token, place_token, sets_pointer}
 
 -- code leaves a place alone: it doesn't set it, nor the stack pointer over a frame slot. A constant is always left alone
 abbrev pub LeavesPlace : Row → Place → Type 0

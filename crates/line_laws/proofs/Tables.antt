@@ -1,9 +1,9 @@
 -- What the line number table of functions that lie one after the other says of the addresses of their code.
 use Rattle.std.proofs.Common.{◌≡◌, ℕ, List, sym, subst, ap, ◌∙◌, Contains}
 use Rattle.std.specs.List.{flat_map}
-use Rattle.code_words.specs.declared.code.Entry.{Entry}
+use Rattle.emit_code.specs.declared.code.Entry.{Entry}
 use Rattle.dwarf_line.specs.declared.table.Row.{Row}
-use Rattle.meta_reader.specs.Maps.{Maps}
+use Rattle.read_metadata.specs.Maps.{Maps}
 use Rattle.source_lines.specs.declared.compiled.Compiled.{Compiled}
 use Rattle.source_lines.specs.declared.file.SourceFile.{SourceFile}
 use Rattle.source_lines.specs.Files.{number_in}

@@ -1,9 +1,9 @@
 -- What holds of the line number table of a program.
 use Rattle.std.specs.Prelude.{◌≡◌, ℕ, ◌+◌, ◌<◌, ◌≤◌, List, [], ◌∷◌, Contains}
-use Rattle.code_words.specs.declared.code.Entry.{Entry}
-use Rattle.code_words.specs.Laid.{StandFrom}
+use Rattle.emit_code.specs.declared.code.Entry.{Entry}
+use Rattle.emit_code.specs.Laid.{StandFrom}
 use Rattle.dwarf_line.specs.declared.table.Row.{Row}
-use Rattle.meta_reader.specs.Maps.{Maps}
+use Rattle.read_metadata.specs.Maps.{Maps}
 use Rattle.source_lines.specs.declared.compiled.Compiled.{Compiled}
 use Rattle.source_lines.specs.Lines.{no_line, scope_line, loc_of, position_of}
 use Rattle.source_lines.specs.Program.{program_file, function_end, table_of}

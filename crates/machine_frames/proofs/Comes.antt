@@ -23,14 +23,14 @@ use Rattle.mir_func.specs.Function.{Function}
 use Rattle.mir_func.specs.Graph.{Fetch, Here, Silent, Outside, Program, below, front, fetch_in, from_block, program_of}
 use Rattle.mir_func.specs.Sound.{ids_of}
 use Rattle.mir_func.specs.SoundFrame.{IsFramed}
-use Rattle.mir_meaning.specs.Align.{position_of, is_code}
-use Rattle.mir_meaning.specs.Follow.{class_of, Class, Return, Odd, MayAdd, ItemHasClass, HasClass, RowFits, KindFits, next_rank, InOrder, Among, none}
-use Rattle.mir_meaning.specs.Follow.{same, left}
-use Rattle.mir_meaning.specs.State.{Core, content}
-use Rattle.mir_meaning.specs.Step.{Outcome, Falls, Goes, Gives, Traps, Asks, Breaks, Faulted, act, does, read, numbered, with_core, do_item, do_fetch, moved}
-use Rattle.mir_meaning.specs.Step.{step}
-use Rattle.mir_meaning.proofs.Reading.{found_in, front_item}
-use Rattle.simulation.proofs.Order.{rank_high}
+use Rattle.sem_mir.specs.Align.{position_of, is_code}
+use Rattle.sem_mir.specs.Follow.{class_of, Class, Return, Odd, MayAdd, ItemHasClass, HasClass, RowFits, KindFits, next_rank, InOrder, Among, none}
+use Rattle.sem_mir.specs.Follow.{same, left}
+use Rattle.sem_mir.specs.State.{Core, content}
+use Rattle.sem_mir.specs.Step.{Outcome, Falls, Goes, Gives, Traps, Asks, Breaks, Faulted, act, does, read, numbered, with_core, do_item, do_fetch, moved}
+use Rattle.sem_mir.specs.Step.{step}
+use Rattle.sem_mir.proofs.Reading.{found_in, front_item}
+use Rattle.sem_simulation.proofs.Order.{rank_high}
 use Rattle.machine_steps.specs.Laid.{fetched}
 use Rattle.machine_steps.proofs.Points.{got, dropped}
 use Rattle.machine_steps.proofs.Rows.{acts}
@@ -176,11 +176,11 @@ past_items xs k bs i e = none_at xs (front_item xs (length xs) k bs i e) where
 among_has : {fs bs : List Block} → Among fs bs → (b : Block) → Contains fs b → (c : Block) × Contains bs c × (c.id ≡ b.id) × (c.silent ≡ b.silent)
 among_has none b (k, lt, e) = absurd (omega (arith, lt))
 among_has (same {a} {b} {rest} {bs} id silent more) x (zero, lt, e) =
-    (b, Rattle.mir_meaning.proofs.Places.contains_head b bs, sym id ∙ ap (λ (z : Block). z.id) e, sym silent ∙ ap (λ (z : Block). z.silent) e)
+    (b, Rattle.sem_mir.proofs.Places.contains_head b bs, sym id ∙ ap (λ (z : Block). z.id) e, sym silent ∙ ap (λ (z : Block). z.silent) e)
 among_has (same {a} {b} {rest} {bs} id silent more) x (suc k, lt, e) =
     let h = among_has more x (k, omega (arith, lt), e) in
-    (h.0, Rattle.mir_meaning.proofs.Places.contains_tail b h.0 bs h.1, h.2, h.3)
-among_has (left {b} {rest} {bs} more) x m = let h = among_has more x m in (h.0, Rattle.mir_meaning.proofs.Places.contains_tail b h.0 bs h.1, h.2, h.3)
+    (h.0, Rattle.sem_mir.proofs.Places.contains_tail b h.0 bs h.1, h.2, h.3)
+among_has (left {b} {rest} {bs} more) x m = let h = among_has more x m in (h.0, Rattle.sem_mir.proofs.Places.contains_tail b h.0 bs h.1, h.2, h.3)
 
 module _ (source f : Function) (resolve fresolve : OperandPair → Option OperandPair) (made : IsMadeFrom source f resolve fresolve) where
   abbrev src : Program
@@ -190,7 +190,7 @@ module _ (source f : Function) (resolve fresolve : OperandPair → Option Operan
   pub silent_never : (b : Block) → Contains f.blocks b → (q : Pos) → q.block ≡ b.id → q.item ≡ b.silent → (i : Item) → src.fetch q ≡ Here i → ⊥
   silent_never b member q at item i e =
       let a = among_has made.shape.among b member in
-      let fd = Rattle.mir_meaning.proofs.Reading.found source.blocks made.read.apart a.0 a.1 in
+      let fd = Rattle.sem_mir.proofs.Reading.found source.blocks made.read.apart a.0 a.1 in
       let len : a.0.silent ≡ length a.0.items = All-contains (λ (c : Block). c.silent ≡ length c.items) source.blocks a.0 made.read.silent a.1 in
       let from : from_block source.blocks q.block ≡ a.0 ∷ fd.rest = ap (from_block source.blocks) (at ∙ sym a.2) ∙ fd.at in
       let k : q.item ≡ length a.0.items = item ∙ sym a.3 ∙ len in
@@ -209,7 +209,7 @@ module _ (source f : Function) (resolve fresolve : OperandPair → Option Operan
         ap (λ (x : Fetch). moved src.enter s.pos (do_fetch src x s.core)) here ∙ ap (λ (x : ItemKind). moved src.enter s.pos (do_item src x s.core)) ek in
         let physical = subst KindReturnsPhysical ek (of_source q i f) in
         return_goes (row_of c) s.core kinds physical w
-        (with_traps j (act (row_of c) s.core) (Rattle.simulation.proofs.Outcomes.faults_traps src.enter s.pos (with_core j (act (row_of c) s.core)) (sym go ∙
+        (with_traps j (act (row_of c) s.core) (Rattle.sem_simulation.proofs.Outcomes.faults_traps src.enter s.pos (with_core j (act (row_of c) s.core)) (sym go ∙
         e))) where
           of_source : (q : Pos) (i : Item) → src.fetch q ≡ Here i → KindReturnsPhysical i.kind
           of_source q i e = by_blocks (from_block source.blocks q.block) refl e where

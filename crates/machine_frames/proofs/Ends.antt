@@ -14,9 +14,9 @@ use Rattle.mir_func.specs.declared.position.Origin.TheVariants.{Kept, Before}
 use Rattle.mir_func.specs.declared.position.Pos.{Pos}
 use Rattle.mir_func.specs.Exits.{row_exit, exit_of, is_final}
 use Rattle.mir_func.specs.Sound.{EndsWell, MayFollow}
-use Rattle.mir_meaning.specs.Align.{position_of, is_code, is_jump, is_jump_row, waits_at}
-use Rattle.mir_meaning.specs.Follow.{OnRow, MayAdd, next_rank}
-use Rattle.mir_meaning.specs.Follow.{Counts}
+use Rattle.sem_mir.specs.Align.{position_of, is_code, is_jump, is_jump_row, waits_at}
+use Rattle.sem_mir.specs.Follow.{OnRow, MayAdd, next_rank}
+use Rattle.sem_mir.specs.Follow.{Counts}
 
 pub jump_always : (k : ItemKind) → is_jump k ≡ true → (n : ℕ) × (exit_of k ≡ Always n)
 jump_always (Mark v m) e = cc

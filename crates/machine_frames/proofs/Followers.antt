@@ -25,10 +25,10 @@ use Rattle.mir_func.specs.declared.variable.VarId.{VarId}
 use Rattle.mir_func.specs.Function.{Function}
 use Rattle.mir_func.specs.Graph.{program_of, framed_program}
 use Rattle.mir_func.specs.Sound.{HasForm}
-use Rattle.mir_meaning.specs.Follow.{Follows, IsStart, first_of}
-use Rattle.simulation.proofs.Words.{words_follow}
+use Rattle.sem_mir.specs.Follow.{Follows, IsStart, first_of}
+use Rattle.sem_simulation.proofs.Words.{words_follow}
 use Rattle.frame_rule.specs.Rule.{framed_of}
-use Rattle.frame_runs.proofs.FrameFollows.{frame_follows}
+use Rattle.frame_proof.proofs.FrameFollows.{frame_follows}
 use Rattle.machine_runs.specs.Runs.{start_beside}
 use Rattle.machine_runs.proofs.Headline.{laid_code_meets_the_headline}
 use Rattle.machine_frames.specs.Framing.{ResultsArePhysical, KindReturnsPhysical, IsMadeFrom, IsInner}

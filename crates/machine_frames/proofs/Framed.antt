@@ -17,8 +17,8 @@ use Rattle.mir_func.specs.Exits.{row_exit, exit_of, is_final}
 use Rattle.mir_func.specs.Function.{Function}
 use Rattle.mir_func.specs.Graph.{Here, block_start}
 use Rattle.mir_func.specs.SoundFrame.{adds_to_pointer, saves, restores, prologue_code, epilogue_code}
-use Rattle.mir_meaning.specs.Align.{position_of}
-use Rattle.mir_meaning.specs.Follow.{rank, next_rank, InOrder}
+use Rattle.sem_mir.specs.Align.{position_of}
+use Rattle.sem_mir.specs.Follow.{rank, next_rank, InOrder}
 use Rattle.frame_rule.specs.Rule.{size_of, saved_of, added, added_all, position_in, prologue, epilogue, renamed, framed_item, framed_items}
 use Rattle.frame_rule.specs.Rule.{framed_block, framed_blocks, framed_of}
 use Rattle.machine_steps.specs.Laid.{fetched}

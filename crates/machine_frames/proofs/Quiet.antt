@@ -22,9 +22,9 @@ use Rattle.mir_func.specs.Function.{Function}
 use Rattle.mir_func.specs.Graph.{Here, Program, below, program_of}
 use Rattle.mir_func.specs.Sound.{ids_of}
 use Rattle.mir_func.specs.SoundFrame.{IsFramed}
-use Rattle.mir_meaning.specs.Align.{position_of, is_code}
-use Rattle.mir_meaning.specs.Follow.{MarkFits, rank, next_rank}
-use Rattle.simulation.proofs.Order.{rank_high}
+use Rattle.sem_mir.specs.Align.{position_of, is_code}
+use Rattle.sem_mir.specs.Follow.{MarkFits, rank, next_rank}
+use Rattle.sem_simulation.proofs.Order.{rank_high}
 use Rattle.machine_steps.specs.Laid.{fetched}
 use Rattle.machine_steps.proofs.Points.{got, dropped}
 use Rattle.machine_runs.specs.Runs.{AssignsNothing, FallsTo, ComesFrom}

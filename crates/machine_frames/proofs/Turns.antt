@@ -21,21 +21,21 @@ use Rattle.mir_func.specs.Function.{Function}
 use Rattle.mir_func.specs.Graph.{Fetch, Here, Silent, Outside, Program, below, block_start, fetch_in, program_of, framed_program, Leads}
 use Rattle.mir_func.specs.Sound.{EndsWell}
 use Rattle.mir_func.specs.SoundFrame.{body_of, IsFramed}
-use Rattle.mir_meaning.specs.Align.{position_of, is_code, is_jump, is_jump_row}
-use Rattle.mir_meaning.specs.Follow.{OnRow, KindFits, RowFits, HasClass, rank, next_rank, InOrder}
-use Rattle.mir_meaning.specs.State.{State}
-use Rattle.mir_meaning.specs.Step.{Outcome, Falls, Goes, Gives, Traps, Asks, Breaks, Went, do_fetch, moved, step}
-use Rattle.mir_meaning.proofs.Reading.{item_front}
-use Rattle.simulation.specs.Words.{IsAddedJump, HasPlainTurns}
-use Rattle.simulation.proofs.Order.{rank_high, same_pos}
+use Rattle.sem_mir.specs.Align.{position_of, is_code, is_jump, is_jump_row}
+use Rattle.sem_mir.specs.Follow.{OnRow, KindFits, RowFits, HasClass, rank, next_rank, InOrder}
+use Rattle.sem_mir.specs.State.{State}
+use Rattle.sem_mir.specs.Step.{Outcome, Falls, Goes, Gives, Traps, Asks, Breaks, Went, do_fetch, moved, step}
+use Rattle.sem_mir.proofs.Reading.{item_front}
+use Rattle.sem_simulation.specs.Words.{IsAddedJump, HasPlainTurns}
+use Rattle.sem_simulation.proofs.Order.{rank_high, same_pos}
 use Rattle.machine_steps.proofs.Points.{got, dropped, StandsAt, stands_at}
 use Rattle.frame_rule.specs.Rule.{size_of, saved_of, framed_items, framed_of, renamed, renamed_code}
 use Rattle.machine_frames.specs.Framing.{IsMadeFrom, IsInner, FramedHasPlainTurns}
 use Rattle.machine_frames.proofs.Ways.{items_in, image_of, IsHead, head_at, leads_image}
 use Rattle.mir_func.specs.Graph.{from_block}
-use Rattle.mir_meaning.specs.Follow.{IsMetApart}
-use Rattle.mir_meaning.proofs.Reading.{FoundAt, found, front_item}
-use Rattle.simulation.proofs.Laid.{from_home}
+use Rattle.sem_mir.specs.Follow.{IsMetApart}
+use Rattle.sem_mir.proofs.Reading.{FoundAt, found, front_item}
+use Rattle.sem_simulation.proofs.Laid.{from_home}
 use Rattle.frame_rule.specs.Rule.{renamed_kind}
 use Rattle.machine_frames.proofs.Framed.{index_in}
 use Rattle.machine_frames.proofs.Renames.{renamed_row, row_renamed}

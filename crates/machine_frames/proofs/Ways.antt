@@ -15,8 +15,8 @@ use Rattle.mir_func.specs.Function.{Function}
 use Rattle.mir_func.specs.Graph.{Fetch, Here, Silent, Program, below, block_start, end_of, front, fetch_in, from_block, index_of, program_of}
 use Rattle.mir_func.specs.Graph.{framed_program, Edge, FetchEdge, KindEdge, RowEdge, Leads, stay, go}
 use Rattle.mir_func.specs.SoundFrame.{body_of}
-use Rattle.mir_meaning.specs.Align.{position_of, is_code}
-use Rattle.mir_meaning.proofs.Reading.{front_item}
+use Rattle.sem_mir.specs.Align.{position_of, is_code}
+use Rattle.sem_mir.proofs.Reading.{front_item}
 use Rattle.frame_rule.specs.Rule.{size_of, saved_of, epilogue, framed_item, framed_items, framed_block, framed_blocks, framed_of, renamed}
 use Rattle.frame_rule.specs.Rule.{renamed_kind, renamed_code, added_all, position_in}
 use Rattle.machine_frames.proofs.Renames.{renamed_row, row_renamed}

@@ -7,10 +7,10 @@ use Rattle.mir_func.specs.Function.{Function}
 use Rattle.mir_func.specs.Graph.{framed_program}
 use Rattle.mir_func.specs.Sound.{AllItems, IsSound, HasForm}
 use Rattle.mir_func.specs.SoundFrame.{IsFramed}
-use Rattle.mir_meaning.specs.Follow.{IsRead, Follows}
-use Rattle.mir_meaning.specs.State.{State}
-use Rattle.code_layout.specs.Headline.{StartsAt, Headline}
-use Rattle.code_layout.specs.Image.{Image}
+use Rattle.sem_mir.specs.Follow.{IsRead, Follows}
+use Rattle.sem_mir.specs.State.{State}
+use Rattle.sem_machine.specs.Headline.{StartsAt, Headline}
+use Rattle.sem_machine.specs.Image.{Image}
 use Rattle.frame_rule.specs.Rule.{framed_of}
 use Rattle.machine_steps.specs.Laid.{IsLaidAt}
 use Rattle.machine_runs.specs.Lists.{GiveWanted, IsPointAt}

@@ -9,8 +9,8 @@ use Rattle.mir_func.specs.Graph.{program_of, framed_program}
 use Rattle.mir_func.specs.Sound.{AllItems, IsSound}
 use Rattle.mir_func.specs.SoundFrame.{IsFramed}
 use Rattle.mir_func.specs.declared.position.Pos.{Pos}
-use Rattle.mir_meaning.specs.Follow.{IsRead, Shape}
-use Rattle.simulation.specs.Words.{HasPlainTurns}
+use Rattle.sem_mir.specs.Follow.{IsRead, Shape}
+use Rattle.sem_simulation.specs.Words.{HasPlainTurns}
 use Rattle.frame_rule.specs.Rule.{framed_of}
 use Rattle.machine_runs.specs.Runs.{ComesFrom}
 

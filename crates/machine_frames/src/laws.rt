@@ -3,7 +3,7 @@
 ghost use Rattle.machine_frames.specs.Followers.{FollowersMeetTheHeadline};
 ghost use Rattle.machine_frames.specs.Framing.{FramedComesFrom, FramedHasPlainTurns};
 
-use code_layout::laws::LocationLists;
+use sem_machine::laws::LocationLists;
 
 /// What stands in a function with its frame comes from the source as the machine's run needs it.
 pub fn framed_comes_from()

@@ -14,13 +14,13 @@ use Rattle.mir_func.specs.declared.position.Pos.{Pos}
 use Rattle.mir_func.specs.Exits.{row_exit, exit_of}
 use Rattle.mir_func.specs.Graph.{Here, below}
 use Rattle.mir_func.specs.Successors.{pos_in}
-use Rattle.mir_meaning.specs.Align.{is_code}
-use Rattle.code_words.specs.declared.code.Entry.{Entry}
-use Rattle.code_words.specs.Rule.{Layout, Form, Nothing, OneWord, CallSite, LongBranch, row_form, form_of, form_size, size_of, address_in, entry, form_entries}
-use Rattle.code_words.specs.Rule.{Site, sites_of, entries_at, entries_of}
-use Rattle.code_words.specs.Listed.{form_lines, kind_lines, lines_at}
-use Rattle.code_words.proofs.Sites.{site_from}
-use Rattle.code_words.proofs.Settled as settled
+use Rattle.sem_mir.specs.Align.{is_code}
+use Rattle.emit_code.specs.declared.code.Entry.{Entry}
+use Rattle.emit_code.specs.Rule.{Layout, Form, Nothing, OneWord, CallSite, LongBranch, row_form, form_of, form_size, size_of, address_in, entry, form_entries}
+use Rattle.emit_code.specs.Rule.{Site, sites_of, entries_at, entries_of}
+use Rattle.emit_code.specs.Listed.{form_lines, kind_lines, lines_at}
+use Rattle.emit_code.proofs.Sites.{site_from}
+use Rattle.emit_code.proofs.Settled as settled
 use Rattle.machine_steps.specs.Laid.{fetched}
 use Rattle.machine_steps.proofs.Points.{got, dropped, stands_at}
 use Rattle.machine_layout.proofs.Addresses.{address_next}
@@ -173,7 +173,7 @@ module _ (l : Layout) where
     by_form Nothing e = absurd (code_stands (l.long p) i.kind code e)
     by_form OneWord e = begins OneWord 4 i.origin false e (zero, omega arith, refl)
     by_form CallSite e = begins CallSite 8 i.origin true e (zero, omega arith, refl)
-    by_form (LongBranch n) e = begins (LongBranch n) 4 (Rattle.code_words.specs.Rule.added_before i.origin) false e (zero, omega arith, refl)
+    by_form (LongBranch n) e = begins (LongBranch n) 4 (Rattle.emit_code.specs.Rule.added_before i.origin) false e (zero, omega arith, refl)
 
   second_entry : (p : Pos) (i : Item) (n : ℕ) → fetched l.framed p ≡ Here i → exit_of i.kind ≡ Perhaps n → address_in l (below p) ≡ address_in l p + 8 →
       IsEntryAt l (address_in l p + 4) p
@@ -227,7 +227,7 @@ module _ (l : Layout) where
     by_form OneWord f (suc k, lt, e) = absurd (omega (arith, lt))
     by_form CallSite f (zero, lt, e) = at_first 8 i.origin true (form_code (l.long p) i.kind (λ none. (let bad : CallSite ≡ Nothing = sym f ∙ none in cc))) e
     by_form CallSite f (suc k, lt, e) = absurd (omega (arith, lt))
-    by_form (LongBranch n) f (zero, lt, e) = at_first 4 (Rattle.code_words.specs.Rule.added_before i.origin) false
+    by_form (LongBranch n) f (zero, lt, e) = at_first 4 (Rattle.emit_code.specs.Rule.added_before i.origin) false
         (form_code (l.long p) i.kind (λ none. (let bad : LongBranch n ≡ Nothing = sym f ∙ none in cc))) e
     by_form (LongBranch n) f (suc zero, lt, e) = at_second n f e
     by_form (LongBranch n) f (suc (suc k), lt, e) = absurd (omega (arith, lt))

@@ -2,10 +2,10 @@
 use Rattle.std.proofs.Common.{◌≡◌, ℕ, zero, suc, List, [], ◌∷◌, map, slice_get, Some, Bool, true, false, cond, nat_eq, refl, sym, ap, ◌∙◌}
 use Rattle.std.proofs.lemmas.Bool.{eqb-true}
 use Rattle.mir_func.specs.declared.position.Origin.{Origin}
-use Rattle.code_layout.specs.Image.{CodeLine, line_at}
-use Rattle.code_words.specs.declared.code.Entry.{Entry}
-use Rattle.code_words.specs.Listed.{Line, lines_of}
-use Rattle.code_words.specs.Rule.{entries_of}
+use Rattle.sem_machine.specs.Image.{CodeLine, line_at}
+use Rattle.emit_code.specs.declared.code.Entry.{Entry}
+use Rattle.emit_code.specs.Listed.{Line, lines_of}
+use Rattle.emit_code.specs.Rule.{entries_of}
 use Rattle.machine_steps.proofs.Points.{got}
 use Rattle.machine_layout.specs.Images.{code_line}
 use Rattle.machine_headline.specs.Entries.{place_of_line, place_of_entry, ImageLinesAreEntries}

@@ -16,17 +16,17 @@ use Rattle.mir_func.specs.declared.position.Pos.{Pos}
 use Rattle.mir_func.specs.declared.variable.VarId.{VarId}
 use Rattle.mir_func.specs.Exits.{row_exit}
 use Rattle.mir_func.specs.Function.{FramedFunction}
-use Rattle.mir_meaning.specs.State.{State}
-use Rattle.mir_meaning.proofs.Reading.{follows_itself}
-use Rattle.code_layout.specs.Headline.{StartsAt}
-use Rattle.code_layout.specs.Image.{Image}
-use Rattle.code_words.specs.Counts.{MAX_WORDS, MAX_BASE, count_of}
-use Rattle.code_words.specs.Laid.{IsWorded}
-use Rattle.code_words.specs.Rule.{Layout, Form, Nothing, OneWord, CallSite, LongBranch, row_form, address_in, offset_to, object_offset, operation_at}
-use Rattle.code_words.proofs.Bounds.{bytes_small}
+use Rattle.sem_mir.specs.State.{State}
+use Rattle.sem_mir.proofs.Reading.{follows_itself}
+use Rattle.sem_machine.specs.Headline.{StartsAt}
+use Rattle.sem_machine.specs.Image.{Image}
+use Rattle.emit_code.specs.Counts.{MAX_WORDS, MAX_BASE, count_of}
+use Rattle.emit_code.specs.Laid.{IsWorded}
+use Rattle.emit_code.specs.Rule.{Layout, Form, Nothing, OneWord, CallSite, LongBranch, row_form, address_in, offset_to, object_offset, operation_at}
+use Rattle.emit_code.proofs.Bounds.{bytes_small}
 use Rattle.frame_rule.proofs.Framed.{is_framed}
-use Rattle.frame_runs.specs.Stands.{IsEntered}
-use Rattle.frame_runs.proofs.FrameStands.{frame_gives_back}
+use Rattle.frame_proof.specs.Stands.{IsEntered}
+use Rattle.frame_proof.proofs.FrameStands.{frame_gives_back}
 use Rattle.machine_steps.specs.Laid.{IsLaidAt}
 use Rattle.machine_frames.proofs.Followers.{followers_meet_the_headline}
 use Rattle.machine_layout.specs.Images.{FormHasWords, HasAllWords, IsImageOf}
@@ -65,7 +65,7 @@ if_some P None h k = cc
 if_some P (Some m) h k = (m, k)
 
 module _ (l : Layout) (low : l.base < MAX_BASE) (few : count_of l.framed.blocks < MAX_WORDS) (worded : IsWorded l) where
-  form_worded : (a : ℕ) (c : Instruction) (x : Form) → Rattle.code_words.specs.Laid.FormWorded l a c x → FormHasWords l a c x
+  form_worded : (a : ℕ) (c : Instruction) (x : Form) → Rattle.emit_code.specs.Laid.FormWorded l a c x → FormHasWords l a c x
   form_worded a c Nothing h = tt
   form_worded a c OneWord h = h
   form_worded a c CallSite h = tt
@@ -83,7 +83,7 @@ module _ (l : Layout) (low : l.base < MAX_BASE) (few : count_of l.framed.blocks 
   has_all : HasAllWords l
   has_all = record {
     words = λ p i c k e kind. form_worded (address_in l p) c (row_form (l.long p) (row_of c)) (worded p i c k e kind);
-    fits = λ p i c k e kind u. one_fit (address_in l p) c (subst (Rattle.code_words.specs.Laid.FormWorded l (address_in l p) c) (ap (row_form (l.long p)) u)
+    fits = λ p i c k e kind u. one_fit (address_in l p) c (subst (Rattle.emit_code.specs.Laid.FormWorded l (address_in l p) c) (ap (row_form (l.long p)) u)
         (worded p i c k e kind)) u;
     small = λ p. (let b = bytes_small l.long l.framed.blocks p in omega (arith, b, low, few));
   }

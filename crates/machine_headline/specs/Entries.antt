@@ -2,10 +2,10 @@
 use Rattle.std.specs.Prelude.{◌≡◌, ◌↔◌, ℕ, map, Contains, Some}
 use Rattle.mir_func.specs.declared.position.Origin.{Origin}
 use Rattle.mir_func.specs.declared.position.Pos.{Pos}
-use Rattle.code_layout.specs.Image.{CodeLine, Image, line_at}
-use Rattle.code_words.specs.declared.code.Entry.{Entry}
-use Rattle.code_words.specs.Listed.{Line, lines_of}
-use Rattle.code_words.specs.Rule.{Layout, address_in, entries_of}
+use Rattle.sem_machine.specs.Image.{CodeLine, Image, line_at}
+use Rattle.emit_code.specs.declared.code.Entry.{Entry}
+use Rattle.emit_code.specs.Listed.{Line, lines_of}
+use Rattle.emit_code.specs.Rule.{Layout, address_in, entries_of}
 use Rattle.machine_layout.specs.Images.{IsImageOf}
 use Rattle.machine_runs.specs.Lists.{IsPointAt}
 

@@ -8,12 +8,12 @@ use Rattle.mir_func.specs.Graph.{framed_program}
 use Rattle.mir_func.specs.Limits.{MAX_FRAME}
 use Rattle.mir_func.specs.Sound.{AllItems, IsSound, HasForm}
 use Rattle.mir_func.specs.SoundFrame.{HasPhysical}
-use Rattle.mir_meaning.specs.Follow.{IsRead}
-use Rattle.code_layout.specs.Headline.{Headline}
-use Rattle.code_layout.specs.Image.{Image}
-use Rattle.code_words.specs.Counts.{MAX_WORDS, MAX_BASE, count_of}
-use Rattle.code_words.specs.Laid.{IsWorded}
-use Rattle.code_words.specs.Rule.{Layout}
+use Rattle.sem_mir.specs.Follow.{IsRead}
+use Rattle.sem_machine.specs.Headline.{Headline}
+use Rattle.sem_machine.specs.Image.{Image}
+use Rattle.emit_code.specs.Counts.{MAX_WORDS, MAX_BASE, count_of}
+use Rattle.emit_code.specs.Laid.{IsWorded}
+use Rattle.emit_code.specs.Rule.{Layout}
 use Rattle.frame_rule.specs.Rule.{size_of, framed_of}
 use Rattle.machine_frames.specs.Followers.{IsFollower}
 use Rattle.machine_layout.specs.Images.{IsImageOf}

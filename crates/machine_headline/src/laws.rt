@@ -3,7 +3,7 @@
 ghost use Rattle.machine_headline.specs.Entries.{EntriesArePoints, ImageLinesAreEntries, LinesAreEntries};
 ghost use Rattle.machine_headline.specs.LaidOut.{ImagesMeetTheHeadline, SourcesMeetTheHeadline};
 
-use code_layout::laws::LocationLists;
+use sem_machine::laws::LocationLists;
 
 /// The image of each function that follows a source meets the headline of this source, for lists that give only wanted
 /// places.

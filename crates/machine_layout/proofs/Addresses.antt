@@ -7,8 +7,8 @@ use Rattle.mir_func.specs.declared.item.Item.{Item}
 use Rattle.mir_func.specs.declared.position.Pos.{Pos}
 use Rattle.mir_func.specs.Graph.{Fetch, Here, Silent, below, block_start, front, fetch_in, end_of}
 use Rattle.mir_func.specs.Successors.{pos_in}
-use Rattle.mir_meaning.proofs.Reading.{front_item, front_end}
-use Rattle.code_words.specs.Rule.{Layout, size_of, items_size, blocks_size, items_at, bytes_before, address_in, Site, sites_in, sites_from, sites_of}
+use Rattle.sem_mir.proofs.Reading.{front_item, front_end}
+use Rattle.emit_code.specs.Rule.{Layout, size_of, items_size, blocks_size, items_at, bytes_before, address_in, Site, sites_in, sites_from, sites_of}
 use Rattle.machine_steps.specs.Laid.{fetched}
 
 items_more : (long : Pos → Bool) (b m n : ℕ) (xs : List Item) (i : Item) → slice_get xs n ≡ Some i →

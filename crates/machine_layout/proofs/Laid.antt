@@ -38,19 +38,19 @@ use Rattle.mir_func.specs.Exits.{row_exit}
 use Rattle.mir_func.specs.Function.{FramedFunction}
 use Rattle.mir_func.specs.Graph.{Fetch, Here, Silent, below, block_start, fetch_in, front, index_of}
 use Rattle.mir_func.specs.Successors.{pos_in}
-use Rattle.mir_meaning.specs.Align.{is_code, position_of}
-use Rattle.code_layout.specs.Image.{CodeLine, Image, line_at, word_at}
-use Rattle.code_layout.specs.Machine.{Machine, register}
-use Rattle.code_layout.specs.MachineStep.{Stepped, Continues, Ends, past, at, return_word, does_row, does_word, does_operation, does_line, does_at, call_of}
-use Rattle.code_layout.specs.MachineStep.{answered, machine_step}
-use Rattle.code_layout.specs.MachineStep as machine
-use Rattle.code_words.specs.Inverted.{inverted, inverted_op, inverted_branch, skip_of, jump_to, over_bytes}
-use Rattle.code_words.specs.Listed.{line, by_pointer, listed, form_lines, kind_lines, lines_at}
-use Rattle.code_words.specs.Rule.{Layout, Form, Nothing, OneWord, CallSite, LongBranch, row_form, form_of, form_size, size_of, items_at, address_in}
-use Rattle.code_words.specs.Rule.{offset_to, object_offset, operation_at, skip_operation}
-use Rattle.code_words.specs.Rule.{jump_operation, word_if, form_words, kind_words, words_at, added_before, Site, sites_of}
-use Rattle.code_words.proofs.Sites.{site_from}
-use Rattle.code_words.proofs.Settled as settled
+use Rattle.sem_mir.specs.Align.{is_code, position_of}
+use Rattle.sem_machine.specs.Image.{CodeLine, Image, line_at, word_at}
+use Rattle.sem_machine.specs.Machine.{Machine, register}
+use Rattle.sem_machine.specs.MachineStep.{Stepped, Continues, Ends, past, at, return_word, does_row, does_word, does_operation, does_line, does_at, call_of}
+use Rattle.sem_machine.specs.MachineStep.{answered, machine_step}
+use Rattle.sem_machine.specs.MachineStep as machine
+use Rattle.emit_code.specs.Inverted.{inverted, inverted_op, inverted_branch, skip_of, jump_to, over_bytes}
+use Rattle.emit_code.specs.Listed.{line, by_pointer, listed, form_lines, kind_lines, lines_at}
+use Rattle.emit_code.specs.Rule.{Layout, Form, Nothing, OneWord, CallSite, LongBranch, row_form, form_of, form_size, size_of, items_at, address_in}
+use Rattle.emit_code.specs.Rule.{offset_to, object_offset, operation_at, skip_operation}
+use Rattle.emit_code.specs.Rule.{jump_operation, word_if, form_words, kind_words, words_at, added_before, Site, sites_of}
+use Rattle.emit_code.proofs.Sites.{site_from}
+use Rattle.emit_code.proofs.Settled as settled
 use Rattle.machine_steps.specs.Beside.{object_place}
 use Rattle.machine_steps.specs.Laid.{fetched, target_of, start_of, HasWord, HasTwoWords, HasCall, HasReturn, HasRow, IsLaidAt}
 use Rattle.machine_steps.proofs.Rows.{IsWordRow}
@@ -408,7 +408,7 @@ module _ (l : Layout) (image : Image) (has : HasAllWords l) (is : IsImageOf l im
       text = st.text ∙ ap (λ (ws : List ℕ). bytes ws ++ st.more) (words_are ∙ ap (form_words l (address_in l p) c) is_form)
 
       lines : (n : ℕ) → address_in l p ≤ n → line_at image.lines n ≡ line_at (map code_line (form_lines l.framed (address_in l p) i.origin c x) ++ st.others) n
-      lines n le = st.lines n le ∙ ap (λ (ls : List Rattle.code_words.specs.Listed.Line). line_at (map code_line ls ++ st.others) n)
+      lines n le = st.lines n le ∙ ap (λ (ls : List Rattle.emit_code.specs.Listed.Line). line_at (map code_line ls ++ st.others) n)
           (lines_are ∙ ap (form_lines l.framed (address_in l p) i.origin c) is_form)
 
       next : address_in l (below p) ≡ address_in l p + form_size x
@@ -626,7 +626,7 @@ module _ (l : Layout) (image : Image) (has : HasAllWords l) (is : IsImageOf l im
         address_in l (block_start (suc p.block)) ≡ address_in l p
     by_blocks [] d h = cc
     by_blocks (b ∷ rest) d h = address_end l p.block p.item b (Rattle.machine_steps.proofs.Points.dropped l.framed.blocks p.block b rest d)
-        (Rattle.mir_meaning.proofs.Reading.front_end b.items p.item b.silent rest k n h).0
+        (Rattle.sem_mir.proofs.Reading.front_end b.items p.item b.silent rest k n h).0
 
   laid : IsLaidAt l.framed image
   laid = record {

@@ -18,12 +18,12 @@ use Rattle.mir_func.specs.declared.position.Origin.{Origin}
 use Rattle.mir_func.specs.declared.position.Pos.{Pos}
 use Rattle.mir_func.specs.Graph.{Here}
 use Rattle.mir_func.specs.Successors.{pos_in}
-use Rattle.code_layout.specs.Image.{CodeLine, Image, line_at, word_at}
-use Rattle.code_layout.proofs.Fetching.{word_here}
-use Rattle.code_words.specs.Listed.{Line, line, form_lines, kind_lines, lines_at, lines_of}
-use Rattle.code_words.specs.Rule.{Layout, Form, Nothing, OneWord, CallSite, LongBranch, form_of, form_size, size_of, address_in, operation_at, skip_operation}
-use Rattle.code_words.specs.Rule.{jump_operation}
-use Rattle.code_words.specs.Rule.{call_words, word_if, form_words, kind_words, words_at, words_of, Site, sites_in, sites_from, sites_of}
+use Rattle.sem_machine.specs.Image.{CodeLine, Image, line_at, word_at}
+use Rattle.sem_machine.proofs.Fetching.{word_here}
+use Rattle.emit_code.specs.Listed.{Line, line, form_lines, kind_lines, lines_at, lines_of}
+use Rattle.emit_code.specs.Rule.{Layout, Form, Nothing, OneWord, CallSite, LongBranch, form_of, form_size, size_of, address_in, operation_at, skip_operation}
+use Rattle.emit_code.specs.Rule.{jump_operation}
+use Rattle.emit_code.specs.Rule.{call_words, word_if, form_words, kind_words, words_at, words_of, Site, sites_in, sites_from, sites_of}
 use Rattle.machine_steps.specs.Laid.{fetched}
 use Rattle.machine_layout.specs.Images.{code_line, FormHasWords, HasAllWords, IsImageOf}
 use Rattle.machine_layout.proofs.Addresses.{Chained, chained}

@@ -9,10 +9,10 @@ use Rattle.mir_func.specs.declared.item.Item.{Item}
 use Rattle.mir_func.specs.declared.item.ItemKind.TheVariants.{Code}
 use Rattle.mir_func.specs.Graph.{Here}
 use Rattle.mir_func.specs.Objects.{area_of}
-use Rattle.code_layout.specs.Image.{CodeLine, Image}
-use Rattle.code_words.specs.Listed.{Line, lines_of}
-use Rattle.code_words.specs.Rule.{Layout, Form, Nothing, OneWord, CallSite, LongBranch, form_of, address_in, operation_at, skip_operation, jump_operation}
-use Rattle.code_words.specs.Rule.{words_of}
+use Rattle.sem_machine.specs.Image.{CodeLine, Image}
+use Rattle.emit_code.specs.Listed.{Line, lines_of}
+use Rattle.emit_code.specs.Rule.{Layout, Form, Nothing, OneWord, CallSite, LongBranch, form_of, address_in, operation_at, skip_operation, jump_operation}
+use Rattle.emit_code.specs.Rule.{words_of}
 use Rattle.machine_steps.specs.Laid.{fetched, IsLaidAt}
 
 -- a line of the listing as the image has it

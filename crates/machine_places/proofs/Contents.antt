@@ -9,7 +9,7 @@ use Rattle.mir_func.specs.declared.position.Pos.{Pos}
 use Rattle.mir_func.specs.declared.variable.VarId.{VarId}
 use Rattle.mir_func.specs.Graph.{Fetch, Here, Silent, Outside, Program, block_start, end_of, front, fetch_in, index_of, framed_program, KindEdge, FetchEdge}
 use Rattle.mir_func.specs.SoundFrame.{body_of}
-use Rattle.mir_meaning.specs.Token.{Tokens, after_fetch, Path, begin, onward, SitsIn}
+use Rattle.sem_mir.specs.Token.{Tokens, after_fetch, Path, begin, onward, SitsIn}
 use Rattle.machine_places.specs.Contents.{contents_of, ContentsTellWanted}
 
 -- the same stands there, silent indices aside

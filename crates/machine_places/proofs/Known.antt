@@ -3,18 +3,18 @@
 use Rattle.std.proofs.Common.{◌≡◌, ℕ, zero, suc, Option, Some, None, refl}
 use Rattle.mir_func.specs.declared.position.Pos.{Pos}
 use Rattle.mir_func.specs.Graph.{Program}
-use Rattle.mir_meaning.specs.State.{State, IsInRange, content}
-use Rattle.mir_meaning.specs.Step.{Went, step}
-use Rattle.mir_meaning.specs.Token.{Token, Tokens, register_token, after_fetch, entry_tokens, Path}
-use Rattle.mir_meaning.specs.Token as token
-use Rattle.mir_meaning.proofs.Edges.{step_edge}
-use Rattle.mir_meaning.proofs.InRange.{step_in_range}
-use Rattle.path_tokens.specs.Pullback.{InRegister}
-use Rattle.path_tokens.specs.Trace.{Names, HasRegisters}
-use Rattle.path_tokens.specs.Trace as trace
-use Rattle.path_tokens.proofs.Along.{step_names, tokens_name_values}
-use Rattle.path_tokens.proofs.Made.{path_is_old}
-use Rattle.path_tokens.proofs.Naming.{Holds, Good, AreOld}
+use Rattle.sem_mir.specs.State.{State, IsInRange, content}
+use Rattle.sem_mir.specs.Step.{Went, step}
+use Rattle.sem_mir.specs.Token.{Token, Tokens, register_token, after_fetch, entry_tokens, Path}
+use Rattle.sem_mir.specs.Token as token
+use Rattle.sem_mir.proofs.Edges.{step_edge}
+use Rattle.sem_mir.proofs.InRange.{step_in_range}
+use Rattle.sem_value_ids.specs.Pullback.{InRegister}
+use Rattle.sem_value_ids.specs.Trace.{Names, HasRegisters}
+use Rattle.sem_value_ids.specs.Trace as trace
+use Rattle.sem_value_ids.proofs.Along.{step_names, tokens_name_values}
+use Rattle.sem_value_ids.proofs.Made.{path_is_old}
+use Rattle.sem_value_ids.proofs.Naming.{Holds, Good, AreOld}
 
 pub record Known (g : Program) (start : Pos) (t : State) : Type 0 where
   pub count : ℕ

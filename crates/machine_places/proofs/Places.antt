@@ -6,10 +6,10 @@ use Rattle.rv64_instr.specs.declared.place.Place.TheVariants.{Register, Slot, Co
 use Rattle.rv64_instr.specs.Arithmetic.{word}
 use Rattle.mir_func.specs.Limits.{MAX_FRAME, FRAME_ROOM}
 use Rattle.mir_func.specs.Objects.{area_of}
-use Rattle.mir_meaning.specs.State.{content, spelled}
-use Rattle.mir_meaning.specs.Step.{or_zero}
-use Rattle.mir_meaning.specs.Token.{Fixed, place_token}
-use Rattle.code_layout.specs.Machine.{address_of, place_content}
+use Rattle.sem_mir.specs.State.{content, spelled}
+use Rattle.sem_mir.specs.Step.{or_zero}
+use Rattle.sem_mir.specs.Token.{Fixed, place_token}
+use Rattle.sem_machine.specs.Machine.{address_of, place_content}
 use Rattle.machine_steps.specs.Beside.{frame_low}
 use Rattle.machine_places.specs.Places.{PlacesHold}
 use Rattle.machine_places.proofs.Slots.{slot_offset, slot_up}

@@ -20,8 +20,8 @@ use Rattle.mir_func.specs.Function.{FramedFunction}
 use Rattle.mir_func.specs.Graph.{Fetch, Here, Silent, Outside, Program, below, block_start, framed_program, RowEdge, KindEdge, FetchEdge}
 use Rattle.mir_func.specs.Sound.{SlotIn, SlotsIn}
 use Rattle.mir_func.specs.SoundFrame.{adds_to_pointer, slot_offsets, IsSlotOffset, IsFramed}
-use Rattle.mir_meaning.specs.Token.{Token, Tokens, register_token, moved_tokens, sets_pointer, code_tokens, numbered_tokens, after_item, after_fetch}
-use Rattle.mir_meaning.specs.Token.{Path, begin, onward}
+use Rattle.sem_mir.specs.Token.{Token, Tokens, register_token, moved_tokens, sets_pointer, code_tokens, numbered_tokens, after_item, after_fetch}
+use Rattle.sem_mir.specs.Token.{Path, begin, onward}
 use Rattle.machine_steps.specs.Laid.{fetched}
 use Rattle.machine_steps.specs.Pointer.{lowered_by}
 use Rattle.machine_steps.proofs.Points.{of_item, PointerMotion, keeps, lowers, raises, leaves, pointer_motion, start_down}

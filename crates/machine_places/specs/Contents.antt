@@ -7,7 +7,7 @@ use Rattle.mir_func.specs.declared.item.Item.{Item}
 use Rattle.mir_func.specs.declared.position.Pos.{Pos}
 use Rattle.mir_func.specs.declared.variable.VarId.{VarId}
 use Rattle.mir_func.specs.Graph.{block_start, framed_program}
-use Rattle.mir_meaning.specs.Token.{IsWanted}
+use Rattle.sem_mir.specs.Token.{IsWanted}
 
 -- the number and the items of a block: its silent index aside
 abbrev pub contents_of : Block → ℕ × List Item

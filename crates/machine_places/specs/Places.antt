@@ -6,11 +6,11 @@ use Rattle.mir_func.specs.declared.position.Pos.{Pos}
 use Rattle.mir_func.specs.Function.{FramedFunction}
 use Rattle.mir_func.specs.Graph.{block_start, framed_program}
 use Rattle.mir_func.specs.SoundFrame.{IsFramed}
-use Rattle.mir_meaning.specs.State.{Core}
-use Rattle.mir_meaning.specs.Token.{Token, Tokens, place_token, Path}
-use Rattle.path_tokens.specs.Trace.{Names}
-use Rattle.simulation.specs.Words.{SameCode}
-use Rattle.code_layout.specs.Machine.{Machine, place_content}
+use Rattle.sem_mir.specs.State.{Core}
+use Rattle.sem_mir.specs.Token.{Token, Tokens, place_token, Path}
+use Rattle.sem_value_ids.specs.Trace.{Names}
+use Rattle.sem_simulation.specs.Words.{SameCode}
+use Rattle.sem_machine.specs.Machine.{Machine, place_content}
 use Rattle.machine_steps.specs.Beside.{Beside}
 use Rattle.machine_steps.specs.Pointer.{IsPointerAt}
 

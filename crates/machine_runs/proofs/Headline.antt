@@ -16,17 +16,17 @@ use Rattle.mir_func.specs.Exits.{exit_of}
 use Rattle.mir_func.specs.Function.{Function, FramedFunction}
 use Rattle.mir_func.specs.Graph.{Here, Program, below, block_start, program_of, framed_program}
 use Rattle.mir_func.specs.SoundFrame.{IsFramed}
-use Rattle.mir_meaning.specs.Align.{position_of, is_code, waits_at, ByWords, station_of, Since, Start, Same, After, since_of, First, Aligns}
-use Rattle.mir_meaning.specs.Align.{begin, FailsBefore}
-use Rattle.mir_meaning.specs.State.{Core, State}
-use Rattle.mir_meaning.specs.Step.{Returned, read, step}
-use Rattle.simulation.specs.Words.{Shown}
-use Rattle.simulation.proofs.Order.{cases_pos}
-use Rattle.simulation.proofs.Stations.{code_station}
-use Rattle.code_layout.specs.Image.{CodeLine, Image, line_at}
-use Rattle.code_layout.specs.Machine.{Machine, machine_start}
-use Rattle.code_layout.specs.MachineStep.{Continues, Ends, machine_step}
-use Rattle.code_layout.specs.Headline.{StartsAt, KEPT, MachineAgrees}
+use Rattle.sem_mir.specs.Align.{position_of, is_code, waits_at, ByWords, station_of, Since, Start, Same, After, since_of, First, Aligns}
+use Rattle.sem_mir.specs.Align.{begin, FailsBefore}
+use Rattle.sem_mir.specs.State.{Core, State}
+use Rattle.sem_mir.specs.Step.{Returned, read, step}
+use Rattle.sem_simulation.specs.Words.{Shown}
+use Rattle.sem_simulation.proofs.Order.{cases_pos}
+use Rattle.sem_simulation.proofs.Stations.{code_station}
+use Rattle.sem_machine.specs.Image.{CodeLine, Image, line_at}
+use Rattle.sem_machine.specs.Machine.{Machine, machine_start}
+use Rattle.sem_machine.specs.MachineStep.{Continues, Ends, machine_step}
+use Rattle.sem_machine.specs.Headline.{StartsAt, KEPT, MachineAgrees}
 use Rattle.machine_steps.specs.Beside.{Beside}
 use Rattle.machine_steps.specs.Laid.{fetched, IsLaidAt}
 use Rattle.machine_steps.specs.Steps.{framed_run, Level, OneStep, goes, gives, waits, faults, TwoSteps, over, through, AtCode, single, double}
@@ -35,9 +35,9 @@ use Rattle.machine_steps.proofs.Quiet.{steps_beside}
 use Rattle.machine_steps.proofs.Sites.{step_lands}
 use Rattle.machine_runs.specs.Runs.{FallsTo, ComesFrom, start_beside, RunsBeside}
 use Rattle.machine_runs.proofs.Sources.{IsWritten, aligns_written}
-use Rattle.mir_meaning.specs.Step.{Outcome, Falls, Goes, Gives, Traps, Asks, Breaks, act, does, with_core, numbered, moved, do_item, answered, slot_loaded}
-use Rattle.mir_meaning.specs.Step.{is_fault, address_at}
-use Rattle.mir_meaning.specs.State.{Reply, writes_frame}
+use Rattle.sem_mir.specs.Step.{Outcome, Falls, Goes, Gives, Traps, Asks, Breaks, act, does, with_core, numbered, moved, do_item, answered, slot_loaded}
+use Rattle.sem_mir.specs.Step.{is_fault, address_at}
+use Rattle.sem_mir.specs.State.{Reply, writes_frame}
 use Rattle.mir_func.specs.Exits.{row_exit}
 use Rattle.rv64_instr.specs.Row.{Fixes, Moves, Sets, Addresses, Loads, Stores, LoadsSlot, StoresSlot, Branches, Jumps, Calls, Returns, Unfit}
 use Rattle.rv64_instr.specs.Arithmetic.{taken, load_width, store_width}
@@ -46,16 +46,16 @@ use Rattle.machine_runs.proofs.Stages.{IsCarried, IsQuiet, falls_on, long_branch
 use Rattle.machine_runs.proofs.Telling.{code_tells, held_by}
 use Rattle.machine_runs.specs.Lists.{GiveWanted, IsPointAt, at_code, at_jump}
 use Rattle.machine_places.proofs.Known.{known_step}
-use Rattle.simulation.proofs.Turns.{same_code}
+use Rattle.sem_simulation.proofs.Turns.{same_code}
 use Rattle.machine_steps.specs.Pointer.{IsPointerAt}
 use Rattle.machine_runs.proofs.Stages.{Settled, settle, SettledLate, settle_late, filled_by, late_step}
 use Rattle.mir_func.specs.Objects.{area_of}
-use Rattle.mir_meaning.proofs.Alignment.{aligns_once, aligns_not_fails}
-use Rattle.code_layout.specs.Headline.{AlignsWith, MachineAlong, at_start, after_step, Headline}
+use Rattle.sem_mir.proofs.Alignment.{aligns_once, aligns_not_fails}
+use Rattle.sem_machine.specs.Headline.{AlignsWith, MachineAlong, at_start, after_step, Headline}
 use Rattle.machine_steps.proofs.Lands.{first_lands}
 use Rattle.machine_runs.specs.Runs.{LaidCodeMeetsTheHeadline}
 use Rattle.machine_runs.proofs.Meets.{ends_no_step, waits_no_step, waits_no_end, agree_on, one_met, two_met, g_start, HeldAt, held_shown}
-use Rattle.mir_meaning.proofs.Outcomes.{step_item}
+use Rattle.sem_mir.proofs.Outcomes.{step_item}
 use Rattle.machine_runs.proofs.Stops.{stops_well}
 
 -- ---- returns
@@ -419,11 +419,11 @@ module _ (source : Function) (f : FramedFunction) (resolve fresolve : OperandPai
 
   -- what the headline owes of the machine's alignment
   pub agrees_along : (m : Machine) (s : State) (since : Since) (l : CodeLine) → MachineAlong S image M0 s0 m s since → line_at image.lines m.counter ≡ Some l →
-      ((s' : State) × AlignsWith S l since s s' × MachineAgrees S image lists M0 m s') ⊎ Rattle.code_layout.specs.Headline.FailsBeforeLine S l since s
+      ((s' : State) × AlignsWith S l since s s' × MachineAgrees S image lists M0 m s') ⊎ Rattle.sem_machine.specs.Headline.FailsBeforeLine S l since s
   agrees_along m s since l along line =
       let a = stage_along along in
       elim (meet m s since l a.0 a.1 line) as
-      (λ _. ((s' : State) × AlignsWith S l since s s' × MachineAgrees S image lists M0 m s') ⊎ Rattle.code_layout.specs.Headline.FailsBeforeLine S l since s) [
+      (λ _. ((s' : State) × AlignsWith S l since s s' × MachineAgrees S image lists M0 m s') ⊎ Rattle.sem_machine.specs.Headline.FailsBeforeLine S l since s) [
         | inl fails ↦ inr fails
         | inr r ↦ inl (r.0, r.1, r.2)
       ]

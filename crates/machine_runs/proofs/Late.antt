@@ -13,13 +13,13 @@ use Rattle.mir_func.specs.Function.{FramedFunction}
 use Rattle.mir_func.specs.Graph.{Here, below}
 use Rattle.mir_func.specs.Sound.{SlotIn, SlotsIn}
 use Rattle.mir_func.specs.SoundFrame.{HasPhysical, slot_offsets, IsSlotOffset, IsFramed}
-use Rattle.mir_meaning.specs.State.{Core, State, IsInRange, updated, spelled}
-use Rattle.mir_meaning.specs.Step.{Falls, Went, does, read, numbered, with_core, do_item, step, slot_loaded, set_register}
-use Rattle.mir_meaning.proofs.InRange.{spelled_below}
-use Rattle.mir_meaning.proofs.Outcomes.{step_item}
-use Rattle.simulation.specs.Words.{SameCode}
-use Rattle.code_layout.specs.Image.{Image}
-use Rattle.code_layout.specs.Machine.{Machine}
+use Rattle.sem_mir.specs.State.{Core, State, IsInRange, updated, spelled}
+use Rattle.sem_mir.specs.Step.{Falls, Went, does, read, numbered, with_core, do_item, step, slot_loaded, set_register}
+use Rattle.sem_mir.proofs.InRange.{spelled_below}
+use Rattle.sem_mir.proofs.Outcomes.{step_item}
+use Rattle.sem_simulation.specs.Words.{SameCode}
+use Rattle.sem_machine.specs.Image.{Image}
+use Rattle.sem_machine.specs.Machine.{Machine}
 use Rattle.machine_steps.specs.Beside.{frame_low}
 use Rattle.machine_steps.specs.Laid.{fetched, IsLaidAt}
 use Rattle.machine_steps.specs.Steps.{framed_run, Level}

@@ -4,8 +4,8 @@ use Rattle.rv64_instr.specs.declared.place.Place.{Place}
 use Rattle.mir_func.specs.declared.position.Pos.{Pos}
 use Rattle.mir_func.specs.declared.variable.VarId.{VarId}
 use Rattle.mir_func.specs.Graph.{Program, block_start}
-use Rattle.mir_meaning.specs.Token.{IsWanted}
-use Rattle.code_layout.specs.Exact.{AreExact}
+use Rattle.sem_mir.specs.Token.{IsWanted}
+use Rattle.sem_machine.specs.Exact.{AreExact}
 use Rattle.machine_runs.specs.Lists.{GiveWanted}
 
 -- lists that are exact for g at some points give only what is wanted for h at any of these points, where what g wants h wants

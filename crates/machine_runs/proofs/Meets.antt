@@ -14,17 +14,17 @@ use Rattle.mir_func.specs.Exits.{exit_of}
 use Rattle.mir_func.specs.Function.{Function, FramedFunction}
 use Rattle.mir_func.specs.Graph.{Here, Program, below, block_start, program_of, framed_program}
 use Rattle.mir_func.specs.SoundFrame.{IsFramed}
-use Rattle.mir_meaning.specs.Align.{position_of, is_code, waits_at, ByItems, ByWords, station_of, station_at, Since, Same, After, since_of, First, Aligns}
-use Rattle.mir_meaning.specs.Align.{met}
-use Rattle.mir_meaning.specs.State.{State}
-use Rattle.mir_meaning.specs.Step.{Went, Returned, Faulted, read, step}
-use Rattle.mir_meaning.proofs.Alignment.{aligns_at}
-use Rattle.simulation.specs.Words.{Shown}
-use Rattle.simulation.proofs.Stations.{code_station}
-use Rattle.code_layout.specs.Image.{CodeLine, Image, line_at}
-use Rattle.code_layout.specs.Machine.{Machine, register, machine_start}
-use Rattle.code_layout.specs.MachineStep.{Continues, Ends, Awaits, machine_step}
-use Rattle.code_layout.specs.Headline.{StartsAt, KEPT, MachineAgrees}
+use Rattle.sem_mir.specs.Align.{position_of, is_code, waits_at, ByItems, ByWords, station_of, station_at, Since, Same, After, since_of, First, Aligns}
+use Rattle.sem_mir.specs.Align.{met}
+use Rattle.sem_mir.specs.State.{State}
+use Rattle.sem_mir.specs.Step.{Went, Returned, Faulted, read, step}
+use Rattle.sem_mir.proofs.Alignment.{aligns_at}
+use Rattle.sem_simulation.specs.Words.{Shown}
+use Rattle.sem_simulation.proofs.Stations.{code_station}
+use Rattle.sem_machine.specs.Image.{CodeLine, Image, line_at}
+use Rattle.sem_machine.specs.Machine.{Machine, register, machine_start}
+use Rattle.sem_machine.specs.MachineStep.{Continues, Ends, Awaits, machine_step}
+use Rattle.sem_machine.specs.Headline.{StartsAt, KEPT, MachineAgrees}
 use Rattle.machine_steps.specs.Laid.{fetched, IsLaidAt}
 use Rattle.machine_steps.specs.Steps.{framed_run, Level, OneStep, goes, gives, waits, faults, TwoSteps, over, through}
 use Rattle.machine_steps.proofs.Lands.{Lands}
@@ -40,7 +40,7 @@ use Rattle.machine_steps.specs.Beside.{Beside}
 use Rattle.machine_steps.specs.Pointer.{IsPointerAt}
 use Rattle.machine_steps.proofs.Quiet.{starts_beside}
 use Rattle.mir_func.specs.declared.object.Object.{Object}
-use Rattle.mir_meaning.specs.Follow.{IsStart, first_of}
+use Rattle.sem_mir.specs.Follow.{IsStart, first_of}
 
 pub gives_no_step : (v : List ℕ) (n : Machine) → Ends v ≡ Continues n → ⊥
 gives_no_step v n e = cc

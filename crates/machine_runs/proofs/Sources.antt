@@ -14,16 +14,16 @@ use Rattle.mir_func.specs.declared.item.Item.{Item}
 use Rattle.mir_func.specs.declared.item.ItemKind.{ItemKind}
 use Rattle.mir_func.specs.declared.item.ItemKind.TheVariants.{Code, Mark, Phi}
 use Rattle.mir_func.specs.Graph.{Fetch, Here, Silent, Outside, Program, below, block_start}
-use Rattle.mir_meaning.specs.State.{Core, State, Reply, content, put, put_all, writes_frame}
-use Rattle.mir_meaning.specs.Step.{Went, Returned, Faulted, Outcome, Falls, Goes, Gives, Traps, Asks, Breaks, act, does, are_written, is_fault, address_at}
-use Rattle.mir_meaning.specs.Step.{answered}
-use Rattle.mir_meaning.specs.Step.{slot_loaded, numbered, with_core, do_item, do_fetch, moved, step, read, run}
-use Rattle.mir_meaning.specs.Align.{Arrives, here, onward, Since, Start, Same, After, Aligns, Along, begin, other, met, Station}
-use Rattle.mir_meaning.specs.Effects.{SameWorld, EndAlike, AreHeldAlike, OnCore, held_in}
-use Rattle.mir_meaning.proofs.Outcomes.{on_either, alike_with, alike_returns, alike_faults}
-use Rattle.mir_meaning.proofs.Parts.{effects_hold}
-use Rattle.mir_meaning.proofs.Runs.{run_step_last}
-use Rattle.simulation.specs.Words.{SameCode}
+use Rattle.sem_mir.specs.State.{Core, State, Reply, content, put, put_all, writes_frame}
+use Rattle.sem_mir.specs.Step.{Went, Returned, Faulted, Outcome, Falls, Goes, Gives, Traps, Asks, Breaks, act, does, are_written, is_fault, address_at}
+use Rattle.sem_mir.specs.Step.{answered}
+use Rattle.sem_mir.specs.Step.{slot_loaded, numbered, with_core, do_item, do_fetch, moved, step, read, run}
+use Rattle.sem_mir.specs.Align.{Arrives, here, onward, Since, Start, Same, After, Aligns, Along, begin, other, met, Station}
+use Rattle.sem_mir.specs.Effects.{SameWorld, EndAlike, AreHeldAlike, OnCore, held_in}
+use Rattle.sem_mir.proofs.Outcomes.{on_either, alike_with, alike_returns, alike_faults}
+use Rattle.sem_mir.proofs.Parts.{effects_hold}
+use Rattle.sem_mir.proofs.Runs.{run_step_last}
+use Rattle.sem_simulation.specs.Words.{SameCode}
 
 -- ---- from equal places
 

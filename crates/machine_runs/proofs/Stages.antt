@@ -15,19 +15,19 @@ use Rattle.mir_func.specs.declared.variable.VarId.{VarId}
 use Rattle.mir_func.specs.Function.{Function, FramedFunction}
 use Rattle.mir_func.specs.Graph.{Here, Silent, Program, below, block_start, program_of}
 use Rattle.mir_func.specs.SoundFrame.{IsFramed}
-use Rattle.mir_meaning.specs.Align.{position_of, is_code, waits_at, Station, ByWords, station_at, Since, Same, After, since_of, First, Aligns, Along}
-use Rattle.mir_meaning.specs.Align.{other, FailsBefore}
+use Rattle.sem_mir.specs.Align.{position_of, is_code, waits_at, Station, ByWords, station_at, Since, Same, After, since_of, First, Aligns, Along}
+use Rattle.sem_mir.specs.Align.{other, FailsBefore}
 use Rattle.mir_func.specs.declared.exit.Exit.TheVariants.{Perhaps}
 use Rattle.mir_func.specs.Exits.{row_exit, exit_of}
-use Rattle.mir_meaning.specs.State.{Core, State}
-use Rattle.mir_meaning.specs.Step.{Went, Returned, Faulted, Waits, step}
-use Rattle.mir_meaning.proofs.Alignment.{went_once}
-use Rattle.simulation.specs.Words.{SameCode, Shown}
-use Rattle.simulation.proofs.Stations.{debug_station, end_is_station}
-use Rattle.code_layout.specs.Image.{CodeLine, Image, line_at}
-use Rattle.code_layout.specs.Machine.{Machine, machine_start}
-use Rattle.code_layout.specs.MachineStep.{Continues, machine_step}
-use Rattle.code_layout.specs.Headline.{StartsAt, MachineAgrees}
+use Rattle.sem_mir.specs.State.{Core, State}
+use Rattle.sem_mir.specs.Step.{Went, Returned, Faulted, Waits, step}
+use Rattle.sem_mir.proofs.Alignment.{went_once}
+use Rattle.sem_simulation.specs.Words.{SameCode, Shown}
+use Rattle.sem_simulation.proofs.Stations.{debug_station, end_is_station}
+use Rattle.sem_machine.specs.Image.{CodeLine, Image, line_at}
+use Rattle.sem_machine.specs.Machine.{Machine, machine_start}
+use Rattle.sem_machine.specs.MachineStep.{Continues, machine_step}
+use Rattle.sem_machine.specs.Headline.{StartsAt, MachineAgrees}
 use Rattle.machine_steps.specs.Beside.{Beside}
 use Rattle.machine_steps.specs.Laid.{fetched, HasRow, IsLaidAt}
 use Rattle.machine_steps.specs.Steps.{framed_run, Level, OneStep, goes, gives, waits, faults, AtCode, single, double}
@@ -180,7 +180,7 @@ module _ (source : Function) (f : FramedFunction) (resolve fresolve : OperandPai
     state = z.state;
     stands = z.stands;
     at = z.at;
-    code = Rattle.simulation.proofs.Turns.code_trans z.state.core u.core h.core z.code code;
+    code = Rattle.sem_simulation.proofs.Turns.code_trans z.state.core u.core h.core z.code code;
     known = λ k. z.known (known_step g (block_start 0) h u k went);
     told = λ w v x e. told w v x (z.told (quiet w) v x e);
   }
@@ -190,7 +190,7 @@ module _ (source : Function) (f : FramedFunction) (resolve fresolve : OperandPai
     state = h;
     stands = l;
     at = e;
-    code = Rattle.simulation.proofs.Turns.same_code h.core;
+    code = Rattle.sem_simulation.proofs.Turns.same_code h.core;
     known = λ k. k;
     told = λ w v x e. e;
   }

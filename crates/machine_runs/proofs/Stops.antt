@@ -16,12 +16,12 @@ use Rattle.mir_func.specs.Function.{FramedFunction}
 use Rattle.mir_func.specs.Graph.{Here, below, block_start, index_of}
 use Rattle.mir_func.specs.Sound.{ids_of, TargetIn, TargetsIn}
 use Rattle.mir_func.specs.SoundFrame.{body_of, IsFramed}
-use Rattle.mir_meaning.specs.Align.{is_code}
-use Rattle.mir_meaning.specs.State.{Reply}
-use Rattle.code_layout.specs.Image.{Image}
-use Rattle.code_layout.specs.Machine.{Machine, register}
-use Rattle.code_layout.specs.MachineStep.{Stepped, Continues, Ends, Awaits, past, at, does_row, answered, machine_step, Comes, there, steps, IsWell}
-use Rattle.code_layout.specs.MachineStep as machine
+use Rattle.sem_mir.specs.Align.{is_code}
+use Rattle.sem_mir.specs.State.{Reply}
+use Rattle.sem_machine.specs.Image.{Image}
+use Rattle.sem_machine.specs.Machine.{Machine, register}
+use Rattle.sem_machine.specs.MachineStep.{Stepped, Continues, Ends, Awaits, past, at, does_row, answered, machine_step, Comes, there, steps, IsWell}
+use Rattle.sem_machine.specs.MachineStep as machine
 use Rattle.machine_steps.specs.Beside.{object_place}
 use Rattle.machine_steps.specs.Laid.{fetched, target_of, start_of, HasWord, HasTwoWords, HasCall, HasReturn, HasRow, IsLaidAt}
 use Rattle.machine_steps.proofs.Lands.{Lands, Settles, now, past_item, past_end, first_lands, below_lands, target_lands}

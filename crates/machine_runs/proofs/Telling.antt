@@ -19,18 +19,18 @@ use Rattle.mir_func.specs.Function.{FramedFunction}
 use Rattle.mir_func.specs.Graph.{Here, Silent, Program, below, block_start}
 use Rattle.mir_func.specs.SoundFrame.{IsFramed}
 use Rattle.mir_func.specs.Variables.{is_same, overlaps, part_value}
-use Rattle.mir_meaning.specs.Align.{is_code, Since, Station, Along, begin, other, met, Tells}
-use Rattle.mir_meaning.specs.Effects.{OnCore}
-use Rattle.mir_meaning.specs.State.{Core, State, Reply, updated, content, spelled, assigned, writes_frame}
-use Rattle.mir_meaning.specs.Step.{Went, Outcome, Falls, Goes, Gives, Traps, Asks, Breaks, act, does, are_written, is_fault, address_at, answered, slot_loaded}
-use Rattle.mir_meaning.specs.Step.{numbered, with_core, part_of, mark_value, place_value, do_item, moved, step, read}
-use Rattle.mir_meaning.specs.Token.{Token, register_token, Path}
-use Rattle.mir_meaning.proofs.Outcomes.{on_either, step_item, step_end}
-use Rattle.path_tokens.proofs.Along.{good_names}
-use Rattle.path_tokens.proofs.Naming.{Holds}
-use Rattle.simulation.specs.Words.{SameCode}
-use Rattle.code_layout.specs.Image.{Image}
-use Rattle.code_layout.specs.Machine.{Machine, place_content}
+use Rattle.sem_mir.specs.Align.{is_code, Since, Station, Along, begin, other, met, Tells}
+use Rattle.sem_mir.specs.Effects.{OnCore}
+use Rattle.sem_mir.specs.State.{Core, State, Reply, updated, content, spelled, assigned, writes_frame}
+use Rattle.sem_mir.specs.Step.{Went, Outcome, Falls, Goes, Gives, Traps, Asks, Breaks, act, does, are_written, is_fault, address_at, answered, slot_loaded}
+use Rattle.sem_mir.specs.Step.{numbered, with_core, part_of, mark_value, place_value, do_item, moved, step, read}
+use Rattle.sem_mir.specs.Token.{Token, register_token, Path}
+use Rattle.sem_mir.proofs.Outcomes.{on_either, step_item, step_end}
+use Rattle.sem_value_ids.proofs.Along.{good_names}
+use Rattle.sem_value_ids.proofs.Naming.{Holds}
+use Rattle.sem_simulation.specs.Words.{SameCode}
+use Rattle.sem_machine.specs.Image.{Image}
+use Rattle.sem_machine.specs.Machine.{Machine, place_content}
 use Rattle.machine_steps.specs.Beside.{frame_low, Beside}
 use Rattle.machine_steps.specs.Laid.{IsLaidAt}
 use Rattle.machine_steps.specs.Pointer.{IsPointerAt}

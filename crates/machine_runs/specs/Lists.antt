@@ -8,8 +8,8 @@ use Rattle.mir_func.specs.declared.variable.VarId.{VarId}
 use Rattle.mir_func.specs.Exits.{exit_of}
 use Rattle.mir_func.specs.Function.{FramedFunction}
 use Rattle.mir_func.specs.Graph.{Here, Program, below, block_start}
-use Rattle.mir_meaning.specs.Align.{is_code}
-use Rattle.mir_meaning.specs.Token.{IsWanted}
+use Rattle.sem_mir.specs.Align.{is_code}
+use Rattle.sem_mir.specs.Token.{IsWanted}
 use Rattle.machine_steps.specs.Laid.{fetched}
 
 -- the lists give a part of a variable a place only where that place is wanted at the code's position, by the tokens of all paths of the

@@ -16,12 +16,12 @@ use Rattle.mir_func.specs.Exits.{exit_of}
 use Rattle.mir_func.specs.Function.{Function, FramedFunction}
 use Rattle.mir_func.specs.Graph.{Here, Silent, Program, below, block_start, program_of, framed_program}
 use Rattle.mir_func.specs.SoundFrame.{IsFramed}
-use Rattle.mir_meaning.specs.State.{State, content}
-use Rattle.mir_meaning.specs.Step.{Went, Returned, Faulted, read, step, run}
-use Rattle.mir_meaning.specs.Align.{position_of, is_code}
-use Rattle.simulation.specs.Words.{RunsByWords}
-use Rattle.code_layout.specs.Image.{Image}
-use Rattle.code_layout.specs.Headline.{StartsAt, KEPT, Headline}
+use Rattle.sem_mir.specs.State.{State, content}
+use Rattle.sem_mir.specs.Step.{Went, Returned, Faulted, read, step, run}
+use Rattle.sem_mir.specs.Align.{position_of, is_code}
+use Rattle.sem_simulation.specs.Words.{RunsByWords}
+use Rattle.sem_machine.specs.Image.{Image}
+use Rattle.sem_machine.specs.Headline.{StartsAt, KEPT, Headline}
 use Rattle.machine_steps.specs.Laid.{fetched, IsLaidAt}
 use Rattle.machine_runs.specs.Lists.{GiveWanted, IsPointAt}
 

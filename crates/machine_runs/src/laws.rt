@@ -2,7 +2,7 @@
 
 ghost use Rattle.machine_runs.specs.Runs.{LaidCodeMeetsTheHeadline};
 
-use code_layout::laws::LocationLists;
+use sem_machine::laws::LocationLists;
 
 /// The image in which a function with its frame lies meets the headline, for lists that give only wanted places.
 pub fn laid_code_meets_the_headline<L: LocationLists>()

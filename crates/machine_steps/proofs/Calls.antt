@@ -8,11 +8,11 @@ use Rattle.rv64_instr.specs.Row.{Calls}
 use Rattle.rv64_instr.specs.Access.{caller_saved}
 use Rattle.mir_func.specs.Function.{FramedFunction}
 use Rattle.mir_func.specs.SoundFrame.{IsFramed}
-use Rattle.mir_meaning.specs.State.{Core, Reply, Event, Called, updated, spelled, written, in_frame, writes_frame, IsReply, IsInRange}
-use Rattle.mir_meaning.specs.Step.{Outcome, Falls, Goes, Gives, Traps, Asks, Breaks, does, read, numbered}
-use Rattle.mir_meaning.specs.Step as source
-use Rattle.code_layout.specs.Machine.{Machine, register, set_all_in}
-use Rattle.code_layout.specs.MachineStep.{Stepped, Continues, Awaits, past, answered}
+use Rattle.sem_mir.specs.State.{Core, Reply, Event, Called, updated, spelled, written, in_frame, writes_frame, IsReply, IsInRange}
+use Rattle.sem_mir.specs.Step.{Outcome, Falls, Goes, Gives, Traps, Asks, Breaks, does, read, numbered}
+use Rattle.sem_mir.specs.Step as source
+use Rattle.sem_machine.specs.Machine.{Machine, register, set_all_in}
+use Rattle.sem_machine.specs.MachineStep.{Stepped, Continues, Awaits, past, answered}
 use Rattle.machine_steps.specs.Beside.{frame_low, Beside}
 use Rattle.machine_steps.proofs.Memory.{spelled_alike}
 use Rattle.machine_steps.proofs.Rows.{set_all_alike, set_all_written, slot_byte}
@@ -47,7 +47,7 @@ written_outside [] x entry area b out is = refl
 written_outside (w ∷ ws) x entry area b out is =
     let k = neither (in_frame entry area w.0) (writes_frame entry area ws) out in
     let ne : b ≡ w.0 → ⊥ = λ e. not_equal (ap (in_frame entry area) e) k.0 in
-    written_outside ws (updated w.0 w.1 x) entry area b k.1 is ∙ Rattle.mir_meaning.proofs.Places.updated_other w.0 b w.1 x ne where
+    written_outside ws (updated w.0 w.1 x) entry area b k.1 is ∙ Rattle.sem_mir.proofs.Places.updated_other w.0 b w.1 x ne where
       not_equal : in_frame entry area b ≡ in_frame entry area w.0 → in_frame entry area w.0 ≡ false → ⊥
       not_equal e o = let bad : true ≡ false = sym is ∙ e ∙ o in cc
 
@@ -59,7 +59,7 @@ module _ (f : FramedFunction) (framed : IsFramed f) (c : Core) (m : Machine) (h 
   beside_answered : (name args : List ℕ) (r : Reply) (rest : List Reply) → IsReply r → writes_frame c.entry c.area r.writes ≡ false →
       Beside f
       (record c {
-        regs = Rattle.mir_meaning.specs.State.put_all caller_saved r.regs c.regs;
+        regs = Rattle.sem_mir.specs.State.put_all caller_saved r.regs c.regs;
         memory = written c.memory r.writes;
         script = rest;
         events = Called name args ∷ c.events;
@@ -93,7 +93,7 @@ module _ (f : FramedFunction) (framed : IsFramed f) (c : Core) (m : Machine) (h 
   call_by name args (r ∷ rs) is = by_fault (writes_frame c.entry c.area r.writes) refl where
     by_fault : (b : Bool) → writes_frame c.entry c.area r.writes ≡ b → FollowsCall f m
         (cond b Traps (Falls (record c {
-          regs = Rattle.mir_meaning.specs.State.put_all caller_saved r.regs c.regs;
+          regs = Rattle.sem_mir.specs.State.put_all caller_saved r.regs c.regs;
           memory = written c.memory r.writes;
           script = rs;
           events = Called name args ∷ c.events;

@@ -12,8 +12,8 @@ use Rattle.mir_func.specs.Function.{FramedFunction}
 use Rattle.mir_func.specs.Graph.{Here, Silent, below, block_start, end_of, front, fetch_in, index_of}
 use Rattle.mir_func.specs.Sound.{AreApart, ids_of, Closes, LastCloses}
 use Rattle.mir_func.specs.SoundFrame.{body_of, NumberedAlike, IsFramed}
-use Rattle.mir_meaning.specs.Align.{is_code}
-use Rattle.mir_meaning.proofs.Reading.{apart_tail}
+use Rattle.sem_mir.specs.Align.{is_code}
+use Rattle.sem_mir.proofs.Reading.{apart_tail}
 use Rattle.machine_steps.specs.Laid.{fetched}
 use Rattle.machine_steps.proofs.Points.{dropped, drop_next, drop_zero, stands_at}
 
@@ -174,7 +174,7 @@ module _ (f : FramedFunction) where
     pub next_index : (p : Pos) (k n : ℕ) → fetched f p ≡ Silent k n → index_of (body_of f.blocks) n ≡ p.block
     next_index p k n e = by_blocks (drop p.block f.blocks) refl e where
       by_end : (xs : List Item) (j s : ℕ) (bs : List Block) → front (drop j xs) s bs ≡ Silent k n → end_of s bs ≡ Silent k n
-      by_end xs j s bs h = (Rattle.mir_meaning.proofs.Reading.front_end xs j s bs k n h).1
+      by_end xs j s bs h = (Rattle.sem_mir.proofs.Reading.front_end xs j s bs k n h).1
 
       by_blocks : (bs : List Block) → drop p.block f.blocks ≡ bs → fetch_in bs p.item ≡ Silent k n → index_of (body_of f.blocks) n ≡ p.block
       by_blocks [] d h = cc

@@ -2,8 +2,8 @@
 use Rattle.std.proofs.Common.{◌≡◌, ℕ, zero, suc, ◌+◌, ◌*◌, ◌/◌, ◌%◌, ◌^◌, ◌<◌, ◌≤◌, List, length, Bool, true, false}
 use Rattle.std.proofs.Common.{nat_lt, nat_le, ◌&&◌, ◌||◌, refl, ap, ◌∙◌, subst, pow-suc, lt-ltb, le-ltb, le-leb, arith}
 use Rattle.mir_func.specs.Limits.{FRAME_ROOM}
-use Rattle.mir_meaning.specs.State.{updated, spelled, low_bytes, stored, in_frame, touches_frame}
-use Rattle.mir_meaning.proofs.Places.{updated_same, stored_other}
+use Rattle.sem_mir.specs.State.{updated, spelled, low_bytes, stored, in_frame, touches_frame}
+use Rattle.sem_mir.proofs.Places.{updated_same, stored_other}
 
 -- the same bytes spell the same number
 pub spelled_alike : (m m' : ℕ → ℕ) (n a : ℕ) → ((j : ℕ) → j < n → m ((a + j) % 2 ^ 64) ≡ m' ((a + j) % 2 ^ 64)) → spelled m a n ≡ spelled m' a n

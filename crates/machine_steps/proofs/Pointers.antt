@@ -11,19 +11,19 @@ use Rattle.mir_func.specs.declared.exit.Exit.TheVariants.{Final}
 use Rattle.mir_func.specs.Exits.{row_exit, Leaves}
 use Rattle.mir_func.specs.Sound.{TargetIn}
 use Rattle.rv64_word.specs.MachineRow.{placed}
-use Rattle.code_layout.specs.Machine.{Machine}
-use Rattle.code_layout.specs.MachineStep.{Ends, does_row}
-use Rattle.code_layout.specs.MachineStep as machine
+use Rattle.sem_machine.specs.Machine.{Machine}
+use Rattle.sem_machine.specs.MachineStep.{Ends, does_row}
+use Rattle.sem_machine.specs.MachineStep as machine
 use Rattle.rv64_instr.specs.declared.operand.Operand.{Operand}
-use Rattle.mir_meaning.specs.Step.{numbered}
-use Rattle.simulation.specs.Words.{SameCode}
-use Rattle.simulation.proofs.Turns.{same_code}
-use Rattle.mir_meaning.specs.State.{Core, Reply, content, put, put_all, writes_frame}
-use Rattle.mir_meaning.specs.Step.{Outcome, Falls, Goes, Traps, does, read}
-use Rattle.mir_meaning.specs.Step.{is_fault, address_at, answered, slot_loaded, set_register}
-use Rattle.mir_meaning.specs.Effects.{OnCore}
-use Rattle.mir_meaning.proofs.Outcomes.{on_either}
-use Rattle.mir_meaning.proofs.Places.{put_all_other}
+use Rattle.sem_mir.specs.Step.{numbered}
+use Rattle.sem_simulation.specs.Words.{SameCode}
+use Rattle.sem_simulation.proofs.Turns.{same_code}
+use Rattle.sem_mir.specs.State.{Core, Reply, content, put, put_all, writes_frame}
+use Rattle.sem_mir.specs.Step.{Outcome, Falls, Goes, Traps, does, read}
+use Rattle.sem_mir.specs.Step.{is_fault, address_at, answered, slot_loaded, set_register}
+use Rattle.sem_mir.specs.Effects.{OnCore}
+use Rattle.sem_mir.proofs.Outcomes.{on_either}
+use Rattle.sem_mir.proofs.Places.{put_all_other}
 use Rattle.machine_steps.specs.Laid.{target_of}
 use Rattle.machine_steps.proofs.Rows.{NeedsFrame}
 use Rattle.machine_steps.proofs.Registers.{LeavesTwo}
@@ -36,7 +36,7 @@ abbrev pub SamePointer : Core → Core → Type 0
 SamePointer c d = (content d.regs 2 ≡ content c.regs 2) × (d.entry ≡ c.entry)
 
 put_two : (rd v : ℕ) (regs : ℕ → Option ℕ) → (rd ≡ 2 → ⊥) → content (put rd v regs) 2 ≡ content regs 2
-put_two rd v regs ne = Rattle.mir_meaning.proofs.Places.put_other rd 2 v regs (λ e. ne (sym e))
+put_two rd v regs ne = Rattle.sem_mir.proofs.Places.put_other rd 2 v regs (λ e. ne (sym e))
 
 two_kept : (rs vs : List ℕ) (regs : ℕ → Option ℕ) → All (λ r. r ≡ 2 → ⊥) rs → content (put_all rs vs regs) 2 ≡ content regs 2
 two_kept [] vs regs h = refl

@@ -15,7 +15,7 @@ use Rattle.mir_func.specs.Function.{FramedFunction}
 use Rattle.mir_func.specs.Graph.{Here, Silent, below, block_start, end_of, front, fetch_in}
 use Rattle.mir_func.specs.Sound.{AllItems, LeavesPointer}
 use Rattle.mir_func.specs.SoundFrame.{adds_to_pointer, AreCode, prologue_code, epilogue_code, GivesBack, HasFrame, IsFramed}
-use Rattle.mir_meaning.proofs.Reading.{front_item}
+use Rattle.sem_mir.proofs.Reading.{front_item}
 use Rattle.machine_steps.specs.Laid.{fetched}
 use Rattle.machine_steps.specs.Pointer.{fetch_returns, is_as_at_entry, lowered_by}
 use Rattle.machine_steps.proofs.Motions.{KindLeavesTwo, kind_leaves, IsNotFinal, Motion, Moves, block_moves, IsOfPrologue, prologue_moves}

@@ -10,15 +10,15 @@ use Rattle.mir_func.specs.Exits.{exit_of}
 use Rattle.mir_func.specs.Function.{FramedFunction}
 use Rattle.mir_func.specs.Graph.{Here, Silent, below, block_start, index_of}
 use Rattle.mir_func.specs.SoundFrame.{body_of, IsFramed}
-use Rattle.mir_meaning.specs.Align.{is_code}
-use Rattle.mir_meaning.specs.State.{Core, State, updated, content}
-use Rattle.mir_meaning.specs.Step.{Falls, Went, part_of, mark_value, place_value, do_item, step, read}
-use Rattle.mir_meaning.proofs.InRange.{step_in_range, start_in_range}
-use Rattle.mir_meaning.proofs.Outcomes.{step_item, step_end}
-use Rattle.simulation.specs.Words.{SameCode}
-use Rattle.simulation.proofs.Turns.{same_code}
-use Rattle.code_layout.specs.Image.{Image}
-use Rattle.code_layout.specs.Machine.{Machine, machine_start, register}
+use Rattle.sem_mir.specs.Align.{is_code}
+use Rattle.sem_mir.specs.State.{Core, State, updated, content}
+use Rattle.sem_mir.specs.Step.{Falls, Went, part_of, mark_value, place_value, do_item, step, read}
+use Rattle.sem_mir.proofs.InRange.{step_in_range, start_in_range}
+use Rattle.sem_mir.proofs.Outcomes.{step_item, step_end}
+use Rattle.sem_simulation.specs.Words.{SameCode}
+use Rattle.sem_simulation.proofs.Turns.{same_code}
+use Rattle.sem_machine.specs.Image.{Image}
+use Rattle.sem_machine.specs.Machine.{Machine, machine_start, register}
 use Rattle.machine_steps.specs.Beside.{Beside}
 use Rattle.machine_steps.specs.Laid.{fetched, IsLaidAt}
 use Rattle.machine_steps.specs.Pointer.{lowered_by}
@@ -100,7 +100,7 @@ module _ (f : FramedFunction) (framed : IsFramed f) (resolve : OperandPair →
         level = record {
           beside = b;
           range = step_in_range (framed_run f resolve image laid) t u level.range went;
-          pointer = ap (λ (regs : ℕ → Option ℕ). Rattle.mir_meaning.specs.Step.or_zero (content regs 2)) code.regs ∙ level.pointer
+          pointer = ap (λ (regs : ℕ → Option ℕ). Rattle.sem_mir.specs.Step.or_zero (content regs 2)) code.regs ∙ level.pointer
               ∙ ap (λ (x : ℕ). t.core.entry - x) (sym (debug_down i here plain)) ∙ ap (λ (x : ℕ). x - lowered_by f (below t.pos)) (sym code.entry);
           counter = level.counter ∙ sym (laid.debug t.pos i here plain);
         };
@@ -171,7 +171,7 @@ starts_beside f framed resolve image laid first s start = record {
     events = sym start.events;
   };
   range = start_in_range f.objects first s start;
-  pointer = ap Rattle.mir_meaning.specs.Step.or_zero start.pointer ∙ (let q : s.core.entry ≡ s.core.entry - 0 = omega arith in q);
+  pointer = ap Rattle.sem_mir.specs.Step.or_zero start.pointer ∙ (let q : s.core.entry ≡ s.core.entry - 0 = omega arith in q);
   counter = sym laid.low;
 } where
   read_start : (r : ℕ) → register (machine_start image s) r ≡ read s.core r

@@ -17,18 +17,18 @@ use Rattle.mir_func.specs.SoundFrame.{own_size, slot_offsets, IsSlotOffset, IsFr
 use Rattle.mir_func.specs.Sound.{HasBytes, SlotIn, ObjectIn}
 use Rattle.std.proofs.lemmas.List.Elements.{All-contains}
 use Rattle.rv64_word.specs.MachineRow.{object_named}
-use Rattle.mir_meaning.proofs.InRange.{RowInRange}
-use Rattle.mir_meaning.specs.State.{Core, Reply, content, put, put_all, spelled, low_bytes, stored, written, in_frame, touches_frame, IsInRange}
-use Rattle.mir_meaning.specs.Step.{Outcome, Falls, Goes, Gives, Traps, Asks, Breaks, act, does, read, or_zero, input_value, are_written, loaded, put_in_memory}
-use Rattle.mir_meaning.specs.Step.{slot_loaded, saved, address_at, object_address}
-use Rattle.mir_meaning.specs.Step as source
-use Rattle.code_layout.specs.Machine.{Machine, register, register_in, input, set_in, set_all_in, address_of}
-use Rattle.code_layout.specs.MachineStep.{Stepped, Continues, past, at, set_register, store, shown_store, does_row}
-use Rattle.code_layout.specs.MachineStep as machine
+use Rattle.sem_mir.proofs.InRange.{RowInRange}
+use Rattle.sem_mir.specs.State.{Core, Reply, content, put, put_all, spelled, low_bytes, stored, written, in_frame, touches_frame, IsInRange}
+use Rattle.sem_mir.specs.Step.{Outcome, Falls, Goes, Gives, Traps, Asks, Breaks, act, does, read, or_zero, input_value, are_written, loaded, put_in_memory}
+use Rattle.sem_mir.specs.Step.{slot_loaded, saved, address_at, object_address}
+use Rattle.sem_mir.specs.Step as source
+use Rattle.sem_machine.specs.Machine.{Machine, register, register_in, input, set_in, set_all_in, address_of}
+use Rattle.sem_machine.specs.MachineStep.{Stepped, Continues, past, at, set_register, store, shown_store, does_row}
+use Rattle.sem_machine.specs.MachineStep as machine
 use Rattle.machine_steps.specs.Beside.{frame_low, object_place, Beside}
 use Rattle.machine_steps.proofs.Objects.{object_within}
 use Rattle.machine_steps.proofs.Memory.{spelled_alike, length_low, stored_spelled, stored_elsewhere, untouched, not_touched, is_in_frame, is_above, touched}
-use Rattle.mir_meaning.proofs.Places.{stored_other}
+use Rattle.sem_mir.proofs.Places.{stored_other}
 
 -- a row that a word may have
 abbrev pub IsWordRow : Row → Type 0
@@ -191,14 +191,14 @@ module _ (f : FramedFunction) (framed : IsFramed f) (c : Core) (m : Machine) (h 
     by_test false = lt
 
   shown_outside : (a n v : ℕ) → touches_frame c.entry c.area a n ≡ false →
-      shown_store a (low_bytes n v) m ≡ Rattle.mir_meaning.specs.State.Wrote a (low_bytes n v) ∷ c.events
+      shown_store a (low_bytes n v) m ≡ Rattle.sem_mir.specs.State.Wrote a (low_bytes n v) ∷ c.events
   shown_outside a n v e =
       let bs = low_bytes n v in
       let t : touches_frame m.entry m.area a (length bs) ≡ false =
       ap (λ (z : ℕ). touches_frame z m.area a (length bs)) h.same_entry ∙ ap (λ (z : ℕ). touches_frame c.entry z a (length bs)) h.same_area
       ∙ ap (touches_frame c.entry c.area a) (length_low n v) ∙ e in
-      ap (λ (z : Bool). cond z m.events (Rattle.mir_meaning.specs.State.Wrote a bs ∷ m.events)) t
-      ∙ ap (λ (es : List Rattle.mir_meaning.specs.State.Event). Rattle.mir_meaning.specs.State.Wrote a bs ∷ es) h.events
+      ap (λ (z : Bool). cond z m.events (Rattle.sem_mir.specs.State.Wrote a bs ∷ m.events)) t
+      ∙ ap (λ (es : List Rattle.sem_mir.specs.State.Event). Rattle.sem_mir.specs.State.Wrote a bs ∷ es) h.events
 
   -- a store outside the frame
   beside_stored : (a n v : ℕ) → touches_frame c.entry c.area a n ≡ false →
@@ -287,7 +287,7 @@ module _ (f : FramedFunction) (framed : IsFramed f) (c : Core) (m : Machine) (h 
 
     -- a slot that is stored: its bytes spell it, and those of another slot stay
     slot_stored : (n v : ℕ) → IsSlotOffset f n → v < 2 ^ 64 →
-        Beside f (record c { slots = Rattle.mir_meaning.specs.State.updated n (Some v) c.slots })
+        Beside f (record c { slots = Rattle.sem_mir.specs.State.updated n (Some v) c.slots })
         (past 4 (store (frame_low f c + n) (low_bytes 8 v) m))
     slot_stored n v is small = record {
       room = h.room;
@@ -306,7 +306,7 @@ module _ (f : FramedFunction) (framed : IsFramed f) (c : Core) (m : Machine) (h 
       bytes = λ b. low_byte 8 v a b m.memory (h.bytes b);
       slots = λ o x ix s. by_slot o x ix (cases_eq o n) s;
       script = h.script;
-      events = ap (λ (z : Bool). cond z m.events (Rattle.mir_meaning.specs.State.Wrote a (low_bytes 8 v) ∷ m.events)) touches_it ∙ h.events;
+      events = ap (λ (z : Bool). cond z m.events (Rattle.sem_mir.specs.State.Wrote a (low_bytes 8 v) ∷ m.events)) touches_it ∙ h.events;
     } where
       a : ℕ
       a = frame_low f c + n

@@ -17,15 +17,15 @@ use Rattle.mir_func.specs.Function.{FramedFunction}
 use Rattle.mir_func.specs.Graph.{Here, below, block_start, index_of}
 use Rattle.mir_func.specs.Sound.{SlotsIn, ObjectsIn, SlotIn, ObjectIn}
 use Rattle.mir_func.specs.SoundFrame.{adds_to_pointer, body_of, HasPhysical, slot_offsets, IsFramed}
-use Rattle.mir_meaning.specs.State.{Core, State, content}
-use Rattle.mir_meaning.specs.Step.{Outcome, Falls, Goes, Gives, Traps, Asks, Breaks, act, does, read, or_zero, numbered, with_core}
-use Rattle.mir_meaning.specs.Step.{do_item, moved, step, set_register}
-use Rattle.mir_meaning.proofs.InRange.{row_in_range, step_in_range}
-use Rattle.mir_meaning.proofs.Outcomes.{step_item}
-use Rattle.code_layout.specs.Image.{Image}
-use Rattle.code_layout.specs.Machine.{Machine, register}
-use Rattle.code_layout.specs.MachineStep.{Stepped, Continues, Ends, Awaits, past, at, machine_step}
-use Rattle.code_layout.specs.MachineStep as machine
+use Rattle.sem_mir.specs.State.{Core, State, content}
+use Rattle.sem_mir.specs.Step.{Outcome, Falls, Goes, Gives, Traps, Asks, Breaks, act, does, read, or_zero, numbered, with_core}
+use Rattle.sem_mir.specs.Step.{do_item, moved, step, set_register}
+use Rattle.sem_mir.proofs.InRange.{row_in_range, step_in_range}
+use Rattle.sem_mir.proofs.Outcomes.{step_item}
+use Rattle.sem_machine.specs.Image.{Image}
+use Rattle.sem_machine.specs.Machine.{Machine, register}
+use Rattle.sem_machine.specs.MachineStep.{Stepped, Continues, Ends, Awaits, past, at, machine_step}
+use Rattle.sem_machine.specs.MachineStep as machine
 use Rattle.machine_steps.specs.Beside.{frame_low, object_place, Beside}
 use Rattle.machine_steps.specs.Laid.{fetched, target_of, start_of, HasWord, HasTwoWords, HasCall, HasReturn, HasRow, IsLaidAt}
 use Rattle.machine_steps.specs.Pointer.{lowered_by, IsPointerAt}
@@ -39,8 +39,8 @@ use Rattle.machine_steps.proofs.Pointers.{raises_to, not_zero, goes_target, goes
 use Rattle.machine_steps.proofs.Lands.{Lands, below_lands, target_lands}
 use Rattle.mir_func.specs.Exits.{exit_of, row_exit, Leaves}
 use Rattle.mir_func.specs.Sound.{TargetsIn, ids_of}
-use Rattle.mir_meaning.specs.Step.{Went, Returned, Faulted, Waits, Lost}
-use Rattle.simulation.specs.Words.{SameCode}
+use Rattle.sem_mir.specs.Step.{Went, Returned, Faulted, Waits, Lost}
+use Rattle.sem_simulation.specs.Words.{SameCode}
 
 module _ (f : FramedFunction) (framed : IsFramed f) (resolve : OperandPair →
     Option OperandPair) (image : Image) (laid : IsLaidAt f image) (t : State) (m : Machine)
@@ -192,9 +192,9 @@ module _ (f : FramedFunction) (framed : IsFramed f) (resolve : OperandPair →
   by_outcome Asks st e s never next x = absurd x
   by_outcome Breaks st e s never next x = absurd x
 
-  line_is : (l : Rattle.code_layout.specs.Image.CodeLine) → Rattle.code_layout.specs.Image.line_at image.lines (laid.address t.pos) ≡ Some l →
-      Rattle.code_layout.specs.Image.line_at image.lines m.counter ≡ Some l
-  line_is l e = ap (Rattle.code_layout.specs.Image.line_at image.lines) level.counter ∙ e
+  line_is : (l : Rattle.sem_machine.specs.Image.CodeLine) → Rattle.sem_machine.specs.Image.line_at image.lines (laid.address t.pos) ≡ Some l →
+      Rattle.sem_machine.specs.Image.line_at image.lines m.counter ≡ Some l
+  line_is l e = ap (Rattle.sem_machine.specs.Image.line_at image.lines) level.counter ∙ e
 
   at_word : IsWordRow r → HasWord f image laid.address t.pos i r → AtCode f resolve image laid t m i
   at_word is w = single w.line (line_is w.line w.stands) w.origin
@@ -205,7 +205,7 @@ module _ (f : FramedFunction) (framed : IsFramed f) (resolve : OperandPair →
   at_branch : (op : BranchOp) (a b n : ℕ) → r ≡ Branches op a b n → HasTwoWords f image laid.address t.pos i op a b n → AtCode f resolve image laid t m i
   unfolding does
   at_branch op a b n e w = double w.line w.jump_line (line_is w.line w.stands)
-      (ap (λ (x : ℕ). Rattle.code_layout.specs.Image.line_at image.lines (x + 4)) level.counter ∙ w.jump_stands) w.origin w.jump_origin n (ap exit_of kind
+      (ap (λ (x : ℕ). Rattle.sem_machine.specs.Image.line_at image.lines (x + 4)) level.counter ∙ w.jump_stands) w.origin w.jump_origin n (ap exit_of kind
       ∙ ap row_exit e)
       (by_taken (taken op (read t.core a) (read t.core b)) (ap (λ (x : Row). does x t.core) e)
       (w.step m level.counter ∙ ap (λ (z : Bool). Continues (cond z (past 4 m) (past 8 m)))

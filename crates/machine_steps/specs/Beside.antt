@@ -4,9 +4,9 @@ use Rattle.mir_func.specs.Function.{FramedFunction}
 use Rattle.mir_func.specs.Limits.{FRAME_ROOM}
 use Rattle.mir_func.specs.Objects.{area_of, offset_of}
 use Rattle.mir_func.specs.SoundFrame.{own_size, IsSlotOffset}
-use Rattle.mir_meaning.specs.State.{Core, content, spelled, in_frame}
-use Rattle.mir_meaning.specs.Step.{read}
-use Rattle.code_layout.specs.Machine.{Machine, register}
+use Rattle.sem_mir.specs.State.{Core, content, spelled, in_frame}
+use Rattle.sem_mir.specs.Step.{read}
+use Rattle.sem_machine.specs.Machine.{Machine, register}
 
 -- the lowest address of the frame
 abbrev pub frame_low : FramedFunction → Core → ℕ

@@ -13,11 +13,11 @@ use Rattle.mir_func.specs.Function.{FramedFunction}
 use Rattle.mir_func.specs.Graph.{Fetch, Here, Silent, below, block_start, fetch_in, index_of}
 use Rattle.mir_func.specs.Objects.{area_of}
 use Rattle.mir_func.specs.SoundFrame.{body_of}
-use Rattle.mir_meaning.specs.Align.{is_code, position_of}
-use Rattle.code_layout.specs.Image.{CodeLine, Image, line_at}
-use Rattle.code_layout.specs.Machine.{Machine, register}
-use Rattle.code_layout.specs.MachineStep.{Continues, Ends, past, at, answered, machine_step}
-use Rattle.code_layout.specs.MachineStep as machine
+use Rattle.sem_mir.specs.Align.{is_code, position_of}
+use Rattle.sem_machine.specs.Image.{CodeLine, Image, line_at}
+use Rattle.sem_machine.specs.Machine.{Machine, register}
+use Rattle.sem_machine.specs.MachineStep.{Continues, Ends, past, at, answered, machine_step}
+use Rattle.sem_machine.specs.MachineStep as machine
 use Rattle.machine_steps.specs.Beside.{object_place}
 
 -- what stands at a position of a function with its frame: the position's block is a block's index

@@ -9,14 +9,14 @@ use Rattle.mir_func.specs.Function.{FramedFunction}
 use Rattle.mir_func.specs.declared.position.Pos.{Pos}
 use Rattle.mir_func.specs.Graph.{Here, Silent, Program, below, block_start, framed_program}
 use Rattle.mir_func.specs.SoundFrame.{IsFramed}
-use Rattle.mir_meaning.specs.Align.{is_code, position_of}
-use Rattle.mir_meaning.specs.State.{State, IsInRange}
-use Rattle.mir_meaning.specs.Step.{Went, Returned, Faulted, Waits, step}
-use Rattle.code_layout.specs.Image.{CodeLine, Image, line_at}
-use Rattle.mir_meaning.specs.Follow.{IsStart}
-use Rattle.simulation.specs.Words.{SameCode}
-use Rattle.code_layout.specs.Machine.{Machine, machine_start}
-use Rattle.code_layout.specs.MachineStep.{Continues, Ends, Awaits, machine_step}
+use Rattle.sem_mir.specs.Align.{is_code, position_of}
+use Rattle.sem_mir.specs.State.{State, IsInRange}
+use Rattle.sem_mir.specs.Step.{Went, Returned, Faulted, Waits, step}
+use Rattle.sem_machine.specs.Image.{CodeLine, Image, line_at}
+use Rattle.sem_mir.specs.Follow.{IsStart}
+use Rattle.sem_simulation.specs.Words.{SameCode}
+use Rattle.sem_machine.specs.Machine.{Machine, machine_start}
+use Rattle.sem_machine.specs.MachineStep.{Continues, Ends, Awaits, machine_step}
 use Rattle.machine_steps.specs.Beside.{Beside}
 use Rattle.machine_steps.specs.Laid.{fetched, IsLaidAt}
 use Rattle.machine_steps.specs.Pointer.{IsPointerAt}

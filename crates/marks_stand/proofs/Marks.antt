@@ -13,16 +13,16 @@ use Rattle.mir_func.specs.declared.variable.MarkValue.{MarkValue}
 use Rattle.mir_func.specs.declared.variable.MarkValue.TheVariants.{At, Pair}
 use Rattle.mir_func.specs.declared.variable.VarId.{VarId}
 use Rattle.mir_func.specs.Function.{Function}
-use Rattle.follow_law.specs.declared.loss.Loss.{Loss}
-use Rattle.follow_law.specs.declared.loss.Reason.{Reason}
-use Rattle.follow_law.specs.Change.{Change}
-use Rattle.follow_law.specs.Rule.{Rule, item, first_operand, mark_lost}
-use Rattle.follow_law.specs.Debug.{IsLoss, Becomes, BecomeAll, BlocksBecome, over, next, added, none, stays, goes}
-use Rattle.follow_law.specs.Debug.{mark_stays, phi_stays, code_stays, code_numbered, code_unnumbered, jump_stays, code_goes, idle_goes, number_goes}
-use Rattle.follow_law.specs.Debug.{substituted, salvaged, salvaged_wrong, mark_silenced, phi_silenced, mark_goes, phi_goes, mark_spilled, phi_spilled}
-use Rattle.follow_law.specs.Debug.{mark_renamed, phi_renamed}
-use Rattle.follow_law.specs.Steps.{Step, KeepsStep, KeepsSteps}
-use Rattle.pass_loop.specs.Told.{KeepsPass, KeepsPasses}
+use Rattle.pass_trait.specs.declared.loss.Loss.{Loss}
+use Rattle.pass_trait.specs.declared.loss.Reason.{Reason}
+use Rattle.pass_trait.specs.Change.{Change}
+use Rattle.pass_trait.specs.Rule.{Rule, item, first_operand, mark_lost}
+use Rattle.pass_trait.specs.Debug.{IsLoss, Becomes, BecomeAll, BlocksBecome, over, next, added, none, stays, goes}
+use Rattle.pass_trait.specs.Debug.{mark_stays, phi_stays, code_stays, code_numbered, code_unnumbered, jump_stays, code_goes, idle_goes, number_goes}
+use Rattle.pass_trait.specs.Debug.{substituted, salvaged, salvaged_wrong, mark_silenced, phi_silenced, mark_goes, phi_goes, mark_spilled, phi_spilled}
+use Rattle.pass_trait.specs.Debug.{mark_renamed, phi_renamed}
+use Rattle.pass_trait.specs.Steps.{Step, KeepsStep, KeepsSteps}
+use Rattle.pass_manager.specs.Told.{KeepsPass, KeepsPasses}
 use Rattle.marks_stand.specs.Stand.{IsUntold}
 
 module _ (p : Pos) (v : VarId) where

@@ -4,8 +4,8 @@ use Rattle.mir_func.specs.declared.item.Item.{Item}
 use Rattle.mir_func.specs.declared.position.Origin.{Origin}
 use Rattle.mir_func.specs.declared.position.Origin.TheVariants.{Kept, Before}
 use Rattle.mir_func.specs.declared.position.Pos.{Pos}
-use Rattle.mir_meaning.specs.Align.{position_of}
-use Rattle.mir_meaning.specs.Follow.{InOrder, rank, next_rank}
+use Rattle.sem_mir.specs.Align.{position_of}
+use Rattle.sem_mir.specs.Follow.{InOrder, rank, next_rank}
 
 module _ (b : ℕ) where
   rank_grows : (o : Origin) → rank o ≤ next_rank o

@@ -14,17 +14,17 @@ use Rattle.mir_func.specs.declared.variable.MarkValue.{MarkValue}
 use Rattle.mir_func.specs.declared.variable.VarId.{VarId}
 use Rattle.mir_func.specs.Function.{Function}
 use Rattle.mir_func.specs.Graph.{Here, fetch_in, from_block}
-use Rattle.mir_meaning.specs.Align.{is_code, position_of}
-use Rattle.mir_meaning.specs.Follow.{InOrder, IsRead}
-use Rattle.mir_meaning.proofs.Reading.{found_in, front_item, within_list}
-use Rattle.follow_law.specs.Change.{change}
-use Rattle.follow_law.specs.declared.loss.Loss.{Loss}
-use Rattle.follow_law.specs.Rule.{StandsAt}
-use Rattle.meta_reader.specs.Maps.{Maps}
-use Rattle.mir_parser.specs.declared.closing.Parsed.{Parsed}
-use Rattle.output_promise.specs.Source.{PassedFunction}
+use Rattle.sem_mir.specs.Align.{is_code, position_of}
+use Rattle.sem_mir.specs.Follow.{InOrder, IsRead}
+use Rattle.sem_mir.proofs.Reading.{found_in, front_item, within_list}
+use Rattle.pass_trait.specs.Change.{change}
+use Rattle.pass_trait.specs.declared.loss.Loss.{Loss}
+use Rattle.pass_trait.specs.Rule.{StandsAt}
+use Rattle.read_metadata.specs.Maps.{Maps}
+use Rattle.read_program.specs.declared.closing.Parsed.{Parsed}
+use Rattle.compile_theorem.specs.Source.{PassedFunction}
 use Rattle.pass_list.specs.declared.kind.PassKind.{PassKind}
-use Rattle.program_compiler.specs.Program.{ArePassed, AreMadeLosing, passes_of}
+use Rattle.compile_program.specs.Program.{ArePassed, AreMadeLosing, passes_of}
 use Rattle.marks_stand.specs.Stand.{StandsBetween, MarksStand, AllStand, CompiledMarksStand}
 use Rattle.marks_stand.proofs.Marks.{IsMark, HaveMark, passes_keep}
 use Rattle.marks_stand.proofs.Order.{at_least, kept_later}

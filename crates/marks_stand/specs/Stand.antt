@@ -8,15 +8,15 @@ use Rattle.mir_func.specs.declared.position.Pos.{Pos}
 use Rattle.mir_func.specs.declared.variable.MarkValue.{MarkValue}
 use Rattle.mir_func.specs.declared.variable.VarId.{VarId}
 use Rattle.mir_func.specs.Function.{Function}
-use Rattle.mir_meaning.specs.Align.{is_code}
-use Rattle.follow_law.specs.declared.loss.Loss.{Loss}
-use Rattle.follow_law.specs.declared.loss.Reason.{Reason}
-use Rattle.follow_law.specs.Rule.{StandsAt, mark_lost}
-use Rattle.mir_parser.specs.declared.program.Program.{Program}
-use Rattle.output_promise.specs.Source.{PassedFunction, IsPassedFunction}
+use Rattle.sem_mir.specs.Align.{is_code}
+use Rattle.pass_trait.specs.declared.loss.Loss.{Loss}
+use Rattle.pass_trait.specs.declared.loss.Reason.{Reason}
+use Rattle.pass_trait.specs.Rule.{StandsAt, mark_lost}
+use Rattle.read_program.specs.declared.program.Program.{Program}
+use Rattle.compile_theorem.specs.Source.{PassedFunction, IsPassedFunction}
 use Rattle.pass_list.specs.declared.kind.PassKind.{PassKind}
-use Rattle.program_compiler.specs.declared.compile.Compilation.{Compilation}
-use Rattle.program_compiler.specs.Program.{IsCompilationOf, IsMadeLosing}
+use Rattle.compile_program.specs.declared.compile.Compilation.{Compilation}
+use Rattle.compile_program.specs.Program.{IsCompilationOf, IsMadeLosing}
 
 -- no loss of the mark that was read at the position is told
 abbrev pub IsUntold : (told : List Loss) → Pos → Type 0

@@ -24,7 +24,7 @@ use Rattle.mir_func.specs.Exits.{exit_of, IsAlways, Leaves}
 use Rattle.mir_func.specs.Limits.{MAX_BLOCKS, MAX_SLOTS}
 use Rattle.mir_func.specs.Objects.{ALIGNMENTS, object_of, AreLaidFrom}
 use Rattle.mir_func.specs.Function.{Function}
-use Rattle.numbers.specs.Limits.{MAX_NUMBER}
+use Rattle.base_ids.specs.Limits.{MAX_NUMBER}
 
 -- no number stands twice
 abbrev pub AreApart : List ℕ → Type 0

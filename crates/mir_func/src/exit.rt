@@ -6,7 +6,7 @@ ghost use Rattle.rv64_instr.specs.Decoded.{Shows};
 ghost use Rattle.mir_func.specs.Exits.{row_exit, exit_of};
 
 use crate::item::ItemKind;
-use numbers::code::BlockId;
+use base_ids::code::BlockId;
 use rv64_instr::decoded::Decoded;
 
 /// How control leaves an item.

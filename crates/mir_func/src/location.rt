@@ -1,6 +1,6 @@
 //! Debug locations of items.
 
-use numbers::metadata::NodeId;
+use base_ids::metadata::NodeId;
 
 /// The debug location that an item carries (LLVM: `DebugLoc`).
 #[derive(Clone, Copy, Debug, PartialEq, Eq)]

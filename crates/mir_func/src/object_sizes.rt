@@ -5,7 +5,7 @@ ghost use Rattle.mir_func.specs.Sound.{HasBytes};
 ghost use Rattle.mir_func.specs.steps.Checks.{AreSizes};
 
 use crate::object::{Object, Objects};
-use numbers::code::ObjectId;
+use base_ids::code::ObjectId;
 use std::alloc::{AllocError, Global};
 use std::collections::BTreeMap;
 use std::marker::Model;

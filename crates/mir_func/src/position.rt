@@ -1,6 +1,6 @@
 //! Where items stand, and where they come from.
 
-use numbers::code::{BlockId, BlockIndex};
+use base_ids::code::{BlockId, BlockIndex};
 
 /// A position in a function as it was read: the number N of a block `bb.N`, and the index of an item in it from 0.
 /// The index past a block's last item is its silent position, from which control goes on to the next block in

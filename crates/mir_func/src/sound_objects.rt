@@ -9,7 +9,7 @@ ghost use Rattle.mir_func.specs.steps.Checks.{AreSoundObjects};
 use crate::limits::ALIGNMENTS;
 use crate::number_set::Numbers;
 use crate::object::{Object, up_to};
-use numbers::limits::MAX_NUMBER;
+use base_ids::limits::MAX_NUMBER;
 use std::alloc::{AllocError, Global};
 
 /// Whether objects have numbers of their own, sizes and alignments that objects may have, and lie where objects must.

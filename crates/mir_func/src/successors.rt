@@ -10,7 +10,7 @@ use crate::block::Block;
 use crate::exit::Exit;
 use crate::func::Func;
 use crate::item::Item;
-use numbers::code::BlockId;
+use base_ids::code::BlockId;
 
 /// The numbers of the blocks to which control may go from a block. Two may be the same.
 #[derive(Clone, Copy, Debug, PartialEq, Eq)]

@@ -7,7 +7,7 @@ ghost use Rattle.mir_printer.specs.steps.Listed.{selects, selected_texts, listed
 
 use crate::operand::push_operand;
 use crate::text::{Text, push_numbered, push_str};
-use numbers::code::DebugNumber;
+use base_ids::code::DebugNumber;
 use rv64_instr::instr::Instr;
 use rv64_instr::operand::Operand;
 use std::alloc::AllocError;

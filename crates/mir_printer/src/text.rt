@@ -5,7 +5,7 @@ ghost use Rattle.std.specs.Fmt.{decimal, signed_decimal};
 ghost use Rattle.mir_printer.specs.Growth.{GrownFrom};
 
 use itoa::{Buffer, Integer};
-use lists::List;
+use base_list::List;
 use std::alloc::AllocError;
 
 /// Text that grows at its end, by its bytes.

@@ -8,9 +8,9 @@ use Rattle.rv64_instr.specs.declared.start.Answer.{Answer}
 use Rattle.mir_func.specs.declared.position.Pos.{Pos}
 use Rattle.mir_func.specs.declared.item.ItemKind.{ItemKind}
 use Rattle.mir_func.specs.declared.item.ItemKind.TheVariants.{Code, Mark, Phi}
-use Rattle.mir_meaning.specs.State.{Called, Core, Event, Reply, content, put_all, written, writes_frame}
-use Rattle.mir_meaning.specs.Step as step
-use Rattle.mir_meaning.specs.Step.{moved, with_core, are_written, act, does, answered, read, do_item, do_fetch}
+use Rattle.sem_mir.specs.State.{Called, Core, Event, Reply, content, put_all, written, writes_frame}
+use Rattle.sem_mir.specs.Step as step
+use Rattle.sem_mir.specs.Step.{moved, with_core, are_written, act, does, answered, read, do_item, do_fetch}
 use Rattle.mir_func.specs.Graph.{Fetch, Here, Silent, Outside, Program}
 use Rattle.mir_semantics.specs.declared.state.SourceStep.{SourceStep}
 use Rattle.mir_semantics.specs.declared.state.SourceStep.TheVariants.{Went, Returned, Faulted, Waits}

@@ -9,8 +9,8 @@ use Rattle.mir_func.specs.declared.variable.VarId.{VarId}
 use Rattle.mir_func.specs.declared.variable.MarkValue.{MarkValue}
 use Rattle.mir_func.specs.declared.item.ItemKind.TheVariants.{Mark, Phi}
 use Rattle.mir_func.specs.Parts.{Bytes}
-use Rattle.mir_meaning.specs.State.{Core, updated}
-use Rattle.mir_meaning.specs.Step.{mark_value, part_of, place_value}
+use Rattle.sem_mir.specs.State.{Core, updated}
+use Rattle.sem_mir.specs.Step.{mark_value, part_of, place_value}
 use Rattle.mir_func.specs.Graph.{program_of}
 use Rattle.mir_func.specs.Resolve.{resolve}
 use Rattle.mir_semantics.specs.declared.machine.Outcome.TheVariants.{Falls}

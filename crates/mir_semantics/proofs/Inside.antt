@@ -16,7 +16,7 @@ use Rattle.mir_func.specs.declared.exit.Exit.{Exit}
 use Rattle.mir_func.specs.declared.exit.Exit.TheVariants.{Onward}
 use Rattle.mir_func.specs.Exits.{Leaves, row_exit, exit_of}
 use Rattle.mir_func.specs.Graph.{Here, Silent, Outside, below, block_start, fetch_in, front, from_block, FetchEdge, KindEdge, RowEdge}
-use Rattle.mir_meaning.proofs.Places.{contains_head, contains_tail}
+use Rattle.sem_mir.proofs.Places.{contains_head, contains_tail}
 use Rattle.mir_semantics.specs.declared.state.SourceStep.{SourceStep}
 use Rattle.mir_semantics.specs.declared.state.SourceStep.TheVariants.{Went, Returned, Faulted, Waits}
 use Rattle.mir_semantics.specs.StandsFor.{Concrete, IsPosition}

@@ -14,7 +14,7 @@ use Rattle.mir_func.specs.declared.block.Block.{Block}
 use Rattle.mir_func.specs.Sound.{AreApart, ids_of}
 use Rattle.mir_func.specs.Graph.{from_block}
 use Rattle.std.specs.Map.{lookup}
-use Rattle.mir_meaning.specs.State.{updated, content, put, put_all, spelled, stored, low_bytes, written, in_frame, touches_frame}
+use Rattle.sem_mir.specs.State.{updated, content, put, put_all, spelled, stored, low_bytes, written, in_frame, touches_frame}
 use Rattle.byte_memory.specs.Held.{MemoryHolds, some_writes}
 use Rattle.mir_semantics.specs.Places.{AreRegisters, RegistersHold}
 

@@ -10,7 +10,7 @@ use Rattle.std.proofs.lemmas.Bool.{cases_eq, cases_Bool, eq-eqb, eqb-true, ne_eq
 use Rattle.mir_func.specs.declared.variable.VarId.{VarId}
 use Rattle.mir_func.specs.Parts.{Bytes}
 use Rattle.mir_func.specs.Variables.{is_same_node, is_same_variable, are_same_bytes, do_meet}
-use Rattle.mir_meaning.specs.State.{assigned}
+use Rattle.sem_mir.specs.State.{assigned}
 use Rattle.mir_semantics.specs.Assigned.{Covers, MarksHold, are_same_keys, assigned_in, key_of, part_in}
 
 -- ---- keys

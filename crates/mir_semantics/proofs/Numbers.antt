@@ -4,8 +4,8 @@ use Rattle.std.specs.Prelude.{nat_eq, nat_lt, ◌&&◌, slice_get}
 use Rattle.std.proofs.lemmas.Bool.{cases_eq, cases_lt, eq-eqb, ne_eqb, lt-ltb, le-ltb}
 use Rattle.std.proofs.lemmas.Option.{slice_get-get_or, slice_get_past}
 use Rattle.rv64_instr.specs.declared.operand.Operand.{Operand}
-use Rattle.mir_meaning.specs.State.{Core, content, updated}
-use Rattle.mir_meaning.specs.Step.{defined, given, numbered}
+use Rattle.sem_mir.specs.State.{Core, content, updated}
+use Rattle.sem_mir.specs.Step.{defined, given, numbered}
 use Rattle.mir_semantics.specs.StandsFor.{PairsHold}
 
 -- the pairs once the operands below an index have given theirs

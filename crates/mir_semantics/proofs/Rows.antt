@@ -18,12 +18,12 @@ use Rattle.rv64_instr.specs.declared.decoded.Input.TheVariants.{Content}
 use Rattle.rv64_instr.specs.Instruction.{Instruction}
 use Rattle.rv64_instr.specs.declared.operand.Operand.{Operand}
 use Rattle.std.specs.declared.alloc.AllocError.{AllocError}
-use Rattle.mir_meaning.proofs.Implicit.{AreImplicit, implicit}
+use Rattle.sem_mir.proofs.Implicit.{AreImplicit, implicit}
 use Rattle.mir_semantics.specs.declared.machine.Outcome.{Outcome}
-use Rattle.mir_meaning.specs.State.{Core, Reply, Called, content, put, put_all, updated, spelled, stored, written, low_bytes, touches_frame, writes_frame}
-use Rattle.mir_meaning.specs.Step as step
-use Rattle.mir_meaning.specs.Step.{act, does, are_written, read, or_zero, input_value, object_address, address_at, is_fault, set_register, loaded}
-use Rattle.mir_meaning.specs.Step.{put_in_memory, saved, slot_loaded, answered}
+use Rattle.sem_mir.specs.State.{Core, Reply, Called, content, put, put_all, updated, spelled, stored, written, low_bytes, touches_frame, writes_frame}
+use Rattle.sem_mir.specs.Step as step
+use Rattle.sem_mir.specs.Step.{act, does, are_written, read, or_zero, input_value, object_address, address_at, is_fault, set_register, loaded}
+use Rattle.sem_mir.specs.Step.{put_in_memory, saved, slot_loaded, answered}
 use Rattle.mir_semantics.specs.declared.machine.Machine.{Machine}
 use Rattle.mir_semantics.specs.declared.machine.Outcome.TheVariants.{Falls, Goes, Returns as Ended, Faults, Waits}
 use Rattle.byte_memory.specs.Held.{MemoryHolds, number_in, some_writes}

@@ -16,14 +16,14 @@ use Rattle.mir_func.specs.declared.entry.Entry.{Entry}
 use Rattle.mir_func.specs.declared.item.ItemKind.{ItemKind}
 use Rattle.mir_func.specs.declared.item.ItemKind.TheVariants.{Code, Mark, Phi}
 use Rattle.mir_func.specs.Sound.{LastCloses, ids_of}
-use Rattle.mir_meaning.proofs.Places.{contains_head}
+use Rattle.sem_mir.proofs.Places.{contains_head}
 use Rattle.mir_semantics.proofs.Inside.{block_inside}
-use Rattle.mir_meaning.specs.State.{Core, State}
-use Rattle.mir_meaning.specs.Step as step
-use Rattle.mir_meaning.specs.Step.{numbered, with_core}
+use Rattle.sem_mir.specs.State.{Core, State}
+use Rattle.sem_mir.specs.Step as step
+use Rattle.sem_mir.specs.Step.{numbered, with_core}
 use Rattle.rv64_instr.specs.Parts.{is_call}
 use Rattle.mir_func.specs.Graph.{Fetch, Here, Silent, Outside, block_start, fetch_in, front, from_block}
-use Rattle.mir_meaning.specs.Follow.{first_of}
+use Rattle.sem_mir.specs.Follow.{first_of}
 use Rattle.mir_semantics.specs.declared.machine.Machine.{Machine}
 use Rattle.mir_semantics.specs.declared.machine.Outcome.{Outcome}
 use Rattle.mir_semantics.specs.declared.machine.Outcome.TheVariants.{Falls, Goes}
@@ -60,7 +60,7 @@ numbered_holds old m fs call k operands s c moved holds given = record {
     memory = moved.machine.memory;
   };
   pairs = given c moved.machine.registers (λ q o. ap (λ f. f q o) moved.pairs ∙ holds.pairs q o);
-  marks = λ v. ap (Rattle.mir_meaning.specs.State.assigned v) moved.marks ∙ holds.marks v;
+  marks = λ v. ap (Rattle.sem_mir.specs.State.assigned v) moved.marks ∙ holds.marks v;
 }
 
 pub code_falls : (subs : List Entry) (i : Instruction) (k : ℕ) (answer : Option Answer) (old : Concrete) (m : Machine) (kept fs : List ((ℕ × ℕ) × Option ℕ))
@@ -196,7 +196,7 @@ starts_stands stack blocks start m es fs n s starts made e f first = record {
     };
     pairs = subst (λ (xs : List ((ℕ × ℕ) × Option ℕ)). PairsHold xs s.core.pairs) (sym e) (λ k o. starts.pairs k o);
     marks = subst (λ (xs : List ((ℕ × Option ℕ) × List (Option Bytes × Option ℕ))). MarksHold xs s.core.marks) (sym f)
-        (λ v. ap (Rattle.mir_meaning.specs.State.assigned v) starts.marks);
+        (λ v. ap (Rattle.sem_mir.specs.State.assigned v) starts.marks);
   };
 }
 

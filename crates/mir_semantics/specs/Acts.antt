@@ -9,9 +9,9 @@ use Rattle.rv64_instr.specs.declared.start.Start.{Start}
 use Rattle.mir_func.specs.declared.object.Object.{Object}
 use Rattle.mir_func.specs.declared.position.Pos.{Pos}
 use Rattle.mir_func.specs.Objects.{area_of, offset_of}
-use Rattle.mir_meaning.specs.State.{Core, Reply, written}
-use Rattle.mir_meaning.specs.Step as step
-use Rattle.mir_meaning.specs.Step.{act, address_at, answered, are_written, input_value}
+use Rattle.sem_mir.specs.State.{Core, Reply, written}
+use Rattle.sem_mir.specs.Step as step
+use Rattle.sem_mir.specs.Step.{act, address_at, answered, are_written, input_value}
 use Rattle.mir_func.specs.Graph.{below, block_start, RowEdge}
 use Rattle.mir_semantics.specs.declared.machine.Machine.{Machine}
 use Rattle.mir_semantics.specs.declared.machine.Outcome.{Outcome}

@@ -5,7 +5,7 @@ use Rattle.std.specs.Map.{lookup}
 use Rattle.mir_func.specs.declared.variable.VarId.{VarId}
 use Rattle.mir_func.specs.Parts.{Bytes}
 use Rattle.mir_func.specs.Variables.{are_same_bytes, do_meet}
-use Rattle.mir_meaning.specs.State.{assigned}
+use Rattle.sem_mir.specs.State.{assigned}
 
 -- a variable's key: its node and the node that it is inlined at
 abbrev pub key_of : VarId → ℕ × Option ℕ

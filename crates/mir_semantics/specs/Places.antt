@@ -2,7 +2,7 @@
 use Rattle.std.specs.Prelude.{◌≡◌, ℕ, List, Option, Some, None, cond, nat_eq, nat_lt, slice_index, slice_index_or, length}
 use Rattle.std.specs.Map.{lookup}
 use Rattle.byte_memory.specs.Held.{number_in}
-use Rattle.mir_meaning.specs.State.{content}
+use Rattle.sem_mir.specs.State.{content}
 
 -- there is a place for each register, and x0 holds 0
 pub record AreRegisters (xs : List (Option ℕ)) : Type 0 where

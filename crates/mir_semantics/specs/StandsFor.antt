@@ -12,11 +12,11 @@ use Rattle.mir_func.specs.declared.item.ItemKind.TheVariants.{Code, Mark, Phi}
 use Rattle.mir_func.specs.declared.object.Object.{Object}
 use Rattle.mir_func.specs.Objects.{area_of, offset_of}
 use Rattle.mir_func.specs.Parts.{Bytes}
-use Rattle.mir_meaning.specs.State.{Core, State, Reply, content, written}
-use Rattle.mir_meaning.specs.Step as step
-use Rattle.mir_meaning.specs.Step.{do_item}
+use Rattle.sem_mir.specs.State.{Core, State, Reply, content, written}
+use Rattle.sem_mir.specs.Step as step
+use Rattle.sem_mir.specs.Step.{do_item}
 use Rattle.mir_func.specs.Graph.{Fetch, Here, Silent, Outside, below, block_start, program_of, fetch_in, from_block, KindEdge}
-use Rattle.mir_meaning.specs.Follow.{first_of}
+use Rattle.sem_mir.specs.Follow.{first_of}
 use Rattle.mir_func.specs.Resolve.{resolve}
 use Rattle.mir_semantics.specs.declared.machine.Machine.{Machine}
 use Rattle.mir_semantics.specs.declared.machine.Outcome.{Outcome}

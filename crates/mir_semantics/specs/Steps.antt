@@ -3,9 +3,9 @@ use Rattle.std.specs.Prelude.{◌≡◌, ℕ, List, [], Option, true}
 use Rattle.rv64_instr.specs.declared.start.Answer.{Answer}
 use Rattle.mir_func.specs.declared.block.Block.{Block}
 use Rattle.mir_func.specs.declared.entry.Entry.{Entry}
-use Rattle.mir_meaning.specs.State.{Event, Reply, State}
-use Rattle.mir_meaning.specs.Step as step
-use Rattle.mir_meaning.specs.Step.{Next, do_fetch, moved}
+use Rattle.sem_mir.specs.State.{Event, Reply, State}
+use Rattle.sem_mir.specs.Step as step
+use Rattle.sem_mir.specs.Step.{Next, do_fetch, moved}
 use Rattle.mir_func.specs.Graph.{Program, program_of, FetchEdge, Fetch, below, block_start}
 use Rattle.mir_func.specs.Resolve.{resolve}
 use Rattle.mir_semantics.specs.declared.state.SourceStep.{SourceStep}

@@ -5,11 +5,11 @@ ghost use Rattle.std.specs.Prelude.{ℕ, [], ◌∷◌, List, Option, OnOk, OnEr
 ghost use Rattle.mir_func.specs.declared.variable.VarId.{VarId};
 ghost use Rattle.mir_func.specs.Parts.{Bytes};
 ghost use Rattle.mir_func.specs.Variables.{low_part};
-ghost use Rattle.mir_meaning.specs.Step.{part_of};
+ghost use Rattle.sem_mir.specs.Step.{part_of};
 ghost use Rattle.mir_semantics.specs.Assigned.{Covers, MarksHold, assigned_in, key_of, part_in, parts_of};
 
 use indexmap::IndexMap;
-use lists::List;
+use base_list::List;
 use mir_func::variable::{Fragment, VarId, are_same_bytes, do_meet};
 use std::alloc::{AllocError, Global};
 use std::marker::Model;

@@ -5,7 +5,7 @@ ghost use Rattle.mir_func.specs.Sound.{AreApart, ids_of};
 ghost use Rattle.mir_func.specs.Graph.{from_block};
 
 use mir_func::block::Block;
-use numbers::code::BlockId;
+use base_ids::code::BlockId;
 use std::alloc::{AllocError, Global};
 use std::collections::HashMap;
 

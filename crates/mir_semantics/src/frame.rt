@@ -1,7 +1,7 @@
 //! Which addresses are the frame's.
 
 ghost use Rattle.std.specs.Prelude.{◌≡◌};
-ghost use Rattle.mir_meaning.specs.State.{in_frame, touches_frame, writes_frame};
+ghost use Rattle.sem_mir.specs.State.{in_frame, touches_frame, writes_frame};
 ghost use Rattle.byte_memory.specs.Held.{some_writes};
 
 /// How many bytes below the stack pointer at entry are kept for frames.

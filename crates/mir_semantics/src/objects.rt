@@ -9,7 +9,7 @@ ghost use Rattle.mir_semantics.specs.Places.{ObjectsHold};
 
 use indexmap::IndexMap;
 use mir_func::object::Object;
-use numbers::code::ObjectId;
+use base_ids::code::ObjectId;
 use std::alloc::{AllocError, Global};
 use std::marker::Model;
 

@@ -2,15 +2,15 @@
 
 ghost use Rattle.std.specs.Prelude.{◌≤◌, true, Some, IsOk, length};
 ghost use Rattle.indexmap.specs.IndexMap.{spare};
-ghost use Rattle.mir_meaning.specs.State.{Core};
-ghost use Rattle.mir_meaning.specs.Step.{numbered};
+ghost use Rattle.sem_mir.specs.State.{Core};
+ghost use Rattle.sem_mir.specs.Step.{numbered};
 ghost use Rattle.mir_semantics.specs.Places.{RegistersHold};
 ghost use Rattle.mir_semantics.specs.StandsFor.{PairsHold};
 
 use crate::registers::Registers;
 use indexmap::IndexMap;
-use mir_meaning::operand::defined;
-use numbers::code::DebugNumber;
+use sem_mir::operand::defined;
+use base_ids::code::DebugNumber;
 use rv64_instr::operand::Operand;
 use std::alloc::AllocError;
 

@@ -2,7 +2,7 @@
 
 ghost use Rattle.std.specs.Prelude.{◌≡◌, ◌<◌, ℕ, Option, Some, None, IfOk, slice_index_or};
 ghost use Rattle.rv64_instr.specs.Access.{caller_saved};
-ghost use Rattle.mir_meaning.specs.State.{put, put_all};
+ghost use Rattle.sem_mir.specs.State.{put, put_all};
 ghost use Rattle.mir_semantics.specs.Places.{RegistersHold, starting_registers};
 
 use rv64_instr::parts::CALLER_SAVED;

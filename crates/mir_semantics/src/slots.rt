@@ -2,11 +2,11 @@
 
 ghost use Rattle.std.specs.Prelude.{◌≡◌, [], ℕ, Option, Some, OnOk, OnErr, nat_eq};
 ghost use Rattle.std.specs.Map.{lookup};
-ghost use Rattle.mir_meaning.specs.State.{updated};
+ghost use Rattle.sem_mir.specs.State.{updated};
 ghost use Rattle.mir_semantics.specs.Places.{SlotsHold};
 
 use indexmap::IndexMap;
-use numbers::code::SlotId;
+use base_ids::code::SlotId;
 use std::alloc::{AllocError, Global};
 use std::marker::Model;
 

@@ -5,11 +5,11 @@ ghost use Rattle.std.specs.Prelude.{List, Option, Some, None, IfOk, OnErr, IsTru
 ghost use Rattle.std.specs.Option.{option_copied};
 ghost use Rattle.rv64_instr.specs.declared.start.Answer.{Answer};
 ghost use Rattle.mir_func.specs.declared.entry.Entry.{Entry};
-ghost use Rattle.mir_meaning.specs.State.{Core, Event, Reply, State, assigned};
-ghost use Rattle.mir_meaning.specs.Step as step;
+ghost use Rattle.sem_mir.specs.State.{Core, Event, Reply, State, assigned};
+ghost use Rattle.sem_mir.specs.Step as step;
 ghost use Rattle.mir_func.specs.Graph.{Outside, program_of, fetch_in};
 ghost use Rattle.mir_func.specs.Resolve.{resolve};
-ghost use Rattle.mir_meaning.specs.Follow.{first_of};
+ghost use Rattle.sem_mir.specs.Follow.{first_of};
 ghost use Rattle.mir_semantics.specs.StandsFor.{DoesItem, Holds, StandsFor, Starts, IsPosition, AreCounted};
 ghost use Rattle.mir_semantics.specs.Steps.{ReturnsAgain, Steps, StepsFrom, source_of};
 ghost use Rattle.mir_semantics.specs.Steps.{IsState, ChangesOnlyByGoing, GoesAlong, step_after, position_after};
@@ -26,14 +26,14 @@ use mir_func::func::Func;
 use mir_func::item::ItemKind;
 use mir_func::position::Pos;
 use mir_func::variable::{MarkValue, VarId};
-use numbers::code::{BlockId, DebugNumber};
+use base_ids::code::{BlockId, DebugNumber};
 use rv64_instr::instr::Instr;
 use rv64_instr::parts::is_call;
 use rv64_instr::place::Place;
 use rv64_instr::start::{Answer, Start};
 use std::alloc::{AllocError, Global};
 use std::marker::Model;
-use substitution::substitutions::Substitutions;
+use mir_substitution::substitutions::Substitutions;
 
 /// How a step of a run ends.
 #[derive(Clone, Copy, Debug, PartialEq, Eq)]

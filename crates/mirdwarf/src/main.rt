@@ -1,7 +1,7 @@
 //! The program: the command over the host. Faults are told on standard error, and the status is the exit code.
 #![tactic(auto)]
 
-use mirdwarf_host::run;
+use tool_host::run;
 use std::process::ExitCode;
 
 fn main(rt: HostRuntime) -> ExitCode {

@@ -2,9 +2,9 @@
 //! docs/PERFORMANCE.md counts instructions of.
 #![tactic(auto)]
 
-use mir_frame::frame::documents;
-use mir_lexer::comment::{before_comment, before_memory_operands};
-use mir_lexer::lexer::tokens;
+use read_documents::frame::documents;
+use read_lexer::comment::{before_comment, before_memory_operands};
+use read_lexer::lexer::tokens;
 use std::io;
 
 fn main(rt: HostRuntime) -> io::Result<()> {

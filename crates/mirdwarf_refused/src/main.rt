@@ -2,7 +2,7 @@
 //! status and standard output alone, so it sees the fault's line here.
 #![tactic(auto)]
 
-use mirdwarf_host::run;
+use tool_host::run;
 use std::process::ExitCode;
 
 fn main(rt: HostRuntime) -> ExitCode {

@@ -6,27 +6,27 @@ use Rattle.rv64_instr.specs.declared.op.Op.{Op}
 use Rattle.rv64_instr.specs.declared.operand.Operand.{Operand}
 use Rattle.rv64_instr.specs.declared.operand.Operand.TheVariants.{Def, Use, ImplicitDef, ImplicitUse, Imm, Slot, Object, Block as OfBlock, Symbol, Mask}
 use Rattle.rv64_instr.specs.Form.{has_form}
-use Rattle.meta_reader.specs.Maps.{Maps}
+use Rattle.read_metadata.specs.Maps.{Maps}
 use Rattle.mir_func.specs.declared.item.ItemKind.{ItemKind}
 use Rattle.mir_func.specs.declared.item.ItemKind.TheVariants.{Code, Mark, Phi}
-use Rattle.mir_lexeme.specs.declared.lexeme.Flag.{Flag}
-use Rattle.mir_lexeme.specs.declared.lexeme.Flag.TheVariants as flags
-use Rattle.mir_line.specs.declared.form.ItemForm.{ItemForm}
-use Rattle.mir_line.specs.declared.form.OperandForm.{OperandForm}
-use Rattle.mir_line.specs.declared.form.OperandForm.TheVariants as form
-use Rattle.mir_line.specs.declared.form.RegisterForm.{RegisterForm}
-use Rattle.mir_item.specs.declared.judged.Judged.TheVariants as judged_as
-use Rattle.mir_item.specs.declared.judged.JudgedItem.{JudgedItem}
-use Rattle.mir_item.specs.declared.place.Place.{Place}
-use Rattle.mir_item.specs.declared.place.Place.TheVariants as place
-use Rattle.mir_item.specs.Code.{number_of, used, stack_operand, number_operand, operand_at, before, joined, set_by, definition, definitions, placed, places_of}
-use Rattle.mir_item.specs.Code.{operands_of}
-use Rattle.mir_item.specs.Judge.{judged}
-use Rattle.mir_item.specs.Place.{front, behind}
-use Rattle.mir_body.specs.Met.{is_met}
-use Rattle.mir_parser.specs.Objects.{operand_as, operands_as, kind_as}
-use Rattle.mir_parser.proofs.Forms.{AllOf}
-use Rattle.mir_parser.proofs.Judged.{code_line}
+use Rattle.read_token.specs.declared.lexeme.Flag.{Flag}
+use Rattle.read_token.specs.declared.lexeme.Flag.TheVariants as flags
+use Rattle.read_line.specs.declared.form.ItemForm.{ItemForm}
+use Rattle.read_line.specs.declared.form.OperandForm.{OperandForm}
+use Rattle.read_line.specs.declared.form.OperandForm.TheVariants as form
+use Rattle.read_line.specs.declared.form.RegisterForm.{RegisterForm}
+use Rattle.read_item.specs.declared.judged.Judged.TheVariants as judged_as
+use Rattle.read_item.specs.declared.judged.JudgedItem.{JudgedItem}
+use Rattle.read_item.specs.declared.place.Place.{Place}
+use Rattle.read_item.specs.declared.place.Place.TheVariants as place
+use Rattle.read_item.specs.Code.{number_of, used, stack_operand, number_operand, operand_at, before, joined, set_by, definition, definitions, placed, places_of}
+use Rattle.read_item.specs.Code.{operands_of}
+use Rattle.read_item.specs.Judge.{judged}
+use Rattle.read_item.specs.Place.{front, behind}
+use Rattle.read_body.specs.Met.{is_met}
+use Rattle.read_program.specs.Objects.{operand_as, operands_as, kind_as}
+use Rattle.read_program.proofs.Forms.{AllOf}
+use Rattle.read_program.proofs.Judged.{code_line}
 use Rattle.read_back.specs.Laws.{NameIsBytes, HasByteNames}
 use Rattle.functions_read_back.proofs.Codes.{meant}
 use Rattle.names_of_bytes.proofs.Forms.{FormBytes}

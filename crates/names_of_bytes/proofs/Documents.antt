@@ -3,15 +3,15 @@ use Rattle.std.proofs.Common.{ℕ, zero, suc, ◌+◌, Bool, true, false, cond, 
 use Rattle.std.specs.Prelude.{is_none}
 use Rattle.std.specs.List.{position_or_len}
 use Rattle.std.proofs.lemmas.List.Elements.{All-nil, All-cons, All-head, All-tail, All-take, All-filter}
-use Rattle.mir_lexer.specs.declared.line.Line.{Line}
-use Rattle.mir_frame.specs.declared.key.Key.{Key}
-use Rattle.mir_frame.specs.declared.key.Key.TheVariants.{Name, Body, Other}
-use Rattle.mir_frame.specs.declared.parts.Documents.{Documents}
-use Rattle.mir_frame.specs.declared.parts.FunctionDocument.{FunctionDocument}
-use Rattle.mir_frame.specs.Documents.{same_key, key_behind, lines_under, function_document, first_fault, is_complete, inside, is_closed, stops, block_from}
-use Rattle.mir_frame.specs.Documents.{fault_or, function_from, documents_from, documents_of}
-use Rattle.mir_frame.specs.Key.{is_close, opens_block, opens_function, is_passed, heading}
-use Rattle.mir_frame.specs.Lines.{lines_of}
+use Rattle.read_lexer.specs.declared.line.Line.{Line}
+use Rattle.read_documents.specs.declared.key.Key.{Key}
+use Rattle.read_documents.specs.declared.key.Key.TheVariants.{Name, Body, Other}
+use Rattle.read_documents.specs.declared.parts.Documents.{Documents}
+use Rattle.read_documents.specs.declared.parts.FunctionDocument.{FunctionDocument}
+use Rattle.read_documents.specs.Documents.{same_key, key_behind, lines_under, function_document, first_fault, is_complete, inside, is_closed, stops, block_from}
+use Rattle.read_documents.specs.Documents.{fault_or, function_from, documents_from, documents_of}
+use Rattle.read_documents.specs.Key.{is_close, opens_block, opens_function, is_passed, heading}
+use Rattle.read_documents.specs.Lines.{lines_of}
 use Rattle.names_of_bytes.specs.Bytes.{AreBytes}
 use Rattle.names_of_bytes.proofs.Lines.{LineBytes, lines_bytes}
 

@@ -3,35 +3,35 @@ use Rattle.std.proofs.Common.{◌≡◌, ◌⊎◌, ℕ, zero, suc, ◌<◌, Boo
 use Rattle.std.proofs.Common.{refl, subst, inl, inr}
 use Rattle.std.specs.Prelude.{codes}
 use Rattle.std.proofs.lemmas.List.Elements.{All-nil, All-cons, All-head, All-tail, All-drop}
-use Rattle.mir_lexer.specs.declared.fault.LexError.{LexError}
-use Rattle.mir_lexer.specs.declared.fault.LexError.TheVariants as lex
-use Rattle.mir_lexer.specs.declared.parts.Token.{Token}
-use Rattle.mir_lexer.specs.Comment.{is_cut, quote_behind, before as before_mark, before_comment}
-use Rattle.mir_lexer.specs.Line.{tokens_of}
-use Rattle.mir_lexeme.specs.declared.lexeme.Flag.{Flag}
-use Rattle.mir_lexeme.specs.declared.lexeme.Flag.TheVariants.{Plain}
-use Rattle.mir_lexeme.specs.declared.lexeme.Lexeme.{Lexeme}
-use Rattle.mir_lexeme.specs.declared.lexeme.Lexeme.TheVariants as lexemes
-use Rattle.mir_lexeme.specs.declared.lexeme.Word.{Word}
-use Rattle.mir_lexeme.specs.declared.lexeme.Word.TheVariants as words
-use Rattle.mir_lexeme.specs.Sentence.{lexemes_of}
-use Rattle.mir_lexeme.specs.Word.{case_of}
-use Rattle.mir_line.specs.declared.form.BodyLine.{BodyLine}
-use Rattle.mir_line.specs.declared.form.BodyLine.TheVariants.{Passed, Label, Item}
-use Rattle.mir_line.specs.declared.form.ItemForm.{ItemForm}
-use Rattle.mir_line.specs.declared.form.LineError.{LineError}
-use Rattle.mir_line.specs.declared.form.LineError.TheVariants.{BadLine}
-use Rattle.mir_line.specs.declared.form.OperandForm.{OperandForm}
-use Rattle.mir_line.specs.declared.form.OperandForm.TheVariants as operands
-use Rattle.mir_line.specs.declared.form.RegisterForm.{RegisterForm}
-use Rattle.mir_line.specs.Body.{is_listing, code_of, label_of, is_colon, labelled, as_item, sentence_of, line_of_tokens, body_line_of}
-use Rattle.mir_line.specs.Bracket.{behind_bracket}
-use Rattle.mir_line.specs.Item.{before, definitions_of, behind_operand, behind_words, opcode_at, operands_at, begins_operand, operands_of, attributes_of_item}
-use Rattle.mir_line.specs.Item.{item_with, defined_item, item_of}
-use Rattle.mir_line.specs.Operand.{symbol_at, flagged_symbol_at, reference_at, mask_at, expression_at, register_operand_at, word_operand_at, operand_at}
-use Rattle.mir_line.specs.Register.{register_at}
-use Rattle.mir_parser.proofs.Forms.{AllOf, bind_some}
-use Rattle.meta_reader.specs.Token.{text_of}
+use Rattle.read_lexer.specs.declared.fault.LexError.{LexError}
+use Rattle.read_lexer.specs.declared.fault.LexError.TheVariants as lex
+use Rattle.read_lexer.specs.declared.parts.Token.{Token}
+use Rattle.read_lexer.specs.Comment.{is_cut, quote_behind, before as before_mark, before_comment}
+use Rattle.read_lexer.specs.Line.{tokens_of}
+use Rattle.read_token.specs.declared.lexeme.Flag.{Flag}
+use Rattle.read_token.specs.declared.lexeme.Flag.TheVariants.{Plain}
+use Rattle.read_token.specs.declared.lexeme.Lexeme.{Lexeme}
+use Rattle.read_token.specs.declared.lexeme.Lexeme.TheVariants as lexemes
+use Rattle.read_token.specs.declared.lexeme.Word.{Word}
+use Rattle.read_token.specs.declared.lexeme.Word.TheVariants as words
+use Rattle.read_token.specs.Sentence.{lexemes_of}
+use Rattle.read_token.specs.Word.{case_of}
+use Rattle.read_line.specs.declared.form.BodyLine.{BodyLine}
+use Rattle.read_line.specs.declared.form.BodyLine.TheVariants.{Passed, Label, Item}
+use Rattle.read_line.specs.declared.form.ItemForm.{ItemForm}
+use Rattle.read_line.specs.declared.form.LineError.{LineError}
+use Rattle.read_line.specs.declared.form.LineError.TheVariants.{BadLine}
+use Rattle.read_line.specs.declared.form.OperandForm.{OperandForm}
+use Rattle.read_line.specs.declared.form.OperandForm.TheVariants as operands
+use Rattle.read_line.specs.declared.form.RegisterForm.{RegisterForm}
+use Rattle.read_line.specs.Body.{is_listing, code_of, label_of, is_colon, labelled, as_item, sentence_of, line_of_tokens, body_line_of}
+use Rattle.read_line.specs.Bracket.{behind_bracket}
+use Rattle.read_line.specs.Item.{before, definitions_of, behind_operand, behind_words, opcode_at, operands_at, begins_operand, operands_of, attributes_of_item}
+use Rattle.read_line.specs.Item.{item_with, defined_item, item_of}
+use Rattle.read_line.specs.Operand.{symbol_at, flagged_symbol_at, reference_at, mask_at, expression_at, register_operand_at, word_operand_at, operand_at}
+use Rattle.read_line.specs.Register.{register_at}
+use Rattle.read_program.proofs.Forms.{AllOf, bind_some}
+use Rattle.read_metadata.specs.Token.{text_of}
 use Rattle.names_of_bytes.specs.Bytes.{AreBytes}
 use Rattle.names_of_bytes.proofs.Names.{token_bytes, symbol_bytes}
 

@@ -4,27 +4,27 @@ use Rattle.std.proofs.Common.{refl, sym, ap, subst, arith, inl, inr}
 use Rattle.std.proofs.lemmas.Bool.{cases_lt}
 use Rattle.std.proofs.lemmas.List.{length-append}
 use Rattle.std.proofs.lemmas.List.Elements.{All-nil, All-head, All-tail, All-push, All-map, All-weaker, All-contains}
-use Rattle.refusal.specs.declared.first.Refusal.{Refusal}
-use Rattle.meta_reader.specs.Maps.{Maps}
-use Rattle.meta_reader.specs.Metadata.{metadata_of}
-use Rattle.mir_lexer.specs.declared.line.Line.{Line}
-use Rattle.mir_frame.specs.declared.parts.FunctionDocument.{FunctionDocument}
-use Rattle.mir_frame.specs.Documents.{documents_of}
+use Rattle.read_refusal.specs.declared.first.Refusal.{Refusal}
+use Rattle.read_metadata.specs.Maps.{Maps}
+use Rattle.read_metadata.specs.Metadata.{metadata_of}
+use Rattle.read_lexer.specs.declared.line.Line.{Line}
+use Rattle.read_documents.specs.declared.parts.FunctionDocument.{FunctionDocument}
+use Rattle.read_documents.specs.Documents.{documents_of}
 use Rattle.mir_func.specs.declared.block.Block.{Block}
 use Rattle.mir_func.specs.declared.item.Item.{Item}
 use Rattle.mir_func.specs.Sound.{AllItems, items_of}
-use Rattle.mir_declarations.specs.declared.declarations.Declarations.{Declarations}
-use Rattle.mir_declarations.specs.Declarations.{refusal_of, declared_of, checked, declarations_of}
-use Rattle.mir_body.specs.declared.body.Body.{Body}
-use Rattle.mir_body.specs.Body.{blocks_of}
-use Rattle.mir_body.specs.Frame.{ids_of_objects}
-use Rattle.mir_parser.specs.declared.closing.Parsed.{Parsed}
-use Rattle.mir_parser.specs.declared.error.ParseError.{ParseError}
-use Rattle.mir_parser.specs.declared.program.Program.{Program}
-use Rattle.mir_parser.specs.BodyLines.{body_of}
-use Rattle.mir_parser.specs.Closing.{ParsesParts, Parses}
-use Rattle.mir_parser.specs.Objects.{kind_as, item_as, block_as, blocks_as}
-use Rattle.mir_parser.specs.Program.{MAX_FUNCTIONS, Goes, too_many, FunctionsFrom, program_of, ReadsText}
+use Rattle.read_declarations.specs.declared.declarations.Declarations.{Declarations}
+use Rattle.read_declarations.specs.Declarations.{refusal_of, declared_of, checked, declarations_of}
+use Rattle.read_body.specs.declared.body.Body.{Body}
+use Rattle.read_body.specs.Body.{blocks_of}
+use Rattle.read_body.specs.Frame.{ids_of_objects}
+use Rattle.read_program.specs.declared.closing.Parsed.{Parsed}
+use Rattle.read_program.specs.declared.error.ParseError.{ParseError}
+use Rattle.read_program.specs.declared.program.Program.{Program}
+use Rattle.read_program.specs.BodyLines.{body_of}
+use Rattle.read_program.specs.Closing.{ParsesParts, Parses}
+use Rattle.read_program.specs.Objects.{kind_as, item_as, block_as, blocks_as}
+use Rattle.read_program.specs.Program.{MAX_FUNCTIONS, Goes, too_many, FunctionsFrom, program_of, ReadsText}
 use Rattle.read_back.specs.Laws.{HasByteNames}
 use Rattle.read_bodies.specs.Known.{IsOfLine}
 use Rattle.read_bodies.proofs.Known.{bodies_are_known}

@@ -7,15 +7,15 @@ use Rattle.std.specs.List.{flat_map}
 use Rattle.std.proofs.lemmas.Bool.{and_parts, cond-true, cond-false}
 use Rattle.std.proofs.lemmas.Bool.Decides.{nat_tests}
 use Rattle.std.proofs.lemmas.List.Elements.{All-nil, All-cons, All-head, All-tail, All-take, All-drop, All-append}
-use Rattle.mir_lexer.specs.declared.fault.LexError.{LexError}
-use Rattle.mir_lexer.specs.declared.line.Line.{Line}
-use Rattle.mir_lexer.specs.declared.parts.Class.TheVariants as class
-use Rattle.mir_lexer.specs.declared.parts.Token.{Token}
-use Rattle.mir_lexer.specs.Line.{tokens_of}
-use Rattle.meta_reader.specs.Definition as symbol
-use Rattle.meta_reader.specs.Text.{escape, unescaped_behind, inside_quotes}
-use Rattle.meta_reader.specs.Token.{is_word, text_of}
-use Rattle.mir_declarations.specs.Name.{opens_with, are_single, spelling_alone, spelling_of, joined, name_by, name_read, name_of}
+use Rattle.read_lexer.specs.declared.fault.LexError.{LexError}
+use Rattle.read_lexer.specs.declared.line.Line.{Line}
+use Rattle.read_lexer.specs.declared.parts.Class.TheVariants as class
+use Rattle.read_lexer.specs.declared.parts.Token.{Token}
+use Rattle.read_lexer.specs.Line.{tokens_of}
+use Rattle.read_metadata.specs.Definition as symbol
+use Rattle.read_metadata.specs.Text.{escape, unescaped_behind, inside_quotes}
+use Rattle.read_metadata.specs.Token.{is_word, text_of}
+use Rattle.read_declarations.specs.Name.{opens_with, are_single, spelling_alone, spelling_of, joined, name_by, name_read, name_of}
 use Rattle.names_of_bytes.specs.Bytes.{AreBytes}
 use Rattle.names_of_bytes.proofs.Lines.{LineBytes}
 

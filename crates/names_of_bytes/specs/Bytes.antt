@@ -1,8 +1,8 @@
 -- Names of bytes, of a text of bytes.
 use Rattle.std.specs.Prelude.{ℕ, ◌<◌, List, All, Ok}
-use Rattle.mir_parser.specs.declared.closing.Parsed.{Parsed}
-use Rattle.mir_parser.specs.declared.program.Program.{Program}
-use Rattle.mir_parser.specs.Program.{ReadsText}
+use Rattle.read_program.specs.declared.closing.Parsed.{Parsed}
+use Rattle.read_program.specs.declared.program.Program.{Program}
+use Rattle.read_program.specs.Program.{ReadsText}
 use Rattle.functions_read_back.specs.Stripped.{HasNamesOfBytes}
 
 -- bytes

@@ -5,16 +5,16 @@ use Rattle.std.proofs.lemmas.Bool.{or_parts}
 use Rattle.rv64_instr.specs.declared.operand.Operand.{Operand}
 use Rattle.rv64_instr.specs.declared.operand.Operand.TheVariants.{Def, Use, Imm, Object}
 use Rattle.rv64_instr.specs.Form.{moves_slot}
-use Rattle.mir_lexeme.specs.declared.lexeme.Flag.{Flag}
-use Rattle.mir_lexeme.specs.declared.lexeme.Flag.TheVariants.{Plain, Implicit, ImplicitDef}
-use Rattle.mir_line.specs.declared.form.OperandForm.{OperandForm}
-use Rattle.mir_line.specs.declared.form.OperandForm.TheVariants as form
-use Rattle.mir_line.specs.declared.form.RegisterForm.{RegisterForm}
-use Rattle.mir_item.specs.declared.place.Place.{Place}
-use Rattle.mir_item.specs.declared.place.Place.TheVariants as place
-use Rattle.mir_item.specs.Code.{number_of, used, stack_operand, number_operand, operand_at, before, joined, set_by, definition, definitions, placed}
-use Rattle.mir_item.specs.Code.{is_whole_slot, is_misplaced}
-use Rattle.mir_item.specs.Place.{address, front, behind}
+use Rattle.read_token.specs.declared.lexeme.Flag.{Flag}
+use Rattle.read_token.specs.declared.lexeme.Flag.TheVariants.{Plain, Implicit, ImplicitDef}
+use Rattle.read_line.specs.declared.form.OperandForm.{OperandForm}
+use Rattle.read_line.specs.declared.form.OperandForm.TheVariants as form
+use Rattle.read_line.specs.declared.form.RegisterForm.{RegisterForm}
+use Rattle.read_item.specs.declared.place.Place.{Place}
+use Rattle.read_item.specs.declared.place.Place.TheVariants as place
+use Rattle.read_item.specs.Code.{number_of, used, stack_operand, number_operand, operand_at, before, joined, set_by, definition, definitions, placed}
+use Rattle.read_item.specs.Code.{is_whole_slot, is_misplaced}
+use Rattle.read_item.specs.Place.{address, front, behind}
 
 -- the operand before others
 pub record Parts (o : Option Operand) (rest : Option (List Operand)) (x : Operand) (xs : List Operand) : Type 0 where

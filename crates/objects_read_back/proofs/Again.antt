@@ -14,14 +14,14 @@ use Rattle.rv64_instr.specs.Form.{is_within, has_12_bits, is_immediate, is_addi,
 use Rattle.rv64_instr.specs.Form.{fits_branch, fits_load, fits_store, fits_copy, fits_jump, fits_call, has_form}
 use Rattle.rv64_instr.specs.Instruction.{Instruction}
 use Rattle.std.specs.Prelude.{pos}
-use Rattle.mir_line.specs.declared.form.ItemForm.{ItemForm}
-use Rattle.mir_line.specs.declared.form.OperandForm.{OperandForm}
-use Rattle.mir_item.specs.declared.place.Place.TheVariants as place
-use Rattle.mir_item.specs.Code.{joined, definitions, placed, names_slot, places_of, operands_of, is_whole_slot, is_misplaced, operand_at}
-use Rattle.mir_item.specs.Place.{address}
-use Rattle.mir_parser.specs.Objects.{operand_as, operands_as, instr_as}
-use Rattle.mir_parser.proofs.Judged.{code_line}
-use Rattle.mir_parser.proofs.Printed.{renamed}
+use Rattle.read_line.specs.declared.form.ItemForm.{ItemForm}
+use Rattle.read_line.specs.declared.form.OperandForm.{OperandForm}
+use Rattle.read_item.specs.declared.place.Place.TheVariants as place
+use Rattle.read_item.specs.Code.{joined, definitions, placed, names_slot, places_of, operands_of, is_whole_slot, is_misplaced, operand_at}
+use Rattle.read_item.specs.Place.{address}
+use Rattle.read_program.specs.Objects.{operand_as, operands_as, instr_as}
+use Rattle.read_program.proofs.Judged.{code_line}
+use Rattle.read_program.proofs.Printed.{renamed}
 use Rattle.mir_printer.specs.Printable.{as_slot}
 use Rattle.code_read_back.specs.Code.{judged_operands, judged_instruction}
 use Rattle.objects_read_back.specs.Again.{CodeIsJudgedAgain}

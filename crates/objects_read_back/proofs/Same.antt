@@ -6,8 +6,8 @@ use Rattle.rv64_instr.specs.declared.op.Op.{Op}
 use Rattle.rv64_instr.specs.declared.operand.Operand.{Operand}
 use Rattle.rv64_instr.specs.declared.operand.Operand.TheVariants.{Def, Use, ImplicitDef, ImplicitUse, Imm, Slot, Object, Block, Symbol, Mask}
 use Rattle.rv64_instr.specs.Form.{is_implicit, is_argument, is_result, has_form}
-use Rattle.mir_body.specs.Met.{is_met}
-use Rattle.mir_parser.specs.Objects.{operand_as, operands_as}
+use Rattle.read_body.specs.Met.{is_met}
+use Rattle.read_program.specs.Objects.{operand_as, operands_as}
 use Rattle.mir_printer.specs.Printable.{as_slot}
 use Rattle.code_read_back.specs.Code.{judged_operands}
 

@@ -2,9 +2,9 @@
 use Rattle.std.specs.Prelude.{◌≡◌, ℕ, List, Ok}
 use Rattle.rv64_instr.specs.declared.op.Op.{Op}
 use Rattle.rv64_instr.specs.Instruction.{Instruction}
-use Rattle.mir_line.specs.declared.form.ItemForm.{ItemForm}
-use Rattle.mir_item.specs.Code.{code_of}
-use Rattle.mir_parser.specs.Objects.{instr_as}
+use Rattle.read_line.specs.declared.form.ItemForm.{ItemForm}
+use Rattle.read_item.specs.Code.{code_of}
+use Rattle.read_program.specs.Objects.{instr_as}
 use Rattle.code_read_back.specs.Code.{judged_instruction}
 
 -- What a line means is judged again so, whichever stack entries are objects: which of them code names as objects doesn't change where a

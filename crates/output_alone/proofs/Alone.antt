@@ -5,14 +5,14 @@ use Rattle.std.proofs.lemmas.List.Elements.{All-head, All-tail}
 use Rattle.mir_func.specs.Function.{Function}
 use Rattle.compiled_alone.specs.Compiled.{functions_of}
 use Rattle.compiled_alone.proofs.Compiled.{same_text}
-use Rattle.follow_law.specs.Change.{change}
-use Rattle.follow_law.specs.Steps.{Step, MakeCodeAlone}
+use Rattle.pass_trait.specs.Change.{change}
+use Rattle.pass_trait.specs.Steps.{Step, MakeCodeAlone}
 use Rattle.frames_alike.specs.Alike.{HaveAlikeCode}
-use Rattle.meta_reader.specs.Maps.{Maps}
-use Rattle.mir_parser.specs.declared.closing.Parsed.{Parsed}
-use Rattle.output_promise.specs.Source.{PassedFunction, SourceFunction}
+use Rattle.read_metadata.specs.Maps.{Maps}
+use Rattle.read_program.specs.declared.closing.Parsed.{Parsed}
+use Rattle.compile_theorem.specs.Source.{PassedFunction, SourceFunction}
 use Rattle.passes_alone.proofs.Passed.{passes_alone}
-use Rattle.program_compiler.specs.Program.{ArePassed, steps_of, IsMadeBy, source_of, names_of}
+use Rattle.compile_program.specs.Program.{ArePassed, steps_of, IsMadeBy, source_of, names_of}
 use Rattle.text_alone.specs.Text.{OneByOne}
 use Rattle.output_alone.specs.Alone.{AreReadAlike, OutputsOfAlikeCode}
 

@@ -1,11 +1,11 @@
 -- Outputs of programs that differ in their debug items.
 use Rattle.std.specs.Prelude.{◌≡◌, ℕ, List}
-use Rattle.compiled_text.specs.declared.output.Output.{Output}
+use Rattle.listing_text.specs.declared.output.Output.{Output}
 use Rattle.frames_alike.specs.Alike.{HaveAlikeCode}
-use Rattle.mir_parser.specs.declared.closing.Parsed.{Parsed}
-use Rattle.mir_parser.specs.declared.program.Program.{Program}
+use Rattle.read_program.specs.declared.closing.Parsed.{Parsed}
+use Rattle.read_program.specs.declared.program.Program.{Program}
 use Rattle.pass_list.specs.declared.kind.PassKind.{PassKind}
-use Rattle.program_compiler.specs.Program.{IsOutputOf, steps_of}
+use Rattle.compile_program.specs.Program.{IsOutputOf, steps_of}
 use Rattle.text_alone.specs.Text.{OneByOne}
 
 -- two functions that were read have alike code

@@ -2,10 +2,10 @@
 use Rattle.std.proofs.Common.{◌≡◌, List, [], ◌∷◌, sym, ap, subst, ◌∙◌}
 use Rattle.mir_func.specs.Function.{Function}
 use Rattle.mir_func.specs.Strip.{stripped}
-use Rattle.follow_law.specs.declared.loss.Loss.{Loss}
-use Rattle.follow_law.specs.Change.{Change}
-use Rattle.follow_law.specs.Code.{HasOneResult, SeesCodeAlone, AreAlike, placeless}
-use Rattle.follow_law.specs.Steps.{Step, EachCode, MakesInTurn, KeepsSteps, MakeCodeAlone}
+use Rattle.pass_trait.specs.declared.loss.Loss.{Loss}
+use Rattle.pass_trait.specs.Change.{Change}
+use Rattle.pass_trait.specs.Code.{HasOneResult, SeesCodeAlone, AreAlike, placeless}
+use Rattle.pass_trait.specs.Steps.{Step, EachCode, MakesInTurn, KeepsSteps, MakeCodeAlone}
 
 made : (steps : List Step) (c : Change) (lost : List Loss) → KeepsSteps steps c lost → MakesInTurn steps (stripped c.old) (stripped c.new)
 made [] c lost k = ap stripped k.0

@@ -2,21 +2,21 @@
 use Rattle.std.proofs.Common.{ℕ, List, [], ◌∷◌}
 use Rattle.mir_func.specs.Function.{Function}
 use Rattle.mir_func.specs.Strip.{stripped}
-use Rattle.copy_rule.specs.Laws.{one_copied, same_copied}
+use Rattle.copyprop_rule.specs.Laws.{one_copied, same_copied}
 use Rattle.dead_pass.specs.Laws.{rounds_have_one_result, rounds_see_code_alone}
 use Rattle.branch_fold.specs.Laws.{folding_has_one_result, folding_sees_code_alone}
 use Rattle.remat_pass.specs.Laws.{one_rematerialized, same_rematerialized}
 use Rattle.spill_pass.specs.Reserve.{reserve_of}
 use Rattle.spill_rule.specs.Laws.{one_spilled, same_spilled}
-use Rattle.follow_law.specs.Change.{change}
-use Rattle.follow_law.specs.Code.{HasOneResult, SeesCodeAlone}
-use Rattle.follow_law.specs.Laws.{one_then, same_then}
-use Rattle.follow_law.specs.Steps.{EachCode}
+use Rattle.pass_trait.specs.Change.{change}
+use Rattle.pass_trait.specs.Code.{HasOneResult, SeesCodeAlone}
+use Rattle.pass_trait.specs.Laws.{one_then, same_then}
+use Rattle.pass_trait.specs.Steps.{EachCode}
 use Rattle.passes_alone.proofs.Made.{make_code_alone}
 use Rattle.frames_alike.specs.Alike.{HaveAlikeCode, HaveSameCode}
 use Rattle.pass_list.specs.declared.kind.PassKind.{PassKind}
 use Rattle.pass_list.specs.declared.kind.PassKind.TheVariants.{Copy, Remat, Spill, Dead, Fold}
-use Rattle.pass_loop.specs.Passes.{steps_of_pass, steps_of}
+use Rattle.pass_manager.specs.Passes.{steps_of_pass, steps_of}
 use Rattle.text_alone.specs.Text.{OneByOne}
 use Rattle.text_alone.proofs.Text.{coded_alone, alike_text, same_text}
 use Rattle.passes_alone.specs.Passed.{IsPassed, PassesMakeCodeAlone, PassedIsMadeOfCode, PassedHasSameText, PassedHasSameCode}

@@ -3,13 +3,13 @@ use Rattle.std.specs.Prelude.{◌≡◌, ℕ, List}
 use Rattle.mir_func.specs.declared.entry.Entry.{Entry}
 use Rattle.mir_func.specs.Function.{Function}
 use Rattle.mir_func.specs.Strip.{stripped}
-use Rattle.code_words.specs.Rule.{Layout}
-use Rattle.follow_law.specs.declared.loss.Loss.{Loss}
-use Rattle.follow_law.specs.Change.{change}
-use Rattle.follow_law.specs.Steps.{MakesInTurn, KeepsSteps, MakeCodeAlone}
+use Rattle.emit_code.specs.Rule.{Layout}
+use Rattle.pass_trait.specs.declared.loss.Loss.{Loss}
+use Rattle.pass_trait.specs.Change.{change}
+use Rattle.pass_trait.specs.Steps.{MakesInTurn, KeepsSteps, MakeCodeAlone}
 use Rattle.frames_alike.specs.Alike.{HaveAlikeCode, HaveSameCode}
 use Rattle.pass_list.specs.declared.kind.PassKind.{PassKind}
-use Rattle.pass_loop.specs.Passes.{steps_of}
+use Rattle.pass_manager.specs.Passes.{steps_of}
 use Rattle.text_alone.specs.Text.{IsLaid, AreLaid, OneByOne}
 use Rattle.words_alone.specs.Alone.{AreCodedAlike, AreCodedSame}
 

@@ -20,13 +20,13 @@ use Rattle.mir_func.specs.declared.variable.MarkValue.TheVariants.{Nothing, Cons
 use Rattle.mir_func.specs.declared.variable.VarId.{VarId}
 use Rattle.mir_func.specs.Exits.{exit_of}
 use Rattle.mir_func.specs.Sound.{AllItems, items_of, ids_of, number_of}
-use Rattle.mir_body.specs.Body.{constant_of, object_named}
-use Rattle.mir_body.specs.Closing.{goes_to_one_of, item_goes_to, blocks_go_to, all_met}
-use Rattle.mir_body.specs.Met.{is_met}
-use Rattle.mir_parser.specs.Limited.{PlaceIsLimited, KindIsLimited}
-use Rattle.mir_parser.specs.Objects.{instr_as, place_as, kind_as, item_as, blocks_as}
-use Rattle.mir_parser.proofs.Bodies.{IsReadBlock}
-use Rattle.mir_parser.proofs.Items.{KindNamesAmong}
+use Rattle.read_body.specs.Body.{constant_of, object_named}
+use Rattle.read_body.specs.Closing.{goes_to_one_of, item_goes_to, blocks_go_to, all_met}
+use Rattle.read_body.specs.Met.{is_met}
+use Rattle.read_program.specs.Limited.{PlaceIsLimited, KindIsLimited}
+use Rattle.read_program.specs.Objects.{instr_as, place_as, kind_as, item_as, blocks_as}
+use Rattle.read_program.proofs.Bodies.{IsReadBlock}
+use Rattle.read_program.proofs.Items.{KindNamesAmong}
 use Rattle.code_read_back.specs.Code.{judged_kind}
 use Rattle.body_read_back.specs.Body.{item_at, items_from, judged_block, entries_named, names_object, judged_constant, VariableIn}
 use Rattle.read_bodies.specs.Known.{names}

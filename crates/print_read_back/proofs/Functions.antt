@@ -3,14 +3,14 @@ use Rattle.std.proofs.Common.{◌≡◌, ℕ, ◌+◌, ◌≤◌, true, List, []
 use Rattle.std.proofs.Common.{refl, sym, ap, subst, ◌∙◌, arith, append-nil}
 use Rattle.std.specs.Prelude.{is_some, IfSome}
 use Rattle.std.proofs.lemmas.List.Elements.{All-nil, All-cons, All-weaker}
-use Rattle.refusal.specs.declared.first.Refusal.{Refusal}
-use Rattle.refusal.specs.First.{earlier}
-use Rattle.meta_reader.specs.Maps.{Maps}
-use Rattle.meta_reader.specs.Metadata.{metadata_of}
-use Rattle.numbers.specs.Limits.{MAX_NUMBER}
-use Rattle.mir_lexer.specs.declared.line.Line.{Line}
-use Rattle.mir_frame.specs.declared.parts.FunctionDocument.{FunctionDocument}
-use Rattle.mir_frame.specs.Documents.{documents_of}
+use Rattle.read_refusal.specs.declared.first.Refusal.{Refusal}
+use Rattle.read_refusal.specs.First.{earlier}
+use Rattle.read_metadata.specs.Maps.{Maps}
+use Rattle.read_metadata.specs.Metadata.{metadata_of}
+use Rattle.base_ids.specs.Limits.{MAX_NUMBER}
+use Rattle.read_lexer.specs.declared.line.Line.{Line}
+use Rattle.read_documents.specs.declared.parts.FunctionDocument.{FunctionDocument}
+use Rattle.read_documents.specs.Documents.{documents_of}
 use Rattle.mir_func.specs.declared.block.Block.{Block}
 use Rattle.mir_func.specs.declared.item.Item.{Item}
 use Rattle.mir_func.specs.declared.item.ItemKind.{ItemKind}
@@ -19,28 +19,28 @@ use Rattle.mir_func.specs.declared.object.Object as func
 use Rattle.mir_func.specs.Function.{Function}
 use Rattle.mir_func.specs.Objects.{object_of}
 use Rattle.mir_func.specs.Sound.{AllItems, items_of, number_of, IsSound}
-use Rattle.mir_declarations.specs.declared.declarations.Declarations.{Declarations}
-use Rattle.mir_declarations.specs.Declarations.{checked, declarations_of}
-use Rattle.mir_body.specs.declared.body.Body.{Body}
-use Rattle.mir_body.specs.Body.{constant_of, blocks_of}
-use Rattle.mir_body.specs.Closing.{blocks_go_to, all_met}
-use Rattle.mir_body.specs.Frame.{ids_of_objects}
-use Rattle.mir_body.specs.Met.{is_met}
-use Rattle.mir_parser.specs.declared.closing.Parsed.{Parsed}
-use Rattle.mir_parser.specs.declared.error.ParseError.{ParseError}
-use Rattle.mir_parser.specs.BodyLines.{body_of}
-use Rattle.mir_parser.specs.Closing.{entry_ids, laid_out, stays, parts_of, closing_cause, function_of, EndWell, Closes, ParsesParts, Parses}
-use Rattle.mir_parser.specs.Objects.{kind_as, item_as, block_as, blocks_as, blocks_stay}
-use Rattle.mir_parser.proofs.Bodies.{IsReadBlock, IsReadBody, ComesFromLine, body_reads}
-use Rattle.mir_parser.proofs.Entries.{declared_if_met, ids_are_objects}
-use Rattle.mir_parser.proofs.Forms.{line_fits}
-use Rattle.mir_parser.proofs.Items.{IsReadItem, item_reads}
-use Rattle.mir_parser.proofs.Judged.{judged_line}
-use Rattle.mir_parser.proofs.Lists.{both}
-use Rattle.mir_parser.proofs.Soundness.{sound_if_ends_well}
-use Rattle.mir_parser.proofs.Stack.{IsReadEntry, declared_stack}
-use Rattle.reading_laws.proofs.Labels.{ids_small, blocks_small}
-use Rattle.reading_laws.proofs.Numbers.{HasSmallId, declares_small}
+use Rattle.read_declarations.specs.declared.declarations.Declarations.{Declarations}
+use Rattle.read_declarations.specs.Declarations.{checked, declarations_of}
+use Rattle.read_body.specs.declared.body.Body.{Body}
+use Rattle.read_body.specs.Body.{constant_of, blocks_of}
+use Rattle.read_body.specs.Closing.{blocks_go_to, all_met}
+use Rattle.read_body.specs.Frame.{ids_of_objects}
+use Rattle.read_body.specs.Met.{is_met}
+use Rattle.read_program.specs.declared.closing.Parsed.{Parsed}
+use Rattle.read_program.specs.declared.error.ParseError.{ParseError}
+use Rattle.read_program.specs.BodyLines.{body_of}
+use Rattle.read_program.specs.Closing.{entry_ids, laid_out, stays, parts_of, closing_cause, function_of, EndWell, Closes, ParsesParts, Parses}
+use Rattle.read_program.specs.Objects.{kind_as, item_as, block_as, blocks_as, blocks_stay}
+use Rattle.read_program.proofs.Bodies.{IsReadBlock, IsReadBody, ComesFromLine, body_reads}
+use Rattle.read_program.proofs.Entries.{declared_if_met, ids_are_objects}
+use Rattle.read_program.proofs.Forms.{line_fits}
+use Rattle.read_program.proofs.Items.{IsReadItem, item_reads}
+use Rattle.read_program.proofs.Judged.{judged_line}
+use Rattle.read_program.proofs.Lists.{both}
+use Rattle.read_program.proofs.Soundness.{sound_if_ends_well}
+use Rattle.read_program.proofs.Stack.{IsReadEntry, declared_stack}
+use Rattle.read_proof.proofs.Labels.{ids_small, blocks_small}
+use Rattle.read_proof.proofs.Numbers.{HasSmallId, declares_small}
 use Rattle.read_back.specs.Laws.{HasByteNames, IsWritable}
 use Rattle.code_read_back.specs.Code.{IsReadable}
 use Rattle.readable_items.proofs.Readable.{items_are_readable}

@@ -4,16 +4,16 @@ use Rattle.std.specs.Prelude.{codes}
 use Rattle.std.specs.Fmt.{decimal}
 use Rattle.std.specs.List.{flat_map}
 use Rattle.std.proofs.lemmas.List.Elements.{All-nil, All-cons, All-append, All-map, All-weaker}
-use Rattle.numbers.specs.Limits.{MAX_NUMBER}
-use Rattle.mir_frame.specs.declared.key.Key.TheVariants.{DebugValueSubstitutions}
-use Rattle.mir_frame.specs.Key.{heading}
+use Rattle.base_ids.specs.Limits.{MAX_NUMBER}
+use Rattle.read_documents.specs.declared.key.Key.TheVariants.{DebugValueSubstitutions}
+use Rattle.read_documents.specs.Key.{heading}
 use Rattle.mir_func.specs.declared.block.Block.{Block}
 use Rattle.mir_func.specs.declared.entry.Entry.{Entry}
 use Rattle.mir_func.specs.Function.{Function}
 use Rattle.mir_func.specs.Sound.{items_of}
-use Rattle.func_printer.specs.FuncText.{name_text, stack_text, entry_line as entry_text, some_substitutions, substitutions_text, block_text}
-use Rattle.func_printer.specs.FuncText.{func_text}
-use Rattle.reading_laws.specs.Read.{EntryIsLimited}
+use Rattle.mir_func_printer.specs.FuncText.{name_text, stack_text, entry_line as entry_text, some_substitutions, substitutions_text, block_text}
+use Rattle.mir_func_printer.specs.FuncText.{func_text}
+use Rattle.read_proof.specs.Read.{EntryIsLimited}
 use Rattle.read_back.specs.Laws.{IsWritable}
 use Rattle.body_read_back.specs.Body.{body_lines}
 use Rattle.documents_read_back.specs.Document.{fed, text_of_lines, IsLine, IsIndented, IsSection, Document, document_lines, IsDocument}
@@ -23,7 +23,7 @@ use Rattle.printed_lines.proofs.Declared.{declared_lines_are_printed}
 use Rattle.printed_lines.proofs.Marks.{number_shows}
 use Rattle.printed_lines.proofs.Texts.{Shows, shows_behind, line_of}
 use Rattle.functions_read_back.proofs.Documents.{stack_printed, stack_section, blocks_printed, blocks_indented, name_heading}
-use Rattle.strip_read_back.proofs.Lines.{fed_both, stack_fed, blocks_fed}
+use Rattle.readback_strip.proofs.Lines.{fed_both, stack_fed, blocks_fed}
 
 -- the document of a function and its substitutions
 abbrev pub document_of : Function → List Entry → Document

@@ -1,13 +1,13 @@
 -- The text of a function that was read, and what it is read as.
 use Rattle.std.specs.Prelude.{◌≡◌, ℕ, List, [], ◌∷◌, All, None, Ok}
-use Rattle.meta_reader.specs.Maps.{Maps}
-use Rattle.mir_frame.specs.declared.parts.FunctionDocument.{FunctionDocument}
-use Rattle.mir_frame.specs.Documents.{documents_of}
-use Rattle.mir_parser.specs.declared.closing.Parsed.{Parsed}
-use Rattle.mir_parser.specs.declared.program.Program.{Program}
-use Rattle.mir_parser.specs.Closing.{Parses}
-use Rattle.mir_parser.specs.Program.{ReadsText}
-use Rattle.func_printer.specs.FuncText.{func_text}
+use Rattle.read_metadata.specs.Maps.{Maps}
+use Rattle.read_documents.specs.declared.parts.FunctionDocument.{FunctionDocument}
+use Rattle.read_documents.specs.Documents.{documents_of}
+use Rattle.read_program.specs.declared.closing.Parsed.{Parsed}
+use Rattle.read_program.specs.declared.program.Program.{Program}
+use Rattle.read_program.specs.Closing.{Parses}
+use Rattle.read_program.specs.Program.{ReadsText}
+use Rattle.mir_func_printer.specs.FuncText.{func_text}
 use Rattle.names_of_bytes.specs.Bytes.{AreBytes}
 
 -- the text of a function and its substitutions is one document, which stands for the function and its substitutions by the metadata

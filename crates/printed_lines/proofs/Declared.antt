@@ -5,10 +5,10 @@ use Rattle.std.specs.List.{list_all, flat_map}
 use Rattle.std.specs.Fmt.{decimal}
 use Rattle.std.proofs.lemmas.Bool.{and_parts, and_from}
 use Rattle.std.proofs.lemmas.Bool.Decides.{nat_tests}
-use Rattle.numbers.specs.Limits.{MAX_NUMBER}
+use Rattle.base_ids.specs.Limits.{MAX_NUMBER}
 use Rattle.mir_func.specs.declared.object.Object.{Object}
 use Rattle.mir_printer.specs.Spelling.{quoted_byte}
-use Rattle.func_printer.specs.FuncText.{is_name_start, is_name_byte, is_plain_name, quoted_text}
+use Rattle.mir_func_printer.specs.FuncText.{is_name_start, is_name_byte, is_plain_name, quoted_text}
 use Rattle.declarations_read_back.specs.Declared.{name_line, slot_line, object_line}
 use Rattle.printed_lines.specs.Printed.{DeclaredLinesArePrinted}
 use Rattle.printed_lines.proofs.Texts.{Shows, shows_behind, line_of, is_visible, visible_shows, all_visible, decimal_shows, quoted_shows}

@@ -12,16 +12,16 @@ use Rattle.rv64_instr.specs.declared.operand.Operand.{Operand}
 use Rattle.rv64_instr.specs.declared.operand.Operand.TheVariants.{Def, Use, ImplicitDef, ImplicitUse, Imm, Slot, Object, Block as OfBlock, Symbol, Mask}
 use Rattle.rv64_instr.specs.Instruction.{Instruction}
 use Rattle.rv64_instr.specs.Mnemonic.{mnemonic_of}
-use Rattle.numbers.specs.Limits.{MAX_NUMBER}
-use Rattle.mir_lexer.specs.Bytes.{is_word_byte}
-use Rattle.mir_lexeme.specs.Word.{word_of}
-use Rattle.mir_line.specs.Item.{is_upper}
+use Rattle.base_ids.specs.Limits.{MAX_NUMBER}
+use Rattle.read_lexer.specs.Bytes.{is_word_byte}
+use Rattle.read_token.specs.Word.{word_of}
+use Rattle.read_line.specs.Item.{is_upper}
 use Rattle.mir_func.specs.declared.item.ItemKind.{ItemKind}
 use Rattle.mir_func.specs.declared.item.ItemKind.TheVariants.{Code, Mark, Phi}
 use Rattle.mir_func.specs.declared.location.Loc.{Loc}
 use Rattle.mir_func.specs.declared.location.Loc.TheVariants.{Absent, Node, Inline}
-use Rattle.mir_parser.specs.Limited.{IsLimited, KindIsLimited, LocIsLimited}
-use Rattle.mir_parser.proofs.Lists.{both}
+use Rattle.read_program.specs.Limited.{IsLimited, KindIsLimited, LocIsLimited}
+use Rattle.read_program.proofs.Lists.{both}
 use Rattle.mir_printer.specs.Spelling.{comma_separated, is_bare, quoted_byte, symbol_text, register_text, operand_text, is_definition}
 use Rattle.mir_printer.specs.Spelling.{definitions_text}
 use Rattle.mir_printer.specs.Spelling.{uses_text, instruction_text, number_text, inlined_at_text, location_text, mark_text, phi_text, kind_text}

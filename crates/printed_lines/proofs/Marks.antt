@@ -4,13 +4,13 @@ use Rattle.std.specs.Prelude.{codes, IfSome}
 use Rattle.std.specs.Fmt.{decimal, signed_decimal}
 use Rattle.rv64_instr.specs.declared.place.Place.{Place}
 use Rattle.rv64_instr.specs.declared.place.Place.TheVariants as place
-use Rattle.numbers.specs.Limits.{MAX_NUMBER}
+use Rattle.base_ids.specs.Limits.{MAX_NUMBER}
 use Rattle.mir_func.specs.declared.entry.OperandPair.{OperandPair}
 use Rattle.mir_func.specs.declared.variable.MarkValue.{MarkValue}
 use Rattle.mir_func.specs.declared.variable.MarkValue.TheVariants.{Nothing, Constant, At, Pair}
 use Rattle.mir_func.specs.declared.variable.VarId.{VarId}
 use Rattle.mir_func.specs.Parts.{Bytes, IsPart}
-use Rattle.mir_parser.specs.Limited.{ValueIsLimited, PlaceIsLimited, VariableIsLimited}
+use Rattle.read_program.specs.Limited.{ValueIsLimited, PlaceIsLimited, VariableIsLimited}
 use Rattle.mir_printer.specs.Spelling.{register_text, phi_place_text, fragment_text, expression_text, pair_expression_text, variable_text, value_mark_text}
 use Rattle.mir_printer.specs.Spelling.{pair_mark_text, mark_text, phi_text}
 use Rattle.read_back.proofs.Registers.{register_spelled}

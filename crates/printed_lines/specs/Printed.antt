@@ -1,6 +1,6 @@
 -- Lines as they are printed: printable ASCII without a space at the end.
 use Rattle.std.specs.Prelude.{ℕ, ◌<◌, ◌≤◌, List, All}
-use Rattle.numbers.specs.Limits.{MAX_NUMBER}
+use Rattle.base_ids.specs.Limits.{MAX_NUMBER}
 use Rattle.mir_func.specs.declared.item.Item.{Item}
 use Rattle.mir_func.specs.declared.object.Object.{Object}
 use Rattle.read_back.specs.Laws.{IsWritable}

@@ -3,13 +3,13 @@
 ghost use Rattle.std.specs.Prelude.{◌≡◌, All, IfOk};
 ghost use Rattle.program_report.specs.ProgramReport.{IsReportable, function_report, program_report};
 
-use code_words::code::Code;
+use emit_code::code::Code;
 use debugify_report::make::make_report;
 use debugify_report::print::print_report;
 use debugify_report::report::Names;
 use dwarf_loclists::range::RangeLists;
-use follow_law::loss::Losses;
-use lists::List;
+use pass_trait::loss::Losses;
+use base_list::List;
 use mir_printer::text::Text;
 use std::alloc::{AllocError, Global};
 

@@ -7,27 +7,27 @@ use Rattle.std.specs.Fmt.{decimal}
 use Rattle.mir_func.specs.declared.location.InlineLoc.{InlineLoc}
 use Rattle.mir_func.specs.declared.location.Loc.{Loc}
 use Rattle.mir_func.specs.declared.location.Loc.TheVariants as locs
-use Rattle.numbers.specs.Limits.{MAX_NUMBER}
-use Rattle.mir_lexer.specs.declared.parts.Class.TheVariants as class
-use Rattle.mir_lexer.specs.declared.parts.Token.{Token}
-use Rattle.mir_lexer.specs.Front.{token_at}
-use Rattle.mir_lexeme.specs.declared.lexeme.Lexeme.{Lexeme}
-use Rattle.mir_lexeme.specs.declared.lexeme.Lexeme.TheVariants as lexemes
-use Rattle.mir_lexeme.specs.declared.lexeme.Number.{Number}
-use Rattle.mir_lexeme.specs.declared.lexeme.Number.TheVariants.{Fits}
-use Rattle.mir_lexeme.specs.declared.lexeme.Word.{Word}
-use Rattle.mir_lexeme.specs.declared.lexeme.Word.TheVariants as words
-use Rattle.mir_lexeme.specs.Number.{limited, number_of}
-use Rattle.mir_lexeme.specs.Sentence.{kind_of}
-use Rattle.mir_lexeme.specs.Word.{is_plain, flag_of, keyword_of, word_of}
-use Rattle.mir_line.specs.declared.attribute.Attributes.{Attributes}
-use Rattle.mir_line.specs.Attribute.{field_at, fields_at, location_at, ended, behind_number, behind_location, attributes_of, begins_attribute}
-use Rattle.mir_line.specs.Attribute.{attributes_behind}
-use Rattle.mir_line.specs.Exceeds.{is_some_beyond, loc_exceeds, attributes_exceed, is_wide}
-use Rattle.mir_line.specs.Item.{begins_operand}
-use Rattle.mir_line.specs.Operand.{capped}
-use Rattle.mir_line.specs.Read.{◌>>=◌}
-use Rattle.mir_parser.specs.Limited.{LocIsLimited}
+use Rattle.base_ids.specs.Limits.{MAX_NUMBER}
+use Rattle.read_lexer.specs.declared.parts.Class.TheVariants as class
+use Rattle.read_lexer.specs.declared.parts.Token.{Token}
+use Rattle.read_lexer.specs.Front.{token_at}
+use Rattle.read_token.specs.declared.lexeme.Lexeme.{Lexeme}
+use Rattle.read_token.specs.declared.lexeme.Lexeme.TheVariants as lexemes
+use Rattle.read_token.specs.declared.lexeme.Number.{Number}
+use Rattle.read_token.specs.declared.lexeme.Number.TheVariants.{Fits}
+use Rattle.read_token.specs.declared.lexeme.Word.{Word}
+use Rattle.read_token.specs.declared.lexeme.Word.TheVariants as words
+use Rattle.read_token.specs.Number.{limited, number_of}
+use Rattle.read_token.specs.Sentence.{kind_of}
+use Rattle.read_token.specs.Word.{is_plain, flag_of, keyword_of, word_of}
+use Rattle.read_line.specs.declared.attribute.Attributes.{Attributes}
+use Rattle.read_line.specs.Attribute.{field_at, fields_at, location_at, ended, behind_number, behind_location, attributes_of, begins_attribute}
+use Rattle.read_line.specs.Attribute.{attributes_behind}
+use Rattle.read_line.specs.Exceeds.{is_some_beyond, loc_exceeds, attributes_exceed, is_wide}
+use Rattle.read_line.specs.Item.{begins_operand}
+use Rattle.read_line.specs.Operand.{capped}
+use Rattle.read_line.specs.Read.{◌>>=◌}
+use Rattle.read_program.specs.Limited.{LocIsLimited}
 use Rattle.mir_printer.specs.Spelling.{number_text, inlined_at_text, location_text}
 use Rattle.read_back.proofs.Cuts.{is_safe, IsMark, Passes, AllPass, safe_passes, decimal_safe}
 use Rattle.read_back.proofs.Debug.{open_bracket, close_bracket, open_read, close_read, decimal_read, capped_is}

@@ -7,8 +7,8 @@ use Rattle.std.specs.Char.{is_ascii_digit}
 use Rattle.std.specs.Fmt.{decimal}
 use Rattle.std.proofs.lemmas.Bool.{and_parts, and_from, ne_eqb}
 use Rattle.std.proofs.lemmas.Bool.Decides.{nat_tests}
-use Rattle.mir_lexer.specs.Bytes.{is_quote}
-use Rattle.mir_lexer.specs.Comment.{before}
+use Rattle.read_lexer.specs.Bytes.{is_quote}
+use Rattle.read_lexer.specs.Comment.{before}
 use Rattle.mir_printer.specs.Spelling.{is_bare, quoted_byte, symbol_text}
 use Rattle.read_back.proofs.Lexing.{Piece, spelled}
 use Rattle.read_back.proofs.Numbers.{decimal_of}

@@ -5,29 +5,29 @@ use Rattle.std.specs.Prelude.{codes}
 use Rattle.std.specs.Fmt.{decimal}
 use Rattle.std.proofs.lemmas.Fmt.{decimal_digit}
 use Rattle.std.proofs.lemmas.Bool.{le-leb, and_from, eq-eqb}
-use Rattle.meta_reader.specs.Token.{text_of}
+use Rattle.read_metadata.specs.Token.{text_of}
 use Rattle.mir_func.specs.declared.entry.OperandPair.{OperandPair}
 use Rattle.mir_func.specs.Parts.{Bytes, IsPart}
-use Rattle.numbers.specs.Limits.{MAX_NUMBER}
-use Rattle.mir_lexer.specs.declared.parts.Class.TheVariants as class
-use Rattle.mir_lexer.specs.declared.parts.Token.{Token}
-use Rattle.mir_lexer.specs.Front.{token_at}
-use Rattle.mir_lexeme.specs.declared.lexeme.Lexeme.{Lexeme}
-use Rattle.mir_lexeme.specs.declared.lexeme.Lexeme.TheVariants as lexemes
-use Rattle.mir_lexeme.specs.declared.lexeme.Number.{Number}
-use Rattle.mir_lexeme.specs.declared.lexeme.Number.TheVariants.{Fits}
-use Rattle.mir_lexeme.specs.declared.lexeme.Word.{Word}
-use Rattle.mir_lexeme.specs.declared.lexeme.Word.TheVariants as words
-use Rattle.mir_lexeme.specs.Number.{BEYOND, number_of}
-use Rattle.mir_lexeme.specs.Sentence.{kind_of}
-use Rattle.mir_lexeme.specs.Word.{is_plain, flag_of, keyword_of, word_of}
-use Rattle.mir_line.specs.declared.form.Expression.{Expression}
-use Rattle.mir_line.specs.declared.form.Expression.TheVariants as expression
-use Rattle.mir_line.specs.declared.form.OperandForm.TheVariants as form
-use Rattle.mir_line.specs.Bracket.{behind_bracket}
-use Rattle.mir_line.specs.Exceeds.{is_wide}
-use Rattle.mir_line.specs.Operand.{capped, whole, whole_bytes, are_part, part_of, plain_part, argument_part, expression_of, word_operand_at, operand_at}
-use Rattle.mir_line.specs.Read.{◌>>=◌}
+use Rattle.base_ids.specs.Limits.{MAX_NUMBER}
+use Rattle.read_lexer.specs.declared.parts.Class.TheVariants as class
+use Rattle.read_lexer.specs.declared.parts.Token.{Token}
+use Rattle.read_lexer.specs.Front.{token_at}
+use Rattle.read_token.specs.declared.lexeme.Lexeme.{Lexeme}
+use Rattle.read_token.specs.declared.lexeme.Lexeme.TheVariants as lexemes
+use Rattle.read_token.specs.declared.lexeme.Number.{Number}
+use Rattle.read_token.specs.declared.lexeme.Number.TheVariants.{Fits}
+use Rattle.read_token.specs.declared.lexeme.Word.{Word}
+use Rattle.read_token.specs.declared.lexeme.Word.TheVariants as words
+use Rattle.read_token.specs.Number.{BEYOND, number_of}
+use Rattle.read_token.specs.Sentence.{kind_of}
+use Rattle.read_token.specs.Word.{is_plain, flag_of, keyword_of, word_of}
+use Rattle.read_line.specs.declared.form.Expression.{Expression}
+use Rattle.read_line.specs.declared.form.Expression.TheVariants as expression
+use Rattle.read_line.specs.declared.form.OperandForm.TheVariants as form
+use Rattle.read_line.specs.Bracket.{behind_bracket}
+use Rattle.read_line.specs.Exceeds.{is_wide}
+use Rattle.read_line.specs.Operand.{capped, whole, whole_bytes, are_part, part_of, plain_part, argument_part, expression_of, word_operand_at, operand_at}
+use Rattle.read_line.specs.Read.{◌>>=◌}
 use Rattle.mir_printer.specs.Spelling.{fragment_text, expression_text, pair_expression_text}
 use Rattle.read_back.specs.Forms.{plain_expression, argument_expression}
 use Rattle.read_back.proofs.Cuts.{IsMark, AllPass, safe_passes, decimal_safe}

@@ -6,36 +6,36 @@ use Rattle.std.specs.List.{list_any, prefix_len, starts_with}
 use Rattle.std.specs.Char.{is_ascii_uppercase}
 use Rattle.std.proofs.lemmas.Bool.{cond-true, cond-false}
 use Rattle.std.proofs.lemmas.Bool.Decides.{nat_tests}
-use Rattle.meta_reader.specs.Token.{text_of}
+use Rattle.read_metadata.specs.Token.{text_of}
 use Rattle.mir_func.specs.declared.location.Loc.{Loc}
-use Rattle.numbers.specs.Limits.{MAX_NUMBER}
-use Rattle.mir_lexer.specs.declared.parts.Class.TheVariants as class
-use Rattle.mir_lexer.specs.declared.parts.Token.{Token}
-use Rattle.mir_lexer.specs.Bytes.{is_blank}
-use Rattle.mir_lexer.specs.Comment.{before}
-use Rattle.mir_lexer.specs.Line.{tokens_of}
-use Rattle.mir_lexeme.specs.declared.lexeme.Flag.TheVariants as flags
-use Rattle.mir_lexeme.specs.declared.lexeme.Lexeme.{Lexeme}
-use Rattle.mir_lexeme.specs.declared.lexeme.Lexeme.TheVariants as lexemes
-use Rattle.mir_lexeme.specs.declared.lexeme.RegisterName.{RegisterName}
-use Rattle.mir_lexeme.specs.declared.lexeme.Word.{Word}
-use Rattle.mir_lexeme.specs.declared.lexeme.Word.TheVariants as words
-use Rattle.mir_lexeme.specs.Sentence.{lexemes_of}
-use Rattle.mir_lexeme.specs.Word.{word_of}
-use Rattle.mir_line.specs.declared.attribute.Attributes.{Attributes}
-use Rattle.mir_line.specs.declared.form.BodyLine.TheVariants as lines
-use Rattle.mir_line.specs.declared.form.ItemForm.{ItemForm}
-use Rattle.mir_line.specs.declared.form.OperandForm.{OperandForm}
-use Rattle.mir_line.specs.declared.form.RegisterForm.{RegisterForm}
-use Rattle.mir_line.specs.Attribute.{begins_attribute, attributes_of, attributes_behind}
-use Rattle.mir_line.specs.Body.{is_listing, code_of, as_item, sentence_of, line_of_tokens, body_line_of}
-use Rattle.mir_line.specs.Exceeds.{register_exceeds, operand_exceeds, attributes_exceed, is_wide}
-use Rattle.mir_line.specs.Item.{is_upper, is_lower, behind_words, opcode_at, begins_operand, operands_at, operands_of, attributes_of_item, item_with}
-use Rattle.mir_line.specs.Item.{defined_item}
-use Rattle.mir_line.specs.Item.{definitions_at, item_of}
-use Rattle.mir_line.specs.Read.{◌>>=◌}
-use Rattle.mir_line.specs.Register.{begins_register}
-use Rattle.mir_parser.specs.Limited.{LocIsLimited}
+use Rattle.base_ids.specs.Limits.{MAX_NUMBER}
+use Rattle.read_lexer.specs.declared.parts.Class.TheVariants as class
+use Rattle.read_lexer.specs.declared.parts.Token.{Token}
+use Rattle.read_lexer.specs.Bytes.{is_blank}
+use Rattle.read_lexer.specs.Comment.{before}
+use Rattle.read_lexer.specs.Line.{tokens_of}
+use Rattle.read_token.specs.declared.lexeme.Flag.TheVariants as flags
+use Rattle.read_token.specs.declared.lexeme.Lexeme.{Lexeme}
+use Rattle.read_token.specs.declared.lexeme.Lexeme.TheVariants as lexemes
+use Rattle.read_token.specs.declared.lexeme.RegisterName.{RegisterName}
+use Rattle.read_token.specs.declared.lexeme.Word.{Word}
+use Rattle.read_token.specs.declared.lexeme.Word.TheVariants as words
+use Rattle.read_token.specs.Sentence.{lexemes_of}
+use Rattle.read_token.specs.Word.{word_of}
+use Rattle.read_line.specs.declared.attribute.Attributes.{Attributes}
+use Rattle.read_line.specs.declared.form.BodyLine.TheVariants as lines
+use Rattle.read_line.specs.declared.form.ItemForm.{ItemForm}
+use Rattle.read_line.specs.declared.form.OperandForm.{OperandForm}
+use Rattle.read_line.specs.declared.form.RegisterForm.{RegisterForm}
+use Rattle.read_line.specs.Attribute.{begins_attribute, attributes_of, attributes_behind}
+use Rattle.read_line.specs.Body.{is_listing, code_of, as_item, sentence_of, line_of_tokens, body_line_of}
+use Rattle.read_line.specs.Exceeds.{register_exceeds, operand_exceeds, attributes_exceed, is_wide}
+use Rattle.read_line.specs.Item.{is_upper, is_lower, behind_words, opcode_at, begins_operand, operands_at, operands_of, attributes_of_item, item_with}
+use Rattle.read_line.specs.Item.{defined_item}
+use Rattle.read_line.specs.Item.{definitions_at, item_of}
+use Rattle.read_line.specs.Read.{◌>>=◌}
+use Rattle.read_line.specs.Register.{begins_register}
+use Rattle.read_program.specs.Limited.{LocIsLimited}
 use Rattle.mir_printer.specs.Spelling.{comma_separated, register_text, number_text, location_text}
 use Rattle.read_back.specs.Forms.{register_form}
 use Rattle.read_back.proofs.Attributes.{tail_pieces, tail_spells, tail_reads, tail_ends, tail_narrow, tail_uncut, IsUncut, tail_parses, tail_within}

@@ -5,7 +5,7 @@ use Rattle.std.specs.Prelude.{codes}
 use Rattle.std.proofs.lemmas.Bool.{ne_eqb, le-leb}
 use Rattle.rv64_instr.specs.declared.place.Place.{Place}
 use Rattle.rv64_instr.specs.declared.place.Place.TheVariants as place
-use Rattle.meta_reader.specs.Maps.{Maps}
+use Rattle.read_metadata.specs.Maps.{Maps}
 use Rattle.mir_func.specs.declared.entry.OperandPair.{OperandPair}
 use Rattle.mir_func.specs.declared.item.ItemKind.{ItemKind}
 use Rattle.mir_func.specs.declared.item.ItemKind.TheVariants.{Code, Mark, Phi}
@@ -14,22 +14,22 @@ use Rattle.mir_func.specs.declared.variable.MarkValue.{MarkValue}
 use Rattle.mir_func.specs.declared.variable.MarkValue.TheVariants.{Nothing, Constant, At, Pair}
 use Rattle.mir_func.specs.declared.variable.VarId.{VarId}
 use Rattle.mir_func.specs.Parts.{Bytes}
-use Rattle.numbers.specs.Limits.{MAX_NUMBER}
-use Rattle.mir_item.specs.declared.debug.PhiForm.{PhiForm}
-use Rattle.mir_item.specs.declared.judged.Judged.TheVariants as judged_as
-use Rattle.mir_item.specs.declared.opcode.DebugOpcode.{DebugOpcode}
-use Rattle.mir_item.specs.declared.opcode.DebugOpcode.TheVariants as debug
-use Rattle.mir_item.specs.declared.opcode.Opcode.{Opcode}
-use Rattle.mir_item.specs.declared.opcode.Opcode.TheVariants as opcodes
-use Rattle.mir_item.specs.Debug.{operand_value, phi_place, counted, phi_by, phi_of, inlined_at, phi_kind, debug_rules, kind_unless, debug_of}
-use Rattle.mir_item.specs.Code.{refusal_by}
-use Rattle.mir_item.specs.Judge.{entries_of, item_of, judged_by, judged}
-use Rattle.mir_item.specs.Opcode.{ops, op_named, debug_opcode_of, opcode_of}
-use Rattle.mir_lexeme.specs.declared.lexeme.Flag.TheVariants as flags
-use Rattle.mir_line.specs.declared.form.ItemForm.{ItemForm}
-use Rattle.mir_line.specs.declared.form.OperandForm.{OperandForm}
-use Rattle.mir_line.specs.declared.form.OperandForm.TheVariants as form
-use Rattle.mir_parser.specs.Limited.{PlaceIsLimited, KindIsLimited}
+use Rattle.base_ids.specs.Limits.{MAX_NUMBER}
+use Rattle.read_item.specs.declared.debug.PhiForm.{PhiForm}
+use Rattle.read_item.specs.declared.judged.Judged.TheVariants as judged_as
+use Rattle.read_item.specs.declared.opcode.DebugOpcode.{DebugOpcode}
+use Rattle.read_item.specs.declared.opcode.DebugOpcode.TheVariants as debug
+use Rattle.read_item.specs.declared.opcode.Opcode.{Opcode}
+use Rattle.read_item.specs.declared.opcode.Opcode.TheVariants as opcodes
+use Rattle.read_item.specs.Debug.{operand_value, phi_place, counted, phi_by, phi_of, inlined_at, phi_kind, debug_rules, kind_unless, debug_of}
+use Rattle.read_item.specs.Code.{refusal_by}
+use Rattle.read_item.specs.Judge.{entries_of, item_of, judged_by, judged}
+use Rattle.read_item.specs.Opcode.{ops, op_named, debug_opcode_of, opcode_of}
+use Rattle.read_token.specs.declared.lexeme.Flag.TheVariants as flags
+use Rattle.read_line.specs.declared.form.ItemForm.{ItemForm}
+use Rattle.read_line.specs.declared.form.OperandForm.{OperandForm}
+use Rattle.read_line.specs.declared.form.OperandForm.TheVariants as form
+use Rattle.read_program.specs.Limited.{PlaceIsLimited, KindIsLimited}
 use Rattle.read_back.specs.Debug.{IsKept, ValueIsKept, PlaceIsKept, IsDebug, DebugLinesReadBack}
 use Rattle.read_back.specs.Forms.{register_form, no_register, value_form, mark_form, place_form, kind_form, form_of}
 use Rattle.read_back.proofs.Said.{lines_say_forms}

@@ -4,26 +4,26 @@ use Rattle.std.proofs.Common.{refl, ap, ◌∙◌, arith}
 use Rattle.std.specs.Prelude.{codes}
 use Rattle.std.specs.Fmt.{decimal}
 use Rattle.std.proofs.lemmas.Bool.{cond-false, lt-ltb}
-use Rattle.mir_lexer.specs.declared.parts.Class.TheVariants as class
-use Rattle.mir_lexer.specs.Comment.{before}
-use Rattle.mir_lexer.specs.Front.{token_at}
-use Rattle.mir_lexer.specs.Line.{tokens_of}
-use Rattle.mir_lexeme.specs.declared.lexeme.Lexeme.{Lexeme}
-use Rattle.mir_lexeme.specs.declared.lexeme.Lexeme.TheVariants as lexemes
-use Rattle.mir_lexeme.specs.declared.lexeme.Word.{Word}
-use Rattle.mir_lexeme.specs.declared.lexeme.Word.TheVariants as words
-use Rattle.mir_lexeme.specs.Number.{BEYOND}
-use Rattle.mir_lexeme.specs.Sentence.{lexemes_of}
-use Rattle.mir_lexeme.specs.Word.{case_of, is_plain, flag_of, keyword_of, initial_of, word_of}
-use Rattle.mir_line.specs.declared.form.BodyLine.TheVariants.{Passed, Label}
-use Rattle.mir_line.specs.Body.{is_listing, code_of, sentence_of, line_of_tokens, body_line_of}
+use Rattle.read_lexer.specs.declared.parts.Class.TheVariants as class
+use Rattle.read_lexer.specs.Comment.{before}
+use Rattle.read_lexer.specs.Front.{token_at}
+use Rattle.read_lexer.specs.Line.{tokens_of}
+use Rattle.read_token.specs.declared.lexeme.Lexeme.{Lexeme}
+use Rattle.read_token.specs.declared.lexeme.Lexeme.TheVariants as lexemes
+use Rattle.read_token.specs.declared.lexeme.Word.{Word}
+use Rattle.read_token.specs.declared.lexeme.Word.TheVariants as words
+use Rattle.read_token.specs.Number.{BEYOND}
+use Rattle.read_token.specs.Sentence.{lexemes_of}
+use Rattle.read_token.specs.Word.{case_of, is_plain, flag_of, keyword_of, initial_of, word_of}
+use Rattle.read_line.specs.declared.form.BodyLine.TheVariants.{Passed, Label}
+use Rattle.read_line.specs.Body.{is_listing, code_of, sentence_of, line_of_tokens, body_line_of}
 use Rattle.read_back.specs.Laws.{LabelsReadBack}
 use Rattle.read_back.proofs.Cuts.{IsMark, Passes, AllPass, safe_passes, decimal_safe, pieces_pass, semicolon_mark, colons_mark}
 use Rattle.read_back.proofs.Lexing.{Piece, spelled, AllRead, Lexed, pieces_lexed}
 use Rattle.read_back.proofs.Numbers.{named_decimal}
 use Rattle.read_back.proofs.Phrases.{piece}
 use Rattle.read_back.proofs.Tokens.{word_read, single_read, decimal_word}
-use Rattle.numbers.specs.Limits.{MAX_NUMBER}
+use Rattle.base_ids.specs.Limits.{MAX_NUMBER}
 
 module _ (n : ℕ) (small : n ≤ MAX_NUMBER) where
   block_word : word_of (codes "bb." ++ decimal n) ≡ words.Block n

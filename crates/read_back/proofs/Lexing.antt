@@ -5,15 +5,15 @@ use Rattle.std.proofs.Common.{◌≡◌, ℕ, zero, suc, ◌+◌, ◌-◌, Bool,
 use Rattle.std.proofs.Common.{refl, sym, ap, ◌∙◌, arith, append_assoc}
 use Rattle.std.specs.List.{slice_range}
 use Rattle.std.proofs.lemmas.List.{length-append}
-use Rattle.mir_lexer.specs.declared.fault.LexError.{LexError}
-use Rattle.mir_lexer.specs.declared.parts.Class.{Class}
-use Rattle.mir_lexer.specs.declared.parts.Token.{Token}
-use Rattle.mir_lexer.specs.Bytes.{is_blank}
-use Rattle.mir_lexer.specs.Front.{token_at}
-use Rattle.mir_lexer.specs.Line.{followed_by, and_then, tokens_from, tokens_of}
-use Rattle.meta_reader.specs.Token.{text_of}
-use Rattle.mir_lexeme.specs.declared.lexeme.Lexeme.{Lexeme}
-use Rattle.mir_lexeme.specs.Sentence.{lexeme_by, lexeme_of, lexemes_of}
+use Rattle.read_lexer.specs.declared.fault.LexError.{LexError}
+use Rattle.read_lexer.specs.declared.parts.Class.{Class}
+use Rattle.read_lexer.specs.declared.parts.Token.{Token}
+use Rattle.read_lexer.specs.Bytes.{is_blank}
+use Rattle.read_lexer.specs.Front.{token_at}
+use Rattle.read_lexer.specs.Line.{followed_by, and_then, tokens_from, tokens_of}
+use Rattle.read_metadata.specs.Token.{text_of}
+use Rattle.read_token.specs.declared.lexeme.Lexeme.{Lexeme}
+use Rattle.read_token.specs.Sentence.{lexeme_by, lexeme_of, lexemes_of}
 
 pub record Piece : Type 0 where
   pub blanks : ℕ

@@ -4,21 +4,21 @@ use Rattle.std.proofs.Common.{refl, sym, subst, ap, ◌∙◌, arith, append_ass
 use Rattle.std.specs.Prelude.{codes}
 use Rattle.std.specs.Fmt.{decimal}
 use Rattle.std.proofs.lemmas.List.{length-append}
-use Rattle.mir_lexer.specs.declared.parts.Class.TheVariants as class
-use Rattle.mir_lexer.specs.Front.{token_at}
-use Rattle.mir_lexeme.specs.declared.lexeme.Flag.TheVariants as flags
-use Rattle.mir_lexeme.specs.declared.lexeme.Lexeme.{Lexeme}
-use Rattle.mir_lexeme.specs.declared.lexeme.Lexeme.TheVariants as lexemes
-use Rattle.mir_lexeme.specs.declared.lexeme.RegisterName.{RegisterName}
-use Rattle.mir_lexeme.specs.declared.lexeme.RegisterName.TheVariants.{Physical}
-use Rattle.mir_lexeme.specs.Word.{case_of}
-use Rattle.mir_line.specs.declared.form.OperandForm.{OperandForm}
-use Rattle.mir_line.specs.declared.form.RegisterForm.{RegisterForm}
-use Rattle.mir_line.specs.Attribute.{begins_attribute}
-use Rattle.mir_line.specs.Item.{before, with_equals, definitions_at, behind_operand, operands_at, begins_operand}
-use Rattle.mir_line.specs.Operand.{operand_at}
-use Rattle.mir_line.specs.Read.{◌>>=◌, behind_comma}
-use Rattle.mir_line.specs.Register.{register_at, begins_register}
+use Rattle.read_lexer.specs.declared.parts.Class.TheVariants as class
+use Rattle.read_lexer.specs.Front.{token_at}
+use Rattle.read_token.specs.declared.lexeme.Flag.TheVariants as flags
+use Rattle.read_token.specs.declared.lexeme.Lexeme.{Lexeme}
+use Rattle.read_token.specs.declared.lexeme.Lexeme.TheVariants as lexemes
+use Rattle.read_token.specs.declared.lexeme.RegisterName.{RegisterName}
+use Rattle.read_token.specs.declared.lexeme.RegisterName.TheVariants.{Physical}
+use Rattle.read_token.specs.Word.{case_of}
+use Rattle.read_line.specs.declared.form.OperandForm.{OperandForm}
+use Rattle.read_line.specs.declared.form.RegisterForm.{RegisterForm}
+use Rattle.read_line.specs.Attribute.{begins_attribute}
+use Rattle.read_line.specs.Item.{before, with_equals, definitions_at, behind_operand, operands_at, begins_operand}
+use Rattle.read_line.specs.Operand.{operand_at}
+use Rattle.read_line.specs.Read.{◌>>=◌, behind_comma}
+use Rattle.read_line.specs.Register.{register_at, begins_register}
 use Rattle.mir_printer.specs.Spelling.{comma_separated, register_text}
 use Rattle.read_back.specs.Forms.{register_form}
 use Rattle.read_back.proofs.Cuts.{IsMark, Passes, AllPass, safe_passes, decimal_safe}

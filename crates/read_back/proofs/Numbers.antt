@@ -10,13 +10,13 @@ use Rattle.std.proofs.lemmas.Bool.{and_parts, and_from, ne_eqb, lt-ltb}
 use Rattle.std.proofs.lemmas.Bool.Decides.{nat_tests}
 use Rattle.std.proofs.lemmas.Fmt.{decimal_by_steps, decimal_is_IsNumeral}
 use Rattle.std.proofs.lemmas.List.Folds.{list_all-append}
-use Rattle.meta_reader.specs.Number.{value_behind}
-use Rattle.mir_lexeme.specs.declared.lexeme.Number.TheVariants.{Fits, Large}
-use Rattle.mir_lexeme.specs.Number.{BEYOND, narrow, narrow_value, limited, unsigned, negated, sized, unsigned_of, number_of}
-use Rattle.mir_lexeme.specs.Word.{is_name_behind, named_number}
-use Rattle.mir_parser.specs.Limited.{IsSigned}
+use Rattle.read_metadata.specs.Number.{value_behind}
+use Rattle.read_token.specs.declared.lexeme.Number.TheVariants.{Fits, Large}
+use Rattle.read_token.specs.Number.{BEYOND, narrow, narrow_value, limited, unsigned, negated, sized, unsigned_of, number_of}
+use Rattle.read_token.specs.Word.{is_name_behind, named_number}
+use Rattle.read_program.specs.Limited.{IsSigned}
 use Rattle.mir_printer.proofs.Cuts.{Stops}
-use Rattle.numbers.specs.Limits.{MAX_NUMBER}
+use Rattle.base_ids.specs.Limits.{MAX_NUMBER}
 
 -- ---- runs
 

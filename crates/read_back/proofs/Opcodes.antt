@@ -12,10 +12,10 @@ use Rattle.rv64_instr.specs.declared.op.BranchOp.TheVariants.{Beq, Bne, Blt, Bge
 use Rattle.rv64_instr.specs.declared.op.LoadOp.TheVariants.{Lb, Lh, Lw, Ld, Lbu, Lhu, Lwu}
 use Rattle.rv64_instr.specs.declared.op.StoreOp.TheVariants.{Sb, Sh, Sw, Sd}
 use Rattle.rv64_instr.specs.Mnemonic.{mnemonic_of}
-use Rattle.mir_lexer.specs.declared.parts.Class.TheVariants as class
-use Rattle.mir_lexer.specs.Bytes.{is_blank, is_word_start, is_word_byte}
-use Rattle.mir_lexeme.specs.Word.{is_plain, flag_of, keyword_of, word_of}
-use Rattle.mir_line.specs.Item.{is_upper}
+use Rattle.read_lexer.specs.declared.parts.Class.TheVariants as class
+use Rattle.read_lexer.specs.Bytes.{is_blank, is_word_start, is_word_byte}
+use Rattle.read_token.specs.Word.{is_plain, flag_of, keyword_of, word_of}
+use Rattle.read_line.specs.Item.{is_upper}
 use Rattle.read_back.proofs.Cuts.{is_safe}
 use Rattle.read_back.proofs.Lexing.{Reads}
 use Rattle.read_back.proofs.Tokens.{Ends, word_read}

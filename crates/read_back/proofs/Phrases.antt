@@ -7,35 +7,35 @@ use Rattle.std.specs.Fmt.{decimal, signed_decimal}
 use Rattle.std.proofs.lemmas.Bool.{lt-leb}
 use Rattle.rv64_instr.specs.declared.operand.Operand.{Operand}
 use Rattle.rv64_instr.specs.declared.operand.Operand.TheVariants.{Def, Use, ImplicitDef, ImplicitUse, Imm, Slot, Object, Block, Symbol, Mask}
-use Rattle.meta_reader.specs.Definition.{name_of}
-use Rattle.meta_reader.specs.Token.{text_of}
-use Rattle.mir_lexer.specs.declared.parts.Class.{Class}
-use Rattle.mir_lexer.specs.declared.parts.Class.TheVariants as class
-use Rattle.mir_lexer.specs.declared.parts.Token.{Token}
-use Rattle.mir_lexer.specs.Front.{token_at}
-use Rattle.mir_lexeme.specs.declared.lexeme.Flag.{Flag}
-use Rattle.mir_lexeme.specs.declared.lexeme.Flag.TheVariants as flags
-use Rattle.mir_lexeme.specs.declared.lexeme.Lexeme.{Lexeme}
-use Rattle.mir_lexeme.specs.declared.lexeme.Lexeme.TheVariants as lexemes
-use Rattle.mir_lexeme.specs.declared.lexeme.Number.{Number}
-use Rattle.mir_lexeme.specs.declared.lexeme.RegisterName.{RegisterName}
-use Rattle.mir_lexeme.specs.declared.lexeme.RegisterName.TheVariants.{Physical, Absent}
-use Rattle.mir_lexeme.specs.declared.lexeme.Word.{Word}
-use Rattle.mir_lexeme.specs.declared.lexeme.Word.TheVariants as words
-use Rattle.mir_lexeme.specs.Number.{BEYOND}
-use Rattle.mir_lexeme.specs.Register.{register_of, behind_stack, slot_of, block_operand_of, percent_behind}
-use Rattle.mir_lexeme.specs.Sentence.{lexeme_by}
-use Rattle.mir_lexeme.specs.Word.{case_of, is_plain, flag_of, keyword_of, word_of}
-use Rattle.mir_line.specs.declared.form.OperandForm.{OperandForm}
-use Rattle.mir_line.specs.declared.form.OperandForm.TheVariants as form
-use Rattle.mir_line.specs.declared.form.RegisterForm.{RegisterForm}
-use Rattle.mir_line.specs.Attribute.{begins_attribute}
-use Rattle.mir_line.specs.Exceeds.{is_beyond, operand_exceeds, is_wide}
-use Rattle.mir_line.specs.Item.{begins_operand}
-use Rattle.mir_line.specs.Operand.{fitting, mask_at, word_operand_at, operand_at}
-use Rattle.mir_line.specs.Read.{◌>>=◌}
-use Rattle.mir_line.specs.Register.{behind_class, behind_tied, named_at, register_at}
-use Rattle.mir_parser.specs.Limited.{IsSigned, IsLimited}
+use Rattle.read_metadata.specs.Definition.{name_of}
+use Rattle.read_metadata.specs.Token.{text_of}
+use Rattle.read_lexer.specs.declared.parts.Class.{Class}
+use Rattle.read_lexer.specs.declared.parts.Class.TheVariants as class
+use Rattle.read_lexer.specs.declared.parts.Token.{Token}
+use Rattle.read_lexer.specs.Front.{token_at}
+use Rattle.read_token.specs.declared.lexeme.Flag.{Flag}
+use Rattle.read_token.specs.declared.lexeme.Flag.TheVariants as flags
+use Rattle.read_token.specs.declared.lexeme.Lexeme.{Lexeme}
+use Rattle.read_token.specs.declared.lexeme.Lexeme.TheVariants as lexemes
+use Rattle.read_token.specs.declared.lexeme.Number.{Number}
+use Rattle.read_token.specs.declared.lexeme.RegisterName.{RegisterName}
+use Rattle.read_token.specs.declared.lexeme.RegisterName.TheVariants.{Physical, Absent}
+use Rattle.read_token.specs.declared.lexeme.Word.{Word}
+use Rattle.read_token.specs.declared.lexeme.Word.TheVariants as words
+use Rattle.read_token.specs.Number.{BEYOND}
+use Rattle.read_token.specs.Register.{register_of, behind_stack, slot_of, block_operand_of, percent_behind}
+use Rattle.read_token.specs.Sentence.{lexeme_by}
+use Rattle.read_token.specs.Word.{case_of, is_plain, flag_of, keyword_of, word_of}
+use Rattle.read_line.specs.declared.form.OperandForm.{OperandForm}
+use Rattle.read_line.specs.declared.form.OperandForm.TheVariants as form
+use Rattle.read_line.specs.declared.form.RegisterForm.{RegisterForm}
+use Rattle.read_line.specs.Attribute.{begins_attribute}
+use Rattle.read_line.specs.Exceeds.{is_beyond, operand_exceeds, is_wide}
+use Rattle.read_line.specs.Item.{begins_operand}
+use Rattle.read_line.specs.Operand.{fitting, mask_at, word_operand_at, operand_at}
+use Rattle.read_line.specs.Read.{◌>>=◌}
+use Rattle.read_line.specs.Register.{behind_class, behind_tied, named_at, register_at}
+use Rattle.read_program.specs.Limited.{IsSigned, IsLimited}
 use Rattle.mir_printer.specs.Spelling.{register_text, symbol_text, operand_text}
 use Rattle.read_back.specs.Forms.{register_form, no_register, operand_form}
 use Rattle.read_back.specs.Laws.{NameIsBytes}
@@ -45,7 +45,7 @@ use Rattle.read_back.proofs.Numbers.{limited_decimal, integer_read, named_decima
 use Rattle.read_back.proofs.Registers.{register_is, register_spelled, register_token}
 use Rattle.read_back.proofs.Symbols.{symbol_of}
 use Rattle.read_back.proofs.Tokens.{Ends, word_read, register_read, percent_read, single_read, integer_token, node_token, decimal_word}
-use Rattle.numbers.specs.Limits.{MAX_NUMBER}
+use Rattle.base_ids.specs.Limits.{MAX_NUMBER}
 
 abbrev pub piece : ℕ → Class → List ℕ → Piece
 piece n c text = record { blanks = n; class = c; text = text }

@@ -5,10 +5,10 @@ use Rattle.std.proofs.Common.{ap, ◌∙◌, arith}
 use Rattle.std.specs.Prelude.{codes, nat_eq, nat_lt}
 use Rattle.std.specs.Fmt.{decimal}
 use Rattle.std.proofs.lemmas.Bool.{and_parts, eqb-true, eqb-false, lt-ltb, le-ltb}
-use Rattle.mir_lexer.specs.declared.parts.Class.TheVariants.{Register}
-use Rattle.mir_lexeme.specs.declared.lexeme.RegisterName.{RegisterName}
-use Rattle.mir_lexeme.specs.declared.lexeme.RegisterName.TheVariants.{Physical, Absent, Other, Virtual}
-use Rattle.mir_lexeme.specs.Register.{register_of}
+use Rattle.read_lexer.specs.declared.parts.Class.TheVariants.{Register}
+use Rattle.read_token.specs.declared.lexeme.RegisterName.{RegisterName}
+use Rattle.read_token.specs.declared.lexeme.RegisterName.TheVariants.{Physical, Absent, Other, Virtual}
+use Rattle.read_token.specs.Register.{register_of}
 use Rattle.mir_printer.specs.Spelling.{register_text}
 use Rattle.read_back.proofs.Lexing.{Reads}
 use Rattle.read_back.proofs.Tokens.{Ends, register_read, decimal_word}

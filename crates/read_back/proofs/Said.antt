@@ -19,15 +19,15 @@ use Rattle.mir_func.specs.declared.variable.MarkValue.{MarkValue}
 use Rattle.mir_func.specs.declared.variable.MarkValue.TheVariants.{Nothing, Constant, At, Pair}
 use Rattle.mir_func.specs.declared.variable.VarId.{VarId}
 use Rattle.mir_func.specs.Parts.{Bytes, IsPart}
-use Rattle.numbers.specs.Limits.{MAX_NUMBER}
-use Rattle.mir_lexeme.specs.declared.lexeme.Flag.TheVariants as flags
-use Rattle.mir_lexeme.specs.Word.{is_plain, flag_of, keyword_of, word_of}
-use Rattle.mir_line.specs.declared.form.BodyLine.TheVariants as lines
-use Rattle.mir_line.specs.declared.form.OperandForm.{OperandForm}
-use Rattle.mir_line.specs.declared.form.OperandForm.TheVariants as form
-use Rattle.mir_line.specs.declared.form.RegisterForm.{RegisterForm}
-use Rattle.mir_line.specs.Body.{body_line_of}
-use Rattle.mir_parser.specs.Limited.{IsLimited, PlaceIsLimited, ValueIsLimited, VariableIsLimited, KindIsLimited, LocIsLimited}
+use Rattle.base_ids.specs.Limits.{MAX_NUMBER}
+use Rattle.read_token.specs.declared.lexeme.Flag.TheVariants as flags
+use Rattle.read_token.specs.Word.{is_plain, flag_of, keyword_of, word_of}
+use Rattle.read_line.specs.declared.form.BodyLine.TheVariants as lines
+use Rattle.read_line.specs.declared.form.OperandForm.{OperandForm}
+use Rattle.read_line.specs.declared.form.OperandForm.TheVariants as form
+use Rattle.read_line.specs.declared.form.RegisterForm.{RegisterForm}
+use Rattle.read_line.specs.Body.{body_line_of}
+use Rattle.read_program.specs.Limited.{IsLimited, PlaceIsLimited, ValueIsLimited, VariableIsLimited, KindIsLimited, LocIsLimited}
 use Rattle.mir_printer.specs.Spelling.{comma_separated, register_text, operand_text, is_definition, definitions_text, uses_text, instruction_text, number_text}
 use Rattle.mir_printer.specs.Spelling.{phi_place_text, expression_text, pair_expression_text, value_mark_text, kind_text}
 use Rattle.mir_printer.specs.Spelling.{location_text}

@@ -8,11 +8,11 @@ use Rattle.std.proofs.lemmas.Bool.{and_parts, and_from, cond-false, eqb-true, lt
 use Rattle.std.proofs.lemmas.Bool.Decides.{nat_tests}
 use Rattle.std.proofs.lemmas.List.{length-append}
 use Rattle.std.proofs.lemmas.List.Elements.{All-head, All-tail}
-use Rattle.mir_lexer.specs.declared.parts.Class.TheVariants.{Symbol}
-use Rattle.mir_lexer.specs.Bytes.{is_symbol_byte}
-use Rattle.mir_lexer.specs.Front.{closed, quoted, token_at}
-use Rattle.meta_reader.specs.Definition.{name_of}
-use Rattle.meta_reader.specs.Text.{escape, unescaped_behind}
+use Rattle.read_lexer.specs.declared.parts.Class.TheVariants.{Symbol}
+use Rattle.read_lexer.specs.Bytes.{is_symbol_byte}
+use Rattle.read_lexer.specs.Front.{closed, quoted, token_at}
+use Rattle.read_metadata.specs.Definition.{name_of}
+use Rattle.read_metadata.specs.Text.{escape, unescaped_behind}
 use Rattle.mir_printer.specs.Spelling.{is_bare, upper_hex_digit, quoted_byte, is_empty, symbol_text}
 use Rattle.read_back.proofs.Lexing.{Reads}
 use Rattle.read_back.proofs.Numbers.{prefix_all}

@@ -2,19 +2,19 @@
 use Rattle.std.specs.Prelude.{◌≡◌, ℕ, ◌++◌, codes, List, Option, Some, None, Ok}
 use Rattle.rv64_instr.specs.declared.place.Place.{Place}
 use Rattle.rv64_instr.specs.declared.place.Place.TheVariants.{Register, Slot, Const}
-use Rattle.meta_reader.specs.Maps.{Maps}
+use Rattle.read_metadata.specs.Maps.{Maps}
 use Rattle.mir_func.specs.declared.item.Item.{Item}
 use Rattle.mir_func.specs.declared.item.ItemKind.{ItemKind}
 use Rattle.mir_func.specs.declared.item.ItemKind.TheVariants.{Code, Mark, Phi}
 use Rattle.mir_func.specs.declared.location.Loc.{Loc}
 use Rattle.mir_func.specs.declared.variable.MarkValue.{MarkValue}
 use Rattle.mir_func.specs.declared.variable.MarkValue.TheVariants.{Nothing, Constant, At, Pair}
-use Rattle.mir_item.specs.declared.judged.Judged.TheVariants as judged_as
-use Rattle.mir_item.specs.Debug.{inlined_at}
-use Rattle.mir_item.specs.Judge.{entries_of, judged}
-use Rattle.mir_line.specs.declared.form.BodyLine.TheVariants.{Item as OfItem}
-use Rattle.mir_line.specs.declared.form.ItemForm.{ItemForm}
-use Rattle.mir_line.specs.Body.{body_line_of}
+use Rattle.read_item.specs.declared.judged.Judged.TheVariants as judged_as
+use Rattle.read_item.specs.Debug.{inlined_at}
+use Rattle.read_item.specs.Judge.{entries_of, judged}
+use Rattle.read_line.specs.declared.form.BodyLine.TheVariants.{Item as OfItem}
+use Rattle.read_line.specs.declared.form.ItemForm.{ItemForm}
+use Rattle.read_line.specs.Body.{body_line_of}
 use Rattle.mir_printer.specs.Spelling.{item_text}
 use Rattle.read_back.specs.Laws.{IsWritable}
 

@@ -15,15 +15,15 @@ use Rattle.mir_func.specs.declared.variable.MarkValue.{MarkValue}
 use Rattle.mir_func.specs.declared.variable.MarkValue.TheVariants.{Nothing, Constant, At, Pair}
 use Rattle.mir_func.specs.declared.variable.VarId.{VarId}
 use Rattle.mir_func.specs.Parts.{Bytes}
-use Rattle.mir_lexeme.specs.declared.lexeme.Flag.{Flag}
-use Rattle.mir_lexeme.specs.declared.lexeme.Flag.TheVariants.{Plain, Implicit, ImplicitDef}
-use Rattle.mir_lexeme.specs.declared.lexeme.RegisterName.TheVariants.{Physical, Absent}
-use Rattle.mir_line.specs.declared.form.Expression.{Expression}
-use Rattle.mir_line.specs.declared.form.Expression.TheVariants as expression
-use Rattle.mir_line.specs.declared.form.ItemForm.{ItemForm}
-use Rattle.mir_line.specs.declared.form.OperandForm.{OperandForm}
-use Rattle.mir_line.specs.declared.form.OperandForm.TheVariants as form
-use Rattle.mir_line.specs.declared.form.RegisterForm.{RegisterForm}
+use Rattle.read_token.specs.declared.lexeme.Flag.{Flag}
+use Rattle.read_token.specs.declared.lexeme.Flag.TheVariants.{Plain, Implicit, ImplicitDef}
+use Rattle.read_token.specs.declared.lexeme.RegisterName.TheVariants.{Physical, Absent}
+use Rattle.read_line.specs.declared.form.Expression.{Expression}
+use Rattle.read_line.specs.declared.form.Expression.TheVariants as expression
+use Rattle.read_line.specs.declared.form.ItemForm.{ItemForm}
+use Rattle.read_line.specs.declared.form.OperandForm.{OperandForm}
+use Rattle.read_line.specs.declared.form.OperandForm.TheVariants as form
+use Rattle.read_line.specs.declared.form.RegisterForm.{RegisterForm}
 use Rattle.mir_printer.specs.Spelling.{is_definition}
 
 -- the physical register `$xN` with its flag

@@ -6,10 +6,10 @@ use Rattle.rv64_instr.specs.declared.operand.Operand.TheVariants.{Def, Use, Impl
 use Rattle.mir_func.specs.declared.item.Item.{Item}
 use Rattle.mir_func.specs.declared.item.ItemKind.{ItemKind}
 use Rattle.mir_func.specs.declared.item.ItemKind.TheVariants.{Code, Mark, Phi}
-use Rattle.numbers.specs.Limits.{MAX_NUMBER}
-use Rattle.mir_line.specs.declared.form.BodyLine.TheVariants.{Label, Item as OfItem}
-use Rattle.mir_line.specs.Body.{body_line_of}
-use Rattle.mir_parser.specs.Limited.{KindIsLimited, LocIsLimited}
+use Rattle.base_ids.specs.Limits.{MAX_NUMBER}
+use Rattle.read_line.specs.declared.form.BodyLine.TheVariants.{Label, Item as OfItem}
+use Rattle.read_line.specs.Body.{body_line_of}
+use Rattle.read_program.specs.Limited.{KindIsLimited, LocIsLimited}
 use Rattle.mir_printer.specs.Spelling.{item_text}
 use Rattle.read_back.specs.Forms.{form_of}
 

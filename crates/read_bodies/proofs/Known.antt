@@ -8,10 +8,10 @@ use Rattle.std.proofs.lemmas.Bool.{or_parts, ltb-false, or_left, or_right, cases
 use Rattle.std.proofs.lemmas.List.Concat.{flat_map-append}
 use Rattle.std.proofs.lemmas.List.Elements.{All-nil, All-head, All-tail, All-push, All-cons, All-weaker, All-same, All-contains_itself}
 use Rattle.std.proofs.lemmas.List.Folds.{list_any-append}
-use Rattle.refusal.specs.declared.kind.RefusalKind.{RefusalKind}
-use Rattle.refusal.specs.declared.kind.RefusalKind.TheVariants as kinds
-use Rattle.meta_reader.specs.Maps.{Maps}
-use Rattle.mir_lexer.specs.declared.line.Line.{Line}
+use Rattle.read_refusal.specs.declared.kind.RefusalKind.{RefusalKind}
+use Rattle.read_refusal.specs.declared.kind.RefusalKind.TheVariants as kinds
+use Rattle.read_metadata.specs.Maps.{Maps}
+use Rattle.read_lexer.specs.declared.line.Line.{Line}
 use Rattle.mir_func.specs.declared.block.Block.{Block}
 use Rattle.mir_func.specs.declared.item.Item.{Item}
 use Rattle.mir_func.specs.declared.item.ItemKind.{ItemKind}
@@ -22,23 +22,23 @@ use Rattle.mir_func.specs.declared.variable.VarId.{VarId}
 use Rattle.mir_func.specs.Parts.{Bytes}
 use Rattle.mir_func.specs.Sound.{items_of, number_of}
 use Rattle.mir_func.specs.Variables.{is_same_node, are_same_bytes, is_same}
-use Rattle.mir_line.specs.declared.form.BodyLine.{BodyLine}
-use Rattle.mir_line.specs.declared.form.BodyLine.TheVariants as lines
-use Rattle.mir_line.specs.declared.form.ItemForm.{ItemForm}
-use Rattle.mir_line.specs.declared.form.LineError.{LineError}
-use Rattle.mir_line.specs.Body.{body_line_of}
-use Rattle.mir_item.specs.declared.judged.Judged.{Judged}
-use Rattle.mir_item.specs.declared.judged.Judged.TheVariants as judged_as
-use Rattle.mir_item.specs.Judge.{judged}
-use Rattle.mir_body.specs.declared.body.Body.{Body}
-use Rattle.mir_body.specs.Body.{constant_of, object_named, nothing_read, and_last, blocks_of, label_cause, with_label, repeats, block_with}
-use Rattle.mir_body.specs.Body.{with_number, with_constant, with_variable}
-use Rattle.mir_body.specs.Body.{with_item, exceeds, item_cause}
-use Rattle.mir_body.specs.Limits.{MAX_ITEMS, MAX_VARIABLES, MAX_NUMBERS, MAX_CONSTANTS}
-use Rattle.mir_body.specs.Met.{is_met, met, is_known, known}
-use Rattle.mir_parser.specs.BodyLines.{unless, judged_said, item_said, line_said, behind_line, and_then, body_behind}
-use Rattle.mir_parser.proofs.Bodies.{facts_apart}
-use Rattle.mir_parser.proofs.Lists.{met_keeps, met_has}
+use Rattle.read_line.specs.declared.form.BodyLine.{BodyLine}
+use Rattle.read_line.specs.declared.form.BodyLine.TheVariants as lines
+use Rattle.read_line.specs.declared.form.ItemForm.{ItemForm}
+use Rattle.read_line.specs.declared.form.LineError.{LineError}
+use Rattle.read_line.specs.Body.{body_line_of}
+use Rattle.read_item.specs.declared.judged.Judged.{Judged}
+use Rattle.read_item.specs.declared.judged.Judged.TheVariants as judged_as
+use Rattle.read_item.specs.Judge.{judged}
+use Rattle.read_body.specs.declared.body.Body.{Body}
+use Rattle.read_body.specs.Body.{constant_of, object_named, nothing_read, and_last, blocks_of, label_cause, with_label, repeats, block_with}
+use Rattle.read_body.specs.Body.{with_number, with_constant, with_variable}
+use Rattle.read_body.specs.Body.{with_item, exceeds, item_cause}
+use Rattle.read_body.specs.Limits.{MAX_ITEMS, MAX_VARIABLES, MAX_NUMBERS, MAX_CONSTANTS}
+use Rattle.read_body.specs.Met.{is_met, met, is_known, known}
+use Rattle.read_program.specs.BodyLines.{unless, judged_said, item_said, line_said, behind_line, and_then, body_behind}
+use Rattle.read_program.proofs.Bodies.{facts_apart}
+use Rattle.read_program.proofs.Lists.{met_keeps, met_has}
 use Rattle.body_read_back.specs.Body.{VariableIn}
 use Rattle.body_read_back.proofs.Facts.{Facts, item_facts, objects_behind}
 use Rattle.read_bodies.specs.Known.{names, IsOfLine, IsKnown, BodiesAreKnown}

@@ -2,21 +2,21 @@
 use Rattle.std.specs.Prelude.{◌≡◌, ℕ, ◌≤◌, Bool, true, false, ◌==◌, List, length, map, All, Contains, IfSome, Ok}
 use Rattle.std.specs.List.{list_any}
 use Rattle.std.specs.Option.{option_map_or}
-use Rattle.meta_reader.specs.Maps.{Maps}
-use Rattle.mir_lexer.specs.declared.line.Line.{Line}
+use Rattle.read_metadata.specs.Maps.{Maps}
+use Rattle.read_lexer.specs.declared.line.Line.{Line}
 use Rattle.mir_func.specs.declared.item.ItemKind.{ItemKind}
 use Rattle.mir_func.specs.Sound.{items_of, number_of}
-use Rattle.mir_line.specs.declared.form.BodyLine.TheVariants.{Item as OfItem}
-use Rattle.mir_line.specs.declared.form.ItemForm.{ItemForm}
-use Rattle.mir_line.specs.Body.{body_line_of}
-use Rattle.mir_item.specs.declared.judged.Judged.TheVariants as judged_as
-use Rattle.mir_item.specs.declared.judged.JudgedItem.{JudgedItem}
-use Rattle.mir_item.specs.Judge.{judged}
-use Rattle.mir_body.specs.declared.body.Body.{Body}
-use Rattle.mir_body.specs.Body.{constant_of, object_named, blocks_of}
-use Rattle.mir_body.specs.Limits.{MAX_VARIABLES, MAX_NUMBERS, MAX_CONSTANTS}
-use Rattle.mir_body.specs.Met.{is_met}
-use Rattle.mir_parser.specs.BodyLines.{body_of}
+use Rattle.read_line.specs.declared.form.BodyLine.TheVariants.{Item as OfItem}
+use Rattle.read_line.specs.declared.form.ItemForm.{ItemForm}
+use Rattle.read_line.specs.Body.{body_line_of}
+use Rattle.read_item.specs.declared.judged.Judged.TheVariants as judged_as
+use Rattle.read_item.specs.declared.judged.JudgedItem.{JudgedItem}
+use Rattle.read_item.specs.Judge.{judged}
+use Rattle.read_body.specs.declared.body.Body.{Body}
+use Rattle.read_body.specs.Body.{constant_of, object_named, blocks_of}
+use Rattle.read_body.specs.Limits.{MAX_VARIABLES, MAX_NUMBERS, MAX_CONSTANTS}
+use Rattle.read_body.specs.Met.{is_met}
+use Rattle.read_program.specs.BodyLines.{body_of}
 use Rattle.body_read_back.specs.Body.{VariableIn}
 
 -- an item of this kind names this stack object

@@ -5,13 +5,13 @@ use Rattle.std.proofs.lemmas.List.{length-append}
 use Rattle.rv64_instr.specs.declared.op.Op.{Op}
 use Rattle.rv64_instr.specs.declared.operand.Operand.{Operand}
 use Rattle.rv64_instr.specs.Instruction.{Instruction}
-use Rattle.mir_line.specs.declared.form.ItemForm.{ItemForm}
-use Rattle.mir_line.specs.declared.form.OperandForm.{OperandForm}
-use Rattle.mir_line.specs.declared.form.RegisterForm.{RegisterForm}
-use Rattle.mir_item.specs.declared.place.Place.{Place}
-use Rattle.mir_item.specs.Code.{MAX_OPERANDS, operand_at, before, joined, definition, definitions, placed, places_of, operands_of}
-use Rattle.mir_item.specs.Place.{front, behind}
-use Rattle.mir_parser.proofs.Judged.{IsCodeLine}
+use Rattle.read_line.specs.declared.form.ItemForm.{ItemForm}
+use Rattle.read_line.specs.declared.form.OperandForm.{OperandForm}
+use Rattle.read_line.specs.declared.form.RegisterForm.{RegisterForm}
+use Rattle.read_item.specs.declared.place.Place.{Place}
+use Rattle.read_item.specs.Code.{MAX_OPERANDS, operand_at, before, joined, definition, definitions, placed, places_of, operands_of}
+use Rattle.read_item.specs.Place.{front, behind}
+use Rattle.read_program.proofs.Judged.{IsCodeLine}
 
 -- an operand before others
 record Longer (rest : Option (List Operand)) (xs : List Operand) : Type 0 where

@@ -7,31 +7,31 @@ use Rattle.rv64_instr.specs.declared.place.Place.{Place}
 use Rattle.rv64_instr.specs.declared.place.Place.TheVariants as place
 use Rattle.rv64_instr.specs.Form.{has_form}
 use Rattle.rv64_instr.specs.Instruction.{Instruction}
-use Rattle.meta_reader.specs.Maps.{Maps}
+use Rattle.read_metadata.specs.Maps.{Maps}
 use Rattle.mir_func.specs.declared.item.ItemKind.{ItemKind}
 use Rattle.mir_func.specs.declared.item.ItemKind.TheVariants.{Code, Mark, Phi}
 use Rattle.mir_func.specs.declared.location.Loc.{Loc}
 use Rattle.mir_func.specs.declared.variable.MarkValue.{MarkValue}
 use Rattle.mir_func.specs.declared.variable.MarkValue.TheVariants.{Nothing, Constant, At, Pair}
 use Rattle.mir_func.specs.Sound.{LeavesPointer}
-use Rattle.mir_lexeme.specs.declared.lexeme.Flag.{Flag}
-use Rattle.mir_lexeme.specs.declared.lexeme.Flag.TheVariants.{Plain, Implicit, ImplicitDef}
-use Rattle.mir_lexeme.specs.declared.lexeme.RegisterName.{RegisterName}
-use Rattle.mir_lexeme.specs.declared.lexeme.RegisterName.TheVariants.{Physical, Absent, Other, Virtual}
-use Rattle.mir_line.specs.declared.form.ItemForm.{ItemForm}
-use Rattle.mir_line.specs.declared.form.OperandForm.{OperandForm}
-use Rattle.mir_line.specs.declared.form.OperandForm.TheVariants as form
-use Rattle.mir_item.specs.declared.debug.MarkForm.{MarkForm}
-use Rattle.mir_item.specs.declared.debug.PhiForm.{PhiForm}
-use Rattle.mir_item.specs.declared.opcode.DebugOpcode.{DebugOpcode}
-use Rattle.mir_item.specs.declared.opcode.DebugOpcode.TheVariants as debug
-use Rattle.mir_item.specs.Code.{MAX_OPERANDS}
-use Rattle.mir_item.specs.Debug.{content_value, register_value, number_value, operand_value, is_plain, is_direct, is_argument, value_mark, pair_value}
-use Rattle.mir_item.specs.Debug.{reference_mark, list_mark, content_place, register_place, phi_place, phi_by, if_counted, count_in, phi_of, inlined_at}
-use Rattle.mir_item.specs.Debug.{mark_kind, phi_kind, debug_kind}
-use Rattle.mir_parser.specs.Objects.{operand_as, instr_as, is_object, place_as, kind_as}
-use Rattle.mir_parser.proofs.Judged.{IsItemLine, of_code, of_debug}
-use Rattle.mir_parser.proofs.Printed.{form_kept, renamed}
+use Rattle.read_token.specs.declared.lexeme.Flag.{Flag}
+use Rattle.read_token.specs.declared.lexeme.Flag.TheVariants.{Plain, Implicit, ImplicitDef}
+use Rattle.read_token.specs.declared.lexeme.RegisterName.{RegisterName}
+use Rattle.read_token.specs.declared.lexeme.RegisterName.TheVariants.{Physical, Absent, Other, Virtual}
+use Rattle.read_line.specs.declared.form.ItemForm.{ItemForm}
+use Rattle.read_line.specs.declared.form.OperandForm.{OperandForm}
+use Rattle.read_line.specs.declared.form.OperandForm.TheVariants as form
+use Rattle.read_item.specs.declared.debug.MarkForm.{MarkForm}
+use Rattle.read_item.specs.declared.debug.PhiForm.{PhiForm}
+use Rattle.read_item.specs.declared.opcode.DebugOpcode.{DebugOpcode}
+use Rattle.read_item.specs.declared.opcode.DebugOpcode.TheVariants as debug
+use Rattle.read_item.specs.Code.{MAX_OPERANDS}
+use Rattle.read_item.specs.Debug.{content_value, register_value, number_value, operand_value, is_plain, is_direct, is_argument, value_mark, pair_value}
+use Rattle.read_item.specs.Debug.{reference_mark, list_mark, content_place, register_place, phi_place, phi_by, if_counted, count_in, phi_of, inlined_at}
+use Rattle.read_item.specs.Debug.{mark_kind, phi_kind, debug_kind}
+use Rattle.read_program.specs.Objects.{operand_as, instr_as, is_object, place_as, kind_as}
+use Rattle.read_program.proofs.Judged.{IsItemLine, of_code, of_debug}
+use Rattle.read_program.proofs.Printed.{form_kept, renamed}
 use Rattle.read_back.specs.Debug.{ValueIsKept, PlaceIsKept}
 use Rattle.code_read_back.specs.Code.{IsCode, IsReadable}
 use Rattle.readable_items.proofs.Few.{few_operands}

@@ -1,28 +1,28 @@
 -- Each item of a function that was read is readable.
 use Rattle.std.proofs.Common.{◌≡◌, ℕ, List, All, Option, None, Result, Ok, Err, refl, sym, ap, subst}
 use Rattle.std.proofs.lemmas.List.Elements.{All-map, All-weaker}
-use Rattle.refusal.specs.declared.first.Refusal.{Refusal}
-use Rattle.meta_reader.specs.Maps.{Maps}
-use Rattle.mir_frame.specs.declared.parts.FunctionDocument.{FunctionDocument}
+use Rattle.read_refusal.specs.declared.first.Refusal.{Refusal}
+use Rattle.read_metadata.specs.Maps.{Maps}
+use Rattle.read_documents.specs.declared.parts.FunctionDocument.{FunctionDocument}
 use Rattle.mir_func.specs.declared.block.Block.{Block}
 use Rattle.mir_func.specs.declared.item.Item.{Item}
 use Rattle.mir_func.specs.declared.item.ItemKind.{ItemKind}
 use Rattle.mir_func.specs.declared.location.Loc.{Loc}
 use Rattle.mir_func.specs.Function.{Function}
 use Rattle.mir_func.specs.Sound.{AllItems, LeavesPointer}
-use Rattle.mir_declarations.specs.declared.declarations.Declarations.{Declarations}
-use Rattle.mir_declarations.specs.Declarations.{declarations_of}
-use Rattle.mir_body.specs.declared.body.Body.{Body}
-use Rattle.mir_body.specs.Body.{blocks_of}
-use Rattle.mir_body.specs.Frame.{ids_of_objects}
-use Rattle.mir_parser.specs.declared.closing.Parsed.{Parsed}
-use Rattle.mir_parser.specs.BodyLines.{body_of}
-use Rattle.mir_parser.specs.Closing.{function_of, Closes, ParsesParts, Parses}
-use Rattle.mir_parser.specs.Objects.{item_as, block_as, blocks_as}
-use Rattle.mir_parser.proofs.Bodies.{IsReadBlock, ComesFromLine, body_reads}
-use Rattle.mir_parser.proofs.Judged.{judged_line}
-use Rattle.mir_parser.proofs.Lists.{both}
-use Rattle.mir_parser.proofs.Soundness.{sound_if_ends_well}
+use Rattle.read_declarations.specs.declared.declarations.Declarations.{Declarations}
+use Rattle.read_declarations.specs.Declarations.{declarations_of}
+use Rattle.read_body.specs.declared.body.Body.{Body}
+use Rattle.read_body.specs.Body.{blocks_of}
+use Rattle.read_body.specs.Frame.{ids_of_objects}
+use Rattle.read_program.specs.declared.closing.Parsed.{Parsed}
+use Rattle.read_program.specs.BodyLines.{body_of}
+use Rattle.read_program.specs.Closing.{function_of, Closes, ParsesParts, Parses}
+use Rattle.read_program.specs.Objects.{item_as, block_as, blocks_as}
+use Rattle.read_program.proofs.Bodies.{IsReadBlock, ComesFromLine, body_reads}
+use Rattle.read_program.proofs.Judged.{judged_line}
+use Rattle.read_program.proofs.Lists.{both}
+use Rattle.read_program.proofs.Soundness.{sound_if_ends_well}
 use Rattle.code_read_back.specs.Code.{IsReadable}
 use Rattle.readable_items.specs.Readable.{ItemsAreReadable}
 use Rattle.readable_items.proofs.Kept.{Kept, line_kept, kept_as, readable}

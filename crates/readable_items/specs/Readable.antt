@@ -1,10 +1,10 @@
 -- Items that were read.
 use Rattle.std.specs.Prelude.{Ok}
-use Rattle.meta_reader.specs.Maps.{Maps}
-use Rattle.mir_frame.specs.declared.parts.FunctionDocument.{FunctionDocument}
+use Rattle.read_metadata.specs.Maps.{Maps}
+use Rattle.read_documents.specs.declared.parts.FunctionDocument.{FunctionDocument}
 use Rattle.mir_func.specs.Sound.{AllItems}
-use Rattle.mir_parser.specs.declared.closing.Parsed.{Parsed}
-use Rattle.mir_parser.specs.Closing.{Parses}
+use Rattle.read_program.specs.declared.closing.Parsed.{Parsed}
+use Rattle.read_program.specs.Closing.{Parses}
 use Rattle.code_read_back.specs.Code.{IsReadable}
 
 -- Each item of a function that a document stands for is one whose line is read back: code has the form of its opcode, leaves the stack pointer

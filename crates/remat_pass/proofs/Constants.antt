@@ -14,7 +14,7 @@ use Rattle.rv64_instr.specs.Instruction.{Instruction}
 use Rattle.rv64_instr.specs.Arithmetic.{word, signed, extend32}
 use Rattle.rv64_instr.specs.Form.{has_form, has_12_bits, is_within, is_implicit, is_immediate}
 use Rattle.rv64_instr.specs.Row.{Fixes, row_of, row_by, add_row, move_row, immediate_row, object_row}
-use Rattle.mir_meaning.proofs.Range.{extend32_in_range}
+use Rattle.sem_mir.proofs.Range.{extend32_in_range}
 use Rattle.remat_pass.specs.Remat.{upper_part, constant_code}
 use Rattle.remat_pass.proofs.Arithmetic.{word_signed, signed_word, upper_again}
 

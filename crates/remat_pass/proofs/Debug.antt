@@ -14,12 +14,12 @@ use Rattle.mir_func.specs.declared.item.ItemKind.{ItemKind}
 use Rattle.mir_func.specs.declared.item.ItemKind.TheVariants.{Code, Mark, Phi}
 use Rattle.mir_func.specs.Function.{Function}
 use Rattle.mir_func.specs.Sound.{IsSound}
-use Rattle.follow_law.specs.Change.{Change}
-use Rattle.follow_law.specs.Rule.{item}
-use Rattle.follow_law.specs.Debug.{ValueStays, PlaceStays, IsKillAt, Becomes, mark_stays, phi_stays, code_stays, code_unnumbered}
-use Rattle.follow_law.specs.Debug.{BecomeAll, over, next, BlocksBecome, none}
-use Rattle.follow_law.specs.Debug.{stays as block_stays, IsLoss, IsFor, KeepsItems}
-use Rattle.follow_law.specs.Steps.{KeepsSteps}
+use Rattle.pass_trait.specs.Change.{Change}
+use Rattle.pass_trait.specs.Rule.{item}
+use Rattle.pass_trait.specs.Debug.{ValueStays, PlaceStays, IsKillAt, Becomes, mark_stays, phi_stays, code_stays, code_unnumbered}
+use Rattle.pass_trait.specs.Debug.{BecomeAll, over, next, BlocksBecome, none}
+use Rattle.pass_trait.specs.Debug.{stays as block_stays, IsLoss, IsFor, KeepsItems}
+use Rattle.pass_trait.specs.Steps.{KeepsSteps}
 use Rattle.remat_pass.specs.Known.{Known, nothing_known, known_past}
 use Rattle.remat_pass.specs.Remat.{set_in, set_items, set_blocks, rematerialized}
 use Rattle.remat_pass.specs.Pass.{remat_rule, remat_step}

@@ -11,17 +11,17 @@ use Rattle.mir_func.specs.Function.{Function}
 use Rattle.mir_func.specs.Sound.{AllItems, IsSound, HasForm}
 use Rattle.mir_func.specs.Resolve.{resolve}
 use Rattle.mir_func.specs.Graph.{Program, program_of}
-use Rattle.mir_meaning.specs.State.{Core}
-use Rattle.mir_meaning.specs.Step.{Outcome, Falls, Goes, Gives, Traps, Asks, Breaks, do_item}
-use Rattle.mir_meaning.specs.Effects.{OnCore, EndAlike}
-use Rattle.mir_meaning.specs.Follow.{OnRow, Counts}
-use Rattle.mir_meaning.proofs.Told.{TellsLess, SeesLess, tells_itself, item_less}
-use Rattle.simulation.specs.Sides.{OutcomesAlike}
-use Rattle.follow_law.specs.Change.{change}
-use Rattle.follow_law.specs.Following.{KeepsFollowing}
-use Rattle.salvage.proofs.Edits.{Edits, Edited, over, pair, BlocksEdited, no_blocks, next_block}
-use Rattle.salvage.proofs.EditRuns.{Keeps}
-use Rattle.salvage.proofs.EditFollows.{Allows, follows_edited}
+use Rattle.sem_mir.specs.State.{Core}
+use Rattle.sem_mir.specs.Step.{Outcome, Falls, Goes, Gives, Traps, Asks, Breaks, do_item}
+use Rattle.sem_mir.specs.Effects.{OnCore, EndAlike}
+use Rattle.sem_mir.specs.Follow.{OnRow, Counts}
+use Rattle.sem_mir.proofs.Told.{TellsLess, SeesLess, tells_itself, item_less}
+use Rattle.sem_simulation.specs.Sides.{OutcomesAlike}
+use Rattle.pass_trait.specs.Change.{change}
+use Rattle.pass_trait.specs.Following.{KeepsFollowing}
+use Rattle.pass_salvage.proofs.Edits.{Edits, Edited, over, pair, BlocksEdited, no_blocks, next_block}
+use Rattle.pass_salvage.proofs.EditRuns.{Keeps}
+use Rattle.pass_salvage.proofs.EditFollows.{Allows, follows_edited}
 use Rattle.remat_pass.specs.Known.{Known, nothing_known, known_past}
 use Rattle.remat_pass.specs.Remat.{constant_set, set_or_same, set_in, set_items, set_blocks, rematerialized}
 use Rattle.remat_pass.proofs.Replaced.{replaced, row_replaced, kin_set}

@@ -15,8 +15,8 @@ use Rattle.rv64_instr.specs.Arithmetic.{word, load_width, signed}
 use Rattle.rv64_instr.specs.Form.{has_form, has_12_bits, is_implicit, is_immediate, moves_slot}
 use Rattle.rv64_instr.specs.Row.{Row, Moves, LoadsSlot, row_of, row_by, move_row, immediate_row, object_row}
 use Rattle.rv64_instr.specs.Parts.{is_call}
-use Rattle.mir_meaning.specs.State.{Core, updated}
-use Rattle.mir_meaning.specs.Step.{defined, given, numbered}
+use Rattle.sem_mir.specs.State.{Core, updated}
+use Rattle.sem_mir.specs.Step.{defined, given, numbered}
 use Rattle.remat_pass.specs.Known.{Known}
 use Rattle.remat_pass.specs.Remat.{constant_code, upper_part}
 use Rattle.remat_pass.proofs.Constants.{constant_row}

@@ -14,9 +14,9 @@ use Rattle.rv64_instr.specs.Form.{has_12_bits, is_implicit}
 use Rattle.rv64_instr.specs.Row.{Row, Fixes, Moves, LoadsSlot, Branches, Jumps, Returns, row_of}
 use Rattle.mir_func.specs.declared.item.ItemKind.{ItemKind}
 use Rattle.mir_func.specs.declared.item.ItemKind.TheVariants.{Code, Mark, Phi}
-use Rattle.mir_meaning.specs.Step.{defined}
-use Rattle.mir_meaning.specs.Follow.{SameEnd}
-use Rattle.salvage.proofs.Kin.{RowKin, Kin, code_kin, kin_itself}
+use Rattle.sem_mir.specs.Step.{defined}
+use Rattle.sem_mir.specs.Follow.{SameEnd}
+use Rattle.pass_salvage.proofs.Kin.{RowKin, Kin, code_kin, kin_itself}
 use Rattle.remat_pass.specs.Known.{Known, number_in}
 use Rattle.remat_pass.specs.Remat.{constant_code, set_to, constant_set, set_or_same, set_in, upper_part}
 use Rattle.remat_pass.proofs.Forms.{all_implicit}

@@ -11,13 +11,13 @@ use Rattle.mir_func.specs.declared.item.ItemKind.{ItemKind}
 use Rattle.mir_func.specs.declared.item.ItemKind.TheVariants.{Code, Mark, Phi}
 use Rattle.mir_func.specs.Graph.{Program}
 use Rattle.mir_func.specs.Sound.{HasForm}
-use Rattle.mir_meaning.specs.State.{Core, content, updated}
-use Rattle.mir_meaning.specs.Step.{Falls, Traps, act, does, are_written, or_zero, read, set_register, with_core, numbered, do_item}
-use Rattle.mir_meaning.specs.Effects.{held_in, OnCore}
-use Rattle.mir_meaning.proofs.Outcomes.{on_weaker}
-use Rattle.mir_meaning.proofs.Parts.{effects_hold}
-use Rattle.mir_meaning.proofs.Places.{updated_same}
-use Rattle.held_alike.proofs.Outcomes.{on_with, on_all, on_given, held_told, held_numbered}
+use Rattle.sem_mir.specs.State.{Core, content, updated}
+use Rattle.sem_mir.specs.Step.{Falls, Traps, act, does, are_written, or_zero, read, set_register, with_core, numbered, do_item}
+use Rattle.sem_mir.specs.Effects.{held_in, OnCore}
+use Rattle.sem_mir.proofs.Outcomes.{on_weaker}
+use Rattle.sem_mir.proofs.Parts.{effects_hold}
+use Rattle.sem_mir.proofs.Places.{updated_same}
+use Rattle.sem_agreement.proofs.Outcomes.{on_with, on_all, on_given, held_told, held_numbered}
 use Rattle.remat_pass.specs.Known.{Known, number_in, with_register, with_slot, forgotten, learned, known_past}
 use Rattle.remat_pass.specs.Remat.{constant_set, set_or_same, set_in}
 use Rattle.remat_pass.proofs.Constants.{IsConstant, constant_zero, constant_of_form}

@@ -12,9 +12,9 @@ use Rattle.mir_func.specs.Function.{Function}
 use Rattle.mir_func.specs.Limits.{MAX_BLOCKS, MAX_SLOTS}
 use Rattle.mir_func.specs.Sound.{items_of}
 use Rattle.mir_func.specs.SoundFrame.{IsPhysical, HasPhysical}
-use Rattle.mir_meaning.specs.Align.{is_code}
-use Rattle.follow_law.specs.Change.{change}
-use Rattle.follow_law.specs.Sizes.{greatest, most_numbers, numbers_of, calls, KeepsSizes}
+use Rattle.sem_mir.specs.Align.{is_code}
+use Rattle.pass_trait.specs.Change.{change}
+use Rattle.pass_trait.specs.Sizes.{greatest, most_numbers, numbers_of, calls, KeepsSizes}
 use Rattle.remat_pass.specs.Known.{Known}
 use Rattle.remat_pass.specs.Remat.{constant_set, set_or_same, set_in, set_blocks, rematerialized}
 use Rattle.remat_pass.specs.Partly.{MayBeSet, AreItemsSet, none, next}

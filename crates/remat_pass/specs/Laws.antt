@@ -4,8 +4,8 @@ use Rattle.std.proofs.Common.{◌≡◌, List, [], ◌∷◌, map, refl, ap}
 use Rattle.mir_func.specs.declared.item.Item.{Item}
 use Rattle.mir_func.specs.declared.block.Block.{Block}
 use Rattle.mir_func.specs.Function.{Function}
-use Rattle.follow_law.specs.Code.{HasOneResult, SeesCodeAlone, placeless_item, placeless_block, placeless}
-use Rattle.follow_law.specs.Laws.{one_of, same_of}
+use Rattle.pass_trait.specs.Code.{HasOneResult, SeesCodeAlone, placeless_item, placeless_block, placeless}
+use Rattle.pass_trait.specs.Laws.{one_of, same_of}
 use Rattle.remat_pass.specs.Known.{Known, nothing_known, known_past}
 use Rattle.remat_pass.specs.Remat.{set_in, set_items, set_blocks, rematerialized, IsRematerialized}
 

@@ -1,7 +1,7 @@
 -- The step of the pass.
 use Rattle.std.specs.Prelude.{◌≡◌, []}
-use Rattle.follow_law.specs.Rule.{Rule}
-use Rattle.follow_law.specs.Steps.{Step}
+use Rattle.pass_trait.specs.Rule.{Rule}
+use Rattle.pass_trait.specs.Steps.{Step}
 use Rattle.remat_pass.specs.Remat.{IsRematerialized}
 
 -- the rule of its debug items: nothing happens to them

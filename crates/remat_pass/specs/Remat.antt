@@ -14,7 +14,7 @@ use Rattle.mir_func.specs.declared.item.ItemKind.{ItemKind}
 use Rattle.mir_func.specs.declared.item.ItemKind.TheVariants.{Code, Mark, Phi}
 use Rattle.mir_func.specs.declared.block.Block.{Block}
 use Rattle.mir_func.specs.Function.{Function}
-use Rattle.follow_law.specs.Code.{CodeRule}
+use Rattle.pass_trait.specs.Code.{CodeRule}
 use Rattle.remat_pass.specs.declared.constant.Constant.{Constant}
 use Rattle.remat_pass.specs.Known.{Known, nothing_known, number_in, known_past}
 

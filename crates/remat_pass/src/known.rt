@@ -10,7 +10,7 @@ ghost use Rattle.remat_pass.specs.Table.{known_by, is_among};
 
 use crate::constant::Constant;
 use mir_func::item::ItemKind;
-use numbers::code::SlotId;
+use base_ids::code::SlotId;
 use rv64_instr::decoded::Decoded;
 use rv64_instr::parts::CALLER_SAVED;
 use rv64_instr::reg::Reg;

@@ -14,14 +14,14 @@ ghost use Rattle.std.proofs.Common.{rules};
 
 use crate::constant::constant_code;
 use crate::known::Known;
-use follow_law::loss::Losses;
-use follow_law::pass::Pass;
+use pass_trait::loss::Losses;
+use pass_trait::pass::Pass;
 use mir_func::block::Block;
 use mir_func::func::Func;
 use mir_func::item::{Item, ItemKind};
 use rv64_instr::instr::Instr;
 use std::alloc::{AllocError, Global};
-use substitution::substitutions::Substitutions;
+use mir_substitution::substitutions::Substitutions;
 
 /// Sets constants again where they are copied or loaded from a slot, so that what held them may be dead. Nothing is
 /// lost.

@@ -2,8 +2,8 @@
 use Rattle.std.proofs.Common.{◌≡◌}
 use Rattle.output_alone.specs.Alone.{HaveAlikeFunctions}
 use Rattle.output_alone.proofs.Alone.{outputs_alone}
-use Rattle.mirdwarf_tool.specs.Run.{HasWritten}
-use Rattle.mirdwarf_tool.proofs.RunLemmas.{has_written}
+use Rattle.tool_driver.specs.Run.{HasWritten}
+use Rattle.tool_driver.proofs.RunLemmas.{has_written}
 use Rattle.runs_alone.specs.Alone.{RunsWriteCodeAlone}
 
 pub runs_alone : RunsWriteCodeAlone

@@ -3,8 +3,8 @@ use Rattle.std.specs.Prelude.{◌≡◌, ℕ, List}
 use Rattle.command_line.specs.declared.command.Plan.{Plan}
 use Rattle.command_line.specs.declared.command.Command.TheVariants.{Compile}
 use Rattle.command_line.specs.Command.{IsCommand}
-use Rattle.mirdwarf_tool.specs.Run.{Finishes, HasWritten}
-use Rattle.mirdwarf_tool.specs.Stream.{Change}
+use Rattle.tool_driver.specs.Run.{Finishes, HasWritten}
+use Rattle.tool_driver.specs.Stream.{Change}
 use Rattle.output_alone.specs.Alone.{HaveAlikeFunctions}
 
 -- each run read a program and wrote an output of it: where the functions of both programs, one by one, have alike code, both outputs have the

@@ -26,7 +26,7 @@ use crate::instr::Instr;
 use crate::op::{BranchOp, ImmediateOp, LoadOp, Op, RegisterOp, StoreOp};
 use crate::operand::Operand;
 use crate::reg::Reg;
-use numbers::code::{BlockId, ObjectId, SlotId};
+use base_ids::code::{BlockId, ObjectId, SlotId};
 
 /// The second input of an operation.
 #[derive(Clone, Copy, Debug, PartialEq, Eq)]

@@ -1,6 +1,6 @@
 //! Names of functions and variables.
 
-use lists::List;
+use base_list::List;
 
 /// A name, by its bytes. It need not be text, and may be empty.
 pub type Name = List<u8>;

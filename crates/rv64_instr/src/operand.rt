@@ -4,7 +4,7 @@ ghost use Rattle.std.specs.Prelude.{◌≡◌, [], ◌∷◌, ◌++◌, OnOk, On
 
 use crate::name::Name;
 use crate::reg::Reg;
-use numbers::code::{BlockId, ObjectId, SlotId};
+use base_ids::code::{BlockId, ObjectId, SlotId};
 use smallvec::SmallVec;
 use std::alloc::{AllocError, Global};
 use std::marker::Model;

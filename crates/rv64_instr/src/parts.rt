@@ -14,7 +14,7 @@ use crate::instr::Instr;
 use crate::operand::Operand;
 use crate::place::Place;
 use crate::reg::Reg;
-use numbers::code::SlotId;
+use base_ids::code::SlotId;
 
 /// The numbers of the registers that a call sets, ascending (RISC-V ELF psABI, "Integer Register Convention").
 pub const CALLER_SAVED: [u32; 16] = [1, 5, 6, 7, 10, 11, 12, 13, 14, 15, 16, 17, 28, 29, 30, 31];

@@ -1,7 +1,7 @@
 //! Places where a value may be found.
 
 use crate::reg::Reg;
-use numbers::code::SlotId;
+use base_ids::code::SlotId;
 
 /// A place where a value may be found (LLVM: a machine location, `LocIdx`).
 #[derive(Clone, Copy, Debug, PartialEq, Eq)]

@@ -2,7 +2,7 @@
 
 ghost use Rattle.std.specs.Prelude.{◌≡◌, ◌<◌, ◌≤◌, ◌↔◌, IfSome, IsNone};
 
-use lists::List;
+use base_list::List;
 use std::marker::Model;
 
 /// A register by its number: 0 to 31 are x0 to x31, and 32 to 4,127 are virtual (LLVM: `MCRegister`, `Register`).

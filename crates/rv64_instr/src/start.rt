@@ -1,7 +1,7 @@
 //! With what a run starts, the calls that it makes, and their answers.
 
 use crate::name::Name;
-use lists::List;
+use base_list::List;
 
 /// Register contents, in a stated order.
 pub type Values = List<u64>;

@@ -35,7 +35,7 @@ ghost use Rattle.rv64_word.specs.Lowering.{
 
 use crate::machine_op::MachineOp;
 use crate::word_op::WordOp;
-use numbers::code::ObjectId;
+use base_ids::code::ObjectId;
 use rv64_instr::decoded::{Base, Decoded};
 use rv64_instr::instr::Instr;
 use rv64_instr::op::{BranchOp, ImmediateOp, LoadOp, Op, RegisterOp, StoreOp};

@@ -10,15 +10,15 @@ use Rattle.mir_func.specs.declared.position.Pos.{Pos}
 use Rattle.mir_func.specs.Function.{FramedFunction}
 use Rattle.mir_func.specs.Graph.{Fetch, Here, fetch_in}
 use Rattle.mir_func.specs.Successors.{pos_in}
-use Rattle.code_layout.specs.Image.{CodeLine}
-use Rattle.code_layout.specs.MachineStep.{call_of}
-use Rattle.code_words.specs.declared.code.Entry.{Entry}
-use Rattle.code_words.specs.Listed.{Line, form_lines, kind_lines, lines_at, lines_of}
-use Rattle.code_words.specs.Rule.{Layout, Form, Nothing, OneWord, CallSite, LongBranch, row_form, form_of, form_entries, address_in, Site, sites_of, entries_at}
-use Rattle.code_words.specs.Rule.{entries_of}
-use Rattle.code_words.proofs.Settled as settled
+use Rattle.sem_machine.specs.Image.{CodeLine}
+use Rattle.sem_machine.specs.MachineStep.{call_of}
+use Rattle.emit_code.specs.declared.code.Entry.{Entry}
+use Rattle.emit_code.specs.Listed.{Line, form_lines, kind_lines, lines_at, lines_of}
+use Rattle.emit_code.specs.Rule.{Layout, Form, Nothing, OneWord, CallSite, LongBranch, row_form, form_of, form_entries, address_in, Site, sites_of, entries_at}
+use Rattle.emit_code.specs.Rule.{entries_of}
+use Rattle.emit_code.proofs.Settled as settled
 use Rattle.machine_layout.specs.Images.{code_line}
-use Rattle.rv_simulator.specs.Shown.{kind_call, fetch_call, entry_call, IsLineOf, AreLinesOf}
+use Rattle.sim_machine.specs.Shown.{kind_call, fetch_call, entry_call, IsLineOf, AreLinesOf}
 use Rattle.simulated_image.proofs.Listed.{call_listed, long_none, skip_none, jump_none}
 
 abbrev fetched : FramedFunction → Pos → Fetch

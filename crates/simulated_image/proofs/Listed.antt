@@ -9,11 +9,11 @@ use Rattle.rv64_instr.specs.Parts.{is_call}
 use Rattle.rv64_instr.specs.Row.{Row, Fixes, Moves, Sets, Addresses, Loads, Stores, LoadsSlot, StoresSlot, Branches, Jumps, Calls, Returns, Unfit}
 use Rattle.rv64_instr.specs.Row.{row_of, row_by}
 use Rattle.mir_func.specs.Function.{FramedFunction}
-use Rattle.code_layout.specs.MachineStep.{call_of}
-use Rattle.code_words.specs.Inverted.{inverted_op, skip_of, jump_to}
-use Rattle.code_words.specs.Listed.{by_pointer, listed}
-use Rattle.code_words.specs.Rule.{LongBranch, row_form}
-use Rattle.rv_simulator.proofs.Calls.{quiet}
+use Rattle.sem_machine.specs.MachineStep.{call_of}
+use Rattle.emit_code.specs.Inverted.{inverted_op, skip_of, jump_to}
+use Rattle.emit_code.specs.Listed.{by_pointer, listed}
+use Rattle.emit_code.specs.Rule.{LongBranch, row_form}
+use Rattle.sim_machine.proofs.Calls.{quiet}
 
 none_of : (r : Row) → is_call r ≡ false → call_of r ≡ None
 none_of (Calls name args) e = cc

@@ -4,13 +4,13 @@ use Rattle.std.specs.List.{flat_map}
 use Rattle.std.specs.Int.{w32, to_le_bytes}
 use Rattle.mir_func.specs.Function.{FramedFunction}
 use Rattle.mir_func.specs.Objects.{area_of}
-use Rattle.code_layout.specs.Image.{CodeLine, Image}
-use Rattle.code_words.specs.declared.code.Entry.{Entry}
-use Rattle.code_words.specs.Laid.{LaidCode, IsCodeOf}
-use Rattle.code_words.specs.Listed.{lines_of}
-use Rattle.code_words.specs.Rule.{entries_of}
+use Rattle.sem_machine.specs.Image.{CodeLine, Image}
+use Rattle.emit_code.specs.declared.code.Entry.{Entry}
+use Rattle.emit_code.specs.Laid.{LaidCode, IsCodeOf}
+use Rattle.emit_code.specs.Listed.{lines_of}
+use Rattle.emit_code.specs.Rule.{entries_of}
 use Rattle.machine_layout.specs.Images.{code_line, IsImageOf}
-use Rattle.rv_simulator.specs.Shown.{AreLinesOf, ShowsCode}
+use Rattle.sim_machine.specs.Shown.{AreLinesOf, ShowsCode}
 use Rattle.simulated_image.specs.Shows.{ImagesShowCode}
 use Rattle.simulated_image.proofs.Lines.{lines_beside}
 

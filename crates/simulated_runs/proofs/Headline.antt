@@ -7,14 +7,14 @@ use Rattle.mir_func.specs.declared.entry.OperandPair.{OperandPair}
 use Rattle.mir_func.specs.declared.variable.VarId.{VarId}
 use Rattle.mir_func.specs.Function.{Function}
 use Rattle.mir_func.specs.Graph.{program_of}
-use Rattle.mir_meaning.specs.State.{State, Reply, IsReply}
-use Rattle.code_layout.specs.Headline.{Headline, StartsAt}
-use Rattle.code_layout.specs.HeadlineLaws.{HasFailed}
-use Rattle.code_layout.specs.Image.{Image}
-use Rattle.code_layout.specs.Machine.{machine_start}
-use Rattle.code_layout.proofs.EveryStep.{headline_reaches_every_step}
-use Rattle.rv_simulator.specs.declared.hart.Hart.{Hart}
-use Rattle.rv_simulator.specs.Kept.{StandsFor}
+use Rattle.sem_mir.specs.State.{State, Reply, IsReply}
+use Rattle.sem_machine.specs.Headline.{Headline, StartsAt}
+use Rattle.sem_machine.specs.HeadlineLaws.{HasFailed}
+use Rattle.sem_machine.specs.Image.{Image}
+use Rattle.sem_machine.specs.Machine.{machine_start}
+use Rattle.sem_machine.proofs.EveryStep.{headline_reaches_every_step}
+use Rattle.sim_machine.specs.declared.hart.Hart.{Hart}
+use Rattle.sim_machine.specs.Kept.{StandsFor}
 use Rattle.simulated_runs.specs.Runs.{WereGiven, ComesTo}
 use Rattle.simulated_runs.specs.Headline.{with_script, ComesAlong, IsBeside, RunsMeetTheHeadline}
 use Rattle.simulated_runs.proofs.Runs.{all_given, runs_are_the_machines}

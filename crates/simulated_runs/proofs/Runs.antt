@@ -4,19 +4,19 @@ use Rattle.std.proofs.Common.{Option, Some, None, map, refl, sym, ap, ◌∙◌,
 use Rattle.std.specs.List.{All}
 use Rattle.std.proofs.lemmas.List.Elements.{All-nil, All-cons}
 use Rattle.rv64_instr.specs.declared.start.CallEvent.{CallEvent}
-use Rattle.mir_meaning.specs.State.{Reply}
-use Rattle.code_layout.specs.Image.{CodeLine, Image, word_at}
-use Rattle.code_layout.specs.Machine.{Machine, register}
-use Rattle.code_layout.specs.MachineStep.{Continues, Leaves, there, steps, machine_step, does_at, does_line}
-use Rattle.code_words.specs.declared.code.Entry.{Entry}
-use Rattle.code_words.specs.Laid.{LaidCode}
-use Rattle.rv_simulator.specs.declared.ending.Stepped.TheVariants.{Went}
-use Rattle.rv_simulator.specs.declared.hart.Hart.{Hart}
-use Rattle.rv_simulator.specs.Calls.{event_of}
-use Rattle.rv_simulator.specs.Kept.{calls_in}
-use Rattle.rv_simulator.specs.Running.{StepsOn, CallsOn, call_at, found_call}
-use Rattle.rv_simulator.specs.Shown.{ShowsCode, entry_at, entry_call}
-use Rattle.rv_simulator.proofs.Stepping.{left_step, line_some, call_step}
+use Rattle.sem_mir.specs.State.{Reply}
+use Rattle.sem_machine.specs.Image.{CodeLine, Image, word_at}
+use Rattle.sem_machine.specs.Machine.{Machine, register}
+use Rattle.sem_machine.specs.MachineStep.{Continues, Leaves, there, steps, machine_step, does_at, does_line}
+use Rattle.emit_code.specs.declared.code.Entry.{Entry}
+use Rattle.emit_code.specs.Laid.{LaidCode}
+use Rattle.sim_machine.specs.declared.ending.Stepped.TheVariants.{Went}
+use Rattle.sim_machine.specs.declared.hart.Hart.{Hart}
+use Rattle.sim_machine.specs.Calls.{event_of}
+use Rattle.sim_machine.specs.Kept.{calls_in}
+use Rattle.sim_machine.specs.Running.{StepsOn, CallsOn, call_at, found_call}
+use Rattle.sim_machine.specs.Shown.{ShowsCode, entry_at, entry_call}
+use Rattle.sim_machine.proofs.Stepping.{left_step, line_some, call_step}
 use Rattle.simulated_runs.specs.Runs.{Runs, begins, goes_on, WereGiven, next_call, StepLeads, AnswersLead, StepsAreTheMachines, RunsAreTheMachines}
 use Rattle.simulated_runs.proofs.Scripts.{Keeps, Takes, word_keeps, call_takes}
 

@@ -8,11 +8,11 @@ use Rattle.rv64_instr.specs.Row.{implicit_uses}
 use Rattle.rv64_word.specs.declared.machine_op.MachineOp.{MachineOp}
 use Rattle.rv64_word.specs.Decoded.{decoded}
 use Rattle.rv64_word.specs.MachineRow.{MachineRow, Does, Links, LinksTo, machine_row}
-use Rattle.mir_meaning.specs.State.{Reply, Event, Wrote, low_bytes, touches_frame}
-use Rattle.code_layout.specs.Image.{CodeLine}
-use Rattle.code_layout.specs.Machine.{Machine, register, address_of}
-use Rattle.rv_simulator.specs.Kept.{calls_in}
-use Rattle.code_layout.specs.MachineStep.{Continues, Ends, past, at, set_register, store, does_row, does, does_operation, does_word, answered, return_word}
+use Rattle.sem_mir.specs.State.{Reply, Event, Wrote, low_bytes, touches_frame}
+use Rattle.sem_machine.specs.Image.{CodeLine}
+use Rattle.sem_machine.specs.Machine.{Machine, register, address_of}
+use Rattle.sim_machine.specs.Kept.{calls_in}
+use Rattle.sem_machine.specs.MachineStep.{Continues, Ends, past, at, set_register, store, does_row, does, does_operation, does_word, answered, return_word}
 
 -- the script and the count of calls are the same
 pub record Keeps (s u : Machine) : Type 0 where

@@ -6,16 +6,16 @@ use Rattle.mir_func.specs.declared.entry.OperandPair.{OperandPair}
 use Rattle.mir_func.specs.declared.variable.VarId.{VarId}
 use Rattle.mir_func.specs.Function.{Function}
 use Rattle.mir_func.specs.Graph.{Program, program_of}
-use Rattle.mir_meaning.specs.State.{State, Reply, IsReply}
-use Rattle.code_layout.specs.Headline.{Headline, StartsAt, AlignsWith, FailsBeforeLine, MachineAgrees}
-use Rattle.code_layout.specs.HeadlineLaws.{HasCome, HasFailed}
-use Rattle.code_layout.specs.Image.{CodeLine, Image, line_at}
-use Rattle.code_layout.specs.Machine.{Machine, machine_start}
-use Rattle.code_layout.specs.MachineStep.{Comes, IsWell, machine_step}
-use Rattle.code_words.specs.Laid.{LaidCode}
-use Rattle.rv_simulator.specs.declared.hart.Hart.{Hart}
-use Rattle.rv_simulator.specs.Kept.{StandsFor}
-use Rattle.rv_simulator.specs.Shown.{ShowsCode}
+use Rattle.sem_mir.specs.State.{State, Reply, IsReply}
+use Rattle.sem_machine.specs.Headline.{Headline, StartsAt, AlignsWith, FailsBeforeLine, MachineAgrees}
+use Rattle.sem_machine.specs.HeadlineLaws.{HasCome, HasFailed}
+use Rattle.sem_machine.specs.Image.{CodeLine, Image, line_at}
+use Rattle.sem_machine.specs.Machine.{Machine, machine_start}
+use Rattle.sem_machine.specs.MachineStep.{Comes, IsWell, machine_step}
+use Rattle.emit_code.specs.Laid.{LaidCode}
+use Rattle.sim_machine.specs.declared.hart.Hart.{Hart}
+use Rattle.sim_machine.specs.Kept.{StandsFor}
+use Rattle.sim_machine.specs.Shown.{ShowsCode}
 use Rattle.simulated_runs.specs.Runs.{Runs}
 
 -- a start with these answers as its script

@@ -1,16 +1,16 @@
 -- Runs of the simulator, and the runs of the machine of the definitions that they are.
 use Rattle.std.specs.Prelude.{◌≡◌, ℕ, suc, ◌+◌, ◌%◌, ◌^◌, ◌≤◌, List, [], ◌∷◌, ◌++◌, length}
 use Rattle.rv64_instr.specs.declared.start.CallEvent.{CallEvent}
-use Rattle.mir_meaning.specs.State.{Reply}
-use Rattle.code_layout.specs.Image.{Image}
-use Rattle.code_layout.specs.Machine.{Machine}
-use Rattle.code_layout.specs.MachineStep.{Comes, Continues, machine_step}
-use Rattle.code_words.specs.Laid.{LaidCode}
-use Rattle.rv_simulator.specs.declared.ending.Stepped.TheVariants.{Went}
-use Rattle.rv_simulator.specs.declared.hart.Hart.{Hart}
-use Rattle.rv_simulator.specs.Kept.{StandsFor, calls_in}
-use Rattle.rv_simulator.specs.Running.{StepsOn, CallsOn}
-use Rattle.rv_simulator.specs.Shown.{ShowsCode}
+use Rattle.sem_mir.specs.State.{Reply}
+use Rattle.sem_machine.specs.Image.{Image}
+use Rattle.sem_machine.specs.Machine.{Machine}
+use Rattle.sem_machine.specs.MachineStep.{Comes, Continues, machine_step}
+use Rattle.emit_code.specs.Laid.{LaidCode}
+use Rattle.sim_machine.specs.declared.ending.Stepped.TheVariants.{Went}
+use Rattle.sim_machine.specs.declared.hart.Hart.{Hart}
+use Rattle.sim_machine.specs.Kept.{StandsFor, calls_in}
+use Rattle.sim_machine.specs.Running.{StepsOn, CallsOn}
+use Rattle.sim_machine.specs.Shown.{ShowsCode}
 
 -- what is kept comes from one state to another by steps that go on
 pub data Runs (gives : CallEvent → Reply → Type 0) (c : LaidCode) (from : Hart) : Hart → Type 0 where

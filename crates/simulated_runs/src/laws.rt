@@ -3,8 +3,8 @@
 ghost use Rattle.simulated_runs.specs.Headline.{RunsMeetTheHeadline};
 ghost use Rattle.simulated_runs.specs.Runs.{RunsAreTheMachines, StepsAreTheMachines};
 
-use code_layout::laws::LocationLists;
-use rv_simulator::answers::CallAnswers;
+use sem_machine::laws::LocationLists;
+use sim_machine::answers::CallAnswers;
 
 /// A step of the simulator that goes on is one of the machine on each image that shows the code, with the answer to its
 /// call, if it makes one, as the first of the script.

@@ -13,10 +13,10 @@ use Rattle.mir_func.specs.declared.item.ItemKind.TheVariants.{Code, Mark, Phi}
 use Rattle.mir_func.specs.Exits.{row_exit, exit_of, IsAlways}
 use Rattle.mir_func.specs.Graph.{Program}
 use Rattle.mir_func.specs.Sound.{IsJumpAtMost, MayFollow, EndsWell}
-use Rattle.mir_meaning.specs.State.{Core, Reply, writes_frame}
-use Rattle.mir_meaning.specs.Step.{Outcome, Falls, Goes, Gives, Traps, Asks, Breaks, act, does, are_written, with_core, numbered, slot_loaded}
-use Rattle.mir_meaning.specs.Step.{answered, read, do_item}
-use Rattle.mir_meaning.specs.Step.{is_fault, address_at}
+use Rattle.sem_mir.specs.State.{Core, Reply, writes_frame}
+use Rattle.sem_mir.specs.Step.{Outcome, Falls, Goes, Gives, Traps, Asks, Breaks, act, does, are_written, with_core, numbered, slot_loaded}
+use Rattle.sem_mir.specs.Step.{answered, read, do_item}
+use Rattle.sem_mir.specs.Step.{is_fault, address_at}
 use Rattle.sound_edits.specs.Edits.{IsMove}
 
 -- it goes to no block

@@ -19,7 +19,7 @@ use Rattle.mir_func.specs.Limits.{MAX_BLOCKS, MAX_SLOTS}
 use Rattle.mir_func.specs.Sound.{AreApart, AllItems, ids_of, items_of, NumbersOnce, OriginIn, TargetsIn, SlotsIn, ObjectsIn, LeavesPointer}
 use Rattle.mir_func.specs.Sound.{IsJumpAtMost, MayFollow}
 use Rattle.mir_func.specs.Sound.{EndsWell, Closes, LastCloses, IsSoundObject, IsSound}
-use Rattle.mir_meaning.specs.Align.{position_of}
+use Rattle.sem_mir.specs.Align.{position_of}
 use Rattle.sound_edits.specs.Edits.{SameButNumber, same_code, same_kind, IsMove, phi_before, AreEdited, no_items, stays, with_phi, goes}
 use Rattle.sound_edits.specs.Edits.{AreBlocksEdited, no_blocks, next_block, EditsKeepSound}
 use Rattle.sound_edits.proofs.Onward.{move_onward, not_alone}

@@ -12,7 +12,7 @@ use Rattle.mir_func.specs.declared.item.ItemKind.{ItemKind}
 use Rattle.mir_func.specs.declared.item.ItemKind.TheVariants.{Code, Mark, Phi}
 use Rattle.mir_func.specs.Function.{Function}
 use Rattle.mir_func.specs.Sound.{items_of, NumbersOnce, IsSound}
-use Rattle.mir_meaning.specs.Align.{position_of}
+use Rattle.sem_mir.specs.Align.{position_of}
 
 -- the same but for the number of code
 pub data SameButNumber : ItemKind → ItemKind → Type 0 where

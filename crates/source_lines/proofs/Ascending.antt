@@ -5,10 +5,10 @@ use Rattle.std.specs.Prelude.{Option, All}
 use Rattle.std.proofs.lemmas.List.Elements.{All-nil, All-cons}
 use Rattle.dwarf_line.specs.declared.table.Row.{Row}
 use Rattle.dwarf_line.specs.Table.{Ascend, IsSequence}
-use Rattle.meta_reader.specs.Maps.{Maps}
+use Rattle.read_metadata.specs.Maps.{Maps}
 use Rattle.mir_func.specs.declared.block.Block.{Block}
-use Rattle.code_words.specs.declared.code.Entry.{Entry}
-use Rattle.code_words.specs.Laid.{StandFrom}
+use Rattle.emit_code.specs.declared.code.Entry.{Entry}
+use Rattle.emit_code.specs.Laid.{StandFrom}
 use Rattle.source_lines.specs.declared.file.SourceFile.{SourceFile}
 use Rattle.source_lines.specs.Table.{row_of_line, entry_line, is_place_before, changes, rows_in}
 use Rattle.source_lines.specs.Program.{sequence_if}

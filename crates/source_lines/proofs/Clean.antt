@@ -10,15 +10,15 @@ use Rattle.std.proofs.lemmas.List.Elements.{All-nil, All-cons, All-append, All-p
 use Rattle.std.proofs.lemmas.List.Sums.{fails_before_first}
 use Rattle.dwarf_info.specs.Entries.{named}
 use Rattle.dwarf_line.specs.Table.{IsName, IsNamed, HasNames}
-use Rattle.meta_reader.specs.Maps.{Maps}
-use Rattle.meta_reader.specs.declared.node.FileNode.{FileNode}
+use Rattle.read_metadata.specs.Maps.{Maps}
+use Rattle.read_metadata.specs.declared.node.FileNode.{FileNode}
 use Rattle.mir_func.specs.declared.block.Block.{Block}
-use Rattle.code_words.specs.declared.code.Entry.{Entry}
+use Rattle.emit_code.specs.declared.code.Entry.{Entry}
 use Rattle.source_lines.specs.declared.compiled.Compiled.{Compiled}
 use Rattle.source_lines.specs.declared.file.SourceFile.{SourceFile}
 use Rattle.source_lines.specs.Files.{file_or, function_file, unit_file, is_file, is_name, with_new, first_uses, dirs_of, entry_in, entry_zero}
 use Rattle.std.specs.Option.{option_and_then}
-use Rattle.meta_reader.specs.Metadata.{file_of_scope_at}
+use Rattle.read_metadata.specs.Metadata.{file_of_scope_at}
 use Rattle.source_lines.specs.Lines.{scope_line, loc_of, position_of}
 use Rattle.source_lines.specs.Table.{uses_in}
 use Rattle.source_lines.specs.Program.{program_files, function_uses, table_of}

@@ -3,7 +3,7 @@
 use Rattle.std.proofs.Common.{◌≡◌, ℕ, Bool, true, false, cond, ◌&&◌, ◌||◌, if◌then◌else◌, List, [], ◌∷◌, ◌++◌, map, refl, sym, ◌∙◌, ap, not, ◌+◌, ◌<◌}
 use Rattle.std.proofs.Common.{length, None, arith}
 use Rattle.std.specs.Prelude.{Option}
-use Rattle.meta_reader.specs.declared.node.FileNode.{FileNode}
+use Rattle.read_metadata.specs.declared.node.FileNode.{FileNode}
 use Rattle.std.specs.Prelude.{Vec, nat_eq}
 use Rattle.std.specs.List.{list_any, position_or_len}
 use Rattle.std.specs.Cmp.Lexicographic.{pointwise}

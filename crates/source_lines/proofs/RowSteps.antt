@@ -5,10 +5,10 @@ use Rattle.std.proofs.Common.{◌≡◌, ◌+◌, ◌≤◌, ◌<◌, Bool, true
 use Rattle.std.proofs.Common.{None, suc, subst}
 use Rattle.std.specs.Prelude.{Option}
 use Rattle.dwarf_line.specs.declared.table.Row.{Row}
-use Rattle.meta_reader.specs.Maps.{Maps}
+use Rattle.read_metadata.specs.Maps.{Maps}
 use Rattle.mir_func.specs.declared.block.Block.{Block}
 use Rattle.mir_func.specs.declared.location.Loc.{Loc}
-use Rattle.code_words.specs.declared.code.Entry.{Entry}
+use Rattle.emit_code.specs.declared.code.Entry.{Entry}
 use Rattle.source_lines.specs.declared.file.SourceFile.{SourceFile}
 use Rattle.source_lines.specs.declared.places.Places.{Places}
 use Rattle.source_lines.specs.Files.{with_new, first_uses, is_file, unit_in}

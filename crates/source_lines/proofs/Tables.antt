@@ -5,9 +5,9 @@ use Rattle.std.proofs.Common.{◌≡◌, ℕ, suc, ◌+◌, ◌*◌, ◌≤◌, 
 use Rattle.std.proofs.Common.{append_assoc, append-nil, subst}
 use Rattle.std.specs.List.{flat_map}
 use Rattle.dwarf_line.specs.declared.table.Sequence.{Sequence}
-use Rattle.meta_reader.specs.Maps.{Maps}
-use Rattle.code_words.specs.declared.code.Entry.{Entry}
-use Rattle.code_words.specs.Laid.{StandFrom}
+use Rattle.read_metadata.specs.Maps.{Maps}
+use Rattle.emit_code.specs.declared.code.Entry.{Entry}
+use Rattle.emit_code.specs.Laid.{StandFrom}
 use Rattle.source_lines.specs.declared.compiled.Compiled.{Compiled}
 use Rattle.source_lines.specs.declared.file.SourceFile.{SourceFile}
 use Rattle.dwarf_line.specs.declared.table.FileEntry.{FileEntry}

@@ -5,9 +5,9 @@ use Rattle.dwarf_info.specs.Entries.{named}
 use Rattle.std.specs.Cmp.Lexicographic.{pointwise}
 use Rattle.std.specs.Option.{option_and_then}
 use Rattle.dwarf_line.specs.declared.table.FileEntry.{FileEntry}
-use Rattle.meta_reader.specs.Maps.{Maps}
-use Rattle.meta_reader.specs.Metadata.{file_of_scope_at, subprogram_at}
-use Rattle.meta_reader.specs.declared.node.FileNode.{FileNode}
+use Rattle.read_metadata.specs.Maps.{Maps}
+use Rattle.read_metadata.specs.Metadata.{file_of_scope_at, subprogram_at}
+use Rattle.read_metadata.specs.declared.node.FileNode.{FileNode}
 use Rattle.source_lines.specs.declared.file.SourceFile.{SourceFile}
 
 -- the file that a DIFile node names

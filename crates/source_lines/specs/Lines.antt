@@ -1,9 +1,9 @@
 -- From which file, line and column of the source the code at a position comes.
 use Rattle.std.specs.Prelude.{ℕ, List, [], ◌∷◌, drop, Option, Some, None, cond, nat_eq}
 use Rattle.std.specs.Option.{option_and_then}
-use Rattle.meta_reader.specs.Maps.{Maps}
-use Rattle.meta_reader.specs.Metadata.{location_at, file_of_scope_at}
-use Rattle.meta_reader.specs.declared.node.LocationNode.{LocationNode}
+use Rattle.read_metadata.specs.Maps.{Maps}
+use Rattle.read_metadata.specs.Metadata.{location_at, file_of_scope_at}
+use Rattle.read_metadata.specs.declared.node.LocationNode.{LocationNode}
 use Rattle.mir_func.specs.declared.block.Block.{Block}
 use Rattle.mir_func.specs.declared.item.Item.{Item}
 use Rattle.mir_func.specs.declared.item.ItemKind.{ItemKind}

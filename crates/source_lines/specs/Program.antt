@@ -4,7 +4,7 @@ use Rattle.std.specs.List.{flat_map}
 use Rattle.dwarf_line.specs.declared.table.Row.{Row}
 use Rattle.dwarf_line.specs.declared.table.Sequence.{Sequence}
 use Rattle.dwarf_line.specs.declared.table.LineTable.{LineTable}
-use Rattle.meta_reader.specs.Maps.{Maps}
+use Rattle.read_metadata.specs.Maps.{Maps}
 use Rattle.source_lines.specs.declared.compiled.Compiled.{Compiled}
 use Rattle.source_lines.specs.declared.file.SourceFile.{SourceFile}
 use Rattle.source_lines.specs.Files.{unit_file, files_of, dirs_of, entries_of}

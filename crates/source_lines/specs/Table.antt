@@ -1,12 +1,12 @@
 -- The line number table of a program.
 use Rattle.std.specs.Prelude.{ℕ, ◌&&◌, Bool, false, cond, List, [], ◌∷◌, map, Option, Some, None, nat_eq}
 use Rattle.dwarf_line.specs.declared.table.Row.{Row}
-use Rattle.meta_reader.specs.Maps.{Maps}
+use Rattle.read_metadata.specs.Maps.{Maps}
 use Rattle.source_lines.specs.declared.file.SourceFile.{SourceFile}
 use Rattle.source_lines.specs.Files.{number_in}
 use Rattle.source_lines.specs.Lines.{SourceLine, line_of}
 use Rattle.mir_func.specs.declared.block.Block.{Block}
-use Rattle.code_words.specs.declared.code.Entry.{Entry}
+use Rattle.emit_code.specs.declared.code.Entry.{Entry}
 
 -- the row of a place in the source, at an address
 abbrev pub row_of_line : List SourceFile → ℕ → SourceLine → Row

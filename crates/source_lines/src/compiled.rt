@@ -1,6 +1,6 @@
 //! Functions with their machine code.
 
-use code_words::code::Code;
+use emit_code::code::Code;
 use mir_func::func::Func;
 
 /// A function as it was read, and its machine code.

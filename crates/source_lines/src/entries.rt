@@ -6,7 +6,7 @@ ghost use Rattle.source_lines.specs.steps.Seen.{seen};
 
 use crate::names::Names;
 use dwarf_line::table::{FileEntries, FileEntry, NameList};
-use lists::List;
+use base_list::List;
 use std::alloc::{AllocError, Global};
 
 /// Directories, and files that have them.

@@ -2,11 +2,11 @@
 
 ghost use Rattle.std.specs.Prelude.{◌≡◌, ◌+◌, ◌-◌, ◌<◌, ◌≤◌, ◌^◌, ◌++◌, List, length, All, OnOk, IfOk};
 ghost use Rattle.dwarf_line.specs.Table.{HasNames, IsSequence};
-ghost use Rattle.code_words.specs.Laid.{StandFrom};
+ghost use Rattle.emit_code.specs.Laid.{StandFrom};
 ghost use Rattle.source_lines.specs.declared.file.SourceFile.{SourceFile};
 ghost use Rattle.source_lines.specs.Files.{first_uses, is_file, unit_in};
 ghost use Rattle.source_lines.specs.Program.{MAX_FUNCTIONS, function_uses, sequences_of, function_end, table_of};
-ghost use Rattle.code_words.specs.Counts.{MAX_WORDS};
+ghost use Rattle.emit_code.specs.Counts.{MAX_WORDS};
 
 use crate::compiled::Compiled;
 use crate::entries::Entries;
@@ -15,7 +15,7 @@ use crate::places::Places;
 use crate::rows::rows;
 use crate::unit_file::unit_file;
 use dwarf_line::table::{LineTable, Sequence, Sequences};
-use meta_reader::metadata::Metadata;
+use read_metadata::metadata::Metadata;
 use std::alloc::{AllocError, Global};
 
 /// The line number table of functions in the order of the text (DWARF 5, section 6.2), with a sequence for each that

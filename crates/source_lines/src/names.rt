@@ -59,7 +59,7 @@ fn list(alloc: Global, keys: &[Vec<u8>]) -> Result<NameList, AllocError>
 {
     let mut names = NameList::new(alloc);
     for key in keys {
-        names.push(lists::List::from_slice(alloc, key.as_slice())?)?;
+        names.push(base_list::List::from_slice(alloc, key.as_slice())?)?;
     }
     Ok(names)
 }

@@ -2,7 +2,7 @@
 
 ghost use Rattle.std.specs.Prelude.{◌≡◌, ◌+◌, ◌-◌, ◌<◌, ◌≤◌, ◌^◌, ◌++◌, List, length, None, OnOk, IfOk};
 ghost use Rattle.std.specs.Option.{option_copied, option_and_then};
-ghost use Rattle.meta_reader.specs.Metadata.{file_of_scope_at};
+ghost use Rattle.read_metadata.specs.Metadata.{file_of_scope_at};
 ghost use Rattle.mir_func.specs.declared.block.Block.{Block};
 ghost use Rattle.source_lines.specs.declared.file.SourceFile.{SourceFile};
 ghost use Rattle.source_lines.specs.Files.{number_in, with_new, first_uses, is_file, unit_in};
@@ -13,13 +13,13 @@ ghost use Rattle.source_lines.specs.steps.Places.{ArePlaces};
 use crate::file::Files;
 use crate::places::Places;
 use crate::scope_line::scope_line;
-use code_words::code::Entry;
+use emit_code::code::Entry;
 use dwarf_info::entry::text_of;
 use dwarf_line::table::{Row, RowList};
-use meta_reader::metadata::Metadata;
-use meta_reader::node::FileNode;
+use read_metadata::metadata::Metadata;
+use read_metadata::node::FileNode;
 use mir_func::location::Loc;
-use numbers::metadata::NodeId;
+use base_ids::metadata::NodeId;
 use std::alloc::{AllocError, Global};
 
 /// The file of a scope.

@@ -3,10 +3,10 @@
 ghost use Rattle.std.specs.Prelude.{◌≡◌, Some};
 ghost use Rattle.source_lines.specs.Lines.{no_line, node_line, scope_line};
 
-use meta_reader::metadata::Metadata;
-use meta_reader::node::LocationNode;
+use read_metadata::metadata::Metadata;
+use read_metadata::node::LocationNode;
 use mir_func::location::Loc;
-use numbers::metadata::NodeId;
+use base_ids::metadata::NodeId;
 
 /// What a debug location says.
 #[derive(Clone, Copy, Debug, PartialEq, Eq)]

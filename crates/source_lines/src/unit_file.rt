@@ -2,16 +2,16 @@
 
 ghost use Rattle.std.specs.Prelude.{◌≡◌, IfOk};
 ghost use Rattle.std.specs.Option.{option_copied};
-ghost use Rattle.meta_reader.specs.declared.node.FileNode.{FileNode};
+ghost use Rattle.read_metadata.specs.declared.node.FileNode.{FileNode};
 ghost use Rattle.source_lines.specs.Files.{no_file, file_of_node, function_file};
 ghost use Rattle.source_lines.specs.Program.{program_file};
 
 use crate::compiled::Compiled;
 use crate::file::SourceFile;
 use dwarf_info::entry::text_of;
-use lists::List;
-use meta_reader::metadata::Metadata;
-use meta_reader::node::FileNode;
+use base_list::List;
+use read_metadata::metadata::Metadata;
+use read_metadata::node::FileNode;
 use rv64_instr::name::Name;
 use std::alloc::{AllocError, Global};
 

@@ -5,9 +5,9 @@ use Rattle.mir_func.specs.declared.block.Block.{Block}
 use Rattle.mir_func.specs.Function.{Function}
 use Rattle.mir_func.specs.Graph.{program_of, block_start}
 use Rattle.mir_func.specs.Strip.{stripped_blocks, stripped}
-use Rattle.mir_meaning.specs.Follow.{first_of}
-use Rattle.mir_meaning.specs.Live.{Live}
-use Rattle.live_flow.proofs.Stripped.{live_stripped}
+use Rattle.sem_mir.specs.Follow.{first_of}
+use Rattle.sem_mir.specs.Live.{Live}
+use Rattle.pass_liveness.proofs.Stripped.{live_stripped}
 use Rattle.spill_rule.specs.Rule.{IsLiveIn}
 use Rattle.spill_alive.specs.Alive.{AliveAlike, AliveBare}
 

@@ -20,20 +20,20 @@ use Rattle.mir_func.specs.Function.{Function}
 use Rattle.mir_func.specs.Graph.{Program, Here, program_of, block_start, Leads}
 use Rattle.mir_func.specs.Resolve.{resolve}
 use Rattle.mir_func.specs.Sound.{AllItems, IsSound}
-use Rattle.mir_meaning.specs.State.{State}
-use Rattle.mir_meaning.specs.Align.{Count, ByItems, ByEnds}
-use Rattle.mir_meaning.specs.Follow.{first_of, Among, none, left, InOrder, next_rank, rank, KindFits, MarkFits, OnRow, Counts, GoesTo, IsMetApart}
-use Rattle.mir_meaning.specs.Follow.{Shape, Follows}
-use Rattle.mir_meaning.specs.Follow.{IsEnd, KindsEndAlike, EndIsKept, EndComesFrom, HasWholeEnds, IsStart}
-use Rattle.mir_meaning.specs.Follow.Among.{same as still}
-use Rattle.follow_law.specs.Change.{change}
-use Rattle.follow_law.specs.Following.{Source, FollowsSource, EndsAsSource, KeepsFollowing}
-use Rattle.follow_law.specs.Rule.{item, item_before, first_operand}
-use Rattle.follow_law.specs.Sizes.{greatest_number}
+use Rattle.sem_mir.specs.State.{State}
+use Rattle.sem_mir.specs.Align.{Count, ByItems, ByEnds}
+use Rattle.sem_mir.specs.Follow.{first_of, Among, none, left, InOrder, next_rank, rank, KindFits, MarkFits, OnRow, Counts, GoesTo, IsMetApart}
+use Rattle.sem_mir.specs.Follow.{Shape, Follows}
+use Rattle.sem_mir.specs.Follow.{IsEnd, KindsEndAlike, EndIsKept, EndComesFrom, HasWholeEnds, IsStart}
+use Rattle.sem_mir.specs.Follow.Among.{same as still}
+use Rattle.pass_trait.specs.Change.{change}
+use Rattle.pass_trait.specs.Following.{Source, FollowsSource, EndsAsSource, KeepsFollowing}
+use Rattle.pass_trait.specs.Rule.{item, item_before, first_operand}
+use Rattle.pass_trait.specs.Sizes.{greatest_number}
 use Rattle.spill_code.specs.declared.spilling.Spilling.{Spilling}
-use Rattle.spill_marks.specs.Asked.{blocks_asked, asked}
-use Rattle.spill_marks.specs.Laws.{AreBelow}
-use Rattle.spill_marks.proofs.AskedSound.{asked_is_sound}
+use Rattle.spill_debug.specs.Asked.{blocks_asked, asked}
+use Rattle.spill_debug.specs.Laws.{AreBelow}
+use Rattle.spill_debug.proofs.AskedSound.{asked_is_sound}
 use Rattle.spill_asked.specs.Follows.{AskedFollows}
 use Rattle.spill_asked.proofs.Low.{Low, LowEntries, low_function, low_number}
 use Rattle.spill_asked.proofs.Put.{blocks_put, with_phis}

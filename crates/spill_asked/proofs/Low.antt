@@ -15,9 +15,9 @@ use Rattle.mir_func.specs.declared.variable.MarkValue.TheVariants.{Nothing, Cons
 use Rattle.mir_func.specs.Function.{Function}
 use Rattle.mir_func.specs.Resolve.{is_pair, entry_of, Ends, at, by, resolve}
 use Rattle.mir_func.specs.Sound.{items_of, AllItems, number_of}
-use Rattle.substitution.proofs.Chains.{resolve_ends, ends_resolve}
-use Rattle.follow_law.specs.Sizes.{greatest, numbers_of, numbers_in, greatest_number}
-use Rattle.salvage.proofs.Greatest.{greatest_append}
+use Rattle.mir_substitution.proofs.Chains.{resolve_ends, ends_resolve}
+use Rattle.pass_trait.specs.Sizes.{greatest, numbers_of, numbers_in, greatest_number}
+use Rattle.pass_salvage.proofs.Greatest.{greatest_append}
 
 -- the number that an item gives or asks for is below k
 abbrev pub Low : ℕ → ItemKind → Type 0

@@ -18,9 +18,9 @@ use Rattle.mir_func.specs.declared.variable.MarkValue.TheVariants.{At, Pair}
 use Rattle.mir_func.specs.declared.variable.VarId.{VarId}
 use Rattle.mir_func.specs.Graph.{Program, Fetch, Here, Silent, Outside, below, block_start, end_of, front, fetch_in, from_block, program_of}
 use Rattle.mir_func.specs.Graph.{FetchEdge, Edge, Leads, stay, go}
-use Rattle.mir_meaning.specs.Align.{is_code}
-use Rattle.mir_meaning.specs.Follow.{OnRow, KindsEndAlike}
-use Rattle.follow_law.specs.Rule.{item, item_before, first_operand}
+use Rattle.sem_mir.specs.Align.{is_code}
+use Rattle.sem_mir.specs.Follow.{OnRow, KindsEndAlike}
+use Rattle.pass_trait.specs.Rule.{item, item_before, first_operand}
 use Rattle.spill_asked.proofs.Remarked.{Reasks, no_items, same, asks, BlocksReask, over, further}
 
 -- what stands at a place, before and after

@@ -14,12 +14,12 @@ use Rattle.mir_func.specs.declared.variable.MarkValue.TheVariants.{Nothing, Cons
 use Rattle.mir_func.specs.declared.variable.VarId.{VarId}
 use Rattle.mir_func.specs.Function.{Function}
 use Rattle.mir_func.specs.Sound.{AllItems, ids_of, OriginIn, TargetsIn, SlotsIn, ObjectsIn, LeavesPointer, IsSound}
-use Rattle.follow_law.specs.Rule.{item, item_before, first_operand}
+use Rattle.pass_trait.specs.Rule.{item, item_before, first_operand}
 use Rattle.spill_code.specs.declared.spilling.Spilling.{Spilling}
 use Rattle.spill_code.specs.Rewrite.{slot_of}
-use Rattle.spill_marks.specs.Asked.{mark_asked, kind_asked, next_number, number_behind, items_asked, blocks_asked, asked}
-use Rattle.spill_marks.proofs.AskedSound.{low_next}
-use Rattle.spill_marks.proofs.Grown.{IsExtra, IsLike, Grown, none, grows, BlocksGrow, no_blocks, next_block, sound_grown}
+use Rattle.spill_debug.specs.Asked.{mark_asked, kind_asked, next_number, number_behind, items_asked, blocks_asked, asked}
+use Rattle.spill_debug.proofs.AskedSound.{low_next}
+use Rattle.spill_debug.proofs.Grown.{IsExtra, IsLike, Grown, none, grows, BlocksGrow, no_blocks, next_block, sound_grown}
 use Rattle.spill_asked.proofs.Put.{mark_put, kind_put, items_put, blocks_put, with_phis, behind_low}
 
 module _ (least : ℕ) where

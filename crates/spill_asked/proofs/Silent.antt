@@ -12,24 +12,24 @@ use Rattle.mir_func.specs.Function.{Function}
 use Rattle.mir_func.specs.Graph.{Program, program_of}
 use Rattle.mir_func.specs.Resolve.{resolve}
 use Rattle.mir_func.specs.Sound.{AllItems, IsSound}
-use Rattle.mir_meaning.specs.State.{Core}
-use Rattle.mir_meaning.specs.Step.{do_item, pair_value}
-use Rattle.mir_meaning.specs.Effects.{EndAlike, FallsInto}
-use Rattle.mir_meaning.specs.Align.{is_code}
-use Rattle.mir_meaning.specs.Follow.{OnRow, Counts, MarkFits}
-use Rattle.mir_meaning.proofs.Outcomes.{alike_weaker}
-use Rattle.simulation.specs.Sides.{OutcomesAlike}
-use Rattle.simulation.proofs.Outcomes.{alike_of}
-use Rattle.follow_law.specs.Change.{change}
-use Rattle.follow_law.specs.Following.{KeepsFollowing}
-use Rattle.held_alike.specs.Alike.{Alike, TellsNoMore, HeldAfter, OrDefined, NumbersHeld, Depends}
-use Rattle.held_alike.proofs.Held.{held_fewer, held_itself}
-use Rattle.held_alike.proofs.Told.{tells_itself}
-use Rattle.held_alike.proofs.Items.{item_both, mark_both, phi_both, phi_second}
-use Rattle.held_alike.proofs.Views.{shows_alike}
-use Rattle.salvage.proofs.NumberOff.{Everywhere}
-use Rattle.salvage.proofs.EditRuns.{Keeps}
-use Rattle.salvage.proofs.EditFollows.{Allows, follows_edited}
+use Rattle.sem_mir.specs.State.{Core}
+use Rattle.sem_mir.specs.Step.{do_item, pair_value}
+use Rattle.sem_mir.specs.Effects.{EndAlike, FallsInto}
+use Rattle.sem_mir.specs.Align.{is_code}
+use Rattle.sem_mir.specs.Follow.{OnRow, Counts, MarkFits}
+use Rattle.sem_mir.proofs.Outcomes.{alike_weaker}
+use Rattle.sem_simulation.specs.Sides.{OutcomesAlike}
+use Rattle.sem_simulation.proofs.Outcomes.{alike_of}
+use Rattle.pass_trait.specs.Change.{change}
+use Rattle.pass_trait.specs.Following.{KeepsFollowing}
+use Rattle.sem_agreement.specs.Alike.{Alike, TellsNoMore, HeldAfter, OrDefined, NumbersHeld, Depends}
+use Rattle.sem_agreement.proofs.Held.{held_fewer, held_itself}
+use Rattle.sem_agreement.proofs.Told.{tells_itself}
+use Rattle.sem_agreement.proofs.Items.{item_both, mark_both, phi_both, phi_second}
+use Rattle.sem_agreement.proofs.Views.{shows_alike}
+use Rattle.pass_salvage.proofs.NumberOff.{Everywhere}
+use Rattle.pass_salvage.proofs.EditRuns.{Keeps}
+use Rattle.pass_salvage.proofs.EditFollows.{Allows, follows_edited}
 use Rattle.spill_code.specs.declared.spilling.Spilling.{Spilling}
 use Rattle.spill_asked.proofs.Low.{Low, LowEntries, resolve_low}
 use Rattle.spill_asked.proofs.Put.{with_phis, IsPut, same, silent_mark, silent_phi, IsPhi, puts, put_edits, blocks_edited}

@@ -14,13 +14,13 @@ use Rattle.mir_func.specs.declared.variable.MarkValue.TheVariants.{Nothing, Cons
 use Rattle.mir_func.specs.declared.variable.VarId.{VarId}
 use Rattle.mir_func.specs.Graph.{Program, Fetch, Here, Silent, Outside, below, block_start, program_of}
 use Rattle.mir_func.specs.Resolve.{resolve}
-use Rattle.mir_meaning.specs.State.{Core, State, updated}
-use Rattle.mir_meaning.specs.Step.{Outcome, Falls, Goes, Gives, Traps, Asks, Breaks, Next, Went, Returned, Faulted, seen, pair_value, part_of}
-use Rattle.mir_meaning.specs.Step.{do_item, do_fetch, moved, step}
-use Rattle.mir_meaning.specs.Align.{Station, Count, station_at, fetch_station, IsOrigin, AnyOrigin, Along, begin, other, met, Agrees, Since, Aligns}
-use Rattle.mir_meaning.specs.Align.{FailsBefore, RunsAlong}
-use Rattle.mir_meaning.proofs.Places.{updated_same}
-use Rattle.follow_law.specs.Rule.{item, item_before, first_operand}
+use Rattle.sem_mir.specs.State.{Core, State, updated}
+use Rattle.sem_mir.specs.Step.{Outcome, Falls, Goes, Gives, Traps, Asks, Breaks, Next, Went, Returned, Faulted, seen, pair_value, part_of}
+use Rattle.sem_mir.specs.Step.{do_item, do_fetch, moved, step}
+use Rattle.sem_mir.specs.Align.{Station, Count, station_at, fetch_station, IsOrigin, AnyOrigin, Along, begin, other, met, Agrees, Since, Aligns}
+use Rattle.sem_mir.specs.Align.{FailsBefore, RunsAlong}
+use Rattle.sem_mir.proofs.Places.{updated_same}
+use Rattle.pass_trait.specs.Rule.{item, item_before, first_operand}
 use Rattle.spill_asked.proofs.Low.{LowEntries, resolve_high}
 use Rattle.spill_asked.proofs.Remarked.{BlocksReask}
 use Rattle.spill_asked.proofs.Reasked.{FetchLike, alike, mark_asks, has_register_mark, IsAbove, fetch_like, start_same, stands_above}

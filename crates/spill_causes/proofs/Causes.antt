@@ -11,18 +11,18 @@ use Rattle.mir_func.specs.declared.item.ItemKind.TheVariants.{Code, Mark, Phi}
 use Rattle.mir_func.specs.declared.position.Pos.{Pos}
 use Rattle.mir_func.specs.declared.variable.MarkValue.TheVariants.{Nothing, Constant, At, Pair}
 use Rattle.mir_func.specs.Function.{Function}
-use Rattle.mir_meaning.specs.Align.{position_of}
-use Rattle.follow_law.specs.declared.loss.Loss.{Loss}
-use Rattle.follow_law.specs.declared.loss.Lost.TheVariants as lost
-use Rattle.follow_law.specs.declared.loss.Reason.TheVariants.{NoScratch, CallNamed, EntryLoop}
-use Rattle.follow_law.specs.Causes.{is_named, scratch_of, AsksFor, IsLostWith, HasNewSlot, HasCause, taken_as_scratch}
-use Rattle.follow_law.specs.Change.{Change}
-use Rattle.follow_law.specs.Rule.{StandsAt}
+use Rattle.sem_mir.specs.Align.{position_of}
+use Rattle.pass_trait.specs.declared.loss.Loss.{Loss}
+use Rattle.pass_trait.specs.declared.loss.Lost.TheVariants as lost
+use Rattle.pass_trait.specs.declared.loss.Reason.TheVariants.{NoScratch, CallNamed, EntryLoop}
+use Rattle.pass_trait.specs.Causes.{is_named, scratch_of, AsksFor, IsLostWith, HasNewSlot, HasCause, taken_as_scratch}
+use Rattle.pass_trait.specs.Change.{Change}
+use Rattle.pass_trait.specs.Rule.{StandsAt}
 use Rattle.spill_code.specs.declared.spilling.Home.{Home}
 use Rattle.spill_code.specs.declared.spilling.Spilling.{Spilling}
 use Rattle.spill_code.specs.Rewrite.{slot_of}
-use Rattle.spill_marks.specs.Asked.{is_scratch}
-use Rattle.spill_marks.specs.Lost.{LosesScratch, is_silent}
+use Rattle.spill_debug.specs.Asked.{is_scratch}
+use Rattle.spill_debug.specs.Lost.{LosesScratch, is_silent}
 use Rattle.spill_rule.specs.Choice.{lacks_scratch, is_bound, is_looped, reason_of, is_free, candidates, room, chosen, next_slot, homes_from, homes_of}
 use Rattle.spill_rule.specs.Choice.{first_scratch, second_scratch, spilling_of, entry_of}
 use Rattle.spill_rule.specs.Rule.{Decides}

@@ -21,16 +21,16 @@ use Rattle.mir_func.specs.Graph.{program_of}
 use Rattle.mir_func.specs.Limits.{MAX_SLOTS}
 use Rattle.mir_func.specs.Resolve.{resolve}
 use Rattle.mir_func.specs.Sound.{IsSound, items_of}
-use Rattle.mir_meaning.specs.Align.{position_of}
-use Rattle.mir_meaning.specs.Follow.{first_of, OnRow, GoesTo}
-use Rattle.mir_meaning.specs.Live.{Live, used, later}
-use Rattle.follow_law.specs.declared.loss.Reason.{Reason}
-use Rattle.follow_law.specs.declared.loss.Reason.TheVariants.{Removed, WrongPlace, Scratch, Bypassed, Unreachable, NoScratch, CallNamed, EntryLoop, NoSlot}
-use Rattle.follow_law.specs.Causes.{names, is_named, scratch_of, Prevents, IsFirstCause}
-use Rattle.follow_law.specs.Change.{Change}
-use Rattle.follow_law.specs.Order.{reason_rank}
-use Rattle.follow_law.specs.Rule.{Rule}
-use Rattle.follow_law.specs.Sizes.{calls}
+use Rattle.sem_mir.specs.Align.{position_of}
+use Rattle.sem_mir.specs.Follow.{first_of, OnRow, GoesTo}
+use Rattle.sem_mir.specs.Live.{Live, used, later}
+use Rattle.pass_trait.specs.declared.loss.Reason.{Reason}
+use Rattle.pass_trait.specs.declared.loss.Reason.TheVariants.{Removed, WrongPlace, Scratch, Bypassed, Unreachable, NoScratch, CallNamed, EntryLoop, NoSlot}
+use Rattle.pass_trait.specs.Causes.{names, is_named, scratch_of, Prevents, IsFirstCause}
+use Rattle.pass_trait.specs.Change.{Change}
+use Rattle.pass_trait.specs.Order.{reason_rank}
+use Rattle.pass_trait.specs.Rule.{Rule}
+use Rattle.pass_trait.specs.Sizes.{calls}
 use Rattle.spill_code.specs.declared.spilling.Home.{Home}
 use Rattle.spill_code.specs.Rewrite.{slot_of}
 use Rattle.spill_rule.specs.Choice.{is_added, binds, is_bound, row_goes, goes, is_looped, lacks_scratch, reason_of, is_free, candidates, room, chosen}

@@ -12,9 +12,9 @@ use Rattle.mir_func.specs.declared.position.Pos.{Pos}
 use Rattle.mir_func.specs.Function.{Function}
 use Rattle.mir_func.specs.Graph.{fetch_in}
 use Rattle.mir_func.specs.Sound.{AreApart, ids_of, items_of}
-use Rattle.mir_meaning.proofs.Reading.{found, item_front}
-use Rattle.follow_law.specs.Rule.{StandsAt}
-use Rattle.spill_runs.proofs.Places.{stands_at, contains_at}
+use Rattle.sem_mir.proofs.Reading.{found, item_front}
+use Rattle.pass_trait.specs.Rule.{StandsAt}
+use Rattle.spill_simulation.proofs.Places.{stands_at, contains_at}
 
 -- ---- tests of lists
 

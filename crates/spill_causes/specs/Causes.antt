@@ -4,10 +4,10 @@ use Rattle.mir_func.specs.declared.entry.Entry.{Entry}
 use Rattle.mir_func.specs.declared.position.Pos.{Pos}
 use Rattle.mir_func.specs.Function.{Function}
 use Rattle.mir_func.specs.Sound.{IsSound}
-use Rattle.follow_law.specs.declared.loss.Loss.{Loss}
-use Rattle.follow_law.specs.declared.loss.Reason.{Reason}
-use Rattle.follow_law.specs.Causes.{HasCause, IsFirstCause}
-use Rattle.follow_law.specs.Change.{Change, change}
+use Rattle.pass_trait.specs.declared.loss.Loss.{Loss}
+use Rattle.pass_trait.specs.declared.loss.Reason.{Reason}
+use Rattle.pass_trait.specs.Causes.{HasCause, IsFirstCause}
+use Rattle.pass_trait.specs.Change.{Change, change}
 use Rattle.spill_rule.specs.Rule.{Decides}
 use Rattle.spill_whole.specs.Whole.{whole}
 use Rattle.spill_step.specs.Step.{spill_debug}

@@ -2,11 +2,11 @@
 use Rattle.std.specs.Prelude.{ℕ, List, Option, Some, None, Bool, cond, ◌&&◌}
 use Rattle.std.specs.List.{filter_map}
 use Rattle.mir_func.specs.Function.{Function}
-use Rattle.follow_law.specs.declared.loss.Loss.{Loss}
-use Rattle.follow_law.specs.declared.loss.Reason.{Reason}
-use Rattle.follow_law.specs.declared.loss.Reason.TheVariants.{NoScratch, CallNamed, EntryLoop, NoSlot}
-use Rattle.follow_law.specs.Causes.{is_named}
-use Rattle.follow_law.specs.Rule.{register_lost}
+use Rattle.pass_trait.specs.declared.loss.Loss.{Loss}
+use Rattle.pass_trait.specs.declared.loss.Reason.{Reason}
+use Rattle.pass_trait.specs.declared.loss.Reason.TheVariants.{NoScratch, CallNamed, EntryLoop, NoSlot}
+use Rattle.pass_trait.specs.Causes.{is_named}
+use Rattle.pass_trait.specs.Rule.{register_lost}
 use Rattle.spill_code.specs.declared.spilling.Home.{Home}
 use Rattle.spill_code.specs.Rewrite.{slot_of}
 use Rattle.spill_rule.specs.Choice.{is_bound, reason_of, homes_of}

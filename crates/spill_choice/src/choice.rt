@@ -2,8 +2,8 @@
 
 ghost use Rattle.std.specs.Prelude.{◌≡◌, ◌<◌, ◌+◌, ◌^◌, ◌&&◌, length, max, IfOk};
 ghost use Rattle.mir_func.specs.Limits.{MAX_SLOTS};
-ghost use Rattle.follow_law.specs.Causes.{is_named};
-ghost use Rattle.follow_law.specs.Sizes.{greatest};
+ghost use Rattle.pass_trait.specs.Causes.{is_named};
+ghost use Rattle.pass_trait.specs.Sizes.{greatest};
 ghost use Rattle.spill_rule.specs.Choice.{is_bound, is_looped, lacks_scratch, is_free, candidates, room};
 ghost use Rattle.spill_rule.specs.Choice.{chosen, next_slot};
 ghost use Rattle.spill_rule.specs.Choice.{homes_from, spilling_of, entry_of, reason_of};
@@ -12,10 +12,10 @@ ghost use Rattle.spill_choice.specs.Left.{first_reason};
 
 use crate::among::is_among;
 use crate::scratch::{first_scratch, scratch_of, second_scratch};
-use follow_law::loss::Reason;
+use pass_trait::loss::Reason;
 use mir_func::func::Func;
 use mir_func::limits::MAX_SLOTS;
-use numbers::code::SlotId;
+use base_ids::code::SlotId;
 use rv64_instr::reg::{Reg, Registers};
 use spill_code::spilling::{Home, Homes, Spilling};
 use spill_rule::named::{is_bound, is_looped, is_named};

@@ -1,14 +1,14 @@
 //! Registers of a reserve that aren't spilled, and why.
 
 ghost use Rattle.std.specs.Prelude.{◌≡◌, ◌&&◌, cond, None, IfOk};
-ghost use Rattle.follow_law.specs.Causes.{is_named};
+ghost use Rattle.pass_trait.specs.Causes.{is_named};
 ghost use Rattle.spill_code.specs.Rewrite.{slot_of};
 ghost use Rattle.spill_rule.specs.Choice.{is_bound, homes_of};
 ghost use Rattle.spill_choice.specs.Incoming.{is_among};
 ghost use Rattle.spill_choice.specs.Left.{first_reason, or_no_slot, why_left, registers_left};
 
 use crate::choice::{Facts, lacks_scratch, reason_of};
-use follow_law::loss::{Loss, Losses, Lost, Reason};
+use pass_trait::loss::{Loss, Losses, Lost, Reason};
 use mir_func::func::Func;
 use rv64_instr::reg::Reg;
 use spill_code::spilling::{Home, slot_of};

@@ -1,7 +1,7 @@
 //! Scratch registers.
 
 ghost use Rattle.std.specs.Prelude.{◌≡◌, ◌<◌, ◌∷◌, [], filter, not, IfOk};
-ghost use Rattle.follow_law.specs.Causes.{is_named, scratch_of};
+ghost use Rattle.pass_trait.specs.Causes.{is_named, scratch_of};
 ghost use Rattle.spill_rule.specs.Choice.{first_scratch, second_scratch};
 
 use mir_func::func::Func;

@@ -8,7 +8,7 @@ use crate::spilling::{Home, Spilling};
 use mir_func::item::{Item, ItemKind, Items};
 use mir_func::location::Loc;
 use mir_func::position::{Origin, Pos};
-use numbers::code::{BlockId, SlotId};
+use base_ids::code::{BlockId, SlotId};
 use rv64_instr::instr::Instr;
 use rv64_instr::op::{LoadOp, Op, StoreOp};
 use rv64_instr::operand::{Operand, Operands};

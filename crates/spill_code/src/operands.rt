@@ -5,7 +5,7 @@ ghost use Rattle.spill_code.specs.Rewrite.{slot_used, slot_defined, unless_is, f
 ghost use Rattle.spill_code.specs.Rewrite.{stand_in, use_now, set_in, def_now, renamed_operand, spilled_code};
 
 use crate::spilling::{Home, Spilling, slot_of};
-use numbers::code::SlotId;
+use base_ids::code::SlotId;
 use rv64_instr::instr::Instr;
 use rv64_instr::operand::{Operand, Operands};
 use rv64_instr::reg::Reg;

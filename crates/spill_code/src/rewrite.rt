@@ -2,7 +2,7 @@
 
 ghost use Rattle.std.specs.Prelude.{◌≡◌, ◌++◌, ◌<◌, ◌^◌, ◌+◌, IfOk, OnOk, All, Some, map, ℕ};
 ghost use Rattle.mir_func.specs.Graph.{below};
-ghost use Rattle.mir_meaning.specs.Align.{position_of};
+ghost use Rattle.sem_mir.specs.Align.{position_of};
 ghost use Rattle.spill_code.specs.Rewrite.{code_items, kind_items, spilled_item};
 ghost use Rattle.spill_code.specs.Rewrite.{spilled_items, spilled_block, first_block};
 ghost use Rattle.spill_code.specs.Rewrite.{slot_of, place_in, spilled_place, spilled_blocks, first_defined};
@@ -15,8 +15,8 @@ use mir_func::block::{Block, Blocks};
 use mir_func::item::{Item, ItemKind, Items};
 use mir_func::location::Loc;
 use mir_func::position::{Origin, Pos};
-use mir_meaning::align::position_of;
-use numbers::code::DebugNumber;
+use sem_mir::align::position_of;
+use base_ids::code::DebugNumber;
 use rv64_instr::instr::Instr;
 use rv64_instr::place::Place;
 use rv64_instr::reg::Reg;

@@ -2,12 +2,12 @@
 
 ghost use Rattle.std.specs.Prelude.{◌≡◌, filter, IfOk};
 ghost use Rattle.rv64_instr.specs.declared.place.Place.TheVariants.{Register};
-ghost use Rattle.live_flow.specs.Sets.{has};
+ghost use Rattle.pass_liveness.specs.Sets.{has};
 ghost use Rattle.spill_rule.specs.Rule.{Decides};
 ghost use Rattle.spill_choice.specs.Incoming.{is_among};
 
-use live_flow::live::Live;
-use live_flow::set::PlaceSet;
+use pass_liveness::live::Live;
+use pass_liveness::set::PlaceSet;
 use mir_func::func::Func;
 use rv64_instr::place::Place;
 use rv64_instr::reg::{Reg, Registers};

@@ -2,8 +2,8 @@
 use Rattle.std.proofs.Common.{◌≡◌, ◌↔◌, ℕ, suc, List, [], ◌∷◌, filter, take, Contains, Some, None, Bool, true, false, cond, ◌&&◌}
 use Rattle.std.proofs.Common.{refl, sym, ap, arith}
 use Rattle.mir_func.specs.Function.{Function}
-use Rattle.follow_law.specs.declared.loss.Reason.TheVariants.{NoScratch, CallNamed, EntryLoop}
-use Rattle.follow_law.specs.Causes.{is_named}
+use Rattle.pass_trait.specs.declared.loss.Reason.TheVariants.{NoScratch, CallNamed, EntryLoop}
+use Rattle.pass_trait.specs.Causes.{is_named}
 use Rattle.spill_rule.specs.Choice.{is_bound, is_looped, lacks_scratch, reason_of, is_free, candidates, room, next_slot, homes_from, homes_of}
 use Rattle.spill_rule.specs.Rule.{IsLiveIn, Decides}
 

@@ -15,16 +15,16 @@ use Rattle.mir_func.specs.declared.position.Pos.{Pos}
 use Rattle.mir_func.specs.declared.variable.MarkValue.{MarkValue}
 use Rattle.mir_func.specs.declared.variable.MarkValue.TheVariants.{Nothing, Constant, At, Pair}
 use Rattle.mir_func.specs.Function.{Function}
-use Rattle.follow_law.specs.declared.loss.Loss.{Loss}
-use Rattle.follow_law.specs.Debug.{ValueStays, PlaceStays, IsKillAt, Becomes, mark_stays, phi_stays, code_stays, code_unnumbered}
-use Rattle.follow_law.specs.Debug.{BecomeAll, over, next, added as code_added, BlocksBecome, none, stays as block_stays}
-use Rattle.follow_law.specs.Change.{Change, change}
-use Rattle.follow_law.specs.Rule.{Rule, item}
-use Rattle.follow_law.specs.Sizes.{greatest_number}
+use Rattle.pass_trait.specs.declared.loss.Loss.{Loss}
+use Rattle.pass_trait.specs.Debug.{ValueStays, PlaceStays, IsKillAt, Becomes, mark_stays, phi_stays, code_stays, code_unnumbered}
+use Rattle.pass_trait.specs.Debug.{BecomeAll, over, next, added as code_added, BlocksBecome, none, stays as block_stays}
+use Rattle.pass_trait.specs.Change.{Change, change}
+use Rattle.pass_trait.specs.Rule.{Rule, item}
+use Rattle.pass_trait.specs.Sizes.{greatest_number}
 use Rattle.spill_code.specs.declared.spilling.Home.{Home}
 use Rattle.spill_code.specs.declared.spilling.Spilling.{Spilling}
 use Rattle.spill_code.specs.Rewrite.{slot_of, spilled_item, spilled_items, spilled_block, entry_stores, spilled_blocks}
-use Rattle.spill_marks.specs.Asked.{kind_asked, next_number, number_behind, items_asked, blocks_asked}
+use Rattle.spill_debug.specs.Asked.{kind_asked, next_number, number_behind, items_asked, blocks_asked}
 use Rattle.spill_rule.specs.Choice.{homes_of, spilling_of, entry_of}
 use Rattle.spill_rule.specs.Rule.{Decides}
 use Rattle.spill_whole.specs.Whole.{spilled_by, where_spilled, whole}

@@ -17,24 +17,24 @@ use Rattle.mir_func.specs.declared.variable.MarkValue.TheVariants.{Nothing, Cons
 use Rattle.mir_func.specs.declared.variable.VarId.{VarId}
 use Rattle.mir_func.specs.Function.{Function}
 use Rattle.mir_func.specs.Graph.{Here, below}
-use Rattle.mir_meaning.specs.Align.{position_of}
-use Rattle.follow_law.specs.declared.loss.Loss.{Loss}
-use Rattle.follow_law.specs.declared.loss.Reason.{Reason}
-use Rattle.follow_law.specs.declared.loss.Reason.TheVariants.{Scratch}
-use Rattle.follow_law.specs.Change.{Change, change}
-use Rattle.follow_law.specs.Debug.{RegisterStays, Becomes, mark_stays, phi_stays, code_stays, code_unnumbered, mark_silenced, phi_silenced}
-use Rattle.follow_law.specs.Debug.{mark_spilled, phi_spilled}
-use Rattle.follow_law.specs.Debug.{BecomeAll, next, added as code_added}
-use Rattle.follow_law.specs.Rule.{Rule, item, item_before, first_operand, number_lost, mark_lost, StandsAt}
-use Rattle.follow_law.specs.Sizes.{greatest_number}
+use Rattle.sem_mir.specs.Align.{position_of}
+use Rattle.pass_trait.specs.declared.loss.Loss.{Loss}
+use Rattle.pass_trait.specs.declared.loss.Reason.{Reason}
+use Rattle.pass_trait.specs.declared.loss.Reason.TheVariants.{Scratch}
+use Rattle.pass_trait.specs.Change.{Change, change}
+use Rattle.pass_trait.specs.Debug.{RegisterStays, Becomes, mark_stays, phi_stays, code_stays, code_unnumbered, mark_silenced, phi_silenced}
+use Rattle.pass_trait.specs.Debug.{mark_spilled, phi_spilled}
+use Rattle.pass_trait.specs.Debug.{BecomeAll, next, added as code_added}
+use Rattle.pass_trait.specs.Rule.{Rule, item, item_before, first_operand, number_lost, mark_lost, StandsAt}
+use Rattle.pass_trait.specs.Sizes.{greatest_number}
 use Rattle.spill_code.specs.declared.spilling.Home.{Home}
 use Rattle.spill_code.specs.declared.spilling.Spilling.{Spilling}
 use Rattle.spill_code.specs.Rewrite.{slot_of, first_used, other_used, first_defined, spilled_code, loads, two_loads, stores, code_items, place_in}
 use Rattle.spill_code.specs.Rewrite.{spilled_place, spilled_item, spilled_items}
-use Rattle.spill_marks.specs.Asked.{is_scratch, value_left, place_left, mark_asked, kind_asked}
-use Rattle.spill_marks.specs.Lost.{LosesScratch, is_silent}
+use Rattle.spill_debug.specs.Asked.{is_scratch, value_left, place_left, mark_asked, kind_asked}
+use Rattle.spill_debug.specs.Lost.{LosesScratch, is_silent}
 use Rattle.spill_rule.specs.Choice.{homes_of, first_scratch, second_scratch, spilling_of}
-use Rattle.follow_law.specs.Causes.{scratch_of}
+use Rattle.pass_trait.specs.Causes.{scratch_of}
 use Rattle.spill_rule.specs.Rule.{Decides}
 use Rattle.spill_step.specs.Step.{AsksForHome, number_at, spill_debug}
 use Rattle.spill_items.proofs.Agree.{homes_same}

@@ -3,9 +3,9 @@ use Rattle.std.specs.Prelude.{ℕ, ◌+◌, List, Bool}
 use Rattle.mir_func.specs.declared.entry.Entry.{Entry}
 use Rattle.mir_func.specs.Function.{Function}
 use Rattle.mir_func.specs.Sound.{IsSound}
-use Rattle.follow_law.specs.Change.{change}
-use Rattle.follow_law.specs.Debug.{BlocksBecome}
-use Rattle.follow_law.specs.Sizes.{greatest_number}
+use Rattle.pass_trait.specs.Change.{change}
+use Rattle.pass_trait.specs.Debug.{BlocksBecome}
+use Rattle.pass_trait.specs.Sizes.{greatest_number}
 use Rattle.spill_rule.specs.Rule.{Decides}
 use Rattle.spill_whole.specs.Whole.{whole}
 use Rattle.spill_step.specs.Step.{spill_debug}

@@ -5,15 +5,15 @@ use Rattle.mir_func.specs.declared.entry.OperandPair.{OperandPair}
 use Rattle.mir_func.specs.Function.{Function}
 use Rattle.mir_func.specs.Resolve.{resolve}
 use Rattle.mir_func.specs.Sound.{AllItems, IsSound}
-use Rattle.follow_law.specs.Change.{change}
-use Rattle.follow_law.specs.Following.{KeepsFollowing}
+use Rattle.pass_trait.specs.Change.{change}
+use Rattle.pass_trait.specs.Following.{KeepsFollowing}
 use Rattle.spill_code.specs.declared.spilling.Home.{Home}
 use Rattle.spill_code.specs.declared.spilling.Spilling.{Spilling}
-use Rattle.spill_marks.specs.Asked.{asked}
-use Rattle.spill_marks.proofs.AskedSound.{asked_is_sound}
+use Rattle.spill_debug.specs.Asked.{asked}
+use Rattle.spill_debug.proofs.AskedSound.{asked_is_sound}
 use Rattle.spill_laws.proofs.Stripped.{asked_is_stripped}
-use Rattle.spill_runs.specs.Follows.{MaySpill}
-use Rattle.spill_runs.proofs.Following.{spilled_follows}
+use Rattle.spill_simulation.specs.Follows.{MaySpill}
+use Rattle.spill_simulation.proofs.Following.{spilled_follows}
 use Rattle.spill_sound.proofs.Sound.{spilled_is_sound}
 use Rattle.spill_rule.specs.Choice.{homes_of, spilling_of, entry_of}
 use Rattle.spill_rule.specs.Chosen.{AsksElsewhere}

@@ -3,10 +3,10 @@ use Rattle.std.specs.Prelude.{ℕ, ◌<◌, List, Contains, Bool, true, false}
 use Rattle.mir_func.specs.declared.entry.Entry.{Entry}
 use Rattle.mir_func.specs.Function.{Function}
 use Rattle.mir_func.specs.Sound.{AllItems, IsSound, HasForm}
-use Rattle.follow_law.specs.Change.{change}
-use Rattle.follow_law.specs.Following.{KeepsFollowing}
-use Rattle.follow_law.specs.Sizes.{greatest_number}
-use Rattle.spill_marks.specs.Asked.{asked}
+use Rattle.pass_trait.specs.Change.{change}
+use Rattle.pass_trait.specs.Following.{KeepsFollowing}
+use Rattle.pass_trait.specs.Sizes.{greatest_number}
+use Rattle.spill_debug.specs.Asked.{asked}
 use Rattle.spill_rule.specs.Choice.{spilling_of}
 use Rattle.spill_rule.specs.Chosen.{IsReservable, AreDistinct}
 use Rattle.spill_rule.specs.Rule.{Decides}

@@ -4,14 +4,14 @@ use Rattle.std.proofs.lemmas.List.Elements.{All-nil}
 use Rattle.mir_func.specs.declared.entry.Entry.{Entry}
 use Rattle.mir_func.specs.Function.{Function}
 use Rattle.mir_func.specs.Sound.{AllItems, IsSound, HasForm}
-use Rattle.follow_law.specs.declared.loss.Loss.{Loss}
-use Rattle.follow_law.specs.Change.{Change, change}
-use Rattle.follow_law.specs.Debug.{IsFor, KeepsItems}
-use Rattle.follow_law.specs.Following.{KeepsFollowing}
-use Rattle.follow_law.specs.Sizes.{greatest_number, KeepsSizes}
-use Rattle.follow_law.specs.Steps.{KeepsSteps}
+use Rattle.pass_trait.specs.declared.loss.Loss.{Loss}
+use Rattle.pass_trait.specs.Change.{Change, change}
+use Rattle.pass_trait.specs.Debug.{IsFor, KeepsItems}
+use Rattle.pass_trait.specs.Following.{KeepsFollowing}
+use Rattle.pass_trait.specs.Sizes.{greatest_number, KeepsSizes}
+use Rattle.pass_trait.specs.Steps.{KeepsSteps}
 use Rattle.spill_choice.specs.Left.{registers_left}
-use Rattle.spill_marks.specs.Asked.{asked}
+use Rattle.spill_debug.specs.Asked.{asked}
 use Rattle.spill_laws.proofs.Stripped.{asked_is_stripped}
 use Rattle.spill_rule.specs.Choice.{homes_of, spilling_of}
 use Rattle.spill_rule.specs.Chosen.{AreDistinct}

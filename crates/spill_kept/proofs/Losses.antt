@@ -14,16 +14,16 @@ use Rattle.mir_func.specs.declared.position.Origin.{Origin}
 use Rattle.mir_func.specs.declared.variable.MarkValue.TheVariants.{Nothing, Constant, At, Pair}
 use Rattle.mir_func.specs.Function.{Function}
 use Rattle.mir_func.specs.Sound.{IsSound, items_of}
-use Rattle.follow_law.specs.declared.loss.Loss.{Loss}
-use Rattle.follow_law.specs.declared.loss.Lost.TheVariants as lost
-use Rattle.follow_law.specs.declared.loss.Reason.{Reason}
-use Rattle.follow_law.specs.Change.{Change, change}
-use Rattle.follow_law.specs.Debug.{IsLoss}
-use Rattle.follow_law.specs.Order.{LossComesBefore, IsInOrder}
-use Rattle.follow_law.specs.Rule.{Rule, register_lost}
+use Rattle.pass_trait.specs.declared.loss.Loss.{Loss}
+use Rattle.pass_trait.specs.declared.loss.Lost.TheVariants as lost
+use Rattle.pass_trait.specs.declared.loss.Reason.{Reason}
+use Rattle.pass_trait.specs.Change.{Change, change}
+use Rattle.pass_trait.specs.Debug.{IsLoss}
+use Rattle.pass_trait.specs.Order.{LossComesBefore, IsInOrder}
+use Rattle.pass_trait.specs.Rule.{Rule, register_lost}
 use Rattle.spill_code.specs.declared.spilling.Home.{Home}
 use Rattle.spill_code.specs.declared.spilling.Spilling.{Spilling}
-use Rattle.spill_marks.specs.Lost.{LosesScratch, AreScratchLosses}
+use Rattle.spill_debug.specs.Lost.{LosesScratch, AreScratchLosses}
 use Rattle.spill_choice.specs.Left.{why_left, loss_for, registers_left}
 use Rattle.spill_rule.specs.Choice.{homes_of, spilling_of}
 use Rattle.spill_rule.specs.Rule.{Decides}

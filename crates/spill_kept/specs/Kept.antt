@@ -4,15 +4,15 @@ use Rattle.mir_func.specs.declared.block.Block.{Block}
 use Rattle.mir_func.specs.declared.entry.Entry.{Entry}
 use Rattle.mir_func.specs.Function.{Function}
 use Rattle.mir_func.specs.Sound.{AllItems, IsSound, HasForm}
-use Rattle.follow_law.specs.declared.loss.Loss.{Loss}
-use Rattle.follow_law.specs.Change.{change}
-use Rattle.follow_law.specs.Following.{KeepsFollowing}
-use Rattle.follow_law.specs.Order.{IsInOrder}
-use Rattle.follow_law.specs.Sizes.{greatest_number, KeepsSizes}
-use Rattle.follow_law.specs.Steps.{KeepsSteps}
+use Rattle.pass_trait.specs.declared.loss.Loss.{Loss}
+use Rattle.pass_trait.specs.Change.{change}
+use Rattle.pass_trait.specs.Following.{KeepsFollowing}
+use Rattle.pass_trait.specs.Order.{IsInOrder}
+use Rattle.pass_trait.specs.Sizes.{greatest_number, KeepsSizes}
+use Rattle.pass_trait.specs.Steps.{KeepsSteps}
 use Rattle.spill_code.specs.declared.spilling.Home.{Home}
 use Rattle.spill_code.specs.declared.spilling.Spilling.{Spilling}
-use Rattle.spill_marks.specs.Lost.{AreScratchLosses}
+use Rattle.spill_debug.specs.Lost.{AreScratchLosses}
 use Rattle.spill_choice.specs.Left.{registers_left}
 use Rattle.spill_rule.specs.Choice.{homes_of, spilling_of}
 use Rattle.spill_rule.specs.Chosen.{IsReservable}

@@ -4,14 +4,14 @@ use Rattle.mir_func.specs.declared.block.Block.{Block}
 use Rattle.mir_func.specs.declared.entry.Entry.{Entry}
 use Rattle.mir_func.specs.Function.{Function}
 use Rattle.mir_func.specs.Sound.{AllItems, IsSound, HasForm}
-use Rattle.follow_law.specs.declared.loss.Loss.{Loss}
-use Rattle.follow_law.specs.Order.{IsInOrder}
-use Rattle.follow_law.specs.Sizes.{greatest_number, item_count}
+use Rattle.pass_trait.specs.declared.loss.Loss.{Loss}
+use Rattle.pass_trait.specs.Order.{IsInOrder}
+use Rattle.pass_trait.specs.Sizes.{greatest_number, item_count}
 use Rattle.spill_code.specs.declared.spilling.Home.{Home}
 use Rattle.spill_code.specs.declared.spilling.Spilling.{Spilling}
 use Rattle.spill_code.specs.Room.{HaveRoom}
-use Rattle.spill_marks.specs.Asked.{number_beyond, blocks_asked}
-use Rattle.spill_marks.specs.Lost.{AreScratchLosses}
+use Rattle.spill_debug.specs.Asked.{number_beyond, blocks_asked}
+use Rattle.spill_debug.specs.Lost.{AreScratchLosses}
 use Rattle.spill_choice.specs.Left.{registers_left}
 use Rattle.spill_rule.specs.Choice.{homes_of, spilling_of, entry_of}
 use Rattle.spill_rule.specs.Rule.{Decides}

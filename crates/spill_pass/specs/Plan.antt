@@ -2,10 +2,10 @@
 use Rattle.std.specs.Prelude.{◌≡◌, ℕ, List, ◌++◌}
 use Rattle.mir_func.specs.declared.block.Block.{Block}
 use Rattle.mir_func.specs.Function.{Function}
-use Rattle.follow_law.specs.declared.loss.Loss.{Loss}
-use Rattle.follow_law.specs.Order.{IsInOrder}
+use Rattle.pass_trait.specs.declared.loss.Loss.{Loss}
+use Rattle.pass_trait.specs.Order.{IsInOrder}
 use Rattle.spill_code.specs.declared.spilling.Spilling.{Spilling}
-use Rattle.spill_marks.specs.Lost.{AreScratchLosses}
+use Rattle.spill_debug.specs.Lost.{AreScratchLosses}
 use Rattle.spill_choice.specs.Incoming.{is_among}
 use Rattle.spill_choice.specs.Left.{registers_left}
 use Rattle.spill_rule.specs.Choice.{spilling_of}

@@ -2,26 +2,26 @@
 
 ghost use Rattle.std.specs.Prelude.{◌≡◌, ◌++◌, ◌+◌, ◌<◌, ◌^◌, map, IfOk};
 ghost use Rattle.mir_func.specs.Limits.{MAX_SLOTS};
-ghost use Rattle.follow_law.specs.Sizes.{greatest};
+ghost use Rattle.pass_trait.specs.Sizes.{greatest};
 ghost use Rattle.spill_code.specs.Rewrite.{spilled_blocks};
 ghost use Rattle.spill_code.specs.Room.{HaveRoom};
-ghost use Rattle.spill_marks.specs.Asked.{number_beyond, blocks_asked};
+ghost use Rattle.spill_debug.specs.Asked.{number_beyond, blocks_asked};
 ghost use Rattle.spill_rule.specs.Choice.{entry_of};
 ghost use Rattle.spill_choice.specs.Incoming.{is_among};
 ghost use Rattle.spill_pass.specs.Plan.{IsPlan, AreAllLosses};
 
-use follow_law::loss::Losses;
+use pass_trait::loss::Losses;
 use mir_func::block::{Block, Blocks};
 use mir_func::func::{Func, SlotIds};
-use numbers::code::SlotId;
+use base_ids::code::SlotId;
 use rv64_instr::reg::{Reg, Registers};
 use spill_choice::choice::{choose, entry_of};
 use spill_choice::left::registers_left;
 use spill_code::rewrite::spilled_blocks;
 use spill_code::spilling::{Home, Spilling};
 use spill_incoming::incoming::incoming;
-use spill_marks::lost::scratch_losses;
-use spill_marks::marks::blocks_asked;
+use spill_debug::lost::scratch_losses;
+use spill_debug::marks::blocks_asked;
 use std::alloc::{AllocError, Global};
 
 /// What is spilled of a function.

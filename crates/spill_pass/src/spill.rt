@@ -3,7 +3,7 @@
 ghost use Rattle.std.specs.Prelude.{◌+◌, ◌<◌, ◌^◌, [], ◌∷◌, false, true, IfOk, OnOk};
 ghost use Rattle.mir_func.specs.Limits.{MAX_SLOTS};
 ghost use Rattle.mir_func.specs.Sound.{AllItems, IsSound, HasForm};
-ghost use Rattle.follow_law.specs.Sizes.{greatest, greatest_number, item_count};
+ghost use Rattle.pass_trait.specs.Sizes.{greatest, greatest_number, item_count};
 ghost use Rattle.spill_rule.specs.Laws.{one_spilled, same_spilled};
 ghost use Rattle.spill_step.specs.Step.{spill_step};
 ghost use Rattle.spill_kept.specs.Kept.{IsReserve, IsSpilledWithLosses};
@@ -12,14 +12,14 @@ ghost use Rattle.std.proofs.Common.{rules};
 
 use crate::plan::{blocks_in_slots, losses_of, plan_for, slots_with};
 use crate::reserve::reserve_of;
-use follow_law::loss::Losses;
-use follow_law::pass::Pass;
+use pass_trait::loss::Losses;
+use pass_trait::pass::Pass;
 use mir_func::func::Func;
 use rv64_instr::reg::{Reg, Registers};
-use salvage::fresh::fresh_number;
+use pass_salvage::fresh::fresh_number;
 use spill_kept::laws::{spilled_keeps_following, spilled_keeps_sizes, spilled_keeps_steps};
 use std::alloc::{AllocError, Global};
-use substitution::substitutions::Substitutions;
+use mir_substitution::substitutions::Substitutions;
 use type_facts::blocks::{know_forms, know_silent};
 
 /// Moves registers of a reserve to slots (LLVM: spilling), as many as there is room for. Of the registers given here

@@ -34,17 +34,17 @@ use Rattle.mir_func.specs.declared.item.ItemKind.TheVariants.{Code, Mark, Phi}
 use Rattle.mir_func.specs.Function.{Function}
 use Rattle.mir_func.specs.Graph.{Here, program_of}
 use Rattle.mir_func.specs.Sound.{items_of, HasForm}
-use Rattle.mir_meaning.specs.Follow.{first_of, OnRow, GoesTo}
-use Rattle.mir_meaning.specs.Live.{Live, used, later}
-use Rattle.follow_law.specs.declared.loss.Reason.TheVariants.{NoScratch, CallNamed, EntryLoop}
-use Rattle.follow_law.specs.Causes.{is_of_register, names, is_named, scratch_of}
-use Rattle.follow_law.specs.Sizes.{greatest, calls}
+use Rattle.sem_mir.specs.Follow.{first_of, OnRow, GoesTo}
+use Rattle.sem_mir.specs.Live.{Live, used, later}
+use Rattle.pass_trait.specs.declared.loss.Reason.TheVariants.{NoScratch, CallNamed, EntryLoop}
+use Rattle.pass_trait.specs.Causes.{is_of_register, names, is_named, scratch_of}
+use Rattle.pass_trait.specs.Sizes.{greatest, calls}
 use Rattle.spill_code.specs.declared.spilling.Home.{Home}
 use Rattle.spill_code.specs.declared.spilling.Spilling.{Spilling}
 use Rattle.spill_code.specs.Rewrite.{slot_of}
-use Rattle.spill_runs.specs.MaySpill.{uses_in, defs_in, implicits_in, IsNoScratch, FitsCode, Fits, AreHomes}
-use Rattle.spill_runs.specs.Follows.{MaySpill}
-use Rattle.spill_runs.proofs.Places.{stands_at, contains_at}
+use Rattle.spill_simulation.specs.MaySpill.{uses_in, defs_in, implicits_in, IsNoScratch, FitsCode, Fits, AreHomes}
+use Rattle.spill_simulation.specs.Follows.{MaySpill}
+use Rattle.spill_simulation.proofs.Places.{stands_at, contains_at}
 use Rattle.spill_rule.specs.Choice.{is_added, binds, is_bound, row_goes, goes, is_looped}
 use Rattle.spill_rule.specs.Choice.{lacks_scratch, reason_of, is_free, candidates, room, chosen, next_slot}
 use Rattle.spill_rule.specs.Choice.{homes_from, homes_of, spilling_of, entry_of}

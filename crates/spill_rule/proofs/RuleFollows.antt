@@ -17,9 +17,9 @@ use Rattle.spill_code.specs.declared.spilling.Spilling.{Spilling}
 use Rattle.spill_code.specs.Rewrite.{first_used, first_defined, use_now, def_now, renamed_operand, spilled_code, two_loads, stores, code_items, kind_items}
 use Rattle.spill_code.specs.Rewrite.{spilled_place, spilled_item, spilled_items, spilled_block, spilled_blocks}
 use Rattle.mir_func.specs.Graph.{below}
-use Rattle.mir_meaning.specs.Align.{position_of}
-use Rattle.mir_meaning.specs.Follow.{Follows, HasWholeEnds}
-use Rattle.spill_runs.proofs.Following.{spilled_follows}
+use Rattle.sem_mir.specs.Align.{position_of}
+use Rattle.sem_mir.specs.Follow.{Follows, HasWholeEnds}
+use Rattle.spill_simulation.proofs.Following.{spilled_follows}
 use Rattle.spill_rule.specs.Choice.{homes_of, spilling_of, entry_of}
 use Rattle.spill_rule.specs.Follows.{RuleFollows}
 use Rattle.spill_rule.proofs.Chosen.{chosen_may_spill}

@@ -12,11 +12,11 @@ use Rattle.mir_func.specs.declared.item.ItemKind.TheVariants.{Code, Mark, Phi}
 use Rattle.mir_func.specs.Function.{Function}
 use Rattle.mir_func.specs.Limits.{MAX_SLOTS}
 use Rattle.mir_func.specs.Sound.{items_of}
-use Rattle.mir_meaning.specs.Follow.{first_of}
-use Rattle.follow_law.specs.declared.loss.Reason.{Reason}
-use Rattle.follow_law.specs.declared.loss.Reason.TheVariants.{NoScratch, CallNamed, EntryLoop}
-use Rattle.follow_law.specs.Causes.{names, is_named, scratch_of}
-use Rattle.follow_law.specs.Sizes.{greatest, calls}
+use Rattle.sem_mir.specs.Follow.{first_of}
+use Rattle.pass_trait.specs.declared.loss.Reason.{Reason}
+use Rattle.pass_trait.specs.declared.loss.Reason.TheVariants.{NoScratch, CallNamed, EntryLoop}
+use Rattle.pass_trait.specs.Causes.{names, is_named, scratch_of}
+use Rattle.pass_trait.specs.Sizes.{greatest, calls}
 use Rattle.spill_code.specs.declared.spilling.Home.{Home}
 use Rattle.spill_code.specs.declared.spilling.Spilling.{Spilling}
 use Rattle.spill_code.specs.Rewrite.{spilled_blocks}

@@ -24,13 +24,13 @@ use Rattle.mir_func.specs.declared.item.ItemKind.TheVariants.{Code, Mark, Phi}
 use Rattle.mir_func.specs.Function.{Function}
 use Rattle.mir_func.specs.Graph.{Program, Fetch, Here, Silent, Outside, below, block_start, end_of, front, fetch_in, from_block, program_of, FetchEdge}
 use Rattle.mir_func.specs.Sound.{items_of}
-use Rattle.mir_meaning.specs.Align.{position_of}
-use Rattle.mir_meaning.specs.Follow.{first_of}
-use Rattle.mir_meaning.specs.Live.{Live, used, later, Uses, Defines}
-use Rattle.follow_law.specs.declared.loss.Reason.TheVariants.{NoScratch, CallNamed, EntryLoop}
-use Rattle.follow_law.specs.Causes.{names, is_named, scratch_of}
-use Rattle.follow_law.specs.Sizes.{calls}
-use Rattle.follow_law.specs.Code.{HasOneResult, SeesCodeAlone, placeless_origin, placeless_item, placeless_block, placeless}
+use Rattle.sem_mir.specs.Align.{position_of}
+use Rattle.sem_mir.specs.Follow.{first_of}
+use Rattle.sem_mir.specs.Live.{Live, used, later, Uses, Defines}
+use Rattle.pass_trait.specs.declared.loss.Reason.TheVariants.{NoScratch, CallNamed, EntryLoop}
+use Rattle.pass_trait.specs.Causes.{names, is_named, scratch_of}
+use Rattle.pass_trait.specs.Sizes.{calls}
+use Rattle.pass_trait.specs.Code.{HasOneResult, SeesCodeAlone, placeless_origin, placeless_item, placeless_block, placeless}
 use Rattle.spill_code.specs.declared.spilling.Home.{Home}
 use Rattle.spill_code.specs.declared.spilling.Spilling.{Spilling}
 use Rattle.spill_code.specs.Rewrite.{added, load, loads, two_loads, stores, first_used, other_used, first_defined, spilled_code, code_items, kind_items}

@@ -21,15 +21,15 @@ use Rattle.mir_func.specs.declared.variable.MarkValue.{MarkValue}
 use Rattle.mir_func.specs.declared.variable.MarkValue.TheVariants.{Nothing, Constant, At, Pair}
 use Rattle.mir_func.specs.declared.variable.VarId.{VarId}
 use Rattle.mir_func.specs.Graph.{below, block_start}
-use Rattle.mir_meaning.specs.Align.{position_of, is_code}
-use Rattle.follow_law.specs.Rule.{item, item_before, first_operand}
-use Rattle.follow_law.specs.Sizes.{calls}
+use Rattle.sem_mir.specs.Align.{position_of, is_code}
+use Rattle.pass_trait.specs.Rule.{item, item_before, first_operand}
+use Rattle.pass_trait.specs.Sizes.{calls}
 use Rattle.spill_code.specs.declared.spilling.Home.{Home}
 use Rattle.spill_code.specs.declared.spilling.Spilling.{Spilling}
 use Rattle.spill_code.specs.Rewrite.{slot_of, first_used, other_used, first_defined, use_now, def_now, spilled_code, load, store, added, loads}
 use Rattle.spill_code.specs.Rewrite.{stores, two_loads, code_items}
 use Rattle.spill_code.specs.Rewrite.{spilled_place, spilled_item, spilled_items, entry_stores}
-use Rattle.spill_marks.specs.Asked.{value_left, place_left, mark_asked, kind_asked}
+use Rattle.spill_debug.specs.Asked.{value_left, place_left, mark_asked, kind_asked}
 use Rattle.spill_sizes.proofs.Calls.{call_renamed}
 use Rattle.spill_sizes.proofs.Measures.{IsMeasure}
 

@@ -21,17 +21,17 @@ use Rattle.mir_func.specs.declared.variable.MarkValue.TheVariants.{Nothing, Cons
 use Rattle.mir_func.specs.declared.variable.VarId.{VarId}
 use Rattle.mir_func.specs.Graph.{below, block_start}
 use Rattle.mir_func.specs.Sound.{items_of}
-use Rattle.mir_meaning.specs.Align.{position_of}
-use Rattle.follow_law.specs.Rule.{item, item_before, first_operand}
-use Rattle.follow_law.specs.Sizes.{greatest, numbers_of}
-use Rattle.salvage.proofs.Greatest.{greatest_append}
+use Rattle.sem_mir.specs.Align.{position_of}
+use Rattle.pass_trait.specs.Rule.{item, item_before, first_operand}
+use Rattle.pass_trait.specs.Sizes.{greatest, numbers_of}
+use Rattle.pass_salvage.proofs.Greatest.{greatest_append}
 use Rattle.spill_code.specs.declared.spilling.Home.{Home}
 use Rattle.spill_code.specs.declared.spilling.Spilling.{Spilling}
 use Rattle.spill_code.specs.Rewrite.{slot_of, first_used, other_used, first_defined, spilled_code, load, store, added, loads, stores, two_loads}
 use Rattle.spill_code.specs.Rewrite.{code_items, spilled_place}
 use Rattle.spill_code.specs.Rewrite.{spilled_item, spilled_items, spilled_block, entry_stores, spilled_blocks}
-use Rattle.spill_marks.specs.Asked.{is_scratch, is_scratch_place, value_left, place_left, mark_asked, kind_asked, number_past, next_number}
-use Rattle.spill_marks.specs.Asked.{number_behind, items_asked, number_beyond, blocks_asked}
+use Rattle.spill_debug.specs.Asked.{is_scratch, is_scratch_place, value_left, place_left, mark_asked, kind_asked, number_past, next_number}
+use Rattle.spill_debug.specs.Asked.{number_behind, items_asked, number_beyond, blocks_asked}
 
 abbrev pub nums : List Item → List ℕ
 nums xs = flat_map (λ (i : Item). numbers_of i.kind) xs

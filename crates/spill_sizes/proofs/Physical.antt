@@ -23,16 +23,16 @@ use Rattle.mir_func.specs.declared.variable.VarId.{VarId}
 use Rattle.mir_func.specs.Graph.{below, block_start}
 use Rattle.mir_func.specs.Sound.{AllItems}
 use Rattle.mir_func.specs.SoundFrame.{IsPhysical, HasPhysical}
-use Rattle.mir_meaning.specs.Align.{position_of}
-use Rattle.follow_law.specs.Rule.{item, item_before, first_operand}
+use Rattle.sem_mir.specs.Align.{position_of}
+use Rattle.pass_trait.specs.Rule.{item, item_before, first_operand}
 use Rattle.spill_code.specs.declared.spilling.Home.{Home}
 use Rattle.spill_code.specs.declared.spilling.Spilling.{Spilling}
 use Rattle.spill_code.specs.Rewrite.{slot_of, first_used, other_used, first_defined, stand_in, use_now, set_in, def_now, renamed_operand}
 use Rattle.spill_code.specs.Rewrite.{spilled_code, load, store, added}
 use Rattle.spill_code.specs.Rewrite.{loads, stores, two_loads, code_items, place_in, spilled_place, spilled_item, spilled_items, spilled_block}
 use Rattle.spill_code.specs.Rewrite.{entry_stores, spilled_blocks}
-use Rattle.spill_marks.specs.Asked.{is_scratch, is_scratch_place, value_left, place_left, mark_asked, kind_asked, next_number, number_behind}
-use Rattle.spill_marks.specs.Asked.{items_asked, blocks_asked}
+use Rattle.spill_debug.specs.Asked.{is_scratch, is_scratch_place, value_left, place_left, mark_asked, kind_asked, next_number, number_behind}
+use Rattle.spill_debug.specs.Asked.{items_asked, blocks_asked}
 
 module _ (s : Spilling) (first : s.first < 32) (second : s.second < 32) where
   abbrev Each : Item → Type 0

@@ -11,15 +11,15 @@ use Rattle.mir_func.specs.declared.item.Item.{Item}
 use Rattle.mir_func.specs.Function.{Function}
 use Rattle.mir_func.specs.Limits.{MAX_BLOCKS, MAX_SLOTS}
 use Rattle.mir_func.specs.Sound.{items_of}
-use Rattle.mir_meaning.specs.Align.{is_code}
-use Rattle.follow_law.specs.Causes.{is_named, scratch_of}
-use Rattle.follow_law.specs.Change.{change}
-use Rattle.follow_law.specs.Sizes.{greatest, greatest_number, most_numbers, calls, KeepsSizes}
-use Rattle.salvage.proofs.Greatest.{greatest_append}
+use Rattle.sem_mir.specs.Align.{is_code}
+use Rattle.pass_trait.specs.Causes.{is_named, scratch_of}
+use Rattle.pass_trait.specs.Change.{change}
+use Rattle.pass_trait.specs.Sizes.{greatest, greatest_number, most_numbers, calls, KeepsSizes}
+use Rattle.pass_salvage.proofs.Greatest.{greatest_append}
 use Rattle.spill_code.specs.declared.spilling.Home.{Home}
 use Rattle.spill_code.specs.declared.spilling.Spilling.{Spilling}
 use Rattle.spill_code.specs.Rewrite.{entry_stores, spilled_blocks}
-use Rattle.spill_marks.specs.Asked.{blocks_asked, number_beyond}
+use Rattle.spill_debug.specs.Asked.{blocks_asked, number_beyond}
 use Rattle.spill_rule.specs.Choice.{is_free, reason_of, candidates, room, chosen, next_slot, homes_from, homes_of, first_scratch, second_scratch}
 use Rattle.spill_rule.specs.Choice.{spilling_of, entry_of}
 use Rattle.spill_rule.specs.Chosen.{IsReservable}

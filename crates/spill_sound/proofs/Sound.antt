@@ -37,21 +37,21 @@ use Rattle.mir_func.specs.declared.variable.MarkValue.{MarkValue}
 use Rattle.mir_func.specs.Graph.{below, block_start}
 use Rattle.mir_func.specs.Sound.{AreApart, AllItems, ids_of, number_of, code_number, OriginIn, TargetIn, TargetsIn, SlotIn, SlotsIn, PlaceIn}
 use Rattle.mir_func.specs.Sound.{BaseHasBytes, ObjectIn, ObjectsIn, IsNotPointer, LeavesPointer, IsSound}
-use Rattle.mir_meaning.specs.Align.{position_of}
-use Rattle.follow_law.specs.Rule.{item}
+use Rattle.sem_mir.specs.Align.{position_of}
+use Rattle.pass_trait.specs.Rule.{item}
 use Rattle.spill_code.specs.declared.spilling.Home.{Home}
 use Rattle.spill_code.specs.declared.spilling.Spilling.{Spilling}
 use Rattle.spill_code.specs.Rewrite.{slot_of, stand_in, use_now, set_in, def_now, renamed_operand, first_used, other_used, first_defined}
 use Rattle.spill_code.specs.Rewrite.{spilled_code, load, store, added, loads}
 use Rattle.spill_code.specs.Rewrite.{stores, two_loads, code_items, place_in, spilled_place, kind_items, spilled_item, spilled_items, spilled_block}
 use Rattle.spill_code.specs.Rewrite.{entry_stores, first_block, spilled_blocks}
-use Rattle.spill_runs.specs.MaySpill.{uses_in, defs_in, FitsCode, Fits, AreHomes}
-use Rattle.spill_runs.specs.Follows.{MaySpill}
-use Rattle.spill_runs.proofs.Explicit.{first_from, other_from, used_is, other_is, defined_is, explicit}
-use Rattle.spill_runs.proofs.Near.{keeps_zero}
-use Rattle.spill_runs.proofs.Rows.{renamed_base, renamed_row, row_renamed}
-use Rattle.spill_runs.proofs.Shape.{kept_use, kept_def}
-use Rattle.spill_marks.proofs.Grown.{IsExtra, IsLike, Grown, none, grows, BlocksGrow, no_blocks, next_block, KeepsEach, sound_grown}
+use Rattle.spill_simulation.specs.MaySpill.{uses_in, defs_in, FitsCode, Fits, AreHomes}
+use Rattle.spill_simulation.specs.Follows.{MaySpill}
+use Rattle.spill_simulation.proofs.Explicit.{first_from, other_from, used_is, other_is, defined_is, explicit}
+use Rattle.spill_simulation.proofs.Near.{keeps_zero}
+use Rattle.spill_simulation.proofs.Rows.{renamed_base, renamed_row, row_renamed}
+use Rattle.spill_simulation.proofs.Shape.{kept_use, kept_def}
+use Rattle.spill_debug.proofs.Grown.{IsExtra, IsLike, Grown, none, grows, BlocksGrow, no_blocks, next_block, KeepsEach, sound_grown}
 use Rattle.spill_sound.specs.Sound.{slots_now, SpilledIsSound}
 
 -- ---- rows with other registers

@@ -7,15 +7,15 @@ use Rattle.mir_func.specs.declared.item.ItemKind.TheVariants.{Code, Mark, Phi}
 use Rattle.mir_func.specs.declared.position.Pos.{Pos}
 use Rattle.mir_func.specs.declared.variable.MarkValue.TheVariants.{Nothing, Constant, At, Pair}
 use Rattle.mir_func.specs.Function.{Function}
-use Rattle.follow_law.specs.declared.loss.Loss.{Loss}
-use Rattle.follow_law.specs.declared.loss.Reason.{Reason}
-use Rattle.follow_law.specs.Rule.{Rule, StandsAt}
-use Rattle.follow_law.specs.Sizes.{greatest_number}
-use Rattle.follow_law.specs.Steps.{Step}
+use Rattle.pass_trait.specs.declared.loss.Loss.{Loss}
+use Rattle.pass_trait.specs.declared.loss.Reason.{Reason}
+use Rattle.pass_trait.specs.Rule.{Rule, StandsAt}
+use Rattle.pass_trait.specs.Sizes.{greatest_number}
+use Rattle.pass_trait.specs.Steps.{Step}
 use Rattle.spill_code.specs.declared.spilling.Home.{Home}
 use Rattle.spill_code.specs.Rewrite.{slot_of}
-use Rattle.spill_marks.specs.Asked.{number_behind}
-use Rattle.spill_marks.specs.Lost.{LosesScratch}
+use Rattle.spill_debug.specs.Asked.{number_behind}
+use Rattle.spill_debug.specs.Lost.{LosesScratch}
 use Rattle.spill_rule.specs.Choice.{homes_of, spilling_of}
 use Rattle.spill_rule.specs.Rule.{Decides, IsSpilled}
 use Rattle.spill_choice.specs.Left.{why_left}

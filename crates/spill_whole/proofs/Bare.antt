@@ -14,11 +14,11 @@ use Rattle.mir_func.specs.declared.position.Origin.{Origin}
 use Rattle.mir_func.specs.Function.{Function}
 use Rattle.mir_func.specs.Sound.{items_of}
 use Rattle.mir_func.specs.Strip.{stripped_items, stripped_block, stripped_blocks, stripped}
-use Rattle.mir_meaning.specs.Follow.{first_of}
-use Rattle.follow_law.specs.declared.loss.Reason.TheVariants.{NoScratch, CallNamed, EntryLoop}
-use Rattle.follow_law.specs.Causes.{names, is_named, scratch_of}
-use Rattle.follow_law.specs.Rule.{item}
-use Rattle.follow_law.specs.Sizes.{calls}
+use Rattle.sem_mir.specs.Follow.{first_of}
+use Rattle.pass_trait.specs.declared.loss.Reason.TheVariants.{NoScratch, CallNamed, EntryLoop}
+use Rattle.pass_trait.specs.Causes.{names, is_named, scratch_of}
+use Rattle.pass_trait.specs.Rule.{item}
+use Rattle.pass_trait.specs.Sizes.{calls}
 use Rattle.spill_code.specs.declared.spilling.Home.{Home}
 use Rattle.spill_code.specs.declared.spilling.Spilling.{Spilling}
 use Rattle.spill_rule.specs.Choice.{is_added, binds, is_bound, goes, is_looped, is_free, candidates, room, next_slot, homes_from, homes_of}

@@ -3,9 +3,9 @@ use Rattle.std.proofs.Common.{◌≡◌, ℕ, zero, suc, ◌+◌, ◌<◌, List,
 use Rattle.std.proofs.Common.{◌&&◌, nat_eq}
 use Rattle.std.proofs.Common.{refl, sym, ap, ◌∙◌, subst, arith, eqb-true}
 use Rattle.mir_func.specs.Function.{Function}
-use Rattle.follow_law.specs.Causes.{is_named, scratch_of}
+use Rattle.pass_trait.specs.Causes.{is_named, scratch_of}
 use Rattle.spill_code.specs.Rewrite.{slot_of}
-use Rattle.spill_runs.specs.MaySpill.{IsNoScratch}
+use Rattle.spill_simulation.specs.MaySpill.{IsNoScratch}
 use Rattle.spill_rule.specs.Choice.{is_free, reason_of, candidates, room, chosen, next_slot, homes_from, homes_of, first_scratch, second_scratch, spilling_of}
 use Rattle.spill_rule.specs.Chosen.{IsReservable}
 use Rattle.spill_rule.proofs.Scratch.{CANDIDATES, kept_by, saved, kept_registers, not_small}

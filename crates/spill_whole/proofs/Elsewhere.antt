@@ -13,12 +13,12 @@ use Rattle.mir_func.specs.declared.position.Origin.{Origin}
 use Rattle.mir_func.specs.declared.variable.MarkValue.TheVariants.{Nothing, Constant, At, Pair}
 use Rattle.mir_func.specs.declared.variable.VarId.{VarId}
 use Rattle.mir_func.specs.Sound.{AllItems, HasForm}
-use Rattle.follow_law.specs.Rule.{item, item_before, first_operand}
+use Rattle.pass_trait.specs.Rule.{item, item_before, first_operand}
 use Rattle.spill_code.specs.declared.spilling.Spilling.{Spilling}
 use Rattle.spill_code.specs.Rewrite.{slot_of}
-use Rattle.spill_marks.specs.Asked.{is_scratch, is_scratch_place, place_left, mark_asked, kind_asked, next_number, number_behind, items_asked, blocks_asked}
-use Rattle.spill_marks.proofs.AskedSound.{each_block}
-use Rattle.spill_runs.specs.MaySpill.{IsNoScratch}
+use Rattle.spill_debug.specs.Asked.{is_scratch, is_scratch_place, place_left, mark_asked, kind_asked, next_number, number_behind, items_asked, blocks_asked}
+use Rattle.spill_debug.proofs.AskedSound.{each_block}
+use Rattle.spill_simulation.specs.MaySpill.{IsNoScratch}
 use Rattle.spill_rule.specs.Chosen.{AsksElsewhere}
 
 module _ (s : Spilling) (apart : (r n : ℕ) → slot_of s.homes r ≡ Some n → IsNoScratch s r) where

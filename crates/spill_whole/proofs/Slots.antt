@@ -6,7 +6,7 @@ use Rattle.std.proofs.lemmas.List.{length-map, length-take}
 use Rattle.mir_func.specs.Function.{Function}
 use Rattle.mir_func.specs.Limits.{MAX_SLOTS}
 use Rattle.mir_func.specs.Sound.{AreApart}
-use Rattle.follow_law.specs.Sizes.{greatest}
+use Rattle.pass_trait.specs.Sizes.{greatest}
 use Rattle.spill_code.specs.declared.spilling.Home.{Home}
 use Rattle.spill_rule.specs.Choice.{room, chosen, candidates, next_slot, homes_from, homes_of, spilling_of}
 use Rattle.spill_sound.specs.Sound.{slots_now}

@@ -4,7 +4,7 @@ use Rattle.mir_func.specs.Function.{Function}
 use Rattle.spill_code.specs.declared.spilling.Home.{Home}
 use Rattle.spill_code.specs.declared.spilling.Spilling.{Spilling}
 use Rattle.spill_code.specs.Rewrite.{spilled_blocks}
-use Rattle.spill_marks.specs.Asked.{blocks_asked}
+use Rattle.spill_debug.specs.Asked.{blocks_asked}
 use Rattle.spill_sound.specs.Sound.{slots_now}
 use Rattle.spill_rule.specs.Choice.{homes_of, spilling_of, entry_of}
 

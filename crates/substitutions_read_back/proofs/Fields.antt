@@ -5,23 +5,23 @@ use Rattle.std.specs.List.{list_all}
 use Rattle.std.specs.Char.{is_ascii_digit}
 use Rattle.std.specs.Fmt.{decimal}
 use Rattle.std.proofs.lemmas.Bool.{and_parts, cond-true, cond-false, le-leb}
-use Rattle.numbers.specs.Limits.{MAX_NUMBER}
-use Rattle.mir_lexer.specs.declared.line.Line.{Line}
-use Rattle.mir_lexer.specs.declared.parts.Class.TheVariants as class
-use Rattle.mir_lexer.specs.declared.parts.Class.TheVariants.{Single}
-use Rattle.mir_lexer.specs.declared.parts.Token.{Token}
-use Rattle.mir_lexer.specs.Bytes.{is_blank, is_word_start, is_word_byte}
-use Rattle.mir_lexer.specs.Front.{token, token_at}
-use Rattle.meta_reader.specs.Number.{within_limit, value_behind, spelled as spelt, integer_of, unsigned_of}
-use Rattle.meta_reader.specs.Token.{is_word, text_of}
-use Rattle.mir_declarations.specs.declared.stream.Piece as stream
-use Rattle.mir_declarations.specs.declared.entry.Field.{Field}
-use Rattle.mir_declarations.specs.declared.entry.Entry.{Entry}
-use Rattle.mir_declarations.specs.declared.entry.OpenList.{OpenList}
-use Rattle.mir_declarations.specs.declared.entry.Place.{Place}
-use Rattle.mir_declarations.specs.declared.entry.Place.TheVariants.{Outside, Key, Next}
-use Rattle.mir_declarations.specs.Entry.{is_mark, is_value, has_key, entries_from}
-use Rattle.mir_declarations.specs.Stream.{piece_of, text_in, text_at}
+use Rattle.base_ids.specs.Limits.{MAX_NUMBER}
+use Rattle.read_lexer.specs.declared.line.Line.{Line}
+use Rattle.read_lexer.specs.declared.parts.Class.TheVariants as class
+use Rattle.read_lexer.specs.declared.parts.Class.TheVariants.{Single}
+use Rattle.read_lexer.specs.declared.parts.Token.{Token}
+use Rattle.read_lexer.specs.Bytes.{is_blank, is_word_start, is_word_byte}
+use Rattle.read_lexer.specs.Front.{token, token_at}
+use Rattle.read_metadata.specs.Number.{within_limit, value_behind, spelled as spelt, integer_of, unsigned_of}
+use Rattle.read_metadata.specs.Token.{is_word, text_of}
+use Rattle.read_declarations.specs.declared.stream.Piece as stream
+use Rattle.read_declarations.specs.declared.entry.Field.{Field}
+use Rattle.read_declarations.specs.declared.entry.Entry.{Entry}
+use Rattle.read_declarations.specs.declared.entry.OpenList.{OpenList}
+use Rattle.read_declarations.specs.declared.entry.Place.{Place}
+use Rattle.read_declarations.specs.declared.entry.Place.TheVariants.{Outside, Key, Next}
+use Rattle.read_declarations.specs.Entry.{is_mark, is_value, has_key, entries_from}
+use Rattle.read_declarations.specs.Stream.{piece_of, text_in, text_at}
 use Rattle.read_back.proofs.Cuts.{is_safe, AllPass, safe_passes, decimal_safe, semicolon_mark, semicolon_colon}
 use Rattle.read_back.proofs.Lexing.{Piece, spelled, AllRead}
 use Rattle.read_back.proofs.Numbers.{decimal_of, no_digit}

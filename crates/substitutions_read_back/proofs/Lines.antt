@@ -5,28 +5,28 @@ use Rattle.std.specs.Prelude.{codes}
 use Rattle.std.specs.Fmt.{decimal}
 use Rattle.std.specs.Str.{bytes_eq}
 use Rattle.std.proofs.lemmas.List.Elements.{All-head, All-tail}
-use Rattle.mir_lexer.specs.declared.line.Line.{Line}
-use Rattle.mir_lexer.specs.declared.parts.Class.TheVariants as class
-use Rattle.mir_lexer.specs.declared.parts.Token.{Token}
-use Rattle.mir_lexer.specs.Comment.{before}
-use Rattle.mir_lexer.specs.Front.{token_at}
-use Rattle.meta_reader.specs.Number.{integer_of}
+use Rattle.read_lexer.specs.declared.line.Line.{Line}
+use Rattle.read_lexer.specs.declared.parts.Class.TheVariants as class
+use Rattle.read_lexer.specs.declared.parts.Token.{Token}
+use Rattle.read_lexer.specs.Comment.{before}
+use Rattle.read_lexer.specs.Front.{token_at}
+use Rattle.read_metadata.specs.Number.{integer_of}
 use Rattle.mir_func.specs.declared.entry.Entry as func
-use Rattle.mir_declarations.specs.declared.stream.Piece as stream
-use Rattle.mir_declarations.specs.declared.entry.Field.{Field}
-use Rattle.mir_declarations.specs.declared.entry.Entry.{Entry}
-use Rattle.mir_declarations.specs.declared.entry.Listing.{Listing}
-use Rattle.mir_declarations.specs.declared.entry.Place.TheVariants.{Outside, Key}
-use Rattle.mir_declarations.specs.Entry.{has_key, entries_from}
-use Rattle.mir_declarations.specs.Field.{value_at, number_in, needed, given}
-use Rattle.mir_declarations.specs.List.{list_in}
-use Rattle.mir_declarations.specs.Stream.{piece_of, stream_from, text_at}
-use Rattle.mir_declarations.specs.Substitutions.{pair_of, substitution_with, substitution_of, substituted, substitutions_behind, substitutions_of}
+use Rattle.read_declarations.specs.declared.stream.Piece as stream
+use Rattle.read_declarations.specs.declared.entry.Field.{Field}
+use Rattle.read_declarations.specs.declared.entry.Entry.{Entry}
+use Rattle.read_declarations.specs.declared.entry.Listing.{Listing}
+use Rattle.read_declarations.specs.declared.entry.Place.TheVariants.{Outside, Key}
+use Rattle.read_declarations.specs.Entry.{has_key, entries_from}
+use Rattle.read_declarations.specs.Field.{value_at, number_in, needed, given}
+use Rattle.read_declarations.specs.List.{list_in}
+use Rattle.read_declarations.specs.Stream.{piece_of, stream_from, text_at}
+use Rattle.read_declarations.specs.Substitutions.{pair_of, substitution_with, substitution_of, substituted, substitutions_behind, substitutions_of}
 use Rattle.read_back.proofs.Cuts.{safe_passes, semicolon_mark}
 use Rattle.read_back.proofs.Lexing.{Piece, spelled}
 use Rattle.read_back.proofs.Phrases.{piece}
 use Rattle.read_back.proofs.Tokens.{word_read, single_read}
-use Rattle.reading_laws.specs.Read.{EntryIsLimited}
+use Rattle.read_proof.specs.Read.{EntryIsLimited}
 use Rattle.documents_read_back.specs.Document.{lines_from}
 use Rattle.declarations_read_back.proofs.Listed.{IsLexedLine, pieces_at, Stands, outside, IsEntryLine, AreEntryLines, AllMean, listed}
 use Rattle.declarations_read_back.proofs.Spans.{token_of, line_texts}

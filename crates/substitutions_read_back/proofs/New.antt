@@ -2,18 +2,18 @@
 use Rattle.std.proofs.Common.{◌≡◌, ℕ, Bool, true, false, cond, List, [], ◌∷◌, ◌++◌, Option, Some, None, Ok, refl, sym, ap, subst, ◌∙◌}
 use Rattle.std.proofs.Common.{append_assoc, append-nil}
 use Rattle.std.specs.Prelude.{is_some}
-use Rattle.refusal.specs.declared.first.Refusal.{Refusal}
-use Rattle.mir_lexer.specs.declared.line.Line.{Line}
-use Rattle.mir_frame.specs.declared.parts.FunctionDocument.{FunctionDocument}
+use Rattle.read_refusal.specs.declared.first.Refusal.{Refusal}
+use Rattle.read_lexer.specs.declared.line.Line.{Line}
+use Rattle.read_documents.specs.declared.parts.FunctionDocument.{FunctionDocument}
 use Rattle.mir_func.specs.declared.entry.Entry as func
 use Rattle.mir_func.specs.Resolve.{entry_of}
-use Rattle.substitution.specs.Added.{added}
-use Rattle.mir_declarations.specs.declared.declarations.Declarations.{Declarations}
-use Rattle.mir_declarations.specs.declared.entry.Entry.{Entry}
-use Rattle.mir_declarations.specs.declared.substitutions.SubstitutionsRead.{SubstitutionsRead}
-use Rattle.mir_declarations.specs.Declarations.{refusal_of, declared_of, checked, declarations_of}
-use Rattle.mir_declarations.specs.List.{list_of}
-use Rattle.mir_declarations.specs.Substitutions.{substitution_of, substituted, substitutions_behind}
+use Rattle.mir_substitution.specs.Added.{added}
+use Rattle.read_declarations.specs.declared.declarations.Declarations.{Declarations}
+use Rattle.read_declarations.specs.declared.entry.Entry.{Entry}
+use Rattle.read_declarations.specs.declared.substitutions.SubstitutionsRead.{SubstitutionsRead}
+use Rattle.read_declarations.specs.Declarations.{refusal_of, declared_of, checked, declarations_of}
+use Rattle.read_declarations.specs.List.{list_of}
+use Rattle.read_declarations.specs.Substitutions.{substitution_of, substituted, substitutions_behind}
 use Rattle.substitutions_read_back.specs.Substitutions.{AreNew}
 
 pushed : (front es : List func.Entry) (e : func.Entry) → AreNew front es → is_some (entry_of (front ++ es) e.src) ≡ false → AreNew front (es ++ e ∷ [])

@@ -3,9 +3,9 @@ use Rattle.std.specs.Prelude.{◌≡◌, ℕ, cond, is_some, false, codes, List,
 use Rattle.std.specs.Fmt.{decimal}
 use Rattle.mir_func.specs.declared.entry.Entry.{Entry}
 use Rattle.mir_func.specs.Resolve.{entry_of}
-use Rattle.mir_declarations.specs.Substitutions.{substitutions_of}
-use Rattle.func_printer.specs.FuncText.{is_nothing}
-use Rattle.reading_laws.specs.Read.{EntryIsLimited}
+use Rattle.read_declarations.specs.Substitutions.{substitutions_of}
+use Rattle.mir_func_printer.specs.FuncText.{is_nothing}
+use Rattle.read_proof.specs.Read.{EntryIsLimited}
 use Rattle.documents_read_back.specs.Document.{lines_from}
 
 -- the line of a substitution

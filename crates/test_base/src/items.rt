@@ -1,6 +1,6 @@
 //! What lists hold.
 
-use lists::List;
+use base_list::List;
 
 #[test]
 fn lists_keep_their_items(rt: HostRuntime) {

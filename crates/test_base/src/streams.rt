@@ -2,16 +2,16 @@
 
 ghost use Rattle.std.specs.Prelude.{◌<◌};
 
-use io_edge::bytes::{Bytes, CallNumbers};
-use io_edge::fault::Failed;
-use io_edge::memory_sink::MemorySink;
-use io_edge::memory_source::MemorySource;
-use io_edge::reading::{ReadError, read_all};
-use io_edge::sink::Sink;
-use io_edge::source::Source;
-use io_edge::std_sink::StdSink;
-use io_edge::std_source::StdSource;
-use io_edge::writing::write_all;
+use base_io::bytes::{Bytes, CallNumbers};
+use base_io::fault::Failed;
+use base_io::memory_sink::MemorySink;
+use base_io::memory_source::MemorySource;
+use base_io::reading::{ReadError, read_all};
+use base_io::sink::Sink;
+use base_io::source::Source;
+use base_io::std_sink::StdSink;
+use base_io::std_source::StdSource;
+use base_io::writing::write_all;
 use std::alloc::Global;
 use std::io;
 use std::io::{ErrorKind, Read, Write};

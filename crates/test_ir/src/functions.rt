@@ -5,10 +5,10 @@ use mir_func::func::{Func, FuncError};
 use mir_func::object::up_to;
 use mir_func::successors::Successors;
 use mir_func::variable::Fragment;
-use numbers::code::BlockId;
+use base_ids::code::BlockId;
 use std::alloc::{AllocError, Global};
 use std::process::Abort;
-use substitution::substitutions::Substitutions;
+use mir_substitution::substitutions::Substitutions;
 
 /// A function of three blocks, of which the second is a loop.
 const SOUND: &str = "slots 0 0

@@ -3,15 +3,15 @@
 ghost use Rattle.std.specs.Prelude.{IfOk};
 ghost use Rattle.program_report.specs.ProgramReport.{IsReportable};
 
-use code_words::code::{Code, Words};
+use emit_code::code::{Code, Words};
 use dwarf_loclists::reader::list_count;
-use frame_layout::code::code_of;
-use lists::List;
-use mir_parser::program::read_program;
+use emit_function::code::code_of;
+use base_list::List;
+use read_program::program::read_program;
 use program_report::print::{Compiled, print_reports};
-use rv_simulator::answers::CallAnswers;
-use rv_simulator::ending::{Stepped, Stop};
-use rv_simulator::machine::Machine;
+use sim_machine::answers::CallAnswers;
+use sim_machine::ending::{Stepped, Stop};
+use sim_machine::machine::Machine;
 use rv64_instr::reg::physical;
 use rv64_instr::start::{Answer, CallEvent, Cells, Start};
 use std::alloc::Global;

@@ -2,31 +2,31 @@
 
 ghost use Rattle.std.specs.Prelude.{◌+◌, ◌*◌, ◌<◌, ◌^◌, [], IsTrue};
 ghost use Rattle.mir_func.specs.Limits.{MAX_SLOTS};
-ghost use Rattle.live_flow.specs.Liveness.{AreLiveSets};
-ghost use Rattle.follow_law.specs.Sizes.{greatest, greatest_number, most_numbers};
+ghost use Rattle.pass_liveness.specs.Liveness.{AreLiveSets};
+ghost use Rattle.pass_trait.specs.Sizes.{greatest, greatest_number, most_numbers};
 
 use crate::shown::{push_blocks, push_entries, push_items, push_losses};
-use dead_items::judge::judge;
+use dce_mark::judge::judge;
 use fold_sound::fold::fold;
-use follow_law::pass::Pass;
-use lists::List;
-use live_flow::live::Live;
-use live_flow::set::PlaceSet;
+use pass_trait::pass::Pass;
+use base_list::List;
+use pass_liveness::live::Live;
+use pass_liveness::set::PlaceSet;
 use mir_func::block::copy_blocks;
 use mir_func::func::Func;
 use mir_func::item::Item;
-use mir_parser::closing::Parsed;
-use mir_parser::program::read_program;
+use read_program::closing::Parsed;
+use read_program::program::read_program;
 use mir_printer::text::{Text, push_numbered, push_str};
-use numbers::code::{DebugNumber, SlotId};
+use base_ids::code::{DebugNumber, SlotId};
 use rv64_instr::place::Place;
 use rv64_instr::reg::{Reg, Registers, physical};
-use salvage::fresh::greatest_in_blocks;
-use salvage::salvage::salvage;
+use pass_salvage::fresh::greatest_in_blocks;
+use pass_salvage::salvage::salvage;
 use spill_pass::spill::SpillPass;
 use std::alloc::{AllocError, Global};
 use std::test::Fail;
-use substitution::substitutions::Substitutions;
+use mir_substitution::substitutions::Substitutions;
 
 /// What is run on a function.
 pub enum Part {

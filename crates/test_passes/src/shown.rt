@@ -1,6 +1,6 @@
 //! Items with their origins, substitutions, and losses, a line for each.
 
-use follow_law::loss::{Loss, Lost, Reason};
+use pass_trait::loss::{Loss, Lost, Reason};
 use mir_func::block::Block;
 use mir_func::entry::Entry;
 use mir_func::item::Item;

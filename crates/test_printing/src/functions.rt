@@ -1,7 +1,7 @@
 //! The documents of functions with their debug items, numbers and substitutions.
 
-use func_printer::print::print_func;
-use mir_parser::program::read_program;
+use mir_func_printer::print::print_func;
+use read_program::program::read_program;
 use std::test::Fail;
 
 /// Documents that are printed as they are read.

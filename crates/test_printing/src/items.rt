@@ -5,7 +5,7 @@ use mir_func::location::Loc;
 use mir_func::position::{Origin, Pos};
 use mir_printer::item::push_item;
 use mir_printer::text::Text;
-use numbers::code::BlockId;
+use base_ids::code::BlockId;
 use rv64_instr::instr::Instr;
 use rv64_instr::op::{BranchOp, Op};
 use rv64_instr::operand::{Operand, Operands};

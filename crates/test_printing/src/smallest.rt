@@ -2,16 +2,16 @@
 
 use class_entries::entry::BlockEntry;
 use class_entries::tracked::Tracked;
-use code_words::code::Code;
-use code_words::laws::one_layout;
-use compiled_text::laws::one_reading;
-use frame_layout::code::code_of;
-use frame_lower::lower::lower;
-use frame_lower::physical::is_physical;
-use function_listing::laws::listings_are_printable;
-use machine_values::values::{MachineValues, solve};
-use mir_parser::closing::Parsed;
-use mir_parser::program::read_program;
+use emit_code::code::Code;
+use emit_code::laws::one_layout;
+use listing_text::laws::one_reading;
+use emit_function::code::code_of;
+use frame_lowering::lower::lower;
+use frame_lowering::physical::is_physical;
+use listing_function::laws::listings_are_printable;
+use value_live_ins::values::{MachineValues, solve};
+use read_program::closing::Parsed;
+use read_program::program::read_program;
 use std::alloc::Global;
 use std::test::Fail;
 

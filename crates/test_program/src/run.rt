@@ -2,10 +2,10 @@
 
 use crate::row::{Ending, Faulty, Output, Place, Row};
 use anyhow::Context;
-use io_edge::bytes::{Bytes, CallNumbers};
-use io_edge::memory_sink::MemorySink;
-use io_edge::memory_source::MemorySource;
-use mirdwarf_tool::driver::mirdwarf;
+use base_io::bytes::{Bytes, CallNumbers};
+use base_io::memory_sink::MemorySink;
+use base_io::memory_source::MemorySource;
+use tool_driver::driver::mirdwarf;
 use std::alloc::{AllocError, Global};
 
 /// Room for what is told.

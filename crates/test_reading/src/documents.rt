@@ -1,9 +1,9 @@
 //! The documents of texts.
 
 use crate::text::push_bytes;
-use mir_frame::frame::documents;
-use mir_frame::parts::{Documents, FunctionDocument};
-use mir_lexer::line::Line;
+use read_documents::frame::documents;
+use read_documents::parts::{Documents, FunctionDocument};
+use read_lexer::line::Line;
 use std::alloc::{AllocError, Global};
 use std::fmt::Write;
 

@@ -1,16 +1,16 @@
 //! What tokens stand for.
 
-use mir_lexeme::lexeme::Lexeme::{
+use read_token::lexeme::Lexeme::{
     Block, Close, Colon, Comma, Equals, Expression, InlineLocation, Integer, Node, Open, Other,
     Register, Slot,
 };
-use mir_lexeme::lexeme::Number::{Fits, Large, Wide};
-use mir_lexeme::lexeme::{BEYOND, Lexeme, RegisterName};
-use mir_lexeme::sentence::lexemes;
-use mir_lexer::fault::LexError;
-use mir_lexer::lexer::tokens;
-use numbers::code::{BlockId, SlotId};
-use numbers::metadata::NodeId;
+use read_token::lexeme::Number::{Fits, Large, Wide};
+use read_token::lexeme::{BEYOND, Lexeme, RegisterName};
+use read_token::sentence::lexemes;
+use read_lexer::fault::LexError;
+use read_lexer::lexer::tokens;
+use base_ids::code::{BlockId, SlotId};
+use base_ids::metadata::NodeId;
 use std::alloc::Global;
 use std::test::Fail;
 

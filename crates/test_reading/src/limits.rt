@@ -1,10 +1,10 @@
 //! Limits whose texts have thousands of lines, each at its number, where the text is read, and one above, where it is
 //! refused.
 
-use mir_parser::error::ParseError;
-use mir_parser::program::read_program;
-use refusal::first::Refusal;
-use refusal::kind::RefusalKind;
+use read_program::error::ParseError;
+use read_program::program::read_program;
+use read_refusal::first::Refusal;
+use read_refusal::kind::RefusalKind;
 use std::alloc::{AllocError, Global};
 use std::fmt::Write;
 use std::test::Fail;

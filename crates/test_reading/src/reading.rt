@@ -3,7 +3,7 @@
 use crate::metadata::Meta;
 use crate::text::push_bytes;
 use crate::{documents, metadata, tokens};
-use mir_lexer::comment::{before_comment, before_memory_operands};
+use read_lexer::comment::{before_comment, before_memory_operands};
 use std::alloc::{AllocError, Global};
 use std::process::Abort;
 use std::test::Fail;

@@ -1,9 +1,9 @@
 //! The tokens of lines.
 
 use crate::text::push_bytes;
-use mir_lexer::comment::before_memory_operands;
-use mir_lexer::lexer::tokens;
-use mir_lexer::parts::{Class, Token};
+use read_lexer::comment::before_memory_operands;
+use read_lexer::lexer::tokens;
+use read_lexer::parts::{Class, Token};
 use std::alloc::{AllocError, Global};
 
 /// A letter for a class, and the byte itself for a token of one byte.

@@ -7,7 +7,7 @@ use dwarf_line::read::rows;
 use dwarf_line::size::line_size;
 use dwarf_line::table::{FileEntries, FileEntry, LineTable, NameList, Row, Sequence};
 use dwarf_line::write::write_line;
-use lists::List;
+use base_list::List;
 use std::alloc::{AllocError, Global};
 use std::test::Fail;
 

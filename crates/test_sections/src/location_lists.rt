@@ -5,7 +5,7 @@ use dwarf_loclists::entry::push_entry;
 use dwarf_loclists::fault::ListFault;
 use dwarf_loclists::range::{Location, Part, Range};
 use dwarf_loclists::reader::{list_count, piece_at, place_at};
-use numbers::code::SlotId;
+use base_ids::code::SlotId;
 use rv64_instr::place::Place;
 use rv64_instr::reg::physical;
 use std::alloc::Global;

@@ -1,10 +1,10 @@
 //! The sections of a program without functions, which no text is.
 
-use lists::List;
-use meta_reader::metadata::read_meta;
+use base_list::List;
+use read_metadata::metadata::read_meta;
 use source_lines::line_table::line_table;
 use std::test::Fail;
-use unit_entries::unit::make_unit;
+use dwarf_unit::unit::make_unit;
 
 #[test]
 fn no_functions_make_an_empty_unit(rt: HostRuntime) -> Result<(), Fail> {

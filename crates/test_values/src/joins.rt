@@ -3,7 +3,7 @@
 use crate::text::{framed_of, function_of, register, variable};
 use class_entries::entry::BlockEntry;
 use class_entries::tracked::Tracked;
-use machine_values::values::{MachineValues, solve};
+use value_live_ins::values::{MachineValues, solve};
 use std::alloc::Global;
 use std::fmt::Write;
 use std::test::Fail;

@@ -3,20 +3,20 @@
 use crate::text::{pair, part, register};
 use class_entries::entry::{Bits, BlockEntry, Numbers};
 use class_entries::tracked::Tracked;
-use class_places::held::{Held, PLACES};
-use class_places::index::{index_of, number_class};
-use class_places::pass::Block;
-use class_places::start::settle;
+use value_tracker::held::{Held, PLACES};
+use value_tracker::index::{index_of, number_class};
+use value_tracker::pass::Block;
+use value_tracker::start::settle;
 use mir_func::item::ItemKind;
 use mir_func::variable::MarkValue;
-use numbers::code::DebugNumber;
+use base_ids::code::DebugNumber;
 use rv64_instr::instr::Instr;
 use rv64_instr::op::Op;
 use rv64_instr::operand::{Operand, Operands};
 use std::alloc::Global;
 use std::collections::HashMap;
 use std::test::Fail;
-use substitution::substitutions::Substitutions;
+use mir_substitution::substitutions::Substitutions;
 
 /// `COPY to, from`, with its debug instruction number.
 fn copy(alloc: Global, to: u32, from: u32, number: u32) -> Result<ItemKind, Fail> {

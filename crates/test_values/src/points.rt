@@ -1,17 +1,17 @@
 //! What sits in registers at points, and where a variable is.
 
 ghost use Rattle.std.specs.Prelude.{◌≡◌, ◌≤◌, length};
-ghost use Rattle.class_places.specs.Things.{AreThings};
+ghost use Rattle.value_tracker.specs.Things.{AreThings};
 
 use crate::text::{framed_of, function_of, pair, register, variable};
-use machine_values::values::{MachineValues, solve, solve_asking};
+use value_live_ins::values::{MachineValues, solve, solve_asking};
 use mir_func::entry::OperandPair;
 use mir_func::framed::Framed;
 use rv64_instr::place::Place;
 use std::alloc::Global;
 use std::test::Fail;
-use substitution::substitutions::Substitutions;
-use transfer_emit::values::Values;
+use mir_substitution::substitutions::Substitutions;
+use location_ranges::values::Values;
 use value_queries::machine::{holds as holds_pair, kept, same};
 use value_queries::point::{Point, point_at};
 use value_queries::variable::{first_place, holds};

@@ -1,14 +1,14 @@
 //! Functions of texts.
 
-use frame_lower::lower::lower;
-use frame_lower::physical::is_physical;
+use frame_lowering::lower::lower;
+use frame_lowering::physical::is_physical;
 use mir_func::entry::OperandPair;
 use mir_func::framed::Framed;
 use mir_func::variable::{Fragment, VarId};
-use mir_parser::closing::Parsed;
-use mir_parser::program::read_program;
-use numbers::code::{DebugNumber, OperandIndex};
-use numbers::metadata::NodeId;
+use read_program::closing::Parsed;
+use read_program::program::read_program;
+use base_ids::code::{DebugNumber, OperandIndex};
+use base_ids::metadata::NodeId;
 use rv64_instr::reg::{Reg, physical};
 use std::alloc::Global;
 use std::test::Fail;

@@ -2,13 +2,13 @@
 
 use crate::text::{part, variable};
 use dwarf_loclists::range::{Location, Part, Parts};
-use numbers::code::SlotId;
+use base_ids::code::SlotId;
 use rv64_instr::place::Place;
 use std::alloc::Global;
 use std::test::Fail;
-use variable_locations::group::groups;
-use variable_locations::laws::wanted_locations_give_parts;
-use variable_locations::location::location;
+use location_of_variable::group::groups;
+use location_of_variable::laws::wanted_locations_give_parts;
+use location_of_variable::location::location;
 
 fn is_at(found: &Option<Location>, wanted: &Option<Location>) -> bool {
     match (found, wanted) {

@@ -3,7 +3,7 @@ use Rattle.std.proofs.Common.{◌≡◌, ℕ, ◌+◌, ◌*◌, List, [], ◌∷
 use Rattle.std.specs.List.{flat_map}
 use Rattle.std.specs.Int.{w32, to_le_bytes}
 use Rattle.mir_func.specs.Function.{Function, FramedFunction}
-use Rattle.code_words.specs.Rule.{Layout, words_of}
+use Rattle.emit_code.specs.Rule.{Layout, words_of}
 use Rattle.frame_rule.specs.Rule.{framed_of}
 use Rattle.frames_alike.specs.Alike.{HaveAlikeCode, HaveSameCode, AreFramedAlike, AreFramedSame, stripped_framed}
 use Rattle.frames_alike.proofs.Strips.{frames_strip, frames_same}

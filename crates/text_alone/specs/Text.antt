@@ -4,8 +4,8 @@ use Rattle.std.specs.List.{flat_map}
 use Rattle.std.specs.Int.{w32, to_le_bytes}
 use Rattle.mir_func.specs.Function.{Function}
 use Rattle.mir_func.specs.Strip.{stripped}
-use Rattle.code_words.specs.Long.{IsSettled}
-use Rattle.code_words.specs.Rule.{Layout, words_of}
+use Rattle.emit_code.specs.Long.{IsSettled}
+use Rattle.emit_code.specs.Rule.{Layout, words_of}
 use Rattle.frame_rule.specs.Rule.{framed_of}
 use Rattle.frames_alike.specs.Alike.{HaveAlikeCode, HaveSameCode}
 use Rattle.words_alone.specs.Alone.{AreCodedAlike, AreCodedSame}

@@ -6,13 +6,13 @@ use Rattle.mir_func.specs.declared.block.Block.{Block}
 use Rattle.mir_func.specs.declared.position.Pos.{Pos}
 use Rattle.mir_func.specs.Graph.{block_start}
 use Rattle.mir_func.specs.Successors.{pos_in}
-use Rattle.class_places.specs.declared.index.Index.{Index}
-use Rattle.variable_locations.specs.Wanted.{AreWantedPlaces}
-use Rattle.transfer_emit.specs.declared.stand.Stand.{Stand}
-use Rattle.transfer_emit.specs.declared.values.Values.{Values}
-use Rattle.transfer_emit.specs.Stands.{program, AreValuesOf, Stands}
-use Rattle.transfer_emit.specs.steps.Places.{ArePlacesAt}
-use Rattle.transfer_emit.proofs.Looking.{places_wanted}
+use Rattle.value_tracker.specs.declared.index.Index.{Index}
+use Rattle.location_of_variable.specs.Wanted.{AreWantedPlaces}
+use Rattle.location_ranges.specs.declared.stand.Stand.{Stand}
+use Rattle.location_ranges.specs.declared.values.Values.{Values}
+use Rattle.location_ranges.specs.Stands.{program, AreValuesOf, Stands}
+use Rattle.location_ranges.specs.steps.Places.{ArePlacesAt}
+use Rattle.location_ranges.proofs.Looking.{places_wanted}
 
 at_position : (s : Stand) (b i : ℕ) → s.block ≡ b → s.item ≡ i → pos_in s.block s.item ≡ pos_in b i
 at_position s b i eb ei = λ k. pos_in (eb k) (ei k)

@@ -8,8 +8,8 @@ use Rattle.rv64_instr.specs.declared.place.Place.TheVariants.{Register, Slot, Co
 use Rattle.rv64_instr.specs.Arithmetic.{word}
 use Rattle.mir_func.specs.declared.position.Pos.{Pos}
 use Rattle.mir_func.specs.Graph.{Program}
-use Rattle.mir_meaning.specs.Token.{Token, Tokens, IsPlace, Sits, place_token}
-use Rattle.path_tokens.specs.Pullback.{Tracked, InSlot, token_of}
+use Rattle.sem_mir.specs.Token.{Token, Tokens, IsPlace, Sits, place_token}
+use Rattle.sem_value_ids.specs.Pullback.{Tracked, InSlot, token_of}
 use Rattle.class_paths.specs.Classes.{Classes, IsKnown, AreClasses}
 use Rattle.class_paths.specs.Wanted.{thing_at, AreThingsOf}
 use Rattle.class_paths.proofs.Known.{IsBare, slot, path_knows, path_bare}

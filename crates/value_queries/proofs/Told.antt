@@ -17,22 +17,22 @@ use Rattle.mir_func.specs.declared.position.Pos.{Pos}
 use Rattle.mir_func.specs.declared.variable.VarId.{VarId}
 use Rattle.mir_func.specs.Graph.{Program, block_start}
 use Rattle.mir_func.specs.Successors.{pos_in}
-use Rattle.mir_meaning.specs.Token.{Fixed, Token, Tokens, IsPlace, Sits, place_token}
-use Rattle.path_tokens.specs.Pullback.{InRegister, InSlot, OfPair, OfVariable, OfNumber, token_of}
-use Rattle.path_tokens.specs.Pullback as path
+use Rattle.sem_mir.specs.Token.{Fixed, Token, Tokens, IsPlace, Sits, place_token}
+use Rattle.sem_value_ids.specs.Pullback.{InRegister, InSlot, OfPair, OfVariable, OfNumber, token_of}
+use Rattle.sem_value_ids.specs.Pullback as path
 use Rattle.class_entries.specs.declared.tracked.Tracked.{Tracked}
 use Rattle.class_entries.specs.declared.tracked.Tracked.TheVariants.{Pair, Part, Number}
 use Rattle.class_entries.specs.Entry.{thing}
 use Rattle.class_paths.specs.Classes.{Classes, IsKnown}
 use Rattle.class_paths.specs.Wanted.{thing_at}
 use Rattle.class_paths.proofs.Known.{slot, variable}
-use Rattle.class_places.specs.declared.index.Index.{Index}
-use Rattle.class_places.specs.Things.{is_key, Indexes}
-use Rattle.class_places.specs.Held.{SLOTS_FROM, PLACES, slot_place, class_at, number_class, pair_class}
-use Rattle.class_places.proofs.Starting.{stands as stand_of, contained, is_part, is_pair}
-use Rattle.transfer_emit.specs.declared.stand.Stand.{Stand}
-use Rattle.transfer_emit.specs.declared.values.Values.{Values}
-use Rattle.transfer_emit.specs.Stands.{program, AreValuesOf, Reaches, Stands}
+use Rattle.value_tracker.specs.declared.index.Index.{Index}
+use Rattle.value_tracker.specs.Things.{is_key, Indexes}
+use Rattle.value_tracker.specs.Held.{SLOTS_FROM, PLACES, slot_place, class_at, number_class, pair_class}
+use Rattle.value_tracker.proofs.Starting.{stands as stand_of, contained, is_part, is_pair}
+use Rattle.location_ranges.specs.declared.stand.Stand.{Stand}
+use Rattle.location_ranges.specs.declared.values.Values.{Values}
+use Rattle.location_ranges.specs.Stands.{program, AreValuesOf, Reaches, Stands}
 use Rattle.value_queries.specs.Sitting.{IsFit, SitsAt, SitsByClass, named_class, place_number}
 use Rattle.value_queries.proofs.Sitting.{Told, PlaceTold, place_is, sits_by_class, class_by_sits}
 

@@ -7,14 +7,14 @@ use Rattle.mir_func.specs.declared.block.Block.{Block}
 use Rattle.mir_func.specs.declared.position.Pos.{Pos}
 use Rattle.mir_func.specs.Graph.{Program, block_start}
 use Rattle.mir_func.specs.Successors.{pos_in}
-use Rattle.mir_meaning.specs.Token.{Token, Tokens, IsPlace, Sits, place_token}
-use Rattle.class_places.specs.declared.held.Held.{Held}
-use Rattle.class_places.specs.declared.index.Index.{Index}
-use Rattle.class_places.specs.Things.{Indexes}
-use Rattle.class_places.specs.Held.{number_class, slot_place}
-use Rattle.transfer_emit.specs.declared.stand.Stand.{Stand}
-use Rattle.transfer_emit.specs.declared.values.Values.{Values}
-use Rattle.transfer_emit.specs.Stands.{Stands}
+use Rattle.sem_mir.specs.Token.{Token, Tokens, IsPlace, Sits, place_token}
+use Rattle.value_tracker.specs.declared.held.Held.{Held}
+use Rattle.value_tracker.specs.declared.index.Index.{Index}
+use Rattle.value_tracker.specs.Things.{Indexes}
+use Rattle.value_tracker.specs.Held.{number_class, slot_place}
+use Rattle.location_ranges.specs.declared.stand.Stand.{Stand}
+use Rattle.location_ranges.specs.declared.values.Values.{Values}
+use Rattle.location_ranges.specs.Stands.{Stands}
 use Rattle.value_queries.specs.declared.point.Point.{Point}
 
 -- the position of a point

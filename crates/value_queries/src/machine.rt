@@ -5,28 +5,28 @@ ghost use Rattle.std.specs.Prelude.{Some, is_some, true, Contains, length, min, 
 ghost use Rattle.std.specs.HashMap.{get};
 ghost use Rattle.mir_func.specs.declared.block.Block.{Block};
 ghost use Rattle.mir_func.specs.Graph.{Program};
-ghost use Rattle.mir_meaning.specs.Token.{IsPlace, pair_token, place_token};
+ghost use Rattle.sem_mir.specs.Token.{IsPlace, pair_token, place_token};
 ghost use Rattle.class_entries.specs.declared.entry.BlockEntry.{BlockEntry};
 ghost use Rattle.class_entries.specs.declared.tracked.Tracked.{Tracked};
 ghost use Rattle.class_entries.specs.declared.tracked.Tracked.TheVariants.{Pair};
 ghost use Rattle.class_entries.specs.Entry.{IsEntry};
-ghost use Rattle.class_places.specs.Things.{is_key};
-ghost use Rattle.class_places.specs.Held.{pair_class};
-ghost use Rattle.transfer_emit.specs.Stands.{AreValuesOf, program};
+ghost use Rattle.value_tracker.specs.Things.{is_key};
+ghost use Rattle.value_tracker.specs.Held.{pair_class};
+ghost use Rattle.location_ranges.specs.Stands.{AreValuesOf, program};
 ghost use Rattle.value_queries.specs.Sitting.{IsFit, IsPointOf, SitsAt, SitsByClass, position, named_class};
 ghost use Rattle.value_queries.specs.Sitting.{place_number};
 
 use crate::point::Point;
 use crate::sits::{class_sits, named_class, number_of};
 use class_entries::entry::BlockEntry;
-use class_places::index::{key, pair_class};
+use value_tracker::index::{key, pair_class};
 use mir_func::entry::OperandPair;
 use rv64_instr::place::Place;
-use transfer_emit::values::Values;
+use location_ranges::values::Values;
 
 /// Whether the value of an operand of the instruction with a debug instruction number sits in a place at a point: some
 /// path leads there, and on every path to it both have one token. None exactly where the pair isn't tracked: of all
-/// pairs those are that marks ask for, and those that `machine_values::values::solve_asking` was given.
+/// pairs those are that marks ask for, and those that `value_live_ins::values::solve_asking` was given.
 pub fn holds(values: &Values, point: &Point, pair: &OperandPair, place: &Place) -> Option<bool>
     ensures tracked { (blocks : List Block) → IsPointOf blocks values.now point.now →
         IsSome result ↔ Contains values.now.things.now (Pair pair.now) }

@@ -3,16 +3,16 @@
 ghost use Rattle.std.specs.Prelude.{◌≡◌, ◌<◌, ◌≤◌, IfOk, Some, length, slice_get};
 ghost use Rattle.mir_func.specs.declared.block.Block.{Block};
 ghost use Rattle.mir_func.specs.Successors.{pos_in};
-ghost use Rattle.class_places.specs.Things.{AreThings};
-ghost use Rattle.transfer_emit.specs.Stands.{AreValuesOf};
+ghost use Rattle.value_tracker.specs.Things.{AreThings};
+ghost use Rattle.location_ranges.specs.Stands.{AreValuesOf};
 ghost use Rattle.value_queries.specs.Sitting.{IsPointOf, position};
 
 use crate::stand::stand_before;
-use class_places::index::{Index, index_of};
+use value_tracker::index::{Index, index_of};
 use mir_func::block::Block;
 use std::alloc::{AllocError, Global};
-use transfer_emit::stand::Stand;
-use transfer_emit::values::Values;
+use location_ranges::stand::Stand;
+use location_ranges::values::Values;
 
 /// What is known before an item of a block, or behind its last one. Questions about values there take no memory.
 #[derive(Drop)]

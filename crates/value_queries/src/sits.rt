@@ -3,14 +3,14 @@
 ghost use Rattle.std.specs.Prelude.{◌≡◌, ◌≢◌, ◌↔◌, ◌%◌, true, IsTrue, cond, nat_eq, nat_lt, slice_index};
 ghost use Rattle.rv64_instr.specs.declared.place.Place.TheVariants.{Const};
 ghost use Rattle.rv64_instr.specs.Arithmetic.{word};
-ghost use Rattle.mir_meaning.specs.Token.{IsPlace};
-ghost use Rattle.class_places.specs.Held.{slot_place};
+ghost use Rattle.sem_mir.specs.Token.{IsPlace};
+ghost use Rattle.value_tracker.specs.Held.{slot_place};
 ghost use Rattle.value_queries.specs.Sitting.{IsFit, SitsByClass, named_class};
 
 use crate::point::Point;
-use class_places::held::{Held, SLOTS_FROM, slot_place};
-use class_places::index::number_class;
-use numbers::code::SlotId;
+use value_tracker::held::{Held, SLOTS_FROM, slot_place};
+use value_tracker::index::number_class;
+use base_ids::code::SlotId;
 use rv64_instr::place::Place;
 use rv64_instr::reg::Reg;
 

@@ -2,15 +2,15 @@
 
 ghost use Rattle.std.specs.Prelude.{◌≡◌, ◌<◌, ◌≤◌, Contains, IfOk, IfSome, IsNone, List, Some, length, slice_get};
 ghost use Rattle.mir_func.specs.declared.block.Block.{Block};
-ghost use Rattle.class_places.specs.Things.{AreThings, Indexes};
-ghost use Rattle.transfer_emit.specs.Stands.{AreValuesOf, Stands, Fits};
+ghost use Rattle.value_tracker.specs.Things.{AreThings, Indexes};
+ghost use Rattle.location_ranges.specs.Stands.{AreValuesOf, Stands, Fits};
 
-use class_places::index::Index;
+use value_tracker::index::Index;
 use mir_func::block::Block;
 use mir_func::variable::VarId;
 use std::alloc::{AllocError, Global};
-use transfer_emit::stand::{Stand, enter, move_to};
-use transfer_emit::values::Values;
+use location_ranges::stand::{Stand, enter, move_to};
+use location_ranges::values::Values;
 
 /// The walk before an item of a block, or behind its last one.
 pub fn stand_before(

@@ -6,25 +6,25 @@ ghost use Rattle.mir_func.specs.declared.block.Block.{Block};
 ghost use Rattle.mir_func.specs.declared.position.Pos.{Pos};
 ghost use Rattle.mir_func.specs.Graph.{Program, block_start};
 ghost use Rattle.mir_func.specs.Successors.{pos_in};
-ghost use Rattle.mir_meaning.specs.Token.{variable_token};
-ghost use Rattle.class_places.specs.Things.{AreThings};
-ghost use Rattle.transfer_emit.specs.Stands.{AreValuesOf, Fits, program};
-ghost use Rattle.transfer_emit.specs.steps.Places.{ArePlacesAt};
-ghost use Rattle.variable_locations.specs.Wanted.{AreWantedPlaces, IsWantedPlace};
+ghost use Rattle.sem_mir.specs.Token.{variable_token};
+ghost use Rattle.value_tracker.specs.Things.{AreThings};
+ghost use Rattle.location_ranges.specs.Stands.{AreValuesOf, Fits, program};
+ghost use Rattle.location_ranges.specs.steps.Places.{ArePlacesAt};
+ghost use Rattle.location_of_variable.specs.Wanted.{AreWantedPlaces, IsWantedPlace};
 ghost use Rattle.value_queries.specs.Sitting.{IsPointOf, SitsAt, position};
 
 use crate::point::Point;
 use crate::sits::class_sits;
 use crate::stand::{index_in, stand_before};
-use class_places::held::Held;
-use class_places::index::index_of;
+use value_tracker::held::Held;
+use value_tracker::index::index_of;
 use mir_func::block::Block;
 use mir_func::variable::VarId;
 use rv64_instr::place::Place;
 use std::alloc::{AllocError, Global};
-use transfer_emit::places::look_up;
-use transfer_emit::stand::Stand;
-use transfer_emit::values::Values;
+use location_ranges::places::look_up;
+use location_ranges::stand::Stand;
+use location_ranges::values::Values;
 
 /// The first place in which the value of a part of a variable sits on every path to an item of a block, or behind its
 /// last one: a number, else the lowest register, else the lowest slot. None exactly where it sits in none. It walks

@@ -4,10 +4,10 @@ use Rattle.mir_func.specs.declared.block.Block.{Block}
 use Rattle.mir_func.specs.declared.position.Origin.{Origin}
 use Rattle.mir_func.specs.declared.position.Origin.TheVariants.{Kept, Before}
 use Rattle.mir_func.specs.Function.{FramedFunction}
-use Rattle.code_words.specs.Listed.{Line, lines_of}
-use Rattle.code_words.specs.Long.{IsSettled}
-use Rattle.code_words.specs.Rule.{Layout, entries_of, words_of, added_before}
-use Rattle.follow_law.specs.Code.{placeless_origin}
+use Rattle.emit_code.specs.Listed.{Line, lines_of}
+use Rattle.emit_code.specs.Long.{IsSettled}
+use Rattle.emit_code.specs.Rule.{Layout, entries_of, words_of, added_before}
+use Rattle.pass_trait.specs.Code.{placeless_origin}
 use Rattle.frames_alike.specs.Alike.{stripped_framed}
 use Rattle.words_alone.specs.Alone.{AreCodedSame, CodeHasWords, AlikeCodeIsCodedAlike, SameCodeIsCodedSame}
 use Rattle.words_alone.proofs.Drops.{DropsEach, stripped_each, placeless_each}

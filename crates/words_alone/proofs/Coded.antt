@@ -20,12 +20,12 @@ use Rattle.mir_func.specs.declared.variable.VarId.{VarId}
 use Rattle.mir_func.specs.Exits.{row_exit}
 use Rattle.mir_func.specs.Function.{FramedFunction}
 use Rattle.mir_func.specs.Successors.{pos_in}
-use Rattle.code_words.specs.declared.code.Entry.{Entry}
-use Rattle.code_words.specs.Inverted.{skip_of, jump_to}
-use Rattle.code_words.specs.Listed.{Line, listed, form_lines, lines_at, lines_of}
-use Rattle.code_words.specs.Rule.{Layout, Form, Nothing, OneWord, CallSite, LongBranch, row_form, address_in, start_of, offset_to, object_offset, operation_at}
-use Rattle.code_words.specs.Rule.{skip_operation, word_if, form_words, added_before, form_entries, Site, sites_in, sites_from}
-use Rattle.code_words.specs.Rule.{entries_at, words_at, entries_of, words_of}
+use Rattle.emit_code.specs.declared.code.Entry.{Entry}
+use Rattle.emit_code.specs.Inverted.{skip_of, jump_to}
+use Rattle.emit_code.specs.Listed.{Line, listed, form_lines, lines_at, lines_of}
+use Rattle.emit_code.specs.Rule.{Layout, Form, Nothing, OneWord, CallSite, LongBranch, row_form, address_in, start_of, offset_to, object_offset, operation_at}
+use Rattle.emit_code.specs.Rule.{skip_operation, word_if, form_words, added_before, form_entries, Site, sites_in, sites_from}
+use Rattle.emit_code.specs.Rule.{entries_at, words_at, entries_of, words_of}
 use Rattle.words_alone.proofs.Drops.{Drops, none, code, mark, phi, DropsEach, no_more, more, up, items_drop, up_in}
 use Rattle.words_alone.proofs.Settled.{lay, g, code_address, start_same, long_alone}
 

@@ -19,8 +19,8 @@ use Rattle.mir_func.specs.Graph.{index_of}
 use Rattle.mir_func.specs.SoundFrame.{body_of}
 use Rattle.mir_func.specs.Strip.{stripped_items, stripped_blocks}
 use Rattle.mir_func.specs.Successors.{pos_in}
-use Rattle.code_words.specs.Rule.{items_at}
-use Rattle.follow_law.specs.Code.{placeless_origin, placeless_item, placeless_block}
+use Rattle.emit_code.specs.Rule.{items_at}
+use Rattle.pass_trait.specs.Code.{placeless_origin, placeless_item, placeless_block}
 
 -- the code of items in order, whatever its numbers and locations, with what is left of its origins
 pub data Drops (w : Origin → Origin) : List Item → List Item → Type 0 where

@@ -6,7 +6,7 @@ use Rattle.mir_func.specs.declared.item.Item.{Item}
 use Rattle.mir_func.specs.declared.position.Origin.{Origin}
 use Rattle.mir_func.specs.declared.position.Pos.{Pos}
 use Rattle.mir_func.specs.Successors.{pos_in}
-use Rattle.code_words.specs.Rule.{row_form, form_size, items_size, blocks_size, bytes_before}
+use Rattle.emit_code.specs.Rule.{row_form, form_size, items_size, blocks_size, bytes_before}
 use Rattle.words_alone.proofs.Drops.{Drops, none, code, mark, phi, DropsEach, no_more, more, down, up, items_drop, up_in, down_in}
 
 module _ (long alone : Pos → Bool) where

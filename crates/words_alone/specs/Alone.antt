@@ -1,11 +1,11 @@
 -- The machine code of functions with their frames, whatever debug items stand in them.
 use Rattle.std.specs.Prelude.{◌≡◌, Bool, map}
 use Rattle.mir_func.specs.declared.position.Pos.{Pos}
-use Rattle.code_words.specs.declared.code.Entry.{Entry}
-use Rattle.code_words.specs.Listed.{Line, lines_of}
-use Rattle.code_words.specs.Long.{IsSettled}
-use Rattle.code_words.specs.Rule.{Layout, entries_of, words_of}
-use Rattle.follow_law.specs.Code.{placeless_origin}
+use Rattle.emit_code.specs.declared.code.Entry.{Entry}
+use Rattle.emit_code.specs.Listed.{Line, lines_of}
+use Rattle.emit_code.specs.Long.{IsSettled}
+use Rattle.emit_code.specs.Rule.{Layout, entries_of, words_of}
+use Rattle.pass_trait.specs.Code.{placeless_origin}
 use Rattle.frames_alike.specs.Alike.{stripped_framed, AreFramedSame, AreFramedAlike}
 
 -- an entry without its point, which counts debug items

@@ -3,8 +3,8 @@ use Rattle.std.specs.Prelude.{◌≡◌, ◌⊎◌, ℕ, List, [], ◌∷◌, �
 use Rattle.std.specs.Option.{option_map}
 use Rattle.std.specs.List.{flat_map}
 use Rattle.mir_func.specs.declared.block.Block.{Block}
-use Rattle.fold_ways.specs.Leads.{first_id}
-use Rattle.fold_ways.specs.steps.Settled.{is_among}
+use Rattle.fold_targets.specs.Leads.{first_id}
+use Rattle.fold_targets.specs.steps.Settled.{is_among}
 use Rattle.fold_rule.specs.declared.ways.Ways.{Ways}
 use Rattle.fold_rule.specs.Reached.{LeadTo, Reached}
 

@@ -1,7 +1,7 @@
 use Rattle.std.proofs.Common.{List, nat_eq, subst}
 use Rattle.std.specs.HashSet.{contains}
 use Rattle.mir_func.specs.declared.block.Block.{Block}
-use Rattle.fold_ways.specs.Ends.{end_in}
+use Rattle.fold_targets.specs.Ends.{end_in}
 use Rattle.fold_rule.specs.Rule.{AreFolded}
 use Rattle.branch_fold.proofs.Folding.{made_losses}
 use Rattle.branch_fold.proofs.fold.fold_copy.Goals as goal

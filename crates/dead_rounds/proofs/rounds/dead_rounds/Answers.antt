@@ -1,8 +1,8 @@
 use Rattle.std.proofs.Common.{◌≡◌, ◌<◌, ◌+◌, ℕ, List, ◌++◌, Option, Bool, cond, ap, ◌∙◌, subst, arith}
 use Rattle.mir_func.specs.declared.entry.Entry.{Entry}
 use Rattle.mir_func.specs.Function.{Function}
-use Rattle.follow_law.specs.declared.loss.Loss.{Loss}
-use Rattle.follow_law.specs.Sizes.{code_count}
+use Rattle.pass_trait.specs.declared.loss.Loss.{Loss}
+use Rattle.pass_trait.specs.Sizes.{code_count}
 use Rattle.dead_code.specs.Dead.{IsRound}
 use Rattle.dead_sizes.specs.Round.{IsDeadRound, IsRoundWith}
 use Rattle.dead_sizes.proofs.Follows.{round_code}

@@ -1,5 +1,5 @@
 use Rattle.std.proofs.Common.{◌+◌, cond}
-use Rattle.follow_law.specs.Sizes.{code_count}
+use Rattle.pass_trait.specs.Sizes.{code_count}
 use Rattle.dead_rounds.proofs.Loop.{Going}
 use Rattle.dead_rounds.proofs.rounds.dead_rounds.Given as goal
 

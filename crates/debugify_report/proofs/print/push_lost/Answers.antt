@@ -1,7 +1,7 @@
 use Rattle.std.proofs.Common.{◌≡◌, ◌++◌, ℕ, sym, subst}
 use Rattle.std.specs.Prelude.{codes, OnOk}
 use Rattle.std.specs.Fmt.{decimal}
-use Rattle.follow_law.specs.declared.loss.Lost.{Lost}
+use Rattle.pass_trait.specs.declared.loss.Lost.{Lost}
 use Rattle.debugify_report.specs.Text.{lost_text}
 use Rattle.debugify_report.proofs.print.push_lost.Goals as goal
 

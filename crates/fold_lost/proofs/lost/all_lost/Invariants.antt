@@ -1,6 +1,6 @@
 use Rattle.std.proofs.Common.{◌≡◌, take, nat_eq}
 use Rattle.std.specs.HashSet.{contains}
-use Rattle.fold_ways.specs.Ends.{told, end_in}
+use Rattle.fold_targets.specs.Ends.{told, end_in}
 use Rattle.fold_debug.specs.Lost.{all_lost}
 use Rattle.fold_lost.proofs.lost.all_lost.Given as goal
 

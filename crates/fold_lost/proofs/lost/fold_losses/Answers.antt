@@ -1,8 +1,8 @@
 use Rattle.std.proofs.Common.{◌≡◌, ◌↔◌, ℕ, List, Contains, Bool, Option, nat_eq, subst, sym, ap, ◌∙◌}
 use Rattle.std.specs.HashSet.{contains}
-use Rattle.follow_law.specs.declared.loss.Loss.{Loss}
-use Rattle.fold_ways.specs.Leads.{lead}
-use Rattle.fold_ways.specs.Ends.{told, end_in}
+use Rattle.pass_trait.specs.declared.loss.Loss.{Loss}
+use Rattle.fold_targets.specs.Leads.{lead}
+use Rattle.fold_targets.specs.Ends.{told, end_in}
 use Rattle.fold_debug.specs.Lost.{all_lost}
 use Rattle.fold_lost.proofs.lost.fold_losses.Goals as goal
 

@@ -2,9 +2,9 @@ use Rattle.std.proofs.Common.{◌≡◌, ◌↔◌, ℕ, List, Option, nat_eq, I
 use Rattle.std.specs.HashSet.{contains}
 use Rattle.std.proofs.lemmas.Result.{on_ok_weaker}
 use Rattle.mir_func.specs.declared.block.Block.{Block}
-use Rattle.fold_ways.specs.Ways.{EndsAt}
-use Rattle.fold_ways.specs.Leads.{lead}
-use Rattle.fold_ways.specs.Ends.{told, end_in}
+use Rattle.fold_targets.specs.Ways.{EndsAt}
+use Rattle.fold_targets.specs.Leads.{lead}
+use Rattle.fold_targets.specs.Ends.{told, end_in}
 use Rattle.fold_rule.specs.Reached.{Reached}
 use Rattle.fold_rule.proofs.fold.fold_blocks.Goals as goal
 

@@ -1,8 +1,8 @@
 use Rattle.std.proofs.Common.{◌≡◌, ◌++◌, List, reverse, nat_eq, length}
 use Rattle.std.specs.HashSet.{contains}
 use Rattle.mir_func.specs.declared.block.Block.{Block}
-use Rattle.fold_ways.specs.Leads.{first_id}
-use Rattle.fold_ways.specs.Ends.{end_in}
+use Rattle.fold_targets.specs.Leads.{first_id}
+use Rattle.fold_targets.specs.Ends.{end_in}
 use Rattle.fold_rule.specs.Rule.{staying, folded_blocks}
 use Rattle.fold_rule.proofs.fold.write_anew.Given as goal
 

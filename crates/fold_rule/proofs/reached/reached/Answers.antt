@@ -1,7 +1,7 @@
 use Rattle.std.proofs.Common.{◌≡◌, ℕ, [], Some, None, nat_eq, arith, sym, ap, ◌∙◌, subst, List, ◌++◌}
 use Rattle.std.specs.HashMap.{get}
 use Rattle.std.specs.HashSet.{contains}
-use Rattle.fold_ways.specs.Ends.{end_in}
+use Rattle.fold_targets.specs.Ends.{end_in}
 use Rattle.fold_rule.specs.steps.Walked.{IsWalk, fresh}
 use Rattle.fold_rule.proofs.Walks.{begins, goes_on, goes_nowhere, ways_reached, all_seen, both_visited, none_seen, last_among}
 use Rattle.fold_rule.proofs.reached.reached.Goals as goal

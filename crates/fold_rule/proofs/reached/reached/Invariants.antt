@@ -1,7 +1,7 @@
 use Rattle.std.proofs.Common.{◌+◌, nat_eq, not, length, filter}
 use Rattle.std.specs.HashMap.{get}
 use Rattle.std.specs.HashSet.{contains}
-use Rattle.fold_ways.specs.Ends.{end_in}
+use Rattle.fold_targets.specs.Ends.{end_in}
 use Rattle.fold_rule.specs.steps.Walked.{targets_of, IsWalk}
 use Rattle.fold_rule.proofs.reached.reached.Given as goal
 

@@ -3,7 +3,7 @@ use Rattle.std.specs.Prelude.{IfOk}
 use Rattle.std.specs.Option.{unwrap_or}
 use Rattle.std.specs.Map.{lookup}
 use Rattle.std.specs.HashSet.{contains}
-use Rattle.fold_ways.specs.Ends.{end_in}
+use Rattle.fold_targets.specs.Ends.{end_in}
 use Rattle.fold_rule.specs.Reached.{Reached}
 use Rattle.fold_rule.proofs.reached.reached_before.Goals as goal
 

@@ -5,7 +5,7 @@ use Rattle.mir_func.specs.declared.exit.Exit.TheVariants.{Final}
 use Rattle.mir_func.specs.declared.item.Item.{Item}
 use Rattle.mir_func.specs.Exits.{exit_of}
 use Rattle.fold_rule.specs.steps.Onward.{onward_count}
-use Rattle.fold_ways.specs.Ends.{end_in}
+use Rattle.fold_targets.specs.Ends.{end_in}
 use Rattle.fold_rule.specs.Tails.{first_of, else_way, tail_by, rewritten, branch_tail_to}
 use Rattle.fold_rule.proofs.Tails.{finish, not_onward, first_from, none_left}
 use Rattle.fold_rule.proofs.tail.rewrite.Goals as goal

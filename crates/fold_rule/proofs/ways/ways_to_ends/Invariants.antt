@@ -2,8 +2,8 @@ use Rattle.std.proofs.Common.{◌≡◌, ℕ, ◌++◌, List, nat_eq, length}
 use Rattle.std.specs.Option.{option_map}
 use Rattle.std.specs.HashMap.{get}
 use Rattle.mir_func.specs.declared.block.Block.{Block}
-use Rattle.fold_ways.specs.Leads.{first_id}
-use Rattle.fold_ways.specs.Ends.{end_in}
+use Rattle.fold_targets.specs.Leads.{first_id}
+use Rattle.fold_targets.specs.Ends.{end_in}
 use Rattle.fold_rule.specs.Reached.{ways_in}
 use Rattle.fold_rule.specs.steps.Walked.{ended}
 use Rattle.fold_rule.proofs.ways.ways_to_ends.Given as goal

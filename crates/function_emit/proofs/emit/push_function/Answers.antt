@@ -1,10 +1,10 @@
 -- What was made of the functions before has one function more behind it: its parts are those that the calls gave.
 use Rattle.std.proofs.Common.{◌<◌, ℕ, refl, subst, length, arith, rules}
-use Rattle.code_words.specs.Counts.{MAX_WORDS, MAX_BASE}
-use Rattle.output_promise.specs.Source.{PassedFunction}
+use Rattle.emit_code.specs.Counts.{MAX_WORDS, MAX_BASE}
+use Rattle.compile_theorem.specs.Source.{PassedFunction}
 use Rattle.function_emit.proofs.Pushed.{few_variables, pushed}
 use Rattle.function_emit.specs.Emitted.{IsOneCompiled}
-use Rattle.function_passes.specs.Passed.{passed_of}
+use Rattle.compile_passes.specs.Passed.{passed_of}
 use Rattle.function_emit.proofs.emit.push_function.Goals as goal
 
 pub listed-requires-clause-numbers : goal.listed-requires-clause-numbers

@@ -1,6 +1,6 @@
 use Rattle.std.proofs.Common.{◌≡◌, rules}
 use Rattle.std.proofs.lemmas.Grind.{common_steps}
-use Rattle.mir_parser.specs.declared.program.Program.{Program}
+use Rattle.read_program.specs.declared.program.Program.{Program}
 use Rattle.generated_program.specs.Program.{generated_program}
 use Rattle.generated_program.proofs.ReadLemmas.{is_read}
 use Rattle.generated_program.proofs.program.generated_program.Goals as goal

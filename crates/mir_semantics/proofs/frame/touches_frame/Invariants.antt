@@ -1,5 +1,5 @@
 use Rattle.std.proofs.Common.{◌≡◌, ◌+◌, ◌-◌}
-use Rattle.mir_meaning.specs.State.{touches_frame}
+use Rattle.sem_mir.specs.State.{touches_frame}
 use Rattle.mir_semantics.proofs.frame.touches_frame.Given as goal
 
 abbrev pub invariant-loop-k : goal.invariant-loop-k

@@ -1,5 +1,5 @@
 use Rattle.std.proofs.Common.{◌≡◌, drop}
-use Rattle.mir_meaning.specs.State.{writes_frame}
+use Rattle.sem_mir.specs.State.{writes_frame}
 use Rattle.byte_memory.specs.Held.{some_writes}
 use Rattle.mir_semantics.proofs.frame.writes_frame.Given as goal
 

@@ -1,7 +1,7 @@
 use Rattle.std.proofs.Common.{◌≡◌, Option, ℕ, Some, cond, arith, sym, ap, subst, ◌∙◌}
 use Rattle.std.specs.Map.{lookup}
-use Rattle.mir_meaning.specs.Step.{defined}
-use Rattle.mir_meaning.specs.State.{updated}
+use Rattle.sem_mir.specs.Step.{defined}
+use Rattle.sem_mir.specs.State.{updated}
 use Rattle.mir_semantics.specs.StandsFor.{PairsHold, pair_eq}
 use Rattle.mir_semantics.proofs.History.{pairs_put}
 use Rattle.mir_semantics.proofs.Numbers.{given_below, pairs_alike, below_skips, below_gives, below_all}

@@ -1,6 +1,6 @@
 use Rattle.std.proofs.Common.{◌≤◌, ◌-◌, length}
 use Rattle.std.specs.HashMap.{spare}
-use Rattle.mir_meaning.specs.State.{Core}
+use Rattle.sem_mir.specs.State.{Core}
 use Rattle.mir_semantics.specs.Places.{RegistersHold}
 use Rattle.mir_semantics.specs.StandsFor.{PairsHold}
 use Rattle.mir_semantics.proofs.Numbers.{given_below}

@@ -1,5 +1,5 @@
 use Rattle.std.proofs.Common.{◌≡◌, true, false, cond, Some, List, [], ◌∷◌, ◌++◌, subst, sym, ap, ◌∙◌}
-use Rattle.code_words.specs.declared.code.Entry.{Entry}
+use Rattle.emit_code.specs.declared.code.Entry.{Entry}
 use Rattle.source_lines.specs.Table.{is_place_before}
 use Rattle.source_lines.proofs.RowSteps.{SoFar, next}
 use Rattle.source_lines.proofs.Split.{split_at}

@@ -1,6 +1,6 @@
 use Rattle.std.proofs.Common.{◌≡◌, ◌&&◌, ℕ, filter, ◌∙◌, rules}
 use Rattle.std.proofs.lemmas.Fn.{filter_same}
-use Rattle.follow_law.specs.Causes.{is_named}
+use Rattle.pass_trait.specs.Causes.{is_named}
 use Rattle.spill_rule.specs.Choice.{is_bound, is_free}
 use Rattle.spill_choice.specs.Incoming.{is_among}
 use Rattle.spill_choice.specs.Left.{first_reason}

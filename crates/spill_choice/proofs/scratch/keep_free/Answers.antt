@@ -1,6 +1,6 @@
 use Rattle.std.proofs.Common.{not, rules}
 use Rattle.std.proofs.lemmas.Fn.{filter_same}
-use Rattle.follow_law.specs.Causes.{is_named}
+use Rattle.pass_trait.specs.Causes.{is_named}
 use Rattle.spill_choice.proofs.scratch.keep_free.Goals as goal
 
 pub returns : goal.returns

@@ -4,8 +4,8 @@ use Rattle.rv64_instr.specs.declared.place.Place.TheVariants.{Register}
 use Rattle.mir_func.specs.Function.{Function}
 use Rattle.mir_func.specs.Graph.{program_of, block_start}
 use Rattle.mir_func.specs.Sound.{ids_of, LastCloses}
-use Rattle.mir_meaning.specs.Live.{Live}
-use Rattle.live_flow.specs.Sets.{has}
+use Rattle.sem_mir.specs.Live.{Live}
+use Rattle.pass_liveness.specs.Sets.{has}
 use Rattle.spill_rule.specs.Rule.{Decides}
 use Rattle.spill_choice.specs.Incoming.{is_among}
 use Rattle.spill_incoming.proofs.Among.{passes, found, some_block, first_is, if_ok}

@@ -1,7 +1,7 @@
 use Rattle.std.proofs.Common.{rules}
 use Rattle.std.proofs.lemmas.Fn.{filter_same}
 use Rattle.rv64_instr.specs.declared.place.Place.TheVariants.{Register}
-use Rattle.live_flow.specs.Sets.{has}
+use Rattle.pass_liveness.specs.Sets.{has}
 use Rattle.spill_incoming.proofs.incoming.keep_live.Goals as goal
 
 pub returns : goal.returns

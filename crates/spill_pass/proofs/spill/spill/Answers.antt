@@ -2,14 +2,14 @@ use Rattle.std.proofs.Common.{◌≡◌, ℕ, ◌+◌, ◌<◌, ◌^◌, List, �
 use Rattle.mir_func.specs.declared.block.Block.{Block}
 use Rattle.mir_func.specs.Function.{Function}
 use Rattle.mir_func.specs.Sound.{AllItems, IsSound, HasForm}
-use Rattle.follow_law.specs.declared.loss.Loss.{Loss}
-use Rattle.follow_law.specs.Sizes.{greatest_number}
+use Rattle.pass_trait.specs.declared.loss.Loss.{Loss}
+use Rattle.pass_trait.specs.Sizes.{greatest_number}
 use Rattle.spill_code.specs.declared.spilling.Home.{Home}
 use Rattle.spill_code.specs.declared.spilling.Spilling.{Spilling}
 use Rattle.spill_code.specs.Rewrite.{spilled_blocks}
 use Rattle.spill_code.specs.Room.{HaveRoom}
-use Rattle.spill_marks.specs.Asked.{number_beyond, blocks_asked}
-use Rattle.spill_marks.specs.Lost.{AreScratchLosses}
+use Rattle.spill_debug.specs.Asked.{number_beyond, blocks_asked}
+use Rattle.spill_debug.specs.Lost.{AreScratchLosses}
 use Rattle.spill_choice.specs.Incoming.{is_among}
 use Rattle.spill_rule.specs.Choice.{entry_of}
 use Rattle.spill_whole.specs.Whole.{spilled_by}

@@ -1,7 +1,7 @@
 use Rattle.std.proofs.Common.{ap, ◌∙◌}
 use Rattle.mir_func.specs.Function.{Function}
 use Rattle.mir_func.specs.declared.item.Item.{Item}
-use Rattle.follow_law.specs.Causes.{names}
+use Rattle.pass_trait.specs.Causes.{names}
 use Rattle.spill_rule.specs.steps.Any.{any_item}
 use Rattle.spill_rule.proofs.Flat.{any_flat}
 use Rattle.spill_rule.proofs.named.is_named.Goals as goal

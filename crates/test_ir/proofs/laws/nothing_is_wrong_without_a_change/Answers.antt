@@ -4,10 +4,10 @@ use Rattle.mir_func.specs.declared.position.Pos.{Pos}
 use Rattle.mir_func.specs.declared.entry.Entry.{Entry}
 use Rattle.mir_func.specs.Function.{Function}
 use Rattle.mir_func.specs.Graph.{Program}
-use Rattle.follow_law.specs.Change.{Change, change}
-use Rattle.follow_law.specs.Rule.{IsNow}
-use Rattle.follow_law.specs.Causes.{Comes, begins, goes_on, IsDefinition, IsWrong, removed, unnamed, unset, overwritten}
-use Rattle.follow_law.specs.Nops.{nop_rule}
+use Rattle.pass_trait.specs.Change.{Change, change}
+use Rattle.pass_trait.specs.Rule.{IsNow}
+use Rattle.pass_trait.specs.Causes.{Comes, begins, goes_on, IsDefinition, IsWrong, removed, unnamed, unset, overwritten}
+use Rattle.pass_trait.specs.Nops.{nop_rule}
 use Rattle.test_ir.proofs.laws.nothing_is_wrong_without_a_change.Goals as goal
 
 -- a path that begins nowhere leads nowhere

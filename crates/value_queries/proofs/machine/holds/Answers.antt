@@ -1,5 +1,5 @@
 use Rattle.std.proofs.Common.{refl}
-use Rattle.path_tokens.specs.Pullback.{OfPair}
+use Rattle.sem_value_ids.specs.Pullback.{OfPair}
 use Rattle.value_queries.proofs.Told.{sits_where, pair_told, untracked, tracked_by}
 use Rattle.value_queries.proofs.machine.holds.Goals as goal
 

@@ -1,5 +1,5 @@
 use Rattle.std.proofs.Common.{length, sym, ap, ◌∙◌, subst}
-use Rattle.transfer_emit.specs.steps.Places.{ArePlacesAt}
+use Rattle.location_ranges.specs.steps.Places.{ArePlacesAt}
 use Rattle.value_queries.proofs.Asking.{wanted_at}
 use Rattle.value_queries.proofs.variable.first_place.Goals as goal
 

@@ -1,4 +1,4 @@
-use Rattle.path_tokens.specs.Pullback.{OfVariable}
+use Rattle.sem_value_ids.specs.Pullback.{OfVariable}
 use Rattle.value_queries.proofs.Told.{sits_where, part_told}
 use Rattle.value_queries.proofs.variable.holds.Goals as goal
 

@@ -1,9 +1,9 @@
 use Rattle.std.proofs.Common.{[], ◌∷◌, ◌≡◌}
 use Rattle.mir_func.specs.Function.{Function}
 use Rattle.mir_func.specs.Sound.{AllItems, HasForm}
-use Rattle.follow_law.specs.Change.{change}
-use Rattle.follow_law.specs.Sizes.{KeepsSizes}
-use Rattle.follow_law.specs.Steps.{KeepsSteps}
+use Rattle.pass_trait.specs.Change.{change}
+use Rattle.pass_trait.specs.Sizes.{KeepsSizes}
+use Rattle.pass_trait.specs.Steps.{KeepsSteps}
 use Rattle.branch_fold.proofs.Results.{both_ok}
 use Rattle.fold_debug.specs.Debug.{fold_step}
 use Rattle.branch_fold.specs.Folded.{AreFoldedWithLosses}

@@ -1,5 +1,5 @@
 use Rattle.std.proofs.Common.{◌≡◌, ℕ, drop}
-use Rattle.mir_meaning.specs.State.{written}
+use Rattle.sem_mir.specs.State.{written}
 use Rattle.byte_memory.specs.Held.{MemoryHolds}
 use Rattle.byte_memory.proofs.memory.Memory.new.Given as goal
 

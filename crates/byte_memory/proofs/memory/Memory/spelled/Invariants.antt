@@ -1,5 +1,5 @@
 use Rattle.std.proofs.Common.{◌≡◌, ◌<◌, ◌+◌, ◌-◌, ◌*◌, ◌^◌}
-use Rattle.mir_meaning.specs.State.{spelled}
+use Rattle.sem_mir.specs.State.{spelled}
 use Rattle.byte_memory.specs.Held.{number_in}
 use Rattle.byte_memory.proofs.memory.Memory.spelled.Given as goal
 

@@ -1,5 +1,5 @@
 use Rattle.std.proofs.Common.{arith}
-use Rattle.mir_meaning.specs.State.{updated}
+use Rattle.sem_mir.specs.State.{updated}
 use Rattle.byte_memory.proofs.Loops.{memory_put, stored_first, stored_turn}
 use Rattle.byte_memory.proofs.memory.Memory.store.Goals as goal
 

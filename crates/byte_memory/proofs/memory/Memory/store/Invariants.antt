@@ -1,6 +1,6 @@
 use Rattle.std.proofs.Common.{◌≡◌, ℕ, ◌≤◌, ◌+◌, ◌-◌}
 use Rattle.std.specs.HashMap.{spare}
-use Rattle.mir_meaning.specs.State.{stored, low_bytes}
+use Rattle.sem_mir.specs.State.{stored, low_bytes}
 use Rattle.byte_memory.specs.Held.{MemoryHolds}
 use Rattle.byte_memory.proofs.memory.Memory.store.Given as goal
 

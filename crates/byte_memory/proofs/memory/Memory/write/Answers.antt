@@ -1,5 +1,5 @@
 use Rattle.std.proofs.Common.{arith}
-use Rattle.mir_meaning.specs.State.{updated}
+use Rattle.sem_mir.specs.State.{updated}
 use Rattle.byte_memory.proofs.Loops.{memory_put, written_some, written_none, written_end}
 use Rattle.byte_memory.proofs.memory.Memory.write.Goals as goal
 use Rattle.byte_memory.proofs.memory.Memory.write.Goals.{in-Some+in_ok-insert, in_default}

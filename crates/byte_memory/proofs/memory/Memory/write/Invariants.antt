@@ -1,6 +1,6 @@
 use Rattle.std.proofs.Common.{◌≡◌, ℕ, ◌≤◌, ◌-◌, drop, length}
 use Rattle.std.specs.HashMap.{spare}
-use Rattle.mir_meaning.specs.State.{written}
+use Rattle.sem_mir.specs.State.{written}
 use Rattle.byte_memory.specs.Held.{MemoryHolds, some_writes}
 use Rattle.byte_memory.proofs.memory.Memory.write.Given as goal
 

@@ -1,10 +1,10 @@
 use Rattle.std.proofs.Common.{◌+◌, ◌<◌, ◌^◌, ℕ, List, false, true, arith}
 use Rattle.mir_func.specs.declared.entry.Entry.{Entry}
 use Rattle.mir_func.specs.Function.{Function}
-use Rattle.follow_law.specs.Change.{change}
-use Rattle.follow_law.specs.Following.{KeepsFollowing}
-use Rattle.follow_law.specs.Sizes.{code_count, KeepsSizes}
-use Rattle.follow_law.specs.Steps.{KeepsSteps}
+use Rattle.pass_trait.specs.Change.{change}
+use Rattle.pass_trait.specs.Following.{KeepsFollowing}
+use Rattle.pass_trait.specs.Sizes.{code_count, KeepsSizes}
+use Rattle.pass_trait.specs.Steps.{KeepsSteps}
 use Rattle.dead_rounds.specs.Rounds.{AreDeadRounds}
 use Rattle.dead_steps.specs.Steps.{dead_steps}
 use Rattle.dead_pass.proofs.Counted.{code_is_items}

@@ -1,7 +1,7 @@
 use Rattle.std.proofs.Common.{◌≡◌, drop}
 use Rattle.rv64_instr.specs.Row.{implicit_uses}
-use Rattle.mir_meaning.specs.State.{Core}
-use Rattle.mir_meaning.specs.Step.{are_written}
+use Rattle.sem_mir.specs.State.{Core}
+use Rattle.sem_mir.specs.Step.{are_written}
 use Rattle.mir_semantics.specs.Acts.{MachineHolds}
 use Rattle.mir_semantics.proofs.machine.Machine.are_written.Given as goal
 

@@ -1,6 +1,6 @@
 use Rattle.std.proofs.Common.{refl, sym, ap, ◌∙◌}
-use Rattle.mir_meaning.specs.Step as step
-use Rattle.mir_meaning.specs.Step.{set_register}
+use Rattle.sem_mir.specs.Step as step
+use Rattle.sem_mir.specs.Step.{set_register}
 use Rattle.mir_semantics.proofs.Rows.{sets_so, sets_does, sets_faults_first, sets_faults_second, faults}
 use Rattle.mir_semantics.proofs.machine.Machine.compute.Goals as goal
 

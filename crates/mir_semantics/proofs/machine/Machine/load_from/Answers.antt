@@ -1,7 +1,7 @@
 use Rattle.std.proofs.Common.{ap, ◌∙◌}
 use Rattle.rv64_instr.specs.Arithmetic.{extended}
-use Rattle.mir_meaning.specs.State.{spelled}
-use Rattle.mir_meaning.specs.Step.{is_fault}
+use Rattle.sem_mir.specs.State.{spelled}
+use Rattle.sem_mir.specs.Step.{is_fault}
 use Rattle.byte_memory.specs.Held.{number_in}
 use Rattle.mir_semantics.proofs.Rows.{loaded_falls, loaded_faults}
 use Rattle.mir_semantics.proofs.machine.Machine.load_from.Goals as goal

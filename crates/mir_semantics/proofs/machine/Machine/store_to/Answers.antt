@@ -1,6 +1,6 @@
 use Rattle.std.proofs.Common.{ℕ, ap, subst, ◌∙◌}
-use Rattle.mir_meaning.specs.State.{stored, low_bytes}
-use Rattle.mir_meaning.specs.Step.{is_fault}
+use Rattle.sem_mir.specs.State.{stored, low_bytes}
+use Rattle.sem_mir.specs.Step.{is_fault}
 use Rattle.byte_memory.specs.Held.{MemoryHolds}
 use Rattle.mir_semantics.proofs.Rows.{put_falls, put_faults}
 use Rattle.mir_semantics.proofs.machine.Machine.store_to.Goals as goal

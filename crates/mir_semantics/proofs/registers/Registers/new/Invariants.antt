@@ -1,7 +1,7 @@
 use Rattle.std.proofs.Common.{◌≡◌, ℕ, ◌<◌, length, None}
 use Rattle.std.specs.Prelude.{slice_index_or}
 use Rattle.mir_semantics.specs.Places.{starting_registers}
-use Rattle.mir_meaning.specs.State.{content}
+use Rattle.sem_mir.specs.State.{content}
 use Rattle.mir_semantics.proofs.registers.Registers.new.Given as goal
 
 abbrev pub invariant-loop-r : goal.invariant-loop-r

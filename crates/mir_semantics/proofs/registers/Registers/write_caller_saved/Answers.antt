@@ -1,6 +1,6 @@
 use Rattle.std.proofs.Common.{arith, refl}
 use Rattle.rv64_instr.specs.Access.{caller_saved}
-use Rattle.mir_meaning.specs.State.{put}
+use Rattle.sem_mir.specs.State.{put}
 use Rattle.mir_semantics.proofs.Loops.{put_holds, set_keeps, each_between, put_all_turn}
 use Rattle.mir_semantics.proofs.registers.Registers.write_caller_saved.Goals as goal
 

@@ -1,6 +1,6 @@
 use Rattle.std.proofs.Common.{◌≡◌, ℕ, Option, drop}
 use Rattle.rv64_instr.specs.Access.{caller_saved}
-use Rattle.mir_meaning.specs.State.{put_all}
+use Rattle.sem_mir.specs.State.{put_all}
 use Rattle.mir_semantics.specs.Places.{AreRegisters, RegistersHold}
 use Rattle.mir_semantics.proofs.registers.Registers.write_caller_saved.Given as goal
 

@@ -1,5 +1,5 @@
 use Rattle.std.proofs.Common.{ap, subst, ◌∙◌}
-use Rattle.mir_meaning.specs.Step.{part_of}
+use Rattle.sem_mir.specs.Step.{part_of}
 use Rattle.mir_semantics.specs.StandsFor.{Concrete, Holds}
 use Rattle.mir_semantics.proofs.History.{mark_does}
 use Rattle.mir_semantics.proofs.state.SourceState.mark.Goals as goal

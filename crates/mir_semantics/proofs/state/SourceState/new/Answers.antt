@@ -2,7 +2,7 @@ use Rattle.std.proofs.Common.{List, ap, subst, ◌∙◌}
 use Rattle.mir_func.specs.declared.object.Object.{Object}
 use Rattle.mir_func.specs.Sound.{LastCloses}
 use Rattle.mir_func.specs.Function.{Function}
-use Rattle.mir_meaning.specs.Follow.{first_of}
+use Rattle.sem_mir.specs.Follow.{first_of}
 use Rattle.mir_semantics.specs.Acts.{StartsMachine}
 use Rattle.mir_semantics.proofs.Stepping.{starts_stands, first_position}
 use Rattle.mir_semantics.proofs.state.SourceState.new.Goals as goal

@@ -1,10 +1,10 @@
 use Rattle.std.proofs.Common.{List, [], ◌∷◌, false, true, sym, subst}
 use Rattle.mir_func.specs.Function.{Function}
-use Rattle.follow_law.specs.Change.{change}
-use Rattle.follow_law.specs.declared.loss.Loss.{Loss}
-use Rattle.follow_law.specs.Steps.{KeepsSteps}
-use Rattle.follow_law.specs.Following.{KeepsFollowing}
-use Rattle.follow_law.specs.Sizes.{KeepsSizes}
+use Rattle.pass_trait.specs.Change.{change}
+use Rattle.pass_trait.specs.declared.loss.Loss.{Loss}
+use Rattle.pass_trait.specs.Steps.{KeepsSteps}
+use Rattle.pass_trait.specs.Following.{KeepsFollowing}
+use Rattle.pass_trait.specs.Sizes.{KeepsSizes}
 use Rattle.remat_pass.specs.Pass.{remat_step}
 use Rattle.remat_pass.proofs.Sound.{sound_rematerialized}
 use Rattle.remat_pass.proofs.Follows.{rematerialized_follows}

@@ -1,8 +1,8 @@
 use Rattle.std.proofs.Common.{◌≡◌, ℕ, List, [], ◌∷◌, sym, ap, ◌∙◌, subst}
 use Rattle.mir_func.specs.declared.entry.Entry.{Entry}
 use Rattle.mir_func.specs.Function.{Function}
-use Rattle.follow_law.specs.Change.{change}
-use Rattle.follow_law.specs.Steps.{KeepsSteps}
+use Rattle.pass_trait.specs.Change.{change}
+use Rattle.pass_trait.specs.Steps.{KeepsSteps}
 use Rattle.spill_step.specs.Step.{spill_step}
 use Rattle.spill_kept.specs.Kept.{IsReserve, IsSpilledWithLosses}
 use Rattle.spill_pass.specs.Reserve.{reserve_of}

@@ -1,0 +1,23 @@
+use Rattle.std.proofs.Common.{◌≡◌, ℕ, ◌-◌, List, ◌++◌, length, take, drop, sym, ap, ◌∙◌, append_assoc, take-append-drop}
+use Rattle.std.proofs.lemmas.List.{take_rest}
+use Rattle.base_io.proofs.ToldLemmas.{Appends-more}
+use Rattle.base_io.proofs.writing.write_all.Goals as goal
+
+moves_front : (all done rest : List ℕ) (n : ℕ) → all ≡ done ++ rest → all ≡ (done ++ take n rest) ++ take (length rest - n) (drop n rest)
+moves_front all done rest n split =
+    split ∙ ap (λ l. done ++ l) (sym (take-append-drop n rest)) ∙ sym (append_assoc done (take n rest) (drop n rest)) ∙ ap (λ l. (done ++ take n rest) ++
+    l) (sym (take_rest rest n))
+
+pub loop-rest-preserved : goal.loop-rest-preserved
+loop-rest-preserved g c =
+    let (steady, (done, split, appended)) = c.loop-rest.invariant in
+    let rest = c.loop-rest.rest.now in
+    let n = c.in_ok-count.count in (
+      c.in_ok-count.ensures.steady ∙ steady,
+      (
+        done ++ take n rest,
+        moves_front _ done rest n split,
+        Appends-more _ _ _ done (take n rest) appended
+            c.in_ok-count.ensures.appends,
+      ),
+    )

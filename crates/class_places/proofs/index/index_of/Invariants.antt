@@ -1,5 +1,0 @@
-use Rattle.class_places.specs.Things.{IndexesBelow}
-use Rattle.class_places.proofs.index.index_of.Given as goal
-
-abbrev pub invariant-loop-i : goal.invariant-loop-i
-invariant-loop-i l = IndexesBelow l.i l.things l.index

@@ -1,5 +1,0 @@
-use Rattle.code_layout.proofs.EveryStep.{headline_reaches_every_step}
-use Rattle.code_layout.proofs.laws.headline_reaches_every_step.Goals as goal
-
-pub returns : goal.returns
-returns g c = headline_reaches_every_step g.L.LocationLists.gives

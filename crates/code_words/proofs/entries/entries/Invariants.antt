@@ -1,9 +1,0 @@
-use Rattle.std.proofs.Common.{◌≡◌, take}
-use Rattle.std.specs.List.{flat_map}
-use Rattle.code_words.specs.Rule.{Layout, entries_at, sites_from}
-use Rattle.code_words.specs.steps.Plans.{IsPlan}
-use Rattle.code_words.proofs.entries.entries.Given as goal
-
-abbrev pub invariant-loop-index : goal.invariant-loop-index
-invariant-loop-index l = (x : Layout) → IsPlan x l.plan → x.framed.blocks ≡ l.blocks →
-    l.entries ≡ flat_map (entries_at x) (sites_from 0 (take l.index l.blocks))

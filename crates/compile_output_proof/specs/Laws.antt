@@ -1,0 +1,16 @@
+-- The output of a program that was read is printable.
+use Rattle.std.specs.Prelude.{List}
+use Rattle.listing_text.specs.declared.output.Output.{Output}
+use Rattle.listing_text.specs.Shown.{IsPrintableOutput}
+use Rattle.listing_proof.specs.Laws.{inlined_in}
+use Rattle.read_program.specs.declared.program.Program.{Program}
+use Rattle.compile_theorem.specs.Compiled.{IsCompiledProgram}
+use Rattle.compile_theorem.specs.Source.{PassedFunction}
+use Rattle.compile_program.specs.Program.{ArePassed, HasSections, names_of}
+use Rattle.read_proof.specs.Read.{IsReadProgram}
+
+-- What is compiled of what passes made of a program that was read, with its sections, is printable: its numbers and addresses have 32 bits, and
+-- the texts of its items tell them.
+abbrev pub OutputsArePrintable : Type 0
+OutputsArePrintable = (p : Program) (functions : List PassedFunction) (o : Output) → IsReadProgram p → ArePassed p.meta p.functions functions →
+    IsCompiledProgram (names_of p.meta) functions o → HasSections p.meta functions o → IsPrintableOutput (inlined_in p.meta) o

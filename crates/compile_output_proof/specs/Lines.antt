@@ -1,0 +1,60 @@
+-- What the line number table of an output tells: from which place of the source each listed line comes.
+use Rattle.std.specs.Prelude.{◌≡◌, ℕ, ◌<◌, ◌≤◌, List, Some, map, length, slice_get, Contains}
+use Rattle.listing_text.specs.declared.output.Line.{Line}
+use Rattle.listing_text.specs.declared.output.Line.TheVariants.{Item, Skip}
+use Rattle.listing_text.specs.declared.output.ListedFunction.{ListedFunction}
+use Rattle.listing_text.specs.declared.output.Output.{Output}
+use Rattle.dwarf_line.specs.declared.table.LineTable.{LineTable}
+use Rattle.dwarf_line.specs.declared.table.Row.{Row}
+use Rattle.dwarf_line.specs.Spelling.{spelling}
+use Rattle.line_laws.specs.Laws.{IsNoLine}
+use Rattle.line_laws.specs.Rows.{IsRowAt, GivesLine}
+use Rattle.mir_func.specs.declared.position.Origin.{Origin}
+use Rattle.read_program.specs.declared.closing.Parsed.{Parsed}
+use Rattle.read_program.specs.declared.program.Program.{Program}
+use Rattle.compile_theorem.specs.Compiled.{IsCompiledProgram}
+use Rattle.compile_theorem.specs.Source.{PassedFunction}
+use Rattle.compile_program.specs.Program.{ArePassed, HasSections, names_of}
+use Rattle.listing_meaning.specs.Program.{lines_of, address_of, past_line}
+use Rattle.source_lines.specs.declared.file.SourceFile.{SourceFile}
+use Rattle.source_lines.specs.Files.{unit_file}
+use Rattle.source_lines.specs.Lines.{no_line, scope_line, loc_of, position_of, line_of}
+
+-- where the code of a line comes from
+abbrev pub origin_of : Line → Origin
+origin_of (Item l) = l.item.origin
+origin_of (Skip s) = s.origin
+
+-- a line of a function has a byte at an address
+pub record HasByte (f : ListedFunction) (address : ℕ) (line : Line) : Type 0 where
+  pub stands : Contains (lines_of f) line
+  pub first : ℕ
+  pub begins : address_of line ≡ Some first
+  pub from : first ≤ address
+  pub within : address < past_line first line
+
+-- the unit's file of a program
+abbrev pub file_of : Program → SourceFile
+file_of p = unit_file p.meta (map (λ (f : Parsed). f.func.name) p.functions)
+
+-- A table gives the address of each byte of what is listed of a function the place of the debug location of the first code at or after the byte's
+-- origin, in the origin's block of the function as it was read. Where there is none, or it isn't readable, that is line 0 and column 0 of file 1.
+pub record TellsLinesOf (p : Program) (table : LineTable) (source : Parsed) (f : ListedFunction) : Type 0 where
+  pub gives : (address : ℕ) (line : Line) → HasByte f address line →
+      GivesLine table address (line_of p.meta (file_of p) source.func.blocks (origin_of line))
+  pub none : (address : ℕ) (line : Line) → HasByte f address line → scope_line p.meta (loc_of source.func.blocks (position_of (origin_of line))) ≡ no_line →
+      (row : Row) → IsRowAt table address row → IsNoLine row
+
+-- the section of lines spells a table that does so for each function of the program and what is listed at its place. It gives no address behind the
+-- end of `.text` a row
+pub record TellsLines (p : Program) (o : Output) : Type 0 where
+  pub table : LineTable
+  pub spelled : o.rows ≡ spelling table
+  pub each : (n : ℕ) (source : Parsed) (f : ListedFunction) → slice_get p.functions n ≡ Some source → slice_get o.functions n ≡ Some f →
+      TellsLinesOf p table source f
+  pub beyond : (address : ℕ) → length o.text ≤ address → (row : Row) → IsRowAt table address row → ⊥
+
+-- What is compiled of what passes made of a program that was read, with its sections, tells its lines.
+abbrev pub OutputsTellLines : Type 0
+OutputsTellLines = (p : Program) (functions : List PassedFunction) (o : Output) → ArePassed p.meta p.functions functions →
+    IsCompiledProgram (names_of p.meta) functions o → HasSections p.meta functions o → TellsLines p o

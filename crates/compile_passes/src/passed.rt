@@ -1,0 +1,59 @@
+//! What passes make of a function that was read.
+
+ghost use Rattle.std.specs.Prelude.{◌≤◌, All, IfOk, length};
+ghost use Rattle.compile_passes.specs.Passed.{IsMadeLosing, IsCompilable, MAX_PASSED, passed_of};
+ghost use Rattle.mir_func.specs.Sound.{items_of};
+ghost use Rattle.pass_list.specs.Names.{AreDistinct};
+ghost use Rattle.read_proof.specs.Read.{IsReadFunction, EntryIsLimited};
+
+use pass_trait::loss::Losses;
+use read_metadata::metadata::Metadata;
+use mir_func::func::Func;
+use read_program::closing::Parsed;
+use pass_list::kind::PassKind;
+use pass_manager::run::run_passes;
+use rv64_instr::reg::Reg;
+use std::alloc::{AllocError, Global};
+use mir_substitution::substitutions::Substitutions;
+use typed_items::typed::{blocks_are_typed, entries_are_typed};
+
+/// What passes made of a source.
+#[derive(Drop)]
+pub struct Passed {
+    /// The function.
+    pub function: Func,
+    /// Its debug value substitutions, the source's among them.
+    pub substitutions: Substitutions,
+    /// What the passes lost, in the order of the passes, and of each pass in order, each once.
+    pub losses: Losses,
+}
+
+/// What passes, each at most once, make of a function that was read beside metadata. The reserve has the registers that
+/// may be spilled.
+pub fn after_passes(
+    alloc: Global,
+    _meta: &Metadata,
+    source: &Parsed,
+    passes: &[PassKind],
+    reserve: &[Reg],
+) -> Result<Passed, AllocError>
+    requires read { IsReadFunction _meta.now source.now.func }
+    requires substitutions { All EntryIsLimited source.now.subs }
+    requires distinct { AreDistinct passes.now }
+    ensures compilable { IfOk result (λ p.
+        IsCompilable _meta.now (passed_of source.now p.function p.substitutions)) }
+    ensures made { IfOk result (λ p.
+        IsMadeLosing reserve.now passes.now (passed_of source.now p.function p.substitutions) p.losses) }
+    ensures few { IfOk result (λ p. length (items_of p.function.blocks) ≤ MAX_PASSED) }
+{
+    let mut function = source.func.copy()?;
+    let mut substitutions = source.subs.copy()?;
+    let losses = run_passes(alloc, passes, reserve, &mut function, &mut substitutions)?;
+    blocks_are_typed(function.blocks.as_slice());
+    entries_are_typed(substitutions.entries());
+    Ok(Passed {
+        function,
+        substitutions,
+        losses,
+    })
+}

@@ -1,0 +1,131 @@
+-- What compiling makes of a program that was read.
+use Rattle.std.specs.Prelude.{◌≡◌, ℕ, ◌+◌, ◌*◌, ◌<◌, ◌≤◌, ◌⊎◌, List, [], ◌∷◌, length, map, All, Contains}
+use Rattle.emit_code.specs.Laid.{LaidCode, IsCodeOf}
+use Rattle.listing_text.specs.declared.output.ListedFunction.{ListedFunction}
+use Rattle.listing_text.specs.declared.output.Output.{Output}
+use Rattle.dwarf_base.specs.Limits.{SECTION_LIMIT}
+use Rattle.dwarf_info.specs.Entries.{spelling as entries_spelling}
+use Rattle.dwarf_info.specs.Kinds.{abbreviations}
+use Rattle.dwarf_line.specs.Spelling.{spelling as rows_spelling}
+use Rattle.dwarf_loclists.specs.declared.range.Range.{Range}
+use Rattle.dwarf_loclists.specs.Grammar.{IsSection}
+use Rattle.dwarf_loclists.specs.Spelling.{spelling as lists_spelling}
+use Rattle.pass_trait.specs.declared.loss.Loss.{Loss}
+use Rattle.pass_trait.specs.Steps.{Step}
+use Rattle.frame_rule.specs.Rule.{size_of, framed_of}
+pub use Rattle.function_emit.specs.Emitted.{names_of, AreWritable}
+pub use Rattle.function_emit.specs.Passed.{source_of, IsMadeBy, IsMadeLosing, IsCompilable, steps_of, passes_of}
+use Rattle.read_metadata.specs.Maps.{Maps}
+use Rattle.mir_func.specs.Function.{Function}
+use Rattle.mir_func.specs.Limits.{MAX_FRAME}
+use Rattle.read_program.specs.declared.closing.Parsed.{Parsed}
+use Rattle.read_program.specs.declared.program.Program.{Program}
+use Rattle.compile_theorem.specs.Compiled.{AreCompiled, IsCompiledProgram}
+use Rattle.compile_theorem.specs.Source.{SourceFunction, PassedFunction}
+use Rattle.pass_list.specs.declared.kind.PassKind.{PassKind}
+use Rattle.compile_program.specs.declared.compile.Compilation.{Compilation}
+use Rattle.source_lines.specs.declared.compiled.Compiled.{Compiled}
+use Rattle.source_lines.specs.Program.{table_of}
+use Rattle.dwarf_unit.specs.Unit.{unit_of}
+
+-- ---- sources
+
+-- the sources of functions that were read
+abbrev pub sources_of : List Parsed → List SourceFunction
+sources_of functions = map source_of functions
+
+-- ---- passes
+
+-- what passes made of each of some functions that were read
+abbrev pub ArePassed : (meta : Maps) → List Parsed → List PassedFunction → Type 0
+ArePassed meta [] [] = Unit {0}
+ArePassed meta [] (p ∷ ps) = ⊥
+ArePassed meta (f ∷ fs) [] = ⊥
+ArePassed meta (f ∷ fs) (p ∷ ps) = (p.source ≡ source_of f) × IsCompilable meta p × ArePassed meta fs ps
+
+-- passes made each of some functions, and this is told of what they lost of each
+abbrev pub AreMadeLosing : (reserve : List ℕ) → List PassKind → List PassedFunction → (told : List (List Loss)) → Type 0
+AreMadeLosing reserve passes [] [] = Unit {0}
+AreMadeLosing reserve passes [] (l ∷ ls) = ⊥
+AreMadeLosing reserve passes (p ∷ ps) [] = ⊥
+AreMadeLosing reserve passes (p ∷ ps) (l ∷ ls) = IsMadeLosing reserve passes p l × AreMadeLosing reserve passes ps ls
+
+-- ---- machine code
+
+-- machine code of functions with their frames, one after the other from an address on
+abbrev pub AreCoded : (base : ℕ) → List Function → List LaidCode → Type 0
+AreCoded base [] [] = Unit {0}
+AreCoded base [] (c ∷ cs) = ⊥
+AreCoded base (f ∷ fs) [] = ⊥
+AreCoded base (f ∷ fs) (c ∷ cs) = IsCodeOf (framed_of f) base c × AreCoded (base + 4 * length c.words) fs cs
+
+-- functions that were read, each with the machine code of what passes made of it: they lie one after the other from address 0
+pub record HaveCode (functions : List PassedFunction) (compiled : List Compiled) : Type 0 where
+  pub sources : map (λ c. c.source.now) compiled ≡ map (λ p. p.source.function) functions
+  pub coded : AreCoded 0 (map (λ p. p.function) functions) (map (λ c. c.code.now) compiled)
+
+-- ---- sections
+
+-- the sections of a program's entries and lines are the spellings of its unit and of its line number table, and no section is too large
+pub record HasSections (meta : Maps) (functions : List PassedFunction) (o : Output) : Type 0 where
+  pub compiled : List Compiled
+  pub coded : HaveCode functions compiled
+  pub abbreviations : o.abbreviations ≡ abbreviations
+  pub info : o.info ≡ entries_spelling (unit_of meta (length o.text) compiled)
+  pub rows : o.rows ≡ rows_spelling (table_of meta compiled)
+  pub text_small : length o.text < SECTION_LIMIT
+  pub info_small : length o.info < SECTION_LIMIT
+  pub rows_small : length o.rows < SECTION_LIMIT
+  pub loclists_small : length o.loclists < SECTION_LIMIT
+
+-- ---- outputs
+
+-- the output is compiled of what steps of passes made of a program's functions, with all its sections
+pub record IsOutputOf (steps : List Step) (p : Program) (o : Output) : Type 0 where
+  pub functions : List PassedFunction
+  pub passed : ArePassed p.meta p.functions functions
+  pub made : All (IsMadeBy steps) functions
+  pub compiled : IsCompiledProgram (names_of p.meta) functions o
+  pub sections : HasSections p.meta functions o
+
+-- a program is compiled so: the output, and beside it the machine code of each function, the lists of all variables, one function's behind the
+-- other's, and what is told of the losses of each function
+pub record IsCompilationOf (reserve : List ℕ) (passes : List PassKind) (p : Program) (c : Compilation) : Type 0 where
+  pub functions : List PassedFunction
+  pub passed : ArePassed p.meta p.functions functions
+  pub made : All (IsMadeBy (steps_of reserve passes)) functions
+  pub lost : AreMadeLosing reserve passes functions c.losses
+  pub section : IsSection c.output.loclists c.lists
+  pub compiled : AreCompiled (names_of p.meta) 0 0 c.output.text c.lists functions c.output.functions
+  pub small : length c.output.text < SECTION_LIMIT
+  pub coded : AreCoded 0 (map (λ q. q.function) functions) c.codes
+  pub writable : AreWritable c.lists
+
+-- ---- programs that have no output
+
+-- the frame of what steps of passes made of one of the functions is too large
+pub record HasLargeFrame (steps : List Step) (functions : List Parsed) : Type 0 where
+  pub function : Parsed
+  pub among : Contains functions function
+  pub passed : PassedFunction
+  pub source : passed.source ≡ source_of function
+  pub made : IsMadeBy steps passed
+  pub large : MAX_FRAME < size_of passed.function
+
+-- one of these is too large as a section: the lists, the unit, and the line number table
+abbrev pub IsLarge : (meta : Maps) → (text_len : ℕ) → List (List Range) → List Compiled → Type 0
+IsLarge meta text_len lists compiled = (SECTION_LIMIT ≤ length (lists_spelling lists)) ⊎
+    ((SECTION_LIMIT ≤ length (entries_spelling (unit_of meta text_len compiled))) ⊎ (SECTION_LIMIT ≤ length (rows_spelling (table_of meta compiled))))
+
+-- what its functions are compiled to after steps of passes has a section that is too large
+pub record HasLargeSection (steps : List Step) (p : Program) : Type 0 where
+  pub functions : List PassedFunction
+  pub passed : ArePassed p.meta p.functions functions
+  pub made : All (IsMadeBy steps) functions
+  pub text : List ℕ
+  pub lists : List (List Range)
+  pub listed : List ListedFunction
+  pub compiled : List Compiled
+  pub laid : AreCompiled (names_of p.meta) 0 0 text lists functions listed
+  pub coded : HaveCode functions compiled
+  pub large : IsLarge p.meta (length text) lists compiled

@@ -1,0 +1,158 @@
+//! The compiling of a program.
+
+ghost use Rattle.std.specs.Prelude.{◌≡◌, ◌<◌, [], IfOk, IsErrOf};
+ghost use Rattle.pass_list.specs.Names.{AreDistinct};
+ghost use Rattle.function_emit.specs.Passed.{steps_of};
+ghost use Rattle.compile_program.specs.Program.{IsOutputOf, IsCompilationOf, HasLargeFrame, HasLargeSection};
+ghost use Rattle.compile_program.specs.declared.compile.CompileError.TheVariants.{Memory};
+ghost use Rattle.compile_program.specs.steps.Made.{AreMade};
+ghost use Rattle.compile_program.specs.steps.Fault.{of_emit, of_section};
+ghost use Rattle.read_proof.specs.Read.{IsReadProgram};
+
+use crate::function::made_of;
+use listing_text::output::Output;
+use dwarf_info::abbreviation::write_abbrev;
+use dwarf_loclists::range::RangeLists;
+use pass_trait::loss::Losses;
+use function_emit::emit::{Codes, EmitError, Made};
+use base_list::List;
+use read_program::program::Program;
+use pass_list::kind::PassKind;
+use dwarf_sections::sections::{SectionError, info, loclists, rows, with_code};
+use rv64_instr::reg::Reg;
+use std::alloc::{AllocError, Global};
+use thiserror::Error;
+
+/// What passes lost of each function, in the order of the functions.
+pub type FunctionLosses = List<Losses>;
+
+/// A program that is compiled.
+#[derive(Drop)]
+pub struct Compilation {
+    /// Its sections and its listing.
+    pub output: Output,
+    /// The machine code of its functions, in their order.
+    pub codes: Codes,
+    /// The lists of its variables, one function's behind the other's.
+    pub lists: RangeLists,
+    /// What passes lost of its functions.
+    pub losses: FunctionLosses,
+}
+
+/// Why a program has no output.
+#[derive(Debug, Drop, Error)]
+pub enum CompileError {
+    /// A function's frame would have more than 2,032 bytes.
+    #[error("a frame is too large")]
+    FrameTooLarge,
+    /// A section would have 2^31 bytes or more.
+    #[error("a section is too large")]
+    SectionTooLarge,
+    /// Memory ran out.
+    #[error("out of memory")]
+    Memory,
+}
+
+impl From<AllocError> for CompileError {
+    ghost from_gives = { λ _ e. e ≡ Memory };
+
+    fn from(_: AllocError) -> CompileError {
+        CompileError::Memory
+    }
+}
+
+impl From<EmitError> for CompileError {
+    ghost from_gives = { λ e c. c ≡ of_emit e };
+
+    fn from(e: EmitError) -> CompileError {
+        match e {
+            EmitError::FrameTooLarge => CompileError::FrameTooLarge,
+            EmitError::Memory => CompileError::Memory,
+        }
+    }
+}
+
+impl From<SectionError> for CompileError {
+    ghost from_gives = { λ e c. c ≡ of_section e };
+
+    fn from(e: SectionError) -> CompileError {
+        match e {
+            SectionError::TooLarge => CompileError::SectionTooLarge,
+            SectionError::Memory => CompileError::Memory,
+        }
+    }
+}
+
+/// The output of a program that was read, and what it is made of: of each function what passes make of it, with its
+/// frame, one after the other from address 0, and the lists of the variables of the function that was read. The reserve
+/// has the registers that may be spilled. It is `FrameTooLarge` where such a function's frame would have more than
+/// 2,032 bytes, and otherwise `SectionTooLarge` exactly where a section would have 2^31 bytes or more.
+pub fn compile(
+    alloc: Global,
+    program: &Program,
+    passes: &[PassKind],
+    reserve: &[Reg],
+) -> Result<Compilation, CompileError>
+    requires read { IsReadProgram program.now }
+    requires distinct { AreDistinct passes.now }
+    ensures output { IfOk result (λ c. IsOutputOf (steps_of reserve.now passes.now) program.now c.output) }
+    ensures compilation { IfOk result (IsCompilationOf reserve.now passes.now program.now) }
+    ensures frame_too_large { IsErrOf result CompileError.FrameTooLarge →
+        HasLargeFrame (steps_of reserve.now passes.now) program.now.functions }
+    ensures section_too_large { IsErrOf result CompileError.SectionTooLarge →
+        HasLargeSection (steps_of reserve.now passes.now) program.now }
+{
+    let (made, losses) = made_of(
+        alloc,
+        &program.meta,
+        program.functions.as_slice(),
+        passes,
+        reserve,
+    )?;
+    compiled(alloc, program, made, losses, passes, reserve)
+}
+
+/// The program whose functions are compiled after passes.
+#[tactic(auto, using(crate::proofs::Passed::have_code))]
+fn compiled(
+    alloc: Global,
+    program: &Program,
+    made: Made,
+    losses: FunctionLosses,
+    _passes: &[PassKind],
+    _reserve: &[Reg],
+) -> Result<Compilation, CompileError>
+    requires read { IsReadProgram program.now }
+    requires made { AreMade program.now.meta _reserve.now _passes.now program.now.functions losses made }
+    ensures output { IfOk result (λ c. IsOutputOf (steps_of _reserve.now _passes.now) program.now c.output) }
+    ensures compilation { IfOk result (IsCompilationOf _reserve.now _passes.now program.now) }
+    ensures no_frame { IsErrOf result CompileError.FrameTooLarge → ⊥ }
+    ensures section_too_large { IsErrOf result CompileError.SectionTooLarge →
+        HasLargeSection (steps_of _reserve.now _passes.now) program.now }
+{
+    let meta = &program.meta;
+    let Made {
+        text,
+        lists,
+        functions: listed,
+        codes,
+    } = made;
+    let output = {
+        let compiled = with_code(alloc, program.functions.as_slice(), codes.as_slice())?;
+        let compiled = compiled.as_slice();
+        Output {
+            info: info(alloc, compiled, meta, text.len() as u32)?,
+            rows: rows(alloc, compiled, meta)?,
+            loclists: loclists(alloc, &lists)?,
+            abbreviations: write_abbrev(alloc)?,
+            text,
+            functions: listed,
+        }
+    };
+    Ok(Compilation {
+        output,
+        codes,
+        lists,
+        losses,
+    })
+}

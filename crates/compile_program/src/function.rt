@@ -1,0 +1,89 @@
+//! The functions of a program, one behind the other.
+
+ghost use Rattle.std.specs.Prelude.{◌+◌, ◌*◌, ◌%◌, ◌<◌, ◌≤◌, ◌^◌, ◌≡◌, All, IfOk, IsErrOf, length};
+ghost use Rattle.emit_code.specs.Counts.{MAX_WORDS, MAX_BASE};
+ghost use Rattle.read_body.specs.Limits.{MAX_ITEMS};
+ghost use Rattle.read_program.specs.declared.closing.Parsed.{Parsed};
+ghost use Rattle.read_program.specs.Program.{MAX_FUNCTIONS};
+ghost use Rattle.pass_list.specs.Names.{AreDistinct};
+ghost use Rattle.function_emit.specs.Passed.{steps_of};
+ghost use Rattle.compile_program.specs.Program.{HasLargeFrame};
+ghost use Rattle.compile_program.specs.steps.Made.{IsSourcePushed, IsTooLarge, AreMade};
+ghost use Rattle.read_proof.specs.Read.{IsReadFunction, EntryIsLimited};
+
+use crate::compile::{CompileError, FunctionLosses};
+use listing_text::output::{Bytes, ListedFunctions};
+use dwarf_loclists::range::RangeLists;
+use pass_trait::loss::Losses;
+use function_emit::emit::{Codes, Made, push_function};
+use function_emit::passed::after_passes;
+use read_metadata::metadata::Metadata;
+use read_program::closing::Parsed;
+use pass_list::kind::PassKind;
+use rv64_instr::reg::Reg;
+use std::alloc::Global;
+
+/// Compiles functions, one after the other from address 0 on: of each what passes make of it, with what they lose. The
+/// reserve has the registers that may be spilled.
+pub fn made_of(
+    alloc: Global,
+    meta: &Metadata,
+    functions: &[Parsed],
+    passes: &[PassKind],
+    reserve: &[Reg],
+) -> Result<(Made, FunctionLosses), CompileError>
+    requires few { length functions.now ≤ MAX_FUNCTIONS }
+    requires read { All (λ (p : Parsed). IsReadFunction meta.now p.func) functions.now }
+    requires substitutions { All (λ (p : Parsed). All EntryIsLimited p.subs) functions.now }
+    requires distinct { AreDistinct passes.now }
+    ensures made { IfOk result (λ r. AreMade meta.now reserve.now passes.now functions.now r.1 r.0) }
+    ensures too_large { IsErrOf result CompileError.FrameTooLarge →
+        HasLargeFrame (steps_of reserve.now passes.now) functions.now }
+    ensures no_section { IsErrOf result CompileError.SectionTooLarge → ⊥ }
+{
+    let mut made = Made {
+        text: Bytes::new(alloc),
+        lists: RangeLists::new(alloc),
+        functions: ListedFunctions::new(alloc),
+        codes: Codes::new(alloc),
+    };
+    let mut losses = FunctionLosses::new(alloc);
+    for source in functions {
+        let lost = push_source(alloc, &mut made, meta, source, passes, reserve)?;
+        losses.push(lost)?;
+    }
+    Ok((made, losses))
+}
+
+/// Compiles what passes make of a source behind others, and gives what they lose.
+fn push_source(
+    alloc: Global,
+    made: &mut Made,
+    meta: &Metadata,
+    source: &Parsed,
+    passes: &[PassKind],
+    reserve: &[Reg],
+) -> Result<Losses, CompileError>
+    requires aligned { length made.old.text % 4 ≡ 0 }
+    requires room { length made.old.text + 4 * MAX_WORDS < MAX_BASE }
+    requires numbers { length made.old.lists + MAX_ITEMS < 2 ^ 32 }
+    requires read { IsReadFunction meta.now source.now.func }
+    requires substitutions { All EntryIsLimited source.now.subs }
+    requires distinct { AreDistinct passes.now }
+    ensures pushed { IfOk result (λ losses.
+        IsSourcePushed meta.now reserve.now passes.now source.now losses made.old made.new) }
+    ensures too_large { IsErrOf result CompileError.FrameTooLarge →
+        IsTooLarge (steps_of reserve.now passes.now) source.now }
+    ensures no_section { IsErrOf result CompileError.SectionTooLarge → ⊥ }
+{
+    let passed = after_passes(alloc, meta, source, passes, reserve)?;
+    push_function(
+        alloc,
+        made,
+        meta,
+        source,
+        &passed.function,
+        &passed.substitutions,
+    )?;
+    Ok(passed.losses)
+}

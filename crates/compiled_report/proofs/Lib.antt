@@ -1,2 +1,0 @@
-pub mod Reported
-pub use Rattle.program_compiler.proofs.Passed

@@ -1,5 +1,0 @@
-use Rattle.std.proofs.Common.{◌≡◌, ◌++◌, map, drop}
-use Rattle.compiled_report.proofs.report.names_of.Given as goal
-
-abbrev pub invariant-loop-variable : goal.invariant-loop-variable
-invariant-loop-variable l = l.names ++ map (λ v. v.name) (drop l.variable-index l.variables) ≡ map (λ v. v.name) l.variables

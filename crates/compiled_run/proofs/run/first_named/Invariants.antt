@@ -1,6 +1,0 @@
-use Rattle.std.proofs.Common.{take}
-use Rattle.compiled_run.specs.Runs.{HasNone}
-use Rattle.compiled_run.proofs.run.first_named.Given as goal
-
-abbrev pub invariant-loop-number : goal.invariant-loop-number
-invariant-loop-number l = HasNone l.name (take l.number l.functions)

@@ -1,5 +1,0 @@
-use Rattle.compiled_text.proofs.OneOutput.{one_reading}
-use Rattle.compiled_text.proofs.laws.one_reading.Goals as goal
-
-pub returns : goal.returns
-returns c = one_reading

@@ -1,6 +1,0 @@
-use Rattle.std.proofs.Common.{◌≡◌, ◌++◌, map, take, drop}
-use Rattle.copy_pass.specs.Roots.{renamed_operand}
-use Rattle.copy_pass.proofs.roots.rename_all.Given as goal
-
-abbrev pub invariant-loop-o : goal.invariant-loop-o
-invariant-loop-o l = l.o-items ≡ map (renamed_operand l.roots) (take l.o-index l.initial.o-items) ++ drop l.o-index l.initial.o-items

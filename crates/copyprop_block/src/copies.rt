@@ -1,0 +1,185 @@
+//! Copies that are known go, and their numbers are salvaged.
+
+ghost use Rattle.std.specs.Prelude.{◌≡◌, ◌+◌, ◌<◌, ◌≤◌, ◌^◌, [], List, length, take, slice_index_or, IfOk, OnOk};
+ghost use Rattle.mir_func.specs.declared.item.Item.{Item};
+ghost use Rattle.copyprop_block.specs.declared.roots.Root.{Root};
+ghost use Rattle.pass_salvage.specs.Way.{way};
+ghost use Rattle.pass_salvage.specs.Above.{IsIndexOf};
+ghost use Rattle.copyprop_block.specs.Copied.{renamed_item, fate_of, goes_with, roots_with, salvaged, next_item};
+ghost use Rattle.copyprop_block.specs.Copied.{over_items, at_block};
+ghost use Rattle.copyprop_block.specs.Next.{IsCarried, Stands};
+
+use crate::roots::{Root, known_source, learn, rename};
+use mir_func::item::{Item, ItemKind};
+use base_ids::code::DebugNumber;
+use rv64_instr::reg::Reg;
+use pass_salvage::above::{Above, choose_way_by, substitute};
+use pass_salvage::salvage::{give_number, put_phi};
+use pass_salvage::way::Way;
+use std::alloc::{AllocError, Global};
+use mir_substitution::substitutions::Substitutions;
+
+/// What becomes of an item.
+#[derive(Clone, Copy, Debug, PartialEq, Eq)]
+pub enum Fate {
+    /// It stays.
+    Stays,
+    /// It is a copy that is known, without a number, and goes.
+    Goes,
+    /// It is one with this number, of this register.
+    GoesWith(DebugNumber, Reg),
+}
+
+/// The explicit uses of code become their roots.
+fn rename_item(x: &mut Item, roots: &[Root])
+    ensures { x.new ≡ renamed_item roots.now x.old }
+{
+    if let ItemKind::Code(i, _) = &mut x.kind {
+        rename(i, roots);
+    }
+}
+
+/// What becomes of an item whose uses are roots.
+fn fate_of(kind: &ItemKind, roots: &[Root]) -> Fate
+    ensures { result ≡ fate_of roots.now kind.now }
+{
+    match kind {
+        ItemKind::Code(i, n) => match known_source(i, roots) {
+            Some(s) => goes_by(n, s),
+            None => Fate::Stays,
+        },
+        ItemKind::Mark(_, _) | ItemKind::Phi(_, _) => Fate::Stays,
+    }
+}
+
+/// How a copy with this number goes.
+fn goes_by(number: &Option<DebugNumber>, source: Reg) -> Fate
+    ensures { result ≡ goes_with number.now source }
+{
+    match number {
+        Some(k) => Fate::GoesWith(*k, source),
+        None => Fate::Goes,
+    }
+}
+
+/// What is known after an item that stays.
+fn learn_item(kind: &ItemKind, roots: &mut Vec<Root>) -> Result<(), AllocError>
+    ensures { OnOk result (roots.new.items ≡ roots_with kind.now roots.old.items) }
+{
+    match kind {
+        ItemKind::Code(i, _) => learn(i, roots),
+        ItemKind::Mark(_, _) | ItemKind::Phi(_, _) => Ok(()),
+    }
+}
+
+/// One item more: the first `kept` items are what has become of those before it, and the answer is how many they are
+/// then.
+fn next_item(
+    alloc: Global,
+    items: &mut Vec<Item>,
+    kept: usize,
+    at: usize,
+    roots: &mut Vec<Root>,
+    subs: &mut Substitutions,
+    index: &mut Above,
+    fresh: &mut u32,
+) -> Result<usize, AllocError>
+    requires within { kept ≤ at }
+    requires at { at < length items.old.items }
+    requires carried { IsCarried index.old subs.old fresh.old (take kept items.old.items) }
+    ensures stands { IfOk result (λ more. (x : Item) → x ≡ slice_index_or items.old.items at x →
+        Stands (next_item (record {
+          done = take kept items.old.items;
+          roots = roots.old.items;
+          subs = subs.old;
+          fresh = fresh.old;
+        }) x)
+        more (at + 1) items.new.items items.old.items roots.new.items subs.new fresh.new) }
+    ensures index { IfOk result (λ more. IsIndexOf index.new subs.new (take more items.new.items)) }
+    ensures counted { OnOk result (fresh.new ≤ fresh.old + 1) }
+{
+    rename_item(&mut items[at], roots.as_slice());
+    match fate_of(&items[at].kind, roots.as_slice()) {
+        Fate::Stays => {
+            learn_item(&items[at].kind, roots)?;
+            index.push(&items[at].kind, kept, subs)?;
+            items.swap(kept, at);
+            Ok(kept + 1)
+        }
+        Fate::Goes => Ok(kept),
+        Fate::GoesWith(number, source) => take_out(
+            alloc, items, kept, at, number, source, subs, index, fresh,
+        ),
+    }
+}
+
+/// A copy of `source` with a number goes: it is salvaged.
+fn take_out(
+    alloc: Global,
+    items: &mut Vec<Item>,
+    kept: usize,
+    at: usize,
+    number: DebugNumber,
+    source: Reg,
+    subs: &mut Substitutions,
+    index: &mut Above,
+    fresh: &mut u32,
+) -> Result<usize, AllocError>
+    requires within { kept ≤ at }
+    requires at { at < length items.old.items }
+    requires carried { IsCarried index.old subs.old fresh.old (take kept items.old.items) }
+    ensures stands { IfOk result (λ more. (x : Item) (roots : List Root) → x ≡ slice_index_or items.old.items at x →
+        Stands (salvaged (record {
+          done = take kept items.old.items;
+          roots = roots;
+          subs = subs.old;
+          fresh =
+              fresh.old;
+        }) number source x.origin
+        (way [] subs.old fresh.old number source (take kept items.old.items)))
+        more (at + 1) items.new.items items.old.items roots subs.new fresh.new) }
+    ensures index { IfOk result (λ more. IsIndexOf index.new subs.new (take more items.new.items)) }
+    ensures counted { OnOk result (fresh.new ≤ fresh.old + 1) }
+{
+    let above = &items[..kept];
+    match choose_way_by(index, above, subs, number, source, DebugNumber(*fresh)) {
+        Way::HasEntry => Ok(kept),
+        Way::GetsEntry(d, operand, standing) => {
+            substitute(alloc, subs, index, above, number, standing, operand)?;
+            give_number(&mut items[d], standing);
+            if standing.number() == *fresh {
+                *fresh += 1;
+            }
+            Ok(kept)
+        }
+        Way::GetsPhi => {
+            put_phi(&mut items[at], number, source);
+            index.push(&items[at].kind, kept, subs)?;
+            items.swap(kept, at);
+            Ok(kept + 1)
+        }
+    }
+}
+
+/// Copies that are known go from a block's items, and the others' explicit uses become roots.
+pub fn copy_items(
+    alloc: Global,
+    items: &mut Vec<Item>,
+    subs: &mut Substitutions,
+    fresh: &mut u32,
+) -> Result<(), AllocError>
+    requires fresh { fresh.old + length items.old.items < 2 ^ 31 }
+    ensures items { OnOk result (items.new.items ≡ (over_items (at_block subs.old fresh.old) items.old.items).done) }
+    ensures entries { OnOk result (subs.new ≡ (over_items (at_block subs.old fresh.old) items.old.items).subs) }
+    ensures fresh { OnOk result (fresh.new ≡ (over_items (at_block subs.old fresh.old) items.old.items).fresh) }
+    ensures counted { OnOk result (fresh.new ≤ fresh.old + length items.old.items) }
+{
+    let mut roots = Vec::new(alloc);
+    let mut index = Above::new(alloc);
+    let mut kept = 0;
+    for at in 0..items.len() {
+        kept = next_item(alloc, items, kept, at, &mut roots, subs, &mut index, fresh)?;
+    }
+    items.truncate(kept);
+    Ok(())
+}

@@ -1,0 +1,64 @@
+//! The pass that takes out copies of what is there already.
+
+ghost use Rattle.std.specs.Prelude.{◌≡◌, ◌+◌, ◌<◌, ◌^◌, [], ◌∷◌, false, true, OnOk};
+ghost use Rattle.mir_func.specs.Sound.{IsSound};
+ghost use Rattle.pass_trait.specs.Sizes.{greatest_number, item_count};
+ghost use Rattle.copyprop_rule.specs.Rule.{salvaged_function, salvaged_entries};
+ghost use Rattle.copyprop_rule.specs.Laws.{one_copied, same_copied};
+ghost use Rattle.copy_debug.specs.Rule.{copy_step};
+ghost use Rattle.std.proofs.Common.{rules};
+
+use copyprop_rule::function::blocks_without_copies;
+use pass_trait::loss::Losses;
+use pass_trait::pass::Pass;
+use mir_func::func::Func;
+use std::alloc::{AllocError, Global};
+use mir_substitution::substitutions::Substitutions;
+
+/// Takes out copies of what is there already, and reads roots in place of copies (LLVM: machine copy propagation).
+/// Nothing is lost: a number goes to the code that gave the copied value, or to a phi.
+#[derive(Drop)]
+pub struct CopyPass;
+
+impl Pass for CopyPass {
+    ghost asks = { false };
+
+    ghost keeps = { true };
+
+    ghost fits = { true };
+
+    ghost factor = { 1 };
+
+    ghost count = { 1 };
+
+    ghost steps = { λ s. copy_step ∷ [] };
+
+    fn run(
+        &mut self,
+        alloc: Global,
+        f: &mut Func,
+        subs: &mut Substitutions,
+    ) -> Result<Losses, AllocError> {
+        take_copies_out(alloc, f, subs)?;
+        Ok(Losses::new(alloc))
+    }
+
+    ghost one_code = { λ s. (one_copied, tt) };
+
+    ghost same_code = { λ s. (same_copied, tt) };
+
+    ghost grows = { Prim.search rules };
+}
+
+/// Takes copies that are known out of a function, and salvages their numbers. After an error the function is as it was,
+/// and the substitutions are only to be dropped.
+fn take_copies_out(alloc: Global, f: &mut Func, subs: &mut Substitutions) -> Result<(), AllocError>
+    requires { greatest_number f.old subs.old + item_count f.old + 1 < 2 ^ 31 }
+    ensures function { OnOk result (f.new ≡ salvaged_function f.old subs.old) }
+    ensures entries { OnOk result (subs.new ≡ salvaged_entries f.old subs.old) }
+    ensures sound { IsSound f.old }
+{
+    let blocks = blocks_without_copies(alloc, f, subs)?;
+    f.blocks = blocks;
+    Ok(())
+}

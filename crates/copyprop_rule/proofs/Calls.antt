@@ -1,0 +1,49 @@
+-- Renaming explicit uses makes no call of code and none to something else.
+use Rattle.std.proofs.Common.{◌≡◌, ℕ, zero, suc, List, [], ◌∷◌, map, Bool, true, false, refl, sym, ◌∙◌}
+use Rattle.rv64_instr.specs.declared.op.Op.{Op}
+use Rattle.rv64_instr.specs.declared.op.Op.TheVariants.{Registers, Immediate, Lui, Branch, Load, Store, Copy, PseudoBr, PseudoCall, PseudoRet}
+use Rattle.rv64_instr.specs.declared.op.ImmediateOp.{ImmediateOp}
+use Rattle.rv64_instr.specs.declared.op.ImmediateOp.TheVariants.{Addi}
+use Rattle.rv64_instr.specs.declared.operand.Operand.{Operand}
+use Rattle.rv64_instr.specs.declared.operand.Operand.TheVariants.{Def, Use, ImplicitDef, ImplicitUse, Imm, Slot, Object, Block, Symbol, Mask}
+use Rattle.rv64_instr.specs.Arithmetic.{word}
+use Rattle.rv64_instr.specs.Instruction.{Instruction}
+use Rattle.rv64_instr.specs.Row.{row_of, row_by, move_row, add_row, immediate_row, object_row}
+use Rattle.rv64_instr.specs.Parts.{is_call}
+use Rattle.copyprop_block.specs.declared.roots.Root.{Root}
+use Rattle.copyprop_block.specs.Roots.{root_of, renamed_operand, renamed}
+
+no_move : (rd rs : ℕ) → is_call (move_row rd rs) ≡ false
+no_move rd zero = refl
+no_move rd (suc r) = refl
+
+no_add : (rd a n : ℕ) → is_call (add_row rd a n) ≡ false
+no_add rd zero n = refl
+no_add rd (suc r) zero = refl
+no_add rd (suc r) (suc n) = refl
+
+no_immediate : (op : ImmediateOp) (rd a n : ℕ) → is_call (immediate_row op rd a n) ≡ false
+no_immediate Addi rd a n = no_add rd a n
+no_immediate _ rd a n = refl
+
+module _ (e : List Root) where
+  by_op : (op : Op) (os : List Operand) → is_call (row_by op (map (renamed_operand e) os)) ≡ is_call (row_by op os)
+  by_op (Registers op) (Def rd ∷ Use a ∷ Use b ∷ rest) = refl
+  by_op (Immediate op) (Def rd ∷ Use a ∷ Imm i ∷ rest) = no_immediate op rd (root_of e a) (word i) ∙ sym (no_immediate op rd a (word i))
+  by_op (Immediate op) (Def rd ∷ Object n ∷ Imm i ∷ rest) = refl
+  by_op Lui (Def rd ∷ Imm i ∷ rest) = refl
+  by_op (Branch op) (Use a ∷ Use b ∷ Block target ∷ rest) = refl
+  by_op (Load op) (Def rd ∷ Use base ∷ Imm i ∷ rest) = refl
+  by_op (Load op) (Def rd ∷ Slot n ∷ rest) = refl
+  by_op (Load op) (Def rd ∷ Object n ∷ Imm i ∷ rest) = refl
+  by_op (Store op) (Use rs ∷ Use base ∷ Imm i ∷ rest) = refl
+  by_op (Store op) (Use rs ∷ Slot n ∷ rest) = refl
+  by_op (Store op) (Use rs ∷ Object n ∷ Imm i ∷ rest) = refl
+  by_op Copy (Def rd ∷ Use rs ∷ rest) = no_move rd (root_of e rs) ∙ sym (no_move rd rs)
+  by_op PseudoBr (Block target ∷ rest) = refl
+  by_op PseudoCall (Symbol name ∷ rest) = refl
+  by_op PseudoRet os = refl
+  by_op _ _ = refl
+
+  pub call_renamed : (i : Instruction) → is_call (row_of (renamed e i)) ≡ is_call (row_of i)
+  call_renamed i = by_op i.op i.operands

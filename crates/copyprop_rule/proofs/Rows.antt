@@ -1,0 +1,180 @@
+-- What code with roots for its explicit uses does: the same rows, with other registers that are read.
+use Rattle.std.proofs.Common.{◌≡◌, ℕ, zero, suc, List, [], ◌∷◌, map, Bool, cond, nat_eq, refl, sym, ap, ◌∙◌}
+use Rattle.rv64_instr.specs.declared.op.Op.{Op}
+use Rattle.rv64_instr.specs.declared.op.Op.TheVariants.{Registers, Immediate, Lui, Branch, Load, Store, Copy, PseudoBr, PseudoCall, PseudoRet}
+use Rattle.rv64_instr.specs.declared.op.ImmediateOp.{ImmediateOp}
+use Rattle.rv64_instr.specs.declared.op.ImmediateOp.TheVariants.{Addi}
+use Rattle.rv64_instr.specs.declared.op.RegisterOp.TheVariants.{Add}
+use Rattle.rv64_instr.specs.declared.operand.Operand.{Operand}
+use Rattle.rv64_instr.specs.declared.operand.Operand.TheVariants.{Def, Use, ImplicitDef, ImplicitUse, Imm, Slot, Object, Block, Symbol, Mask}
+use Rattle.rv64_instr.specs.declared.decoded.Input.{Input}
+use Rattle.rv64_instr.specs.declared.decoded.Input.TheVariants.{Content, Number}
+use Rattle.rv64_instr.specs.declared.decoded.Base.{Base}
+use Rattle.rv64_instr.specs.declared.decoded.Base.TheVariants.{PointedBy, ObjectAt}
+use Rattle.rv64_instr.specs.Arithmetic.{word}
+use Rattle.rv64_instr.specs.Instruction.{Instruction}
+use Rattle.rv64_instr.specs.Row.{Row, Fixes, Moves, Sets, Addresses, Loads, Stores, LoadsSlot, StoresSlot, Branches, Jumps, Calls, Returns, Unfit, row_of}
+use Rattle.rv64_instr.specs.Row.{row_by, move_row, add_row, immediate_row, object_row, implicit_uses}
+use Rattle.rv64_instr.specs.Parts.{is_call}
+use Rattle.copyprop_block.specs.declared.roots.Root.{Root}
+use Rattle.copyprop_block.specs.Roots.{root_of, renamed_operand, renamed}
+
+module _ (e : List Root) where
+  abbrev pub rooted_input : Input → Input
+  rooted_input (Content r) = Content (root_of e r)
+  rooted_input (Number n) = Number n
+
+  abbrev pub rooted_base : Base → Base
+  rooted_base (PointedBy r) = PointedBy (root_of e r)
+  rooted_base (ObjectAt n) = ObjectAt n
+
+  -- the row with roots for what it reads by explicit operands
+  abbrev pub rooted : Row → Row
+  rooted (Fixes rd n) = Fixes rd n
+  rooted (Moves rd rs) = Moves rd (root_of e rs)
+  rooted (Sets rd op a b) = Sets rd op (root_of e a) (rooted_input b)
+  rooted (Addresses rd n o) = Addresses rd n o
+  rooted (Loads rd op b o) = Loads rd op (rooted_base b) o
+  rooted (Stores op rs b o) = Stores op (root_of e rs) (rooted_base b) o
+  rooted (LoadsSlot rd n) = LoadsSlot rd n
+  rooted (StoresSlot rs n) = StoresSlot (root_of e rs) n
+  rooted (Branches op a b t) = Branches op (root_of e a) (root_of e b) t
+  rooted (Jumps t) = Jumps t
+  rooted (Calls name args) = Calls name args
+  rooted (Returns v) = Returns v
+  rooted Unfit = Unfit
+
+  abbrev others : List Operand → List Operand
+  others os = map (renamed_operand e) os
+
+  pub uses_same : (os : List Operand) → implicit_uses (others os) ≡ implicit_uses os
+  uses_same [] = refl
+  uses_same (ImplicitUse r ∷ os) = ap (λ (z : List ℕ). cond (nat_eq r 2) z (r ∷ z)) (uses_same os)
+  uses_same (Def r ∷ os) = uses_same os
+  uses_same (Use r ∷ os) = uses_same os
+  uses_same (ImplicitDef r ∷ os) = uses_same os
+  uses_same (Imm i ∷ os) = uses_same os
+  uses_same (Slot n ∷ os) = uses_same os
+  uses_same (Object n ∷ os) = uses_same os
+  uses_same (Block n ∷ os) = uses_same os
+  uses_same (Symbol n ∷ os) = uses_same os
+  uses_same (Mask ∷ os) = uses_same os
+
+  -- x0 has no root, and is none
+  pub record KeepsZero : Type 0 where
+    pub zero_stays : root_of e 0 ≡ 0
+    pub no_other : (r : ℕ) → root_of e (suc r) ≡ 0 → ⊥
+
+  module _ (keeps : KeepsZero) where
+    pub not_zero : (n : ℕ) → (n ≡ 0 → ⊥) → (m : ℕ) × (n ≡ suc m)
+    not_zero zero ne = absurd (ne refl)
+    not_zero (suc m) ne = (m, refl)
+
+    move_same : (rd rs : ℕ) → move_row rd (root_of e rs) ≡ rooted (move_row rd rs)
+    move_same rd zero = ap (move_row rd) keeps.zero_stays
+    move_same rd (suc r) =
+        let w = not_zero (root_of e (suc r)) (keeps.no_other r) in
+        ap (move_row rd) w.1 ∙ sym (ap (Moves rd) w.1)
+
+    add_same : (rd a n : ℕ) → add_row rd (root_of e a) n ≡ rooted (add_row rd a n)
+    add_same rd zero n = ap (λ (z : ℕ). add_row rd z n) keeps.zero_stays
+    add_same rd (suc r) zero =
+        let w = not_zero (root_of e (suc r)) (keeps.no_other r) in
+        ap (λ (z : ℕ). add_row rd z zero) w.1 ∙ sym (ap (Moves rd) w.1)
+    add_same rd (suc r) (suc n) =
+        let w = not_zero (root_of e (suc r)) (keeps.no_other r) in
+        ap (λ (z : ℕ). add_row rd z (suc n)) w.1 ∙ sym (ap (λ (z : ℕ). Sets rd Add z (Number (suc n))) w.1)
+
+    immediate_same : (op : ImmediateOp) (rd a n : ℕ) → immediate_row op rd (root_of e a) n ≡ rooted (immediate_row op rd a n)
+    immediate_same Addi rd a n = add_same rd a n
+    immediate_same _ rd a n = refl
+
+    object_same : (op : ImmediateOp) (rd n o : ℕ) → object_row op rd n o ≡ rooted (object_row op rd n o)
+    object_same Addi rd n o = refl
+    object_same _ rd n o = refl
+
+    by_op : (op : Op) (os : List Operand) → row_by op (others os) ≡ rooted (row_by op os)
+    by_op (Registers op) (Def rd ∷ Use a ∷ Use b ∷ rest) = refl
+    by_op (Immediate op) (Def rd ∷ Use a ∷ Imm i ∷ rest) = immediate_same op rd a (word i)
+    by_op (Immediate op) (Def rd ∷ Object n ∷ Imm i ∷ rest) = object_same op rd n (word i)
+    by_op Lui (Def rd ∷ Imm i ∷ rest) = refl
+    by_op (Branch op) (Use a ∷ Use b ∷ Block target ∷ rest) = refl
+    by_op (Load op) (Def rd ∷ Use base ∷ Imm i ∷ rest) = refl
+    by_op (Load op) (Def rd ∷ Slot n ∷ rest) = refl
+    by_op (Load op) (Def rd ∷ Object n ∷ Imm i ∷ rest) = refl
+    by_op (Store op) (Use rs ∷ Use base ∷ Imm i ∷ rest) = refl
+    by_op (Store op) (Use rs ∷ Slot n ∷ rest) = refl
+    by_op (Store op) (Use rs ∷ Object n ∷ Imm i ∷ rest) = refl
+    by_op Copy (Def rd ∷ Use rs ∷ rest) = move_same rd rs
+    by_op PseudoBr (Block target ∷ rest) = refl
+    by_op PseudoCall (Symbol name ∷ rest) = ap (Calls name) (uses_same rest)
+    by_op PseudoRet os = ap Returns (uses_same os)
+    by_op _ _ = refl
+
+    pub row_renamed : (i : Instruction) → row_of (renamed e i) ≡ rooted (row_of i)
+    row_renamed i = by_op i.op i.operands
+
+  pub call_rooted : (r : Row) → is_call (rooted r) ≡ is_call r
+  call_rooted (Fixes rd n) = refl
+  call_rooted (Moves rd rs) = refl
+  call_rooted (Sets rd op a b) = refl
+  call_rooted (Addresses rd n o) = refl
+  call_rooted (Loads rd op b o) = refl
+  call_rooted (Stores op rs b o) = refl
+  call_rooted (LoadsSlot rd n) = refl
+  call_rooted (StoresSlot rs n) = refl
+  call_rooted (Branches op a b t) = refl
+  call_rooted (Jumps t) = refl
+  call_rooted (Calls name args) = refl
+  call_rooted (Returns v) = refl
+  call_rooted Unfit = refl
+
+-- a copy's operands are what it sets and what it reads, and then others
+pub record MovesBy (os : List Operand) (rd s : ℕ) : Type 0 where
+  pub rest : List Operand
+  pub operands : os ≡ Def rd ∷ Use s ∷ rest
+  pub real : (m : ℕ) × (s ≡ suc m)
+
+moves_move : (rd a : ℕ) (rest : List Operand) (r s : ℕ) → move_row rd a ≡ Moves r s → MovesBy (Def rd ∷ Use a ∷ rest) r s
+moves_move rd zero rest r s e = cc
+moves_move rd (suc a) rest r s e =
+    let x : rd ≡ r = cc in
+    let y : suc a ≡ s = cc in
+    record { rest = rest; operands = λ i. Def (x i) ∷ Use (y i) ∷ rest; real = (a, sym y) }
+
+moves_add : (rd a n : ℕ) (rest : List Operand) (r s : ℕ) → add_row rd a n ≡ Moves r s → MovesBy (Def rd ∷ Use a ∷ rest) r s
+moves_add rd zero n rest r s e = cc
+moves_add rd (suc a) zero rest r s e =
+    let x : rd ≡ r = cc in
+    let y : suc a ≡ s = cc in
+    record { rest = rest; operands = λ i. Def (x i) ∷ Use (y i) ∷ rest; real = (a, sym y) }
+moves_add rd (suc a) (suc n) rest r s e = cc
+
+moves_immediate : (op : ImmediateOp) (rd a n : ℕ) (rest : List Operand) (r s : ℕ) → immediate_row op rd a n ≡ Moves r s → MovesBy (Def rd ∷ Use a ∷ rest) r s
+moves_immediate Addi rd a n rest r s e = moves_add rd a n rest r s e
+moves_immediate _ rd a n rest r s e = cc
+
+moves_object : (op : ImmediateOp) (rd n o r s : ℕ) → object_row op rd n o ≡ Moves r s → ⊥
+moves_object Addi rd n o r s e = cc
+moves_object _ rd n o r s e = cc
+
+moves_op : (op : Op) (os : List Operand) (r s : ℕ) → row_by op os ≡ Moves r s → MovesBy os r s
+moves_op (Registers op) (Def rd ∷ Use a ∷ Use b ∷ rest) r s e = cc
+moves_op (Immediate op) (Def rd ∷ Use a ∷ Imm i ∷ rest) r s e = moves_immediate op rd a (word i) (Imm i ∷ rest) r s e
+moves_op (Immediate op) (Def rd ∷ Object n ∷ Imm i ∷ rest) r s e = absurd (moves_object op rd n (word i) r s e)
+moves_op Lui (Def rd ∷ Imm i ∷ rest) r s e = cc
+moves_op (Branch op) (Use a ∷ Use b ∷ Block target ∷ rest) r s e = cc
+moves_op (Load op) (Def rd ∷ Use base ∷ Imm i ∷ rest) r s e = cc
+moves_op (Load op) (Def rd ∷ Slot n ∷ rest) r s e = cc
+moves_op (Load op) (Def rd ∷ Object n ∷ Imm i ∷ rest) r s e = cc
+moves_op (Store op) (Use rs ∷ Use base ∷ Imm i ∷ rest) r s e = cc
+moves_op (Store op) (Use rs ∷ Slot n ∷ rest) r s e = cc
+moves_op (Store op) (Use rs ∷ Object n ∷ Imm i ∷ rest) r s e = cc
+moves_op Copy (Def rd ∷ Use a ∷ rest) r s e = moves_move rd a rest r s e
+moves_op PseudoBr (Block target ∷ rest) r s e = cc
+moves_op PseudoCall (Symbol name ∷ rest) r s e = cc
+moves_op PseudoRet os r s e = cc
+moves_op _ _ r s e = cc
+
+pub moves_by : (i : Instruction) (r s : ℕ) → row_of i ≡ Moves r s → MovesBy i.operands r s
+moves_by i r s e = moves_op i.op i.operands r s e

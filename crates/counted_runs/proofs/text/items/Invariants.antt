@@ -1,9 +1,0 @@
-use Rattle.std.proofs.Common.{◌≡◌, ◌≤◌, ◌*◌, ◌^◌, take}
-use Rattle.counted_runs.specs.Text.{items_of}
-use Rattle.counted_runs.proofs.text.items.Given as goal
-
-abbrev pub invariant-loop-block : goal.invariant-loop-block
-invariant-loop-block l = record {
-  few : l.items ≤ l.block-index * 2 ^ 32;
-  is : l.items ≡ items_of (take l.block-index l.blocks);
-}

@@ -1,0 +1,87 @@
+-- The copies of a block lose their numbers, from the last to the first.
+use Rattle.std.proofs.Common.{◌≡◌, ℕ, zero, suc, ◌+◌, ◌≤◌, List, [], ◌∷◌, length, get_or, take, drop, Bool, true, false, cond, nat_eq, refl, ap, ◌∙◌, arith}
+use Rattle.std.proofs.lemmas.List.{length-append}
+use Rattle.mir_func.specs.declared.position.Origin.{Origin}
+use Rattle.mir_func.specs.declared.item.Item.{Item}
+use Rattle.pass_salvage.specs.declared.way.Way.{Way}
+use Rattle.pass_salvage.specs.declared.way.Way.TheVariants.{HasEntry, GetsEntry, GetsPhi}
+use Rattle.pass_salvage.specs.Salvage.{numbered_at, above_after, fresh_after}
+use Rattle.dce_copies.specs.declared.off.Copied.{Copied}
+use Rattle.dce_copies.specs.Off.{without_number, put_off, behind_off, items_off, SoFar, off_at, off_down}
+
+pub down_step : (removed : List ℕ) (dead : List Bool) (at n : ℕ) → at ≡ n + 1 → (a b z : SoFar) (goes : Bool) → goes ≡ get_or dead n false →
+    b ≡ off_at removed n goes a → off_down removed dead at a ≡ z → off_down removed dead n b ≡ z
+down_step removed dead at n one a b z goes is made so_far =
+    let e : suc n ≡ at = omega (arith, one) in
+    ap (off_down removed dead n) (made ∙ ap (λ (g : Bool). off_at removed n g a) is) ∙ ap (λ (m : ℕ). off_down removed dead m a) e ∙ so_far
+
+-- ---- there are no fewer items, and one fresh number more at most
+
+numbered_long : (d n : ℕ) (xs : List Item) → length (numbered_at d n xs) ≡ length xs
+numbered_long d n [] = refl
+numbered_long zero n (x ∷ xs) = refl
+numbered_long (suc d) n (x ∷ xs) = ap suc (numbered_long d n xs)
+
+above_long : (w : Way) (xs : List Item) → length (above_after w xs) ≡ length xs
+above_long HasEntry xs = refl
+above_long (GetsEntry d o n) xs = numbered_long d n xs
+above_long GetsPhi xs = refl
+
+behind_long : (w : Way) (c : Copied) (xs : List Item) → length xs ≤ length (behind_off w c xs)
+behind_long w c [] = omega arith
+behind_long w c (x ∷ xs) =
+    let e = length-append (put_off w c x.origin) (record x { kind = without_number x.kind } ∷ xs) in
+    omega (arith, e)
+
+split_long : (at : ℕ) (xs : List Item) → length (take at xs) + length (drop at xs) ≡ length xs
+split_long zero [] = refl
+split_long zero (x ∷ xs) = omega arith
+split_long (suc at) [] = refl
+split_long (suc at) (x ∷ xs) = let e = split_long at xs in omega (arith, e)
+
+pub off_long : (w : Way) (at : ℕ) (c : Copied) (xs : List Item) → length xs ≤ length (items_off w at c xs)
+off_long w at c xs =
+    let e = length-append (above_after w (take at xs)) (behind_off w c (drop at xs)) in
+    let a = above_long w (take at xs) in
+    let b = behind_long w c (drop at xs) in
+    let s = split_long at xs in
+    omega (arith, e, a, b, s)
+
+pub fresh_more : (w : Way) (fresh : ℕ) → fresh_after w fresh ≤ fresh + 1
+fresh_more HasEntry fresh = omega arith
+fresh_more (GetsEntry d o n) fresh = by_test (nat_eq n fresh) where
+  by_test : (z : Bool) → cond z (fresh + 1) fresh ≤ fresh + 1
+  by_test true = omega arith
+  by_test false = omega arith
+fresh_more GetsPhi fresh = omega arith
+
+-- ---- each fresh number and each phi counts once
+
+put_long : (w : Way) (c : Copied) (o : Origin) (fresh : ℕ) → length (put_off w c o) + fresh_after w fresh ≤ fresh + 1
+put_long HasEntry c o fresh = omega arith
+put_long (GetsEntry d p n) c o fresh = let e = fresh_more (GetsEntry d p n) fresh in omega (arith, e)
+put_long GetsPhi c o fresh = omega arith
+
+pub fresh_least : (w : Way) (fresh : ℕ) → fresh ≤ fresh_after w fresh
+fresh_least HasEntry fresh = omega arith
+fresh_least (GetsEntry d o n) fresh = by_test (nat_eq n fresh) where
+  by_test : (z : Bool) → fresh ≤ cond z (fresh + 1) fresh
+  by_test true = omega arith
+  by_test false = omega arith
+fresh_least GetsPhi fresh = omega arith
+
+behind_grows : (w : Way) (c : Copied) (xs : List Item) (fresh : ℕ) → length (behind_off w c xs) + fresh_after w fresh ≤ length xs + fresh + 1
+behind_grows w c [] fresh = let e = fresh_more w fresh in omega (arith, e)
+behind_grows w c (x ∷ xs) fresh =
+    let e = length-append (put_off w c x.origin) (record x { kind = without_number x.kind } ∷ xs) in
+    let f = put_long w c x.origin fresh in
+    omega (arith, e, f)
+
+pub off_grows : (w : Way) (at : ℕ) (c : Copied) (xs : List Item) (fresh : ℕ) →
+    length (items_off w at c xs) + fresh_after w fresh ≤ length xs + fresh + 1
+off_grows w at c xs fresh =
+    let e = length-append (above_after w (take at xs)) (behind_off w c (drop at xs)) in
+    let a = above_long w (take at xs) in
+    let b = behind_grows w c (drop at xs) fresh in
+    let s = split_long at xs in
+    omega (arith, e, a, b, s)

@@ -1,0 +1,207 @@
+//! One copy loses its number.
+
+ghost use Rattle.std.specs.Prelude.{◌≡◌, ◌++◌, ◌+◌, ◌<◌, ◌≤◌, ◌^◌, length, take, true, OnOk};
+ghost use Rattle.rv64_instr.specs.Row.{row_of};
+ghost use Rattle.pass_salvage.specs.Way.{way};
+ghost use Rattle.pass_salvage.specs.Salvage.{entries_for, fresh_after};
+ghost use Rattle.dce_copies.specs.Off.{copied_by, numbered_copy, without_number, phi_off, lost_off, items_off};
+ghost use Rattle.dce_copies.specs.Off.{off_at, off_down};
+
+use crate::verdicts::verdict;
+use pass_trait::loss::{Loss, Lost, Reason};
+use mir_func::item::{Item, ItemKind};
+use mir_func::location::Loc;
+use mir_func::position::Origin;
+use sem_mir::align::position_of;
+use base_ids::code::DebugNumber;
+use rv64_instr::decoded::Decoded;
+use rv64_instr::instr::Instr;
+use rv64_instr::place::Place;
+use rv64_instr::reg::Reg;
+use pass_salvage::salvage::{entry_for, give_number};
+use pass_salvage::way::{Way, choose_way};
+use std::alloc::AllocError;
+use mir_substitution::substitutions::Substitutions;
+
+/// A copy with a number.
+#[derive(Clone, Copy, Debug, PartialEq, Eq)]
+pub struct Copied {
+    /// Its number.
+    pub number: DebugNumber,
+    /// The register whose content it copies.
+    pub source: Reg,
+    /// Whether it sets that register itself.
+    pub own: bool,
+}
+
+/// The copy that an item is, if it is one with a number.
+pub fn numbered_copy(kind: &ItemKind) -> Option<Copied>
+    ensures { result ≡ numbered_copy kind.now }
+{
+    match kind {
+        ItemKind::Code(i, Some(number)) => copied_by(i, *number),
+        ItemKind::Code(_, None) | ItemKind::Mark(_, _) | ItemKind::Phi(_, _) => None,
+    }
+}
+
+fn copied_by(i: &Instr, number: DebugNumber) -> Option<Copied>
+    ensures { result ≡ copied_by (row_of i.now) number }
+{
+    match i.decoded() {
+        Decoded::Moves(rd, source) => {
+            if rd.number() == 0 {
+                None
+            } else {
+                Some(Copied {
+                    number,
+                    source,
+                    own: rd.number() == source.number(),
+                })
+            }
+        }
+        _ => None,
+    }
+}
+
+/// Takes the number off a copy, which stays. `removed` has the indices of the items that go, and `fresh` is a number
+/// that nothing has, which is counted on where it is taken. What is lost is appended to `lost`: the number of a copy of
+/// its own source that only a phi could take. After an error the items and the substitutions are only to be dropped.
+pub fn number_off(
+    items: &mut Vec<Item>,
+    subs: &mut Substitutions,
+    at: usize,
+    copied: Copied,
+    removed: &[usize],
+    fresh: &mut u32,
+    lost: &mut Vec<Loss>,
+) -> Result<(), AllocError>
+    requires at { at < length items.old.items }
+    requires fresh { fresh.old < 2 ^ 31 }
+    ensures items { OnOk result (items.new.items ≡
+        items_off (way removed.now subs.old fresh.old copied.number copied.source (take at items.old.items)) at copied
+        items.old.items) }
+    ensures entries { OnOk result (subs.new ≡
+        subs.old ++ entries_for (way removed.now subs.old fresh.old copied.number copied.source
+        (take at items.old.items)) copied.number) }
+    ensures fresh { OnOk result (fresh.new ≡
+        fresh_after (way removed.now subs.old fresh.old copied.number copied.source (take at items.old.items))
+        fresh.old) }
+    ensures lost { OnOk result (lost.new.items ≡
+        lost.old.items ++ lost_off (way removed.now subs.old fresh.old copied.number copied.source
+        (take at items.old.items)) copied) }
+{
+    let above = &items[..at];
+    match choose_way(
+        above,
+        subs,
+        removed,
+        copied.number,
+        copied.source,
+        DebugNumber(*fresh),
+    ) {
+        Way::HasEntry => drop_number(&mut items[at]),
+        Way::GetsEntry(d, operand, standing) => {
+            subs.add(entry_for(copied.number, standing, operand))?;
+            give_number(&mut items[d], standing);
+            drop_number(&mut items[at]);
+            if standing.number() == *fresh {
+                *fresh += 1;
+            }
+        }
+        Way::GetsPhi => {
+            if copied.own {
+                lost.push(Loss {
+                    what: Lost::Number(copied.number),
+                    reason: Reason::WrongPlace,
+                })?;
+            }
+            let phi = phi_off(copied, &items[at].origin);
+            drop_number(&mut items[at]);
+            items.insert(at, phi)?;
+        }
+    }
+    Ok(())
+}
+
+/// Takes the numbers off the copies of a block that go, from the last to the first. `dead` has the verdict on each
+/// item, and `removed` the indices of those that go. After an error the items and the substitutions are only to be
+/// dropped.
+pub fn numbers_off(
+    items: &mut Vec<Item>,
+    dead: &[bool],
+    removed: &[usize],
+    subs: &mut Substitutions,
+    fresh: &mut u32,
+    lost: &mut Vec<Loss>,
+) -> Result<(), AllocError>
+    requires fresh { fresh.old + length items.old.items < 2 ^ 31 }
+    ensures off { OnOk result (record {
+      items = items.new.items;
+      subs = subs.new;
+      fresh = fresh.new;
+      lost = lost.new.items;
+    } ≡ off_down removed.now dead.now (length items.old.items)
+        (record { items = items.old.items; subs = subs.old; fresh = fresh.old; lost = lost.old.items })) }
+    ensures counted { OnOk result (fresh.new ≤ fresh.old + length items.old.items) }
+{
+    let mut at = items.len();
+    while at > 0 {
+        at -= 1;
+        if verdict(dead, at) {
+            copy_off(items, removed, at, subs, fresh, lost)?;
+        }
+    }
+    Ok(())
+}
+
+/// Takes the number off the item of an index, if it is a copy with a number.
+fn copy_off(
+    items: &mut Vec<Item>,
+    removed: &[usize],
+    at: usize,
+    subs: &mut Substitutions,
+    fresh: &mut u32,
+    lost: &mut Vec<Loss>,
+) -> Result<(), AllocError>
+    requires at { at < length items.old.items }
+    requires fresh { fresh.old < 2 ^ 31 }
+    ensures off { OnOk result (record {
+      items = items.new.items;
+      subs = subs.new;
+      fresh = fresh.new;
+      lost = lost.new.items;
+    } ≡ off_at removed.now at true
+        (record { items = items.old.items; subs = subs.old; fresh = fresh.old; lost = lost.old.items })) }
+    ensures counted { OnOk result (fresh.new ≤ fresh.old + 1) }
+    ensures longer { OnOk result (length items.old.items ≤ length items.new.items) }
+{
+    match numbered_copy(&items[at].kind) {
+        Some(copied) => number_off(items, subs, at, copied, removed, fresh, lost),
+        None => Ok(()),
+    }
+}
+
+/// Takes the number off code.
+fn drop_number(x: &mut Item)
+    ensures { x.new ≡ record x.old { kind = without_number x.old.kind } }
+{
+    if let ItemKind::Code(_, n) = &mut x.kind {
+        *n = None;
+    }
+}
+
+/// The phi for a copy with this origin.
+fn phi_off(copied: Copied, origin: &Origin) -> Item
+    ensures { result ≡ phi_off copied origin.now }
+{
+    let place = if copied.own {
+        None
+    } else {
+        Some(Place::Register(copied.source))
+    };
+    Item {
+        kind: ItemKind::Phi(place, copied.number),
+        origin: Origin::Before(position_of(*origin)),
+        loc: Loc::Absent,
+    }
+}

@@ -1,0 +1,22 @@
+-- What a round keeps.
+use Rattle.std.specs.Prelude.{◌<◌, List}
+use Rattle.mir_func.specs.declared.entry.Entry.{Entry}
+use Rattle.mir_func.specs.Function.{Function}
+use Rattle.mir_func.specs.Sound.{IsSound}
+use Rattle.mir_func.specs.Strip.{stripped}
+use Rattle.pass_trait.specs.declared.loss.Loss.{Loss}
+use Rattle.pass_trait.specs.Change.{change}
+use Rattle.pass_trait.specs.Sizes.{code_count}
+use Rattle.dead_code.specs.Dead.{IsRound}
+use Rattle.dead_code.specs.Loose.{KeepsLoosely}
+use Rattle.dce_round.specs.Round.{IsDeadRound}
+
+-- it is sound, and follows loosely what it followed so
+abbrev pub RoundFollows : Type 0
+RoundFollows = (f g : Function) (subs more : List Entry) (losses : List Loss) → IsSound f → IsDeadRound f subs g more losses →
+    IsSound g × KeepsLoosely (change f subs g more)
+
+-- it is a round of the stripped functions, with less code after it
+abbrev pub RoundCode : Type 0
+RoundCode = (f g : Function) (subs more : List Entry) (losses : List Loss) → IsSound f → IsDeadRound f subs g more losses →
+    IsRound (stripped f) (stripped g) × (code_count g < code_count f)

@@ -1,0 +1,27 @@
+-- One round with its debug items.
+use Rattle.std.specs.Prelude.{◌≡◌, ◌↔◌, List, ◌++◌, Option, Some, None, Bool, true, Contains}
+use Rattle.mir_func.specs.declared.entry.Entry.{Entry}
+use Rattle.mir_func.specs.Function.{Function}
+use Rattle.pass_trait.specs.declared.loss.Loss.{Loss}
+use Rattle.pass_trait.specs.Order.{IsInOrder}
+use Rattle.dead_code.specs.Dead.{IsRound}
+use Rattle.dce_mark.specs.Judged.{AreJudged}
+use Rattle.dce_sweep.specs.Round.{IsTakenOut}
+use Rattle.dead_salvage.specs.Laws.{all_off, function_off}
+
+-- the copies of a function that are dead lose their numbers, and then all that is dead goes; the losses are those of both, in order
+pub record IsDeadRound (f : Function) (subs : List Entry) (g : Function) (more : List Entry) (losses : List Loss) : Type 0 where
+  pub dead : List (List Bool)
+  pub judged : AreJudged f dead
+  pub entries : more ≡ (all_off f subs dead).subs
+  pub any : Bool
+  pub here : List Loss
+  pub out : IsTakenOut (function_off f subs dead) g here any
+  pub ordered : IsInOrder losses
+  pub each : (l : Loss) → Contains losses l ↔ Contains ((all_off f subs dead).lost ++ here) l
+  pub some : any ≡ true
+
+-- or nothing is dead, and all stays
+abbrev pub IsRoundWith : Function → List Entry → Function → List Entry → Option (List Loss) → Type 0
+IsRoundWith f subs g more (Some losses) = IsDeadRound f subs g more losses
+IsRoundWith f subs g more None = (g ≡ f) × (more ≡ subs) × IsRound f f

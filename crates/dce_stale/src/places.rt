@@ -1,0 +1,83 @@
+//! The wrong places of a function whose dead code goes.
+
+ghost use Rattle.std.specs.Prelude.{◌≡◌, ◌<◌, ◌&&◌, length, slice_index_or, IfOk};
+ghost use Rattle.rv64_instr.specs.declared.place.Place.{Place};
+ghost use Rattle.mir_func.specs.Sound.{SlotsIn};
+ghost use Rattle.dce_stale.specs.Flow.{wrong_past, goes_on};
+ghost use Rattle.pass_liveness.specs.Sets.{has};
+ghost use Rattle.dce_stale.specs.Sets.{AreWrongSets};
+
+use crate::sweep::settle;
+use crate::walk::{go_on, step_down};
+use base_list::List;
+use pass_liveness::live::{empty_sets, names_of};
+use pass_liveness::names::Names;
+use pass_liveness::set::PlaceSet;
+use mir_func::exit::Exit;
+use mir_func::func::Func;
+use mir_func::item::ItemKind;
+use rv64_instr::place::Place;
+use std::alloc::{AllocError, Global};
+use std::marker::Model;
+
+/// The places that are wrong at the starts of a function's blocks.
+#[derive(Drop)]
+pub struct WrongPlaces {
+    names: Names,
+    starts: Vec<PlaceSet>,
+}
+
+impl Model for WrongPlaces {
+    ghost use Rattle.dce_stale.specs.Sets.{WrongSets};
+
+    ghost Value = { WrongSets };
+
+    ghost view = { λ w. record { slots = w.names.slots; ids = w.names.blocks; starts = w.starts.items } };
+}
+
+impl WrongPlaces {
+    /// The wrong places of a function, of which these items go: for each block the verdict on each of its items. Each
+    /// block is looked at a number of times that doesn't grow with the function but for nested loops.
+    pub fn solve(alloc: Global, f: &Func, dead: &[List<bool>]) -> Result<WrongPlaces, AllocError>
+        ensures { IfOk result (AreWrongSets f.now dead.now) }
+    {
+        let names = names_of(alloc, f)?;
+        let mut order = names.order(alloc, f)?;
+        order.reverse();
+        let mut starts = empty_sets(alloc, f.blocks.len())?;
+        settle(&names, f, dead, &mut starts, order.as_slice());
+        Ok(WrongPlaces { names, starts })
+    }
+
+    /// The places that are wrong at the start of the block of this index. It takes no memory.
+    pub fn at_start(&self, block: usize) -> PlaceSet
+        requires { block < length self.now.starts }
+        ensures { result ≡ slice_index_or self.now.starts block result }
+    {
+        self.starts[block].copy()
+    }
+
+    /// From the places that are wrong before an item of this verdict to those that are wrong past it. It takes no
+    /// memory.
+    pub fn step_down(&self, set: &mut PlaceSet, kind: &ItemKind, dead: bool)
+        ensures { SlotsIn self.now.slots kind.now → (x : Place) →
+            has self.now.slots set.new x ≡ wrong_past kind.now dead (has self.now.slots set.old) x }
+    {
+        step_down(&self.names, set, kind, dead);
+    }
+
+    /// From the places that are wrong past an item with this exit to those that are wrong before the next. It takes no
+    /// memory.
+    pub fn go_on(&self, set: &mut PlaceSet, exit: Exit)
+        ensures { (x : Place) → has self.now.slots set.new x ≡ (goes_on exit && has self.now.slots set.old x) }
+    {
+        go_on(&self.names, set, exit);
+    }
+
+    /// Whether a place is in a set. It takes no memory.
+    pub fn contains(&self, set: &PlaceSet, p: Place) -> bool
+        ensures { result ≡ has self.now.slots set.now p }
+    {
+        self.names.has(set, p)
+    }
+}

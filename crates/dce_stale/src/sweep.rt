@@ -1,0 +1,56 @@
+//! Sweeps over the blocks, until no set grows.
+
+ghost use Rattle.std.specs.Prelude.{◌≡◌, ℕ, ◌<◌, length, All, Contains};
+ghost use Rattle.mir_func.specs.Sound.{SlotsIn, AllItems, AreApart, ids_of};
+ghost use Rattle.dce_stale.specs.Sets.{Swept, Settled};
+
+use crate::walk::visit;
+use base_list::List;
+use pass_liveness::names::Names;
+use pass_liveness::set::PlaceSet;
+use mir_func::func::Func;
+
+/// Visits blocks in an order, and tells whether any set grew.
+fn sweep(
+    names: &Names,
+    f: &Func,
+    dead: &[List<bool>],
+    starts: &mut Vec<PlaceSet>,
+    order: &[u32],
+) -> bool
+    requires slots { AllItems (λ i. SlotsIn names.now.slots i.kind) f.now.blocks }
+    requires long { length starts.old.items ≡ length names.now.blocks }
+    requires ids { names.now.blocks ≡ ids_of f.now.blocks }
+    requires apart { AreApart names.now.blocks }
+    requires full { length starts.old.items ≡ length f.now.blocks }
+    requires within { All (λ b. b < length f.now.blocks) order.now }
+    ensures { Swept names.now.slots names.now.blocks f.now dead.now starts.old.items starts.new.items order.now result }
+{
+    let mut grown = false;
+    for block in order {
+        if visit(names, f, dead, starts, *block as usize) {
+            grown = true;
+        }
+    }
+    grown
+}
+
+/// Sweeps until no set grows.
+pub fn settle(
+    names: &Names,
+    f: &Func,
+    dead: &[List<bool>],
+    starts: &mut Vec<PlaceSet>,
+    order: &[u32],
+)
+    requires slots { AllItems (λ i. SlotsIn names.now.slots i.kind) f.now.blocks }
+    requires long { length starts.old.items ≡ length names.now.blocks }
+    requires ids { names.now.blocks ≡ ids_of f.now.blocks }
+    requires apart { AreApart names.now.blocks }
+    requires full { length starts.old.items ≡ length f.now.blocks }
+    requires within { All (λ b. b < length f.now.blocks) order.now }
+    requires all { (b : ℕ) → b < length f.now.blocks → Contains order.now b }
+    ensures { Settled names.now.slots names.now.blocks f.now dead.now starts.old.items starts.new.items }
+{
+    while sweep(names, f, dead, starts, order) {}
+}

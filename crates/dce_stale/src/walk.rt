@@ -1,0 +1,174 @@
+//! The walk down a block, and what it hands on to others.
+
+ghost use Rattle.std.specs.Prelude.{◌≡◌, ℕ, ◌+◌, ◌<◌, ◌⊎◌, ◌&&◌, [], true, false, length, All, Some};
+ghost use Rattle.std.specs.Prelude.{slice_index_or};
+ghost use Rattle.rv64_instr.specs.declared.place.Place.{Place};
+ghost use Rattle.mir_func.specs.Exits.{exit_of};
+ghost use Rattle.mir_func.specs.Function.{Function};
+ghost use Rattle.mir_func.specs.Sound.{SlotsIn, AllItems};
+ghost use Rattle.mir_func.proofs.Ways.{IsOut};
+ghost use Rattle.pass_liveness.specs.Sets.{has};
+ghost use Rattle.pass_liveness.specs.Liveness.{items_at};
+ghost use Rattle.dce_stale.specs.Flow.{wrong_past, goes_on, wrong_at, IsHanded};
+ghost use Rattle.dce_stale.specs.Sets.{Handed, HandsOn};
+
+use base_list::List;
+use pass_liveness::names::Names;
+use pass_liveness::set::PlaceSet;
+use mir_func::block::Block;
+use mir_func::exit::Exit;
+use mir_func::func::Func;
+use mir_func::item::{Item, ItemKind};
+use mir_func::successors::id_at;
+use base_ids::code::BlockId;
+
+/// The verdict of an index; not dead where there is none.
+pub fn verdict(dead: &[bool], index: usize) -> bool
+    ensures { result ≡ slice_index_or dead.now index false }
+{
+    match dead.get(index) {
+        Some(goes) => *goes,
+        None => false,
+    }
+}
+
+/// The verdicts on the block of an index; none where there are none.
+pub fn verdicts_at(dead: &[List<bool>], block: usize) -> &[bool]
+    ensures { result.now ≡ slice_index_or dead.now block [] }
+{
+    match dead.get(block) {
+        Some(verdicts) => verdicts.as_slice(),
+        None => &[],
+    }
+}
+
+/// From the places that are wrong before an item to those that are wrong past it.
+pub fn step_down(names: &Names, set: &mut PlaceSet, kind: &ItemKind, dead: bool)
+    ensures { SlotsIn names.now.slots kind.now → (x : Place) →
+        has names.now.slots set.new x ≡ wrong_past kind.now dead (has names.now.slots set.old) x }
+{
+    match kind {
+        ItemKind::Code(i, _) => {
+            if dead {
+                names.insert_defined(set, i);
+            } else {
+                names.remove_defined(set, i);
+            }
+        }
+        ItemKind::Mark(_, _) | ItemKind::Phi(_, _) => {}
+    }
+}
+
+/// From the places that are wrong past an item to those that are wrong before the next.
+pub fn go_on(names: &Names, set: &mut PlaceSet, exit: Exit)
+    ensures { (x : Place) → has names.now.slots set.new x ≡ (goes_on exit && has names.now.slots set.old x) }
+{
+    match exit {
+        Exit::Onward | Exit::Perhaps(_) => {}
+        Exit::Always(_) => set.clear(),
+        Exit::Final => set.clear(),
+    }
+}
+
+/// Hands on to the start of a block that these places are wrong, and tells whether its set grew.
+fn hand_to(names: &Names, starts: &mut Vec<PlaceSet>, set: &PlaceSet, n: BlockId) -> bool
+    requires { length starts.old.items ≡ length names.now.blocks }
+    ensures { Handed names.now.slots names.now.blocks starts.old.items starts.new.items
+        (λ m x. (n ≡ m) × (has names.now.slots set.now x ≡ true)) result }
+{
+    match names.blocks.find(n.number()) {
+        None => false,
+        Some(index) => if index < starts.len() {
+            starts[index].unite(set)
+        } else {
+            false
+        },
+    }
+}
+
+/// Hands on to where control leaves an item that these places are wrong, and tells whether a set grew.
+fn hand_out(names: &Names, starts: &mut Vec<PlaceSet>, set: &PlaceSet, exit: Exit) -> bool
+    requires { length starts.old.items ≡ length names.now.blocks }
+    ensures { Handed names.now.slots names.now.blocks starts.old.items starts.new.items
+        (λ m x. IsOut exit m × (has names.now.slots set.now x ≡ true)) result }
+{
+    match exit {
+        Exit::Onward | Exit::Final => false,
+        Exit::Perhaps(n) => hand_to(names, starts, set, n),
+        Exit::Always(n) => hand_to(names, starts, set, n),
+    }
+}
+
+/// Hands on at a block's end to the next block that these places are wrong, and tells whether its set grew.
+fn hand_down(
+    names: &Names,
+    starts: &mut Vec<PlaceSet>,
+    set: &PlaceSet,
+    next: Option<BlockId>,
+) -> bool
+    requires { length starts.old.items ≡ length names.now.blocks }
+    ensures { Handed names.now.slots names.now.blocks starts.old.items starts.new.items
+        (λ m x. (next ≡ Some m) × (has names.now.slots set.now x ≡ true)) result }
+{
+    match next {
+        None => false,
+        Some(n) => hand_to(names, starts, set, n),
+    }
+}
+
+/// Walks down items, and hands on what is wrong where control leaves them. Then `set` has the places that are wrong at
+/// their end.
+fn walk_items(
+    names: &Names,
+    items: &[Item],
+    dead: &[bool],
+    starts: &mut Vec<PlaceSet>,
+    set: &mut PlaceSet,
+) -> bool
+    requires slots { All (λ i. SlotsIn names.now.slots i.kind) items.now }
+    requires long { length starts.old.items ≡ length names.now.blocks }
+    ensures set { has names.now.slots set.new ≡
+        wrong_at items.now dead.now (length items.now) (has names.now.slots set.old) }
+    ensures starts { Handed names.now.slots names.now.blocks starts.old.items starts.new.items
+        (IsHanded items.now dead.now (has names.now.slots set.old) (length items.now)) result }
+{
+    let mut grown = false;
+    for at in 0..items.len() {
+        let kind = &items[at].kind;
+        step_down(names, set, kind, verdict(dead, at));
+        if hand_out(names, starts, set, kind.exit()) {
+            grown = true;
+        }
+        go_on(names, set, kind.exit());
+    }
+    grown
+}
+
+/// Walks down a block, and hands on what is wrong where control leaves it. Tells whether a set grew.
+pub fn visit(
+    names: &Names,
+    f: &Func,
+    dead: &[List<bool>],
+    starts: &mut Vec<PlaceSet>,
+    block: usize,
+) -> bool
+    requires slots { AllItems (λ i. SlotsIn names.now.slots i.kind) f.now.blocks }
+    requires long { length starts.old.items ≡ length names.now.blocks }
+    requires inside { block < length starts.old.items }
+    requires there { block < length f.now.blocks }
+    ensures { Handed names.now.slots names.now.blocks starts.old.items starts.new.items
+        (HandsOn names.now.slots names.now.blocks f.now dead.now starts.old.items block) result }
+{
+    let blocks = f.blocks.as_slice();
+    let next = id_at(blocks, block + 1);
+    let mut set = starts[block].copy();
+    let within = walk_items(
+        names,
+        blocks[block].items.as_slice(),
+        verdicts_at(dead, block),
+        starts,
+        &mut set,
+    );
+    let below = hand_down(names, starts, &set, next);
+    within || below
+}

@@ -1,0 +1,33 @@
+-- One round in code.
+use Rattle.std.specs.Prelude.{◌≡◌, ◌↔◌, ◌<◌, List, map, Contains, Bool, true, false}
+use Rattle.std.specs.List.{list_any}
+use Rattle.mir_func.specs.declared.position.Pos.{Pos}
+use Rattle.mir_func.specs.declared.block.Block.{Block}
+use Rattle.mir_func.specs.Function.{Function}
+use Rattle.mir_func.specs.Sound.{AllItems, HasForm}
+use Rattle.pass_trait.specs.declared.loss.Loss.{Loss}
+use Rattle.pass_trait.specs.Sizes.{code_count}
+use Rattle.dead_code.specs.Dead.{Places, Ends, IsRound}
+use Rattle.dead_code.specs.Laws.{AreLive}
+use Rattle.dead_code.specs.Wrong.{taken_out}
+use Rattle.dead_code.specs.Out.{LosesAt, AreWrong}
+use Rattle.dce_mark.specs.Judged.{verdicts}
+
+-- some item of blocks is dead code
+abbrev pub has_dead : Ends → List Block → Bool
+has_dead ends blocks = list_any (λ v. list_any (λ d. d) v) (map (λ b. verdicts b.items (ends b.id)) blocks)
+
+-- the second function is the first without its dead code, where marks and phis of wrong places give nothing, at these losses;
+-- and whether there was dead code
+pub record IsTakenOut (f g : Function) (lost : List Loss) (any : Bool) : Type 0 where
+  pub ends : Ends
+  pub forms : AllItems (λ i. HasForm i.kind) f.blocks
+  pub wrong : Pos → Places
+  pub live : AreLive ends f
+  pub exact : AreWrong ends f wrong
+  pub out : g ≡ taken_out wrong ends f
+  pub told : (l : Loss) → Contains lost l ↔ ((at : Pos) × LosesAt ends f at l)
+  pub fewer : any ≡ true → code_count g < code_count f
+  pub same : any ≡ false → g ≡ f
+  pub some : any ≡ has_dead ends f.blocks
+  pub over : any ≡ false → IsRound f f

@@ -1,0 +1,55 @@
+//! A round.
+
+ghost use Rattle.std.specs.Prelude.{◌≡◌, ◌++◌, List, IfOk};
+ghost use Rattle.std.specs.List.{list_any};
+ghost use Rattle.pass_trait.specs.declared.loss.Loss.{Loss as IsLoss};
+ghost use Rattle.pass_liveness.specs.Liveness.{AreLiveSets};
+ghost use Rattle.dce_sweep.specs.Round.{IsTakenOut};
+
+use crate::left::left_blocks;
+use dce_mark::judge::judge;
+use dce_stale::places::WrongPlaces;
+use pass_trait::loss::Loss;
+use base_list::List;
+use pass_liveness::live::Live;
+use mir_func::func::Func;
+use std::alloc::{AllocError, Global};
+use type_facts::blocks::know_forms;
+
+/// Takes the dead code out of a function, once: what is live at blocks' ends is needed there. Marks and phis of places
+/// that are wrong without it give nothing. What is lost is appended to `lost`, in the order of the text, also the
+/// number of a copy: its caller gives it to other code first. Tells whether there was dead code; where there was none
+/// the function stays as it is, and nothing is lost. After an error the function is as it was.
+pub fn take_out_dead(
+    alloc: Global,
+    f: &mut Func,
+    live: &Live,
+    lost: &mut Vec<Loss>,
+) -> Result<bool, AllocError>
+    requires { AreLiveSets f.old live.now }
+    ensures { IfOk result (λ any. (here : List IsLoss) × (lost.new.items ≡ lost.old.items ++ here)
+        × IsTakenOut f.old f.new here any) }
+{
+    know_forms(f.blocks.as_slice());
+    let dead = judge(alloc, f, live)?;
+    if !has_dead(dead.as_slice()) {
+        return Ok(false);
+    }
+    let wrong = WrongPlaces::solve(alloc, f, dead.as_slice())?;
+    let left = left_blocks(alloc, f, &wrong, dead.as_slice(), lost)?;
+    f.blocks = List::from(left);
+    Ok(true)
+}
+
+/// Whether some item is dead.
+pub fn has_dead(dead: &[List<bool>]) -> bool
+    ensures { result ≡ list_any (λ v. list_any (λ d. d) v) dead.now }
+{
+    dead.iter().any(|v| some_dead(v.as_slice()))
+}
+
+fn some_dead(dead: &[bool]) -> bool
+    ensures { result ≡ list_any (λ d. d) dead.now }
+{
+    dead.iter().any(|d| *d)
+}

@@ -1,5 +1,0 @@
-use Rattle.dead_places.proofs.Visits.{settling_ends}
-use Rattle.dead_places.proofs.sweep.settle.Goals as goal
-
-pub returns : goal.returns
-returns c = settling_ends c.loop.invariant c.sweep.ensures c.loop-test.false c.requires.all

@@ -1,5 +1,0 @@
-use Rattle.dead_round.proofs.Follows.{round_code}
-use Rattle.dead_round.proofs.laws.round_code.Goals as goal
-
-pub returns : goal.returns
-returns c = round_code

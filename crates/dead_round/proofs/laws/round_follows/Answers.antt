@@ -1,5 +1,0 @@
-use Rattle.dead_round.proofs.Follows.{round_follows}
-use Rattle.dead_round.proofs.laws.round_follows.Goals as goal
-
-pub returns : goal.returns
-returns c = round_follows

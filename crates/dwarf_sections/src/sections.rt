@@ -1,0 +1,118 @@
+//! The sections of functions with their machine code.
+
+ghost use Rattle.std.specs.Prelude.{◌≡◌, ◌-◌, ◌<◌, ◌≤◌, ◌^◌, All, IfOk, IsErrOf, length, map};
+ghost use Rattle.dwarf_info.specs.Entries.{spelling as entries_spelling};
+ghost use Rattle.dwarf_line.specs.Spelling.{spelling as rows_spelling};
+ghost use Rattle.dwarf_loclists.specs.Spelling.{spelling as lists_spelling};
+ghost use Rattle.dwarf_loclists.specs.Ranges.{Ascend, ArePlaces};
+ghost use Rattle.dwarf_loclists.specs.Grammar.{IsSection};
+ghost use Rattle.dwarf_sections.specs.declared.sections.SectionError.TheVariants.{Memory};
+ghost use Rattle.source_lines.specs.Program.{MAX_FUNCTIONS, table_of};
+ghost use Rattle.dwarf_unit.specs.Unit.{program_variables, unit_of};
+ghost use Rattle.dwarf_base.specs.Limits.{SECTION_LIMIT};
+
+use emit_code::code::Code;
+use listing_text::output::Bytes;
+use dwarf_info::size::info_size;
+use dwarf_info::write::write_info;
+use dwarf_line::size::line_size;
+use dwarf_line::write::write_line;
+use dwarf_loclists::range::RangeLists;
+use dwarf_loclists::section::{lists_size, write_lists};
+use read_metadata::metadata::Metadata;
+use read_program::closing::Parsed;
+use source_lines::compiled::Compiled;
+use source_lines::line_table::line_table;
+use std::alloc::{AllocError, Global};
+use thiserror::Error;
+use dwarf_unit::unit::make_unit;
+
+/// Why a section isn't written.
+#[derive(Clone, Copy, Debug, PartialEq, Eq, Error)]
+pub enum SectionError {
+    /// It would have 2^31 bytes or more.
+    #[error("the section is too large")]
+    TooLarge,
+    /// Memory ran out.
+    #[error("out of memory")]
+    Memory,
+}
+
+impl From<AllocError> for SectionError {
+    ghost from_gives = { λ _ e. e ≡ Memory };
+
+    fn from(_: AllocError) -> SectionError {
+        SectionError::Memory
+    }
+}
+
+/// The functions with their machine code.
+pub fn with_code<'a>(
+    alloc: Global,
+    functions: &'a [Parsed],
+    codes: &'a [Code],
+) -> Result<Vec<Compiled<'a>>, AllocError>
+    requires { length functions.now ≡ length codes.now }
+    ensures sources { IfOk result (λ compiled.
+        map (λ c. c.source.now) compiled.items ≡ map (λ p. p.func) functions.now) }
+    ensures codes { IfOk result (λ compiled. map (λ c. c.code.now) compiled.items ≡ codes.now) }
+{
+    let mut compiled = Vec::new(alloc);
+    for index in 0..functions.len() {
+        compiled.push(Compiled {
+            source: &functions[index].func,
+            code: &codes[index],
+        })?;
+    }
+    Ok(compiled)
+}
+
+/// The section `.debug_info` of functions with so many bytes of code. It is `TooLarge` exactly from 2^31 bytes on.
+pub fn info(
+    alloc: Global,
+    functions: &[Compiled],
+    meta: &Metadata,
+    text_len: u32,
+) -> Result<Bytes, SectionError>
+    requires { length (program_variables functions.now) < 2 ^ 32 - 2 }
+    ensures bytes { IfOk result (λ bytes. bytes ≡ entries_spelling (unit_of meta.now text_len functions.now)) }
+    ensures small { IfOk result (λ bytes. length bytes < SECTION_LIMIT) }
+    ensures large { IsErrOf result SectionError.TooLarge →
+        SECTION_LIMIT ≤ length (entries_spelling (unit_of meta.now text_len functions.now)) }
+{
+    let unit = make_unit(alloc, functions, meta, text_len)?;
+    if info_size(&unit).is_none() {
+        return Err(SectionError::TooLarge);
+    }
+    Ok(write_info(alloc, &unit)?)
+}
+
+/// The section `.debug_line` of functions. It is `TooLarge` exactly from 2^31 bytes on.
+pub fn rows(alloc: Global, functions: &[Compiled], meta: &Metadata) -> Result<Bytes, SectionError>
+    requires { length functions.now ≤ MAX_FUNCTIONS }
+    ensures bytes { IfOk result (λ bytes. bytes ≡ rows_spelling (table_of meta.now functions.now)) }
+    ensures small { IfOk result (λ bytes. length bytes < SECTION_LIMIT) }
+    ensures large { IsErrOf result SectionError.TooLarge →
+        SECTION_LIMIT ≤ length (rows_spelling (table_of meta.now functions.now)) }
+{
+    let table = line_table(alloc, functions, meta)?;
+    if line_size(&table).is_none() {
+        return Err(SectionError::TooLarge);
+    }
+    Ok(write_line(alloc, &table)?)
+}
+
+/// The section `.debug_loclists` of lists. It is `TooLarge` exactly from 2^31 bytes on.
+pub fn loclists(alloc: Global, lists: &RangeLists) -> Result<Bytes, SectionError>
+    requires ascend { All Ascend lists.now }
+    requires places { All ArePlaces lists.now }
+    ensures section { IfOk result (λ bytes. IsSection bytes lists.now) }
+    ensures small { IfOk result (λ bytes. length bytes < SECTION_LIMIT) }
+    ensures large { IsErrOf result SectionError.TooLarge →
+        SECTION_LIMIT ≤ length (lists_spelling lists.now) }
+{
+    if lists_size(lists).is_none() {
+        return Err(SectionError::TooLarge);
+    }
+    Ok(write_lists(alloc, lists)?)
+}

@@ -1,0 +1,67 @@
+-- The plan of a function.
+use Rattle.std.proofs.Common.{◌≡◌, ℕ, ◌+◌, ◌≤◌, Bool, List, [], ◌∷◌, length, ap, ◌∙◌, arith}
+use Rattle.std.specs.Prelude.{sum_by, slice_index}
+use Rattle.std.proofs.lemmas.List.{length-map}
+use Rattle.std.proofs.lemmas.List.Sums.{sum_by-cons}
+use Rattle.rv64_instr.specs.Row.{Row, Fixes, Moves, Sets, Addresses, Loads, Stores, LoadsSlot, StoresSlot, Branches, Jumps, Calls, Returns, Unfit, row_of}
+use Rattle.mir_func.specs.declared.block.Block.{Block}
+use Rattle.mir_func.specs.declared.item.Item.{Item}
+use Rattle.mir_func.specs.declared.item.ItemKind.{ItemKind}
+use Rattle.mir_func.specs.declared.item.ItemKind.TheVariants.{Code, Mark, Phi}
+use Rattle.mir_func.specs.declared.position.Pos.{Pos}
+use Rattle.emit_code.specs.declared.plan.Plan.{Plan}
+use Rattle.emit_code.specs.Counts.{row_words, kind_count, item_count, count_of}
+use Rattle.emit_code.specs.Rule.{Layout, start_of, sites_from}
+use Rattle.emit_code.specs.steps.Places.{items_count, first_of}
+use Rattle.emit_code.specs.steps.Spans.{spans_of, site_span, sums_from}
+use Rattle.emit_code.specs.steps.Plans.{IsPlan}
+use Rattle.emit_code.proofs.Sites.{length_from}
+use Rattle.emit_code.proofs.Settled.{sum_there}
+
+-- ---- counts
+
+row_counts : (row : Row) → 1 ≤ row_words row
+row_counts (Fixes rd n) = omega arith
+row_counts (Moves rd rs) = omega arith
+row_counts (Sets rd op a b) = omega arith
+row_counts (Addresses rd n offset) = omega arith
+row_counts (Loads rd op base offset) = omega arith
+row_counts (Stores op rs base offset) = omega arith
+row_counts (LoadsSlot rd n) = omega arith
+row_counts (StoresSlot rs n) = omega arith
+row_counts (Branches op a b n) = omega arith
+row_counts (Jumps target) = omega arith
+row_counts (Calls name args) = omega arith
+row_counts (Returns results) = omega arith
+row_counts Unfit = omega arith
+
+kind_counts : (kind : ItemKind) → 1 ≤ kind_count kind
+kind_counts (Code i k) = row_counts (row_of i)
+kind_counts (Mark v m) = omega arith
+kind_counts (Phi p k) = omega arith
+
+items_counted : (items : List Item) → length items ≤ sum_by item_count items
+items_counted [] = omega arith
+items_counted (i ∷ items) = omega (arith, kind_counts i.kind, sum_by-cons item_count i items, items_counted items)
+
+pub few_items : (blocks : List Block) → items_count blocks ≤ count_of blocks
+few_items [] = omega arith
+few_items (b ∷ blocks) =
+    omega (
+      arith,
+      sum_by-cons (λ (x : Block). length x.items) b blocks,
+      sum_by-cons (λ (x : Block). sum_by item_count x.items) b blocks,
+      items_counted b.items,
+      few_items blocks,
+    )
+
+pub spans_length : (blocks : List Block) (long : Pos → Bool) → length (spans_of blocks long) ≡ items_count blocks
+spans_length blocks long = length-map (sites_from 0 blocks) (site_span blocks long) ∙ length_from 0 blocks
+
+-- ---- addresses
+
+pub starts_at : (l : Layout) (p : Plan) (n k : ℕ) → IsPlan l p → k ≡ first_of l.framed.blocks n → p.base + slice_index p.sums k ≡ start_of l n
+starts_at l p n k is e =
+    (λ i. is.base i + slice_index (is.sums i) (e i))
+    ∙ ap (λ spans. l.base + slice_index (sums_from 0 spans) (first_of l.framed.blocks n)) is.spans
+    ∙ ap (λ (x : ℕ). l.base + x) (sum_there l.long l.framed.blocks n)

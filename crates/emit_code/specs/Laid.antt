@@ -1,0 +1,79 @@
+-- The machine code of a function as contracts see it, and what it keeps.
+use Rattle.std.specs.Prelude.{◌≡◌, ℕ, ◌+◌, ◌*◌, ◌%◌, ◌^◌, ◌<◌, Bool, false, cond, List, [], ◌∷◌, drop, length, Option, IsSome, All}
+use Rattle.rv64_instr.specs.Instruction.{Instruction}
+use Rattle.rv64_instr.specs.Row.{Unfit, row_of}
+use Rattle.rv64_instr.specs.Parts.{is_call}
+use Rattle.mir_func.specs.declared.item.Item.{Item}
+use Rattle.mir_func.specs.declared.item.ItemKind.{ItemKind}
+use Rattle.mir_func.specs.declared.item.ItemKind.TheVariants.{Code, Mark, Phi}
+use Rattle.mir_func.specs.declared.position.Pos.{Pos}
+use Rattle.mir_func.specs.Function.{FramedFunction}
+use Rattle.mir_func.specs.Graph.{Here, fetch_in}
+use Rattle.emit_code.specs.declared.code.Entry.{Entry}
+use Rattle.emit_code.specs.Counts.{MAX_WORDS, MAX_BASE}
+use Rattle.emit_code.specs.Rule.{Layout, Form, Nothing, OneWord, CallSite, LongBranch, row_form, address_in, operation_at, skip_operation, jump_operation}
+use Rattle.emit_code.specs.Rule.{entries_of, words_of}
+use Rattle.emit_code.specs.Long.{IsSettled}
+
+-- the machine code of a function: its first address, its words, what stands where, and the function with its frame
+pub record LaidCode : Type 0 where
+  pub base : ℕ
+  pub words : List ℕ
+  pub entries : List Entry
+  pub framed : FramedFunction
+
+-- entries stand one after the other between two addresses, a call in eight bytes and all else in four
+abbrev pub StandFrom : (address : ℕ) → List Entry → (end : ℕ) → Type 0
+StandFrom a [] end = a ≡ end
+StandFrom a (e ∷ es) end = (e.address ≡ a) × (e.size ≡ cond e.call 8 4) × StandFrom (a + e.size) es end
+
+-- the item is a call site
+abbrev pub is_call_kind : ItemKind → Bool
+is_call_kind (Code i k) = is_call (row_of i)
+is_call_kind (Mark v m) = false
+is_call_kind (Phi p k) = false
+
+-- at the point of an entry the function has an item, which is a call exactly where the entry is one
+pub record IsOfItem (f : FramedFunction) (e : Entry) : Type 0 where
+  pub item : Item
+  pub stands : fetch_in (drop e.point.block f.blocks) e.point.item ≡ Here item
+  pub call : e.call ≡ is_call_kind item.kind
+
+-- what every machine code keeps
+pub record IsCode (c : LaidCode) : Type 0 where
+  pub aligned : c.base % 4 ≡ 0
+  pub low : c.base < MAX_BASE
+  pub few : length c.words < MAX_WORDS
+  pub stand : StandFrom c.base c.entries (c.base + 4 * length c.words)
+  pub items : All (IsOfItem c.framed) c.entries
+
+-- code of a form has its words: each is that of an operation
+abbrev pub FormWorded : Layout → (address : ℕ) → Instruction → Form → Type 0
+FormWorded l a i Nothing = Unit {0}
+FormWorded l a i OneWord = IsSome (operation_at l a i)
+FormWorded l a i CallSite = Unit {0}
+FormWorded l a i (LongBranch n) = IsSome (skip_operation i) × IsSome (jump_operation l a n)
+
+-- so does all code of the layout: registers and numbers are in the range of the words' formats, and each branch and each jump reaches
+abbrev pub IsWorded : Layout → Type 0
+IsWorded l = (p : Pos) (i : Item) (c : Instruction) (k : Option ℕ) → fetch_in (drop p.block l.framed.blocks) p.item ≡ Here i → i.kind ≡ Code c k →
+    FormWorded l (address_in l p) c (row_form (l.long p) (row_of c))
+
+-- all code of the layout has the form of an instruction
+abbrev pub IsFit : Layout → Type 0
+IsFit l = (p : Pos) (i : Item) (c : Instruction) (k : Option ℕ) → fetch_in (drop p.block l.framed.blocks) p.item ≡ Here i → i.kind ≡ Code c k →
+    row_of c ≡ Unfit → ⊥
+
+-- the machine code is that of the function from its first address on, by the rule: with the least set of long branches
+pub record IsCodeOf (f : FramedFunction) (base : ℕ) (c : LaidCode) : Type 0 where
+  pub layout : Layout
+  pub of : layout.framed ≡ f
+  pub from : layout.base ≡ base
+  pub settled : IsSettled layout
+  pub worded : IsWorded layout
+  pub fit : IsFit layout
+  pub small : (p : Pos) → address_in layout p + 8 < 2 ^ 64
+  pub entries : c.entries ≡ entries_of layout
+  pub words : c.words ≡ words_of layout
+  pub framed : c.framed ≡ f
+  pub base_kept : c.base ≡ base

@@ -1,0 +1,48 @@
+-- What of a plan an item's words and entries are made of.
+use Rattle.std.specs.Prelude.{◌≡◌, ℕ, ◌+◌, ◌<◌, ℤ, List, length, get_or, slice_index, Option}
+use Rattle.mir_func.specs.declared.item.Item.{Item}
+use Rattle.mir_func.specs.declared.position.Pos.{Pos}
+use Rattle.mir_func.specs.declared.position.Point.{Point}
+use Rattle.mir_func.specs.Successors.{pos_in}
+use Rattle.mir_func.specs.Sound.{HasForm}
+use Rattle.rv64_word.specs.declared.machine_op.MachineOp.{MachineOp}
+use Rattle.rv64_word.specs.declared.word_op.WordOp.TheVariants.{Registers, Immediate, Lui, Branch, Load, Store, Jal, Jalr}
+use Rattle.rv64_word.specs.declared.word_op.WordOp.{WordOp}
+use Rattle.emit_code.specs.Inverted.{inverted}
+use Rattle.rv64_word.specs.Lowering.{in_range, machine_op}
+use Rattle.emit_code.specs.declared.plan.Plan.{Plan}
+use Rattle.emit_code.specs.declared.span.Span.TheVariants.{Nothing}
+use Rattle.emit_code.specs.Rule.{Layout, Site, address_in}
+use Rattle.emit_code.specs.steps.Spans.{site_span}
+
+-- the plan has an item of a layout at an index
+pub record StandsAt (l : Layout) (p : Plan) (index : ℕ) (s : Site) : Type 0 where
+  pub span : get_or p.spans index Nothing ≡ site_span l.framed.blocks l.long s
+  pub address : p.base + slice_index p.sums index ≡ address_in l s.point
+
+-- it has the items of a block from an index on
+abbrev pub AllStandAt : Layout → Plan → (first block : ℕ) → List Item → Type 0
+AllStandAt l p first b items = (n : ℕ) (i : Item) → n < length items → i ≡ get_or items n i →
+    StandsAt l p (first + n) (record { point = pos_in b n; item = i })
+
+abbrev pub point_of : Pos → Point
+point_of p = record { block = p.block; item = p.item }
+
+-- an item whose code has the form of its opcode
+abbrev pub IsFormed : Item → Type 0
+IsFormed i = HasForm i.kind
+
+-- the operation of the inverted branch. Other operations stay
+abbrev pub inverted_word : WordOp → WordOp
+inverted_word (Registers op) = Registers op
+inverted_word (Immediate op) = Immediate op
+inverted_word Lui = Lui
+inverted_word (Branch op) = Branch (inverted op)
+inverted_word (Load op) = Load op
+inverted_word (Store op) = Store op
+inverted_word Jal = Jal
+inverted_word Jalr = Jalr
+
+-- a jump to an offset, if that is in range
+abbrev pub jump_by : ℤ → Option MachineOp
+jump_by offset = in_range (machine_op Jal 0 0 0 offset)

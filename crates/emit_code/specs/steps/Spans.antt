@@ -1,0 +1,93 @@
+-- What stands for each item, and the rounds in which branches become long.
+use Rattle.std.specs.Prelude.{◌≡◌, ℕ, suc, ◌+◌, ◌&&◌, Bool, cond, nat_le, List, [], ◌∷◌, map, slice_index, sum_by}
+use Rattle.rv64_instr.specs.Row.{Row, Fixes, Moves, Sets, Addresses, Loads, Stores, LoadsSlot, StoresSlot, Branches, Jumps, Calls, Returns, Unfit, row_of}
+use Rattle.mir_func.specs.declared.block.Block.{Block}
+use Rattle.mir_func.specs.declared.item.ItemKind.{ItemKind}
+use Rattle.mir_func.specs.declared.item.ItemKind.TheVariants.{Code, Mark, Phi}
+use Rattle.mir_func.specs.declared.position.Pos.{Pos}
+use Rattle.emit_code.specs.declared.span.Span.{Span}
+use Rattle.emit_code.specs.declared.span.Span.TheVariants.{Nothing, OneWord, CallSite, Short, Long}
+use Rattle.emit_code.specs.Rule.{Site, sites_from}
+use Rattle.emit_code.specs.steps.Places.{first_of}
+
+abbrev pub span_size : Span → ℕ
+span_size Nothing = 0
+span_size OneWord = 4
+span_size CallSite = 8
+span_size (Short t) = 4
+span_size (Long t) = 8
+
+abbrev pub short_count : Span → ℕ
+short_count Nothing = 0
+short_count OneWord = 0
+short_count CallSite = 0
+short_count (Short t) = 1
+short_count (Long t) = 0
+
+-- how many branches are short
+abbrev pub shorts : List Span → ℕ
+shorts spans = sum_by short_count spans
+
+-- what stands for code of a row, where a branch may be long
+abbrev pub row_span : List Block → (long : Bool) → Row → Span
+row_span blocks long (Fixes rd n) = OneWord
+row_span blocks long (Moves rd rs) = OneWord
+row_span blocks long (Sets rd op a b) = OneWord
+row_span blocks long (Addresses rd n offset) = OneWord
+row_span blocks long (Loads rd op base offset) = OneWord
+row_span blocks long (Stores op rs base offset) = OneWord
+row_span blocks long (LoadsSlot rd n) = OneWord
+row_span blocks long (StoresSlot rs n) = OneWord
+row_span blocks long (Branches op a b target) = cond long (Long (first_of blocks target)) (Short (first_of blocks target))
+row_span blocks long (Jumps target) = OneWord
+row_span blocks long (Calls name args) = CallSite
+row_span blocks long (Returns results) = OneWord
+row_span blocks long Unfit = OneWord
+
+abbrev pub span_of : List Block → (long : Bool) → ItemKind → Span
+span_of blocks long (Code i k) = row_span blocks long (row_of i)
+span_of blocks long (Mark v m) = Nothing
+span_of blocks long (Phi p k) = Nothing
+
+-- what stands for an item at its point
+abbrev pub site_span : List Block → (long : Pos → Bool) → Site → Span
+site_span blocks long s = span_of blocks (long s.point) s.item.kind
+
+-- what stands for the items of a function
+abbrev pub spans_of : List Block → (long : Pos → Bool) → List Span
+spans_of blocks long = map (site_span blocks long) (sites_from 0 blocks)
+
+-- how many bytes stand before each, where so many stand before the first, and at last before the end
+abbrev pub sums_from : ℕ → List Span → List ℕ
+sums_from n [] = n ∷ []
+sums_from n (s ∷ spans) = n ∷ sums_from (n + span_size s) spans
+
+-- a branch reaches from one address to another as a short one
+abbrev pub reaches : (from to : ℕ) → Bool
+reaches from to = nat_le to (from + 4094) && nat_le from (to + 4096)
+
+-- a short branch at an index that doesn't reach becomes long
+abbrev pub grown : (sums : List ℕ) → (index : ℕ) → Span → Span
+grown sums k Nothing = Nothing
+grown sums k OneWord = OneWord
+grown sums k CallSite = CallSite
+grown sums k (Short t) = cond (reaches (slice_index sums k) (slice_index sums t)) (Short t) (Long t)
+grown sums k (Long t) = Long t
+
+abbrev pub grown_from : (sums : List ℕ) → (index : ℕ) → List Span → List Span
+grown_from sums k [] = []
+grown_from sums k (s ∷ spans) = grown sums k s ∷ grown_from sums (suc k) spans
+
+-- a round
+abbrev pub round : List Span → List Span
+round spans = grown_from (sums_from 0 spans) 0 spans
+
+-- some rounds lead from one to the other
+pub data Rounds (spans : List Span) : List Span → Type 0 where
+  begun : Rounds spans spans
+  further : {others : List Span} → Rounds spans others → Rounds spans (round others)
+
+-- they do, and one more round changes nothing
+pub record Settles (spans others : List Span) : Type 0 where
+  pub rounds : Rounds spans others
+  pub steady : round others ≡ others

@@ -1,0 +1,82 @@
+//! Where stack objects are, found by their numbers.
+
+ghost use Rattle.std.specs.Prelude.{◌≡◌, ℕ, ◌+◌, ◌≤◌, All, Option, option_map, IfOk};
+ghost use Rattle.std.specs.Ordering.{nat_cmp};
+ghost use Rattle.std.specs.BTreeMap.{get};
+ghost use Rattle.mir_func.specs.Function.{FramedFunction};
+ghost use Rattle.mir_func.specs.Limits.{MAX_FRAME};
+ghost use Rattle.mir_func.specs.Objects.{object_of, area_of};
+ghost use Rattle.emit_code.specs.Rule.{object_offset};
+ghost use Rattle.emit_code.specs.steps.Plans.{AreOffsetsOf};
+
+use mir_func::framed::Framed;
+use mir_func::object::{Object, up_to};
+use base_ids::code::ObjectId;
+use std::alloc::{AllocError, Global};
+use std::collections::BTreeMap;
+
+/// How far above x2 the stack objects of a function begin.
+#[derive(Drop)]
+pub struct ObjectOffsets {
+    /// By their numbers.
+    pub offsets: BTreeMap<u32, u32>,
+    /// How far above x2 the first one begins.
+    pub own: u32,
+}
+
+impl ObjectOffsets {
+    /// Those of a function.
+    pub fn new(alloc: Global, framed: &Framed) -> Result<ObjectOffsets, AllocError>
+        ensures { IfOk result (AreOffsetsOf framed.now) }
+    {
+        let objects = framed.objects.as_slice();
+        let own = framed.size - area(objects) as u32;
+        Ok(ObjectOffsets {
+            offsets: offsets(alloc, objects, own)?,
+            own,
+        })
+    }
+
+    /// That of an object, and 0 where none is asked for.
+    pub fn of(&self, object: Option<ObjectId>) -> u32
+        ensures { (f : FramedFunction) → AreOffsetsOf f self.now → result ≡ object_offset f object }
+    {
+        match object {
+            Some(id) => match self.offsets.get(&id.number()) {
+                Some(offset) => *offset,
+                None => self.own,
+            },
+            None => 0,
+        }
+    }
+}
+
+/// How many bytes the objects take together.
+fn area(objects: &[Object]) -> u64
+    requires { area_of objects.now ≤ MAX_FRAME }
+    ensures { result ≡ area_of objects.now }
+{
+    let count = objects.len();
+    if count == 0 {
+        return 0;
+    }
+    let last = &objects[count - 1];
+    up_to(16, last.offset + u64::from(last.size))
+}
+
+/// Of objects with one number the first counts, so it comes last.
+fn offsets(alloc: Global, objects: &[Object], own: u32) -> Result<BTreeMap<u32, u32>, AllocError>
+    requires own { own ≤ MAX_FRAME }
+    requires objects { All (λ o. o.offset ≤ MAX_FRAME) objects.now }
+    ensures { IfOk result (λ offsets. (n : ℕ) → get nat_cmp offsets n ≡ option_map (λ o. own + o.offset) (object_of
+        objects.now n)) }
+{
+    let mut offsets = BTreeMap::new(alloc);
+    let mut index = objects.len();
+    while index > 0 {
+        index -= 1;
+        let object = &objects[index];
+        offsets.insert(object.id.number(), own + object.offset as u32)?;
+    }
+    Ok(offsets)
+}

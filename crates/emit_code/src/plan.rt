@@ -1,0 +1,90 @@
+//! Where everything of a function stands.
+
+ghost use Rattle.std.specs.Prelude.{◌≡◌, ◌+◌, ◌<◌, ◌^◌, length, slice_index, slice_get, Option, Some, option_map};
+ghost use Rattle.std.specs.Prelude.{get_or, IfOk};
+ghost use Rattle.mir_func.specs.Limits.{MAX_BLOCKS};
+ghost use Rattle.emit_code.specs.Counts.{MAX_WORDS, count_of};
+ghost use Rattle.emit_code.specs.Rule.{Layout, offset_to, start_of};
+ghost use Rattle.emit_code.specs.steps.Plans.{IsPlan, IsPlanOf};
+ghost use Rattle.emit_code.specs.declared.span.Span.TheVariants.{Nothing};
+
+use crate::objects::ObjectOffsets;
+use crate::rounds::{Sums, settle};
+use crate::span::{Span, Spans, short_spans};
+use crate::table::{Table, at};
+use mir_func::exit::Exit;
+use mir_func::framed::Framed;
+use base_ids::code::BlockId;
+use std::alloc::{AllocError, Global};
+
+/// Where the items of a function stand.
+#[derive(Drop)]
+pub struct Plan {
+    /// The address where the function begins.
+    pub base: u32,
+    /// Where blocks begin.
+    pub table: Table,
+    /// What stands for each item.
+    pub spans: Spans,
+    /// How many bytes stand before each item.
+    pub sums: Sums,
+    /// How far above x2 stack objects begin, by their numbers.
+    pub objects: ObjectOffsets,
+}
+
+impl Plan {
+    /// The plan of a function.
+    pub fn new(alloc: Global, framed: &Framed, base: u32) -> Result<Plan, AllocError>
+        requires blocks { length framed.now.blocks < 2 ^ 32 }
+        requires items { count_of framed.now.blocks < MAX_WORDS }
+        ensures { IfOk result (IsPlanOf framed.now base) }
+    {
+        let table = Table::new(alloc, framed.blocks.as_slice())?;
+        let mut spans = short_spans(alloc, framed.blocks.as_slice(), &table)?;
+        let sums = settle(alloc, &mut spans)?;
+        Ok(Plan {
+            base,
+            table,
+            spans,
+            sums,
+            objects: ObjectOffsets::new(alloc, framed)?,
+        })
+    }
+
+    /// What stands for an item.
+    pub fn span(&self, index: usize) -> Span
+        ensures { result ≡ get_or self.now.spans index Nothing }
+    {
+        match self.spans.as_slice().get(index) {
+            Some(span) => *span,
+            None => Span::Nothing,
+        }
+    }
+
+    /// The address of an item, by how many items stand before it.
+    pub fn address(&self, index: usize) -> u64
+        ensures value { result ≡ self.now.base + slice_index self.now.sums index }
+        ensures low { result < 2 ^ 33 }
+    {
+        u64::from(self.base) + u64::from(at(self.sums.as_slice(), index))
+    }
+
+    /// Where a block begins.
+    fn start(&self, block: BlockId) -> u64
+        ensures value { (l : Layout) → IsPlan l self.now → result ≡ start_of l block }
+        ensures low { result < 2 ^ 33 }
+    {
+        self.address(self.table.first_of(block) as usize)
+    }
+
+    /// How far it is from an address to where control goes otherwise than onward, or 0.
+    pub fn offset(&self, address: u64, exit: Exit) -> i64
+        requires { address < 2 ^ 34 }
+        ensures { (l : Layout) → IsPlan l self.now → result ≡ offset_to l address exit }
+    {
+        match exit {
+            Exit::Onward | Exit::Final => 0,
+            Exit::Perhaps(block) | Exit::Always(block) => self.start(block) as i64 - address as i64,
+        }
+    }
+}

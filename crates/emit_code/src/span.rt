@@ -1,0 +1,99 @@
+//! What stands for each item of a function.
+
+ghost use Rattle.std.specs.Prelude.{◌≡◌, ◌++◌, List, false, map, OnOk, IfOk};
+ghost use Rattle.std.specs.List.{flat_map};
+ghost use Rattle.rv64_instr.specs.Row.{Row};
+ghost use Rattle.rv64_instr.specs.Decoded.{Shows};
+ghost use Rattle.mir_func.specs.declared.block.Block.{Block};
+ghost use Rattle.emit_code.specs.steps.Places.{IsTableOf};
+ghost use Rattle.emit_code.specs.steps.Spans.{span_size, row_span, span_of, spans_of};
+
+use crate::table::Table;
+use base_list::List;
+use mir_func::block::Block;
+use mir_func::item::{Item, ItemKind};
+use rv64_instr::decoded::Decoded;
+use std::alloc::{AllocError, Global};
+
+/// What stands for an item.
+#[derive(Clone, Copy, Debug, PartialEq, Eq)]
+pub enum Span {
+    /// Nothing, for a mark or a phi.
+    Nothing,
+    /// One word, for code that is no conditional branch.
+    OneWord,
+    /// The two words of a call.
+    CallSite,
+    /// The word of a conditional branch, before whose target so many items stand.
+    Short(u32),
+    /// The two words of one that is long.
+    Long(u32),
+}
+
+/// What stands for the items of a function, in text order.
+pub type Spans = List<Span>;
+
+impl Span {
+    /// Its bytes.
+    pub fn size(self) -> u32
+        ensures { result ≡ span_size self }
+    {
+        match self {
+            Span::Nothing => 0,
+            Span::OneWord | Span::Short(_) => 4,
+            Span::CallSite | Span::Long(_) => 8,
+        }
+    }
+
+    /// What stands for an item, a conditional branch being short.
+    fn new(kind: &ItemKind, table: &Table) -> Span
+        ensures { (blocks : List Block) → IsTableOf blocks table.now → result ≡ span_of blocks false kind.now }
+    {
+        match kind {
+            ItemKind::Code(i, _) => Span::of_code(&i.decoded(), table),
+            ItemKind::Mark(_, _) | ItemKind::Phi(_, _) => Span::Nothing,
+        }
+    }
+
+    fn of_code(decoded: &Decoded, table: &Table) -> Span
+        ensures { (blocks : List Block) (row : Row) → IsTableOf blocks table.now → Shows decoded.now row →
+            result ≡ row_span blocks false row }
+    {
+        match *decoded {
+            Decoded::Branches(_, _, _, target) => Span::Short(table.first_of(target)),
+            Decoded::Calls => Span::CallSite,
+            Decoded::Jumps(_)
+            | Decoded::Returns
+            | Decoded::Sets(_, _, _, _)
+            | Decoded::Fixes(_, _)
+            | Decoded::Moves(_, _)
+            | Decoded::Addresses(_, _, _)
+            | Decoded::Loads(_, _, _, _)
+            | Decoded::LoadsSlot(_, _)
+            | Decoded::Stores(_, _, _, _)
+            | Decoded::StoresSlot(_, _) => Span::OneWord,
+        }
+    }
+}
+
+/// What stands for the items of blocks, with all branches short.
+pub fn short_spans(alloc: Global, blocks: &[Block], table: &Table) -> Result<Spans, AllocError>
+    requires { IsTableOf blocks.now table.now }
+    ensures { IfOk result (λ spans. spans ≡ spans_of blocks.now (λ p. false)) }
+{
+    let mut spans = Spans::new(alloc);
+    for block in blocks {
+        push_spans(&mut spans, block.items.as_slice(), table)?;
+    }
+    Ok(spans)
+}
+
+fn push_spans(spans: &mut Spans, items: &[Item], table: &Table) -> Result<(), AllocError>
+    ensures { (blocks : List Block) → IsTableOf blocks table.now →
+        OnOk result (spans.new ≡ spans.old ++ map (λ i. span_of blocks false i.kind) items.now) }
+{
+    for item in items {
+        spans.push(Span::new(&item.kind, table))?;
+    }
+    Ok(())
+}

@@ -1,0 +1,60 @@
+//! Which blocks are bypassed.
+
+ghost use Rattle.std.specs.Prelude.{◌≡◌, ◌↔◌, ℕ, IfOk, IsTrue, nat_eq};
+ghost use Rattle.std.specs.HashSet.{contains};
+ghost use Rattle.mir_func.specs.Sound.{AreApart, ids_of};
+ghost use Rattle.fold_targets.specs.Leads.{lead};
+ghost use Rattle.fold_targets.specs.Ends.{told, end_in};
+ghost use Rattle.fold_targets.specs.Ways.{EndsAt};
+ghost use Rattle.fold_rule.specs.Reached.{Reached};
+ghost use Rattle.fold_undef.specs.Bypassed.{end_past};
+
+use fold_rule::reached::reached_before;
+use fold_rule::ways::end_of;
+use fold_targets::ends::ends;
+use fold_targets::leads::leads;
+use mir_func::block::Block;
+use base_ids::code::BlockId;
+use std::alloc::{AllocError, Global};
+use std::collections::{HashMap, HashSet};
+
+/// The ways of a function as it stands, by the numbers of its blocks.
+#[derive(Drop)]
+pub struct OldWays {
+    /// Where each jump-only block leads.
+    pub leads: HashMap<u32, u32>,
+    /// Where the way of each block ends. A block that is its own end may be left out.
+    pub ends: HashMap<u32, u32>,
+    /// The blocks that are reached.
+    pub reached: HashSet<u32>,
+}
+
+/// The ways of blocks whose numbers differ.
+pub fn old_ways(alloc: Global, blocks: &[Block]) -> Result<OldWays, AllocError>
+    requires { AreApart (ids_of blocks.now) }
+    ensures leads { IfOk result (λ w. (n : ℕ) → told w.leads n ≡ lead blocks.now n) }
+    ensures ends { IfOk result (λ w. (n : ℕ) → EndsAt (lead blocks.now) n (end_in w.ends n)) }
+    ensures reached { IfOk result (λ w. (n : ℕ) → IsTrue (contains nat_eq w.reached n)
+        ↔ Reached blocks.now (λ m. m) n) }
+{
+    let leads = leads(alloc, blocks)?;
+    let ends = ends(alloc, &leads)?;
+    let reached = reached_before(alloc, blocks)?;
+    Ok(OldWays {
+        leads,
+        ends,
+        reached,
+    })
+}
+
+/// The block where the way of a block ends, if it is bypassed: it is reached, leads on, and isn't its own end.
+pub fn end_past(ways: &OldWays, block: BlockId) -> Option<BlockId>
+    ensures { result ≡ end_past (end_in ways.now.ends) (contains nat_eq ways.now.reached) (told ways.now.leads) block }
+{
+    let number = block.number();
+    if !ways.reached.contains(&number) || !ways.leads.contains_key(&number) {
+        return None;
+    }
+    let end = end_of(&ways.ends, block);
+    if block == end { None } else { Some(end) }
+}

@@ -1,6 +1,0 @@
-use Rattle.std.proofs.Common.{◌≡◌, take}
-use Rattle.follow_law.specs.Nops.{nop_numbers}
-use Rattle.follow_law.proofs.nops.nop_numbers.Given as goal
-
-abbrev pub invariant-loop-b : goal.invariant-loop-b
-invariant-loop-b l = l.numbers.items ≡ nop_numbers (take l.b-index l.blocks)

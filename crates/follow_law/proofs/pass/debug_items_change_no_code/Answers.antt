@@ -1,5 +1,0 @@
-use Rattle.follow_law.proofs.Composition.{make_code_alone}
-use Rattle.follow_law.proofs.pass.debug_items_change_no_code.Goals as goal
-
-pub returns : goal.returns
-returns g c = make_code_alone (g.P.Pass.steps c.args.pass.now) (g.met.P.Pass.one_code c.args.pass.now) (g.met.P.Pass.same_code c.args.pass.now)

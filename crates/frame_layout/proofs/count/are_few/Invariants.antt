@@ -1,6 +1,0 @@
-use Rattle.std.proofs.Common.{◌≡◌, ◌+◌, drop}
-use Rattle.code_words.specs.Counts.{count_of}
-use Rattle.frame_layout.proofs.count.are_few.Given as goal
-
-abbrev pub invariant-loop-b : goal.invariant-loop-b
-invariant-loop-b l = l.room + count_of l.blocks ≡ 262143 + count_of (drop l.b-index l.blocks)

@@ -1,6 +1,0 @@
-use Rattle.std.proofs.Common.{◌≡◌, take}
-use Rattle.frame_lower.specs.steps.Framing.{framed_items_in}
-use Rattle.frame_lower.proofs.blocks.framed_items.Given as goal
-
-abbrev pub invariant-loop-i : goal.invariant-loop-i
-invariant-loop-i l = l.made ≡ framed_items_in l.frame (take l.i-index l.items)

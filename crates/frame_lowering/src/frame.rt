@@ -1,0 +1,46 @@
+//! The frame of a function.
+
+ghost use Rattle.std.specs.Prelude.{◌≡◌, ◌≤◌, ◌<◌, IfOk, IsErrOf};
+ghost use Rattle.mir_func.specs.Limits.{MAX_FRAME};
+ghost use Rattle.frame_rule.specs.Rule.{size_of};
+ghost use Rattle.frame_lowering.specs.steps.Framing.{IsFrameOf};
+
+use crate::lower::LowerError;
+use crate::places::{DOUBLEWORD, saved_places};
+use crate::saving::saved_registers;
+use crate::sizes::{MAX_FRAME, size};
+use crate::slots::SlotOffsets;
+use mir_func::framed::Saved;
+use mir_func::func::Func;
+use std::alloc::Global;
+
+/// The frame of a function (LLVM: `MachineFrameInfo`).
+#[derive(Drop)]
+pub struct Frame {
+    /// Its size in bytes.
+    pub size: u32,
+    /// Where slots lie.
+    pub slots: SlotOffsets,
+    /// Where registers are saved.
+    pub saved: Saved,
+}
+
+impl Frame {
+    /// The frame of this function. It is `FrameTooLarge` exactly above 2,032 bytes.
+    pub fn new(alloc: Global, f: &Func) -> Result<Frame, LowerError>
+        ensures made { IfOk result (IsFrameOf f.now) }
+        ensures too_large { IsErrOf result LowerError.FrameTooLarge → MAX_FRAME < size_of f.now }
+    {
+        let slots = f.slots.as_slice();
+        let registers = saved_registers(alloc, f.blocks.as_slice())?;
+        let size = size(slots.len() + registers.len(), f.objects.as_slice());
+        if MAX_FRAME < size {
+            return Err(LowerError::FrameTooLarge);
+        }
+        Ok(Frame {
+            size: size as u32,
+            slots: SlotOffsets::new(alloc, slots)?,
+            saved: saved_places(alloc, DOUBLEWORD * slots.len() as u32, registers.as_slice())?,
+        })
+    }
+}

@@ -1,0 +1,48 @@
+//! Where slots and saved registers lie.
+
+ghost use Rattle.std.specs.Prelude.{◌≡◌, ◌≤◌, length, IfOk};
+ghost use Rattle.mir_func.specs.Limits.{MAX_SLOTS};
+ghost use Rattle.frame_rule.specs.Rule.{slot_places, saved_places};
+
+use mir_func::framed::{Offsets, Saved, SavedRegister, SlotPlace};
+use base_ids::code::SlotId;
+use rv64_instr::reg::Reg;
+use std::alloc::{AllocError, Global};
+
+/// The bytes of a slot, and of the place of a saved register.
+pub const DOUBLEWORD: u32 = 8;
+
+/// Where slots lie, one after the other from x2 on.
+pub fn slot_places(alloc: Global, slots: &[SlotId]) -> Result<Offsets, AllocError>
+    requires { length slots.now ≤ MAX_SLOTS }
+    ensures { IfOk result (λ places. places ≡ slot_places 0 slots.now) }
+{
+    let mut places = Offsets::new(alloc);
+    let mut offset = 0;
+    for slot in slots {
+        places.push(SlotPlace {
+            slot: *slot,
+            offset,
+        })?;
+        offset += DOUBLEWORD;
+    }
+    Ok(places)
+}
+
+/// Where registers are saved, one after the other from an offset on, in bytes from x2.
+pub fn saved_places(alloc: Global, from: u32, registers: &[Reg]) -> Result<Saved, AllocError>
+    requires few { length registers.now ≤ 13 }
+    requires below { from ≤ 4096 }
+    ensures { IfOk result (λ places. places ≡ saved_places from registers.now) }
+{
+    let mut places = Saved::new(alloc);
+    let mut offset = from;
+    for register in registers {
+        places.push(SavedRegister {
+            register: *register,
+            offset,
+        })?;
+        offset += DOUBLEWORD;
+    }
+    Ok(places)
+}

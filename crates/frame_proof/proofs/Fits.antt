@@ -1,0 +1,168 @@
+-- What the items of a function that follows a source are like, as its frame needs it.
+use Rattle.std.proofs.Common.{◌≡◌, ℕ, zero, suc, ◌≤◌, List, [], ◌∷◌, map, All, Option, Some, None, Bool, true, false, cond, nat_eq, nat_le, ◌&&◌, refl}
+use Rattle.std.specs.List.{list_all}
+use Rattle.std.proofs.lemmas.Bool.{leb-true, and_parts}
+use Rattle.std.proofs.lemmas.List.Elements.{All-nil, All-cons}
+use Rattle.rv64_instr.specs.declared.op.Op.{Op}
+use Rattle.rv64_instr.specs.declared.op.Op.TheVariants.{Registers, Immediate, Lui, Branch, Load, Store, Copy, PseudoBr, PseudoCall, PseudoRet}
+use Rattle.rv64_instr.specs.declared.op.ImmediateOp.{ImmediateOp}
+use Rattle.rv64_instr.specs.declared.op.ImmediateOp.TheVariants.{Addi}
+use Rattle.rv64_instr.specs.declared.operand.Operand.{Operand}
+use Rattle.rv64_instr.specs.declared.operand.Operand.TheVariants.{Def, Use, ImplicitDef, ImplicitUse, Imm, Slot, Object, Block, Symbol, Mask}
+use Rattle.rv64_instr.specs.Arithmetic.{word, taken, load_width, store_width}
+use Rattle.rv64_instr.specs.Form.{has_form, is_result}
+use Rattle.rv64_instr.specs.Row.{Row, Fixes, Moves, Sets, Addresses, Loads, Stores, LoadsSlot, StoresSlot, Branches, Jumps, Calls, Returns, Unfit, row_of}
+use Rattle.rv64_instr.specs.Row.{row_by, move_row, immediate_row, object_row, implicit_uses}
+use Rattle.rv64_instr.specs.Access.{reads}
+use Rattle.mir_func.specs.declared.exit.Exit.TheVariants.{Final}
+use Rattle.mir_func.specs.declared.item.Item.{Item}
+use Rattle.mir_func.specs.declared.item.ItemKind.{ItemKind}
+use Rattle.mir_func.specs.declared.item.ItemKind.TheVariants.{Code, Mark, Phi}
+use Rattle.mir_func.specs.declared.position.Origin.{Origin}
+use Rattle.mir_func.specs.declared.position.Origin.TheVariants.{Kept, Before}
+use Rattle.mir_func.specs.Exits.{row_exit, exit_of}
+use Rattle.mir_func.specs.Graph.{Program}
+use Rattle.mir_func.specs.Sound.{HasForm}
+use Rattle.sem_mir.specs.State.{Core, Reply, writes_frame}
+use Rattle.sem_mir.specs.Step.{Outcome, Falls, Goes, Gives, Traps, Asks, Breaks, act, does, read, are_written, with_core, address_at, is_fault, slot_loaded}
+use Rattle.sem_mir.specs.Step.{answered, do_item}
+use Rattle.sem_mir.specs.Align.{is_jump_row, is_jump, waits_at, ByItems, After, since_of}
+use Rattle.sem_mir.specs.Follow.{RowFits, KindFits}
+use Rattle.sem_simulation.specs.Sides.{since_item}
+
+-- ---- where code goes elsewhere, it is a branch
+
+abbrev IsGoing : Row → Type 0
+IsGoing (Branches op a b t) = Unit {0}
+IsGoing (Jumps t) = Unit {0}
+IsGoing _ = ⊥
+
+abbrev GoesBy : Row → Outcome → Type 0
+GoesBy r (Goes n c) = IsGoing r
+GoesBy r _ = Unit {0}
+
+either_by : (r : Row) (b : Bool) (x y : Outcome) → GoesBy r x → GoesBy r y → GoesBy r (cond b x y)
+either_by r true x y a b = a
+either_by r false x y a b = b
+
+slot_by : (rd n : ℕ) (c : Core) (x : Option ℕ) → GoesBy (LoadsSlot rd n) (slot_loaded rd c x)
+slot_by rd n c None = tt
+slot_by rd n c (Some v) = tt
+
+call_by : (name args vs : List ℕ) (c : Core) (rs : List Reply) → GoesBy (Calls name args) (answered name vs c rs)
+call_by name args vs c [] = tt
+call_by name args vs c (x ∷ rs) = either_by (Calls name args) (writes_frame c.entry c.area x.writes) Traps _ tt tt
+
+does_by : (r : Row) (c : Core) → GoesBy r (does r c)
+unfolding does
+does_by (Fixes rd n) c = tt
+does_by (Moves rd rs) c = tt
+does_by (Sets rd op a b) c = tt
+does_by (Addresses rd n o) c = tt
+does_by (Loads rd op b o) c = either_by (Loads rd op b o) (is_fault b c (address_at c b o) (load_width op)) Traps _ tt tt
+does_by (Stores op rs b o) c = either_by (Stores op rs b o) (is_fault b c (address_at c b o) (store_width op)) Traps _ tt tt
+does_by (LoadsSlot rd n) c = slot_by rd n c (c.slots n)
+does_by (StoresSlot rs n) c = tt
+does_by (Branches op a b t) c = either_by (Branches op a b t) (taken op (read c a) (read c b)) (Goes t c) (Falls c) tt tt
+does_by (Jumps t) c = tt
+does_by (Calls name args) c = call_by name args (map (read c) args) c c.script
+does_by (Returns v) c = tt
+does_by Unfit c = tt
+
+act_by : (r : Row) (c : Core) → GoesBy r (act r c)
+unfolding act
+act_by r c = either_by r (are_written c (reads r)) (does r c) Traps (does_by r c) tt
+
+going : (r : Row) (j : Core → Core) (x : Outcome) (n : ℕ) (e : Core) → GoesBy r x → with_core j x ≡ Goes n e → IsGoing r
+going r j (Falls c) n e h w = cc
+going r j (Goes m c) n e h w = h
+going r j (Gives v) n e h w = cc
+going r j Traps n e h w = cc
+going r j Asks n e h w = cc
+going r j Breaks n e h w = cc
+
+row_moves : (src : Program) (r : Row) (silent : ℕ) (o : Origin) → RowFits src r silent o → IsGoing r →
+    since_of (waits_at (is_jump_row r) o) ≡ After
+row_moves src (Branches op a b t) silent (Kept p) f h = refl
+row_moves src (Branches op a b t) silent (Before p) f h = absurd f
+row_moves src (Jumps t) silent (Kept p) f h = refl
+row_moves src (Jumps t) silent (Before p) f h = refl
+row_moves src _ silent o f h = absurd h
+
+-- after a branch the source moves on: a conditional one is kept
+pub branch_moves : (src f : Program) (silent : ℕ) (x : Item) → KindFits src x.kind silent x.origin → (c e : Core) (n : ℕ) →
+    do_item f x.kind c ≡ Goes n e → since_item ByItems x ≡ After
+branch_moves src f silent x fits c e n go = by_kind x.kind fits go where
+  by_kind : (k : ItemKind) → KindFits src k silent x.origin → do_item f k c ≡ Goes n e → since_of (waits_at (is_jump k) x.origin) ≡ After
+  by_kind (Code i m) h w = row_moves src (row_of i) silent x.origin h (going (row_of i) _ (act (row_of i) c) n e (act_by (row_of i) c) w)
+  by_kind (Mark v m) h w = cc
+  by_kind (Phi p m) h w = cc
+
+-- ---- what is read where a function returns
+
+abbrev pub IsResult : ℕ → Type 0
+IsResult r = (10 ≤ r) × (r ≤ 17)
+
+none : All IsResult []
+none = All-nil IsResult
+
+results_read : (os : List Operand) → list_all is_result os ≡ true → All IsResult (implicit_uses os)
+results_read [] h = none
+results_read (ImplicitUse r ∷ os) h =
+    let p = and_parts (nat_le 10 r && nat_le r 17) (list_all is_result os) h in
+    let q = and_parts (nat_le 10 r) (nat_le r 17) p.0 in
+    by_test (nat_eq r 2) (results_read os p.1) (leb-true 10 r q.0, leb-true r 17 q.1) where
+      by_test : (b : Bool) → All IsResult (implicit_uses os) → IsResult r → All IsResult (cond b (implicit_uses os) (r ∷ implicit_uses os))
+      by_test true more here = more
+      by_test false more here = All-cons IsResult r (implicit_uses os) here more
+results_read (Def r ∷ os) h = cc
+results_read (Use r ∷ os) h = cc
+results_read (ImplicitDef r ∷ os) h = cc
+results_read (Imm i ∷ os) h = cc
+results_read (Slot n ∷ os) h = cc
+results_read (Object n ∷ os) h = cc
+results_read (Block n ∷ os) h = cc
+results_read (Symbol n ∷ os) h = cc
+results_read (Mask ∷ os) h = cc
+
+immediate_on : (op : ImmediateOp) (rd a n : ℕ) → row_exit (immediate_row op rd a n) ≡ Final → All IsResult (reads (immediate_row op rd a n))
+immediate_on Addi rd zero n h = cc
+immediate_on Addi rd (suc r) zero h = cc
+immediate_on Addi rd (suc r) (suc n) h = cc
+immediate_on _ rd a n h = cc
+
+object_on : (op : ImmediateOp) (rd n o : ℕ) → row_exit (object_row op rd n o) ≡ Final → All IsResult (reads (object_row op rd n o))
+object_on Addi rd n o h = cc
+object_on _ rd n o h = none
+
+move_on : (rd rs : ℕ) → row_exit (move_row rd rs) ≡ Final → All IsResult (reads (move_row rd rs))
+move_on rd zero h = cc
+move_on rd (suc r) h = cc
+
+final_by : (op : Op) (os : List Operand) → has_form op os ≡ true → row_exit (row_by op os) ≡ Final → All IsResult (reads (row_by op os))
+final_by (Registers op) (Def rd ∷ Use a ∷ Use b ∷ rest) h e = cc
+final_by (Immediate op) (Def rd ∷ Use a ∷ Imm i ∷ rest) h e = immediate_on op rd a (word i) e
+final_by (Immediate op) (Def rd ∷ Object n ∷ Imm i ∷ rest) h e = object_on op rd n (word i) e
+final_by Lui (Def rd ∷ Imm i ∷ rest) h e = cc
+final_by (Branch op) (Use a ∷ Use b ∷ Block target ∷ rest) h e = cc
+final_by (Load op) (Def rd ∷ Use base ∷ Imm i ∷ rest) h e = cc
+final_by (Load op) (Def rd ∷ Slot n ∷ rest) h e = cc
+final_by (Load op) (Def rd ∷ Object n ∷ Imm i ∷ rest) h e = cc
+final_by (Store op) (Use rs ∷ Use base ∷ Imm i ∷ rest) h e = cc
+final_by (Store op) (Use rs ∷ Slot n ∷ rest) h e = cc
+final_by (Store op) (Use rs ∷ Object n ∷ Imm i ∷ rest) h e = cc
+final_by Copy (Def rd ∷ Use rs ∷ rest) h e = move_on rd rs e
+final_by PseudoBr (Block target ∷ rest) h e = cc
+final_by PseudoCall (Symbol name ∷ rest) h e = cc
+final_by PseudoRet os h e = results_read os h
+final_by _ _ h e = none
+
+abbrev pub ReadsResults : ItemKind → Type 0
+ReadsResults (Code i k) = All IsResult (reads (row_of i))
+ReadsResults (Mark v m) = Unit {0}
+ReadsResults (Phi p k) = Unit {0}
+
+pub final_reads : (k : ItemKind) → HasForm k → exit_of k ≡ Final → ReadsResults k
+final_reads (Code i n) h e = final_by i.op i.operands h e
+final_reads (Mark v m) h e = tt
+final_reads (Phi p n) h e = tt

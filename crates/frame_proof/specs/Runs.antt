@@ -1,0 +1,18 @@
+-- What a source's function with its frame does beside the source.
+use Rattle.std.specs.Prelude.{List, Option, true}
+use Rattle.mir_func.specs.declared.block.Block.{Block}
+use Rattle.mir_func.specs.declared.entry.OperandPair.{OperandPair}
+use Rattle.mir_func.specs.Function.{Function}
+use Rattle.mir_func.specs.Graph.{block_start, program_of, framed_program}
+use Rattle.mir_func.specs.Sound.{AllItems, IsSound, HasForm}
+use Rattle.sem_mir.specs.State.{State}
+use Rattle.sem_mir.specs.Align.{ByItems, station_at, First, RunsAlong}
+use Rattle.sem_mir.specs.Follow.{Follows, IsStart, first_of}
+use Rattle.frame_rule.specs.Rule.{framed_of}
+
+-- What follows a source runs along with it with its frame too: over code items, by the first arrival at each position.
+abbrev pub FrameFollows : Type 0
+FrameFollows = (src : List Block) (f : Function) (subs fsubs : OperandPair → Option OperandPair) → IsSound f → AllItems (λ i. HasForm i.kind) f.blocks →
+    Follows f.objects src f.blocks subs fsubs → (s : State) → IsStart f.objects (first_of src) s →
+    let g = framed_program (framed_of f).blocks fsubs in
+    RunsAlong (program_of true src subs) g (station_at ByItems g) First s (record { pos = block_start 0; core = s.core })

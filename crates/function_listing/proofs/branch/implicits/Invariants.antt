@@ -1,6 +1,0 @@
-use Rattle.std.proofs.Common.{◌≡◌, ◌++◌, drop}
-use Rattle.shown_program.specs.Listing.{implicits}
-use Rattle.function_listing.proofs.branch.implicits.Given as goal
-
-abbrev pub invariant-loop-operand : goal.invariant-loop-operand
-invariant-loop-operand l = l.made ++ implicits (drop l.operand-index l.operands) ≡ implicits l.operands

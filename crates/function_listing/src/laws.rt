@@ -1,8 +1,0 @@
-//! Laws of listings: each is the contract of a function that does nothing.
-
-ghost use Rattle.function_listing.specs.Laws.{ListingsArePrintable};
-
-/// The listing of a layout of a printable function is printable.
-pub fn listings_are_printable()
-    ensures { ListingsArePrintable }
-{}

@@ -1,9 +1,0 @@
-//! The lists of bytes and of numbers that cross the edge.
-
-use lists::List;
-
-/// Bytes in order.
-pub type Bytes = List<u8>;
-
-/// Numbers of calls of an adapter over memory. Its first call has the number 1.
-pub type CallNumbers = List<u64>;

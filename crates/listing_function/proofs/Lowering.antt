@@ -1,0 +1,217 @@
+-- The operands that a slot or an object is listed by have the form of the opcode: the frame is so small that each offset from x2 is
+-- one of 12 bits.
+use Rattle.std.proofs.Common.{◌≡◌, ℕ, zero, suc, ◌+◌, ◌<◌, ◌≤◌, ℤ, pos, negsuc, Bool, true, false, ◌&&◌, cond, nat_eq, List, [], ◌∷◌, length, get_or, Option}
+use Rattle.std.proofs.Common.{Some, None, refl, ap, sym, ◌∙◌, subst, arith}
+use Rattle.std.specs.Prelude.{All, Contains, ◌+ℤ◌, IsTrue}
+use Rattle.std.specs.List.{list_all}
+use Rattle.std.proofs.lemmas.Bool.{and_parts}
+use Rattle.std.proofs.lemmas.Bool.Decides.{nat_tests}
+use Rattle.std.proofs.lemmas.Int.{ints}
+use Rattle.std.proofs.lemmas.List.Elements.{All-head, All-tail, All-contains}
+use Rattle.rv64_instr.specs.declared.op.Op.{Op}
+use Rattle.rv64_instr.specs.declared.op.Op.TheVariants.{Registers, Immediate, Lui, Branch, Load, Store, Copy, PseudoBr, PseudoCall, PseudoRet}
+use Rattle.rv64_instr.specs.declared.op.ImmediateOp.{ImmediateOp}
+use Rattle.rv64_instr.specs.declared.op.ImmediateOp.TheVariants.{Addi, Slti, Sltiu, Xori, Ori, Andi, Slli, Srli, Srai, Addiw, Slliw, Srliw, Sraiw}
+use Rattle.rv64_instr.specs.declared.op.LoadOp.{LoadOp}
+use Rattle.rv64_instr.specs.declared.op.StoreOp.{StoreOp}
+use Rattle.rv64_instr.specs.declared.operand.Operand.{Operand}
+use Rattle.rv64_instr.specs.declared.operand.Operand.TheVariants.{Def, Use, ImplicitDef, ImplicitUse, Imm, Slot, Object as OfObject, Block, Symbol, Mask}
+use Rattle.rv64_instr.specs.Arithmetic.{word, load_width, store_width}
+use Rattle.rv64_instr.specs.Form.{is_within, has_12_bits, is_implicit, is_result, moves_slot, is_addi, is_immediate, has_form}
+use Rattle.rv64_instr.specs.Form.{fits_registers, fits_immediate, fits_upper, fits_branch, fits_load, fits_store, fits_copy, fits_jump, fits_call}
+use Rattle.rv64_instr.specs.Row.{row_by, load_row, store_row, number_row}
+use Rattle.mir_func.specs.declared.object.Object.{Object}
+use Rattle.mir_func.specs.Function.{FramedFunction}
+use Rattle.mir_func.specs.Objects.{object_of, offset_of, offset_or_zero}
+use Rattle.mir_func.specs.Sound.{IsSoundObject, HasBytes, SlotIn, ObjectIn}
+use Rattle.mir_func.specs.SoundFrame.{own_size, slot_offsets, IsFramed, IsSlotOffset}
+use Rattle.emit_code.specs.Listed.{by_pointer}
+use Rattle.emit_code.proofs.Areas.{object_within, end_small}
+
+-- ---- numbers
+
+small : (k : ℕ) → has_12_bits (negsuc k) ≡ true → k < 2048
+small k e = grind (arith, nat_tests, ints)
+
+tiny : (m : ℕ) → has_12_bits (pos m) ≡ true → m < 2048
+tiny m e = grind (arith, nat_tests, ints)
+
+fits_low : (n : ℕ) → n ≤ 2047 → has_12_bits (pos n) ≡ true
+fits_low n low = grind (arith, nat_tests, ints)
+
+sound_by : (p : Bool) (x o : Object) (rest : Option Object) → IsSoundObject x → (rest ≡ Some o → IsSoundObject o) → cond p (Some x) rest ≡ Some o →
+    IsSoundObject o
+sound_by true x o rest is more e = let same : x ≡ o = cc in subst IsSoundObject same is
+sound_by false x o rest is more e = more e
+
+sound_found : (os : List Object) (n : ℕ) (o : Object) → All IsSoundObject os → object_of os n ≡ Some o → IsSoundObject o
+sound_found [] n o all e = absurd cc
+sound_found (x ∷ os) n o all e =
+    sound_by (nat_eq x.id n) x o (object_of os n) (All-head IsSoundObject x os all) (sound_found os n o (All-tail IsSoundObject x os all)) e
+
+found_by : (t : Bool) (x o : Object) (objects : List Object) (n : ℕ) → nat_eq x.id n ≡ t →
+    (object_of objects n ≡ Some o → (k : ℕ) × (k < length objects) × (get_or objects k o ≡ o)) → object_of (x ∷ objects) n ≡ Some o →
+    (k : ℕ) × (k < suc (length objects)) × (get_or (x ∷ objects) k o ≡ o)
+found_by true x o objects n is more e =
+    let here : Some x ≡ Some o = ap (λ (z : Bool). cond z (Some x) (object_of objects n)) (sym is) ∙ e in
+    let same : x ≡ o = cc in
+    (0, omega arith, same)
+found_by false x o objects n is more e =
+    let below = more (ap (λ (z : Bool). cond z (Some x) (object_of objects n)) (sym is) ∙ e) in
+    (suc below.0, omega (arith, below.1), below.2)
+
+found_index : (objects : List Object) (n : ℕ) (o : Object) → object_of objects n ≡ Some o → (k : ℕ) × (k < length objects) × (get_or objects k o ≡ o)
+found_index [] n o e = absurd cc
+found_index (x ∷ objects) n o e = found_by (nat_eq x.id n) x o objects n refl (found_index objects n o) e
+
+-- what is added in an object isn't negative, and is itself
+data Added : ℤ → Type 0 where
+  added : (m : ℕ) → word (pos m) ≡ m → Added (pos m)
+
+module _ (f : FramedFunction) (framed : IsFramed f) where
+  added_in : (n extra : ℕ) (i : ℤ) → has_12_bits i ≡ true → HasBytes f.objects n (word i + extra) → Added i
+  added_in n extra (pos m) bits has = let less = tiny m bits in added m (omega (arith, less))
+  added_in n extra (negsuc k) bits (o, found, fits) =
+      let less = small k bits in
+      let sound = sound_found f.objects n o framed.each_object found in
+      absurd (omega (arith, less, sound.size, fits))
+
+  room_of : (n bytes : ℕ) → HasBytes f.objects n bytes → own_size f + offset_of f.objects n + bytes ≤ 2047
+  room_of n bytes has =
+      let o = has.0 in
+      let at = found_index f.objects n o has.1 in
+      let within = object_within 0 f.objects framed.objects_laid framed.each_object at.0 o at.1 in
+      let there : offset_of f.objects n ≡ o.offset = ap offset_or_zero has.1 in
+      let size = framed.small in
+      let room = framed.room in
+      let end = end_small f.objects in
+      omega (arith, within, ap (λ (x : Object). x.offset + x.size) at.2, there, has.2, size, room, end)
+
+  slot_low : (n : ℕ) → Contains (slot_offsets f) n → n ≤ 2047
+  slot_low n has =
+      let at = (All-contains (IsSlotOffset f) (slot_offsets f) n framed.offsets has).1 in
+      let size = framed.small in
+      omega (arith, at, size)
+
+  -- ---- 12 bits
+
+  slot_fits : (n : ℕ) (rest : List Operand) → Contains (slot_offsets f) n → list_all is_implicit rest ≡ true →
+      (has_12_bits (pos n) && list_all is_implicit rest) ≡ true
+  slot_fits n rest has all = (λ j. fits_low n (slot_low n has) j && list_all is_implicit rest) ∙ all
+
+  object_bits : (n extra : ℕ) (i : ℤ) → HasBytes f.objects n (word i + extra) → Added i → has_12_bits (pos (own_size f + offset_of f.objects n) +ℤ i) ≡ true
+  object_bits n extra i has (added m same) =
+      fits_low (own_size f + offset_of f.objects n + m) (omega (arith, room_of n (word (pos m) + extra) has, same))
+
+  object_fits : (n extra : ℕ) (i : ℤ) (rest : List Operand) → HasBytes f.objects n (word i + extra) → has_12_bits i ≡ true → list_all is_implicit rest ≡ true →
+      (has_12_bits (pos (own_size f + offset_of f.objects n) +ℤ i) && list_all is_implicit rest) ≡ true
+  object_fits n extra i rest has bits all =
+      (λ j. object_bits n extra i has (added_in n extra i bits has) j && list_all is_implicit rest) ∙ all
+
+  -- ---- of each opcode
+
+  load_formed : (op : LoadOp) (os : List Operand) → fits_load op os ≡ true → SlotIn (slot_offsets f) (load_row op os) → ObjectIn f.objects (load_row op os) →
+      fits_load op (by_pointer f os) ≡ true
+  load_formed op (Def rd ∷ Use b ∷ Imm i ∷ rest) form slots objects = form
+  load_formed op (Def rd ∷ Slot n ∷ Imm i ∷ rest) form slots objects =
+      slot_fits n rest slots (and_parts (moves_slot (load_width op) i) (list_all is_implicit rest) form).1
+  load_formed op (Def rd ∷ OfObject n ∷ Imm i ∷ rest) form slots objects =
+      let both = and_parts (has_12_bits i) (list_all is_implicit rest) form in
+      object_fits n (load_width op) i rest objects both.0 both.1
+  load_formed op os form slots objects = absurd cc
+
+  store_formed : (op : StoreOp) (os : List Operand) → fits_store op os ≡ true → SlotIn (slot_offsets f) (store_row op os) →
+      ObjectIn f.objects (store_row op os) → fits_store op (by_pointer f os) ≡ true
+  store_formed op (Use rs ∷ Use b ∷ Imm i ∷ rest) form slots objects = form
+  store_formed op (Use rs ∷ Slot n ∷ Imm i ∷ rest) form slots objects =
+      slot_fits n rest slots (and_parts (moves_slot (store_width op) i) (list_all is_implicit rest) form).1
+  store_formed op (Use rs ∷ OfObject n ∷ Imm i ∷ rest) form slots objects =
+      let both = and_parts (has_12_bits i) (list_all is_implicit rest) form in
+      object_fits n (store_width op) i rest objects both.0 both.1
+  store_formed op os form slots objects = absurd cc
+
+  at_least : (n x : ℕ) → HasBytes f.objects n x → HasBytes f.objects n (x + 0)
+  at_least n x (o, found, fits) = (o, found, omega (arith, fits))
+
+  sum_formed : (os : List Operand) → fits_immediate Addi os ≡ true → ObjectIn f.objects (number_row Addi os) → fits_immediate Addi (by_pointer f os) ≡ true
+  sum_formed (Def rd ∷ Use b ∷ Imm i ∷ rest) form objects = form
+  sum_formed (Def rd ∷ OfObject n ∷ Imm i ∷ rest) form objects =
+      let both = and_parts (has_12_bits i) (list_all is_implicit rest) form in
+      object_fits n 0 i rest (at_least n (word i) objects) both.0 both.1
+  sum_formed os form objects = absurd cc
+
+  number_formed : (op : ImmediateOp) (os : List Operand) → fits_immediate op os ≡ true → is_addi op ≡ false → fits_immediate op (by_pointer f os) ≡ true
+  number_formed op (Def rd ∷ Use b ∷ Imm i ∷ rest) form other = form
+  number_formed op (Def rd ∷ OfObject n ∷ Imm i ∷ rest) form other =
+      let is = (and_parts (is_addi op) (is_immediate op i) (and_parts (is_addi op && is_immediate op i) (list_all is_implicit rest) form).0).0 in
+      absurd cc
+  number_formed op os form other = absurd cc
+
+  immediate_formed : (op : ImmediateOp) (os : List Operand) → fits_immediate op os ≡ true → ObjectIn f.objects (number_row op os) →
+      fits_immediate op (by_pointer f os) ≡ true
+  immediate_formed Addi os form objects = sum_formed os form objects
+  immediate_formed Slti os form objects = number_formed Slti os form refl
+  immediate_formed Sltiu os form objects = number_formed Sltiu os form refl
+  immediate_formed Xori os form objects = number_formed Xori os form refl
+  immediate_formed Ori os form objects = number_formed Ori os form refl
+  immediate_formed Andi os form objects = number_formed Andi os form refl
+  immediate_formed Slli os form objects = number_formed Slli os form refl
+  immediate_formed Srli os form objects = number_formed Srli os form refl
+  immediate_formed Srai os form objects = number_formed Srai os form refl
+  immediate_formed Addiw os form objects = number_formed Addiw os form refl
+  immediate_formed Slliw os form objects = number_formed Slliw os form refl
+  immediate_formed Srliw os form objects = number_formed Srliw os form refl
+  immediate_formed Sraiw os form objects = number_formed Sraiw os form refl
+
+  registers_formed : (os : List Operand) → fits_registers os ≡ true → fits_registers (by_pointer f os) ≡ true
+  registers_formed (Def rd ∷ Use a ∷ Use b ∷ rest) form = form
+  registers_formed os form = absurd cc
+
+  upper_formed : (os : List Operand) → fits_upper os ≡ true → fits_upper (by_pointer f os) ≡ true
+  upper_formed (Def rd ∷ Imm i ∷ rest) form = form
+  upper_formed os form = absurd cc
+
+  branch_formed : (os : List Operand) → fits_branch os ≡ true → fits_branch (by_pointer f os) ≡ true
+  branch_formed (Use a ∷ Use b ∷ Block n ∷ rest) form = form
+  branch_formed os form = absurd cc
+
+  copy_formed : (os : List Operand) → fits_copy os ≡ true → fits_copy (by_pointer f os) ≡ true
+  copy_formed (Def rd ∷ Use a ∷ rest) form = form
+  copy_formed os form = absurd cc
+
+  behind_block : (n : ℕ) (os : List Operand) → list_all is_implicit os ≡ true → fits_jump (by_pointer f (Block n ∷ os)) ≡ true
+  behind_block n [] all = all
+  behind_block n (ImplicitDef r ∷ os) all = all
+  behind_block n (ImplicitUse r ∷ os) all = all
+  behind_block n (o ∷ os) all = absurd cc
+
+  jump_formed : (os : List Operand) → fits_jump os ≡ true → fits_jump (by_pointer f os) ≡ true
+  jump_formed (Block n ∷ rest) form = behind_block n rest form
+  jump_formed os form = absurd cc
+
+  call_formed : (os : List Operand) → fits_call os ≡ true → fits_call (by_pointer f os) ≡ true
+  call_formed (Symbol name ∷ Mask ∷ rest) form = form
+  call_formed os form = absurd cc
+
+  behind_result : (x : Operand) (o : Operand) (os : List Operand) → is_result o ≡ true → by_pointer f (x ∷ o ∷ os) ≡ x ∷ o ∷ os
+  behind_result x (ImplicitUse r) os is = refl
+  behind_result x o os is = absurd cc
+
+  results_stay : (os : List Operand) → list_all is_result os ≡ true → by_pointer f os ≡ os
+  results_stay [] all = refl
+  results_stay (o ∷ []) all = refl
+  results_stay (x ∷ o ∷ os) all =
+      behind_result x o os (and_parts (is_result o) (list_all is_result os) (and_parts (is_result x) (is_result o && list_all is_result os) all).1).0
+
+  pub operands_formed : (op : Op) (os : List Operand) → has_form op os ≡ true → SlotIn (slot_offsets f) (row_by op os) → ObjectIn f.objects (row_by op os) →
+      has_form op (by_pointer f os) ≡ true
+  operands_formed (Registers op) os form slots objects = registers_formed os form
+  operands_formed (Immediate op) os form slots objects = immediate_formed op os form objects
+  operands_formed Lui os form slots objects = upper_formed os form
+  operands_formed (Branch op) os form slots objects = branch_formed os form
+  operands_formed (Load op) os form slots objects = load_formed op os form slots objects
+  operands_formed (Store op) os form slots objects = store_formed op os form slots objects
+  operands_formed Copy os form slots objects = copy_formed os form
+  operands_formed PseudoBr os form slots objects = jump_formed os form
+  operands_formed PseudoCall os form slots objects = call_formed os form
+  operands_formed PseudoRet os form slots objects = ap (list_all is_result) (results_stay os form) ∙ form

@@ -1,0 +1,11 @@
+-- Which layout a machine code is of.
+use Rattle.std.specs.Prelude.{◌≡◌}
+use Rattle.emit_code.specs.Laid.{LaidCode}
+use Rattle.emit_code.specs.Rule.{Layout, entries_of, words_of}
+
+-- the code has the function, the first address, the entries and the words of the layout
+pub record IsLaid (l : Layout) (c : LaidCode) : Type 0 where
+  pub framed : c.framed ≡ l.framed
+  pub base : c.base ≡ l.base
+  pub entries : c.entries ≡ entries_of l
+  pub words : c.words ≡ words_of l

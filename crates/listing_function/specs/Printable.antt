@@ -1,0 +1,34 @@
+-- Functions with their frame whose listing is printable.
+use Rattle.std.specs.Prelude.{ℕ, Option, IfSome, All}
+use Rattle.mir_func.specs.declared.block.Block.{Block}
+use Rattle.mir_func.specs.declared.item.Item.{Item}
+use Rattle.mir_func.specs.declared.item.ItemKind.{ItemKind}
+use Rattle.mir_func.specs.declared.item.ItemKind.TheVariants.{Code, Mark, Phi}
+use Rattle.mir_func.specs.declared.location.Loc.{Loc}
+use Rattle.mir_func.specs.Function.{FramedFunction}
+use Rattle.emit_code.specs.steps.Emitted.{IsFormed}
+use Rattle.mir_printer.specs.Printable.{IsNumber, HasNumbers, IsPrintablePlace, IsPrintableValue, IsPrintableLoc, IsPrintableVariable}
+use Rattle.listing_text.specs.Shown.{IsPrintableOrigin, declared_by}
+
+-- its numbers have 32 bits, and a mark's variable is inlined where the mark's location is
+abbrev pub IsPrintableFramedKind : (inlined : ℕ → Option ℕ) → Loc → ItemKind → Type 0
+IsPrintableFramedKind inlined loc (Code i k) = All HasNumbers i.operands × IfSome k IsNumber
+IsPrintableFramedKind inlined loc (Mark v m) = IsPrintableVariable (declared_by inlined) loc v × IsPrintableValue m
+IsPrintableFramedKind inlined loc (Phi p k) = IsPrintablePlace p × IsNumber k
+
+-- the item can be printed and read back: its code, its origin and its debug location
+pub record IsPrintableFramedItem (inlined : ℕ → Option ℕ) (i : Item) : Type 0 where
+  pub form : IsFormed i
+  pub kind : IsPrintableFramedKind inlined i.loc i.kind
+  pub origin : IsPrintableOrigin i.origin
+  pub loc : IsPrintableLoc i.loc
+
+-- a basic block that can be printed and read back
+pub record IsPrintableFramedBlock (inlined : ℕ → Option ℕ) (b : Block) : Type 0 where
+  pub id : IsNumber b.id
+  pub items : All (IsPrintableFramedItem inlined) b.items
+
+-- Code has the form of its opcode, and numbers have 32 bits. `inlined` says of the nodes of locations at which node they are inlined
+pub record IsPrintableFramed (inlined : ℕ → Option ℕ) (f : FramedFunction) : Type 0 where
+  pub objects : All (λ o. IsNumber o.id) f.objects
+  pub blocks : All (IsPrintableFramedBlock inlined) f.blocks

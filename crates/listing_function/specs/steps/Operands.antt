@@ -1,0 +1,31 @@
+-- Operands of code that is listed.
+use Rattle.std.specs.Prelude.{ℕ, IsTrue, List, ◌∷◌, Option, Some, None}
+use Rattle.rv64_instr.specs.declared.op.Op.{Op}
+use Rattle.rv64_instr.specs.declared.op.BranchOp.{BranchOp}
+use Rattle.rv64_instr.specs.declared.op.Op.TheVariants.{Registers, Immediate, Lui, Branch as OfBranch, Load, Store, Copy, PseudoBr, PseudoCall, PseudoRet}
+use Rattle.rv64_instr.specs.declared.operand.Operand.{Operand}
+use Rattle.rv64_instr.specs.declared.operand.Operand.TheVariants.{Use, Imm, Object, Block}
+use Rattle.rv64_instr.specs.Form.{has_12_bits}
+use Rattle.listing_function.specs.declared.branch.Branch.{Branch}
+
+-- what is added to an object's offset has 12 bits
+abbrev pub IsSmall : List Operand → Type 0
+IsSmall (r ∷ Object n ∷ Imm i ∷ rest) = IsTrue (has_12_bits i)
+IsSmall _ = Unit {0}
+
+-- what a conditional branch compares, and where it goes
+abbrev pub compared : BranchOp → List Operand → Option Branch
+compared op (Use a ∷ Use b ∷ Block n ∷ rest) = Some (record { op = op; first = a; second = b; target = n })
+compared op _ = None
+
+abbrev pub branch_by : Op → List Operand → Option Branch
+branch_by (OfBranch op) operands = compared op operands
+branch_by (Registers op) operands = None
+branch_by (Immediate op) operands = None
+branch_by Lui operands = None
+branch_by (Load op) operands = None
+branch_by (Store op) operands = None
+branch_by Copy operands = None
+branch_by PseudoBr operands = None
+branch_by PseudoCall operands = None
+branch_by PseudoRet operands = None

@@ -1,5 +1,0 @@
-use Rattle.listing_laws.proofs.Framed.{bodies_are_printable}
-use Rattle.listing_laws.proofs.laws.bodies_are_printable.Goals as goal
-
-pub returns : goal.returns
-returns c = bodies_are_printable

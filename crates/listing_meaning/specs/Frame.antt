@@ -1,0 +1,154 @@
+-- The frame that a listing shows. By their words listed instructions reach it by x2: what they reach so are frame slots and
+-- stack objects.
+use Rattle.std.specs.Prelude.{ℕ, zero, suc, ◌+◌, ◌-◌, ◌^◌, Bool, true, false, cond, nat_eq, nat_le, nat_lt, pos, List, [], ◌∷◌, ◌++◌, Option, Some, None}
+use Rattle.rv64_instr.specs.declared.op.Op.{Op}
+use Rattle.rv64_instr.specs.declared.op.Op.TheVariants.{Registers, Immediate, Lui, Branch, Load, Store, Copy, PseudoBr, PseudoCall, PseudoRet}
+use Rattle.rv64_instr.specs.declared.op.RegisterOp.TheVariants.{Add}
+use Rattle.rv64_instr.specs.declared.op.ImmediateOp.{ImmediateOp}
+use Rattle.rv64_instr.specs.declared.op.ImmediateOp.TheVariants.{Addi, Slti, Sltiu, Xori, Ori, Andi, Slli, Srli, Srai, Addiw, Slliw, Srliw, Sraiw}
+use Rattle.rv64_instr.specs.declared.op.LoadOp.{LoadOp}
+use Rattle.rv64_instr.specs.declared.op.StoreOp.{StoreOp}
+use Rattle.rv64_instr.specs.declared.operand.Operand.{Operand}
+use Rattle.rv64_instr.specs.declared.operand.Operand.TheVariants.{Def, Use, Imm, Slot, Object}
+use Rattle.rv64_instr.specs.declared.decoded.Input.TheVariants.{Number}
+use Rattle.rv64_instr.specs.Arithmetic.{load_width, store_width}
+use Rattle.rv64_instr.specs.Row.{Row, Fixes, Moves, Sets, Addresses, Loads, Stores, LoadsSlot, StoresSlot, Branches, Jumps, Calls, Returns, Unfit, row_of}
+use Rattle.mir_func.specs.declared.item.ItemKind.{ItemKind}
+use Rattle.mir_func.specs.declared.item.ItemKind.TheVariants.{Code, Mark, Phi}
+use Rattle.mir_func.specs.Objects.{up_to}
+use Rattle.listing_text.specs.declared.output.Line.{Line}
+use Rattle.listing_text.specs.declared.output.Line.TheVariants.{Item, Skip}
+use Rattle.listing_text.specs.declared.output.ListedObject.{ListedObject}
+use Rattle.listing_text.specs.declared.output.ListedFunction.{ListedFunction}
+
+-- ---- its size
+
+-- the bytes that the listed stack objects take together: the end of the last one, up to a multiple of 16
+abbrev pub end_of : ℕ → List ListedObject → ℕ
+end_of n [] = n
+end_of n (o ∷ os) = end_of (o.offset + o.size) os
+
+-- the bytes of all stack objects, which lie at the top of the frame
+abbrev pub area_shown : List ListedObject → ℕ
+area_shown objects = up_to 16 (end_of 0 objects)
+
+-- how many bytes code of a row lowers x2 by: `$x2 = ADDI $x2, -N` does by N
+abbrev pub lowered_by : Row → ℕ
+lowered_by (Sets (suc (suc zero)) Add (suc (suc zero)) (Number n)) = 2 ^ 64 - n
+lowered_by (Sets rd op a b) = 0
+lowered_by (Fixes rd n) = 0
+lowered_by (Moves rd rs) = 0
+lowered_by (Addresses rd n offset) = 0
+lowered_by (Loads rd op base offset) = 0
+lowered_by (Stores op rs base offset) = 0
+lowered_by (LoadsSlot rd n) = 0
+lowered_by (StoresSlot rs n) = 0
+lowered_by (Branches op a b target) = 0
+lowered_by (Jumps target) = 0
+lowered_by (Calls name args) = 0
+lowered_by (Returns results) = 0
+lowered_by Unfit = 0
+
+-- a mark or a phi leaves x2 as it is
+abbrev pub lowered_by_kind : ItemKind → ℕ
+lowered_by_kind (Code i k) = lowered_by (row_of i)
+lowered_by_kind (Mark v m) = 0
+lowered_by_kind (Phi p k) = 0
+
+-- a line that skips is a branch, which leaves x2 as it is
+abbrev pub lowered_by_line : Line → ℕ
+lowered_by_line (Item l) = lowered_by_kind l.item.kind
+lowered_by_line (Skip s) = 0
+
+-- the size of the frame: what the prologue's first word lowers x2 by
+abbrev pub size_shown : (prologue : List Line) → ℕ
+size_shown [] = 0
+size_shown (l ∷ ls) = lowered_by_line l
+
+-- how many bytes above x2 slots and saved registers end and the stack objects begin, and the stack objects
+pub record ShownFrame : Type 0 where
+  pub below : ℕ
+  pub objects : List ListedObject
+
+-- the frame by the prologue and the listed objects: what is left below the objects is that of slots and saves
+abbrev pub frame_shown : ListedFunction → ShownFrame
+frame_shown f = record { below = size_shown f.prologue - area_shown f.objects; objects = f.objects }
+
+-- ---- what is reached
+
+-- so many bytes above x2, as operands
+abbrev pub by_pointer : ℕ → List Operand
+by_pointer n = Use 2 ∷ Imm (pos n) ∷ []
+
+-- the last object that begins so many bytes above the first one's first byte, or below that
+abbrev pub object_at : Option ListedObject → List ListedObject → (offset : ℕ) → Option ListedObject
+object_at found [] n = found
+object_at found (o ∷ os) n = object_at (cond (nat_le o.offset n) (Some o) found) os n
+
+-- an object and the offset from it; no object has none
+abbrev pub in_object : Option ListedObject → (offset : ℕ) → (otherwise : List Operand) → List Operand
+in_object None n otherwise = otherwise
+in_object (Some o) n otherwise = Object o.id ∷ Imm (pos (n - o.offset)) ∷ []
+
+-- so many bytes above x2, as operands by an object
+abbrev pub by_object : ShownFrame → ℕ → List Operand
+by_object f n = in_object (object_at None f.objects (n - f.below)) (n - f.below) (by_pointer n)
+
+-- what an access so many bytes above x2 is of: below the objects that of a doubleword is of a slot, and from there on of an object
+abbrev pub accessed : ShownFrame → (is_doubleword : Bool) → ℕ → List Operand
+accessed f true n = cond (nat_lt n f.below) (Slot n ∷ Imm (pos 0) ∷ []) (by_object f n)
+accessed f false n = cond (nat_lt n f.below) (by_pointer n) (by_object f n)
+
+-- what a register is set to that is set to so many bytes above x2: x2 itself, as at an end of the frame's life, or an object's address
+abbrev pub summed : ShownFrame → (rd n : ℕ) → List Operand
+summed f rd n = cond (nat_eq rd 2) (by_pointer n) (by_object f n)
+
+-- a load by x2 as one of a slot or of an object: only an LD can be of a slot
+abbrev pub raised_load : ShownFrame → LoadOp → List Operand → List Operand
+raised_load f op (Def rd ∷ Use (suc (suc zero)) ∷ Imm (pos n) ∷ rest) = Def rd ∷ accessed f (nat_eq (load_width op) 8) n ++ rest
+raised_load f op operands = operands
+
+-- a store by x2 as one to a slot or to an object: only an SD can be to a slot
+abbrev pub raised_store : ShownFrame → StoreOp → List Operand → List Operand
+raised_store f op (Use rs ∷ Use (suc (suc zero)) ∷ Imm (pos n) ∷ rest) = Use rs ∷ accessed f (nat_eq (store_width op) 8) n ++ rest
+raised_store f op operands = operands
+
+-- x2 plus a number as an object's address, where it isn't x2 that is set
+abbrev pub raised_sum : ShownFrame → List Operand → List Operand
+raised_sum f (Def rd ∷ Use (suc (suc zero)) ∷ Imm (pos n) ∷ rest) = Def rd ∷ summed f rd n ++ rest
+raised_sum f operands = operands
+
+-- register-immediate arithmetic: only ADDI makes an object's address
+abbrev pub raised_number : ShownFrame → ImmediateOp → List Operand → List Operand
+raised_number f Addi operands = raised_sum f operands
+raised_number f Slti operands = operands
+raised_number f Sltiu operands = operands
+raised_number f Xori operands = operands
+raised_number f Ori operands = operands
+raised_number f Andi operands = operands
+raised_number f Slli operands = operands
+raised_number f Srli operands = operands
+raised_number f Srai operands = operands
+raised_number f Addiw operands = operands
+raised_number f Slliw operands = operands
+raised_number f Srliw operands = operands
+raised_number f Sraiw operands = operands
+
+-- the operands of a listed instruction, which reach the frame by x2, as those by its slots and objects
+abbrev pub raised_operands : ShownFrame → Op → List Operand → List Operand
+raised_operands f (Registers op) operands = operands
+raised_operands f (Immediate op) operands = raised_number f op operands
+raised_operands f Lui operands = operands
+raised_operands f (Branch op) operands = operands
+raised_operands f (Load op) operands = raised_load f op operands
+raised_operands f (Store op) operands = raised_store f op operands
+raised_operands f Copy operands = operands
+raised_operands f PseudoBr operands = operands
+raised_operands f PseudoCall operands = operands
+raised_operands f PseudoRet operands = operands
+
+-- frame index elimination undone: the item names slots and objects again
+abbrev pub raised : ShownFrame → ItemKind → ItemKind
+raised f (Code i k) = Code (record i { operands = raised_operands f i.op i.operands }) k
+raised f (Mark v m) = Mark v m
+raised f (Phi p k) = Phi p k

@@ -1,0 +1,19 @@
+use Rattle.std.proofs.Common.{◌++◌, codes, refl}
+use Rattle.mir_printer.proofs.Appends.{joined, ended}
+use Rattle.listing_text.specs.Output.{section_text, sections_text}
+use Rattle.listing_text.proofs.section.push_sections.Goals as goal
+
+pub returns : goal.returns
+returns c =
+    let o = c.args.output.now in
+    let old = c.args.text.now in
+    let text = section_text (codes ".text") o.text in
+    let abbreviations = section_text (codes ".debug_abbrev") o.abbreviations in
+    let info = section_text (codes ".debug_info") o.info in
+    let rows = section_text (codes ".debug_line") o.rows in
+    let lists = section_text (codes ".debug_loclists") o.loclists in
+    let two = joined old c.push_section.new.text c.push_section-2.new.text text abbreviations c.in_ok-push_section.ensures c.in_ok-push_section-2.ensures in
+    let three = joined old c.push_section-2.new.text c.push_section-3.new.text (text ++ abbreviations) info two c.in_ok-push_section-3.ensures in
+    let four = joined old c.push_section-3.new.text c.push_section-4.new.text (text ++ abbreviations ++ info) rows three c.in_ok-push_section-4.ensures in
+    ended c.push_section-5.result old c.push_section-4.new.text c.push_section-5.new.text (text ++ abbreviations ++ info ++ rows) lists (sections_text o) four
+    c.push_section-5.ensures refl

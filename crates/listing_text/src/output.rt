@@ -1,0 +1,136 @@
+//! What an output has.
+
+use base_list::List;
+use mir_func::entry::Entry;
+use mir_func::item::Item;
+use mir_func::position::Origin;
+use mir_func::variable::VarId;
+use base_ids::code::{BlockId, ObjectId};
+use rv64_instr::name::Name;
+use rv64_instr::op::BranchOp;
+use rv64_instr::reg::Reg;
+
+/// Bytes of a section.
+pub type Bytes = List<u8>;
+
+/// The line of an item.
+#[derive(Debug, Drop)]
+pub struct ItemLine {
+    /// The address of its first byte, in bytes, and none for a mark or a phi.
+    pub address: Option<u32>,
+    /// The item. A frame slot or a stack object stands in it as its word reaches it, by x2.
+    pub item: Item,
+}
+
+/// An implicit operand.
+#[derive(Clone, Copy, Debug, PartialEq, Eq)]
+pub enum Implicit {
+    /// A register that is set by convention.
+    Def(Reg),
+    /// A register that is read by convention.
+    Use(Reg),
+}
+
+/// Implicit operands, in text order.
+pub type Implicits = List<Implicit>;
+
+/// The first line of a long branch: a branch over the word below it. It has no number and no location.
+#[derive(Debug, Drop)]
+pub struct SkipLine {
+    /// The address of its first byte, in bytes.
+    pub address: u32,
+    /// Where it comes from.
+    pub origin: Origin,
+    /// Its operation, which is the inverted one of the branch that is long.
+    pub op: BranchOp,
+    /// The first register that it compares.
+    pub first: Reg,
+    /// The second one.
+    pub second: Reg,
+    /// Its implicit operands.
+    pub implicit: Implicits,
+}
+
+/// A line of a block.
+#[derive(Debug, Drop)]
+pub enum Line {
+    /// An item.
+    Item(ItemLine),
+    /// The first word of a long branch. The second one, a jump, is an item's line below it.
+    Skip(SkipLine),
+}
+
+/// Lines, in order.
+pub type Lines = List<Line>;
+
+/// A variable of a function.
+#[derive(Debug, Drop)]
+pub struct ListedVariable {
+    /// The number of its list in the section of lists.
+    pub list: u32,
+    /// The variable, as a whole.
+    pub variable: VarId,
+    /// Its name.
+    pub name: Name,
+}
+
+/// A stack object of a function.
+#[derive(Clone, Copy, Debug, PartialEq, Eq)]
+pub struct ListedObject {
+    /// Its number.
+    pub id: ObjectId,
+    /// Its size in bytes.
+    pub size: u32,
+    /// How far it lies above the first object's first byte, in bytes.
+    pub offset: u32,
+}
+
+/// A block of a function.
+#[derive(Debug, Drop)]
+pub struct ListedBlock {
+    /// The N of `bb.N`.
+    pub id: BlockId,
+    /// Its lines.
+    pub lines: Lines,
+}
+
+/// A function with its code.
+#[derive(Debug, Drop)]
+pub struct ListedFunction {
+    /// Its name.
+    pub name: Name,
+    /// Its first address, in bytes.
+    pub low: u32,
+    /// The address after its last byte.
+    pub high: u32,
+    /// Its stack objects, in declared order.
+    pub objects: List<ListedObject>,
+    /// Its variables.
+    pub variables: List<ListedVariable>,
+    /// The substitutions of its debug instruction numbers.
+    pub substitutions: List<Entry>,
+    /// The code before its first block.
+    pub prologue: Lines,
+    /// Its blocks.
+    pub blocks: List<ListedBlock>,
+}
+
+/// Functions, in the order of the text.
+pub type ListedFunctions = List<ListedFunction>;
+
+/// The output of a compilation: the bytes of its sections (DWARF 5, section 7), and its functions.
+#[derive(Debug, Drop)]
+pub struct Output {
+    /// `.text`.
+    pub text: Bytes,
+    /// `.debug_abbrev`.
+    pub abbreviations: Bytes,
+    /// `.debug_info`.
+    pub info: Bytes,
+    /// `.debug_line`.
+    pub rows: Bytes,
+    /// `.debug_loclists`.
+    pub loclists: Bytes,
+    /// The functions.
+    pub functions: ListedFunctions,
+}

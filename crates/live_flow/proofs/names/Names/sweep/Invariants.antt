@@ -1,6 +1,0 @@
-use Rattle.live_flow.proofs.Visits.{Sweeping}
-use Rattle.live_flow.proofs.names.Names.sweep.Given as goal
-
-abbrev pub invariant-loop-block : goal.invariant-loop-block
-invariant-loop-block l =
-    Sweeping l.self.slots l.self.blocks l.blocks l.initial.starts.items l.starts.items l.order l.block-index l.grown

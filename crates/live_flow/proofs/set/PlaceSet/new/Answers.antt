@@ -1,6 +1,0 @@
-use Rattle.std.proofs.Common.{◌/◌}
-use Rattle.live_flow.proofs.Bits.{no_bit}
-use Rattle.live_flow.proofs.set.PlaceSet.new.Goals as goal
-
-pub returns : goal.returns
-returns c = λ i. no_bit c.zeros.result i (c.zeros.ensures (i / 64))

@@ -1,5 +1,0 @@
-use Rattle.std.proofs.Common.{◌∙◌}
-use Rattle.live_flow.proofs.set.PlaceSet.unite.Goals as goal
-
-pub invariant_of-self : goal.invariant_of-self
-invariant_of-self c = c.unite.auto.words ∙ c.self.told

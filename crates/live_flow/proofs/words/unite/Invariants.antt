@@ -1,5 +1,0 @@
-use Rattle.live_flow.proofs.Uniting.{Uniting}
-use Rattle.live_flow.proofs.words.unite.Given as goal
-
-abbrev pub invariant-loop-k : goal.invariant-loop-k
-invariant-loop-k l = Uniting l.initial.words l.others l.k l.words l.grown

@@ -1,0 +1,27 @@
+-- What the location of a variable gives its parts.
+use Rattle.std.specs.Prelude.{◌≡◌, ◌↔◌, ℕ, Option, Some, None}
+use Rattle.rv64_instr.specs.declared.place.Place.{Place}
+use Rattle.mir_func.specs.declared.position.Pos.{Pos}
+use Rattle.mir_func.specs.declared.variable.VarId.{VarId}
+use Rattle.mir_func.specs.Graph.{Program}
+use Rattle.mir_func.specs.Parts.{Bytes}
+use Rattle.sem_mir.specs.Token.{IsWanted, NoneIsWanted}
+use Rattle.dwarf_loclists.specs.declared.range.Location.{Location}
+use Rattle.dwarf_loclists.specs.Ranges.{whole_place, nth_piece}
+use Rattle.location_of_variable.specs.Groups.{part_of}
+use Rattle.location_of_variable.specs.Wanted.{IsWantedLocation}
+
+-- a location gives a part a place: the whole variable by its place, and some bytes of it by a piece of just these bytes
+abbrev pub GivesPart : Option Location → Option Bytes → Place → Type 0
+GivesPart o None place = whole_place o ≡ Some place
+GivesPart o (Some b) place = (n : ℕ) × (nth_piece o n ≡ Some (record { offset = b.offset; length = b.length; place = place }))
+
+-- it gives each part of a variable the place that is wanted for the part, and none exactly where none is wanted
+pub record GivesWanted (g : Program) (start : Pos) (v : VarId) (p : Pos) (o : Option Location) (b : Option Bytes) : Type 0 where
+  pub gives : (place : Place) → GivesPart o b place ↔ IsWanted g start (part_of v b) p place
+  pub gives_none : ((place : Place) → GivesPart o b place → ⊥) ↔ NoneIsWanted g start (part_of v b) p
+
+-- The location that is wanted for a variable gives each of its parts what is wanted for the part.
+abbrev pub WantedLocationsGiveParts : Type 0
+WantedLocationsGiveParts = (g : Program) (start : Pos) (v : VarId) (p : Pos) (o : Option Location) → IsWantedLocation g start v p o →
+    (b : Option Bytes) → GivesWanted g start v p o b

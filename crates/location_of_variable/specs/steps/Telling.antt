@@ -1,0 +1,36 @@
+-- The location of a variable by the places of its parts.
+use Rattle.std.specs.Prelude.{ℕ, ◌+◌, List, [], ◌∷◌, ◌++◌, Option, Some, None, option_to_list, cond, nat_le, slice_index_or}
+use Rattle.rv64_instr.specs.declared.place.Place.{Place}
+use Rattle.mir_func.specs.Parts.{Bytes}
+use Rattle.dwarf_loclists.specs.declared.range.Part.{Part}
+use Rattle.dwarf_loclists.specs.declared.range.Location.{Location}
+use Rattle.dwarf_loclists.specs.declared.range.Location.TheVariants.{Parts}
+use Rattle.location_of_variable.specs.declared.group.Piece.{Piece}
+
+-- the place of the part at an index
+abbrev pub place_at : List (Option Place) → ℕ → Option Place
+place_at places j = slice_index_or places j None
+
+-- the piece of some bytes at their place, unless they begin before an offset
+abbrev pub piece_told : Option Place → (from : ℕ) → Bytes → Option Part
+piece_told None from b = None
+piece_told (Some place) from b = cond (nat_le from b.offset) (Some (record { offset = b.offset; length = b.length; place = place })) None
+
+-- where it ends, or what it should have begun at
+abbrev pub end_past : Option Part → ℕ → ℕ
+end_past None from = from
+end_past (Some x) from = x.offset + x.length
+
+-- the pieces of parts, from an offset on
+abbrev pub pieces_from : (place : ℕ → Option Place) → (from : ℕ) → List Piece → List Part
+pieces_from place from [] = []
+pieces_from place from (x ∷ xs) =
+    option_to_list (piece_told (place x.index) from x.bytes) ++ pieces_from place (end_past (piece_told (place x.index) from x.bytes) from) xs
+
+abbrev pub whole_place : (place : ℕ → Option Place) → Option ℕ → Option Place
+whole_place place None = None
+whole_place place (Some j) = place j
+
+abbrev pub in_pieces : List Part → Option Location
+in_pieces [] = None
+in_pieces (x ∷ xs) = Some (Parts (x ∷ xs))

@@ -1,0 +1,31 @@
+-- Location lists of a function: what the ranges of its variables say at the addresses of its code.
+use Rattle.std.specs.Prelude.{◌≡◌, ℕ, ◌+◌, ◌<◌, ◌≤◌, List, length, Contains, Some, None, slice_get}
+use Rattle.mir_func.specs.declared.position.Pos.{Pos}
+use Rattle.mir_func.specs.declared.variable.VarId.{VarId}
+use Rattle.mir_func.specs.Graph.{Program}
+use Rattle.mir_func.specs.Successors.{pos_in}
+use Rattle.emit_code.specs.declared.code.Entry.{Entry}
+use Rattle.dwarf_loclists.specs.declared.range.Range.{Range}
+use Rattle.dwarf_loclists.specs.Ranges.{ArePlaces, location_in}
+use Rattle.location_of_variable.specs.Wanted.{IsWantedLocation}
+
+-- the item that an entry is of
+abbrev pub point_of : Entry → Pos
+point_of e = pos_in e.point.block e.point.item
+
+-- one of the bytes of an entry is at an address
+abbrev pub HasByte : Entry → (address : ℕ) → Type 0
+HasByte e a = (e.address ≤ a) × (a < e.address + e.size)
+
+-- the ranges of a variable: at the address of each byte of each entry they say the location that is wanted for it at the entry's item, and
+-- at all other addresses none. They can be written as a list
+pub record AreRangesOf (g : Program) (start : Pos) (entries : List Entry) (v : VarId) (ranges : List Range) : Type 0 where
+  pub inside : (e : Entry) → Contains entries e → (a : ℕ) → HasByte e a → IsWantedLocation g start v (point_of e) (location_in ranges a)
+  pub outside : (a : ℕ) → ((e : Entry) → Contains entries e → HasByte e a → ⊥) → location_in ranges a ≡ None
+  pub places : ArePlaces ranges
+
+-- the lists of variables, one for each, in their order
+pub record AreListsOf (g : Program) (start : Pos) (entries : List Entry) (variables : List VarId) (lists : List (List Range)) : Type 0 where
+  pub for_all : length lists ≡ length variables
+  pub each : (k : ℕ) (v : VarId) (ranges : List Range) → slice_get variables k ≡ Some v → slice_get lists k ≡ Some ranges →
+      AreRangesOf g start entries v ranges

@@ -1,8 +1,0 @@
-use Rattle.std.proofs.Common.{ap, ◌∙◌}
-use Rattle.meta_reader.specs.Maps.{Maps}
-use Rattle.meta_reader.specs.Metadata.{node_at}
-use Rattle.meta_reader.proofs.MapLemmas.{get-nodes_in}
-use Rattle.meta_reader.proofs.metadata.Metadata.node.Goals as goal
-
-pub returns : goal.returns
-returns c = c.get.ensures.value ∙ get-nodes_in c.args.number c.self.inside.nodes.entries ∙ ap (λ (m : Maps). node_at m c.args.number) c.self.view_is

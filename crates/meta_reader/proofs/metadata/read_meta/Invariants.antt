@@ -1,6 +1,0 @@
-use Rattle.std.proofs.Common.{◌≡◌, take}
-use Rattle.meta_reader.specs.Metadata.{metadata_of}
-use Rattle.meta_reader.proofs.metadata.read_meta.Given as goal
-
-abbrev pub invariant-loop-line : goal.invariant-loop-line
-invariant-loop-line l = l.metadata ≡ metadata_of (take l.line-index l.lines)

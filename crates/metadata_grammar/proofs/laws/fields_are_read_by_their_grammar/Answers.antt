@@ -1,5 +1,0 @@
-use Rattle.metadata_grammar.proofs.Fields.{fields_by_grammar}
-use Rattle.metadata_grammar.proofs.laws.fields_are_read_by_their_grammar.Goals as goal
-
-pub returns : goal.returns
-returns c = fields_by_grammar

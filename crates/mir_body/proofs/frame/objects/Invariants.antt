@@ -1,9 +1,0 @@
-use Rattle.std.proofs.Common.{◌≡◌, ◌*◌, ◌≤◌, drop}
-use Rattle.mir_body.specs.Frame.{objects_behind, objects_of}
-use Rattle.mir_body.proofs.frame.objects.Given as goal
-
-abbrev pub invariant-loop-entry : goal.invariant-loop-entry
-invariant-loop-entry l = record {
-  read : objects_behind l.named l.laid (drop l.entry-index l.entries) ≡ objects_of l.named l.entries;
-  bound : l.laid.end ≤ l.entry-index * 2147483648;
-}

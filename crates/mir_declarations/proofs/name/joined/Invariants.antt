@@ -1,8 +1,0 @@
-use Rattle.std.proofs.Common.{◌≡◌, ◌∷◌, take}
-use Rattle.std.specs.List.{flat_map}
-use Rattle.meta_reader.specs.Text.{inside_quotes}
-use Rattle.meta_reader.specs.Token.{text_of}
-use Rattle.mir_declarations.proofs.name.joined.Given as goal
-
-abbrev pub invariant-loop-token : goal.invariant-loop-token
-invariant-loop-token l = l.quoted ≡ flat_map (λ t. 39 ∷ inside_quotes (text_of l.line t)) (take l.token-index l.tokens)

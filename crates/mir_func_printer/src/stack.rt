@@ -1,0 +1,117 @@
+//! The stack and the substitutions of a function.
+
+ghost use Rattle.std.specs.Prelude.{◌≡◌, ◌++◌, OnOk};
+ghost use Rattle.std.specs.List.{flat_map};
+ghost use Rattle.mir_func_printer.specs.FuncText.{
+  slot_line,
+  object_line,
+  stack_text,
+  pair_text,
+  entry_line,
+  some_substitutions,
+  substitutions_text,
+};
+
+use mir_func::entry::{Entry, OperandPair};
+use mir_func::object::Object;
+use mir_printer::text::{Text, push_numbered, push_str};
+use base_ids::code::SlotId;
+use std::alloc::AllocError;
+
+/// Appends the line of a frame slot.
+fn push_slot(text: &mut Text, slot: SlotId) -> Result<(), AllocError>
+    ensures { OnOk result (text.new ≡ text.old ++ slot_line slot) }
+{
+    push_numbered(text, "  - { id: ", slot.number())?;
+    push_str(text, ", size: 8 }\n")
+}
+
+/// Appends the line of a stack object.
+fn push_object(text: &mut Text, object: &Object) -> Result<(), AllocError>
+    ensures { OnOk result (text.new ≡ text.old ++ object_line object.now) }
+{
+    push_numbered(text, "  - { id: ", object.id.number())?;
+    push_numbered(text, ", size: ", object.size)?;
+    push_numbered(text, ", alignment: ", object.align)?;
+    push_str(text, " }\n")
+}
+
+fn push_slots(text: &mut Text, slots: &[SlotId]) -> Result<(), AllocError>
+    ensures { OnOk result (text.new ≡ text.old ++ flat_map slot_line slots.now) }
+{
+    for slot in slots {
+        push_slot(text, *slot)?;
+    }
+    Ok(())
+}
+
+fn push_objects(text: &mut Text, objects: &[Object]) -> Result<(), AllocError>
+    ensures { OnOk result (text.new ≡ text.old ++ flat_map object_line objects.now) }
+{
+    for object in objects {
+        push_object(text, object)?;
+    }
+    Ok(())
+}
+
+/// Appends the stack, slots before objects, unless there is neither.
+pub fn push_stack(text: &mut Text, slots: &[SlotId], objects: &[Object]) -> Result<(), AllocError>
+    ensures { OnOk result (text.new ≡ text.old ++ stack_text slots.now objects.now) }
+{
+    if slots.is_empty() && objects.is_empty() {
+        return Ok(());
+    }
+    push_str(text, "stack:\n")?;
+    push_slots(text, slots)?;
+    push_objects(text, objects)
+}
+
+/// Appends a pair behind the words for its number and its operand.
+fn push_pair(
+    text: &mut Text,
+    number: &str,
+    operand: &str,
+    pair: OperandPair,
+) -> Result<(), AllocError>
+    ensures { OnOk result (text.new ≡ text.old ++ pair_text number.now operand.now pair) }
+{
+    push_numbered(text, number, pair.number.number())?;
+    push_numbered(text, operand, pair.operand.number())
+}
+
+/// Appends the line of a substitution.
+fn push_entry(text: &mut Text, entry: &Entry) -> Result<(), AllocError>
+    ensures { OnOk result (text.new ≡ text.old ++ entry_line entry.now) }
+{
+    push_pair(text, "  - { srcinst: ", ", srcop: ", entry.src)?;
+    push_pair(text, ", dstinst: ", ", dstop: ", entry.dst)?;
+    push_numbered(text, ", subreg: ", entry.subreg)?;
+    push_str(text, " }\n")
+}
+
+fn push_entries(text: &mut Text, entries: &[Entry]) -> Result<(), AllocError>
+    ensures { OnOk result (text.new ≡ text.old ++ flat_map entry_line entries.now) }
+{
+    for entry in entries {
+        push_entry(text, entry)?;
+    }
+    Ok(())
+}
+
+/// Appends the substitutions, unless there are none.
+pub fn push_substitutions(text: &mut Text, entries: &[Entry]) -> Result<(), AllocError>
+    ensures { OnOk result (text.new ≡ text.old ++ substitutions_text entries.now) }
+{
+    if entries.is_empty() {
+        return Ok(());
+    }
+    push_some_substitutions(text, entries)
+}
+
+/// Appends the substitutions, of which there are some.
+fn push_some_substitutions(text: &mut Text, entries: &[Entry]) -> Result<(), AllocError>
+    ensures { OnOk result (text.new ≡ text.old ++ some_substitutions entries.now) }
+{
+    push_str(text, "debugValueSubstitutions:\n")?;
+    push_entries(text, entries)
+}

@@ -1,7 +1,0 @@
-use Rattle.std.proofs.Common.{◌≡◌}
-use Rattle.mir_gen.specs.Generator.{blocks_made}
-use Rattle.mir_gen.proofs.generator.make_blocks.Given as goal
-
-abbrev pub invariant-loop-b : goal.invariant-loop-b
-invariant-loop-b l =
-    let made = blocks_made l.count l.b l.initial.draws in (l.blocks ≡ made.blocks) × (l.draws ≡ made.rest)

@@ -1,6 +1,0 @@
-use Rattle.std.proofs.Common.{◌≡◌, ◌++◌, take, drop, None}
-use Rattle.mir_lexer.specs.Comment.{before}
-use Rattle.mir_lexer.proofs.comment.before.Given as goal
-
-abbrev pub invariant-loop-at : goal.invariant-loop-at
-invariant-loop-at l = take l.at l.line ++ before l.mark l.open_quote (drop l.at l.line) ≡ before l.mark None l.line

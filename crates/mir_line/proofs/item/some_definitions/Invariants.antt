@@ -1,7 +1,0 @@
-use Rattle.std.proofs.Common.{◌≡◌, ◌-◌, length}
-use Rattle.mir_line.specs.Item.{definitions_at}
-use Rattle.mir_line.proofs.Fronts.{behind}
-use Rattle.mir_line.proofs.item.some_definitions.Given as goal
-
-abbrev pub invariant-loop : goal.invariant-loop
-invariant-loop l = behind l.found (definitions_at (length l.lexemes - l.counter) l.rest) ≡ definitions_at (length l.lexemes) l.lexemes

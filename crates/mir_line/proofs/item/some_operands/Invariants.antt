@@ -1,7 +1,0 @@
-use Rattle.std.proofs.Common.{◌≡◌, ◌-◌, length}
-use Rattle.mir_line.specs.Item.{operands_at}
-use Rattle.mir_line.proofs.Fronts.{behind}
-use Rattle.mir_line.proofs.item.some_operands.Given as goal
-
-abbrev pub invariant-loop : goal.invariant-loop
-invariant-loop l = behind l.found (operands_at l.line (length l.lexemes - l.counter) l.rest) ≡ operands_at l.line (length l.lexemes) l.lexemes

@@ -1,5 +1,0 @@
-use Rattle.mir_meaning.proofs.Reading.{follows_itself, whole_ends_of_itself}
-use Rattle.mir_meaning.proofs.laws.source_follows_itself.Goals as goal
-
-pub returns : goal.returns
-returns c = λ objects blocks resolve read. (follows_itself blocks read resolve objects, whole_ends_of_itself blocks read resolve objects)

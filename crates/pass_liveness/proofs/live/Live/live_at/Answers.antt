@@ -1,0 +1,16 @@
+use Rattle.std.proofs.Common.{◌≡◌, ◌∙◌, subst, List}
+use Rattle.mir_func.specs.declared.block.Block.{Block}
+use Rattle.mir_func.specs.Sound.{AreApart, ids_of}
+use Rattle.pass_liveness.proofs.Ready.{at_answer}
+use Rattle.pass_liveness.proofs.live.Live.live_at.Goals as goal
+
+pub returns : goal.returns
+returns c =
+    let slots : c.self.inside.names.slots ≡ c.args.self.now.slots = cc in
+    let ids : c.self.inside.names.blocks ≡ c.args.self.now.blocks = cc in
+    let starts : c.as_slice-2.result.now ≡ c.args.self.now.starts = cc in
+    let blocks : c.as_slice.result.now ≡ c.args.f.now.blocks = cc in
+    let view : c.f.inside.blocks ≡ c.args.f.now.blocks = cc in
+    let apart : AreApart (ids_of c.args.f.now.blocks) = subst (λ (bs : List Block). AreApart (ids_of bs)) view c.f.invariant.blocks_apart in
+    at_answer c.args.f.now c.args.self.now c.requires.sets apart c.args.block c.requires.inside c.args.p c.args.item c.has.result
+    (rw (slots, ids, starts, blocks) at (c.has.ensures ∙ c.live_before_item-set.ensures c.args.p))

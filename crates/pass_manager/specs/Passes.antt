@@ -1,0 +1,107 @@
+-- The passes that the program knows, and what a list of them keeps.
+use Rattle.std.specs.Prelude.{ℕ, ◌+◌, ◌*◌, ◌≤◌, List, [], ◌∷◌, ◌++◌, Bool, true, false, ◌&&◌, ◌||◌, IsTrue}
+use Rattle.mir_func.specs.Limits.{MAX_SLOTS}
+use Rattle.pass_trait.specs.Change.{Change}
+use Rattle.pass_trait.specs.Sizes.{greatest, greatest_number, item_count, code_count, call_count, IsPhysical, most}
+use Rattle.pass_trait.specs.Steps.{Step}
+use Rattle.copy_debug.specs.Rule.{copy_step}
+use Rattle.dead_pass.specs.Steps.{dead_steps}
+use Rattle.fold_debug.specs.Debug.{fold_step}
+use Rattle.pass_list.specs.declared.kind.PassKind.{PassKind}
+use Rattle.pass_list.specs.declared.kind.PassKind.TheVariants.{Copy, Remat, Spill, Dead, Fold}
+use Rattle.remat_pass.specs.Pass.{remat_step}
+use Rattle.spill_pass.specs.Reserve.{reserve_of}
+use Rattle.spill_step.specs.Step.{spill_step}
+
+-- ---- one pass: a line for each
+
+-- its steps, where these are the registers that may be spilled
+abbrev pub steps_of_pass : (reserve : List ℕ) → PassKind → List Step
+steps_of_pass reserve Copy = copy_step ∷ []
+steps_of_pass reserve Remat = remat_step ∷ []
+steps_of_pass reserve Spill = spill_step (reserve_of reserve) ∷ []
+steps_of_pass reserve Dead = dead_steps
+steps_of_pass reserve Fold = fold_step ∷ []
+
+-- whether it is right only for functions with the source's ends of blocks
+abbrev pub asks : PassKind → Bool
+asks Copy = false
+asks Remat = false
+asks Spill = false
+asks Dead = false
+asks Fold = true
+
+-- whether it keeps them
+abbrev pub keeps : PassKind → Bool
+keeps Copy = true
+keeps Remat = true
+keeps Spill = true
+keeps Dead = true
+keeps Fold = false
+
+-- how many times as many items there may be after it
+abbrev pub factor : PassKind → ℕ
+factor Copy = 1
+factor Remat = 1
+factor Spill = 4
+factor Dead = 1
+factor Fold = 1
+
+-- how many items more there may be for each block, how many numbers for each item, and how many times as many slots as a function may have
+abbrev pub count : PassKind → ℕ
+count Copy = 1
+count Remat = 1
+count Spill = 1
+count Dead = 1
+count Fold = 1
+
+-- ---- passes in a row
+
+-- their steps
+abbrev pub steps_of : (reserve : List ℕ) → List PassKind → List Step
+steps_of reserve [] = []
+steps_of reserve (p ∷ ps) = steps_of_pass reserve p ++ steps_of reserve ps
+
+-- those of each
+abbrev pub passes_of : (reserve : List ℕ) → List PassKind → List (List Step)
+passes_of reserve [] = []
+passes_of reserve (p ∷ ps) = steps_of_pass reserve p ∷ passes_of reserve ps
+
+-- whether one of them asks
+abbrev pub any_asks : List PassKind → Bool
+any_asks [] = false
+any_asks (p ∷ ps) = asks p || any_asks ps
+
+-- whether all of them keep
+abbrev pub all_keep : List PassKind → Bool
+all_keep [] = true
+all_keep (p ∷ ps) = keeps p && all_keep ps
+
+-- each keeps what a later one asks for
+abbrev pub Fit : List PassKind → Type 0
+Fit [] = Unit {0}
+Fit (p ∷ ps) = (IsTrue (any_asks ps) → IsTrue (keeps p)) × Fit ps
+
+-- how many items they may make of some
+abbrev pub most_after : List PassKind → (items : ℕ) → ℕ
+most_after [] n = n
+most_after (p ∷ ps) n = most_after ps (most (factor p) (count p) n)
+
+-- how many debug instruction numbers they may add to a function of so many items
+abbrev pub numbers_after : List PassKind → (items : ℕ) → ℕ
+numbers_after [] n = 0
+numbers_after (p ∷ ps) n = count p * most (factor p) (count p) n + numbers_after ps (most (factor p) (count p) n)
+
+-- how many times as many slots as a function may have they may add
+abbrev pub slots_after : List PassKind → ℕ
+slots_after [] = 0
+slots_after (p ∷ ps) = count p + slots_after ps
+
+-- how far they make a function grow
+pub record KeepsGrowth (passes : List PassKind) (c : Change) : Type 0 where
+  pub items : item_count c.new ≤ most_after passes (item_count c.old)
+  pub code : code_count c.new ≤ most_after passes (code_count c.old)
+  pub calls : call_count c.new ≤ call_count c.old
+  pub physical : IsPhysical c.old → IsPhysical c.new
+  pub numbers : greatest_number c.new c.new_subs ≤ greatest_number c.old c.old_subs + numbers_after passes (item_count c.old)
+  pub slots : greatest c.new.slots ≤ greatest c.old.slots + MAX_SLOTS * slots_after passes

@@ -1,0 +1,21 @@
+-- What is told of passes in a row.
+use Rattle.std.specs.Prelude.{◌≡◌, List, [], ◌∷◌, ◌++◌}
+use Rattle.mir_func.specs.declared.entry.Entry.{Entry}
+use Rattle.mir_func.specs.Function.{Function}
+use Rattle.pass_trait.specs.declared.loss.Loss.{Loss}
+use Rattle.pass_trait.specs.Change.{Change}
+use Rattle.pass_trait.specs.Steps.{Step, KeepsSteps}
+use Rattle.pass_losses.specs.Told.{AreTold}
+
+-- a pass goes by its steps, and this is told of what it lost
+pub record KeepsPass (steps : List Step) (c : Change) (told : List Loss) : Type 0 where
+  pub lost : List Loss
+  pub kept : KeepsSteps steps c lost
+  pub are_told : AreTold lost told
+
+-- passes, each by its steps, do so one after another: a function with its substitutions stands between them, and what is told of one
+-- stands before what is told of the next
+abbrev pub KeepsPasses : List (List Step) → Change → (told : List Loss) → Type 0
+KeepsPasses [] c told = (c.new ≡ c.old) × (c.new_subs ≡ c.old_subs) × (told ≡ [])
+KeepsPasses (steps ∷ passes) c told = (f : Function) × (subs : List Entry) × (here later : List Loss) ×
+    KeepsPass steps (record c { new = f; new_subs = subs }) here × KeepsPasses passes (record c { old = f; old_subs = subs }) later × (told ≡ here ++ later)

@@ -1,0 +1,169 @@
+-- Code that keeps its kind, and where control goes from it.
+use Rattle.std.proofs.Common.{◌≡◌, ◌⊎◌, inl, inr, ℕ, [], ◌∷◌, Option, Some, None, Bool, true, false, cond, refl, sym, ap}
+use Rattle.std.proofs.Common.{◌∙◌, subst}
+use Rattle.rv64_instr.specs.Instruction.{Instruction}
+use Rattle.rv64_instr.specs.Row.{Row, Fixes, Moves, Sets, Addresses, Loads, Stores, LoadsSlot, StoresSlot, Branches, Jumps, Calls, Returns, Unfit, row_of}
+use Rattle.rv64_instr.specs.Parts.{is_call, IsSlotStore}
+use Rattle.mir_func.specs.declared.position.Origin.{Origin}
+use Rattle.mir_func.specs.declared.position.Origin.TheVariants.{Kept, Before}
+use Rattle.mir_func.specs.declared.item.ItemKind.{ItemKind}
+use Rattle.mir_func.specs.declared.item.ItemKind.TheVariants.{Code, Mark, Phi}
+use Rattle.mir_func.specs.declared.variable.VarId.{VarId}
+use Rattle.mir_func.specs.declared.variable.MarkValue.{MarkValue}
+use Rattle.mir_func.specs.declared.variable.MarkValue.TheVariants.{Nothing}
+use Rattle.rv64_instr.specs.declared.place.Place.{Place}
+use Rattle.mir_func.specs.declared.position.Pos.{Pos}
+use Rattle.mir_func.specs.Graph.{Program, Fetch, Here, Silent, Outside, RowEdge, KindEdge, below, block_start}
+use Rattle.sem_mir.specs.State.{Core}
+use Rattle.sem_mir.specs.Step.{Falls, Goes, Traps, act, does, slot_loaded, with_core, are_written, numbered, do_item}
+use Rattle.sem_mir.specs.Align.{is_code, is_jump, is_jump_row, waits_at, moves_on, Count, After, since_of}
+use Rattle.sem_mir.specs.Follow.{class_of, MayAdd, HasClass, ItemHasClass, RowFits, KindFits, MarkFits, OnRow, GoesTo, SameEnd, IsEnd, KindsEndAlike}
+
+-- from p control goes to q: below, and from p' it may go below too; or to a block, and so from p'
+abbrev pub GoesAlike : (Pos → Pos → Type 0) → (p q p' : Pos) → Type 0
+GoesAlike EdgeOn p q p' = ((q ≡ below p) × EdgeOn p' (below p')) ⊎ ((t : ℕ) × (q ≡ block_start t) × EdgeOn p' (block_start t))
+
+-- the second row is of the first's kind, and goes where it goes
+pub record RowKin (r s : Row) : Type 0 where
+  pub class : class_of r ≡ class_of s
+  pub jump : is_jump_row r ≡ is_jump_row s
+  pub may : (k silent : ℕ) → MayAdd r k silent → MayAdd s k silent
+  pub goes : (n : ℕ) → GoesTo n r → GoesTo n s
+  pub end : (t : Row) → SameEnd t r → SameEnd t s
+  pub is_end : IsEnd s → IsEnd r
+  pub save : IsSlotStore s → IsSlotStore r
+  pub edge : (p q p' : Pos) → RowEdge (λ n. n) r p q → GoesAlike (RowEdge (λ n. n) s) p q p'
+
+row_edge : (r : Row) (p q p' : Pos) → RowEdge (λ n. n) r p q → GoesAlike (RowEdge (λ n. n) r) p q p'
+row_edge (Branches op a b t) p q p' e =
+    elim e as (λ _. GoesAlike (RowEdge (λ n. n) (Branches op a b t)) p q p') [ inl k ↦ inr (t, k, inl refl) | inr k ↦ inl (k, inr refl) ]
+row_edge (Jumps t) p q p' e = inr (t, e, refl)
+row_edge (Returns results) p q p' e = absurd e
+row_edge Unfit p q p' e = absurd e
+row_edge (Fixes rd n) p q p' e = inl (e, refl)
+row_edge (Moves rd rs) p q p' e = inl (e, refl)
+row_edge (Sets rd op a b) p q p' e = inl (e, refl)
+row_edge (Addresses rd n o) p q p' e = inl (e, refl)
+row_edge (Loads rd op b o) p q p' e = inl (e, refl)
+row_edge (Stores op rs b o) p q p' e = inl (e, refl)
+row_edge (LoadsSlot rd n) p q p' e = inl (e, refl)
+row_edge (StoresSlot rs n) p q p' e = inl (e, refl)
+row_edge (Calls name args) p q p' e = inl (e, refl)
+
+pub row_itself : (r : Row) → RowKin r r
+row_itself r = record {
+  class = refl;
+  jump = refl;
+  may = λ k silent h. h;
+  goes = λ n h. h;
+  end = λ t h. h;
+  is_end = λ h. h;
+  save = λ h. h;
+  edge = row_edge r;
+}
+
+-- items of a kind: a mark may give nothing instead, and a phi another place
+pub data Kin : ItemKind → ItemKind → Type 0 where
+  code_kin : {i j : Instruction} {n m : Option ℕ} → RowKin (row_of i) (row_of j) → Kin (Code i n) (Code j m)
+  mark_kin : {v : VarId} {m m' : MarkValue} → (m' ≡ m) ⊎ (m' ≡ Nothing) → Kin (Mark v m) (Mark v m')
+  phi_kin : {p p' : Option Place} {n n' : ℕ} → Kin (Phi p n) (Phi p' n')
+
+pub kin_itself : (k : ItemKind) → Kin k k
+kin_itself (Code i n) = code_kin (row_itself (row_of i))
+kin_itself (Mark v m) = mark_kin (inl refl)
+kin_itself (Phi p n) = phi_kin
+
+pub kin_code : (k l : ItemKind) → Kin k l → is_code k ≡ is_code l
+kin_code k l (code_kin h) = refl
+kin_code k l (mark_kin h) = refl
+kin_code k l phi_kin = refl
+
+pub kin_jump : (k l : ItemKind) → Kin k l → is_jump k ≡ is_jump l
+kin_jump k l (code_kin h) = h.jump
+kin_jump k l (mark_kin h) = refl
+kin_jump k l phi_kin = refl
+
+row_fits : (src : Program) (r s : Row) → RowKin r s → (silent : ℕ) (o : Origin) → RowFits src r silent o → RowFits src s silent o
+row_fits src r s h silent (Kept p) fits = by_fetch (src.fetch p) fits where
+  by_fetch : (x : Fetch) → HasClass r x → HasClass s x
+  by_fetch (Here i) k = by_kind i.kind k where
+    by_kind : (l : ItemKind) → ItemHasClass r l → ItemHasClass s l
+    by_kind (Code c n) k = k ∙ h.class
+    by_kind (Mark v m) k = k
+    by_kind (Phi p n) k = k
+  by_fetch (Silent k n) x = x
+  by_fetch Outside x = x
+row_fits src r s h silent (Before p) fits = h.may p.item silent fits
+
+pub kin_fits : (src : Program) (k l : ItemKind) → Kin k l → (silent : ℕ) (o : Origin) → KindFits src k silent o → KindFits src l silent o
+kin_fits src k l (code_kin {i} {j} h) silent o fits = row_fits src (row_of i) (row_of j) h silent o fits
+kin_fits src k l (mark_kin h) silent o fits = tt
+kin_fits src k l phi_kin silent o fits = tt
+
+nothing_fits : (v : VarId) (o : Origin) → MarkFits (Mark v Nothing) o
+nothing_fits v o = tt
+
+pub kin_marks : (k l : ItemKind) → Kin k l → (o : Origin) → MarkFits k o → MarkFits l o
+kin_marks k l (code_kin h) o fits = tt
+kin_marks k l (mark_kin {v} {m} {m'} (inl e)) o fits = subst (λ (z : MarkValue). MarkFits (Mark v z) o) (sym e) fits
+kin_marks k l (mark_kin {v} {m} {m'} (inr e)) o fits = subst (λ (z : MarkValue). MarkFits (Mark v z) o) (sym e) (nothing_fits v o)
+kin_marks k l phi_kin o fits = tt
+
+pub kin_goes : (k l : ItemKind) → Kin k l → (n : ℕ) → OnRow (GoesTo n) k → OnRow (GoesTo n) l
+kin_goes k l (code_kin h) n g = h.goes n g
+kin_goes k l (mark_kin h) n g = absurd g
+kin_goes k l phi_kin n g = absurd g
+
+pub kin_end : (i k l : ItemKind) → Kin k l → KindsEndAlike i k → KindsEndAlike i l
+kin_end (Code c n) k l (code_kin h) e = h.end (row_of c) e
+kin_end (Mark v m) k l (code_kin h) e = absurd e
+kin_end (Phi p n) k l (code_kin h) e = absurd e
+kin_end (Code c n) k l (mark_kin h) e = absurd e
+kin_end (Mark v m) k l (mark_kin h) e = absurd e
+kin_end (Phi p n) k l (mark_kin h) e = absurd e
+kin_end (Code c n) k l phi_kin e = absurd e
+kin_end (Mark v m) k l phi_kin e = absurd e
+kin_end (Phi p n) k l phi_kin e = absurd e
+
+pub kin_is_end : (k l : ItemKind) → Kin k l → OnRow IsEnd l → OnRow IsEnd k
+kin_is_end k l (code_kin h) e = h.is_end e
+kin_is_end k l (mark_kin h) e = absurd e
+kin_is_end k l phi_kin e = absurd e
+
+pub kin_save : (k l : ItemKind) → Kin k l → OnRow IsSlotStore l → OnRow IsSlotStore k
+kin_save k l (code_kin h) e = h.save e
+kin_save k l (mark_kin h) e = absurd e
+kin_save k l phi_kin e = absurd e
+
+pub kin_edge : (k l : ItemKind) → Kin k l → (p q p' : Pos) → KindEdge (λ n. n) k p q → GoesAlike (KindEdge (λ n. n) l) p q p'
+kin_edge k l (code_kin h) p q p' e = h.edge p q p' e
+kin_edge k l (mark_kin h) p q p' e = inl (e, refl)
+kin_edge k l phi_kin p q p' e = inl (e, refl)
+
+-- ---- where the source moves on
+
+-- added code goes elsewhere only if it is a jump
+added_goes : (r : Row) (item silent : ℕ) (k : Core → Core) (c c' : Core) (n : ℕ) → MayAdd r item silent → with_core k (act r c) ≡ Goes n c' →
+    is_jump_row r ≡ true
+added_goes (Fixes rd m) item silent k c c' n may e = unfold act in unfold does in cc
+added_goes (LoadsSlot rd m) item silent k c c' n may e = unfold act in unfold does in by_slot (c.slots m) e where
+  by_slot : (v : Option ℕ) → with_core k (slot_loaded rd c v) ≡ Goes n c' → false ≡ true
+  by_slot None e = cc
+  by_slot (Some v) e = cc
+added_goes (StoresSlot rs m) item silent k c c' n may e = unfold act in unfold does in either (are_written c (rs ∷ [])) _ e where
+  either : (z : Bool) (x : Core) → with_core k (cond z (Falls x) Traps) ≡ Goes n c' → false ≡ true
+  either true x e = cc
+  either false x e = cc
+added_goes (Jumps t) item silent k c c' n may e = refl
+added_goes _ item silent k c c' n may e = absurd may
+
+-- so code of a function that follows a source goes elsewhere only where the source moves on after it
+pub moves_after : (ct : Count) (src : Program) (f : Program) (k : ItemKind) (o : Origin) (silent : ℕ) → ((k : ItemKind) → moves_on ct k ≡ is_jump k) →
+    KindFits src k silent o →
+    (c c' : Core) (n : ℕ) → do_item f k c ≡ Goes n c' → since_of (waits_at (moves_on ct k) o) ≡ After
+moves_after ct src f k (Kept p) silent counts fits c c' n e = refl
+moves_after ct src f (Code i m) (Before p) silent counts fits c c' n e =
+    let j : is_jump_row (row_of i) ≡ true = added_goes (row_of i) p.item silent (numbered f.sees_pointer (is_call (row_of i)) m i.operands) c c' n fits e in
+    ap (λ (z : Bool). since_of (waits_at z (Before p))) (counts (Code i m) ∙ j)
+moves_after ct src f (Mark v m) (Before p) silent counts fits c c' n e = cc
+moves_after ct src f (Phi q m) (Before p) silent counts fits c c' n e = cc

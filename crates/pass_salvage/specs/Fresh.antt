@@ -1,0 +1,20 @@
+-- The debug instruction numbers of items, blocks and substitutions.
+use Rattle.std.specs.Prelude.{ℕ, List, [], ◌∷◌}
+use Rattle.std.specs.List.{flat_map}
+use Rattle.mir_func.specs.declared.block.Block.{Block}
+use Rattle.mir_func.specs.declared.entry.Entry.{Entry}
+use Rattle.mir_func.specs.declared.item.Item.{Item}
+use Rattle.mir_func.specs.Sound.{items_of}
+use Rattle.pass_trait.specs.Sizes.{numbers_of}
+
+-- the numbers that items give or ask for
+abbrev pub item_numbers : List Item → List ℕ
+item_numbers items = flat_map (λ i. numbers_of i.kind) items
+
+-- those of all items of blocks
+abbrev pub block_numbers : List Block → List ℕ
+block_numbers blocks = item_numbers (items_of blocks)
+
+-- those on both sides of substitutions
+abbrev pub entry_numbers : List Entry → List ℕ
+entry_numbers entries = flat_map (λ e. e.src.number ∷ e.dst.number ∷ []) entries

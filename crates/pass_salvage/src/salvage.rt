@@ -1,0 +1,96 @@
+//! One copy is taken out, and its number salvaged.
+
+ghost use Rattle.std.specs.Prelude.{◌≡◌, ◌++◌, ◌<◌, ◌^◌, [], ◌∷◌, length, take, OnOk};
+ghost use Rattle.pass_salvage.specs.Way.{way};
+ghost use Rattle.pass_salvage.specs.Salvage.{with_number, entry_for, entries_for, fresh_after, phi_for, items_after};
+
+use crate::way::{Way, choose_way};
+use mir_func::entry::{Entry, OperandPair};
+use mir_func::item::{Item, ItemKind};
+use mir_func::location::Loc;
+use mir_func::position::Origin;
+use base_ids::code::{DebugNumber, OperandIndex};
+use rv64_instr::place::Place;
+use rv64_instr::reg::Reg;
+use std::alloc::AllocError;
+use mir_substitution::substitutions::Substitutions;
+
+/// Takes a copy of `source` with a number out of a block's items, or puts the phi in its place, and adds the
+/// substitution. `removed` has the ascending indices of the other items that the caller removes too, which stay for
+/// it to remove. `fresh` is a number that nothing has, and is counted on where it is taken. After an error the items
+/// and the substitutions are only to be dropped.
+pub fn salvage(
+    items: &mut Vec<Item>,
+    subs: &mut Substitutions,
+    at: usize,
+    number: DebugNumber,
+    source: Reg,
+    removed: &[usize],
+    fresh: &mut u32,
+) -> Result<(), AllocError>
+    requires at { at < length items.old.items }
+    requires fresh { fresh.old < 2 ^ 31 }
+    ensures items { OnOk result (items.new.items ≡
+        items_after (way removed.now subs.old fresh.old number source (take at items.old.items)) at number source
+        items.old.items) }
+    ensures entries { OnOk result (subs.new ≡
+        subs.old ++ entries_for (way removed.now subs.old fresh.old number source (take at items.old.items)) number) }
+    ensures fresh { OnOk result (fresh.new ≡
+        fresh_after (way removed.now subs.old fresh.old number source (take at items.old.items)) fresh.old) }
+{
+    let above = &items[..at];
+    match choose_way(above, subs, removed, number, source, DebugNumber(*fresh)) {
+        Way::HasEntry => {
+            items.remove(at);
+        }
+        Way::GetsEntry(d, operand, standing) => {
+            subs.add(entry_for(number, standing, operand))?;
+            give_number(&mut items[d], standing);
+            items.remove(at);
+            if standing.number() == *fresh {
+                *fresh += 1;
+            }
+        }
+        Way::GetsPhi => put_phi(&mut items[at], number, source),
+    }
+    Ok(())
+}
+
+/// The substitution of a number's operand 0 by an operand of another.
+pub fn entry_for(number: DebugNumber, standing: DebugNumber, operand: OperandIndex) -> Entry
+    ensures { result ≡ entry_for number standing operand }
+{
+    Entry {
+        src: OperandPair {
+            number,
+            operand: OperandIndex(0),
+        },
+        dst: OperandPair {
+            number: standing,
+            operand,
+        },
+        subreg: 0,
+    }
+}
+
+/// Gives code this number.
+pub fn give_number(x: &mut Item, number: DebugNumber)
+    ensures { x.new ≡ record x.old { kind = with_number number x.old.kind } }
+{
+    if let ItemKind::Code(_, n) = &mut x.kind {
+        *n = Some(number);
+    }
+}
+
+/// Puts the phi of a copy in its place.
+pub fn put_phi(x: &mut Item, number: DebugNumber, source: Reg)
+    ensures { x.new ≡ phi_for number source x.old.origin }
+{
+    let at = match &x.origin {
+        Origin::Kept(p) => *p,
+        Origin::Before(p) => *p,
+    };
+    x.kind = ItemKind::Phi(Some(Place::Register(source)), number);
+    x.origin = Origin::Before(at);
+    x.loc = Loc::Absent;
+}

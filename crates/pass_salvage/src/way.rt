@@ -1,0 +1,256 @@
+//! Which code stands for a copy that is removed.
+
+ghost use Rattle.std.specs.Prelude.{◌≡◌, ◌<◌, ◌||◌, ◌&&◌, ℕ, Some, nat_eq, not, length, IfSome};
+ghost use Rattle.std.specs.List.{list_any};
+ghost use Rattle.rv64_instr.specs.declared.place.Place.TheVariants as place;
+ghost use Rattle.rv64_instr.specs.Row.{row_of};
+ghost use Rattle.rv64_instr.specs.Parts.{is_call};
+ghost use Rattle.sem_mir.specs.Step.{defined};
+ghost use Rattle.pass_trait.specs.Causes.{defines};
+ghost use Rattle.pass_salvage.specs.declared.way.Way.TheVariants as chosen;
+ghost use Rattle.pass_salvage.specs.Way.{last_definition, is_register, first_definition, asks_for, has_entry};
+ghost use Rattle.pass_salvage.specs.Way.{or_fresh, way_by, way};
+ghost use Rattle.pass_salvage.specs.Above.{way_unless};
+
+use mir_func::entry::OperandPair;
+use mir_func::item::{Item, ItemKind};
+use mir_func::variable::MarkValue;
+use base_ids::code::{DebugNumber, OperandIndex};
+use rv64_instr::instr::Instr;
+use rv64_instr::operand::Operand;
+use rv64_instr::place::Place;
+use rv64_instr::reg::Reg;
+use mir_substitution::substitutions::Substitutions;
+
+/// What becomes of the number of a copy that is removed (LLVM: salvaging of debug information).
+#[derive(Clone, Copy, Debug, PartialEq, Eq)]
+pub enum Way {
+    /// Nothing is needed: its pair has a substitution.
+    HasEntry,
+    /// Its pair is substituted by that of an operand of the code at this index, which has this number or gets it.
+    GetsEntry(usize, OperandIndex, DebugNumber),
+    /// A phi takes its place.
+    GetsPhi,
+}
+
+/// What becomes of the number of a removed copy of `source` that stood below these items of its block, of which those
+/// at the indices in `removed` are removed too. It takes no memory.
+pub fn choose_way(
+    above: &[Item],
+    subs: &Substitutions,
+    removed: &[usize],
+    number: DebugNumber,
+    source: Reg,
+    fresh: DebugNumber,
+) -> Way
+    ensures chosen { result ≡ way removed.now subs.now fresh number source above.now }
+    ensures within { (d o n : ℕ) → result ≡ chosen.GetsEntry d o n → d < length above.now }
+{
+    if has_entry(subs, &Some(number), OperandIndex(0)) {
+        return Way::HasEntry;
+    }
+    let Some(d) = last_definition(above, source) else {
+        return Way::GetsPhi;
+    };
+    match &above[d].kind {
+        ItemKind::Code(i, n) => {
+            let behind = &above[d + 1..];
+            let operand = first_definition(i, source);
+            way_by(behind, subs, removed, number, fresh, d, n, operand)
+        }
+        ItemKind::Mark(_, _) => Way::GetsPhi,
+        ItemKind::Phi(_, _) => Way::GetsPhi,
+    }
+}
+
+/// What becomes of it by the code at index `d`, which has this number and defines the source by this operand, where
+/// these items stand between the two.
+fn way_by(
+    behind: &[Item],
+    subs: &Substitutions,
+    removed: &[usize],
+    number: DebugNumber,
+    fresh: DebugNumber,
+    d: usize,
+    own: &Option<DebugNumber>,
+    operand: Option<usize>,
+) -> Way
+    ensures { result ≡ way_by removed.now subs.now fresh number d own.now operand behind.now }
+{
+    let barred = is_barred(behind, subs, removed, number, d);
+    way_unless(barred, subs, fresh, d, own, operand)
+}
+
+/// Whether code at index `d` goes too, or some of the items behind it ask for the number.
+fn is_barred(
+    behind: &[Item],
+    subs: &Substitutions,
+    removed: &[usize],
+    number: DebugNumber,
+    d: usize,
+) -> bool
+    ensures { result ≡
+        (list_any (nat_eq d) removed.now || list_any (λ x. asks_for subs.now number x.kind) behind.now) }
+{
+    is_among(removed, d) || ask_for(behind, subs, number)
+}
+
+/// What becomes of it by the code at index `d`, which has this number and defines the source by this operand, unless
+/// that is barred.
+pub fn way_unless(
+    barred: bool,
+    subs: &Substitutions,
+    fresh: DebugNumber,
+    d: usize,
+    own: &Option<DebugNumber>,
+    operand: Option<usize>,
+) -> Way
+    ensures { result ≡ way_unless barred subs.now fresh d own.now operand }
+{
+    let Some(o) = operand else {
+        return Way::GetsPhi;
+    };
+    let Ok(index) = u32::try_from(o) else {
+        return Way::GetsPhi;
+    };
+    if may_stand(barred, subs, own, OperandIndex(index)) {
+        Way::GetsEntry(d, OperandIndex(index), or_fresh(own, fresh))
+    } else {
+        Way::GetsPhi
+    }
+}
+
+/// Whether code stands for the copy by the operand, unless it is barred.
+fn may_stand(
+    barred: bool,
+    subs: &Substitutions,
+    own: &Option<DebugNumber>,
+    operand: OperandIndex,
+) -> bool
+    ensures { result ≡ (not (has_entry subs.now own.now operand) && not barred) }
+{
+    !has_entry(subs, own, operand) && !barred
+}
+
+/// Whether the index is among some.
+fn is_among(indices: &[usize], d: usize) -> bool
+    ensures { result ≡ list_any (nat_eq d) indices.now }
+{
+    indices.iter().any(|i| d == *i)
+}
+
+/// The number that it has, or the fresh one.
+fn or_fresh(own: &Option<DebugNumber>, fresh: DebugNumber) -> DebugNumber
+    ensures { result ≡ or_fresh fresh own.now }
+{
+    match own {
+        Some(n) => *n,
+        None => fresh,
+    }
+}
+
+/// The index of the last code that defines the register.
+fn last_definition(items: &[Item], s: Reg) -> Option<usize>
+    ensures found { result ≡ last_definition s items.now }
+    ensures within { IfSome result (λ d. d < length items.now) }
+{
+    let mut at = items.len();
+    while at > 0 {
+        at -= 1;
+        if defines(&items[at].kind, s) {
+            return Some(at);
+        }
+    }
+    None
+}
+
+/// Whether it is code that defines the register.
+fn defines(kind: &ItemKind, s: Reg) -> bool
+    ensures { result ≡ defines (place.Register s) kind.now }
+{
+    match kind {
+        ItemKind::Code(i, _) => i.defines(Place::Register(s)),
+        ItemKind::Mark(_, _) | ItemKind::Phi(_, _) => false,
+    }
+}
+
+/// The index of the first operand that defines the register.
+pub fn first_definition(i: &Instr, s: Reg) -> Option<usize>
+    ensures { result ≡ first_definition (is_call (row_of i.now)) s i.now.operands }
+{
+    let call = i.effect().call;
+    first_in(call, s, i.operands.as_slice())
+}
+
+/// The index of the first of these operands that does.
+fn first_in(call: bool, s: Reg, operands: &[Operand]) -> Option<usize>
+    ensures { result ≡ first_definition call s operands.now }
+{
+    for o in 0..operands.len() {
+        if is_definition(call, s, &operands[o]) {
+            return Some(o);
+        }
+    }
+    None
+}
+
+/// Whether the operand defines the register: an implicit one on calls alone.
+fn is_definition(call: bool, s: Reg, operand: &Operand) -> bool
+    ensures { result ≡ is_register s (defined call (Some operand.now)) }
+{
+    match operand {
+        Operand::Def(r) => *r == s,
+        Operand::ImplicitDef(r) => call && *r == s,
+        Operand::Use(_)
+        | Operand::ImplicitUse(_)
+        | Operand::Imm(_)
+        | Operand::Slot(_)
+        | Operand::Object(_)
+        | Operand::Block(_)
+        | Operand::Symbol(_)
+        | Operand::Mask => false,
+    }
+}
+
+/// Whether a pair of the number has a substitution.
+pub fn has_entry(subs: &Substitutions, number: &Option<DebugNumber>, operand: OperandIndex) -> bool
+    ensures { result ≡ has_entry subs.now number.now operand }
+{
+    match number {
+        Some(number) => {
+            let pair = OperandPair {
+                number: *number,
+                operand,
+            };
+            match subs.resolve(pair) {
+                Some(end) => end != pair,
+                None => true,
+            }
+        }
+        None => false,
+    }
+}
+
+/// Whether some of the items are marks of a pair that resolves to operand 0 of the number.
+fn ask_for(items: &[Item], subs: &Substitutions, number: DebugNumber) -> bool
+    ensures { result ≡ list_any (λ x. asks_for subs.now number x.kind) items.now }
+{
+    items.iter().any(|x| asks_for(&x.kind, subs, number))
+}
+
+/// Whether it is a mark of a pair that resolves to operand 0 of the number.
+fn asks_for(kind: &ItemKind, subs: &Substitutions, number: DebugNumber) -> bool
+    ensures { result ≡ asks_for subs.now number kind.now }
+{
+    match kind {
+        ItemKind::Mark(_, MarkValue::Pair(q)) => match subs.resolve(*q) {
+            Some(p) => number == p.number && p.operand.number() == 0,
+            None => false,
+        },
+        ItemKind::Mark(_, MarkValue::Nothing)
+        | ItemKind::Mark(_, MarkValue::Constant(_))
+        | ItemKind::Mark(_, MarkValue::At(_))
+        | ItemKind::Phi(_, _)
+        | ItemKind::Code(_, _) => false,
+    }
+}

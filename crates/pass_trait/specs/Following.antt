@@ -1,0 +1,32 @@
+-- The first law of passes: what followed a source follows it still.
+use Rattle.std.specs.Prelude.{◌≡◌, List, Bool, IsTrue}
+use Rattle.mir_func.specs.declared.entry.Entry.{Entry}
+use Rattle.mir_func.specs.Function.{Function}
+use Rattle.mir_func.specs.Sound.{AllItems, IsSound, HasForm}
+use Rattle.mir_func.specs.Resolve.{resolve}
+use Rattle.sem_mir.specs.Follow.{Follows, HasWholeEnds, IsRead}
+use Rattle.pass_trait.specs.Change.{Change}
+
+-- a source: a function as it was read, with its substitutions
+pub record Source : Type 0 where
+  pub function : Function
+  pub subs : List Entry
+  pub sound : IsSound function
+  pub read : IsRead function.blocks
+  pub form : AllItems (λ i. HasForm i.kind) function.blocks
+
+-- the function with its substitutions follows the source, over the source's stack objects
+pub record FollowsSource (src : Source) (f : Function) (subs : List Entry) : Type 0 where
+  pub objects : f.objects ≡ src.function.objects
+  pub follows : Follows src.function.objects src.function.blocks f.blocks (resolve src.subs) (resolve subs)
+
+-- it has the source's ends of blocks
+abbrev pub EndsAsSource : Source → Function → List Entry → Type 0
+EndsAsSource src f subs = HasWholeEnds src.function.objects src.function.blocks f.blocks (resolve src.subs) (resolve subs)
+
+-- of whatever source the function followed, with whole ends if the pass asks for them, it follows that source still; and if
+-- the pass keeps whole ends, they are whole still
+pub record KeepsFollowing (asks keeps : Bool) (c : Change) : Type 0 where
+  pub follows : (src : Source) → FollowsSource src c.old c.old_subs → (IsTrue asks → EndsAsSource src c.old c.old_subs) →
+      FollowsSource src c.new c.new_subs
+  pub ends : IsTrue keeps → (src : Source) → FollowsSource src c.old c.old_subs → EndsAsSource src c.old c.old_subs → EndsAsSource src c.new c.new_subs

@@ -1,0 +1,86 @@
+-- Proofs of what a pass owes of itself. They stand here, and not in proofs/, since an implementation of a trait cites them;
+-- nothing here is to be believed.
+use Rattle.std.proofs.Common.{◌≡◌, ℕ, ◌*◌, ◌≤◌, List, [], ◌∷◌, ◌++◌, map, filter, Bool, true, false, cond, ◌||◌, refl, sym, ap, ◌∙◌}
+use Rattle.std.specs.List.{list_any}
+use Rattle.std.proofs.Math.Nat.{one-le-mul}
+use Rattle.mir_func.specs.declared.position.Origin.{Origin}
+use Rattle.mir_func.specs.declared.position.Origin.TheVariants.{Kept, Before}
+use Rattle.mir_func.specs.declared.item.Item.{Item}
+use Rattle.mir_func.specs.declared.item.ItemKind.{ItemKind}
+use Rattle.mir_func.specs.declared.item.ItemKind.TheVariants.{Code, Mark, Phi}
+use Rattle.mir_func.specs.declared.block.Block.{Block}
+use Rattle.mir_func.specs.Function.{Function}
+use Rattle.pass_trait.specs.Code.{CodeRule, HasOneResult, SeesCodeAlone, placeless_origin, placeless_item, placeless_block, placeless}
+use Rattle.pass_trait.specs.Steps.{Step, EachCode}
+use Rattle.pass_trait.specs.Nops.{is_added_save, has_added_saves, stays, thinned_blocks, thinned, IsThinned}
+
+-- what holds of the rules for code of both
+each_then : (P : CodeRule → Type 0) (steps more : List Step) → EachCode P steps → EachCode P more → EachCode P (steps ++ more)
+each_then P [] more h k = k
+each_then P (s ∷ steps) more h k = (h.0, each_then P steps more h.1 k)
+
+-- where the rules for code of both lists of steps have one result each, so do those of one list after the other
+pub one_then : (steps more : List Step) → EachCode HasOneResult steps → EachCode HasOneResult more → EachCode HasOneResult (steps ++ more)
+one_then = each_then HasOneResult
+
+-- where those of both lists see code alone, so do those of one list after the other
+pub same_then : (steps more : List Step) → EachCode SeesCodeAlone steps → EachCode SeesCodeAlone more → EachCode SeesCodeAlone (steps ++ more)
+same_then = each_then SeesCodeAlone
+
+-- factors are at least 1 with each other
+pub grows_then : (a b : ℕ) → 1 ≤ a → 1 ≤ b → 1 ≤ a * b
+grows_then a b = one-le-mul
+
+-- a rule that is a function has one result; and where it does the same to functions without positions, it sees code alone
+pub one_of : (make : Function → Function) → HasOneResult (λ f g. g ≡ make f)
+one_of make f g h a b = a ∙ sym b
+
+-- a rule that is a function sees code alone where it commutes with forgetting positions
+pub same_of : (make : Function → Function) → ((f : Function) → placeless (make f) ≡ make (placeless f)) → SeesCodeAlone (λ f g. g ≡ make f)
+same_of make commutes f f' g g' alike a b = ap placeless a ∙ commutes f ∙ ap make alike ∙ sym (commutes f') ∙ ap placeless (sym b)
+
+-- of one function taking out no-operations makes one
+pub one_thinned : HasOneResult IsThinned
+one_thinned = one_of thinned
+
+-- whether something is a slot store that was added doesn't hang on its position
+save_placeless : (k : ItemKind) (o : Origin) → is_added_save k (placeless_origin o) ≡ is_added_save k o
+save_placeless (Code i n) (Kept p) = refl
+save_placeless (Code i n) (Before p) = refl
+save_placeless (Mark v m) o = refl
+save_placeless (Phi p n) o = refl
+
+saves_in_placeless : (xs : List Item) →
+    list_any (λ (i : Item). is_added_save i.kind i.origin) (map placeless_item xs) ≡ list_any (λ (i : Item). is_added_save i.kind i.origin) xs
+saves_in_placeless [] = refl
+saves_in_placeless (x ∷ xs) = let e = save_placeless x.kind x.origin in let es = saves_in_placeless xs in λ i. e i || es i
+
+saves_placeless : (bs : List Block) → has_added_saves (map placeless_block bs) ≡ has_added_saves bs
+saves_placeless [] = refl
+saves_placeless (b ∷ bs) = let e = saves_in_placeless b.items in let es = saves_placeless bs in λ i. e i || es i
+
+items_placeless : (busy : Bool) (xs : List Item) → map placeless_item (filter (stays busy) xs) ≡ filter (stays busy) (map placeless_item xs)
+items_placeless busy [] = refl
+items_placeless busy (x ∷ xs) = by_test (stays busy x) (items_placeless busy xs) where
+  by_test : (z : Bool) → map placeless_item (filter (stays busy) xs) ≡ filter (stays busy) (map placeless_item xs) →
+      map placeless_item (cond z (x ∷ filter (stays busy) xs) (filter (stays busy) xs)) ≡
+      cond z (placeless_item x ∷ filter (stays busy) (map placeless_item xs)) (filter (stays busy) (map placeless_item xs))
+  by_test true h = ap (λ (ys : List Item). placeless_item x ∷ ys) h
+  by_test false h = h
+
+blocks_placeless : (busy : Bool) (bs : List Block) → map placeless_block (thinned_blocks busy bs) ≡ thinned_blocks busy (map placeless_block bs)
+blocks_placeless busy [] = refl
+blocks_placeless busy (b ∷ bs) =
+    let e = items_placeless busy b.items in
+    let es = blocks_placeless busy bs in
+    λ i. record { id = b.id; items = e i; silent = 0 } ∷ es i
+
+thinned_placeless : (f : Function) → placeless (thinned f) ≡ thinned (placeless f)
+thinned_placeless f =
+    let e = blocks_placeless (has_added_saves f.blocks) f.blocks ∙
+    ap (λ (z : Bool). thinned_blocks z (map placeless_block f.blocks)) (sym (saves_placeless f.blocks)) in
+    λ i. record f { blocks = e i }
+
+-- taking out no-operations sees no positions
+pub same_thinned : SeesCodeAlone IsThinned
+same_thinned = same_of thinned thinned_placeless

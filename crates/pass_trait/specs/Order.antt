@@ -1,0 +1,44 @@
+-- The order of losses.
+use Rattle.std.specs.Prelude.{◌≡◌, ◌⊎◌, ℕ, ◌<◌, List, AllPairs}
+use Rattle.mir_func.specs.declared.position.Pos.{Pos}
+use Rattle.pass_trait.specs.declared.loss.Reason.{Reason}
+use Rattle.pass_trait.specs.declared.loss.Reason.TheVariants.{Removed, WrongPlace, Scratch, Bypassed, Unreachable, NoScratch, CallNamed, EntryLoop, NoSlot}
+use Rattle.pass_trait.specs.declared.loss.Lost.{Lost}
+use Rattle.pass_trait.specs.declared.loss.Lost.TheVariants.{Number, Mark, Register}
+use Rattle.pass_trait.specs.declared.loss.Loss.{Loss}
+
+-- the order of reasons
+abbrev pub reason_rank : Reason → ℕ
+reason_rank Removed = 0
+reason_rank WrongPlace = 1
+reason_rank Scratch = 2
+reason_rank Bypassed = 3
+reason_rank Unreachable = 4
+reason_rank NoScratch = 5
+reason_rank CallNamed = 6
+reason_rank EntryLoop = 7
+reason_rank NoSlot = 8
+
+-- by block numbers, and in a block by indices
+abbrev pub IsEarlier : Pos → Pos → Type 0
+IsEarlier p q = (p.block < q.block) ⊎ ((p.block ≡ q.block) × (p.item < q.item))
+
+-- numbers come before marks, and marks before registers
+abbrev pub ComesBefore : Lost → Lost → Type 0
+ComesBefore (Number k) (Number l) = k < l
+ComesBefore (Number k) (Mark q) = Unit {0}
+ComesBefore (Number k) (Register s) = Unit {0}
+ComesBefore (Mark p) (Number l) = ⊥
+ComesBefore (Mark p) (Mark q) = IsEarlier p q
+ComesBefore (Mark p) (Register s) = Unit {0}
+ComesBefore (Register r) (Number l) = ⊥
+ComesBefore (Register r) (Mark q) = ⊥
+ComesBefore (Register r) (Register s) = r < s
+
+-- by what is lost; and losses of one thing by their reasons
+abbrev pub LossComesBefore : Loss → Loss → Type 0
+LossComesBefore a b = ComesBefore a.what b.what ⊎ ((a.what ≡ b.what) × (reason_rank a.reason < reason_rank b.reason))
+
+-- each comes before all that follow it
+abbrev pub IsInOrder : List Loss → Type 0
+IsInOrder losses = AllPairs LossComesBefore losses

@@ -1,0 +1,78 @@
+-- How far a pass may make a function grow.
+use Rattle.std.specs.Prelude.{ℕ, ◌+◌, ◌*◌, ◌≤◌, max, List, [], ◌∷◌, ◌++◌, length, count_by, flat_map, Some, None, Bool, false}
+use Rattle.rv64_instr.specs.Row.{row_of}
+use Rattle.rv64_instr.specs.Parts.{is_call}
+use Rattle.mir_func.specs.declared.item.ItemKind.{ItemKind}
+use Rattle.mir_func.specs.declared.item.ItemKind.TheVariants.{Code, Mark, Phi}
+use Rattle.mir_func.specs.declared.variable.MarkValue.TheVariants.{Nothing, Constant, At, Pair}
+use Rattle.mir_func.specs.declared.block.Block.{Block}
+use Rattle.mir_func.specs.declared.entry.Entry.{Entry}
+use Rattle.mir_func.specs.Function.{Function}
+use Rattle.mir_func.specs.Sound.{items_of, AllItems}
+use Rattle.mir_func.specs.SoundFrame.{HasPhysical}
+use Rattle.mir_func.specs.Limits.{MAX_BLOCKS, MAX_SLOTS}
+use Rattle.sem_mir.specs.Align.{is_code}
+use Rattle.pass_trait.specs.Change.{Change}
+
+-- the greatest of some numbers, or 0 where there is none
+abbrev pub greatest : List ℕ → ℕ
+greatest [] = 0
+greatest (n ∷ ns) = max n (greatest ns)
+
+-- the debug instruction numbers that an item gives or asks for
+abbrev pub numbers_of : ItemKind → List ℕ
+numbers_of (Code i (Some k)) = k ∷ []
+numbers_of (Code i None) = []
+numbers_of (Phi p k) = k ∷ []
+numbers_of (Mark v (Pair q)) = q.number ∷ []
+numbers_of (Mark v Nothing) = []
+numbers_of (Mark v (Constant n)) = []
+numbers_of (Mark v (At r)) = []
+
+-- the debug instruction numbers of a function with its substitutions: on items, in marks, and on both sides of entries
+abbrev pub numbers_in : List Block → List Entry → List ℕ
+numbers_in blocks subs = flat_map (λ i. numbers_of i.kind) (items_of blocks) ++ flat_map (λ e. e.src.number ∷ e.dst.number ∷ []) subs
+
+-- the greatest debug instruction number that the function or its substitutions have: above it all are fresh
+abbrev pub greatest_number : Function → List Entry → ℕ
+greatest_number f subs = greatest (numbers_in f.blocks subs)
+
+-- how many items a function has, marks and phis among them
+abbrev pub item_count : Function → ℕ
+item_count f = length (items_of f.blocks)
+
+-- how many of them are code
+abbrev pub code_count : Function → ℕ
+code_count f = count_by (λ i. is_code i.kind) (items_of f.blocks)
+
+-- code that is a call
+abbrev pub calls : ItemKind → Bool
+calls (Code i k) = is_call (row_of i)
+calls (Mark v m) = false
+calls (Phi p k) = false
+
+-- how many calls a function has
+abbrev pub call_count : Function → ℕ
+call_count f = count_by (λ i. calls i.kind) (items_of f.blocks)
+
+-- no virtual register stands in the function
+abbrev pub IsPhysical : Function → Type 0
+IsPhysical f = AllItems (λ i. HasPhysical i.kind) f.blocks
+
+-- how many items a pass may make of some: its factor times as many, counted with as many more as its count for each block that a
+-- function may have
+abbrev pub most : (factor count items : ℕ) → ℕ
+most factor count n = factor * (n + MAX_BLOCKS * count)
+
+-- the most debug instruction numbers that it may add
+abbrev pub most_numbers : (factor count : ℕ) → Function → ℕ
+most_numbers factor count f = count * most factor count (item_count f)
+
+-- the bounds of a pass with a factor and a count
+pub record KeepsSizes (factor count : ℕ) (c : Change) : Type 0 where
+  pub items : item_count c.new ≤ most factor count (item_count c.old)
+  pub code : code_count c.new ≤ most factor count (code_count c.old)
+  pub calls : call_count c.new ≤ call_count c.old
+  pub physical : IsPhysical c.old → IsPhysical c.new
+  pub numbers : greatest_number c.new c.new_subs ≤ greatest_number c.old c.old_subs + most_numbers factor count c.old
+  pub slots : greatest c.new.slots ≤ greatest c.old.slots + MAX_SLOTS * count

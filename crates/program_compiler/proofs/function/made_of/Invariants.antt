@@ -1,6 +1,0 @@
-use Rattle.std.proofs.Common.{drop}
-use Rattle.program_compiler.proofs.Behind.{SoFar}
-use Rattle.program_compiler.proofs.function.made_of.Given as goal
-
-abbrev pub invariant-loop-source : goal.invariant-loop-source
-invariant-loop-source l = SoFar l.meta l.reserve l.passes l.functions (drop l.source-index l.functions) l.losses l.made

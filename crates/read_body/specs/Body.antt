@@ -1,0 +1,183 @@
+-- The body of a function: blocks of items, each judged by those before it.
+use Rattle.std.specs.Prelude.{◌≡◌, ℕ, ◌+◌, Bool, true, false, ◌||◌, nat_le, nat_lt, if◌then◌else◌, List, [], ◌∷◌, ◌++◌, length, Option, Some, None, IfSome, ◌≤◌}
+use Rattle.std.specs.Option.{option_map}
+use Rattle.rv64_instr.specs.Arithmetic.{word}
+use Rattle.rv64_instr.specs.Row.{Row, Fixes, Moves, Sets, Addresses, Loads, Stores, LoadsSlot, StoresSlot, Branches, Jumps, Calls, Returns, Unfit, row_of}
+use Rattle.rv64_instr.specs.declared.decoded.Base.{Base}
+use Rattle.rv64_instr.specs.declared.decoded.Base.TheVariants.{PointedBy, ObjectAt}
+use Rattle.mir_func.specs.declared.block.Block.{Block}
+use Rattle.mir_func.specs.declared.item.Item.{Item}
+use Rattle.mir_func.specs.declared.item.ItemKind.{ItemKind}
+use Rattle.mir_func.specs.declared.item.ItemKind.TheVariants.{Code, Mark, Phi}
+use Rattle.mir_func.specs.declared.location.Loc.{Loc}
+use Rattle.mir_func.specs.declared.position.Origin.TheVariants.{Kept}
+use Rattle.mir_func.specs.declared.variable.MarkValue.{MarkValue}
+use Rattle.mir_func.specs.declared.variable.MarkValue.TheVariants.{Nothing, Constant, At, Pair}
+use Rattle.mir_func.specs.Limits.{MAX_BLOCKS}
+use Rattle.read_refusal.specs.declared.kind.RefusalKind.{RefusalKind}
+use Rattle.read_refusal.specs.declared.kind.RefusalKind.TheVariants.{DuplicateBlock, DuplicateNumber, TooMany}
+use Rattle.read_refusal.specs.Kind as kinds
+use Rattle.read_body.specs.declared.body.Body.{Body}
+use Rattle.read_body.specs.Met.{is_met, met, known}
+use Rattle.read_body.specs.Limits.{MAX_ITEMS, MAX_VARIABLES, MAX_NUMBERS, MAX_CONSTANTS}
+
+-- ---- what an item has
+
+-- the constant of a row that sets a register to a number
+abbrev pub row_constant : Row → Option ℕ
+row_constant (Fixes rd n) = Some n
+row_constant (Moves rd rs) = None
+row_constant (Sets rd op a b) = None
+row_constant (Addresses rd n offset) = None
+row_constant (Loads rd op base offset) = None
+row_constant (Stores op rs base offset) = None
+row_constant (LoadsSlot rd n) = None
+row_constant (StoresSlot rs n) = None
+row_constant (Branches op a b target) = None
+row_constant (Jumps target) = None
+row_constant (Calls name args) = None
+row_constant (Returns results) = None
+row_constant Unfit = None
+
+-- the constant that a mark assigns, as 64 bits
+abbrev pub mark_constant : MarkValue → Option ℕ
+mark_constant Nothing = None
+mark_constant (Constant n) = Some (word n)
+mark_constant (At r) = None
+mark_constant (Pair p) = None
+
+-- the constant of a constant definition or a mark
+abbrev pub constant_of : ItemKind → Option ℕ
+constant_of (Code i number) = row_constant (row_of i)
+constant_of (Mark v m) = mark_constant m
+constant_of (Phi p number) = None
+
+-- the stack object that a base is
+abbrev pub base_object : Base → Option ℕ
+base_object (PointedBy r) = None
+base_object (ObjectAt n) = Some n
+
+-- the stack object that a row names
+abbrev pub row_object : Row → Option ℕ
+row_object (Addresses rd n offset) = Some n
+row_object (Loads rd op base offset) = base_object base
+row_object (Stores op rs base offset) = base_object base
+row_object (Fixes rd n) = None
+row_object (Moves rd rs) = None
+row_object (Sets rd op a b) = None
+row_object (LoadsSlot rd n) = None
+row_object (StoresSlot rs n) = None
+row_object (Branches op a b target) = None
+row_object (Jumps target) = None
+row_object (Calls name args) = None
+row_object (Returns results) = None
+row_object Unfit = None
+
+-- the stack object that an item names
+abbrev pub object_named : ItemKind → Option ℕ
+object_named (Code i number) = row_object (row_of i)
+object_named (Mark v m) = None
+object_named (Phi p number) = None
+
+-- ---- what was read
+
+-- before the first line
+abbrev pub nothing_read : Body
+nothing_read = record { before = []; last = None; entries = []; items = 0; ids = []; codes = []; numbers = []; constants = []; objects = []; variables = [] }
+
+-- blocks with one more, if it is there
+abbrev pub and_last : List Block → Option Block → List Block
+and_last before None = before
+and_last before (Some b) = before ++ b ∷ []
+
+-- the blocks that were read
+abbrev pub blocks_of : Body → List Block
+blocks_of body = and_last body.before body.last
+
+-- ---- labels
+
+-- why no block may be begun with a number: another has it, or there are as many as may be
+abbrev pub label_cause : Body → ℕ → Option RefusalKind
+label_cause body n = if is_met n body.ids then Some DuplicateBlock else (if nat_le MAX_BLOCKS (length body.ids) then Some TooMany else None)
+
+-- a block is begun
+abbrev pub with_label : Body → ℕ → Body
+with_label body n = record body { before = blocks_of body; last = Some (record { id = n; items = []; silent = 0 }); ids = met n body.ids }
+
+-- ---- items
+
+-- whether the number of an item is given already, where one of the two is code; several phis may share one
+abbrev pub repeats : Body → ItemKind → Bool
+repeats body (Code i None) = false
+repeats body (Code i (Some k)) = is_met k body.numbers
+repeats body (Mark v m) = false
+repeats body (Phi p k) = is_met k body.codes
+
+-- a block with one item more, which is kept at the place where it was read
+abbrev pub block_with : ItemKind → Loc → Block → Block
+block_with kind loc b = record {
+  id = b.id;
+  items = b.items ++ record { kind = kind; origin = Kept (record { block = b.id; item = b.silent }); loc = loc } ∷ [];
+  silent = b.silent + 1;
+}
+
+-- the numbers with that of an item
+abbrev pub with_number : Body → ItemKind → Body
+with_number body (Code i None) = body
+with_number body (Code i (Some k)) = record body { codes = met k body.codes; numbers = met k body.numbers }
+with_number body (Mark v m) = body
+with_number body (Phi p k) = record body { numbers = met k body.numbers }
+
+-- the constants with one that is there
+abbrev pub with_constant : Body → Option ℕ → Body
+with_constant body None = body
+with_constant body (Some n) = record body { constants = met n body.constants }
+
+-- the stack objects with one that is there
+abbrev pub with_object : Body → Option ℕ → Body
+with_object body None = body
+with_object body (Some n) = record body { objects = met n body.objects }
+
+-- the variables with that of a mark
+abbrev pub with_variable : Body → ItemKind → Body
+with_variable body (Code i k) = body
+with_variable body (Mark v m) = record body { variables = known v body.variables }
+with_variable body (Phi p k) = body
+
+-- what is met in an item
+abbrev pub with_facts : Body → ItemKind → Body
+with_facts body kind = with_variable (with_object (with_constant (with_number body kind) (constant_of kind)) (object_named kind)) kind
+
+-- an item goes to the last block
+abbrev pub placed : Body → ItemKind → Loc → List ℕ → Body
+placed body kind loc entries = record body {
+  last = option_map (block_with kind loc) body.last;
+  entries = body.entries ++ entries;
+  items = body.items + 1;
+}
+
+-- one item more, which names stack entries
+abbrev pub with_item : Body → ItemKind → Loc → List ℕ → Body
+with_item body kind loc entries = placed (with_facts body kind) kind loc entries
+
+-- the silent index of the last block counts items of the body
+abbrev pub IsCounted : Body → Type 0
+IsCounted body = IfSome body.last (λ b. b.silent ≤ body.items)
+
+-- whether a limit is exceeded
+abbrev pub exceeds : Body → Bool
+exceeds body =
+    nat_lt MAX_ITEMS body.items || (nat_lt MAX_VARIABLES (length body.variables)
+    || (nat_lt MAX_NUMBERS (length body.numbers) || nat_lt MAX_CONSTANTS (length body.constants)))
+
+-- why an item may not stand behind those before it
+abbrev pub item_cause : Body → ItemKind → Loc → List ℕ → Option RefusalKind
+item_cause body kind loc entries =
+    if repeats body kind then Some DuplicateNumber
+    else (if exceeds (with_item body kind loc entries) then Some TooMany else None)
+
+-- Why code may not stand there that is refused for a cause of its own, where it gives a number: the cause with the lower number
+-- counts.
+abbrev pub refused_cause : Body → RefusalKind → Option ℕ → RefusalKind
+refused_cause body kind None = kind
+refused_cause body kind (Some k) = if is_met k body.numbers then (if nat_lt 9 (kinds.number_of kind) then DuplicateNumber else kind) else kind

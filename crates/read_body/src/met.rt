@@ -1,0 +1,66 @@
+//! Numbers that were met.
+
+ghost use Rattle.std.specs.Prelude.{◌≡◌, [], length, OnOk, OnErr};
+ghost use Rattle.read_body.specs.Met.{is_met, met};
+
+use std::alloc::{AllocError, Global};
+use std::collections::BTreeSet;
+use std::marker::Model;
+
+/// Numbers, each once, in the order in which they were met first. A contract sees their list.
+#[derive(Drop)]
+pub struct Met {
+    list: Vec<u64>,
+    set: BTreeSet<u64>,
+}
+
+impl Model for Met {
+    ghost use Rattle.std.specs.Prelude.{List, ℕ};
+    ghost use Rattle.read_body.specs.Met.{HasAll};
+
+    ghost Value = { List ℕ };
+
+    ghost view = { λ m. m.list.items };
+
+    ghost invariant = { λ m. HasAll m.set m.list.items };
+}
+
+impl Met {
+    /// No number. It takes no memory.
+    pub fn new(alloc: Global) -> Met
+        ensures { result ≡ [] }
+    {
+        Met {
+            list: Vec::new(alloc),
+            set: BTreeSet::new(alloc),
+        }
+    }
+
+    /// Whether a number was met.
+    pub fn has(&self, n: u64) -> bool
+        ensures { result ≡ is_met n self.now }
+    {
+        self.set.contains(&n)
+    }
+
+    /// How many numbers were met.
+    pub fn len(&self) -> usize
+        ensures { result ≡ length self.now }
+    {
+        self.list.len()
+    }
+
+    /// Meets a number. A refused call changes nothing.
+    pub fn meet(&mut self, n: u64) -> Result<(), AllocError>
+        ensures ok { OnOk result (self.new ≡ met n self.old) }
+        ensures err { OnErr result (self.new ≡ self.old) }
+    {
+        if self.set.contains(&n) {
+            return Ok(());
+        }
+        self.list.reserve(1)?;
+        self.set.insert(n)?;
+        self.list.push(n)?;
+        Ok(())
+    }
+}

@@ -1,0 +1,43 @@
+-- The entries of `debugValueSubstitutions`. (LLVM, "Instruction referencing for debug info".)
+use Rattle.std.specs.Prelude.{ℕ, codes, List, [], ◌∷◌, Option, Some, None}
+use Rattle.read_lexer.specs.declared.line.Line.{Line}
+use Rattle.mir_func.specs.declared.entry.OperandPair.{OperandPair}
+use Rattle.mir_func.specs.declared.entry.Entry as func
+use Rattle.mir_substitution.specs.Added.{added}
+use Rattle.read_refusal.specs.First.{earlier}
+use Rattle.read_declarations.specs.declared.entry.Field.{Field}
+use Rattle.read_declarations.specs.declared.entry.Entry.{Entry}
+use Rattle.read_declarations.specs.declared.substitutions.SubstitutionsRead.{SubstitutionsRead}
+use Rattle.read_declarations.specs.Entry.{bad_line}
+use Rattle.read_declarations.specs.Field.{needed, given}
+use Rattle.read_declarations.specs.List.{list_of}
+
+-- the operand of a number and an index, if both are read
+abbrev pub pair_of : Option ℕ → Option ℕ → Option OperandPair
+pair_of (Some number) (Some operand) = Some (record { number = number; operand = operand })
+pair_of _ _ = None
+
+-- what stands for what, if all of it is read
+abbrev pub substitution_with : Option OperandPair → Option OperandPair → Option ℕ → Option func.Entry
+substitution_with (Some src) (Some dst) (Some subreg) = Some (record { src = src; dst = dst; subreg = subreg })
+substitution_with _ _ _ = None
+
+-- The substitution that fields say: four numbers are needed, and `subreg` is 0 where it is missing.
+abbrev pub substitution_of : List Line → List Field → Option func.Entry
+substitution_of lines fields =
+    substitution_with (pair_of (needed lines (codes "srcinst") fields) (needed lines (codes "srcop") fields))
+    (pair_of (needed lines (codes "dstinst") fields) (needed lines (codes "dstop") fields)) (given lines (codes "subreg") 0 fields)
+
+-- one entry more, behind those before: an entry whose source has one already changes nothing
+abbrev pub substituted : SubstitutionsRead → ℕ → Option func.Entry → SubstitutionsRead
+substituted read line (Some e) = record read { entries = added read.entries e }
+substituted read line None = record read { refused = earlier read.refused (Some (bad_line line)) }
+
+-- the substitutions behind those that were read
+unfoldable pub substitutions_behind : List Line → SubstitutionsRead → List Entry → SubstitutionsRead
+substitutions_behind lines read [] = read
+substitutions_behind lines read (e ∷ es) = substitutions_behind lines (substituted read e.line (substitution_of lines e.fields)) es
+
+-- the substitutions under `debugValueSubstitutions`, of which these are the lines, and the first refusal
+abbrev pub substitutions_of : List Line → SubstitutionsRead
+substitutions_of lines = substitutions_behind lines (record { entries = []; refused = (list_of lines).refused }) (list_of lines).entries

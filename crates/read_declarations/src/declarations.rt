@@ -1,0 +1,104 @@
+//! What a function's document declares.
+
+ghost use Rattle.std.specs.Prelude.{◌≡◌, IfOk};
+ghost use Rattle.read_declarations.specs.Declarations.{Gives, fixed_refusal, checked, declarations_of};
+ghost use Rattle.read_declarations.specs.declared.declarations.DeclarationError.TheVariants.{Memory};
+
+use crate::list::list;
+use crate::name::name;
+use crate::stack::{StackEntries, stack};
+use crate::substitutions::substitutions;
+use read_documents::parts::FunctionDocument;
+use read_lexer::line::Line;
+use read_refusal::first::{Refusal, earlier};
+use read_refusal::kind::RefusalKind;
+use rv64_instr::name::Name;
+use std::alloc::{AllocError, Global};
+use mir_substitution::substitutions::Substitutions;
+use thiserror::Error;
+
+/// What a function declares before its body.
+#[derive(Drop)]
+pub struct Declarations {
+    /// Its name.
+    pub name: Name,
+    /// The entries of its stack frame, in declared order. No two have the same number.
+    pub stack: StackEntries,
+    /// The substitutions of its debug instruction numbers, in order.
+    pub substitutions: Substitutions,
+}
+
+/// Why there are no declarations.
+#[derive(Debug, Drop, Error)]
+pub enum DeclarationError {
+    /// A line is refused: the first one, for the cause with the lowest number.
+    #[error("a line is refused")]
+    Refused(Refusal),
+    /// Memory ran out.
+    #[error("out of memory")]
+    Memory,
+}
+
+impl From<AllocError> for DeclarationError {
+    ghost from_gives = { λ _ e. e ≡ Memory };
+
+    fn from(_e: AllocError) -> DeclarationError {
+        DeclarationError::Memory
+    }
+}
+
+/// The first refusal under `fixedStack`, of which these are the lines. No entry of it is read.
+fn fixed_refusal(alloc: Global, lines: &[Line]) -> Result<Option<Refusal>, AllocError>
+    ensures { IfOk result (λ refused. refused ≡ fixed_refusal lines.now) }
+{
+    let listing = list(alloc, lines)?;
+    match listing.entries.as_slice() {
+        [first, ..] => {
+            let fault = Refusal {
+                line: first.line,
+                kind: RefusalKind::StackObject,
+            };
+            Ok(earlier(listing.refused, Some(fault)))
+        }
+        [] => Ok(listing.refused),
+    }
+}
+
+/// The declarations, unless there is a refusal.
+fn checked(
+    refused: Option<Refusal>,
+    declared: Declarations,
+) -> Result<Declarations, DeclarationError>
+    ensures { Gives result (checked refused declared) }
+{
+    match refused {
+        Some(refusal) => Err(DeclarationError::Refused(refusal)),
+        None => Ok(declared),
+    }
+}
+
+/// What a function's document declares, or the first refusal of the lines that declare it.
+pub fn read_declarations(
+    alloc: Global,
+    document: &FunctionDocument,
+) -> Result<Declarations, DeclarationError>
+    // They are the document's declarations, and the refusal is the first one.
+    ensures { Gives result (declarations_of document.now) }
+{
+    let name = name(alloc, document.name.as_slice())?;
+    let stack = stack(alloc, document.stack.as_slice())?;
+    let fixed = fixed_refusal(alloc, document.fixed.as_slice())?;
+    let substitutions = substitutions(alloc, document.substitutions.as_slice())?;
+    let refused = earlier(
+        earlier(name.refused, stack.refused),
+        earlier(fixed, substitutions.refused),
+    );
+    checked(
+        refused,
+        Declarations {
+            name: name.name,
+            stack: stack.entries,
+            substitutions: substitutions.entries,
+        },
+    )
+}

@@ -1,0 +1,255 @@
+//! The entries of a list, `- { key: value, .. }`, read token by token.
+
+ghost use Rattle.std.specs.Prelude.{◌≡◌, ◌↔◌, IfOk, OnOk, IsTrue};
+ghost use Rattle.read_declarations.specs.Stream.{text_at};
+ghost use Rattle.read_declarations.specs.Entry.{
+  is_mark,
+  is_value,
+  has_text,
+  AreKeys,
+  KeepsKeys,
+  fits_at,
+  line_at,
+  nothing_read,
+  behind,
+  with_field,
+  behind_value,
+  ended,
+  bad_line,
+  entries_of,
+};
+
+use crate::stream::{Piece, text_at};
+use base_list::List;
+use read_metadata::token::{is_byte, is_integer, is_text, is_word};
+use read_lexer::line::Line;
+use read_refusal::first::Refusal;
+use read_refusal::kind::RefusalKind;
+use std::alloc::{AllocError, Global};
+use std::collections::BTreeSet;
+
+/// A field of an entry: the word before its colon, and the token behind it.
+#[derive(Clone, Copy, Debug)]
+pub struct Field {
+    pub key: Piece,
+    pub value: Piece,
+}
+
+/// Fields of an entry, in order.
+pub type Fields = List<Field>;
+
+/// An entry of a list.
+#[derive(Debug, Drop)]
+pub struct Entry {
+    /// The number of its first line.
+    pub line: u32,
+    pub fields: Fields,
+}
+
+/// Entries of a list, in order.
+pub type Entries = List<Entry>;
+
+/// Where the tokens so far end.
+#[derive(Clone, Copy, Debug)]
+pub enum Place {
+    /// Outside entries.
+    Outside,
+    /// Behind an entry's `-`.
+    Dash,
+    /// Where a key stands.
+    Key,
+    /// Behind a key.
+    Colon(Piece),
+    /// Behind a key and its colon.
+    Value(Piece),
+    /// Behind a value.
+    Next,
+}
+
+/// The entries so far, and the one that is open.
+#[derive(Debug, Drop)]
+pub struct OpenList {
+    pub entries: Entries,
+    pub place: Place,
+    /// The number of the first line of the open entry.
+    pub line: u32,
+    /// The fields of the open entry.
+    pub fields: Fields,
+}
+
+/// The entries of a list up to the first thing that is none, and the refusal of that.
+#[derive(Debug, Drop)]
+pub struct Listing {
+    pub entries: Entries,
+    pub refused: Option<Refusal>,
+}
+
+/// Whether a token is a byte that is a token by itself.
+pub fn is_mark(byte: u8, piece: Piece) -> bool
+    ensures { result ≡ is_mark byte piece }
+{
+    is_byte(byte, piece.token)
+}
+
+/// Whether a token may be a field's value.
+fn is_value(piece: Piece) -> bool
+    ensures { result ≡ is_value piece }
+{
+    is_word(piece.token) || is_integer(piece.token) || is_text(piece.token)
+}
+
+/// Whether a set has the text of a key.
+fn has_key(lines: &[Line], keys: &BTreeSet<&[u8]>, key: Piece) -> bool
+    ensures { result ≡ has_text keys.now (text_at lines.now key) }
+{
+    keys.contains(text_at(lines, key))
+}
+
+/// The refusal of a line that has no form that is read.
+pub fn bad_line(line: u32) -> Refusal
+    ensures { result ≡ bad_line line }
+{
+    Refusal {
+        line,
+        kind: RefusalKind::BadLine,
+    }
+}
+
+impl OpenList {
+    /// Before the first token.
+    fn new(alloc: Global) -> OpenList
+        ensures { result ≡ nothing_read }
+    {
+        OpenList {
+            entries: List::new(alloc),
+            place: Place::Outside,
+            line: 0,
+            fields: List::new(alloc),
+        }
+    }
+
+    /// Whether a token may stand next. The set has the keys of the open entry.
+    fn fits(&self, lines: &[Line], keys: &BTreeSet<&[u8]>, piece: Piece) -> bool
+        requires { AreKeys lines.now keys.now self.now.fields }
+        ensures { result ≡ fits_at lines.now self.now.fields self.now.place piece }
+    {
+        match self.place {
+            Place::Outside => is_mark(b'-', piece),
+            Place::Dash => is_mark(b'{', piece),
+            Place::Key => is_word(piece.token),
+            Place::Colon(_) => is_mark(b':', piece),
+            Place::Value(key) => is_value(piece) && !has_key(lines, keys, key),
+            Place::Next => is_mark(b',', piece) || is_mark(b'}', piece),
+        }
+    }
+
+    /// The line of the entry that a token belongs to.
+    fn line_at(&self, piece: Piece) -> u32
+        ensures { result ≡ line_at self.now.line self.now.place piece }
+    {
+        match self.place {
+            Place::Outside => piece.line,
+            _ => self.line,
+        }
+    }
+
+    /// Takes the next token, which may stand there. The set has the keys of the open entry.
+    fn take<'a>(
+        &mut self,
+        alloc: Global,
+        lines: &'a [Line],
+        keys: &mut BTreeSet<&'a [u8]>,
+        piece: Piece,
+    ) -> Result<(), AllocError>
+        requires { AreKeys lines.now keys.old self.old.fields }
+        ensures list { OnOk result (self.new ≡ behind self.old self.old.place piece) }
+        ensures keys { OnOk result (AreKeys lines.now keys.new self.new.fields) }
+    {
+        match self.place {
+            Place::Outside => {
+                self.line = piece.line;
+                self.place = Place::Dash;
+                Ok(())
+            }
+            Place::Dash => {
+                self.place = Place::Key;
+                Ok(())
+            }
+            Place::Key => {
+                self.place = Place::Colon(piece);
+                Ok(())
+            }
+            Place::Colon(key) => {
+                self.place = Place::Value(key);
+                Ok(())
+            }
+            Place::Value(key) => {
+                self.place = Place::Next;
+                keys.insert(text_at(lines, key))?;
+                self.fields.push(Field { key, value: piece })
+            }
+            Place::Next => self.take_behind_value(alloc, keys, piece),
+        }
+    }
+
+    /// Takes the token behind a value.
+    fn take_behind_value(
+        &mut self,
+        alloc: Global,
+        keys: &mut BTreeSet<&[u8]>,
+        piece: Piece,
+    ) -> Result<(), AllocError>
+        ensures list { OnOk result (self.new ≡ behind_value self.old piece) }
+        ensures keys { OnOk result (KeepsKeys keys.old self.old.fields keys.new self.new.fields) }
+    {
+        if is_mark(b',', piece) {
+            self.place = Place::Key;
+            return Ok(());
+        }
+        let fields = std::mem::replace(&mut self.fields, List::new(alloc));
+        keys.clear();
+        self.place = Place::Outside;
+        self.entries.push(Entry {
+            line: self.line,
+            fields,
+        })
+    }
+
+    /// What was read where no token is left. An open entry is refused, unless the tokens were cut off by a fault.
+    fn ended(self, is_cut: bool) -> Listing
+        ensures { result ≡ ended is_cut self }
+    {
+        let refused = match self.place {
+            Place::Outside => None,
+            _ if is_cut => None,
+            _ => Some(bad_line(self.line)),
+        };
+        Listing {
+            entries: self.entries,
+            refused,
+        }
+    }
+}
+
+/// The entries that tokens are.
+pub fn entries(
+    alloc: Global,
+    lines: &[Line],
+    pieces: &[Piece],
+    is_cut: bool,
+) -> Result<Listing, AllocError>
+    ensures { IfOk result (λ read. read ≡ entries_of lines.now is_cut pieces.now) }
+{
+    let mut keys = BTreeSet::new(alloc);
+    let mut so_far = OpenList::new(alloc);
+    for piece in pieces {
+        if !so_far.fits(lines, &keys, *piece) {
+            return Ok(Listing {
+                refused: Some(bad_line(so_far.line_at(*piece))),
+                entries: so_far.entries,
+            });
+        }
+        so_far.take(alloc, lines, &mut keys, *piece)?;
+    }
+    Ok(so_far.ended(is_cut))
+}

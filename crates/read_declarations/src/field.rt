@@ -1,0 +1,65 @@
+//! What the fields of an entry say.
+
+ghost use Rattle.std.specs.Prelude.{◌≡◌};
+ghost use Rattle.read_declarations.specs.Field.{value_at, number_of, needed, given, is_variable_sized};
+
+use crate::entry::Field;
+use crate::stream::{Piece, text_at};
+use read_metadata::number::integer;
+use read_metadata::text::inside_quotes;
+use read_metadata::token::{is_integer, is_text};
+use read_lexer::line::Line;
+
+/// The value of the field with a key.
+pub fn value_at(lines: &[Line], fields: &[Field], key: &[u8]) -> Option<Piece>
+    ensures { result ≡ value_at lines.now key.now fields.now }
+{
+    for field in fields {
+        if text_at(lines, field.key) == key {
+            return Some(field.value);
+        }
+    }
+    None
+}
+
+/// The number that a value is, from 0 to 2^30 - 1.
+fn number_of(lines: &[Line], value: Piece) -> Option<u32>
+    ensures { result ≡ number_of lines.now value }
+{
+    if is_integer(value.token) {
+        integer(text_at(lines, value))
+    } else {
+        None
+    }
+}
+
+/// The number of the field with a key, which has to be there. There is none where it is missing or isn't read.
+pub fn needed(lines: &[Line], fields: &[Field], key: &[u8]) -> Option<u32>
+    ensures { result ≡ needed lines.now key.now fields.now }
+{
+    number_of(lines, value_at(lines, fields, key)?)
+}
+
+/// The number of the field with a key, and another number where the field is missing. There is none where it isn't
+/// read.
+pub fn given(lines: &[Line], fields: &[Field], key: &[u8], missing: u32) -> Option<u32>
+    ensures { result ≡ given lines.now key.now missing fields.now }
+{
+    match value_at(lines, fields, key) {
+        Some(value) => number_of(lines, value),
+        None => Some(missing),
+    }
+}
+
+/// Whether the field `type` says that an entry has no fixed size.
+pub fn is_variable_sized(lines: &[Line], fields: &[Field]) -> bool
+    ensures { result ≡ is_variable_sized lines.now fields.now }
+{
+    match value_at(lines, fields, b"type") {
+        Some(value) if is_text(value.token) => {
+            inside_quotes(text_at(lines, value)) == b"variable-sized".as_slice()
+        }
+        Some(value) => text_at(lines, value) == b"variable-sized".as_slice(),
+        None => false,
+    }
+}

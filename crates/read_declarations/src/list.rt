@@ -1,0 +1,67 @@
+//! The list under a key: `[]`, or entries over the lines of the key.
+
+ghost use Rattle.std.specs.Prelude.{◌≡◌, drop, IfOk};
+ghost use Rattle.read_declarations.specs.List.{is_empty_list, behind_empty, list_in, list_of};
+
+use crate::entry::{Listing, bad_line, entries, is_mark};
+use crate::stream::{Piece, stream};
+use base_list::List;
+use read_lexer::line::Line;
+use read_refusal::first::{Refusal, earlier};
+use std::alloc::{AllocError, Global};
+
+/// Whether tokens are the empty list, on the line of the key.
+fn is_empty_list(opening: Piece, closing: Piece) -> bool
+    ensures { result ≡ is_empty_list opening closing }
+{
+    is_mark(b'[', opening) && is_mark(b']', closing) && opening.at == 0 && closing.at == 0
+}
+
+/// The refusal of what stands behind an empty list.
+fn behind_empty(rest: &[Piece]) -> Option<Refusal>
+    ensures { result ≡ behind_empty rest.now }
+{
+    match rest {
+        [first, ..] => Some(bad_line(first.line)),
+        [] => None,
+    }
+}
+
+/// The list that tokens behind a key are.
+#[tactic(auto, unfolding(crate::specs::List::list_in))]
+fn list_in(
+    alloc: Global,
+    lines: &[Line],
+    pieces: &[Piece],
+    is_cut: bool,
+) -> Result<Listing, AllocError>
+    ensures { IfOk result (λ read. read ≡ list_in lines.now is_cut pieces.now) }
+{
+    match pieces {
+        [opening, closing, rest @ ..] if is_empty_list(*opening, *closing) => Ok(Listing {
+            entries: List::new(alloc),
+            refused: behind_empty(rest),
+        }),
+        _ => entries(alloc, lines, pieces, is_cut),
+    }
+}
+
+/// The tokens behind a key and its colon.
+fn behind_key(pieces: &[Piece]) -> &[Piece]
+    ensures { result.now ≡ drop 2 pieces.now }
+{
+    if pieces.len() < 2 { &[] } else { &pieces[2..] }
+}
+
+/// The list under a key, of which these are the lines. Lines that are missing are an empty list.
+pub fn list(alloc: Global, lines: &[Line]) -> Result<Listing, AllocError>
+    ensures { IfOk result (λ read. read ≡ list_of lines.now) }
+{
+    let stream = stream(alloc, lines)?;
+    let is_cut = stream.fault.is_some();
+    let read = list_in(alloc, lines, behind_key(stream.pieces.as_slice()), is_cut)?;
+    Ok(Listing {
+        entries: read.entries,
+        refused: earlier(stream.fault, read.refused),
+    })
+}

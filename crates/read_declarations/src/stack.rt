@@ -1,0 +1,168 @@
+//! The entries of `stack`: what a function keeps in its frame.
+
+ghost use Rattle.std.specs.Prelude.{◌≡◌, IfOk, OnOk};
+ghost use Rattle.read_declarations.specs.Stack.{
+  is_alignment,
+  stack_entry_of,
+  clash,
+  unsized,
+  entry_with,
+  refusal_at,
+  AreIds,
+  judged,
+  stack_of,
+};
+
+use crate::entry::Field;
+use crate::field::{given, is_variable_sized, needed, value_at};
+use crate::list::list;
+use base_list::List;
+use mir_func::limits::MAX_SLOTS;
+use read_lexer::line::Line;
+use base_ids::code::SlotId;
+use read_refusal::first::{Refusal, earlier};
+use read_refusal::kind::RefusalKind;
+use std::alloc::{AllocError, Global};
+use std::collections::BTreeSet;
+
+/// An entry of a function's stack frame: a slot, or an object.
+#[derive(Clone, Copy, Debug, PartialEq, Eq)]
+pub struct StackEntry {
+    /// The N of `%stack.N`.
+    pub id: SlotId,
+    /// Its size in bytes.
+    pub size: u32,
+    /// Its alignment in bytes: 1, 2, 4, 8 or 16.
+    pub align: u32,
+}
+
+/// Entries of a stack frame, in declared order.
+pub type StackEntries = List<StackEntry>;
+
+/// The entries of a stack frame so far, and the first refusal.
+#[derive(Drop)]
+pub struct StackRead {
+    pub entries: StackEntries,
+    pub refused: Option<Refusal>,
+}
+
+/// Whether a stack entry may have an alignment.
+fn is_alignment(align: u32) -> bool
+    ensures { result ≡ is_alignment align }
+{
+    align == 1 || align == 2 || align == 4 || align == 8 || align == 16
+}
+
+/// An entry of variable size that says no size.
+fn unsized_entry(id: Option<u32>) -> Result<StackEntry, RefusalKind>
+    ensures { result ≡ unsized id }
+{
+    match id {
+        Some(_) => Err(RefusalKind::StackObject),
+        None => Err(RefusalKind::BadLine),
+    }
+}
+
+/// An entry whose numbers are these, as far as they are read.
+fn entry_with(
+    is_variable: bool,
+    id: Option<u32>,
+    size: Option<u32>,
+    align: Option<u32>,
+) -> Result<StackEntry, RefusalKind>
+    ensures { result ≡ entry_with is_variable id size align }
+{
+    match (id, size, align) {
+        (Some(id), Some(size), Some(align)) => {
+            if is_variable || !is_alignment(align) {
+                Err(RefusalKind::StackObject)
+            } else {
+                Ok(StackEntry {
+                    id: SlotId(id),
+                    size,
+                    align,
+                })
+            }
+        }
+        _ => Err(RefusalKind::BadLine),
+    }
+}
+
+/// The stack entry that fields say, judged alone.
+fn stack_entry(lines: &[Line], fields: &[Field]) -> Result<StackEntry, RefusalKind>
+    ensures { result ≡ stack_entry_of lines.now fields.now }
+{
+    let is_variable = is_variable_sized(lines, fields);
+    let id = needed(lines, fields, b"id");
+    if is_variable && value_at(lines, fields, b"size").is_none() {
+        return unsized_entry(id);
+    }
+    let size = needed(lines, fields, b"size");
+    let align = given(lines, fields, b"alignment", 1);
+    entry_with(is_variable, id, size, align)
+}
+
+/// Why an entry can't stand behind so many others, where one of them may have its number.
+fn clash(is_there: bool, count: usize) -> Option<RefusalKind>
+    ensures { result ≡ clash is_there count }
+{
+    if is_there {
+        Some(RefusalKind::StackObject)
+    } else if MAX_SLOTS <= count {
+        Some(RefusalKind::TooMany)
+    } else {
+        None
+    }
+}
+
+/// The refusal of a line, if there is a cause.
+fn refusal_at(line: u32, cause: Option<RefusalKind>) -> Option<Refusal>
+    ensures { result ≡ refusal_at line cause }
+{
+    match cause {
+        Some(kind) => Some(Refusal { line, kind }),
+        None => None,
+    }
+}
+
+/// Judges one entry more. The set has the numbers of the entries so far.
+fn judge(
+    read: &mut StackRead,
+    ids: &mut BTreeSet<u32>,
+    line: u32,
+    entry: Result<StackEntry, RefusalKind>,
+) -> Result<(), AllocError>
+    requires { AreIds ids.old read.old.entries }
+    ensures read { OnOk result (read.new ≡ judged read.old line entry) }
+    ensures ids { OnOk result (AreIds ids.new read.new.entries) }
+{
+    match entry {
+        Err(kind) => {
+            read.refused = earlier(read.refused, Some(Refusal { line, kind }));
+            Ok(())
+        }
+        Ok(entry) => {
+            let is_new = ids.insert(entry.id.number())?;
+            let cause = clash(!is_new, read.entries.len());
+            read.refused = earlier(read.refused, refusal_at(line, cause));
+            read.entries.push(entry)
+        }
+    }
+}
+
+/// The stack entries under `stack`, of which these are the lines, and the first refusal.
+pub fn stack(alloc: Global, lines: &[Line]) -> Result<StackRead, AllocError>
+    ensures { IfOk result (λ read. read ≡ stack_of lines.now) }
+{
+    let listing = list(alloc, lines)?;
+    let mut ids = BTreeSet::new(alloc);
+    let mut read = StackRead {
+        entries: List::new(alloc),
+        refused: listing.refused,
+    };
+    for entry in listing.entries.as_slice() {
+        let judged = stack_entry(lines, entry.fields.as_slice());
+        judge(&mut read, &mut ids, entry.line, judged)?;
+    }
+    Ok(read)
+}

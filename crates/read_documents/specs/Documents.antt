@@ -1,0 +1,129 @@
+-- The documents of a file, which are a function of the list of its lines.
+use Rattle.std.specs.Prelude.{ℕ, zero, suc, ◌+◌, Bool, true, false, not, ◌&&◌, ◌||◌, nat_lt, if◌then◌else◌, List, [], ◌∷◌, ◌++◌, length, filter, Option, Some}
+use Rattle.std.specs.Prelude.{None, is_none, unwrap_or}
+use Rattle.std.specs.List.{list_any, before_first, position_or_len}
+use Rattle.std.specs.Option.{option_map_or}
+use Rattle.read_lexer.specs.declared.line.Line.{Line}
+use Rattle.read_documents.specs.declared.key.Key.{Key}
+use Rattle.read_documents.specs.declared.key.Key.TheVariants.{Name, Stack, FixedStack, DebugValueSubstitutions, Body, Other}
+use Rattle.read_documents.specs.declared.parts.FunctionDocument.{FunctionDocument}
+use Rattle.read_documents.specs.declared.parts.Documents.{Documents}
+use Rattle.read_documents.specs.Key.{is_close, opens_block, opens_function, is_passed, is_plain, heading}
+use Rattle.read_documents.specs.Lines.{lines_of}
+
+-- ---- the lines of a function, between the one that opens it and the one that closes it
+
+-- whether two keys are the same
+abbrev pub same_key : Key → Key → Bool
+same_key Name Name = true
+same_key Stack Stack = true
+same_key FixedStack FixedStack = true
+same_key DebugValueSubstitutions DebugValueSubstitutions = true
+same_key Body Body = true
+same_key Other Other = true
+same_key _ _ = false
+
+-- whether a line begins with a key
+abbrev pub begins : Key → Line → Bool
+begins key line = option_map_or (same_key key) (heading line.text) false
+
+-- whether one of the lines begins with a key
+abbrev pub has_key : Key → List Line → Bool
+has_key key lines = list_any (begins key) lines
+
+-- the key under which a line stands: its own, or that of the line before
+abbrev pub key_behind : Key → Line → Key
+key_behind before line = unwrap_or (heading line.text) before
+
+-- the lines that stand under a key, where `before` is the key of the line before
+unfoldable pub lines_under : Key → Key → List Line → List Line
+lines_under key before [] = []
+lines_under key before (line ∷ lines) =
+    if same_key key (key_behind before line) then line ∷ lines_under key (key_behind before line) lines
+    else lines_under key (key_behind before line) lines
+
+-- a function's key lines and the lines behind `body`, with the numbers of the lines that open and close it
+unfoldable pub function_document : ℕ → List Line → ℕ → FunctionDocument
+function_document opened lines closed = record {
+  opened = opened;
+  closed = closed;
+  name = lines_under Name Other lines;
+  stack = lines_under Stack Other lines;
+  fixed = lines_under FixedStack Other lines;
+  substitutions = lines_under DebugValueSubstitutions Other lines;
+  body = filter (λ line. is_none (heading line.text)) (lines_under Body Other lines);
+}
+
+-- a key that is kept stands only once in a function
+abbrev pub is_repeated : List Line → Line → Bool
+is_repeated earlier line = option_map_or (λ key. not (same_key key Other) && has_key key earlier) (heading line.text) false
+
+-- before `body` a line that isn't plain begins with a key
+abbrev pub is_stray : List Line → Line → Bool
+is_stray earlier line = is_none (heading line.text) && (not (is_plain line.text) && not (has_key Body earlier))
+
+-- whether a line can't stand in a function behind the lines that are `earlier` in it
+unfoldable pub is_fault : List Line → Line → Bool
+is_fault earlier line = (opens_block line.text || opens_function line.text) || (is_repeated earlier line || is_stray earlier line)
+
+-- the number of the first line that can't stand in a function, behind the lines that are `earlier` in it
+unfoldable pub first_fault : List Line → List Line → Option ℕ
+first_fault earlier [] = None
+first_fault earlier (line ∷ lines) = if is_fault earlier line then Some line.number else first_fault (earlier ++ line ∷ []) lines
+
+-- a function has a name and a body
+abbrev pub is_complete : List Line → Bool
+is_complete lines = has_key Name lines && has_key Body lines
+
+-- ---- documents
+
+-- the lines up to the first that closes a document
+unfoldable pub inside : List Line → List Line
+inside lines = before_first (λ line. is_close line.text) lines
+
+-- whether a line closes the document
+unfoldable pub is_closed : List Line → Bool
+is_closed lines = nat_lt (position_or_len (λ line. is_close line.text) lines) (length lines)
+
+-- reading ends at a line
+abbrev pub stops : ℕ → Documents
+stops number = record { meta = []; functions = []; bad = Some number }
+
+-- The block whose marks `opened` begins and `lines` stand behind, and the documents behind it. A block that isn't closed is a fault at the last line.
+unfoldable pub block_from : ℕ → List Line → Documents → Documents
+block_from opened lines others =
+    if is_closed lines then record others { meta = inside lines ++ others.meta }
+    else record { meta = inside lines; functions = []; bad = Some (opened + length lines) }
+
+-- reading ends at a function's first fault, if it has one
+abbrev pub fault_or : Option ℕ → Documents → Documents
+fault_or (Some number) others = stops number
+fault_or None others = others
+
+-- The function that is opened at a line, where `lines` stand behind it, and the documents behind it. A function without
+-- a name or a body is a fault at the line that opens it, and one that isn't closed at the last line.
+unfoldable pub function_from : ℕ → List Line → Documents → Documents
+function_from opened lines others =
+    fault_or (first_fault [] (inside lines))
+    (if is_complete (inside lines)
+    then (if is_closed lines
+    then record others { functions = function_document opened (inside lines) (opened + length (inside lines) + 1) ∷ others.functions }
+    else stops (opened + length lines))
+    else stops opened)
+
+-- The documents of lines. The first `skipped` of them belong to a document that was read. `had_block` says whether the
+-- block with the IR came before.
+unfoldable pub documents_from : ℕ → Bool → List Line → Documents
+documents_from skipped had_block [] = record { meta = []; functions = []; bad = None }
+documents_from (suc skipped) had_block (line ∷ lines) = documents_from skipped had_block lines
+documents_from zero had_block (line ∷ lines) =
+    if is_passed line.text then documents_from 0 had_block lines
+    else (if opens_block line.text
+    then (if had_block then stops line.number else block_from line.number lines (documents_from (suc (length (inside lines))) true lines))
+    else (if opens_function line.text
+    then function_from line.number lines (documents_from (suc (length (inside lines))) had_block lines)
+    else stops line.number))
+
+-- the documents of a text
+abbrev pub documents_of : List ℕ → Documents
+documents_of text = documents_from 0 false (lines_of text)

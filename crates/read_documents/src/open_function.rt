@@ -1,0 +1,137 @@
+//! A function between the line that opens it and the one that closes it.
+
+ghost use Rattle.std.specs.Prelude.{◌≡◌, OnOk, IfOk};
+ghost use Rattle.read_documents.specs.steps.Scan.{just_opened, has, can_not_take, with_line, taken, can_close, closed_at};
+
+use crate::key::{Key, heading, is_plain, opens_block, opens_function};
+use crate::parts::FunctionDocument;
+use base_list::List;
+use read_lexer::line::{Line, Lines};
+use std::alloc::{AllocError, Global};
+
+/// A function that isn't closed yet, with the lines so far of each key that is kept.
+#[derive(Drop)]
+pub struct OpenFunction {
+    pub opened: u32,
+    /// The key under which the last line stands.
+    pub key: Key,
+    pub has_body: bool,
+    pub name: Lines,
+    pub stack: Lines,
+    pub fixed: Lines,
+    pub substitutions: Lines,
+    pub body: Lines,
+}
+
+/// A line with a copy of its text.
+pub fn line_of(alloc: Global, number: u32, text: &[u8]) -> Result<Line, AllocError>
+    ensures { IfOk result (λ line. line ≡ record { number = number; text = text.now }) }
+{
+    Ok(Line {
+        number,
+        text: List::from_slice(alloc, text)?,
+    })
+}
+
+impl OpenFunction {
+    /// A function right behind the line that opens it.
+    pub fn new(alloc: Global, opened: u32) -> OpenFunction
+        ensures { result ≡ just_opened opened }
+    {
+        OpenFunction {
+            opened,
+            key: Key::Other,
+            has_body: false,
+            name: List::new(alloc),
+            stack: List::new(alloc),
+            fixed: List::new(alloc),
+            substitutions: List::new(alloc),
+            body: List::new(alloc),
+        }
+    }
+
+    /// Whether a key that is kept was met.
+    fn has(&self, key: Key) -> bool
+        ensures { result ≡ has self.now key }
+    {
+        match key {
+            Key::Name => !self.name.is_empty(),
+            Key::Stack => !self.stack.is_empty(),
+            Key::FixedStack => !self.fixed.is_empty(),
+            Key::DebugValueSubstitutions => !self.substitutions.is_empty(),
+            Key::Body => self.has_body,
+            Key::Other => false,
+        }
+    }
+
+    /// Whether a line can't stand in the function.
+    pub fn can_not_take(&self, text: &[u8]) -> bool
+        ensures { result ≡ can_not_take self.now text.now }
+    {
+        if opens_block(text) || opens_function(text) {
+            return true;
+        }
+        match heading(text) {
+            Some(key) => self.has(key),
+            None => !is_plain(text) && !self.has_body,
+        }
+    }
+
+    /// Takes the next line. A key that is kept has it, and another key's line is passed over.
+    pub fn take(&mut self, alloc: Global, number: u32, text: &[u8]) -> Result<(), AllocError>
+        ensures { OnOk result (self.new ≡ taken self.old (record { number = number; text = text.now })) }
+    {
+        match heading(text) {
+            Some(Key::Body) => {
+                self.key = Key::Body;
+                self.has_body = true;
+                Ok(())
+            }
+            Some(key) => {
+                self.key = key;
+                self.keep(alloc, number, text)
+            }
+            None => self.keep(alloc, number, text),
+        }
+    }
+
+    /// Appends a line to those of the key under which it stands.
+    fn keep(&mut self, alloc: Global, number: u32, text: &[u8]) -> Result<(), AllocError>
+        ensures { OnOk result (self.new ≡ with_line self.old self.old.key (record {
+          number = number;
+          text =
+              text.now;
+        })) }
+    {
+        match self.key {
+            Key::Name => self.name.push(line_of(alloc, number, text)?),
+            Key::Stack => self.stack.push(line_of(alloc, number, text)?),
+            Key::FixedStack => self.fixed.push(line_of(alloc, number, text)?),
+            Key::DebugValueSubstitutions => self.substitutions.push(line_of(alloc, number, text)?),
+            Key::Body => self.body.push(line_of(alloc, number, text)?),
+            Key::Other => Ok(()),
+        }
+    }
+
+    /// Whether the function has a name and a body.
+    pub fn can_close(&self) -> bool
+        ensures { result ≡ can_close self.now }
+    {
+        !self.name.is_empty() && self.has_body
+    }
+
+    /// The function, closed at a line.
+    pub fn close(self, closed: u32) -> FunctionDocument
+        ensures { result ≡ closed_at self closed }
+    {
+        FunctionDocument {
+            opened: self.opened,
+            closed,
+            name: self.name,
+            stack: self.stack,
+            fixed: self.fixed,
+            substitutions: self.substitutions,
+            body: self.body,
+        }
+    }
+}

@@ -1,0 +1,71 @@
+-- Reading operands one by one: what is read and what is left make the whole, by the last operand of what is read.
+use Rattle.std.proofs.Common.{◌≡◌, ℕ, ◌+◌, ◌<◌, ◌≤◌, List, [], ◌∷◌, ◌++◌, Option, Some, None, length, get_or, drop, refl, sym, ap, ◌∙◌, append_assoc}
+use Rattle.std.proofs.Common.{append-nil, add-one, drop-cons}
+use Rattle.std.proofs.lemmas.List.{drop_all}
+use Rattle.rv64_instr.specs.declared.operand.Operand.{Operand}
+use Rattle.read_line.specs.declared.form.RegisterForm.{RegisterForm}
+use Rattle.read_line.specs.declared.form.OperandForm.{OperandForm}
+use Rattle.read_item.specs.declared.place.Place.{Place}
+use Rattle.read_item.specs.Place.{front, behind}
+use Rattle.read_item.specs.Code.{before, append_to, definition, definitions, operand_at, placed}
+
+-- one operand more is read
+append-before : (xs : List Operand) (o : Operand) (rest : Option (List Operand)) → append_to xs (before (Some o) rest) ≡ append_to (xs ++ o ∷ []) rest
+append-before xs o None = refl
+append-before xs o (Some ys) = ap (λ (zs : List Operand). Some zs) (sym (append_assoc xs (o ∷ []) ys))
+
+-- what is left, by its first
+definitions-front : (rs : List RegisterForm) (i : ℕ) (r : RegisterForm) → i < length rs → r ≡ get_or rs i r
+    → definitions (drop i rs) ≡ before (definition r) (definitions (drop (i + 1) rs))
+unfolding definitions
+definitions-front rs i r h is =
+    let parts : drop i rs ≡ r ∷ drop (i + 1) rs = drop-cons rs i r h ∙ rw (add-one, ← is) refl in
+    ap definitions parts
+
+pub definitions-none : (xs : List Operand) (rs : List RegisterForm) (i : ℕ) (r : RegisterForm) (whole : Option (List Operand)) → i < length rs
+    → r ≡ get_or rs i r
+    → None ≡ definition r → append_to xs (definitions (drop i rs)) ≡ whole → None ≡ whole
+definitions-none xs rs i r whole h is none all =
+    ap (λ (d : Option Operand). append_to xs (before d (definitions (drop (i + 1) rs)))) none ∙ (ap (append_to xs) (sym (definitions-front rs i r h is)) ∙ all)
+
+pub definitions-some : (xs : List Operand) (rs : List RegisterForm) (i : ℕ) (r : RegisterForm) (o : Operand) (whole : Option (List Operand)) → i < length rs
+    → r ≡ get_or rs i r → Some o ≡ definition r → append_to xs (definitions (drop i rs)) ≡ whole
+    → append_to (xs ++ o ∷ []) (definitions (drop (i + 1) rs)) ≡ whole
+definitions-some xs rs i r o whole h is some all =
+    sym (append-before xs o (definitions (drop (i + 1) rs))) ∙
+    (ap (λ (d : Option Operand). append_to xs (before d (definitions (drop (i + 1) rs)))) some ∙ (ap (append_to xs) (sym (definitions-front rs i r h is)) ∙
+    all))
+
+pub definitions-end : (xs : List Operand) (rs : List RegisterForm) (i : ℕ) (whole : Option (List Operand)) → length rs ≤ i
+    → append_to xs (definitions (drop i rs)) ≡ whole → Some xs ≡ whole
+unfolding definitions
+definitions-end xs rs i whole h all =
+    ap (λ (zs : List Operand). Some zs) (sym (append-nil xs)) ∙ (ap (λ (zs : List RegisterForm). append_to xs (definitions zs)) (sym (drop_all i rs h)) ∙ all)
+
+-- what is left, by its first
+placed-front : (ps : List Place) (os : List OperandForm) (i : ℕ) (o : OperandForm) → i < length os → o ≡ get_or os i o
+    → placed ps (drop i os) ≡ before (operand_at (front ps) o) (placed (behind ps) (drop (i + 1) os))
+unfolding placed
+placed-front ps os i o h is =
+    let parts : drop i os ≡ o ∷ drop (i + 1) os = drop-cons os i o h ∙ rw (add-one, ← is) refl in
+    ap (placed ps) parts
+
+pub placed-none : (xs : List Operand) (ps : List Place) (os : List OperandForm) (i : ℕ) (o : OperandForm) (whole : Option (List Operand)) → i < length os
+    → o ≡ get_or os i o → None ≡ operand_at (front ps) o → append_to xs (placed ps (drop i os)) ≡ whole → None ≡ whole
+placed-none xs ps os i o whole h is none all =
+    ap (λ (d : Option Operand). append_to xs (before d (placed (behind ps) (drop (i + 1) os)))) none ∙
+    (ap (append_to xs) (sym (placed-front ps os i o h is)) ∙ all)
+
+pub placed-some : (xs : List Operand) (ps : List Place) (os : List OperandForm) (i : ℕ) (o : OperandForm) (x : Operand) (whole : Option (List Operand))
+    → i < length os → o ≡ get_or os i o → Some x ≡ operand_at (front ps) o → append_to xs (placed ps (drop i os)) ≡ whole
+    → append_to (xs ++ x ∷ []) (placed (behind ps) (drop (i + 1) os)) ≡ whole
+placed-some xs ps os i o x whole h is some all =
+    sym (append-before xs x (placed (behind ps) (drop (i + 1) os))) ∙
+    (ap (λ (d : Option Operand). append_to xs (before d (placed (behind ps) (drop (i + 1) os)))) some ∙
+    (ap (append_to xs) (sym (placed-front ps os i o h is)) ∙ all))
+
+pub placed-end : (xs : List Operand) (ps : List Place) (os : List OperandForm) (i : ℕ) (whole : Option (List Operand)) → length os ≤ i
+    → append_to xs (placed ps (drop i os)) ≡ whole → Some xs ≡ whole
+unfolding placed
+placed-end xs ps os i whole h all =
+    ap (λ (zs : List Operand). Some zs) (sym (append-nil xs)) ∙ (ap (λ (zs : List OperandForm). append_to xs (placed ps zs)) (sym (drop_all i os h)) ∙ all)

@@ -1,0 +1,172 @@
+//! Lines of code.
+
+ghost use Rattle.std.specs.Prelude.{◌≡◌, ◌||◌, IfOk, Ok, Err};
+ghost use Rattle.std.specs.List.{list_any, zip};
+ghost use Rattle.read_refusal.specs.declared.kind.RefusalKind.{RefusalKind};
+ghost use Rattle.read_item.specs.declared.judged.JudgeError.TheVariants.{Refused};
+ghost use Rattle.read_item.specs.Code.{
+  is_virtual,
+  is_virtual_operand,
+  is_pointer,
+  is_pointer_operand,
+  is_misplaced,
+  is_stack,
+  is_long,
+  places_of,
+  code_of,
+};
+
+use crate::judged::JudgeError;
+use crate::operand::{operands_of, places_of};
+use crate::place::Place;
+use read_token::lexeme::{Flag, RegisterName};
+use read_line::form::{ItemForm, OperandForm, RegisterForm};
+use read_refusal::kind::RefusalKind;
+use rv64_instr::instr::Instr;
+use rv64_instr::op::Op;
+use std::alloc::Global;
+
+/// How many operands a line may have, those that it sets and implicit ones included.
+pub const MAX_OPERANDS: usize = 64;
+
+fn is_virtual(register: &RegisterForm) -> bool
+    ensures { result ≡ is_virtual register.now }
+{
+    match register.name {
+        RegisterName::Virtual(_) => true,
+        RegisterName::Physical(_) | RegisterName::Absent | RegisterName::Other => false,
+    }
+}
+
+fn is_virtual_operand(form: &OperandForm) -> bool
+    ensures { result ≡ is_virtual_operand form.now }
+{
+    match form {
+        OperandForm::Register(register) => is_virtual(register),
+        _ => false,
+    }
+}
+
+/// Whether it is x2, and not implicit.
+fn is_pointer(register: &RegisterForm) -> bool
+    ensures { result ≡ is_pointer register.now }
+{
+    match (register.flag, register.name) {
+        (Flag::Plain, RegisterName::Physical(register)) => register.number() == 2,
+        _ => false,
+    }
+}
+
+fn is_pointer_operand(form: &OperandForm) -> bool
+    ensures { result ≡ is_pointer_operand form.now }
+{
+    match form {
+        OperandForm::Register(register) => is_pointer(register),
+        _ => false,
+    }
+}
+
+fn sets_virtual(registers: &[RegisterForm]) -> bool
+    ensures { result ≡ list_any is_virtual registers.now }
+{
+    registers.iter().any(is_virtual)
+}
+
+fn uses_virtual(forms: &[OperandForm]) -> bool
+    ensures { result ≡ list_any is_virtual_operand forms.now }
+{
+    forms.iter().any(is_virtual_operand)
+}
+
+/// Whether a line names a virtual register.
+fn names_virtual(line: &ItemForm) -> bool
+    ensures { result ≡ (list_any is_virtual line.now.definitions || list_any is_virtual_operand line.now.operands) }
+{
+    let set = sets_virtual(line.definitions.as_slice());
+    let used = uses_virtual(line.operands.as_slice());
+    set || used
+}
+
+fn sets_pointer(registers: &[RegisterForm]) -> bool
+    ensures { result ≡ list_any is_pointer registers.now }
+{
+    registers.iter().any(is_pointer)
+}
+
+fn uses_pointer(forms: &[OperandForm]) -> bool
+    ensures { result ≡ list_any is_pointer_operand forms.now }
+{
+    forms.iter().any(is_pointer_operand)
+}
+
+/// Whether a line names x2, but for implicit operands.
+fn names_pointer(line: &ItemForm) -> bool
+    ensures { result ≡ (list_any is_pointer line.now.definitions || list_any is_pointer_operand line.now.operands) }
+{
+    let set = sets_pointer(line.definitions.as_slice());
+    let used = uses_pointer(line.operands.as_slice());
+    set || used
+}
+
+/// Whether it is a `%stack.N` where none can stand.
+fn is_misplaced(place: Place, form: &OperandForm) -> bool
+    ensures { result ≡ is_misplaced (place, form.now) }
+{
+    match form {
+        OperandForm::Slot(_) => match place {
+            Place::Object | Place::Slot => false,
+            _ => true,
+        },
+        _ => false,
+    }
+}
+
+/// Whether a line names a stack entry where none can stand.
+fn misplaces_stack(op: Op, line: &ItemForm) -> bool
+    ensures { result ≡ list_any is_misplaced (zip (places_of op line.now) line.now.operands) }
+{
+    places_of(op, line)
+        .iter()
+        .zip(line.operands.as_slice())
+        .any(|(place, form)| is_misplaced(*place, form))
+}
+
+/// Whether a line has more operands than it may have.
+pub fn is_long(line: &ItemForm) -> bool
+    ensures { result ≡ is_long line.now }
+{
+    let behind = line.operands.len();
+    MAX_OPERANDS < behind || MAX_OPERANDS - behind < line.definitions.len()
+}
+
+/// The instruction of a line of code. It is refused as bad operands where they don't have the form of the opcode; where
+/// a virtual register, the stack pointer or a misplaced stack entry stands for what could have that form, as that; and
+/// where there are more than 64.
+#[tactic(auto, unfolding(crate::specs::Code::code_of))]
+pub fn code_of(alloc: Global, op: Op, line: &ItemForm) -> Result<Instr, JudgeError>
+    ensures ok { IfOk result (λ instr. code_of op line.now ≡ Ok instr) }
+    ensures refused { (kind : RefusalKind) → result ≡ Err (Refused kind) → code_of op line.now ≡ Err kind }
+{
+    let Some(operands) = operands_of(alloc, op, line)? else {
+        return Err(JudgeError::Refused(RefusalKind::BadOperands));
+    };
+    let Some(instr) = Instr::new(op, operands) else {
+        return Err(JudgeError::Refused(RefusalKind::BadOperands));
+    };
+    if line.exceeds {
+        return Err(JudgeError::Refused(RefusalKind::BadOperands));
+    }
+    if names_virtual(line) {
+        return Err(JudgeError::Refused(RefusalKind::VirtualRegister));
+    }
+    if names_pointer(line) {
+        return Err(JudgeError::Refused(RefusalKind::StackPointerUse));
+    }
+    if misplaces_stack(op, line) {
+        return Err(JudgeError::Refused(RefusalKind::StackObject));
+    }
+    if is_long(line) {
+        return Err(JudgeError::Refused(RefusalKind::TooMany));
+    }
+    Ok(instr)
+}

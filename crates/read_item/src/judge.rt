@@ -1,0 +1,135 @@
+//! The judging of an item line.
+
+ghost use Rattle.std.specs.Prelude.{◌≡◌, ◌&&◌, IfOk, Ok, Err};
+ghost use Rattle.read_refusal.specs.declared.kind.RefusalKind.{RefusalKind};
+ghost use Rattle.read_item.specs.declared.judged.JudgeError.TheVariants.{Refused};
+ghost use Rattle.read_item.specs.Judge.{
+  entry_of,
+  entries_of,
+  numbered,
+  item_of,
+  is_zero,
+  begins_with_zeros,
+  judged,
+};
+ghost use Rattle.read_item.specs.Code.{code_of};
+ghost use Rattle.read_item.specs.Debug.{is_empty, debug_of};
+
+use crate::code::code_of;
+use crate::debug::debug_of;
+use crate::judged::{JudgeError, Judged, JudgedItem, StackIds};
+use crate::opcode::{DebugOpcode, Opcode, opcode_of};
+use read_metadata::metadata::Metadata;
+use mir_func::item::ItemKind;
+use read_line::form::{ItemForm, OperandForm};
+use base_ids::code::SlotId;
+use read_refusal::kind::RefusalKind;
+use rv64_instr::op::Op;
+use std::alloc::{AllocError, Global};
+
+/// The N of a `%stack.N`.
+fn entry_of(form: &OperandForm) -> Option<SlotId>
+    ensures { result ≡ entry_of form.now }
+{
+    match form {
+        OperandForm::Slot(entry) => Some(*entry),
+        _ => None,
+    }
+}
+
+/// The N of each `%stack.N` of a line, in order.
+fn entries_of(alloc: Global, forms: &[OperandForm]) -> Result<Vec<SlotId>, AllocError>
+    ensures { IfOk result (λ entries. entries.items ≡ entries_of forms.now) }
+{
+    forms
+        .iter()
+        .filter_map(|form| entry_of(form))
+        .collect(alloc)
+}
+
+/// An item with the location of its line and the stack entries that the line names.
+fn item_of(alloc: Global, line: &ItemForm, kind: ItemKind) -> Result<Judged, JudgeError>
+    ensures ok { IfOk result (λ item. item_of line.now (Ok kind) ≡ Ok item) }
+    ensures refused { (why : RefusalKind) → result ≡ Err (Refused why) → item_of line.now (Ok kind) ≡ Err why }
+{
+    let entries = entries_of(alloc, line.operands.as_slice())?;
+    Ok(Judged::Item(JudgedItem {
+        kind,
+        loc: line.loc,
+        entries: StackIds::from(entries),
+    }))
+}
+
+/// The item of a line of code.
+fn judge_code(alloc: Global, op: Op, line: &ItemForm) -> Result<Judged, JudgeError>
+    ensures ok { IfOk result (λ item. item_of line.now (numbered line.now.number (code_of op line.now)) ≡ Ok item) }
+    ensures refused { (refusal : RefusalKind) → result ≡ Err (Refused refusal)
+        → item_of line.now (numbered line.now.number (code_of op line.now)) ≡ Err refusal }
+{
+    let instr = code_of(alloc, op, line)?;
+    item_of(alloc, line, ItemKind::Code(instr, line.number))
+}
+
+/// The item of a debug line.
+fn judge_debug(
+    alloc: Global,
+    op: DebugOpcode,
+    meta: &Metadata,
+    line: &ItemForm,
+) -> Result<Judged, JudgeError>
+    ensures ok { IfOk result (λ item. item_of line.now (debug_of op meta.now line.now) ≡ Ok item) }
+    ensures refused { (refusal : RefusalKind) → result ≡ Err (Refused refusal)
+        → item_of line.now (debug_of op meta.now line.now) ≡ Err refusal }
+{
+    match debug_of(op, meta, line) {
+        Ok(kind) => item_of(alloc, line, kind),
+        Err(refusal) => Err(JudgeError::Refused(refusal)),
+    }
+}
+
+fn is_zero(form: &OperandForm) -> bool
+    ensures { result ≡ is_zero form.now }
+{
+    match form {
+        OperandForm::Integer(Some(number)) => *number == 0,
+        _ => false,
+    }
+}
+
+/// Whether operands begin with `0, 0`.
+fn begins_with_zeros(forms: &[OperandForm]) -> bool
+    ensures { result ≡ begins_with_zeros forms.now }
+{
+    match forms {
+        [first, second, ..] => is_zero(first) && is_zero(second),
+        _ => false,
+    }
+}
+
+/// Whether a line of code for a call's frame is for a frame of no bytes.
+fn has_no_frame(line: &ItemForm) -> bool
+    ensures { result ≡ (is_empty line.now.definitions && begins_with_zeros line.now.operands) }
+{
+    line.definitions.is_empty() && begins_with_zeros(line.operands.as_slice())
+}
+
+/// What an item line means. `Refused` comes exactly where a rule refuses it, with the refusal of the lowest number:
+/// an unknown opcode, operands that aren't its opcode's, a virtual register, the stack pointer, a stack entry where
+/// none can stand, or more than 64 operands. `Memory` comes where memory ran out.
+#[tactic(auto, unfolding(crate::specs::Judge::judged))]
+pub fn judge(alloc: Global, line: &ItemForm, meta: &Metadata) -> Result<Judged, JudgeError>
+    ensures ok { IfOk result (λ item. judged meta.now line.now ≡ Ok item) }
+    ensures refused { (why : RefusalKind) → result ≡ Err (Refused why) → judged meta.now line.now ≡ Err why }
+{
+    match opcode_of(line.opcode.as_slice()) {
+        Some(Opcode::Code(op)) => judge_code(alloc, op, line),
+        Some(Opcode::Debug(op)) => judge_debug(alloc, op, meta, line),
+        Some(Opcode::Label) if line.number.is_none() => Ok(Judged::Passed),
+        Some(Opcode::Pseudo) => Ok(Judged::Passed),
+        Some(Opcode::CallFrame) if has_no_frame(line) => Ok(Judged::Passed),
+        Some(Opcode::Label | Opcode::CallFrame) => Err(JudgeError::Refused(
+            RefusalKind::BadOperands,
+        )),
+        None => Err(JudgeError::Refused(RefusalKind::UnknownOpcode)),
+    }
+}

@@ -1,0 +1,182 @@
+//! Operands of instructions, as operands of a line stand for them.
+
+ghost use Rattle.std.specs.Prelude.{◌≡◌, IfOk, Ok, Some};
+ghost use Rattle.read_item.specs.Code.{
+  number_of,
+  named,
+  stack_operand,
+  operand_at,
+  definition,
+  definitions,
+  placed,
+  joined,
+  append_to,
+  operands_of,
+  names_slot,
+  is_whole_slot,
+  places_of,
+};
+
+use crate::place::{Place, behind, front, places};
+use read_token::lexeme::{Flag, RegisterName};
+use read_line::form::{ItemForm, OperandForm, RegisterForm};
+use base_ids::code::{BlockId, ObjectId, SlotId};
+use rv64_instr::arithmetic::{load_width, store_width};
+use rv64_instr::name::Name;
+use rv64_instr::op::Op;
+use rv64_instr::operand::{Operand, Operands};
+use rv64_instr::reg::{Reg, physical};
+use std::alloc::{AllocError, Global};
+
+/// The register of a name that code may have. A virtual one counts as x10 here.
+fn number_of(name: RegisterName) -> Option<Reg>
+    ensures { result ≡ number_of name }
+{
+    match name {
+        RegisterName::Physical(register) => Some(register),
+        RegisterName::Virtual(_) => physical(10),
+        RegisterName::Absent | RegisterName::Other => None,
+    }
+}
+
+/// A register behind the opcode.
+fn named(flag: Flag, register: Reg) -> Operand
+    ensures { result ≡ named flag register }
+{
+    match flag {
+        Flag::Plain => Operand::Use(register),
+        Flag::Implicit => Operand::ImplicitUse(register),
+        Flag::ImplicitDef => Operand::ImplicitDef(register),
+    }
+}
+
+/// `%stack.N` in a place, where it counts as what can stand there.
+fn stack_operand(alloc: Global, place: Place, entry: SlotId) -> Option<Operand>
+    ensures { result ≡ stack_operand place entry }
+{
+    match place {
+        Place::Object => Some(Operand::Object(ObjectId(entry.number()))),
+        Place::Slot => Some(Operand::Slot(entry)),
+        Place::Register => Some(Operand::Use(physical(10)?)),
+        Place::Number => Some(Operand::Imm(0)),
+        Place::Block => Some(Operand::Block(BlockId(0))),
+        Place::Symbol => Some(Operand::Symbol(Name::new(alloc))),
+        Place::Mask => Some(Operand::Mask),
+        Place::Implicit => None,
+    }
+}
+
+/// The operand of an instruction that an operand of the line is in a place, if code has such operands.
+fn operand_at(
+    alloc: Global,
+    place: Place,
+    form: &OperandForm,
+) -> Result<Option<Operand>, AllocError>
+    ensures { IfOk result (λ operand. operand ≡ operand_at place form.now) }
+{
+    match form {
+        OperandForm::Register(register) => match number_of(register.name) {
+            Some(number) => Ok(Some(named(register.flag, number))),
+            None => Ok(None),
+        },
+        OperandForm::Integer(Some(number)) => Ok(Some(Operand::Imm(*number))),
+        OperandForm::Slot(entry) => Ok(stack_operand(alloc, place, *entry)),
+        OperandForm::Block(block) => Ok(Some(Operand::Block(*block))),
+        OperandForm::Symbol(name) => Ok(Some(Operand::Symbol(name.copy()?))),
+        OperandForm::Mask => Ok(Some(Operand::Mask)),
+        OperandForm::Integer(None)
+        | OperandForm::Node(_)
+        | OperandForm::Expression(_)
+        | OperandForm::Reference(_) => Ok(None),
+    }
+}
+
+/// A register before the `=`: it is set, and isn't implicit.
+fn definition(register: RegisterForm) -> Option<Operand>
+    ensures { result ≡ definition register }
+{
+    match register.flag {
+        Flag::Plain => Some(Operand::Def(number_of(register.name)?)),
+        Flag::Implicit | Flag::ImplicitDef => None,
+    }
+}
+
+/// The registers before the `=`, if code has such.
+fn definitions(alloc: Global, registers: &[RegisterForm]) -> Result<Option<Operands>, AllocError>
+    ensures { IfOk result (λ operands. operands ≡ definitions registers.now) }
+{
+    let mut operands = Operands::new(alloc);
+    for register in registers {
+        match definition(*register) {
+            Some(operand) => operands.push(operand)?,
+            None => return Ok(None),
+        }
+    }
+    Ok(Some(operands))
+}
+
+/// Operands, and behind them those behind the opcode, each in its place, if code has such.
+fn placed(
+    alloc: Global,
+    first: Operands,
+    places: &[Place],
+    forms: &[OperandForm],
+) -> Result<Option<Operands>, AllocError>
+    ensures { IfOk result (λ operands. operands ≡ append_to first (placed places.now forms.now)) }
+{
+    let mut operands = first;
+    let mut rest = places;
+    for form in forms {
+        match operand_at(alloc, front(rest), form)? {
+            Some(operand) => operands.push(operand)?,
+            None => return Ok(None),
+        }
+        rest = behind(rest);
+    }
+    Ok(Some(operands))
+}
+
+/// Whether the operand is the number of a move of a whole frame slot.
+fn is_whole_slot(width: usize, form: &OperandForm) -> bool
+    ensures { result ≡ is_whole_slot width form.now }
+{
+    match form {
+        OperandForm::Integer(Some(number)) => width == 8 && 0 <= *number && *number <= 0,
+        _ => false,
+    }
+}
+
+/// Whether a `%stack.N` among the operands stands for a frame slot.
+fn names_slot(op: Op, forms: &[OperandForm]) -> bool
+    ensures { result ≡ names_slot op forms.now }
+{
+    match op {
+        Op::Load(op) => match forms {
+            [_, number, ..] => is_whole_slot(load_width(op), number),
+            _ => false,
+        },
+        Op::Store(op) => match forms {
+            [_, _, number, ..] => is_whole_slot(store_width(op), number),
+            _ => false,
+        },
+        _ => false,
+    }
+}
+
+/// The places of the line's operands.
+pub fn places_of(op: Op, line: &ItemForm) -> &'static [Place]
+    ensures { result.now ≡ places_of op line.now }
+{
+    places(op, names_slot(op, line.operands.as_slice()))
+}
+
+/// The operands of the instruction, if code has such operands.
+#[tactic(auto, unfolding(crate::specs::Code::operands_of))]
+pub fn operands_of(alloc: Global, op: Op, line: &ItemForm) -> Result<Option<Operands>, AllocError>
+    ensures { IfOk result (λ operands. operands ≡ operands_of op line.now) }
+{
+    match definitions(alloc, line.definitions.as_slice())? {
+        Some(first) => placed(alloc, first, places_of(op, line), line.operands.as_slice()),
+        None => Ok(None),
+    }
+}

@@ -1,0 +1,61 @@
+-- The grammar of tokens: which texts are tokens of a class. A token is the longest text at its place that is one of any
+-- class.
+use Rattle.std.specs.Prelude.{◌≡◌, ℕ, ◌<◌, ◌≤◌, Bool, false, ◌&&◌, ◌||◌, ◌==◌, if◌then◌else◌, IsTrue, List, [], ◌∷◌, length, slice_range}
+use Rattle.std.specs.List.{list_all}
+use Rattle.std.specs.Char.{is_ascii_digit, is_ascii_hexdigit}
+use Rattle.read_lexer.specs.declared.parts.Class.{Class}
+use Rattle.read_lexer.specs.declared.parts.Class.TheVariants.{Word, Register, Percent, Node, Kind, Symbol, Integer, Text, Single}
+use Rattle.read_lexer.specs.declared.parts.Token.{Token}
+use Rattle.read_lexer.specs.Bytes.{is_word_start, is_word_byte, is_symbol_byte, is_quote, is_single}
+
+-- at least one byte, each of which passes
+abbrev pub is_run : (ℕ → Bool) → List ℕ → Bool
+is_run passes [] = false
+is_run passes (b ∷ bs) = list_all passes (b ∷ bs)
+
+-- a letter or `_`, and word bytes
+abbrev pub is_word : List ℕ → Bool
+is_word [] = false
+is_word (b ∷ bs) = is_word_start b && list_all is_word_byte bs
+
+-- bytes that end at a quote, which stands nowhere before
+abbrev pub is_closed_by : ℕ → List ℕ → Bool
+is_closed_by quote [] = false
+is_closed_by quote (b ∷ bs) = if b == quote then length bs == 0 else is_closed_by quote bs
+
+-- a double quote, and bytes that end at the next one
+abbrev pub is_quoted_name : List ℕ → Bool
+is_quoted_name [] = false
+is_quoted_name (b ∷ bs) = b == 34 && is_closed_by 34 bs
+
+-- `x` and hexadecimal digits
+abbrev pub is_hexadecimal : List ℕ → Bool
+is_hexadecimal [] = false
+is_hexadecimal (b ∷ bs) = b == 120 && is_run is_ascii_hexdigit bs
+
+-- whether a text is a token of a class
+abbrev pub spells : Class → List ℕ → Bool
+spells class [] = false
+spells Word (b ∷ bs) = is_word (b ∷ bs)
+spells Register (b ∷ bs) = b == 36 && is_run is_word_byte bs
+spells Percent (b ∷ bs) = b == 37 && is_run is_word_byte bs
+spells Node (b ∷ bs) = b == 33 && is_run is_ascii_digit bs
+spells Kind (b ∷ bs) = b == 33 && is_word bs
+spells Symbol (b ∷ bs) = (b == 64 || b == 38) && (is_run is_symbol_byte bs || is_quoted_name bs)
+spells Integer (b ∷ bs) = (is_ascii_digit b && (list_all is_ascii_digit bs || (b == 48 && is_hexadecimal bs))) || (b == 45 && is_run is_ascii_digit bs)
+spells Text (b ∷ bs) = is_quote b && is_closed_by b bs
+spells (Single byte) (b ∷ bs) = (b == byte && is_single b) && length bs == 0
+
+-- no text of a line that begins at a place and ends behind `last` is a token
+abbrev pub NoneReaches : List ℕ → ℕ → ℕ → Type 0
+NoneReaches line start last = (class : Class) (end : ℕ) → last < end → end ≤ length line → spells class (slice_range line start end) ≡ false
+
+-- a token's text is one of its class, and no longer text at its place is a token
+pub record IsLongest (line : List ℕ) (t : Token) : Type 0 where
+  pub spelled : IsTrue (spells t.class (slice_range line t.start t.end))
+  pub longest : NoneReaches line t.start t.end
+
+-- a byte of the line at which no token begins
+pub record BeginsNothing (line : List ℕ) (at : ℕ) : Type 0 where
+  pub within : at < length line
+  pub nothing : NoneReaches line at at

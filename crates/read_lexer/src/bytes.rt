@@ -1,0 +1,111 @@
+//! The bytes that tokens are made of, and runs of them.
+
+ghost use Rattle.std.specs.Prelude.{◌≡◌, ◌==◌, ◌<◌, ◌≤◌, length, position, IfSome};
+ghost use Rattle.std.specs.List.{prefix_len};
+ghost use Rattle.std.specs.Char.{is_ascii_digit, is_ascii_hexdigit};
+ghost use Rattle.read_lexer.specs.Bytes.{is_blank, is_word_start, is_word_byte, is_symbol_byte, is_single, word_len};
+
+/// Whether a byte separates tokens.
+pub fn is_blank(byte: u8) -> bool
+    ensures { result ≡ is_blank byte }
+{
+    byte == b' ' || byte == b'\t'
+}
+
+/// Whether a word may begin with a byte.
+pub fn is_word_start(byte: u8) -> bool
+    ensures { result ≡ is_word_start byte }
+{
+    byte.is_ascii_alphabetic() || byte == b'_'
+}
+
+/// Whether a byte may stand in a word.
+pub fn is_word_byte(byte: u8) -> bool
+    ensures { result ≡ is_word_byte byte }
+{
+    byte.is_ascii_alphanumeric() || byte == b'_' || byte == b'.' || byte == b'-'
+}
+
+/// Whether a byte may stand in the bare name of a symbol.
+pub fn is_symbol_byte(byte: u8) -> bool
+    ensures { result ≡ is_symbol_byte byte }
+{
+    is_word_byte(byte) || byte == b'$'
+}
+
+/// Whether a byte is a token by itself.
+pub fn is_single(byte: u8) -> bool
+    ensures { result ≡ is_single byte }
+{
+    matches!(
+        byte,
+        b'=' | b','
+            | b'('
+            | b')'
+            | b':'
+            | b'{'
+            | b'}'
+            | b'['
+            | b']'
+            | b'<'
+            | b'>'
+            | b'|'
+            | b'+'
+            | b'-'
+    )
+}
+
+/// How many word bytes are at the front.
+#[tactic(auto, using(crate::proofs::Runs::runs))]
+pub fn word_bytes(bytes: &[u8]) -> usize
+    ensures value { result ≡ prefix_len is_word_byte bytes.now }
+    ensures within { result ≤ length bytes.now }
+{
+    bytes.iter().take_while(|b| is_word_byte(**b)).count()
+}
+
+/// How many symbol bytes are at the front.
+#[tactic(auto, using(crate::proofs::Runs::runs))]
+pub fn symbol_bytes(bytes: &[u8]) -> usize
+    ensures value { result ≡ prefix_len is_symbol_byte bytes.now }
+    ensures within { result ≤ length bytes.now }
+{
+    bytes.iter().take_while(|b| is_symbol_byte(**b)).count()
+}
+
+/// How many decimal digits are at the front.
+#[tactic(auto, using(crate::proofs::Runs::runs))]
+pub fn digits(bytes: &[u8]) -> usize
+    ensures value { result ≡ prefix_len is_ascii_digit bytes.now }
+    ensures within { result ≤ length bytes.now }
+{
+    bytes.iter().take_while(|b| b.is_ascii_digit()).count()
+}
+
+/// How many hexadecimal digits are at the front.
+#[tactic(auto, using(crate::proofs::Runs::runs))]
+pub fn hexadecimal_digits(bytes: &[u8]) -> usize
+    ensures value { result ≡ prefix_len is_ascii_hexdigit bytes.now }
+    ensures within { result ≤ length bytes.now }
+{
+    bytes.iter().take_while(|b| b.is_ascii_hexdigit()).count()
+}
+
+/// How long the word at the front is, 0 where none is there.
+pub fn word(bytes: &[u8]) -> usize
+    ensures value { result ≡ word_len bytes.now }
+    ensures within { result ≤ length bytes.now }
+{
+    match bytes {
+        [first, after @ ..] if is_word_start(*first) => 1 + word_bytes(after),
+        _ => 0,
+    }
+}
+
+/// The first place of a byte.
+pub fn position(byte: u8, bytes: &[u8]) -> Option<usize>
+    ensures value { result ≡ position (λ b. b == byte) bytes.now }
+    ensures within { IfSome result (λ i. i < length bytes.now) }
+{
+    bytes.iter().position(|b| *b == byte)
+}

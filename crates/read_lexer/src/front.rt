@@ -1,0 +1,130 @@
+//! The token at the front of what is left of a line.
+
+ghost use Rattle.std.specs.Prelude.{◌≡◌, ◌+◌, ◌<◌, ◌^◌, length, IfOk};
+ghost use Rattle.read_lexer.specs.Front.{token, marked, quoted, metadata_at, symbol_at, hexadecimal_len, integer_at};
+ghost use Rattle.read_lexer.specs.Front.{minus_at, token_at};
+
+use crate::bytes::{
+    digits, hexadecimal_digits, is_single, position, symbol_bytes, word, word_bytes,
+};
+use crate::fault::LexError;
+use crate::parts::{Class, Token};
+
+/// The token that begins at `at` with the byte `first`, where `after` is the rest of the line, or the fault there.
+#[tactic(auto, unfolding(crate::specs::Front::token_at))]
+pub fn token_at(at: usize, first: u8, after: &[u8]) -> Result<Token, LexError>
+    requires { at + length after.now + 1 < 2 ^ 64 }
+    ensures { result ≡ token_at at first after.now }
+{
+    match first {
+        b'A'..=b'Z' | b'a'..=b'z' | b'_' => Ok(token(Class::Word, at, 1 + word_bytes(after))),
+        b'0'..=b'9' => Ok(integer(at, first, after)),
+        b'-' => Ok(minus(at, after)),
+        b'$' => marked(Class::Register, at, word_bytes(after)),
+        b'%' => marked(Class::Percent, at, word_bytes(after)),
+        b'!' => metadata(at, after),
+        b'@' | b'&' => symbol(at, after),
+        b'"' | b'\'' => quoted(Class::Text, at, at, first, after),
+        _ if is_single(first) => Ok(token(Class::Single(first), at, 1)),
+        _ => Err(LexError::BadByte(at)),
+    }
+}
+
+/// A token of `len` bytes from `at` on.
+fn token(class: Class, at: usize, len: usize) -> Token
+    requires { at + len < 2 ^ 64 }
+    ensures { token class at len ≡ Ok result }
+{
+    Token {
+        class,
+        start: at,
+        end: at + len,
+    }
+}
+
+/// A token of one byte and the run of `run` bytes behind it, which has to be there.
+fn marked(class: Class, at: usize, run: usize) -> Result<Token, LexError>
+    requires { at + run + 1 < 2 ^ 64 }
+    ensures { result ≡ marked class at run }
+{
+    if run == 0 {
+        return Err(LexError::BadByte(at));
+    }
+    Ok(token(class, at, 1 + run))
+}
+
+/// A token from `at` on that ends with a text in quotes, whose opening quote stands at `open_at`, right before `after`.
+fn quoted(
+    class: Class,
+    at: usize,
+    open_at: usize,
+    quote: u8,
+    after: &[u8],
+) -> Result<Token, LexError>
+    requires { open_at + length after.now + 1 < 2 ^ 64 }
+    ensures { result ≡ quoted class at open_at quote after.now }
+{
+    match position(quote, after) {
+        Some(len) => Ok(Token {
+            class,
+            start: at,
+            end: open_at + 2 + len,
+        }),
+        None => Err(LexError::UnclosedString(open_at)),
+    }
+}
+
+/// The token that begins with the `!` right before `after`.
+fn metadata(at: usize, after: &[u8]) -> Result<Token, LexError>
+    requires { at + length after.now + 1 < 2 ^ 64 }
+    ensures { result ≡ metadata_at at after.now }
+{
+    match digits(after) {
+        0 => marked(Class::Kind, at, word(after)),
+        run => marked(Class::Node, at, run),
+    }
+}
+
+/// The token that begins with the `@` or `&` right before `after`.
+fn symbol(at: usize, after: &[u8]) -> Result<Token, LexError>
+    requires { at + length after.now + 1 < 2 ^ 64 }
+    ensures { result ≡ symbol_at at after.now }
+{
+    match after {
+        [b'"', name @ ..] => quoted(Class::Symbol, at, at + 1, b'"', name),
+        _ => marked(Class::Symbol, at, symbol_bytes(after)),
+    }
+}
+
+/// How many hexadecimal digits stand behind `0x`, where `first` and `after` begin so.
+fn hexadecimal(first: u8, after: &[u8]) -> usize
+    ensures value { result ≡ hexadecimal_len first after.now }
+    ensures within { 0 < result → result < length after.now }
+{
+    match after {
+        [b'x', number @ ..] if first == b'0' => hexadecimal_digits(number),
+        _ => 0,
+    }
+}
+
+/// The integer that begins with the digit `first`.
+fn integer(at: usize, first: u8, after: &[u8]) -> Token
+    requires { at + length after.now + 1 < 2 ^ 64 }
+    ensures { integer_at at first after.now ≡ Ok result }
+{
+    match hexadecimal(first, after) {
+        0 => token(Class::Integer, at, 1 + digits(after)),
+        run => token(Class::Integer, at, 2 + run),
+    }
+}
+
+/// The token that begins with the `-` right before `after`.
+fn minus(at: usize, after: &[u8]) -> Token
+    requires { at + length after.now + 1 < 2 ^ 64 }
+    ensures { minus_at at after.now ≡ Ok result }
+{
+    match digits(after) {
+        0 => token(Class::Single(b'-'), at, 1),
+        run => token(Class::Integer, at, 1 + run),
+    }
+}

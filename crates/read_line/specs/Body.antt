@@ -1,0 +1,78 @@
+-- What one line of a function's body says.
+use Rattle.std.specs.Prelude.{◌≡◌, ℕ, Bool, true, false, ◌||◌, nat_eq, nat_lt, if◌then◌else◌, codes, drop, List, [], ◌∷◌, Option, Some, None, Result, Ok, Err}
+use Rattle.std.specs.List.{prefix_len, starts_with}
+use Rattle.read_lexer.specs.declared.fault.LexError.{LexError}
+use Rattle.read_lexer.specs.declared.fault.LexError.TheVariants as lex
+use Rattle.read_lexer.specs.declared.parts.Token.{Token}
+use Rattle.read_lexer.specs.Bytes.{is_blank}
+use Rattle.read_lexer.specs.Comment.{before_comment, before_memory_operands}
+use Rattle.read_lexer.specs.Line.{tokens_of}
+use Rattle.read_token.specs.declared.lexeme.Word.TheVariants as words
+use Rattle.read_token.specs.declared.lexeme.Lexeme.{Lexeme}
+use Rattle.read_token.specs.declared.lexeme.Lexeme.TheVariants as lexemes
+use Rattle.read_token.specs.Number.{BEYOND}
+use Rattle.read_token.specs.Sentence.{lexemes_of}
+use Rattle.read_line.specs.declared.form.BodyLine.{BodyLine}
+use Rattle.read_line.specs.declared.form.BodyLine.TheVariants.{Passed, Label, Item}
+use Rattle.read_line.specs.declared.form.ItemForm.{ItemForm}
+use Rattle.read_line.specs.declared.form.LineError.{LineError}
+use Rattle.read_line.specs.declared.form.LineError.TheVariants.{BadByte, UnclosedString, BadLine, Memory}
+use Rattle.read_line.specs.Bracket.{behind_bracket}
+use Rattle.read_line.specs.Item.{item_of}
+
+-- a line without the spaces and tabs at its front
+abbrev pub behind_blanks : List ℕ → List ℕ
+behind_blanks text = drop (prefix_len is_blank text) text
+
+-- it lists successors or live registers, whatever else stands there
+unfoldable pub is_listing : List ℕ → Bool
+is_listing text = starts_with nat_eq (behind_blanks text) (codes "successors:") || starts_with nat_eq (behind_blanks text) (codes "liveins:")
+
+-- the part of a line that is lexed: what stands before a comment and before memory operands
+abbrev pub code_of : List ℕ → List ℕ
+code_of text = before_memory_operands (before_comment text)
+
+-- a block's number, if it is within the limit
+abbrev pub label_of : ℕ → BodyLine
+label_of n = if nat_lt n BEYOND then Label (Some n) else Label None
+
+-- a colon, and nothing behind it
+abbrev pub is_colon : List Lexeme → Bool
+is_colon (lexemes.Colon ∷ []) = true
+is_colon ts = false
+
+-- a label of a number, where a colon has to be all that is left
+abbrev pub labelled : ℕ → Option (List Lexeme) → Result BodyLine LineError
+labelled n None = Err BadLine
+labelled n (Some rest) = if is_colon rest then Ok (label_of n) else Err BadLine
+
+-- an item, if there is one
+abbrev pub as_item : Option ItemForm → Result BodyLine LineError
+as_item None = Err BadLine
+as_item (Some item) = Ok (Item item)
+
+-- What the lexemes of a line say. `bb.N` and a bracket or a colon begin a label.
+unfoldable pub sentence_of : List ℕ → List Lexeme → Result BodyLine LineError
+sentence_of line [] = Ok Passed
+sentence_of line (lexemes.Word (words.Block n) t ∷ lexemes.Colon ∷ ts) = labelled n (Some (lexemes.Colon ∷ ts))
+sentence_of line (lexemes.Word (words.Block n) t ∷ lexemes.Open ∷ ts) = labelled n (behind_bracket 0 ts)
+sentence_of line ts = as_item (item_of line ts)
+
+-- what the tokens of a line say, or its fault
+abbrev pub line_of_tokens : List ℕ → Result (List Token) LexError → Result BodyLine LineError
+line_of_tokens line (Ok ts) = sentence_of line (lexemes_of line ts)
+line_of_tokens line (Err (lex.BadByte at)) = Err BadByte
+line_of_tokens line (Err (lex.UnclosedString at)) = Err UnclosedString
+line_of_tokens line (Err lex.Memory) = Err Memory
+
+-- What a line of a function's body says, or why it has no form.
+unfoldable pub body_line_of : List ℕ → Result BodyLine LineError
+body_line_of text = if is_listing text then Ok Passed else line_of_tokens (code_of text) (tokens_of (code_of text))
+
+-- A call's answer is what the line says, unless memory ran out.
+abbrev pub Says : Result BodyLine LineError → Result BodyLine LineError → Type 0
+Says (Ok x) read = read ≡ Ok x
+Says (Err Memory) read = Unit {0}
+Says (Err BadByte) read = read ≡ Err BadByte
+Says (Err UnclosedString) read = read ≡ Err UnclosedString
+Says (Err BadLine) read = read ≡ Err BadLine

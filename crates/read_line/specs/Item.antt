@@ -1,0 +1,116 @@
+-- A line with an item: definitions and `=`, words that are passed over, an opcode, operands separated by commas, and
+-- attributes. (LLVM, Machine IR (MIR) Format Reference Manual, "Machine Instructions".)
+use Rattle.std.specs.Prelude.{ℕ, zero, suc, Bool, true, false, length, if◌then◌else◌, List, [], ◌∷◌, Option, Some, None}
+use Rattle.read_lexer.specs.declared.parts.Token.{Token}
+use Rattle.read_metadata.specs.Token.{text_of}
+use Rattle.read_token.specs.declared.lexeme.Flag.TheVariants.{Plain}
+use Rattle.read_token.specs.declared.lexeme.Word.{Word}
+use Rattle.read_token.specs.declared.lexeme.Word.TheVariants as words
+use Rattle.read_token.specs.declared.lexeme.Lexeme.{Lexeme}
+use Rattle.read_token.specs.declared.lexeme.Lexeme.TheVariants as lexemes
+use Rattle.read_token.specs.Word.{case_of}
+use Rattle.read_line.specs.declared.form.RegisterForm.{RegisterForm}
+use Rattle.read_line.specs.declared.form.OperandForm.{OperandForm}
+use Rattle.read_line.specs.declared.form.ItemForm.{ItemForm}
+use Rattle.read_line.specs.declared.attribute.Attributes.{Attributes}
+use Rattle.read_line.specs.Read.{◌>>=◌, behind_comma, behind_equals}
+use Rattle.read_line.specs.Register.{register_at, begins_register}
+use Rattle.read_line.specs.Operand.{operand_at}
+use Rattle.read_line.specs.Attribute.{attributes_behind, attributes_alone, begins_attribute}
+use Rattle.read_line.specs.Exceeds.{item_exceeds}
+
+-- a part before others that were read
+abbrev pub before : {A : Type 0} → A → Option (List A × List Lexeme) → Option (List A × List Lexeme)
+before x None = None
+before x (Some xs) = Some (x ∷ xs.0, xs.1)
+
+-- definitions, and what is left behind their equals sign
+abbrev pub with_equals : List RegisterForm → List Lexeme → Option (List RegisterForm × List Lexeme)
+with_equals ds ts = behind_equals ts >>= λ rest. Some (ds, rest)
+
+-- Registers separated by commas up to an equals sign, at most so many.
+unfoldable pub definitions_at : ℕ → List Lexeme → Option (List RegisterForm × List Lexeme)
+definitions_at zero ts = None
+definitions_at (suc n) ts = do
+  d ← register_at Plain ts
+  case_of (behind_comma d.1) (λ rest. before d.0 (definitions_at n rest)) (with_equals (d.0 ∷ []) d.1)
+
+-- definitions and an equals sign, both or neither
+abbrev pub definitions_of : List Lexeme → Option (List RegisterForm × List Lexeme)
+definitions_of ts = if begins_register ts then definitions_at (length ts) ts else Some ([], ts)
+
+-- a word that begins with an upper-case letter
+abbrev pub is_upper : Word → Bool
+is_upper words.Argument = true
+is_upper words.Fragment = true
+is_upper words.Upper = true
+is_upper word = false
+
+-- a word that begins with a lower-case letter
+abbrev pub is_lower : Word → Bool
+is_lower words.Argument = false
+is_lower words.Fragment = false
+is_lower words.Upper = false
+is_lower words.Underscore = false
+is_lower word = true
+
+-- words that begin with a lower-case letter are passed over
+unfoldable pub behind_words : List Lexeme → List Lexeme
+behind_words (lexemes.Word w t ∷ ts) = if is_lower w then behind_words ts else lexemes.Word w t ∷ ts
+behind_words ts = ts
+
+-- an opcode
+abbrev pub opcode_at : List Lexeme → Option (Token × List Lexeme)
+opcode_at (lexemes.Word w t ∷ ts) = if is_upper w then Some (t, ts) else None
+opcode_at ts = None
+
+-- the lexemes behind a comma, if no attribute stands there
+abbrev pub behind_operand : List Lexeme → Option (List Lexeme)
+behind_operand (lexemes.Comma ∷ ts) = if begins_attribute ts then None else Some ts
+behind_operand ts = None
+
+-- Operands separated by commas, at most so many.
+unfoldable pub operands_at : List ℕ → ℕ → List Lexeme → Option (List OperandForm × List Lexeme)
+operands_at line zero ts = None
+operands_at line (suc n) ts = do
+  o ← operand_at line ts
+  case_of (behind_operand o.1) (λ rest. before o.0 (operands_at line n rest)) (Some (o.0 ∷ [], o.1))
+
+-- an operand has to stand behind the opcode
+abbrev pub begins_operand : List Lexeme → Bool
+begins_operand [] = false
+begins_operand (lexemes.Comma ∷ ts) = false
+begins_operand (lexemes.Word words.InstrNumber t ∷ ts) = false
+begins_operand (lexemes.Word words.Location t ∷ ts) = false
+begins_operand ts = true
+
+-- operands, if there are some
+abbrev pub operands_of : List ℕ → List Lexeme → Option (List OperandForm × List Lexeme)
+operands_of line ts = if begins_operand ts then operands_at line (length ts) ts else Some ([], ts)
+
+-- attributes, if there are some, behind operands or not
+abbrev pub attributes_of_item : List Lexeme → List Lexeme → Option Attributes
+attributes_of_item tail rest = if begins_operand tail then attributes_behind rest else attributes_alone tail
+
+-- an item of these parts
+abbrev pub item_with : List Lexeme → List RegisterForm → List ℕ → List OperandForm → Attributes → ItemForm
+item_with ts definitions opcode operands attributes = record {
+  definitions = definitions;
+  opcode = opcode;
+  operands = operands;
+  number = attributes.number;
+  loc = attributes.loc;
+  exceeds = item_exceeds ts definitions operands attributes;
+}
+
+-- the item of a line with these definitions, where `rest` stands behind them
+unfoldable pub defined_item : List ℕ → List Lexeme → List RegisterForm → List Lexeme → Option ItemForm
+defined_item line ts definitions rest = do
+  opcode ← opcode_at (behind_words rest)
+  operands ← operands_of line opcode.1
+  attributes ← attributes_of_item opcode.1 operands.1
+  Some (item_with ts definitions (text_of line opcode.0) operands.0 attributes)
+
+-- the item that the lexemes of a line are
+unfoldable pub item_of : List ℕ → List Lexeme → Option ItemForm
+item_of line ts = definitions_of ts >>= λ definitions. defined_item line ts definitions.0 definitions.1

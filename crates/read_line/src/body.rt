@@ -1,0 +1,118 @@
+//! What one line of a function's body says.
+
+ghost use Rattle.std.specs.Prelude.{◌≡◌, ◌≤◌, length};
+ghost use Rattle.std.specs.List.{prefix_len};
+ghost use Rattle.read_lexer.specs.Bytes.{is_blank};
+ghost use Rattle.read_line.specs.Body.{
+  behind_blanks,
+  is_listing,
+  code_of,
+  label_of,
+  is_colon,
+  labelled,
+  sentence_of,
+  body_line_of,
+  Says,
+};
+
+use crate::form::{BodyLine, LineError};
+use crate::front::behind_bracket;
+use crate::item::item;
+use read_token::lexeme::{BEYOND, Lexeme, Word};
+use read_token::sentence::lexemes;
+use read_lexer::bytes::is_blank;
+use read_lexer::comment::{before_comment, before_memory_operands};
+use read_lexer::fault::LexError;
+use read_lexer::lexer::tokens;
+use base_ids::code::BlockId;
+use std::alloc::Global;
+
+/// How many spaces and tabs are at the front.
+#[tactic(auto, using(read_metadata::proofs::Runs::runs))]
+fn blanks(text: &[u8]) -> usize
+    ensures value { result ≡ prefix_len is_blank text.now }
+    ensures within { result ≤ length text.now }
+{
+    text.iter().take_while(|b| is_blank(**b)).count()
+}
+
+/// A line without the spaces and tabs at its front.
+fn behind_blanks(text: &[u8]) -> &[u8]
+    ensures { result.now ≡ behind_blanks text.now }
+{
+    &text[blanks(text)..]
+}
+
+/// Whether it lists successors or live registers.
+#[tactic(auto, unfolding(crate::specs::Body::is_listing))]
+fn is_listing(text: &[u8]) -> bool
+    ensures { result ≡ is_listing text.now }
+{
+    let line = behind_blanks(text);
+    line.starts_with(b"successors:") || line.starts_with(b"liveins:")
+}
+
+/// The label of a block.
+fn label(block: BlockId) -> BodyLine
+    ensures { result ≡ label_of block }
+{
+    if block.number() < BEYOND {
+        BodyLine::Label(Some(block))
+    } else {
+        BodyLine::Label(None)
+    }
+}
+
+/// The label of a block, where a colon has to be all that is left.
+fn labelled(block: BlockId, rest: &[Lexeme]) -> Result<BodyLine, LineError>
+    ensures { result ≡ labelled block (Some rest.now) }
+{
+    match rest {
+        [Lexeme::Colon] => Ok(label(block)),
+        _ => Err(LineError::BadLine),
+    }
+}
+
+/// What the lexemes of a line say.
+#[tactic(auto, unfolding(crate::specs::Body::sentence_of))]
+fn sentence(alloc: Global, line: &[u8], lexemes: &[Lexeme]) -> Result<BodyLine, LineError>
+    ensures { Says result (sentence_of line.now lexemes.now) }
+{
+    match lexemes {
+        [] => Ok(BodyLine::Passed),
+        [Lexeme::Word(Word::Block(block), _), Lexeme::Colon, ..] => {
+            labelled(*block, &lexemes[1..])
+        }
+        [Lexeme::Word(Word::Block(block), _), Lexeme::Open, rest @ ..] => match behind_bracket(
+            rest,
+        ) {
+            Some(behind) => labelled(*block, behind),
+            None => Err(LineError::BadLine),
+        },
+        _ => match item(alloc, line, lexemes)? {
+            Some(item) => Ok(BodyLine::Item(item)),
+            None => Err(LineError::BadLine),
+        },
+    }
+}
+
+/// What a line of a function's body says. `BadByte` and `UnclosedString` come where it has no tokens, `BadLine` where
+/// they have no form.
+#[tactic(auto, unfolding(crate::specs::Body::body_line_of))]
+pub fn body_line(alloc: Global, text: &[u8]) -> Result<BodyLine, LineError>
+    ensures { Says result (body_line_of text.now) }
+{
+    if is_listing(text) {
+        return Ok(BodyLine::Passed);
+    }
+    let line = before_memory_operands(before_comment(text));
+    match tokens(alloc, line) {
+        Ok(tokens) => {
+            let lexemes = lexemes(alloc, line, tokens.as_slice())?;
+            sentence(alloc, line, lexemes.as_slice())
+        }
+        Err(LexError::BadByte(_)) => Err(LineError::BadByte),
+        Err(LexError::UnclosedString(_)) => Err(LineError::UnclosedString),
+        Err(LexError::Memory) => Err(LineError::Memory),
+    }
+}

@@ -1,0 +1,254 @@
+//! Lines with an item.
+
+ghost use Rattle.std.specs.Prelude.{◌≡◌, ◌∷◌, ◌++◌, [], length, IfOk};
+ghost use Rattle.read_line.specs.Read.{Gives, Lends};
+ghost use Rattle.read_line.specs.Item.{
+  with_equals,
+  definitions_at,
+  definitions_of,
+  is_upper,
+  is_lower,
+  behind_words,
+  opcode_at,
+  behind_operand,
+  operands_at,
+  begins_operand,
+  operands_of,
+  attributes_of_item,
+  item_with,
+  defined_item,
+  item_of,
+};
+
+use crate::attribute::{Attributes, attributes_alone, attributes_behind, begins_attribute};
+use crate::exceeds::item_exceeds;
+use crate::form::{Definitions, ItemForm, OperandForms};
+use crate::front::{behind_comma, behind_equals};
+use crate::operand::operand;
+use crate::register::{begins_register, register};
+use base_list::List;
+use read_token::lexeme::{Lexeme, Word};
+use read_token::sentence::text_of;
+use read_lexer::parts::Token;
+use rv64_instr::name::Name;
+use std::alloc::{AllocError, Global};
+
+/// Registers up to an equals sign, and what is left behind it.
+fn some_definitions(
+    alloc: Global,
+    lexemes: &[Lexeme],
+) -> Result<Option<(Definitions, &[Lexeme])>, AllocError>
+    ensures { IfOk result (λ read. Gives (λ x. (x.0, x.1.now)) read (definitions_at (length lexemes.now) lexemes.now)) }
+{
+    let mut found = List::new(alloc);
+    let mut rest = lexemes;
+    for _ in 0..lexemes.len() {
+        let Some((definition, behind)) = register(rest) else {
+            return Ok(None);
+        };
+        found.push(definition)?;
+        match behind_comma(behind) {
+            Some(next) => rest = next,
+            None => return Ok(with_equals(found, behind)),
+        }
+    }
+    Ok(None)
+}
+
+/// Definitions, and what is left behind their equals sign.
+fn with_equals(found: Definitions, lexemes: &[Lexeme]) -> Option<(Definitions, &[Lexeme])>
+    ensures { Gives (λ x. (x.0, x.1.now)) result (with_equals found lexemes.now) }
+{
+    let rest = behind_equals(lexemes)?;
+    Some((found, rest))
+}
+
+/// The definitions before an equals sign, if there are some, and what is left.
+fn definitions(
+    alloc: Global,
+    lexemes: &[Lexeme],
+) -> Result<Option<(Definitions, &[Lexeme])>, AllocError>
+    ensures { IfOk result (λ read. Gives (λ x. (x.0, x.1.now)) read (definitions_of lexemes.now)) }
+{
+    if begins_register(lexemes) {
+        some_definitions(alloc, lexemes)
+    } else {
+        Ok(Some((List::new(alloc), lexemes)))
+    }
+}
+
+/// Whether a word begins with an upper-case letter.
+fn is_upper(word: Word) -> bool
+    ensures { result ≡ is_upper word }
+{
+    matches!(word, Word::Argument | Word::Fragment | Word::Upper)
+}
+
+/// Whether a word begins with a lower-case letter.
+fn is_lower(word: Word) -> bool
+    ensures { result ≡ is_lower word }
+{
+    !matches!(
+        word,
+        Word::Argument | Word::Fragment | Word::Upper | Word::Underscore
+    )
+}
+
+/// The lexemes behind words that begin with a lower-case letter.
+#[tactic(auto, unfolding(crate::specs::Item::behind_words))]
+fn behind_words(lexemes: &[Lexeme]) -> &[Lexeme]
+    ensures { result.now ≡ behind_words lexemes.now }
+{
+    let mut rest = lexemes;
+    while let [Lexeme::Word(word, _), behind @ ..] = rest {
+        if !is_lower(*word) {
+            return rest;
+        }
+        rest = behind;
+    }
+    rest
+}
+
+/// An opcode, and what is left behind it.
+fn opcode(lexemes: &[Lexeme]) -> Option<(Token, &[Lexeme])>
+    ensures { Gives (λ x. (x.0, x.1.now)) result (opcode_at lexemes.now) }
+{
+    match lexemes {
+        [Lexeme::Word(word, token), rest @ ..] if is_upper(*word) => Some((*token, rest)),
+        _ => None,
+    }
+}
+
+/// The lexemes behind a comma, if no attribute stands there.
+fn behind_operand(lexemes: &[Lexeme]) -> Option<&[Lexeme]>
+    ensures { Lends result (behind_operand lexemes.now) }
+{
+    match lexemes {
+        [Lexeme::Comma, rest @ ..] if !begins_attribute(rest) => Some(rest),
+        _ => None,
+    }
+}
+
+/// Operands, at least one, and what is left behind them.
+fn some_operands<'a>(
+    alloc: Global,
+    line: &[u8],
+    lexemes: &'a [Lexeme],
+) -> Result<Option<(OperandForms, &'a [Lexeme])>, AllocError>
+    ensures { IfOk result (λ read.
+        Gives (λ x. (x.0, x.1.now)) read (operands_at line.now (length lexemes.now) lexemes.now)) }
+{
+    let mut found = List::new(alloc);
+    let mut rest = lexemes;
+    for _ in 0..lexemes.len() {
+        match operand(alloc, line, rest) {
+            Ok(Some((operand, behind))) => {
+                found.push(operand)?;
+                match behind_operand(behind) {
+                    Some(next) => rest = next,
+                    None => return Ok(Some((found, behind))),
+                }
+            }
+            Ok(None) => return Ok(None),
+            Err(e) => return Err(e),
+        }
+    }
+    Ok(None)
+}
+
+/// Whether an operand has to stand behind the opcode.
+fn begins_operand(lexemes: &[Lexeme]) -> bool
+    ensures { result ≡ begins_operand lexemes.now }
+{
+    match lexemes {
+        [] | [Lexeme::Comma, ..] => false,
+        _ => !begins_attribute(lexemes),
+    }
+}
+
+/// The operands, if there are some, and what is left behind them.
+fn operands<'a>(
+    alloc: Global,
+    line: &[u8],
+    lexemes: &'a [Lexeme],
+) -> Result<Option<(OperandForms, &'a [Lexeme])>, AllocError>
+    ensures { IfOk result (λ read. Gives (λ x. (x.0, x.1.now)) read (operands_of line.now lexemes.now)) }
+{
+    if begins_operand(lexemes) {
+        some_operands(alloc, line, lexemes)
+    } else {
+        Ok(Some((List::new(alloc), lexemes)))
+    }
+}
+
+/// The attributes of an item, where `tail` stands behind its opcode and `rest` behind its operands.
+fn item_attributes(tail: &[Lexeme], rest: &[Lexeme]) -> Option<Attributes>
+    ensures { result ≡ attributes_of_item tail.now rest.now }
+{
+    if begins_operand(tail) {
+        attributes_behind(rest)
+    } else {
+        attributes_alone(tail)
+    }
+}
+
+/// The item of a line with these definitions, where `rest` stands behind them.
+#[tactic(auto, unfolding(crate::specs::Item::defined_item))]
+fn defined_item(
+    alloc: Global,
+    line: &[u8],
+    lexemes: &[Lexeme],
+    definitions: Definitions,
+    rest: &[Lexeme],
+) -> Result<Option<ItemForm>, AllocError>
+    ensures { IfOk result (λ item. item ≡ defined_item line.now lexemes.now definitions rest.now) }
+{
+    let Some((opcode, tail)) = opcode(behind_words(rest)) else {
+        return Ok(None);
+    };
+    match operands(alloc, line, tail) {
+        Ok(Some((operands, behind))) => {
+            let Some(attributes) = item_attributes(tail, behind) else {
+                return Ok(None);
+            };
+            let name = List::from_slice(alloc, text_of(line, opcode))?;
+            Ok(Some(item_with(lexemes, definitions, name, operands, attributes)))
+        }
+        Ok(None) => Ok(None),
+        Err(e) => Err(e),
+    }
+}
+
+/// An item of these parts.
+fn item_with(
+    lexemes: &[Lexeme],
+    definitions: Definitions,
+    opcode: Name,
+    operands: OperandForms,
+    attributes: Attributes,
+) -> ItemForm
+    ensures { result ≡ item_with lexemes.now definitions opcode operands attributes }
+{
+    let Attributes { number, loc } = attributes;
+    let exceeds = item_exceeds(lexemes, &definitions, &operands, attributes);
+    ItemForm {
+        definitions,
+        opcode,
+        operands,
+        number,
+        loc,
+        exceeds,
+    }
+}
+
+/// The item that the lexemes of a line are.
+#[tactic(auto, unfolding(crate::specs::Item::item_of))]
+pub fn item(alloc: Global, line: &[u8], lexemes: &[Lexeme]) -> Result<Option<ItemForm>, AllocError>
+    ensures { IfOk result (λ item. item ≡ item_of line.now lexemes.now) }
+{
+    match definitions(alloc, lexemes) {
+        Ok(Some((definitions, rest))) => defined_item(alloc, line, lexemes, definitions, rest),
+        Ok(None) => Ok(None),
+        Err(e) => Err(e),
+    }
+}

@@ -1,0 +1,271 @@
+//! Operands.
+
+ghost use Rattle.std.specs.Prelude.{◌≡◌, ◌≤◌, IfOk};
+ghost use Rattle.read_token.specs.Number.{BEYOND};
+ghost use Rattle.read_line.specs.Read.{Gives};
+ghost use Rattle.read_line.specs.Operand.{
+  counted,
+  fitting,
+  is_zero,
+  whole,
+  whole_bytes,
+  part_of,
+  argument_expression,
+  expression_of,
+  expression_at,
+  symbol_at,
+  flagged_symbol_at,
+  reference_at,
+  mask_at,
+  register_operand_at,
+  word_operand_at,
+  operand_at,
+};
+
+use crate::form::{Expression, OperandForm};
+use crate::front::behind_bracket;
+use crate::register::register;
+use mir_func::entry::OperandPair;
+use mir_func::variable::Fragment;
+use read_token::lexeme::{BEYOND, Lexeme, Number, Word};
+use read_token::symbol::symbol_name;
+use base_ids::code::{DebugNumber, OperandIndex};
+use std::alloc::{AllocError, Global};
+
+/// An integer where it names or counts something: `BEYOND` where it is negative or above the limit.
+pub fn counted(number: Number) -> u32
+    ensures { result ≡ counted number }
+{
+    match number {
+        Number::Fits(i) if 0 <= i && i <= i64::from(BEYOND) => i as u32,
+        _ => BEYOND,
+    }
+}
+
+/// An integer that fits 64 bits signed.
+fn fitting(number: Number) -> Option<i64>
+    ensures { result ≡ fitting number }
+{
+    match number {
+        Number::Fits(i) => Some(i),
+        Number::Large | Number::Wide => None,
+    }
+}
+
+fn is_zero(number: Number) -> bool
+    ensures { result ≡ is_zero number }
+{
+    matches!(number, Number::Fits(0))
+}
+
+/// How many whole bytes so many bits are, up to 65,536 bits.
+fn whole_bytes(bits: Number) -> Option<u32>
+    ensures { result ≡ whole_bytes bits }
+{
+    match bits {
+        Number::Fits(n) if 0 <= n && n <= 65536 => whole(n as u32),
+        _ => None,
+    }
+}
+
+/// How many whole bytes so many bits are.
+fn whole(bits: u32) -> Option<u32>
+    ensures { result ≡ whole bits }
+{
+    if bits % 8 == 0 { Some(bits / 8) } else { None }
+}
+
+/// The part of a variable that a fragment of `size` bits from `offset` on names.
+fn part(offset: Number, size: Number) -> Option<Fragment>
+    ensures { result ≡ part_of offset size }
+{
+    let offset = whole_bytes(offset)?;
+    let length = whole_bytes(size)?;
+    Fragment::new(offset, length)
+}
+
+/// An expression behind `DW_OP_LLVM_arg, 0`.
+fn argument_expression(lexemes: &[Lexeme]) -> Expression
+    ensures { result ≡ argument_expression lexemes.now }
+{
+    match lexemes {
+        [Lexeme::Close, ..] => Expression::Argument,
+        [
+            Lexeme::Comma,
+            Lexeme::Word(Word::Fragment, _),
+            Lexeme::Comma,
+            Lexeme::Integer(offset),
+            Lexeme::Comma,
+            Lexeme::Integer(size),
+            Lexeme::Close,
+            ..
+        ] => match part(*offset, *size) {
+            Some(part) => Expression::PartOfArgument(part),
+            None => Expression::Other,
+        },
+        _ => Expression::Other,
+    }
+}
+
+/// What an expression says, behind its opening bracket.
+#[tactic(auto, unfolding(crate::specs::Operand::expression_of))]
+fn expression(lexemes: &[Lexeme]) -> Expression
+    ensures { result ≡ expression_of lexemes.now }
+{
+    match lexemes {
+        [Lexeme::Close, ..] => Expression::Empty,
+        [
+            Lexeme::Word(Word::Argument, _),
+            Lexeme::Comma,
+            Lexeme::Integer(number),
+            rest @ ..,
+        ] => {
+            if is_zero(*number) {
+                argument_expression(rest)
+            } else {
+                Expression::Other
+            }
+        }
+        [
+            Lexeme::Word(Word::Fragment, _),
+            Lexeme::Comma,
+            Lexeme::Integer(offset),
+            Lexeme::Comma,
+            Lexeme::Integer(size),
+            Lexeme::Close,
+            ..
+        ] => match part(*offset, *size) {
+            Some(part) => Expression::Part(part),
+            None => Expression::Other,
+        },
+        _ => Expression::Other,
+    }
+}
+
+/// An expression, behind its opening bracket, and the lexemes behind it.
+fn expression_operand(lexemes: &[Lexeme]) -> Option<(OperandForm, &[Lexeme])>
+    ensures { Gives (λ x. (x.0, x.1.now)) result (expression_at lexemes.now) }
+{
+    let rest = behind_bracket(lexemes)?;
+    Some((OperandForm::Expression(expression(lexemes)), rest))
+}
+
+/// A symbol, and the lexemes behind it.
+fn symbol<'a>(
+    alloc: Global,
+    line: &[u8],
+    lexemes: &'a [Lexeme],
+) -> Result<Option<(OperandForm, &'a [Lexeme])>, AllocError>
+    ensures { IfOk result (λ read. Gives (λ x. (x.0, x.1.now)) read (symbol_at line.now lexemes.now)) }
+{
+    match lexemes {
+        [Lexeme::Symbol(token), rest @ ..] => {
+            let name = symbol_name(alloc, line, *token)?;
+            Ok(Some((OperandForm::Symbol(name), rest)))
+        }
+        _ => Ok(None),
+    }
+}
+
+/// A symbol behind the bracket of its `target-flags`, and the lexemes behind it.
+fn flagged_symbol<'a>(
+    alloc: Global,
+    line: &[u8],
+    lexemes: &'a [Lexeme],
+) -> Result<Option<(OperandForm, &'a [Lexeme])>, AllocError>
+    ensures { IfOk result (λ read. Gives (λ x. (x.0, x.1.now)) read (flagged_symbol_at line.now lexemes.now)) }
+{
+    match lexemes {
+        [Lexeme::Open, rest @ ..] => match behind_bracket(rest) {
+            Some(behind) => symbol(alloc, line, behind),
+            None => Ok(None),
+        },
+        _ => Ok(None),
+    }
+}
+
+/// What stands in brackets behind `dbg-instr-ref`, and the lexemes behind it.
+fn reference(lexemes: &[Lexeme]) -> Option<(OperandForm, &[Lexeme])>
+    ensures { Gives (λ x. (x.0, x.1.now)) result (reference_at lexemes.now) }
+{
+    match lexemes {
+        [
+            Lexeme::Open,
+            Lexeme::Integer(number),
+            Lexeme::Comma,
+            Lexeme::Integer(operand),
+            Lexeme::Close,
+            rest @ ..,
+        ] => {
+            let pair = OperandPair {
+                number: DebugNumber(counted(*number)),
+                operand: OperandIndex(counted(*operand)),
+            };
+            Some((OperandForm::Reference(pair), rest))
+        }
+        _ => None,
+    }
+}
+
+/// A register mask, behind its word, and the lexemes behind it.
+fn mask(lexemes: &[Lexeme]) -> Option<(OperandForm, &[Lexeme])>
+    ensures { Gives (λ x. (x.0, x.1.now)) result (mask_at lexemes.now) }
+{
+    match lexemes {
+        [Lexeme::Open, rest @ ..] => Some((OperandForm::Mask, behind_bracket(rest)?)),
+        _ => Some((OperandForm::Mask, lexemes)),
+    }
+}
+
+/// A register, and the lexemes behind it.
+fn register_operand(lexemes: &[Lexeme]) -> Option<(OperandForm, &[Lexeme])>
+    ensures { Gives (λ x. (x.0, x.1.now)) result (register_operand_at lexemes.now) }
+{
+    match register(lexemes) {
+        Some((form, rest)) => Some((OperandForm::Register(form), rest)),
+        None => None,
+    }
+}
+
+/// An operand that begins with a word, and the lexemes behind it. `rest` stands behind the word.
+#[tactic(auto, unfolding(crate::specs::Operand::word_operand_at))]
+fn word_operand<'a>(
+    alloc: Global,
+    line: &[u8],
+    word: Word,
+    rest: &'a [Lexeme],
+) -> Result<Option<(OperandForm, &'a [Lexeme])>, AllocError>
+    ensures { IfOk result (λ read. Gives (λ x. (x.0, x.1.now)) read (word_operand_at line.now word rest.now)) }
+{
+    match word {
+        Word::Flag(_) | Word::InstrNumber | Word::Location => Ok(None),
+        Word::TargetFlags => flagged_symbol(alloc, line, rest),
+        Word::InstrRef => Ok(reference(rest)),
+        _ => Ok(mask(rest)),
+    }
+}
+
+/// An operand, and the lexemes behind it.
+#[tactic(auto, unfolding(crate::specs::Operand::operand_at))]
+pub fn operand<'a>(
+    alloc: Global,
+    line: &[u8],
+    lexemes: &'a [Lexeme],
+) -> Result<Option<(OperandForm, &'a [Lexeme])>, AllocError>
+    ensures { IfOk result (λ read. Gives (λ x. (x.0, x.1.now)) read (operand_at line.now lexemes.now)) }
+{
+    match lexemes {
+        [Lexeme::Word(Word::Flag(_), _), ..] => Ok(register_operand(lexemes)),
+        [Lexeme::Word(word, _), rest @ ..] => word_operand(alloc, line, *word, rest),
+        [Lexeme::Register(_), ..] => Ok(register_operand(lexemes)),
+        [Lexeme::Slot(slot), rest @ ..] => Ok(Some((OperandForm::Slot(*slot), rest))),
+        [Lexeme::Block(block), rest @ ..] => Ok(Some((OperandForm::Block(*block), rest))),
+        [Lexeme::Node(node), rest @ ..] => Ok(Some((OperandForm::Node(*node), rest))),
+        [Lexeme::Expression, Lexeme::Open, rest @ ..] => Ok(expression_operand(rest)),
+        [Lexeme::Integer(number), rest @ ..] => {
+            Ok(Some((OperandForm::Integer(fitting(*number)), rest)))
+        }
+        [Lexeme::Symbol(_), ..] => symbol(alloc, line, lexemes),
+        _ => Ok(None),
+    }
+}

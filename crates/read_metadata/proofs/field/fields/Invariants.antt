@@ -1,0 +1,11 @@
+use Rattle.std.proofs.Common.{◌≡◌, ◌-◌, ◌≤◌, take, drop}
+use Rattle.read_metadata.specs.Field.{pieces, all_fields}
+use Rattle.read_metadata.proofs.Pieces.{gathered}
+use Rattle.read_metadata.proofs.field.fields.Given as goal
+
+abbrev pub invariant-loop-at : goal.invariant-loop-at
+invariant-loop-at l = record {
+  started : l.start ≤ l.at;
+  shallow : l.depth ≤ l.at;
+  read : gathered l.fields (take (l.at - l.start) (drop l.start l.tokens)) (pieces l.depth (drop l.at l.tokens)) ≡ all_fields (pieces 0 l.tokens);
+}

@@ -1,0 +1,157 @@
+//! What the fields of a node say, by its kind.
+
+ghost use Rattle.std.specs.Prelude.{◌≡◌, IfOk};
+ghost use Rattle.read_metadata.specs.Kind.{
+  is_scope,
+  size_in_bytes,
+  variable_of,
+  location_of,
+  file_of,
+  base_type_of,
+  scope_of,
+  node_of_kind,
+};
+
+use crate::encoding::encoding_code;
+use crate::field::{Field, node_at, number_at, text_at, word_at};
+use crate::node::{BaseTypeNode, FileNode, LocationNode, Node, VariableNode};
+use crate::text::text_value;
+use std::alloc::{AllocError, Global};
+
+/// Whether a node of a kind is a scope with a file.
+#[tactic(auto, unfolding(crate::specs::Kind::is_scope))]
+fn is_scope(kind: &[u8]) -> bool
+    ensures { result ≡ is_scope kind.now }
+{
+    kind == b"!DISubprogram".as_slice()
+        || kind == b"!DILexicalBlock".as_slice()
+        || kind == b"!DILexicalBlockFile".as_slice()
+}
+
+/// The greatest size of a base type in bits: 255 bytes.
+const MAX_BITS: u32 = 2040;
+
+/// A base type's size in bytes, where its size in bits is a multiple of 8 from 8 to the greatest.
+fn size_in_bytes(bits: Option<u32>) -> Option<u32>
+    ensures { result ≡ size_in_bytes bits }
+{
+    match bits {
+        Some(bits) if bits % 8 == 0 && 8 <= bits && bits <= MAX_BITS => Some(bits / 8),
+        _ => None,
+    }
+}
+
+/// A variable.
+#[tactic(auto, unfolding(crate::specs::Kind::variable_of))]
+fn variable_of(alloc: Global, line: &[u8], fields: &[Field]) -> Result<Option<Node>, AllocError>
+    ensures { IfOk result (λ node. node ≡ variable_of line.now fields.now) }
+{
+    let Some(name) = text_at(line, fields, b"name") else {
+        return Ok(None);
+    };
+    let Some(arg) = number_at(line, fields, b"arg") else {
+        return Ok(None);
+    };
+    let Some(base) = node_at(line, fields, b"type") else {
+        return Ok(None);
+    };
+    Ok(Some(Node::Variable(VariableNode {
+        name: text_value(alloc, name)?,
+        arg: arg.unwrap_or(0),
+        base,
+    })))
+}
+
+/// A place in the source. It needs a line.
+#[tactic(auto, unfolding(crate::specs::Kind::location_of))]
+fn location_of(line: &[u8], fields: &[Field]) -> Option<Node>
+    ensures { result ≡ location_of line.now fields.now }
+{
+    let number = number_at(line, fields, b"line")??;
+    let column = number_at(line, fields, b"column")?;
+    let scope = node_at(line, fields, b"scope")?;
+    let inlined_at = node_at(line, fields, b"inlinedAt")?;
+    Some(Node::Location(LocationNode {
+        line: number,
+        column: column.unwrap_or(0),
+        scope,
+        inlined_at,
+    }))
+}
+
+/// A file.
+#[tactic(auto, unfolding(crate::specs::Kind::file_of))]
+fn file_of(alloc: Global, line: &[u8], fields: &[Field]) -> Result<Option<Node>, AllocError>
+    ensures { IfOk result (λ node. node ≡ file_of line.now fields.now) }
+{
+    let Some(name) = text_at(line, fields, b"filename") else {
+        return Ok(None);
+    };
+    let Some(dir) = text_at(line, fields, b"directory") else {
+        return Ok(None);
+    };
+    Ok(Some(Node::File(FileNode {
+        name: text_value(alloc, name)?,
+        dir: text_value(alloc, dir)?,
+    })))
+}
+
+/// A base type. It needs a size and an encoding that base types may have.
+#[tactic(auto, unfolding(crate::specs::Kind::base_type_of))]
+fn base_type_of(alloc: Global, line: &[u8], fields: &[Field]) -> Result<Option<Node>, AllocError>
+    ensures { IfOk result (λ node. node ≡ base_type_of line.now fields.now) }
+{
+    let Some(name) = text_at(line, fields, b"name") else {
+        return Ok(None);
+    };
+    let Some(bits) = number_at(line, fields, b"size") else {
+        return Ok(None);
+    };
+    let Some(size) = size_in_bytes(bits) else {
+        return Ok(None);
+    };
+    let Some(word) = word_at(line, fields, b"encoding") else {
+        return Ok(None);
+    };
+    let Some(encoding) = encoding_code(word) else {
+        return Ok(None);
+    };
+    Ok(Some(Node::BaseType(BaseTypeNode {
+        name: text_value(alloc, name)?,
+        size,
+        encoding,
+    })))
+}
+
+/// A scope with the node of its file.
+#[tactic(auto, unfolding(crate::specs::Kind::scope_of))]
+fn scope_of(line: &[u8], fields: &[Field]) -> Option<Node>
+    ensures { result ≡ scope_of line.now fields.now }
+{
+    Some(Node::Scope(node_at(line, fields, b"file")?))
+}
+
+/// The node of a kind with these fields, None where its kind isn't kept or its fields make it unreadable.
+#[tactic(auto, unfolding(crate::specs::Kind::node_of_kind))]
+pub fn node_of_kind(
+    alloc: Global,
+    line: &[u8],
+    kind: &[u8],
+    fields: &[Field],
+) -> Result<Option<Node>, AllocError>
+    ensures { IfOk result (λ node. node ≡ node_of_kind line.now kind.now fields.now) }
+{
+    if kind == b"!DILocalVariable".as_slice() {
+        variable_of(alloc, line, fields)
+    } else if kind == b"!DILocation".as_slice() {
+        Ok(location_of(line, fields))
+    } else if kind == b"!DIFile".as_slice() {
+        file_of(alloc, line, fields)
+    } else if kind == b"!DIBasicType".as_slice() {
+        base_type_of(alloc, line, fields)
+    } else if is_scope(kind) {
+        Ok(scope_of(line, fields))
+    } else {
+        Ok(None)
+    }
+}

@@ -1,0 +1,112 @@
+//! A line that gives a node: `!5 = !DILocalVariable(name: "n", ..)`.
+
+ghost use Rattle.std.specs.Prelude.{◌≡◌, ◌≤◌, length, IfOk};
+ghost use Rattle.std.specs.List.{prefix_len};
+ghost use Rattle.read_metadata.specs.Line.{
+  behind_distinct,
+  described,
+  assigned,
+  node_of_line,
+  is_space,
+  is_distinct,
+  behind_spaces,
+};
+
+use crate::field::fields;
+use crate::kind::node_of_kind;
+use crate::node::Node;
+use crate::number::node_number;
+use crate::token::{is_byte, is_kind, is_node, is_word, text_of};
+use read_lexer::fault::LexError;
+use read_lexer::lexer::tokens;
+use read_lexer::parts::Token;
+use base_ids::metadata::NodeId;
+use std::alloc::{AllocError, Global};
+
+/// A line without the spaces at its front.
+pub fn behind_spaces(text: &[u8]) -> &[u8]
+    ensures { result.now ≡ behind_spaces text.now }
+{
+    &text[spaces(text)..]
+}
+
+/// How many spaces are at the front.
+#[tactic(auto, using(crate::proofs::Runs::runs))]
+fn spaces(text: &[u8]) -> usize
+    ensures value { result ≡ prefix_len is_space text.now }
+    ensures within { result ≤ length text.now }
+{
+    text.iter().take_while(|b| **b == b' ').count()
+}
+
+/// The tokens without the word `distinct` at their front.
+#[tactic(auto, unfolding(crate::specs::Line::behind_distinct))]
+fn behind_distinct<'a>(line: &[u8], tokens: &'a [Token]) -> &'a [Token]
+    ensures { result.now ≡ behind_distinct line.now tokens.now }
+{
+    match tokens {
+        [first, rest @ ..] if is_word(*first) && is_distinct(text_of(line, *first)) => rest,
+        _ => tokens,
+    }
+}
+
+/// Whether a word is `distinct`.
+fn is_distinct(word: &[u8]) -> bool
+    ensures { result ≡ is_distinct word.now }
+{
+    word == b"distinct".as_slice()
+}
+
+/// The node that its kind and its fields describe, if they are readable.
+#[tactic(auto, unfolding(crate::specs::Line::described))]
+fn described(alloc: Global, line: &[u8], tokens: &[Token]) -> Result<Option<Node>, AllocError>
+    ensures { IfOk result (λ node. node ≡ described line.now tokens.now) }
+{
+    match tokens {
+        [kind, open, rest @ ..] if is_kind(*kind) && is_byte(b'(', *open) => {
+            let Some(fields) = fields(alloc, rest)? else {
+                return Ok(None);
+            };
+            node_of_kind(alloc, line, text_of(line, *kind), fields.as_slice())
+        }
+        _ => Ok(None),
+    }
+}
+
+/// The node with its number that tokens give, if they are readable.
+#[tactic(auto, unfolding(crate::specs::Line::assigned))]
+fn assigned(
+    alloc: Global,
+    line: &[u8],
+    tokens: &[Token],
+) -> Result<Option<(NodeId, Node)>, AllocError>
+    ensures { IfOk result (λ node. node ≡ assigned line.now tokens.now) }
+{
+    match tokens {
+        [number, equals, rest @ ..] if is_node(*number) && is_byte(b'=', *equals) => {
+            let Some(number) = node_number(text_of(line, *number)) else {
+                return Ok(None);
+            };
+            match described(alloc, line, behind_distinct(line, rest))? {
+                Some(node) => Ok(Some((number, node))),
+                None => Ok(None),
+            }
+        }
+        _ => Ok(None),
+    }
+}
+
+/// The node with its number that a line gives, if it is readable. It begins with `!`.
+#[tactic(auto, unfolding(crate::specs::Line::node_of_line))]
+pub fn node_of_line(alloc: Global, line: &[u8]) -> Result<Option<(NodeId, Node)>, AllocError>
+    ensures { IfOk result (λ node. node ≡ node_of_line line.now) }
+{
+    match line {
+        [b'!', ..] => match tokens(alloc, line) {
+            Ok(tokens) => assigned(alloc, line, tokens.as_slice()),
+            Err(LexError::Memory) => Err(AllocError),
+            Err(_) => Ok(None),
+        },
+        _ => Ok(None),
+    }
+}

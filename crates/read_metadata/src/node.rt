@@ -1,0 +1,59 @@
+//! Nodes of the metadata that are kept.
+
+use base_ids::metadata::NodeId;
+use rv64_instr::name::Name;
+
+/// A local variable or a parameter: `!DILocalVariable`.
+#[derive(Debug, Drop)]
+pub struct VariableNode {
+    /// The name, empty where none is given.
+    pub name: Name,
+    /// Which parameter it is, counted from 1, and 0 for a variable that is none.
+    pub arg: u32,
+    /// The node of its type.
+    pub base: Option<NodeId>,
+}
+
+/// A place in the source: `!DILocation`.
+#[derive(Clone, Copy, Debug)]
+pub struct LocationNode {
+    /// The line in the source file, counted from 1, and 0 for code of no line.
+    pub line: u32,
+    /// 0 where no column is given.
+    pub column: u32,
+    /// The node of the scope.
+    pub scope: Option<NodeId>,
+    /// The node of the place of the call, in a function that was inlined.
+    pub inlined_at: Option<NodeId>,
+}
+
+/// A source file: `!DIFile`.
+#[derive(Debug, Drop)]
+pub struct FileNode {
+    /// The file's name, empty where none is given.
+    pub name: Name,
+    /// The directory, empty where none is given.
+    pub dir: Name,
+}
+
+/// A base type: `!DIBasicType`.
+#[derive(Debug, Drop)]
+pub struct BaseTypeNode {
+    /// The name, empty where none is given.
+    pub name: Name,
+    /// The size in bytes, from 1 to 255.
+    pub size: u32,
+    /// The encoding's code (DWARF 5, section 7.8, "Base Type Attribute Encodings").
+    pub encoding: u8,
+}
+
+/// A node that is kept, by its kind.
+#[derive(Debug, Drop)]
+pub enum Node {
+    Variable(VariableNode),
+    Location(LocationNode),
+    File(FileNode),
+    BaseType(BaseTypeNode),
+    /// A subprogram or a lexical block, by the node of its file.
+    Scope(Option<NodeId>),
+}

@@ -1,0 +1,221 @@
+-- The slots and the objects of a function: each declared entry is one of them, and objects lie one behind the other.
+use Rattle.std.proofs.Common.{◌≡◌, ◌⊎◌, ℕ, zero, suc, ◌+◌, Bool, true, false, cond, not, ◌||◌, eqb, List, [], ◌∷◌, ◌++◌, map, length, All, Some}
+use Rattle.std.proofs.Common.{refl, sym, ap, subst, ◌∙◌, inl, inr, arith}
+use Rattle.std.specs.Prelude.{Contains}
+use Rattle.std.specs.List.{slice_get}
+use Rattle.std.proofs.lemmas.Bool.{or_left, or_right, or_cases, eq-eqb, eqb-true, false≢true, false_from_ne_true}
+use Rattle.std.proofs.lemmas.List.{map-append, length-append}
+use Rattle.std.proofs.lemmas.List.Elements.{All-nil, All-push, All-head, All-tail}
+use Rattle.std.proofs.lemmas.List.Folds.{list_any-append}
+use Rattle.mir_func.specs.declared.object.Object.{Object}
+use Rattle.mir_func.specs.Objects.{ALIGNMENTS, up_to, AreLaidFrom, end_from}
+use Rattle.mir_func.specs.Sound.{AreApart, IsSoundObject}
+use Rattle.read_declarations.specs.declared.stack.StackEntry.{StackEntry}
+use Rattle.read_declarations.specs.Stack.{is_alignment}
+use Rattle.read_body.specs.declared.frame.Laid.{Laid}
+use Rattle.read_body.specs.Met.{is_met, met}
+use Rattle.read_body.specs.Frame.{is_object, with_slot, slots_behind, slots_of, laid_at, with_object, objects_behind, objects_of, with_id}
+use Rattle.read_body.specs.Frame.{ids_behind as object_ids_behind}
+use Rattle.read_body.specs.Frame.{ids_of_objects}
+use Rattle.read_program.specs.Closing.{ids_behind, entry_ids}
+use Rattle.read_program.proofs.Lists.{apart_push, met_keeps, met_has, met_at, met_contains}
+use Rattle.read_program.proofs.Entries.{met_cases}
+use Rattle.read_program.proofs.Stack.{IsReadEntry}
+
+-- the numbers of entries
+abbrev numbers : List StackEntry → List ℕ
+numbers es = map (λ (e : StackEntry). e.id) es
+
+apart_head : (n : ℕ) (ns : List ℕ) (i : ℕ) → AreApart (n ∷ ns) → slice_get ns i ≡ Some n → ⊥
+apart_head n ns i apart e = let k : zero ≡ suc i = apart zero (suc i) n refl e in absurd (omega arith)
+
+apart_tail : (n : ℕ) (ns : List ℕ) → AreApart (n ∷ ns) → AreApart ns
+apart_tail n ns apart i j m e f = let k : suc i ≡ suc j = apart (suc i) (suc j) m e f in omega arith
+
+-- ---- some of the entries
+
+-- the numbers of some entries, behind others
+abbrev chosen : (StackEntry → Bool) → List ℕ → List StackEntry → List ℕ
+chosen test ns [] = ns
+chosen test ns (e ∷ es) = chosen test (cond (test e) (ns ++ e.id ∷ []) ns) es
+
+-- entries that aren't among numbers
+abbrev AreFree : List ℕ → List StackEntry → Type 0
+AreFree ns es = (i n : ℕ) → slice_get (numbers es) i ≡ Some n → is_met n ns ≡ false
+
+met_push : (n m : ℕ) (ns : List ℕ) → is_met n (ns ++ m ∷ []) ≡ true → (is_met n ns ≡ true) ⊎ (n ≡ m)
+met_push n m ns is = elim (or_cases (is_met n ns) (is_met n (m ∷ [])) (sym (list_any-append (λ (k : ℕ). eqb n k) ns (m ∷ [])) ∙ is)) [
+  | inl old ↦ inl old
+  | inr last ↦ elim (or_cases (eqb n m) false last) [ inl same ↦ inr (eqb-true n m same) | inr none ↦ absurd cc ]
+]
+
+chosen_apart : (test : StackEntry → Bool) (ns : List ℕ) (es : List StackEntry) → AreApart ns → AreFree ns es → AreApart (numbers es) →
+    AreApart (chosen test ns es)
+chosen_apart test ns [] apart free entries = apart
+chosen_apart test ns (e ∷ es) apart free entries =
+    chosen_apart test (cond (test e) (ns ++ e.id ∷ []) ns) es (now (test e)) (λ i n at. false_from_ne_true _ (λ is. still (test e) i n at is))
+    (apart_tail e.id (numbers es) entries) where
+      now : (b : Bool) → AreApart (cond b (ns ++ e.id ∷ []) ns)
+      now true = apart_push ns e.id (λ i at. false≢true (sym (free zero e.id refl) ∙ met_at ns i e.id at)) apart
+      now false = apart
+
+      still : (b : Bool) (i n : ℕ) → slice_get (numbers es) i ≡ Some n → is_met n (cond b (ns ++ e.id ∷ []) ns) ≡ true → ⊥
+      still false i n at is = false≢true (sym (free (suc i) n at) ∙ is)
+      still true i n at is = elim (met_push n e.id ns is) [
+        | inl old ↦ false≢true (sym (free (suc i) n at) ∙ old)
+        | inr same ↦ apart_head e.id (numbers es) i entries (at ∙ ap (λ (x : ℕ). Some x) same)
+      ]
+
+chosen_count : (test other : StackEntry → Bool) → ((e : StackEntry) → other e ≡ not (test e)) → (ns ms : List ℕ) (es : List StackEntry) →
+    length (chosen test ns es) + length (chosen other ms es) ≡ length ns + length ms + length es
+chosen_count test other opposite ns ms [] = omega arith
+chosen_count test other opposite ns ms (e ∷ es) =
+    let rest = chosen_count test other opposite (cond (test e) (ns ++ e.id ∷ []) ns) (cond (other e) (ms ++ e.id ∷ []) ms) es in
+    rest ∙ step (test e) (other e) (opposite e) where
+      step : (b c : Bool) → c ≡ not b →
+          length (cond b (ns ++ e.id ∷ []) ns) + length (cond c (ms ++ e.id ∷ []) ms) + length es ≡ length ns + length ms + suc (length es)
+      step true true is = absurd cc
+      step true false is = omega (arith, length-append ns (e.id ∷ []))
+      step false true is = omega (arith, length-append ms (e.id ∷ []))
+      step false false is = absurd cc
+
+module _ (named : List ℕ) where
+  abbrev is_slot : StackEntry → Bool
+  is_slot e = not (is_object named e)
+
+  slots_chosen : (ns : List ℕ) (es : List StackEntry) → slots_behind named ns es ≡ chosen is_slot ns es
+  unfolding slots_behind
+  slots_chosen ns [] = refl
+  slots_chosen ns (e ∷ es) = slots_chosen (with_slot named ns e) es ∙ ap (λ (l : List ℕ). chosen is_slot l es) (step (is_object named e)) where
+    step : (b : Bool) → cond b ns (ns ++ e.id ∷ []) ≡ cond (not b) (ns ++ e.id ∷ []) ns
+    step true = refl
+    step false = refl
+
+  abbrev object_numbers : List Object → List ℕ
+  object_numbers os = map (λ (o : Object). o.id) os
+
+  objects_chosen : (laid : Laid) (es : List StackEntry) → object_numbers (objects_behind named laid es).objects ≡ chosen (is_object named)
+      (object_numbers laid.objects) es
+  unfolding objects_behind
+  objects_chosen laid [] = refl
+  objects_chosen laid (e ∷ es) = objects_chosen (with_object named laid e) es
+      ∙ ap (λ (l : List ℕ). chosen (is_object named) l es) (step (is_object named e)) where
+        step : (b : Bool) → object_numbers (cond b (record {
+          objects = laid.objects ++ laid_at laid.end e ∷ [];
+          end = up_to e.align laid.end + e.size;
+        }) laid).objects
+            ≡ cond b (object_numbers laid.objects ++ e.id ∷ []) (object_numbers laid.objects)
+        step true = map-append (λ (o : Object). o.id) laid.objects (laid_at laid.end e ∷ [])
+        step false = refl
+
+  module _ (es : List StackEntry) (apart : AreApart (numbers es)) where
+    pub slots_apart : AreApart (slots_of named es)
+    slots_apart = subst AreApart (sym (slots_chosen [] es)) (chosen_apart is_slot [] es (λ i j n e f. absurd cc) (λ i n at. refl) apart)
+
+    pub objects_apart : AreApart (object_numbers (objects_of named es).objects)
+    objects_apart = subst AreApart (sym (objects_chosen (record { objects = []; end = 0 }) es))
+        (chosen_apart (is_object named) [] es (λ i j n e f. absurd cc) (λ i n at. refl) apart)
+
+  pub frame_count : (es : List StackEntry) → length (slots_of named es) + length (objects_of named es).objects ≡ length es
+  frame_count es =
+      let count = chosen_count is_slot (is_object named) (λ e. twice (is_object named e)) [] [] es in
+      let objects : length (object_numbers (objects_of named es).objects) ≡ length (objects_of named es).objects = counted (objects_of named es).objects in
+      omega (arith, ap length (slots_chosen [] es), ap length (objects_chosen (record { objects = []; end = 0 }) es), objects, count) where
+        twice : (b : Bool) → b ≡ not (not b)
+        twice true = refl
+        twice false = refl
+
+        counted : (os : List Object) → length (object_numbers os) ≡ length os
+        counted [] = refl
+        counted (o ∷ os) = ap suc (counted os)
+
+  -- ---- a declared entry that is no object is a slot
+
+  slots_met : (es : List StackEntry) (seen ids slots : List ℕ) → ((n : ℕ) → is_met n seen ≡ true → (is_met n ids ≡ true) ⊎ (is_met n slots ≡ true)) →
+      (n : ℕ) → is_met n (ids_behind seen es) ≡ true → (is_met n (object_ids_behind named ids es) ≡ true) ⊎ (is_met n (slots_behind named slots es) ≡ true)
+  unfolding ids_behind object_ids_behind slots_behind
+  slots_met [] seen ids slots so_far n is = so_far n is
+  slots_met (e ∷ es) seen ids slots so_far n is =
+      slots_met es (met e.id seen) (with_id named ids e) (with_slot named slots e) (λ m has. step (is_object named e) m has) n is where
+        step : (b : Bool) (m : ℕ) → is_met m (met e.id seen) ≡ true →
+            (is_met m (cond b (met e.id ids) ids) ≡ true) ⊎ (is_met m (cond b slots (slots ++ e.id ∷ [])) ≡ true)
+        step b m has = elim (met_cases m e.id seen has) [
+          | inl old ↦ elim (so_far m old) [ inl object ↦ inl (kept_id b object) | inr slot ↦ inr (kept_slot b slot) ]
+          | inr same ↦ new b same
+        ] where
+          kept_id : (c : Bool) → is_met m ids ≡ true → is_met m (cond c (met e.id ids) ids) ≡ true
+          kept_id true object = met_keeps m e.id ids object
+          kept_id false object = object
+
+          kept_slot : (c : Bool) → is_met m slots ≡ true → is_met m (cond c slots (slots ++ e.id ∷ [])) ≡ true
+          kept_slot true slot = slot
+          kept_slot false slot = list_any-append (λ (k : ℕ). eqb m k) slots (e.id ∷ []) ∙ or_left (is_met m slots) (is_met m (e.id ∷ [])) slot
+
+          new : (c : Bool) → m ≡ e.id → (is_met m (cond c (met e.id ids) ids) ≡ true) ⊎ (is_met m (cond c slots (slots ++ e.id ∷ [])) ≡ true)
+          new true same = inl (ap (λ (k : ℕ). is_met k (met e.id ids)) same ∙ met_has e.id ids)
+          new false same = inr (list_any-append (λ (k : ℕ). eqb m k) slots (e.id ∷ [])
+              ∙ or_right (is_met m slots) (is_met m (e.id ∷ [])) (or_left (eqb m e.id) false (eq-eqb m e.id same)))
+
+  pub slot_if_no_object : (es : List StackEntry) (n : ℕ) → is_met n (entry_ids es) ≡ true → is_met n (ids_of_objects named es) ≡ false →
+      Contains (slots_of named es) n
+  slot_if_no_object es n is none = elim (slots_met es [] [] [] (λ m e. absurd cc) n is) [
+    | inl object ↦ absurd (false≢true (sym none ∙ object))
+    | inr slot ↦ met_contains (slots_of named es) n slot
+  ]
+
+-- ---- objects are laid one behind the other
+
+record IsLaid (laid : Laid) : Type 0 where
+  each : All IsSoundObject laid.objects
+  laid_from : AreLaidFrom 0 laid.objects
+  end_is : laid.end ≡ end_from 0 laid.objects
+
+laid_push : (n : ℕ) (os : List Object) (o : Object) → AreLaidFrom n os → o.offset ≡ up_to o.align (end_from n os) → AreLaidFrom n (os ++ o ∷ [])
+laid_push n [] o is at = (at, tt)
+laid_push n (p ∷ os) o is at = (is.0, laid_push (p.offset + p.size) os o is.1 at)
+
+end_push : (n : ℕ) (os : List Object) (o : Object) → end_from n (os ++ o ∷ []) ≡ o.offset + o.size
+end_push n [] o = refl
+end_push n (p ∷ os) o = end_push (p.offset + p.size) os o
+
+alignment : (align : ℕ) → is_alignment align ≡ true → Contains ALIGNMENTS align
+alignment align is = met_contains ALIGNMENTS align (by (eqb align 1) (eqb align 2) (eqb align 4) (eqb align 8) (eqb align 16) is) where
+  by : (a b c d e : Bool) → (a || (b || (c || (d || e)))) ≡ true → (a || (b || (c || (d || (e || false))))) ≡ true
+  by true b c d e is = refl
+  by false true c d e is = refl
+  by false false true d e is = refl
+  by false false false true e is = refl
+  by false false false false true is = refl
+  by false false false false false is = is
+
+module _ (named : List ℕ) where
+  laid_more : (laid : Laid) (e : StackEntry) → IsReadEntry e → IsLaid laid → IsLaid (with_object named laid e)
+  laid_more laid e entry is = by (is_object named e) where
+    o : Object
+    o = laid_at laid.end e
+
+    by : (b : Bool) → IsLaid (cond b (record { objects = laid.objects ++ laid_at laid.end e ∷ []; end = up_to e.align laid.end + e.size }) laid)
+    by true = record {
+      each = All-push IsSoundObject laid.objects (laid_at laid.end e) is.each (record { size = entry.size; aligned = alignment e.align entry.aligned });
+      laid_from = laid_push 0 laid.objects (laid_at laid.end e) is.laid_from (ap (up_to e.align) is.end_is);
+      end_is = sym (end_push 0 laid.objects (laid_at laid.end e));
+    }
+    by false = is
+
+  laid_behind : (laid : Laid) (es : List StackEntry) → All IsReadEntry es → IsLaid laid → IsLaid (objects_behind named laid es)
+  unfolding objects_behind
+  laid_behind laid [] all is = is
+  laid_behind laid (e ∷ es) all is =
+      laid_behind (with_object named laid e) es (All-tail IsReadEntry e es all) (laid_more laid e (All-head IsReadEntry e es all) is)
+
+  abbrev none_laid : Laid
+  none_laid = record { objects = []; end = 0 }
+
+  all_laid : (es : List StackEntry) → All IsReadEntry es → IsLaid (objects_of named es)
+  all_laid es all = laid_behind none_laid es all (record { each = All-nil IsSoundObject; laid_from = tt; end_is = refl })
+
+  pub objects_sound : (es : List StackEntry) → All IsReadEntry es → All IsSoundObject (objects_of named es).objects
+  objects_sound es all = (all_laid es all).each
+
+  pub objects_laid : (es : List StackEntry) → All IsReadEntry es → AreLaidFrom 0 (objects_of named es).objects
+  objects_laid es all = (all_laid es all).laid_from

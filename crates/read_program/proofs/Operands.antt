@@ -1,0 +1,194 @@
+-- What the operands of a line of code give: operands of these numbers, none of which is the stack pointer, and which name no stack entry but those of the line.
+use Rattle.std.proofs.Common.{◌≡◌, ℕ, ℤ, pos, ◌<◌, ◌≤◌, true, false, eqb, List, [], ◌∷◌, ◌++◌, All, Option, Some, None, refl}
+use Rattle.std.proofs.Common.{subst, ◌∙◌, arith}
+use Rattle.std.specs.List.{list_any, cons_option}
+use Rattle.std.proofs.lemmas.Bool.{or_parts, leb-false, eqb-false, or_left, or_right, eq-eqb}
+use Rattle.std.proofs.lemmas.List.Elements.{All-nil, All-cons, All-append}
+use Rattle.rv64_instr.specs.declared.op.Op.{Op}
+use Rattle.rv64_instr.specs.declared.operand.Operand.{Operand}
+use Rattle.rv64_instr.specs.declared.operand.Operand.TheVariants.{Def, Use, ImplicitDef, ImplicitUse, Imm, Slot, Object, Block, Symbol, Mask}
+use Rattle.mir_func.specs.Sound.{IsNotPointer}
+use Rattle.base_ids.specs.Limits.{MAX_NUMBER}
+use Rattle.read_token.specs.declared.lexeme.Flag.{Flag}
+use Rattle.read_token.specs.declared.lexeme.Flag.TheVariants as flags
+use Rattle.read_token.specs.declared.lexeme.RegisterName.{RegisterName}
+use Rattle.read_token.specs.declared.lexeme.RegisterName.TheVariants.{Physical, Absent, Other, Virtual}
+use Rattle.read_token.specs.Number.{BEYOND}
+use Rattle.read_line.specs.declared.form.ItemForm.{ItemForm}
+use Rattle.read_line.specs.declared.form.OperandForm.{OperandForm}
+use Rattle.read_line.specs.declared.form.OperandForm.TheVariants as form
+use Rattle.read_line.specs.declared.form.RegisterForm.{RegisterForm}
+use Rattle.read_line.specs.Exceeds.{is_beyond, operand_exceeds}
+use Rattle.read_item.specs.declared.place.Place.{Place}
+use Rattle.read_item.specs.declared.place.Place.TheVariants as place
+use Rattle.read_item.specs.Place.{front, behind}
+use Rattle.read_item.specs.Code.{number_of, used, stack_operand, number_operand, operand_at, before, joined, set_by, definition, definitions, placed, places_of}
+use Rattle.read_item.specs.Code.{operands_of, is_named, is_pointer, is_pointer_operand}
+use Rattle.read_item.specs.Judge.{entry_of, entries_of}
+use Rattle.read_body.specs.Met.{is_met}
+use Rattle.read_program.specs.Limited.{IsLimited}
+use Rattle.read_program.proofs.Lexemes.{NameFits}
+use Rattle.read_program.proofs.Forms.{AllOf, FormFits, RegisterFits, IntegerFits}
+
+-- the stack entries that an operand names are among these
+abbrev pub NamesAmong : List ℕ → Operand → Type 0
+NamesAmong entries (Slot n) = is_met n entries ≡ true
+NamesAmong entries (Object n) = is_met n entries ≡ true
+NamesAmong entries o = Unit {0}
+
+-- an operand as it was read
+pub record IsReadOperand (entries : List ℕ) (o : Operand) : Type 0 where
+  pub limited : IsLimited o
+  pub pointer : IsNotPointer o
+  pub named : NamesAmong entries o
+
+-- an operand's form, where its line isn't refused
+pub record IsReadForm (entries : List ℕ) (o : OperandForm) : Type 0 where
+  pub fits : FormFits o
+  pub within : operand_exceeds o ≡ false
+  pub pointer : is_pointer_operand o ≡ false
+  pub named : (n : ℕ) → entry_of o ≡ Some n → is_met n entries ≡ true
+
+-- ---- registers
+
+number_fits : (name : RegisterName) (r : ℕ) → NameFits name → number_of name ≡ Some r → r < 32
+number_fits (Physical n) r fits e = let same : n ≡ r = cc in subst (λ (x : ℕ). x < 32) same fits
+number_fits Absent r fits e = absurd cc
+number_fits Other r fits e = absurd cc
+number_fits (Virtual n) r fits e = let same : 10 ≡ r = cc in omega (arith, same)
+
+-- a plain register isn't x2
+plain_other : (name : RegisterName) (r : ℕ) → is_named flags.Plain name 2 ≡ false → number_of name ≡ Some r → r ≡ 2 → ⊥
+plain_other (Physical n) r other e two = let same : n ≡ r = cc in eqb-false n 2 other (same ∙ two)
+plain_other Absent r other e two = cc
+plain_other Other r other e two = cc
+plain_other (Virtual n) r other e two = let same : 10 ≡ r = cc in omega (arith, same, two)
+
+set_reads : (entries : List ℕ) (flag : Flag) (name : RegisterName) (number : Option ℕ) → number_of name ≡ number → (o : Operand) → NameFits name →
+    is_named flag name 2 ≡ false → set_by flag number ≡ Some o → IsReadOperand entries o
+set_reads entries flags.Plain name (Some r) is o fits other e =
+    let same : Def r ≡ o = cc in
+    subst (IsReadOperand entries) same (record { limited = number_fits name r fits is; pointer = plain_other name r other is; named = tt })
+set_reads entries flags.Plain name None is o fits other e = absurd cc
+set_reads entries flags.Implicit name number is o fits other e = absurd cc
+set_reads entries flags.ImplicitDef name number is o fits other e = absurd cc
+
+used_reads : (entries : List ℕ) (flag : Flag) (name : RegisterName) (number : Option ℕ) → number_of name ≡ number → (o : Operand) → NameFits name →
+    is_named flag name 2 ≡ false → used flag number ≡ Some o → IsReadOperand entries o
+used_reads entries flag name None is o fits other e = absurd cc
+used_reads entries flags.Plain name (Some r) is o fits other e =
+    let same : Use r ≡ o = cc in
+    subst (IsReadOperand entries) same (record { limited = number_fits name r fits is; pointer = plain_other name r other is; named = tt })
+used_reads entries flags.Implicit name (Some r) is o fits other e =
+    let same : ImplicitUse r ≡ o = cc in subst (IsReadOperand entries) same (record { limited = number_fits name r fits is; pointer = tt; named = tt })
+used_reads entries flags.ImplicitDef name (Some r) is o fits other e =
+    let same : ImplicitDef r ≡ o = cc in subst (IsReadOperand entries) same (record { limited = number_fits name r fits is; pointer = tt; named = tt })
+
+-- ---- the operand in a place
+
+reads : (entries : List ℕ) (o x : Operand) → Some x ≡ Some o → IsReadOperand entries x → IsReadOperand entries o
+reads entries o x e is = let same : x ≡ o = cc in subst (IsReadOperand entries) same is
+
+pub within_limit : (n : ℕ) → is_beyond n ≡ false → n ≤ MAX_NUMBER
+within_limit n e = let below = leb-false BEYOND n e in omega (arith, below)
+
+stack_reads : (entries : List ℕ) (p : Place) (n : ℕ) (o : Operand) → n ≤ MAX_NUMBER → is_met n entries ≡ true → stack_operand p n ≡ Some o →
+    IsReadOperand entries o
+stack_reads entries place.Object n o small met e = reads entries o (Object n) e (record { limited = small; pointer = tt; named = met })
+stack_reads entries place.Slot n o small met e = reads entries o (Slot n) e (record { limited = small; pointer = tt; named = met })
+stack_reads entries place.Register n o small met e = reads entries o (Use 10) e (record {
+  limited = omega arith;
+  pointer = λ two. omega
+      (arith, two);
+  named = tt;
+})
+stack_reads entries place.Number n o small met e = reads entries o (Imm (pos 0)) e (record { limited = omega arith; pointer = tt; named = tt })
+stack_reads entries place.Block n o small met e = reads entries o (Block 0) e (record { limited = omega arith; pointer = tt; named = tt })
+stack_reads entries place.Symbol n o small met e = reads entries o (Symbol []) e (record { limited = tt; pointer = tt; named = tt })
+stack_reads entries place.Mask n o small met e = reads entries o Mask e (record { limited = tt; pointer = tt; named = tt })
+stack_reads entries place.Implicit n o small met e = absurd cc
+
+number_reads : (entries : List ℕ) (i : Option ℤ) (o : Operand) → IntegerFits i → number_operand i ≡ Some o → IsReadOperand entries o
+number_reads entries None o fits e = absurd cc
+number_reads entries (Some i) o fits e = reads entries o (Imm i) e (record { limited = fits; pointer = tt; named = tt })
+
+operand_reads : (entries : List ℕ) (p : Place) (f : OperandForm) (o : Operand) → IsReadForm entries f → operand_at p f ≡ Some o → IsReadOperand entries o
+operand_reads entries p (form.Register r) o is e = used_reads entries r.flag r.name (number_of r.name) refl o is.fits is.pointer e
+operand_reads entries p (form.Integer i) o is e = number_reads entries i o is.fits e
+operand_reads entries p (form.Slot n) o is e = stack_reads entries p n o (within_limit n is.within) (is.named n refl) e
+operand_reads entries p (form.Block n) o is e = reads entries o (Block n) e (record { limited = within_limit n is.within; pointer = tt; named = tt })
+operand_reads entries p (form.Symbol name) o is e = reads entries o (Symbol name) e (record { limited = tt; pointer = tt; named = tt })
+operand_reads entries p form.Mask o is e = reads entries o Mask e (record { limited = tt; pointer = tt; named = tt })
+operand_reads entries p (form.Node n) o is e = absurd cc
+operand_reads entries p (form.Expression x) o is e = absurd cc
+operand_reads entries p (form.Reference r) o is e = absurd cc
+
+-- ---- all operands
+
+before_reads : (entries : List ℕ) (o : Option Operand) (rest : Option (List Operand)) (xs : List Operand) → before o rest ≡ Some xs →
+    ((x : Operand) → o ≡ Some x → IsReadOperand entries x) → ((ys : List Operand) → rest ≡ Some ys → All (IsReadOperand entries) ys) →
+    All (IsReadOperand entries) xs
+before_reads entries None rest xs e first more = absurd cc
+before_reads entries (Some o) None xs e first more = absurd cc
+before_reads entries (Some o) (Some ys) xs e first more =
+    let same : o ∷ ys ≡ xs = cc in subst (All (IsReadOperand entries)) same (All-cons (IsReadOperand entries) o ys (first o refl) (more ys refl))
+
+definitions_read : (entries : List ℕ) (rs : List RegisterForm) (xs : List Operand) → AllOf RegisterFits rs → list_any is_pointer rs ≡ false →
+    definitions rs ≡ Some xs → All (IsReadOperand entries) xs
+unfolding definitions
+definitions_read entries [] xs fits others e = let none : List Operand = [] in let same : none ≡ xs = cc in subst (All (IsReadOperand entries)) same
+    (All-nil (IsReadOperand entries))
+definitions_read entries (r ∷ rs) xs fits others e =
+    let parts = or_parts (is_pointer r) (list_any is_pointer rs) others in
+    before_reads entries (definition r) (definitions rs) xs e (λ x is. set_reads entries r.flag r.name (number_of r.name) refl x fits.0 parts.0 is)
+    (λ ys is. definitions_read entries rs ys fits.1 parts.1 is)
+
+placed_read : (entries : List ℕ) (ps : List Place) (os : List OperandForm) (xs : List Operand) → AllOf (IsReadForm entries) os → placed ps os ≡ Some xs →
+    All (IsReadOperand entries) xs
+unfolding placed
+placed_read entries ps [] xs is e = let none : List Operand = [] in let same : none ≡ xs = cc in subst (All (IsReadOperand entries)) same (All-nil
+    (IsReadOperand entries))
+placed_read entries ps (o ∷ os) xs is e =
+    before_reads entries (operand_at (front ps) o) (placed (behind ps) os) xs e (λ x from. operand_reads entries (front ps) o x is.0 from)
+    (λ ys from. placed_read entries (behind ps) os ys is.1 from)
+
+joined_reads : (entries : List ℕ) (a b : Option (List Operand)) (xs : List Operand) → joined a b ≡ Some xs →
+    ((ys : List Operand) → a ≡ Some ys → All (IsReadOperand entries) ys) → ((ys : List Operand) → b ≡ Some ys → All (IsReadOperand entries) ys) →
+    All (IsReadOperand entries) xs
+joined_reads entries None b xs e first more = absurd cc
+joined_reads entries (Some as') None xs e first more = absurd cc
+joined_reads entries (Some as') (Some bs) xs e first more =
+    let same : as' ++ bs ≡ xs = cc in
+    subst (All (IsReadOperand entries)) same (All-append (IsReadOperand entries) as' bs (first as' refl) (more bs refl))
+
+-- the operands of an instruction
+pub operands_read : (entries : List ℕ) (op : Op) (line : ItemForm) (xs : List Operand) → AllOf RegisterFits line.definitions →
+    list_any is_pointer line.definitions ≡ false → AllOf (IsReadForm entries) line.operands → operands_of op line ≡ Some xs → All (IsReadOperand entries) xs
+unfolding operands_of
+operands_read entries op line xs fits others forms e =
+    joined_reads entries (definitions line.definitions) (placed (places_of op line) line.operands) xs e
+    (λ ys is. definitions_read entries line.definitions ys fits others is) (λ ys is. placed_read entries (places_of op line) line.operands ys forms is)
+
+-- ---- forms
+
+-- all stack entries of a line are met where those of its operands are
+pub tail_met : (o : Option ℕ) (rest entries : List ℕ) → ((n : ℕ) → is_met n (cons_option o rest) ≡ true → is_met n entries ≡ true) →
+    (n : ℕ) → is_met n rest ≡ true → is_met n entries ≡ true
+tail_met None rest entries met n is = met n is
+tail_met (Some m) rest entries met n is = met n (or_right (eqb n m) (is_met n rest) is)
+
+pub head_met : (o : Option ℕ) (rest entries : List ℕ) → ((n : ℕ) → is_met n (cons_option o rest) ≡ true → is_met n entries ≡ true) →
+    (n : ℕ) → o ≡ Some n → is_met n entries ≡ true
+head_met None rest entries met n is = absurd cc
+head_met (Some m) rest entries met n is = let same : n ≡ m = cc in met n (or_left (eqb n m) (is_met n rest) (eq-eqb n m same))
+
+-- the forms of a line's operands
+pub forms_read : (entries : List ℕ) (os : List OperandForm) → AllOf FormFits os → list_any operand_exceeds os ≡ false → list_any is_pointer_operand os ≡ false →
+    ((n : ℕ) → is_met n (entries_of os) ≡ true → is_met n entries ≡ true) → AllOf (IsReadForm entries) os
+forms_read entries [] fits within others met = tt
+forms_read entries (o ∷ os) fits within others met =
+    let inside = or_parts (operand_exceeds o) (list_any operand_exceeds os) within in
+    let other = or_parts (is_pointer_operand o) (list_any is_pointer_operand os) others in (
+      record { fits = fits.0; within = inside.0; pointer = other.0; named = head_met (entry_of o) (entries_of os) entries met },
+      forms_read entries os fits.1 inside.1 other.1 (tail_met (entry_of o) (entries_of os) entries met),
+    )

@@ -1,0 +1,184 @@
+-- The stack entries that a document declares: few, apart, with sizes within the limit and alignments that are some.
+use Rattle.std.proofs.Common.{◌≡◌, ℕ, zero, suc, ◌≤◌, Bool, true, false, cond, not, ◌&&◌, ◌||◌, eqb, leb, List, [], ◌∷◌, map, length, All, Option, Some, None}
+use Rattle.std.proofs.Common.{Result, Ok, Err, refl, sym, subst, ◌∙◌, arith}
+use Rattle.std.specs.Prelude.{codes, is_none}
+use Rattle.std.specs.List.{slice_get}
+use Rattle.std.proofs.lemmas.Bool.{or_left, or_right, or_parts, not-false, leb-true, leb-false, eq-eqb, false≢true}
+use Rattle.std.proofs.lemmas.List.{map-append, length-append}
+use Rattle.std.proofs.lemmas.List.Elements.{All-nil, All-push}
+use Rattle.read_refusal.specs.declared.first.Refusal.{Refusal}
+use Rattle.read_refusal.specs.declared.kind.RefusalKind.{RefusalKind}
+use Rattle.read_refusal.specs.declared.kind.RefusalKind.TheVariants.{StackObject, TooMany}
+use Rattle.read_refusal.specs.First.{comes_before, earlier}
+use Rattle.read_metadata.specs.Number.{value_behind, spelled, zero_alone, unsigned_of, integer_of}
+use Rattle.read_metadata.specs.Token.{is_integer}
+use Rattle.read_documents.specs.declared.parts.FunctionDocument.{FunctionDocument}
+use Rattle.mir_func.specs.Sound.{AreApart}
+use Rattle.mir_func.specs.Limits.{MAX_SLOTS}
+use Rattle.base_ids.specs.Limits.{MAX_NUMBER}
+use Rattle.read_lexer.specs.declared.line.Line.{Line}
+use Rattle.read_declarations.specs.declared.declarations.Declarations.{Declarations}
+use Rattle.read_declarations.specs.declared.entry.Entry.{Entry}
+use Rattle.read_declarations.specs.declared.entry.Field.{Field}
+use Rattle.read_declarations.specs.declared.stack.StackEntry.{StackEntry}
+use Rattle.read_declarations.specs.declared.stack.StackRead.{StackRead}
+use Rattle.read_declarations.specs.declared.stream.Piece.{Piece}
+use Rattle.read_declarations.specs.Declarations.{fixed_refusal, refusal_of, declared_of, checked, declarations_of}
+use Rattle.read_declarations.specs.Field.{value_at, number_in, needed, given, is_variable_sized}
+use Rattle.read_declarations.specs.List.{list_of}
+use Rattle.read_declarations.specs.Name.{name_of}
+use Rattle.read_declarations.specs.Stack.{is_alignment, entry_with, unsized, stack_entry_of, has_id, clash, refusal_at, judged}
+use Rattle.read_declarations.specs.Stack.{stack_behind, stack_of}
+use Rattle.read_declarations.specs.Stream.{text_at}
+use Rattle.read_declarations.specs.Substitutions.{substitutions_of}
+use Rattle.read_program.proofs.Lists.{apart_push}
+
+pub record IsReadEntry (e : StackEntry) : Type 0 where
+  pub size : e.size ≤ MAX_NUMBER
+  pub aligned : is_alignment e.align ≡ true
+
+pub record IsReadStack (es : List StackEntry) : Type 0 where
+  pub few : length es ≤ MAX_SLOTS
+  pub each : All IsReadEntry es
+  pub apart : AreApart (map (λ e. e.id) es)
+
+-- ---- numbers
+
+one_of : (b : Bool) (o p : Option ℕ) (n : ℕ) → cond b o p ≡ Some n → (o ≡ Some n → n ≤ MAX_NUMBER) → (p ≡ Some n → n ≤ MAX_NUMBER) → n ≤ MAX_NUMBER
+one_of true o p n e first other = first e
+one_of false o p n e first other = other e
+
+within_small : (b : Bool) (m n : ℕ) → leb m MAX_NUMBER ≡ b → cond b (Some m) None ≡ Some n → n ≤ MAX_NUMBER
+within_small true m n is e = let same : m ≡ n = cc in subst (λ (x : ℕ). x ≤ MAX_NUMBER) same (leb-true m MAX_NUMBER is)
+within_small false m n is e = absurd cc
+
+spelled_small : (base : ℕ) (digits : List ℕ) (n : ℕ) → spelled base digits ≡ Some n → n ≤ MAX_NUMBER
+unfolding spelled
+spelled_small base digits n e = within_small (leb (value_behind base 0 digits) MAX_NUMBER) (value_behind base 0 digits) n refl e
+
+zero_small : (o : Option ℕ) (n : ℕ) → zero_alone o ≡ Some n → n ≤ MAX_NUMBER
+zero_small None n e = absurd cc
+zero_small (Some m) n e = one_of (eqb m 0) (Some 0) None n e (λ f. let same : 0 ≡ n = cc in omega (arith, same)) (λ f. absurd cc)
+
+unsigned_small : (a : ℕ) (bs : List ℕ) (n : ℕ) → unsigned_of a bs ≡ Some n → n ≤ MAX_NUMBER
+unsigned_small a [] n e = spelled_small 10 (a ∷ []) n e
+unsigned_small a (b ∷ bs) n e = one_of (eqb a 48 && eqb b 120) (spelled 16 bs) (spelled 10 (a ∷ b ∷ bs)) n e (spelled_small 16 bs n)
+    (spelled_small 10 (a ∷ b ∷ bs) n)
+
+integer_small : (text : List ℕ) (n : ℕ) → integer_of text ≡ Some n → n ≤ MAX_NUMBER
+integer_small [] n e = spelled_small 10 [] n e
+integer_small (a ∷ bs) n e = one_of (eqb a 45) (zero_alone (spelled 10 bs)) (unsigned_of a bs) n e (zero_small (spelled 10 bs) n) (unsigned_small a bs n)
+
+needed_small : (lines : List Line) (o : Option Piece) (n : ℕ) → number_in lines None o ≡ Some n → n ≤ MAX_NUMBER
+needed_small lines None n e = absurd cc
+needed_small lines (Some value) n e =
+    one_of (is_integer value.token) (integer_of (text_at lines value)) None n e (integer_small (text_at lines value) n) (λ f. absurd cc)
+
+-- ---- entries
+
+sized_reads : (b : Bool) (id size align : ℕ) (e : StackEntry) → size ≤ MAX_NUMBER → (variable : Bool) → (variable || not (is_alignment align)) ≡ b →
+    ◌≡◌ {A = Result StackEntry RefusalKind} (cond b (Err StackObject) (Ok (record { id = id; size = size; align = align }))) (Ok e) → IsReadEntry e
+sized_reads true id size align e small variable is made = absurd cc
+sized_reads false id size align e small variable is made =
+    let same : record { id = id; size = size; align = align } ≡ e = cc in
+    subst IsReadEntry same (record { size = small; aligned = not-false (is_alignment align) (or_parts variable (not (is_alignment align)) is).1 })
+
+with_reads : (variable : Bool) (id size align : Option ℕ) (e : StackEntry) → ((n : ℕ) → size ≡ Some n → n ≤ MAX_NUMBER) →
+    entry_with variable id size align ≡ Ok e →
+    IsReadEntry e
+with_reads variable (Some id) (Some size) (Some align) e small made =
+    sized_reads (variable || not (is_alignment align)) id size align e (small size refl) variable refl made
+with_reads variable (Some id) (Some size) None e small made = absurd cc
+with_reads variable (Some id) None align e small made = absurd cc
+with_reads variable None size align e small made = absurd cc
+
+unsized_none : (id : Option ℕ) (e : StackEntry) → unsized id ≡ Ok e → ⊥
+unsized_none (Some id) e made = cc
+unsized_none None e made = cc
+
+entry_reads_by : (b : Bool) (lines : List Line) (fields : List Field) (e : StackEntry) →
+    cond b (unsized (needed lines (codes "id") fields)) (entry_with (is_variable_sized lines fields) (needed lines (codes "id") fields)
+    (needed lines (codes "size") fields) (given lines (codes "alignment") 1 fields)) ≡ Ok e → IsReadEntry e
+entry_reads_by true lines fields e made = absurd (unsized_none (needed lines (codes "id") fields) e made)
+entry_reads_by false lines fields e made =
+    with_reads (is_variable_sized lines fields) (needed lines (codes "id") fields) (needed lines (codes "size") fields) (given lines
+    (codes "alignment") 1 fields) e
+    (λ n f. needed_small lines (value_at lines (codes "size") fields) n f) made
+
+entry_reads : (lines : List Line) (fields : List Field) (e : StackEntry) → stack_entry_of lines fields ≡ Ok e → IsReadEntry e
+entry_reads lines fields e made = entry_reads_by (is_variable_sized lines fields && is_none (value_at lines (codes "size") fields)) lines fields e made
+
+-- ---- refusals
+
+chosen_some : (b : Bool) (x y : Refusal) → cond b (Some x) (Some y) ≡ None → ⊥
+chosen_some true x y e = cc
+chosen_some false x y e = cc
+
+pub earlier_none : (a b : Option Refusal) → earlier a b ≡ None → (a ≡ None) × (b ≡ None)
+earlier_none None b e = (refl, e)
+earlier_none (Some x) None e = absurd cc
+earlier_none (Some x) (Some y) e = absurd (chosen_some (comes_before y x) y x e)
+
+refusal_none : (line : ℕ) (c : Option RefusalKind) → refusal_at line c ≡ None → c ≡ None
+refusal_none line None e = refl
+refusal_none line (Some kind) e = absurd cc
+
+clash_none : (a b : Bool) → cond a (Some StackObject) (cond b (Some TooMany) None) ≡ None → (a ≡ false) × (b ≡ false)
+clash_none true b e = absurd cc
+clash_none false true e = absurd cc
+clash_none false false e = (refl, refl)
+
+-- ---- stacks
+
+id_at : (es : List StackEntry) (i n : ℕ) → slice_get (map (λ e. e.id) es) i ≡ Some n → has_id es n ≡ true
+id_at [] i n e = absurd cc
+id_at (x ∷ es) zero n e = let same : n ≡ x.id = cc in or_left (eqb n x.id) (has_id es n) (eq-eqb n x.id same)
+id_at (x ∷ es) (suc i) n e = or_right (eqb n x.id) (has_id es n) (id_at es i n e)
+
+one_more : (read : StackRead) (line : ℕ) (r : Result StackEntry RefusalKind) → ((e : StackEntry) → r ≡ Ok e → IsReadEntry e) → IsReadStack read.entries →
+    (judged read line r).refused ≡ None → IsReadStack (judged read line r).entries × (read.refused ≡ None)
+one_more read line (Err kind) each is none = let parts = earlier_none read.refused (Some
+    (record { line = line; kind = kind })) none in let e = parts.1 in absurd cc
+one_more read line (Ok e) each is none =
+    let parts = earlier_none read.refused (refusal_at line (clash (has_id read.entries e.id) (length read.entries))) none in
+    let free = clash_none (has_id read.entries e.id) (leb MAX_SLOTS (length read.entries)) (refusal_none line _ parts.1) in (
+      record {
+        few = omega (arith, length-append read.entries (e ∷ []), leb-false MAX_SLOTS (length read.entries) free.1);
+        each = All-push IsReadEntry read.entries e is.each (each e refl);
+        apart = subst AreApart (sym (map-append (λ (x : StackEntry). x.id) read.entries (e ∷ []))) (apart_push (map (λ x. x.id) read.entries) e.id
+            (λ i at. false≢true (sym free.0 ∙ id_at read.entries i e.id at)) is.apart);
+      },
+      parts.0,
+    )
+
+refused_before : (lines : List Line) (read : StackRead) (es : List Entry) → (stack_behind lines read es).refused ≡ None → read.refused ≡ None
+unfolding stack_behind
+refused_before lines read [] none = none
+refused_before lines read (e ∷ es) none =
+    before (stack_entry_of lines e.fields) (refused_before lines (judged read e.line (stack_entry_of lines e.fields)) es none) where
+      before : (r : Result StackEntry RefusalKind) → (judged read e.line r).refused ≡ None → read.refused ≡ None
+      before (Ok x) f = (earlier_none read.refused _ f).0
+      before (Err kind) f = (earlier_none read.refused _ f).0
+
+stack_reads : (lines : List Line) (read : StackRead) (es : List Entry) → IsReadStack read.entries → (stack_behind lines read es).refused ≡ None →
+    IsReadStack (stack_behind lines read es).entries
+unfolding stack_behind
+stack_reads lines read [] is none = is
+stack_reads lines read (e ∷ es) is none =
+    let next = judged read e.line (stack_entry_of lines e.fields) in
+    let step = one_more read e.line (stack_entry_of lines e.fields) (entry_reads lines e.fields) is (refused_before lines next es none) in
+    stack_reads lines next es step.0 none
+
+checked_ok : (refused : Option Refusal) (declared d : Declarations) → checked refused declared ≡ Ok d → (refused ≡ None) × (declared ≡ d)
+checked_ok None declared d e = (refl, cc)
+checked_ok (Some r) declared d e = absurd cc
+
+-- the stack entries of a document that is read
+pub declared_stack : (doc : FunctionDocument) (d : Declarations) → declarations_of doc ≡ Ok d → IsReadStack d.stack
+declared_stack doc d e =
+    let is = checked_ok (refusal_of doc) (declared_of doc) d e in
+    let first = earlier_none (earlier (name_of doc.name).refused (stack_of doc.stack).refused)
+    (earlier (fixed_refusal doc.fixed) (substitutions_of doc.substitutions).refused) is.0 in
+    let none = (earlier_none (name_of doc.name).refused (stack_of doc.stack).refused first.0).1 in
+    subst (λ (x : Declarations). IsReadStack x.stack) is.1 (stack_reads doc.stack (record { entries = []; refused = (list_of doc.stack).refused })
+    (list_of doc.stack).entries (record { few = omega arith; each = All-nil IsReadEntry; apart = λ i j n e f. absurd cc }) none)

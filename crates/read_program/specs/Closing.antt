@@ -1,0 +1,105 @@
+-- What is judged where a function closes.
+use Rattle.std.specs.Prelude.{◌≡◌, ℕ, ◌≤◌, Bool, ◌&&◌, if◌then◌else◌, is_some, List, [], ◌∷◌, All, length, Option, Some, None, Result, Ok, Err}
+use Rattle.read_refusal.specs.declared.first.Refusal.{Refusal}
+use Rattle.read_refusal.specs.declared.kind.RefusalKind.{RefusalKind}
+use Rattle.read_refusal.specs.declared.kind.RefusalKind.TheVariants.{UnknownBlock, StackObject, BlockEnd}
+use Rattle.read_refusal.specs.First.{comes_before}
+use Rattle.read_metadata.specs.Maps.{Maps}
+use Rattle.read_documents.specs.declared.parts.FunctionDocument.{FunctionDocument}
+use Rattle.mir_func.specs.declared.block.Block.{Block}
+use Rattle.mir_func.specs.Function.{Function}
+use Rattle.mir_func.specs.Sound.{EndsWell, LastCloses}
+use Rattle.read_declarations.specs.declared.declarations.Declarations.{Declarations}
+use Rattle.read_declarations.specs.declared.stack.StackEntry.{StackEntry}
+use Rattle.mir_func.specs.Limits.{MAX_SLOTS}
+use Rattle.read_declarations.specs.Declarations.{declarations_of}
+use Rattle.read_body.specs.declared.body.Body.{Body}
+use Rattle.read_body.specs.Met.{met}
+use Rattle.read_body.specs.Body.{blocks_of}
+use Rattle.read_body.specs.Closing.{blocks_go_to, all_met}
+use Rattle.read_body.specs.Frame.{IsStackEntry, slots_of, objects_of, ids_of_objects}
+use Rattle.read_program.specs.declared.closing.Parts.{Parts}
+use Rattle.read_program.specs.declared.closing.Parsed.{Parsed}
+use Rattle.read_program.specs.declared.error.ParseError.{ParseError}
+use Rattle.read_program.specs.declared.error.ParseError.TheVariants as errors
+use Rattle.read_program.specs.Objects.{blocks_as, blocks_stay}
+use Rattle.read_program.specs.BodyLines.{body_of}
+
+-- the numbers of stack entries, behind those that were met
+unfoldable pub ids_behind : List ℕ → List StackEntry → List ℕ
+ids_behind ids [] = ids
+ids_behind ids (e ∷ es) = ids_behind (met e.id ids) es
+
+-- the numbers of stack entries
+abbrev pub entry_ids : List StackEntry → List ℕ
+entry_ids es = ids_behind [] es
+
+-- what the stack entries keep that a document declares: there are few, and each has a size and an alignment within the limits
+abbrev pub AreEntries : List StackEntry → Type 0
+AreEntries es = (length es ≤ MAX_SLOTS) × All IsStackEntry es
+
+-- what a function is made of beside its name
+abbrev pub laid_out : List ℕ → List StackEntry → List Block → Parts
+laid_out named es blocks = record {
+  slots = slots_of named es;
+  objects = (objects_of named es).objects;
+  blocks = blocks_as (ids_of_objects named es) blocks;
+}
+
+-- each access stays in its object
+abbrev pub stays : Parts → Bool
+stays parts = blocks_stay parts.objects parts.blocks
+
+-- the parts of a function, unless an access leaves its object
+abbrev pub parts_of : List ℕ → List StackEntry → List Block → Option Parts
+parts_of named es blocks = if stays (laid_out named es blocks) then Some (laid_out named es blocks) else None
+
+-- Why a function can't close: a branch goes to no block, or a stack entry that is named isn't declared, or an access leaves its object.
+abbrev pub closing_cause : Declarations → Body → Option RefusalKind
+closing_cause d body =
+    if blocks_go_to body.ids (blocks_of body)
+    then (if all_met (entry_ids d.stack) body.entries && is_some (parts_of body.objects d.stack (blocks_of body)) then None else Some StackObject)
+    else Some UnknownBlock
+
+-- the function of declarations and a body
+abbrev pub function_of : Declarations → Body → Function
+function_of d body = record {
+  name = d.name;
+  slots = slots_of body.objects d.stack;
+  objects = (objects_of body.objects d.stack).objects;
+  blocks = blocks_as (ids_of_objects body.objects d.stack) (blocks_of body);
+}
+
+-- Blocks end well: each ends with no branch, a return, a jump, a conditional branch, or a conditional branch and a jump, and control doesn't
+-- fall out of the last one.
+abbrev pub EndWell : List Block → Type 0
+EndWell blocks = All (λ b. EndsWell b.items) blocks × LastCloses blocks
+
+-- The refusal at the closing line: a cause, or else that its blocks don't end well.
+abbrev pub ClosesWith : ℕ → Refusal → Option RefusalKind → Function → Type 0
+ClosesWith line r (Some cause) f = r ≡ record { line = line; kind = cause }
+ClosesWith line r None f = (r ≡ record { line = line; kind = BlockEnd }) × (EndWell f.blocks → ⊥)
+
+-- What a call answers where declarations and a body close at a line.
+abbrev pub Closes : ℕ → Declarations → Body → Result Parsed ParseError → Type 0
+Closes line d body (Ok p) = (closing_cause d body ≡ None) × (p.func ≡ function_of d body) × (p.subs ≡ d.substitutions) × EndWell (function_of d body).blocks
+Closes line d body (Err errors.Memory) = Unit {0}
+Closes line d body (Err (errors.Refused r)) = ClosesWith line r (closing_cause d body) (function_of d body)
+
+-- what a call answers where a line is refused
+abbrev pub IsRefused : Refusal → Result Parsed ParseError → Type 0
+IsRefused r (Ok p) = ⊥
+IsRefused r (Err errors.Memory) = Unit {0}
+IsRefused r (Err (errors.Refused s)) = s ≡ r
+
+-- what a call answers for what was declared and the body, each read or refused: the first refusal counts
+abbrev pub ParsesParts : ℕ → Result Declarations Refusal → Result Body Refusal → Result Parsed ParseError → Type 0
+ParsesParts line (Ok d) (Ok body) answer = Closes line d body answer
+ParsesParts line (Err r) (Ok body) answer = IsRefused r answer
+ParsesParts line (Ok d) (Err s) answer = IsRefused s answer
+ParsesParts line (Err r) (Err s) answer = IsRefused (if comes_before s r then s else r) answer
+
+-- What a call answers for a function's document, by the metadata of its text: the function that it stands for, or its first
+-- refusal, which is that of a line of its declarations or its body, or else of its closing line.
+abbrev pub Parses : Maps → FunctionDocument → Result Parsed ParseError → Type 0
+Parses meta doc answer = ParsesParts doc.closed (declarations_of doc) (body_of meta doc.body) answer

@@ -1,0 +1,65 @@
+-- What every item keeps that was read: the form of its opcode, and numbers within their limits.
+use Rattle.std.specs.Prelude.{◌≡◌, ℤ, pos, negsuc, ◌<◌, ◌≤◌, ◌^◌, IfSome, All, Option, Some, None}
+use Rattle.rv64_instr.specs.declared.operand.Operand.{Operand}
+use Rattle.rv64_instr.specs.declared.operand.Operand.TheVariants.{Def, Use, ImplicitDef, ImplicitUse, Imm, Slot, Object, Block, Symbol, Mask}
+use Rattle.rv64_instr.specs.declared.place.Place.{Place}
+use Rattle.rv64_instr.specs.declared.place.Place.TheVariants as place
+use Rattle.mir_func.specs.declared.item.ItemKind.{ItemKind}
+use Rattle.mir_func.specs.declared.item.ItemKind.TheVariants.{Code, Mark, Phi}
+use Rattle.mir_func.specs.declared.location.Loc.{Loc}
+use Rattle.mir_func.specs.declared.location.Loc.TheVariants.{Absent, Node, Inline}
+use Rattle.mir_func.specs.declared.variable.MarkValue.{MarkValue}
+use Rattle.mir_func.specs.declared.variable.MarkValue.TheVariants.{Nothing, Constant, At, Pair}
+use Rattle.mir_func.specs.declared.variable.VarId.{VarId}
+use Rattle.mir_func.specs.Parts.{IsPart}
+use Rattle.base_ids.specs.Limits.{MAX_NUMBER}
+
+-- a signed number of 64 bits
+abbrev pub IsSigned : ℤ → Type 0
+IsSigned (pos n) = n < 2 ^ 63
+IsSigned (negsuc n) = n < 2 ^ 63
+
+-- ---- the numbers of items: what names or counts something is at most 2^30 - 1, a register is physical, and other integers have 64 bits
+
+-- an operand: registers x0 to x31, immediates of 64 bits, stack entries and blocks within the limit
+abbrev pub IsLimited : Operand → Type 0
+IsLimited (Def r) = r < 32
+IsLimited (Use r) = r < 32
+IsLimited (ImplicitDef r) = r < 32
+IsLimited (ImplicitUse r) = r < 32
+IsLimited (Imm i) = IsSigned i
+IsLimited (Slot n) = n ≤ MAX_NUMBER
+IsLimited (Object n) = n ≤ MAX_NUMBER
+IsLimited (Block n) = n ≤ MAX_NUMBER
+IsLimited (Symbol name) = Unit {0}
+IsLimited Mask = Unit {0}
+
+-- what a mark assigns: a constant of 64 bits, a physical register, or a pair within the limit
+abbrev pub ValueIsLimited : MarkValue → Type 0
+ValueIsLimited Nothing = Unit {0}
+ValueIsLimited (Constant i) = IsSigned i
+ValueIsLimited (At r) = r < 32
+ValueIsLimited (Pair q) = (q.number ≤ MAX_NUMBER) × (q.operand ≤ MAX_NUMBER)
+
+-- `$x0` is the constant 0, and no other constant is a place
+abbrev pub PlaceIsLimited : Option Place → Type 0
+PlaceIsLimited None = Unit {0}
+PlaceIsLimited (Some (place.Register r)) = (0 < r) × (r < 32)
+PlaceIsLimited (Some (place.Slot n)) = n ≤ MAX_NUMBER
+PlaceIsLimited (Some (place.Const c)) = c ≡ pos 0
+
+-- the variable of a mark: its node is within the limit, and its fragment a part that one may have
+abbrev pub VariableIsLimited : VarId → Type 0
+VariableIsLimited v = (v.node ≤ MAX_NUMBER) × IfSome v.fragment IsPart
+
+-- the numbers on an item's line but those of its location, the debug instruction number included
+abbrev pub KindIsLimited : ItemKind → Type 0
+KindIsLimited (Code i k) = All IsLimited i.operands × IfSome k (λ n. n ≤ MAX_NUMBER)
+KindIsLimited (Mark v m) = VariableIsLimited v × ValueIsLimited m
+KindIsLimited (Phi p k) = PlaceIsLimited p × (k ≤ MAX_NUMBER)
+
+-- a location: its node, or the line, column, scope and `inlinedAt` that it writes out
+abbrev pub LocIsLimited : Loc → Type 0
+LocIsLimited Absent = Unit {0}
+LocIsLimited (Node n) = n ≤ MAX_NUMBER
+LocIsLimited (Inline l) = (l.line ≤ MAX_NUMBER) × (l.column ≤ MAX_NUMBER) × (l.scope ≤ MAX_NUMBER) × IfSome l.inlined_at (λ n. n ≤ MAX_NUMBER)

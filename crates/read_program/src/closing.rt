@@ -1,0 +1,174 @@
+//! A function where its document closes.
+
+ghost use Rattle.std.specs.Prelude.{◌≡◌, IfOk, IfSome, IsNone, Ok};
+ghost use Rattle.read_metadata.specs.Maps.{Maps};
+ghost use Rattle.read_documents.specs.declared.parts.FunctionDocument.{FunctionDocument};
+ghost use Rattle.mir_func.specs.Sound.{IsSound};
+ghost use Rattle.read_declarations.specs.Declarations.{declarations_of};
+ghost use Rattle.read_body.specs.Body.{and_last};
+ghost use Rattle.read_program.specs.BodyLines.{body_of};
+ghost use Rattle.read_program.specs.Closing.{AreEntries, entry_ids, parts_of, Closes};
+
+use crate::error::ParseError;
+use crate::objects::{blocks_as, blocks_stay};
+use base_list::List;
+use read_body::body::Body;
+use read_body::closing::{all_met, blocks_go_to};
+use read_body::frame::{object_ids, objects, slots};
+use read_body::met::Met;
+use read_declarations::declarations::Declarations;
+use read_declarations::stack::StackEntry;
+use mir_func::block::{Block, Blocks};
+use mir_func::func::{Func, FuncError, SlotIds};
+use mir_func::object::Objects;
+use read_refusal::first::Refusal;
+use read_refusal::kind::RefusalKind;
+use rv64_instr::name::Name;
+use std::alloc::{AllocError, Global};
+use mir_substitution::substitutions::Substitutions;
+
+/// A function that a document stands for, with the substitutions of its debug instruction numbers.
+#[derive(Drop)]
+pub struct Parsed {
+    /// The function.
+    pub func: Func,
+    /// Its substitutions.
+    pub subs: Substitutions,
+}
+
+/// What a function is made of beside its name.
+#[derive(Drop)]
+pub struct Parts {
+    pub slots: SlotIds,
+    pub objects: Objects,
+    pub blocks: Blocks,
+}
+
+/// The numbers of stack entries.
+fn entry_ids(alloc: Global, entries: &[StackEntry]) -> Result<Met, AllocError>
+    ensures { IfOk result (λ ids. ids ≡ entry_ids entries.now) }
+{
+    let mut ids = Met::new(alloc);
+    for entry in entries {
+        ids.meet(u64::from(entry.id.number()))?;
+    }
+    Ok(ids)
+}
+
+/// Blocks with one more, if it is there.
+fn and_last(mut before: Blocks, last: Option<Block>) -> Result<Blocks, AllocError>
+    ensures { IfOk result (λ blocks. blocks ≡ and_last before last) }
+{
+    if let Some(block) = last {
+        before.push(block)?;
+    }
+    Ok(before)
+}
+
+/// The parts of a function of these stack entries and blocks, where code names these entries as objects. There are none
+/// where an access leaves its object.
+fn parts_of(
+    alloc: Global,
+    named: &Met,
+    entries: &[StackEntry],
+    blocks: &[Block],
+) -> Result<Option<Parts>, AllocError>
+    requires { AreEntries entries.now }
+    ensures { IfOk result (λ parts. parts ≡ parts_of named.now entries.now blocks.now) }
+{
+    let laid = objects(alloc, named, entries)?;
+    let ids = object_ids(alloc, named, entries)?;
+    let blocks = blocks_as(alloc, &ids, blocks)?;
+    if !blocks_stay(laid.objects.as_slice(), blocks.as_slice()) {
+        return Ok(None);
+    }
+    let slots = slots(alloc, named, entries)?;
+    Ok(Some(Parts {
+        slots,
+        objects: laid.objects,
+        blocks,
+    }))
+}
+
+/// The refusal of the closing line.
+fn refused(line: u32, kind: RefusalKind) -> ParseError
+    ensures { result ≡ ParseError.Refused (record { line = line; kind = kind }) }
+{
+    ParseError::Refused(Refusal { line, kind })
+}
+
+/// The function of a name and of parts, and `None` where these make no sound one.
+fn function(alloc: Global, name: Name, parts: Parts) -> Result<Option<Func>, AllocError>
+    ensures some { IfOk result (λ func. IfSome func (λ f. f ≡ record {
+      name = name;
+      slots = parts.slots;
+      objects = parts.objects;
+      blocks = parts.blocks;
+    })) }
+    ensures sound { IfOk result (λ func. IfSome func (λ f. IsSound f)) }
+    ensures none { IfOk result (λ func. IsNone func → IsSound (record {
+      name = name;
+      slots = parts.slots;
+      objects = parts.objects;
+      blocks = parts.blocks;
+    }) → ⊥) }
+{
+    match Func::new(alloc, name, parts.slots, parts.objects, parts.blocks) {
+        Ok(func) => {
+            let _ = &func.blocks;
+            Ok(Some(func))
+        }
+        Err(FuncError::Unsound) => Ok(None),
+        Err(FuncError::Memory) => Err(AllocError),
+    }
+}
+
+/// The function of declarations and a body, where both are read and the function closes at a line. Refused there are
+/// `UnknownBlock`, `StackObject` and `BlockEnd`.
+pub fn close(
+    alloc: Global,
+    line: u32,
+    declared: Declarations,
+    body: Body,
+) -> Result<Parsed, ParseError>
+    requires { AreEntries declared.stack }
+    ensures { (meta : Maps) (doc : FunctionDocument) →
+        declarations_of doc ≡ Ok declared → body_of meta doc.body ≡ Ok body → Closes line declared body result }
+{
+    let Body {
+        before,
+        last,
+        entries,
+        items: _,
+        ids,
+        codes: _,
+        numbers: _,
+        constants: _,
+        objects,
+        variables: _,
+    } = body;
+    let blocks = and_last(before, last)?;
+    if !blocks_go_to(&ids, blocks.as_slice()) {
+        return Err(refused(line, RefusalKind::UnknownBlock));
+    }
+    let known = entry_ids(alloc, declared.stack.as_slice())?;
+    if !all_met(&known, entries.as_slice()) {
+        return Err(refused(line, RefusalKind::StackObject));
+    }
+    let Some(parts) = parts_of(
+        alloc,
+        &objects,
+        declared.stack.as_slice(),
+        blocks.as_slice(),
+    )?
+    else {
+        return Err(refused(line, RefusalKind::StackObject));
+    };
+    match function(alloc, declared.name, parts)? {
+        Some(func) => Ok(Parsed {
+            func,
+            subs: declared.substitutions,
+        }),
+        None => Err(refused(line, RefusalKind::BlockEnd)),
+    }
+}

@@ -1,0 +1,83 @@
+//! A function as its document says it.
+
+ghost use Rattle.std.specs.Prelude.{◌≡◌, IfOk};
+ghost use Rattle.read_declarations.specs.Declarations.{declarations_of};
+ghost use Rattle.read_metadata.specs.Maps.{Maps};
+ghost use Rattle.read_documents.specs.declared.parts.FunctionDocument.{FunctionDocument};
+ghost use Rattle.read_program.specs.BodyLines.{body_of};
+ghost use Rattle.read_program.specs.Closing.{AreEntries, IsRefused, ParsesParts, Parses};
+
+use crate::body::read_body;
+use crate::closing::{Parsed, close};
+use crate::error::ParseError;
+use read_metadata::metadata::Metadata;
+use read_body::body::Body;
+use read_declarations::declarations::{DeclarationError, Declarations, read_declarations};
+use read_documents::parts::FunctionDocument;
+use read_refusal::first::{Refusal, comes_before};
+use std::alloc::{AllocError, Global};
+
+/// What a document declares, or its first refusal there.
+fn declared(
+    alloc: Global,
+    document: &FunctionDocument,
+) -> Result<Result<Declarations, Refusal>, AllocError>
+    ensures read { IfOk result (λ read. read ≡ declarations_of document.now) }
+    ensures entries { IfOk result (λ read. IfOk read (λ d. AreEntries d.stack)) }
+{
+    match read_declarations(alloc, document) {
+        Ok(declared) => Ok(Ok(declared)),
+        Err(DeclarationError::Refused(refusal)) => Ok(Err(refusal)),
+        Err(DeclarationError::Memory) => Err(AllocError),
+    }
+}
+
+/// A refused document.
+fn refused(refusal: Refusal) -> Result<Parsed, ParseError>
+    ensures { IsRefused refusal result }
+{
+    Err(ParseError::Refused(refusal))
+}
+
+/// The function of what was declared and of a body, where both were read; else the first refusal of the two.
+fn put_together(
+    alloc: Global,
+    line: u32,
+    declared: Result<Declarations, Refusal>,
+    body: Result<Body, Refusal>,
+) -> Result<Parsed, ParseError>
+    requires { IfOk declared (λ d. AreEntries d.stack) }
+    ensures { (meta : Maps) (doc : FunctionDocument) → declarations_of doc ≡ declared → body_of meta doc.body ≡ body →
+        ParsesParts line declared body result }
+{
+    match declared {
+        Ok(declared) => match body {
+            Ok(body) => close(alloc, line, declared, body),
+            Err(refusal) => refused(refusal),
+        },
+        Err(refusal) => match body {
+            Ok(_) => refused(refusal),
+            Err(other) => refused(if comes_before(other, refusal) {
+                other
+            } else {
+                refusal
+            }),
+        },
+    }
+}
+
+/// The function that a document stands for, by the metadata of its text. Refused is the first line of its declarations
+/// or its body that can't stand where it does; else, at the line that closes it, a function with a branch to no block,
+/// with a stack entry that isn't declared or an access that leaves its object, or with an end of a block that isn't
+/// one. (LLVM, Machine IR (MIR) Format Reference Manual.)
+pub fn parse(
+    alloc: Global,
+    document: &FunctionDocument,
+    meta: &Metadata,
+) -> Result<Parsed, ParseError>
+    ensures { Parses meta.now document.now result }
+{
+    let declared = declared(alloc, document)?;
+    let body = read_body(alloc, document.body.as_slice(), meta)?;
+    put_together(alloc, document.closed, declared, body)
+}

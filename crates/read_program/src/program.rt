@@ -1,0 +1,89 @@
+//! A whole text.
+
+ghost use Rattle.std.specs.Prelude.{◌≡◌, ◌^◌, ◌<◌, [], length, Ok};
+ghost use Rattle.read_program.specs.Program.{program_of, FunctionsFrom, ReadsText, UnlessMemory};
+
+use crate::closing::Parsed;
+use crate::error::ParseError;
+use crate::parse::parse;
+use base_list::List;
+use read_metadata::metadata::{Metadata, read_meta};
+use read_documents::frame::documents;
+use read_documents::parts::{Documents, FunctionDocument};
+use read_refusal::first::Refusal;
+use read_refusal::kind::RefusalKind;
+use std::alloc::Global;
+
+/// How many functions a text may have.
+pub const MAX_FUNCTIONS: usize = 256;
+
+/// Functions in the order of the text.
+pub type ParsedFunctions = List<Parsed>;
+
+/// What a text stands for: its functions, and the metadata of its IR block (LLVM: the machine functions of a module,
+/// `MachineModuleInfo`).
+#[derive(Drop)]
+pub struct Program {
+    /// The functions in the order of the text.
+    pub functions: ParsedFunctions,
+    /// The metadata that they share.
+    pub meta: Metadata,
+}
+
+/// The functions of documents in order, up to the first that is refused.
+fn read_functions(
+    alloc: Global,
+    documents: &[FunctionDocument],
+    meta: &Metadata,
+) -> Result<ParsedFunctions, ParseError>
+    ensures { UnlessMemory result (FunctionsFrom meta.now [] documents.now result) }
+{
+    let mut functions = List::new(alloc);
+    for document in documents {
+        if MAX_FUNCTIONS <= functions.len() {
+            return Err(ParseError::Refused(Refusal {
+                line: document.opened,
+                kind: RefusalKind::TooMany,
+            }));
+        }
+        match parse(alloc, document, meta) {
+            Ok(parsed) => functions.push(parsed)?,
+            Err(error) => return Err(error),
+        }
+    }
+    Ok(functions)
+}
+
+/// The program of functions and metadata, where the text is a sequence of documents.
+fn whole(
+    functions: ParsedFunctions,
+    meta: Metadata,
+    bad: Option<u32>,
+) -> Result<Program, ParseError>
+    ensures { result ≡ program_of meta bad (Ok functions) }
+{
+    match bad {
+        None => Ok(Program { functions, meta }),
+        Some(line) => Err(ParseError::Refused(Refusal {
+            line,
+            kind: RefusalKind::BadDocument,
+        })),
+    }
+}
+
+/// The program that a text of fewer than 2^31 bytes stands for. Refused is the first line that can't stand where it
+/// does, with the lowest number of its causes: one of a function, the opening line of a function above the limit, or
+/// a line where the text is no sequence of documents. (YAML 1.2; LLVM, Machine IR (MIR) Format Reference Manual.)
+pub fn read_program(alloc: Global, text: &[u8]) -> Result<Program, ParseError>
+    requires { length text.now < 2 ^ 31 }
+    ensures { UnlessMemory result (ReadsText text.now result) }
+{
+    let Documents {
+        meta,
+        functions,
+        bad,
+    } = documents(alloc, text)?;
+    let meta = read_meta(alloc, &meta)?;
+    let functions = read_functions(alloc, functions.as_slice(), &meta)?;
+    whole(functions, meta, bad)
+}

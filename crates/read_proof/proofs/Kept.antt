@@ -1,0 +1,234 @@
+-- What an item keeps where stack entries are read as objects: its numbers, and that its text tells it.
+use Rattle.std.proofs.Common.{◌≡◌, ℕ, ℤ, pos, negsuc, ◌<◌, ◌≤◌, Bool, true, false, cond, List, All, Option, Some, None, refl, sym, subst, ◌∙◌, arith}
+use Rattle.std.specs.Prelude.{IfSome, is_some}
+use Rattle.std.proofs.lemmas.List.Elements.{All-map, All-weaker}
+use Rattle.rv64_instr.specs.declared.operand.Operand.{Operand}
+use Rattle.rv64_instr.specs.declared.operand.Operand.TheVariants.{Def, Use, ImplicitDef, ImplicitUse, Imm, Slot, Object, Block, Symbol, Mask}
+use Rattle.rv64_instr.specs.declared.place.Place.{Place}
+use Rattle.rv64_instr.specs.declared.place.Place.TheVariants as place
+use Rattle.rv64_instr.specs.Instruction.{Instruction}
+use Rattle.rv64_instr.specs.Row.{row_of}
+use Rattle.read_metadata.specs.Maps.{Maps}
+use Rattle.read_metadata.specs.Metadata.{location_at}
+use Rattle.mir_func.specs.declared.item.ItemKind.{ItemKind}
+use Rattle.mir_func.specs.declared.item.ItemKind.TheVariants.{Code, Mark, Phi}
+use Rattle.mir_func.specs.declared.location.Loc.{Loc}
+use Rattle.mir_func.specs.declared.location.Loc.TheVariants.{Absent, Node, Inline}
+use Rattle.mir_func.specs.declared.variable.MarkValue.{MarkValue}
+use Rattle.mir_func.specs.declared.variable.MarkValue.TheVariants.{Nothing, Constant, At, Pair}
+use Rattle.mir_func.specs.Objects.{object_of}
+use Rattle.mir_func.specs.SoundFrame.{IsPhysical, ValueIsPhysical, PlaceIsPhysical, HasPhysical}
+use Rattle.mir_func.specs.Sound.{HasForm}
+use Rattle.base_ids.specs.Limits.{MAX_NUMBER}
+use Rattle.read_item.specs.Debug.{inlined_at, inlined_at_node}
+use Rattle.read_declarations.specs.declared.stack.StackEntry.{StackEntry}
+use Rattle.read_body.specs.Body.{row_object, object_named}
+use Rattle.read_body.specs.Frame.{objects_of, ids_of_objects}
+use Rattle.read_body.specs.Met.{is_met}
+use Rattle.read_program.specs.Closing.{entry_ids}
+use Rattle.read_program.specs.Objects.{operand_as, operands_as, is_object, place_as, kind_as}
+use Rattle.mir_printer.specs.Printable.{IsNumber, IsSigned, HasNumbers, IsAsDeclared, IsPrintableInstruction, IsPrintablePlace, IsPrintableValue}
+use Rattle.mir_printer.specs.Printable.{IsPrintableLoc, Declared}
+use Rattle.mir_printer.specs.Printable.{inlined_at as text_inlined_at, IsPrintableKind}
+use Rattle.read_program.specs.Limited.{IsSigned as ReadSigned, IsLimited, ValueIsLimited, PlaceIsLimited, KindIsLimited, LocIsLimited}
+use Rattle.read_program.proofs.Entries.{object_if_named, ids_are_objects}
+use Rattle.read_program.proofs.Items.{IsReadItem}
+use Rattle.read_program.proofs.Lists.{both}
+use Rattle.read_program.proofs.Operands.{NamesAmong}
+use Rattle.read_program.proofs.Printed.{form_kept, renamed, ObjectsAre, one_object}
+use Rattle.read_program.proofs.Renamed.{has_form_as}
+
+-- ---- forms and numbers, in the words of those who need them
+
+signed : (i : ℤ) → ReadSigned i → IsSigned i
+signed (pos n) small = small
+signed (negsuc n) small = small
+
+limited_number : (n : ℕ) → n ≤ MAX_NUMBER → IsNumber n
+limited_number n small = omega (arith, small)
+
+register_number : (r : ℕ) → r < 32 → IsNumber r
+register_number r small = omega (arith, small)
+
+some_number : (n : Option ℕ) → IfSome n (λ k. k ≤ MAX_NUMBER) → IfSome n IsNumber
+some_number None small = tt
+some_number (Some n) small = limited_number n small
+
+operand_numbers : (o : Operand) → IsLimited o → HasNumbers o
+operand_numbers (Def r) small = register_number r small
+operand_numbers (Use r) small = register_number r small
+operand_numbers (ImplicitDef r) small = register_number r small
+operand_numbers (ImplicitUse r) small = register_number r small
+operand_numbers (Imm i) small = signed i small
+operand_numbers (Slot n) small = limited_number n small
+operand_numbers (Object n) small = limited_number n small
+operand_numbers (Block n) small = limited_number n small
+operand_numbers (Symbol name) small = tt
+operand_numbers Mask small = tt
+
+operand_physical : (o : Operand) → IsLimited o → IsPhysical o
+operand_physical (Def r) small = small
+operand_physical (Use r) small = small
+operand_physical (ImplicitDef r) small = small
+operand_physical (ImplicitUse r) small = small
+operand_physical (Imm i) small = tt
+operand_physical (Slot n) small = tt
+operand_physical (Object n) small = tt
+operand_physical (Block n) small = tt
+operand_physical (Symbol name) small = tt
+operand_physical Mask small = tt
+
+value_physical : (m : MarkValue) → ValueIsLimited m → ValueIsPhysical m
+value_physical Nothing small = tt
+value_physical (Constant i) small = tt
+value_physical (At r) small = small
+value_physical (Pair q) small = tt
+
+value_printable : (m : MarkValue) → ValueIsLimited m → IsPrintableValue m
+value_printable Nothing small = tt
+value_printable (Constant i) small = signed i small
+value_printable (At r) small = register_number r small
+value_printable (Pair q) small = (limited_number q.number small.0, limited_number q.operand small.1)
+
+place_physical : (p : Option Place) → PlaceIsLimited p → PlaceIsPhysical p
+place_physical None small = tt
+place_physical (Some (place.Register r)) small = small.1
+place_physical (Some (place.Slot n)) small = tt
+place_physical (Some (place.Const c)) small = tt
+
+place_printable : (p : Option Place) → PlaceIsLimited p → IsPrintablePlace p
+place_printable None small = tt
+place_printable (Some (place.Register r)) small = (small.0, register_number r small.1)
+place_printable (Some (place.Slot n)) small = limited_number n small
+place_printable (Some (place.Const c)) small = small
+
+loc_printable : (loc : Loc) → LocIsLimited loc → IsPrintableLoc loc
+loc_printable Absent small = tt
+loc_printable (Node n) small = limited_number n small
+loc_printable (Inline l) small = (
+  limited_number l.line small.0,
+  limited_number l.column small.1,
+  limited_number l.scope small.2,
+  some_number
+      l.inlined_at small.3,
+)
+
+pub physical : (kind : ItemKind) → KindIsLimited kind → HasPhysical kind
+physical (Code i k) small = All-weaker IsLimited IsPhysical operand_physical i.operands small.0
+physical (Mark v m) small = value_physical m small.1
+physical (Phi p k) small = place_physical p small.0
+
+-- where a location is inlined, in the metadata
+inlined_alike : (meta : Maps) (loc : Loc) → inlined_at meta loc ≡ text_inlined_at (λ n. inlined_at_node (location_at meta n)) loc
+inlined_alike meta Absent = refl
+inlined_alike meta (Node n) = refl
+inlined_alike meta (Inline l) = refl
+
+module _ (meta : Maps) (named : List ℕ) (es : List StackEntry) where
+  abbrev ids : List ℕ
+  ids = ids_of_objects named es
+
+  abbrev objects : ℕ → Bool
+  objects n = is_some (object_of (objects_of named es).objects n)
+
+  abbrev declared : Declared
+  declared = record { objects = objects; inlined = λ n. inlined_at_node (location_at meta n) }
+
+  -- ---- numbers stay
+
+  operand_limited : (o : Operand) → IsLimited o → IsLimited (operand_as ids o)
+  operand_limited (Slot n) small = by (is_met n ids) where
+    by : (b : Bool) → IsLimited (cond b (Object n) (Slot n))
+    by true = small
+    by false = small
+  operand_limited (Def r) small = small
+  operand_limited (Use r) small = small
+  operand_limited (ImplicitDef r) small = small
+  operand_limited (ImplicitUse r) small = small
+  operand_limited (Imm i) small = small
+  operand_limited (Object n) small = small
+  operand_limited (Block n) small = small
+  operand_limited (Symbol name) small = tt
+  operand_limited Mask small = tt
+
+  place_limited : (p : Option Place) → PlaceIsLimited p → PlaceIsLimited (place_as ids p)
+  place_limited None small = tt
+  place_limited (Some p) small = by (is_object ids p) where
+    by : (b : Bool) → PlaceIsLimited (cond b None (Some p))
+    by true = tt
+    by false = small
+
+  operands_limited : (os : List Operand) → All IsLimited os → All IsLimited (operands_as ids os)
+  operands_limited os all = All-map IsLimited (operand_as ids) os (All-weaker IsLimited (λ o. IsLimited (operand_as ids o)) operand_limited os all)
+
+  kind_limited : (kind : ItemKind) → HasForm kind → KindIsLimited kind → KindIsLimited (kind_as ids kind)
+  kind_limited (Code i k) form small =
+      subst (λ (j : Instruction). All IsLimited j.operands × IfSome k (λ n. n ≤ MAX_NUMBER)) (sym (renamed ids i form))
+      (operands_limited i.operands small.0, small.1)
+  kind_limited (Mark v m) form small = small
+  kind_limited (Phi p k) form small = (place_limited p small.0, small.1)
+
+  -- ---- operands are as they are declared
+
+  module _ (entries : List ℕ) (found : Option ℕ) (all : (n : ℕ) → is_met n entries ≡ true → is_met n (entry_ids es) ≡ true)
+      (code : (n : ℕ) → found ≡ Some n → is_met n named ≡ true) where
+    operand_declared : (o : Operand) → NamesAmong entries o × ObjectsAre found o → IsAsDeclared objects (operand_as ids o)
+    operand_declared (Slot n) is = by (is_met n ids) refl where
+      by : (b : Bool) → is_met n ids ≡ b → IsAsDeclared objects (cond b (Object n) (Slot n))
+      by true e = sym (ids_are_objects named n es) ∙ e
+      by false e = sym (ids_are_objects named n es) ∙ e
+    operand_declared (Object n) is = sym (ids_are_objects named n es) ∙ object_if_named named es n (all n is.0) (code n is.1)
+    operand_declared (Def r) is = tt
+    operand_declared (Use r) is = tt
+    operand_declared (ImplicitDef r) is = tt
+    operand_declared (ImplicitUse r) is = tt
+    operand_declared (Imm i) is = tt
+    operand_declared (Block n) is = tt
+    operand_declared (Symbol name) is = tt
+    operand_declared Mask is = tt
+
+    operands_declared : (os : List Operand) → All (NamesAmong entries) os → All (ObjectsAre found) os → All (IsAsDeclared objects) (operands_as ids os)
+    operands_declared os names objs = All-map (IsAsDeclared objects) (operand_as ids) os
+        (All-weaker (λ o. NamesAmong entries o × ObjectsAre found o) (λ o. IsAsDeclared objects (operand_as ids o)) operand_declared os
+        (both (NamesAmong entries) (ObjectsAre found) os names objs))
+
+  -- ---- items
+
+  module _ (entries : List ℕ) (all : (n : ℕ) → is_met n entries ≡ true → is_met n (entry_ids es) ≡ true) where
+    kind_printable : (kind : ItemKind) (loc : Loc) → IsReadItem meta entries kind loc → ((n : ℕ) → object_named kind ≡ Some n → is_met n named ≡ true) →
+        IsPrintableKind declared loc (kind_as ids kind)
+    kind_printable (Code i k) loc is code = (
+      subst (IsPrintableInstruction objects) (sym (renamed ids i is.form)) (record {
+        form = form_kept ids i.op i.operands is.form;
+        numbers = All-weaker IsLimited HasNumbers operand_numbers (operands_as ids i.operands) (operands_limited i.operands is.limited.0);
+        stack = λ slots. operands_declared entries (row_object (row_of i)) all code i.operands is.named (one_object i.op i.operands is.form);
+      }),
+      some_number k is.limited.1,
+    )
+    kind_printable (Mark v m) loc is code = (
+      record {
+        node = limited_number v.node is.limited.0.0;
+        inlined = is.inlined ∙ inlined_alike meta loc;
+        part = is.limited.0.1;
+      },
+      value_printable m is.limited.1,
+    )
+    kind_printable (Phi p k) loc is code = (place_printable (place_as ids p) (place_limited p is.limited.0), limited_number k is.limited.1)
+
+    -- what is kept of an item
+    pub record IsKept (kind : ItemKind) (loc : Loc) : Type 0 where
+      pub form : HasForm kind
+      pub limited : KindIsLimited kind
+      pub place : LocIsLimited loc
+      pub printable : IsPrintableKind declared loc kind
+      pub told : IsPrintableLoc loc
+
+    pub item_kept : (kind : ItemKind) (loc : Loc) → IsReadItem meta entries kind loc → ((n : ℕ) → object_named kind ≡ Some n → is_met n named ≡ true) →
+        IsKept (kind_as ids kind) loc
+    item_kept kind loc is code = record {
+      form = has_form_as ids kind is.form;
+      limited = kind_limited kind is.form is.limited;
+      place = is.place;
+      printable = kind_printable kind loc is code;
+      told = loc_printable loc is.place;
+    }

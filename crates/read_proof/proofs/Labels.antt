@@ -1,0 +1,149 @@
+-- The numbers of a body's blocks are within their limit.
+use Rattle.std.proofs.Common.{◌≡◌, ℕ, ◌≤◌, Bool, true, false, cond, ltb, List, [], ◌∷◌, ◌++◌, All, Option, Some, None, Result, Ok, Err}
+use Rattle.std.proofs.Common.{refl, sym, subst, arith}
+use Rattle.std.proofs.lemmas.Bool.{ltb-true}
+use Rattle.std.proofs.lemmas.List.Elements.{All-nil, All-cons, All-head, All-tail, All-push}
+use Rattle.read_refusal.specs.declared.kind.RefusalKind.{RefusalKind}
+use Rattle.read_metadata.specs.Maps.{Maps}
+use Rattle.read_lexer.specs.declared.fault.LexError.{LexError}
+use Rattle.read_lexer.specs.declared.fault.LexError.TheVariants as lex
+use Rattle.read_lexer.specs.declared.line.Line.{Line}
+use Rattle.read_lexer.specs.declared.parts.Token.{Token}
+use Rattle.read_lexer.specs.Line.{tokens_of}
+use Rattle.read_token.specs.declared.lexeme.Lexeme.{Lexeme}
+use Rattle.read_token.specs.declared.lexeme.Lexeme.TheVariants as lexemes
+use Rattle.read_token.specs.declared.lexeme.Word.TheVariants as words
+use Rattle.read_token.specs.Number.{BEYOND}
+use Rattle.read_token.specs.Sentence.{lexemes_of}
+use Rattle.mir_func.specs.declared.block.Block.{Block}
+use Rattle.mir_func.specs.declared.item.ItemKind.{ItemKind}
+use Rattle.mir_func.specs.declared.location.Loc.{Loc}
+use Rattle.mir_func.specs.Sound.{ids_of}
+use Rattle.base_ids.specs.Limits.{MAX_NUMBER}
+use Rattle.read_line.specs.declared.form.BodyLine.{BodyLine}
+use Rattle.read_line.specs.declared.form.BodyLine.TheVariants as lines
+use Rattle.read_line.specs.declared.form.ItemForm.{ItemForm}
+use Rattle.read_line.specs.declared.form.LineError.{LineError}
+use Rattle.read_line.specs.declared.form.LineError.TheVariants as errors
+use Rattle.read_line.specs.Body.{is_listing, code_of, label_of, is_colon, labelled, as_item, sentence_of, line_of_tokens, body_line_of}
+use Rattle.read_line.specs.Bracket.{behind_bracket}
+use Rattle.read_line.specs.Item.{item_of}
+use Rattle.read_item.specs.declared.judged.Judged.{Judged}
+use Rattle.read_item.specs.declared.judged.Judged.TheVariants as judged_as
+use Rattle.read_item.specs.Judge.{judged}
+use Rattle.read_body.specs.declared.body.Body.{Body}
+use Rattle.read_body.specs.Body.{nothing_read, label_cause, with_label, item_cause, with_item}
+use Rattle.read_body.specs.Met.{is_met}
+use Rattle.read_program.specs.Objects.{blocks_as}
+use Rattle.read_program.specs.BodyLines.{unless, judged_said, item_said, line_said, behind_line, and_then, body_behind, body_of}
+use Rattle.read_program.proofs.Bodies.{facts_apart}
+use Rattle.read_program.proofs.Renamed.{ids_as}
+use Rattle.read_proof.proofs.Nodes.{Small}
+
+-- ---- labels
+
+-- the number of a label is within the limit
+abbrev HasSmallLabel : Result BodyLine LineError → Type 0
+HasSmallLabel (Ok (lines.Label (Some n))) = n ≤ MAX_NUMBER
+HasSmallLabel (Ok (lines.Label None)) = Unit {0}
+HasSmallLabel (Ok lines.Passed) = Unit {0}
+HasSmallLabel (Ok (lines.Item form)) = Unit {0}
+HasSmallLabel (Err e) = Unit {0}
+
+either : (b : Bool) (x y : Result BodyLine LineError) → HasSmallLabel x → HasSmallLabel y → HasSmallLabel (cond b x y)
+either true x y p q = p
+either false x y p q = q
+
+label_small : (b : Bool) (n : ℕ) → ltb n BEYOND ≡ b → HasSmallLabel (Ok (cond b (lines.Label (Some n)) (lines.Label None)))
+label_small true n is = let less = ltb-true n BEYOND is in omega (arith, less)
+label_small false n is = tt
+
+labelled_small : (n : ℕ) (rest : Option (List Lexeme)) → HasSmallLabel (labelled n rest)
+labelled_small n None = tt
+labelled_small n (Some rest) = either (is_colon rest) (Ok (label_of n)) (Err errors.BadLine) (label_small (ltb n BEYOND) n refl) tt
+
+as_item_small : (item : Option ItemForm) → HasSmallLabel (as_item item)
+as_item_small None = tt
+as_item_small (Some item) = tt
+
+sentence_small : (line : List ℕ) (ts : List Lexeme) → HasSmallLabel (sentence_of line ts)
+unfolding sentence_of
+sentence_small line [] = tt
+sentence_small line (lexemes.Word (words.Block n) t ∷ lexemes.Colon ∷ ts) = labelled_small n (Some (lexemes.Colon ∷ ts))
+sentence_small line (lexemes.Word (words.Block n) t ∷ lexemes.Open ∷ ts) = labelled_small n (behind_bracket 0 ts)
+sentence_small line (t ∷ ts) = as_item_small (item_of line (t ∷ ts))
+
+tokens_small : (line : List ℕ) (read : Result (List Token) LexError) → HasSmallLabel (line_of_tokens line read)
+tokens_small line (Ok ts) = sentence_small line (lexemes_of line ts)
+tokens_small line (Err (lex.BadByte at)) = tt
+tokens_small line (Err (lex.UnclosedString at)) = tt
+tokens_small line (Err lex.Memory) = tt
+
+line_small : (text : List ℕ) → HasSmallLabel (body_line_of text)
+unfolding body_line_of
+line_small text =
+    either (is_listing text) (Ok lines.Passed) (line_of_tokens (code_of text) (tokens_of (code_of text))) tt
+    (tokens_small (code_of text) (tokens_of (code_of text)))
+
+-- ---- bodies
+
+abbrev HasSmallIds : Body → Type 0
+HasSmallIds body = All Small body.ids
+
+unless_ok : (cause : Option RefusalKind) (body next : Body) → unless cause body ≡ Ok next → HasSmallIds body → HasSmallIds next
+unless_ok None body next e small = let same : body ≡ next = cc in subst HasSmallIds same small
+unless_ok (Some kind) body next e small = absurd cc
+
+met_small : (b : Bool) (n : ℕ) (ns : List ℕ) → n ≤ MAX_NUMBER → All Small ns → All Small (cond b ns (ns ++ n ∷ []))
+met_small true n ns is all = all
+met_small false n ns is all = All-push Small ns n all is
+
+with_item_small : (body : Body) (kind : ItemKind) (loc : Loc) (entries : List ℕ) → HasSmallIds body → HasSmallIds (with_item body kind loc entries)
+with_item_small body kind loc entries small = subst (λ (ns : List ℕ). All Small ns) (sym (facts_apart body kind).ids) small
+
+judged_small : (body next : Body) (number : Option ℕ) (read : Result Judged RefusalKind) → judged_said body number read ≡ Ok next → HasSmallIds body →
+    HasSmallIds next
+judged_small body next number (Ok judged_as.Passed) e small = let same : body ≡ next = cc in subst HasSmallIds same small
+judged_small body next number (Ok (judged_as.Item j)) e small =
+    unless_ok (item_cause body j.kind j.loc j.entries) (with_item body j.kind j.loc j.entries) next e (with_item_small body j.kind j.loc j.entries small)
+judged_small body next number (Err kind) e small = absurd cc
+
+item_small : (meta : Maps) (body next : Body) (form : ItemForm) (last : Option Block) → item_said meta body last form ≡ Ok next → HasSmallIds body →
+    HasSmallIds next
+item_small meta body next form None e small = absurd cc
+item_small meta body next form (Some b) e small = judged_small body next form.number (judged meta form) e small
+
+said_small : (meta : Maps) (body next : Body) (read : Result BodyLine LineError) → HasSmallLabel read → line_said meta body read ≡ Ok next → HasSmallIds body →
+    HasSmallIds next
+said_small meta body next (Ok lines.Passed) label e small = let same : body ≡ next = cc in subst HasSmallIds same small
+said_small meta body next (Ok (lines.Label None)) label e small = absurd cc
+said_small meta body next (Ok (lines.Label (Some n))) label e small =
+    unless_ok (label_cause body n) (with_label body n) next e (met_small (is_met n body.ids) n body.ids label small)
+said_small meta body next (Ok (lines.Item form)) label e small = item_small meta body next form body.last e small
+said_small meta body next (Err kind) label e small = absurd cc
+
+lines_small_from : (meta : Maps) (body : Body) (l : Line) (ls : List Line) (end : Body) (read : Result Body RefusalKind) → behind_line meta body l.text ≡ read →
+    ((next : Body) → HasSmallIds next → body_behind meta next ls ≡ Ok end → HasSmallIds end) → and_then l.number read (λ b. body_behind meta b ls) ≡ Ok end →
+    HasSmallIds body → HasSmallIds end
+lines_small_from meta body l ls end (Ok next) is more e small =
+    more next (said_small meta body next (body_line_of l.text) (line_small l.text) is small) e
+lines_small_from meta body l ls end (Err kind) is more e small = absurd cc
+
+lines_small : (meta : Maps) (body : Body) (ls : List Line) (end : Body) → HasSmallIds body → body_behind meta body ls ≡ Ok end → HasSmallIds end
+unfolding body_behind
+lines_small meta body [] end small e = let same : body ≡ end = cc in subst HasSmallIds same small
+lines_small meta body (l ∷ ls) end small e =
+    lines_small_from meta body l ls end (behind_line meta body l.text) refl (λ next s f. lines_small meta next ls end s f) e small
+
+-- the numbers of the blocks of a body that is read
+pub ids_small : (meta : Maps) (ls : List Line) (body : Body) → body_of meta ls ≡ Ok body → All Small body.ids
+ids_small meta ls body e = lines_small meta nothing_read ls body (All-nil Small) e
+
+numbers_small : (bs : List Block) → All Small (ids_of bs) → All (λ b. b.id ≤ MAX_NUMBER) bs
+numbers_small [] all = All-nil (λ (b : Block). b.id ≤ MAX_NUMBER)
+numbers_small (b ∷ bs) all =
+    All-cons (λ (x : Block). x.id ≤ MAX_NUMBER) b bs (All-head Small b.id (ids_of bs) all) (numbers_small bs (All-tail Small b.id (ids_of bs) all))
+
+-- they stay where stack entries are read as objects
+pub blocks_small : (ids : List ℕ) (bs : List Block) → All Small (ids_of bs) → All (λ b. b.id ≤ MAX_NUMBER) (blocks_as ids bs)
+blocks_small ids bs all = numbers_small (blocks_as ids bs) (subst (λ (ns : List ℕ). All Small ns) (sym (ids_as ids bs)) all)

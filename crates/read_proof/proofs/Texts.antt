@@ -1,0 +1,189 @@
+-- A program that was read is as it was read.
+use Rattle.std.proofs.Common.{◌≡◌, ℕ, ◌<◌, ◌≤◌, Bool, true, false, cond, ◌&&◌, List, [], ◌∷◌, ◌++◌, length, All, Option, Some, None, Result, Ok, Err}
+use Rattle.std.proofs.Common.{refl, sym, subst}
+use Rattle.std.proofs.Common.{inl, inr, arith}
+use Rattle.std.specs.Prelude.{is_some, IfSome}
+use Rattle.std.specs.Option.{option_and_then}
+use Rattle.std.proofs.lemmas.Bool.{cases_lt}
+use Rattle.std.proofs.lemmas.List.{length-append}
+use Rattle.std.proofs.lemmas.List.Elements.{All-nil, All-push, All-weaker}
+use Rattle.read_refusal.specs.declared.first.Refusal.{Refusal}
+use Rattle.read_refusal.specs.declared.kind.RefusalKind.TheVariants.{StackObject, UnknownBlock}
+use Rattle.read_metadata.specs.Maps.{Maps}
+use Rattle.read_metadata.specs.declared.node.Node.{Node}
+use Rattle.read_metadata.specs.declared.node.Node.TheVariants as nodes
+use Rattle.read_metadata.specs.Metadata.{metadata_of, as_location, node_at}
+use Rattle.read_lexer.specs.declared.line.Line.{Line}
+use Rattle.read_documents.specs.declared.parts.FunctionDocument.{FunctionDocument}
+use Rattle.read_documents.specs.Documents.{documents_of}
+use Rattle.mir_func.specs.declared.block.Block.{Block}
+use Rattle.mir_func.specs.declared.entry.Entry.{Entry}
+use Rattle.mir_func.specs.declared.item.Item.{Item}
+use Rattle.mir_func.specs.declared.item.ItemKind.{ItemKind}
+use Rattle.mir_func.specs.declared.location.Loc.{Loc}
+use Rattle.mir_func.specs.Sound.{AreApart, AllItems, IsSound, HasForm}
+use Rattle.mir_func.specs.SoundFrame.{HasPhysical}
+use Rattle.read_declarations.specs.declared.declarations.Declarations.{Declarations}
+use Rattle.read_declarations.specs.Declarations.{declarations_of}
+use Rattle.read_item.specs.Debug.{inlined_at_node}
+use Rattle.read_body.specs.declared.body.Body.{Body}
+use Rattle.read_body.specs.Body.{blocks_of}
+use Rattle.read_body.specs.Closing.{blocks_go_to, all_met}
+use Rattle.read_body.specs.Frame.{ids_of_objects}
+use Rattle.read_body.specs.Met.{is_met}
+use Rattle.read_program.specs.declared.closing.Parsed.{Parsed}
+use Rattle.read_program.specs.declared.error.ParseError.{ParseError}
+use Rattle.read_program.specs.declared.program.Program.{Program}
+use Rattle.read_program.specs.Objects.{kind_as, blocks_as}
+use Rattle.read_program.specs.Closing.{entry_ids, parts_of, function_of, ParsesParts, Parses}
+use Rattle.read_program.specs.BodyLines.{body_of}
+use Rattle.read_program.specs.Program.{MAX_FUNCTIONS, Goes, too_many, FunctionsFrom, program_of}
+use Rattle.mir_printer.specs.Printable.{IsPrintable}
+use Rattle.read_program.specs.Limited.{KindIsLimited, LocIsLimited}
+use Rattle.read_proof.specs.Read.{declared_in, EntryIsLimited, LocationsAreLimited, IsReadFunction, IsReadProgram, ProgramsAreAsRead}
+use Rattle.read_program.proofs.Bodies.{IsReadBlock, IsReadBody, ComesFromLine, body_reads}
+use Rattle.read_program.proofs.Entries.{declared_if_met}
+use Rattle.read_program.proofs.Forms.{line_fits}
+use Rattle.read_program.proofs.Items.{item_reads}
+use Rattle.read_program.proofs.Judged.{judged_line}
+use Rattle.read_proof.proofs.Kept.{physical, IsKept, item_kept}
+use Rattle.read_proof.proofs.Labels.{ids_small, blocks_small}
+use Rattle.read_proof.proofs.Nodes.{Small, IsLimited, node_limited}
+use Rattle.read_proof.proofs.Numbers.{DeclaresSmall, declares_small, objects_small, slots_small}
+use Rattle.read_program.proofs.Soundness.{sound_if_ends_well}
+use Rattle.read_program.proofs.Renamed.{ids_as, items_as, blocks_kept}
+
+-- ---- functions
+
+-- what closing asks: all stack entries that are named are declared
+all_declared : (a b c : Bool) → cond a (cond (b && c) None (Some StackObject)) (Some UnknownBlock) ≡ None → b ≡ true
+all_declared true true c e = refl
+all_declared true false c e = absurd cc
+all_declared false b c e = absurd cc
+
+module _ (meta : Maps) (d : Declarations) (body : Body) (all : (n : ℕ) → is_met n body.entries ≡ true → is_met n (entry_ids d.stack) ≡ true) where
+  abbrev ids : List ℕ
+  ids = ids_of_objects body.objects d.stack
+
+  abbrev Kept : ItemKind → Loc → Type 0
+  Kept = IsKept meta body.objects d.stack body.entries all
+
+  kept_from_line : (kind : ItemKind) (loc : Loc) → ComesFromLine meta body kind loc → Kept (kind_as ids kind) loc
+  kept_from_line kind loc from =
+      let judged = judged_line meta from.form from.item from.judged in
+      let is = item_reads meta body.entries from.form from.item (line_fits from.text from.form from.says) judged from.entries in
+      subst (λ (l : Loc). Kept (kind_as ids kind) l) from.loc_is (subst (λ (k : ItemKind). Kept (kind_as ids k) from.item.loc) from.kind_is
+      (item_kept meta body.objects d.stack body.entries all from.item.kind from.item.loc is from.object))
+
+  function_reads : IsReadBody (ComesFromLine meta body) body → IsSound (function_of d body) → All Small body.ids → DeclaresSmall d →
+      IsReadFunction meta (function_of d body)
+  function_reads is sound small declares = record {
+    sound = sound;
+    read = record {
+      apart = subst AreApart (sym (ids_as ids (blocks_of body))) is.apart;
+      items = All-weaker (IsReadBlock Kept) _ (λ b r. r.items) blocks kept;
+      silent = All-weaker (IsReadBlock Kept) _ (λ b r. r.silent) blocks kept;
+    };
+    form = each (λ i. HasForm i.kind) (λ i k. k.form);
+    physical = each (λ i. HasPhysical i.kind) (λ i k. physical i.kind k.limited);
+    limited = each (λ i. KindIsLimited i.kind × LocIsLimited i.loc) (λ i k. (k.limited, k.place));
+    printable = each (IsPrintable (declared_in meta (function_of d body))) (λ i k. record { kind = k.printable; loc = k.told });
+    few_items = omega (arith, items_as ids (blocks_of body), is.counted, is.few);
+    ids = blocks_small ids (blocks_of body) (subst (λ (ns : List ℕ). All Small ns) is.ids small);
+    objects = objects_small body.objects d.stack declares.stack;
+    slots = slots_small body.objects d.stack declares.stack;
+  } where
+    blocks : List Block
+    blocks = blocks_as ids (blocks_of body)
+
+    kept : All (IsReadBlock Kept) blocks
+    kept = blocks_kept (ComesFromLine meta body) Kept ids kept_from_line (blocks_of body) is.blocks
+
+    each : (P : Item → Type 0) → ((i : Item) → Kept i.kind i.loc → P i) → AllItems P blocks
+    each P from = All-weaker (IsReadBlock Kept) (λ (b : Block). All P b.items) (λ b r. All-weaker (λ i. Kept i.kind i.loc) P from b.items r.each) blocks kept
+
+-- a function with its substitutions
+record IsRead (meta : Maps) (p : Parsed) : Type 0 where
+  function : IsReadFunction meta p.func
+  substitutions : All EntryIsLimited p.subs
+
+parts_read : (meta : Maps) (doc : FunctionDocument) (declared : Result Declarations Refusal) (body : Result Body Refusal) (p : Parsed) →
+    declarations_of doc ≡ declared → body_of meta doc.body ≡ body → ParsesParts doc.closed declared body (Ok p) → IsRead meta p
+parts_read meta doc (Ok d) (Ok body) p said is closes =
+    let met = all_declared (blocks_go_to body.ids (blocks_of body)) (all_met (entry_ids d.stack) body.entries)
+    (is_some (parts_of body.objects d.stack (blocks_of body))) closes.0 in
+    let declares = declares_small doc d said in
+    record {
+      function = subst (IsReadFunction meta) (sym closes.1)
+          (function_reads meta d body (declared_if_met (entry_ids d.stack) body.entries met) (body_reads meta doc.body body is)
+          (sound_if_ends_well meta doc d body said is closes.0 closes.3) (ids_small meta doc.body body is) declares);
+      substitutions = subst (λ (subs : List Entry). All EntryIsLimited subs) (sym closes.2) declares.substitutions;
+    }
+parts_read meta doc (Err r) (Ok body) p said is closes = absurd closes
+parts_read meta doc (Ok d) (Err s) p said is closes = absurd closes
+parts_read meta doc (Err r) (Err s) p said is closes = absurd closes
+
+parsed_reads : (meta : Maps) (doc : FunctionDocument) (p : Parsed) → Parses meta doc (Ok p) → IsRead meta p
+parsed_reads meta doc p parses = parts_read meta doc (declarations_of doc) (body_of meta doc.body) p refl refl parses
+
+-- ---- texts
+
+module _ (meta : Maps) where
+  abbrev Are : List Parsed → Type 0
+  Are fs = All (IsRead meta) fs
+
+  -- functions that were read, not too many
+  abbrev AreFew : List Parsed → Type 0
+  AreFew fs = (length fs ≤ MAX_FUNCTIONS) × Are fs
+
+  goes_on : (doc : FunctionDocument) (docs : List FunctionDocument) (fs all : List Parsed) (read : Result Parsed ParseError) → Parses meta doc read →
+      ((p : Parsed) → FunctionsFrom meta (fs ++ p ∷ []) docs (Ok all) → AreFew (fs ++ p ∷ []) → AreFew all) →
+      Goes read (λ (p : Parsed). FunctionsFrom meta (fs ++ p ∷ []) docs (Ok all)) (Ok all) → length fs < MAX_FUNCTIONS → Are fs → AreFew all
+  goes_on doc docs fs all (Ok p) parses more goes few are =
+      more p goes (
+        omega (arith, few, length-append fs (p ∷ [])),
+        All-push (IsRead meta) fs p are (parsed_reads meta doc p parses),
+      )
+  goes_on doc docs fs all (Err e) parses more goes few are = absurd cc
+
+  functions_read : (docs : List FunctionDocument) (fs all : List Parsed) → FunctionsFrom meta fs docs (Ok all) → AreFew fs → AreFew all
+  unfolding FunctionsFrom
+  functions_read [] fs all from are = let same : all ≡ fs = cc in subst AreFew (sym same) are
+  functions_read (d ∷ docs) fs all from are = elim (cases_lt (length fs) MAX_FUNCTIONS) [
+    | inl few ↦ (let read = from.1 few in goes_on d docs fs all read.0 read.1 (λ p f a. functions_read docs (fs ++ p ∷ []) all f a) read.2 few are.1)
+    | inr le ↦ absurd (not_ok (from.0 le))
+  ] where
+    not_ok : Ok all ≡ too_many d → ⊥
+    not_ok e = cc
+
+program_is : (meta : Maps) (bad : Option ℕ) (functions : Result (List Parsed) ParseError) (p : Program) → Ok p ≡ program_of meta bad functions →
+    (fs : List Parsed) × (functions ≡ Ok fs) × (p ≡ record { functions = fs; meta = meta })
+program_is meta bad (Err e) p is = absurd cc
+program_is meta None (Ok fs) p is = (fs, refl, cc)
+program_is meta (Some line) (Ok fs) p is = absurd cc
+
+node_inlined : (o : Option Node) → IfSome o IsLimited → IfSome (inlined_at_node (option_and_then as_location o)) Small
+node_inlined None is = tt
+node_inlined (Some (nodes.Location l)) is = is
+node_inlined (Some (nodes.Variable v)) is = tt
+node_inlined (Some (nodes.File f)) is = tt
+node_inlined (Some (nodes.BaseType t)) is = tt
+node_inlined (Some (nodes.Scope file)) is = tt
+
+locations_limited : (lines : List Line) → LocationsAreLimited (metadata_of lines)
+locations_limited lines n = node_inlined (node_at (metadata_of lines) n) (node_limited lines n)
+
+pub programs_are_as_read : ProgramsAreAsRead
+programs_are_as_read text p reads =
+    let docs = documents_of text in
+    let meta = metadata_of docs.meta in
+    let is = program_is meta docs.bad reads.0 p reads.2 in
+    let all = functions_read meta docs.functions [] is.0
+    (subst (λ (r : Result (List Parsed) ParseError). FunctionsFrom meta [] docs.functions r) is.1 reads.1)
+    (omega arith, All-nil (IsRead meta)) in
+    subst IsReadProgram (sym is.2) (record {
+      few = all.0;
+      functions = All-weaker (IsRead meta) (λ (f : Parsed). IsReadFunction meta f.func) (λ f r. r.function) is.0 all.1;
+      substitutions = All-weaker (IsRead meta) (λ (f : Parsed). All EntryIsLimited f.subs) (λ f r. r.substitutions) is.0 all.1;
+      locations = locations_limited docs.meta;
+    })

@@ -1,0 +1,135 @@
+//! What begins with `$` or `%`.
+
+ghost use Rattle.std.specs.Prelude.{◌≡◌};
+ghost use Rattle.read_metadata.specs.Field.{Spells};
+ghost use Rattle.read_token.specs.Word.{case_of};
+ghost use Rattle.read_token.specs.Register.{
+  two_digits,
+  physical_of,
+  register_of,
+  is_number,
+  virtual_of,
+  slot_of,
+  block_operand_of,
+  behind_stack,
+  behind_bb,
+  percent_behind,
+  percent_of,
+};
+
+use crate::lexeme::{Lexeme, RegisterName};
+use crate::number::limited;
+use crate::word::named_number;
+use read_lexer::bytes::digits;
+use base_ids::code::{BlockId, SlotId};
+use rv64_instr::reg::{Reg, physical};
+
+/// The register xN of a number in two digits.
+fn two_digits(tens: u8, ones: u8) -> Option<Reg>
+    ensures { result ≡ two_digits tens ones }
+{
+    match (tens, ones) {
+        (b'1'..=b'3', b'0'..=b'9') => {
+            physical(10 * u32::from(tens - b'0') + u32::from(ones - b'0'))
+        }
+        _ => None,
+    }
+}
+
+/// The register in `$x0` to `$x31`.
+fn physical_name(text: &[u8]) -> Option<Reg>
+    ensures { result ≡ physical_of text.now }
+{
+    match text {
+        [b'$', b'x', ones @ b'0'..=b'9'] => physical(u32::from(*ones - b'0')),
+        [b'$', b'x', tens, ones] => two_digits(*tens, *ones),
+        _ => None,
+    }
+}
+
+/// The register that a text with `$` names.
+#[tactic(auto, unfolding(crate::specs::Register::register_of))]
+pub fn register(text: &[u8]) -> RegisterName
+    ensures { result ≡ register_of text.now }
+{
+    match physical_name(text) {
+        Some(register) => RegisterName::Physical(register),
+        None if text == b"$noreg".as_slice() => RegisterName::Absent,
+        None => RegisterName::Other,
+    }
+}
+
+/// A virtual register, behind its `%`.
+fn virtual_register(text: &[u8]) -> Lexeme
+    ensures { result ≡ virtual_of text.now }
+{
+    if !text.is_empty() && digits(text) == text.len() {
+        Lexeme::Register(RegisterName::Virtual(limited(text)))
+    } else {
+        Lexeme::Other
+    }
+}
+
+/// A slot, behind `%stack.`.
+fn slot(text: &[u8]) -> Lexeme
+    ensures { result ≡ slot_of text.now }
+{
+    match named_number(text) {
+        Some(number) => Lexeme::Slot(SlotId(number)),
+        None => Lexeme::Other,
+    }
+}
+
+/// A block, behind `%bb.`.
+fn block_operand(text: &[u8]) -> Lexeme
+    ensures { result ≡ block_operand_of text.now }
+{
+    match named_number(text) {
+        Some(number) => Lexeme::Block(BlockId(number)),
+        None => Lexeme::Other,
+    }
+}
+
+/// The text behind `stack.`.
+fn behind_stack(text: &[u8]) -> Option<&[u8]>
+    ensures { Spells result (behind_stack text.now) }
+{
+    match text {
+        [b's', b't', b'a', b'c', b'k', b'.', name @ ..] => Some(name),
+        _ => None,
+    }
+}
+
+/// The text behind `bb.`.
+fn behind_bb(text: &[u8]) -> Option<&[u8]>
+    ensures { Spells result (behind_bb text.now) }
+{
+    match text {
+        [b'b', b'b', b'.', name @ ..] => Some(name),
+        _ => None,
+    }
+}
+
+/// What a text with `%` stands for, behind it.
+#[tactic(auto, unfolding(crate::specs::Register::percent_behind))]
+fn percent_behind(text: &[u8]) -> Lexeme
+    ensures { result ≡ percent_behind text.now }
+{
+    if let Some(name) = behind_stack(text) {
+        return slot(name);
+    }
+    match behind_bb(text) {
+        Some(name) => block_operand(name),
+        None => virtual_register(text),
+    }
+}
+
+/// What a text with `%` stands for.
+pub fn percent(text: &[u8]) -> Lexeme
+    ensures { result ≡ percent_of text.now }
+{
+    match text {
+        [_, rest @ ..] => percent_behind(rest),
+        [] => Lexeme::Other,
+    }
+}

@@ -1,0 +1,122 @@
+-- The text of a stripped program is read as that program.
+use Rattle.std.proofs.Common.{◌≡◌, ℕ, ◌+◌, ◌<◌, ◌≤◌, true, List, [], ◌∷◌, ◌++◌, map, length, All, Ok}
+use Rattle.std.proofs.Common.{refl, sym, ap, subst, ◌∙◌, arith, append_assoc, append-nil}
+use Rattle.std.specs.List.{flat_map, list_all}
+use Rattle.std.proofs.lemmas.Bool.{and_parts}
+use Rattle.std.proofs.lemmas.Bool.Decides.{nat_tests}
+use Rattle.std.proofs.lemmas.List.{length-append}
+use Rattle.std.proofs.lemmas.List.Concat.{flat_map-append}
+use Rattle.std.proofs.lemmas.List.Elements.{All-nil, All-cons, All-head, All-tail, All-append, All-map, All-weaker}
+use Rattle.read_metadata.specs.Maps.{Maps}
+use Rattle.read_metadata.specs.Metadata.{metadata_of}
+use Rattle.read_documents.specs.declared.parts.Documents.{Documents}
+use Rattle.read_documents.specs.Documents.{documents_of}
+use Rattle.mir_func.specs.Strip.{stripped}
+use Rattle.read_program.specs.declared.closing.Parsed.{Parsed}
+use Rattle.read_program.specs.Program.{MAX_FUNCTIONS, FunctionsFrom, ReadsDocuments, ReadsText}
+use Rattle.read_program.proofs.Lists.{both}
+use Rattle.strip_command.specs.StripText.{stripped_func_text, stripped_text}
+use Rattle.documents_read_back.specs.Document.{is_printed, IsLine, fed, text_of_lines, Document, document_lines, IsDocument, documents_at}
+use Rattle.documents_read_back.proofs.Scans.{documents_read_back}
+use Rattle.functions_read_back.specs.Stripped.{document_of, HasNamesOfBytes, reread}
+use Rattle.functions_read_back.proofs.Functions.{functions_read_back}
+use Rattle.names_of_bytes.specs.Bytes.{AreBytes}
+use Rattle.names_of_bytes.proofs.Documents.{DocBytes}
+use Rattle.names_of_bytes.proofs.Functions.{WasRead, program_read, names_are_of_bytes}
+use Rattle.readback_strip.specs.Text.{StrippedTextsAreRead}
+use Rattle.readback_strip.proofs.Again.{document_again}
+use Rattle.readback_strip.proofs.Lines.{function_fed}
+
+-- ---- the functions of the new text
+
+abbrev strip_document : Parsed → Document
+strip_document q = document_of (stripped q.func)
+
+abbrev IsGood : Maps → Parsed → Type 0
+IsGood meta q = WasRead DocBytes meta q × HasNamesOfBytes q.func
+
+functions_again : (meta again : Maps) (n : ℕ) (before qs : List Parsed) → length before + length qs ≤ MAX_FUNCTIONS → All (IsGood meta) qs →
+    FunctionsFrom again before (documents_at n (map strip_document qs)) (Ok (before ++ map reread qs))
+unfolding FunctionsFrom documents_at
+functions_again meta again n before [] few all = ap (λ (l : List Parsed). Ok l) (append-nil before)
+functions_again meta again n before (q ∷ qs) few all =
+    let good = All-head (IsGood meta) q qs all in
+    let d = strip_document q in
+    let next = n + 4 + length d.stack + length d.substitutions + length d.body in
+    let rest = functions_again meta again next (before ++ reread q ∷ []) qs (omega (arith, few, length-append before (reread q ∷ [])))
+    (All-tail (IsGood meta) q qs all) in (
+      (λ le. absurd (omega (arith, le, few))),
+      (λ lt. (
+        Ok (reread q),
+        (functions_read_back meta good.0.doc q good.0.parses good.1).parses again n,
+        subst (λ (l : List Parsed). FunctionsFrom again (before ++ reread q ∷ []) (documents_at next (map strip_document qs)) (Ok l))
+            (append_assoc before (reread q ∷ []) (map reread qs)) rest,
+      )),
+    )
+
+-- ---- the text
+
+text_is : (qs : List Parsed) → text_of_lines (flat_map document_lines (map strip_document qs)) ≡ stripped_text qs
+text_is [] = refl
+text_is (q ∷ qs) =
+    flat_map-append fed (document_lines (strip_document q)) (flat_map document_lines (map strip_document qs))
+    ∙ (λ i. function_fed (stripped q.func) i ++ text_is qs i)
+
+is_document : (meta : Maps) (q : Parsed) → IsGood meta q → IsDocument (strip_document q)
+is_document meta q good = (functions_read_back meta good.0.doc q good.0.parses good.1).document
+
+-- ---- bytes
+
+printed_bytes : (text : List ℕ) → list_all is_printed text ≡ true → AreBytes text
+printed_bytes [] all = All-nil (λ (b : ℕ). b < 256)
+printed_bytes (b ∷ bs) all =
+    let parts = and_parts (is_printed b) (list_all is_printed bs) all in
+    All-cons (λ (x : ℕ). x < 256) b bs (small b parts.0) (printed_bytes bs parts.1)
+  where
+    small : (x : ℕ) → is_printed x ≡ true → x < 256
+    small x is = grind (arith, nat_tests, is)
+
+lines_bytes : (lines : List (List ℕ)) → All IsLine lines → AreBytes (text_of_lines lines)
+lines_bytes [] all = All-nil (λ (b : ℕ). b < 256)
+lines_bytes (l ∷ ls) all =
+    All-append (λ (b : ℕ). b < 256) (fed l) (text_of_lines ls)
+    (All-append (λ (b : ℕ). b < 256) l (10 ∷ []) (printed_bytes l (All-head IsLine l ls all).printed)
+    (All-cons (λ (b : ℕ). b < 256) 10 [] (omega arith) (All-nil (λ (b : ℕ). b < 256))))
+    (lines_bytes ls (All-tail IsLine l ls all))
+
+functions_bytes : (meta : Maps) (qs : List Parsed) → All (IsGood meta) qs → AreBytes (stripped_text qs)
+functions_bytes meta [] all = All-nil (λ (b : ℕ). b < 256)
+functions_bytes meta (q ∷ qs) all =
+    All-append (λ (b : ℕ). b < 256) (stripped_func_text q) (stripped_text qs)
+    (subst AreBytes (function_fed (stripped q.func))
+    (lines_bytes (document_lines (strip_document q)) (is_document meta q (All-head (IsGood meta) q qs all)).printed))
+    (functions_bytes meta qs (All-tail (IsGood meta) q qs all))
+
+-- ---- once more
+
+one_same : (q : Parsed) → stripped_func_text (reread q) ≡ stripped_func_text q
+one_same q =
+    sym (function_fed (stripped (reread q).func)) ∙ (ap (λ (d : Document). text_of_lines (document_lines d)) (document_again q.func)
+    ∙ function_fed (stripped q.func))
+
+texts_same : (qs : List Parsed) → stripped_text (map reread qs) ≡ stripped_text qs
+texts_same [] = refl
+texts_same (q ∷ qs) = λ i. one_same q i ++ texts_same qs i
+
+-- ---- a program
+
+text_read : (meta : Maps) (fs : List Parsed) → length fs ≤ MAX_FUNCTIONS → All (IsGood meta) fs →
+    ReadsText (stripped_text fs) (Ok (record { functions = map reread fs; meta = metadata_of [] }))
+text_read meta fs few all =
+    let ds = map strip_document fs in
+    let documents = All-map IsDocument strip_document fs (All-weaker (IsGood meta) (λ q. IsDocument (strip_document q)) (is_document meta) fs all) in
+    let found = sym (ap documents_of (text_is fs)) ∙ documents_read_back ds documents in
+    subst (λ (x : Documents). ReadsDocuments x (Ok (record { functions = map reread fs; meta = metadata_of [] }))) (sym found)
+    (Ok (map reread fs), functions_again meta (metadata_of []) 1 [] fs (omega (arith, few)) all, refl)
+
+pub stripped_texts_are_read : StrippedTextsAreRead
+stripped_texts_are_read text p bytes reads =
+    let meta = metadata_of (documents_of text).meta in
+    let read = program_read text p bytes reads in
+    let all = both (WasRead DocBytes meta) (λ (q : Parsed). HasNamesOfBytes q.func) p.functions read.1 (names_are_of_bytes text p bytes reads) in
+    record { bytes = functions_bytes meta p.functions all; reads = text_read meta p.functions read.0 all; same = texts_same p.functions }

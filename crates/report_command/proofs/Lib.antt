@@ -1,0 +1,2 @@
+pub mod Reported
+pub use Rattle.compile_program.proofs.Passed

@@ -1,0 +1,20 @@
+//! Whether a program has a function of a name.
+
+ghost use Rattle.std.specs.Prelude.{◌≡◌, ◌↔◌, IsTrue};
+ghost use Rattle.run_command.specs.Source.{IsUnknown};
+
+use read_program::closing::Parsed;
+
+/// Whether none of the functions that were read has a name.
+pub fn is_unknown(functions: &[Parsed], name: &[u8]) -> bool
+    ensures { IsTrue result ↔ IsUnknown name.now functions.now }
+{
+    functions.iter().all(|function| !has_name(function, name))
+}
+
+/// Whether a function has a name.
+fn has_name(function: &Parsed, name: &[u8]) -> bool
+    ensures { IsTrue result ↔ (function.now.func.name ≡ name.now) }
+{
+    function.func.name.as_slice() == name
+}

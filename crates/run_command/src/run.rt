@@ -1,0 +1,56 @@
+//! The text of a run.
+
+ghost use Rattle.std.specs.Prelude.{◌≡◌, ◌↔◌, IfOk, IsTrue, MatchOption};
+ghost use Rattle.run_command.specs.Runs.{IsFirstNamed, HasNone, IsRunOf, CanRun};
+
+use report_command::compile::Compilation;
+use listing_text::output::ListedFunction;
+use mir_printer::text::Text;
+use sim_start::text::run_text;
+use sim_trace::variable::variables_of;
+use rv64_instr::start::Values;
+use std::alloc::{AllocError, Global};
+
+/// The text of a run of the first function of a name, of so many steps at most, from arguments, where its calls are
+/// answered by values. None where no function has the name.
+pub fn run(
+    alloc: Global,
+    compilation: &Compilation,
+    name: &[u8],
+    limit: u32,
+    arguments: &[u64],
+    values: Values,
+) -> Result<Option<Text>, AllocError>
+    requires { CanRun compilation.now }
+    ensures { IfOk result (λ o. MatchOption o (HasNone name.now compilation.now.output.functions)
+        (IsRunOf compilation.now name.now limit arguments.now values)) }
+{
+    let functions = compilation.output.functions.as_slice();
+    let Some(number) = first_named(functions, name) else {
+        return Ok(None);
+    };
+    let listed = functions[number].variables.as_slice();
+    let variables = variables_of(alloc, listed, compilation.lists.as_slice())?;
+    let code = &compilation.codes.as_slice()[number];
+    let text = run_text(alloc, code, &variables, limit, arguments, values)?;
+    Ok(Some(text))
+}
+
+/// Where the first function of a name stands.
+fn first_named(functions: &[ListedFunction], name: &[u8]) -> Option<usize>
+    ensures { MatchOption result (HasNone name.now functions.now) (IsFirstNamed name.now functions.now) }
+{
+    for (number, function) in functions.iter().enumerate() {
+        if is_named(function, name) {
+            return Some(number);
+        }
+    }
+    None
+}
+
+/// Whether a function has a name.
+fn is_named(function: &ListedFunction, name: &[u8]) -> bool
+    ensures { IsTrue result ↔ (function.now.name ≡ name.now) }
+{
+    function.name.as_slice() == name
+}

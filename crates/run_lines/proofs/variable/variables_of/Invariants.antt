@@ -1,6 +1,0 @@
-use Rattle.std.proofs.Common.{◌≡◌, map, take}
-use Rattle.run_lines.specs.Variables.{variable_of}
-use Rattle.run_lines.proofs.variable.variables_of.Given as goal
-
-abbrev pub invariant-loop-line : goal.invariant-loop-line
-invariant-loop-line l = l.variables ≡ map (variable_of l.lists) (take l.line-index l.listed)

@@ -1,5 +1,0 @@
-use Rattle.code_layout.specs.MachineStep.{set_register}
-use Rattle.rv_simulator.proofs.hart.Hart.set.Goals as goal
-
-pub returns-clause-stands : goal.returns-clause-stands
-returns-clause-stands c = λ s h. c.pass.ensures.stands (set_register c.args.rd c.args.value s) (c.write.ensures.stands s h)

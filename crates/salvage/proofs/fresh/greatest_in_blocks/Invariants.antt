@@ -1,7 +1,0 @@
-use Rattle.std.proofs.Common.{◌≡◌, take}
-use Rattle.follow_law.specs.Sizes.{greatest}
-use Rattle.salvage.specs.Fresh.{block_numbers}
-use Rattle.salvage.proofs.fresh.greatest_in_blocks.Given as goal
-
-abbrev pub invariant-loop-b : goal.invariant-loop-b
-invariant-loop-b l = l.most ≡ greatest (block_numbers (take l.b-index l.blocks))

@@ -1,0 +1,31 @@
+-- The self-test of a generated function.
+use Rattle.std.specs.Prelude.{◌≡◌, ℕ, ◌*◌, ◌≤◌, List, [], ◌∷◌, length}
+use Rattle.emit_code.specs.Laid.{LaidCode}
+use Rattle.listing_text.specs.declared.output.ListedFunction.{ListedFunction}
+use Rattle.selftest_count.specs.Text.{IsSelfTest}
+use Rattle.generated_program.specs.Program.{generated_program}
+use Rattle.mir_func.specs.Resolve.{resolve}
+use Rattle.gen_function.specs.Generator.{generated}
+use Rattle.pass_list.specs.declared.kind.PassKind.{PassKind}
+use Rattle.run_command.specs.Compilation.{Compilation}
+use Rattle.run_command.specs.Program.{IsCompilationOf, IsOutputOf, steps_of}
+use Rattle.sim_machine.specs.Shown.{ShowsCode}
+use Rattle.listing_meaning.specs.Program.{image_of}
+use Rattle.dwarf_unit.specs.Variables.{variables_of_function}
+
+-- The text tells of the function that is generated from a number with so many blocks, of what passes made of it, where these registers may be spilled,
+-- and of a run of 10,000 steps at most of its machine code beside it, which the sections show: the items of the function, the words of its `.text`, the
+-- steps of the machine, how many values its lists give before them, and how many of its variables have a value by their newest assignment. No more are
+-- given than are known.
+pub record IsSelfTestOf (reserve : List ℕ) (passes : List PassKind) (number blocks : ℕ) (text : List ℕ) : Type 0 where
+  pub compilation : Compilation
+  pub output : IsOutputOf (steps_of reserve passes) (generated_program number blocks) compilation.output
+  pub compiled : IsCompilationOf reserve passes (generated_program number blocks) compilation
+  pub code : LaidCode
+  pub codes : compilation.codes ≡ code ∷ []
+  pub listed : ListedFunction
+  pub functions : compilation.output.functions ≡ listed ∷ []
+  pub shows : ShowsCode code (image_of compilation.output listed)
+  pub words : length compilation.output.text ≡ 4 * length code.words
+  pub tests : IsSelfTest (generated number blocks) (resolve []) code compilation.lists (variables_of_function (generated number blocks).blocks) text
+  pub known : tests.counts.reads ≤ tests.counts.known

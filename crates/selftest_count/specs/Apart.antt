@@ -1,0 +1,56 @@
+-- Why a run of machine code and its source's don't go together.
+use Rattle.std.specs.Prelude.{◌≡◌, ◌⊎◌, ℕ, zero, suc, ◌<◌, List, Some, None, true}
+use Rattle.mir_func.specs.declared.position.Pos.{Pos}
+use Rattle.mir_func.specs.declared.variable.VarId.{VarId}
+use Rattle.mir_func.specs.Graph.{Program}
+use Rattle.sem_mir.specs.Align.{position_of, Since, Start, Same, After}
+use Rattle.sem_mir.specs.State.{State}
+use Rattle.sem_mir.specs.Step.{Went, step}
+use Rattle.dwarf_loclists.specs.declared.range.Range.{Range}
+use Rattle.sem_machine.specs.Image.{CodeLine, Image, line_at}
+use Rattle.sem_machine.specs.Machine.{Machine}
+use Rattle.sem_machine.specs.MachineStep.{machine_step, IsWell}
+use Rattle.emit_code.specs.declared.code.Entry.{Entry}
+use Rattle.emit_code.specs.Laid.{LaidCode}
+use Rattle.sim_machine.specs.Shown.{entry_at}
+use Rattle.selftest_count.specs.declared.counts.Counts.{Counts}
+use Rattle.selftest_count.specs.Counts.{Counted}
+
+-- how many steps the source may make from one line to the next: 2^64 - 1
+abbrev pub MAX_SOURCE_STEPS : ℕ
+MAX_SOURCE_STEPS = 18446744073709551615
+
+-- no step of the source goes on from here
+abbrev pub Halts : Program → State → Type 0
+Halts src s = (t : State) → step src s ≡ Went t → ⊥
+
+-- the source doesn't come to a position: so many steps are made before, or one doesn't go on
+pub data Misses (src : Program) (p : Pos) : (steps : ℕ) → State → Type 0 where
+  makes_all : {s : State} → Misses src p zero s
+  halts : {n : ℕ} {s : State} → (s.pos ≡ p → ⊥) → Halts src s → Misses src p n s
+  goes_on : {n : ℕ} {s u : State} → (s.pos ≡ p → ⊥) → step src s ≡ Went u → Misses src p n u → Misses src p (suc n) s
+
+-- the same from the state that was aligned last
+abbrev pub MissesNext : Program → Pos → Since → State → Type 0
+MissesNext src p Start s = Misses src p MAX_SOURCE_STEPS s
+MissesNext src p Same s = Misses src p MAX_SOURCE_STEPS s
+MissesNext src p After s = Halts src s ⊎ ((u : State) × (step src s ≡ Went u) × Misses src p MAX_SOURCE_STEPS u)
+
+-- why the machine at m and the source, which was aligned last at s, don't go on together: there is no line, or one of a call, the source
+-- doesn't come to it, or the machine stops elsewhere than at a return
+pub data IsApart (src : Program) (image : Image) (c : LaidCode) (m : Machine) (s : State) (since : Since) : Type 0 where
+  at_no_line : line_at image.lines m.counter ≡ None → IsApart src image c m s since
+  at_call : (e : Entry) → entry_at c.entries m.counter ≡ Some e → e.call ≡ true → IsApart src image c m s since
+  source_misses : (l : CodeLine) → line_at image.lines m.counter ≡ Some l → MissesNext src (position_of l.origin) since s → IsApart src image c m s since
+  stops_badly : (IsWell (machine_step image m) → ⊥) → IsApart src image c m s since
+
+-- both come to where they don't go on together, before so many steps of the machine
+pub record GoesApart (src : Program) (image : Image) (c : LaidCode) (lists : List (List Range)) (parts : List VarId) (limit : ℕ) (m0 : Machine) (s0 : State) :
+    Type 0 where
+  pub counts : Counts
+  pub machine : Machine
+  pub state : State
+  pub since : Since
+  pub counted : Counted src image lists parts m0 s0 counts machine state since
+  pub below : counts.steps < limit
+  pub apart : IsApart src image c machine state since

@@ -1,0 +1,47 @@
+-- The counts of a run from the start.
+use Rattle.std.specs.Prelude.{◌≡◌, ℕ, ◌≤◌, ◌<◌, List, [], Option, Some, None, true}
+use Rattle.mir_func.specs.declared.entry.OperandPair.{OperandPair}
+use Rattle.mir_func.specs.declared.variable.VarId.{VarId}
+use Rattle.mir_func.specs.Function.{Function}
+use Rattle.mir_func.specs.Graph.{block_start, program_of}
+use Rattle.mir_func.specs.Objects.{area_of, offset_of}
+use Rattle.sem_mir.specs.Follow.{first_of}
+use Rattle.sem_mir.specs.State.{State, content}
+use Rattle.dwarf_loclists.specs.declared.range.Range.{Range}
+use Rattle.sem_machine.specs.Image.{Image}
+use Rattle.sem_machine.specs.Machine.{Machine}
+use Rattle.emit_code.specs.Laid.{LaidCode}
+use Rattle.sim_machine.specs.Shown.{ShowsCode}
+use Rattle.sim_start.specs.Asked.{start_register, BeginsRun}
+use Rattle.selftest_count.specs.declared.counts.Counts.{Counts}
+use Rattle.selftest_count.specs.Apart.{GoesApart}
+use Rattle.selftest_count.specs.Counts.{AreCounts}
+
+-- the source at the start that the machine has with no arguments. No call is answered
+pub record BeginsSource (source : Function) (s : State) : Type 0 where
+  pub pos : s.pos ≡ block_start (first_of source.blocks)
+  pub entry : s.core.entry ≡ 1048576
+  pub area : s.core.area ≡ area_of source.objects
+  pub objects : (n : ℕ) → s.core.objects n ≡ offset_of source.objects n
+  pub regs : (r : ℕ) → r < 32 → content s.core.regs r ≡ Some (start_register [] r)
+  pub virtual : (r : ℕ) → 32 ≤ r → content s.core.regs r ≡ None
+  pub slots : (n : ℕ) → s.core.slots n ≡ None
+  pub memory : (a : ℕ) → s.core.memory a ≡ 0
+  pub script : s.core.script ≡ []
+  pub events : s.core.events ≡ []
+  pub pairs : (k o : ℕ) → s.core.pairs k o ≡ None
+  pub marks : s.core.marks ≡ []
+
+-- The counts are those of the machine's run of the code from the start without arguments, of so many steps at most, beside the source's:
+-- on each image that shows the code.
+abbrev pub AreCountsOf : (source : Function) → (OperandPair → Option OperandPair) → LaidCode → List (List Range) → List VarId → (limit : ℕ) → Counts → Type 0
+AreCountsOf source resolve c lists parts limit n =
+    (image : Image) (m : Machine) (s : State) → ShowsCode c image → BeginsRun c [] m → BeginsSource source s →
+    AreCounts (program_of true source.blocks resolve) image lists parts limit m s n
+
+-- The machine's run of the code from the start without arguments and the source's don't go together for so many steps: on no image that shows the
+-- code.
+abbrev pub GoApart : (source : Function) → (OperandPair → Option OperandPair) → LaidCode → List (List Range) → List VarId → (limit : ℕ) → Type 0
+GoApart source resolve c lists parts limit =
+    (image : Image) (m : Machine) (s : State) → ShowsCode c image → BeginsRun c [] m → BeginsSource source s →
+    GoesApart (program_of true source.blocks resolve) image c lists parts limit m s

@@ -1,0 +1,100 @@
+//! A whole run, counted.
+
+ghost use Rattle.std.specs.Prelude.{All, IfNone, IfOk, IfSome};
+ghost use Rattle.mir_func.specs.Resolve.{resolve};
+ghost use Rattle.dwarf_loclists.specs.Ranges.{Ascend, ArePlaces};
+ghost use Rattle.mir_semantics.specs.StandsFor.{IsPosition, AreCounted};
+ghost use Rattle.mir_semantics.specs.Steps.{source_of};
+ghost use Rattle.selftest_count.specs.Runs.{AreCountsOf, GoApart};
+ghost use Rattle.selftest_count.specs.steps.Beside.{CountsFrom, ApartFrom};
+ghost use Rattle.selftest_count.specs.steps.Bounds.{CanBeRead};
+
+use crate::counts::Counts;
+use crate::turn::{Turn, make_turn};
+use emit_code::code::Code;
+use dwarf_loclists::range::{RangeLists, Ranges};
+use mir_func::func::Func;
+use mir_func::variable::VarId;
+use mir_semantics::state::SourceState;
+use sim_start::answers::ValueAnswers;
+use sim_start::start::start_with;
+use sim_machine::machine::Machine;
+use rv64_instr::start::Values;
+use std::alloc::{AllocError, Global};
+use mir_substitution::substitutions::Substitutions;
+
+/// The counts of a run of machine code, of so many steps at most, from the start without arguments, beside the run of
+/// its source. Before each step each list is read at the counter, and the source stands where the machine's line comes
+/// from. None where they don't go together: the source doesn't come to a line, calls, or stops on a frame fault, or the
+/// machine stops elsewhere than at a return, or calls.
+pub fn count_run(
+    alloc: Global,
+    source: &Func,
+    subs: &Substitutions,
+    code: &Code,
+    lists: &RangeLists,
+    parts: &[VarId],
+    limit: u32,
+) -> Result<Option<Counts>, AllocError>
+    requires counted { AreCounted source.now.blocks }
+    requires readable { All (λ ranges. Ascend ranges × ArePlaces ranges) lists.now }
+    ensures counts { IfOk result (λ o.
+        IfSome o (AreCountsOf source.now (resolve subs.now) code.now lists.now parts.now limit)) }
+    ensures apart { IfOk result (λ o.
+        IfNone o (GoApart source.now (resolve subs.now) code.now lists.now parts.now limit)) }
+{
+    let start = start_with(alloc, &[]);
+    let answers = ValueAnswers {
+        values: Values::new(alloc),
+    };
+    let mut machine = Machine::new(alloc, code, &start, answers)?;
+    let mut state = SourceState::new(alloc, source, &start)?;
+    count_steps(
+        &mut machine,
+        &mut state,
+        source,
+        subs,
+        lists.as_slice(),
+        parts,
+        limit,
+    )
+}
+
+/// Makes so many steps at most of both runs from where they begin, and counts them.
+fn count_steps(
+    machine: &mut Machine<ValueAnswers>,
+    state: &mut SourceState,
+    source: &Func,
+    subs: &Substitutions,
+    lists: &[Ranges],
+    parts: &[VarId],
+    limit: u32,
+) -> Result<Option<Counts>, AllocError>
+    requires counted { AreCounted source.now.blocks }
+    requires at { IsPosition source.now.blocks state.old.pos }
+    requires readable { All CanBeRead lists.now }
+    ensures counts { IfOk result (λ o. IfSome o (CountsFrom (source_of source.now.blocks subs.now) machine.old.code
+        lists.now parts.now limit machine.old.hart state.old)) }
+    ensures apart { IfOk result (λ o. IfNone o (ApartFrom (source_of source.now.blocks subs.now) machine.old.code
+        lists.now parts.now limit machine.old.hart state.old)) }
+{
+    let mut counts = Counts::new();
+    let mut moved = false;
+    'steps: while counts.steps < limit {
+        match make_turn(
+            machine,
+            state,
+            &mut moved,
+            &mut counts,
+            source,
+            subs,
+            lists,
+            parts,
+        )? {
+            Turn::Went => {}
+            Turn::Returned => return Ok(Some(counts)),
+            Turn::Apart => return Ok(None),
+        }
+    }
+    Ok(Some(counts))
+}

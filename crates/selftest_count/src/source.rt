@@ -1,0 +1,70 @@
+//! The source's run from one line of the machine code to the next.
+
+ghost use Rattle.std.specs.Prelude.{◌≡◌, false, IfOk, IsTrue};
+ghost use Rattle.mir_semantics.specs.StandsFor.{IsPosition, AreCounted};
+ghost use Rattle.mir_semantics.specs.Steps.{source_of};
+ghost use Rattle.selftest_count.specs.steps.Beside.{ArrivesSo, AlignsSo, MissesSo, MissesNextSo};
+
+use mir_func::func::Func;
+use mir_func::position::Pos;
+use mir_semantics::state::{SourceState, SourceStep};
+use std::alloc::AllocError;
+use mir_substitution::substitutions::Substitutions;
+
+/// How many steps the source may make from one line to the next.
+const MAX_STEPS: u64 = u64::MAX;
+
+/// Goes on to the next state that is aligned with a line of this position. False where it doesn't come there: it stops
+/// before, calls, or makes too many steps.
+pub fn align(
+    state: &mut SourceState,
+    f: &Func,
+    subs: &Substitutions,
+    moved: bool,
+    target: Pos,
+) -> Result<bool, AllocError>
+    requires counted { AreCounted f.now.blocks }
+    requires at { IsPosition f.now.blocks state.old.pos }
+    ensures aligned { IfOk result (λ came. IsTrue came
+        → AlignsSo (source_of f.now.blocks subs.now) moved target state.old state.new) }
+    ensures misses { IfOk result (λ came. came ≡ false
+        → MissesNextSo (source_of f.now.blocks subs.now) moved target state.old) }
+    ensures at { IsPosition f.now.blocks state.new.pos }
+{
+    if !moved {
+        return arrive(state, f, subs, target);
+    }
+    match state.step(f, subs, None)? {
+        SourceStep::Went => arrive(state, f, subs, target),
+        SourceStep::Returned | SourceStep::Faulted | SourceStep::Waits => Ok(false),
+    }
+}
+
+/// Goes on to the first state at a position, which may be the present one.
+fn arrive(
+    state: &mut SourceState,
+    f: &Func,
+    subs: &Substitutions,
+    target: Pos,
+) -> Result<bool, AllocError>
+    requires counted { AreCounted f.now.blocks }
+    requires at { IsPosition f.now.blocks state.old.pos }
+    ensures arrived { IfOk result (λ came. IsTrue came
+        → ArrivesSo (source_of f.now.blocks subs.now) target state.old state.new) }
+    ensures misses { IfOk result (λ came. came ≡ false
+        → MissesSo (source_of f.now.blocks subs.now) target state.old) }
+    ensures at { IsPosition f.now.blocks state.new.pos }
+{
+    let mut made = 0;
+    'steps: while made < MAX_STEPS {
+        if state.position() == target {
+            return Ok(true);
+        }
+        match state.step(f, subs, None)? {
+            SourceStep::Went => {}
+            SourceStep::Returned | SourceStep::Faulted | SourceStep::Waits => return Ok(false),
+        }
+        made += 1;
+    }
+    Ok(false)
+}

@@ -1,0 +1,52 @@
+-- What location lists give is known to the source.
+use Rattle.std.specs.Prelude.{◌≡◌, ℕ, ◌≤◌, List, length, Option, Some, None, false, slice_get, All, Contains}
+use Rattle.std.specs.List.{AllPairs}
+use Rattle.rv64_instr.specs.declared.place.Place.{Place}
+use Rattle.mir_func.specs.declared.entry.OperandPair.{OperandPair}
+use Rattle.mir_func.specs.declared.variable.VarId.{VarId}
+use Rattle.mir_func.specs.Function.{Function}
+use Rattle.mir_func.specs.declared.item.ItemKind.{ItemKind}
+use Rattle.mir_func.specs.declared.item.ItemKind.TheVariants.{Code, Mark, Phi}
+use Rattle.mir_func.specs.Sound.{AllItems}
+use Rattle.mir_func.specs.Variables.{is_same_variable}
+use Rattle.dwarf_loclists.specs.declared.range.Location.{Location}
+use Rattle.dwarf_loclists.specs.declared.range.Location.TheVariants.{Whole, Parts}
+use Rattle.dwarf_loclists.specs.declared.range.Range.{Range}
+use Rattle.dwarf_loclists.specs.Ranges.{ArePlaces, location_in}
+use Rattle.location_of_variable.specs.Groups.{part_of}
+use Rattle.location_of_variable.specs.Wanted.{bytes_of}
+use Rattle.sem_machine.specs.Headline.{Headline}
+use Rattle.sem_machine.specs.Image.{Image}
+use Rattle.emit_code.specs.Laid.{LaidCode}
+use Rattle.sim_machine.specs.Shown.{ShowsCode}
+use Rattle.selftest_count.specs.declared.counts.Counts.{Counts}
+use Rattle.selftest_count.specs.Runs.{AreCountsOf}
+
+-- what a location of a variable tells at an address is given: each place for a part of the variable
+abbrev pub IsGiven : (gives : VarId → (address : ℕ) → Place → Type 0) → VarId → (address : ℕ) → Location → Type 0
+IsGiven gives v a (Whole p) = gives (part_of v None) a p
+IsGiven gives v a (Parts pieces) = All (λ x. gives (part_of v (Some (bytes_of x))) a x.place) pieces
+
+-- a mark is of one of these parts
+abbrev pub MarksPartOf : List VarId → ItemKind → Type 0
+MarksPartOf parts (Mark v m) = Contains parts v
+MarksPartOf parts (Code i k) = Unit {0}
+MarksPartOf parts (Phi p k) = Unit {0}
+
+-- there is a list for each variable, no two variables are the same, what the lists tell is given, and the source's marks are of the parts
+pub record AreGiven (gives : VarId → (address : ℕ) → Place → Type 0) (source : Function) (variables parts : List VarId) (lists : List (List Range)) :
+    Type 0 where
+  pub for_all : length lists ≡ length variables
+  pub apart : AllPairs (λ v w. is_same_variable v w ≡ false) variables
+  pub places : All ArePlaces lists
+  pub each : (k : ℕ) (v : VarId) (ranges : List Range) (a : ℕ) (l : Location) → slice_get variables k ≡ Some v → slice_get lists k ≡ Some ranges →
+      location_in ranges a ≡ Some l → IsGiven gives v a l
+  pub marked : AllItems (λ i. MarksPartOf parts i.kind) source.blocks
+
+-- Where the headline holds of an image that shows the code, and these lists tell what its lists give, a run from the start reads no more
+-- values than are known.
+abbrev pub ReadsAreKnown : (gives : VarId → (address : ℕ) → Place → Type 0) → Type 0
+ReadsAreKnown gives = (source : Function) (resolve : OperandPair → Option OperandPair) (image : Image) (c : LaidCode) (lists : List (List Range))
+    (variables parts : List VarId) (limit : ℕ) (n : Counts) →
+    Headline source resolve image gives → ShowsCode c image → AreGiven gives source variables parts lists → AreCountsOf source resolve c lists parts limit n →
+    n.reads ≤ n.known

@@ -1,0 +1,43 @@
+-- A run of machine code and its source's go together.
+use Rattle.std.specs.Prelude.{◌≡◌, ℕ, ◌≤◌, List, All, Option, false, true}
+use Rattle.rv64_instr.specs.declared.place.Place.{Place}
+use Rattle.mir_func.specs.declared.entry.OperandPair.{OperandPair}
+use Rattle.mir_func.specs.declared.variable.VarId.{VarId}
+use Rattle.mir_func.specs.Function.{Function}
+use Rattle.mir_func.specs.Graph.{program_of}
+use Rattle.sem_mir.specs.State.{State}
+use Rattle.sem_mir.specs.Step.{Went, Faulted, run}
+use Rattle.dwarf_loclists.specs.declared.range.Range.{Range}
+use Rattle.sem_machine.specs.Headline.{Headline}
+use Rattle.sem_machine.specs.Image.{Image}
+use Rattle.emit_code.specs.declared.code.Entry.{Entry}
+use Rattle.emit_code.specs.Laid.{LaidCode}
+use Rattle.sim_machine.specs.Shown.{ShowsCode}
+use Rattle.selftest_count.specs.Apart.{MAX_SOURCE_STEPS}
+use Rattle.selftest_count.specs.Runs.{BeginsSource, GoApart}
+
+-- no run of the source from the start without arguments stops on a frame fault
+abbrev pub HasNoFault : Function → (OperandPair → Option OperandPair) → Type 0
+HasNoFault source resolve = (s : State) → BeginsSource source s → (n : ℕ) → run (program_of true source.blocks resolve) n s ≡ Faulted → ⊥
+
+-- the code calls nothing
+abbrev pub HasNoCall : LaidCode → Type 0
+HasNoCall c = All (λ (e : Entry). e.call ≡ false) c.entries
+
+-- the source's run from a state makes 2^64 - 1 steps at least
+pub record RunsLongFrom (source : Function) (resolve : OperandPair → Option OperandPair) (s : State) : Type 0 where
+  pub steps : ℕ
+  pub many : MAX_SOURCE_STEPS ≤ steps
+  pub to : State
+  pub goes : run (program_of true source.blocks resolve) steps s ≡ Went to
+
+-- so does its run from the start without arguments
+abbrev pub RunsLong : Function → (OperandPair → Option OperandPair) → Type 0
+RunsLong source resolve = (s : State) → BeginsSource source s → RunsLongFrom source resolve s
+
+-- Where the headline holds of an image that shows the code, the code calls nothing and the source has no fault, both go together, unless the source
+-- makes 2^64 - 1 steps.
+abbrev pub RunsGoTogether : (gives : VarId → (address : ℕ) → Place → Type 0) → Type 0
+RunsGoTogether gives = (source : Function) (resolve : OperandPair → Option OperandPair) (image : Image) (c : LaidCode) (lists : List (List Range))
+    (parts : List VarId) (limit : ℕ) → Headline source resolve image gives → ShowsCode c image → HasNoFault source resolve → HasNoCall c →
+    GoApart source resolve c lists parts limit → RunsLong source resolve

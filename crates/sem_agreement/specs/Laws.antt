@@ -1,0 +1,34 @@
+-- What items do to two runs that are alike.
+use Rattle.std.specs.Prelude.{◌≡◌, ℕ, Option, Some, None, true}
+use Rattle.rv64_instr.specs.declared.place.Place.{Place}
+use Rattle.rv64_instr.specs.Instruction.{Instruction}
+use Rattle.rv64_instr.specs.Row.{row_of}
+use Rattle.rv64_instr.specs.Parts.{is_pure}
+use Rattle.mir_func.specs.declared.item.ItemKind.{ItemKind}
+use Rattle.mir_func.specs.declared.item.ItemKind.TheVariants.{Code, Mark, Phi}
+use Rattle.mir_func.specs.declared.variable.VarId.{VarId}
+use Rattle.mir_func.specs.declared.variable.MarkValue.{MarkValue}
+use Rattle.mir_func.specs.declared.variable.MarkValue.TheVariants.{Nothing}
+use Rattle.mir_func.specs.Graph.{Program}
+use Rattle.sem_mir.specs.State.{Core}
+use Rattle.sem_mir.specs.Step.{do_item}
+use Rattle.sem_mir.specs.Effects.{EndAlike, FallsInto}
+use Rattle.sem_agreement.specs.Alike.{Alike, Depends, HeldAfter, ButDefined}
+
+-- what holds of items of two programs that see x2 alike, from cores that are alike
+pub record ItemsAreAlike (Held : Place → Type 0) (Free : ℕ → Type 0) : Type 0 where
+  -- an item of both: both go on alike, and with what it defines, or end alike
+  pub both : (f g : Program) (k : ItemKind) (c d : Core) → f.sees_pointer ≡ g.sees_pointer →
+      Alike Held Free c d → Depends f g Held k c d → EndAlike (Alike (HeldAfter Held k) Free) (do_item f k c) (do_item g k d)
+  -- a mark or a phi that gives nothing in the second, whatever it asks for
+  pub silent_mark : (f g : Program) (v : VarId) (m : MarkValue) (c d : Core) → Alike Held Free c d →
+      EndAlike (Alike Held Free) (do_item f (Mark v m) c) (do_item g (Mark v Nothing) d)
+  pub silent_phi : (f g : Program) (p : Option Place) (n : ℕ) (c d : Core) → Alike Held Free c d →
+      EndAlike (Alike Held Free) (do_item f (Phi p n) c) (do_item g (Phi None n) d)
+  -- pure code of the first alone, whose number the second doesn't tell: it falls through alike but for what it defines
+  pub alone : (f : Program) (i : Instruction) (n : Option ℕ) (c d : Core) → is_pure (row_of i) ≡ true →
+      Alike Held Free c d → ((k : ℕ) → n ≡ Some k → (Free k → ⊥) → (o : ℕ) → d.pairs k o ≡ None) →
+      FallsInto (λ e. Alike (ButDefined Held i) Free e d) (do_item f (Code i n) c)
+  -- a phi of the second alone, of a free number
+  pub free_phi : (g : Program) (p : Option Place) (n : ℕ) (c d : Core) → Free n → Alike Held Free c d →
+      FallsInto (λ e. Alike Held Free c e) (do_item g (Phi p n) d)

@@ -1,0 +1,36 @@
+-- What holds of the run of straight-line code.
+use Rattle.std.specs.Prelude.{◌≡◌, ℕ, [], ◌∷◌, Option, Some, true}
+use Rattle.rv64_instr.specs.declared.place.Place.{Place}
+use Rattle.mir_func.specs.declared.entry.OperandPair.{OperandPair}
+use Rattle.mir_func.specs.declared.variable.VarId.{VarId}
+use Rattle.mir_func.specs.declared.block.Block.{Block}
+use Rattle.mir_func.specs.Function.{Function}
+use Rattle.sem_mir.specs.State.{Core, State}
+use Rattle.sem_mir.specs.Step.{read}
+use Rattle.mir_func.specs.Graph.{program_of}
+use Rattle.sem_mir.specs.Follow.{IsStart}
+use Rattle.sem_mir.specs.Align.{Since}
+use Rattle.sem_mir.specs.Token.{entry_tokens}
+use Rattle.sem_machine.specs.Image.{CodeLine, Image, line_at}
+use Rattle.sem_machine.specs.Machine.{Machine, register, machine_start}
+use Rattle.sem_machine.specs.Headline.{AlignsWith, MachineAlong, Headline}
+use Rattle.sem_machine.specs.Straight.{IsStraightImage, GiveHeld}
+
+-- the machine and the source hold the same
+pub record HoldTheSame (m : Machine) (c : Core) : Type 0 where
+  pub regs : (r : ℕ) → register m r ≡ read c r
+  pub memory : m.memory ≡ c.memory
+  pub events : m.events ≡ c.events
+
+-- At each line that the machine comes to, the source comes to the line's origin, and both hold the same.
+abbrev pub StraightCodeRunsAlong : Type 0
+StraightCodeRunsAlong = (block : Block) (resolve : OperandPair → Option OperandPair) (image : Image) → IsStraightImage block image →
+    (s0 : State) → IsStart [] block.id s0 → (m : Machine) (s : State) (since : Since) (l : CodeLine) →
+    MachineAlong (program_of true (block ∷ []) resolve) image (machine_start image s0) s0 m s since →
+    line_at image.lines m.counter ≡ Some l → (s' : State) × AlignsWith (program_of true (block ∷ []) resolve) l since s s' × HoldTheSame m s'.core
+
+-- Where the lists give only places that hold the variable's value by the walk's tokens, the headline holds.
+abbrev pub StraightCodeMeetsTheHeadline : (VarId → (address : ℕ) → Place → Type 0) → Type 0
+StraightCodeMeetsTheHeadline lists = (source : Function) (block : Block) (resolve : OperandPair → Option OperandPair) (image : Image) →
+    source.blocks ≡ block ∷ [] → source.objects ≡ [] → IsStraightImage block image → GiveHeld lists resolve 0 0 entry_tokens block.items →
+    Headline source resolve image lists

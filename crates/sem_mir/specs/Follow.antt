@@ -1,0 +1,257 @@
+-- When a function follows a source: its shape, and its runs from every start.
+use Rattle.std.specs.Prelude.{◌≡◌, ◌⊎◌, ℕ, ◌+◌, ◌*◌, ◌%◌, ◌^◌, ◌<◌, ◌≤◌, List, [], ◌∷◌, length, All, Contains, Option, Some, None, true, false, slice_get}
+use Rattle.rv64_instr.specs.Row.{Row, Fixes, Moves, Sets, Addresses, Loads, Stores, LoadsSlot, StoresSlot, Branches, Jumps, Calls, Returns, Unfit, row_of}
+use Rattle.rv64_instr.specs.Parts.{IsSlotStore}
+use Rattle.mir_func.specs.declared.position.Pos.{Pos}
+use Rattle.mir_func.specs.declared.position.Origin.{Origin}
+use Rattle.mir_func.specs.declared.position.Origin.TheVariants.{Kept, Before}
+use Rattle.mir_func.specs.declared.block.Block.{Block}
+use Rattle.mir_func.specs.declared.entry.OperandPair.{OperandPair}
+use Rattle.mir_func.specs.declared.object.Object.{Object}
+use Rattle.mir_func.specs.Limits.{FRAME_ROOM}
+use Rattle.mir_func.specs.Objects.{area_of, offset_of}
+use Rattle.mir_func.specs.declared.item.Item.{Item}
+use Rattle.mir_func.specs.declared.item.ItemKind.{ItemKind}
+use Rattle.mir_func.specs.declared.item.ItemKind.TheVariants.{Code, Mark, Phi}
+use Rattle.mir_func.specs.declared.variable.MarkValue.TheVariants.{Nothing}
+use Rattle.mir_func.specs.Sound.{AreApart, ids_of}
+use Rattle.sem_mir.specs.State.{IsReply, State, content}
+use Rattle.mir_func.specs.Graph.{Fetch, Here, Silent, Program, below, block_start, program_of, Edge, Leads}
+use Rattle.sem_mir.specs.Align.{position_of, ByItems, ByEnds, station_at, AnyOrigin, RunsAlong}
+
+-- kinds of code, which stay where code is kept
+pub data Class : Type 0 where
+  Branch : Class
+  Call : Class
+  Return : Class
+  Store : Class
+  Plain : Class
+  Odd : Class
+
+-- the kind of code of a row. A slot store is plain code, no store to memory
+abbrev pub class_of : Row → Class
+class_of (Branches op a b target) = Branch
+class_of (Jumps target) = Branch
+class_of (Calls name args) = Call
+class_of (Returns results) = Return
+class_of (Stores op rs base offset) = Store
+class_of (Fixes rd n) = Plain
+class_of (Moves rd rs) = Plain
+class_of (Sets rd op a b) = Plain
+class_of (Addresses rd n offset) = Plain
+class_of (Loads rd op base offset) = Plain
+class_of (LoadsSlot rd n) = Plain
+class_of (StoresSlot rs n) = Plain
+class_of Unfit = Odd
+
+-- code that may be added before a position of a block with this silent index: slot loads and constant definitions not at
+-- the silent position, slot stores, and jumps at the silent position
+abbrev pub MayAdd : Row → (item silent : ℕ) → Type 0
+MayAdd (LoadsSlot rd n) k silent = k < silent
+MayAdd (Fixes rd n) k silent = k < silent
+MayAdd (StoresSlot rs n) k silent = Unit {0}
+MayAdd (Jumps target) k silent = k ≡ silent
+MayAdd (Moves rd rs) k silent = ⊥
+MayAdd (Sets rd op a b) k silent = ⊥
+MayAdd (Addresses rd n offset) k silent = ⊥
+MayAdd (Loads rd op base offset) k silent = ⊥
+MayAdd (Stores op rs base offset) k silent = ⊥
+MayAdd (Branches op a b target) k silent = ⊥
+MayAdd (Calls name args) k silent = ⊥
+MayAdd (Returns results) k silent = ⊥
+MayAdd Unfit k silent = ⊥
+
+-- the item is code of the row's class
+abbrev pub ItemHasClass : Row → ItemKind → Type 0
+ItemHasClass r (Code c k) = class_of (row_of c) ≡ class_of r
+ItemHasClass r _ = ⊥
+
+-- the source has code of the row's class there
+abbrev pub HasClass : Row → Fetch → Type 0
+HasClass r (Here i) = ItemHasClass r i.kind
+HasClass r _ = ⊥
+
+-- code of this row may have this origin: kept code keeps its class, and added code is of a kind that may be added
+abbrev pub RowFits : Program → Row → (silent : ℕ) → Origin → Type 0
+RowFits src r silent (Kept p) = HasClass r (src.fetch p)
+RowFits src r silent (Before p) = MayAdd r p.item silent
+
+-- an item may have this origin. Debug items may have any
+abbrev pub KindFits : Program → ItemKind → (silent : ℕ) → Origin → Type 0
+KindFits src (Code c k) silent o = RowFits src (row_of c) silent o
+KindFits src (Mark v m) silent o = Unit {0}
+KindFits src (Phi p k) silent o = Unit {0}
+
+-- a mark that is added assigns nothing
+abbrev pub MarkFits : ItemKind → Origin → Type 0
+MarkFits (Mark v Nothing) o = Unit {0}
+MarkFits (Mark v m) (Before p) = ⊥
+MarkFits _ o = Unit {0}
+
+-- where an origin stands in its block's order, and where the next may stand: what is added before a position comes
+-- before what is kept of it
+abbrev pub rank : Origin → ℕ
+rank (Kept p) = 2 * p.item + 1
+rank (Before p) = 2 * p.item
+
+-- much may be added before one position, but each of the source's items is kept once at most
+abbrev pub next_rank : Origin → ℕ
+next_rank (Kept p) = 2 * p.item + 2
+next_rank (Before p) = 2 * p.item
+
+-- the items come from block b, in its order, and nothing is kept twice
+abbrev pub InOrder : (b least : ℕ) → List Item → Type 0
+InOrder b n [] = Unit {0}
+InOrder b n (x ∷ xs) = ((position_of x.origin).block ≡ b) × (n ≤ rank x.origin) × InOrder b (next_rank x.origin) xs
+
+-- f's blocks are some of the source's, in its order, with their silent indices
+pub data Among : List Block → List Block → Type 0 where
+  none : {bs : List Block} → Among [] bs
+  same : {a b : Block} {rest bs : List Block} → a.id ≡ b.id → a.silent ≡ b.silent → Among rest bs → Among (a ∷ rest) (b ∷ bs)
+  left : {b : Block} {rest bs : List Block} → Among rest bs → Among rest (b ∷ bs)
+
+-- the number of the entry block, and 0 where there are no blocks
+abbrev pub first_of : List Block → ℕ
+first_of [] = 0
+first_of (b ∷ bs) = b.id
+
+-- the code's row has the property
+abbrev pub OnRow : (Row → Type 0) → ItemKind → Type 0
+OnRow P (Code c k) = P (row_of c)
+OnRow P _ = ⊥
+
+-- a branch or a jump whose target is block n
+abbrev pub GoesTo : ℕ → Row → Type 0
+GoesTo n (Branches op a b target) = target ≡ n
+GoesTo n (Jumps target) = target ≡ n
+GoesTo block (Fixes rd n) = ⊥
+GoesTo block (Moves rd rs) = ⊥
+GoesTo block (Sets rd op a b) = ⊥
+GoesTo block (Addresses rd n offset) = ⊥
+GoesTo block (Loads rd op base offset) = ⊥
+GoesTo block (Stores op rs base offset) = ⊥
+GoesTo block (LoadsSlot rd n) = ⊥
+GoesTo block (StoresSlot rs n) = ⊥
+GoesTo block (Calls name args) = ⊥
+GoesTo block (Returns results) = ⊥
+GoesTo block Unfit = ⊥
+
+-- neither a branch nor a copy of a register to itself
+abbrev pub Counts : Row → Type 0
+Counts (Branches op a b target) = ⊥
+Counts (Jumps target) = ⊥
+Counts (Moves rd rs) = rd ≡ rs → ⊥
+Counts (Fixes rd n) = Unit {0}
+Counts (Sets rd op a b) = Unit {0}
+Counts (Addresses rd n offset) = Unit {0}
+Counts (Loads rd op base offset) = Unit {0}
+Counts (Stores op rs base offset) = Unit {0}
+Counts (LoadsSlot rd n) = Unit {0}
+Counts (StoresSlot rs n) = Unit {0}
+Counts (Calls name args) = Unit {0}
+Counts (Returns results) = Unit {0}
+Counts Unfit = Unit {0}
+
+-- what stands at q comes from another position than the end of the block of p, and is met before that end or after p
+abbrev pub IsMetApart : Program → (p : Pos) → (silent : ℕ) → (q : Pos) → Item → Type 0
+IsMetApart f p k q j = (f.fetch q ≡ Here j) × OnRow Counts j.kind × (position_of j.origin ≡ record { block = p.block; item = k } → ⊥) ×
+    (((q.block ≡ p.block) × (q.item < p.item)) ⊎ Leads f p q)
+
+-- the shape of a function that follows a source
+pub record Shape (src f : List Block) (srcp fp : Program) : Type 0 where
+  pub among : Among f src
+  pub first : first_of f ≡ first_of src
+  -- where some path of the source leads back to its first block, a branch of f goes there
+  pub back : (q : Pos) → Leads srcp (block_start (first_of src)) q → Edge srcp q (block_start (first_of src)) →
+      (p : Pos) × (i : Item) × (fp.fetch p ≡ Here i) × OnRow (GoesTo (first_of src)) i.kind
+  pub order : All (λ b. InOrder b.id 0 b.items) f
+  pub items : All (λ b. All (λ i. KindFits srcp i.kind b.silent i.origin) b.items) f
+  -- with a slot store at a block's end goes other code: so a cycle of jumps alone stores in no slot
+  pub stores : (b : Block) → Contains f b → (p : Pos) (i : Item) → p.block ≡ b.id → fp.fetch p ≡ Here i → OnRow IsSlotStore i.kind →
+      i.origin ≡ Before (record { block = b.id; item = b.silent }) → (q : Pos) × (j : Item) × IsMetApart fp p b.silent q j
+  -- between code that is added before a position and what is kept there no variable gets a value
+  pub marks : All (λ b. All (λ i. MarkFits i.kind i.origin) b.items) f
+
+-- a start of a run of a function with these stack objects: x2 is a multiple of 16 with room for a frame, and all else is free
+pub record IsStart (stack : List Object) (first : ℕ) (s : State) : Type 0 where
+  pub pos : s.pos ≡ block_start first
+  pub regs : (r : ℕ) → r < 32 → (v : ℕ) × (content s.core.regs r ≡ Some v) × (v < 2 ^ 64)
+  pub virtual : (r : ℕ) → 32 ≤ r → content s.core.regs r ≡ None
+  pub pointer : content s.core.regs 2 ≡ Some s.core.entry
+  pub aligned : s.core.entry % 16 ≡ 0
+  pub room : FRAME_ROOM ≤ s.core.entry
+  pub area : s.core.area ≡ area_of stack
+  pub objects : (n : ℕ) → s.core.objects n ≡ offset_of stack n
+  pub slots : (n : ℕ) → s.core.slots n ≡ None
+  pub memory : (a : ℕ) → s.core.memory a < 256
+  pub script : All IsReply s.core.script
+  pub events : s.core.events ≡ []
+  pub pairs : (k o : ℕ) → s.core.pairs k o ≡ None
+  pub marks : s.core.marks ≡ []
+
+-- f follows the source: it has its shape, and from every start it runs along
+pub record Follows (objects : List Object) (src f : List Block) (subs fsubs : OperandPair → Option OperandPair) : Type 0 where
+  pub shape : Shape src f (program_of true src subs) (program_of false f fsubs)
+  pub runs : (s : State) → IsStart objects (first_of src) s → RunsAlong (program_of true src subs) (program_of false f fsubs)
+      (station_at ByItems (program_of false f fsubs)) (AnyOrigin (station_at ByItems (program_of false f fsubs))) s s
+
+-- the same end of a block, register names aside
+abbrev pub SameEnd : Row → Row → Type 0
+SameEnd (Branches op a b t) (Branches op' a' b' t') = (op ≡ op') × (t ≡ t')
+SameEnd (Jumps t) (Jumps t') = t ≡ t'
+SameEnd (Returns v) (Returns w) = Unit {0}
+SameEnd _ _ = ⊥
+
+-- a terminator: a branch, a jump or a return
+abbrev pub IsEnd : Row → Type 0
+IsEnd (Branches op a b target) = Unit {0}
+IsEnd (Jumps target) = Unit {0}
+IsEnd (Returns results) = Unit {0}
+IsEnd (Fixes rd n) = ⊥
+IsEnd (Moves rd rs) = ⊥
+IsEnd (Sets rd op a b) = ⊥
+IsEnd (Addresses rd n offset) = ⊥
+IsEnd (Loads rd op base offset) = ⊥
+IsEnd (Stores op rs base offset) = ⊥
+IsEnd (LoadsSlot rd n) = ⊥
+IsEnd (StoresSlot rs n) = ⊥
+IsEnd (Calls name args) = ⊥
+IsEnd Unfit = ⊥
+
+-- both items are code, and the same end of a block
+abbrev pub KindsEndAlike : ItemKind → ItemKind → Type 0
+KindsEndAlike (Code c k) (Code d l) = SameEnd (row_of c) (row_of d)
+KindsEndAlike _ _ = ⊥
+
+-- f keeps what stands at position p
+abbrev pub EndIsKept : Program → Pos → Item → Type 0
+EndIsKept f p i = (q : Pos) × (j : Item) × (f.fetch q ≡ Here j) × (j.origin ≡ Kept p) × KindsEndAlike i.kind j.kind
+
+-- it is kept from the source
+abbrev pub EndComesFrom : Program → Item → Type 0
+EndComesFrom src j = (p : Pos) × (i : Item) × (src.fetch p ≡ Here i) × (j.origin ≡ Kept p) × KindsEndAlike i.kind j.kind
+
+-- f has whole ends: it has every block of the source with its branches and returns, and runs along at the blocks' ends too
+pub record HasWholeEnds (objects : List Object) (src f : List Block) (subs fsubs : OperandPair → Option OperandPair) : Type 0 where
+  pub blocks : length f ≡ length src
+  pub kept : (p : Pos) (i : Item) → (program_of true src subs).fetch p ≡ Here i → OnRow IsEnd i.kind → EndIsKept (program_of false f fsubs) p i
+  pub only : (q : Pos) (j : Item) → (program_of false f fsubs).fetch q ≡ Here j → OnRow IsEnd j.kind → EndComesFrom (program_of true src subs) j
+  pub runs : (s : State) → IsStart objects (first_of src) s → RunsAlong (program_of true src subs) (program_of false f fsubs)
+      (station_at ByEnds (program_of false f fsubs)) (AnyOrigin (station_at ByEnds (program_of false f fsubs))) s s
+
+-- the position isn't past its block's end
+abbrev pub IsWithin : Program → Pos → Type 0
+IsWithin src p = (k n : ℕ) → src.fetch p ≡ Silent k n → p.item ≡ k
+
+-- a program in which each item is its own origin, and each block's end its silent position
+pub record IsSource (src : Program) : Type 0 where
+  pub items : (p : Pos) (i : Item) → src.fetch p ≡ Here i → i.origin ≡ Kept p
+  pub ends : (p : Pos) (k n : ℕ) → src.fetch p ≡ Silent k n → src.fetch (record { block = p.block; item = k }) ≡ Silent k n
+  pub starts : (n : ℕ) → IsWithin src (block_start n)
+  pub falls : (p : Pos) (i : Item) → src.fetch p ≡ Here i → IsWithin src (below p)
+
+-- a function as it is read: block numbers differ, each item is its own origin, and each block's silent index is how many items it has
+pub record IsRead (blocks : List Block) : Type 0 where
+  pub apart : AreApart (ids_of blocks)
+  pub items : All (λ b. (k : ℕ) (i : Item) → slice_get b.items k ≡ Some i → i.origin ≡ Kept (record { block = b.id; item = k })) blocks
+  pub silent : All (λ b. b.silent ≡ length b.items) blocks

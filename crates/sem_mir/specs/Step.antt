@@ -1,0 +1,227 @@
+-- One step of a run.
+use Rattle.std.specs.Prelude.{ℕ, ◌+◌, ◌-◌, ◌%◌, ◌^◌, zero, suc, List, [], ◌∷◌, map, Option, Some, None, Bool, true, false, cond, nat_eq, is_some, slice_get}
+use Rattle.std.specs.List.{list_all}
+use Rattle.rv64_instr.specs.declared.op.LoadOp.{LoadOp}
+use Rattle.rv64_instr.specs.declared.op.StoreOp.{StoreOp}
+use Rattle.rv64_instr.specs.declared.operand.Operand.{Operand}
+use Rattle.rv64_instr.specs.declared.operand.Operand.TheVariants.{Def, ImplicitDef}
+use Rattle.rv64_instr.specs.declared.place.Place.{Place}
+use Rattle.rv64_instr.specs.declared.place.Place.TheVariants.{Register, Slot, Const}
+use Rattle.rv64_instr.specs.Arithmetic.{word, computed, taken, load_width, store_width, extended}
+use Rattle.rv64_instr.specs.declared.decoded.Input.{Input}
+use Rattle.rv64_instr.specs.declared.decoded.Input.TheVariants.{Content, Number}
+use Rattle.rv64_instr.specs.declared.decoded.Base.{Base}
+use Rattle.rv64_instr.specs.declared.decoded.Base.TheVariants.{PointedBy, ObjectAt}
+use Rattle.rv64_instr.specs.Row.{Row, Fixes, Moves, Sets, Addresses, Loads, Stores, LoadsSlot, StoresSlot, Branches, Jumps, Calls, Returns, Unfit, row_of}
+use Rattle.rv64_instr.specs.Access.{caller_saved, reads}
+use Rattle.rv64_instr.specs.Parts.{is_call}
+use Rattle.mir_func.specs.declared.entry.OperandPair.{OperandPair}
+use Rattle.mir_func.specs.declared.position.Pos.{Pos}
+use Rattle.mir_func.specs.declared.variable.VarId.{VarId}
+use Rattle.mir_func.specs.declared.variable.MarkValue.{MarkValue}
+use Rattle.mir_func.specs.declared.variable.MarkValue.TheVariants.{Nothing, Constant, At, Pair}
+use Rattle.mir_func.specs.declared.item.ItemKind.{ItemKind}
+use Rattle.mir_func.specs.declared.item.ItemKind.TheVariants.{Code, Mark, Phi}
+use Rattle.mir_func.specs.Variables.{part_value}
+use Rattle.mir_func.specs.Graph.{Fetch, Here, Silent, Outside, Program, below, block_start}
+use Rattle.sem_mir.specs.State.{Called, Wrote, Reply, Core, State, updated, content, put, put_all, spelled, low_bytes, stored, written, touches_frame}
+use Rattle.sem_mir.specs.State.{writes_frame}
+
+-- what an item does to the core
+pub data Outcome : Type 0 where
+  -- goes on below
+  Falls : Core → Outcome
+  -- goes to a block
+  Goes : (target : ℕ) → Core → Outcome
+  -- returns
+  Gives : (results : List ℕ) → Outcome
+  -- stops on a frame fault
+  Traps : Outcome
+  -- waits for the answer to its call
+  Asks : Outcome
+  -- there is no such instruction
+  Breaks : Outcome
+
+-- a register's number, and 0 where it isn't written
+abbrev pub or_zero : Option ℕ → ℕ
+or_zero None = 0
+or_zero (Some n) = n
+
+-- a register's content, and 0 where it isn't written
+abbrev pub read : Core → ℕ → ℕ
+read s r = or_zero (content s.regs r)
+
+-- what an operation's second input gives: a register's content or the immediate
+abbrev pub input_value : Core → Input → ℕ
+input_value s (Content r) = read s r
+input_value s (Number n) = n
+
+-- the address of a stack object, modulo 2^64
+abbrev pub object_address : Core → ℕ → ℕ
+object_address s n = (s.entry + (2 ^ 64 - s.area) + s.objects n) % 2 ^ 64
+
+-- where an address starts: at a register's content, or at a stack object's first byte
+abbrev pub base_value : Core → Base → ℕ
+base_value s (PointedBy r) = read s r
+base_value s (ObjectAt n) = object_address s n
+
+-- the effective address of an access: base plus offset, modulo 2^64
+abbrev pub address_at : Core → Base → (offset : ℕ) → ℕ
+address_at s base offset = (base_value s base + offset) % 2 ^ 64
+
+-- an access of n bytes at an address touches the frame. By a stack object it is none
+abbrev pub is_fault : Base → Core → (address n : ℕ) → Bool
+is_fault (PointedBy r) s a n = touches_frame s.entry s.area a n
+is_fault (ObjectAt m) s a n = false
+
+-- a register set, and all else left: x0 drops the write
+abbrev pub set_register : (rd v : ℕ) → Core → Core
+set_register rd v s = record s { regs = put rd v s.regs }
+
+-- a call with the next answer. An answer that writes in the frame is a frame fault
+abbrev pub answered : (name args : List ℕ) → Core → List Reply → Outcome
+answered name args s [] = Asks
+answered name args s (r ∷ rest) = cond (writes_frame s.entry s.area r.writes) Traps
+    (Falls (record s { regs = put_all caller_saved r.regs s.regs; memory = written s.memory r.writes; script = rest; events = Called name args ∷ s.events }))
+
+-- a slot that isn't written can't be loaded
+abbrev pub slot_loaded : ℕ → Core → Option ℕ → Outcome
+slot_loaded rd s None = Traps
+slot_loaded rd s (Some v) = Falls (set_register rd v s)
+
+-- a load: a frame fault, or rd gets the bytes from the address on, extended as the opcode says
+abbrev pub loaded : (rd : ℕ) → LoadOp → Base → (address : ℕ) → Core → Outcome
+loaded rd op base a s =
+    cond (is_fault base s a (load_width op)) Traps (Falls (set_register rd (extended op (spelled s.memory a (load_width op))) s))
+
+-- bytes written to memory from an address on, which shows to the outside
+abbrev pub saved : (address : ℕ) → List ℕ → Core → Core
+saved a bytes s = record s { memory = stored s.memory a bytes; events = Wrote a bytes ∷ s.events }
+
+-- a store: a frame fault, or the low bytes of v go to memory, as many as the opcode says
+abbrev pub put_in_memory : StoreOp → Base → (address v : ℕ) → Core → Outcome
+put_in_memory op base a v s = cond (is_fault base s a (store_width op)) Traps (Falls (saved a (low_bytes (store_width op) v) s))
+
+-- what an instruction of this row does, where all that it reads is written
+unfoldable pub does : Row → Core → Outcome
+does (Fixes rd n) s = Falls (set_register rd n s)
+does (Moves rd rs) s = Falls (set_register rd (read s rs) s)
+does (Sets rd op a b) s = Falls (set_register rd (computed op (read s a) (input_value s b)) s)
+does (Addresses rd n offset) s = Falls (set_register rd (address_at s (ObjectAt n) offset) s)
+does (Loads rd op base offset) s = loaded rd op base (address_at s base offset) s
+does (Stores op rs base offset) s = put_in_memory op base (address_at s base offset) (read s rs) s
+does (LoadsSlot rd n) s = slot_loaded rd s (s.slots n)
+does (StoresSlot rs n) s = Falls (record s { slots = updated n (Some (read s rs)) s.slots })
+does (Branches op a b target) s = cond (taken op (read s a) (read s b)) (Goes target s) (Falls s)
+does (Jumps target) s = Goes target s
+does (Calls name args) s = answered name (map (read s) args) s s.script
+does (Returns results) s = Gives (map (read s) results)
+does Unfit s = Breaks
+
+-- the registers are written
+abbrev pub are_written : Core → List ℕ → Bool
+are_written s rs = list_all (λ r. is_some (content s.regs r)) rs
+
+-- code that reads an unwritten register stops as on a frame fault
+unfoldable pub act : Row → Core → Outcome
+act r s = cond (are_written s (reads r)) (does r s) Traps
+
+-- a register's content as marks and numbers see it
+abbrev pub seen : Bool → ℕ → Core → Option ℕ
+seen true r s = content s.regs r
+seen false r s = cond (nat_eq r 2) None (content s.regs r)
+
+-- the register that an operand defines: an implicit definition defines on calls alone
+abbrev pub defined : Bool → Option Operand → Option ℕ
+defined call (Some (Def r)) = Some r
+defined true (Some (ImplicitDef r)) = Some r
+defined call _ = None
+
+-- a pair's value past code with its number: the content of the register that its operand defines, or the old one
+abbrev pub given : Bool → Option ℕ → Option ℕ → Core → Option ℕ
+given sp None old s = old
+given sp (Some r) old s = seen sp r s
+
+-- each defining operand of code with a number gives its pair the register's new content; the other pairs stay
+abbrev pub numbered : Bool → Bool → Option ℕ → List Operand → Core → Core
+numbered sp call None operands s = s
+numbered sp call (Some k) operands s = record s { pairs = updated k (λ o. given sp (defined call (slice_get operands o)) (s.pairs k o) s) s.pairs }
+
+-- the outcome with its core changed, where it goes on
+abbrev pub with_core : (Core → Core) → Outcome → Outcome
+with_core f (Falls c) = Falls (f c)
+with_core f (Goes n c) = Goes n (f c)
+with_core f (Gives v) = Gives v
+with_core f Traps = Traps
+with_core f Asks = Asks
+with_core f Breaks = Breaks
+
+-- what a phi of a place gives: the content of x2 is nothing, in the source too
+abbrev pub place_value : Option Place → Core → Option ℕ
+place_value None s = None
+place_value (Some (Register r)) s = seen false r s
+place_value (Some (Slot n)) s = s.slots n
+place_value (Some (Const c)) s = Some (word c)
+
+-- the last value of what a pair resolved to, and none where it resolves to nothing
+abbrev pub pair_value : Option OperandPair → Core → Option ℕ
+pair_value None s = None
+pair_value (Some q) s = s.pairs q.number q.operand
+
+-- what a mark's debug operand reads (LLVM: `DBG_VALUE` of a number or a register, `DBG_INSTR_REF` of a pair)
+abbrev pub mark_value : Program → MarkValue → Core → Option ℕ
+mark_value g Nothing s = None
+mark_value g (Constant c) s = Some (word c)
+mark_value g (At r) s = seen g.sees_pointer r s
+mark_value g (Pair q) s = pair_value (g.resolve q) s
+
+-- what a part of a variable gets of it: its low bytes
+abbrev pub part_of : VarId → Option ℕ → Option ℕ
+part_of v None = None
+part_of v (Some x) = Some (part_value v x)
+
+-- what an item does
+abbrev pub do_item : Program → ItemKind → Core → Outcome
+do_item g (Code i k) s = with_core (numbered g.sees_pointer (is_call (row_of i)) k i.operands) (act (row_of i) s)
+do_item g (Mark v m) s = Falls (record s { marks = (v, part_of v (mark_value g m s)) ∷ s.marks })
+do_item g (Phi p k) s = Falls (record s { pairs = updated k (updated 0 (place_value p s) (s.pairs k)) s.pairs })
+
+-- what stands at a position does. A block's end falls through to the next block
+abbrev pub do_fetch : Program → Fetch → Core → Outcome
+do_fetch g (Here i) s = do_item g i.kind s
+do_fetch g (Silent k n) s = Goes n s
+do_fetch g Outside s = Breaks
+
+-- how a step ends
+pub data Next : Type 0 where
+  Went : State → Next
+  Returned : (results : List ℕ) → Next
+  Faulted : Next
+  Waits : Next
+  Lost : Next
+
+-- how a step from this position ends, by its outcome
+abbrev pub moved : (ℕ → ℕ) → Pos → Outcome → Next
+moved enter p (Falls c) = Went (record { pos = below p; core = c })
+moved enter p (Goes n c) = Went (record { pos = block_start (enter n); core = c })
+moved enter p (Gives v) = Returned v
+moved enter p Traps = Faulted
+moved enter p Asks = Waits
+moved enter p Breaks = Lost
+
+-- one step: one item, debug items included, or a block's end
+abbrev pub step : Program → State → Next
+step g s = moved g.enter s.pos (do_fetch g (g.fetch s.pos) s.core)
+
+-- what comes next from the state that a run went to, or how it ended already
+abbrev pub after : Next → (State → Next) → Next
+after (Went s) k = k s
+after (Returned v) k = Returned v
+after Faulted k = Faulted
+after Waits k = Waits
+after Lost k = Lost
+
+-- n steps, or how the run ended before
+abbrev pub run : Program → ℕ → State → Next
+run g zero s = Went s
+run g (suc n) s = after (step g s) (run g n)

@@ -1,0 +1,164 @@
+-- What sits where: names for values along a path, and what is true of them on every path.
+use Rattle.std.specs.Prelude.{◌≡◌, ℕ, pos, negsuc, zero, suc, ◌<◌, List, [], ◌∷◌, Option, Some, None, Bool, cond, not, ◌&&◌, nat_eq, nat_lt, slice_get}
+use Rattle.std.specs.List.{list_any}
+use Rattle.rv64_instr.specs.declared.operand.Operand.{Operand}
+use Rattle.rv64_instr.specs.declared.place.Place.{Place}
+use Rattle.rv64_instr.specs.declared.place.Place.TheVariants.{Register, Slot, Const}
+use Rattle.rv64_instr.specs.Arithmetic.{word}
+use Rattle.rv64_instr.specs.Row.{Row, Fixes, Moves, Sets, Addresses, Loads, Stores, LoadsSlot, StoresSlot, Branches, Jumps, Calls, Returns, Unfit, row_of}
+use Rattle.rv64_instr.specs.Parts.{is_call}
+use Rattle.rv64_instr.specs.Access.{caller_saved, sets}
+use Rattle.mir_func.specs.declared.entry.OperandPair.{OperandPair}
+use Rattle.mir_func.specs.declared.position.Pos.{Pos}
+use Rattle.mir_func.specs.declared.variable.VarId.{VarId}
+use Rattle.mir_func.specs.declared.variable.MarkValue.{MarkValue}
+use Rattle.mir_func.specs.declared.variable.MarkValue.TheVariants.{Nothing, Constant, At, Pair}
+use Rattle.mir_func.specs.declared.item.ItemKind.{ItemKind}
+use Rattle.mir_func.specs.declared.item.ItemKind.TheVariants.{Code, Mark, Phi}
+use Rattle.sem_mir.specs.State.{updated, assigned}
+use Rattle.sem_mir.specs.Step.{defined}
+use Rattle.mir_func.specs.Graph.{Fetch, Here, Silent, Outside, Program, Edge}
+
+-- the name of a value along one path: a register's content at entry, what the item at an index of the path gave a
+-- register, or a number modulo 2^64
+pub data Token : Type 0 where
+  Entry : (r : ℕ) → Token
+  Made : (index r : ℕ) → Token
+  Fixed : (n : ℕ) → Token
+
+-- what has which token at a place of a path
+pub record Tokens : Type 0 where
+  pub regs : ℕ → Option Token
+  pub slots : ℕ → Option Token
+  pub pairs : ℕ → ℕ → Option Token
+  -- the newest first
+  pub marks : List (VarId × Option Token)
+
+-- x0 holds 0
+abbrev pub register_token : (ℕ → Option Token) → ℕ → Option Token
+register_token regs zero = Some (Fixed 0)
+register_token regs (suc r) = regs (suc r)
+
+-- a register gets a token, or none. x0 drops writes, and x2 has no token
+abbrev pub put_token : ℕ → Option Token → (ℕ → Option Token) → ℕ → Option Token
+put_token zero t regs = regs
+put_token (suc r) t regs = updated (suc r) (cond (nat_eq r 1) None t) regs
+
+-- each of the registers gets a token of its own
+abbrev pub make_all : (index : ℕ) → List ℕ → (ℕ → Option Token) → ℕ → Option Token
+make_all n [] regs = regs
+make_all n (r ∷ rs) regs = make_all n rs (put_token r (Some (Made n r)) regs)
+
+-- what code of this row, at an index of the path, does to registers and slots: constant definitions have the token of
+-- their number, copies and slots pass tokens on, every other definition makes one
+unfoldable pub moved_tokens : (index : ℕ) → Row → Tokens → Tokens
+moved_tokens n (Fixes rd c) t = record t { regs = put_token rd (Some (Fixed c)) t.regs }
+moved_tokens n (Moves rd rs) t = record t { regs = put_token rd (register_token t.regs rs) t.regs }
+moved_tokens n (Sets rd op a b) t = record t { regs = put_token rd (Some (Made n rd)) t.regs }
+moved_tokens n (Addresses rd k offset) t = record t { regs = put_token rd (Some (Made n rd)) t.regs }
+moved_tokens n (Loads rd op base offset) t = record t { regs = put_token rd (Some (Made n rd)) t.regs }
+moved_tokens n (LoadsSlot rd k) t = record t { regs = put_token rd (t.slots k) t.regs }
+moved_tokens n (StoresSlot rs k) t = record t { slots = updated k (register_token t.regs rs) t.slots }
+moved_tokens n (Calls name args) t = record t { regs = make_all n caller_saved t.regs }
+moved_tokens n (Stores op rs base offset) t = t
+moved_tokens n (Branches op a b target) t = t
+moved_tokens n (Jumps target) t = t
+moved_tokens n (Returns results) t = t
+moved_tokens n Unfit t = t
+
+-- a write of x2 takes every slot's token away, since slots are found by x2
+abbrev pub sets_pointer : Row → Bool
+sets_pointer r = list_any (λ rd. nat_eq rd 2) (sets r)
+
+-- the tokens past code of this row, at an index of the path, before its pairs get theirs
+abbrev pub code_tokens : (index : ℕ) → Row → Tokens → Tokens
+code_tokens n r t = cond (sets_pointer r) (record (moved_tokens n r t) { slots = λ k. None }) (moved_tokens n r t)
+
+-- each defining operand of code with a number gives its pair the register's token; the other pairs keep theirs
+abbrev pub given_token : Option ℕ → Option Token → Tokens → Option Token
+given_token None old t = old
+given_token (Some r) old t = register_token t.regs r
+
+-- the tokens with the pairs given of code's debug instruction number, where it has one
+abbrev pub numbered_tokens : (call : Bool) → Option ℕ → List Operand → Tokens → Tokens
+numbered_tokens call None operands t = t
+numbered_tokens call (Some k) operands t = record t { pairs = updated k (λ o. given_token (defined call (slice_get operands o)) (t.pairs k o) t) t.pairs }
+
+-- the token of what a place holds: a constant's is that of its number, and no place has none
+abbrev pub place_token : Option Place → Tokens → Option Token
+place_token None t = None
+place_token (Some (Register r)) t = register_token t.regs r
+place_token (Some (Slot n)) t = t.slots n
+place_token (Some (Const c)) t = Some (Fixed (word c))
+
+-- the token of what a pair resolved to, and none where it resolves to nothing
+abbrev pub pair_token : Option OperandPair → Tokens → Option Token
+pair_token None t = None
+pair_token (Some q) t = t.pairs q.number q.operand
+
+-- the token of what a mark's debug operand reads
+abbrev pub mark_token : (OperandPair → Option OperandPair) → MarkValue → Tokens → Option Token
+mark_token resolve Nothing t = None
+mark_token resolve (Constant c) t = Some (Fixed (word c))
+mark_token resolve (At r) t = register_token t.regs r
+mark_token resolve (Pair q) t = pair_token (resolve q) t
+
+-- the tokens after the item at an index of the path
+abbrev pub after_item : (OperandPair → Option OperandPair) → (index : ℕ) → ItemKind → Tokens → Tokens
+after_item resolve n (Code i k) t = numbered_tokens (is_call (row_of i)) k i.operands (code_tokens n (row_of i) t)
+after_item resolve n (Mark v m) t = record t { marks = (v, mark_token resolve m t) ∷ t.marks }
+after_item resolve n (Phi p k) t = record t { pairs = updated k (updated 0 (place_token p t) (t.pairs k)) t.pairs }
+
+-- the tokens after what stands at an index of the path. A block's end leaves them as they are
+abbrev pub after_fetch : (OperandPair → Option OperandPair) → (index : ℕ) → Fetch → Tokens → Tokens
+after_fetch resolve n (Here i) t = after_item resolve n i.kind t
+after_fetch resolve n (Silent k m) t = t
+after_fetch resolve n Outside t = t
+
+-- at entry each physical register but x2 has a token of its own, and nothing else has one
+abbrev pub entry_tokens : Tokens
+entry_tokens = record { regs = λ r. cond (nat_lt r 32 && not (nat_eq r 2)) (Some (Entry r)) None; slots = λ k. None; pairs = λ k o. None; marks = [] }
+
+-- a path from the start has so many edges, ends at a position, and has these tokens before what stands there
+pub data Path (g : Program) (start : Pos) : ℕ → Pos → Tokens → Type 0 where
+  begin : Path g start 0 start entry_tokens
+  onward : {n : ℕ} {p q : Pos} {t : Tokens} → Path g start n p t → Edge g p q → Path g start (suc n) q (after_fetch g.resolve n (g.fetch p) t)
+
+-- some path leads to the position, and on every path there both have a token, and the same one
+pub record Sits (g : Program) (start : Pos) (x y : Tokens → Option Token) (p : Pos) : Type 0 where
+  pub reached : (n : ℕ) × (t : Tokens) × Path g start n p t
+  pub same : (n : ℕ) (t : Tokens) → Path g start n p t → (k : Token) × (x t ≡ Some k) × (y t ≡ Some k)
+
+-- the token of a part of a variable is that of its newest mark, and none where a part that overlaps it was marked later
+abbrev pub variable_token : VarId → Tokens → Option Token
+variable_token v t = assigned v t.marks
+
+-- the places that a list may name: registers but x0 and x2, frame slots, and 64-bit constants
+abbrev pub IsPlace : Place → Type 0
+IsPlace (Register r) = (r < 32) × (r ≡ 0 → ⊥) × (r ≡ 2 → ⊥)
+IsPlace (Slot n) = Unit {0}
+IsPlace (Const (pos n)) = n < 9223372036854775808
+IsPlace (Const (negsuc n)) = n < 9223372036854775808
+
+-- the order of preference: constants, the lowest register, the lowest slot
+abbrev pub Precedes : Place → Place → Type 0
+Precedes (Const a) (Register r) = Unit {0}
+Precedes (Const a) (Slot n) = Unit {0}
+Precedes (Register q) (Register r) = q < r
+Precedes (Register q) (Slot n) = Unit {0}
+Precedes (Slot m) (Slot n) = m < n
+Precedes _ _ = ⊥
+
+-- the place in which the value of a part of a variable sits
+abbrev pub SitsIn : Program → Pos → VarId → Place → Pos → Type 0
+SitsIn g start v place p = Sits g start (variable_token v) (place_token (Some place)) p
+
+-- the place that is wanted for a part of a variable at a position: the first one in which its value sits
+pub record IsWanted (g : Program) (start : Pos) (v : VarId) (p : Pos) (place : Place) : Type 0 where
+  pub named : IsPlace place
+  pub sits : SitsIn g start v place p
+  pub first : (other : Place) → IsPlace other → Precedes other place → SitsIn g start v other p → ⊥
+
+-- none is wanted where it sits in none
+abbrev pub NoneIsWanted : Program → Pos → VarId → Pos → Type 0
+NoneIsWanted g start v p = (place : Place) → IsPlace place → SitsIn g start v place p → ⊥

@@ -1,0 +1,25 @@
+//! Operands as a run sees them.
+
+ghost use Rattle.std.specs.Prelude.{◌≡◌, Some};
+ghost use Rattle.sem_mir.specs.Step.{defined as defined_by};
+
+use rv64_instr::operand::Operand;
+use rv64_instr::reg::Reg;
+
+/// The register that an operand defines. An implicit definition defines on calls alone.
+pub fn defined(call: bool, operand: &Operand) -> Option<Reg>
+    ensures { result ≡ defined_by call (Some operand.now) }
+{
+    match operand {
+        Operand::Def(r) => Some(*r),
+        Operand::ImplicitDef(r) => { if call { Some(*r) } else { None } }
+        Operand::Use(_)
+        | Operand::ImplicitUse(_)
+        | Operand::Imm(_)
+        | Operand::Slot(_)
+        | Operand::Object(_)
+        | Operand::Block(_)
+        | Operand::Symbol(_)
+        | Operand::Mask => None,
+    }
+}

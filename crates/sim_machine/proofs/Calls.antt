@@ -1,0 +1,237 @@
+-- Calls by their operands, and the registers that an answer sets.
+use Rattle.std.proofs.Common.{◌≡◌, ℕ, zero, suc, ◌+◌, ◌%◌, ◌^◌, ◌<◌, List, [], ◌∷◌, length, get_or, drop, map, Option, Some, None, Bool, true, false}
+use Rattle.std.proofs.Common.{cond, nat_eq, nat_lt, IsTrue}
+use Rattle.std.proofs.Common.{◌⊎◌, inl, inr, ◌++◌, append_assoc, refl, sym, ap, ◌∙◌, subst, arith}
+use Rattle.std.specs.List.{All, list_all, cons_option}
+use Rattle.std.proofs.Math.Seq.{drop-cons}
+use Rattle.std.proofs.lemmas.Bool.{ltb-true, and_parts}
+use Rattle.std.proofs.lemmas.List.Elements.{All-nil, All-cons}
+use Rattle.rv64_instr.specs.declared.op.Op.{Op}
+use Rattle.rv64_instr.specs.declared.op.Op.TheVariants.{Registers, Immediate, Lui, Branch, Load, Store, Copy, PseudoBr, PseudoCall, PseudoRet}
+use Rattle.rv64_instr.specs.declared.op.ImmediateOp.{ImmediateOp}
+use Rattle.rv64_instr.specs.declared.op.ImmediateOp.TheVariants.{Addi, Slti, Sltiu, Xori, Ori, Andi, Slli, Srli, Srai, Addiw, Slliw, Srliw, Sraiw}
+use Rattle.rv64_instr.specs.declared.op.RegisterOp.{RegisterOp}
+use Rattle.rv64_instr.specs.declared.op.BranchOp.{BranchOp}
+use Rattle.rv64_instr.specs.declared.op.LoadOp.{LoadOp}
+use Rattle.rv64_instr.specs.declared.op.StoreOp.{StoreOp}
+use Rattle.rv64_instr.specs.declared.operand.Operand.{Operand}
+use Rattle.rv64_instr.specs.declared.operand.Operand.TheVariants.{Def, Use, ImplicitDef, ImplicitUse, Imm, Slot, Object, Block, Symbol, Mask}
+use Rattle.rv64_instr.specs.Form.{is_argument, has_form, fits_call}
+use Rattle.rv64_instr.specs.Instruction.{Instruction}
+use Rattle.rv64_instr.specs.Parts.{is_call}
+use Rattle.rv64_instr.specs.Row.{Calls, row_of, row_by, implicit_uses, registers_row, number_row, immediate_row, object_row, add_row, move_row, upper_row}
+use Rattle.rv64_instr.specs.Row.{branch_row, load_row, store_row, copy_row, jump_row}
+use Rattle.rv64_instr.specs.declared.start.CallEvent.{CallEvent}
+use Rattle.sem_machine.specs.Machine.{Machine, register, set_in, set_all_in}
+use Rattle.sem_machine.specs.MachineStep.{call_of}
+use Rattle.sim_machine.specs.Kept.{StandsFor, calls_in}
+use Rattle.sim_machine.specs.Calls.{event_of}
+use Rattle.sim_machine.specs.declared.hart.Hart.{Hart}
+use Rattle.sim_machine.specs.steps.Arguments.{argument_of}
+
+-- ---- operations that don't call
+
+abbrev pub NoCall : Op → List Operand → Type 0
+NoCall op operands = is_call (row_by op operands) ≡ false
+
+no_add : (rd a n : ℕ) → is_call (add_row rd a n) ≡ false
+no_add rd zero n = refl
+no_add rd (suc r) zero = refl
+no_add rd (suc r) (suc n) = refl
+
+no_move : (rd rs : ℕ) → is_call (move_row rd rs) ≡ false
+no_move rd zero = refl
+no_move rd (suc r) = refl
+
+no_immediate : (op : ImmediateOp) (rd a n : ℕ) → is_call (immediate_row op rd a n) ≡ false
+no_immediate Addi rd a n = no_add rd a n
+no_immediate Slti rd a n = refl
+no_immediate Sltiu rd a n = refl
+no_immediate Xori rd a n = refl
+no_immediate Ori rd a n = refl
+no_immediate Andi rd a n = refl
+no_immediate Slli rd a n = refl
+no_immediate Srli rd a n = refl
+no_immediate Srai rd a n = refl
+no_immediate Addiw rd a n = refl
+no_immediate Slliw rd a n = refl
+no_immediate Srliw rd a n = refl
+no_immediate Sraiw rd a n = refl
+
+no_object : (op : ImmediateOp) (rd n offset : ℕ) → is_call (object_row op rd n offset) ≡ false
+no_object Addi rd n offset = refl
+no_object _ rd n offset = refl
+
+no_registers : (op : RegisterOp) (operands : List Operand) → is_call (registers_row op operands) ≡ false
+no_registers op (Def rd ∷ Use a ∷ Use b ∷ rest) = refl
+no_registers op _ = refl
+
+no_number : (op : ImmediateOp) (operands : List Operand) → is_call (number_row op operands) ≡ false
+no_number op (Def rd ∷ Use a ∷ Imm i ∷ rest) = no_immediate op rd a _
+no_number op (Def rd ∷ Object n ∷ Imm i ∷ rest) = no_object op rd n _
+no_number op _ = refl
+
+no_upper : (operands : List Operand) → is_call (upper_row operands) ≡ false
+no_upper (Def rd ∷ Imm i ∷ rest) = refl
+no_upper _ = refl
+
+no_branch : (op : BranchOp) (operands : List Operand) → is_call (branch_row op operands) ≡ false
+no_branch op (Use a ∷ Use b ∷ Block n ∷ rest) = refl
+no_branch op _ = refl
+
+no_load : (op : LoadOp) (operands : List Operand) → is_call (load_row op operands) ≡ false
+no_load op (Def rd ∷ Use base ∷ Imm i ∷ rest) = refl
+no_load op (Def rd ∷ Slot n ∷ rest) = refl
+no_load op (Def rd ∷ Object n ∷ Imm i ∷ rest) = refl
+no_load op _ = refl
+
+no_store : (op : StoreOp) (operands : List Operand) → is_call (store_row op operands) ≡ false
+no_store op (Use rs ∷ Use base ∷ Imm i ∷ rest) = refl
+no_store op (Use rs ∷ Slot n ∷ rest) = refl
+no_store op (Use rs ∷ Object n ∷ Imm i ∷ rest) = refl
+no_store op _ = refl
+
+no_copy : (operands : List Operand) → is_call (copy_row operands) ≡ false
+no_copy (Def rd ∷ Use rs ∷ rest) = no_move rd rs
+no_copy _ = refl
+
+no_jump : (operands : List Operand) → is_call (jump_row operands) ≡ false
+no_jump (Block n ∷ rest) = refl
+no_jump _ = refl
+
+-- a call's operation, or one that never calls
+pub quiet : (op : Op) → (op ≡ PseudoCall) ⊎ ((operands : List Operand) → NoCall op operands)
+quiet (Registers op) = inr (no_registers op)
+quiet (Immediate op) = inr (no_number op)
+quiet Lui = inr no_upper
+quiet (Branch op) = inr (no_branch op)
+quiet (Load op) = inr (no_load op)
+quiet (Store op) = inr (no_store op)
+quiet Copy = inr no_copy
+quiet PseudoBr = inr no_jump
+quiet PseudoCall = inl refl
+quiet PseudoRet = inr (λ operands. refl)
+
+-- ---- the operands of a call
+
+-- an operand that uses no register beyond x31
+argument_low : (a : Operand) (rest : List Operand) → IsTrue (is_argument a) → All (λ r. r < 32) (implicit_uses rest) → All (λ r. r < 32)
+    (implicit_uses (a ∷ rest))
+argument_low (ImplicitUse r) rest t h = by_test (nat_eq r 2) where
+  by_test : (b : Bool) → All (λ r. r < 32) (cond b (implicit_uses rest) (r ∷ implicit_uses rest))
+  by_test true = h
+  by_test false = All-cons (λ (q : ℕ). q < 32) r (implicit_uses rest) (ltb-true r 32 t) h
+argument_low (ImplicitDef r) rest t h = h
+argument_low _ rest t h = h
+
+arguments_low : (operands : List Operand) → list_all is_argument operands ≡ true → All (λ r. r < 32) (implicit_uses operands)
+arguments_low [] h = All-nil (λ (r : ℕ). r < 32)
+arguments_low (a ∷ rest) h =
+    let p = and_parts (is_argument a) (list_all is_argument rest) h in argument_low a rest p.0 (arguments_low rest p.1)
+
+-- the operands of a call: a symbol, and others that use no register beyond x31
+pub record CallForm (op : Op) (operands : List Operand) : Type 0 where
+  pub name : List ℕ
+  pub rest : List Operand
+  pub are : operands ≡ Symbol name ∷ rest
+  pub row : row_by op operands ≡ Calls name (implicit_uses rest)
+  pub low : All (λ r. r < 32) (implicit_uses rest)
+
+call_form_of : (operands : List Operand) → IsTrue (fits_call operands) → CallForm PseudoCall operands
+call_form_of (Symbol name ∷ Mask ∷ rest) t = record { name = name; rest = Mask ∷ rest; are = refl; row = refl; low = arguments_low rest t }
+call_form_of _ t = absurd cc
+
+true_false : (b : Bool) → b ≡ true → b ≡ false → ⊥
+true_false b t f = let e : true ≡ false = sym t ∙ f in cc
+
+call_form_by : (op : Op) (operands : List Operand) → IsTrue (has_form op operands) → is_call (row_by op operands) ≡ true → CallForm op operands
+call_form_by op operands t e = elim (quiet op) as (λ _. CallForm op operands) [
+  | inl is ↦ subst (λ (o : Op). CallForm o operands) (sym is) (call_form_of operands (subst (λ (o : Op). IsTrue (has_form o operands)) is t))
+  | inr none ↦ absurd (true_false _ e (none operands))
+]
+
+pub call_form : (i : Instruction) → IsTrue (has_form i.op i.operands) → is_call (row_of i) ≡ true → CallForm i.op i.operands
+call_form i t e = call_form_by i.op i.operands t e
+
+-- the form of a call, whose operands are known
+pub form_at : (op : Op) (operands : List Operand) (i : Instruction) → (let made : Instruction = record { op = op; operands = operands } in made) ≡ i →
+    IsTrue (has_form op operands) → is_call (row_of i) ≡ true → CallForm op operands
+form_at op operands i e t c = call_form_by op operands t (ap (λ (x : Instruction). is_call (row_of x)) e ∙ c)
+
+pub first_is : (op : Op) (operands : List Operand) (f : CallForm op operands) (first : Operand) (rest : List Operand) → operands ≡ first ∷ rest →
+    (first ≡ Symbol f.name) × (rest ≡ f.rest)
+first_is op operands f first rest e = let both : first ∷ rest ≡ Symbol f.name ∷ f.rest = sym e ∙ f.are in (cc, cc)
+
+pub not_empty : (op : Op) (operands : List Operand) → CallForm op operands → length operands ≡ 0 → ⊥
+not_empty op operands f e = let l = ap length f.are in omega (arith, l, e)
+
+-- what a call shows by its operands
+pub event_is : (i : Instruction) (f : CallForm i.op i.operands) (shown : List ℕ) (rest : List Operand) (values : List ℕ) (calls : ℕ) (h : Hart) (s : Machine)
+    (name args : List ℕ) → StandsFor h s → Symbol shown ∷ rest ≡ i.operands → values ≡ map (register s) (implicit_uses rest) → calls ≡ (h.calls + 1) % 2 ^ 64 →
+    call_of (row_of i) ≡ Some (name, args) →
+    (let made : CallEvent = record { name = shown; args = values; number = calls } in made) ≡ event_of name args s
+event_is i f shown rest values calls h s name args stands are v n e =
+    let both : Symbol shown ∷ rest ≡ Symbol f.name ∷ f.rest = are ∙ f.are in
+    let pair : ◌≡◌ {A = Option (List ℕ × List ℕ)} (Some (f.name, implicit_uses f.rest)) (Some (name, args)) = sym (ap call_of f.row) ∙ e in
+    let same : f.name ≡ name = pair_first f.name name (implicit_uses f.rest) args pair in
+    let uses : implicit_uses f.rest ≡ args = pair_second f.name name (implicit_uses f.rest) args pair in
+    let behind : rest ≡ f.rest = cc in
+    let first : shown ≡ f.name = cc in
+    let shows : values ≡ map (register s) args = v ∙ ap (λ (xs : List ℕ). map (register s) xs) (ap implicit_uses behind ∙ uses) in
+    let number : calls ≡ (calls_in s.events + 1) % 2 ^ 64 = omega (arith, n, stands.calls) in
+    event_parts shown name values (map (register s) args) calls ((calls_in s.events + 1) % 2 ^ 64) (first ∙ same) shows number where
+      pair_first : (a b c d : List ℕ) → ◌≡◌ {A = Option (List ℕ × List ℕ)} (Some (a, c)) (Some (b, d)) → a ≡ b
+      pair_first a b c d q = ap (λ (o : Option (List ℕ × List ℕ)). elim o as (λ _. List ℕ) [ None ↦ [] | Some p ↦ p.0 ]) q
+
+      pair_second : (a b c d : List ℕ) → ◌≡◌ {A = Option (List ℕ × List ℕ)} (Some (a, c)) (Some (b, d)) → c ≡ d
+      pair_second a b c d q = ap (λ (o : Option (List ℕ × List ℕ)). elim o as (λ _. List ℕ) [ None ↦ [] | Some p ↦ p.1 ]) q
+
+      event_parts : (a b c d : List ℕ) (m k : ℕ) → a ≡ b → c ≡ d → m ≡ k → (let x : CallEvent = record { name = a; args = c; number = m } in x)
+          ≡ (let y : CallEvent = record { name = b; args = d; number = k } in y)
+      event_parts a b c d m k p q r = λ i. record { name = p i; args = q i; number = r i }
+
+-- ---- several registers set
+
+set_all_more : (r : ℕ) (rs vs : List ℕ) (i : ℕ) (f : ℕ → ℕ) →
+    set_all_in (r ∷ rs) (drop i vs) f ≡ set_all_in rs (drop (suc i) vs) (set_in r (get_or vs i 0) f)
+set_all_more r rs [] zero f = refl
+set_all_more r rs [] (suc i) f = refl
+set_all_more r rs (v ∷ vs) zero f = refl
+set_all_more r rs (v ∷ vs) (suc i) f = set_all_more r rs vs i f
+
+pub set_all_turn : (rs vs : List ℕ) (i : ℕ) (f t : ℕ → ℕ) → i < length rs → set_all_in (drop i rs) (drop i vs) f ≡ t →
+    set_all_in (drop (i + 1) rs) (drop (i + 1) vs) (set_in (get_or rs i 0) (get_or vs i 0) f) ≡ t
+set_all_turn rs vs i f t lt h =
+    let next : i + 1 ≡ suc i = omega arith in
+    ap (λ (n : ℕ). set_all_in (drop n rs) (drop n vs) (set_in (get_or rs i 0) (get_or vs i 0) f)) next
+    ∙ sym (set_all_more (get_or rs i 0) (drop (suc i) rs) vs i f) ∙ sym (ap (λ (xs : List ℕ). set_all_in xs (drop i vs) f) (drop-cons rs i 0 lt)) ∙ h
+
+pub each_below : (xs : List ℕ) (n : ℕ) → list_all (λ x. nat_lt x n) xs ≡ true → (i : ℕ) → i < length xs → get_or xs i 0 < n
+each_below [] n h i lt = absurd (omega arith)
+each_below (x ∷ xs) n h zero lt = ltb-true x n (and_parts (nat_lt x n) (list_all (λ y. nat_lt y n) xs) h).0
+each_below (x ∷ xs) n h (suc i) lt = each_below xs n (and_parts (nat_lt x n) (list_all (λ y. nat_lt y n) xs) h).1 i (omega arith)
+
+-- ---- arguments
+
+uses_of : (x : Operand) (rest : List Operand) → implicit_uses (x ∷ rest) ≡ cons_option (argument_of x) (implicit_uses rest)
+uses_of (ImplicitUse r) rest = by_test (nat_eq r 2) where
+  by_test : (b : Bool) → cond b (implicit_uses rest) (r ∷ implicit_uses rest) ≡ cons_option (cond b None (Some r)) (implicit_uses rest)
+  by_test true = refl
+  by_test false = refl
+uses_of _ rest = refl
+
+-- the first of the operands from an index on, and those behind it
+pub uses_turn : (xs : List Operand) (i : ℕ) (x : Operand) (o : Option ℕ) → i < length xs → x ≡ get_or xs i x → o ≡ argument_of x →
+    implicit_uses (drop i xs) ≡ cons_option o (implicit_uses (drop (i + 1) xs))
+uses_turn xs i x o l e h =
+    let next : i + 1 ≡ suc i = omega arith in
+    let here : drop i xs ≡ x ∷ drop (i + 1) xs = drop-cons xs i x l ∙ ap (λ (y : Operand). y ∷ drop (suc i) xs) (sym e)
+    ∙ ap (λ (n : ℕ). x ∷ drop n xs) (sym next) in
+    ap implicit_uses here ∙ (uses_of x (drop (i + 1) xs) ∙ ap (λ (p : Option ℕ). cons_option p (implicit_uses (drop (i + 1) xs))) (sym h))
+
+pub value_turn : (f : ℕ → ℕ) (vs us ws t : List ℕ) (r : ℕ) → us ≡ r ∷ ws → vs ++ map f us ≡ t → (vs ++ f r ∷ []) ++ map f ws ≡ t
+value_turn f vs us ws t r e h = append_assoc vs (f r ∷ []) (map f ws) ∙ (ap (λ (xs : List ℕ). vs ++ map f xs) (sym e) ∙ h)
+
+-- one more call
+pub next_call : (a k : ℕ) → a % 2 ^ 64 ≡ k → suc a % 2 ^ 64 ≡ (k + 1) % 2 ^ 64
+next_call a k e = omega arith

@@ -1,0 +1,197 @@
+-- Steps of the machine by what stands at its counter.
+use Rattle.std.proofs.Common.{◌≡◌, ℕ, List, [], ◌∷◌, map, Option, Some, None, Result, Ok, Err, Bool, true, false, cond, nat_eq, refl, sym, ap, ◌∙◌, subst}
+use Rattle.std.specs.Result.{IfOk}
+use Rattle.std.proofs.lemmas.Bool.{eq-eqb, ne_eqb}
+use Rattle.rv64_instr.specs.Row.{Row, Calls, row_of, implicit_uses}
+use Rattle.rv64_word.specs.declared.machine_op.MachineOp.{MachineOp}
+use Rattle.rv64_word.specs.Decoded.{decoded}
+use Rattle.rv64_word.specs.MachineRow.{machine_row}
+use Rattle.mir_func.specs.Function.{FramedFunction}
+use Rattle.emit_code.specs.declared.code.Entry.{Entry}
+use Rattle.emit_code.specs.Laid.{LaidCode}
+use Rattle.sem_machine.specs.Image.{CodeLine, Image, line_at, word_at}
+use Rattle.sem_machine.specs.Machine.{Machine, register}
+use Rattle.sem_machine.specs.MachineStep.{Ends, Leaves, machine_step, does_at, does_line, does_word, does_operation, does, answered, call_of, return_word}
+use Rattle.rv64_instr.specs.Instruction.{Instruction}
+use Rattle.rv64_instr.specs.Parts.{is_call}
+use Rattle.rv64_instr.specs.declared.start.CallEvent.{CallEvent}
+use Rattle.sem_mir.specs.State.{Reply, writes_frame}
+use Rattle.sim_machine.specs.declared.ending.Stepped.{Stepped as Ended}
+use Rattle.sim_machine.specs.declared.ending.Stepped.TheVariants.{Went, Stopped}
+use Rattle.sim_machine.specs.declared.ending.Stop.TheVariants.{Left}
+use Rattle.sim_machine.specs.declared.hart.Hart.{Hart}
+use Rattle.sim_machine.specs.Kept.{StandsFor, Goes}
+use Rattle.sim_machine.specs.Calls.{event_of, after_call}
+use Rattle.sim_machine.specs.Running.{found_call, call_at, StepsOn, CallsOn}
+use Rattle.sim_machine.specs.Shown.{IsLineOf, AreLinesOf, ShowsCode, entry_at, entry_call}
+
+-- ---- lines
+
+pub line_none : (f : FramedFunction) (es : List Entry) (ls : List CodeLine) (a : ℕ) → AreLinesOf f es ls → entry_at es a ≡ None → line_at ls a ≡ None
+line_none f [] [] a h e = refl
+line_none f [] (l ∷ ls) a h e = absurd h
+line_none f (x ∷ es) [] a h e = absurd h
+line_none f (x ∷ es) (l ∷ ls) a h e = by_test (nat_eq x.address a) (ap (λ (n : ℕ). nat_eq n a) h.0.address) e (λ q. line_none f es ls a h.1 q) where
+  by_test : (t : Bool) → nat_eq l.address a ≡ t → cond t (Some x) (entry_at es a) ≡ None → (entry_at es a ≡ None → line_at ls a ≡ None) →
+      cond (nat_eq l.address a) (Some l) (line_at ls a) ≡ None
+  by_test true q r later = absurd cc
+  by_test false q r later = ap (λ (t : Bool). cond t (Some l) (line_at ls a)) q ∙ later r
+
+-- the line of an entry
+pub record LineAt (f : FramedFunction) (e : Entry) (ls : List CodeLine) (a : ℕ) : Type 0 where
+  pub line : CodeLine
+  pub stands : line_at ls a ≡ Some line
+  pub is : IsLineOf f e line
+
+pub line_some : (f : FramedFunction) (es : List Entry) (ls : List CodeLine) (a : ℕ) (e : Entry) → AreLinesOf f es ls → entry_at es a ≡ Some e → LineAt f e ls a
+line_some f [] [] a e h s = absurd cc
+line_some f [] (l ∷ ls) a e h s = absurd h
+line_some f (x ∷ es) [] a e h s = absurd h
+line_some f (x ∷ es) (l ∷ ls) a e h s = by_test (nat_eq x.address a) (ap (λ (n : ℕ). nat_eq n a) h.0.address) s (λ q. line_some f es ls a e h.1 q) where
+  by_test : (t : Bool) → nat_eq l.address a ≡ t → cond t (Some x) (entry_at es a) ≡ Some e → (entry_at es a ≡ Some e → LineAt f e ls a) → LineAt f e (l ∷ ls) a
+  by_test true q r later =
+      let same : x ≡ e = cc in
+      record { line = l; stands = ap (λ (t : Bool). cond t (Some l) (line_at ls a)) q; is = subst (λ (y : Entry). IsLineOf f y l) same h.0 }
+  by_test false q r later =
+      let p = later r in record { line = p.line; stands = ap (λ (t : Bool). cond t (Some l) (line_at ls a)) q ∙ p.stands; is = p.is }
+
+-- ---- steps
+
+pub left_step : (c : LaidCode) (image : Image) (s : Machine) → ShowsCode c image → entry_at c.entries s.counter ≡ None → machine_step image s ≡ Leaves
+left_step c image s shows e =
+    ap (λ (o : Option CodeLine). does_at image o s) (line_none c.framed c.entries image.lines s.counter shows.lines e)
+
+-- a word elsewhere than at a call site
+pub record WordStep (image : Image) (s : Machine) (w : ℕ) : Type 0 where
+  pub results : List ℕ
+  pub is : machine_step image s ≡ cond (nat_eq w return_word) (Ends results) (does_operation (decoded w) s)
+
+pub word_step : (c : LaidCode) (image : Image) (s : Machine) (e : Entry) (w : ℕ) → ShowsCode c image → entry_at c.entries s.counter ≡ Some e →
+    entry_call c.framed e ≡ None → word_at image.text s.counter ≡ Some w → WordStep image s w
+word_step c image s e w shows found none word =
+    let l = line_some c.framed c.entries image.lines s.counter e shows.lines found in
+    record {
+      results = map (register s) (implicit_uses l.line.instruction.operands);
+      is = ap (λ (o : Option CodeLine). does_at image o s) l.stands
+          ∙ (ap (λ (o : Option (List ℕ × List ℕ)). does_line image l.line o s) (l.is.call ∙ none) ∙ ap (λ (o : Option ℕ). does_word l.line o s) word);
+    }
+
+pub call_step : (c : LaidCode) (image : Image) (s : Machine) (e : Entry) (name args : List ℕ) → ShowsCode c image → entry_at c.entries s.counter ≡ Some e →
+    entry_call c.framed e ≡ Some (name, args) → machine_step image s ≡ answered name (map (register s) args) s s.script
+call_step c image s e name args shows found some =
+    let l = line_some c.framed c.entries image.lines s.counter e shows.lines found in
+    ap (λ (o : Option CodeLine). does_at image o s) l.stands ∙ ap (λ (o : Option (List ℕ × List ℕ)). does_line image l.line o s) (l.is.call ∙ some)
+
+pub return_step : (image : Image) (s : Machine) (w : ℕ) (h : WordStep image s w) → w ≡ return_word → machine_step image s ≡ Ends h.results
+return_step image s w h e = h.is ∙ ap (λ (t : Bool). cond t (Ends h.results) (does_operation (decoded w) s)) (eq-eqb w return_word e)
+
+pub other_step : (image : Image) (s : Machine) (w : ℕ) (o : Option MachineOp) → WordStep image s w → (w ≡ return_word → ⊥) → decoded w ≡ o →
+    machine_step image s ≡ does_operation o s
+other_step image s w o h ne d =
+    h.is ∙ (ap (λ (t : Bool). cond t (Ends h.results) (does_operation (decoded w) s)) (ne_eqb w return_word ne) ∙ ap
+    (λ (x : Option MachineOp). does_operation x s) d)
+
+-- ---- as they are kept
+
+-- the entry at the counter
+pub found_at : (c : LaidCode) (h : Hart) (s : Machine) (o : Option Entry) → StandsFor h s → entry_at c.entries h.counter ≡ o → entry_at c.entries s.counter ≡ o
+found_at c h s o stands e = ap (entry_at c.entries) stands.counter ∙ e
+
+pub word_step_at : (c : LaidCode) (image : Image) (h : Hart) (s : Machine) (e : Entry) (w : ℕ) → ShowsCode c image → StandsFor h s →
+    entry_at c.entries h.counter ≡ Some e → e.address ≡ h.counter → word_at image.text e.address ≡ Some w → call_at c s.counter ≡ None → WordStep image s w
+word_step_at c image h s e w shows stands found at word none =
+    let here = found_at c h s (Some e) stands found in
+    word_step c image s e w shows here (sym (ap (found_call c.framed) here) ∙ none)
+    (ap (word_at image.text) (stands.counter ∙ sym at) ∙ word)
+
+pub call_step_at : (c : LaidCode) (image : Image) (h : Hart) (s : Machine) (e : Entry) (name args : List ℕ) → ShowsCode c image → StandsFor h s →
+    entry_at c.entries h.counter ≡ Some e → call_at c s.counter ≡ Some (name, args) → machine_step image s ≡ answered name (map (register s) args) s s.script
+call_step_at c image h s e name args shows stands found some =
+    let here = found_at c h s (Some e) stands found in
+    call_step c image s e name args shows here (sym (ap (found_call c.framed) here) ∙ some)
+
+-- the call of an entry that is none, and of one that is
+pub entry_call_at : (c : LaidCode) (h : Hart) (s : Machine) (o : Option Entry) → StandsFor h s → entry_at c.entries h.counter ≡ o →
+    call_at c s.counter ≡ found_call c.framed o
+entry_call_at c h s o stands e = ap (found_call c.framed) (found_at c h s o stands e)
+
+-- a step that an operation makes
+pub operation_step : (image : Image) (s : Machine) (w : ℕ) (m : MachineOp) (now : Hart) → WordStep image s w → (w ≡ return_word → ⊥) → decoded w ≡ Some m →
+    Goes (does (machine_row s.counter m) s) now → Goes (machine_step image s) now
+operation_step image s w m now h ne d g = record { to = g.to; goes = other_step image s w (Some m) h ne d ∙ g.goes; stands = g.stands }
+
+-- a step that an answer makes
+pub answer_step : (image : Image) (s : Machine) (name args : List ℕ) (r : Reply) (rest : List Reply) (now : Hart) →
+    machine_step image s ≡ answered name (map (register s) args) s s.script → s.script ≡ r ∷ rest → StandsFor now (after_call name args r rest s) →
+    Goes (machine_step image s) now
+answer_step image s name args r rest now e script stands = record {
+  to = after_call name args r rest s;
+  goes = e ∙ ap (answered name (map (register s) args) s) script;
+  stands = stands;
+}
+
+-- ---- whole steps
+
+-- an answer where none is asked for
+abbrev no_reply : Reply
+no_reply = record { regs = []; writes = [] }
+
+-- nothing begins at the counter
+pub steps_left : (c : LaidCode) (h : Hart) → entry_at c.entries h.counter ≡ None → StepsOn c (Stopped Left) h h
+steps_left c h e image s shows stands none = left_step c image s shows (found_at c h s None stands e)
+
+pub calls_left : (gives : CallEvent → Reply → Type 0) (c : LaidCode) (h : Hart) → entry_at c.entries h.counter ≡ None → CallsOn gives c (Stopped Left) h h
+calls_left gives c h e = record {
+  reply = no_reply;
+  calls = λ image s name args shows stands some. (
+      let no : ◌≡◌ {A = Option (List ℕ × List ℕ)} None (Some (name, args)) = sym (entry_call_at c h s None stands e) ∙ some in absurd cc);
+}
+
+-- an entry that is no call makes none
+pub calls_word : (gives : CallEvent → Reply → Type 0) (c : LaidCode) (r : Ended) (h new : Hart) (e : Entry) → entry_at c.entries h.counter ≡ Some e →
+    entry_call c.framed e ≡ None → CallsOn gives c r h new
+calls_word gives c r h new e found none = record {
+  reply = no_reply;
+  calls = λ image s name args shows stands some. (
+      let no : ◌≡◌ {A = Option (List ℕ × List ℕ)} None (Some (name, args)) = sym none ∙ (sym (entry_call_at c h s (Some e) stands found) ∙ some) in
+      absurd cc);
+}
+
+pub calls_word_if : {E : Type 0} (result : Result Ended E) (gives : CallEvent → Reply → Type 0) (c : LaidCode) (h new : Hart) (e : Entry) →
+    entry_at c.entries h.counter ≡ Some e → entry_call c.framed e ≡ None → IfOk result (λ r. CallsOn gives c r h new)
+calls_word_if (Ok r) gives c h new e found none = calls_word gives c r h new e found none
+calls_word_if (Err x) gives c h new e found none = tt
+
+calls_some : (r : Row) → is_call r ≡ true → call_of r ≡ None → ⊥
+calls_some (Calls name args) c e = cc
+calls_some _ c e = cc
+
+-- a call site makes a call
+pub steps_call : (c : LaidCode) (r : Ended) (h new : Hart) (e : Entry) (i : Instruction) → entry_at c.entries h.counter ≡ Some e →
+    entry_call c.framed e ≡ call_of (row_of i) → is_call (row_of i) ≡ true → StepsOn c r h new
+steps_call c r h new e i found same call image s shows stands none =
+    absurd (calls_some (row_of i) call (sym same ∙ (sym (entry_call_at c h s (Some e) stands found) ∙ none)))
+
+pub call_made : (gives : CallEvent → Reply → Type 0) (c : LaidCode) (h new : Hart) (e : Entry) (i : Instruction) (event : CallEvent) (r : Reply) →
+    entry_at c.entries h.counter ≡ Some e → entry_call c.framed e ≡ call_of (row_of i) →
+    ((s : Machine) (name args : List ℕ) → StandsFor h s → call_of (row_of i) ≡ Some (name, args) → event ≡ event_of name args s) → gives event r →
+    writes_frame h.entry h.area r.writes ≡ false →
+    ((s : Machine) (name args : List ℕ) (rest : List Reply) → StandsFor h s → StandsFor new (after_call name args r rest s)) → CallsOn gives c Went h new
+call_made gives c h new e i event r found same shown given apart takes = record {
+  reply = r;
+  calls = λ image s name args shows stands some. (
+      let call = sym same ∙ (sym (entry_call_at c h s (Some e) stands found) ∙ some) in
+      let step = call_step_at c image h s e name args shows stands found some in
+      record {
+        went = refl;
+        answered = record {
+          given = subst (λ (x : CallEvent). gives x r) (shown s name args stands call) given;
+          apart = ap (λ (n : ℕ). writes_frame n s.area r.writes) stands.entry ∙ (ap (λ (n : ℕ). writes_frame h.entry n r.writes) stands.area ∙ apart);
+          goes = λ rest script. answer_step image s name args r rest new step script (takes s name args rest stands);
+        };
+      });
+}
+
+-- the entry at the counter begins at its address
+pub at_address : (c : LaidCode) (h : Hart) (e : Entry) → entry_at c.entries h.counter ≡ Some e → e.address ≡ h.counter → entry_at c.entries e.address ≡ Some e
+at_address c h e found at = ap (entry_at c.entries) at ∙ found

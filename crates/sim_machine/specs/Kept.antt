@@ -1,0 +1,32 @@
+-- What is kept of a running machine, and the states of the definition that it stands for.
+use Rattle.std.specs.Prelude.{◌≡◌, ℕ, suc, ◌%◌, ◌^◌, ◌<◌, List, [], ◌∷◌, slice_index}
+use Rattle.byte_memory.specs.Held.{MemoryHolds}
+use Rattle.sem_mir.specs.State.{Event, Called, Wrote}
+use Rattle.sem_machine.specs.Machine.{Machine, register}
+use Rattle.sem_machine.specs.MachineStep.{Stepped, Continues}
+use Rattle.sim_machine.specs.declared.hart.Hart.{Hart}
+
+-- how many calls are among events
+abbrev pub calls_in : List Event → ℕ
+calls_in [] = 0
+calls_in (Called name args ∷ events) = suc (calls_in events)
+calls_in (Wrote a bytes ∷ events) = calls_in events
+
+-- what is kept stands for a state of the machine: all of it but the script and the events, of which the calls are counted, modulo 2^64
+pub record StandsFor (h : Hart) (s : Machine) : Type 0 where
+  pub entry : s.entry ≡ h.entry
+  pub area : s.area ≡ h.area
+  pub counter : s.counter ≡ h.counter
+  pub regs : (r : ℕ) → r < 32 → register s r ≡ slice_index h.regs r
+  pub memory : MemoryHolds h.memory s.memory
+  pub calls : calls_in s.events % 2 ^ 64 ≡ h.calls
+
+-- a step goes on to a state that what is kept now stands for
+pub record Goes (step : Stepped) (now : Hart) : Type 0 where
+  pub to : Machine
+  pub goes : step ≡ Continues to
+  pub stands : StandsFor now to
+
+-- the stack pointer at entry and the bytes of stack objects are the same
+abbrev pub IsSameFrame : (old new : Hart) → Type 0
+IsSameFrame old new = (new.entry ≡ old.entry) × (new.area ≡ old.area)

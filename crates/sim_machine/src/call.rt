@@ -1,0 +1,101 @@
+//! Calls: what they show, and what their answers do.
+
+ghost use Rattle.std.specs.Prelude.{◌≡◌, ◌<◌, ◌+◌, ◌%◌, ◌^◌, true, List, ℕ, ◌∷◌, All, Some, map, IfOk, OnOk, OnErr};
+ghost use Rattle.rv64_instr.specs.Access.{caller_saved};
+ghost use Rattle.rv64_instr.specs.Parts.{is_call};
+ghost use Rattle.rv64_instr.specs.Row.{row_of, implicit_uses};
+ghost use Rattle.sem_mir.specs.State.{Reply};
+ghost use Rattle.sem_machine.specs.Machine.{Machine, register, set_all_in};
+ghost use Rattle.sem_machine.specs.MachineStep.{call_of};
+ghost use Rattle.sim_machine.specs.Kept.{StandsFor, IsSameFrame};
+ghost use Rattle.sim_machine.specs.Calls.{event_of, reply_of, after_call};
+ghost use Rattle.sim_machine.specs.steps.Arguments.{argument_of};
+
+use crate::hart::Hart;
+use rv64_instr::instr::Instr;
+use rv64_instr::operand::Operand;
+use rv64_instr::parts::CALLER_SAVED;
+use rv64_instr::start::{Answer, CallEvent, Values};
+use std::alloc::{AllocError, Global};
+
+/// How many bytes a call site has.
+const CALL_SITE: u64 = 8;
+
+impl Hart {
+    /// What a call shows: the name, and the contents of the registers that it uses implicitly.
+    pub fn event(&self, alloc: Global, i: &Instr) -> Result<CallEvent, AllocError>
+        requires { is_call (row_of i.now) ≡ true }
+        ensures { IfOk result (λ e. (s : Machine) (name args : List ℕ) → StandsFor self.now s
+            → call_of (row_of i.now) ≡ Some (name, args) → e ≡ event_of name args s) }
+    {
+        match i.operands.as_slice().split_first() {
+            Some((first, rest)) => match first {
+                Operand::Symbol(name) => Ok(CallEvent {
+                    name: name.copy()?,
+                    args: self.arguments(alloc, rest)?,
+                    number: self.calls.wrapping_add(1),
+                }),
+                _ => unreachable!(),
+            },
+            None => unreachable!(),
+        }
+    }
+
+    /// The contents of the registers that operands use implicitly, x2 left out.
+    fn arguments(&self, alloc: Global, operands: &[Operand]) -> Result<Values, AllocError>
+        requires { All (λ r. r < 32) (implicit_uses operands.now) }
+        ensures { IfOk result (λ values. (s : Machine) → StandsFor self.now s
+            → values ≡ map (register s) (implicit_uses operands.now)) }
+    {
+        let mut values = Values::new(alloc);
+        for operand in operands {
+            if let Some(r) = argument(operand) {
+                values.push(self.read(r))?;
+            }
+        }
+        Ok(values)
+    }
+
+    /// Does what an answer says, and goes past the call site. Want of memory changes nothing.
+    pub fn take(&mut self, answer: &Answer) -> Result<(), AllocError>
+        requires { self.old.counter < 2 ^ 63 }
+        ensures ok { OnOk result ((s : Machine) (name args : List ℕ) (rest : List Reply) → StandsFor self.old s
+            → StandsFor self.new (after_call name args (reply_of answer.now) rest s)) }
+        ensures err { OnErr result (self.new ≡ self.old) }
+        ensures same { IsSameFrame self.old self.new }
+    {
+        self.memory.write(&answer.writes)?;
+        self.set_caller_saved(&answer.regs);
+        self.counter += CALL_SITE;
+        self.calls = self.calls.wrapping_add(1);
+        Ok(())
+    }
+
+    /// Sets the registers that a call sets, in ascending order.
+    fn set_caller_saved(&mut self, values: &[u64; 16])
+        ensures stands { (s : Machine) → StandsFor self.old s
+            → StandsFor self.new (record s { regs = set_all_in caller_saved values.now s.regs }) }
+        ensures counter { self.new.counter ≡ self.old.counter }
+        ensures same { IsSameFrame self.old self.new }
+    {
+        for i in 0..16 {
+            self.write(CALLER_SAVED[i], values[i]);
+        }
+    }
+}
+
+/// The register that an operand uses implicitly, x2 left out.
+fn argument(operand: &Operand) -> Option<u32>
+    ensures { result ≡ argument_of operand.now }
+{
+    match operand {
+        Operand::ImplicitUse(r) => {
+            if r.number() == 2 {
+                None
+            } else {
+                Some(r.number())
+            }
+        }
+        _ => None,
+    }
+}

@@ -1,0 +1,168 @@
+//! A machine that runs code.
+
+ghost use Rattle.std.specs.Prelude.{◌≡◌, ◌<◌, ◌+◌, ◌*◌, ◌^◌, ℕ, List, Some, None, true, false, IfSome, IfOk, OnErr};
+ghost use Rattle.std.specs.Prelude.{length, slice_index};
+ghost use Rattle.mir_func.specs.Objects.{area_of};
+ghost use Rattle.sem_machine.specs.Machine.{Machine as State, register, register_in};
+ghost use Rattle.sim_machine.specs.Shown.{entry_at, entry_call};
+ghost use Rattle.sim_machine.specs.Kept.{StandsFor};
+ghost use Rattle.sim_machine.specs.Machines.{StartsCode};
+
+use crate::answers::CallAnswers;
+use crate::ending::{Stepped, Stop};
+use crate::hart::Hart;
+use crate::site::{Places, call_at, find, places};
+use crate::word::run_word;
+use byte_memory::memory::Memory;
+use emit_code::code::{Code, Entry};
+use emit_code::objects::ObjectOffsets;
+use rv64_instr::reg::Reg;
+use rv64_instr::start::Start;
+use std::alloc::{AllocError, Global};
+use std::marker::Model;
+
+/// A machine that runs code, with what answers its calls.
+#[derive(Drop)]
+pub struct Machine<'a, A: CallAnswers> {
+    code: &'a Code,
+    answers: A,
+    hart: Hart,
+    /// Where entries probably stand.
+    probable: Places,
+}
+
+impl<'a, A: CallAnswers> Model for Machine<'a, A> {
+    ghost use Rattle.sim_machine.specs.Machines.{Running};
+
+    ghost Value = { Running A };
+
+    ghost view = { λ m. record { code = m.code.now; answers = m.answers; hart = m.hart } };
+
+    ghost invariant = { λ m. A.spares m.answers m.hart.entry m.hart.area };
+}
+
+impl<'a, A: CallAnswers + Drop> Machine<'a, A> {
+    ghost use Rattle.sim_machine.specs.Running.{StepsOn, CallsOn, StaysIf};
+
+    /// The machine at the start of the code. x0 reads 0, whatever it starts with. What answers calls writes no byte of
+    /// the frame.
+    pub fn new(
+        alloc: Global,
+        code: &'a Code,
+        start: &Start,
+        answers: A,
+    ) -> Result<Machine<'a, A>, AllocError>
+        requires { A.spares answers (slice_index start.now.regs 2) (area_of code.now.framed.objects) }
+        ensures code { IfOk result (λ m. m.code ≡ code.now) }
+        ensures answers { IfOk result (λ m. m.answers ≡ answers) }
+        ensures stands { IfOk result (λ m. (s : State) → StartsCode code.now start.now s → StandsFor m.hart s) }
+    {
+        let hart = starting_hart(alloc, code, start)?;
+        Ok(Machine {
+            code,
+            answers,
+            hart,
+            probable: places(alloc, code)?,
+        })
+    }
+
+    /// The state that is kept.
+    pub fn hart(&self) -> &Hart
+        ensures { result.now ≡ self.now.hart }
+    {
+        &self.hart
+    }
+
+    /// The address of the next word.
+    pub fn counter(&self) -> u64
+        ensures { result ≡ self.now.hart.counter }
+    {
+        self.hart.counter
+    }
+
+    /// The entry that begins at the counter: `None` where none does.
+    pub fn entry(&self) -> Option<Entry>
+        ensures found { result ≡ entry_at self.now.code.entries self.now.hart.counter }
+        ensures begins { IfSome result (λ e. e.address ≡ self.now.hart.counter) }
+        ensures within { IfSome result (λ e. e.address < self.now.code.base + 4 * length self.now.code.words) }
+        ensures word { IfSome result (λ e. e.call ≡ false → entry_call self.now.code.framed e ≡ None) }
+    {
+        find(&self.probable, self.code, self.hart.counter)
+    }
+
+    /// The content of a physical register.
+    pub fn register(&self, r: Reg) -> u64
+        requires { r < 32 }
+        ensures { (s : State) → StandsFor self.now.hart s → result ≡ register s r }
+    {
+        self.hart.read(r.number())
+    }
+
+    /// Makes one step: does the word at the counter, or makes the call of a call site, which is answered. What doesn't
+    /// go on changes nothing.
+    pub fn step(&mut self) -> Result<Stepped, AllocError>
+        ensures code { self.new.code ≡ self.old.code }
+        ensures answers { self.new.answers ≡ self.old.answers }
+        ensures step { IfOk result (λ r. StepsOn self.old.code r self.old.hart self.new.hart) }
+        ensures call { IfOk result (λ r. CallsOn (A.gives self.old.answers) self.old.code r self.old.hart
+            self.new.hart) }
+        ensures stays { IfOk result (λ r. StaysIf r self.old.hart self.new.hart) }
+        ensures memory { OnErr result (self.new ≡ self.old) }
+    {
+        match find(&self.probable, self.code, self.hart.counter) {
+            None => Ok(Stepped::Stopped(Stop::Left)),
+            Some(entry) => {
+                if entry.call {
+                    self.call(&entry)
+                } else {
+                    run_word(&mut self.hart, self.code, &entry)
+                }
+            }
+        }
+    }
+
+    /// Makes the call of the call site at the counter.
+    fn call(&mut self, entry: &Entry) -> Result<Stepped, AllocError>
+        requires stands { entry_at self.old.code.entries self.old.hart.counter ≡ Some entry.now }
+        requires at { entry.now.address ≡ self.old.hart.counter }
+        requires call { entry.now.call ≡ true }
+        ensures code { self.new.code ≡ self.old.code }
+        ensures answers { self.new.answers ≡ self.old.answers }
+        ensures call { IfOk result (λ r. CallsOn (A.gives self.old.answers) self.old.code r self.old.hart
+            self.new.hart) }
+        ensures step { IfOk result (λ r. StepsOn self.old.code r self.old.hart self.new.hart) }
+        ensures went { IfOk result (λ r. r ≡ Stepped.Went) }
+        ensures memory { OnErr result (self.new ≡ self.old) }
+    {
+        let alloc = *self.probable.allocator();
+        let event = self.hart.event(alloc, call_at(self.code, entry))?;
+        let answer = self.answers.answer(&event);
+        self.hart.take(&answer)?;
+        Ok(Stepped::Went)
+    }
+}
+
+/// The state at the start of the code.
+fn starting_hart(alloc: Global, code: &Code, start: &Start) -> Result<Hart, AllocError>
+    ensures stands { IfOk result (λ h. (s : State) → StartsCode code.now start.now s → StandsFor h s) }
+    ensures entry { IfOk result (λ h. h.entry ≡ slice_index start.now.regs 2) }
+    ensures area { IfOk result (λ h. h.area ≡ area_of code.now.framed.objects) }
+{
+    let offsets = ObjectOffsets::new(alloc, &code.framed)?;
+    Ok(Hart {
+        entry: start.regs[2],
+        area: u64::from(code.framed.size - offsets.own),
+        counter: code.base,
+        regs: starting_registers(&start.regs),
+        memory: Memory::new(alloc, start.memory.as_slice())?,
+        calls: 0,
+    })
+}
+
+fn starting_registers(start: &[u64; 32]) -> [u64; 32]
+    ensures { (r : ℕ) → r < 32 → slice_index result r ≡ register_in (slice_index start.now) r }
+{
+    let mut regs = *start;
+    regs[0] = 0;
+    regs
+}

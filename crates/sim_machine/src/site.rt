@@ -1,0 +1,134 @@
+//! What stands at an address.
+
+ghost use Rattle.std.specs.Prelude.{◌≡◌, ◌<◌, ◌+◌, ◌*◌, ◌^◌, List, ℕ, Some, None, Option, true, false, IfSome};
+ghost use Rattle.std.specs.Prelude.{MatchOption, length, slice_index};
+ghost use Rattle.rv64_instr.specs.Parts.{is_call};
+ghost use Rattle.rv64_instr.specs.Row.{row_of};
+ghost use Rattle.sem_machine.specs.Image.{Image, word_at};
+ghost use Rattle.sem_machine.specs.MachineStep.{call_of};
+ghost use Rattle.sim_machine.specs.Shown.{ShowsCode, entry_at, entry_call};
+ghost use Rattle.sim_machine.specs.steps.Sites.{instruction_in};
+
+use emit_code::code::{Code, Entry};
+use mir_func::framed::Framed;
+use mir_func::item::ItemKind;
+use mir_func::position::Point;
+use rv64_instr::instr::Instr;
+use std::alloc::{AllocError, Global};
+
+/// Where entries probably stand, by how many words their addresses are behind the first one.
+pub type Places = Vec<usize>;
+
+/// How many bytes a word has.
+const WORD: u64 = 4;
+
+/// Where the entries stand: each in one place, and a call, which has two words, in two.
+pub fn places(alloc: Global, code: &Code) -> Result<Places, AllocError> {
+    let mut places = Vec::new(alloc);
+    for (i, entry) in code.entries.as_slice().iter().enumerate() {
+        places.push(i)?;
+        if entry.call {
+            places.push(i)?;
+        }
+    }
+    Ok(places)
+}
+
+/// The entry that begins at an address. It is looked for only where it isn't at its probable place.
+pub fn find(probable: &Places, code: &Code, address: u64) -> Option<Entry>
+    ensures found { result ≡ entry_at code.now.entries address }
+    ensures begins { IfSome result (λ e. e.address ≡ address) }
+    ensures within { IfSome result (λ e. e.address < code.now.base + 4 * length code.now.words) }
+    ensures word { IfSome result (λ e. e.call ≡ false → entry_call code.now.framed e ≡ None) }
+{
+    let entries = code.entries.as_slice();
+    match probable_entry(probable, code, address) {
+        Some(entry) => Some(entry),
+        None => search(entries, address),
+    }
+}
+
+/// The entry at its probable place, where it begins at the address.
+fn probable_entry(probable: &Places, code: &Code, address: u64) -> Option<Entry>
+    ensures found { IfSome result (λ e. entry_at code.now.entries address ≡ Some e) }
+    ensures begins { IfSome result (λ e. e.address ≡ address) }
+{
+    if address < code.base {
+        return None;
+    }
+    let place = ((address - code.base) / WORD) as usize;
+    let entries = code.entries.as_slice();
+    if place < probable.len() {
+        let i = probable[place];
+        if i < entries.len() {
+            let entry = entries[i];
+            if entry.address == address {
+                return Some(entry);
+            }
+        }
+    }
+    None
+}
+
+fn search(entries: &[Entry], address: u64) -> Option<Entry>
+    ensures found { result ≡ entry_at entries.now address }
+    ensures begins { IfSome result (λ e. e.address ≡ address) }
+{
+    for entry in entries {
+        if entry.address == address {
+            return Some(*entry);
+        }
+    }
+    None
+}
+
+/// The instruction at a point.
+pub fn instruction_at<'a>(framed: &'a Framed, point: &Point) -> Option<&'a Instr>
+    ensures { MatchOption result (instruction_in framed.now point.now ≡ None)
+        (λ i. instruction_in framed.now point.now ≡ Some i.now) }
+{
+    let blocks = framed.blocks.as_slice();
+    match blocks.get(point.block.number() as usize) {
+        Some(block) => match block.items.as_slice().get(point.item as usize) {
+            Some(item) => match &item.kind {
+                ItemKind::Code(i, _) => Some(i),
+                ItemKind::Mark(_, _) | ItemKind::Phi(_, _) => None,
+            },
+            None => None,
+        },
+        None => None,
+    }
+}
+
+/// The instruction of a call site.
+pub fn call_at<'a>(code: &'a Code, entry: &Entry) -> &'a Instr
+    requires stands { entry_at code.now.entries entry.now.address ≡ Some entry.now }
+    requires call { entry.now.call ≡ true }
+    ensures calls { is_call (row_of result.now) ≡ true }
+    ensures same { entry_call code.now.framed entry.now ≡ call_of (row_of result.now) }
+    ensures low { entry.now.address < 2 ^ 63 }
+{
+    match instruction_at(&code.framed, &entry.point) {
+        Some(i) => i,
+        None => unreachable!(),
+    }
+}
+
+/// The word of an entry that is no call.
+pub fn word_of(code: &Code, entry: &Entry) -> u32
+    requires { entry_at code.now.entries entry.now.address ≡ Some entry.now }
+    ensures word { (image : Image) → ShowsCode code.now image → word_at image.text entry.now.address ≡ Some result }
+    ensures low { entry.now.address < 2 ^ 63 }
+    ensures none { entry.now.call ≡ false → entry_call code.now.framed entry.now ≡ None }
+{
+    let index = ((entry.address - code.base) / WORD) as usize;
+    word_in(code.words.as_slice(), index)
+}
+
+fn word_in(words: &[u32], index: usize) -> u32
+    requires { index < length words.now }
+    ensures value { result ≡ slice_index words.now index }
+    ensures small { result < 2 ^ 32 }
+{
+    words[index]
+}

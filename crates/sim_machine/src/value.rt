@@ -1,0 +1,106 @@
+//! What location lists give at the present address, in the present state.
+
+ghost use Rattle.std.specs.Prelude.{◌≡◌, ◌<◌, ◌^◌, ◌*◌, ◌%◌, ◌≤◌, ℕ, List, IfOk, IfErr, length};
+ghost use Rattle.rv64_instr.specs.declared.place.Place.{Place};
+ghost use Rattle.dwarf_loclists.specs.declared.range.Range.{Range};
+ghost use Rattle.dwarf_loclists.specs.Fault.{FaultAt};
+ghost use Rattle.dwarf_loclists.specs.Grammar.{IsSection};
+ghost use Rattle.dwarf_loclists.specs.Ranges.{IsListed};
+ghost use Rattle.sem_machine.specs.Machine.{Machine as State, place_content};
+ghost use Rattle.sim_machine.specs.Kept.{StandsFor};
+ghost use Rattle.sim_machine.specs.Values.{VariableIs, PartIs};
+
+use crate::answers::CallAnswers;
+use crate::hart::Hart;
+use crate::machine::Machine;
+use dwarf_loclists::fault::ListFault;
+use dwarf_loclists::reader::{piece_at, place_at};
+use rv64_instr::place::Place;
+
+/// The value of some bytes of a variable.
+#[derive(Clone, Copy, Debug, PartialEq, Eq)]
+pub struct PartValue {
+    /// The first byte of the variable that is meant.
+    pub offset: u32,
+    /// How many bytes: 1 to 8.
+    pub length: u32,
+    /// Their value, below 2^(8 * length), the first byte lowest.
+    pub value: u64,
+}
+
+impl<'a, A: CallAnswers + Drop> Machine<'a, A> {
+    /// The value that list k, from 0, of a section `.debug_loclists` gives for the whole variable at the counter:
+    /// `None` where it gives no place. It takes no memory.
+    pub fn read_variable(&self, lists: &[u8], k: u32) -> Result<Option<u64>, ListFault>
+        requires { (all : List (List Range)) → IsSection lists.now all → k < length all }
+        ensures ok { IfOk result (λ v. (s : State) → StandsFor self.now.hart s → VariableIs lists.now k s v) }
+        ensures err { IfErr result (λ f. FaultAt lists.now f.at) }
+    {
+        self.hart().variable(lists, k)
+    }
+
+    /// The value of the n-th piece, from 0, that list k gives for a variable at the counter; gaps aren't counted.
+    /// `None` where it gives fewer. It takes no memory.
+    pub fn read_part(&self, lists: &[u8], k: u32, n: u32) -> Result<Option<PartValue>, ListFault>
+        requires { (all : List (List Range)) → IsSection lists.now all → k < length all }
+        ensures ok { IfOk result (λ v. (s : State) → StandsFor self.now.hart s → PartIs lists.now k n s v) }
+        ensures err { IfErr result (λ f. FaultAt lists.now f.at) }
+    {
+        self.hart().part(lists, k, n)
+    }
+}
+
+impl Hart {
+    fn variable(&self, lists: &[u8], k: u32) -> Result<Option<u64>, ListFault>
+        requires { (all : List (List Range)) → IsSection lists.now all → k < length all }
+        ensures ok { IfOk result (λ v. (s : State) → StandsFor self.now s → VariableIs lists.now k s v) }
+        ensures err { IfErr result (λ f. FaultAt lists.now f.at) }
+    {
+        match place_at(lists, k, self.counter)? {
+            Some(place) => Ok(Some(self.content(place))),
+            None => Ok(None),
+        }
+    }
+
+    fn part(&self, lists: &[u8], k: u32, n: u32) -> Result<Option<PartValue>, ListFault>
+        requires { (all : List (List Range)) → IsSection lists.now all → k < length all }
+        ensures ok { IfOk result (λ v. (s : State) → StandsFor self.now s → PartIs lists.now k n s v) }
+        ensures err { IfErr result (λ f. FaultAt lists.now f.at) }
+    {
+        match piece_at(lists, k, self.counter, n)? {
+            Some(part) => Ok(Some(PartValue {
+                offset: part.offset,
+                length: part.length,
+                value: low_bytes(self.content(part.place), part.length),
+            })),
+            None => Ok(None),
+        }
+    }
+
+    /// What a place holds.
+    pub fn content(&self, place: Place) -> u64
+        requires { IsListed place }
+        ensures { (s : State) → StandsFor self.now s → result ≡ place_content place s }
+    {
+        match place {
+            Place::Register(r) => self.read(r.number()),
+            Place::Slot(n) => {
+                let address = self.read(2).wrapping_add(u64::from(n.number()));
+                self.memory.spelled(address, 8)
+            }
+            Place::Const(c) => c.cast_unsigned(),
+        }
+    }
+}
+
+/// The low `count` bytes of a number.
+pub fn low_bytes(number: u64, count: u32) -> u64
+    requires { count ≤ 8 }
+    ensures { result ≡ number % 2 ^ (8 * count) }
+{
+    if count == 8 {
+        number
+    } else {
+        number % (1 << (8 * count))
+    }
+}

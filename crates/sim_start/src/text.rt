@@ -1,0 +1,40 @@
+//! The text of a run.
+
+ghost use Rattle.std.specs.Prelude.{◌≡◌, ◌≤◌, ◌+◌, ◌*◌, ◌^◌, All, IfOk, length};
+ghost use Rattle.dwarf_loclists.specs.Ranges.{Ascend, ArePlaces};
+ghost use Rattle.sim_start.specs.Asked.{IsTextOfAskedRun};
+
+use crate::answers::ValueAnswers;
+use crate::start::start_with;
+use emit_code::code::Code;
+use mir_printer::text::Text;
+use sim_trace::run::print_run;
+use sim_trace::variable::Variables;
+use rv64_instr::start::Values;
+use std::alloc::{AllocError, Global};
+
+/// The text of a run of machine code with arguments and values for calls, of so many steps at most. Each variable is
+/// told by its location list.
+pub fn run_text(
+    alloc: Global,
+    code: &Code,
+    variables: &Variables,
+    limit: u32,
+    arguments: &[u64],
+    values: Values,
+) -> Result<Text, AllocError>
+    // Addresses have 32 bits.
+    requires low { code.now.base + 4 * length code.now.words ≤ 2 ^ 32 }
+    requires readable { All (λ v. Ascend v.ranges × ArePlaces v.ranges) variables.now }
+    ensures { IfOk result (IsTextOfAskedRun code.now arguments.now values variables.now limit) }
+{
+    let start = start_with(alloc, arguments);
+    print_run(
+        alloc,
+        code,
+        &start,
+        ValueAnswers { values },
+        variables,
+        limit,
+    )
+}

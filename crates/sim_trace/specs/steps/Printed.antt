@@ -1,0 +1,51 @@
+-- The lines of a run as they are written.
+use Rattle.std.specs.Prelude.{◌≡◌, ℕ, suc, ◌<◌, List, [], ◌++◌, codes, Option, Some, None}
+use Rattle.rv64_instr.specs.declared.start.CallEvent.{CallEvent}
+use Rattle.sem_mir.specs.State.{Reply}
+use Rattle.sem_machine.specs.Machine.{Machine}
+use Rattle.emit_code.specs.declared.code.Entry.{Entry}
+use Rattle.emit_code.specs.Laid.{LaidCode}
+use Rattle.sim_machine.specs.declared.ending.Stepped.{Stepped}
+use Rattle.sim_machine.specs.declared.ending.Stepped.TheVariants.{Went, Stopped}
+use Rattle.sim_machine.specs.declared.ending.Stop.{Stop}
+use Rattle.sim_machine.specs.declared.hart.Hart.{Hart}
+use Rattle.sim_machine.specs.Kept.{StandsFor}
+use Rattle.sim_machine.specs.Running.{StepsOn, CallsOn, StaysIf}
+use Rattle.sim_machine.specs.Shown.{entry_at}
+use Rattle.sim_trace.specs.declared.variable.Variable.{Variable}
+use Rattle.sim_trace.specs.Lines.{step_line, stop_line}
+
+-- the line before a step at an entry, and none where nothing begins at the counter
+abbrev pub line_at_entry : (number : ℕ) → Option Entry → List Variable → Machine → List ℕ
+line_at_entry n None variables s = []
+line_at_entry n (Some e) variables s = step_line n e.origin variables s
+
+-- the line before a step is appended, whatever state what is kept stands for
+abbrev pub IsLineAdded : (number : ℕ) → Option Entry → List Variable → Hart → (text more : List ℕ) → Type 0
+IsLineAdded n e variables h text more = (s : Machine) → StandsFor h s → more ≡ text ++ line_at_entry n e variables s
+
+-- a step with its line before it
+pub record IsPrintedStep (gives : CallEvent → Reply → Type 0) (c : LaidCode) (variables : List Variable) (n : ℕ) (r : Stepped) (old new : Hart)
+    (text more : List ℕ) : Type 0 where
+  pub line : IsLineAdded n (entry_at c.entries old.counter) variables old text more
+  pub step : StepsOn c r old new
+  pub call : CallsOn gives c r old new
+  pub stays : StaysIf r old new
+
+-- the steps so far, with their lines
+pub data Printed (gives : CallEvent → Reply → Type 0) (c : LaidCode) (variables : List Variable) (from : Hart) :
+    (steps : ℕ) → Hart → (text : List ℕ) → Type 0 where
+  begins : Printed gives c variables from 0 from []
+  goes_on : {n : ℕ} {h now : Hart} {text more : List ℕ} → Printed gives c variables from n h text →
+      IsPrintedStep gives c variables n Went h now text more → Printed gives c variables from (suc n) now more
+
+-- the line of a stop is appended
+abbrev pub IsStopAdded : Stop → Hart → (text more : List ℕ) → Type 0
+IsStopAdded stop h text more = (s : Machine) → StandsFor h s → more ≡ text ++ stop_line stop s
+
+-- a run of so many steps at most, from its first line to its last
+pub data IsRunPrinted (gives : CallEvent → Reply → Type 0) (c : LaidCode) (variables : List Variable) (limit : ℕ) (from : Hart) (text : List ℕ) : Type 0 where
+  made_steps : {h : Hart} {lines : List ℕ} → Printed gives c variables from limit h lines → text ≡ lines ++ codes "stop steps\n" →
+      IsRunPrinted gives c variables limit from text
+  stopped : {n : ℕ} {h now : Hart} {lines more : List ℕ} (stop : Stop) → n < limit → Printed gives c variables from n h lines →
+      IsPrintedStep gives c variables n (Stopped stop) h now lines more → IsStopAdded stop now more text → IsRunPrinted gives c variables limit from text

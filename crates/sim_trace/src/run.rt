@@ -1,0 +1,121 @@
+//! The lines of a whole run.
+
+ghost use Rattle.std.specs.Prelude.{◌≡◌, ◌+◌, ◌*◌, ◌≤◌, ◌^◌, ◌++◌, [], All, IfOk, OnOk, length, slice_index};
+ghost use Rattle.mir_func.specs.Objects.{area_of};
+ghost use Rattle.dwarf_loclists.specs.Ranges.{Ascend, ArePlaces};
+ghost use Rattle.sim_machine.specs.Shown.{entry_at};
+ghost use Rattle.sim_trace.specs.Lines.{return_line};
+ghost use Rattle.sim_trace.specs.Run.{IsTextOfRun};
+ghost use Rattle.sim_trace.specs.steps.Printed.{IsLineAdded, IsPrintedStep, IsRunPrinted, IsStopAdded};
+ghost use Rattle.sim_trace.specs.steps.Readable.{IsReadable};
+
+use crate::line::push_line;
+use crate::variable::{Variable, Variables};
+use emit_code::code::Code;
+use mir_printer::text::{Text, push_decimal, push_str};
+use sim_machine::answers::CallAnswers;
+use sim_machine::ending::{Stepped, Stop};
+use sim_machine::hart::Hart;
+use sim_machine::machine::Machine;
+use rv64_instr::start::Start;
+use std::alloc::{AllocError, Global};
+
+/// The text of a run of code from a start, of so many steps at most: before each step a line with its number, the
+/// address in eight hexadecimal digits, where what stands there comes from, and what each variable holds; and last how
+/// the run stops. What answers calls writes no byte of the frame.
+pub fn print_run<A: CallAnswers + Drop>(
+    alloc: Global,
+    code: &Code,
+    start: &Start,
+    answers: A,
+    variables: &Variables,
+    limit: u32,
+) -> Result<Text, AllocError>
+    requires spares { A.spares answers (slice_index start.now.regs 2) (area_of code.now.framed.objects) }
+    // Addresses have 32 bits.
+    requires low { code.now.base + 4 * length code.now.words ≤ 2 ^ 32 }
+    requires readable { All (λ v. Ascend v.ranges × ArePlaces v.ranges) variables.now }
+    ensures { IfOk result (IsTextOfRun (A.gives answers) code.now start.now variables.now limit) }
+{
+    let mut machine = Machine::new(alloc, code, start, answers)?;
+    let mut text = Text::new(alloc);
+    print_steps(&mut text, &mut machine, variables.as_slice(), limit)?;
+    Ok(text)
+}
+
+/// Appends the lines of so many steps at most.
+fn print_steps<A: CallAnswers + Drop>(
+    text: &mut Text,
+    machine: &mut Machine<A>,
+    variables: &[Variable],
+    limit: u32,
+) -> Result<(), AllocError>
+    requires empty { text.old ≡ [] }
+    requires low { machine.old.code.base + 4 * length machine.old.code.words ≤ 2 ^ 32 }
+    requires readable { All IsReadable variables.now }
+    ensures { OnOk result (IsRunPrinted (A.gives machine.old.answers) machine.old.code variables.now limit
+        machine.old.hart text.new) }
+{
+    for n in 0..limit {
+        match print_step(text, machine, variables, n)? {
+            Stepped::Went => {}
+            Stepped::Stopped(stop) => return push_stop(text, machine.hart(), stop),
+        }
+    }
+    push_str(text, "stop steps\n")
+}
+
+/// Makes a step, with its line before it.
+fn print_step<A: CallAnswers + Drop>(
+    text: &mut Text,
+    machine: &mut Machine<A>,
+    variables: &[Variable],
+    number: u32,
+) -> Result<Stepped, AllocError>
+    requires low { machine.old.code.base + 4 * length machine.old.code.words ≤ 2 ^ 32 }
+    requires readable { All IsReadable variables.now }
+    ensures code { machine.new.code ≡ machine.old.code }
+    ensures answers { machine.new.answers ≡ machine.old.answers }
+    ensures printed { IfOk result (λ r. IsPrintedStep (A.gives machine.old.answers) machine.old.code variables.now
+        number r machine.old.hart machine.new.hart text.old text.new) }
+{
+    push_line_before(text, machine, variables, number)?;
+    machine.step()
+}
+
+/// Appends the line before the next step, unless nothing begins at the counter.
+fn push_line_before<A: CallAnswers + Drop>(
+    text: &mut Text,
+    machine: &Machine<A>,
+    variables: &[Variable],
+    number: u32,
+) -> Result<(), AllocError>
+    requires low { machine.now.code.base + 4 * length machine.now.code.words ≤ 2 ^ 32 }
+    requires readable { All IsReadable variables.now }
+    ensures { OnOk result (IsLineAdded number (entry_at machine.now.code.entries machine.now.hart.counter) variables.now
+        machine.now.hart text.old text.new) }
+{
+    match machine.entry() {
+        Some(entry) => push_line(text, number, &entry, machine.hart(), variables),
+        None => Ok(()),
+    }
+}
+
+/// Appends how a run stops.
+fn push_stop(text: &mut Text, hart: &Hart, stop: Stop) -> Result<(), AllocError>
+    ensures { OnOk result (IsStopAdded stop hart.now text.old text.new) }
+{
+    match stop {
+        Stop::Returned => push_return(text, hart.read(10)),
+        Stop::Left => push_str(text, "stop left\n"),
+        Stop::BadWord(_) => push_str(text, "stop bad word\n"),
+    }
+}
+
+fn push_return(text: &mut Text, value: u64) -> Result<(), AllocError>
+    ensures { OnOk result (text.new ≡ text.old ++ return_line value) }
+{
+    push_str(text, "stop returned ")?;
+    push_decimal(text, value)?;
+    text.push(b'\n')
+}

@@ -1,5 +1,0 @@
-use Rattle.simulation.proofs.Added.{added_follows}
-use Rattle.simulation.proofs.laws.added_follows.Goals as goal
-
-pub returns : goal.returns
-returns g c = added_follows g.A.CodeAddition.relation

@@ -1,5 +1,0 @@
-use Rattle.simulation.proofs.InPlace.{in_place_follows}
-use Rattle.simulation.proofs.laws.in_place_follows.Goals as goal
-
-pub returns : goal.returns
-returns g c = in_place_follows g.C.BlockChange.relation

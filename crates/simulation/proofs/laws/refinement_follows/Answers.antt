@@ -1,5 +1,0 @@
-use Rattle.simulation.proofs.Refinement.{refinement_follows}
-use Rattle.simulation.proofs.laws.refinement_follows.Goals as goal
-
-pub returns : goal.returns
-returns g c = refinement_follows g.R.Refinement.related

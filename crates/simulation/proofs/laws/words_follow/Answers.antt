@@ -1,5 +1,0 @@
-use Rattle.simulation.proofs.Words.{words_follow}
-use Rattle.simulation.proofs.laws.words_follow.Goals as goal
-
-pub returns : goal.returns
-returns g c = words_follow g.I.Inside.inner

@@ -1,0 +1,21 @@
+use Rattle.std.proofs.Common.{◌≡◌, ◌++◌, [], ℕ, Vec, Global, Option, append-nil, ap, sym, ◌∙◌}
+use Rattle.std.specs.List.{cons_option}
+use Rattle.mir_func.specs.declared.item.Item.{Item}
+use Rattle.mir_func.proofs.Filtered.{filter_map_turn}
+use Rattle.spill_debug.specs.Lost.{number_silenced}
+use Rattle.spill_debug.proofs.lost.push_numbers.Goals as goal
+use Rattle.spill_debug.proofs.lost.push_numbers.Goals.{in-Some+in_ok-push, in_default}
+
+pub loop-i-preserved : goal.loop-i-preserved
+loop-i-preserved c =
+    let so_far = c.loop-i.numbers.items in
+    let o : c.number_silenced.result ≡ number_silenced c.args.s.now c.i-item.result.kind = c.number_silenced.ensures in
+    let more : c.match-number_silenced.numbers.items ≡ so_far ++ cons_option (number_silenced c.args.s.now c.i-item.result.kind) [] =
+    elim c.match-number_silenced.branch [
+      | in-Some+in_ok-push w ↦ ap (λ (v : Vec ℕ Global). v.items) w.numbers-is ∙ w.in_ok-push.ensures.items ∙
+          ap (λ (x : Option ℕ). so_far ++ cons_option x []) (sym w.in-Some.is ∙ o)
+      | in_default w ↦ ap (λ (v : Vec ℕ Global). v.items) w.numbers-is ∙ sym (append-nil so_far) ∙
+          ap (λ (x : Option ℕ). so_far ++ cons_option x []) (sym w.in_default.is ∙ o)
+    ] in
+    filter_map_turn (λ (i : Item). number_silenced c.args.s.now i.kind) c.args.items.now c.loop-i.i-index c.i-item.result so_far
+    c.match-number_silenced.numbers.items c.args.numbers.now.items c.loop-i-test.true c.i-item.is c.loop-i.invariant more

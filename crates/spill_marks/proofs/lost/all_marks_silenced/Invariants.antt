@@ -1,6 +1,0 @@
-use Rattle.std.proofs.Common.{◌≡◌, take}
-use Rattle.spill_marks.specs.Lost.{all_marks_silenced}
-use Rattle.spill_marks.proofs.lost.all_marks_silenced.Given as goal
-
-abbrev pub invariant-loop-b : goal.invariant-loop-b
-invariant-loop-b l = l.marks.items ≡ all_marks_silenced l.s (take l.b-index l.blocks)

@@ -1,6 +1,0 @@
-use Rattle.std.proofs.Common.{◌≡◌, take}
-use Rattle.spill_marks.specs.Lost.{all_numbers_silenced}
-use Rattle.spill_marks.proofs.lost.all_numbers_silenced.Given as goal
-
-abbrev pub invariant-loop-b : goal.invariant-loop-b
-invariant-loop-b l = l.numbers.items ≡ all_numbers_silenced l.s (take l.b-index l.blocks)

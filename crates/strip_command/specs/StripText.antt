@@ -1,0 +1,14 @@
+-- The text of a program without its debug items.
+use Rattle.std.specs.Prelude.{ℕ, List, []}
+use Rattle.std.specs.List.{flat_map}
+use Rattle.mir_func.specs.Strip.{stripped}
+use Rattle.mir_func_printer.specs.FuncText.{func_text}
+use Rattle.read_program.specs.declared.closing.Parsed.{Parsed}
+
+-- a function without its debug items, and so without substitutions
+abbrev pub stripped_func_text : Parsed → List ℕ
+stripped_func_text p = func_text (stripped p.func) []
+
+-- The documents of functions without their debug items, one after the other.
+abbrev pub stripped_text : List Parsed → List ℕ
+stripped_text functions = flat_map stripped_func_text functions

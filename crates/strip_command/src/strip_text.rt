@@ -1,0 +1,31 @@
+//! The text of a program without its debug items.
+
+ghost use Rattle.std.specs.Prelude.{◌≡◌, IfOk};
+ghost use Rattle.strip_command.specs.StripText.{stripped_func_text, stripped_text};
+
+use mir_func_printer::print::print_func;
+use mir_func::strip::strip;
+use read_program::closing::Parsed;
+use mir_printer::text::Text;
+use std::alloc::{AllocError, Global};
+use mir_substitution::substitutions::Substitutions;
+
+/// The document of a function without its debug items.
+fn strip_func(alloc: Global, parsed: &Parsed) -> Result<Text, AllocError>
+    ensures { IfOk result (λ text. text ≡ stripped_func_text parsed.now) }
+{
+    let stripped = strip(alloc, &parsed.func)?;
+    print_func(alloc, &stripped, &Substitutions::new(alloc))
+}
+
+/// The documents of functions without their marks, phis, numbers and substitutions, in their order.
+pub fn strip_text(alloc: Global, functions: &[Parsed]) -> Result<Text, AllocError>
+    ensures { IfOk result (λ text. text ≡ stripped_text functions.now) }
+{
+    let mut text = Text::new(alloc);
+    for parsed in functions {
+        let document = strip_func(alloc, parsed)?;
+        text.extend_from_slice(document.as_slice())?;
+    }
+    Ok(text)
+}

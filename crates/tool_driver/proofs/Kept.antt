@@ -1,0 +1,85 @@
+-- What the command that compiles wrote keeps each promise of the output that it is the text of.
+use Rattle.std.proofs.Common.{ℕ, List}
+use Rattle.command_line.specs.declared.command.Plan.{Plan}
+use Rattle.command_line.specs.declared.command.Command.TheVariants.{Compile}
+use Rattle.command_line.specs.Command.{IsCommand}
+use Rattle.listing_text.specs.declared.output.Output.{Output}
+use Rattle.pass_trait.specs.Steps.{Step}
+use Rattle.read_program.specs.declared.program.Program.{Program}
+use Rattle.compile_theorem.specs.Laws.{AreCompiledTo}
+use Rattle.compile_theorem.specs.Promise.{Promises, IsExact, AreLaidOut}
+use Rattle.compile_theorem.specs.Words.{HaveWords}
+use Rattle.compile_theorem.proofs.HaveWords.{compiled_has_words}
+use Rattle.compile_theorem.proofs.Headline.{compiled_promises}
+use Rattle.compile_theorem.proofs.IsExact.{compiled_is_exact}
+use Rattle.compile_theorem.proofs.LaidOut.{compiled_is_laid_out, compiled_lists_passed}
+use Rattle.run_command.specs.Program.{sources_of, IsOutputOf, names_of}
+use Rattle.tool_driver.specs.Compiled.{plan_steps}
+use Rattle.tool_driver.specs.Promise.{AllGiveBack, AllStopWell, AllListKept}
+use Rattle.tool_driver.specs.Run.{Finishes, KeepsHeadline, KeepsRegisters, StopsAtReturns, WroteExactly, WroteLaidOut}
+use Rattle.tool_driver.specs.Run.{WroteKept, WroteWords, ShowsPassed, WrotePassed}
+use Rattle.tool_driver.specs.Stream.{Change}
+use Rattle.tool_driver.proofs.Lines.{gives_lines}
+use Rattle.tool_driver.proofs.RunLemmas.{has_written}
+use Rattle.tool_driver.proofs.Sentences.{compiled_to, of_read, gives_back, stops_well, lists_kept}
+
+-- ---- an output of a program
+
+module _ (steps : List Step) (p : Program) (o : Output) (is : IsOutputOf steps p o) where
+  to : AreCompiledTo (names_of p.meta) is.functions o
+  to = compiled_to steps p o is
+
+  promised : Promises (sources_of p.functions) o
+  promised = of_read (λ ss. Promises ss o) steps p o is (compiled_promises (names_of p.meta) is.functions o to)
+
+  exact : IsExact o
+  exact = compiled_is_exact (names_of p.meta) is.functions o to
+
+  laid_out : AreLaidOut (names_of p.meta) (sources_of p.functions) o
+  laid_out = of_read (λ ss. AreLaidOut (names_of p.meta) ss o) steps p o is (compiled_is_laid_out (names_of p.meta) is.functions o to)
+
+  shows_passed : ShowsPassed steps p o
+  shows_passed = record {
+    functions = is.functions;
+    passed = is.passed;
+    made = is.made;
+    lists = compiled_lists_passed (names_of p.meta) is.functions o to;
+    sections = is.sections;
+    rows = gives_lines p.meta is.functions o is.sections;
+  }
+
+-- ---- what was written
+
+module _ (words : List (List ℕ)) (input output : Change) (finished : Finishes words input output) (plan : Plan)
+    (asked : IsCommand words (Compile plan)) where
+  pub headline_kept : KeepsHeadline input output
+  headline_kept = has_written plan (λ p. Promises (sources_of p.functions)) (promised (plan_steps plan)) words input output finished asked
+
+  pub registers_kept : KeepsRegisters input output
+  registers_kept =
+      has_written plan (λ p. AllGiveBack (sources_of p.functions))
+      (λ p o is. gives_back (sources_of p.functions) o (promised (plan_steps plan) p o is)) words input output finished asked
+
+  pub stops_at_returns : StopsAtReturns input output
+  stops_at_returns =
+      has_written plan (λ p. AllStopWell (sources_of p.functions))
+      (λ p o is. stops_well (sources_of p.functions) o (promised (plan_steps plan) p o is)) words input output finished asked
+
+  pub wrote_exactly : WroteExactly input output
+  wrote_exactly = has_written plan (λ p. IsExact) (exact (plan_steps plan)) words input output finished asked
+
+  pub wrote_kept : WroteKept input output
+  wrote_kept =
+      has_written plan (λ p. AllListKept) (λ p o is. lists_kept o (exact (plan_steps plan) p o is)) words input output finished asked
+
+  pub wrote_laid_out : WroteLaidOut input output
+  wrote_laid_out =
+      has_written plan (λ p. AreLaidOut (names_of p.meta) (sources_of p.functions)) (laid_out (plan_steps plan)) words input output finished asked
+
+  pub wrote_words : WroteWords input output
+  wrote_words =
+      has_written plan (λ p. HaveWords) (λ p o is. compiled_has_words (names_of p.meta) is.functions o (to (plan_steps plan) p o is))
+      words input output finished asked
+
+  pub wrote_passed : WrotePassed (plan_steps plan) input output
+  wrote_passed = has_written plan (ShowsPassed (plan_steps plan)) (shows_passed (plan_steps plan)) words input output finished asked

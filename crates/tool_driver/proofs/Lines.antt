@@ -1,0 +1,52 @@
+-- The functions that are compiled lie one after the other, so the laws of the line number table speak of them.
+use Rattle.std.proofs.Common.{◌≡◌, ℕ, ◌+◌, ◌*◌, List, [], ◌∷◌, map, length, sym, ap, ◌∙◌, subst}
+use Rattle.std.specs.Prelude.{sum_by}
+use Rattle.emit_code.proofs.Sites.{site_size}
+use Rattle.emit_code.proofs.Stand.{stands, words_fill}
+use Rattle.emit_code.specs.declared.code.Entry.{Entry}
+use Rattle.emit_code.specs.Laid.{LaidCode, StandFrom, IsCodeOf}
+use Rattle.emit_code.specs.Rule.{entries_of, words_of, sites_of}
+use Rattle.listing_text.specs.declared.output.Output.{Output}
+use Rattle.frame_rule.specs.Rule.{framed_of}
+use Rattle.line_laws.proofs.Tables.{tables_give_lines, nothing_outside}
+use Rattle.line_laws.specs.Laws.{LieFrom}
+use Rattle.mir_func.specs.Function.{Function, FramedFunction}
+use Rattle.read_metadata.specs.Maps.{Maps}
+use Rattle.compile_theorem.specs.Source.{PassedFunction}
+use Rattle.run_command.specs.Program.{AreCoded, HasSections}
+use Rattle.source_lines.specs.declared.compiled.Compiled.{Compiled}
+use Rattle.tool_driver.specs.Lines.{GivesLines}
+
+code_stands : (f : FramedFunction) (base : ℕ) (c : LaidCode) → IsCodeOf f base c → StandFrom c.base c.entries (c.base + 4 * length c.words)
+code_stands f base c is =
+    let from : is.layout.base ≡ c.base = is.from ∙ sym is.base_kept in
+    let fill : 4 * length (words_of is.layout) ≡ 4 * length c.words = ap (λ (ws : List ℕ). 4 * length ws) (sym is.words) in
+    let size = sum_by (site_size is.layout.long) (sites_of is.layout.framed) in
+    let filled : size ≡ 4 * length c.words = sym (words_fill is.layout is.worded) ∙ fill in
+    let end : is.layout.base + size ≡ c.base + 4 * length c.words = λ i. from i + filled i in
+    subst (λ (b : ℕ). StandFrom b c.entries (c.base + 4 * length c.words)) from
+    (subst (λ (es : List Entry). StandFrom is.layout.base es (c.base + 4 * length c.words)) (sym is.entries)
+    (subst (λ (x : ℕ). StandFrom is.layout.base (entries_of is.layout) x) end (stands is.layout)))
+
+lie : (base : ℕ) (fs : List Function) (cs : List Compiled) → AreCoded base fs (map (λ c. c.code.now) cs) → LieFrom base cs
+lie base [] [] coded = tt
+lie base [] (c ∷ cs) coded = absurd coded
+lie base (f ∷ fs) [] coded = absurd coded
+lie base (f ∷ fs) (c ∷ cs) coded =
+    let more = subst (λ (b : ℕ). AreCoded (b + 4 * length c.code.now.words) fs (map (λ c. c.code.now) cs)) (sym coded.0.base_kept) coded.1 in (
+      coded.0.base_kept,
+      subst (λ (b : ℕ). StandFrom b c.code.now.entries (c.code.now.base + 4 * length c.code.now.words)) coded.0.base_kept
+          (code_stands (framed_of f) base c.code.now coded.0),
+      lie (c.code.now.base + 4 * length c.code.now.words) fs cs more,
+    )
+
+pub gives_lines : (meta : Maps) (functions : List PassedFunction) (o : Output) → HasSections meta functions o → GivesLines meta functions o
+gives_lines meta functions o has =
+    let from = lie 0 (map (λ p. p.function) functions) has.compiled has.coded.coded in
+    record {
+      compiled = has.compiled;
+      coded = has.coded;
+      rows = has.rows;
+      lines = tables_give_lines meta has.compiled 0 from;
+      outside = nothing_outside meta has.compiled 0 from;
+    }

@@ -1,0 +1,25 @@
+-- What the section of lines says of the machine code of a program.
+use Rattle.std.specs.Prelude.{◌≡◌, ℕ, List}
+use Rattle.emit_code.specs.declared.code.Entry.{Entry}
+use Rattle.listing_text.specs.declared.output.Output.{Output}
+use Rattle.dwarf_line.specs.declared.table.Row.{Row}
+use Rattle.dwarf_line.specs.Spelling.{spelling as rows_spelling}
+use Rattle.line_laws.specs.Laws.{HasCodeAt}
+use Rattle.line_laws.specs.Rows.{GivesLine, IsRowAt}
+use Rattle.read_metadata.specs.Maps.{Maps}
+use Rattle.compile_theorem.specs.Source.{PassedFunction}
+use Rattle.run_command.specs.Program.{HaveCode}
+use Rattle.source_lines.specs.declared.compiled.Compiled.{Compiled}
+use Rattle.source_lines.specs.Program.{program_file, table_of}
+use Rattle.source_lines.specs.Table.{entry_line}
+
+-- the section of lines is the spelling of a table. At the address of each byte of the functions' machine code the table gives the file, the line
+-- and the column that the first code at or after the origin of the code there has in the function that was read; and no other address has a row
+pub record GivesLines (meta : Maps) (functions : List PassedFunction) (o : Output) : Type 0 where
+  pub compiled : List Compiled
+  pub coded : HaveCode functions compiled
+  pub rows : o.rows ≡ rows_spelling (table_of meta compiled)
+  pub lines : (address : ℕ) (f : Compiled) (e : Entry) → HasCodeAt compiled address f e →
+      GivesLine (table_of meta compiled) address (entry_line meta (program_file meta compiled) f.source.now.blocks e)
+  pub outside : (address : ℕ) → ((f : Compiled) (e : Entry) → HasCodeAt compiled address f e → ⊥) → (row : Row) →
+      IsRowAt (table_of meta compiled) address row → ⊥

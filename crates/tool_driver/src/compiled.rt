@@ -1,0 +1,146 @@
+//! What is written of a program by the commands that compile.
+
+ghost use Rattle.std.specs.Prelude.{IfOk, IfErr};
+ghost use Rattle.run_command.specs.Reported.{IsReportText};
+ghost use Rattle.run_command.specs.Source.{IsRunOfProgram};
+ghost use Rattle.command_line.specs.Command.{IsWithin};
+ghost use Rattle.tool_driver.specs.Answer.{IsTestText, RefusesToCompile, RefusesToRun, RefusesToTest};
+ghost use Rattle.tool_driver.specs.Compiled.{plan_steps, IsCompiledText, IsListingText};
+ghost use Rattle.run_command.specs.Program.{IsOutputOf, IsCompilationOf};
+ghost use Rattle.read_proof.specs.Read.{IsReadProgram};
+
+use command_line::command::{Plan, RunPlan, TestPlan};
+use command_line::fault::Fault;
+use run_command::compile::{Compilation, CompileError, compile};
+use run_command::name::is_unknown;
+use run_command::report::report;
+use run_command::run::run;
+use listing_text::print::{print_listing, print_output};
+use read_program::program::Program;
+use mir_printer::text::Text;
+use selftest_command::text::self_test;
+use std::alloc::Global;
+
+/// The sections and the listing of a program after passes.
+pub fn compiled_text(alloc: Global, program: &Program, plan: &Plan) -> Result<Text, Fault>
+    requires { IsReadProgram program.now }
+    ensures ok { IfOk result (IsCompiledText (plan_steps plan.now) program.now) }
+    ensures err { IfErr result (RefusesToCompile (plan_steps plan.now) program.now) }
+{
+    let compilation = compilation(alloc, program, plan)?;
+    Ok(print_output(alloc, &compilation.output)?)
+}
+
+/// The listing of a program alone after passes.
+pub fn listing_text(alloc: Global, program: &Program, plan: &Plan) -> Result<Text, Fault>
+    requires { IsReadProgram program.now }
+    ensures ok { IfOk result (IsListingText (plan_steps plan.now) program.now) }
+    ensures err { IfErr result (RefusesToCompile (plan_steps plan.now) program.now) }
+{
+    let compilation = compilation(alloc, program, plan)?;
+    Ok(print_listing(alloc, compilation.output.functions.as_slice())?)
+}
+
+/// The report of a program after passes.
+pub fn report_text(alloc: Global, program: &Program, plan: &Plan) -> Result<Text, Fault>
+    requires { IsReadProgram program.now }
+    ensures ok { IfOk result (IsReportText plan.now.reserve plan.now.passes program.now) }
+    ensures err { IfErr result (RefusesToCompile (plan_steps plan.now) program.now) }
+{
+    let compilation = compilation(alloc, program, plan)?;
+    Ok(report(alloc, &compilation)?)
+}
+
+/// The text of the run that is asked for of a program's function after passes.
+pub fn run_text(alloc: Global, program: &Program, asked: RunPlan) -> Result<Text, Fault>
+    requires { IsReadProgram program.now }
+    ensures ok { IfOk result (IsRunOfProgram (plan_steps asked.plan) program.now asked.name asked.steps
+        asked.arguments asked.answers) }
+    ensures err { IfErr result (RefusesToRun asked program.now) }
+{
+    if is_unknown(program.functions.as_slice(), asked.name.as_slice()) {
+        return Err(Fault::UnknownFunction);
+    }
+    match compilation(alloc, program, &asked.plan) {
+        Ok(compilation) => run_of(alloc, program, &compilation, asked),
+        Err(fault) => Err(fault),
+    }
+}
+
+/// The text of the run that is asked for of a program that is compiled.
+fn run_of(
+    alloc: Global,
+    _program: &Program,
+    compilation: &Compilation,
+    asked: RunPlan,
+) -> Result<Text, Fault>
+    requires output { IsOutputOf (plan_steps asked.plan) _program.now compilation.now.output }
+    requires compilation { IsCompilationOf asked.plan.reserve asked.plan.passes _program.now compilation.now }
+    ensures ok { IfOk result (IsRunOfProgram (plan_steps asked.plan) _program.now asked.name asked.steps
+        asked.arguments asked.answers) }
+    ensures err { IfErr result (RefusesToRun asked _program.now) }
+{
+    let RunPlan {
+        name,
+        steps,
+        plan: _plan,
+        arguments,
+        answers,
+    } = asked;
+    match run(
+        alloc,
+        compilation,
+        name.as_slice(),
+        steps,
+        arguments.as_slice(),
+        answers,
+    ) {
+        Ok(Some(text)) => Ok(text),
+        Ok(None) => Err(Fault::UnknownFunction),
+        Err(_) => Err(Fault::Memory),
+    }
+}
+
+/// The text of the self-test that is asked for. Memory runs out too where its function makes 2^64 - 1 steps before it
+/// comes to a line of its machine code.
+pub fn test_text(alloc: Global, asked: &TestPlan) -> Result<Text, Fault>
+    requires { IsWithin asked.now.function }
+    ensures ok { IfOk result (IsTestText asked.now) }
+    ensures err { IfErr result (RefusesToTest asked.now) }
+{
+    match self_test(
+        alloc,
+        asked.function.number,
+        asked.function.blocks,
+        asked.plan.passes.as_slice(),
+        asked.plan.reserve.as_slice(),
+    ) {
+        Ok(Some(text)) => Ok(text),
+        Ok(None) => Err(Fault::Memory),
+        Err(error) => match error {
+            CompileError::FrameTooLarge => Err(Fault::FrameTooLarge),
+            CompileError::SectionTooLarge => Err(Fault::SectionTooLarge),
+            CompileError::Memory => Err(Fault::Memory),
+        },
+    }
+}
+
+/// A program that is compiled after passes.
+fn compilation(alloc: Global, program: &Program, plan: &Plan) -> Result<Compilation, Fault>
+    requires { IsReadProgram program.now }
+    ensures output { IfOk result (λ c. IsOutputOf (plan_steps plan.now) program.now c.output) }
+    ensures compilation { IfOk result (IsCompilationOf plan.now.reserve plan.now.passes program.now) }
+    ensures err { IfErr result (RefusesToCompile (plan_steps plan.now) program.now) }
+{
+    match compile(
+        alloc,
+        program,
+        plan.passes.as_slice(),
+        plan.reserve.as_slice(),
+    ) {
+        Ok(compilation) => Ok(compilation),
+        Err(CompileError::FrameTooLarge) => Err(Fault::FrameTooLarge),
+        Err(CompileError::SectionTooLarge) => Err(Fault::SectionTooLarge),
+        Err(CompileError::Memory) => Err(Fault::Memory),
+    }
+}

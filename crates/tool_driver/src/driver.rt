@@ -1,0 +1,250 @@
+//! The run of a command.
+
+ghost use Rattle.std.specs.Prelude.{◌≡◌, ◌≢◌, ◌≤◌, ◌⊎◌, IfOk, OnOk, IfErr, IsErrOf, map, string_bytes};
+ghost use Rattle.command_line.specs.Command.{AreWithin, IsCommand};
+ghost use Rattle.command_line.specs.declared.command.Plan.{Plan};
+ghost use Rattle.command_line.specs.declared.command.RunPlan.{RunPlan};
+ghost use Rattle.command_line.specs.declared.command.TestPlan.{TestPlan};
+ghost use Rattle.command_numbers.specs.declared.generation.Generation.{Generation};
+ghost use Rattle.gen_text.specs.GeneratedText.{generated_text};
+ghost use Rattle.tool_driver.specs.Compiled.{plan_steps};
+ghost use Rattle.command_line.specs.Fault.{line_of};
+ghost use Rattle.tool_driver.specs.Run.{AreCommand, AnswersInput, Finishes, IsCutOff, TellsRefusal, IsAnswerable};
+ghost use Rattle.tool_driver.specs.Run.{KeepsHeadline, KeepsRegisters, StopsAtReturns, WroteExactly, WroteLaidOut};
+ghost use Rattle.tool_driver.specs.Run.{WroteKept, WroteWords, WrotePassed, WroteReport, WroteRun, WroteTest};
+ghost use Rattle.tool_driver.specs.Run.{WroteStripped};
+ghost use Rattle.tool_driver.specs.Run.{HasReadProgram, HasReadNone, Explains, ReadingEnds};
+ghost use Rattle.tool_driver.specs.Stream.{change, MetFault, IsWrittenWhole, IsTold};
+
+use crate::compiled::{compiled_text, listing_text, report_text, run_text, test_text};
+use crate::reading::program_of;
+use crate::telling::tell;
+use command_line::command::{Command, parse};
+use command_line::fault::Fault;
+use command_line::status::Status;
+use gen_text::print::print_generated;
+use base_io::reading::{ReadError, read_all};
+use base_io::sink::Sink;
+use base_io::source::Source;
+use base_io::writing::write_all;
+use read_program::program::Program;
+use mir_printer::text::Text;
+use std::alloc::Global;
+use strip_command::strip_text::strip_text;
+
+/// The most bytes that an input may have.
+pub const LIMIT: usize = 16_777_216;
+
+/// Runs the command that the words are: reads the input to its end, and writes what the command asks for of the
+/// functions that the text stands for. `compile`, with the options of a list of passes and of registers that may be
+/// spilled, writes the sections and the listing of what these passes make of them (`--passes=none`: of the functions as
+/// they were read; all passes where no list is given), `listing` with such options the listing alone, and `report` of
+/// each function at how many of its words each variable can be found, and what the passes lost. `run` with a
+/// function's name, a number of steps and such options writes a line for each step of its machine code, with what its
+/// variables hold. `strip` writes the functions without their debug items. `gen` reads nothing, and writes the text of
+/// the function that is made up from its two numbers; `selftest`, with such numbers and the options of `compile`, reads
+/// nothing either, and writes how much of such a function its location lists tell along a run of its machine code. A
+/// fault is told by a line on `faults`.
+pub fn mirdwarf<S: Source, K: Sink, E: Sink>(
+    alloc: Global,
+    words: &[String],
+    input: &mut S,
+    output: &mut K,
+    faults: &mut E,
+) -> Status
+    // When each status comes, and what stands on the streams then. `Memory` may come at any growth.
+    ensures done { result ≡ Status.Done → Finishes (map string_bytes words.now)
+        (change S.left S.faults input.old input.new) (change K.written K.faults output.old output.new) }
+    ensures refused { result ≡ Status.Refused → TellsRefusal (map string_bytes words.now)
+        (change S.left S.faults input.old input.new) (change E.written E.faults faults.old faults.new) }
+    ensures usage { result ≡ Status.Usage → AreCommand (map string_bytes words.now) → ⊥ }
+    ensures no_command { (AreCommand (map string_bytes words.now) → ⊥) →
+        (result ≡ Status.Usage) ⊎ (result ≡ Status.Memory) }
+    ensures read_fault { result ≡ Status.ReadFault → MetFault (change S.left S.faults input.old input.new) }
+    ensures write_fault { result ≡ Status.WriteFault → MetFault (change K.written K.faults output.old output.new) }
+
+    // What `compile` writes keeps its promise. The machine on the written code runs along with the source that was
+    // read, and the written lists tell the truth.
+    ensures headline { (plan : Plan) → result ≡ Status.Done →
+        IsCommand (map string_bytes words.now) (Command.Compile plan) →
+        KeepsHeadline (change S.left S.faults input.old input.new) (change K.written K.faults output.old output.new) }
+    // At a return the machine gives back the registers that a function is to keep.
+    ensures callee_saved { (plan : Plan) → result ≡ Status.Done →
+        IsCommand (map string_bytes words.now) (Command.Compile plan) →
+        KeepsRegisters (change S.left S.faults input.old input.new) (change K.written K.faults output.old output.new) }
+    // It stops nowhere but at a return, or where it waits for an answer.
+    ensures stops { (plan : Plan) → result ≡ Status.Done →
+        IsCommand (map string_bytes words.now) (Command.Compile plan) →
+        StopsAtReturns (change S.left S.faults input.old input.new) (change K.written K.faults output.old output.new) }
+    // The lists say the place of a variable's value wherever the value is in one on every path, and nothing elsewhere.
+    ensures exact { (plan : Plan) → result ≡ Status.Done →
+        IsCommand (map string_bytes words.now) (Command.Compile plan) →
+        WroteExactly (change S.left S.faults input.old input.new) (change K.written K.faults output.old output.new) }
+    // While a place keeps the value that a mark told of it, the lists give the variable a place.
+    ensures kept { (plan : Plan) → result ≡ Status.Done →
+        IsCommand (map string_bytes words.now) (Command.Compile plan) →
+        WroteKept (change S.left S.faults input.old input.new) (change K.written K.faults output.old output.new) }
+    // Functions, lines, objects and variables stand where they should, with their names.
+    ensures laid_out { (plan : Plan) → result ≡ Status.Done →
+        IsCommand (map string_bytes words.now) (Command.Compile plan) →
+        WroteLaidOut (change S.left S.faults input.old input.new) (change K.written K.faults output.old output.new) }
+    // At each line with an address stand the bytes of its instruction.
+    ensures words { (plan : Plan) → result ≡ Status.Done →
+        IsCommand (map string_bytes words.now) (Command.Compile plan) →
+        WroteWords (change S.left S.faults input.old input.new) (change K.written K.faults output.old output.new) }
+    // The lines show the functions that passes made of those that were read, with their frames: without passes, those
+    // that were read. The other sections are those of the program's unit and of its table of lines, which gives each
+    // byte of machine code its line of the source.
+    ensures passed { (plan : Plan) → result ≡ Status.Done →
+        IsCommand (map string_bytes words.now) (Command.Compile plan) →
+        WrotePassed (plan_steps plan) (change S.left S.faults input.old input.new)
+        (change K.written K.faults output.old output.new) }
+
+    // What `report` writes is the report of what passes made of the functions that were read: of each the words of its
+    // machine code, at how many of them the list of each variable gives it a place, and what passes lost of it.
+    ensures reported { (plan : Plan) → result ≡ Status.Done →
+        IsCommand (map string_bytes words.now) (Command.Report plan) →
+        WroteReport plan (change S.left S.faults input.old input.new)
+        (change K.written K.faults output.old output.new) }
+
+    // What `run` writes is the run of the machine on the code of the first function of the name, line by line: it runs
+    // along with the source that was read, whose values are those that the lines tell.
+    ensures ran { (plan : RunPlan) → result ≡ Status.Done →
+        IsCommand (map string_bytes words.now) (Command.Run plan) →
+        WroteRun plan (change S.left S.faults input.old input.new)
+        (change K.written K.faults output.old output.new) }
+
+    // What `strip` writes is read in turn: it stands for the program without its debug items, and `strip` writes the
+    // same text of it again.
+    ensures stripped { result ≡ Status.Done → IsCommand (map string_bytes words.now) Command.Strip →
+        WroteStripped (change S.left S.faults input.old input.new) (change K.written K.faults output.old output.new) }
+
+    // `gen` reads nothing, and writes the text of the function that its words ask for.
+    ensures generated { (g : Generation) → result ≡ Status.Done →
+        IsCommand (map string_bytes words.now) (Command.Gen g) →
+        IsWrittenWhole (change K.written K.faults output.old output.new) (generated_text g.number g.blocks) }
+    ensures generated_unread { (g : Generation) → IsCommand (map string_bytes words.now) (Command.Gen g) →
+        input.new ≡ input.old }
+
+    // `selftest` reads nothing, and writes the self-test that its words ask for: of what passes make of the function
+    // that is made up, of the run of its machine code beside it, how many values its lists give and how many of its
+    // variables' values are known. No more are given than are known.
+    ensures tested { (test : TestPlan) → result ≡ Status.Done →
+        IsCommand (map string_bytes words.now) (Command.SelfTest test) →
+        WroteTest test (change K.written K.faults output.old output.new) }
+    ensures tested_unread { (test : TestPlan) → IsCommand (map string_bytes words.now) (Command.SelfTest test) →
+        input.new ≡ input.old }
+
+    // A text that the command answers is answered, unless a fault is met or memory runs out.
+    ensures complete { (command : Command) → IsCommand (map string_bytes words.now) command →
+        IsAnswerable command (S.left input.old) →
+        ¬ MetFault (change S.left S.faults input.old input.new) →
+        ¬ MetFault (change K.written K.faults output.old output.new) →
+        (result ≡ Status.Done) ⊎ (result ≡ Status.Memory) }
+
+    // What else it leaves: nothing is read where the words are no command, and nothing is written but at the end.
+    ensures unread { result ≡ Status.Usage → input.new ≡ input.old }
+    ensures unwritten { result ≢ Status.Done → result ≢ Status.WriteFault → output.new ≡ output.old }
+    ensures cut_off { result ≡ Status.WriteFault → IsCutOff (map string_bytes words.now)
+        (change S.left S.faults input.old input.new) (change K.written K.faults output.old output.new) }
+
+    // What it tells.
+    ensures quiet { result ≡ Status.Done → faults.new ≡ faults.old }
+    ensures tells_usage { result ≡ Status.Usage →
+        IsTold (change E.written E.faults faults.old faults.new) (line_of Fault.Usage) }
+    ensures tells_memory { result ≡ Status.Memory →
+        IsTold (change E.written E.faults faults.old faults.new) (line_of Fault.Memory) }
+    ensures tells_read { result ≡ Status.ReadFault →
+        IsTold (change E.written E.faults faults.old faults.new) (line_of Fault.Read) }
+    ensures tells_write { result ≡ Status.WriteFault →
+        IsTold (change E.written E.faults faults.old faults.new) (line_of Fault.Write) }
+
+    // Counts never fall.
+    ensures input_counts { S.faults input.old ≤ S.faults input.new }
+    ensures output_counts { K.faults output.old ≤ K.faults output.new }
+    ensures faults_counts { E.faults faults.old ≤ E.faults faults.new }
+{
+    match run(alloc, words, input, output) {
+        Ok(()) => Status::Done,
+        Err(fault) => tell(fault, faults),
+    }
+}
+
+/// All but the telling of a fault.
+fn run<S: Source, K: Sink>(
+    alloc: Global,
+    words: &[String],
+    input: &mut S,
+    output: &mut K,
+) -> Result<(), Fault>
+    ensures done { OnOk result (Finishes (map string_bytes words.now)
+        (change S.left S.faults input.old input.new) (change K.written K.faults output.old output.new)) }
+    ensures err { IfErr result (Explains (map string_bytes words.now)
+        (change S.left S.faults input.old input.new) (change K.written K.faults output.old output.new)) }
+    ensures unread { IsErrOf result Fault.Usage → input.new ≡ input.old }
+    ensures generated_unread { (g : Generation) → IsCommand (map string_bytes words.now) (Command.Gen g) →
+        input.new ≡ input.old }
+    ensures tested_unread { (test : TestPlan) → IsCommand (map string_bytes words.now) (Command.SelfTest test) →
+        input.new ≡ input.old }
+    ensures unwritten { IfErr result (λ fault. fault ≢ Fault.Write → output.new ≡ output.old) }
+    ensures input_counts { S.faults input.old ≤ S.faults input.new }
+    ensures output_counts { K.faults output.old ≤ K.faults output.new }
+{
+    let Some(command) = parse(alloc, words)? else {
+        return Err(Fault::Usage);
+    };
+    let text = answered(alloc, command, input)?;
+    match write_all(output, text.as_slice()) {
+        Ok(()) => Ok(()),
+        Err(_) => Err(Fault::Write),
+    }
+}
+
+/// What a command is to write.
+fn answered<S: Source>(alloc: Global, command: Command, input: &mut S) -> Result<Text, Fault>
+    requires { AreWithin command }
+    ensures ok { IfOk result (AnswersInput command (change S.left S.faults input.old input.new)) }
+    ensures err { IfErr result (ReadingEnds command (change S.left S.faults input.old input.new)) }
+    ensures unread { (g : Generation) → command ≡ Command.Gen g → input.new ≡ input.old }
+    ensures test_unread { (test : TestPlan) → command ≡ Command.SelfTest test → input.new ≡ input.old }
+    ensures counts { S.faults input.old ≤ S.faults input.new }
+{
+    match command {
+        Command::Compile(plan) => {
+            let program = read(alloc, input)?;
+            compiled_text(alloc, &program, &plan)
+        }
+        Command::Listing(plan) => {
+            let program = read(alloc, input)?;
+            listing_text(alloc, &program, &plan)
+        }
+        Command::Report(plan) => {
+            let program = read(alloc, input)?;
+            report_text(alloc, &program, &plan)
+        }
+        Command::Run(plan) => {
+            let program = read(alloc, input)?;
+            run_text(alloc, &program, plan)
+        }
+        Command::Strip => {
+            let program = read(alloc, input)?;
+            Ok(strip_text(alloc, program.functions.as_slice())?)
+        }
+        Command::Gen(asked) => Ok(print_generated(alloc, asked.number, asked.blocks)?),
+        Command::SelfTest(asked) => test_text(alloc, &asked),
+    }
+}
+
+/// The program of an input, which is read to its end.
+fn read<S: Source>(alloc: Global, input: &mut S) -> Result<Program, Fault>
+    ensures ok { IfOk result (HasReadProgram (change S.left S.faults input.old input.new)) }
+    ensures err { IfErr result (HasReadNone (change S.left S.faults input.old input.new)) }
+    ensures counts { S.faults input.old ≤ S.faults input.new }
+{
+    match read_all(alloc, input, LIMIT) {
+        Ok(text) => program_of(alloc, text.as_slice()),
+        Err(ReadError::Failed) => Err(Fault::Read),
+        Err(ReadError::TooLong) => Err(Fault::TooLong),
+        Err(ReadError::Memory) => Err(Fault::Memory),
+    }
+}

@@ -1,0 +1,44 @@
+//! The program of a text.
+
+ghost use Rattle.std.specs.Prelude.{◌^◌, ◌<◌, length, Ok, IfOk, IfErr};
+ghost use Rattle.tool_driver.specs.Answer.{HasFunctions, RefusesProgram};
+ghost use Rattle.read_program.specs.Program.{ReadsText};
+ghost use Rattle.names_of_bytes.specs.Bytes.{AreBytes};
+
+use command_line::fault::Fault;
+use read_program::error::ParseError;
+use read_program::program::{Program, read_program};
+use std::alloc::Global;
+
+/// The program of a text, with a function.
+pub fn program_of(alloc: Global, text: &[u8]) -> Result<Program, Fault>
+    requires { length text.now < 2 ^ 31 }
+    ensures ok { IfOk result (HasFunctions text.now) }
+    ensures err { IfErr result (RefusesProgram text.now) }
+    ensures bytes { AreBytes text.now }
+{
+    are_bytes(text);
+    let program = any_program(alloc, text)?;
+    if program.functions.is_empty() {
+        return Err(Fault::NoFunction);
+    }
+    Ok(program)
+}
+
+/// What a slice has are bytes: numbers below 256.
+fn are_bytes(text: &[u8])
+    ensures { AreBytes text.now }
+{}
+
+/// The program of a text, with functions or without.
+fn any_program(alloc: Global, text: &[u8]) -> Result<Program, Fault>
+    requires { length text.now < 2 ^ 31 }
+    ensures ok { IfOk result (λ program. ReadsText text.now (Ok program)) }
+    ensures err { IfErr result (RefusesProgram text.now) }
+{
+    match read_program(alloc, text) {
+        Ok(program) => Ok(program),
+        Err(ParseError::Refused(refusal)) => Err(Fault::Refused(refusal)),
+        Err(ParseError::Memory) => Err(Fault::Memory),
+    }
+}

@@ -1,6 +1,0 @@
-use Rattle.std.proofs.Common.{◌≡◌, ◌++◌, drop}
-use Rattle.unit_entries.specs.Unit.{base_entries}
-use Rattle.unit_entries.proofs.types.entries.Given as goal
-
-abbrev pub invariant-loop-node : goal.invariant-loop-node
-invariant-loop-node l = l.entries ++ base_entries l.meta (drop l.node-index l.nodes) ≡ base_entries l.meta l.nodes

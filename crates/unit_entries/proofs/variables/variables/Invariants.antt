@@ -1,9 +1,0 @@
-use Rattle.std.proofs.Common.{◌≡◌, drop}
-use Rattle.std.specs.List.{flat_map}
-use Rattle.mir_func.specs.Variables.{is_same_variable}
-use Rattle.source_lines.specs.Files.{first_uses}
-use Rattle.unit_entries.specs.Variables.{marks_of, variables_of_function}
-use Rattle.unit_entries.proofs.variables.variables.Given as goal
-
-abbrev pub invariant-loop-block : goal.invariant-loop-block
-invariant-loop-block l = first_uses is_same_variable l.known (flat_map (λ b. marks_of b.items) (drop l.block-index l.blocks)) ≡ variables_of_function l.blocks

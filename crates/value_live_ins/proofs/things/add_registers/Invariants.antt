@@ -1,0 +1,9 @@
+use Rattle.value_live_ins.specs.Gathering.{IsGathered, Grows, HasRegistersBelow}
+use Rattle.value_live_ins.proofs.things.add_registers.Given as goal
+
+abbrev pub invariant-loop-n : goal.invariant-loop-n
+invariant-loop-n l = record {
+  gathered : IsGathered l.gathered;
+  grows : Grows l.initial.gathered.things l.gathered.things;
+  has : HasRegistersBelow l.n l.gathered.things;
+}

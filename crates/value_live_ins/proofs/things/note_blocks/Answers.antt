@@ -1,0 +1,31 @@
+use Rattle.std.proofs.Common.{List, get_or, subst}
+use Rattle.std.specs.Prelude.{All}
+use Rattle.mir_func.specs.declared.block.Block.{Block}
+use Rattle.mir_func.specs.declared.item.Item.{Item}
+use Rattle.mir_func.specs.Resolve.{resolve}
+use Rattle.value_live_ins.specs.Gathering.{KnowsPassed}
+use Rattle.value_live_ins.proofs.Each.{each_more, each_weaker, each_all}
+use Rattle.value_live_ins.proofs.Gathering.{grows_then, passed_grows}
+use Rattle.value_live_ins.proofs.things.note_blocks.Goals as goal
+
+pub loop-block-preserved : goal.loop-block-preserved
+loop-block-preserved c =
+    let old = c.loop-block.gathered.things in
+    let new = c.note_items.new.gathered.things in
+    let did = c.in_ok-note_items.ensures in
+    let P = λ (b : Block). All (λ (i : Item). KnowsPassed old (resolve c.args.subs.now) i.kind) b.items in
+    let Q = λ (b : Block). All (λ (i : Item). KnowsPassed new (resolve c.args.subs.now) i.kind) b.items in
+    record {
+      gathered = did.gathered;
+      grows = grows_then c.args.gathered.now.things old new c.loop-block.invariant.grows did.grows;
+      knows = each_more Q c.loop-block.block-index c.args.blocks.now c.block-item.result
+          (each_weaker P Q c.loop-block.block-index c.args.blocks.now
+          (λ b h k i lt. passed_grows old new did.grows (resolve c.args.subs.now) (get_or b.items k i).kind (h k i lt)) c.loop-block.invariant.knows)
+          c.loop-block-test.true c.block-item.is
+          (subst (λ (items : List Item). All (λ (i : Item). KnowsPassed new (resolve c.args.subs.now) i.kind) items) c.as_slice.ensures did.knows);
+    }
+
+pub returns-clause-knows : goal.returns-clause-knows
+returns-clause-knows c =
+    each_all (λ (b : Block). All (λ (i : Item). KnowsPassed c.loop-block.gathered.things (resolve c.args.subs.now) i.kind) b.items)
+    c.loop-block.block-index c.args.blocks.now c.loop-block.invariant.knows c.loop-block-test.false

@@ -1,0 +1,12 @@
+use Rattle.std.specs.Prelude.{Contains}
+use Rattle.class_entries.specs.declared.tracked.Tracked.TheVariants.{Pair}
+use Rattle.value_live_ins.specs.Gathering.{IsGathered, Grows}
+use Rattle.value_live_ins.proofs.Each.{EachBelow}
+use Rattle.value_live_ins.proofs.things.note_pairs.Given as goal
+
+abbrev pub invariant-loop-pair : goal.invariant-loop-pair
+invariant-loop-pair l = record {
+  gathered : IsGathered l.gathered;
+  grows : Grows l.initial.gathered.things l.gathered.things;
+  has : EachBelow (λ q. Contains l.gathered.things (Pair q)) l.pair-index l.pairs;
+}

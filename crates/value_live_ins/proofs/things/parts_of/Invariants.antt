@@ -1,0 +1,14 @@
+use Rattle.std.proofs.Common.{◌≡◌, map}
+use Rattle.std.specs.Prelude.{All}
+use Rattle.mir_func.specs.declared.block.Block.{Block}
+use Rattle.class_entries.specs.declared.tracked.Tracked.TheVariants.{Part}
+use Rattle.value_live_ins.specs.Gathering.{IsGathered, HasPart}
+use Rattle.value_live_ins.proofs.Each.{EachBelow}
+use Rattle.value_live_ins.proofs.things.parts_of.Given as goal
+
+abbrev pub invariant-loop-block : goal.invariant-loop-block
+invariant-loop-block l = record {
+  gathered : IsGathered l.gathered;
+  parts : l.gathered.things ≡ map Part l.variables;
+  has : EachBelow (λ (b : Block). All (λ i. HasPart l.variables i.kind) b.items) l.block-index l.blocks;
+}

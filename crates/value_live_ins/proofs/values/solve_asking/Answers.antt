@@ -1,0 +1,36 @@
+use Rattle.std.proofs.Common.{◌≤◌, ◌+◌, ◌*◌, List, length, sym, ap, ◌∙◌, subst}
+use Rattle.std.specs.Prelude.{map}
+use Rattle.mir_func.specs.declared.block.Block.{Block}
+use Rattle.mir_func.specs.Function.{FramedFunction}
+use Rattle.mir_func.specs.Graph.{framed_program}
+use Rattle.mir_func.specs.Resolve.{resolve}
+use Rattle.class_paths.specs.Wanted.{AreThingsOf}
+use Rattle.class_entries.specs.declared.tracked.Tracked.{Tracked}
+use Rattle.class_entries.specs.Entry.{thing, IsEntry}
+use Rattle.value_live_ins.specs.steps.Framing.{AreBlocks}
+use Rattle.value_live_ins.proofs.Framing.{are_blocks}
+use Rattle.value_live_ins.proofs.Solving.{things_are}
+use Rattle.value_live_ins.proofs.values.solve_asking.Goals as goal
+
+pub solve_over-requires-clause-blocks : goal.solve_over-requires-clause-blocks
+solve_over-requires-clause-blocks c = subst AreBlocks (sym c.as_slice-blocks.ensures) (are_blocks _ c.framed.invariant)
+
+pub returns-clause-values : goal.returns-clause-values
+returns-clause-values c =
+    let blocks = c.as_slice-blocks.result.now in
+    let tracked = c.in_ok-variables.field-0.things in
+    let same = c.as_slice-blocks.ensures ∙ ap (λ (f : FramedFunction). f.blocks) c.framed.view_is in
+    record {
+      things = c.in_ok-variables.ensures.things;
+      fewer = c.in_ok-variables.ensures.fewer;
+      all = subst (λ (z : List Block). AreThingsOf (framed_program z (resolve c.args.subs.now)) (map thing tracked)) same
+          (things_are blocks c.args.subs.now c.in_ok-variables.field-0.variables tracked c.in_ok-variables.ensures.things c.in_ok-variables.ensures.knows);
+      entries = λ b e at.
+          subst (λ (xs : List Tracked). IsEntry (framed_program c.args.framed.now.blocks (resolve c.args.subs.now)) xs b e) c.as_slice-2.ensures
+          (subst (λ (z : List Block). IsEntry (framed_program z (resolve c.args.subs.now)) c.as_slice-2.result.now b e) same
+          (c.in_ok-solved.ensures.entries b e at));
+      for_all = c.in_ok-solved.ensures.for_all ∙ ap (length {A = Block}) same;
+      sweeps = subst (λ (z : List Block). c.in_ok-solved.solved.sweeps ≤ 2 * length tracked * length z + 1) same
+          (subst (λ (xs : List Tracked). c.in_ok-solved.solved.sweeps ≤ 2 * length xs * length blocks + 1) c.as_slice-2.ensures
+          c.in_ok-solved.ensures.sweeps);
+    }

@@ -1,0 +1,21 @@
+-- What is known of the values of a function with its frame.
+use Rattle.std.specs.Prelude.{◌≡◌, ◌≤◌, ℕ, ◌+◌, ◌*◌, List, Option, Some, length, map, slice_get}
+use Rattle.mir_func.specs.declared.block.Block.{Block}
+use Rattle.mir_func.specs.declared.entry.OperandPair.{OperandPair}
+use Rattle.mir_func.specs.Graph.{framed_program}
+use Rattle.class_paths.specs.Wanted.{AreThingsOf}
+use Rattle.class_entries.specs.declared.entry.BlockEntry.{BlockEntry}
+use Rattle.class_entries.specs.Entry.{thing, IsEntry}
+use Rattle.value_tracker.specs.Things.{AreThings}
+use Rattle.value_live_ins.specs.declared.values.MachineValues.{MachineValues}
+
+-- the values of blocks, whose marks see through what pairs resolve to
+pub record AreMachineValues (blocks : List Block) (resolve : OperandPair → Option OperandPair) (v : MachineValues) : Type 0 where
+  -- the parts of variables are tracked first, and then all else that the items pass on
+  pub things : AreThings v.variables v.things
+  pub fewer : length v.variables ≤ length v.things
+  pub all : AreThingsOf (framed_program blocks resolve) (map thing v.things)
+  -- at each block's start it is told of all paths
+  pub entries : (b : ℕ) (e : BlockEntry) → slice_get v.entries b ≡ Some e → IsEntry (framed_program blocks resolve) v.things b e
+  pub for_all : length v.entries ≡ length blocks
+  pub sweeps : v.sweeps ≤ 2 * length v.things * length blocks + 1

@@ -1,0 +1,67 @@
+-- What a walk over the items of a block keeps: classes that stand for where tokens come from.
+use Rattle.std.specs.Prelude.{◌≡◌, ℕ, zero, suc, ◌+◌, ◌-◌, ◌*◌, ◌/◌, ◌%◌, ◌<◌, ◌≤◌, List, length, map, cond, nat_lt, Option, None, Some, slice_get, slice_index}
+use Rattle.mir_func.specs.declared.entry.OperandPair.{OperandPair}
+use Rattle.mir_func.specs.declared.item.Item.{Item}
+use Rattle.mir_func.specs.Resolve.{resolve}
+use Rattle.sem_mir.specs.Token.{Tokens}
+use Rattle.sem_value_ids.specs.Pullback as path
+use Rattle.sem_value_ids.specs.Pullback.{InRegister, token_of, after_items}
+use Rattle.class_paths.specs.Classes.{Classes, IsKnown}
+use Rattle.class_entries.specs.declared.tracked.Tracked.{Tracked}
+use Rattle.class_entries.specs.declared.tracked.Tracked.TheVariants.{Register}
+use Rattle.class_entries.specs.Entry.{thing}
+use Rattle.value_tracker.specs.declared.held.Held.{Held}
+use Rattle.value_tracker.specs.Held.{Holds}
+use Rattle.value_tracker.specs.Things.{AreThings, Indexes}
+use Rattle.class_solver.specs.declared.flow.Source.{Source}
+use Rattle.class_solver.specs.declared.flow.Source.TheVariants.{Was, New, Nameless}
+use Rattle.class_solver.specs.declared.flow.Change.{Change}
+use Rattle.class_solver.specs.Joining.{source_from}
+use Rattle.class_solver.specs.Flows.{told}
+use Rattle.value_live_ins.specs.declared.changes.Tracking.{Tracking}
+
+-- each thing is tracked once, and of registers all but x0 and x2
+pub record AreTracked (things : List Tracked) : Type 0 where
+  pub once : (i j : ℕ) (x : Tracked) → slice_get things i ≡ Some x → slice_get things j ≡ Some x → i ≡ j
+  pub registers : (i r : ℕ) → slice_get things i ≡ Some (Register r) → (r < 32) × (r ≡ 0 → ⊥) × (r ≡ 2 → ⊥)
+
+-- each of so many things has a class of its own
+pub record AreOwn (n : ℕ) (settled : List ℕ) : Type 0 where
+  pub count : length settled ≡ n
+  pub each : (i : ℕ) → i < n → slice_index settled i ≡ suc i
+
+-- what blocks are walked over with: fewer things than memory could hold, the variables among them, each thing where the index has
+-- it, and a class of its own for each
+pub record IsTracking (t : Tracking) : Type 0 where
+  pub few : length t.things.now < 4294967295
+  pub tracked : AreTracked t.things.now
+  pub things : AreThings t.variables.now t.things.now
+  pub variables : length t.variables.now ≤ length t.things.now
+  pub index : Indexes t.things.now t.index.now
+  pub own : AreOwn (length t.things.now) t.settled.now
+
+-- the source that a class stands for, where n things are tracked: 0 for none, then the things, and then new tokens, 32 for each
+-- item of the block
+abbrev pub new_of : ℕ → Source
+new_of k = New (k / 32) (k % 32)
+
+-- the source of any class, where n things are tracked
+abbrev pub decoded : (n class : ℕ) → Source
+decoded n zero = Nameless
+decoded n (suc c) = cond (nat_lt c n) (Was c) (new_of (c - n))
+
+-- past items, classes stand for where tokens come from
+pub record ClassesTell (resolve : OperandPair → Option OperandPair) (things : List Tracked) (items : List Item) (class : Classes) : Type 0 where
+  pub each : (n : ℕ) (t : Tokens) → token_of (InRegister 2) t ≡ None → (x : path.Tracked) → IsKnown (map thing things) x →
+      token_of x (after_items resolve n items t) ≡ told things n t (decoded (length things) (class x))
+  pub below : (x : path.Tracked) → IsKnown (map thing things) x → class x < length things + 1 + 32 * length items
+
+-- these are held past items
+pub record Walked (t : Tracking) (items : List Item) (h : Held) : Type 0 where
+  pub class : Classes
+  pub holds : Holds t.variables.now t.things.now t.index.now t.settled.now h class
+  pub tells : ClassesTell (resolve t.subs.now) t.things.now items class
+
+-- the changes are those that classes tell
+pub record AreChanges (things : List Tracked) (class : Classes) (changes : List Change) : Type 0 where
+  pub each : (i : ℕ) (x : Tracked) → slice_get things i ≡ Some x → source_from (Was i) changes i ≡ decoded (length things) (class (thing x))

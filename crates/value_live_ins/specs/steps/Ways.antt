@@ -1,0 +1,38 @@
+-- The indices of blocks by their numbers.
+use Rattle.std.specs.Prelude.{◌≡◌, ◌≤◌, ◌<◌, ℕ, List, All, length, map, Some, nat_eq, slice_get, unwrap_or}
+use Rattle.std.specs.HashMap.{HashMap, get}
+use Rattle.std.specs.declared.hash.FoldHasher.{FoldHasher}
+use Rattle.std.specs.declared.hash.BuildHasherDefault.{BuildHasherDefault}
+use Rattle.mir_func.specs.declared.block.Block.{Block}
+use Rattle.mir_func.specs.Resolve.{resolve}
+use Rattle.mir_func.specs.Successors.{ways}
+use Rattle.mir_func.specs.Sound.{HasForm}
+use Rattle.class_solver.specs.declared.flow.Flow.{Flow}
+use Rattle.class_solver.specs.Joining.{AreWithin}
+use Rattle.value_live_ins.specs.declared.changes.Tracking.{Tracking}
+use Rattle.value_live_ins.specs.steps.Flowing.{Tells, next_id}
+
+-- indices by numbers
+abbrev pub Indices : Type 0
+Indices = HashMap ℕ ℕ (BuildHasherDefault FoldHasher)
+
+-- the index that is found for a number, or 0
+abbrev pub enter_by : Indices → ℕ → ℕ
+enter_by t n = unwrap_or (get nat_eq t n) 0
+
+-- each block but the prologue is found by its number, where no two have one
+pub record FindsIds (n : ℕ) (blocks : List Block) (t : Indices) : Type 0 where
+  pub each : ((i j : ℕ) (a b : Block) → 1 ≤ i → 1 ≤ j → slice_get blocks i ≡ Some a → slice_get blocks j ≡ Some b → a.id ≡ b.id → i ≡ j) →
+      (i : ℕ) (b : Block) → 1 ≤ i → i < n → slice_get blocks i ≡ Some b → get nat_eq t b.id ≡ Some i
+
+-- the flow of the block at an index, with ways by what is found for numbers
+pub record IsFlowAt (t : Tracking) (indices : Indices) (blocks : List Block) (b : ℕ) (f : Flow) : Type 0 where
+  pub tells : (block : Block) → slice_get blocks b ≡ Some block → Tells (resolve t.subs.now) t.things.now block.items f.changes
+  pub within : AreWithin (length t.things.now) f.changes
+  pub forms : (block : Block) → slice_get blocks b ≡ Some block → All (λ i. HasForm i.kind) block.items
+  pub ways : (block : Block) → slice_get blocks b ≡ Some block → f.ways ≡ map (enter_by indices) (ways block.items (next_id blocks b))
+
+-- the flows of the first so many blocks
+pub record FlowsBelow (t : Tracking) (indices : Indices) (blocks : List Block) (n : ℕ) (flows : List Flow) : Type 0 where
+  pub long : length flows ≡ n
+  pub each : (b : ℕ) (f : Flow) → slice_get flows b ≡ Some f → IsFlowAt t indices blocks b f

@@ -1,0 +1,224 @@
+//! What the items of a block do to the tokens of tracked things.
+
+ghost use Rattle.std.specs.Prelude.{◌≡◌, ◌<◌, ◌≤◌, Some, All, IfOk, OnOk, [], length, map, slice_get, slice_index};
+ghost use Rattle.mir_func.specs.Resolve.{resolve};
+ghost use Rattle.mir_func.specs.Sound.{HasForm};
+ghost use Rattle.class_paths.specs.Classes.{Classes, KnowsItem};
+ghost use Rattle.class_entries.specs.Entry.{thing as name_of};
+ghost use Rattle.value_tracker.specs.Things.{AreThings};
+ghost use Rattle.value_tracker.specs.Held.{PLACES, Holds, Passes, pair_class as pair_class_of};
+ghost use Rattle.class_solver.specs.Joining.{AreWithin};
+ghost use Rattle.value_live_ins.specs.steps.Flowing.{Tells};
+ghost use Rattle.value_live_ins.specs.Walking.{IsTracking, AreTracked, decoded, new_of, Walked, AreChanges, AreOwn};
+
+use class_entries::tracked::Tracked;
+use value_tracker::held::{Held, slot_place};
+use value_tracker::index::{Index, key, number_class, pair_class};
+use value_tracker::pass::Block as Fixed;
+use value_tracker::start::start;
+use class_solver::flow::{Change, Changes, Source};
+use base_list::List;
+use mir_func::entry::OperandPair;
+use mir_func::item::{Item, ItemKind};
+use mir_func::variable::VarId;
+use rv64_instr::reg::physical;
+use std::alloc::{AllocError, Global};
+use mir_substitution::substitutions::Substitutions;
+
+/// How many registers an item may make a token for.
+const REGISTERS: usize = 32;
+/// From so many items on, memory would have run out.
+const MOST_ITEMS: usize = 1 << 32;
+
+/// What stays as it is over the blocks of a function.
+#[derive(Drop)]
+pub struct Tracking<'a> {
+    /// The parts of variables.
+    pub variables: &'a [VarId],
+    /// All that is tracked.
+    pub things: &'a [Tracked],
+    /// Where numbers and pairs stand among them.
+    pub index: &'a Index,
+    /// The class that each has at the start of a block: each has its own.
+    pub settled: &'a [usize],
+    /// What pairs resolve to.
+    pub subs: &'a Substitutions,
+}
+
+/// A class of its own for each of so many things: a thing's index, and 1.
+pub fn own_classes(alloc: Global, count: usize) -> Result<Vec<usize>, AllocError>
+    requires { count < 4294967296 }
+    ensures { IfOk result (λ v. AreOwn count v.items) }
+{
+    let mut classes = Vec::with_capacity(alloc, count)?;
+    for i in 0..count {
+        classes.push(i + 1)?;
+    }
+    Ok(classes)
+}
+
+/// The changes of a block of these items.
+pub fn changes_of(alloc: Global, tracking: &Tracking, items: &[Item]) -> Result<Changes, AllocError>
+    requires tracking { IsTracking tracking.now }
+    requires knows { All (λ i. KnowsItem (map name_of tracking.now.things.now) (resolve tracking.now.subs.now) i.kind)
+        items.now }
+    ensures tells { IfOk result (λ changes.
+        Tells (resolve tracking.now.subs.now) tracking.now.things.now items.now changes) }
+    ensures within { IfOk result (λ changes. AreWithin (length tracking.now.things.now) changes) }
+    ensures forms { IfOk result (λ changes. All (λ i. HasForm i.kind) items.now) }
+{
+    let mut held = start(
+        alloc,
+        tracking.things,
+        tracking.variables,
+        tracking.index,
+        tracking.settled,
+    )?;
+    pass_items(&mut held, tracking, items)?;
+    changes(alloc, &held, tracking)
+}
+
+/// Passes the items of a block.
+fn pass_items(held: &mut Held, tracking: &Tracking, items: &[Item]) -> Result<(), AllocError>
+    requires few { length tracking.now.things.now < 4294967295 }
+    requires things { AreTracked tracking.now.things.now }
+    requires places { length held.old.places.items ≡ PLACES }
+    requires parts { length held.old.parts.items ≡ length tracking.now.variables.now }
+    requires knows { All (λ i. KnowsItem (map name_of tracking.now.things.now) (resolve tracking.now.subs.now) i.kind)
+        items.now }
+    requires walked { Walked tracking.now [] held.old }
+    ensures walked { OnOk result (Walked tracking.now items.now held.new) }
+    ensures parts { OnOk result (length held.new.parts.items ≡ length tracking.now.variables.now) }
+    ensures places { OnOk result (length held.new.places.items ≡ PLACES) }
+    ensures forms { OnOk result (All (λ i. HasForm i.kind) items.now) }
+{
+    for k in 0..items.len() {
+        if k >= MOST_ITEMS {
+            return Err(AllocError);
+        }
+        held.next = tracking.things.len() + 1 + REGISTERS * k;
+        pass(held, tracking, &items[k].kind)?;
+    }
+    Ok(())
+}
+
+/// Passes an item.
+fn pass(held: &mut Held, tracking: &Tracking, kind: &ItemKind) -> Result<(), AllocError>
+    requires places { length held.old.places.items ≡ PLACES }
+    requires parts { length held.old.parts.items ≡ length tracking.now.variables.now }
+    ensures passes { OnOk result (Passes tracking.now.variables.now tracking.now.things.now tracking.now.index.now
+        tracking.now.settled.now (resolve tracking.now.subs.now) held.old held.new kind.now) }
+    ensures places { OnOk result (length held.new.places.items ≡ PLACES) }
+    ensures parts { OnOk result (length held.new.parts.items ≡ length tracking.now.variables.now) }
+    ensures form { HasForm kind.now }
+{
+    read_form(kind);
+    let fixed = Fixed {
+        index: tracking.index,
+        settled: tracking.settled,
+        variables: tracking.variables,
+        subs: tracking.subs,
+    };
+    held.pass(&fixed, kind)
+}
+
+/// An instruction has the form of its opcode.
+fn read_form(kind: &ItemKind)
+    ensures { HasForm kind.now }
+{
+    match kind {
+        ItemKind::Code(instr, _) => {
+            let _op = instr.op;
+        }
+        ItemKind::Mark(_, _) => {}
+        ItemKind::Phi(_, _) => {}
+    }
+}
+
+/// The changes that classes tell: a thing that hasn't its own class any more has changed.
+fn changes(alloc: Global, held: &Held, tracking: &Tracking) -> Result<Changes, AllocError>
+    requires few { length tracking.now.things.now < 4294967295 }
+    requires tracked { AreTracked tracking.now.things.now }
+    requires things { AreThings tracking.now.variables.now tracking.now.things.now }
+    requires parts { length held.now.parts.items ≡ length tracking.now.variables.now }
+    ensures changes { IfOk result (λ changes. (class : Classes) →
+        Holds tracking.now.variables.now tracking.now.things.now tracking.now.index.now tracking.now.settled.now
+        held.now class → AreChanges tracking.now.things.now class changes) }
+    ensures within { IfOk result (λ changes. AreWithin (length tracking.now.things.now) changes) }
+{
+    let count = tracking.things.len();
+    let mut changes = Changes::new(alloc);
+    for j in 0..count {
+        let class = class_of(held, tracking, j, &tracking.things[j]);
+        if class != j + 1 {
+            changes.push(Change {
+                thing: j as u32,
+                source: source_of(count, class)?,
+            })?;
+        }
+    }
+    Ok(changes)
+}
+
+/// The class of the thing at an index.
+fn class_of(held: &Held, tracking: &Tracking, j: usize, thing: &Tracked) -> usize
+    requires at { slice_get tracking.now.things.now j ≡ Some thing.now }
+    requires tracked { AreTracked tracking.now.things.now }
+    requires things { AreThings tracking.now.variables.now tracking.now.things.now }
+    requires parts { length held.now.parts.items ≡ length tracking.now.variables.now }
+    ensures { (class : Classes) → Holds tracking.now.variables.now tracking.now.things.now tracking.now.index.now
+        tracking.now.settled.now held.now class → result ≡ class (name_of thing.now) }
+{
+    match thing {
+        Tracked::Register(r) => held.register(*r),
+        Tracked::Slot(n) => held.place(slot_place(*n)),
+        Tracked::Pair(q) => class_of_pair(held, tracking, *q),
+        Tracked::Part(_) => part_class(held, j),
+        Tracked::Number(c) => number_class(tracking.index, tracking.settled, *c),
+    }
+}
+
+fn part_class(held: &Held, j: usize) -> usize
+    requires { j < length held.now.parts.items }
+    ensures { result ≡ slice_index held.now.parts.items j }
+{
+    held.parts[j]
+}
+
+fn class_of_pair(held: &Held, tracking: &Tracking, q: OperandPair) -> usize
+    ensures { result ≡ pair_class_of tracking.now.index.now tracking.now.settled.now held.now q.number q.operand }
+{
+    let (number, operand) = key(q);
+    match held.pairs.get(&(number, operand)) {
+        Some(class) => *class,
+        None => pair_class(tracking.index, tracking.settled, number, operand),
+    }
+}
+
+/// The source that a class stands for, where so many things are tracked.
+fn source_of(things: usize, class: usize) -> Result<Source, AllocError>
+    requires { things < 4294967295 }
+    ensures { IfOk result (λ s. s ≡ decoded things class) }
+{
+    if class == 0 {
+        return Ok(Source::Nameless);
+    }
+    let own = class - 1;
+    if own < things {
+        return Ok(Source::Was(own as u32));
+    }
+    new_source(own - things)
+}
+
+fn new_source(code: usize) -> Result<Source, AllocError>
+    ensures { IfOk result (λ s. s ≡ new_of code) }
+{
+    let index = code / REGISTERS;
+    if index >= MOST_ITEMS {
+        return Err(AllocError);
+    }
+    match physical((code % REGISTERS) as u32) {
+        None => Err(AllocError),
+        Some(r) => Ok(Source::New(index as u32, r)),
+    }
+}

@@ -1,0 +1,66 @@
+//! The flows of the blocks of a function.
+
+ghost use Rattle.std.specs.Prelude.{◌≡◌, ◌<◌, IfOk, length, map};
+ghost use Rattle.mir_func.specs.Resolve.{resolve};
+ghost use Rattle.mir_func.specs.Sound.{AllItems};
+ghost use Rattle.mir_func.specs.Successors.{ways};
+ghost use Rattle.class_paths.specs.Classes.{KnowsItem};
+ghost use Rattle.class_entries.specs.Entry.{thing};
+ghost use Rattle.value_live_ins.specs.steps.Flowing.{next_id};
+ghost use Rattle.value_live_ins.specs.Walking.{IsTracking};
+ghost use Rattle.value_live_ins.specs.steps.Ways.{FlowsBelow, IsFlowAt};
+
+use crate::changes::{Tracking, changes_of};
+use crate::ways::{Indices, ways_of};
+use class_solver::flow::Flow;
+use mir_func::block::Block;
+use mir_func::successors::id_at;
+use base_ids::code::BlockId;
+use std::alloc::{AllocError, Global};
+
+/// The number of the block behind one.
+fn next_of(blocks: &[Block], b: usize) -> Option<BlockId>
+    requires { b < length blocks.now }
+    ensures { result ≡ next_id blocks.now b }
+{
+    id_at(blocks, b + 1)
+}
+
+/// The flow of the block at an index.
+fn flow_of(
+    alloc: Global,
+    tracking: &Tracking,
+    indices: &Indices,
+    blocks: &[Block],
+    b: usize,
+) -> Result<Flow, AllocError>
+    requires block { b < length blocks.now }
+    requires tracking { IsTracking tracking.now }
+    requires knows { AllItems
+        (λ i. KnowsItem (map thing tracking.now.things.now) (resolve tracking.now.subs.now) i.kind) blocks.now }
+    ensures { IfOk result (IsFlowAt tracking.now indices.now blocks.now b) }
+{
+    let items = blocks[b].items.as_slice();
+    let changes = changes_of(alloc, tracking, items)?;
+    let ways = ways_of(alloc, indices, items, next_of(blocks, b))?;
+    Ok(Flow { changes, ways })
+}
+
+/// The flows of all blocks.
+pub fn flows_of(
+    alloc: Global,
+    tracking: &Tracking,
+    indices: &Indices,
+    blocks: &[Block],
+) -> Result<Vec<Flow>, AllocError>
+    requires tracking { IsTracking tracking.now }
+    requires knows { AllItems
+        (λ i. KnowsItem (map thing tracking.now.things.now) (resolve tracking.now.subs.now) i.kind) blocks.now }
+    ensures { IfOk result (λ flows. FlowsBelow tracking.now indices.now blocks.now (length blocks.now) flows.items) }
+{
+    let mut flows = Vec::with_capacity(alloc, blocks.len())?;
+    for b in 0..blocks.len() {
+        flows.push(flow_of(alloc, tracking, indices, blocks, b)?)?;
+    }
+    Ok(flows)
+}

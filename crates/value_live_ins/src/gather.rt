@@ -1,0 +1,62 @@
+//! The tracked things of a function, each once.
+
+ghost use Rattle.std.specs.Prelude.{◌≡◌, ◌++◌, ◌∷◌, IfOk, OnOk, []};
+ghost use Rattle.value_live_ins.specs.Gathering.{MayTrack, IsGathered, Added};
+
+use crate::key::{Key, key_of};
+use class_entries::tracked::{Tracked, TrackedItems};
+use std::alloc::{AllocError, Global};
+use std::collections::HashSet;
+
+/// Tracked things, each once.
+#[derive(Drop)]
+pub struct Gathered {
+    /// The things, in order of first appearance.
+    pub things: TrackedItems,
+    /// Their keys.
+    seen: HashSet<Key>,
+}
+
+impl Gathered {
+    /// Nothing.
+    pub fn new(alloc: Global) -> Gathered
+        ensures gathered { IsGathered result }
+        ensures empty { result.things ≡ [] }
+    {
+        Gathered {
+            things: TrackedItems::new(alloc),
+            seen: HashSet::new(alloc),
+        }
+    }
+
+    /// Adds a thing, if it isn't there.
+    pub fn add(&mut self, thing: Tracked) -> Result<bool, AllocError>
+        requires gathered { IsGathered self.old }
+        requires may { MayTrack thing }
+        ensures gathered { OnOk result (IsGathered self.new) }
+        ensures added { IfOk result (Added self.old.things self.new.things thing) }
+    {
+        if !self.seen.insert(key_of(&thing))? {
+            return Ok(false);
+        }
+        push(&mut self.things, &thing)?;
+        Ok(true)
+    }
+
+    /// The things.
+    pub fn into_things(self) -> TrackedItems
+        ensures { result ≡ self.things }
+    {
+        let Gathered { things, seen } = self;
+        drop(seen);
+        things
+    }
+}
+
+/// Appends a thing.
+fn push(things: &mut TrackedItems, thing: &Tracked) -> Result<(), AllocError>
+    ensures { OnOk result (things.new ≡ things.old ++ thing.now ∷ []) }
+{
+    let one = [*thing];
+    things.extend_from_slice(&one)
+}

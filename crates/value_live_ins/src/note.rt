@@ -1,0 +1,122 @@
+//! What items pass on.
+
+ghost use Rattle.std.specs.Prelude.{◌≡◌, ℕ, List, Option, Some, OnOk, All, map, Contains};
+ghost use Rattle.rv64_instr.specs.Row.{row_of};
+ghost use Rattle.rv64_instr.specs.Parts.{is_call};
+ghost use Rattle.mir_func.specs.declared.item.ItemKind.TheVariants.{Code};
+ghost use Rattle.mir_func.specs.Resolve.{resolve};
+ghost use Rattle.mir_func.specs.SoundFrame.{IsPhysical, HasPhysical, ValueIsPhysical, PlaceIsPhysical};
+ghost use Rattle.class_paths.specs.Classes.{KnowsValue, KnowsPlace, KnowsRow};
+ghost use Rattle.class_entries.specs.Entry.{thing};
+ghost use Rattle.value_live_ins.specs.Gathering.{
+  MayTrack,
+  IsNoPart,
+  IsGathered,
+  Grows,
+  HasOffsets,
+  RowHasOffset,
+  PlaceHasOffset,
+  KnowsPassed,
+};
+
+use crate::gather::Gathered;
+use class_entries::tracked::Tracked;
+use mir_func::item::ItemKind;
+use mir_func::variable::MarkValue;
+use rv64_instr::decoded::Decoded;
+use rv64_instr::instr::Instr;
+use rv64_instr::place::Place;
+use std::alloc::AllocError;
+use mir_substitution::substitutions::Substitutions;
+
+impl Gathered {
+    /// Adds a thing that is no part of a variable.
+    pub fn note_thing(&mut self, thing: Tracked) -> Result<(), AllocError>
+        requires gathered { IsGathered self.old }
+        requires may { MayTrack thing }
+        requires other { IsNoPart thing }
+        ensures gathered { OnOk result (IsGathered self.new) }
+        ensures grows { OnOk result (Grows self.old.things self.new.things) }
+        ensures has { OnOk result (Contains self.new.things thing) }
+    {
+        self.add(thing)?;
+        Ok(())
+    }
+
+    /// Adds what code passes on.
+    fn note_code(&mut self, instr: &Instr) -> Result<(), AllocError>
+        requires gathered { IsGathered self.old }
+        requires offset { RowHasOffset (row_of instr.now) }
+        requires physical { All IsPhysical instr.now.operands }
+        ensures gathered { OnOk result (IsGathered self.new) }
+        ensures grows { OnOk result (Grows self.old.things self.new.things) }
+        ensures knows { OnOk result (KnowsRow (map thing self.new.things) (row_of instr.now)) }
+    {
+        match instr.decoded() {
+            Decoded::Fixes(_, c) => self.note_thing(Tracked::Number(c)),
+            Decoded::LoadsSlot(_, n) => self.note_thing(Tracked::Slot(n)),
+            Decoded::StoresSlot(_, n) => self.note_thing(Tracked::Slot(n)),
+            Decoded::Moves(_, _) => Ok(()),
+            Decoded::Sets(_, _, _, _) => Ok(()),
+            Decoded::Addresses(_, _, _) => Ok(()),
+            Decoded::Loads(_, _, _, _) => Ok(()),
+            Decoded::Stores(_, _, _, _) => Ok(()),
+            Decoded::Branches(_, _, _, _) => Ok(()),
+            Decoded::Jumps(_) => Ok(()),
+            Decoded::Calls => Ok(()),
+            Decoded::Returns => Ok(()),
+        }
+    }
+
+    /// Adds what a mark assigns.
+    fn note_value(&mut self, subs: &Substitutions, value: &MarkValue) -> Result<(), AllocError>
+        requires gathered { IsGathered self.old }
+        requires physical { ValueIsPhysical value.now }
+        ensures gathered { OnOk result (IsGathered self.new) }
+        ensures grows { OnOk result (Grows self.old.things self.new.things) }
+        ensures knows { OnOk result (KnowsValue (map thing self.new.things) (resolve subs.now) value.now) }
+    {
+        match value {
+            MarkValue::Nothing => Ok(()),
+            MarkValue::Constant(c) => self.note_thing(Tracked::Number(c.cast_unsigned())),
+            MarkValue::At(_) => Ok(()),
+            MarkValue::Pair(q) => match subs.resolve(*q) {
+                None => Ok(()),
+                Some(end) => self.note_thing(Tracked::Pair(end)),
+            },
+        }
+    }
+
+    /// Adds what a phi reads.
+    fn note_place(&mut self, place: &Option<Place>) -> Result<(), AllocError>
+        requires gathered { IsGathered self.old }
+        requires offset { PlaceHasOffset place.now }
+        requires physical { PlaceIsPhysical place.now }
+        ensures gathered { OnOk result (IsGathered self.new) }
+        ensures grows { OnOk result (Grows self.old.things self.new.things) }
+        ensures knows { OnOk result (KnowsPlace (map thing self.new.things) place.now) }
+    {
+        match place {
+            None => Ok(()),
+            Some(Place::Register(_)) => Ok(()),
+            Some(Place::Slot(n)) => self.note_thing(Tracked::Slot(*n)),
+            Some(Place::Const(c)) => self.note_thing(Tracked::Number(c.cast_unsigned())),
+        }
+    }
+
+    /// Adds what an item passes on.
+    pub fn note(&mut self, subs: &Substitutions, kind: &ItemKind) -> Result<(), AllocError>
+        requires gathered { IsGathered self.old }
+        requires offset { HasOffsets kind.now }
+        requires physical { HasPhysical kind.now }
+        ensures gathered { OnOk result (IsGathered self.new) }
+        ensures grows { OnOk result (Grows self.old.things self.new.things) }
+        ensures knows { OnOk result (KnowsPassed self.new.things (resolve subs.now) kind.now) }
+    {
+        match kind {
+            ItemKind::Code(instr, _) => self.note_code(instr),
+            ItemKind::Mark(_, value) => self.note_value(subs, value),
+            ItemKind::Phi(place, _) => self.note_place(place),
+        }
+    }
+}

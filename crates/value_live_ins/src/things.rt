@@ -1,0 +1,210 @@
+//! What is tracked in a function.
+
+ghost use Rattle.std.specs.Prelude.{◌≡◌, ℕ, ◌≤◌, List, IfOk, OnOk, All, [], map, Contains, length};
+ghost use Rattle.mir_func.specs.declared.variable.VarId.{VarId};
+ghost use Rattle.mir_func.specs.Resolve.{resolve};
+ghost use Rattle.mir_func.specs.Sound.{AllItems};
+ghost use Rattle.mir_func.specs.SoundFrame.{HasPhysical};
+ghost use Rattle.class_paths.specs.Classes.{KnowsItem};
+ghost use Rattle.class_entries.specs.declared.tracked.Tracked.TheVariants.{Pair, Part, Number};
+ghost use Rattle.class_entries.specs.Entry.{thing};
+ghost use Rattle.value_tracker.specs.Things.{AreThings};
+ghost use Rattle.value_live_ins.specs.Gathering.{IsGathered, Grows, HasOffsets, HasPart, KnowsPassed};
+ghost use Rattle.value_live_ins.specs.Gathering.{HasRegister, HasRegistersBelow};
+ghost use Rattle.value_live_ins.specs.Walking.{AreTracked};
+
+use crate::gather::Gathered;
+use class_entries::tracked::{Tracked, TrackedItems};
+use base_list::List;
+use mir_func::block::Block;
+use mir_func::entry::OperandPair;
+use mir_func::item::{Item, ItemKind};
+use mir_func::variable::VarId;
+use rv64_instr::reg::physical;
+use std::alloc::{AllocError, Global};
+use mir_substitution::substitutions::Substitutions;
+
+/// Parts of variables.
+pub type Variables = List<VarId>;
+
+/// What is tracked.
+#[derive(Drop)]
+pub struct Things {
+    /// The parts of variables that marks assign to.
+    pub variables: Variables,
+    /// These, and all else.
+    pub things: TrackedItems,
+}
+
+/// Adds the part that an item marks.
+fn add_part(
+    gathered: &mut Gathered,
+    variables: &mut Variables,
+    kind: &ItemKind,
+) -> Result<(), AllocError>
+    requires gathered { IsGathered gathered.old }
+    requires parts { gathered.old.things ≡ map Part variables.old }
+    ensures gathered { OnOk result (IsGathered gathered.new) }
+    ensures parts { OnOk result (gathered.new.things ≡ map Part variables.new) }
+    ensures kept { OnOk result ((v : VarId) → Contains variables.old v → Contains variables.new v) }
+    ensures has { OnOk result (HasPart variables.new kind.now) }
+{
+    match kind {
+        ItemKind::Mark(v, _) => {
+            if gathered.add(Tracked::Part(*v))? {
+                variables.push(*v)?;
+            }
+            Ok(())
+        }
+        ItemKind::Code(_, _) => Ok(()),
+        ItemKind::Phi(_, _) => Ok(()),
+    }
+}
+
+/// Adds the parts that items mark.
+fn add_parts(
+    gathered: &mut Gathered,
+    variables: &mut Variables,
+    items: &[Item],
+) -> Result<(), AllocError>
+    requires gathered { IsGathered gathered.old }
+    requires parts { gathered.old.things ≡ map Part variables.old }
+    ensures gathered { OnOk result (IsGathered gathered.new) }
+    ensures parts { OnOk result (gathered.new.things ≡ map Part variables.new) }
+    ensures kept { OnOk result ((v : VarId) → Contains variables.old v → Contains variables.new v) }
+    ensures has { OnOk result (All (λ i. HasPart variables.new i.kind) items.now) }
+{
+    for item in items {
+        add_part(gathered, variables, &item.kind)?;
+    }
+    Ok(())
+}
+
+/// Adds the registers that are tracked.
+fn add_registers(gathered: &mut Gathered) -> Result<(), AllocError>
+    requires gathered { IsGathered gathered.old }
+    ensures gathered { OnOk result (IsGathered gathered.new) }
+    ensures grows { OnOk result (Grows gathered.old.things gathered.new.things) }
+    ensures has { OnOk result (HasRegistersBelow 32 gathered.new.things) }
+{
+    for n in 0..32u32 {
+        add_register(gathered, n)?;
+    }
+    Ok(())
+}
+
+/// Adds a register, unless it is x0 or x2.
+fn add_register(gathered: &mut Gathered, n: u32) -> Result<(), AllocError>
+    requires gathered { IsGathered gathered.old }
+    ensures gathered { OnOk result (IsGathered gathered.new) }
+    ensures grows { OnOk result (Grows gathered.old.things gathered.new.things) }
+    ensures has { OnOk result (HasRegister n gathered.new.things) }
+{
+    if n == 0 || n == 2 {
+        return Ok(());
+    }
+    match physical(n) {
+        None => Ok(()),
+        Some(r) => gathered.note_thing(Tracked::Register(r)),
+    }
+}
+
+/// Adds what items pass on.
+fn note_items(
+    gathered: &mut Gathered,
+    subs: &Substitutions,
+    items: &[Item],
+) -> Result<(), AllocError>
+    requires gathered { IsGathered gathered.old }
+    requires offsets { All (λ i. HasOffsets i.kind) items.now }
+    requires physical { All (λ i. HasPhysical i.kind) items.now }
+    ensures gathered { OnOk result (IsGathered gathered.new) }
+    ensures grows { OnOk result (Grows gathered.old.things gathered.new.things) }
+    ensures knows { OnOk result (All (λ i. KnowsPassed gathered.new.things (resolve subs.now) i.kind) items.now) }
+{
+    for item in items {
+        gathered.note(subs, &item.kind)?;
+    }
+    Ok(())
+}
+
+/// The parts that blocks mark.
+fn parts_of(
+    alloc: Global,
+    gathered: &mut Gathered,
+    blocks: &[Block],
+) -> Result<Variables, AllocError>
+    requires gathered { IsGathered gathered.old }
+    requires empty { gathered.old.things ≡ [] }
+    ensures gathered { OnOk result (IsGathered gathered.new) }
+    ensures parts { IfOk result (λ vs. gathered.new.things ≡ map Part vs) }
+    ensures has { IfOk result (λ vs. AllItems (λ i. HasPart vs i.kind) blocks.now) }
+{
+    let mut variables = Variables::new(alloc);
+    for block in blocks {
+        add_parts(gathered, &mut variables, block.items.as_slice())?;
+    }
+    Ok(variables)
+}
+
+/// Adds what blocks pass on.
+fn note_blocks(
+    gathered: &mut Gathered,
+    subs: &Substitutions,
+    blocks: &[Block],
+) -> Result<(), AllocError>
+    requires gathered { IsGathered gathered.old }
+    requires offsets { AllItems (λ i. HasOffsets i.kind) blocks.now }
+    requires physical { AllItems (λ i. HasPhysical i.kind) blocks.now }
+    ensures gathered { OnOk result (IsGathered gathered.new) }
+    ensures grows { OnOk result (Grows gathered.old.things gathered.new.things) }
+    ensures knows { OnOk result (AllItems
+        (λ i. KnowsPassed gathered.new.things (resolve subs.now) i.kind) blocks.now) }
+{
+    for block in blocks {
+        note_items(gathered, subs, block.items.as_slice())?;
+    }
+    Ok(())
+}
+
+/// Adds pairs that a caller asks for.
+fn note_pairs(gathered: &mut Gathered, pairs: &[OperandPair]) -> Result<(), AllocError>
+    requires gathered { IsGathered gathered.old }
+    ensures gathered { OnOk result (IsGathered gathered.new) }
+    ensures grows { OnOk result (Grows gathered.old.things gathered.new.things) }
+    ensures has { OnOk result (All (λ q. Contains gathered.new.things (Pair q)) pairs.now) }
+{
+    for pair in pairs {
+        gathered.note_thing(Tracked::Pair(*pair))?;
+    }
+    Ok(())
+}
+
+/// What is tracked in a function of these blocks: first the parts of variables that its marks assign to, then registers
+/// but x0 and x2, the pairs that are asked for, and then slots, pairs and numbers that its items pass on, each once.
+pub fn things_of(
+    alloc: Global,
+    blocks: &[Block],
+    subs: &Substitutions,
+    asked: &[OperandPair],
+) -> Result<Things, AllocError>
+    requires offsets { AllItems (λ i. HasOffsets i.kind) blocks.now }
+    requires physical { AllItems (λ i. HasPhysical i.kind) blocks.now }
+    ensures things { IfOk result (λ t. AreThings t.variables t.things) }
+    ensures tracked { IfOk result (λ t. AreTracked t.things) }
+    ensures fewer { IfOk result (λ t. length t.variables ≤ length t.things) }
+    ensures knows { IfOk result (λ t. AllItems
+        (λ i. KnowsItem (map thing t.things) (resolve subs.now) i.kind) blocks.now) }
+    ensures asked { IfOk result (λ t. All (λ q. Contains t.things (Pair q)) asked.now) }
+{
+    let mut gathered = Gathered::new(alloc);
+    let variables = parts_of(alloc, &mut gathered, blocks)?;
+    add_registers(&mut gathered)?;
+    gathered.note_thing(Tracked::Number(0))?;
+    note_pairs(&mut gathered, asked)?;
+    note_blocks(&mut gathered, subs, blocks)?;
+    Ok(Things {
+        variables,
+        things: gathered.into_things(),
+    })
+}

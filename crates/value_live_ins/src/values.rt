@@ -1,0 +1,120 @@
+//! The entries of all blocks of a function with its frame.
+
+ghost use Rattle.std.specs.Prelude.{◌≡◌, ◌≤◌, ◌<◌, ◌+◌, ◌*◌, ℕ, IfOk, length, map, slice_get, All, Contains, Some};
+ghost use Rattle.mir_func.specs.Graph.{framed_program};
+ghost use Rattle.mir_func.specs.Resolve.{resolve};
+ghost use Rattle.class_entries.specs.declared.entry.BlockEntry.{BlockEntry};
+ghost use Rattle.class_entries.specs.declared.tracked.Tracked.TheVariants.{Pair};
+ghost use Rattle.class_entries.specs.Entry.{thing, IsEntry};
+ghost use Rattle.class_paths.specs.Classes.{KnowsItem};
+ghost use Rattle.mir_func.specs.Sound.{AllItems};
+ghost use Rattle.value_live_ins.specs.steps.Framing.{AreBlocks};
+ghost use Rattle.value_live_ins.specs.Known.{AreMachineValues};
+ghost use Rattle.value_live_ins.specs.Walking.{AreTracked};
+ghost use Rattle.value_tracker.specs.Things.{AreThings};
+
+use crate::changes::{Tracking, own_classes};
+use crate::flows::flows_of;
+use crate::opening::start_entry;
+use crate::things::{Things, Variables, things_of};
+use crate::ways::indices_of;
+use class_entries::entry::BlockEntries;
+use class_entries::tracked::{Tracked, TrackedItems};
+use value_tracker::index::index_of;
+use class_solver::solve::{Solved, solve as solve_flows};
+use mir_func::block::Block;
+use mir_func::entry::OperandPair;
+use mir_func::framed::Framed;
+use mir_func::variable::VarId;
+use std::alloc::{AllocError, Global};
+use mir_substitution::substitutions::Substitutions;
+
+/// From so many things or blocks on, memory would have run out.
+const MOST: usize = (1 << 32) - 1;
+
+/// What is known at the start of each block of a function with its frame (LLVM: the live-in values of
+/// InstrRefBasedLDV).
+#[derive(Debug, Drop)]
+pub struct MachineValues {
+    /// The parts of variables that its marks assign to, in order of first appearance.
+    pub variables: Variables,
+    /// All that is tracked: these parts, registers but x0 and x2, and slots, pairs and numbers that its items pass on.
+    pub things: TrackedItems,
+    /// What is known at the start of each block. There two things have one class exactly where on every path to it they
+    /// have one token or both have none.
+    pub entries: BlockEntries,
+    /// How many sweeps over the blocks it took, the last one among them, in which nothing changed.
+    pub sweeps: u64,
+}
+
+/// The entries of all blocks, over these things.
+fn solve_over(
+    alloc: Global,
+    blocks: &[Block],
+    subs: &Substitutions,
+    variables: &[VarId],
+    things: &[Tracked],
+) -> Result<Solved, AllocError>
+    requires few { length things.now < 4294967295 }
+    requires few_blocks { length blocks.now < 4294967295 }
+    requires blocks { AreBlocks blocks.now }
+    requires things { AreThings variables.now things.now }
+    requires tracked { AreTracked things.now }
+    requires variables { length variables.now ≤ length things.now }
+    requires knows { AllItems (λ i. KnowsItem (map thing things.now) (resolve subs.now) i.kind) blocks.now }
+    ensures entries { IfOk result (λ s. (b : ℕ) (e : BlockEntry) → slice_get s.entries b ≡ Some e →
+        IsEntry (framed_program blocks.now (resolve subs.now)) things.now b e) }
+    ensures for_all { IfOk result (λ s. length s.entries ≡ length blocks.now) }
+    ensures sweeps { IfOk result (λ s. s.sweeps ≤ 2 * length things.now * length blocks.now + 1) }
+{
+    let index = index_of(alloc, things)?;
+    let settled = own_classes(alloc, things.len())?;
+    let tracking = Tracking {
+        variables,
+        things,
+        index: &index,
+        settled: settled.as_slice(),
+        subs,
+    };
+    let indices = indices_of(alloc, blocks)?;
+    let flows = flows_of(alloc, &tracking, &indices, blocks)?;
+    let start = start_entry(alloc, things)?;
+    solve_flows(alloc, &start, flows.as_slice())
+}
+
+/// What is known at the start of each block of a function with its frame, over all paths. Marks see through the
+/// substitutions. Of pairs those are tracked that marks ask for. Memory is all that it may run out of.
+pub fn solve(
+    alloc: Global,
+    framed: &Framed,
+    subs: &Substitutions,
+) -> Result<MachineValues, AllocError>
+    ensures { IfOk result (AreMachineValues framed.now.blocks (resolve subs.now)) }
+{
+    solve_asking(alloc, framed, subs, &[])
+}
+
+/// The same, and these pairs are tracked too.
+pub fn solve_asking(
+    alloc: Global,
+    framed: &Framed,
+    subs: &Substitutions,
+    asked: &[OperandPair],
+) -> Result<MachineValues, AllocError>
+    ensures values { IfOk result (AreMachineValues framed.now.blocks (resolve subs.now)) }
+    ensures asked { IfOk result (λ v. All (λ q. Contains v.things (Pair q)) asked.now) }
+{
+    let blocks = framed.blocks.as_slice();
+    let Things { variables, things } = things_of(alloc, blocks, subs, asked)?;
+    if things.len() >= MOST || blocks.len() >= MOST {
+        return Err(AllocError);
+    }
+    let solved = solve_over(alloc, blocks, subs, variables.as_slice(), things.as_slice())?;
+    let Solved { entries, sweeps } = solved;
+    Ok(MachineValues {
+        variables,
+        things,
+        entries,
+        sweeps,
+    })
+}

@@ -1,0 +1,17 @@
+-- Classes at the start of a block, from what is known there.
+use Rattle.std.specs.Prelude.{◌≡◌, ℕ, ◌<◌, true, List, length, map, slice_index}
+use Rattle.mir_func.specs.declared.variable.VarId.{VarId}
+use Rattle.mir_func.specs.Graph.{Program, block_start}
+use Rattle.class_entries.specs.declared.tracked.Tracked.{Tracked}
+use Rattle.class_entries.specs.declared.entry.BlockEntry.{BlockEntry}
+use Rattle.class_entries.specs.Entry.{thing, IsEntry}
+use Rattle.class_paths.specs.Classes.{Classes, AreClasses}
+use Rattle.class_paths.specs.Wanted.{AreThingsOf}
+use Rattle.value_tracker.specs.Things.{AreThings, Settle, settled_at}
+
+-- What is known at the start of a block that some path leads to gives each thing a class.
+abbrev pub EntriesGiveClasses : Type 0
+EntriesGiveClasses = (g : Program) (variables : List VarId) (things : List Tracked) (b : ℕ) (e : BlockEntry) (settled : List ℕ) →
+    AreThings variables things → AreThingsOf g (map thing things) → IsEntry g things b e → e.reached ≡ true → length settled ≡ length e.classes →
+    ((i : ℕ) → i < length e.classes → slice_index settled i ≡ settled_at e.classes e.given i) →
+    (class : Classes) × AreClasses g (block_start 0) (block_start b) (map thing things) class × Settle things settled class

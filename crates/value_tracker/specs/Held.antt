@@ -1,0 +1,154 @@
+-- Classes between two items of a block, and what an item does to them.
+use Rattle.std.specs.Prelude.{
+  ◌≡◌,
+  ◌≢◌,
+  ℕ,
+  ◌+◌,
+  ◌-◌,
+  ◌*◌,
+  ◌/◌,
+  ◌<◌,
+  ◌≤◌,
+  List,
+  length,
+  map,
+  Contains,
+  Option,
+  Some,
+  None,
+  cond,
+  nat_eq,
+  nat_lt,
+  slice_get,
+  slice_index,
+}
+use Rattle.std.specs.List.{list_any}
+use Rattle.std.specs.HashMap.{get}
+use Rattle.rv64_instr.specs.Row.{Row, Fixes, Moves, Sets, Addresses, Loads, Stores, LoadsSlot, StoresSlot, Branches, Jumps, Calls, Returns, Unfit}
+use Rattle.rv64_instr.specs.Access.{caller_saved}
+use Rattle.rv64_instr.specs.Arithmetic.{word}
+use Rattle.rv64_instr.specs.declared.place.Place.{Place}
+use Rattle.rv64_instr.specs.declared.place.Place.TheVariants.{Register, Slot, Const}
+use Rattle.mir_func.specs.declared.variable.MarkValue.{MarkValue}
+use Rattle.mir_func.specs.declared.variable.MarkValue.TheVariants.{Nothing, Constant, At, Pair}
+use Rattle.mir_func.specs.declared.entry.OperandPair.{OperandPair}
+use Rattle.mir_func.specs.declared.variable.VarId.{VarId}
+use Rattle.mir_func.specs.declared.item.ItemKind.{ItemKind}
+use Rattle.mir_func.specs.Variables.{is_same, overlaps}
+use Rattle.sem_value_ids.specs.Pullback as path
+use Rattle.sem_value_ids.specs.Pullback.{InRegister, InSlot, OfPair, OfVariable, OfNumber, back}
+use Rattle.class_entries.specs.declared.tracked.Tracked.{Tracked}
+use Rattle.class_entries.specs.Entry.{thing}
+use Rattle.class_paths.specs.Classes.{Classes, IsKnown, KnowsItem, class_back}
+use Rattle.value_tracker.specs.declared.index.Index.{Index}
+use Rattle.value_tracker.specs.declared.held.Held.{Held}
+use Rattle.value_tracker.specs.Things.{is_key, IsOffset}
+
+-- registers have the first places, and each doubleword of the frame up to offset 2,024 one after them
+abbrev pub SLOTS_FROM : ℕ
+SLOTS_FROM = 32
+
+-- how many places there are: 32 registers, and the 254 doublewords at offsets 0 to 2,024
+abbrev pub PLACES : ℕ
+PLACES = 286
+
+-- the place of the doubleword at an offset from x2, in bytes
+abbrev pub slot_place : ℕ → ℕ
+slot_place n = SLOTS_FROM + n / 8
+
+-- the class at a place in a list, or 0
+abbrev pub class_at : List ℕ → Option ℕ → ℕ
+class_at settled None = 0
+class_at settled (Some i) = slice_index settled i
+
+-- a number's class, by what stands at the start of the block
+abbrev pub number_class : Index → List ℕ → ℕ → ℕ
+number_class index settled c = class_at settled (get nat_eq index.numbers c)
+
+-- a pair's class: what an item of the block gave it, or what stands at the start of the block
+abbrev pub given_or : Option ℕ → ℕ → ℕ
+given_or None c = c
+given_or (Some d) c = d
+
+-- the class of operand o of debug instruction number k, between two items of the block
+abbrev pub pair_class : Index → List ℕ → Held → ℕ → ℕ → ℕ
+pair_class index settled h k o = given_or (get is_key h.pairs (k, o)) (class_at settled (get is_key index.pairs (k, o)))
+
+-- the classes of things are held
+pub record Holds (variables : List VarId) (things : List Tracked) (index : Index) (settled : List ℕ) (h : Held) (class : Classes) : Type 0 where
+  pub count : length h.places.items ≡ PLACES
+  pub registers : (r : ℕ) → r < 32 → slice_index h.places.items r ≡ class (InRegister r)
+  pub slots : (n : ℕ) → Contains (map thing things) (InSlot n) → slice_index h.places.items (slot_place n) ≡ class (InSlot n)
+  pub offsets : (n : ℕ) → Contains (map thing things) (InSlot n) → IsOffset n
+  pub slots_known : (i : ℕ) → SLOTS_FROM ≤ i → slice_index h.places.items i ≢ 0 → Contains (map thing things) (InSlot (8 * (i - SLOTS_FROM)))
+  pub pairs : (k o : ℕ) → Contains (map thing things) (OfPair k o) → pair_class index settled h k o ≡ class (OfPair k o)
+  pub parts : (j : ℕ) (v : VarId) → slice_get variables j ≡ Some v → slice_get h.parts.items j ≡ Some (class (OfVariable v))
+  pub numbers : (c : ℕ) → Contains (map thing things) (OfNumber c) → number_class index settled c ≡ class (OfNumber c)
+  pub below : (x : path.Tracked) → IsKnown (map thing things) x → class x < h.next
+  pub zero : class (InRegister 0) ≡ class (OfNumber 0)
+  pub pointer : class (InRegister 2) ≡ 0
+
+-- past an item the classes by what stood before it are held: new ones count from the one that came next
+abbrev pub Passes : (variables : List VarId) (things : List Tracked) (index : Index) (settled : List ℕ) → (OperandPair → Option OperandPair) →
+    (before after : Held) → ItemKind → Type 0
+Passes variables things index settled resolve before after kind = (class : Classes) → Holds variables things index settled before class →
+    KnowsItem (map thing things) resolve kind →
+    Holds variables things index settled after (λ x. class_back class (λ r. before.next + r) (back resolve 0 kind x))
+
+-- ---- the places past code of a row
+
+-- a register gets a class: x0 drops writes, and a write of x2 takes every slot's class away
+abbrev pub put : (rd c : ℕ) → (places : ℕ → ℕ) → ℕ → ℕ
+put rd c places i = cond (nat_eq rd 2) (cond (nat_lt i SLOTS_FROM) (places i) 0)
+    (cond (nat_eq rd 0) (places i) (cond (nat_lt rd SLOTS_FROM) (cond (nat_eq i rd) c (places i)) (places i)))
+
+-- the class at each place past code of a row: constants have their number's class, copies and slots pass classes on,
+-- and every other definition makes a new class, counted by its register from the one that comes next
+abbrev pub places_past : (number : ℕ → ℕ) → (next : ℕ) → Row → (places : ℕ → ℕ) → ℕ → ℕ
+places_past number next (Fixes rd c) places i = put rd (number c) places i
+places_past number next (Moves rd rs) places i = put rd (places rs) places i
+places_past number next (Sets rd op a b) places i = put rd (next + rd) places i
+places_past number next (Addresses rd n offset) places i = put rd (next + rd) places i
+places_past number next (Loads rd op base offset) places i = put rd (next + rd) places i
+places_past number next (LoadsSlot rd n) places i = put rd (places (slot_place n)) places i
+places_past number next (StoresSlot rs n) places i = cond (nat_eq i (slot_place n)) (cond (nat_lt i PLACES) (places rs) 0) (places i)
+places_past number next (Calls name args) places i = cond (list_any (λ q. nat_eq i q) caller_saved) (next + i) (places i)
+places_past number next (Stores op rs base offset) places i = places i
+places_past number next (Branches op a b target) places i = places i
+places_past number next (Jumps target) places i = places i
+places_past number next (Returns results) places i = places i
+places_past number next Unfit places i = places i
+
+-- a part past a mark of a part
+abbrev pub part_past : (marked : VarId) → (c : ℕ) → VarId → ℕ → ℕ
+part_past v c w d = cond (is_same w v) c (cond (overlaps w v) 0 d)
+
+-- ---- what marks, phis and numbers give
+
+-- the class of a pair that a mark's pair resolves to
+abbrev pub resolved_class : Index → List ℕ → Held → Option OperandPair → ℕ
+resolved_class index settled h None = 0
+resolved_class index settled h (Some q) = pair_class index settled h q.number q.operand
+
+-- the class of what a mark's debug operand reads, and 0 for nothing
+abbrev pub value_class : Index → List ℕ → (OperandPair → Option OperandPair) → Held → MarkValue → ℕ
+value_class index settled resolve h Nothing = 0
+value_class index settled resolve h (Constant c) = number_class index settled (word c)
+value_class index settled resolve h (At r) = slice_index h.places.items r
+value_class index settled resolve h (Pair q) = resolved_class index settled h (resolve q)
+
+-- the class of what a place holds
+abbrev pub at_class : Index → List ℕ → Held → Place → ℕ
+at_class index settled h (Register r) = slice_index h.places.items r
+at_class index settled h (Slot n) = slice_index h.places.items (slot_place n)
+at_class index settled h (Const c) = number_class index settled (word c)
+
+-- the class of what a phi's place holds, and 0 where it has none
+abbrev pub place_class : Index → List ℕ → Held → Option Place → ℕ
+place_class index settled h None = 0
+place_class index settled h (Some p) = at_class index settled h p
+
+-- a pair of a defining operand has the register's class
+abbrev pub operand_class : (places : List ℕ) → Option ℕ → Option ℕ → Option ℕ
+operand_class places None old = old
+operand_class places (Some r) old = Some (slice_index places r)

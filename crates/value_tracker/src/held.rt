@@ -1,0 +1,165 @@
+//! The classes between two items of a block.
+
+ghost use Rattle.std.specs.Prelude.{◌≡◌, ◌<◌, ◌≤◌, ◌+◌, ◌^◌, ℕ, length, slice_index, cond, nat_eq, nat_lt};
+ghost use Rattle.rv64_instr.specs.declared.place.Place.{Place};
+ghost use Rattle.std.specs.List.{list_any};
+ghost use Rattle.rv64_instr.specs.Access.{caller_saved};
+ghost use Rattle.value_tracker.specs.Held.{SLOTS_FROM, PLACES, slot_place, put};
+
+use base_ids::code::SlotId;
+use rv64_instr::reg::Reg;
+use std::collections::HashMap;
+
+/// The place of the first doubleword of the frame: registers have the places before it.
+pub const SLOTS_FROM: usize = 32;
+/// How many places there are: registers, and doublewords of the frame.
+pub const PLACES: usize = 286;
+
+/// The classes between two items of a block (LLVM: `MLocTracker`). 0 is that of what has no class.
+#[derive(Drop)]
+pub struct Held {
+    /// The class of each place: registers by their numbers, and after them the doublewords of the frame by their
+    /// offsets from x2. x0 has the class of the number 0, and x2 has none.
+    pub places: Vec<usize>,
+    /// The class of each pair that an item of the block gave one.
+    pub pairs: HashMap<(u32, usize), usize>,
+    /// The class of each part of a variable, in their order.
+    pub parts: Vec<usize>,
+    /// The class that comes next. All others are below it.
+    pub next: usize,
+}
+
+/// The place of the doubleword at an offset from x2, in bytes.
+pub fn slot_place(n: SlotId) -> usize
+    ensures { result ≡ slot_place n }
+{
+    SLOTS_FROM + n.number() as usize / 8
+}
+
+impl Held {
+    /// The class of a place.
+    pub fn place(&self, i: usize) -> usize
+        ensures { result ≡ slice_index self.now.places.items i }
+    {
+        if i < self.places.len() {
+            self.places[i]
+        } else {
+            0
+        }
+    }
+
+    /// The class of a register.
+    pub fn register(&self, r: Reg) -> usize
+        ensures { result ≡ slice_index self.now.places.items r }
+    {
+        self.place(r.number() as usize)
+    }
+
+    /// Gives a register a class. A write of x2 takes every slot's class away.
+    pub fn put(&mut self, rd: Reg, class: usize)
+        requires { PLACES ≤ length self.old.places.items }
+        ensures places { (i : ℕ) → slice_index self.new.places.items i ≡ put rd class
+            (slice_index self.old.places.items) i }
+        ensures count { length self.new.places.items ≡ length self.old.places.items }
+        ensures pairs { self.new.pairs ≡ self.old.pairs }
+        ensures parts { self.new.parts ≡ self.old.parts }
+        ensures next { self.new.next ≡ self.old.next }
+    {
+        let n = rd.number() as usize;
+        if n == 2 {
+            clear_slots(&mut self.places);
+        } else if n != 0 && n < SLOTS_FROM {
+            self.places[n] = class;
+        }
+    }
+
+    /// Gives the doubleword at an offset a class, where it is one of the frame.
+    pub fn put_slot(&mut self, n: SlotId, class: usize)
+        requires { length self.old.places.items ≡ PLACES }
+        ensures places { (i : ℕ) → slice_index self.new.places.items i
+            ≡ cond (nat_eq i (slot_place n)) (cond (nat_lt i PLACES) class 0) (slice_index self.old.places.items i) }
+        ensures count { length self.new.places.items ≡ length self.old.places.items }
+        ensures pairs { self.new.pairs ≡ self.old.pairs }
+        ensures parts { self.new.parts ≡ self.old.parts }
+        ensures next { self.new.next ≡ self.old.next }
+    {
+        let i = slot_place(n);
+        if i < PLACES {
+            self.places[i] = class;
+        }
+    }
+
+    /// Gives a register a class of its own.
+    pub fn put_new(&mut self, rd: Reg)
+        requires count { PLACES ≤ length self.old.places.items }
+        requires few { self.old.next < 2 ^ 62 }
+        ensures places { (i : ℕ) → slice_index self.new.places.items i ≡ put rd (self.old.next + rd)
+            (slice_index self.old.places.items) i }
+        ensures count { length self.new.places.items ≡ length self.old.places.items }
+        ensures pairs { self.new.pairs ≡ self.old.pairs }
+        ensures parts { self.new.parts ≡ self.old.parts }
+        ensures next { self.new.next ≡ self.old.next }
+    {
+        let class = self.next + rd.number() as usize;
+        self.put(rd, class);
+    }
+
+    /// Gives each register that a call sets a class of its own.
+    pub fn call(&mut self)
+        requires count { PLACES ≤ length self.old.places.items }
+        requires few { self.old.next < 2 ^ 62 }
+        ensures places { (i : ℕ) → slice_index self.new.places.items i
+            ≡ cond (list_any (λ q. nat_eq i q) caller_saved) (self.old.next + i) (slice_index self.old.places.items i) }
+        ensures count { length self.new.places.items ≡ length self.old.places.items }
+        ensures pairs { self.new.pairs ≡ self.old.pairs }
+        ensures parts { self.new.parts ≡ self.old.parts }
+        ensures next { self.new.next ≡ self.old.next }
+    {
+        renew(&mut self.places, self.next);
+    }
+}
+
+/// Gives each register that a call sets a class of its own, from one on.
+fn renew(places: &mut [usize], next: usize)
+    requires count { PLACES ≤ length places.old }
+    requires few { next < 2 ^ 62 }
+    ensures { (i : ℕ) → slice_index places.new i ≡ cond (list_any (λ q. nat_eq i q) caller_saved) (next + i)
+        (slice_index places.old i) }
+{
+    for r in 0..SLOTS_FROM {
+        if is_caller_saved(r) {
+            places[r] = next + r;
+        }
+    }
+}
+
+/// Whether a call sets the register (RISC-V ELF psABI, "Integer Register Convention": ra, t0 to t6, a0 to a7).
+fn is_caller_saved(r: usize) -> bool
+    ensures { result ≡ list_any (λ q. nat_eq r q) caller_saved }
+{
+    r == 1
+        || r == 5
+        || r == 6
+        || r == 7
+        || r == 10
+        || r == 11
+        || r == 12
+        || r == 13
+        || r == 14
+        || r == 15
+        || r == 16
+        || r == 17
+        || r == 28
+        || r == 29
+        || r == 30
+        || r == 31
+}
+
+/// Takes the class of every slot away.
+fn clear_slots(places: &mut [usize])
+    ensures { (i : ℕ) → slice_index places.new i ≡ cond (nat_lt i SLOTS_FROM) (slice_index places.old i) 0 }
+{
+    for i in SLOTS_FROM..places.len() {
+        places[i] = 0;
+    }
+}

@@ -1,0 +1,108 @@
+//! Where tracked things stand in their list.
+
+ghost use Rattle.std.specs.Prelude.{
+  ◌≡◌,
+  ◌<◌,
+  ◌+◌,
+  ◌++◌,
+  ◌∷◌,
+  [],
+  List,
+  take,
+  IfOk,
+  OnOk,
+  length,
+  slice_get,
+  Some,
+  slice_index,
+};
+ghost use Rattle.std.specs.HashMap.{get};
+ghost use Rattle.class_entries.specs.declared.tracked.Tracked.{Tracked};
+ghost use Rattle.value_tracker.specs.Held.{class_at, number_class};
+ghost use Rattle.value_tracker.specs.Things.{is_key, IndexesBelow, Indexes};
+
+use class_entries::tracked::Tracked;
+use mir_func::entry::OperandPair;
+use std::alloc::{AllocError, Global};
+use std::collections::HashMap;
+
+/// Where numbers and pairs stand in a list of tracked things.
+#[derive(Drop)]
+pub struct Index {
+    /// The numbers, modulo 2^64.
+    pub numbers: HashMap<u64, usize>,
+    /// The pairs of a debug instruction number and an operand's index.
+    pub pairs: HashMap<(u32, usize), usize>,
+}
+
+/// The index of a list.
+pub fn index_of(alloc: Global, things: &[Tracked]) -> Result<Index, AllocError>
+    ensures { IfOk result (Indexes things.now) }
+{
+    let mut index = Index {
+        numbers: HashMap::new(alloc),
+        pairs: HashMap::new(alloc),
+    };
+    for (i, thing) in things.iter().enumerate() {
+        index.add(i, *thing)?;
+    }
+    Ok(index)
+}
+
+impl Index {
+    /// Adds a thing that stands at an index.
+    fn add(&mut self, i: usize, thing: Tracked) -> Result<(), AllocError>
+        ensures { OnOk result ((things : List Tracked) → slice_get things i ≡ Some thing →
+            IndexesBelow i things self.old → IndexesBelow (i + 1) things self.new) }
+    {
+        match thing {
+            Tracked::Number(c) => {
+                self.numbers.insert(c, i)?;
+            }
+            Tracked::Pair(q) => {
+                self.pairs.insert(key(q), i)?;
+            }
+            Tracked::Register(_) => {}
+            Tracked::Slot(_) => {}
+            Tracked::Part(_) => {}
+        }
+        Ok(())
+    }
+}
+
+/// The class at a place in a list, or 0.
+fn class_at(settled: &[usize], place: Option<usize>) -> usize
+    ensures { result ≡ class_at settled.now place }
+{
+    match place {
+        None => 0,
+        Some(i) => class_of(settled, i),
+    }
+}
+
+fn class_of(settled: &[usize], i: usize) -> usize
+    ensures { result ≡ slice_index settled.now i }
+{
+    if i < settled.len() { settled[i] } else { 0 }
+}
+
+/// The class of a number at the start of a block, given the classes of all things there.
+pub fn number_class(index: &Index, settled: &[usize], n: u64) -> usize
+    ensures { result ≡ number_class index.now settled.now n }
+{
+    class_at(settled, index.numbers.get(&n).copied())
+}
+
+/// The class of a pair at the start of a block, given the classes of all things there.
+pub fn pair_class(index: &Index, settled: &[usize], number: u32, operand: usize) -> usize
+    ensures { result ≡ class_at settled.now (get is_key index.now.pairs (number, operand)) }
+{
+    class_at(settled, index.pairs.get(&(number, operand)).copied())
+}
+
+/// What a pair is looked up by.
+pub fn key(q: OperandPair) -> (u32, usize)
+    ensures { result ≡ (q.number, q.operand) }
+{
+    (q.number.number(), q.operand.number() as usize)
+}

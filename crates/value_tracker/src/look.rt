@@ -1,0 +1,136 @@
+//! The first place of a part of a variable, by its class.
+
+ghost use Rattle.std.specs.Prelude.{
+  ◌≡◌,
+  ◌<◌,
+  ◌≤◌,
+  ◌+◌,
+  ◌*◌,
+  ◌-◌,
+  ℕ,
+  List,
+  Some,
+  None,
+  Option,
+  IfOk,
+  IfSome,
+  length,
+  slice_get,
+  slice_index,
+  slice_index_or,
+  cond,
+};
+ghost use Rattle.class_entries.specs.declared.tracked.Tracked.{Tracked};
+ghost use Rattle.class_paths.specs.Classes.{Classes};
+ghost use Rattle.value_tracker.specs.Things.{Settle};
+ghost use Rattle.value_tracker.specs.Held.{PLACES};
+ghost use Rattle.value_tracker.specs.Start.{IsConstantOf, ConstantsNow, constant_past};
+ghost use Rattle.value_tracker.specs.Look.{place_of, place_at, place_by};
+
+use crate::held::SLOTS_FROM;
+use class_entries::tracked::Tracked;
+use base_ids::code::SlotId;
+use rv64_instr::place::Place;
+use rv64_instr::reg::physical;
+use std::alloc::{AllocError, Global};
+
+/// The number of each class that a number has, given the classes of all things and the one after them.
+pub fn constants(
+    alloc: Global,
+    things: &[Tracked],
+    settled: &[usize],
+    next: usize,
+) -> Result<Vec<Option<i64>>, AllocError>
+    requires settled { length settled.now ≡ length things.now }
+    requires next { (i : ℕ) → slice_index settled.now i < next }
+    ensures count { IfOk result (λ v. length v.items ≡ next) }
+    ensures constants { IfOk result (λ v. (class : Classes) → Settle things.now settled.now class →
+        ConstantsNow things.now class v.items) }
+{
+    let mut constants = vec![in alloc; None; next]?;
+    for i in 0..things.len() {
+        set_constant(&mut constants, settled[i], constant_of(&things[i]));
+    }
+    Ok(constants)
+}
+
+/// Gives a class a constant, if there is one.
+fn set_constant(constants: &mut Vec<Option<i64>>, class: usize, c: Option<i64>)
+    requires { class < length constants.old.items }
+    ensures constants { (k : ℕ) → slice_index_or constants.new.items k None ≡ constant_past c class k
+        (slice_index_or constants.old.items k None) }
+    ensures count { length constants.new.items ≡ length constants.old.items }
+{
+    match c {
+        None => {}
+        Some(c) => constants[class] = Some(c),
+    }
+}
+
+/// A number as a constant.
+fn constant_of(thing: &Tracked) -> Option<i64>
+    ensures { IsConstantOf thing.now result }
+{
+    match thing {
+        Tracked::Number(n) => Some(n.cast_signed()),
+        Tracked::Register(_) => None,
+        Tracked::Slot(_) => None,
+        Tracked::Pair(_) => None,
+        Tracked::Part(_) => None,
+    }
+}
+
+/// The first place that has a class: its number, or else the place that a table has for it.
+pub fn place_of(firsts: &[Option<usize>], constants: &[Option<i64>], class: usize) -> Option<Place>
+    requires { (k i : ℕ) → slice_index_or firsts.now k None ≡ Some i → i < PLACES }
+    ensures { result ≡ place_of firsts.now constants.now class }
+{
+    if class == 0 {
+        return None;
+    }
+    match constant_at(constants, class) {
+        Some(c) => Some(Place::Const(c)),
+        None => place_by(first_at(firsts, class)),
+    }
+}
+
+fn constant_at(constants: &[Option<i64>], class: usize) -> Option<i64>
+    ensures { result ≡ slice_index_or constants.now class None }
+{
+    if class < constants.len() {
+        constants[class]
+    } else {
+        None
+    }
+}
+
+fn first_at(firsts: &[Option<usize>], class: usize) -> Option<usize>
+    ensures { result ≡ slice_index_or firsts.now class None }
+{
+    if class < firsts.len() {
+        firsts[class]
+    } else {
+        None
+    }
+}
+
+fn place_by(first: Option<usize>) -> Option<Place>
+    requires { IfSome first (λ i. i < PLACES) }
+    ensures { result ≡ place_by first }
+{
+    match first {
+        None => None,
+        Some(i) => Some(place_at(i)),
+    }
+}
+
+/// A register or a doubleword of the frame.
+fn place_at(i: usize) -> Place
+    requires { i < PLACES }
+    ensures { result ≡ place_at i }
+{
+    match physical(i as u32) {
+        Some(r) => Place::Register(r),
+        None => Place::Slot(SlotId(8 * (i - SLOTS_FROM) as u32)),
+    }
+}

@@ -1,0 +1,258 @@
+//! Classes past an item.
+
+ghost use Rattle.std.specs.Prelude.{
+  ◌≡◌,
+  ◌<◌,
+  ◌≤◌,
+  ◌+◌,
+  ◌^◌,
+  ℕ,
+  List,
+  Some,
+  OnOk,
+  length,
+  slice_get,
+  slice_index,
+  cond,
+  nat_eq,
+};
+ghost use Rattle.std.specs.HashMap.{get};
+ghost use Rattle.rv64_instr.specs.Row.{row_of};
+ghost use Rattle.sem_mir.specs.Step.{defined as defined_by};
+ghost use Rattle.mir_func.specs.declared.variable.VarId.{VarId};
+ghost use Rattle.mir_func.specs.declared.item.ItemKind.TheVariants.{Code, Mark, Phi};
+ghost use Rattle.mir_func.specs.Resolve.{resolve};
+ghost use Rattle.class_entries.specs.declared.tracked.Tracked.{Tracked};
+ghost use Rattle.value_tracker.specs.Held.{
+  pair_class,
+  resolved_class,
+  value_class,
+  at_class,
+  place_class,
+  operand_class,
+  part_past,
+  Passes,
+};
+ghost use Rattle.value_tracker.specs.Things.{is_key};
+
+use crate::held::{Held, PLACES, SLOTS_FROM, slot_place};
+use crate::index::{Index, key, number_class, pair_class};
+use mir_func::entry::OperandPair;
+use mir_func::item::ItemKind;
+use mir_func::variable::{MarkValue, VarId};
+use sem_mir::operand::defined;
+use base_ids::code::DebugNumber;
+use rv64_instr::instr::Instr;
+use rv64_instr::operand::Operand;
+use rv64_instr::place::Place;
+use rv64_instr::reg::Reg;
+use std::alloc::AllocError;
+use mir_substitution::substitutions::Substitutions;
+
+/// From so many classes on, memory would have run out.
+const MOST_CLASSES: usize = 1 << 62;
+
+/// What stays as it is over the items of a block.
+#[derive(Drop)]
+pub struct Block<'a> {
+    /// Where numbers and pairs stand among the tracked things.
+    pub index: &'a Index,
+    /// The class that each tracked thing had at the start of the block, or 0.
+    pub settled: &'a [usize],
+    /// The parts of variables.
+    pub variables: &'a [VarId],
+    /// What pairs resolve to.
+    pub subs: &'a Substitutions,
+}
+
+impl Held {
+    /// The class of a pair.
+    fn pair(&self, block: &Block, number: u32, operand: usize) -> usize
+        ensures { result ≡ pair_class block.now.index.now block.now.settled.now self.now number operand }
+    {
+        match self.pairs.get(&(number, operand)) {
+            Some(class) => *class,
+            None => pair_class(block.index, block.settled, number, operand),
+        }
+    }
+
+    fn resolved(&self, block: &Block, pair: Option<OperandPair>) -> usize
+        ensures { result ≡ resolved_class block.now.index.now block.now.settled.now self.now pair }
+    {
+        match pair {
+            None => 0,
+            Some(q) => self.pair(block, q.number.number(), q.operand.number() as usize),
+        }
+    }
+
+    /// The class of what a mark assigns.
+    fn value(&self, block: &Block, value: &MarkValue) -> usize
+        ensures { result ≡ value_class block.now.index.now block.now.settled.now
+            (resolve block.now.subs.now) self.now value.now }
+    {
+        match value {
+            MarkValue::Nothing => 0,
+            MarkValue::Constant(c) => number_class(block.index, block.settled, c.cast_unsigned()),
+            MarkValue::At(r) => self.register(*r),
+            MarkValue::Pair(q) => self.resolved(block, block.subs.resolve(*q)),
+        }
+    }
+
+    /// The class of a phi's place, or 0.
+    fn at(&self, block: &Block, place: Option<Place>) -> usize
+        ensures { result ≡ place_class block.now.index.now block.now.settled.now self.now place }
+    {
+        match place {
+            None => 0,
+            Some(p) => self.at_place(block, p),
+        }
+    }
+
+    fn at_place(&self, block: &Block, place: Place) -> usize
+        ensures { result ≡ at_class block.now.index.now block.now.settled.now self.now place }
+    {
+        match place {
+            Place::Register(r) => self.register(r),
+            Place::Slot(n) => self.place(slot_place(n)),
+            Place::Const(c) => number_class(block.index, block.settled, c.cast_unsigned()),
+        }
+    }
+
+    /// Gives the pair of an operand a class, where it defines a register.
+    fn give_operand(
+        &mut self,
+        call: bool,
+        k: DebugNumber,
+        o: usize,
+        operand: &Operand,
+    ) -> Result<(), AllocError>
+        ensures pairs { OnOk result ((q : ℕ × ℕ) → get is_key self.new.pairs q
+            ≡ cond (is_key (k, o) q) (operand_class self.old.places.items (defined_by call (Some operand.now))
+            (get is_key self.old.pairs q)) (get is_key self.old.pairs q)) }
+        ensures places { self.new.places ≡ self.old.places }
+        ensures parts { self.new.parts ≡ self.old.parts }
+        ensures next { self.new.next ≡ self.old.next }
+    {
+        match defined(call, operand) {
+            None => Ok(()),
+            Some(r) => {
+                let class = self.register(r);
+                self.pairs.insert((k.number(), o), class)?;
+                Ok(())
+            }
+        }
+    }
+
+    /// Gives the pair of each defining operand of code with a number its register's class.
+    fn give(&mut self, call: bool, k: DebugNumber, operands: &[Operand]) -> Result<(), AllocError>
+        ensures pairs { OnOk result ((m o : ℕ) → get is_key self.new.pairs (m, o)
+            ≡ cond (nat_eq k m) (operand_class self.old.places.items (defined_by call (slice_get operands.now o))
+            (get is_key self.old.pairs (m, o))) (get is_key self.old.pairs (m, o))) }
+        ensures places { self.new.places ≡ self.old.places }
+        ensures parts { self.new.parts ≡ self.old.parts }
+        ensures next { self.new.next ≡ self.old.next }
+    {
+        for (o, operand) in operands.iter().enumerate() {
+            self.give_operand(call, k, o, operand)?;
+        }
+        Ok(())
+    }
+
+    fn pass_code(
+        &mut self,
+        block: &Block,
+        instr: &Instr,
+        number: Option<DebugNumber>,
+    ) -> Result<(), AllocError>
+        requires count { length self.old.places.items ≡ PLACES }
+        ensures passes { OnOk result ((things : List Tracked)
+            → Passes block.now.variables.now things block.now.index.now block.now.settled.now
+            (resolve block.now.subs.now) self.old self.new (Code instr.now number)) }
+        ensures count { OnOk result (length self.new.places.items ≡ PLACES) }
+        ensures parts { OnOk result (self.new.parts ≡ self.old.parts) }
+    {
+        if self.next >= MOST_CLASSES {
+            return Err(AllocError);
+        }
+        self.pass_row(block.index, block.settled, instr);
+        self.next += SLOTS_FROM;
+        match number {
+            None => Ok(()),
+            Some(k) => self.give(instr.effect().call, k, instr.operands.as_slice()),
+        }
+    }
+
+    fn pass_mark(&mut self, block: &Block, variable: &VarId, value: &MarkValue)
+        requires count { length self.old.parts.items ≡ length block.now.variables.now }
+        ensures passes { (things : List Tracked)
+            → Passes block.now.variables.now things block.now.index.now block.now.settled.now
+            (resolve block.now.subs.now) self.old self.new (Mark variable.now value.now) }
+        ensures places { self.new.places ≡ self.old.places }
+        ensures count { length self.new.parts.items ≡ length block.now.variables.now }
+    {
+        let class = self.value(block, value);
+        mark(&mut self.parts, block.variables, variable, class);
+    }
+
+    fn pass_phi(
+        &mut self,
+        block: &Block,
+        place: Option<Place>,
+        k: DebugNumber,
+    ) -> Result<(), AllocError>
+        ensures passes { OnOk result ((things : List Tracked)
+            → Passes block.now.variables.now things block.now.index.now block.now.settled.now
+            (resolve block.now.subs.now) self.old self.new (Phi place k)) }
+        ensures places { self.new.places ≡ self.old.places }
+        ensures parts { self.new.parts ≡ self.old.parts }
+    {
+        let class = self.at(block, place);
+        self.pairs.insert((k.number(), 0), class)?;
+        Ok(())
+    }
+
+    /// Past an item the classes are those of what stood before it, and new ones for what it makes.
+    pub fn pass(&mut self, block: &Block, kind: &ItemKind) -> Result<(), AllocError>
+        requires places { length self.old.places.items ≡ PLACES }
+        requires parts { length self.old.parts.items ≡ length block.now.variables.now }
+        ensures passes { OnOk result ((things : List Tracked)
+            → Passes block.now.variables.now things block.now.index.now block.now.settled.now
+            (resolve block.now.subs.now) self.old self.new kind.now) }
+        ensures places { OnOk result (length self.new.places.items ≡ PLACES) }
+        ensures parts { OnOk result (length self.new.parts.items ≡ length block.now.variables.now) }
+    {
+        match kind {
+            ItemKind::Code(instr, number) => self.pass_code(block, instr, *number),
+            ItemKind::Mark(variable, value) => {
+                self.pass_mark(block, variable, value);
+                Ok(())
+            }
+            ItemKind::Phi(place, k) => self.pass_phi(block, *place, *k),
+        }
+    }
+}
+
+/// Gives a part of a variable a class, and takes it away from the others that overlap.
+fn mark(parts: &mut Vec<usize>, variables: &[VarId], variable: &VarId, class: usize)
+    requires { length parts.old.items ≡ length variables.now }
+    ensures past { (j : ℕ) (w : VarId) → slice_get variables.now j ≡ Some w
+        → slice_index parts.new.items j ≡ part_past variable.now class w (slice_index parts.old.items j) }
+    ensures count { length parts.new.items ≡ length variables.now }
+{
+    for j in 0..parts.len() {
+        parts[j] = part_past(variable, class, &variables[j], parts[j]);
+    }
+}
+
+/// The class of a part past a mark of a part.
+fn part_past(marked: &VarId, class: usize, part: &VarId, old: usize) -> usize
+    ensures { result ≡ part_past marked.now class part.now old }
+{
+    if *part == *marked {
+        class
+    } else if part.overlaps(marked) {
+        0
+    } else {
+        old
+    }
+}

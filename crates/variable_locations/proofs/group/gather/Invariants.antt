@@ -1,5 +1,0 @@
-use Rattle.variable_locations.specs.steps.Gathering.{AreGathered}
-use Rattle.variable_locations.proofs.group.gather.Given as goal
-
-abbrev pub invariant-loop-j : goal.invariant-loop-j
-invariant-loop-j l = AreGathered l.parts l.numbers l.j l.count l.groups.items
