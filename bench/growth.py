@@ -227,7 +227,7 @@ PASSES = {
 }
 
 # What is counted inside the program: the reading of a text; frame and layout; these with values over all paths and location lists; all passes.
-READING, LAYOUT, LOCATIONS = "read_program::program::read_program", "emit_function::code::code_of", "function_emit::emit::compiled"
+READING, LAYOUT, LOCATIONS = "read_program::program::read_program", "emit_function::code::code_of", "compile_function::emit::compiled"
 RUN_PASSES = "pass_manager::run::run_passes"
 
 

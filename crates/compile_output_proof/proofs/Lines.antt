@@ -13,12 +13,12 @@ use Rattle.listing_text.specs.declared.output.ListedFunction.{ListedFunction}
 use Rattle.dwarf_line.specs.declared.table.Row.{Row}
 use Rattle.dwarf_loclists.specs.declared.range.Range.{Range}
 use Rattle.frame_rule.specs.Rule.{framed_of}
-use Rattle.line_laws.specs.Laws.{LieFrom, HasCodeAt}
-use Rattle.line_laws.specs.Rows.{IsRowAt, GivesLine}
-use Rattle.line_laws.proofs.Members.{no_member, head_member, later_member, member_cases}
-use Rattle.line_laws.proofs.Rows.{last_in, entry_from}
-use Rattle.line_laws.proofs.Sequences.{stands_of, row_has_code}
-use Rattle.line_laws.proofs.Tables.{tables_give_lines, none_is_line_zero}
+use Rattle.dwarf_line_table.specs.Laws.{LieFrom, HasCodeAt}
+use Rattle.dwarf_line_table.specs.Rows.{IsRowAt, GivesLine}
+use Rattle.dwarf_line_table.proofs.Members.{no_member, head_member, later_member, member_cases}
+use Rattle.dwarf_line_table.proofs.LineRows.{last_in, entry_from}
+use Rattle.dwarf_line_table.proofs.Sequences.{stands_of, row_has_code}
+use Rattle.dwarf_line_table.proofs.LineTables.{tables_give_lines, none_is_line_zero}
 use Rattle.mir_func.specs.declared.position.Origin.{Origin}
 use Rattle.mir_func.specs.Function.{Function, FramedFunction}
 use Rattle.mir_func.specs.Sound.{AllItems}
@@ -31,11 +31,11 @@ use Rattle.compile_theorem.proofs.Functions.{words_length}
 use Rattle.compile_theorem.specs.Source.{SourceFunction, PassedFunction}
 use Rattle.compile_program.proofs.Passed.{passed_functions, passed_at}
 use Rattle.compile_program.specs.Program.{ArePassed, AreCoded, HaveCode, source_of, IsCompilable, names_of}
-use Rattle.source_lines.specs.declared.compiled.Compiled.{Compiled}
-use Rattle.source_lines.specs.declared.file.SourceFile.{SourceFile}
-use Rattle.source_lines.specs.Files.{unit_file}
-use Rattle.source_lines.specs.Lines.{scope_line, loc_of, position_of, line_of}
-use Rattle.source_lines.specs.Program.{program_file, program_files, function_end, table_of}
+use Rattle.dwarf_line_table.specs.declared.compiled.Compiled.{Compiled}
+use Rattle.dwarf_line_table.specs.declared.file.SourceFile.{SourceFile}
+use Rattle.dwarf_line_table.specs.Files.{unit_file}
+use Rattle.dwarf_line_table.specs.Lines.{scope_line, loc_of, position_of, line_of}
+use Rattle.dwarf_line_table.specs.Program.{program_file, program_files, function_end, table_of}
 use Rattle.dwarf_unit.specs.Variables.{variables_of_function}
 use Rattle.compile_output_proof.specs.Lines.{origin_of, HasByte, file_of, TellsLinesOf, OutputsTellLines}
 use Rattle.compile_output_proof.proofs.Listed.{listing_entered}

@@ -35,7 +35,7 @@ use Rattle.listing_meaning.specs.Listing.{prologue_listed, body_listed}
 use Rattle.listing_meaning.specs.Listing.{listing_of}
 use Rattle.listing_meaning.proofs.Forms.{FormView, one, call, long, viewed}
 use Rattle.listing_meaning.proofs.Sizes.{is_call_form, calls_listed, past_word, past_call}
-use Rattle.line_laws.proofs.Members.{no_member, head_member, later_member, member_cases}
+use Rattle.dwarf_line_table.proofs.Members.{no_member, head_member, later_member, member_cases}
 use Rattle.compile_output_proof.specs.Lines.{origin_of}
 
 -- an element of what lists are mapped to

@@ -23,7 +23,7 @@ use Rattle.mir_printer.specs.Printable.{Declared, IsNumber, IsPrintable, IsPrint
 use Rattle.listing_text.specs.Shown.{IsPrintableVariable}
 use Rattle.compile_theorem.specs.Promise.{variable_listed, variable_lines}
 use Rattle.read_proof.specs.Read.{declared_in, LocationsAreLimited, IsReadFunction}
-use Rattle.source_lines.specs.Files.{with_new, first_uses}
+use Rattle.dwarf_line_table.specs.Files.{with_new, first_uses}
 use Rattle.dwarf_unit.specs.Variables.{whole, marked, marks_of, variables_of_function}
 use Rattle.read_item.specs.Debug.{inlined_at_node}
 

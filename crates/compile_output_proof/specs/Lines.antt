@@ -7,8 +7,8 @@ use Rattle.listing_text.specs.declared.output.Output.{Output}
 use Rattle.dwarf_line.specs.declared.table.LineTable.{LineTable}
 use Rattle.dwarf_line.specs.declared.table.Row.{Row}
 use Rattle.dwarf_line.specs.Spelling.{spelling}
-use Rattle.line_laws.specs.Laws.{IsNoLine}
-use Rattle.line_laws.specs.Rows.{IsRowAt, GivesLine}
+use Rattle.dwarf_line_table.specs.Laws.{IsNoLine}
+use Rattle.dwarf_line_table.specs.Rows.{IsRowAt, GivesLine}
 use Rattle.mir_func.specs.declared.position.Origin.{Origin}
 use Rattle.read_program.specs.declared.closing.Parsed.{Parsed}
 use Rattle.read_program.specs.declared.program.Program.{Program}
@@ -16,9 +16,9 @@ use Rattle.compile_theorem.specs.Compiled.{IsCompiledProgram}
 use Rattle.compile_theorem.specs.Source.{PassedFunction}
 use Rattle.compile_program.specs.Program.{ArePassed, HasSections, names_of}
 use Rattle.listing_meaning.specs.Program.{lines_of, address_of, past_line}
-use Rattle.source_lines.specs.declared.file.SourceFile.{SourceFile}
-use Rattle.source_lines.specs.Files.{unit_file}
-use Rattle.source_lines.specs.Lines.{no_line, scope_line, loc_of, position_of, line_of}
+use Rattle.dwarf_line_table.specs.declared.file.SourceFile.{SourceFile}
+use Rattle.dwarf_line_table.specs.Files.{unit_file}
+use Rattle.dwarf_line_table.specs.Lines.{no_line, scope_line, loc_of, position_of, line_of}
 
 -- where the code of a line comes from
 abbrev pub origin_of : Line → Origin

@@ -47,7 +47,7 @@ use Rattle.pass_manager.specs.Told.{KeepsPasses}
 use Rattle.compile_passes.proofs.Accepted.{IsAccepted}
 use Rattle.compile_passes.specs.Passed.{MAX_PASSED, IsMadeBy, IsMadeLosing, IsCompilable, passed_of}
 use Rattle.read_proof.specs.Read.{EntryIsLimited, IsReadFunction}
-use Rattle.typed_items.specs.Typed.{IsTypedBlock, IsTypedItem, IsTypedKind, IsTypedPlace, IsTypedEntry}
+use Rattle.mir_type_facts.specs.Typed.{IsTypedBlock, IsTypedItem, IsTypedKind, IsTypedPlace, IsTypedEntry}
 use Rattle.dwarf_unit.specs.Variables.{variables_of_function}
 
 -- ---- items

@@ -15,7 +15,7 @@ use pass_manager::run::run_passes;
 use rv64_instr::reg::Reg;
 use std::alloc::{AllocError, Global};
 use mir_substitution::substitutions::Substitutions;
-use typed_items::typed::{blocks_are_typed, entries_are_typed};
+use mir_type_facts::typed::{blocks_are_typed, entries_are_typed};
 
 /// What passes made of a source.
 #[derive(Drop)]

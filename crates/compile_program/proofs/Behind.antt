@@ -11,10 +11,10 @@ use Rattle.listing_text.specs.declared.output.ListedFunction.{ListedFunction}
 use Rattle.dwarf_loclists.specs.declared.range.Range.{Range}
 use Rattle.dwarf_loclists.specs.Ranges.{Ascend, ArePlaces}
 use Rattle.pass_trait.specs.declared.loss.Loss.{Loss}
-use Rattle.function_emit.specs.declared.emit.Made.{Made}
-use Rattle.function_emit.specs.Emitted.{names_of, AreWritable, IsPushed}
-use Rattle.function_emit.proofs.AfterPasses.{made_by}
-use Rattle.function_emit.specs.Passed.{source_of, IsMadeBy, IsMadeLosing, IsCompilable, steps_of}
+use Rattle.compile_function.specs.declared.emit.Made.{Made}
+use Rattle.compile_function.specs.Emitted.{names_of, AreWritable, IsPushed}
+use Rattle.compile_function.proofs.AfterPasses.{made_by}
+use Rattle.compile_function.specs.Passed.{source_of, IsMadeBy, IsMadeLosing, IsCompilable, steps_of}
 use Rattle.read_metadata.specs.Maps.{Maps}
 use Rattle.read_body.specs.Limits.{MAX_ITEMS}
 use Rattle.mir_func.specs.Function.{Function}

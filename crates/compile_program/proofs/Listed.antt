@@ -2,14 +2,14 @@
 use Rattle.std.proofs.Common.{◌≡◌, ◌*◌, ◌≤◌, List, [], ◌∷◌, map, length, ap, arith, length-append}
 use Rattle.std.specs.Prelude.{All}
 use Rattle.std.proofs.lemmas.List.Elements.{All-head, All-tail}
-use Rattle.function_emit.proofs.Listed.{variables_few}
+use Rattle.compile_function.proofs.Listed.{variables_few}
 use Rattle.read_metadata.specs.Maps.{Maps}
 use Rattle.read_body.specs.Limits.{MAX_ITEMS}
 use Rattle.mir_func.specs.Function.{Function}
 use Rattle.mir_func.specs.Sound.{items_of}
 use Rattle.read_program.specs.declared.closing.Parsed.{Parsed}
 use Rattle.read_proof.specs.Read.{IsReadFunction}
-use Rattle.source_lines.specs.declared.compiled.Compiled.{Compiled}
+use Rattle.dwarf_line_table.specs.declared.compiled.Compiled.{Compiled}
 use Rattle.dwarf_unit.specs.Unit.{program_variables, function_variables}
 
 pub program_few : (meta : Maps) (compiled : List Compiled) (functions : List Parsed) → map (λ c. c.source.now) compiled ≡ map (λ p. p.func) functions →

@@ -3,12 +3,12 @@ use Rattle.std.proofs.Common.{◌≡◌, ◌∙◌, ℕ, zero, suc, List, [], �
 use Rattle.std.specs.Prelude.{slice_get}
 use Rattle.std.proofs.lemmas.List.Elements.{All-nil, All-cons}
 use Rattle.emit_code.specs.Laid.{LaidCode}
-use Rattle.function_emit.specs.Passed.{source_of, IsCompilable}
+use Rattle.compile_function.specs.Passed.{source_of, IsCompilable}
 use Rattle.read_metadata.specs.Maps.{Maps}
 use Rattle.read_program.specs.declared.closing.Parsed.{Parsed}
 use Rattle.compile_theorem.specs.Source.{SourceFunction, PassedFunction, IsPassedFunction, sources_among}
 use Rattle.compile_program.specs.Program.{sources_of, ArePassed, AreCoded, HaveCode}
-use Rattle.source_lines.specs.declared.compiled.Compiled.{Compiled}
+use Rattle.dwarf_line_table.specs.declared.compiled.Compiled.{Compiled}
 
 -- ---- the sources of what passes made
 

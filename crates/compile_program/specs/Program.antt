@@ -13,8 +13,8 @@ use Rattle.dwarf_loclists.specs.Spelling.{spelling as lists_spelling}
 use Rattle.pass_trait.specs.declared.loss.Loss.{Loss}
 use Rattle.pass_trait.specs.Steps.{Step}
 use Rattle.frame_rule.specs.Rule.{size_of, framed_of}
-pub use Rattle.function_emit.specs.Emitted.{names_of, AreWritable}
-pub use Rattle.function_emit.specs.Passed.{source_of, IsMadeBy, IsMadeLosing, IsCompilable, steps_of, passes_of}
+pub use Rattle.compile_function.specs.Emitted.{names_of, AreWritable}
+pub use Rattle.compile_function.specs.Passed.{source_of, IsMadeBy, IsMadeLosing, IsCompilable, steps_of, passes_of}
 use Rattle.read_metadata.specs.Maps.{Maps}
 use Rattle.mir_func.specs.Function.{Function}
 use Rattle.mir_func.specs.Limits.{MAX_FRAME}
@@ -24,8 +24,8 @@ use Rattle.compile_theorem.specs.Compiled.{AreCompiled, IsCompiledProgram}
 use Rattle.compile_theorem.specs.Source.{SourceFunction, PassedFunction}
 use Rattle.pass_list.specs.declared.kind.PassKind.{PassKind}
 use Rattle.compile_program.specs.declared.compile.Compilation.{Compilation}
-use Rattle.source_lines.specs.declared.compiled.Compiled.{Compiled}
-use Rattle.source_lines.specs.Program.{table_of}
+use Rattle.dwarf_line_table.specs.declared.compiled.Compiled.{Compiled}
+use Rattle.dwarf_line_table.specs.Program.{table_of}
 use Rattle.dwarf_unit.specs.Unit.{unit_of}
 
 -- ---- sources

@@ -2,7 +2,7 @@
 
 ghost use Rattle.std.specs.Prelude.{◌≡◌, ◌<◌, [], IfOk, IsErrOf};
 ghost use Rattle.pass_list.specs.Names.{AreDistinct};
-ghost use Rattle.function_emit.specs.Passed.{steps_of};
+ghost use Rattle.compile_function.specs.Passed.{steps_of};
 ghost use Rattle.compile_program.specs.Program.{IsOutputOf, IsCompilationOf, HasLargeFrame, HasLargeSection};
 ghost use Rattle.compile_program.specs.declared.compile.CompileError.TheVariants.{Memory};
 ghost use Rattle.compile_program.specs.steps.Made.{AreMade};
@@ -14,7 +14,7 @@ use listing_text::output::Output;
 use dwarf_info::abbreviation::write_abbrev;
 use dwarf_loclists::range::RangeLists;
 use pass_trait::loss::Losses;
-use function_emit::emit::{Codes, EmitError, Made};
+use compile_function::emit::{Codes, EmitError, Made};
 use base_list::List;
 use read_program::program::Program;
 use pass_list::kind::PassKind;

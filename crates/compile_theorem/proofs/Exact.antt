@@ -22,7 +22,7 @@ use Rattle.sem_machine.specs.Exact.{AreExact}
 use Rattle.emit_code.specs.declared.code.Entry.{Entry}
 use Rattle.emit_code.specs.Rule.{Layout, entries_of}
 use Rattle.frame_rule.specs.Rule.{framed_of}
-use Rattle.machine_steps.proofs.Points.{of_item}
+use Rattle.machine_steps_proof.proofs.Points.{of_item}
 use Rattle.dwarf_loclists.specs.declared.range.Range.{Range}
 use Rattle.dwarf_loclists.specs.declared.range.Location.{Location}
 use Rattle.dwarf_loclists.specs.Ranges.{location_in, whole_place, nth_piece}

@@ -38,9 +38,9 @@ use Rattle.emit_code.specs.Rule.{jump_operation, word_if, call_words, form_words
 use Rattle.emit_code.specs.Rule.{added_before}
 use Rattle.emit_code.specs.steps.Emitted.{IsFormed}
 use Rattle.emit_code.proofs.Settled as settled
-use Rattle.machine_steps.specs.Laid.{fetched}
-use Rattle.machine_steps.proofs.Points.{of_item}
-use Rattle.machine_layout.proofs.Addresses.{Chained, chained}
+use Rattle.machine_steps_proof.specs.Laid.{fetched}
+use Rattle.machine_steps_proof.proofs.Points.{of_item}
+use Rattle.machine_steps_proof.proofs.Addresses.{Chained, chained}
 use Rattle.dwarf_loclists.specs.declared.range.Range.{Range}
 use Rattle.dwarf_loclists.specs.Grammar.{IsSection}
 use Rattle.listing_text.specs.declared.output.Line.{Line}

@@ -15,11 +15,11 @@ use Rattle.emit_code.specs.Rule.{Layout, entries_of}
 use Rattle.emit_code.specs.steps.Emitted.{IsFormed}
 use Rattle.emit_code.proofs.Stand.{stands}
 use Rattle.frame_rule.specs.Rule.{framed_of}
-use Rattle.machine_layout.specs.Images.{IsImageOf}
-use Rattle.machine_runs.specs.Lists.{GiveWanted}
-use Rattle.machine_runs.proofs.Lists.{exact_give_wanted}
-use Rattle.machine_headline.specs.Entries.{IsEntryAt}
-use Rattle.machine_headline.proofs.LaidOut.{images_meet_the_headline}
+use Rattle.machine_steps_proof.specs.Images.{IsImageOf}
+use Rattle.machine_proof.specs.Lists.{GiveWanted}
+use Rattle.machine_proof.proofs.Lists.{exact_give_wanted}
+use Rattle.machine_proof.specs.Entries.{IsEntryAt}
+use Rattle.machine_proof.proofs.LaidOut.{images_meet_the_headline}
 use Rattle.dwarf_loclists.specs.declared.range.Range.{Range}
 use Rattle.dwarf_loclists.specs.Grammar.{IsSection}
 use Rattle.listing_text.specs.declared.output.ListedFunction.{ListedFunction}

@@ -19,7 +19,7 @@ use Rattle.sem_mir.specs.Token.{Token, Tokens, Path, begin, onward, after_item, 
 use Rattle.sem_mir.proofs.Assignments.{same_is, same_variable_refl}
 use Rattle.sem_value_ids.specs.Pullback.{OfVariable}
 use Rattle.sem_value_ids.proofs.Backwards.{tokens_pull_back}
-use Rattle.source_lines.specs.Files.{with_new, first_uses}
+use Rattle.dwarf_line_table.specs.Files.{with_new, first_uses}
 use Rattle.dwarf_unit.specs.Variables.{whole, marked, marks_of, variables_of_function}
 use Rattle.compile_theorem.specs.Source.{MarksOneOf}
 

@@ -9,7 +9,7 @@ use Rattle.mir_func.specs.Resolve.{resolve}
 use Rattle.mir_func.specs.Sound.{AllItems, IsSound, HasForm}
 use Rattle.mir_func.specs.SoundFrame.{HasPhysical}
 use Rattle.sem_mir.specs.Follow.{IsRead}
-use Rattle.machine_frames.specs.Followers.{IsFollower}
+use Rattle.machine_proof.specs.Followers.{IsFollower}
 use Rattle.listing_text.specs.declared.output.ListedFunction.{ListedFunction}
 use Rattle.dwarf_unit.specs.Variables.{whole, variables_of_function}
 

@@ -5,7 +5,7 @@ use Rattle.mir_func.specs.declared.entry.Entry.{Entry}
 use Rattle.mir_func.specs.Function.{Function}
 use Rattle.mir_func.specs.Sound.{IsSound}
 use Rattle.copyprop_rule.specs.Rule.{salvaged_function}
-use Rattle.copy_removal.proofs.Follows.{copies_follow}
+use Rattle.copyprop_proof.proofs.Follows.{copies_follow}
 
 pub sound_made : (f : Function) (subs : List Entry) (bs : List Block) → IsSound f → bs ≡ (salvaged_function f subs).blocks →
     IsSound (record { name = f.name; slots = f.slots; objects = f.objects; blocks = bs })

@@ -5,7 +5,7 @@ ghost use Rattle.mir_func.specs.Sound.{IsSound};
 ghost use Rattle.pass_trait.specs.Sizes.{greatest_number, item_count};
 ghost use Rattle.copyprop_rule.specs.Rule.{salvaged_function, salvaged_entries};
 ghost use Rattle.copyprop_rule.specs.Laws.{one_copied, same_copied};
-ghost use Rattle.copy_debug.specs.Rule.{copy_step};
+ghost use Rattle.copyprop_proof.specs.Rule.{copy_step};
 ghost use Rattle.std.proofs.Common.{rules};
 
 use copyprop_rule::function::blocks_without_copies;

@@ -8,7 +8,7 @@ use Rattle.mir_func.specs.Function.{Function}
 use Rattle.mir_func.specs.Sound.{AreApart, ids_of}
 use Rattle.mir_func.specs.Graph.{fetch_in, from_block, FetchEdge, block_start}
 use Rattle.mir_func.specs.Successors.{pos_in}
-use Rattle.dead_code.specs.Dead.{Places, Ends, LiveAtEnd}
+use Rattle.dce_rule.specs.Dead.{Places, Ends, LiveAtEnd}
 use Rattle.dce_mark.specs.Judged.{verdicts, AreJudged}
 
 -- a block's verdicts

@@ -10,7 +10,7 @@ use Rattle.rv64_instr.specs.Row.{row_of}
 use Rattle.rv64_instr.specs.Parts.{uses_of, defines_of}
 use Rattle.pass_liveness.specs.Sets.{has}
 use Rattle.pass_liveness.specs.Walk.{live_before}
-use Rattle.dead_code.specs.Dead.{Places, is_dead, needed_before, needed_at}
+use Rattle.dce_rule.specs.Dead.{Places, is_dead, needed_before, needed_at}
 use Rattle.dce_mark.specs.Judged.{verdicts}
 
 -- the set is what is needed before the items below those that are left, and their verdicts are there, the last first

@@ -2,8 +2,8 @@
 use Rattle.std.specs.Prelude.{◌≡◌, List, [], ◌∷◌, map, Bool}
 use Rattle.mir_func.specs.declared.item.Item.{Item}
 use Rattle.mir_func.specs.Function.{Function}
-use Rattle.dead_code.specs.Dead.{Places, Ends, is_dead, needed_at}
-use Rattle.dead_code.specs.Laws.{AreLive}
+use Rattle.dce_rule.specs.Dead.{Places, Ends, is_dead, needed_at}
+use Rattle.dce_rule.specs.CodeLaws.{AreLive}
 
 -- for each item whether it is dead code, where these places are needed behind all of them
 abbrev pub verdicts : List Item → (needed : Places) → List Bool

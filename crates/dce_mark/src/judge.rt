@@ -5,7 +5,7 @@ ghost use Rattle.rv64_instr.specs.Row.{row_of};
 ghost use Rattle.mir_func.specs.Sound.{SlotsIn, ids_of};
 ghost use Rattle.pass_liveness.specs.Sets.{has};
 ghost use Rattle.pass_liveness.specs.Liveness.{AreLiveSets};
-ghost use Rattle.dead_code.specs.Dead.{is_dead_row, is_dead};
+ghost use Rattle.dce_rule.specs.Dead.{is_dead_row, is_dead};
 ghost use Rattle.rv64_instr.specs.Parts.{defines_of};
 ghost use Rattle.rv64_instr.specs.declared.place.Place.TheVariants.{Register};
 ghost use Rattle.dce_mark.specs.Judged.{verdicts, AreJudged};

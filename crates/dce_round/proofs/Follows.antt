@@ -7,17 +7,17 @@ use Rattle.mir_func.specs.Strip.{stripped}
 use Rattle.pass_trait.specs.declared.loss.Loss.{Loss}
 use Rattle.pass_trait.specs.Change.{change}
 use Rattle.pass_trait.specs.Sizes.{code_count}
-use Rattle.dead_code.specs.Dead.{IsRound}
-use Rattle.dead_code.specs.Wrong.{taken_out, IsClosed}
-use Rattle.dead_code.specs.Laws.{Covers}
-use Rattle.dead_code.specs.Loose.{KeepsLoosely}
-use Rattle.dead_code.proofs.Live.{live_closed}
-use Rattle.dead_code.proofs.Sound.{sound_taken}
-use Rattle.dead_code.proofs.Follows.{dead_follows}
-use Rattle.dead_code.proofs.Stripped.{round_stripped}
-use Rattle.copy_removal.proofs.Chain.{then}
-use Rattle.dead_salvage.specs.Laws.{all_off, function_off, KeepsOff}
-use Rattle.dead_salvage.proofs.Chain.{numbers_off}
+use Rattle.dce_rule.specs.Dead.{IsRound}
+use Rattle.dce_rule.specs.Wrong.{taken_out, IsClosed}
+use Rattle.dce_rule.specs.CodeLaws.{Covers}
+use Rattle.dce_rule.specs.Loose.{KeepsLoosely}
+use Rattle.dce_rule.proofs.Live.{live_closed}
+use Rattle.dce_rule.proofs.Sound.{sound_taken}
+use Rattle.dce_rule.proofs.Follows.{dead_follows}
+use Rattle.dce_rule.proofs.Stripped.{round_stripped}
+use Rattle.copyprop_proof.proofs.Chain.{then}
+use Rattle.dce_salvage_proof.specs.SalvageLaws.{all_off, function_off, KeepsOff}
+use Rattle.dce_salvage_proof.proofs.Chain.{numbers_off}
 use Rattle.dce_round.specs.Round.{IsDeadRound}
 use Rattle.dce_round.specs.Laws.{RoundFollows, RoundCode}
 use Rattle.dce_round.proofs.SameCode.{code_same}

@@ -11,8 +11,8 @@ use Rattle.mir_func.specs.Sound.{ids_of}
 use Rattle.sem_mir.specs.Live.{Live, used, later}
 use Rattle.pass_liveness.specs.Liveness.{LiveSets, AreLiveSets}
 use Rattle.sem_simulation.proofs.Laid.{rest_in}
-use Rattle.dead_code.specs.Same.{SameItems, none, SameBlocks, no_blocks, one_more}
-use Rattle.dead_code.proofs.Same.{Beside, blocks_back, from_same, live_same}
+use Rattle.dce_rule.specs.Same.{SameItems, none, SameBlocks, no_blocks, one_more}
+use Rattle.dce_rule.proofs.Same.{Beside, blocks_back, from_same, live_same}
 
 -- whatever pairs resolve to, and whether or not marks see x2
 either : (see see' : Bool) (to to' : OperandPair → Option OperandPair) (bs : List Block) (x : Place) {p : Pos} →

@@ -7,13 +7,13 @@ use Rattle.mir_func.specs.Function.{Function}
 use Rattle.mir_func.specs.Sound.{IsSound}
 use Rattle.pass_trait.specs.declared.loss.Loss.{Loss}
 use Rattle.pass_trait.specs.Order.{IsInOrder}
-use Rattle.dead_code.specs.Dead.{Ends, IsRound}
-use Rattle.dead_code.proofs.Rounds.{ends_one}
+use Rattle.dce_rule.specs.Dead.{Ends, IsRound}
+use Rattle.dce_rule.proofs.Rounds.{ends_one}
 use Rattle.dce_mark.specs.Judged.{AreJudged}
 use Rattle.dce_sweep.specs.Round.{has_dead, IsTakenOut}
 use Rattle.dce_sweep.proofs.None.{settled}
-use Rattle.dead_salvage.specs.Laws.{all_off, function_off, KeepsOff}
-use Rattle.dead_salvage.proofs.Chain.{numbers_off}
+use Rattle.dce_salvage_proof.specs.SalvageLaws.{all_off, function_off, KeepsOff}
+use Rattle.dce_salvage_proof.proofs.Chain.{numbers_off}
 use Rattle.dce_round.specs.Round.{IsDeadRound}
 use Rattle.dce_round.proofs.SameCode.{dead_same}
 

@@ -7,8 +7,8 @@ use Rattle.mir_func.specs.Strip.{stripped}
 use Rattle.pass_trait.specs.declared.loss.Loss.{Loss}
 use Rattle.pass_trait.specs.Change.{change}
 use Rattle.pass_trait.specs.Sizes.{code_count}
-use Rattle.dead_code.specs.Dead.{IsRound}
-use Rattle.dead_code.specs.Loose.{KeepsLoosely}
+use Rattle.dce_rule.specs.Dead.{IsRound}
+use Rattle.dce_rule.specs.Loose.{KeepsLoosely}
 use Rattle.dce_round.specs.Round.{IsDeadRound}
 
 -- it is sound, and follows loosely what it followed so

@@ -4,10 +4,10 @@ use Rattle.mir_func.specs.declared.entry.Entry.{Entry}
 use Rattle.mir_func.specs.Function.{Function}
 use Rattle.pass_trait.specs.declared.loss.Loss.{Loss}
 use Rattle.pass_trait.specs.Order.{IsInOrder}
-use Rattle.dead_code.specs.Dead.{IsRound}
+use Rattle.dce_rule.specs.Dead.{IsRound}
 use Rattle.dce_mark.specs.Judged.{AreJudged}
 use Rattle.dce_sweep.specs.Round.{IsTakenOut}
-use Rattle.dead_salvage.specs.Laws.{all_off, function_off}
+use Rattle.dce_salvage_proof.specs.SalvageLaws.{all_off, function_off}
 
 -- the copies of a function that are dead lose their numbers, and then all that is dead goes; the losses are those of both, in order
 pub record IsDeadRound (f : Function) (subs : List Entry) (g : Function) (more : List Entry) (losses : List Loss) : Type 0 where

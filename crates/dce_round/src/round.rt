@@ -3,7 +3,7 @@
 ghost use Rattle.std.specs.Prelude.{◌≡◌, ◌+◌, ◌<◌, ◌^◌, [], OnOk, IfOk};
 ghost use Rattle.mir_func.specs.Sound.{IsSound};
 ghost use Rattle.pass_trait.specs.Sizes.{greatest_number, item_count};
-ghost use Rattle.dead_salvage.specs.Laws.{all_off, function_off};
+ghost use Rattle.dce_salvage_proof.specs.SalvageLaws.{all_off, function_off};
 ghost use Rattle.dce_round.specs.Round.{IsRoundWith};
 
 use dce_copies::blocks::blocks_off;

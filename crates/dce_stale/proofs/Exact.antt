@@ -22,8 +22,8 @@ use Rattle.sem_mir.specs.Live.{Defines, KindDefines}
 use Rattle.sem_simulation.proofs.Laid.{rest_in}
 use Rattle.pass_liveness.proofs.Edges.{Stays, down_edge, out_edge}
 use Rattle.pass_liveness.proofs.Paths.{next_of}
-use Rattle.dead_code.specs.Dead.{Places, Ends, paths_of}
-use Rattle.dead_code.specs.Wrong.{begins_dead, is_dead_at, IsWrongAt, made, on}
+use Rattle.dce_rule.specs.Dead.{Places, Ends, paths_of}
+use Rattle.dce_rule.specs.Wrong.{begins_dead, is_dead_at, IsWrongAt, made, on}
 use Rattle.dce_mark.specs.Judged.{verdicts}
 use Rattle.dce_stale.specs.Flow.{wrong_past, wrong_over, wrong_at, goes_on, IsHanded, IsHandedDown}
 

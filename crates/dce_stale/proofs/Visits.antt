@@ -26,8 +26,8 @@ use Rattle.pass_liveness.proofs.Edges.{Stays, kind_edge}
 use Rattle.pass_liveness.proofs.Blocks.{block_found, from_block-at, next_of-drop, index_at, items_at_is, all_below}
 use Rattle.pass_liveness.proofs.Paths.{next_of}
 use Rattle.pass_liveness.proofs.Places.{has_nothing}
-use Rattle.dead_code.specs.Dead.{Places, Ends, paths_of}
-use Rattle.dead_code.specs.Wrong.{is_dead_at, IsWrongAt, made, on}
+use Rattle.dce_rule.specs.Dead.{Places, Ends, paths_of}
+use Rattle.dce_rule.specs.Wrong.{is_dead_at, IsWrongAt, made, on}
 use Rattle.dce_mark.specs.Judged.{verdicts}
 use Rattle.dce_stale.specs.Flow.{wrong_past, wrong_over, wrong_at, goes_on, IsHanded, IsHandedDown}
 use Rattle.dce_stale.specs.Sets.{AreVerdicts, Handed, HandsOn, IsClosed, AreFound, Swept, Settled, wrong_in, wrong_of, WrongSets, starts_of, AreWrongSets}

@@ -10,7 +10,7 @@ use Rattle.mir_func.specs.declared.item.ItemKind.{ItemKind}
 use Rattle.mir_func.specs.declared.item.ItemKind.TheVariants.{Code, Mark, Phi}
 use Rattle.mir_func.specs.Exits.{exit_of}
 use Rattle.mir_func.proofs.Ways.{IsOut}
-use Rattle.dead_code.specs.Dead.{Places}
+use Rattle.dce_rule.specs.Dead.{Places}
 
 -- the places that are wrong past an item: dead code makes wrong what it sets, other code sets it right
 abbrev pub wrong_past : ItemKind → (dead : Bool) → (before : Places) → Places

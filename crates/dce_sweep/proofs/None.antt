@@ -20,13 +20,13 @@ use Rattle.sem_mir.specs.Align.{is_code}
 use Rattle.sem_mir.proofs.Reading.{found_in}
 use Rattle.sem_simulation.proofs.Laid.{rest_in, rest_of}
 use Rattle.pass_trait.specs.declared.loss.Loss.{Loss}
-use Rattle.dead_code.specs.Dead.{Places, Ends, is_dead, needed_at, without_dead, thinned_block, thinned, IsRound}
-use Rattle.dead_code.specs.Laws.{AreLive}
-use Rattle.dead_code.specs.Wrong.{begins_dead, silenced, silenced_left, silenced_block, taken_out, is_dead_at, IsWrongAt, made, on}
-use Rattle.dead_code.specs.Out.{LosesOf, LosesAt}
-use Rattle.dead_code.proofs.Lists.{quiet, quiet_is}
-use Rattle.dead_code.proofs.Sound.{left_of, left_items}
-use Rattle.dead_code.proofs.Fewer.{count_left}
+use Rattle.dce_rule.specs.Dead.{Places, Ends, is_dead, needed_at, without_dead, thinned_block, thinned, IsRound}
+use Rattle.dce_rule.specs.CodeLaws.{AreLive}
+use Rattle.dce_rule.specs.Wrong.{begins_dead, silenced, silenced_left, silenced_block, taken_out, is_dead_at, IsWrongAt, made, on}
+use Rattle.dce_rule.specs.Out.{LosesOf, LosesAt}
+use Rattle.dce_rule.proofs.Lists.{quiet, quiet_is}
+use Rattle.dce_rule.proofs.Sound.{left_of, left_items}
+use Rattle.dce_rule.proofs.Fewer.{count_left}
 use Rattle.dce_mark.specs.Judged.{verdicts, AreJudged}
 use Rattle.dce_stale.specs.Sets.{AreVerdicts, WrongSets, AreWrongSets, wrong_of, starts_of}
 use Rattle.dce_stale.proofs.Exact.{begins_at}

@@ -14,8 +14,8 @@ use Rattle.pass_liveness.specs.Index.{index_in}
 use Rattle.pass_liveness.specs.Sets.{has}
 use Rattle.pass_liveness.specs.Liveness.{set_at, has_at_start}
 use Rattle.pass_liveness.proofs.Blocks.{from_block-at, index_at, get_at, get_or_any}
-use Rattle.dead_code.specs.Dead.{Places, Ends}
-use Rattle.dead_code.specs.Wrong.{silenced_left, silenced_block}
+use Rattle.dce_rule.specs.Dead.{Places, Ends}
+use Rattle.dce_rule.specs.Wrong.{silenced_left, silenced_block}
 use Rattle.dce_mark.specs.Judged.{verdicts}
 use Rattle.dce_stale.specs.Flow.{wrong_at}
 use Rattle.dce_stale.specs.Sets.{AreVerdicts, WrongSets, AreWrongSets, starts_of, wrong_in, wrong_of}

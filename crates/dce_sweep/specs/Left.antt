@@ -13,8 +13,8 @@ use Rattle.mir_func.specs.declared.item.ItemKind.TheVariants.{Code, Mark, Phi}
 use Rattle.pass_trait.specs.declared.loss.Reason.TheVariants.{Removed, WrongPlace}
 use Rattle.pass_trait.specs.declared.loss.Loss.{Loss}
 use Rattle.pass_trait.specs.Rule.{number_lost, mark_lost}
-use Rattle.dead_code.specs.Dead.{Places, Ends}
-use Rattle.dead_code.specs.Wrong.{silenced}
+use Rattle.dce_rule.specs.Dead.{Places, Ends}
+use Rattle.dce_rule.specs.Wrong.{silenced}
 use Rattle.dce_mark.specs.Judged.{verdicts}
 
 -- a phi of this asks for a place that is wrong

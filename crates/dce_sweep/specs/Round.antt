@@ -7,10 +7,10 @@ use Rattle.mir_func.specs.Function.{Function}
 use Rattle.mir_func.specs.Sound.{AllItems, HasForm}
 use Rattle.pass_trait.specs.declared.loss.Loss.{Loss}
 use Rattle.pass_trait.specs.Sizes.{code_count}
-use Rattle.dead_code.specs.Dead.{Places, Ends, IsRound}
-use Rattle.dead_code.specs.Laws.{AreLive}
-use Rattle.dead_code.specs.Wrong.{taken_out}
-use Rattle.dead_code.specs.Out.{LosesAt, AreWrong}
+use Rattle.dce_rule.specs.Dead.{Places, Ends, IsRound}
+use Rattle.dce_rule.specs.CodeLaws.{AreLive}
+use Rattle.dce_rule.specs.Wrong.{taken_out}
+use Rattle.dce_rule.specs.Out.{LosesAt, AreWrong}
 use Rattle.dce_mark.specs.Judged.{verdicts}
 
 -- some item of blocks is dead code

@@ -14,7 +14,7 @@ use base_list::List;
 use pass_liveness::live::Live;
 use mir_func::func::Func;
 use std::alloc::{AllocError, Global};
-use type_facts::blocks::know_forms;
+use mir_type_facts::blocks::know_forms;
 
 /// Takes the dead code out of a function, once: what is live at blocks' ends is needed there. Marks and phis of places
 /// that are wrong without it give nothing. What is lost is appended to `lost`, in the order of the text, also the

@@ -8,11 +8,11 @@ use Rattle.dwarf_info.specs.declared.unit.VariableEntry.{VariableEntry}
 use Rattle.dwarf_info.specs.declared.unit.FunctionEntry.{FunctionEntry}
 use Rattle.read_metadata.specs.Maps.{Maps}
 use Rattle.mir_func.specs.declared.variable.VarId.{VarId}
-use Rattle.source_lines.specs.declared.compiled.Compiled.{Compiled}
-use Rattle.source_lines.specs.declared.file.SourceFile.{SourceFile}
-use Rattle.source_lines.specs.Files.{first_uses}
-use Rattle.source_lines.specs.Program.{program_file}
-use Rattle.source_lines.proofs.FirstUses.{lengthened, uses_append}
+use Rattle.dwarf_line_table.specs.declared.compiled.Compiled.{Compiled}
+use Rattle.dwarf_line_table.specs.declared.file.SourceFile.{SourceFile}
+use Rattle.dwarf_line_table.specs.Files.{first_uses}
+use Rattle.dwarf_line_table.specs.Program.{program_file}
+use Rattle.dwarf_line_table.proofs.FirstUses.{lengthened, uses_append}
 use Rattle.dwarf_unit.specs.Unit.{type_uses, variable_entry, variables_from, function_variables, function_entry, functions_from, program_variables}
 use Rattle.dwarf_unit.specs.Unit.{program_types, base_entries, unit_of}
 

@@ -6,8 +6,8 @@ use Rattle.std.proofs.Common.{true, eq-eqb}
 use Rattle.std.specs.Option.{option_eq}
 use Rattle.mir_func.specs.Variables.{is_same_variable, is_same_node}
 use Rattle.indexmap.specs.IndexSet.{insert_key}
-use Rattle.source_lines.specs.Files.{with_new}
-use Rattle.source_lines.proofs.Keys.{insert_map}
+use Rattle.dwarf_line_table.specs.Files.{with_new}
+use Rattle.dwarf_line_table.proofs.Keys.{insert_map}
 use Rattle.dwarf_unit.specs.Variables.{whole}
 use Rattle.dwarf_unit.specs.steps.Keys.{seen}
 

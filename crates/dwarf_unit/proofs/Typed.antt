@@ -12,9 +12,9 @@ use Rattle.read_metadata.specs.Maps.{Maps}
 use Rattle.read_metadata.specs.Metadata.{variable_at}
 use Rattle.read_metadata.specs.declared.node.VariableNode.{VariableNode}
 use Rattle.mir_func.specs.declared.variable.VarId.{VarId}
-use Rattle.source_lines.specs.declared.compiled.Compiled.{Compiled}
-use Rattle.source_lines.specs.Files.{with_new, first_uses}
-use Rattle.source_lines.proofs.FirstUses.{joined, lengthened}
+use Rattle.dwarf_line_table.specs.declared.compiled.Compiled.{Compiled}
+use Rattle.dwarf_line_table.specs.Files.{with_new, first_uses}
+use Rattle.dwarf_line_table.proofs.FirstUses.{joined, lengthened}
 use Rattle.dwarf_unit.specs.Unit.{type_uses, node_uses, listed, readable_type, type_in, node_entry, variables_from, function_variables}
 use Rattle.dwarf_unit.specs.Unit.{functions_from, program_types, base_entries, unit_of}
 use Rattle.dwarf_unit.proofs.Keys.{node_same}

@@ -11,9 +11,9 @@ use Rattle.read_metadata.specs.Metadata.{variable_at, base_type_at}
 use Rattle.read_metadata.specs.declared.node.VariableNode.{VariableNode}
 use Rattle.read_metadata.specs.declared.node.BaseTypeNode.{BaseTypeNode}
 use Rattle.mir_func.specs.declared.variable.VarId.{VarId}
-use Rattle.source_lines.specs.declared.compiled.Compiled.{Compiled}
-use Rattle.source_lines.specs.Files.{first_uses}
-use Rattle.source_lines.specs.Program.{program_file}
+use Rattle.dwarf_line_table.specs.declared.compiled.Compiled.{Compiled}
+use Rattle.dwarf_line_table.specs.Files.{first_uses}
+use Rattle.dwarf_line_table.specs.Program.{program_file}
 use Rattle.dwarf_unit.specs.Variables.{variables_of_function}
 
 -- a node, where what stands there is read as a DIBasicType

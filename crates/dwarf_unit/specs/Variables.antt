@@ -7,7 +7,7 @@ use Rattle.mir_func.specs.declared.item.ItemKind.{ItemKind}
 use Rattle.mir_func.specs.declared.item.ItemKind.TheVariants.{Code, Mark, Phi}
 use Rattle.mir_func.specs.declared.variable.VarId.{VarId}
 use Rattle.mir_func.specs.Variables.{is_same_variable}
-use Rattle.source_lines.specs.Files.{first_uses}
+use Rattle.dwarf_line_table.specs.Files.{first_uses}
 
 -- the variable of a part
 abbrev pub whole : VarId → VarId

@@ -2,7 +2,7 @@
 
 ghost use Rattle.std.specs.Prelude.{◌≡◌, ◌+◌, ◌-◌, ◌<◌, ◌≤◌, ◌^◌, ◌++◌, length, List, ℕ, nat_eq, OnOk, IfOk};
 ghost use Rattle.std.specs.List.{flat_map};
-ghost use Rattle.source_lines.specs.Files.{first_uses};
+ghost use Rattle.dwarf_line_table.specs.Files.{first_uses};
 ghost use Rattle.dwarf_unit.specs.Unit.{function_variables, function_entry, type_uses};
 
 use crate::types::Types;
@@ -10,7 +10,7 @@ use crate::variable::variables_from;
 use crate::variables::variables;
 use dwarf_info::unit::FunctionEntry;
 use read_metadata::metadata::Metadata;
-use source_lines::compiled::Compiled;
+use dwarf_line_table::compiled::Compiled;
 use std::alloc::{AllocError, Global};
 
 /// The entry of a function, whose variables' lists are numbered from a number on.

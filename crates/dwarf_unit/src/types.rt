@@ -4,7 +4,7 @@ ghost use Rattle.std.specs.Prelude.{◌≡◌, ◌+◌, ◌-◌, ◌<◌, ◌≤
 ghost use Rattle.std.specs.Prelude.{nat_eq, OnOk, IfOk};
 ghost use Rattle.std.specs.List.{position_or_len};
 ghost use Rattle.read_metadata.specs.Metadata.{base_type_at};
-ghost use Rattle.source_lines.specs.Files.{with_new};
+ghost use Rattle.dwarf_line_table.specs.Files.{with_new};
 ghost use Rattle.dwarf_unit.specs.Unit.{base_entry, base_entries};
 
 use dwarf_info::unit::{BaseEntries, BaseEntry};

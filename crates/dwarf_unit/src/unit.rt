@@ -8,8 +8,8 @@ use crate::function::function_entry;
 use crate::types::Types;
 use dwarf_info::unit::{FunctionEntries, Unit};
 use read_metadata::metadata::Metadata;
-use source_lines::compiled::Compiled;
-use source_lines::unit_file::unit_file;
+use dwarf_line_table::compiled::Compiled;
+use dwarf_line_table::unit_file::unit_file;
 use std::alloc::{AllocError, Global};
 
 /// The unit of functions in the order of the text, which have so many bytes of code together (DWARF 5, section 3.1.1).

@@ -3,7 +3,7 @@
 ghost use Rattle.std.specs.Prelude.{◌≡◌, ◌+◌, ◌-◌, ◌<◌, ◌≤◌, ◌^◌, ◌++◌, length, List, ℕ, Some, nat_eq, OnOk, IfOk};
 ghost use Rattle.std.specs.List.{flat_map};
 ghost use Rattle.mir_func.specs.declared.variable.VarId.{VarId};
-ghost use Rattle.source_lines.specs.Files.{first_uses};
+ghost use Rattle.dwarf_line_table.specs.Files.{first_uses};
 ghost use Rattle.dwarf_unit.specs.Unit.{readable_type, listed, type_in, node_uses, node_entry};
 ghost use Rattle.dwarf_unit.specs.Unit.{type_uses, variable_entry, variables_from};
 

@@ -2,7 +2,7 @@
 use Rattle.std.proofs.Common.{◌≡◌, ℕ, List, [], ◌∷◌, ◌++◌, map, filter, Bool, true, false, cond, not, ◌||◌, append-nil, refl, sym, ap, ◌∙◌}
 use Rattle.std.specs.List.{list_any}
 use Rattle.mir_func.specs.declared.item.Item.{Item}
-use Rattle.fold_kills.specs.Kills.{kills_same, once}
+use Rattle.fold_rule_proof.specs.Kills.{kills_same, once}
 use Rattle.fold_undef.specs.declared.kill.Kill.{Kill}
 use Rattle.fold_undef.specs.declared.kill.Kill.TheVariants.{Part, Number}
 use Rattle.fold_undef.specs.Kill.{kill_item, is_same_kill}

@@ -4,7 +4,7 @@ ghost use Rattle.std.specs.Prelude.{◌≡◌, ◌++◌, ℕ, List, map, IfOk, O
 ghost use Rattle.std.specs.HashSet.{contains};
 ghost use Rattle.fold_targets.specs.Leads.{lead};
 ghost use Rattle.fold_targets.specs.Ends.{told, end_in};
-ghost use Rattle.fold_kills.specs.Kills.{once, with_kills};
+ghost use Rattle.fold_rule_proof.specs.Kills.{once, with_kills};
 ghost use Rattle.fold_undef.specs.Bypassed.{end_past};
 ghost use Rattle.fold_undef.specs.Kill.{kill_item, kills_in};
 ghost use Rattle.fold_undef.specs.steps.Gathered.{kills_at, kills_to, with_kills_of};

@@ -25,7 +25,7 @@ use Rattle.emit_code.specs.Inverted.{inverted, jump_to}
 use Rattle.emit_code.specs.Listed.{Line as LaidLine, form_lines as laid_form, kind_lines as laid_kind, lines_at as laid_lines}
 use Rattle.emit_code.specs.Rule.{Layout, Site, Form, LongBranch, form_of, address_in, added_before, sites_in, sites_from}
 use Rattle.emit_code.specs.steps.Emitted.{IsFormed}
-use Rattle.machine_layout.specs.Images.{code_line}
+use Rattle.machine_steps_proof.specs.Images.{code_line}
 use Rattle.listing_text.specs.Output.{operand_of}
 use Rattle.listing_meaning.specs.Frame.{area_shown, end_of}
 use Rattle.listing_meaning.specs.Program.{code_lines}

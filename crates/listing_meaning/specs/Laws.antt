@@ -11,7 +11,7 @@ use Rattle.emit_code.specs.declared.code.Entry.{Entry as Laid}
 use Rattle.emit_code.specs.Rule.{Layout, words_of, entries_of}
 use Rattle.emit_code.specs.Laid.{IsWorded}
 use Rattle.emit_code.specs.steps.Emitted.{IsFormed, point_of}
-use Rattle.machine_layout.specs.Images.{IsImageOf}
+use Rattle.machine_steps_proof.specs.Images.{IsImageOf}
 use Rattle.listing_text.specs.declared.output.ListedVariable.{ListedVariable}
 use Rattle.listing_text.specs.declared.output.Output.{Output}
 use Rattle.listing_meaning.specs.Program.{image_of, blocks_shown, contents, IsLaidOut, IsListedAt}

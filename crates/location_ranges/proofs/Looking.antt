@@ -16,12 +16,12 @@ use Rattle.mir_func.specs.Graph.{Program, block_start}
 use Rattle.mir_func.specs.Successors.{pos_in}
 use Rattle.sem_mir.specs.Token.{NoneIsWanted}
 use Rattle.sem_value_ids.specs.Pullback.{OfVariable}
-use Rattle.class_entries.specs.declared.tracked.Tracked.{Tracked}
-use Rattle.class_entries.specs.declared.tracked.Tracked.TheVariants.{Pair, Part, Number}
-use Rattle.class_entries.specs.declared.tracked.Tracked.TheVariants as tracked
-use Rattle.class_entries.specs.Entry.{thing}
-use Rattle.class_paths.specs.Wanted.{HasItsClass, IsFirstByClass, IsWantedOrNone}
-use Rattle.class_paths.proofs.Wanted.{first_by_class_is_wanted, unmarked_is_nowhere}
+use Rattle.value_solver.specs.declared.tracked.Tracked.{Tracked}
+use Rattle.value_solver.specs.declared.tracked.Tracked.TheVariants.{Pair, Part, Number}
+use Rattle.value_solver.specs.declared.tracked.Tracked.TheVariants as tracked
+use Rattle.value_solver.specs.Entry.{thing}
+use Rattle.value_proof.specs.Wanted.{HasItsClass, IsFirstByClass, IsWantedOrNone}
+use Rattle.value_proof.proofs.Wanted.{first_by_class_is_wanted, unmarked_is_nowhere}
 use Rattle.value_tracker.proofs.Constants.{place_is_first}
 use Rattle.value_tracker.specs.declared.index.Index.{Index}
 use Rattle.value_tracker.specs.Firsts.{AreFirsts}

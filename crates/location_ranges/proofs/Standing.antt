@@ -13,12 +13,12 @@ use Rattle.mir_func.specs.Graph.{Program, Fetch, Here, below, block_start, front
 use Rattle.mir_func.specs.Resolve.{resolve}
 use Rattle.mir_func.specs.Successors.{pos_in}
 use Rattle.sem_value_ids.specs.Pullback.{Tracked, OfNumber, Was, back}
-use Rattle.class_entries.specs.declared.tracked.Tracked.{Tracked as Thing}
+use Rattle.value_solver.specs.declared.tracked.Tracked.{Tracked as Thing}
 use Rattle.rv64_instr.specs.Arithmetic.{word}
-use Rattle.class_entries.specs.declared.entry.BlockEntry.{BlockEntry}
-use Rattle.class_entries.specs.Entry.{thing, IsEntry}
-use Rattle.class_paths.specs.Classes.{Classes, IsReached, AreClasses, AreFresh, class_back}
-use Rattle.class_paths.proofs.Passing.{classes_pass_items, paths_come_from_above}
+use Rattle.value_solver.specs.declared.entry.BlockEntry.{BlockEntry}
+use Rattle.value_solver.specs.Entry.{thing, IsEntry}
+use Rattle.value_proof.specs.Classes.{Classes, IsReached, AreClasses, AreFresh, class_back}
+use Rattle.value_proof.proofs.Passing.{classes_pass_items, paths_come_from_above}
 use Rattle.value_tracker.specs.declared.index.Index.{Index}
 use Rattle.value_tracker.specs.Things.{Settle, settled_at}
 use Rattle.value_tracker.specs.Held.{Holds, Passes}

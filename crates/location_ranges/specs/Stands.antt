@@ -8,10 +8,10 @@ use Rattle.mir_func.specs.declared.item.Item.{Item}
 use Rattle.mir_func.specs.Graph.{Program, block_start, framed_program}
 use Rattle.mir_func.specs.Resolve.{resolve}
 use Rattle.mir_func.specs.Successors.{pos_in}
-use Rattle.class_entries.specs.declared.entry.BlockEntry.{BlockEntry}
-use Rattle.class_entries.specs.Entry.{thing, IsEntry}
-use Rattle.class_paths.specs.Classes.{Classes, AreClasses, IsReached}
-use Rattle.class_paths.specs.Wanted.{AreThingsOf}
+use Rattle.value_solver.specs.declared.entry.BlockEntry.{BlockEntry}
+use Rattle.value_solver.specs.Entry.{thing, IsEntry}
+use Rattle.value_proof.specs.Classes.{Classes, AreClasses, IsReached}
+use Rattle.value_proof.specs.Wanted.{AreThingsOf}
 use Rattle.value_tracker.specs.declared.index.Index.{Index}
 use Rattle.value_tracker.specs.Things.{AreThings}
 use Rattle.value_tracker.specs.Held.{PLACES, Holds}

@@ -1,7 +1,7 @@
 //! What the walk takes of the analysis of values.
 
-use class_entries::entry::BlockEntry;
-use class_entries::tracked::Tracked;
+use value_solver::entry::BlockEntry;
+use value_solver::tracked::Tracked;
 use mir_func::variable::VarId;
 use mir_substitution::substitutions::Substitutions;
 

@@ -25,8 +25,8 @@ use Rattle.copyprop_block.specs.Copied.{SoFar, BlocksSoFar, renamed_item, goes_b
 use Rattle.copyprop_rule.proofs.Rows.{moves_by}
 use Rattle.copyprop_rule.proofs.Sizes.{known_moves}
 use Rattle.copyprop_rule.specs.Rule.{begins}
-use Rattle.copy_debug.specs.Ledger.{Line, numbered_in, numbered_line, lines_above, phi_of, line, lines_by_fate, next_lines, over_lines, lines_in, ledger}
-use Rattle.copy_debug.specs.Rule.{copy_step}
+use Rattle.copyprop_proof.specs.Ledger.{Line, numbered_in, numbered_line, lines_above, phi_of, line, lines_by_fate, next_lines, over_lines, lines_in, ledger}
+use Rattle.copyprop_proof.specs.Rule.{copy_step}
 use Rattle.pass_manager.specs.Shown.{IsGiven}
 
 -- the register of its phi isn't x0

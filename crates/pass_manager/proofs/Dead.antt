@@ -20,9 +20,9 @@ use Rattle.copyprop_rule.proofs.Rows.{moves_by}
 use Rattle.dce_copies.specs.declared.off.Copied.{Copied}
 use Rattle.dce_copies.specs.Off.{copied_by, numbered_copy, SoFar, off_at}
 use Rattle.dce_copies.specs.Blocks.{going_from, BlocksSoFar, in_block, blocks_off}
-use Rattle.dead_salvage.specs.Laws.{begins_off}
-use Rattle.dead_pass.specs.Ledger.{Line, line_by, line_of, line_of_copy, lines_of, lines_down, lines_in, ledger}
-use Rattle.dead_pass.specs.Rule.{dead_rule}
+use Rattle.dce_salvage_proof.specs.SalvageLaws.{begins_off}
+use Rattle.dce_pass.specs.Ledger.{Line, line_by, line_of, line_of_copy, lines_of, lines_down, lines_in, ledger}
+use Rattle.dce_pass.specs.Rule.{dead_rule}
 use Rattle.pass_manager.specs.Shown.{IsGiven}
 
 -- the register of its phi isn't x0

@@ -4,14 +4,14 @@ use Rattle.mir_func.specs.Limits.{MAX_SLOTS}
 use Rattle.pass_trait.specs.Change.{Change}
 use Rattle.pass_trait.specs.Sizes.{greatest, greatest_number, item_count, code_count, call_count, IsPhysical, most}
 use Rattle.pass_trait.specs.Steps.{Step}
-use Rattle.copy_debug.specs.Rule.{copy_step}
-use Rattle.dead_pass.specs.Steps.{dead_steps}
-use Rattle.fold_debug.specs.Debug.{fold_step}
+use Rattle.copyprop_proof.specs.Rule.{copy_step}
+use Rattle.dce_pass.specs.Steps.{dead_steps}
+use Rattle.fold_proof.specs.Debug.{fold_step}
 use Rattle.pass_list.specs.declared.kind.PassKind.{PassKind}
 use Rattle.pass_list.specs.declared.kind.PassKind.TheVariants.{Copy, Remat, Spill, Dead, Fold}
 use Rattle.remat_pass.specs.Pass.{remat_step}
 use Rattle.spill_pass.specs.Reserve.{reserve_of}
-use Rattle.spill_step.specs.Step.{spill_step}
+use Rattle.spill_proof.specs.Step.{spill_step}
 
 -- ---- one pass: a line for each
 

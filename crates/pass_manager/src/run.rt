@@ -12,9 +12,9 @@ ghost use Rattle.pass_manager.specs.Passes.{passes_of, any_asks, all_keep, Fit, 
 ghost use Rattle.pass_manager.specs.Shown.{KeepsShown};
 ghost use Rattle.pass_manager.specs.Told.{KeepsPasses};
 
-use branch_fold::fold::FoldPass;
+use fold_pass::fold::FoldPass;
 use copyprop_pass::copies::CopyPass;
-use dead_pass::dead::DeadPass;
+use dce_pass::dead::DeadPass;
 use pass_trait::loss::Losses;
 use pass_trait::pass::Pass;
 use mir_func::func::Func;

@@ -9,9 +9,9 @@ use Rattle.mir_func.specs.declared.location.Loc.{Loc}
 use Rattle.mir_func.specs.declared.position.Origin.{Origin}
 use Rattle.mir_func.specs.Function.{Function}
 use Rattle.mir_func.specs.Strip.{bare, stripped_items, stripped_blocks, stripped}
-use Rattle.body_read_back.specs.Body.{label_line, item_line, body_lines}
-use Rattle.declarations_read_back.specs.Declared.{name_line, stack_lines}
-use Rattle.functions_read_back.specs.Stripped.{placed_items, placed_block, placed, document_of}
+use Rattle.readback_items.specs.Body.{label_line, item_line, body_lines}
+use Rattle.readback_functions.specs.Declared.{name_line, stack_lines}
+use Rattle.readback_functions.specs.Stripped.{placed_items, placed_block, placed, document_of}
 
 one_again : (blk k : ℕ) (kind : ItemKind) (o : Origin) (l : Loc) (rest : List Item) →
     ((j : ℕ) → map item_line (stripped_items (placed_items blk j rest)) ≡ map item_line rest) →

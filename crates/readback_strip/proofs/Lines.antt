@@ -11,10 +11,10 @@ use Rattle.mir_func.specs.Function.{Function}
 use Rattle.mir_func_printer.specs.FuncText.{name_text, slot_line as slot_text, object_line as object_text, stack_text}
 use Rattle.mir_func_printer.specs.FuncText.{item_line as item_line_text, block_text}
 use Rattle.mir_func_printer.specs.FuncText.{func_text}
-use Rattle.body_read_back.specs.Body.{label_line, item_line, block_lines, body_lines}
-use Rattle.documents_read_back.specs.Document.{fed, text_of_lines, document_lines}
-use Rattle.declarations_read_back.specs.Declared.{name_line, slot_line, object_line, entry_lines, stack_lines}
-use Rattle.functions_read_back.specs.Stripped.{document_of}
+use Rattle.readback_items.specs.Body.{label_line, item_line, block_lines, body_lines}
+use Rattle.readback_functions.specs.Document.{fed, text_of_lines, document_lines}
+use Rattle.readback_functions.specs.Declared.{name_line, slot_line, object_line, entry_lines, stack_lines}
+use Rattle.readback_functions.specs.Stripped.{document_of}
 
 pub fed_both : (xs ys : List (List ℕ)) → text_of_lines (xs ++ ys) ≡ text_of_lines xs ++ text_of_lines ys
 fed_both xs ys = flat_map-append fed xs ys

@@ -16,13 +16,13 @@ use Rattle.read_program.specs.declared.closing.Parsed.{Parsed}
 use Rattle.read_program.specs.Program.{MAX_FUNCTIONS, FunctionsFrom, ReadsDocuments, ReadsText}
 use Rattle.read_program.proofs.Lists.{both}
 use Rattle.strip_command.specs.StripText.{stripped_func_text, stripped_text}
-use Rattle.documents_read_back.specs.Document.{is_printed, IsLine, fed, text_of_lines, Document, document_lines, IsDocument, documents_at}
-use Rattle.documents_read_back.proofs.Scans.{documents_read_back}
-use Rattle.functions_read_back.specs.Stripped.{document_of, HasNamesOfBytes, reread}
-use Rattle.functions_read_back.proofs.Functions.{functions_read_back}
-use Rattle.names_of_bytes.specs.Bytes.{AreBytes}
-use Rattle.names_of_bytes.proofs.Documents.{DocBytes}
-use Rattle.names_of_bytes.proofs.Functions.{WasRead, program_read, names_are_of_bytes}
+use Rattle.readback_functions.specs.Document.{is_printed, IsLine, fed, text_of_lines, Document, document_lines, IsDocument, documents_at}
+use Rattle.readback_functions.proofs.Scans.{documents_read_back}
+use Rattle.readback_functions.specs.Stripped.{document_of, HasNamesOfBytes, reread}
+use Rattle.readback_functions.proofs.Functions.{functions_read_back}
+use Rattle.readback_functions.specs.Bytes.{AreBytes}
+use Rattle.readback_functions.proofs.NameDocuments.{DocBytes}
+use Rattle.readback_functions.proofs.NameFunctions.{WasRead, program_read, names_are_of_bytes}
 use Rattle.readback_strip.specs.Text.{StrippedTextsAreRead}
 use Rattle.readback_strip.proofs.Again.{document_again}
 use Rattle.readback_strip.proofs.Lines.{function_fed}

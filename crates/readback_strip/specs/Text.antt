@@ -4,8 +4,8 @@ use Rattle.read_metadata.specs.Metadata.{metadata_of}
 use Rattle.read_program.specs.declared.program.Program.{Program}
 use Rattle.read_program.specs.Program.{ReadsText}
 use Rattle.strip_command.specs.StripText.{stripped_text}
-use Rattle.functions_read_back.specs.Stripped.{reread}
-use Rattle.names_of_bytes.specs.Bytes.{AreBytes}
+use Rattle.readback_functions.specs.Stripped.{reread}
+use Rattle.readback_functions.specs.Bytes.{AreBytes}
 
 -- a program without its debug items, as its text is read: each item is kept where it stands there, and there is no metadata
 abbrev pub stripped_program : Program → Program

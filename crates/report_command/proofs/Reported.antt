@@ -17,7 +17,7 @@ use Rattle.pass_list.specs.declared.kind.PassKind.{PassKind}
 use Rattle.compile_program.specs.declared.compile.Compilation.{Compilation}
 use Rattle.compile_program.specs.Program.{AreCoded, AreMadeLosing, IsCompilationOf, names_of}
 use Rattle.dwarf_unit.specs.Variables.{variables_of_function}
-use Rattle.words_alone.proofs.Settled.{same_layout}
+use Rattle.invariance_code.proofs.Settled.{same_layout}
 use Rattle.report_command.specs.Reported.{parts_of, variable_count, AreReportedAs, IsReported, CompilationsAreReported}
 
 -- ---- one function

@@ -3,13 +3,13 @@
 ghost use Rattle.std.specs.Prelude.{◌≡◌, ◌++◌, ◌≤◌, All, IfOk, OnOk, length, map};
 ghost use Rattle.report_command.specs.Reported.{HasParts, variable_count, part_of, parts_of, compilation_report};
 ghost use Rattle.dwarf_loclists.specs.Ranges.{Ascend};
-ghost use Rattle.program_report.specs.ProgramReport.{function_report, program_report};
+ghost use Rattle.report_function.specs.ProgramReport.{function_report, program_report};
 
 use emit_code::code::Code;
 use listing_text::output::{ListedFunction, ListedVariable};
-use debugify_report::make::make_report;
-use debugify_report::print::print_report;
-use debugify_report::report::Names;
+use report_function::make::make_report;
+use report_function::debugify_print::print_report;
+use report_function::report::Names;
 use dwarf_loclists::range::Ranges;
 use pass_trait::loss::Losses;
 use mir_printer::text::Text;

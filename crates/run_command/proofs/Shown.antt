@@ -8,7 +8,7 @@ use Rattle.listing_text.specs.declared.output.Output.{Output}
 use Rattle.dwarf_loclists.specs.declared.range.Range.{Range}
 use Rattle.dwarf_loclists.specs.Grammar.{IsSection}
 use Rattle.frame_rule.specs.Rule.{framed_of}
-use Rattle.machine_layout.specs.Images.{IsImageOf}
+use Rattle.machine_steps_proof.specs.Images.{IsImageOf}
 use Rattle.compile_theorem.proofs.Functions.{IsCompiledIn, compiled_in}
 use Rattle.compile_theorem.proofs.Headline.{formed}
 use Rattle.compile_theorem.proofs.Telling.{all_at}
@@ -23,9 +23,9 @@ use Rattle.report_command.specs.Program.{AreCoded, IsCompilationOf, names_of}
 use Rattle.sim_machine.specs.Shown.{ShowsCode}
 use Rattle.listing_meaning.proofs.Images.{image_shown}
 use Rattle.listing_meaning.specs.Program.{image_of}
-use Rattle.simulated_image.proofs.Shows.{images_show_code}
+use Rattle.sim_proof.proofs.Shows.{images_show_code}
 use Rattle.dwarf_unit.specs.Variables.{variables_of_function}
-use Rattle.words_alone.proofs.Settled.{same_layout}
+use Rattle.invariance_code.proofs.Settled.{same_layout}
 use Rattle.report_command.proofs.Reported.{ends}
 use Rattle.run_command.specs.Runs.{CompilationsShowCode}
 

@@ -24,10 +24,10 @@ use Rattle.dwarf_loclists.specs.Grammar.{LocationAt}
 use Rattle.dwarf_loclists.specs.Ranges.{Ascend, ArePlaces, location_in}
 use Rattle.pass_trait.specs.Steps.{Step}
 use Rattle.frame_rule.specs.Rule.{framed_of}
-use Rattle.generated_program.specs.Program.{generated_program}
-use Rattle.generated_runs.specs.Laws.{MarksWhole}
-use Rattle.generated_runs.proofs.Made.{IsMadeBlock}
-use Rattle.generated_runs.proofs.Steps.{TOP, IsMild, made_mild, generated_made, of_made, generated_runs_dont_fault, generated_functions_mark_wholes}
+use Rattle.gen_program.specs.Program.{generated_program}
+use Rattle.gen_program.specs.Laws.{MarksWhole}
+use Rattle.gen_program.proofs.Made.{IsMadeBlock}
+use Rattle.gen_program.proofs.Steps.{TOP, IsMild, made_mild, generated_made, of_made, generated_runs_dont_fault, generated_functions_mark_wholes}
 use Rattle.selftest_proof.specs.Known.{IsGiven, MarksPartOf, AreGiven}
 use Rattle.selftest_proof.specs.Together.{HasNoFault, HasNoCall, RunsLong}
 use Rattle.selftest_proof.proofs.Known.{reads_are_known}
@@ -46,7 +46,7 @@ use Rattle.gen_function.specs.Generator.{generated}
 use Rattle.sem_mir.specs.Follow.{Shape}
 use Rattle.read_program.specs.declared.closing.Parsed.{Parsed}
 use Rattle.read_program.specs.declared.program.Program.{Program}
-use Rattle.mir_semantics.specs.StandsFor.{AreCounted}
+use Rattle.sem_interpreter.specs.StandsFor.{AreCounted}
 use Rattle.compile_theorem.proofs.Functions.{words_length}
 use Rattle.compile_theorem.proofs.Headline.{compiled_promises}
 use Rattle.compile_theorem.proofs.Variables.{own_marks}
@@ -59,7 +59,7 @@ use Rattle.listing_meaning.specs.Program.{image_of}
 use Rattle.dwarf_unit.specs.Variables.{whole, variables_of_function}
 use Rattle.location_of_variable.specs.Groups.{part_of}
 use Rattle.location_of_variable.specs.Wanted.{bytes_of as piece_bytes}
-use Rattle.words_alone.proofs.Settled.{same_layout}
+use Rattle.invariance_code.proofs.Settled.{same_layout}
 use Rattle.selftest_command.specs.steps.First.{TestsFirst, FirstGoesApart}
 use Rattle.selftest_command.specs.Tested.{IsSelfTestOf}
 use Rattle.selftest_command.proofs.NoCalls.{code_calls_nothing}

@@ -15,7 +15,7 @@ use Rattle.frame_rule.specs.Rule.{added, added_all, prologue, epilogue, position
 use Rattle.frame_rule.specs.Rule.{prologue_block}
 use Rattle.frame_rule.specs.Rule.{framed_blocks, framed_of, size_of, saved_of}
 use Rattle.frame_rule.proofs.Rows.{renamed_row, row_renamed}
-use Rattle.generated_runs.proofs.Steps.{IsMildRow, IsMild, item_in, fetched}
+use Rattle.gen_program.proofs.Steps.{IsMildRow, IsMild, item_in, fetched}
 use Rattle.selftest_proof.specs.Together.{HasNoCall}
 use Rattle.mir_func.specs.declared.block.Block.{Block}
 use Rattle.mir_func.specs.declared.entry.OperandPair.{OperandPair}

@@ -15,7 +15,7 @@ use Rattle.mir_func.specs.declared.item.ItemKind.TheVariants.{Code, Mark, Phi}
 use Rattle.mir_func.specs.declared.variable.VarId.{VarId}
 use Rattle.mir_func.specs.Variables.{is_same_variable}
 use Rattle.sem_mir.proofs.Assignments.{same_variable_symmetric}
-use Rattle.source_lines.specs.Files.{with_new, first_uses}
+use Rattle.dwarf_line_table.specs.Files.{with_new, first_uses}
 use Rattle.dwarf_unit.specs.Variables.{whole, marked, marks_of, variables_of_function}
 
 -- two variables differ

@@ -3,7 +3,7 @@ use Rattle.std.specs.Prelude.{◌≡◌, ℕ, ◌*◌, ◌≤◌, List, [], ◌�
 use Rattle.emit_code.specs.Laid.{LaidCode}
 use Rattle.listing_text.specs.declared.output.ListedFunction.{ListedFunction}
 use Rattle.selftest_count.specs.Text.{IsSelfTest}
-use Rattle.generated_program.specs.Program.{generated_program}
+use Rattle.gen_program.specs.Program.{generated_program}
 use Rattle.mir_func.specs.Resolve.{resolve}
 use Rattle.gen_function.specs.Generator.{generated}
 use Rattle.pass_list.specs.declared.kind.PassKind.{PassKind}

@@ -3,11 +3,11 @@
 ghost use Rattle.std.specs.Prelude.{◌<◌, ◌≤◌, [], All, IfNone, IfOk, IfSome, IsErrOf, length};
 ghost use Rattle.dwarf_loclists.specs.Ranges.{Ascend, ArePlaces};
 ghost use Rattle.selftest_proof.specs.Together.{RunsLong};
-ghost use Rattle.generated_program.specs.Program.{generated_program};
+ghost use Rattle.gen_program.specs.Program.{generated_program};
 ghost use Rattle.mir_func.specs.Resolve.{resolve};
 ghost use Rattle.gen_function.specs.Generator.{generated};
 ghost use Rattle.read_program.specs.declared.closing.Parsed.{Parsed};
-ghost use Rattle.mir_semantics.specs.StandsFor.{AreCounted};
+ghost use Rattle.sem_interpreter.specs.StandsFor.{AreCounted};
 ghost use Rattle.pass_list.specs.Names.{AreDistinct};
 ghost use Rattle.run_command.specs.Program.{HasLargeFrame, HasLargeSection, steps_of};
 ghost use Rattle.selftest_command.specs.Tested.{IsSelfTestOf};
@@ -15,7 +15,7 @@ ghost use Rattle.selftest_command.specs.steps.First.{TestsFirst, FirstGoesApart}
 
 use run_command::compile::{Compilation, CompileError, compile};
 use selftest_count::text::self_test_text;
-use generated_program::program::generated_program;
+use gen_program::program::generated_program;
 use read_program::program::Program;
 use mir_printer::text::Text;
 use pass_list::kind::PassKind;

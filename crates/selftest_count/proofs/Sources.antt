@@ -18,12 +18,12 @@ use Rattle.sem_mir.specs.State.{Core, Reply, State, spelled, low_bytes}
 use Rattle.sem_mir.specs.Step.{Outcome, Falls, Goes, Gives, Traps, Asks, Breaks, read, address_at, is_fault, set_register, answered, slot_loaded, saved}
 use Rattle.sem_mir.specs.Step.{does, are_written, act, with_core, numbered, do_item, do_fetch, Went, moved, step}
 use Rattle.sem_mir.proofs.Outcomes.{on_either}
-use Rattle.mir_semantics.specs.Acts.{IsAnswered}
-use Rattle.mir_semantics.specs.StandsFor.{Concrete, IsStepAnswered, IsItemAnswered}
-use Rattle.mir_semantics.specs.Steps.{Steps}
-use Rattle.mir_semantics.specs.declared.state.SourceStep.TheVariants.{Went as StepWent}
-use Rattle.mir_semantics.specs.declared.state.SourceStep.{SourceStep}
-use Rattle.mir_semantics.specs.declared.state.SourceStep.TheVariants.{Returned as StepReturned, Faulted as StepFaulted, Waits as StepWaits}
+use Rattle.sem_interpreter.specs.Acts.{IsAnswered}
+use Rattle.sem_interpreter.specs.StandsFor.{Concrete, IsStepAnswered, IsItemAnswered}
+use Rattle.sem_interpreter.specs.Steps.{Steps}
+use Rattle.sem_interpreter.specs.declared.state.SourceStep.TheVariants.{Went as StepWent}
+use Rattle.sem_interpreter.specs.declared.state.SourceStep.{SourceStep}
+use Rattle.sem_interpreter.specs.declared.state.SourceStep.TheVariants.{Returned as StepReturned, Faulted as StepFaulted, Waits as StepWaits}
 use Rattle.selftest_count.specs.Apart.{MAX_SOURCE_STEPS, Halts, Misses, makes_all, halts, goes_on, MissesNext}
 use Rattle.selftest_count.specs.steps.Beside.{IsAt, ArrivesSo, AlignsSo, MissesSo, MissesNextSo}
 

@@ -8,8 +8,8 @@ use Rattle.mir_func.specs.Graph.{Program}
 use Rattle.mir_func.specs.declared.variable.VarId.{VarId}
 use Rattle.sem_mir.specs.Align.{Start as SinceStart, After}
 use Rattle.sem_mir.specs.State.{State, content, written}
-use Rattle.mir_semantics.specs.Places.{starting_registers}
-use Rattle.mir_semantics.specs.StandsFor.{Concrete, Starts, StandsFor as StandsForSource}
+use Rattle.sem_interpreter.specs.Places.{starting_registers}
+use Rattle.sem_interpreter.specs.StandsFor.{Concrete, Starts, StandsFor as StandsForSource}
 use Rattle.dwarf_loclists.specs.declared.range.Range.{Range}
 use Rattle.sem_machine.specs.Image.{Image}
 use Rattle.sem_machine.specs.Machine.{Machine}

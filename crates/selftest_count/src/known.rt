@@ -2,11 +2,11 @@
 
 ghost use Rattle.std.specs.Prelude.{◌≡◌};
 ghost use Rattle.sem_mir.specs.State.{State};
-ghost use Rattle.mir_semantics.specs.StandsFor.{StandsFor};
+ghost use Rattle.sem_interpreter.specs.StandsFor.{StandsFor};
 ghost use Rattle.selftest_count.specs.Counts.{known_in};
 
 use mir_func::variable::VarId;
-use mir_semantics::state::SourceState;
+use sem_interpreter::state::SourceState;
 
 /// How many of the parts of variables have a value by their last assignment.
 pub fn known(state: &SourceState, parts: &[VarId]) -> usize

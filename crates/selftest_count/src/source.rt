@@ -1,13 +1,13 @@
 //! The source's run from one line of the machine code to the next.
 
 ghost use Rattle.std.specs.Prelude.{◌≡◌, false, IfOk, IsTrue};
-ghost use Rattle.mir_semantics.specs.StandsFor.{IsPosition, AreCounted};
-ghost use Rattle.mir_semantics.specs.Steps.{source_of};
+ghost use Rattle.sem_interpreter.specs.StandsFor.{IsPosition, AreCounted};
+ghost use Rattle.sem_interpreter.specs.Steps.{source_of};
 ghost use Rattle.selftest_count.specs.steps.Beside.{ArrivesSo, AlignsSo, MissesSo, MissesNextSo};
 
 use mir_func::func::Func;
 use mir_func::position::Pos;
-use mir_semantics::state::{SourceState, SourceStep};
+use sem_interpreter::state::{SourceState, SourceStep};
 use std::alloc::AllocError;
 use mir_substitution::substitutions::Substitutions;
 

@@ -3,7 +3,7 @@
 ghost use Rattle.std.specs.Prelude.{◌≡◌, ◌++◌, All, IfNone, IfOk, IfSome, OnOk};
 ghost use Rattle.mir_func.specs.Resolve.{resolve};
 ghost use Rattle.dwarf_loclists.specs.Ranges.{Ascend, ArePlaces};
-ghost use Rattle.mir_semantics.specs.StandsFor.{AreCounted};
+ghost use Rattle.sem_interpreter.specs.StandsFor.{AreCounted};
 ghost use Rattle.selftest_count.specs.Runs.{GoApart};
 ghost use Rattle.selftest_count.specs.Text.{count_line, counts_text, items_of, MAX_STEPS, IsSelfTest};
 

@@ -1,8 +1,8 @@
 //! One step of both runs.
 
 ghost use Rattle.std.specs.Prelude.{◌≡◌, ◌+◌, ◌<◌, ◌^◌, All, IfNone, IfOk, IfSome};
-ghost use Rattle.mir_semantics.specs.StandsFor.{IsPosition, AreCounted};
-ghost use Rattle.mir_semantics.specs.Steps.{source_of};
+ghost use Rattle.sem_interpreter.specs.StandsFor.{IsPosition, AreCounted};
+ghost use Rattle.sem_interpreter.specs.Steps.{source_of};
 ghost use Rattle.selftest_count.specs.steps.Beside.{Meets, MeetsNot, Leads, is_kept};
 ghost use Rattle.selftest_count.specs.steps.Bounds.{AreBounded, CanBeRead};
 
@@ -16,7 +16,7 @@ use mir_func::func::Func;
 use mir_func::position::Origin;
 use mir_func::variable::VarId;
 use sem_mir::align::position_of;
-use mir_semantics::state::SourceState;
+use sem_interpreter::state::SourceState;
 use sim_start::answers::ValueAnswers;
 use sim_machine::ending::{Stepped, Stop};
 use sim_machine::machine::Machine;

@@ -10,7 +10,7 @@ use Rattle.sem_machine.specs.Machine.{Machine, register}
 use Rattle.rv64_word.specs.MachineRow.{link_row}
 use Rattle.sem_mir.specs.State.{Event, Wrote, stored, touches_frame}
 use Rattle.sem_machine.specs.MachineStep.{Stepped, Continues, does, does_row, past, at, set_register, store}
-use Rattle.byte_memory.specs.Held.{MemoryHolds}
+use Rattle.sem_interpreter.specs.Held.{MemoryHolds}
 use Rattle.sim_machine.specs.Kept.{StandsFor, Goes, calls_in}
 use Rattle.sim_machine.specs.steps.Immediates.{on_registers}
 use Rattle.sim_machine.specs.declared.hart.Hart.{Hart}

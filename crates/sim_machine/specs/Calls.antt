@@ -6,7 +6,7 @@ use Rattle.rv64_instr.specs.declared.start.CallEvent.{CallEvent}
 use Rattle.sem_mir.specs.State.{Reply, Called, written}
 use Rattle.sem_machine.specs.Machine.{Machine, register, set_all_in}
 use Rattle.sem_machine.specs.MachineStep.{past}
-use Rattle.byte_memory.specs.Held.{some_writes}
+use Rattle.sem_interpreter.specs.Held.{some_writes}
 use Rattle.sim_machine.specs.Kept.{calls_in}
 
 -- the call of a name with the contents of registers. Its number counts the calls of the run from 1, modulo 2^64

@@ -1,6 +1,6 @@
 -- What is kept of a running machine, and the states of the definition that it stands for.
 use Rattle.std.specs.Prelude.{◌≡◌, ℕ, suc, ◌%◌, ◌^◌, ◌<◌, List, [], ◌∷◌, slice_index}
-use Rattle.byte_memory.specs.Held.{MemoryHolds}
+use Rattle.sem_interpreter.specs.Held.{MemoryHolds}
 use Rattle.sem_mir.specs.State.{Event, Called, Wrote}
 use Rattle.sem_machine.specs.Machine.{Machine, register}
 use Rattle.sem_machine.specs.MachineStep.{Stepped, Continues}

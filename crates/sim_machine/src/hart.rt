@@ -4,7 +4,7 @@ ghost use Rattle.std.specs.Prelude.{◌≡◌, ◌<◌, ◌^◌};
 ghost use Rattle.sem_machine.specs.Machine.{Machine, register};
 ghost use Rattle.sem_machine.specs.MachineStep.{past, at, set_register};
 
-use byte_memory::memory::Memory;
+use sem_interpreter::memory::Memory;
 
 /// The state of the machine: a hardware thread.
 #[derive(Drop)]

@@ -13,7 +13,7 @@ use crate::ending::{Stepped, Stop};
 use crate::hart::Hart;
 use crate::site::{Places, call_at, find, places};
 use crate::word::run_word;
-use byte_memory::memory::Memory;
+use sem_interpreter::memory::Memory;
 use emit_code::code::{Code, Entry};
 use emit_code::objects::ObjectOffsets;
 use rv64_instr::reg::Reg;

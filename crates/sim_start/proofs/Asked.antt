@@ -9,7 +9,7 @@ use Rattle.sem_machine.specs.Machine.{Machine, register, register_in}
 use Rattle.emit_code.specs.Laid.{LaidCode}
 use Rattle.sim_machine.specs.Machines.{StartsCode}
 use Rattle.sim_machine.specs.Shown.{ShowsCode}
-use Rattle.simulated_runs.specs.Runs.{WereGiven}
+use Rattle.sim_proof.specs.Runs.{WereGiven}
 use Rattle.sim_trace.specs.declared.variable.Variable.{Variable}
 use Rattle.sim_trace.specs.Run.{IsRunText, IsTextOfRun}
 use Rattle.sim_start.specs.Asked.{start_register, BeginsRun, reply_to, replies, IsTextOfAskedRun}

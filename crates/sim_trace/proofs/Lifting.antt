@@ -18,8 +18,8 @@ use Rattle.sim_machine.specs.Machines.{StartsCode}
 use Rattle.sim_machine.specs.Running.{StopsSo, call_at}
 use Rattle.sim_machine.specs.Shown.{ShowsCode, entry_at}
 use Rattle.sim_machine.proofs.Stepping.{line_none, line_some}
-use Rattle.simulated_runs.specs.Runs.{WereGiven, next_call}
-use Rattle.simulated_runs.proofs.Runs.{given_on, steps_are_the_machines}
+use Rattle.sim_proof.specs.Runs.{WereGiven, next_call}
+use Rattle.sim_proof.proofs.Runs.{given_on, steps_are_the_machines}
 use Rattle.sim_trace.specs.declared.variable.Variable.{Variable}
 use Rattle.sim_trace.specs.Lines.{step_line, stop_line}
 use Rattle.sim_trace.specs.Run.{line_at_code, line_before, Prints, IsRunText, makes_steps, stops, HasText, IsTextOfRun}

@@ -11,7 +11,7 @@ use Rattle.sim_machine.specs.declared.ending.Stop.{Stop}
 use Rattle.sim_machine.specs.Machines.{StartsCode}
 use Rattle.sim_machine.specs.Running.{StopsSo}
 use Rattle.sim_machine.specs.Shown.{ShowsCode}
-use Rattle.simulated_runs.specs.Runs.{WereGiven}
+use Rattle.sim_proof.specs.Runs.{WereGiven}
 use Rattle.sim_trace.specs.declared.variable.Variable.{Variable}
 use Rattle.sim_trace.specs.Lines.{step_line, stop_line}
 

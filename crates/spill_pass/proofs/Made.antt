@@ -12,14 +12,14 @@ use Rattle.spill_code.specs.declared.spilling.Spilling.{Spilling}
 use Rattle.spill_code.specs.Room.{HaveRoom}
 use Rattle.spill_debug.specs.Asked.{number_beyond, blocks_asked}
 use Rattle.spill_debug.specs.Lost.{AreScratchLosses}
-use Rattle.spill_choice.specs.Left.{registers_left}
+use Rattle.spill_select.specs.Left.{registers_left}
 use Rattle.spill_rule.specs.Choice.{homes_of, spilling_of, entry_of}
 use Rattle.spill_rule.specs.Rule.{Decides}
-use Rattle.spill_sizes.proofs.Numbers.{beyond_most}
-use Rattle.spill_whole.specs.Whole.{spilled_by, where_spilled, whole}
-use Rattle.spill_joined.proofs.Joined.{joined_is_sound}
-use Rattle.spill_kept.specs.Kept.{AreTaken, IsReserve, IsSpilledWithLosses}
-use Rattle.spill_kept.proofs.Kept.{may_be}
+use Rattle.spill_proof.proofs.Numbers.{beyond_most}
+use Rattle.spill_proof.specs.Whole.{spilled_by, where_spilled, whole}
+use Rattle.spill_proof.proofs.Joined.{joined_is_sound}
+use Rattle.spill_proof.specs.Kept.{AreTaken, IsReserve, IsSpilledWithLosses}
+use Rattle.spill_proof.proofs.Kept.{may_be}
 use Rattle.spill_pass.proofs.Room.{silent_asked, have_room}
 
 module _ (reserve : List ℕ) (live : ℕ → Bool) (f : Function) (subs : List Entry) (decides : Decides reserve f live) (s : Spilling)

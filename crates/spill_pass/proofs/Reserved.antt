@@ -1,12 +1,12 @@
 -- The reserve is one.
 use Rattle.std.proofs.Common.{◌≡◌, inl, inr, ℕ, zero, suc, ◌+◌, ◌<◌, ◌≤◌, List, length, Contains, slice_index, arith}
 use Rattle.std.proofs.lemmas.List.Kept.{AllPairs-filter, AllPairs-from_increasing}
-use Rattle.reserve_list.specs.Reserve.{RESERVABLE}
-use Rattle.spill_choice.specs.Incoming.{is_among}
+use Rattle.cli_numbers.specs.Reserve.{RESERVABLE}
+use Rattle.spill_select.specs.Incoming.{is_among}
 use Rattle.spill_rule.specs.Chosen.{IsReservable}
 use Rattle.spill_rule.proofs.Scratch.{kept_by}
-use Rattle.spill_causes.specs.Causes.{IsAscending}
-use Rattle.spill_kept.specs.Kept.{IsReserve}
+use Rattle.spill_proof.specs.Causes.{IsAscending}
+use Rattle.spill_proof.specs.Kept.{IsReserve}
 use Rattle.spill_pass.specs.Reserve.{reserve_of}
 
 low : (r v : ℕ) → v ≡ r → 8 ≤ v → v ≤ 9 → IsReservable r

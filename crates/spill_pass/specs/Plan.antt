@@ -6,8 +6,8 @@ use Rattle.pass_trait.specs.declared.loss.Loss.{Loss}
 use Rattle.pass_trait.specs.Order.{IsInOrder}
 use Rattle.spill_code.specs.declared.spilling.Spilling.{Spilling}
 use Rattle.spill_debug.specs.Lost.{AreScratchLosses}
-use Rattle.spill_choice.specs.Incoming.{is_among}
-use Rattle.spill_choice.specs.Left.{registers_left}
+use Rattle.spill_select.specs.Incoming.{is_among}
+use Rattle.spill_select.specs.Left.{registers_left}
 use Rattle.spill_rule.specs.Choice.{spilling_of}
 use Rattle.spill_rule.specs.Rule.{Decides}
 use Rattle.spill_pass.specs.declared.plan.Plan.{Plan}

@@ -1,7 +1,7 @@
 -- Which registers may be spilled at all.
 use Rattle.std.specs.Prelude.{ℕ, List, filter}
-use Rattle.reserve_list.specs.Reserve.{RESERVABLE}
-use Rattle.spill_choice.specs.Incoming.{is_among}
+use Rattle.cli_numbers.specs.Reserve.{RESERVABLE}
+use Rattle.spill_select.specs.Incoming.{is_among}
 
 -- those of some registers that may be in a reserve, each once, in ascending order
 abbrev pub reserve_of : List ℕ → List ℕ

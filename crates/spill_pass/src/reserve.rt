@@ -1,13 +1,13 @@
 //! Which registers may be spilled at all.
 
 ghost use Rattle.std.specs.Prelude.{◌≡◌, filter, IfOk};
-ghost use Rattle.reserve_list.specs.Reserve.{RESERVABLE};
-ghost use Rattle.spill_choice.specs.Incoming.{is_among};
+ghost use Rattle.cli_numbers.specs.Reserve.{RESERVABLE};
+ghost use Rattle.spill_select.specs.Incoming.{is_among};
 ghost use Rattle.spill_pass.specs.Reserve.{reserve_of};
 
 use rv64_instr::reg::{Reg, Registers};
-use spill_choice::among::is_among;
-use spill_choice::scratch::register;
+use spill_select::among::is_among;
+use spill_select::scratch::register;
 use std::alloc::{AllocError, Global};
 
 /// The registers that may be in a reserve, in ascending order: x8, x9 and x18 to x27, which a function gives back as it

@@ -5,8 +5,8 @@ ghost use Rattle.mir_func.specs.Limits.{MAX_SLOTS};
 ghost use Rattle.mir_func.specs.Sound.{AllItems, IsSound, HasForm};
 ghost use Rattle.pass_trait.specs.Sizes.{greatest, greatest_number, item_count};
 ghost use Rattle.spill_rule.specs.Laws.{one_spilled, same_spilled};
-ghost use Rattle.spill_step.specs.Step.{spill_step};
-ghost use Rattle.spill_kept.specs.Kept.{IsReserve, IsSpilledWithLosses};
+ghost use Rattle.spill_proof.specs.Step.{spill_step};
+ghost use Rattle.spill_proof.specs.Kept.{IsReserve, IsSpilledWithLosses};
 ghost use Rattle.spill_pass.specs.Reserve.{reserve_of};
 ghost use Rattle.std.proofs.Common.{rules};
 
@@ -17,10 +17,10 @@ use pass_trait::pass::Pass;
 use mir_func::func::Func;
 use rv64_instr::reg::{Reg, Registers};
 use pass_salvage::fresh::fresh_number;
-use spill_kept::laws::{spilled_keeps_following, spilled_keeps_sizes, spilled_keeps_steps};
+use spill_proof::kept_laws::{spilled_keeps_following, spilled_keeps_sizes, spilled_keeps_steps};
 use std::alloc::{AllocError, Global};
 use mir_substitution::substitutions::Substitutions;
-use type_facts::blocks::{know_forms, know_silent};
+use mir_type_facts::blocks::{know_forms, know_silent};
 
 /// Moves registers of a reserve to slots (LLVM: spilling), as many as there is room for. Of the registers given here
 /// those are in the reserve that may be: x8, x9 and x18 to x27. Lost are the marks and phis of the two scratch

@@ -1,8 +1,8 @@
 //! What is told of faults that no run shows, and the order of a reserve's registers.
 
-use command_line::fault::Fault;
-use command_line::status::Status;
-use reserve_list::text::reserve_list;
+use cli::fault::Fault;
+use cli::status::Status;
+use cli_numbers::text::reserve_list;
 
 #[test]
 fn faults_tell(rt: HostRuntime) {

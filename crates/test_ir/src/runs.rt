@@ -1,12 +1,12 @@
 //! Runs of small functions, and what their steps and variables show.
 
-ghost use Rattle.mir_semantics.specs.StandsFor.{AreCounted, IsPosition};
+ghost use Rattle.sem_interpreter.specs.StandsFor.{AreCounted, IsPosition};
 
 use crate::build::{entries, function, number, variable};
 use base_list::List;
 use mir_func::func::Func;
 use mir_func::position::Pos;
-use mir_semantics::state::{SourceState, SourceStep};
+use sem_interpreter::state::{SourceState, SourceStep};
 use base_ids::code::BlockId;
 use rv64_instr::start::{Answer, Start};
 use std::alloc::Global;

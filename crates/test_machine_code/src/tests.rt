@@ -1,14 +1,14 @@
 //! Machine code of small functions.
 
 ghost use Rattle.std.specs.Prelude.{IfOk};
-ghost use Rattle.program_report.specs.ProgramReport.{IsReportable};
+ghost use Rattle.report_function.specs.ProgramReport.{IsReportable};
 
 use emit_code::code::{Code, Words};
 use dwarf_loclists::reader::list_count;
 use emit_function::code::code_of;
 use base_list::List;
 use read_program::program::read_program;
-use program_report::print::{Compiled, print_reports};
+use report_function::program_print::{Compiled, print_reports};
 use sim_machine::answers::CallAnswers;
 use sim_machine::ending::{Stepped, Stop};
 use sim_machine::machine::Machine;

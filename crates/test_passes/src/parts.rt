@@ -7,7 +7,7 @@ ghost use Rattle.pass_trait.specs.Sizes.{greatest, greatest_number, most_numbers
 
 use crate::shown::{push_blocks, push_entries, push_items, push_losses};
 use dce_mark::judge::judge;
-use fold_sound::fold::fold;
+use fold_rule_proof::fold::fold;
 use pass_trait::pass::Pass;
 use base_list::List;
 use pass_liveness::live::Live;

@@ -1,7 +1,7 @@
 //! The layout and the values of a function that only returns.
 
-use class_entries::entry::BlockEntry;
-use class_entries::tracked::Tracked;
+use value_solver::entry::BlockEntry;
+use value_solver::tracked::Tracked;
 use emit_code::code::Code;
 use emit_code::laws::one_layout;
 use listing_text::laws::one_reading;

@@ -2,7 +2,7 @@
 
 use base_list::List;
 use read_metadata::metadata::read_meta;
-use source_lines::line_table::line_table;
+use dwarf_line_table::line_table::line_table;
 use std::test::Fail;
 use dwarf_unit::unit::make_unit;
 

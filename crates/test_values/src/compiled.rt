@@ -1,8 +1,8 @@
-//! A function that is compiled alone: the program compiles functions by `function_emit`.
+//! A function that is compiled alone: the program compiles functions by `compile_function`.
 
 use crate::text::{function_of, register};
 use dwarf_loclists::range::{Location, Range, Ranges};
-use function_compiler::compile::compile_function;
+use compile_function::compile::compile_function;
 use rv64_instr::place::Place;
 use std::alloc::Global;
 use std::test::Fail;

@@ -1,8 +1,8 @@
 //! What is known at the start of blocks, over all paths to them.
 
 use crate::text::{framed_of, function_of, register, variable};
-use class_entries::entry::BlockEntry;
-use class_entries::tracked::Tracked;
+use value_solver::entry::BlockEntry;
+use value_solver::tracked::Tracked;
 use value_live_ins::values::{MachineValues, solve};
 use std::alloc::Global;
 use std::fmt::Write;

@@ -1,8 +1,8 @@
 //! The classes of places: past a copy, a call and marks of overlapping parts.
 
 use crate::text::{pair, part, register};
-use class_entries::entry::{Bits, BlockEntry, Numbers};
-use class_entries::tracked::Tracked;
+use value_solver::entry::{Bits, BlockEntry, Numbers};
+use value_solver::tracked::Tracked;
 use value_tracker::held::{Held, PLACES};
 use value_tracker::index::{index_of, number_class};
 use value_tracker::pass::Block;

@@ -1,10 +1,10 @@
 -- What the command that makes up a function wrote.
 use Rattle.std.proofs.Common.{◌≡◌, ℕ, List, subst}
-use Rattle.command_line.specs.declared.command.Command.{Command}
-use Rattle.command_line.specs.declared.command.Command.TheVariants.{Gen}
-use Rattle.command_line.specs.Command.{IsCommand}
-use Rattle.command_line.proofs.Words.{one_command}
-use Rattle.command_numbers.specs.declared.generation.Generation.{Generation}
+use Rattle.cli.specs.declared.command.Command.{Command}
+use Rattle.cli.specs.declared.command.Command.TheVariants.{Gen}
+use Rattle.cli.specs.Command.{IsCommand}
+use Rattle.cli.proofs.CommandWords.{one_command}
+use Rattle.cli_numbers.specs.declared.generation.Generation.{Generation}
 use Rattle.gen_text.specs.GeneratedText.{generated_text}
 use Rattle.tool_driver.specs.Run.{Finishes, AnswersInput}
 use Rattle.tool_driver.specs.Stream.{Change, IsWrittenWhole}

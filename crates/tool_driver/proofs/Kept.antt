@@ -1,8 +1,8 @@
 -- What the command that compiles wrote keeps each promise of the output that it is the text of.
 use Rattle.std.proofs.Common.{ℕ, List}
-use Rattle.command_line.specs.declared.command.Plan.{Plan}
-use Rattle.command_line.specs.declared.command.Command.TheVariants.{Compile}
-use Rattle.command_line.specs.Command.{IsCommand}
+use Rattle.cli.specs.declared.command.Plan.{Plan}
+use Rattle.cli.specs.declared.command.Command.TheVariants.{Compile}
+use Rattle.cli.specs.Command.{IsCommand}
 use Rattle.listing_text.specs.declared.output.Output.{Output}
 use Rattle.pass_trait.specs.Steps.{Step}
 use Rattle.read_program.specs.declared.program.Program.{Program}

@@ -8,13 +8,13 @@ use Rattle.emit_code.specs.Laid.{LaidCode, StandFrom, IsCodeOf}
 use Rattle.emit_code.specs.Rule.{entries_of, words_of, sites_of}
 use Rattle.listing_text.specs.declared.output.Output.{Output}
 use Rattle.frame_rule.specs.Rule.{framed_of}
-use Rattle.line_laws.proofs.Tables.{tables_give_lines, nothing_outside}
-use Rattle.line_laws.specs.Laws.{LieFrom}
+use Rattle.dwarf_line_table.proofs.LineTables.{tables_give_lines, nothing_outside}
+use Rattle.dwarf_line_table.specs.Laws.{LieFrom}
 use Rattle.mir_func.specs.Function.{Function, FramedFunction}
 use Rattle.read_metadata.specs.Maps.{Maps}
 use Rattle.compile_theorem.specs.Source.{PassedFunction}
 use Rattle.run_command.specs.Program.{AreCoded, HasSections}
-use Rattle.source_lines.specs.declared.compiled.Compiled.{Compiled}
+use Rattle.dwarf_line_table.specs.declared.compiled.Compiled.{Compiled}
 use Rattle.tool_driver.specs.Lines.{GivesLines}
 
 code_stands : (f : FramedFunction) (base : ℕ) (c : LaidCode) → IsCodeOf f base c → StandFrom c.base c.entries (c.base + 4 * length c.words)

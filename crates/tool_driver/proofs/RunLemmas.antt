@@ -3,17 +3,17 @@ use Rattle.std.specs.Prelude.{Option, Some}
 use Rattle.std.proofs.Common.{◌≡◌, ℕ, List, ◌+◌, ap, sym, ◌∙◌, refl, subst, inl, inr, arith}
 use Rattle.base_io.specs.Told.{Takes, TakesCount}
 use Rattle.base_io.proofs.ToldLemmas.{Takes-told, TakesCount-told}
-use Rattle.command_line.specs.declared.command.Command.{Command}
-use Rattle.command_line.specs.declared.command.Plan.{Plan}
-use Rattle.command_line.specs.declared.command.TestPlan.{TestPlan}
-use Rattle.command_line.specs.declared.command.Command.TheVariants.{Compile, Listing, Report, Run, Strip, Gen, SelfTest}
-use Rattle.command_line.specs.Command.{IsCommand}
-use Rattle.command_line.proofs.Words.{one_command}
-use Rattle.command_line.specs.declared.fault.Fault.{Fault}
-use Rattle.command_line.specs.declared.fault.Fault.TheVariants.{Usage, Read, TooLong, Refused, NoFunction, UnknownFunction}
-use Rattle.command_line.specs.declared.fault.Fault.TheVariants.{FrameTooLarge, SectionTooLarge, Write, Memory}
-use Rattle.command_line.specs.declared.status.Status.TheVariants as status
-use Rattle.command_line.specs.Fault.{status_of, line_of}
+use Rattle.cli.specs.declared.command.Command.{Command}
+use Rattle.cli.specs.declared.command.Plan.{Plan}
+use Rattle.cli.specs.declared.command.TestPlan.{TestPlan}
+use Rattle.cli.specs.declared.command.Command.TheVariants.{Compile, Listing, Report, Run, Strip, Gen, SelfTest}
+use Rattle.cli.specs.Command.{IsCommand}
+use Rattle.cli.proofs.CommandWords.{one_command}
+use Rattle.cli.specs.declared.fault.Fault.{Fault}
+use Rattle.cli.specs.declared.fault.Fault.TheVariants.{Usage, Read, TooLong, Refused, NoFunction, UnknownFunction}
+use Rattle.cli.specs.declared.fault.Fault.TheVariants.{FrameTooLarge, SectionTooLarge, Write, Memory}
+use Rattle.cli.specs.declared.status.Status.TheVariants as status
+use Rattle.cli.specs.Fault.{status_of, line_of}
 use Rattle.read_program.specs.declared.program.Program.{Program}
 use Rattle.listing_text.specs.declared.output.Output.{Output}
 use Rattle.compile_output_proof.proofs.Functions.{printable}

@@ -6,7 +6,7 @@ use Rattle.listing_text.specs.declared.output.Output.{Output}
 use Rattle.listing_text.specs.Shown.{Shows, OfShown}
 use Rattle.listing_text.proofs.OneOutput.{one_reading}
 use Rattle.pass_trait.specs.Steps.{Step}
-use Rattle.kept_values.proofs.Keeping.{kept_values_are_wanted}
+use Rattle.value_proof.proofs.Keeping.{kept_values_are_wanted}
 use Rattle.listing_proof.specs.Laws.{inlined_in}
 use Rattle.read_program.specs.declared.program.Program.{Program}
 use Rattle.compile_output_proof.specs.Laws.{OutputsArePrintable}

@@ -1,10 +1,10 @@
 -- What the command that strips wrote is read in turn.
 use Rattle.std.proofs.Common.{◌≡◌, ◌≢◌, ℕ, List, [], ◌∷◌, map, refl, sym, subst}
-use Rattle.command_line.specs.declared.command.Command.{Command}
-use Rattle.command_line.specs.declared.command.Command.TheVariants.{Strip}
-use Rattle.command_line.specs.Command.{IsCommand}
-use Rattle.command_line.proofs.Words.{one_command}
-use Rattle.functions_read_back.specs.Stripped.{reread}
+use Rattle.cli.specs.declared.command.Command.{Command}
+use Rattle.cli.specs.declared.command.Command.TheVariants.{Strip}
+use Rattle.cli.specs.Command.{IsCommand}
+use Rattle.cli.proofs.CommandWords.{one_command}
+use Rattle.readback_functions.specs.Stripped.{reread}
 use Rattle.read_program.specs.declared.closing.Parsed.{Parsed}
 use Rattle.readback_strip.proofs.Texts.{stripped_texts_are_read}
 use Rattle.readback_strip.specs.Text.{stripped_program, IsReadStripped}

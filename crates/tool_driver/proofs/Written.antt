@@ -1,12 +1,12 @@
 -- What the commands that report, that run and that test wrote.
 use Rattle.std.proofs.Common.{◌≡◌, ℕ, List, subst}
-use Rattle.command_line.specs.declared.command.Command.{Command}
-use Rattle.command_line.specs.declared.command.Plan.{Plan}
-use Rattle.command_line.specs.declared.command.RunPlan.{RunPlan}
-use Rattle.command_line.specs.declared.command.TestPlan.{TestPlan}
-use Rattle.command_line.specs.declared.command.Command.TheVariants.{Report, Run, SelfTest}
-use Rattle.command_line.specs.Command.{IsCommand}
-use Rattle.command_line.proofs.Words.{one_command}
+use Rattle.cli.specs.declared.command.Command.{Command}
+use Rattle.cli.specs.declared.command.Plan.{Plan}
+use Rattle.cli.specs.declared.command.RunPlan.{RunPlan}
+use Rattle.cli.specs.declared.command.TestPlan.{TestPlan}
+use Rattle.cli.specs.declared.command.Command.TheVariants.{Report, Run, SelfTest}
+use Rattle.cli.specs.Command.{IsCommand}
+use Rattle.cli.proofs.CommandWords.{one_command}
 use Rattle.tool_driver.specs.Run.{Finishes, AnswersRead, AnswersInput, WroteReport, WroteRun, WroteTest}
 use Rattle.tool_driver.specs.Stream.{Change}
 

@@ -7,16 +7,16 @@ use Rattle.read_program.specs.declared.error.ParseError.TheVariants as errors
 use Rattle.read_program.specs.Program.{ReadsText}
 use Rattle.run_command.specs.Program.{HasLargeFrame, HasLargeSection}
 use Rattle.strip_command.specs.StripText.{stripped_text}
-use Rattle.command_line.specs.declared.command.Command.{Command}
-use Rattle.command_line.specs.declared.command.Command.TheVariants.{Compile, Listing, Report, Run, Strip, Gen, SelfTest}
-use Rattle.command_line.specs.declared.fault.Fault.{Fault}
-use Rattle.command_line.specs.declared.fault.Fault.TheVariants.{Usage, Read, TooLong, Refused, NoFunction, UnknownFunction}
-use Rattle.command_line.specs.declared.fault.Fault.TheVariants.{FrameTooLarge, SectionTooLarge, Write, Memory}
-use Rattle.command_line.specs.declared.command.RunPlan.{RunPlan}
-use Rattle.command_line.specs.declared.command.TestPlan.{TestPlan}
+use Rattle.cli.specs.declared.command.Command.{Command}
+use Rattle.cli.specs.declared.command.Command.TheVariants.{Compile, Listing, Report, Run, Strip, Gen, SelfTest}
+use Rattle.cli.specs.declared.fault.Fault.{Fault}
+use Rattle.cli.specs.declared.fault.Fault.TheVariants.{Usage, Read, TooLong, Refused, NoFunction, UnknownFunction}
+use Rattle.cli.specs.declared.fault.Fault.TheVariants.{FrameTooLarge, SectionTooLarge, Write, Memory}
+use Rattle.cli.specs.declared.command.RunPlan.{RunPlan}
+use Rattle.cli.specs.declared.command.TestPlan.{TestPlan}
 use Rattle.run_command.specs.Reported.{IsReportText}
 use Rattle.run_command.specs.Source.{IsUnknown, IsRunOfProgram}
-use Rattle.generated_program.specs.Program.{generated_program}
+use Rattle.gen_program.specs.Program.{generated_program}
 use Rattle.selftest_command.specs.Tested.{IsSelfTestOf}
 use Rattle.tool_driver.specs.Compiled.{plan_steps, IsCompiledText, IsListingText}
 

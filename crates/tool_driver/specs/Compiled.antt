@@ -2,7 +2,7 @@
 use Rattle.std.specs.Prelude.{◌≡◌, ℕ, List}
 use Rattle.listing_text.specs.declared.output.Output.{Output}
 use Rattle.listing_text.specs.Output.{spelling, listing_text}
-use Rattle.command_line.specs.declared.command.Plan.{Plan}
+use Rattle.cli.specs.declared.command.Plan.{Plan}
 use Rattle.pass_trait.specs.Steps.{Step}
 use Rattle.read_program.specs.declared.program.Program.{Program}
 use Rattle.run_command.specs.Program.{IsOutputOf, steps_of}

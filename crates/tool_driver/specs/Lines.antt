@@ -4,14 +4,14 @@ use Rattle.emit_code.specs.declared.code.Entry.{Entry}
 use Rattle.listing_text.specs.declared.output.Output.{Output}
 use Rattle.dwarf_line.specs.declared.table.Row.{Row}
 use Rattle.dwarf_line.specs.Spelling.{spelling as rows_spelling}
-use Rattle.line_laws.specs.Laws.{HasCodeAt}
-use Rattle.line_laws.specs.Rows.{GivesLine, IsRowAt}
+use Rattle.dwarf_line_table.specs.Laws.{HasCodeAt}
+use Rattle.dwarf_line_table.specs.Rows.{GivesLine, IsRowAt}
 use Rattle.read_metadata.specs.Maps.{Maps}
 use Rattle.compile_theorem.specs.Source.{PassedFunction}
 use Rattle.run_command.specs.Program.{HaveCode}
-use Rattle.source_lines.specs.declared.compiled.Compiled.{Compiled}
-use Rattle.source_lines.specs.Program.{program_file, table_of}
-use Rattle.source_lines.specs.Table.{entry_line}
+use Rattle.dwarf_line_table.specs.declared.compiled.Compiled.{Compiled}
+use Rattle.dwarf_line_table.specs.Program.{program_file, table_of}
+use Rattle.dwarf_line_table.specs.Table.{entry_line}
 
 -- the section of lines is the spelling of a table. At the address of each byte of the functions' machine code the table gives the file, the line
 -- and the column that the first code at or after the origin of the code there has in the function that was read; and no other address has a row

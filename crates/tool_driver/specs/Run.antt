@@ -5,20 +5,20 @@ use Rattle.pass_trait.specs.Steps.{Step}
 use Rattle.listing_text.specs.Shown.{OfShown}
 use Rattle.listing_proof.specs.Laws.{inlined_in}
 use Rattle.read_program.specs.declared.program.Program.{Program}
-use Rattle.command_line.specs.declared.command.Command.{Command}
-use Rattle.command_line.specs.declared.command.Command.TheVariants.{Compile, Listing, Report, Run, Strip, Gen, SelfTest}
-use Rattle.command_line.specs.declared.command.Plan.{Plan}
-use Rattle.command_line.specs.declared.command.RunPlan.{RunPlan}
-use Rattle.command_line.specs.declared.command.TestPlan.{TestPlan}
-use Rattle.command_line.specs.declared.fault.Fault.{Fault}
-use Rattle.command_line.specs.declared.fault.Fault.TheVariants.{Usage, Read, TooLong, Refused, NoFunction, UnknownFunction}
-use Rattle.command_line.specs.declared.fault.Fault.TheVariants.{FrameTooLarge, SectionTooLarge, Write, Memory}
-use Rattle.command_line.specs.Command.{IsCommand}
-use Rattle.command_line.specs.Fault.{line_of}
+use Rattle.cli.specs.declared.command.Command.{Command}
+use Rattle.cli.specs.declared.command.Command.TheVariants.{Compile, Listing, Report, Run, Strip, Gen, SelfTest}
+use Rattle.cli.specs.declared.command.Plan.{Plan}
+use Rattle.cli.specs.declared.command.RunPlan.{RunPlan}
+use Rattle.cli.specs.declared.command.TestPlan.{TestPlan}
+use Rattle.cli.specs.declared.fault.Fault.{Fault}
+use Rattle.cli.specs.declared.fault.Fault.TheVariants.{Usage, Read, TooLong, Refused, NoFunction, UnknownFunction}
+use Rattle.cli.specs.declared.fault.Fault.TheVariants.{FrameTooLarge, SectionTooLarge, Write, Memory}
+use Rattle.cli.specs.Command.{IsCommand}
+use Rattle.cli.specs.Fault.{line_of}
 use Rattle.run_command.specs.Reported.{IsReportText}
 use Rattle.run_command.specs.Source.{IsRunOfProgram}
 use Rattle.gen_text.specs.GeneratedText.{generated_text}
-use Rattle.names_of_bytes.specs.Bytes.{AreBytes}
+use Rattle.readback_functions.specs.Bytes.{AreBytes}
 use Rattle.readback_strip.specs.Text.{stripped_program}
 use Rattle.strip_command.specs.StripText.{stripped_text}
 use Rattle.tool_driver.specs.Limits.{INPUT_LIMIT}

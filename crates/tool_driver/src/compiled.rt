@@ -3,14 +3,14 @@
 ghost use Rattle.std.specs.Prelude.{IfOk, IfErr};
 ghost use Rattle.run_command.specs.Reported.{IsReportText};
 ghost use Rattle.run_command.specs.Source.{IsRunOfProgram};
-ghost use Rattle.command_line.specs.Command.{IsWithin};
+ghost use Rattle.cli.specs.Command.{IsWithin};
 ghost use Rattle.tool_driver.specs.Answer.{IsTestText, RefusesToCompile, RefusesToRun, RefusesToTest};
 ghost use Rattle.tool_driver.specs.Compiled.{plan_steps, IsCompiledText, IsListingText};
 ghost use Rattle.run_command.specs.Program.{IsOutputOf, IsCompilationOf};
 ghost use Rattle.read_proof.specs.Read.{IsReadProgram};
 
-use command_line::command::{Plan, RunPlan, TestPlan};
-use command_line::fault::Fault;
+use cli::command::{Plan, RunPlan, TestPlan};
+use cli::fault::Fault;
 use run_command::compile::{Compilation, CompileError, compile};
 use run_command::name::is_unknown;
 use run_command::report::report;

@@ -1,14 +1,14 @@
 //! The run of a command.
 
 ghost use Rattle.std.specs.Prelude.{◌≡◌, ◌≢◌, ◌≤◌, ◌⊎◌, IfOk, OnOk, IfErr, IsErrOf, map, string_bytes};
-ghost use Rattle.command_line.specs.Command.{AreWithin, IsCommand};
-ghost use Rattle.command_line.specs.declared.command.Plan.{Plan};
-ghost use Rattle.command_line.specs.declared.command.RunPlan.{RunPlan};
-ghost use Rattle.command_line.specs.declared.command.TestPlan.{TestPlan};
-ghost use Rattle.command_numbers.specs.declared.generation.Generation.{Generation};
+ghost use Rattle.cli.specs.Command.{AreWithin, IsCommand};
+ghost use Rattle.cli.specs.declared.command.Plan.{Plan};
+ghost use Rattle.cli.specs.declared.command.RunPlan.{RunPlan};
+ghost use Rattle.cli.specs.declared.command.TestPlan.{TestPlan};
+ghost use Rattle.cli_numbers.specs.declared.generation.Generation.{Generation};
 ghost use Rattle.gen_text.specs.GeneratedText.{generated_text};
 ghost use Rattle.tool_driver.specs.Compiled.{plan_steps};
-ghost use Rattle.command_line.specs.Fault.{line_of};
+ghost use Rattle.cli.specs.Fault.{line_of};
 ghost use Rattle.tool_driver.specs.Run.{AreCommand, AnswersInput, Finishes, IsCutOff, TellsRefusal, IsAnswerable};
 ghost use Rattle.tool_driver.specs.Run.{KeepsHeadline, KeepsRegisters, StopsAtReturns, WroteExactly, WroteLaidOut};
 ghost use Rattle.tool_driver.specs.Run.{WroteKept, WroteWords, WrotePassed, WroteReport, WroteRun, WroteTest};
@@ -19,9 +19,9 @@ ghost use Rattle.tool_driver.specs.Stream.{change, MetFault, IsWrittenWhole, IsT
 use crate::compiled::{compiled_text, listing_text, report_text, run_text, test_text};
 use crate::reading::program_of;
 use crate::telling::tell;
-use command_line::command::{Command, parse};
-use command_line::fault::Fault;
-use command_line::status::Status;
+use cli::command::{Command, parse};
+use cli::fault::Fault;
+use cli::status::Status;
 use gen_text::print::print_generated;
 use base_io::reading::{ReadError, read_all};
 use base_io::sink::Sink;

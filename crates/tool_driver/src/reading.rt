@@ -3,9 +3,9 @@
 ghost use Rattle.std.specs.Prelude.{◌^◌, ◌<◌, length, Ok, IfOk, IfErr};
 ghost use Rattle.tool_driver.specs.Answer.{HasFunctions, RefusesProgram};
 ghost use Rattle.read_program.specs.Program.{ReadsText};
-ghost use Rattle.names_of_bytes.specs.Bytes.{AreBytes};
+ghost use Rattle.readback_functions.specs.Bytes.{AreBytes};
 
-use command_line::fault::Fault;
+use cli::fault::Fault;
 use read_program::error::ParseError;
 use read_program::program::{Program, read_program};
 use std::alloc::Global;

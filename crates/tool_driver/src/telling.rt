@@ -3,11 +3,11 @@
 ghost use Rattle.std.specs.Prelude.{◌≡◌, ◌≤◌, OnOk, OnErr};
 ghost use Rattle.base_io.specs.Faults.{CountRose};
 ghost use Rattle.base_io.specs.Told.{Appends, AppendsPrefix};
-ghost use Rattle.command_line.specs.Fault.{line_of, place_text, status_of};
+ghost use Rattle.cli.specs.Fault.{line_of, place_text, status_of};
 ghost use Rattle.tool_driver.specs.Stream.{change, IsTold};
 
-use command_line::fault::Fault;
-use command_line::status::Status;
+use cli::fault::Fault;
+use cli::status::Status;
 use base_io::fault::Failed;
 use base_io::sink::Sink;
 use base_io::writing::write_all;

@@ -2,7 +2,7 @@
 //! the contract of the call that it makes; no contract can say what the host gives and takes.
 #![tactic(auto)]
 
-use command_line::fault::Fault;
+use cli::fault::Fault;
 use base_io::std_sink::StdSink;
 use base_io::std_source::StdSource;
 use tool_driver::driver::mirdwarf;

@@ -15,12 +15,12 @@ use Rattle.mir_func.specs.Successors.{pos_in, ways}
 use Rattle.sem_mir.specs.Token.{Tokens, Path, begin, onward, after_fetch, after_item}
 use Rattle.sem_value_ids.specs.Pullback.{InRegister, token_of, after_items}
 use Rattle.sem_value_ids.specs.Pullback as path
-use Rattle.class_paths.specs.Wanted.{AreThingsOf}
-use Rattle.class_paths.proofs.Known.{path_bare, pointer}
-use Rattle.class_entries.specs.declared.tracked.Tracked.{Tracked}
-use Rattle.class_entries.specs.Entry.{thing, PathTo}
-use Rattle.class_solver.specs.declared.flow.Flow.{Flow}
-use Rattle.class_solver.specs.Flows.{thing_token, token_at, Begins, Comes, GoesOn, AreFlows}
+use Rattle.value_proof.specs.Wanted.{AreThingsOf}
+use Rattle.value_proof.proofs.Known.{path_bare, pointer}
+use Rattle.value_solver.specs.declared.tracked.Tracked.{Tracked}
+use Rattle.value_solver.specs.Entry.{thing, PathTo}
+use Rattle.value_solver.specs.declared.flow.Flow.{Flow}
+use Rattle.value_solver.specs.Flows.{thing_token, token_at, Begins, Comes, GoesOn, AreFlows}
 use Rattle.value_live_ins.specs.steps.Flowing.{next_id, AreFlowsOf}
 use Rattle.value_live_ins.proofs.Paths.{EndsQuietly, head_id, go_out, from_start, quiet_out, out_way, kind_out, contains_first}
 

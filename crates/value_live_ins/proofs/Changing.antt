@@ -8,19 +8,19 @@ use Rattle.std.proofs.lemmas.Bool.Decides.{eqb_tells}
 use Rattle.mir_func.specs.declared.entry.OperandPair.{OperandPair}
 use Rattle.mir_func.specs.declared.variable.VarId.{VarId}
 use Rattle.sem_value_ids.specs.Pullback.{InRegister, InSlot, OfVariable, OfNumber}
-use Rattle.class_paths.specs.Classes.{Classes}
-use Rattle.class_entries.specs.declared.tracked.Tracked.{Tracked}
-use Rattle.class_entries.specs.declared.tracked.Tracked.TheVariants.{Register, Slot, Pair, Part, Number}
-use Rattle.class_entries.specs.Entry.{thing}
+use Rattle.value_proof.specs.Classes.{Classes}
+use Rattle.value_solver.specs.declared.tracked.Tracked.{Tracked}
+use Rattle.value_solver.specs.declared.tracked.Tracked.TheVariants.{Register, Slot, Pair, Part, Number}
+use Rattle.value_solver.specs.Entry.{thing}
 use Rattle.value_tracker.specs.declared.index.Index.{Index}
 use Rattle.value_tracker.specs.declared.held.Held.{Held}
 use Rattle.value_tracker.specs.Things.{AreThings}
 use Rattle.value_tracker.specs.Held.{Holds, slot_place, pair_class, number_class}
-use Rattle.class_solver.specs.declared.flow.Source.{Source}
-use Rattle.class_solver.specs.declared.flow.Source.TheVariants.{Was}
-use Rattle.class_solver.specs.declared.flow.Change.{Change}
-use Rattle.class_solver.specs.Joining.{source_from, SourceWithin, AreWithin}
-use Rattle.class_solver.proofs.Exits.{source_push}
+use Rattle.value_solver.specs.declared.flow.Source.{Source}
+use Rattle.value_solver.specs.declared.flow.Source.TheVariants.{Was}
+use Rattle.value_solver.specs.declared.flow.Change.{Change}
+use Rattle.value_solver.specs.Joining.{source_from, SourceWithin, AreWithin}
+use Rattle.value_solver.proofs.Exits.{source_push}
 use Rattle.value_live_ins.specs.Walking.{AreTracked, decoded, new_of, AreChanges}
 use Rattle.value_live_ins.proofs.Gathering.{is_in, thing_in}
 use Rattle.value_live_ins.proofs.Walking.{decoded_own}

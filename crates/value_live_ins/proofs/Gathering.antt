@@ -50,10 +50,10 @@ use Rattle.mir_func.specs.SoundFrame.{IsPhysical}
 use Rattle.sem_mir.specs.Step.{defined}
 use Rattle.sem_value_ids.specs.Pullback as path
 use Rattle.sem_value_ids.specs.Pullback.{InSlot, OfPair, OfVariable, OfNumber}
-use Rattle.class_paths.specs.Classes.{KnowsRow, KnowsPair, KnowsValue, KnowsPlace, DefinePhysical, KnowsItem}
-use Rattle.class_entries.specs.declared.tracked.Tracked.{Tracked}
-use Rattle.class_entries.specs.declared.tracked.Tracked.TheVariants.{Register, Slot, Part, Number}
-use Rattle.class_entries.specs.Entry.{thing}
+use Rattle.value_proof.specs.Classes.{KnowsRow, KnowsPair, KnowsValue, KnowsPlace, DefinePhysical, KnowsItem}
+use Rattle.value_solver.specs.declared.tracked.Tracked.{Tracked}
+use Rattle.value_solver.specs.declared.tracked.Tracked.TheVariants.{Register, Slot, Part, Number}
+use Rattle.value_solver.specs.Entry.{thing}
 use Rattle.value_tracker.specs.Things.{AreThings}
 use Rattle.value_live_ins.specs.declared.gather.Gathered.{Gathered}
 use Rattle.value_live_ins.specs.Keys.{Key, key_of, is_key}

@@ -12,19 +12,19 @@ use Rattle.mir_func.specs.declared.variable.VarId.{VarId}
 use Rattle.sem_mir.specs.Token.{Tokens}
 use Rattle.sem_value_ids.specs.Pullback as path
 use Rattle.sem_value_ids.specs.Pullback.{InRegister, InSlot, OfPair, OfVariable, OfNumber, token_of, after_items}
-use Rattle.class_paths.specs.Classes.{Classes, IsKnown}
-use Rattle.class_entries.specs.declared.tracked.Tracked.{Tracked}
-use Rattle.class_entries.specs.declared.tracked.Tracked.TheVariants.{Register, Slot, Pair, Part, Number}
-use Rattle.class_entries.specs.Entry.{thing}
+use Rattle.value_proof.specs.Classes.{Classes, IsKnown}
+use Rattle.value_solver.specs.declared.tracked.Tracked.{Tracked}
+use Rattle.value_solver.specs.declared.tracked.Tracked.TheVariants.{Register, Slot, Pair, Part, Number}
+use Rattle.value_solver.specs.Entry.{thing}
 use Rattle.value_tracker.specs.Things.{AreThings, Settle}
 use Rattle.value_tracker.specs.declared.held.Held.{Held}
 use Rattle.value_tracker.specs.Held.{Holds}
 use Rattle.value_live_ins.specs.declared.changes.Tracking.{Tracking}
-use Rattle.class_solver.specs.declared.flow.Source.TheVariants.{Was}
-use Rattle.class_solver.specs.declared.flow.Change.{Change}
-use Rattle.class_solver.specs.Joining.{source_from, source_at, AreWithin}
-use Rattle.class_solver.specs.Flows.{thing_token, token_at, told}
-use Rattle.class_solver.proofs.Exits.{beyond}
+use Rattle.value_solver.specs.declared.flow.Source.TheVariants.{Was}
+use Rattle.value_solver.specs.declared.flow.Change.{Change}
+use Rattle.value_solver.specs.Joining.{source_from, source_at, AreWithin}
+use Rattle.value_solver.specs.Flows.{thing_token, token_at, told}
+use Rattle.value_solver.proofs.Exits.{beyond}
 use Rattle.value_live_ins.specs.steps.Flowing.{Tells}
 use Rattle.value_live_ins.specs.Keys.{key_of, is_key}
 use Rattle.value_live_ins.specs.Walking.{AreTracked, AreOwn, decoded, ClassesTell, Walked, AreChanges}

@@ -16,15 +16,15 @@ use Rattle.mir_func.specs.Resolve.{resolve}
 use Rattle.mir_func.specs.Sound.{AllItems, EndsWell, HasForm}
 use Rattle.mir_func.specs.SoundFrame.{body_of}
 use Rattle.mir_func.specs.Successors.{ways}
-use Rattle.class_paths.specs.Classes.{KnowsItem}
-use Rattle.class_paths.specs.Wanted.{AreThingsOf}
-use Rattle.class_entries.specs.declared.tracked.Tracked.{Tracked}
-use Rattle.class_entries.specs.declared.entry.BlockEntry.{BlockEntry}
-use Rattle.class_entries.specs.Entry.{thing, IsEntry}
-use Rattle.class_solver.specs.declared.solve.Solved.{Solved}
-use Rattle.class_solver.specs.declared.flow.Flow.{Flow}
-use Rattle.class_solver.specs.Hands.{AreSoundFlows}
-use Rattle.class_solver.specs.Flows.{AreFlows, IsStart}
+use Rattle.value_proof.specs.Classes.{KnowsItem}
+use Rattle.value_proof.specs.Wanted.{AreThingsOf}
+use Rattle.value_solver.specs.declared.tracked.Tracked.{Tracked}
+use Rattle.value_solver.specs.declared.entry.BlockEntry.{BlockEntry}
+use Rattle.value_solver.specs.Entry.{thing, IsEntry}
+use Rattle.value_solver.specs.declared.solve.Solved.{Solved}
+use Rattle.value_solver.specs.declared.flow.Flow.{Flow}
+use Rattle.value_solver.specs.Hands.{AreSoundFlows}
+use Rattle.value_solver.specs.Flows.{AreFlows, IsStart}
 use Rattle.value_tracker.specs.Things.{AreThings}
 use Rattle.value_live_ins.specs.declared.changes.Tracking.{Tracking}
 use Rattle.value_live_ins.specs.steps.Flowing.{next_id, AreFlowsOf}

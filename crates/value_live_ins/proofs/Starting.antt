@@ -8,11 +8,11 @@ use Rattle.std.proofs.lemmas.Bool.{ne_eqb}
 use Rattle.std.proofs.lemmas.Bool.Decides.{eqb_tells}
 use Rattle.sem_mir.specs.Token.{Token, Entry, Fixed, entry_tokens}
 use Rattle.sem_value_ids.specs.Pullback.{token_of}
-use Rattle.class_entries.specs.declared.tracked.Tracked.{Tracked}
-use Rattle.class_entries.specs.declared.tracked.Tracked.TheVariants.{Register, Slot, Pair, Part, Number}
-use Rattle.class_entries.specs.Entry.{thing}
-use Rattle.class_solver.specs.Numbering.{class_in}
-use Rattle.class_solver.specs.Flows.{thing_token, token_at, IsStart}
+use Rattle.value_solver.specs.declared.tracked.Tracked.{Tracked}
+use Rattle.value_solver.specs.declared.tracked.Tracked.TheVariants.{Register, Slot, Pair, Part, Number}
+use Rattle.value_solver.specs.Entry.{thing}
+use Rattle.value_solver.specs.Numbering.{class_in}
+use Rattle.value_solver.specs.Flows.{thing_token, token_at, IsStart}
 use Rattle.value_live_ins.proofs.Blocks.{past}
 use Rattle.value_live_ins.specs.steps.Starting.{starts_with, own_class}
 use Rattle.value_live_ins.specs.Walking.{AreTracked}

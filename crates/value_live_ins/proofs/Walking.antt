@@ -11,12 +11,12 @@ use Rattle.sem_mir.specs.Token.{Made, Tokens, after_item}
 use Rattle.sem_value_ids.specs.Pullback as path
 use Rattle.sem_value_ids.specs.Pullback.{InRegister, InSlot, OfPair, OfVariable, OfNumber, token_of, token_back, Back, back, after_items}
 use Rattle.sem_value_ids.proofs.Backwards.{tokens_pull_back}
-use Rattle.class_paths.specs.Classes.{Classes, KnowsItem, class_back}
-use Rattle.class_paths.proofs.Passing.{Knows, known_back}
-use Rattle.class_entries.specs.declared.tracked.Tracked.{Tracked}
-use Rattle.class_entries.specs.Entry.{thing}
-use Rattle.class_solver.specs.declared.flow.Source.TheVariants.{Was, New}
-use Rattle.class_solver.specs.Flows.{told}
+use Rattle.value_proof.specs.Classes.{Classes, KnowsItem, class_back}
+use Rattle.value_proof.proofs.Passing.{Knows, known_back}
+use Rattle.value_solver.specs.declared.tracked.Tracked.{Tracked}
+use Rattle.value_solver.specs.Entry.{thing}
+use Rattle.value_solver.specs.declared.flow.Source.TheVariants.{Was, New}
+use Rattle.value_solver.specs.Flows.{told}
 use Rattle.value_tracker.specs.declared.held.Held.{Held}
 use Rattle.value_tracker.specs.Held.{Holds, Passes}
 use Rattle.mir_func.specs.Resolve.{resolve}

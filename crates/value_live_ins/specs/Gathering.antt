@@ -8,10 +8,10 @@ use Rattle.mir_func.specs.declared.entry.OperandPair.{OperandPair}
 use Rattle.mir_func.specs.declared.item.ItemKind.{ItemKind}
 use Rattle.mir_func.specs.declared.item.ItemKind.TheVariants.{Code, Mark, Phi}
 use Rattle.mir_func.specs.declared.variable.VarId.{VarId}
-use Rattle.class_paths.specs.Classes.{KnowsItem, KnowsValue, KnowsPlace}
-use Rattle.class_entries.specs.declared.tracked.Tracked.{Tracked}
-use Rattle.class_entries.specs.declared.tracked.Tracked.TheVariants.{Register, Slot, Pair, Part, Number}
-use Rattle.class_entries.specs.Entry.{thing}
+use Rattle.value_proof.specs.Classes.{KnowsItem, KnowsValue, KnowsPlace}
+use Rattle.value_solver.specs.declared.tracked.Tracked.{Tracked}
+use Rattle.value_solver.specs.declared.tracked.Tracked.TheVariants.{Register, Slot, Pair, Part, Number}
+use Rattle.value_solver.specs.Entry.{thing}
 use Rattle.value_tracker.specs.Things.{IsOffset}
 use Rattle.value_live_ins.specs.declared.gather.Gathered.{Gathered}
 use Rattle.value_live_ins.specs.Keys.{key_of, is_key}

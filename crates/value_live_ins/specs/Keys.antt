@@ -1,8 +1,8 @@
 -- What tracked things are told apart by: a thing's kind and its numbers.
 use Rattle.std.specs.Prelude.{ℕ, suc, Option, None, Some, Bool, ◌&&◌, nat_eq}
 use Rattle.mir_func.specs.Parts.{Bytes}
-use Rattle.class_entries.specs.declared.tracked.Tracked.{Tracked}
-use Rattle.class_entries.specs.declared.tracked.Tracked.TheVariants.{Register, Slot, Pair, Part, Number}
+use Rattle.value_solver.specs.declared.tracked.Tracked.{Tracked}
+use Rattle.value_solver.specs.declared.tracked.Tracked.TheVariants.{Register, Slot, Pair, Part, Number}
 
 -- a thing's kind, and four numbers that tell it from the others of its kind
 abbrev pub Key : Type 0

@@ -3,9 +3,9 @@ use Rattle.std.specs.Prelude.{◌≡◌, ◌≤◌, ℕ, ◌+◌, ◌*◌, List,
 use Rattle.mir_func.specs.declared.block.Block.{Block}
 use Rattle.mir_func.specs.declared.entry.OperandPair.{OperandPair}
 use Rattle.mir_func.specs.Graph.{framed_program}
-use Rattle.class_paths.specs.Wanted.{AreThingsOf}
-use Rattle.class_entries.specs.declared.entry.BlockEntry.{BlockEntry}
-use Rattle.class_entries.specs.Entry.{thing, IsEntry}
+use Rattle.value_proof.specs.Wanted.{AreThingsOf}
+use Rattle.value_solver.specs.declared.entry.BlockEntry.{BlockEntry}
+use Rattle.value_solver.specs.Entry.{thing, IsEntry}
 use Rattle.value_tracker.specs.Things.{AreThings}
 use Rattle.value_live_ins.specs.declared.values.MachineValues.{MachineValues}
 

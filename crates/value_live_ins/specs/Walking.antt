@@ -6,18 +6,18 @@ use Rattle.mir_func.specs.Resolve.{resolve}
 use Rattle.sem_mir.specs.Token.{Tokens}
 use Rattle.sem_value_ids.specs.Pullback as path
 use Rattle.sem_value_ids.specs.Pullback.{InRegister, token_of, after_items}
-use Rattle.class_paths.specs.Classes.{Classes, IsKnown}
-use Rattle.class_entries.specs.declared.tracked.Tracked.{Tracked}
-use Rattle.class_entries.specs.declared.tracked.Tracked.TheVariants.{Register}
-use Rattle.class_entries.specs.Entry.{thing}
+use Rattle.value_proof.specs.Classes.{Classes, IsKnown}
+use Rattle.value_solver.specs.declared.tracked.Tracked.{Tracked}
+use Rattle.value_solver.specs.declared.tracked.Tracked.TheVariants.{Register}
+use Rattle.value_solver.specs.Entry.{thing}
 use Rattle.value_tracker.specs.declared.held.Held.{Held}
 use Rattle.value_tracker.specs.Held.{Holds}
 use Rattle.value_tracker.specs.Things.{AreThings, Indexes}
-use Rattle.class_solver.specs.declared.flow.Source.{Source}
-use Rattle.class_solver.specs.declared.flow.Source.TheVariants.{Was, New, Nameless}
-use Rattle.class_solver.specs.declared.flow.Change.{Change}
-use Rattle.class_solver.specs.Joining.{source_from}
-use Rattle.class_solver.specs.Flows.{told}
+use Rattle.value_solver.specs.declared.flow.Source.{Source}
+use Rattle.value_solver.specs.declared.flow.Source.TheVariants.{Was, New, Nameless}
+use Rattle.value_solver.specs.declared.flow.Change.{Change}
+use Rattle.value_solver.specs.Joining.{source_from}
+use Rattle.value_solver.specs.Flows.{told}
 use Rattle.value_live_ins.specs.declared.changes.Tracking.{Tracking}
 
 -- each thing is tracked once, and of registers all but x0 and x2

@@ -3,20 +3,20 @@
 ghost use Rattle.std.specs.Prelude.{◌≡◌, ◌<◌, ◌≤◌, Some, All, IfOk, OnOk, [], length, map, slice_get, slice_index};
 ghost use Rattle.mir_func.specs.Resolve.{resolve};
 ghost use Rattle.mir_func.specs.Sound.{HasForm};
-ghost use Rattle.class_paths.specs.Classes.{Classes, KnowsItem};
-ghost use Rattle.class_entries.specs.Entry.{thing as name_of};
+ghost use Rattle.value_proof.specs.Classes.{Classes, KnowsItem};
+ghost use Rattle.value_solver.specs.Entry.{thing as name_of};
 ghost use Rattle.value_tracker.specs.Things.{AreThings};
 ghost use Rattle.value_tracker.specs.Held.{PLACES, Holds, Passes, pair_class as pair_class_of};
-ghost use Rattle.class_solver.specs.Joining.{AreWithin};
+ghost use Rattle.value_solver.specs.Joining.{AreWithin};
 ghost use Rattle.value_live_ins.specs.steps.Flowing.{Tells};
 ghost use Rattle.value_live_ins.specs.Walking.{IsTracking, AreTracked, decoded, new_of, Walked, AreChanges, AreOwn};
 
-use class_entries::tracked::Tracked;
+use value_solver::tracked::Tracked;
 use value_tracker::held::{Held, slot_place};
 use value_tracker::index::{Index, key, number_class, pair_class};
 use value_tracker::pass::Block as Fixed;
 use value_tracker::start::start;
-use class_solver::flow::{Change, Changes, Source};
+use value_solver::flow::{Change, Changes, Source};
 use base_list::List;
 use mir_func::entry::OperandPair;
 use mir_func::item::{Item, ItemKind};

@@ -4,15 +4,15 @@ ghost use Rattle.std.specs.Prelude.{◌≡◌, ◌<◌, IfOk, length, map};
 ghost use Rattle.mir_func.specs.Resolve.{resolve};
 ghost use Rattle.mir_func.specs.Sound.{AllItems};
 ghost use Rattle.mir_func.specs.Successors.{ways};
-ghost use Rattle.class_paths.specs.Classes.{KnowsItem};
-ghost use Rattle.class_entries.specs.Entry.{thing};
+ghost use Rattle.value_proof.specs.Classes.{KnowsItem};
+ghost use Rattle.value_solver.specs.Entry.{thing};
 ghost use Rattle.value_live_ins.specs.steps.Flowing.{next_id};
 ghost use Rattle.value_live_ins.specs.Walking.{IsTracking};
 ghost use Rattle.value_live_ins.specs.steps.Ways.{FlowsBelow, IsFlowAt};
 
 use crate::changes::{Tracking, changes_of};
 use crate::ways::{Indices, ways_of};
-use class_solver::flow::Flow;
+use value_solver::flow::Flow;
 use mir_func::block::Block;
 use mir_func::successors::id_at;
 use base_ids::code::BlockId;

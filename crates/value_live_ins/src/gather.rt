@@ -4,7 +4,7 @@ ghost use Rattle.std.specs.Prelude.{◌≡◌, ◌++◌, ◌∷◌, IfOk, OnOk, 
 ghost use Rattle.value_live_ins.specs.Gathering.{MayTrack, IsGathered, Added};
 
 use crate::key::{Key, key_of};
-use class_entries::tracked::{Tracked, TrackedItems};
+use value_solver::tracked::{Tracked, TrackedItems};
 use std::alloc::{AllocError, Global};
 use std::collections::HashSet;
 

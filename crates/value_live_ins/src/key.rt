@@ -3,7 +3,7 @@
 ghost use Rattle.std.specs.Prelude.{◌≡◌, ℕ};
 ghost use Rattle.value_live_ins.specs.Keys.{key_of, node_code, start_code, length_code};
 
-use class_entries::tracked::Tracked;
+use value_solver::tracked::Tracked;
 use mir_func::variable::Fragment;
 use base_ids::metadata::NodeId;
 

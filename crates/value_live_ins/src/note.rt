@@ -6,8 +6,8 @@ ghost use Rattle.rv64_instr.specs.Parts.{is_call};
 ghost use Rattle.mir_func.specs.declared.item.ItemKind.TheVariants.{Code};
 ghost use Rattle.mir_func.specs.Resolve.{resolve};
 ghost use Rattle.mir_func.specs.SoundFrame.{IsPhysical, HasPhysical, ValueIsPhysical, PlaceIsPhysical};
-ghost use Rattle.class_paths.specs.Classes.{KnowsValue, KnowsPlace, KnowsRow};
-ghost use Rattle.class_entries.specs.Entry.{thing};
+ghost use Rattle.value_proof.specs.Classes.{KnowsValue, KnowsPlace, KnowsRow};
+ghost use Rattle.value_solver.specs.Entry.{thing};
 ghost use Rattle.value_live_ins.specs.Gathering.{
   MayTrack,
   IsNoPart,
@@ -20,7 +20,7 @@ ghost use Rattle.value_live_ins.specs.Gathering.{
 };
 
 use crate::gather::Gathered;
-use class_entries::tracked::Tracked;
+use value_solver::tracked::Tracked;
 use mir_func::item::ItemKind;
 use mir_func::variable::MarkValue;
 use rv64_instr::decoded::Decoded;

@@ -1,12 +1,12 @@
 //! What is known at the start of a function.
 
 ghost use Rattle.std.specs.Prelude.{◌≡◌, ◌<◌, IfOk, length};
-ghost use Rattle.class_solver.specs.Flows.{IsStart};
+ghost use Rattle.value_solver.specs.Flows.{IsStart};
 ghost use Rattle.value_live_ins.specs.Walking.{AreTracked};
 ghost use Rattle.value_live_ins.specs.steps.Starting.{starts_with, own_class};
 
-use class_entries::entry::{Bits, BlockEntry, Numbers};
-use class_entries::tracked::Tracked;
+use value_solver::entry::{Bits, BlockEntry, Numbers};
+use value_solver::tracked::Tracked;
 use std::alloc::{AllocError, Global};
 
 /// The entry that the function starts with: registers and numbers have tokens of their own there, and nothing else has

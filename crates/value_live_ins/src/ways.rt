@@ -6,7 +6,7 @@ ghost use Rattle.mir_func.specs.declared.block.Block.{Block};
 ghost use Rattle.mir_func.specs.Successors.{ways};
 ghost use Rattle.value_live_ins.specs.steps.Ways.{enter_by, FindsIds};
 
-use class_solver::flow::Ways;
+use value_solver::flow::Ways;
 use mir_func::block::Block;
 use mir_func::exit::Exit;
 use mir_func::item::Item;

@@ -4,9 +4,9 @@ use Rattle.std.proofs.Math.Nat.{suc-mul}
 use Rattle.std.proofs.lemmas.List.Sums.{sum_by-cons}
 use Rattle.std.specs.Prelude.{Bool, true, false, Some, slice_get, sum_by}
 use Rattle.mir_func.specs.Graph.{Program}
-use Rattle.class_entries.specs.declared.tracked.Tracked.{Tracked}
-use Rattle.class_entries.specs.declared.entry.BlockEntry.{BlockEntry}
-use Rattle.class_entries.specs.Entry.{IsEntry}
+use Rattle.value_solver.specs.declared.tracked.Tracked.{Tracked}
+use Rattle.value_solver.specs.declared.entry.BlockEntry.{BlockEntry}
+use Rattle.value_solver.specs.Entry.{IsEntry}
 
 entry_kept : (g : Program) (things : List Tracked) (b : ℕ) (e : BlockEntry) → IsEntry g things b e → length e.classes ≤ length things
 entry_kept g things b e is = by_reached e.reached refl where

@@ -10,9 +10,9 @@ use Rattle.mir_func.specs.declared.position.Pos.{Pos}
 use Rattle.mir_func.specs.Graph.{Program}
 use Rattle.sem_mir.specs.Token.{Token, Tokens, IsPlace, Sits, place_token}
 use Rattle.sem_value_ids.specs.Pullback.{Tracked, InSlot, token_of}
-use Rattle.class_paths.specs.Classes.{Classes, IsKnown, AreClasses}
-use Rattle.class_paths.specs.Wanted.{thing_at, AreThingsOf}
-use Rattle.class_paths.proofs.Known.{IsBare, slot, path_knows, path_bare}
+use Rattle.value_proof.specs.Classes.{Classes, IsKnown, AreClasses}
+use Rattle.value_proof.specs.Wanted.{thing_at, AreThingsOf}
+use Rattle.value_proof.proofs.Known.{IsBare, slot, path_knows, path_bare}
 
 -- a class of a thing: 0 where it isn't tracked, and then it has no token
 pub record Told (things : List Tracked) (class : Classes) (x : Tracked) (c : ℕ) : Type 0 where

@@ -20,12 +20,12 @@ use Rattle.mir_func.specs.Successors.{pos_in}
 use Rattle.sem_mir.specs.Token.{Fixed, Token, Tokens, IsPlace, Sits, place_token}
 use Rattle.sem_value_ids.specs.Pullback.{InRegister, InSlot, OfPair, OfVariable, OfNumber, token_of}
 use Rattle.sem_value_ids.specs.Pullback as path
-use Rattle.class_entries.specs.declared.tracked.Tracked.{Tracked}
-use Rattle.class_entries.specs.declared.tracked.Tracked.TheVariants.{Pair, Part, Number}
-use Rattle.class_entries.specs.Entry.{thing}
-use Rattle.class_paths.specs.Classes.{Classes, IsKnown}
-use Rattle.class_paths.specs.Wanted.{thing_at}
-use Rattle.class_paths.proofs.Known.{slot, variable}
+use Rattle.value_solver.specs.declared.tracked.Tracked.{Tracked}
+use Rattle.value_solver.specs.declared.tracked.Tracked.TheVariants.{Pair, Part, Number}
+use Rattle.value_solver.specs.Entry.{thing}
+use Rattle.value_proof.specs.Classes.{Classes, IsKnown}
+use Rattle.value_proof.specs.Wanted.{thing_at}
+use Rattle.value_proof.proofs.Known.{slot, variable}
 use Rattle.value_tracker.specs.declared.index.Index.{Index}
 use Rattle.value_tracker.specs.Things.{is_key, Indexes}
 use Rattle.value_tracker.specs.Held.{SLOTS_FROM, PLACES, slot_place, class_at, number_class, pair_class}

@@ -34,11 +34,11 @@ use Rattle.rv64_instr.specs.declared.place.Place.TheVariants as spot
 use Rattle.mir_func.specs.declared.variable.VarId.{VarId}
 use Rattle.sem_mir.specs.Token.{IsPlace, Precedes}
 use Rattle.sem_value_ids.specs.Pullback.{InSlot, OfVariable, OfNumber}
-use Rattle.class_entries.specs.declared.tracked.Tracked.{Tracked}
-use Rattle.class_entries.specs.declared.tracked.Tracked.TheVariants.{Register, Slot, Pair, Part, Number}
-use Rattle.class_entries.specs.Entry.{thing}
-use Rattle.class_paths.specs.Classes.{Classes}
-use Rattle.class_paths.specs.Wanted.{HasItsClass, IsFirstByClass}
+use Rattle.value_solver.specs.declared.tracked.Tracked.{Tracked}
+use Rattle.value_solver.specs.declared.tracked.Tracked.TheVariants.{Register, Slot, Pair, Part, Number}
+use Rattle.value_solver.specs.Entry.{thing}
+use Rattle.value_proof.specs.Classes.{Classes}
+use Rattle.value_proof.specs.Wanted.{HasItsClass, IsFirstByClass}
 use Rattle.value_tracker.specs.declared.index.Index.{Index}
 use Rattle.value_tracker.specs.declared.held.Held.{Held}
 use Rattle.value_tracker.specs.Things.{Settle}

@@ -37,14 +37,14 @@ use Rattle.sem_mir.specs.Token.{Token}
 use Rattle.sem_mir.proofs.Assignments.{same_refl, same_is}
 use Rattle.sem_value_ids.specs.Pullback as path
 use Rattle.sem_value_ids.specs.Pullback.{InRegister, InSlot, OfPair, OfVariable, OfNumber, token_of, Share}
-use Rattle.class_entries.specs.declared.tracked.Tracked.{Tracked}
-use Rattle.class_entries.specs.declared.tracked.Tracked.TheVariants.{Register, Slot, Pair, Part, Number}
-use Rattle.class_entries.specs.declared.entry.BlockEntry.{BlockEntry}
-use Rattle.class_entries.specs.Entry as entry
-use Rattle.class_entries.specs.Entry.{thing, IsEntry, IsReached, AreAlike, IsGiven, HasNone, PathTo}
-use Rattle.class_paths.specs.Classes.{Classes, IsKnown, HaveOneClass, ShareOnPaths, AreClasses}
-use Rattle.class_paths.specs.Wanted.{AreThingsOf}
-use Rattle.class_paths.proofs.Known.{path_bare, pointer}
+use Rattle.value_solver.specs.declared.tracked.Tracked.{Tracked}
+use Rattle.value_solver.specs.declared.tracked.Tracked.TheVariants.{Register, Slot, Pair, Part, Number}
+use Rattle.value_solver.specs.declared.entry.BlockEntry.{BlockEntry}
+use Rattle.value_solver.specs.Entry as entry
+use Rattle.value_solver.specs.Entry.{thing, IsEntry, IsReached, AreAlike, IsGiven, HasNone, PathTo}
+use Rattle.value_proof.specs.Classes.{Classes, IsKnown, HaveOneClass, ShareOnPaths, AreClasses}
+use Rattle.value_proof.specs.Wanted.{AreThingsOf}
+use Rattle.value_proof.proofs.Known.{path_bare, pointer}
 use Rattle.value_tracker.specs.Things.{AreThings, Settle, settled_at}
 use Rattle.value_tracker.specs.Entering.{EntriesGiveClasses}
 use Rattle.value_tracker.proofs.Starting.{stands, contained}

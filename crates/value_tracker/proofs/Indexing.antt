@@ -5,8 +5,8 @@ use Rattle.std.specs.HashMap.{get}
 use Rattle.std.proofs.lemmas.Bool.{and_parts, and_from}
 use Rattle.std.proofs.lemmas.Bool.Decides.{eqb_tells}
 use Rattle.mir_func.specs.declared.entry.OperandPair.{OperandPair}
-use Rattle.class_entries.specs.declared.tracked.Tracked.{Tracked}
-use Rattle.class_entries.specs.declared.tracked.Tracked.TheVariants.{Pair, Number}
+use Rattle.value_solver.specs.declared.tracked.Tracked.{Tracked}
+use Rattle.value_solver.specs.declared.tracked.Tracked.TheVariants.{Pair, Number}
 use Rattle.value_tracker.specs.declared.index.Index.{Index}
 use Rattle.value_tracker.specs.Things.{is_key, IndexesBelow}
 

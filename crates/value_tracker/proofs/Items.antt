@@ -65,11 +65,11 @@ use Rattle.sem_value_ids.specs.Pullback.{
   back_phi,
   back,
 }
-use Rattle.class_entries.specs.declared.tracked.Tracked.{Tracked}
-use Rattle.class_entries.specs.Entry.{thing}
-use Rattle.class_paths.specs.Classes.{Classes, IsKnown, KnowsRow, KnowsPair, KnowsValue, KnowsPlace, DefinePhysical, class_back}
-use Rattle.class_paths.proofs.Passing.{Knows, known_back}
-use Rattle.class_paths.proofs.Known.{StaysBare, pointer, bare_stays}
+use Rattle.value_solver.specs.declared.tracked.Tracked.{Tracked}
+use Rattle.value_solver.specs.Entry.{thing}
+use Rattle.value_proof.specs.Classes.{Classes, IsKnown, KnowsRow, KnowsPair, KnowsValue, KnowsPlace, DefinePhysical, class_back}
+use Rattle.value_proof.proofs.Passing.{Knows, known_back}
+use Rattle.value_proof.proofs.Known.{StaysBare, pointer, bare_stays}
 use Rattle.value_tracker.specs.declared.index.Index.{Index}
 use Rattle.value_tracker.specs.declared.held.Held.{Held}
 use Rattle.value_tracker.specs.Things.{is_key}

@@ -45,7 +45,7 @@ use Rattle.sem_value_ids.specs.Pullback.{
   slot_stored,
   back_slot,
 }
-use Rattle.class_paths.specs.Classes.{Classes, KnowsRow, class_back}
+use Rattle.value_proof.specs.Classes.{Classes, KnowsRow, class_back}
 use Rattle.value_tracker.specs.Things.{IsOffset}
 use Rattle.value_tracker.specs.Held.{SLOTS_FROM, PLACES, slot_place, put, places_past}
 

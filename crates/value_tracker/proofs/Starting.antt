@@ -9,10 +9,10 @@ use Rattle.std.proofs.lemmas.Option.{slice_get-get_or, slice_get_within, get_or_
 use Rattle.mir_func.specs.declared.variable.VarId.{VarId}
 use Rattle.sem_value_ids.specs.Pullback as path
 use Rattle.sem_value_ids.specs.Pullback.{InRegister, InSlot, OfPair, OfVariable, OfNumber}
-use Rattle.class_entries.specs.declared.tracked.Tracked.{Tracked}
-use Rattle.class_entries.specs.declared.tracked.Tracked.TheVariants.{Register, Slot, Pair, Part, Number}
-use Rattle.class_entries.specs.Entry.{thing}
-use Rattle.class_paths.specs.Classes.{Classes, IsKnown}
+use Rattle.value_solver.specs.declared.tracked.Tracked.{Tracked}
+use Rattle.value_solver.specs.declared.tracked.Tracked.TheVariants.{Register, Slot, Pair, Part, Number}
+use Rattle.value_solver.specs.Entry.{thing}
+use Rattle.value_proof.specs.Classes.{Classes, IsKnown}
 use Rattle.value_tracker.specs.declared.index.Index.{Index}
 use Rattle.value_tracker.specs.declared.held.Held.{Held}
 use Rattle.value_tracker.specs.Things.{AreThings, Indexes, IsOffset, Settle, is_key}

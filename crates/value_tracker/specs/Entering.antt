@@ -2,11 +2,11 @@
 use Rattle.std.specs.Prelude.{◌≡◌, ℕ, ◌<◌, true, List, length, map, slice_index}
 use Rattle.mir_func.specs.declared.variable.VarId.{VarId}
 use Rattle.mir_func.specs.Graph.{Program, block_start}
-use Rattle.class_entries.specs.declared.tracked.Tracked.{Tracked}
-use Rattle.class_entries.specs.declared.entry.BlockEntry.{BlockEntry}
-use Rattle.class_entries.specs.Entry.{thing, IsEntry}
-use Rattle.class_paths.specs.Classes.{Classes, AreClasses}
-use Rattle.class_paths.specs.Wanted.{AreThingsOf}
+use Rattle.value_solver.specs.declared.tracked.Tracked.{Tracked}
+use Rattle.value_solver.specs.declared.entry.BlockEntry.{BlockEntry}
+use Rattle.value_solver.specs.Entry.{thing, IsEntry}
+use Rattle.value_proof.specs.Classes.{Classes, AreClasses}
+use Rattle.value_proof.specs.Wanted.{AreThingsOf}
 use Rattle.value_tracker.specs.Things.{AreThings, Settle, settled_at}
 
 -- What is known at the start of a block that some path leads to gives each thing a class.

@@ -28,10 +28,10 @@ use Rattle.rv64_instr.specs.declared.place.Place.TheVariants.{Const}
 use Rattle.rv64_instr.specs.Arithmetic.{word}
 use Rattle.sem_mir.specs.Token.{IsPlace}
 use Rattle.sem_value_ids.specs.Pullback.{InRegister, InSlot, OfNumber}
-use Rattle.class_entries.specs.declared.tracked.Tracked.{Tracked}
-use Rattle.class_entries.specs.declared.tracked.Tracked.TheVariants.{Register, Slot, Pair, Part, Number}
-use Rattle.class_entries.specs.Entry.{thing}
-use Rattle.class_paths.specs.Classes.{Classes}
+use Rattle.value_solver.specs.declared.tracked.Tracked.{Tracked}
+use Rattle.value_solver.specs.declared.tracked.Tracked.TheVariants.{Register, Slot, Pair, Part, Number}
+use Rattle.value_solver.specs.Entry.{thing}
+use Rattle.value_proof.specs.Classes.{Classes}
 use Rattle.value_tracker.specs.Things.{Settle}
 use Rattle.value_tracker.specs.Held.{SLOTS_FROM, PLACES, slot_place}
 

@@ -4,10 +4,10 @@ use Rattle.std.specs.HashMap.{get}
 use Rattle.base_ids.specs.Limits.{MAX_OFFSET}
 use Rattle.mir_func.specs.declared.variable.VarId.{VarId}
 use Rattle.sem_value_ids.specs.Pullback.{InRegister, OfNumber}
-use Rattle.class_entries.specs.declared.tracked.Tracked.{Tracked}
-use Rattle.class_entries.specs.declared.tracked.Tracked.TheVariants.{Register, Slot, Pair, Part, Number}
-use Rattle.class_entries.specs.Entry.{thing}
-use Rattle.class_paths.specs.Classes.{Classes}
+use Rattle.value_solver.specs.declared.tracked.Tracked.{Tracked}
+use Rattle.value_solver.specs.declared.tracked.Tracked.TheVariants.{Register, Slot, Pair, Part, Number}
+use Rattle.value_solver.specs.Entry.{thing}
+use Rattle.value_proof.specs.Classes.{Classes}
 use Rattle.value_tracker.specs.declared.index.Index.{Index}
 
 -- an offset from x2, in bytes, of a doubleword of the greatest frame

@@ -17,11 +17,11 @@ ghost use Rattle.std.specs.Prelude.{
   slice_index,
 };
 ghost use Rattle.std.specs.HashMap.{get};
-ghost use Rattle.class_entries.specs.declared.tracked.Tracked.{Tracked};
+ghost use Rattle.value_solver.specs.declared.tracked.Tracked.{Tracked};
 ghost use Rattle.value_tracker.specs.Held.{class_at, number_class};
 ghost use Rattle.value_tracker.specs.Things.{is_key, IndexesBelow, Indexes};
 
-use class_entries::tracked::Tracked;
+use value_solver::tracked::Tracked;
 use mir_func::entry::OperandPair;
 use std::alloc::{AllocError, Global};
 use std::collections::HashMap;

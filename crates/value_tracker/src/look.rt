@@ -20,15 +20,15 @@ ghost use Rattle.std.specs.Prelude.{
   slice_index_or,
   cond,
 };
-ghost use Rattle.class_entries.specs.declared.tracked.Tracked.{Tracked};
-ghost use Rattle.class_paths.specs.Classes.{Classes};
+ghost use Rattle.value_solver.specs.declared.tracked.Tracked.{Tracked};
+ghost use Rattle.value_proof.specs.Classes.{Classes};
 ghost use Rattle.value_tracker.specs.Things.{Settle};
 ghost use Rattle.value_tracker.specs.Held.{PLACES};
 ghost use Rattle.value_tracker.specs.Start.{IsConstantOf, ConstantsNow, constant_past};
 ghost use Rattle.value_tracker.specs.Look.{place_of, place_at, place_by};
 
 use crate::held::SLOTS_FROM;
-use class_entries::tracked::Tracked;
+use value_solver::tracked::Tracked;
 use base_ids::code::SlotId;
 use rv64_instr::place::Place;
 use rv64_instr::reg::physical;

@@ -22,7 +22,7 @@ ghost use Rattle.sem_mir.specs.Step.{defined as defined_by};
 ghost use Rattle.mir_func.specs.declared.variable.VarId.{VarId};
 ghost use Rattle.mir_func.specs.declared.item.ItemKind.TheVariants.{Code, Mark, Phi};
 ghost use Rattle.mir_func.specs.Resolve.{resolve};
-ghost use Rattle.class_entries.specs.declared.tracked.Tracked.{Tracked};
+ghost use Rattle.value_solver.specs.declared.tracked.Tracked.{Tracked};
 ghost use Rattle.value_tracker.specs.Held.{
   pair_class,
   resolved_class,

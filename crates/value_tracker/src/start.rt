@@ -20,17 +20,17 @@ ghost use Rattle.std.specs.Prelude.{
   nat_lt,
   ◌&&◌,
 };
-ghost use Rattle.class_entries.specs.declared.tracked.Tracked.{Tracked};
-ghost use Rattle.class_paths.specs.Classes.{Classes};
+ghost use Rattle.value_solver.specs.declared.tracked.Tracked.{Tracked};
+ghost use Rattle.value_proof.specs.Classes.{Classes};
 ghost use Rattle.value_tracker.specs.Things.{AreThings, Indexes, IsOffset, Settle, settled_at};
-ghost use Rattle.class_entries.specs.declared.tracked.Tracked.TheVariants.{Slot};
+ghost use Rattle.value_solver.specs.declared.tracked.Tracked.TheVariants.{Slot};
 ghost use Rattle.value_tracker.specs.Held.{PLACES, Holds};
 ghost use Rattle.value_tracker.specs.Start.{stands_at, PlacedBelow};
 
 use crate::held::{Held, PLACES, SLOTS_FROM, slot_place};
 use crate::index::{Index, number_class};
-use class_entries::entry::BlockEntry;
-use class_entries::tracked::Tracked;
+use value_solver::entry::BlockEntry;
+use value_solver::tracked::Tracked;
 use mir_func::variable::VarId;
 use std::alloc::{AllocError, Global};
 use std::collections::HashMap;

@@ -1,6 +1,6 @@
 -- Why a program has no output, if a function isn't compiled or a section isn't written.
-use Rattle.function_emit.specs.declared.emit.EmitError.{EmitError}
-use Rattle.function_emit.specs.declared.emit.EmitError.TheVariants as emitting
+use Rattle.compile_function.specs.declared.emit.EmitError.{EmitError}
+use Rattle.compile_function.specs.declared.emit.EmitError.TheVariants as emitting
 use Rattle.dwarf_sections.specs.declared.sections.SectionError.{SectionError}
 use Rattle.dwarf_sections.specs.declared.sections.SectionError.TheVariants as sections
 use Rattle.compile_program.specs.declared.compile.CompileError.{CompileError}

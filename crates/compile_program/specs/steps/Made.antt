@@ -4,9 +4,9 @@ use Rattle.emit_code.specs.Counts.{MAX_WORDS}
 use Rattle.pass_trait.specs.declared.loss.Loss.{Loss}
 use Rattle.pass_trait.specs.Steps.{Step}
 use Rattle.frame_rule.specs.Rule.{size_of}
-use Rattle.function_emit.specs.declared.emit.Made.{Made}
-use Rattle.function_emit.specs.Emitted.{names_of, AreWritable, IsPushed}
-use Rattle.function_emit.specs.Passed.{source_of, IsMadeBy, IsMadeLosing, IsCompilable, steps_of}
+use Rattle.compile_function.specs.declared.emit.Made.{Made}
+use Rattle.compile_function.specs.Emitted.{names_of, AreWritable, IsPushed}
+use Rattle.compile_function.specs.Passed.{source_of, IsMadeBy, IsMadeLosing, IsCompilable, steps_of}
 use Rattle.read_metadata.specs.Maps.{Maps}
 use Rattle.read_body.specs.Limits.{MAX_ITEMS}
 use Rattle.mir_func.specs.Limits.{MAX_FRAME}

@@ -7,7 +7,7 @@ use Rattle.mir_func.specs.declared.position.Origin.TheVariants.{Kept, Before}
 use Rattle.mir_func.specs.declared.variable.VarId.{VarId}
 use Rattle.sem_mir.specs.Align.{position_of, Arrives, First, Aligns, Since, After}
 use Rattle.sem_mir.specs.State.{State}
-use Rattle.mir_semantics.specs.StandsFor.{Concrete, StandsFor as StandsForSource}
+use Rattle.sem_interpreter.specs.StandsFor.{Concrete, StandsFor as StandsForSource}
 use Rattle.dwarf_loclists.specs.declared.range.Range.{Range}
 use Rattle.sem_machine.specs.Image.{Image}
 use Rattle.sem_machine.specs.Machine.{Machine}

@@ -8,11 +8,11 @@ use Rattle.mir_func.specs.Sound.{ids_of}
 use Rattle.mir_func.specs.Successors.{ways}
 use Rattle.sem_mir.specs.Token.{Tokens}
 use Rattle.sem_value_ids.specs.Pullback.{InRegister, token_of, after_items}
-use Rattle.class_entries.specs.declared.tracked.Tracked.{Tracked}
-use Rattle.class_solver.specs.declared.flow.Change.{Change}
-use Rattle.class_solver.specs.declared.flow.Flow.{Flow}
-use Rattle.class_solver.specs.Joining.{source_at}
-use Rattle.class_solver.specs.Flows.{token_at, told}
+use Rattle.value_solver.specs.declared.tracked.Tracked.{Tracked}
+use Rattle.value_solver.specs.declared.flow.Change.{Change}
+use Rattle.value_solver.specs.declared.flow.Flow.{Flow}
+use Rattle.value_solver.specs.Joining.{source_at}
+use Rattle.value_solver.specs.Flows.{token_at, told}
 
 -- past the items each thing has the token that the changes tell, where x2 has none before them
 pub record Tells (resolve : OperandPair → Option OperandPair) (xs : List Tracked) (items : List Item) (changes : List Change) : Type 0 where

@@ -1,7 +1,7 @@
 -- What the entry that a function starts with says of tracked things.
 use Rattle.std.specs.Prelude.{ℕ, suc, Bool, true, false, cond}
-use Rattle.class_entries.specs.declared.tracked.Tracked.{Tracked}
-use Rattle.class_entries.specs.declared.tracked.Tracked.TheVariants.{Register, Slot, Pair, Part, Number}
+use Rattle.value_solver.specs.declared.tracked.Tracked.{Tracked}
+use Rattle.value_solver.specs.declared.tracked.Tracked.TheVariants.{Register, Slot, Pair, Part, Number}
 
 -- there is a token for the thing: registers have one each, and numbers
 abbrev pub starts_with : Tracked → Bool

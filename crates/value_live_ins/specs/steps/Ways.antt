@@ -7,8 +7,8 @@ use Rattle.mir_func.specs.declared.block.Block.{Block}
 use Rattle.mir_func.specs.Resolve.{resolve}
 use Rattle.mir_func.specs.Successors.{ways}
 use Rattle.mir_func.specs.Sound.{HasForm}
-use Rattle.class_solver.specs.declared.flow.Flow.{Flow}
-use Rattle.class_solver.specs.Joining.{AreWithin}
+use Rattle.value_solver.specs.declared.flow.Flow.{Flow}
+use Rattle.value_solver.specs.Joining.{AreWithin}
 use Rattle.value_live_ins.specs.declared.changes.Tracking.{Tracking}
 use Rattle.value_live_ins.specs.steps.Flowing.{Tells, next_id}
 

@@ -2,7 +2,7 @@ use Rattle.std.proofs.Common.{◌≡◌, map, arith, rules}
 use Rattle.std.proofs.lemmas.List.{length-map}
 use Rattle.read_program.specs.declared.closing.Parsed.{Parsed}
 use Rattle.compile_theorem.specs.Source.{PassedFunction}
-use Rattle.source_lines.specs.declared.compiled.Compiled.{Compiled}
+use Rattle.dwarf_line_table.specs.declared.compiled.Compiled.{Compiled}
 use Rattle.compile_program.proofs.Behind.{coded_length, passed_length}
 use Rattle.compile_program.proofs.Listed.{program_few}
 use Rattle.compile_program.proofs.compile.compiled.Goals as goal

@@ -1,9 +1,9 @@
 use Rattle.std.proofs.Common.{◌≡◌, ◌+◌, drop, List, [], sym, subst}
 use Rattle.std.proofs.lemmas.List.{drop_all}
 use Rattle.pass_trait.specs.declared.loss.Loss.{Loss}
-use Rattle.function_emit.specs.declared.emit.Made.{Made}
+use Rattle.compile_function.specs.declared.emit.Made.{Made}
 use Rattle.read_program.specs.declared.closing.Parsed.{Parsed}
-use Rattle.source_lines.proofs.Split.{split_at}
+use Rattle.dwarf_line_table.proofs.Split.{split_at}
 use Rattle.compile_program.proofs.Behind.{SoFar, begins, more, all_made}
 use Rattle.compile_program.proofs.function.made_of.Goals as goal
 

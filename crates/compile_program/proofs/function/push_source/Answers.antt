@@ -1,11 +1,11 @@
 use Rattle.std.proofs.Common.{◌≡◌, Err, refl, sym, ap, ◌∙◌}
 use Rattle.std.proofs.lemmas.Result.{err_from_is_err_and}
-use Rattle.function_emit.specs.declared.emit.EmitError.{EmitError}
-use Rattle.function_emit.specs.declared.emit.EmitError.TheVariants as emitting
+use Rattle.compile_function.specs.declared.emit.EmitError.{EmitError}
+use Rattle.compile_function.specs.declared.emit.EmitError.TheVariants as emitting
 use Rattle.compile_program.specs.declared.compile.CompileError.TheVariants as compiling
 use Rattle.compile_program.specs.steps.Fault.{of_emit}
-use Rattle.function_emit.proofs.AfterPasses.{made_by}
-use Rattle.function_emit.specs.Passed.{passed_of}
+use Rattle.compile_function.proofs.AfterPasses.{made_by}
+use Rattle.compile_function.specs.Passed.{passed_of}
 use Rattle.compile_program.proofs.function.push_source.Goals as goal
 
 pub push_function-requires-clause-sound : goal.push_function-requires-clause-sound

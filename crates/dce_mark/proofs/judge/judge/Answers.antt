@@ -6,7 +6,7 @@ use Rattle.mir_func.specs.Function.{Function}
 use Rattle.mir_func.specs.Sound.{ids_of, AreApart}
 use Rattle.pass_liveness.specs.Sets.{has}
 use Rattle.pass_liveness.proofs.Blocks.{get_at, id_is}
-use Rattle.dead_code.specs.Dead.{LiveAtEnd}
+use Rattle.dce_rule.specs.Dead.{LiveAtEnd}
 use Rattle.dce_mark.specs.Judged.{verdicts}
 use Rattle.dce_mark.proofs.Blocks.{JudgedBlock, JudgedBlocks, none, one_more, all_judged}
 use Rattle.dce_mark.proofs.judge.judge.Goals as goal

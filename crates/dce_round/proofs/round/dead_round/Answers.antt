@@ -3,10 +3,10 @@ use Rattle.mir_func.specs.declared.entry.Entry.{Entry}
 use Rattle.mir_func.specs.Function.{Function}
 use Rattle.mir_func.specs.Sound.{IsSound}
 use Rattle.pass_trait.specs.declared.loss.Loss.{Loss}
-use Rattle.dead_salvage.specs.Laws.{all_off, function_off}
+use Rattle.dce_salvage_proof.specs.SalvageLaws.{all_off, function_off}
 use Rattle.dce_round.specs.Round.{IsDeadRound}
 use Rattle.pass_liveness.specs.Liveness.{AreLiveSets}
-use Rattle.dead_salvage.proofs.Chain.{numbers_off}
+use Rattle.dce_salvage_proof.proofs.Chain.{numbers_off}
 use Rattle.dce_round.proofs.Live.{still_live}
 use Rattle.dce_round.proofs.Made.{some_dead, none_dead, round_made}
 use Rattle.dce_round.proofs.round.dead_round.Goals as goal

@@ -7,8 +7,8 @@ use Rattle.mir_func.specs.declared.position.Pos.{Pos}
 use Rattle.mir_func.specs.Function.{Function}
 use Rattle.mir_func.specs.Sound.{IsSound}
 use Rattle.pass_trait.specs.declared.loss.Loss.{Loss}
-use Rattle.dead_code.specs.Dead.{Places}
-use Rattle.dead_code.specs.Wrong.{silenced_block}
+use Rattle.dce_rule.specs.Dead.{Places}
+use Rattle.dce_rule.specs.Wrong.{silenced_block}
 use Rattle.dce_stale.specs.Sets.{WrongSets, wrong_of, starts_of}
 use Rattle.dce_sweep.specs.Left.{lost_in}
 use Rattle.dce_sweep.proofs.Steps.{one_left, one_lost}

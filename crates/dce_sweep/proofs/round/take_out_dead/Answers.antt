@@ -3,9 +3,9 @@ use Rattle.mir_func.specs.declared.block.Block.{Block}
 use Rattle.mir_func.specs.declared.position.Pos.{Pos}
 use Rattle.mir_func.specs.Function.{Function}
 use Rattle.mir_func.specs.Sound.{AllItems, IsSound, HasForm}
-use Rattle.dead_code.specs.Dead.{Places, Ends}
-use Rattle.dead_code.specs.Wrong.{silenced_block, taken_out}
-use Rattle.dead_code.proofs.Sound.{sound_taken}
+use Rattle.dce_rule.specs.Dead.{Places, Ends}
+use Rattle.dce_rule.specs.Wrong.{silenced_block, taken_out}
+use Rattle.dce_rule.proofs.Sound.{sound_taken}
 use Rattle.dce_mark.specs.Judged.{AreJudged}
 use Rattle.dce_stale.specs.Sets.{WrongSets, AreWrongSets, wrong_of, starts_of}
 use Rattle.dce_sweep.proofs.None.{some_dead, none_taken, was_taken}

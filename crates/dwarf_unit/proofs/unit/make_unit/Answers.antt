@@ -1,7 +1,7 @@
 use Rattle.std.proofs.Common.{◌+◌, ◌++◌, ℕ, [], List, length, subst, sym, ap, arith}
 use Rattle.std.proofs.lemmas.List.{drop_all}
-use Rattle.source_lines.specs.declared.compiled.Compiled.{Compiled}
-use Rattle.source_lines.proofs.Split.{split_at}
+use Rattle.dwarf_line_table.specs.declared.compiled.Compiled.{Compiled}
+use Rattle.dwarf_line_table.proofs.Split.{split_at}
 use Rattle.dwarf_unit.proofs.Entries.{FunctionsSoFar, functions_next, functions_room, unit_done, entry_length}
 use Rattle.std.specs.Prelude.{All}
 use Rattle.dwarf_info.specs.declared.unit.Unit.{Unit as CompilationUnit}

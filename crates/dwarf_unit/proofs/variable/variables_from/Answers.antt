@@ -1,6 +1,6 @@
 use Rattle.std.proofs.Common.{List, subst}
 use Rattle.mir_func.specs.declared.variable.VarId.{VarId}
-use Rattle.source_lines.proofs.Split.{split_at}
+use Rattle.dwarf_line_table.proofs.Split.{split_at}
 use Rattle.dwarf_unit.proofs.Entries.{VariablesSoFar, variables_next}
 use Rattle.dwarf_unit.proofs.variable.variables_from.Goals as goal
 

@@ -2,9 +2,9 @@ use Rattle.std.proofs.Common.{◌+◌, List, drop, ◌∙◌, sym, ap}
 use Rattle.std.specs.List.{flat_map}
 use Rattle.mir_func.specs.Variables.{is_same_variable}
 use Rattle.mir_func.specs.declared.block.Block.{Block}
-use Rattle.source_lines.specs.Files.{first_uses}
-use Rattle.source_lines.proofs.FirstUses.{uses_append}
-use Rattle.source_lines.proofs.Split.{split_at}
+use Rattle.dwarf_line_table.specs.Files.{first_uses}
+use Rattle.dwarf_line_table.proofs.FirstUses.{uses_append}
+use Rattle.dwarf_line_table.proofs.Split.{split_at}
 use Rattle.dwarf_unit.specs.Variables.{marks_of}
 use Rattle.dwarf_unit.proofs.variables.variables.Goals as goal
 

@@ -1,7 +1,7 @@
 use Rattle.std.proofs.Common.{◌≡◌, drop}
 use Rattle.std.specs.List.{flat_map}
 use Rattle.mir_func.specs.Variables.{is_same_variable}
-use Rattle.source_lines.specs.Files.{first_uses}
+use Rattle.dwarf_line_table.specs.Files.{first_uses}
 use Rattle.dwarf_unit.specs.Variables.{marks_of, variables_of_function}
 use Rattle.dwarf_unit.proofs.variables.variables.Given as goal
 

@@ -1,7 +1,7 @@
 use Rattle.std.proofs.Common.{◌≡◌, ◌||◌, ◌∷◌, [], ◌++◌, ℕ, List, Vec, Global, map, take, Bool, true, false, cond, not, append-nil, refl, ap, sym, ◌∙◌}
 use Rattle.std.specs.List.{list_any}
 use Rattle.mir_func.specs.declared.item.Item.{Item}
-use Rattle.fold_kills.specs.Kills.{once}
+use Rattle.fold_rule_proof.specs.Kills.{once}
 use Rattle.fold_undef.specs.declared.kill.Kill.{Kill}
 use Rattle.fold_undef.specs.Kill.{kill_item, is_same_kill}
 use Rattle.fold_undef.proofs.Onces.{once_kills, any_more}

@@ -1,6 +1,6 @@
 use Rattle.std.proofs.Common.{◌≡◌, map, take}
 use Rattle.std.specs.List.{list_any}
-use Rattle.fold_kills.specs.Kills.{once}
+use Rattle.fold_rule_proof.specs.Kills.{once}
 use Rattle.fold_undef.specs.declared.kill.Kill.{Kill}
 use Rattle.fold_undef.specs.Kill.{kill_item, is_same_kill}
 use Rattle.fold_undef.specs.steps.Seen.{is_seen}

@@ -1,6 +1,6 @@
 use Rattle.std.proofs.Common.{ℕ, List, refl, subst, get_or}
 use Rattle.std.proofs.lemmas.Option.{slice_get-get_or}
-use Rattle.class_paths.specs.Classes.{Classes}
+use Rattle.value_proof.specs.Classes.{Classes}
 use Rattle.value_tracker.specs.Things.{Settle}
 use Rattle.value_tracker.specs.Held.{Holds}
 use Rattle.value_tracker.specs.Start.{ConstantsNow}

@@ -1,6 +1,6 @@
 use Rattle.std.proofs.Common.{◌≡◌, ◌≤◌, take}
 use Rattle.sem_mir.specs.State.{State}
-use Rattle.mir_semantics.specs.StandsFor.{StandsFor}
+use Rattle.sem_interpreter.specs.StandsFor.{StandsFor}
 use Rattle.selftest_count.specs.Counts.{known_in}
 use Rattle.selftest_count.proofs.known.known.Given as goal
 

@@ -3,7 +3,7 @@ use Rattle.std.proofs.lemmas.Result.{IfOk-weaker}
 use Rattle.dwarf_loclists.specs.declared.range.Range.{Range}
 use Rattle.emit_code.specs.Laid.{LaidCode}
 use Rattle.mir_func.specs.Resolve.{resolve}
-use Rattle.mir_semantics.specs.Steps.{source_of}
+use Rattle.sem_interpreter.specs.Steps.{source_of}
 use Rattle.sim_machine.specs.Shown.{ShowsCode}
 use Rattle.selftest_count.specs.declared.counts.Counts.{Counts}
 use Rattle.selftest_count.specs.Apart.{GoesApart}

@@ -1,6 +1,6 @@
 use Rattle.std.proofs.Common.{◌≡◌, ◌≤◌, false, refl, sym, ◌∙◌, subst, arith}
 use Rattle.emit_code.specs.Laid.{LaidCode}
-use Rattle.mir_semantics.specs.Steps.{source_of}
+use Rattle.sem_interpreter.specs.Steps.{source_of}
 use Rattle.sim_machine.specs.Shown.{ShowsCode}
 use Rattle.selftest_count.specs.declared.counts.Counts.{Counts}
 use Rattle.selftest_count.specs.declared.turn.Turn.{Turn}

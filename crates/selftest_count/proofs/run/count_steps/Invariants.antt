@@ -2,8 +2,8 @@ use Rattle.std.proofs.Common.{◌≡◌, ◌≤◌, ◌-◌, false}
 use Rattle.sem_machine.specs.Image.{Image}
 use Rattle.sem_machine.specs.Machine.{Machine}
 use Rattle.sem_mir.specs.State.{State}
-use Rattle.mir_semantics.specs.StandsFor.{IsPosition}
-use Rattle.mir_semantics.specs.Steps.{source_of}
+use Rattle.sem_interpreter.specs.StandsFor.{IsPosition}
+use Rattle.sem_interpreter.specs.Steps.{source_of}
 use Rattle.sim_machine.specs.Shown.{ShowsCode}
 use Rattle.selftest_count.specs.Counts.{no_counts}
 use Rattle.selftest_count.specs.steps.Beside.{Beside}

@@ -1,8 +1,8 @@
 use Rattle.std.proofs.Common.{◌≡◌, Bool, false, sym, subst}
 use Rattle.std.specs.Prelude.{IsTrue}
 use Rattle.std.proofs.lemmas.Result.{IfOk-weaker}
-use Rattle.mir_semantics.specs.declared.state.SourceStep.{SourceStep}
-use Rattle.mir_semantics.specs.Steps.{Steps, source_of}
+use Rattle.sem_interpreter.specs.declared.state.SourceStep.{SourceStep}
+use Rattle.sem_interpreter.specs.Steps.{Steps, source_of}
 use Rattle.selftest_count.specs.steps.Beside.{ArrivesSo, AlignsSo, MissesSo, MissesNextSo}
 use Rattle.selftest_count.proofs.Sources.{aligns_here, aligns_after, misses_here, misses_after}
 use Rattle.selftest_count.proofs.source.align.Goals as goal

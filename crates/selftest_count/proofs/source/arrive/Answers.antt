@@ -1,6 +1,6 @@
 use Rattle.std.proofs.Common.{◌≡◌, arith, subst}
-use Rattle.mir_semantics.specs.declared.state.SourceStep.{SourceStep}
-use Rattle.mir_semantics.specs.Steps.{Steps, source_of}
+use Rattle.sem_interpreter.specs.declared.state.SourceStep.{SourceStep}
+use Rattle.sem_interpreter.specs.Steps.{Steps, source_of}
 use Rattle.selftest_count.specs.Apart.{MAX_SOURCE_STEPS}
 use Rattle.selftest_count.proofs.Sources.{arrives, all_made, halts_there, goes_further, is_here, is_elsewhere, not_went}
 use Rattle.selftest_count.proofs.source.arrive.Goals as goal

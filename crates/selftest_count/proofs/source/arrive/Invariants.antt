@@ -1,6 +1,6 @@
 use Rattle.std.proofs.Common.{◌≤◌, ◌-◌}
-use Rattle.mir_semantics.specs.StandsFor.{IsPosition}
-use Rattle.mir_semantics.specs.Steps.{source_of}
+use Rattle.sem_interpreter.specs.StandsFor.{IsPosition}
+use Rattle.sem_interpreter.specs.Steps.{source_of}
 use Rattle.selftest_count.proofs.Sources.{OnTheWay}
 use Rattle.selftest_count.proofs.source.arrive.Given as goal
 

@@ -4,7 +4,7 @@ use Rattle.sim_machine.specs.declared.ending.Stepped.{Stepped}
 use Rattle.sim_machine.specs.declared.ending.Stepped.TheVariants.{Stopped}
 use Rattle.sim_machine.specs.declared.ending.Stop.{Stop}
 use Rattle.sim_machine.specs.Running.{StepsOn}
-use Rattle.mir_semantics.specs.Steps.{source_of}
+use Rattle.sem_interpreter.specs.Steps.{source_of}
 use Rattle.selftest_count.specs.Counts.{read_at}
 use Rattle.selftest_count.specs.steps.Beside.{Meets, MeetsNot}
 use Rattle.selftest_count.proofs.Turns.{meets_not, goes_on, returns_there, leaves_there, stops_there}

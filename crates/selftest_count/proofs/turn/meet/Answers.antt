@@ -1,6 +1,6 @@
 use Rattle.std.proofs.Common.{sym, subst}
 use Rattle.mir_func.specs.declared.position.Pos.{Pos}
-use Rattle.mir_semantics.specs.Steps.{source_of}
+use Rattle.sem_interpreter.specs.Steps.{source_of}
 use Rattle.selftest_count.specs.steps.Beside.{AlignsSo, MissesNextSo}
 use Rattle.selftest_count.proofs.Turns.{no_entry, call_entry, misses_entry}
 use Rattle.selftest_count.proofs.turn.meet.Goals as goal

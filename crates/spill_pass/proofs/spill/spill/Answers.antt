@@ -10,10 +10,10 @@ use Rattle.spill_code.specs.Rewrite.{spilled_blocks}
 use Rattle.spill_code.specs.Room.{HaveRoom}
 use Rattle.spill_debug.specs.Asked.{number_beyond, blocks_asked}
 use Rattle.spill_debug.specs.Lost.{AreScratchLosses}
-use Rattle.spill_choice.specs.Incoming.{is_among}
+use Rattle.spill_select.specs.Incoming.{is_among}
 use Rattle.spill_rule.specs.Choice.{entry_of}
-use Rattle.spill_whole.specs.Whole.{spilled_by}
-use Rattle.spill_kept.specs.Kept.{IsSpilledWithLosses}
+use Rattle.spill_proof.specs.Whole.{spilled_by}
+use Rattle.spill_proof.specs.Kept.{IsSpilledWithLosses}
 use Rattle.spill_pass.specs.declared.plan.Plan.{Plan}
 use Rattle.spill_pass.specs.Plan.{IsPlan, AreAllLosses}
 use Rattle.spill_pass.proofs.Made.{some_spilled, sound_spilled, room, fresh_enough}

@@ -1,4 +1,4 @@
-use Rattle.mir_semantics.specs.StandsFor.{IsPosition}
+use Rattle.sem_interpreter.specs.StandsFor.{IsPosition}
 use Rattle.test_ir.proofs.runs.steps.Given as goal
 
 abbrev pub invariant-loop-i : goal.invariant-loop-i

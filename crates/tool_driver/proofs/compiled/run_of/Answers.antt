@@ -1,7 +1,7 @@
 -- The run of a compilation is that of the program's function.
 use Rattle.std.proofs.Common.{◌≡◌, ℕ, List, Option, Some, None, subst, rules}
 use Rattle.std.specs.Prelude.{MatchOption}
-use Rattle.command_line.specs.declared.command.RunPlan.{RunPlan}
+use Rattle.cli.specs.declared.command.RunPlan.{RunPlan}
 use Rattle.run_command.proofs.Runs.{compilation_can_run}
 use Rattle.run_command.proofs.Source.{run_of_program, names_are_read}
 use Rattle.run_command.specs.Runs.{HasNone, IsRunOf}

@@ -1,7 +1,7 @@
 -- The self-test is that of the plan's passes, with its reserve.
 use Rattle.std.proofs.Common.{◌≡◌, ℕ, List, Option, Some, sym, subst, rules}
 use Rattle.std.specs.Prelude.{IfSome}
-use Rattle.command_line.specs.declared.command.TestPlan.{TestPlan}
+use Rattle.cli.specs.declared.command.TestPlan.{TestPlan}
 use Rattle.run_command.specs.Program.{HasLargeFrame, HasLargeSection, steps_of}
 use Rattle.pass_list.specs.Names.{AreDistinct}
 use Rattle.pass_list.specs.declared.kind.PassKind.{PassKind}

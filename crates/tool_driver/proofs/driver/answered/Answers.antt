@@ -2,8 +2,8 @@
 use Rattle.std.proofs.Common.{sym, ap, ◌∙◌, subst, refl, IfOk, IfErr}
 use Rattle.read_proof.proofs.Texts.{programs_are_as_read}
 use Rattle.strip_command.specs.StripText.{stripped_text}
-use Rattle.command_line.specs.Command.{AreWithin}
-use Rattle.command_line.specs.declared.command.Command.{Command}
+use Rattle.cli.specs.Command.{AreWithin}
+use Rattle.cli.specs.declared.command.Command.{Command}
 use Rattle.tool_driver.specs.Run.{AnswersInput, ReadingEnds}
 use Rattle.tool_driver.specs.Stream.{change}
 use Rattle.tool_driver.proofs.AnswerLemmas.{compile_ok, compile_err, listing_ok, listing_err, report_ok, report_err, run_ok, run_err, strip_ok}

@@ -1,9 +1,9 @@
 -- The command that is asked for is the one that the words are.
 use Rattle.std.proofs.Common.{◌≡◌, ◌∙◌, Some, map, sym}
 use Rattle.std.specs.Prelude.{string_bytes}
-use Rattle.command_line.proofs.Words.{within}
-use Rattle.command_line.specs.declared.command.Command.{Command}
-use Rattle.command_line.specs.declared.command.Command.TheVariants.{Gen, SelfTest}
+use Rattle.cli.proofs.CommandWords.{within}
+use Rattle.cli.specs.declared.command.Command.{Command}
+use Rattle.cli.specs.declared.command.Command.TheVariants.{Gen, SelfTest}
 use Rattle.tool_driver.proofs.driver.run.Goals as goal
 
 same_command : (a b : Command) → Some a ≡ Some b → a ≡ b

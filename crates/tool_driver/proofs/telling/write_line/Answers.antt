@@ -1,6 +1,6 @@
 use Rattle.std.proofs.Common.{◌≡◌, [], ◌∷◌, ◌++◌, codes}
 use Rattle.base_io.proofs.ToldLemmas.{Appends-more, AppendsPrefix-after, AppendsPrefix-longer}
-use Rattle.command_line.specs.Fault.{input_line, name_of, place_text, line_of}
+use Rattle.cli.specs.Fault.{input_line, name_of, place_text, line_of}
 use Rattle.tool_driver.proofs.Pieces.{on_err, err_to, ok_to, appends_same, prefix_same}
 use Rattle.tool_driver.proofs.telling.write_line.Goals as goal
 

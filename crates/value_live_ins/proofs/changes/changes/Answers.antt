@@ -1,8 +1,8 @@
 use Rattle.std.proofs.Common.{get_or, refl, sym, ◌∙◌, subst}
 use Rattle.std.specs.Prelude.{length}
 use Rattle.std.proofs.lemmas.Option.{slice_get-get_or}
-use Rattle.class_solver.specs.Joining.{SourceWithin, AreWithin}
-use Rattle.class_solver.specs.declared.flow.Change.{Change}
+use Rattle.value_solver.specs.Joining.{SourceWithin, AreWithin}
+use Rattle.value_solver.specs.declared.flow.Change.{Change}
 use Rattle.value_live_ins.proofs.Changing.{ChangedBelow, KeptFrom, changed_same, changed_push, kept_more, kept_push, within_push}
 use Rattle.value_live_ins.proofs.Changing.{decoded_within, all_changed, own_at, source_at_place}
 use Rattle.value_live_ins.proofs.changes.changes.Goals as goal

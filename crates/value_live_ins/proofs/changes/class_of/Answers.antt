@@ -1,7 +1,7 @@
 use Rattle.std.proofs.Common.{sym, ap, ◌∙◌}
 use Rattle.std.specs.Prelude.{Some, slice_index}
-use Rattle.class_entries.specs.declared.tracked.Tracked.{Tracked}
-use Rattle.class_entries.specs.Entry.{thing}
+use Rattle.value_solver.specs.declared.tracked.Tracked.{Tracked}
+use Rattle.value_solver.specs.Entry.{thing}
 use Rattle.value_live_ins.proofs.Changing.{register_class, slot_class, pair_class_is, part_class_is, number_class_is, part_within}
 use Rattle.value_live_ins.proofs.changes.class_of.Goals as goal
 

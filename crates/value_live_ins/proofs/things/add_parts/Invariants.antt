@@ -2,7 +2,7 @@ use Rattle.std.proofs.Common.{◌≡◌, map}
 use Rattle.std.specs.Prelude.{Contains}
 use Rattle.mir_func.specs.declared.item.Item.{Item}
 use Rattle.mir_func.specs.declared.variable.VarId.{VarId}
-use Rattle.class_entries.specs.declared.tracked.Tracked.TheVariants.{Part}
+use Rattle.value_solver.specs.declared.tracked.Tracked.TheVariants.{Part}
 use Rattle.value_live_ins.specs.Gathering.{IsGathered, HasPart}
 use Rattle.value_live_ins.proofs.Each.{EachBelow}
 use Rattle.value_live_ins.proofs.things.add_parts.Given as goal

@@ -1,5 +1,5 @@
 use Rattle.std.specs.Prelude.{Contains}
-use Rattle.class_entries.specs.declared.tracked.Tracked.TheVariants.{Pair}
+use Rattle.value_solver.specs.declared.tracked.Tracked.TheVariants.{Pair}
 use Rattle.value_live_ins.specs.Gathering.{IsGathered, Grows}
 use Rattle.value_live_ins.proofs.Each.{EachBelow}
 use Rattle.value_live_ins.proofs.things.note_pairs.Given as goal

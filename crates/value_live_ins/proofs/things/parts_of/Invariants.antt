@@ -1,7 +1,7 @@
 use Rattle.std.proofs.Common.{◌≡◌, map}
 use Rattle.std.specs.Prelude.{All}
 use Rattle.mir_func.specs.declared.block.Block.{Block}
-use Rattle.class_entries.specs.declared.tracked.Tracked.TheVariants.{Part}
+use Rattle.value_solver.specs.declared.tracked.Tracked.TheVariants.{Part}
 use Rattle.value_live_ins.specs.Gathering.{IsGathered, HasPart}
 use Rattle.value_live_ins.proofs.Each.{EachBelow}
 use Rattle.value_live_ins.proofs.things.parts_of.Given as goal

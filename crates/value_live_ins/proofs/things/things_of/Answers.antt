@@ -1,8 +1,8 @@
 use Rattle.std.proofs.Common.{get_or, subst, sym, List}
 use Rattle.std.specs.Prelude.{Contains}
 use Rattle.mir_func.specs.Resolve.{resolve}
-use Rattle.class_entries.specs.declared.tracked.Tracked.{Tracked}
-use Rattle.class_entries.specs.declared.tracked.Tracked.TheVariants.{Pair}
+use Rattle.value_solver.specs.declared.tracked.Tracked.{Tracked}
+use Rattle.value_solver.specs.declared.tracked.Tracked.TheVariants.{Pair}
 use Rattle.value_live_ins.proofs.Gathering.{things_done, tracked_done, knows_done, fewer_variables, grows_then, grows_has}
 use Rattle.value_live_ins.proofs.things.things_of.Goals as goal
 

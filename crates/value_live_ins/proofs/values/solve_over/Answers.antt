@@ -2,8 +2,8 @@ use Rattle.std.proofs.Common.{subst, sym}
 use Rattle.std.specs.Prelude.{List}
 use Rattle.mir_func.specs.Graph.{framed_program}
 use Rattle.mir_func.specs.Resolve.{resolve}
-use Rattle.class_solver.specs.declared.flow.Flow.{Flow}
-use Rattle.class_solver.specs.Flows.{AreFlows}
+use Rattle.value_solver.specs.declared.flow.Flow.{Flow}
+use Rattle.value_solver.specs.Flows.{AreFlows}
 use Rattle.value_live_ins.proofs.Solving.{things_are, are_flows, sound_flows, sound_same, entries_are}
 use Rattle.value_live_ins.proofs.values.solve_over.Goals as goal
 

@@ -1,6 +1,6 @@
 use Rattle.std.proofs.Common.{◌≡◌, ◌^◌, ◌-◌, length, take}
 use Rattle.std.specs.Prelude.{min, sum_by}
-use Rattle.class_entries.specs.declared.entry.BlockEntry.{BlockEntry}
+use Rattle.value_solver.specs.declared.entry.BlockEntry.{BlockEntry}
 use Rattle.value_queries.proofs.machine.total.Given as goal
 
 abbrev pub invariant-loop-entry : goal.invariant-loop-entry

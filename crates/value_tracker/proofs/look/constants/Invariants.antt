@@ -1,5 +1,5 @@
 use Rattle.std.proofs.Common.{◌≡◌, length}
-use Rattle.class_paths.specs.Classes.{Classes}
+use Rattle.value_proof.specs.Classes.{Classes}
 use Rattle.value_tracker.specs.Things.{Settle}
 use Rattle.value_tracker.specs.Start.{AreConstantsBelow}
 use Rattle.value_tracker.proofs.look.constants.Given as goal

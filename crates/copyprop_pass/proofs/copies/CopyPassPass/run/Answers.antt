@@ -8,9 +8,9 @@ use Rattle.pass_trait.specs.Following.{KeepsFollowing}
 use Rattle.pass_trait.specs.Sizes.{KeepsSizes}
 use Rattle.copyprop_rule.specs.Rule.{salvaged_function, salvaged_entries}
 use Rattle.copyprop_rule.proofs.Sizes.{sizes_copied}
-use Rattle.copy_removal.proofs.Follows.{copies_follow}
-use Rattle.copy_debug.specs.Rule.{copy_step}
-use Rattle.copy_debug.proofs.Kept.{copies_keep}
+use Rattle.copyprop_proof.proofs.Follows.{copies_follow}
+use Rattle.copyprop_proof.specs.Rule.{copy_step}
+use Rattle.copyprop_proof.proofs.Kept.{copies_keep}
 use Rattle.copyprop_pass.proofs.copies.CopyPassPass.run.Goals as goal
 
 -- what holds of the function and its entries that the rule makes, holds of those that were made

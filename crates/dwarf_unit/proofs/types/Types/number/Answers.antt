@@ -1,8 +1,8 @@
 use Rattle.std.proofs.Common.{ℕ, ◌++◌, List, ◌∙◌, sym, ap}
 use Rattle.std.specs.Prelude.{nat_eq}
 use Rattle.std.specs.List.{position_or_len}
-use Rattle.source_lines.specs.Files.{with_new}
-use Rattle.source_lines.proofs.FirstUses.{number_kept}
+use Rattle.dwarf_line_table.specs.Files.{with_new}
+use Rattle.dwarf_line_table.proofs.FirstUses.{number_kept}
 use Rattle.dwarf_unit.proofs.Keys.{node_same}
 use Rattle.dwarf_unit.proofs.types.Types.number.Goals as goal
 

@@ -1,6 +1,6 @@
 use Rattle.std.proofs.Common.{◌≡◌, drop}
 use Rattle.mir_func.specs.Variables.{is_same_variable}
-use Rattle.source_lines.specs.Files.{first_uses}
+use Rattle.dwarf_line_table.specs.Files.{first_uses}
 use Rattle.dwarf_unit.specs.Variables.{marks_of}
 use Rattle.dwarf_unit.proofs.variables.Known.add_all.Given as goal
 

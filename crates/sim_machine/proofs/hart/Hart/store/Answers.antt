@@ -3,7 +3,7 @@ use Rattle.rv64_instr.specs.Arithmetic.{store_width}
 use Rattle.sem_mir.specs.State.{low_bytes, stored}
 use Rattle.sem_machine.specs.Machine.{register, address_of}
 use Rattle.sem_machine.specs.MachineStep.{does_row, past, store}
-use Rattle.byte_memory.specs.Held.{MemoryHolds}
+use Rattle.sem_interpreter.specs.Held.{MemoryHolds}
 use Rattle.sim_machine.proofs.Rows.{stores}
 use Rattle.sim_machine.proofs.hart.Hart.store.Goals as goal
 

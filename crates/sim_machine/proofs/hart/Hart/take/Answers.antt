@@ -1,6 +1,6 @@
 use Rattle.std.proofs.Common.{ℕ, ◌+◌, ap}
 use Rattle.sem_mir.specs.State.{written}
-use Rattle.byte_memory.specs.Held.{some_writes}
+use Rattle.sem_interpreter.specs.Held.{some_writes}
 use Rattle.sim_machine.specs.Kept.{calls_in}
 use Rattle.sim_machine.proofs.Calls.{next_call}
 use Rattle.sim_machine.proofs.hart.Hart.take.Goals as goal

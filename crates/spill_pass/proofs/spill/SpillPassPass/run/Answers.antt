@@ -3,8 +3,8 @@ use Rattle.mir_func.specs.declared.entry.Entry.{Entry}
 use Rattle.mir_func.specs.Function.{Function}
 use Rattle.pass_trait.specs.Change.{change}
 use Rattle.pass_trait.specs.Steps.{KeepsSteps}
-use Rattle.spill_step.specs.Step.{spill_step}
-use Rattle.spill_kept.specs.Kept.{IsReserve, IsSpilledWithLosses}
+use Rattle.spill_proof.specs.Step.{spill_step}
+use Rattle.spill_proof.specs.Kept.{IsReserve, IsSpilledWithLosses}
 use Rattle.spill_pass.specs.Reserve.{reserve_of}
 use Rattle.spill_pass.proofs.Reserved.{is_reserve}
 use Rattle.spill_pass.proofs.Results.{if_ok}

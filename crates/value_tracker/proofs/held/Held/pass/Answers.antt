@@ -2,7 +2,7 @@ use Rattle.std.proofs.Common.{sym, subst}
 use Rattle.std.specs.Prelude.{OnOk, List}
 use Rattle.mir_func.specs.declared.item.ItemKind.{ItemKind}
 use Rattle.mir_func.specs.Resolve.{resolve}
-use Rattle.class_entries.specs.declared.tracked.Tracked.{Tracked}
+use Rattle.value_solver.specs.declared.tracked.Tracked.{Tracked}
 use Rattle.value_tracker.specs.Held.{Passes}
 use Rattle.value_tracker.proofs.held.Held.pass.Goals as goal
 

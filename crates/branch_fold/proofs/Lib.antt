@@ -1,3 +1,0 @@
-mod Results
-mod Folding
-mod Running

@@ -1,6 +1,0 @@
-use Rattle.std.proofs.Common.{sym, ap, refl}
-use Rattle.byte_memory.specs.Held.{number_in}
-use Rattle.byte_memory.proofs.memory.Memory.new.Goals as goal
-
-pub loop-cell-init : goal.loop-cell-init
-loop-cell-init c = ((λ _. 0), (λ a. sym (ap (λ es. number_in es a) c.new-bytes.ensures.empty)), refl)

@@ -1,7 +1,0 @@
-use Rattle.std.proofs.Common.{◌≡◌, ℕ, drop}
-use Rattle.sem_mir.specs.State.{written}
-use Rattle.byte_memory.specs.Held.{MemoryHolds}
-use Rattle.byte_memory.proofs.memory.Memory.new.Given as goal
-
-abbrev pub invariant-loop-cell : goal.invariant-loop-cell
-invariant-loop-cell l = (now : ℕ → ℕ) × MemoryHolds l.bytes.entries now × (written now (drop l.cell-index l.cells) ≡ written (λ _. 0) l.cells)

@@ -1,3 +1,0 @@
-pub mod Passing
-pub mod Known
-pub mod Wanted

@@ -1,5 +1,0 @@
-use Rattle.class_solver.proofs.Empty.{IsEmptyJoin}
-use Rattle.class_solver.proofs.join.empty_join.Given as goal
-
-abbrev pub invariant-loop : goal.invariant-loop
-invariant-loop l = IsEmptyJoin l.counter l.classes l.given

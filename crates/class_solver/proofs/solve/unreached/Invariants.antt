@@ -1,8 +1,0 @@
-use Rattle.std.proofs.Common.{◌≡◌, ℕ, length, Some, []}
-use Rattle.std.specs.Prelude.{slice_get, false}
-use Rattle.class_entries.specs.declared.entry.BlockEntry.{BlockEntry}
-use Rattle.class_solver.proofs.solve.unreached.Given as goal
-
-abbrev pub invariant-loop : goal.invariant-loop
-invariant-loop l = (length l.entries.items ≡ l.counter)
-    × ((b : ℕ) (e : BlockEntry) → slice_get l.entries.items b ≡ Some e → e ≡ record { reached = false; classes = []; given = [] })

@@ -1,5 +1,0 @@
-pub mod Numbering
-pub mod Joining
-pub mod Hands
-pub mod Flows
-pub mod Invariants

@@ -1,0 +1,314 @@
+-- Words tell their command.
+use Rattle.std.proofs.Common.{◌≡◌, ◌↔◌, ℕ, ◌+◌, ◌*◌, ◌≤◌, List, [], ◌∷◌, Option, Some, None, sym, ap, ◌∙◌, subst, refl, arith}
+use Rattle.std.specs.Prelude.{codes}
+use Rattle.std.specs.Fmt.{decimal}
+use Rattle.std.proofs.lemmas.Fmt.{decimal_injective}
+use Rattle.cli_numbers.specs.declared.generation.Generation.{Generation}
+use Rattle.cli_numbers.specs.Numbers.{IsGeneration}
+use Rattle.cli.specs.declared.given.Options.{Options}
+use Rattle.cli.specs.declared.option.CommandOption.{CommandOption}
+use Rattle.cli.specs.declared.option.CommandOption.TheVariants.{Passes, Reserve, Arguments, Answers}
+use Rattle.cli.specs.Options.{none_given, IsWith, GivesOption, GiveOptions}
+use Rattle.cli.proofs.OptionWords.{the_option}
+use Rattle.cli.specs.declared.command.Command.{Command}
+use Rattle.cli.specs.declared.command.Command.TheVariants.{Compile, Listing, Report, Run, Strip, Gen, SelfTest}
+use Rattle.cli.specs.declared.command.Plan.{Plan}
+use Rattle.cli.specs.declared.command.RunPlan.{RunPlan}
+use Rattle.cli.specs.declared.command.TestPlan.{TestPlan}
+use Rattle.cli.specs.Command.{MAX_STEPS, IsPlanOf, GivesPlan, IsRunPlanOf, GivesSteps, GivesRun, GivesTestOf, GivesTest}
+use Rattle.cli.specs.Command.{IsWithin, IsCommand, AreWithin}
+
+-- ---- one plan for words
+
+pub one_of : {A : Type 0} (a b : A) → ◌≡◌ {A = Option A} (Some a) (Some b) → a ≡ b
+one_of a b e = cc
+
+one_next : (given : Options) (option : CommandOption) (a b : Options) → IsWith given option a → IsWith given option b → a ≡ b
+one_next given (Passes list) a b ha hb = ha.1 ∙ sym hb.1
+one_next given (Reserve registers) a b ha hb = ha.1 ∙ sym hb.1
+one_next given (Arguments values) a b ha hb = ha.1 ∙ sym hb.1
+one_next given (Answers values) a b ha hb = ha.1 ∙ sym hb.1
+
+one_more : (given : Options) (word : List ℕ) (a b : Options) → GivesOption given word a → GivesOption given word b → a ≡ b
+one_more given word a b ha hb =
+    let same : ha.option ≡ hb.option =
+    one_of ha.option hb.option ((the_option word ha.option (ha.spelled, ha.allowed) hb.option).1 (hb.spelled, hb.allowed)) in
+    one_next given hb.option a b (subst (λ (o : CommandOption). IsWith given o a) same ha.with) hb.with
+
+one_given : (words : List (List ℕ)) (given a b : Options) → GiveOptions given words a → GiveOptions given words b → a ≡ b
+one_given [] given a b ha hb = ha ∙ sym hb
+one_given (word ∷ words) given a b ha hb =
+    let same : ha.0 ≡ hb.0 = one_more given word ha.0 hb.0 ha.1 hb.1 in
+    one_given words hb.0 a b (subst (λ (o : Options). GiveOptions o words a) same ha.2) hb.2
+
+plan_by : (given : Options) (p q : Plan) → IsPlanOf given p → IsPlanOf given q → p ≡ q
+plan_by given p q hp hq =
+    let passes : p.passes ≡ q.passes = hp.passes ∙ sym hq.passes in
+    let reserve : p.reserve ≡ q.reserve = hp.reserve ∙ sym hq.reserve in
+    λ i. record { passes = passes i; reserve = reserve i }
+
+pub one_plan : (words : List (List ℕ)) (p q : Plan) → GivesPlan words p → GivesPlan words q → p ≡ q
+one_plan words p q hp hq =
+    let same : hp.0 ≡ hq.0 = one_given words none_given hp.0 hq.0 hp.1 hq.1 in
+    plan_by hq.0 p q (subst (λ (o : Options). IsPlanOf o p) same hp.2) hq.2
+
+run_by : (name : List ℕ) (count : ℕ) (given : Options) (r s : RunPlan) → IsRunPlanOf name count given r → IsRunPlanOf name count given s → r ≡ s
+run_by name count given r s hr hs =
+    let named : r.name ≡ s.name = hr.named ∙ sym hs.named in
+    let steps : r.steps ≡ s.steps = hr.steps ∙ sym hs.steps in
+    let passes : r.plan.passes ≡ s.plan.passes = hr.passes ∙ sym hs.passes in
+    let reserve : r.plan.reserve ≡ s.plan.reserve = hr.reserve ∙ sym hs.reserve in
+    let arguments : r.arguments ≡ s.arguments = hr.arguments ∙ sym hs.arguments in
+    let answers : r.answers ≡ s.answers = hr.answers ∙ sym hs.answers in
+    λ i. record {
+      name = named i;
+      steps = steps i;
+      plan = record { passes = passes i; reserve = reserve i };
+      arguments = arguments i;
+      answers = answers i;
+    }
+
+pub one_number : (m n : ℕ) → m ≤ MAX_STEPS → n ≤ MAX_STEPS → decimal m ≡ decimal n → m ≡ n
+one_number m n small also e = decimal_injective m n (omega (arith, small)) (omega (arith, also)) e
+
+one_steps : (name word : List ℕ) (words : List (List ℕ)) (r s : RunPlan) → GivesSteps name word words r → GivesSteps name word words s → r ≡ s
+one_steps name word words r s hr hs =
+    let count : hr.count ≡ hs.count = one_number hr.count hs.count hr.few hs.few (sym hr.spelled ∙ hs.spelled) in
+    let given : hr.given ≡ hs.given = one_given words none_given hr.given hs.given hr.give hs.give in
+    run_by name hs.count hs.given r s
+    (subst (λ (n : ℕ). IsRunPlanOf name n hs.given r) count (subst (λ (o : Options). IsRunPlanOf name hr.count o r) given hr.is)) hs.is
+
+one_run : (words : List (List ℕ)) (r s : RunPlan) → GivesRun words r → GivesRun words s → r ≡ s
+one_run [] r s hr hs = absurd hr
+one_run (name ∷ []) r s hr hs = absurd hr
+one_run (name ∷ word ∷ words) r s hr hs = one_steps name word words r s hr hs
+
+one_function : (number blocks : List ℕ) (g h : Generation) → IsGeneration number blocks g → IsGeneration number blocks h → g ≡ h
+one_function number blocks g h hg hh =
+    let first : g.number ≡ h.number =
+    one_number g.number h.number (omega (arith, hg.small)) (omega (arith, hh.small)) (sym hg.number ∙ hh.number) in
+    let second : g.blocks ≡ h.blocks =
+    one_number g.blocks h.blocks (omega (arith, hg.few)) (omega (arith, hh.few)) (sym hg.blocks ∙ hh.blocks) in
+    λ i. record { number = first i; blocks = second i }
+
+one_test_of : (number blocks : List ℕ) (words : List (List ℕ)) (t u : TestPlan) → GivesTestOf number blocks words t → GivesTestOf number blocks words u → t ≡ u
+one_test_of number blocks words t u ht hu =
+    let function : t.function ≡ u.function = one_function number blocks t.function u.function ht.function hu.function in
+    let plan : t.plan ≡ u.plan = one_plan words t.plan u.plan ht.plan hu.plan in
+    λ i. record { function = function i; plan = plan i }
+
+one_test : (words : List (List ℕ)) (t u : TestPlan) → GivesTest words t → GivesTest words u → t ≡ u
+one_test [] t u ht hu = absurd ht
+one_test (number ∷ []) t u ht hu = absurd ht
+one_test (number ∷ blocks ∷ words) t u ht hu = one_test_of number blocks words t u ht hu
+
+-- ---- one command for words
+
+-- the first two bytes of a name in one number, which tells each command's name from the others'
+abbrev pub sign : List ℕ → ℕ
+sign [] = 0
+sign (b ∷ []) = b
+sign (b ∷ c ∷ bs) = b + 2 * c
+
+one_word : (a b : List ℕ) (xs ys : List (List ℕ)) → ◌≡◌ {A = List (List ℕ)} (a ∷ xs) (b ∷ ys) → (a ≡ b) × (xs ≡ ys)
+one_word a b xs ys e = (cc, cc)
+
+one_generation : (words : List (List ℕ)) (g h : Generation) → IsWithin g → IsWithin h → words ≡ decimal g.number ∷ decimal g.blocks ∷ [] →
+    words ≡ decimal h.number ∷ decimal h.blocks ∷ [] → g ≡ h
+one_generation words g h within also eg eh =
+    let first = one_word (decimal g.number) (decimal h.number) (decimal g.blocks ∷ []) (decimal h.blocks ∷ []) (sym eg ∙ eh) in
+    let second = one_word (decimal g.blocks) (decimal h.blocks) [] [] first.1 in
+    let number : g.number ≡ h.number = one_number g.number h.number (omega (arith, within.small)) (omega (arith, also.small)) first.0 in
+    let blocks : g.blocks ≡ h.blocks =
+    one_number g.blocks h.blocks (omega (arith, within.few)) (omega (arith, also.few)) second.0 in
+    λ i. record { number = number i; blocks = blocks i }
+
+-- the sign of the name of a command
+abbrev pub sign_of : Command → ℕ
+sign_of (Compile p) = 321
+sign_of (Listing p) = 318
+sign_of (Report p) = 316
+sign_of (Run r) = 348
+sign_of Strip = 347
+sign_of (Gen g) = 305
+sign_of (SelfTest t) = 317
+
+named_by : (name : List ℕ) (words : List (List ℕ)) (c : Command) → IsCommand (name ∷ words) c → sign name ≡ sign_of c
+named_by name words (Compile p) is = ap sign is.0
+named_by name words (Listing p) is = ap sign is.0
+named_by name words (Report p) is = ap sign is.0
+named_by name words (Run r) is = ap sign is.0
+named_by name words Strip is = ap sign is.0
+named_by name words (Gen g) is = ap sign is.0
+named_by name words (SelfTest t) is = ap sign is.0
+
+other : (name : List ℕ) (words : List (List ℕ)) (a b : Command) → IsCommand (name ∷ words) a → IsCommand (name ∷ words) b → sign_of a ≡ sign_of b
+other name words a b ha hb = sym (named_by name words a ha) ∙ named_by name words b hb
+
+by_name : (name : List ℕ) (words : List (List ℕ)) (a b : Command) → sign_of a ≡ sign_of b → IsCommand (name ∷ words) a → IsCommand (name ∷ words) b → a ≡ b
+by_name name words (Compile p) (Compile q) e ha hb = ap (λ (x : Plan). Compile x) (one_plan words p q ha.1 hb.1)
+by_name name words (Compile p) (Listing q) e ha hb = absurd (omega (arith, e))
+by_name name words (Compile p) (Report q) e ha hb = absurd (omega (arith, e))
+by_name name words (Compile p) (Run s) e ha hb = absurd (omega (arith, e))
+by_name name words (Compile p) Strip e ha hb = absurd (omega (arith, e))
+by_name name words (Compile p) (Gen h) e ha hb = absurd (omega (arith, e))
+by_name name words (Compile p) (SelfTest u) e ha hb = absurd (omega (arith, e))
+by_name name words (Listing p) (Compile q) e ha hb = absurd (omega (arith, e))
+by_name name words (Listing p) (Listing q) e ha hb = ap (λ (x : Plan). Listing x) (one_plan words p q ha.1 hb.1)
+by_name name words (Listing p) (Report q) e ha hb = absurd (omega (arith, e))
+by_name name words (Listing p) (Run s) e ha hb = absurd (omega (arith, e))
+by_name name words (Listing p) Strip e ha hb = absurd (omega (arith, e))
+by_name name words (Listing p) (Gen h) e ha hb = absurd (omega (arith, e))
+by_name name words (Listing p) (SelfTest u) e ha hb = absurd (omega (arith, e))
+by_name name words (Report p) (Compile q) e ha hb = absurd (omega (arith, e))
+by_name name words (Report p) (Listing q) e ha hb = absurd (omega (arith, e))
+by_name name words (Report p) (Report q) e ha hb = ap (λ (x : Plan). Report x) (one_plan words p q ha.1 hb.1)
+by_name name words (Report p) (Run s) e ha hb = absurd (omega (arith, e))
+by_name name words (Report p) Strip e ha hb = absurd (omega (arith, e))
+by_name name words (Report p) (Gen h) e ha hb = absurd (omega (arith, e))
+by_name name words (Report p) (SelfTest u) e ha hb = absurd (omega (arith, e))
+by_name name words (Run r) (Compile q) e ha hb = absurd (omega (arith, e))
+by_name name words (Run r) (Listing q) e ha hb = absurd (omega (arith, e))
+by_name name words (Run r) (Report q) e ha hb = absurd (omega (arith, e))
+by_name name words (Run r) (Run s) e ha hb = ap (λ (x : RunPlan). Run x) (one_run words r s ha.1 hb.1)
+by_name name words (Run r) Strip e ha hb = absurd (omega (arith, e))
+by_name name words (Run r) (Gen h) e ha hb = absurd (omega (arith, e))
+by_name name words (Run r) (SelfTest u) e ha hb = absurd (omega (arith, e))
+by_name name words Strip (Compile q) e ha hb = absurd (omega (arith, e))
+by_name name words Strip (Listing q) e ha hb = absurd (omega (arith, e))
+by_name name words Strip (Report q) e ha hb = absurd (omega (arith, e))
+by_name name words Strip (Run s) e ha hb = absurd (omega (arith, e))
+by_name name words Strip Strip e ha hb = refl
+by_name name words Strip (Gen h) e ha hb = absurd (omega (arith, e))
+by_name name words Strip (SelfTest u) e ha hb = absurd (omega (arith, e))
+by_name name words (Gen g) (Compile q) e ha hb = absurd (omega (arith, e))
+by_name name words (Gen g) (Listing q) e ha hb = absurd (omega (arith, e))
+by_name name words (Gen g) (Report q) e ha hb = absurd (omega (arith, e))
+by_name name words (Gen g) (Run s) e ha hb = absurd (omega (arith, e))
+by_name name words (Gen g) Strip e ha hb = absurd (omega (arith, e))
+by_name name words (Gen g) (Gen h) e ha hb = ap (λ (x : Generation). Gen x) (one_generation words g h ha.2 hb.2 ha.1 hb.1)
+by_name name words (Gen g) (SelfTest u) e ha hb = absurd (omega (arith, e))
+by_name name words (SelfTest t) (Compile q) e ha hb = absurd (omega (arith, e))
+by_name name words (SelfTest t) (Listing q) e ha hb = absurd (omega (arith, e))
+by_name name words (SelfTest t) (Report q) e ha hb = absurd (omega (arith, e))
+by_name name words (SelfTest t) (Run s) e ha hb = absurd (omega (arith, e))
+by_name name words (SelfTest t) Strip e ha hb = absurd (omega (arith, e))
+by_name name words (SelfTest t) (Gen h) e ha hb = absurd (omega (arith, e))
+by_name name words (SelfTest t) (SelfTest u) e ha hb = ap (λ (x : TestPlan). SelfTest x) (one_test words t u ha.1 hb.1)
+
+-- no words are two commands
+pub one_command : (words : List (List ℕ)) (a b : Command) → IsCommand words a → IsCommand words b → a ≡ b
+one_command [] a b ha hb = absurd ha
+one_command (name ∷ words) a b ha hb = by_name name words a b (other name words a b ha hb) ha hb
+
+-- ---- names whose options aren't given
+
+pub no_compile : (name : List ℕ) (words : List (List ℕ)) → name ≡ codes "compile" → ((p : Plan) → GivesPlan words p → ⊥) →
+    (c : Command) → IsCommand (name ∷ words) c → ⊥
+no_compile name words is none (Compile p) h = none p h.1
+no_compile name words is none (Listing p) h = let e : 321 ≡ 318 = sym (ap sign is) ∙ ap sign h.0 in omega (arith, e)
+no_compile name words is none (Report p) h = let e : 321 ≡ 316 = sym (ap sign is) ∙ ap sign h.0 in omega (arith, e)
+no_compile name words is none (Run r) h = let e : 321 ≡ 348 = sym (ap sign is) ∙ ap sign h.0 in omega (arith, e)
+no_compile name words is none Strip h = let e : 321 ≡ 347 = sym (ap sign is) ∙ ap sign h.0 in omega (arith, e)
+no_compile name words is none (Gen g) h = let e : 321 ≡ 305 = sym (ap sign is) ∙ ap sign h.0 in omega (arith, e)
+no_compile name words is none (SelfTest t) h = let e : 321 ≡ 317 = sym (ap sign is) ∙ ap sign h.0 in omega (arith, e)
+
+pub no_listing : (name : List ℕ) (words : List (List ℕ)) → name ≡ codes "listing" → ((p : Plan) → GivesPlan words p → ⊥) →
+    (c : Command) → IsCommand (name ∷ words) c → ⊥
+no_listing name words is none (Compile p) h = let e : 318 ≡ 321 = sym (ap sign is) ∙ ap sign h.0 in omega (arith, e)
+no_listing name words is none (Listing p) h = none p h.1
+no_listing name words is none (Report p) h = let e : 318 ≡ 316 = sym (ap sign is) ∙ ap sign h.0 in omega (arith, e)
+no_listing name words is none (Run r) h = let e : 318 ≡ 348 = sym (ap sign is) ∙ ap sign h.0 in omega (arith, e)
+no_listing name words is none Strip h = let e : 318 ≡ 347 = sym (ap sign is) ∙ ap sign h.0 in omega (arith, e)
+no_listing name words is none (Gen g) h = let e : 318 ≡ 305 = sym (ap sign is) ∙ ap sign h.0 in omega (arith, e)
+no_listing name words is none (SelfTest t) h = let e : 318 ≡ 317 = sym (ap sign is) ∙ ap sign h.0 in omega (arith, e)
+
+pub no_report : (name : List ℕ) (words : List (List ℕ)) → name ≡ codes "report" → ((p : Plan) → GivesPlan words p → ⊥) →
+    (c : Command) → IsCommand (name ∷ words) c → ⊥
+no_report name words is none (Compile p) h = let e : 316 ≡ 321 = sym (ap sign is) ∙ ap sign h.0 in omega (arith, e)
+no_report name words is none (Listing p) h = let e : 316 ≡ 318 = sym (ap sign is) ∙ ap sign h.0 in omega (arith, e)
+no_report name words is none (Report p) h = none p h.1
+no_report name words is none (Run r) h = let e : 316 ≡ 348 = sym (ap sign is) ∙ ap sign h.0 in omega (arith, e)
+no_report name words is none Strip h = let e : 316 ≡ 347 = sym (ap sign is) ∙ ap sign h.0 in omega (arith, e)
+no_report name words is none (Gen g) h = let e : 316 ≡ 305 = sym (ap sign is) ∙ ap sign h.0 in omega (arith, e)
+no_report name words is none (SelfTest t) h = let e : 316 ≡ 317 = sym (ap sign is) ∙ ap sign h.0 in omega (arith, e)
+
+pub no_run : (name : List ℕ) (words : List (List ℕ)) → name ≡ codes "run" → ((r : RunPlan) → GivesRun words r → ⊥) →
+    (c : Command) → IsCommand (name ∷ words) c → ⊥
+no_run name words is none (Compile p) h = let e : 348 ≡ 321 = sym (ap sign is) ∙ ap sign h.0 in omega (arith, e)
+no_run name words is none (Listing p) h = let e : 348 ≡ 318 = sym (ap sign is) ∙ ap sign h.0 in omega (arith, e)
+no_run name words is none (Report p) h = let e : 348 ≡ 316 = sym (ap sign is) ∙ ap sign h.0 in omega (arith, e)
+no_run name words is none (Run r) h = none r h.1
+no_run name words is none Strip h = let e : 348 ≡ 347 = sym (ap sign is) ∙ ap sign h.0 in omega (arith, e)
+no_run name words is none (Gen g) h = let e : 348 ≡ 305 = sym (ap sign is) ∙ ap sign h.0 in omega (arith, e)
+no_run name words is none (SelfTest t) h = let e : 348 ≡ 317 = sym (ap sign is) ∙ ap sign h.0 in omega (arith, e)
+
+pub no_test : (name : List ℕ) (words : List (List ℕ)) → name ≡ codes "selftest" → ((t : TestPlan) → GivesTest words t → ⊥) →
+    (c : Command) → IsCommand (name ∷ words) c → ⊥
+no_test name words is none (Compile p) h = let e : 317 ≡ 321 = sym (ap sign is) ∙ ap sign h.0 in omega (arith, e)
+no_test name words is none (Listing p) h = let e : 317 ≡ 318 = sym (ap sign is) ∙ ap sign h.0 in omega (arith, e)
+no_test name words is none (Report p) h = let e : 317 ≡ 316 = sym (ap sign is) ∙ ap sign h.0 in omega (arith, e)
+no_test name words is none (Run r) h = let e : 317 ≡ 348 = sym (ap sign is) ∙ ap sign h.0 in omega (arith, e)
+no_test name words is none Strip h = let e : 317 ≡ 347 = sym (ap sign is) ∙ ap sign h.0 in omega (arith, e)
+no_test name words is none (Gen g) h = let e : 317 ≡ 305 = sym (ap sign is) ∙ ap sign h.0 in omega (arith, e)
+no_test name words is none (SelfTest t) h = none t h.1
+
+-- ---- what is found
+
+pub no_some : {A : Type 0} (a : A) → ◌≡◌ {A = Option A} None (Some a) → ⊥
+no_some a e = cc
+
+-- words that are this command are no other
+pub the_command : (words : List (List ℕ)) (a : Command) → IsCommand words a → (b : Command) →
+    (◌≡◌ {A = Option Command} (Some a) (Some b)) ↔ IsCommand words b
+the_command words a is b = (
+  λ e. subst (IsCommand words) (one_of a b e) is,
+  λ other. ap (λ (x : Command). Some x) (one_command words a b is other),
+)
+
+-- words whose options ask for these runs ask for them too
+pub the_steps : (name named word : List ℕ) (words : List (List ℕ)) (count : ℕ) (given : Options) (found : RunPlan) → named ≡ name →
+    word ≡ decimal count → count ≤ MAX_STEPS → GiveOptions none_given words given →
+    ((run : RunPlan) → (found ≡ run) ↔ IsRunPlanOf named count given run) → (run : RunPlan) →
+    (Some found ≡ Some run) ↔ GivesSteps name word words run
+the_steps name named word words count given found same spelled few give is run = (
+  λ e. record {
+    count = count;
+    spelled = spelled;
+    few = few;
+    given = given;
+    give = give;
+    is = subst (λ (n : List ℕ). IsRunPlanOf n count given run) same ((is run).0 (one_of found run e));
+  },
+  λ h.
+      let counted : h.count ≡ count = one_number h.count count h.few few (sym h.spelled ∙ spelled) in
+      let one : h.given ≡ given = one_given words none_given h.given given h.give give in
+      let asked : IsRunPlanOf name h.count given run = subst (λ (o : Options). IsRunPlanOf name h.count o run) one h.is in
+      let there : IsRunPlanOf name count given run = subst (λ (n : ℕ). IsRunPlanOf name n given run) counted asked in
+      ap (λ (r : RunPlan). Some r) ((is run).1 (subst (λ (n : List ℕ). IsRunPlanOf n count given run) (sym same) there)),
+)
+
+-- words that ask for this function and this plan ask for no other
+pub the_test : (number blocks : List ℕ) (words : List (List ℕ)) (found : TestPlan) → GivesTestOf number blocks words found → (test : TestPlan) →
+    (◌≡◌ {A = Option TestPlan} (Some found) (Some test)) ↔ GivesTestOf number blocks words test
+the_test number blocks words found is test = (
+  λ e. subst (GivesTestOf number blocks words) (one_of found test e) is,
+  λ other. ap (λ (x : TestPlan). Some x) (one_test_of number blocks words found test is other),
+)
+
+-- ---- numbers
+
+pub test_within : (words : List (List ℕ)) (t : TestPlan) → GivesTest words t → IsWithin t.function
+test_within [] t h = absurd h
+test_within (number ∷ []) t h = absurd h
+test_within (number ∷ blocks ∷ words) t h = let is = h.function in record { small = is.small; some = is.some; few = is.few }
+
+pub within : (words : List (List ℕ)) (c : Command) → IsCommand words c → AreWithin c
+within [] c is = absurd is
+within (name ∷ words) (Compile p) is = tt
+within (name ∷ words) (Listing p) is = tt
+within (name ∷ words) (Report p) is = tt
+within (name ∷ words) (Run r) is = tt
+within (name ∷ words) Strip is = tt
+within (name ∷ words) (Gen g) is = is.2
+within (name ∷ words) (SelfTest t) is = test_within words t is.1

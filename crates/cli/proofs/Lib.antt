@@ -1,0 +1,3 @@
+pub mod Giving
+pub mod OptionWords
+pub mod CommandWords

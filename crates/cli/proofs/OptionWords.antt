@@ -1,0 +1,98 @@
+-- Words tell their option and its value.
+use Rattle.std.proofs.Common.{◌≡◌, ◌↔◌, ℕ, ◌<◌, ◌^◌, List, ◌++◌, get_or, drop, Option, Some, None, refl, sym, ap, ◌∙◌, subst, arith}
+use Rattle.std.specs.List.{Contains}
+use Rattle.std.specs.Fmt.{decimal}
+use Rattle.cli_numbers.specs.Numbers.{AreListed, IsOption}
+use Rattle.cli_numbers.proofs.Decimals.{decimals}
+use Rattle.cli_numbers.proofs.Pieces.{one_text}
+use Rattle.pass_list.specs.declared.kind.PassKind.{PassKind}
+use Rattle.pass_list.proofs.Texts.{one_list}
+use Rattle.cli_numbers.specs.Reserve.{RESERVABLE, register_name, IsReserveText}
+use Rattle.cli_numbers.proofs.Names.{names}
+use Rattle.cli.specs.declared.option.CommandOption.{CommandOption}
+use Rattle.cli.specs.declared.option.CommandOption.TheVariants.{Passes, Reserve, Arguments, Answers}
+use Rattle.cli.specs.Options.{registers_text, numbers_text, word_of, IsAllowed, IsWordOf}
+
+-- ---- one option for a word
+
+one_reserve : (xs ys : List ℕ) → IsReserveText (registers_text xs) xs → IsReserveText (registers_text ys) ys → registers_text xs ≡ registers_text ys → xs ≡ ys
+one_reserve xs ys hx hy e = one_text register_name (Contains RESERVABLE) names xs ys hx.some hy.some hx.reservable hy.reservable e
+
+one_numbers : (most : ℕ) (xs ys : List ℕ) → AreListed most (numbers_text xs) xs → AreListed most (numbers_text ys) ys →
+    numbers_text xs ≡ numbers_text ys → xs ≡ ys
+one_numbers most xs ys hx hy e = one_text decimal (λ n. n < 2 ^ 64) decimals xs ys hx.some hy.some hx.small hy.small e
+
+-- a byte in which two words differ
+differ : (i m n : ℕ) (v w : List ℕ) → get_or v i 0 ≡ m → get_or w i 0 ≡ n → m < n → (v ≡ w → ⊥) × (w ≡ v → ⊥)
+differ i m n v w hv hw lt = (
+  λ e. (let b = ap (λ (x : List ℕ). get_or x i 0) e in omega (arith, b, hv, hw, lt)),
+  λ e. (let b = ap (λ (x : List ℕ). get_or x i 0) e in omega (arith, b, hv, hw, lt)),
+)
+
+passes_reserve : (l : List PassKind) (r : List ℕ) → (word_of (Passes l) ≡ word_of (Reserve r) → ⊥) × (word_of (Reserve r) ≡ word_of (Passes l) → ⊥)
+passes_reserve l r = differ 2 112 114 (word_of (Passes l)) (word_of (Reserve r)) refl refl (omega arith)
+
+arguments_passes : (a : List ℕ) (l : List PassKind) → (word_of (Arguments a) ≡ word_of (Passes l) → ⊥) × (word_of (Passes l) ≡ word_of (Arguments a) → ⊥)
+arguments_passes a l = differ 2 97 112 (word_of (Arguments a)) (word_of (Passes l)) refl refl (omega arith)
+
+answers_passes : (a : List ℕ) (l : List PassKind) → (word_of (Answers a) ≡ word_of (Passes l) → ⊥) × (word_of (Passes l) ≡ word_of (Answers a) → ⊥)
+answers_passes a l = differ 2 97 112 (word_of (Answers a)) (word_of (Passes l)) refl refl (omega arith)
+
+arguments_reserve : (a r : List ℕ) → (word_of (Arguments a) ≡ word_of (Reserve r) → ⊥) × (word_of (Reserve r) ≡ word_of (Arguments a) → ⊥)
+arguments_reserve a r = differ 2 97 114 (word_of (Arguments a)) (word_of (Reserve r)) refl refl (omega arith)
+
+answers_reserve : (a r : List ℕ) → (word_of (Answers a) ≡ word_of (Reserve r) → ⊥) × (word_of (Reserve r) ≡ word_of (Answers a) → ⊥)
+answers_reserve a r = differ 2 97 114 (word_of (Answers a)) (word_of (Reserve r)) refl refl (omega arith)
+
+answers_arguments : (a b : List ℕ) → (word_of (Answers a) ≡ word_of (Arguments b) → ⊥) × (word_of (Arguments b) ≡ word_of (Answers a) → ⊥)
+answers_arguments a b = differ 3 110 114 (word_of (Answers a)) (word_of (Arguments b)) refl refl (omega arith)
+
+one_option : (a b : CommandOption) → IsAllowed a → IsAllowed b → word_of a ≡ word_of b → a ≡ b
+one_option (Passes l) (Passes m) ha hb e = ap (λ (x : List PassKind). Passes x) (one_list l m (ap (drop 9) e))
+one_option (Passes l) (Reserve r) ha hb e = absurd ((passes_reserve l r).0 e)
+one_option (Passes l) (Arguments a) ha hb e = absurd ((arguments_passes a l).1 e)
+one_option (Passes l) (Answers a) ha hb e = absurd ((answers_passes a l).1 e)
+one_option (Reserve r) (Passes l) ha hb e = absurd ((passes_reserve l r).1 e)
+one_option (Reserve r) (Reserve s) ha hb e = ap (λ (x : List ℕ). Reserve x) (one_reserve r s ha hb (ap (drop 10) e))
+one_option (Reserve r) (Arguments a) ha hb e = absurd ((arguments_reserve a r).1 e)
+one_option (Reserve r) (Answers a) ha hb e = absurd ((answers_reserve a r).1 e)
+one_option (Arguments a) (Passes l) ha hb e = absurd ((arguments_passes a l).0 e)
+one_option (Arguments a) (Reserve r) ha hb e = absurd ((arguments_reserve a r).0 e)
+one_option (Arguments a) (Arguments b) ha hb e = ap (λ (x : List ℕ). Arguments x) (one_numbers 8 a b ha hb (ap (drop 7) e))
+one_option (Arguments a) (Answers b) ha hb e = absurd ((answers_arguments b a).1 e)
+one_option (Answers a) (Passes l) ha hb e = absurd ((answers_passes a l).0 e)
+one_option (Answers a) (Reserve r) ha hb e = absurd ((answers_reserve a r).0 e)
+one_option (Answers a) (Arguments b) ha hb e = absurd ((answers_arguments a b).0 e)
+one_option (Answers a) (Answers b) ha hb e = ap (λ (x : List ℕ). Answers x) (one_numbers 64 a b ha hb (ap (drop 10) e))
+
+one_value : (a b : CommandOption) → ◌≡◌ {A = Option CommandOption} (Some a) (Some b) → a ≡ b
+one_value a b e = cc
+
+-- an option that the word is is the one
+pub the_option : (word : List ℕ) (a : CommandOption) → IsWordOf a word → (b : CommandOption) →
+    (◌≡◌ {A = Option CommandOption} (Some a) (Some b)) ↔ IsWordOf b word
+the_option word a is b = (
+  λ e. subst (λ (x : CommandOption). IsWordOf x word) (one_value a b e) is,
+  λ other. ap (λ (x : CommandOption). Some x) (one_option a b is.1 other.1 (sym is.0 ∙ other.0)),
+)
+
+-- a word that is no option with a value of any kind is none
+pub no_option : (word : List ℕ) → ((l : List PassKind) → IsWordOf (Passes l) word → ⊥) → ((r : List ℕ) → IsWordOf (Reserve r) word → ⊥) →
+    ((a : List ℕ) → IsWordOf (Arguments a) word → ⊥) → ((a : List ℕ) → IsWordOf (Answers a) word → ⊥) → (b : CommandOption) →
+    (◌≡◌ {A = Option CommandOption} None (Some b)) ↔ IsWordOf b word
+no_option word p r n a (Passes l) = (λ e. absurd cc, λ h. absurd (p l h))
+no_option word p r n a (Reserve s) = (λ e. absurd cc, λ h. absurd (r s h))
+no_option word p r n a (Arguments b) = (λ e. absurd cc, λ h. absurd (n b h))
+no_option word p r n a (Answers b) = (λ e. absurd cc, λ h. absurd (a b h))
+
+-- ---- numbers and registers as they are read
+
+-- an option of numbers, and its word
+pub numbers_word : (most : ℕ) (name word values : List ℕ) → IsOption most name word values →
+    (word ≡ name ++ numbers_text values) × AreListed most (numbers_text values) values
+numbers_word most name word values h =
+    (h.named ∙ ap (λ (t : List ℕ). name ++ t) h.lists.listed, subst (λ (t : List ℕ). AreListed most t values) h.lists.listed h.lists)
+
+pub word_numbers : (most : ℕ) (name word values : List ℕ) → word ≡ name ++ numbers_text values → AreListed most (numbers_text values) values →
+    IsOption most name word values
+word_numbers most name word values e h = record { list = numbers_text values; named = e; lists = h }

@@ -1,0 +1,16 @@
+use Rattle.std.proofs.Common.{◌≤◌, map, ◌∙◌, arith}
+use Rattle.std.specs.Prelude.{string_bytes}
+use Rattle.cli.specs.Command.{MAX_STEPS}
+use Rattle.cli.proofs.CommandWords.{the_steps}
+use Rattle.cli.proofs.command.steps_asked.Goals as goal
+
+pub overflow_cast-count : goal.overflow_cast-count
+overflow_cast-count c =
+    let few : c.in-Some.count ≤ MAX_STEPS = ((c.number.ensures c.in-Some.count).0 c.in-Some.is).1 in
+    omega (arith, few)
+
+pub returns : goal.returns
+returns c =
+    let number = (c.number.ensures c.in-Some.count).0 c.in-Some.is in
+    the_steps c.args.name.now c.in_ok-name.name c.args.steps.now (map string_bytes c.args.words.now) c.in-Some.count c.in-Some-2.given c.run_of.result
+    (c.in_ok-name.ensures ∙ c.as_bytes.ensures.value) number.0 number.1 ((c.in_ok-given.ensures c.in-Some-2.given).0 c.in-Some-2.is) c.run_of.ensures

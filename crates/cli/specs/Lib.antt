@@ -1,0 +1,4 @@
+pub mod Options
+pub mod Command
+pub mod Status
+pub mod Fault

@@ -1,0 +1,73 @@
+//! Options that are given.
+
+ghost use Rattle.std.specs.Prelude.{◌≡◌, ◌↔◌, Some};
+ghost use Rattle.cli.specs.Options.{none_given, IsWith};
+ghost use Rattle.cli.specs.declared.given.Options.{Options};
+
+use crate::option::CommandOption;
+use cli_numbers::list::Numbers;
+use pass_list::list::PassList;
+use rv64_instr::reg::Registers;
+
+/// The options that are given, each with its value.
+#[derive(Debug, Drop)]
+pub struct Options {
+    /// The passes that run.
+    pub passes: Option<PassList>,
+    /// The registers that may be spilled.
+    pub reserve: Option<Registers>,
+    /// The numbers that a function is called with.
+    pub arguments: Option<Numbers>,
+    /// The numbers that calls answer.
+    pub answers: Option<Numbers>,
+}
+
+impl Options {
+    /// No option.
+    pub fn none() -> Options
+        ensures { result ≡ none_given }
+    {
+        Options {
+            passes: None,
+            reserve: None,
+            arguments: None,
+            answers: None,
+        }
+    }
+
+    /// The options with one more, unless it is given already.
+    pub fn with(mut self, option: CommandOption) -> Option<Options>
+        ensures { (next : Options) → (result ≡ Some next) ↔ IsWith self option next }
+    {
+        match option {
+            CommandOption::Passes(list) => {
+                if self.passes.is_some() {
+                    return None;
+                }
+                self.passes = Some(list);
+                Some(self)
+            }
+            CommandOption::Reserve(registers) => {
+                if self.reserve.is_some() {
+                    return None;
+                }
+                self.reserve = Some(registers);
+                Some(self)
+            }
+            CommandOption::Arguments(values) => {
+                if self.arguments.is_some() {
+                    return None;
+                }
+                self.arguments = Some(values);
+                Some(self)
+            }
+            CommandOption::Answers(values) => {
+                if self.answers.is_some() {
+                    return None;
+                }
+                self.answers = Some(values);
+                Some(self)
+            }
+        }
+    }
+}

@@ -1,0 +1,72 @@
+//! One option with its value.
+
+ghost use Rattle.std.specs.Prelude.{◌≡◌, ◌↔◌, List, ℕ, Some, IfOk};
+ghost use Rattle.pass_list.specs.declared.kind.PassKind.{PassKind};
+ghost use Rattle.cli.specs.Options.{IsWordOf};
+ghost use Rattle.cli.specs.declared.option.CommandOption.{CommandOption};
+ghost use Rattle.cli.specs.declared.option.CommandOption.TheVariants.{Passes, Reserve};
+
+use cli_numbers::list::{Numbers, option};
+use pass_list::list::PassList;
+use pass_list::text::pass_list;
+use cli_numbers::text::reserve_list;
+use rv64_instr::reg::Registers;
+use std::alloc::{AllocError, Global};
+
+/// How many numbers a function may be called with.
+const MAX_ARGUMENTS: usize = 8;
+
+/// How many answers of calls may be given.
+const MAX_ANSWERS: usize = 64;
+
+/// An option with its value.
+#[derive(Debug, Drop)]
+pub enum CommandOption {
+    /// `--passes=` and a list of passes.
+    Passes(PassList),
+    /// `--reserve=` and the registers that may be spilled.
+    Reserve(Registers),
+    /// `--args=` and the numbers that a function is called with, one to eight.
+    Arguments(Numbers),
+    /// `--answers=` and the numbers that calls answer, one to 64.
+    Answers(Numbers),
+}
+
+/// The option that a word is: None where it is none.
+pub fn command_option(alloc: Global, word: &str) -> Result<Option<CommandOption>, AllocError>
+    ensures { IfOk result (λ o. (given : CommandOption) → (o ≡ Some given) ↔ IsWordOf given word.now) }
+{
+    if let Some(list) = passes(word) {
+        return Ok(Some(CommandOption::Passes(list)));
+    }
+    if let Some(registers) = reserve(alloc, word)? {
+        return Ok(Some(CommandOption::Reserve(registers)));
+    }
+    if let Some(values) = option(alloc, word, "--args=", MAX_ARGUMENTS)? {
+        return Ok(Some(CommandOption::Arguments(values)));
+    }
+    if let Some(values) = option(alloc, word, "--answers=", MAX_ANSWERS)? {
+        return Ok(Some(CommandOption::Answers(values)));
+    }
+    Ok(None)
+}
+
+/// The list of passes that a word asks for, as `--passes=copy,fold` or `--passes=none`.
+fn passes(word: &str) -> Option<PassList>
+    ensures { (list : List PassKind) → (result ≡ Some list) ↔ IsWordOf (Passes list) word.now }
+{
+    match word.strip_prefix("--passes=") {
+        None => None,
+        Some(text) => pass_list(text),
+    }
+}
+
+/// The registers that a word reserves, as `--reserve=x8,x18`.
+fn reserve(alloc: Global, word: &str) -> Result<Option<Registers>, AllocError>
+    ensures { IfOk result (λ o. (registers : List ℕ) → (o ≡ Some registers) ↔ IsWordOf (Reserve registers) word.now) }
+{
+    match word.strip_prefix("--reserve=") {
+        Some(text) => reserve_list(alloc, text),
+        None => Ok(None),
+    }
+}

@@ -1,0 +1,35 @@
+//! All options of a command.
+
+ghost use Rattle.std.specs.Prelude.{◌≡◌, ◌↔◌, List, map, string_bytes, Some, IfOk};
+ghost use Rattle.cli.specs.Options.{none_given, GivesOption, GiveOptions};
+ghost use Rattle.cli.specs.declared.given.Options.{Options};
+
+use crate::given::Options;
+use crate::option::command_option;
+use std::alloc::{AllocError, Global};
+
+/// The options that the words give, in any order and each at most once: None where a word gives none, or one that is
+/// given already.
+pub fn options(alloc: Global, words: &[String]) -> Result<Option<Options>, AllocError>
+    ensures { IfOk result (λ o. (whole : Options) →
+        (o ≡ Some whole) ↔ GiveOptions none_given (map string_bytes words.now) whole) }
+{
+    let mut given = Options::none();
+    for word in words {
+        match with_word(alloc, given, word.as_str())? {
+            Some(next) => given = next,
+            None => return Ok(None),
+        }
+    }
+    Ok(Some(given))
+}
+
+/// The options with the one that a word gives.
+fn with_word(alloc: Global, given: Options, word: &str) -> Result<Option<Options>, AllocError>
+    ensures { IfOk result (λ o. (next : Options) → (o ≡ Some next) ↔ GivesOption given word.now next) }
+{
+    match command_option(alloc, word)? {
+        Some(option) => Ok(given.with(option)),
+        None => Ok(None),
+    }
+}

@@ -1,0 +1,6 @@
+mod Values
+pub mod Few
+pub mod Listed
+pub mod Located
+pub mod Pushed
+pub use Rattle.compile_passes.proofs.AfterPasses

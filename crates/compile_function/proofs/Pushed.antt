@@ -1,0 +1,115 @@
+-- A function that is compiled behind others, in an output's words: its layout is that of its machine code.
+use Rattle.std.proofs.Common.{◌≡◌, ℕ, ◌<◌, ◌≤◌, List, [], ◌∷◌, ◌++◌, length, sym, ap, ◌∙◌, subst, arith}
+use Rattle.std.specs.List.{flat_map}
+use Rattle.std.specs.Int.{w32, to_le_bytes}
+use Rattle.emit_code.specs.Counts.{MAX_WORDS, MAX_BASE, count_of}
+use Rattle.emit_code.specs.declared.code.Entry.{Entry}
+use Rattle.emit_code.specs.Rule.{Layout, entries_of}
+use Rattle.listing_text.specs.declared.output.ListedFunction.{ListedFunction}
+use Rattle.frame_rule.specs.Rule.{framed_of}
+use Rattle.compile_function.specs.declared.compile.CompiledFunction.{CompiledFunction}
+use Rattle.listing_function.specs.Laid.{IsLaid}
+use Rattle.listing_function.specs.Variables.{variables_listed}
+use Rattle.read_metadata.specs.Maps.{Maps}
+use Rattle.read_body.specs.Limits.{MAX_ITEMS}
+use Rattle.mir_func.specs.declared.variable.VarId.{VarId}
+use Rattle.mir_func.specs.Function.{FramedFunction}
+use Rattle.mir_func.specs.Graph.{block_start, framed_program}
+use Rattle.mir_func.specs.Resolve.{resolve}
+use Rattle.read_program.specs.declared.closing.Parsed.{Parsed}
+use Rattle.compile_theorem.specs.Compiled.{IsLayoutOf}
+use Rattle.compile_theorem.specs.Promise.{variable_lines}
+use Rattle.compile_theorem.specs.Source.{SourceFunction, PassedFunction}
+use Rattle.compile_function.proofs.Listed.{variables_few, lines_same}
+use Rattle.compile_function.proofs.Located.{places}
+use Rattle.compile_function.specs.declared.emit.Made.{Made}
+use Rattle.compile_function.specs.Emitted.{names_of, IsOneCompiled, IsPushed}
+use Rattle.compile_passes.specs.Passed.{source_of}
+use Rattle.read_proof.specs.Read.{IsReadFunction}
+use Rattle.listing_meaning.specs.Listing.{listing_of}
+use Rattle.location_ranges.specs.Lists.{AreListsOf}
+use Rattle.dwarf_unit.specs.Variables.{variables_of_function}
+
+-- it has as many variables as its source has items or fewer
+pub few_variables : (meta : Maps) (q : Parsed) (p : PassedFunction) (base : ℕ) (c : CompiledFunction) → p.source ≡ source_of q → IsReadFunction meta q.func →
+    IsOneCompiled p base c → length c.variables ≤ MAX_ITEMS
+few_variables meta q p base c of read one =
+    let is : length c.variables ≡ length (variables_of_function q.func.blocks) =
+    ap length one.variables ∙ ap (λ (s : SourceFunction). length (variables_of_function s.function.blocks)) of in
+    let few = variables_few q.func.blocks in
+    let items = read.few_items in
+    omega (arith, is, few, items)
+
+module _ (meta : Maps) (q : Parsed) (p : PassedFunction) (m : Made) (c : CompiledFunction) (of : p.source ≡ source_of q) (read : IsReadFunction meta q.func)
+    (one : IsOneCompiled p (length m.text) c) (low : length m.text < MAX_BASE) where
+  abbrev vs : List VarId
+  vs = variables_of_function p.source.function.blocks
+
+  abbrev layout : Layout
+  layout = one.code.layout
+
+  is_laid : IsLaid layout c.code
+  is_laid = record {
+    framed = one.code.framed ∙ sym one.code.of;
+    base = one.code.base_kept ∙ sym one.code.from;
+    entries = one.code.entries;
+    words = one.code.words;
+  }
+
+  layout_of : IsLayoutOf p.function (length m.text) layout
+  layout_of = record {
+    framed = one.code.of;
+    from = one.code.from;
+    settled = one.code.settled;
+    worded = one.code.worded;
+    low = subst (λ (b : ℕ). b < MAX_BASE) (sym one.code.from) low;
+    few = subst (λ (f : FramedFunction). count_of f.blocks < MAX_WORDS) (sym one.code.of) one.few;
+    small = one.fits;
+  }
+
+  are_located : AreListsOf (framed_program layout.framed.blocks (resolve p.substitutions)) (block_start 0) (entries_of layout) vs c.lists
+  are_located =
+      subst (λ (f : FramedFunction). AreListsOf (framed_program f.blocks (resolve p.substitutions)) (block_start 0) (entries_of layout)
+      vs c.lists) (sym one.code.of)
+      (subst (λ (es : List Entry). AreListsOf (framed_program (framed_of p.function).blocks (resolve p.substitutions)) (block_start 0) es
+      vs c.lists) one.code.entries
+      (subst (λ (ws : List VarId). AreListsOf (framed_program (framed_of p.function).blocks (resolve p.substitutions)) (block_start 0) c.code.entries ws
+      c.lists) one.variables
+      one.lists))
+
+  pub pushed : (listed : ListedFunction) (after : Made) →
+      length c.code.words < MAX_WORDS →
+      (first : ℕ) → first ≡ length m.lists →
+      ((l : Layout) → IsLaid l c.code → listed ≡ listing_of l (variables_listed meta first c.variables) p.substitutions) →
+      after.text ≡ m.text ++ flat_map (to_le_bytes w32) c.code.words →
+      after.lists ≡ m.lists ++ c.lists →
+      after.functions ≡ m.functions ++ listed ∷ [] →
+      after.codes ≡ m.codes ++ c.code ∷ [] →
+      IsPushed meta p m after
+  pushed listed after few first is_first listed_is text_is lists_are functions_are codes_are =
+      let told : variables_listed meta first c.variables ≡ variable_lines (names_of meta) (length m.lists) vs =
+      ap (λ (k : ℕ). variables_listed meta k c.variables) is_first
+      ∙ lines_same meta (length m.lists) c.variables ∙ ap (variable_lines (names_of meta) (length m.lists)) one.variables in
+      record {
+        listed = listed;
+        compiled = record {
+          layout = layout;
+          laid = layout_of;
+          listed = listed_is layout is_laid ∙ (λ i. listing_of layout (told i) p.substitutions);
+          lists = c.lists;
+          located = are_located;
+        };
+        code = c.code;
+        coded = one.code;
+        words = one.code.words;
+        few_words = few;
+        few_lists = let same = one.lists.for_all in let below = few_variables meta q p (length m.text) c of read one in omega (arith, same, below);
+        writable = record {
+          ascend = one.ascend;
+          places = places (framed_program (framed_of p.function).blocks (resolve p.substitutions)) c.code.entries c.variables c.lists one.lists;
+        };
+        text = text_is ∙ ap (λ (ws : List ℕ). m.text ++ flat_map (to_le_bytes w32) ws) one.code.words;
+        lists = lists_are;
+        functions = functions_are;
+        codes = codes_are;
+      }

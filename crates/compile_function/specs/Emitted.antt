@@ -1,0 +1,55 @@
+-- A function that is compiled behind others.
+use Rattle.std.specs.Prelude.{◌≡◌, ℕ, ◌<◌, ◌≤◌, List, [], ◌∷◌, ◌++◌, length, All}
+use Rattle.emit_code.specs.Counts.{MAX_WORDS, count_of}
+use Rattle.emit_code.specs.Laid.{LaidCode, IsCodeOf}
+use Rattle.emit_code.specs.Rule.{words_of}
+use Rattle.listing_text.specs.declared.output.ListedFunction.{ListedFunction}
+use Rattle.dwarf_loclists.specs.declared.range.Range.{Range}
+use Rattle.dwarf_loclists.specs.Ranges.{Ascend, ArePlaces}
+use Rattle.frame_rule.specs.Rule.{framed_of, size_of}
+use Rattle.compile_function.specs.declared.compile.CompiledFunction.{CompiledFunction}
+use Rattle.compile_function.specs.declared.emit.Made.{Made}
+use Rattle.listing_function.specs.Variables.{name_of}
+use Rattle.read_metadata.specs.Maps.{Maps}
+use Rattle.read_metadata.specs.Metadata.{variable_at}
+use Rattle.read_body.specs.Limits.{MAX_ITEMS}
+use Rattle.mir_func.specs.Graph.{block_start, framed_program}
+use Rattle.mir_func.specs.Limits.{MAX_FRAME}
+use Rattle.mir_func.specs.Resolve.{resolve}
+use Rattle.compile_theorem.specs.Compiled.{IsCompiledFunction, bytes_of}
+use Rattle.compile_theorem.specs.Source.{PassedFunction}
+use Rattle.location_ranges.specs.Lists.{AreListsOf}
+use Rattle.dwarf_unit.specs.Variables.{variables_of_function}
+
+-- the name of the variable that a node describes
+abbrev pub names_of : Maps → (node : ℕ) → List ℕ
+names_of meta node = name_of (variable_at meta node)
+
+-- lists that can be written
+pub record AreWritable (lists : List (List Range)) : Type 0 where
+  pub ascend : All Ascend lists
+  pub places : All ArePlaces lists
+
+-- a function that passes made is compiled from an address on
+pub record IsOneCompiled (p : PassedFunction) (base : ℕ) (c : CompiledFunction) : Type 0 where
+  pub code : IsCodeOf (framed_of p.function) base c.code
+  pub fits : size_of p.function ≤ MAX_FRAME
+  pub few : count_of (framed_of p.function).blocks < MAX_WORDS
+  pub variables : c.variables ≡ variables_of_function p.source.function.blocks
+  pub lists : AreListsOf (framed_program (framed_of p.function).blocks (resolve p.substitutions)) (block_start 0) c.code.entries c.variables c.lists
+  pub ascend : All Ascend c.lists
+
+-- one function more is compiled
+pub record IsPushed (meta : Maps) (p : PassedFunction) (before after : Made) : Type 0 where
+  pub listed : ListedFunction
+  pub compiled : IsCompiledFunction (names_of meta) p (length before.text) (length before.lists) listed
+  pub code : LaidCode
+  pub coded : IsCodeOf (framed_of p.function) (length before.text) code
+  pub words : code.words ≡ words_of compiled.layout
+  pub few_words : length code.words < MAX_WORDS
+  pub few_lists : length compiled.lists ≤ MAX_ITEMS
+  pub writable : AreWritable compiled.lists
+  pub text : after.text ≡ before.text ++ bytes_of compiled.layout
+  pub lists : after.lists ≡ before.lists ++ compiled.lists
+  pub functions : after.functions ≡ before.functions ++ listed ∷ []
+  pub codes : after.codes ≡ before.codes ++ code ∷ []

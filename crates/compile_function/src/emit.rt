@@ -1,0 +1,209 @@
+//! The compiling of a function behind others.
+
+ghost use Rattle.std.specs.Prelude.{◌≡◌, ◌+◌, ◌*◌, ◌%◌, ◌<◌, ◌≤◌, ◌^◌, [], ◌∷◌, ◌++◌, IfOk, OnOk, IsErrOf, length};
+ghost use Rattle.std.specs.List.{flat_map};
+ghost use Rattle.std.specs.Int.{w32, to_le_bytes};
+ghost use Rattle.emit_code.specs.Counts.{MAX_WORDS, MAX_BASE, count_of};
+ghost use Rattle.emit_code.specs.Laid.{IsCodeOf};
+ghost use Rattle.emit_code.specs.Rule.{Layout};
+ghost use Rattle.frame_rule.specs.Rule.{size_of, framed_of};
+ghost use Rattle.compile_function.specs.declared.emit.EmitError.TheVariants.{Memory};
+ghost use Rattle.compile_function.specs.Emitted.{IsOneCompiled, IsPushed};
+ghost use Rattle.listing_function.specs.Laid.{IsLaid};
+ghost use Rattle.listing_function.specs.Variables.{variables_listed};
+ghost use Rattle.compile_passes.specs.Passed.{MAX_PASSED, passed_of};
+ghost use Rattle.read_body.specs.Limits.{MAX_ITEMS};
+ghost use Rattle.mir_func.specs.Limits.{MAX_FRAME};
+ghost use Rattle.mir_func.specs.Sound.{AllItems, IsSound, items_of};
+ghost use Rattle.mir_func.specs.SoundFrame.{HasPhysical};
+ghost use Rattle.read_proof.specs.Read.{IsReadFunction};
+ghost use Rattle.listing_meaning.specs.Listing.{listing_of};
+
+use emit_code::code::Code;
+use listing_text::output::{Bytes, ListedFunction, ListedFunctions};
+use dwarf_loclists::range::RangeLists;
+use emit_function::code::{CodeError, code_of};
+use crate::compile::CompiledFunction;
+use crate::location_lists::location_lists;
+use listing_function::listing::listing;
+use listing_function::variables::variable_lines;
+use base_list::List;
+use read_metadata::metadata::Metadata;
+use mir_func::func::Func;
+use read_program::closing::Parsed;
+use std::alloc::{AllocError, Global};
+use mir_substitution::substitutions::Substitutions;
+use thiserror::Error;
+use dwarf_unit::variables::variables;
+
+/// Machine code of functions, in their order.
+pub type Codes = List<Code>;
+
+/// What was made of the functions of a program so far.
+#[derive(Drop)]
+pub struct Made {
+    /// The bytes of their words.
+    pub text: Bytes,
+    /// The lists of their variables.
+    pub lists: RangeLists,
+    /// Their listings.
+    pub functions: ListedFunctions,
+    /// Their machine code.
+    pub codes: Codes,
+}
+
+/// Why a function isn't compiled.
+#[derive(Clone, Copy, Debug, PartialEq, Eq, Error)]
+pub enum EmitError {
+    /// Its frame would have more than 2,032 bytes.
+    #[error("the frame is too large")]
+    FrameTooLarge,
+    /// Memory ran out.
+    #[error("out of memory")]
+    Memory,
+}
+
+impl From<AllocError> for EmitError {
+    ghost from_gives = { λ _ e. e ≡ Memory };
+
+    fn from(_: AllocError) -> EmitError {
+        EmitError::Memory
+    }
+}
+
+/// Compiles a function that passes made of a source behind others.
+pub fn push_function(
+    alloc: Global,
+    made: &mut Made,
+    meta: &Metadata,
+    source: &Parsed,
+    function: &Func,
+    subs: &Substitutions,
+) -> Result<(), EmitError>
+    requires aligned { length made.old.text % 4 ≡ 0 }
+    requires room { length made.old.text + 4 * MAX_WORDS < MAX_BASE }
+    requires numbers { length made.old.lists + MAX_ITEMS < 2 ^ 32 }
+    requires read { IsReadFunction meta.now source.now.func }
+    requires sound { IsSound function.now }
+    requires few { length (items_of function.now.blocks) ≤ MAX_PASSED }
+    requires physical { AllItems (λ i. HasPhysical i.kind) function.now.blocks }
+    ensures pushed { OnOk result
+        (IsPushed meta.now (passed_of source.now function.now subs.now) made.old made.new) }
+    ensures too_large { IsErrOf result EmitError.FrameTooLarge → MAX_FRAME < size_of function.now }
+{
+    let base = made.text.len() as u64;
+    let first = made.lists.len() as u32;
+    let compiled = compiled(alloc, source, function, subs, base)?;
+    let listed = listed(alloc, meta, first, subs, &compiled)?;
+    push_compiled(made, compiled, listed)?;
+    Ok(())
+}
+
+/// The listing of a compiled function whose variables' lists have numbers from the first on.
+fn listed(
+    alloc: Global,
+    meta: &Metadata,
+    first: u32,
+    subs: &Substitutions,
+    compiled: &CompiledFunction,
+) -> Result<ListedFunction, AllocError>
+    requires low { compiled.now.code.base + 4 * length compiled.now.code.words < 2 ^ 32 }
+    requires numbers { first + length compiled.now.variables < 2 ^ 32 }
+    ensures { (l : Layout) → IsLaid l compiled.now.code →
+        IfOk result (λ f. f ≡ listing_of l (variables_listed meta.now first compiled.now.variables) subs.now) }
+{
+    let lines = variable_lines(alloc, meta, first, compiled.variables.as_slice())?;
+    let substitutions = List::from_slice(alloc, subs.entries())?;
+    listing(alloc, &compiled.code, lines, substitutions)
+}
+
+/// Appends what was made of a function.
+fn push_compiled(
+    made: &mut Made,
+    compiled: CompiledFunction,
+    listed: ListedFunction,
+) -> Result<(), AllocError>
+    ensures text { OnOk result (made.new.text ≡ made.old.text ++ flat_map (to_le_bytes w32) compiled.code.words) }
+    ensures lists { OnOk result (made.new.lists ≡ made.old.lists ++ compiled.lists) }
+    ensures functions { OnOk result (made.new.functions ≡ made.old.functions ++ listed ∷ []) }
+    ensures codes { OnOk result (made.new.codes ≡ made.old.codes ++ compiled.code ∷ []) }
+{
+    let CompiledFunction {
+        code,
+        variables: _,
+        lists,
+    } = compiled;
+    push_words(&mut made.text, code.words.as_slice())?;
+    push_lists(&mut made.lists, lists)?;
+    made.functions.push(listed)?;
+    made.codes.push(code)
+}
+
+/// A function that passes made of a source, from an address on, with lists of the source's variables.
+fn compiled(
+    alloc: Global,
+    source: &Parsed,
+    function: &Func,
+    subs: &Substitutions,
+    base: u64,
+) -> Result<CompiledFunction, EmitError>
+    requires aligned { base % 4 ≡ 0 }
+    requires low { base < MAX_BASE }
+    requires sound { IsSound function.now }
+    requires few { length (items_of function.now.blocks) ≤ MAX_PASSED }
+    requires physical { AllItems (λ i. HasPhysical i.kind) function.now.blocks }
+    ensures compiled { IfOk result (IsOneCompiled (passed_of source.now function.now subs.now) base) }
+    ensures too_large { IsErrOf result EmitError.FrameTooLarge → MAX_FRAME < size_of function.now }
+{
+    let code = laid_out(alloc, function, base)?;
+    let variables = variables(alloc, source.func.blocks.as_slice())?;
+    let lists = location_lists(alloc, variables.as_slice(), subs, &code)?;
+    Ok(CompiledFunction {
+        code,
+        variables,
+        lists,
+    })
+}
+
+/// The machine code of a function with few items and physical registers, from an address on.
+fn laid_out(alloc: Global, function: &Func, base: u64) -> Result<Code, EmitError>
+    requires aligned { base % 4 ≡ 0 }
+    requires low { base < MAX_BASE }
+    requires sound { IsSound function.now }
+    requires few { length (items_of function.now.blocks) ≤ MAX_PASSED }
+    requires physical { AllItems (λ i. HasPhysical i.kind) function.now.blocks }
+    ensures laid { IfOk result (IsCodeOf (framed_of function.now) base) }
+    ensures fits { OnOk result (size_of function.now ≤ MAX_FRAME) }
+    ensures few { OnOk result (count_of (framed_of function.now).blocks < MAX_WORDS) }
+    ensures too_large { IsErrOf result EmitError.FrameTooLarge → MAX_FRAME < size_of function.now }
+{
+    match code_of(alloc, function, base) {
+        Ok(code) => Ok(code),
+        Err(CodeError::FrameTooLarge) => Err(EmitError::FrameTooLarge),
+        Err(CodeError::Memory) => Err(EmitError::Memory),
+        // Its registers are physical.
+        Err(CodeError::Virtual) => unreachable!(),
+        // Its items are few.
+        Err(CodeError::TooLong) => unreachable!(),
+    }
+}
+
+/// Appends the bytes of words, the low-order byte of each first.
+fn push_words(text: &mut Bytes, words: &[u32]) -> Result<(), AllocError>
+    ensures { OnOk result (text.new ≡ text.old ++ flat_map (to_le_bytes w32) words.now) }
+{
+    for word in words {
+        text.extend_from_slice(&word.to_le_bytes())?;
+    }
+    Ok(())
+}
+
+/// Appends lists.
+fn push_lists(lists: &mut RangeLists, more: RangeLists) -> Result<(), AllocError>
+    ensures { OnOk result (lists.new ≡ lists.old ++ more) }
+{
+    for ranges in more.into_vec() {
+        lists.push(ranges)?;
+    }
+    Ok(())
+}

@@ -1,4 +1,0 @@
-pub mod Lines
-pub mod Becomes
-pub mod Entries
-pub mod Kept

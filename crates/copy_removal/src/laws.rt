@@ -1,8 +1,0 @@
-//! The law of functions without their copies: the contract of a function that does nothing.
-
-ghost use Rattle.copy_removal.specs.Laws.{CopiesFollow};
-
-/// A function without its copies that are known is sound, and follows what the function with them followed.
-pub fn copies_follow()
-    ensures { CopiesFollow }
-{}

@@ -1,0 +1,14 @@
+-- What a function keeps of its debug items where its copies go.
+use Rattle.std.specs.Prelude.{List, [], ◌∷◌}
+use Rattle.mir_func.specs.declared.entry.Entry.{Entry}
+use Rattle.mir_func.specs.Function.{Function}
+use Rattle.mir_func.specs.Sound.{IsSound}
+use Rattle.pass_trait.specs.Change.{change}
+use Rattle.pass_trait.specs.Steps.{KeepsSteps}
+use Rattle.copyprop_rule.specs.Rule.{salvaged_function, salvaged_entries}
+use Rattle.copyprop_proof.specs.Rule.{copy_step}
+
+-- each mark, phi and number stays, or an entry or a phi stands for it, and nothing is lost
+abbrev pub CopiesKeepItems : Type 0
+CopiesKeepItems = (f : Function) (subs : List Entry) → IsSound f →
+    KeepsSteps (copy_step ∷ []) (change f subs (salvaged_function f subs) (salvaged_entries f subs)) []

@@ -1,0 +1,6 @@
+pub mod Edits
+pub mod Renamed
+pub mod RemovalLaws
+pub mod Ledger
+pub mod Rule
+pub mod DebugLaws

@@ -1,0 +1,32 @@
+-- What copies that go do to debug items: nothing is lost.
+use Rattle.std.specs.Prelude.{◌≡◌, ℕ, List, [], ◌++◌, Option, Some, slice_get}
+use Rattle.rv64_instr.specs.declared.place.Place.{Place}
+use Rattle.rv64_instr.specs.declared.place.Place.TheVariants.{Register}
+use Rattle.mir_func.specs.declared.position.Pos.{Pos}
+use Rattle.pass_trait.specs.Change.{Change}
+use Rattle.pass_trait.specs.Rule.{Rule}
+use Rattle.pass_trait.specs.Steps.{Step}
+use Rattle.copyprop_rule.specs.Rule.{IsCopied, salvaged_entries}
+use Rattle.copyprop_proof.specs.Ledger.{Line, ledger}
+
+-- the ledger's line of the item at a place
+pub record HasLine (c : Change) (at : Pos) (l : Line) : Type 0 where
+  pub stands : slice_get (ledger c.old c.old_subs at.block) at.item ≡ Some l
+
+-- code gets a number where the ledger says so, a phi of the copied register stands for a copy, and substitutions are those of the
+-- copies whose number went to code, in the order of the text
+abbrev pub copy_debug_rule : Rule
+copy_debug_rule = record {
+  loses = λ c at loss. ⊥;
+  leaves = λ c r why. ⊥;
+  spills = λ c r slot. ⊥;
+  renames = λ c r now. ⊥;
+  numbers = λ c at k. (l : Line) × HasLine c at l × (l.gained ≡ Some k);
+  salvages = λ c at p. (l : Line) × (s : ℕ) × HasLine c at l × (l.phi ≡ Some s) × (p ≡ Register s);
+  substitutes = λ c more. c.old_subs ++ more ≡ salvaged_entries c.old c.old_subs;
+  kills = λ c block kills. kills ≡ [];
+}
+
+-- the pass's one step
+abbrev pub copy_step : Step
+copy_step = record { code = IsCopied; debug = copy_debug_rule }

@@ -1,0 +1,35 @@
+-- Rounds as steps of a pass.
+use Rattle.std.specs.Prelude.{ℕ, zero, suc, ◌^◌, ◌<◌, List, [], ◌∷◌}
+use Rattle.mir_func.specs.declared.entry.Entry.{Entry}
+use Rattle.mir_func.specs.Function.{Function}
+use Rattle.mir_func.specs.Sound.{IsSound}
+use Rattle.pass_trait.specs.declared.loss.Loss.{Loss}
+use Rattle.pass_trait.specs.Change.{change}
+use Rattle.pass_trait.specs.Rule.{Rule}
+use Rattle.pass_trait.specs.Sizes.{code_count}
+use Rattle.pass_trait.specs.Steps.{Step, KeepsSteps}
+use Rattle.dce_rule.specs.Dead.{IsRound}
+use Rattle.dce_pass.specs.Rounds.{AreDeadRounds}
+use Rattle.dce_proof.specs.Rule.{dead_rule}
+
+-- one step so many times
+abbrev pub repeated : ℕ → Step → List Step
+repeated zero step = []
+repeated (suc n) step = step ∷ repeated n step
+
+-- a round as a step
+abbrev pub round_step : Rule → Step
+round_step rule = record { code = IsRound; debug = rule }
+
+-- more rounds than there is code in any function that passes take
+unfoldable pub most_rounds : ℕ
+most_rounds = 2 ^ 31
+
+-- the steps of all rounds
+abbrev pub dead_steps : List Step
+dead_steps = repeated most_rounds (round_step dead_rule)
+
+-- rounds that end are the steps
+abbrev pub RoundsKeepSteps : Type 0
+RoundsKeepSteps = (f g : Function) (subs more : List Entry) (losses : List Loss) → IsSound f → code_count f < 2 ^ 31 →
+    AreDeadRounds f subs g more losses → KeepsSteps dead_steps (change f subs g more) losses

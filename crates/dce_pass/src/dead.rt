@@ -1,0 +1,52 @@
+//! The pass that takes out dead code.
+
+ghost use Rattle.std.specs.Prelude.{false, true};
+ghost use Rattle.dce_pass.specs.Steps.{dead_steps};
+ghost use Rattle.dce_pass.specs.PassLaws.{rounds_have_one_result, rounds_see_code_alone};
+ghost use Rattle.std.proofs.Common.{rules};
+
+use crate::rounds_laws::rounds_keep;
+use crate::rounds::dead_rounds;
+use crate::steps_laws::rounds_keep_steps;
+use pass_trait::loss::Losses;
+use pass_trait::pass::Pass;
+use mir_func::func::Func;
+use std::alloc::{AllocError, Global};
+use mir_substitution::substitutions::Substitutions;
+
+/// Takes out dead code in rounds, until nothing is dead (LLVM: dead machine instruction elimination). Lost are the
+/// numbers of what goes, but for those of copies, and marks and phis of places that it leaves wrong. The losses of each
+/// round are in order, and those of one round stand before those of the next.
+#[derive(Drop)]
+pub struct DeadPass;
+
+impl Pass for DeadPass {
+    ghost asks = { false };
+
+    ghost keeps = { true };
+
+    ghost fits = { true };
+
+    ghost factor = { 1 };
+
+    ghost count = { 1 };
+
+    ghost steps = { λ s. dead_steps };
+
+    fn run(
+        &mut self,
+        alloc: Global,
+        f: &mut Func,
+        subs: &mut Substitutions,
+    ) -> Result<Losses, AllocError> {
+        rounds_keep();
+        rounds_keep_steps();
+        dead_rounds(alloc, f, subs)
+    }
+
+    ghost one_code = { λ s. rounds_have_one_result };
+
+    ghost same_code = { λ s. rounds_see_code_alone };
+
+    ghost grows = { Prim.search rules };
+}

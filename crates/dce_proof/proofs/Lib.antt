@@ -1,0 +1,16 @@
+mod Counts
+mod Off
+mod Numbers
+pub mod Round
+pub use Rattle.dce_round.proofs.Follows
+pub mod Lines
+pub mod Blocks
+pub mod Places
+pub mod Here
+pub mod Become
+pub mod Kept
+pub mod Told
+pub mod Entries
+pub mod Added
+pub mod Whole
+pub mod Idle

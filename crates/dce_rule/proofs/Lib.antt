@@ -1,0 +1,16 @@
+pub mod Unneeded
+pub mod Forms
+pub mod Lists
+pub mod Runs
+pub mod Follows
+pub mod Live
+pub mod Settled
+pub mod Sound
+pub mod Same
+pub mod Stripped
+pub mod Rounds
+pub mod Fewer
+pub mod Debug
+pub mod Chain
+pub mod Edited
+pub mod Numbers

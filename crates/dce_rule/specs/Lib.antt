@@ -1,0 +1,9 @@
+pub mod Dead
+pub mod Wrong
+pub mod Gone
+pub mod Out
+pub mod Rounds
+pub mod Same
+pub mod Loose
+pub mod CodeLaws
+pub mod NumberLaws

@@ -1,0 +1,29 @@
+-- What holds where a copy loses its number between two rounds.
+use Rattle.std.specs.Prelude.{◌≡◌, ℕ, List, [], ◌∷◌, ◌++◌, None, false}
+use Rattle.mir_func.specs.declared.entry.Entry.{Entry}
+use Rattle.mir_func.specs.Function.{Function}
+use Rattle.mir_func.specs.Sound.{IsSound}
+use Rattle.mir_func.specs.Graph.{program_of}
+use Rattle.mir_func.specs.Resolve.{entry_of, resolve}
+use Rattle.std.proofs.Common.{refl}
+use Rattle.pass_trait.specs.Change.{change}
+use Rattle.pass_trait.specs.Rule.{first_operand}
+use Rattle.pass_salvage.specs.Salvage.{entry_for}
+use Rattle.pass_salvage.proofs.Edits.{BlocksEdited}
+use Rattle.pass_salvage.proofs.NumberOff.{off_edits}
+use Rattle.pass_salvage.proofs.NumberPhi.{phi_edits}
+use Rattle.dce_rule.specs.Loose.{KeepsLoosely}
+
+-- number k of a copy of s goes to operand o of number n, which code above the copy has or gets; other numbers are free meanwhile
+abbrev pub NumberGoesToCode : (Free : ℕ → Type 0) → Type 0
+NumberGoesToCode Free = (old new : Function) (subs : List Entry) (k n o s : ℕ) → IsSound old → IsSound new → new.objects ≡ old.objects →
+    entry_of subs (first_operand k) ≡ None → entry_of subs (record { number = n; operand = o }) ≡ None → (k ≡ n → ⊥) → (s ≡ 2 → ⊥) →
+    BlocksEdited (off_edits (program_of false old.blocks (resolve subs))
+    (program_of false new.blocks (resolve (subs ++ entry_for k n o ∷ []))) refl refl k n o s Free)
+    old.blocks new.blocks → KeepsLoosely (change old subs new (subs ++ entry_for k n o ∷ []))
+
+-- number k of a copy of s goes to a phi of s in front of it
+abbrev pub NumberGoesToPhi : Type 0
+NumberGoesToPhi = (old new : Function) (subs : List Entry) (k s : ℕ) (real : s ≡ 2 → ⊥) → IsSound old → IsSound new → new.objects ≡ old.objects →
+    BlocksEdited (phi_edits (program_of false old.blocks (resolve subs)) (program_of false new.blocks (resolve subs)) refl refl (λ q. refl) k s real)
+    old.blocks new.blocks → KeepsLoosely (change old subs new subs)

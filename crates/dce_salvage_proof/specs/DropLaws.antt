@@ -1,0 +1,14 @@
+-- What holds where code loses its number and nothing gets it.
+use Rattle.std.specs.Prelude.{◌≡◌, ℕ, List}
+use Rattle.mir_func.specs.declared.entry.Entry.{Entry}
+use Rattle.mir_func.specs.Function.{Function}
+use Rattle.mir_func.specs.Sound.{IsSound}
+use Rattle.pass_trait.specs.Change.{change}
+use Rattle.pass_salvage.proofs.Edits.{BlocksEdited}
+use Rattle.dce_rule.specs.Loose.{KeepsLoosely}
+use Rattle.dce_salvage_proof.specs.Dropped.{drop_edits}
+
+-- number k goes from its code, and nothing else has it but a phi of nothing
+abbrev pub NumberGoesNowhere : Type 0
+NumberGoesNowhere = (old new : Function) (subs : List Entry) (k : ℕ) → IsSound old → IsSound new → new.objects ≡ old.objects →
+    BlocksEdited (drop_edits k) old.blocks new.blocks → KeepsLoosely (change old subs new subs)

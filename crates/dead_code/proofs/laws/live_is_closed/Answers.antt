@@ -1,5 +1,0 @@
-use Rattle.dead_code.proofs.Live.{live_closed}
-use Rattle.dead_code.proofs.laws.live_is_closed.Goals as goal
-
-pub returns : goal.returns
-returns c = λ f ends sound live. live_closed f sound.ends ends live

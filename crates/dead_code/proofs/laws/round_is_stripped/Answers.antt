@@ -1,5 +1,0 @@
-use Rattle.dead_code.proofs.Stripped.{round_stripped}
-use Rattle.dead_code.proofs.laws.round_is_stripped.Goals as goal
-
-pub returns : goal.returns
-returns c = λ f ends wrong live. round_stripped f ends live wrong

@@ -1,5 +1,0 @@
-use Rattle.dead_code.proofs.Chain.{rounds_end}
-use Rattle.dead_code.proofs.laws.rounds_end.Goals as goal
-
-pub returns : goal.returns
-returns c = λ f g so_far last. rounds_end f g so_far last

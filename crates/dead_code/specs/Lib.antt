@@ -1,8 +1,0 @@
-pub mod Dead
-pub mod Wrong
-pub mod Gone
-pub mod Out
-pub mod Rounds
-pub mod Same
-pub mod Loose
-pub mod Laws

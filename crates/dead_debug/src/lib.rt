@@ -1,7 +1,0 @@
-//! What a round of dead code does to debug items. A ledger has a line for each item: what stands for it once copies
-//! that go have lost their numbers. Marks and phis stay, or give nothing where dead code left their place wrong; a
-//! copy's number goes to the code that gave its value, by a substitution, or to a phi; any other number of dead code
-//! is lost.
-#![tactic(auto)]
-
-pub mod laws;

@@ -1,5 +1,0 @@
-use Rattle.dead_numbers.proofs.Numbers.{number_to_code}
-use Rattle.dead_numbers.proofs.laws.number_goes_to_code.Goals as goal
-
-pub returns : goal.returns
-returns g c = number_to_code g.F.FreeNumbers.free

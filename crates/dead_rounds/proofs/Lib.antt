@@ -1,3 +1,0 @@
-pub mod Keeps
-mod Loop
-pub use Rattle.dead_sizes.proofs.Follows

@@ -1,8 +1,0 @@
-//! The law of rounds: it is the contract of a function that does nothing.
-
-ghost use Rattle.dead_rounds.specs.Laws.{RoundsKeep};
-
-/// After rounds the function is one still, it follows what it followed, and it is no larger than it may be.
-pub fn rounds_keep()
-    ensures { RoundsKeep }
-{}

@@ -1,5 +1,0 @@
-mod Nowhere
-mod Under
-pub mod Copy
-mod Same
-pub mod Chain

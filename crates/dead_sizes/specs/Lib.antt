@@ -1,2 +1,0 @@
-pub mod Laws
-pub use Rattle.dce_round.specs.Round

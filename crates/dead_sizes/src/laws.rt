@@ -1,8 +1,0 @@
-//! The law of a round's sizes: it is the contract of a function that does nothing.
-
-ghost use Rattle.dead_sizes.specs.Laws.{RoundSizes};
-
-/// After a round there are no more items, calls or slots; and for each number that was taken an item went.
-pub fn round_sizes()
-    ensures { RoundSizes }
-{}

@@ -1,3 +1,0 @@
-pub mod Report
-pub mod Text
-pub mod steps

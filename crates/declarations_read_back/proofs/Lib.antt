@@ -1,4 +1,0 @@
-pub mod Spans
-pub mod Names
-pub mod Listed
-pub mod Stacks

@@ -1,4 +1,0 @@
-//! Documents of functions are read back: laws, each the contract of a function that does nothing.
-#![tactic(auto)]
-
-pub mod laws;

@@ -1,0 +1,14 @@
+pub mod Ascending
+pub mod Clean
+pub mod EntrySteps
+pub mod FirstUses
+pub mod Keys
+pub mod Locs
+pub mod RowSteps
+pub mod Split
+pub mod SourceTables
+pub mod Members
+pub mod LineRows
+pub mod Sequences
+pub mod LineNames
+pub mod LineTables

@@ -1,0 +1,11 @@
+use Rattle.std.proofs.Common.{sym}
+use Rattle.dwarf_line_table.proofs.Keys.{key_known, key_number}
+use Rattle.dwarf_line_table.proofs.file.Files.number.Goals as goal
+
+pub returns-clause-known : goal.returns-clause-known
+returns-clause-known c = key_known _ _ _ _ _ _ (sym c.self.view_is) c.in_ok-index.ensures.keys c.in_ok-from_slice.ensures.items
+    c.in_ok-from_slice-2.ensures.items
+
+pub returns-clause-number : goal.returns-clause-number
+returns-clause-number c = λ more.
+    key_number _ _ _ _ _ _ more c.in_ok-index.ensures.keys c.in_ok-from_slice.ensures.items c.in_ok-from_slice-2.ensures.items c.in_ok-index.ensures.index

@@ -1,0 +1,52 @@
+-- The line number table of a program.
+use Rattle.std.specs.Prelude.{ℕ, ◌+◌, ◌*◌, List, [], ◌∷◌, map, length, None}
+use Rattle.std.specs.List.{flat_map}
+use Rattle.dwarf_line.specs.declared.table.Row.{Row}
+use Rattle.dwarf_line.specs.declared.table.Sequence.{Sequence}
+use Rattle.dwarf_line.specs.declared.table.LineTable.{LineTable}
+use Rattle.read_metadata.specs.Maps.{Maps}
+use Rattle.dwarf_line_table.specs.declared.compiled.Compiled.{Compiled}
+use Rattle.dwarf_line_table.specs.declared.file.SourceFile.{SourceFile}
+use Rattle.dwarf_line_table.specs.Files.{unit_file, files_of, dirs_of, entries_of}
+use Rattle.dwarf_line_table.specs.Table.{changes, uses_in, rows_in}
+
+-- how many functions a table is made of
+abbrev pub MAX_FUNCTIONS : ℕ
+MAX_FUNCTIONS = 4096
+
+-- the unit's file of a program
+abbrev pub program_file : Maps → List Compiled → SourceFile
+program_file meta functions = unit_file meta (map (λ f. f.source.now.name) functions)
+
+-- the files that a function's words use, in their order
+abbrev pub function_uses : Maps → (unit : SourceFile) → Compiled → List SourceFile
+function_uses meta unit f = uses_in meta unit f.source.now.blocks f.code.now.entries
+
+-- the rows of a function: one at its first word, and one at each word whose file, line or column differs from the word before
+abbrev pub rows_of : List SourceFile → Maps → (unit : SourceFile) → Compiled → List Row
+rows_of files meta unit f = changes None (rows_in files meta unit f.source.now.blocks f.code.now.entries)
+
+-- the address behind a function's words
+abbrev pub function_end : Compiled → ℕ
+function_end f = f.code.now.base + 4 * length f.code.now.words
+
+-- a sequence, if there is a row
+abbrev pub sequence_if : List Row → (end : ℕ) → List Sequence
+sequence_if [] end = []
+sequence_if (r ∷ rows) end = record { rows = r ∷ rows; end = end } ∷ []
+
+-- the sequence of a function, if it has code
+abbrev pub sequences_of : List SourceFile → Maps → (unit : SourceFile) → Compiled → List Sequence
+sequences_of files meta unit f = sequence_if (rows_of files meta unit f) (function_end f)
+
+-- the files of a program from number 1 on
+abbrev pub program_files : Maps → List Compiled → List SourceFile
+program_files meta functions = files_of (program_file meta functions) (flat_map (function_uses meta (program_file meta functions)) functions)
+
+-- the table of a program
+unfoldable pub table_of : Maps → List Compiled → LineTable
+table_of meta functions = record {
+  dirs = dirs_of (program_files meta functions);
+  files = entries_of (program_files meta functions);
+  sequences = flat_map (sequences_of (program_files meta functions) meta (program_file meta functions)) functions;
+}

@@ -1,0 +1,39 @@
+-- The line number table of a program.
+use Rattle.std.specs.Prelude.{ℕ, ◌&&◌, Bool, false, cond, List, [], ◌∷◌, map, Option, Some, None, nat_eq}
+use Rattle.dwarf_line.specs.declared.table.Row.{Row}
+use Rattle.read_metadata.specs.Maps.{Maps}
+use Rattle.dwarf_line_table.specs.declared.file.SourceFile.{SourceFile}
+use Rattle.dwarf_line_table.specs.Files.{number_in}
+use Rattle.dwarf_line_table.specs.Lines.{SourceLine, line_of}
+use Rattle.mir_func.specs.declared.block.Block.{Block}
+use Rattle.emit_code.specs.declared.code.Entry.{Entry}
+
+-- the row of a place in the source, at an address
+abbrev pub row_of_line : List SourceFile → ℕ → SourceLine → Row
+row_of_line files address l = record { address = address; file = number_in files l.file; line = l.line; column = l.column }
+
+-- two rows are of one place
+abbrev pub is_place : Row → Row → Bool
+is_place r s = nat_eq r.file s.file && (nat_eq r.line s.line && nat_eq r.column s.column)
+
+-- a row is of the place of the row before it, if there is one
+abbrev pub is_place_before : Option Row → Row → Bool
+is_place_before None r = false
+is_place_before (Some before) r = is_place before r
+
+-- of rows those at which the place changes. At the first it does
+abbrev pub changes : (before : Option Row) → List Row → List Row
+changes before [] = []
+changes before (r ∷ rows) = cond (is_place_before before r) (changes before rows) (r ∷ changes (Some r) rows)
+
+-- where in the source an entry's code comes from, by the blocks of its function as it was read
+abbrev pub entry_line : Maps → (unit : SourceFile) → List Block → Entry → SourceLine
+entry_line meta unit blocks e = line_of meta unit blocks e.origin
+
+-- the files that entries use, in their order
+abbrev pub uses_in : Maps → (unit : SourceFile) → List Block → List Entry → List SourceFile
+uses_in meta unit blocks entries = map (λ e. (entry_line meta unit blocks e).file) entries
+
+-- a row for each entry
+abbrev pub rows_in : List SourceFile → Maps → (unit : SourceFile) → List Block → List Entry → List Row
+rows_in files meta unit blocks entries = map (λ e. row_of_line files e.address (entry_line meta unit blocks e)) entries

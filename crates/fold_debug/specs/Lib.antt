@@ -1,3 +1,0 @@
-pub mod Lost
-pub mod Debug
-pub mod Keeps

@@ -1,2 +1,0 @@
-mod Stripped
-mod Follows

@@ -1,4 +1,0 @@
-pub mod One
-pub mod Alike
-pub mod Stripped
-pub mod Staying

@@ -1,6 +1,0 @@
-use Rattle.std.proofs.Common.{◌≡◌, ◌++◌, take}
-use Rattle.fold_debug.specs.Lost.{lost_in}
-use Rattle.fold_lost.proofs.lost.push_lost.Given as goal
-
-abbrev pub invariant-loop-i : goal.invariant-loop-i
-invariant-loop-i l = l.losses.items ≡ l.initial.losses.items ++ lost_in l.reason (take l.i-index l.items)

@@ -1,0 +1,4 @@
+mod Turns
+mod Results
+mod Folding
+mod Running

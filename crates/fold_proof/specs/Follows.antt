@@ -1,0 +1,19 @@
+-- What folding with kills keeps.
+use Rattle.std.specs.Prelude.{List, true, false}
+use Rattle.mir_func.specs.declared.entry.Entry.{Entry}
+use Rattle.mir_func.specs.Function.{Function}
+use Rattle.mir_func.specs.Sound.{AllItems, IsSound, HasForm}
+use Rattle.mir_func.specs.Strip.{stripped}
+use Rattle.pass_trait.specs.Change.{change}
+use Rattle.pass_trait.specs.Following.{KeepsFollowing}
+use Rattle.fold_rule.specs.Rule.{IsFolded}
+use Rattle.fold_rule_proof.specs.Kills.{IsFoldedWithKills}
+
+-- a function that is folded, with its kills, follows what it followed with whole ends
+abbrev pub FoldedFollows : Type 0
+FoldedFollows = (f g : Function) (subs : List Entry) → IsSound f → AllItems (λ i. HasForm i.kind) f.blocks → IsFoldedWithKills f g →
+    KeepsFollowing true false (change f subs g subs)
+
+-- without debug items there are no kills either: what is left is the function without its debug items, folded
+abbrev pub KillsStrip : Type 0
+KillsStrip = (f g : Function) → IsSound f → IsFoldedWithKills f g → IsFolded (stripped f) (stripped g)

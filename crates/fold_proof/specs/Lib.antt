@@ -1,0 +1,7 @@
+pub mod Runs
+pub mod Shapes
+pub mod Follows
+pub mod Lost
+pub mod Debug
+pub mod Keeps
+pub mod Sizes

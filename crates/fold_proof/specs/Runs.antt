@@ -1,0 +1,29 @@
+-- The runs of a folded function.
+use Rattle.std.specs.Prelude.{◌≡◌, Option, false, All}
+use Rattle.mir_func.specs.declared.entry.OperandPair.{OperandPair}
+use Rattle.mir_func.specs.declared.item.Item.{Item}
+use Rattle.mir_func.specs.declared.position.Pos.{Pos}
+use Rattle.mir_func.specs.declared.position.Origin.TheVariants.{Kept}
+use Rattle.mir_func.specs.Function.{Function}
+use Rattle.mir_func.specs.Sound.{AllItems, IsSound, HasForm}
+use Rattle.mir_func.specs.Graph.{Here, Program, program_of, block_start}
+use Rattle.sem_mir.specs.State.{State}
+use Rattle.sem_mir.specs.Align.{ByItems, ByEnds, station_at, AnyOrigin, RunsAlong}
+use Rattle.sem_mir.specs.Follow.{InOrder, OnRow, IsEnd, first_of}
+use Rattle.fold_rule_proof.specs.Kills.{IsFoldedWithKills}
+
+-- branches, jumps and returns are kept from the source
+abbrev pub EndsAreKept : Program → Type 0
+EndsAreKept f = (q : Pos) (j : Item) → f.fetch q ≡ Here j → OnRow IsEnd j.kind → (p : Pos) × (j.origin ≡ Kept p)
+
+-- where a function runs along with a source from the start of its first block, at blocks' ends too, so does the folded one at
+-- its code
+abbrev pub FoldedRunsAlong : Type 0
+FoldedRunsAlong = (f g : Function) (src : Program) (resolve : OperandPair → Option OperandPair) (s : State) → IsSound f →
+    AllItems (λ i. HasForm i.kind) f.blocks → IsFoldedWithKills f g → EndsAreKept (program_of false f.blocks resolve) →
+    All (λ b. InOrder b.id 0 b.items) f.blocks →
+    s.pos ≡ block_start (first_of f.blocks) →
+    RunsAlong src (program_of false f.blocks resolve) (station_at ByEnds (program_of false f.blocks resolve))
+    (AnyOrigin (station_at ByEnds (program_of false f.blocks resolve))) s s →
+    RunsAlong src (program_of false g.blocks resolve) (station_at ByItems (program_of false g.blocks resolve))
+    (AnyOrigin (station_at ByItems (program_of false g.blocks resolve))) s s

@@ -1,0 +1,12 @@
+pub mod One
+pub mod RuleAlike
+pub mod Stripped
+pub mod Staying
+pub mod Rows
+pub mod Tails
+pub mod Numbers
+pub mod Blocks
+pub mod Sound
+pub mod StepAlike
+pub mod Kills
+pub mod KillSound

@@ -1,0 +1,4 @@
+pub mod Strips
+pub mod Alike
+pub mod Kills
+pub mod KilledSound

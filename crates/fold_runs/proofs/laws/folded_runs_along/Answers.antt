@@ -1,5 +1,0 @@
-use Rattle.fold_runs.proofs.Along.{folded_runs_along}
-use Rattle.fold_runs.proofs.laws.folded_runs_along.Goals as goal
-
-pub returns : goal.returns
-returns c = folded_runs_along

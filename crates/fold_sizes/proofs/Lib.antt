@@ -1,4 +1,0 @@
-mod Weights
-mod Gone
-mod Holding
-mod Growing

@@ -1,4 +1,0 @@
-//! Branch folding of functions: what is folded is a sound function still.
-#![tactic(auto)]
-
-pub mod fold;

@@ -1,9 +1,0 @@
-use Rattle.frames_alike.proofs.Alike.{frames_alike}
-use Rattle.frames_alike.proofs.Strips.{frames_same}
-use Rattle.frames_alike.proofs.laws.framed_alike.Goals as goal
-
-pub returns-clause-alike : goal.returns-clause-alike
-returns-clause-alike c = frames_alike
-
-pub returns-clause-same : goal.returns-clause-same
-returns-clause-same c = frames_same

@@ -1,5 +1,0 @@
-pub mod Few
-pub mod Listed
-pub mod Located
-pub mod Pushed
-pub use Rattle.compile_passes.proofs.AfterPasses

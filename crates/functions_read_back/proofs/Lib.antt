@@ -1,4 +1,0 @@
-pub mod Codes
-pub mod Bodies
-pub mod Documents
-pub mod Functions

@@ -1,9 +1,0 @@
-//! The law of functions that are read back.
-
-ghost use Rattle.functions_read_back.specs.Stripped.{StrippedReadsBack};
-
-/// The document of a function that was read, as it is printed without its debug items, is read as the stripped
-/// function.
-pub fn functions_read_back()
-    ensures { StrippedReadsBack }
-{}

@@ -1,5 +1,0 @@
-use Rattle.kept_values.proofs.Keeping.{kept_values_are_wanted}
-use Rattle.kept_values.proofs.laws.kept_values_are_wanted.Goals as goal
-
-pub returns : goal.returns
-returns c = kept_values_are_wanted

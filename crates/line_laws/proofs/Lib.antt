@@ -1,5 +1,0 @@
-pub mod Members
-pub mod Rows
-pub mod Sequences
-pub mod Names
-pub mod Tables

@@ -1,5 +1,0 @@
-use Rattle.machine_frames.proofs.Followers.{followers_meet_the_headline}
-use Rattle.machine_frames.proofs.laws.followers_meet_the_headline.Goals as goal
-
-pub returns : goal.returns
-returns g c = followers_meet_the_headline g.L.LocationLists.gives

@@ -1,5 +1,0 @@
-use Rattle.machine_headline.proofs.Entries.{entries_are_points}
-use Rattle.machine_headline.proofs.laws.entries_are_points.Goals as goal
-
-pub returns : goal.returns
-returns c = entries_are_points

@@ -1,5 +1,0 @@
-use Rattle.machine_headline.proofs.LaidOut.{images_meet_the_headline}
-use Rattle.machine_headline.proofs.laws.images_meet_the_headline.Goals as goal
-
-pub returns : goal.returns
-returns g c = images_meet_the_headline g.L.LocationLists.gives

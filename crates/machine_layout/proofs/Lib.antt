@@ -1,3 +1,0 @@
-pub mod Addresses
-pub mod Standing
-pub mod Laid

@@ -1,4 +1,0 @@
-pub mod Slots
-pub mod Places
-pub mod Known
-pub mod Contents

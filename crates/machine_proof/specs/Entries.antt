@@ -1,0 +1,38 @@
+-- The entries of a layout, by their points and beside its lines.
+use Rattle.std.specs.Prelude.{◌≡◌, ◌↔◌, ℕ, map, Contains, Some}
+use Rattle.mir_func.specs.declared.position.Origin.{Origin}
+use Rattle.mir_func.specs.declared.position.Pos.{Pos}
+use Rattle.sem_machine.specs.Image.{CodeLine, Image, line_at}
+use Rattle.emit_code.specs.declared.code.Entry.{Entry}
+use Rattle.emit_code.specs.Listed.{Line, lines_of}
+use Rattle.emit_code.specs.Rule.{Layout, address_in, entries_of}
+use Rattle.machine_steps_proof.specs.Images.{IsImageOf}
+use Rattle.machine_proof.specs.Lists.{IsPointAt}
+
+-- an entry of a layout begins at the address, and stands at the point
+pub record IsEntryAt (l : Layout) (address : ℕ) (p : Pos) : Type 0 where
+  pub entry : Entry
+  pub among : Contains (entries_of l) entry
+  pub begins : entry.address ≡ address
+  pub point : record { block = entry.point.block; item = entry.point.item } ≡ p
+
+-- An entry that stands at a point begins exactly where the machine stands at the point's code.
+abbrev pub EntriesArePoints : Type 0
+EntriesArePoints = (l : Layout) (a : ℕ) (p : Pos) → IsEntryAt l a p ↔ IsPointAt l.framed (address_in l) a p
+
+-- where a line with code begins, and what it comes from
+abbrev pub place_of_line : Line → ℕ × Origin
+place_of_line x = (x.address, x.origin)
+
+-- where an entry begins, and what it comes from
+abbrev pub place_of_entry : Entry → ℕ × Origin
+place_of_entry e = (e.address, e.origin)
+
+-- The lines of a layout and its entries go side by side, with the same addresses and origins.
+abbrev pub LinesAreEntries : Type 0
+LinesAreEntries = (l : Layout) → map place_of_line (lines_of l) ≡ map place_of_entry (entries_of l)
+
+-- So a line of an image stands where an entry of its layout begins, with the same origin.
+abbrev pub ImageLinesAreEntries : Type 0
+ImageLinesAreEntries = (l : Layout) (image : Image) → IsImageOf l image → (a : ℕ) (x : CodeLine) → line_at image.lines a ≡ Some x →
+    (p : Pos) × (at : IsEntryAt l a p) × (at.entry.origin ≡ x.origin)

@@ -1,0 +1,34 @@
+-- From a function that follows a source to the machine: with its frame, and laid out.
+use Rattle.std.specs.Prelude.{◌≡◌, ℕ, Option}
+use Rattle.rv64_instr.specs.declared.place.Place.{Place}
+use Rattle.mir_func.specs.declared.entry.OperandPair.{OperandPair}
+use Rattle.mir_func.specs.declared.variable.VarId.{VarId}
+use Rattle.mir_func.specs.Function.{Function}
+use Rattle.mir_func.specs.Graph.{framed_program}
+use Rattle.mir_func.specs.Sound.{AllItems, IsSound, HasForm}
+use Rattle.mir_func.specs.SoundFrame.{IsFramed}
+use Rattle.sem_mir.specs.Follow.{IsRead, Follows}
+use Rattle.sem_mir.specs.State.{State}
+use Rattle.sem_machine.specs.Headline.{StartsAt, Headline}
+use Rattle.sem_machine.specs.Image.{Image}
+use Rattle.frame_rule.specs.Rule.{framed_of}
+use Rattle.machine_steps_proof.specs.Laid.{IsLaidAt}
+use Rattle.machine_proof.specs.Lists.{GiveWanted, IsPointAt}
+use Rattle.machine_proof.specs.Runs.{GivesBackKept, start_beside}
+
+-- f follows the source, which is as it was read. Both are made of instructions that have their form
+pub record IsFollower (source f : Function) (resolve fresolve : OperandPair → Option OperandPair) : Type 0 where
+  pub read : IsRead source.blocks
+  pub source_form : AllItems (λ i. HasForm i.kind) source.blocks
+  pub form : AllItems (λ i. HasForm i.kind) f.blocks
+  pub sound : IsSound f
+  pub objects : f.objects ≡ source.objects
+  pub follows : Follows source.objects source.blocks f.blocks resolve fresolve
+
+-- The image in which a function that follows the source lies, with its frame, meets the headline, for lists that give only wanted places.
+-- What is to be kept is given back.
+abbrev pub FollowersMeetTheHeadline : (lists : VarId → (address : ℕ) → Place → Type 0) → Type 0
+FollowersMeetTheHeadline lists = (source f : Function) (resolve fresolve : OperandPair → Option OperandPair) (image : Image) →
+    IsFollower source f resolve fresolve → IsFramed (framed_of f) →
+    ((s : State) → StartsAt source s → GivesBackKept (framed_program (framed_of f).blocks fresolve) (start_beside s)) → (laid : IsLaidAt (framed_of f) image) →
+    GiveWanted (framed_program (framed_of f).blocks fresolve) (IsPointAt (framed_of f) laid.address) lists → Headline source resolve image lists

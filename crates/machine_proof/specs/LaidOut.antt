@@ -1,0 +1,46 @@
+-- The headline of a function that follows a source, lowered to its frame and laid out, with its location lists.
+use Rattle.std.specs.Prelude.{◌≡◌, ℕ, ◌<◌, ◌≤◌, Option}
+use Rattle.rv64_instr.specs.declared.place.Place.{Place}
+use Rattle.mir_func.specs.declared.entry.OperandPair.{OperandPair}
+use Rattle.mir_func.specs.declared.variable.VarId.{VarId}
+use Rattle.mir_func.specs.Function.{Function}
+use Rattle.mir_func.specs.Graph.{framed_program}
+use Rattle.mir_func.specs.Limits.{MAX_FRAME}
+use Rattle.mir_func.specs.Sound.{AllItems, IsSound, HasForm}
+use Rattle.mir_func.specs.SoundFrame.{HasPhysical}
+use Rattle.sem_mir.specs.Follow.{IsRead}
+use Rattle.sem_machine.specs.Headline.{Headline}
+use Rattle.sem_machine.specs.Image.{Image}
+use Rattle.emit_code.specs.Counts.{MAX_WORDS, MAX_BASE, count_of}
+use Rattle.emit_code.specs.Laid.{IsWorded}
+use Rattle.emit_code.specs.Rule.{Layout}
+use Rattle.frame_rule.specs.Rule.{size_of, framed_of}
+use Rattle.machine_proof.specs.Followers.{IsFollower}
+use Rattle.machine_steps_proof.specs.Images.{IsImageOf}
+use Rattle.machine_proof.specs.Lists.{GiveWanted}
+use Rattle.machine_proof.specs.Entries.{IsEntryAt}
+
+-- an image of the function with its frame, as it is laid out
+pub record IsImageOfFunction (f : Function) (image : Image) : Type 0 where
+  pub layout : Layout
+  pub framed : layout.framed ≡ framed_of f
+  pub low : layout.base < MAX_BASE
+  pub few : count_of layout.framed.blocks < MAX_WORDS
+  pub worded : IsWorded layout
+  pub laid : IsImageOf layout image
+
+-- The image of each function that follows a source meets the headline of this source, for lists that give a place only where it is wanted
+-- at the entry's point: wherever the machine comes, the source comes along, with the same events and results, what a list gives holds the
+-- newest assignment, and what a function gives back is as at entry; and the machine stops nowhere but at a return, or at a call that has no
+-- answer.
+abbrev pub ImagesMeetTheHeadline : (lists : VarId → (address : ℕ) → Place → Type 0) → Type 0
+ImagesMeetTheHeadline lists = (source f : Function) (resolve fresolve : OperandPair → Option OperandPair) (image : Image) →
+    IsFollower source f resolve fresolve → AllItems (λ i. HasPhysical i.kind) f.blocks → size_of f ≤ MAX_FRAME → (is : IsImageOfFunction f image) →
+    GiveWanted (framed_program (framed_of f).blocks fresolve) (IsEntryAt is.layout) lists → Headline source resolve image lists
+
+-- So does the image of a source that was read and is laid out as it is, with its frame.
+abbrev pub SourcesMeetTheHeadline : (lists : VarId → (address : ℕ) → Place → Type 0) → Type 0
+SourcesMeetTheHeadline lists = (source : Function) (resolve : OperandPair → Option OperandPair) (image : Image) → IsRead source.blocks →
+    AllItems (λ i. HasForm i.kind) source.blocks → AllItems (λ i. HasPhysical i.kind) source.blocks → IsSound source → size_of source ≤ MAX_FRAME →
+    (is : IsImageOfFunction source image) → GiveWanted (framed_program (framed_of source).blocks resolve) (IsEntryAt is.layout) lists →
+    Headline source resolve image lists

@@ -1,0 +1,95 @@
+-- From a function with its frame to the machine's run: the headline of the image in which it is laid out.
+use Rattle.std.specs.Prelude.{◌≡◌, ◌⊎◌, ℕ, suc, ◌<◌, List, All, Option, true, false, IsSome}
+use Rattle.rv64_instr.specs.Instruction.{Instruction}
+use Rattle.rv64_instr.specs.declared.place.Place.{Place}
+use Rattle.rv64_instr.specs.Row.{Row, Fixes, Moves, Sets, Addresses, Loads, Stores, LoadsSlot, StoresSlot, Branches, Jumps, Calls, Returns, Unfit, row_of}
+use Rattle.mir_func.specs.declared.entry.OperandPair.{OperandPair}
+use Rattle.mir_func.specs.declared.exit.Exit.TheVariants.{Perhaps, Final}
+use Rattle.mir_func.specs.declared.position.Pos.{Pos}
+use Rattle.mir_func.specs.declared.position.Origin.TheVariants.{Before}
+use Rattle.mir_func.specs.declared.item.Item.{Item}
+use Rattle.mir_func.specs.declared.item.ItemKind.{ItemKind}
+use Rattle.mir_func.specs.declared.item.ItemKind.TheVariants.{Code, Mark, Phi}
+use Rattle.mir_func.specs.declared.variable.MarkValue.TheVariants.{Nothing}
+use Rattle.mir_func.specs.declared.variable.VarId.{VarId}
+use Rattle.mir_func.specs.Exits.{exit_of}
+use Rattle.mir_func.specs.Function.{Function, FramedFunction}
+use Rattle.mir_func.specs.Graph.{Here, Silent, Program, below, block_start, program_of, framed_program}
+use Rattle.mir_func.specs.SoundFrame.{IsFramed}
+use Rattle.sem_mir.specs.State.{State, content}
+use Rattle.sem_mir.specs.Step.{Went, Returned, Faulted, read, step, run}
+use Rattle.sem_mir.specs.Align.{position_of, is_code}
+use Rattle.sem_simulation.specs.Words.{RunsByWords}
+use Rattle.sem_machine.specs.Image.{Image}
+use Rattle.sem_machine.specs.Headline.{StartsAt, KEPT, Headline}
+use Rattle.machine_steps_proof.specs.Laid.{fetched, IsLaidAt}
+use Rattle.machine_proof.specs.Lists.{GiveWanted, IsPointAt}
+
+-- where physical registers are written, the source doesn't stop on a frame fault at the position
+abbrev pub NeverFaults : Program → Pos → Type 0
+NeverFaults src q = (s : State) → s.pos ≡ q → ((r : ℕ) → r < 32 → IsSome (content s.core.regs r)) → step src s ≡ Faulted → ⊥
+
+-- code that shows nothing, and stops at a slot that isn't written at most
+abbrev pub IsHarmless : Row → Type 0
+IsHarmless (Fixes rd n) = Unit {0}
+IsHarmless (Moves rd rs) = Unit {0}
+IsHarmless (Sets rd op a b) = Unit {0}
+IsHarmless (Addresses rd n offset) = Unit {0}
+IsHarmless (LoadsSlot rd n) = Unit {0}
+IsHarmless (StoresSlot rs n) = Unit {0}
+IsHarmless (Loads rd op base offset) = ⊥
+IsHarmless (Stores op rs base offset) = ⊥
+IsHarmless (Branches op a b target) = ⊥
+IsHarmless (Jumps target) = ⊥
+IsHarmless (Calls name args) = ⊥
+IsHarmless (Returns results) = ⊥
+IsHarmless Unfit = ⊥
+
+-- debug items and the ends of blocks lead down the text from one position to another
+pub data FallsTo (f : FramedFunction) : Pos → Pos → Type 0 where
+  here : {p : Pos} → FallsTo f p p
+  past_item : {p q : Pos} (i : Item) → fetched f p ≡ Here i → is_code i.kind ≡ false → FallsTo f (below p) q → FallsTo f p q
+  past_end : {p q : Pos} (k n : ℕ) → fetched f p ≡ Silent k n → FallsTo f (block_start (suc p.block)) q → FallsTo f p q
+
+-- an item that gives no variable a value
+abbrev pub AssignsNothing : ItemKind → Type 0
+AssignsNothing (Code c k) = Unit {0}
+AssignsNothing (Mark v m) = m ≡ Nothing
+AssignsNothing (Phi p k) = Unit {0}
+
+-- what the places of a function with its frame have to do with its source
+pub record ComesFrom (src : Program) (f : FramedFunction) : Type 0 where
+  -- code that was added before a position is such, or the source never stops on a frame fault there
+  pub added : (p : Pos) (i : Item) (c : Instruction) (k : Option ℕ) (q : Pos) → fetched f p ≡ Here i → i.kind ≡ Code c k → i.origin ≡ Before q →
+      IsHarmless (row_of c) ⊎ NeverFaults src q
+  -- nor does it at a return
+  pub returns : (p : Pos) (i : Item) → fetched f p ≡ Here i → exit_of i.kind ≡ Final → NeverFaults src (position_of i.origin)
+  -- the next code below a conditional branch comes from another position
+  pub apart : (p q : Pos) (i j : Item) (n : ℕ) → fetched f p ≡ Here i → exit_of i.kind ≡ Perhaps n → FallsTo f (below p) q → fetched f q ≡ Here j →
+      is_code j.kind ≡ true → position_of j.origin ≡ position_of i.origin → ⊥
+  -- no conditional branch was added
+  pub kept : (p q : Pos) (i : Item) (n : ℕ) → fetched f p ≡ Here i → exit_of i.kind ≡ Perhaps n → i.origin ≡ Before q → ⊥
+  -- from what was added before a position down to the next code that comes from it no variable gets a value
+  pub quiet : (p q r o : Pos) (i d j : Item) → fetched f p ≡ Here i → i.origin ≡ Before o → FallsTo f (below p) q → fetched f q ≡ Here d →
+      FallsTo f q r → fetched f r ≡ Here j → is_code j.kind ≡ true → position_of j.origin ≡ o → AssignsNothing d.kind
+
+-- a run of the function with its frame gives back what is to be kept
+abbrev pub GivesBackKept : Program → State → Type 0
+GivesBackKept g g0 = (n : ℕ) (t : State) (results : List ℕ) → run g n g0 ≡ Went t → step g t ≡ Returned results →
+    All (λ r. read t.core r ≡ read g0.core r) KEPT
+
+-- the start of the function with its frame beside the source's
+abbrev pub start_beside : State → State
+start_beside s = record { pos = block_start 0; core = s.core }
+
+-- the runs of the function with its frame follow the source's by words, and give back what is to be kept
+pub record RunsBeside (source : Function) (f : FramedFunction) (resolve fresolve : OperandPair → Option OperandPair) : Type 0 where
+  pub follows : (s : State) → StartsAt source s →
+      RunsByWords (program_of true source.blocks resolve) (framed_program f.blocks fresolve) s (start_beside s)
+  pub keeps : (s : State) → StartsAt source s → GivesBackKept (framed_program f.blocks fresolve) (start_beside s)
+
+-- The image in which such a function lies meets the headline, for lists that give only wanted places.
+abbrev pub LaidCodeMeetsTheHeadline : (lists : VarId → (address : ℕ) → Place → Type 0) → Type 0
+LaidCodeMeetsTheHeadline lists = (source : Function) (f : FramedFunction) (resolve fresolve : OperandPair → Option OperandPair) (image : Image) →
+    IsFramed f → f.objects ≡ source.objects → ComesFrom (program_of true source.blocks resolve) f → RunsBeside source f resolve fresolve →
+    (laid : IsLaidAt f image) → GiveWanted (framed_program f.blocks fresolve) (IsPointAt f laid.address) lists → Headline source resolve image lists

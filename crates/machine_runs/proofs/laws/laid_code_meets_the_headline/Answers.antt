@@ -1,5 +1,0 @@
-use Rattle.machine_runs.proofs.Headline.{laid_code_meets_the_headline}
-use Rattle.machine_runs.proofs.laws.laid_code_meets_the_headline.Goals as goal
-
-pub returns : goal.returns
-returns g c = laid_code_meets_the_headline g.L.LocationLists.gives

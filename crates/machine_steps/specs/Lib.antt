@@ -1,4 +1,0 @@
-pub mod Beside
-pub mod Laid
-pub mod Pointer
-pub mod Steps

@@ -1,0 +1,46 @@
+-- The image of a function that is laid out.
+use Rattle.std.specs.Prelude.{◌≡◌, ℕ, ◌+◌, ◌^◌, ◌<◌, List, ◌++◌, drop, map, Option, Some, IsSome}
+use Rattle.std.specs.List.{flat_map}
+use Rattle.std.specs.Int.{w32, to_le_bytes}
+use Rattle.rv64_instr.specs.Instruction.{Instruction}
+use Rattle.rv64_instr.specs.Row.{Unfit, row_of}
+use Rattle.mir_func.specs.declared.position.Pos.{Pos}
+use Rattle.mir_func.specs.declared.item.Item.{Item}
+use Rattle.mir_func.specs.declared.item.ItemKind.TheVariants.{Code}
+use Rattle.mir_func.specs.Graph.{Here}
+use Rattle.mir_func.specs.Objects.{area_of}
+use Rattle.sem_machine.specs.Image.{CodeLine, Image}
+use Rattle.emit_code.specs.Listed.{Line, lines_of}
+use Rattle.emit_code.specs.Rule.{Layout, Form, Nothing, OneWord, CallSite, LongBranch, form_of, address_in, operation_at, skip_operation, jump_operation}
+use Rattle.emit_code.specs.Rule.{words_of}
+use Rattle.machine_steps_proof.specs.Laid.{fetched, IsLaidAt}
+
+-- a line of the listing as the image has it
+abbrev pub code_line : Line → CodeLine
+code_line l = record { address = l.address; origin = l.origin; instruction = l.instruction }
+
+-- the code has its operations
+abbrev pub FormHasWords : Layout → (address : ℕ) → Instruction → Form → Type 0
+FormHasWords l a c Nothing = Unit {0}
+FormHasWords l a c OneWord = IsSome (operation_at l a c)
+FormHasWords l a c CallSite = Unit {0}
+FormHasWords l a c (LongBranch n) = IsSome (skip_operation c) × IsSome (jump_operation l a n)
+
+-- each code item of the layout has its words, at addresses of 64 bits
+pub record HasAllWords (l : Layout) : Type 0 where
+  pub words : (p : Pos) (i : Item) (c : Instruction) (k : Option ℕ) → fetched l.framed p ≡ Here i → i.kind ≡ Code c k →
+      FormHasWords l (address_in l p) c (form_of (l.long p) (Code c k))
+  pub fits : (p : Pos) (i : Item) (c : Instruction) (k : Option ℕ) → fetched l.framed p ≡ Here i → i.kind ≡ Code c k → row_of c ≡ Unfit → ⊥
+  pub small : (p : Pos) → address_in l p + 8 < 2 ^ 64
+
+-- the image has the layout's words from its first address on, and its lines
+pub record IsImageOf (l : Layout) (image : Image) : Type 0 where
+  pub low : image.low ≡ l.base
+  pub area : image.area ≡ area_of l.framed.objects
+  pub more : List ℕ
+  pub text : drop l.base image.text ≡ flat_map (to_le_bytes w32) (words_of l) ++ more
+  pub lines : image.lines ≡ map code_line (lines_of l)
+
+-- In the image of a layout the function lies point by point.
+abbrev pub ImagesAreLaid : Type 0
+ImagesAreLaid = (l : Layout) (image : Image) → HasAllWords l → IsImageOf l image → IsLaidAt l.framed image

@@ -1,0 +1,111 @@
+-- Where the code of a function with its frame lies in an image, and what the machine does there: what a layout has to keep.
+use Rattle.std.specs.Prelude.{◌≡◌, ◌⊎◌, ℕ, suc, ◌+◌, List, drop, map, Option, Some, false, cond}
+use Rattle.rv64_instr.specs.Instruction.{Instruction}
+use Rattle.rv64_instr.specs.declared.op.BranchOp.{BranchOp}
+use Rattle.rv64_instr.specs.Arithmetic.{taken}
+use Rattle.rv64_instr.specs.Row.{Row, Fixes, Moves, Sets, Addresses, Loads, Stores, LoadsSlot, StoresSlot, Branches, Jumps, Calls, Returns, Unfit, row_of}
+use Rattle.rv64_word.specs.MachineRow.{placed, object_named}
+use Rattle.mir_func.specs.declared.position.Pos.{Pos}
+use Rattle.mir_func.specs.declared.position.Origin.TheVariants.{Before}
+use Rattle.mir_func.specs.declared.item.Item.{Item}
+use Rattle.mir_func.specs.declared.item.ItemKind.TheVariants.{Code}
+use Rattle.mir_func.specs.Function.{FramedFunction}
+use Rattle.mir_func.specs.Graph.{Fetch, Here, Silent, below, block_start, fetch_in, index_of}
+use Rattle.mir_func.specs.Objects.{area_of}
+use Rattle.mir_func.specs.SoundFrame.{body_of}
+use Rattle.sem_mir.specs.Align.{is_code, position_of}
+use Rattle.sem_machine.specs.Image.{CodeLine, Image, line_at}
+use Rattle.sem_machine.specs.Machine.{Machine, register}
+use Rattle.sem_machine.specs.MachineStep.{Continues, Ends, past, at, answered, machine_step}
+use Rattle.sem_machine.specs.MachineStep as machine
+use Rattle.machine_steps_proof.specs.Beside.{object_place}
+
+-- what stands at a position of a function with its frame: the position's block is a block's index
+abbrev pub fetched : FramedFunction → Pos → Fetch
+fetched f p = fetch_in (drop p.block f.blocks) p.item
+
+-- the block's number to which code of a row goes otherwise than onward, and 0 where it goes nowhere else
+abbrev pub target_of : Row → ℕ
+target_of (Branches op a b target) = target
+target_of (Jumps target) = target
+target_of (Fixes rd n) = 0
+target_of (Moves rd rs) = 0
+target_of (Sets rd op a b) = 0
+target_of (Addresses rd n offset) = 0
+target_of (Loads rd op base offset) = 0
+target_of (Stores op rs base offset) = 0
+target_of (LoadsSlot rd n) = 0
+target_of (StoresSlot rs n) = 0
+target_of (Calls name args) = 0
+target_of (Returns results) = 0
+target_of Unfit = 0
+
+module _ (f : FramedFunction) (image : Image) (address : Pos → ℕ) where
+  -- where the block of a number begins: a branch goes past the prologue
+  abbrev pub start_of : (block : ℕ) → ℕ
+  start_of n = address (block_start (suc (index_of (body_of f.blocks) n)))
+
+  -- one line with one word, which does what the row does with its target and its stack object in place
+  pub record HasWord (p : Pos) (i : Item) (r : Row) : Type 0 where
+    pub line : CodeLine
+    pub stands : line_at image.lines (address p) ≡ Some line
+    pub origin : line.origin ≡ i.origin
+    pub next : address (below p) ≡ address p + 4
+    pub step : (m : Machine) → m.counter ≡ address p →
+        machine_step image m ≡ machine.does (placed (start_of (target_of r)) (object_place f (object_named r)) r) m
+
+  -- a long branch has two lines: the first, before the position, goes over the second where the branch isn't taken, and the second
+  -- goes to the target
+  pub record HasTwoWords (p : Pos) (i : Item) (op : BranchOp) (a b target : ℕ) : Type 0 where
+    pub line : CodeLine
+    pub jump_line : CodeLine
+    pub stands : line_at image.lines (address p) ≡ Some line
+    pub jump_stands : line_at image.lines (address p + 4) ≡ Some jump_line
+    pub origin : line.origin ≡ Before (position_of i.origin)
+    pub jump_origin : jump_line.origin ≡ i.origin
+    pub next : address (below p) ≡ address p + 8
+    pub step : (m : Machine) → m.counter ≡ address p →
+        machine_step image m ≡ Continues (cond (taken op (register m a) (register m b)) (past 4 m) (past 8 m))
+    pub jump_step : (m : Machine) → m.counter ≡ address p + 4 → machine_step image m ≡ Continues (at (start_of target) m)
+
+  -- a call site calls, over two words
+  pub record HasCall (p : Pos) (i : Item) (name args : List ℕ) : Type 0 where
+    pub line : CodeLine
+    pub stands : line_at image.lines (address p) ≡ Some line
+    pub origin : line.origin ≡ i.origin
+    pub next : address (below p) ≡ address p + 8
+    pub step : (m : Machine) → m.counter ≡ address p → machine_step image m ≡ answered name (map (register m) args) m m.script
+
+  -- the word that returns ends the run
+  pub record HasReturn (p : Pos) (i : Item) (results : List ℕ) : Type 0 where
+    pub line : CodeLine
+    pub stands : line_at image.lines (address p) ≡ Some line
+    pub origin : line.origin ≡ i.origin
+    pub step : (m : Machine) → m.counter ≡ address p → machine_step image m ≡ Ends (map (register m) results)
+
+  -- what lies at the address of code of a row
+  abbrev pub HasRow : Pos → Item → Row → Type 0
+  HasRow p i (Fixes rd n) = HasWord p i (Fixes rd n)
+  HasRow p i (Moves rd rs) = HasWord p i (Moves rd rs)
+  HasRow p i (Sets rd op a b) = HasWord p i (Sets rd op a b)
+  HasRow p i (Addresses rd n offset) = HasWord p i (Addresses rd n offset)
+  HasRow p i (Loads rd op base offset) = HasWord p i (Loads rd op base offset)
+  HasRow p i (Stores op rs base offset) = HasWord p i (Stores op rs base offset)
+  HasRow p i (LoadsSlot rd n) = HasWord p i (LoadsSlot rd n)
+  HasRow p i (StoresSlot rs n) = HasWord p i (StoresSlot rs n)
+  HasRow p i (Branches op a b target) = HasWord p i (Branches op a b target) ⊎ HasTwoWords p i op a b target
+  HasRow p i (Jumps target) = HasWord p i (Jumps target)
+  HasRow p i (Calls name args) = HasCall p i name args
+  HasRow p i (Returns results) = HasReturn p i results
+  HasRow p i Unfit = ⊥
+
+-- the image has the code of the function, point by point: each point has an address, and the machine does at the address of code what
+-- the code does
+pub record IsLaidAt (f : FramedFunction) (image : Image) : Type 0 where
+  pub address : Pos → ℕ
+  pub low : address (block_start 0) ≡ image.low
+  pub area : image.area ≡ area_of f.objects
+  -- debug items and the ends of blocks have no bytes
+  pub debug : (p : Pos) (i : Item) → fetched f p ≡ Here i → is_code i.kind ≡ false → address (below p) ≡ address p
+  pub ends : (p : Pos) (k n : ℕ) → fetched f p ≡ Silent k n → address (block_start (suc p.block)) ≡ address p
+  pub code : (p : Pos) (i : Item) (c : Instruction) (k : Option ℕ) → fetched f p ≡ Here i → i.kind ≡ Code c k → HasRow f image address p i (row_of c)

@@ -1,0 +1,80 @@
+-- One step of the machine beside one of a function with its frame.
+use Rattle.std.specs.Prelude.{◌≡◌, ℕ, suc, ◌+◌, List, Option, Some, false, true}
+use Rattle.mir_func.specs.declared.entry.OperandPair.{OperandPair}
+use Rattle.mir_func.specs.declared.item.Item.{Item}
+use Rattle.mir_func.specs.declared.position.Origin.TheVariants.{Before}
+use Rattle.mir_func.specs.declared.exit.Exit.TheVariants.{Perhaps}
+use Rattle.mir_func.specs.Exits.{exit_of}
+use Rattle.mir_func.specs.Function.{FramedFunction}
+use Rattle.mir_func.specs.declared.position.Pos.{Pos}
+use Rattle.mir_func.specs.Graph.{Here, Silent, Program, below, block_start, framed_program}
+use Rattle.mir_func.specs.SoundFrame.{IsFramed}
+use Rattle.sem_mir.specs.Align.{is_code, position_of}
+use Rattle.sem_mir.specs.State.{State, IsInRange}
+use Rattle.sem_mir.specs.Step.{Went, Returned, Faulted, Waits, step}
+use Rattle.sem_machine.specs.Image.{CodeLine, Image, line_at}
+use Rattle.sem_mir.specs.Follow.{IsStart}
+use Rattle.sem_simulation.specs.Words.{SameCode}
+use Rattle.sem_machine.specs.Machine.{Machine, machine_start}
+use Rattle.sem_machine.specs.MachineStep.{Continues, Ends, Awaits, machine_step}
+use Rattle.machine_steps_proof.specs.Beside.{Beside}
+use Rattle.machine_steps_proof.specs.Laid.{fetched, IsLaidAt}
+use Rattle.machine_steps_proof.specs.Pointer.{IsPointerAt}
+
+module _ (f : FramedFunction) (resolve : OperandPair → Option OperandPair) (image : Image) (laid : IsLaidAt f image) where
+  abbrev pub framed_run : Program
+  framed_run = framed_program f.blocks resolve
+
+  -- the machine stands beside a state of the function with its frame: at the address of its position
+  pub record Level (t : State) (m : Machine) : Type 0 where
+    pub beside : Beside f t.core m
+    pub range : IsInRange t.core
+    pub pointer : IsPointerAt f t.pos t.core
+    pub counter : m.counter ≡ laid.address t.pos
+
+  -- the step of code with one line, and the machine's
+  pub data OneStep (t : State) (m : Machine) : Type 0 where
+    goes : (u : State) (n : Machine) → step framed_run t ≡ Went u → machine_step image m ≡ Continues n → Level u n → OneStep t m
+    gives : (results : List ℕ) → step framed_run t ≡ Returned results → machine_step image m ≡ Ends results → OneStep t m
+    waits : step framed_run t ≡ Waits → machine_step image m ≡ Awaits → OneStep t m
+    faults : step framed_run t ≡ Faulted → ((results : List ℕ) → machine_step image m ≡ Ends results → ⊥) → OneStep t m
+
+  -- the step of a long branch, and the machine's: over the second line where it isn't taken, and else one step to it, and one by it
+  pub data TwoSteps (t : State) (m : Machine) : Type 0 where
+    over : (u : State) (n : Machine) → step framed_run t ≡ Went u → machine_step image m ≡ Continues n → u.pos ≡ below t.pos →
+        SameCode u.core t.core → Level u n → TwoSteps t m
+    through : (u : State) (k n : Machine) → step framed_run t ≡ Went u → machine_step image m ≡ Continues k → k.counter ≡ m.counter + 4 →
+        Beside f t.core k → machine_step image k ≡ Continues n → SameCode u.core t.core → Level u n → TwoSteps t m
+
+  -- the machine at the address of code: its lines there, and its steps
+  pub data AtCode (t : State) (m : Machine) (i : Item) : Type 0 where
+    single : (l : CodeLine) → line_at image.lines m.counter ≡ Some l → l.origin ≡ i.origin → OneStep t m → AtCode t m i
+    double : (l j : CodeLine) → line_at image.lines m.counter ≡ Some l → line_at image.lines (m.counter + 4) ≡ Some j →
+        l.origin ≡ Before (position_of i.origin) → j.origin ≡ i.origin → (b : ℕ) → exit_of i.kind ≡ Perhaps b → TwoSteps t m → AtCode t m i
+
+  -- it goes on with equal places, and the machine, which stays, is level with it again
+  pub record StaysLevel (t : State) (m : Machine) (p : Pos) : Type 0 where
+    pub next : State
+    pub went : step framed_run t ≡ Went next
+    pub at : next.pos ≡ p
+    pub code : SameCode next.core t.core
+    pub level : Level next m
+
+-- At the address of code the machine does what the code does.
+abbrev pub StepsBeside : Type 0
+StepsBeside = (f : FramedFunction) → IsFramed f → (resolve : OperandPair → Option OperandPair) (image : Image) (laid : IsLaidAt f image)
+    (t : State) (m : Machine) → Level f resolve image laid t m → (i : Item) → fetched f t.pos ≡ Here i → is_code i.kind ≡ true →
+    AtCode f resolve image laid t m i
+
+-- Debug items and the ends of blocks leave it level.
+abbrev pub StaysBeside : Type 0
+StaysBeside = (f : FramedFunction) → IsFramed f → (resolve : OperandPair → Option OperandPair) (image : Image) (laid : IsLaidAt f image)
+    (t : State) (m : Machine) → Level f resolve image laid t m →
+    ((i : Item) → fetched f t.pos ≡ Here i → is_code i.kind ≡ false → StaysLevel f resolve image laid t m (below t.pos)) ×
+    ((k n : ℕ) → fetched f t.pos ≡ Silent k n → StaysLevel f resolve image laid t m (block_start (suc t.pos.block)))
+
+-- Both start level.
+abbrev pub StartsBeside : Type 0
+StartsBeside = (f : FramedFunction) → IsFramed f → (resolve : OperandPair → Option OperandPair) (image : Image) (laid : IsLaidAt f image)
+    (first : ℕ) (s : State) → IsStart f.objects first s →
+    Level f resolve image laid (record { pos = block_start 0; core = s.core }) (machine_start image s)

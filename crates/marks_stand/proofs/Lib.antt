@@ -1,3 +1,0 @@
-mod Marks
-mod Order
-pub mod Stand

@@ -1,9 +1,0 @@
-pub mod Rows
-pub mod Loops
-pub mod Marking
-pub mod Laying
-pub mod History
-pub mod Numbers
-pub mod Inside
-pub mod Stepping
-pub mod Again

@@ -1,6 +1,0 @@
-use Rattle.std.proofs.Common.{◌≡◌, drop}
-use Rattle.mir_semantics.specs.Assigned.{part_in}
-use Rattle.mir_semantics.proofs.assignments.last_in.Given as goal
-
-abbrev pub invariant-loop-newest : goal.invariant-loop-newest
-invariant-loop-newest l = part_in l.part (drop l.newest-index l.parts) ≡ part_in l.part l.parts

@@ -1,6 +1,0 @@
-use Rattle.std.proofs.Common.{◌≡◌, ◌+◌, ◌-◌}
-use Rattle.sem_mir.specs.State.{touches_frame}
-use Rattle.mir_semantics.proofs.frame.touches_frame.Given as goal
-
-abbrev pub invariant-loop-k : goal.invariant-loop-k
-invariant-loop-k l = touches_frame l.entry l.area (l.address + l.k) (l.count - l.k) ≡ touches_frame l.entry l.area l.address l.count

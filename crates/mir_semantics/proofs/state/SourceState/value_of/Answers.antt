@@ -1,8 +1,0 @@
-use Rattle.std.proofs.Common.{sym, subst, ◌∙◌}
-use Rattle.mir_semantics.specs.StandsFor.{Concrete, StandsFor}
-use Rattle.mir_semantics.proofs.state.SourceState.value_of.Goals as goal
-
-pub returns : goal.returns
-returns c = λ s holds.
-    let inside = subst (λ (x : Concrete). StandsFor x s) (sym c.self.view_is) holds in
-    c.last.ensures ∙ sym (inside.core.marks c.args.v.now)

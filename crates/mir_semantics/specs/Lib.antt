@@ -1,5 +1,0 @@
-pub mod Places
-pub mod Acts
-pub mod Assigned
-pub mod StandsFor
-pub mod Steps

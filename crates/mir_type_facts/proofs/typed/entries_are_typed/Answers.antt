@@ -1,0 +1,14 @@
+use Rattle.std.proofs.Common.{sym, subst}
+use Rattle.std.proofs.lemmas.List.{take_all}
+use Rattle.std.proofs.lemmas.List.Elements.{All-more, All-same}
+use Rattle.mir_type_facts.specs.Typed.{IsTypedEntry}
+use Rattle.mir_type_facts.proofs.typed.entries_are_typed.Goals as goal
+
+pub loop-entry-preserved : goal.loop-entry-preserved
+loop-entry-preserved c =
+    All-more IsTypedEntry c.args.entries.now c.loop-entry.entry-index c.entry-item.result c.loop-entry-test.true c.loop-entry.invariant
+    (subst IsTypedEntry c.entry-item.is c.entry_is_typed.ensures)
+
+pub returns : goal.returns
+returns c =
+    All-same IsTypedEntry c.args.entries.now _ (sym (take_all c.loop-entry.entry-index c.args.entries.now c.loop-entry-test.false)) c.loop-entry.invariant

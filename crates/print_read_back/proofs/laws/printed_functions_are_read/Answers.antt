@@ -1,5 +1,0 @@
-use Rattle.print_read_back.proofs.Functions.{printed_functions_are_read}
-use Rattle.print_read_back.proofs.laws.printed_functions_are_read.Goals as goal
-
-pub returns : goal.returns
-returns c = printed_functions_are_read

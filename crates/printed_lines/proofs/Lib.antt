@@ -1,4 +1,0 @@
-pub mod Texts
-pub mod Marks
-pub mod Items
-pub mod Declared

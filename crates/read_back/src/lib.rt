@@ -1,4 +1,0 @@
-//! What is printed is read back: laws, each the contract of a function that does nothing.
-#![tactic(auto)]
-
-pub mod laws;

@@ -1,0 +1,32 @@
+-- The slots and objects of a function as stack entries that are read again.
+use Rattle.std.specs.Prelude.{◌≡◌, ℕ, ◌≤◌, true, List, map, length, All}
+use Rattle.base_ids.specs.Limits.{MAX_NUMBER}
+use Rattle.mir_func.specs.declared.object.Object.{Object}
+use Rattle.mir_func.specs.Limits.{MAX_SLOTS}
+use Rattle.mir_func.specs.Sound.{AreApart}
+use Rattle.read_declarations.specs.declared.stack.StackEntry.{StackEntry}
+use Rattle.read_body.specs.Frame.{slots_of, objects_of}
+use Rattle.read_body.specs.Met.{is_met}
+use Rattle.read_program.specs.Closing.{entry_ids}
+use Rattle.readback_functions.specs.Declared.{IsEntry, entries_read}
+
+-- stack entries as they were read: few, each within its limits, and no number twice
+pub record AreDeclared (es : List StackEntry) : Type 0 where
+  pub each : All IsEntry es
+  pub apart : AreApart (map (λ (e : StackEntry). e.id) es)
+  pub few : length es ≤ MAX_SLOTS
+
+-- the slots and the objects among stack entries, as entries that are read again
+abbrev pub entries_again : List ℕ → List StackEntry → List StackEntry
+entries_again named es = entries_read (slots_of named es) (objects_of named es).objects
+
+-- where code names the same objects again, the entries are the slots and objects again, with the same numbers
+pub record IsReadBack (named again : List ℕ) (es : List StackEntry) : Type 0 where
+  pub declared : AreDeclared (entries_again named es)
+  pub slots : slots_of again (entries_again named es) ≡ slots_of named es
+  pub objects : (objects_of again (entries_again named es)).objects ≡ (objects_of named es).objects
+  pub ids : (n : ℕ) → is_met n (entry_ids es) ≡ true → is_met n (entry_ids (entries_again named es)) ≡ true
+
+-- The frame of stack entries is read back: its slots, then its objects.
+abbrev pub FramesReadBack : Type 0
+FramesReadBack = (named again : List ℕ) (es : List StackEntry) → AreDeclared es → ((n : ℕ) → is_met n again ≡ is_met n named) → IsReadBack named again es

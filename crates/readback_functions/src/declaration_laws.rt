@@ -1,0 +1,13 @@
+//! The laws of names and stacks that are read back.
+
+ghost use Rattle.readback_functions.specs.Declared.{NamesReadBack, StacksReadBack};
+
+/// The line of a name is read as the name.
+pub fn names_read_back()
+    ensures { NamesReadBack }
+{}
+
+/// The lines of slots and objects are read as stack entries.
+pub fn stacks_read_back()
+    ensures { StacksReadBack }
+{}

@@ -1,0 +1,13 @@
+//! The laws of printed lines.
+
+ghost use Rattle.readback_functions.specs.Printed.{BlockLinesArePrinted, DeclaredLinesArePrinted};
+
+/// The line of an item is printable ASCII without a space at its end, and so is that of a label.
+pub fn block_lines_are_printed()
+    ensures { BlockLinesArePrinted }
+{}
+
+/// So are the lines of a name, of slots and of objects.
+pub fn declared_lines_are_printed()
+    ensures { DeclaredLinesArePrinted }
+{}

@@ -1,0 +1,295 @@
+-- Each form of an instruction is read back from its line.
+use Rattle.std.proofs.Common.{◌≡◌, ℕ, ℤ, Bool, true, false, ◌&&◌, List, [], ◌∷◌, ◌++◌, Option, Some, map, refl, sym, ap, subst, ◌∙◌}
+use Rattle.std.specs.List.{list_all}
+use Rattle.std.proofs.lemmas.Bool.{and_parts, cases_Bool}
+use Rattle.rv64_instr.specs.declared.op.Op.{Op}
+use Rattle.rv64_instr.specs.declared.op.Op.TheVariants.{Registers, Immediate, Lui, Branch, Load, Store, Copy, PseudoBr, PseudoCall, PseudoRet}
+use Rattle.rv64_instr.specs.declared.op.ImmediateOp.{ImmediateOp}
+use Rattle.rv64_instr.specs.declared.op.ImmediateOp.TheVariants.{Addi}
+use Rattle.rv64_instr.specs.declared.op.RegisterOp.{RegisterOp}
+use Rattle.rv64_instr.specs.declared.op.BranchOp.{BranchOp}
+use Rattle.rv64_instr.specs.declared.op.LoadOp.{LoadOp}
+use Rattle.rv64_instr.specs.declared.op.StoreOp.{StoreOp}
+use Rattle.rv64_instr.specs.declared.operand.Operand.{Operand}
+use Rattle.rv64_instr.specs.declared.operand.Operand.TheVariants.{Def, Use, Imm, Slot, Object, Block, Symbol, Mask}
+use Rattle.rv64_instr.specs.Arithmetic.{load_width, store_width}
+use Rattle.rv64_instr.specs.Form.{has_12_bits, is_immediate, is_addi, moves_slot, is_implicit, fits_registers, fits_immediate, fits_upper, fits_branch}
+use Rattle.rv64_instr.specs.Form.{fits_load, fits_store, fits_copy, fits_jump, fits_call, has_form, is_within}
+use Rattle.std.specs.Prelude.{pos}
+use Rattle.read_item.specs.Code.{before, joined, definitions, placed}
+use Rattle.readback_items.specs.Code.{judged_operands}
+use Rattle.readback_items.proofs.Clean.{sets_of, uses_of}
+use Rattle.readback_items.proofs.Operands.{Gives, given_same, given_slots, given_objects}
+use Rattle.readback_items.proofs.Tails.{Tail, implicits, arguments, results}
+
+abbrev pub Given : Op → List Operand → Type 0
+Given op os = Gives op (sets_of os) (uses_of os) (judged_operands op os)
+
+behind : (b : Bool) (rest : List Operand) → (b && list_all is_implicit rest) ≡ true → Tail rest
+behind b rest e = implicits rest (and_parts b (list_all is_implicit rest) e).1
+
+registers : (op : RegisterOp) (os : List Operand) → fits_registers os ≡ true → Given (Registers op) os
+unfolding definitions placed
+registers op (Def rd ∷ Use a ∷ Use b ∷ rest) e =
+    let t = implicits rest e in
+    given_same (Registers op) (Def rd ∷ Use a ∷ Use b ∷ []) rest t refl (record {
+      slot = false;
+      slot_is = refl;
+      operands = ap (λ (o : Option (List Operand)). joined (Some (Def rd ∷ [])) (before (Some (Use a)) (before (Some (Use b)) o))) t.placed;
+      in_place = refl;
+      form = e;
+    })
+registers op os e = absurd cc
+
+immediate_register : (op : ImmediateOp) (rd : ℕ) (a : ℕ) (i : ℤ) (rest : List Operand) → fits_immediate op (Def rd ∷ Use a ∷ Imm i ∷ rest) ≡ true →
+    Given (Immediate op) (Def rd ∷ Use a ∷ Imm i ∷ rest)
+unfolding definitions placed
+immediate_register op rd a i rest e =
+    let t = behind (is_immediate op i) rest e in
+    given_same (Immediate op) (Def rd ∷ Use a ∷ Imm i ∷ []) rest t refl (record {
+      slot = false;
+      slot_is = refl;
+      operands = ap (λ (o : Option (List Operand)). joined (Some (Def rd ∷ [])) (before (Some (Use a)) (before (Some (Imm i)) o))) t.placed;
+      in_place = refl;
+      form = e;
+    })
+
+address_of_object : (rd : ℕ) (n : ℕ) (i : ℤ) (rest : List Operand) → fits_immediate Addi (Def rd ∷ Object n ∷ Imm i ∷ rest) ≡ true →
+    Given (Immediate Addi) (Def rd ∷ Object n ∷ Imm i ∷ rest)
+unfolding definitions placed
+address_of_object rd n i rest e =
+    let t = behind (is_immediate Addi i) rest e in
+    given_objects (Immediate Addi) (Def rd ∷ Object n ∷ Imm i ∷ []) rest t (Def rd ∷ Slot n ∷ Imm i ∷ []) refl refl (record {
+      slot = false;
+      slot_is = refl;
+      operands = ap (λ (o : Option (List Operand)). joined (Some (Def rd ∷ [])) (before (Some (Object n)) (before (Some (Imm i)) o))) t.placed;
+      in_place = refl;
+      form = e;
+    })
+
+addi_only : (op : ImmediateOp) → is_addi op ≡ true → Addi ≡ op
+addi_only Addi e = refl
+addi_only op e = absurd cc
+
+immediate : (op : ImmediateOp) (os : List Operand) → fits_immediate op os ≡ true → Given (Immediate op) os
+immediate op (Def rd ∷ Use a ∷ Imm i ∷ rest) e = immediate_register op rd a i rest e
+immediate op (Def rd ∷ Object n ∷ Imm i ∷ rest) e =
+    let parts = and_parts (is_addi op && is_immediate op i) (list_all is_implicit rest) e in
+    let is = and_parts (is_addi op) (is_immediate op i) parts.0 in
+    let same = addi_only op is.0 in
+    subst (λ (o : ImmediateOp). Given (Immediate o) (Def rd ∷ Object n ∷ Imm i ∷ rest)) same
+    (address_of_object rd n i rest (subst (λ (o : ImmediateOp). fits_immediate o (Def rd ∷ Object n ∷ Imm i ∷ rest) ≡ true) (sym same) e))
+immediate op os e = absurd cc
+
+upper : (os : List Operand) → fits_upper os ≡ true → Given Lui os
+unfolding definitions placed
+upper (Def rd ∷ Imm i ∷ rest) e =
+    let t = behind (is_within (pos 0) (pos 1048575) i) rest e in
+    given_same Lui (Def rd ∷ Imm i ∷ []) rest t refl (record {
+      slot = false;
+      slot_is = refl;
+      operands = ap (λ (o : Option (List Operand)). joined (Some (Def rd ∷ [])) (before (Some (Imm i)) o)) t.placed;
+      in_place = refl;
+      form = e;
+    })
+upper os e = absurd cc
+
+branch : (op : BranchOp) (os : List Operand) → fits_branch os ≡ true → Given (Branch op) os
+unfolding definitions placed
+branch op (Use a ∷ Use b ∷ Block n ∷ rest) e =
+    let t = implicits rest e in
+    given_same (Branch op) (Use a ∷ Use b ∷ Block n ∷ []) rest t refl (record {
+      slot = false;
+      slot_is = refl;
+      operands = ap (λ (o : Option (List Operand)). joined (Some []) (before (Some (Use a)) (before (Some (Use b)) (before (Some (Block n)) o)))) t.placed;
+      in_place = refl;
+      form = e;
+    })
+branch op os e = absurd cc
+
+-- ---- loads
+
+load_register : (op : LoadOp) (rd : ℕ) (a : ℕ) (i : ℤ) (rest : List Operand) → fits_load op (Def rd ∷ Use a ∷ Imm i ∷ rest) ≡ true →
+    Given (Load op) (Def rd ∷ Use a ∷ Imm i ∷ rest)
+unfolding definitions placed
+load_register op rd a i rest e =
+    let t = behind (has_12_bits i) rest e in
+    given_same (Load op) (Def rd ∷ Use a ∷ Imm i ∷ []) rest t refl (record {
+      slot = moves_slot (load_width op) i;
+      slot_is = refl;
+      operands = ap (λ (o : Option (List Operand)). joined (Some (Def rd ∷ [])) (before (Some (Use a)) (before (Some (Imm i)) o))) t.placed;
+      in_place = refl;
+      form = e;
+    })
+
+load_slot : (op : LoadOp) (rd : ℕ) (n : ℕ) (i : ℤ) (rest : List Operand) → fits_load op (Def rd ∷ Slot n ∷ Imm i ∷ rest) ≡ true →
+    Given (Load op) (Def rd ∷ Slot n ∷ Imm i ∷ rest)
+unfolding definitions placed
+load_slot op rd n i rest e =
+    let parts = and_parts (moves_slot (load_width op) i) (list_all is_implicit rest) e in
+    let t = implicits rest parts.1 in
+    given_same (Load op) (Def rd ∷ Slot n ∷ Imm i ∷ []) rest t refl (record {
+      slot = true;
+      slot_is = parts.0;
+      operands = ap (λ (o : Option (List Operand)). joined (Some (Def rd ∷ [])) (before (Some (Slot n)) (before (Some (Imm i)) o))) t.placed;
+      in_place = refl;
+      form = e;
+    })
+
+load_object : (op : LoadOp) (rd : ℕ) (n : ℕ) (i : ℤ) (rest : List Operand) → fits_load op (Def rd ∷ Object n ∷ Imm i ∷ rest) ≡ true →
+    (b : Bool) → moves_slot (load_width op) i ≡ b → Given (Load op) (Def rd ∷ Object n ∷ Imm i ∷ rest)
+unfolding definitions placed
+load_object op rd n i rest e true is =
+    let parts = and_parts (has_12_bits i) (list_all is_implicit rest) e in
+    let t = implicits rest parts.1 in
+    let form = ap (λ (b : Bool). b && list_all is_implicit rest) is ∙ parts.1 in
+    given_slots (Load op) (Def rd ∷ Object n ∷ Imm i ∷ []) rest t (Def rd ∷ Slot n ∷ Imm i ∷ []) refl form (record {
+      slot = true;
+      slot_is = is;
+      operands = ap (λ (o : Option (List Operand)). joined (Some (Def rd ∷ [])) (before (Some (Slot n)) (before (Some (Imm i)) o))) t.placed;
+      in_place = refl;
+      form = form;
+    })
+load_object op rd n i rest e false is =
+    let parts = and_parts (has_12_bits i) (list_all is_implicit rest) e in
+    let t = implicits rest parts.1 in
+    given_objects (Load op) (Def rd ∷ Object n ∷ Imm i ∷ []) rest t (Def rd ∷ Slot n ∷ Imm i ∷ []) refl
+    (ap (λ (b : Bool). b && list_all is_implicit rest) is) (record {
+      slot = false;
+      slot_is = is;
+      operands = ap (λ (o : Option (List Operand)). joined (Some (Def rd ∷ [])) (before (Some (Object n)) (before (Some (Imm i)) o))) t.placed;
+      in_place = refl;
+      form = e;
+    })
+
+load : (op : LoadOp) (os : List Operand) → fits_load op os ≡ true → Given (Load op) os
+load op (Def rd ∷ Use a ∷ Imm i ∷ rest) e = load_register op rd a i rest e
+load op (Def rd ∷ Slot n ∷ Imm i ∷ rest) e = load_slot op rd n i rest e
+load op (Def rd ∷ Object n ∷ Imm i ∷ rest) e = load_object op rd n i rest e (moves_slot (load_width op) i) refl
+load op os e = absurd cc
+
+-- ---- stores
+
+store_register : (op : StoreOp) (rs : ℕ) (a : ℕ) (i : ℤ) (rest : List Operand) → fits_store op (Use rs ∷ Use a ∷ Imm i ∷ rest) ≡ true →
+    Given (Store op) (Use rs ∷ Use a ∷ Imm i ∷ rest)
+unfolding definitions placed
+store_register op rs a i rest e =
+    let t = behind (has_12_bits i) rest e in
+    given_same (Store op) (Use rs ∷ Use a ∷ Imm i ∷ []) rest t refl (record {
+      slot = moves_slot (store_width op) i;
+      slot_is = refl;
+      operands = ap (λ (o : Option (List Operand)). joined (Some []) (before (Some (Use rs)) (before (Some (Use a)) (before (Some (Imm i)) o)))) t.placed;
+      in_place = refl;
+      form = e;
+    })
+
+store_slot : (op : StoreOp) (rs : ℕ) (n : ℕ) (i : ℤ) (rest : List Operand) → fits_store op (Use rs ∷ Slot n ∷ Imm i ∷ rest) ≡ true →
+    Given (Store op) (Use rs ∷ Slot n ∷ Imm i ∷ rest)
+unfolding definitions placed
+store_slot op rs n i rest e =
+    let parts = and_parts (moves_slot (store_width op) i) (list_all is_implicit rest) e in
+    let t = implicits rest parts.1 in
+    given_same (Store op) (Use rs ∷ Slot n ∷ Imm i ∷ []) rest t refl (record {
+      slot = true;
+      slot_is = parts.0;
+      operands = ap (λ (o : Option (List Operand)). joined (Some []) (before (Some (Use rs)) (before (Some (Slot n)) (before (Some (Imm i)) o)))) t.placed;
+      in_place = refl;
+      form = e;
+    })
+
+store_object : (op : StoreOp) (rs : ℕ) (n : ℕ) (i : ℤ) (rest : List Operand) → fits_store op (Use rs ∷ Object n ∷ Imm i ∷ rest) ≡ true →
+    (b : Bool) → moves_slot (store_width op) i ≡ b → Given (Store op) (Use rs ∷ Object n ∷ Imm i ∷ rest)
+unfolding definitions placed
+store_object op rs n i rest e true is =
+    let parts = and_parts (has_12_bits i) (list_all is_implicit rest) e in
+    let t = implicits rest parts.1 in
+    let form = ap (λ (b : Bool). b && list_all is_implicit rest) is ∙ parts.1 in
+    given_slots (Store op) (Use rs ∷ Object n ∷ Imm i ∷ []) rest t (Use rs ∷ Slot n ∷ Imm i ∷ []) refl form (record {
+      slot = true;
+      slot_is = is;
+      operands = ap (λ (o : Option (List Operand)). joined (Some []) (before (Some (Use rs)) (before (Some (Slot n)) (before (Some (Imm i)) o)))) t.placed;
+      in_place = refl;
+      form = form;
+    })
+store_object op rs n i rest e false is =
+    let parts = and_parts (has_12_bits i) (list_all is_implicit rest) e in
+    let t = implicits rest parts.1 in
+    given_objects (Store op) (Use rs ∷ Object n ∷ Imm i ∷ []) rest t (Use rs ∷ Slot n ∷ Imm i ∷ []) refl
+    (ap (λ (b : Bool). b && list_all is_implicit rest) is) (record {
+      slot = false;
+      slot_is = is;
+      operands = ap (λ (o : Option (List Operand)). joined (Some []) (before (Some (Use rs)) (before (Some (Object n)) (before (Some (Imm i)) o)))) t.placed;
+      in_place = refl;
+      form = e;
+    })
+
+store : (op : StoreOp) (os : List Operand) → fits_store op os ≡ true → Given (Store op) os
+store op (Use rs ∷ Use a ∷ Imm i ∷ rest) e = store_register op rs a i rest e
+store op (Use rs ∷ Slot n ∷ Imm i ∷ rest) e = store_slot op rs n i rest e
+store op (Use rs ∷ Object n ∷ Imm i ∷ rest) e = store_object op rs n i rest e (moves_slot (store_width op) i) refl
+store op os e = absurd cc
+
+-- ---- others
+
+copy : (os : List Operand) → fits_copy os ≡ true → Given Copy os
+unfolding definitions placed
+copy (Def rd ∷ Use rs ∷ rest) e =
+    let t = implicits rest e in
+    given_same Copy (Def rd ∷ Use rs ∷ []) rest t refl (record {
+      slot = false;
+      slot_is = refl;
+      operands = ap (λ (o : Option (List Operand)). joined (Some (Def rd ∷ [])) (before (Some (Use rs)) o)) t.placed;
+      in_place = refl;
+      form = e;
+    })
+copy os e = absurd cc
+
+jump : (os : List Operand) → fits_jump os ≡ true → Given PseudoBr os
+unfolding definitions placed
+jump (Block n ∷ rest) e =
+    let t = implicits rest e in
+    given_same PseudoBr (Block n ∷ []) rest t refl (record {
+      slot = false;
+      slot_is = refl;
+      operands = ap (λ (o : Option (List Operand)). joined (Some []) (before (Some (Block n)) o)) t.placed;
+      in_place = refl;
+      form = e;
+    })
+jump os e = absurd cc
+
+call : (os : List Operand) → fits_call os ≡ true → Given PseudoCall os
+unfolding definitions placed
+call (Symbol name ∷ Mask ∷ rest) e =
+    let t = arguments rest e in
+    given_same PseudoCall (Symbol name ∷ Mask ∷ []) rest t refl (record {
+      slot = false;
+      slot_is = refl;
+      operands = ap (λ (o : Option (List Operand)). joined (Some []) (before (Some (Symbol name)) (before (Some Mask) o))) t.placed;
+      in_place = refl;
+      form = e;
+    })
+call os e = absurd cc
+
+return' : (os : List Operand) → has_form PseudoRet os ≡ true → Given PseudoRet os
+unfolding definitions
+return' os e =
+    let t = results os e in
+    given_same PseudoRet [] os t refl (record {
+      slot = false;
+      slot_is = refl;
+      operands = ap (joined (Some [])) t.placed;
+      in_place = refl;
+      form = e;
+    })
+
+pub operands_given : (op : Op) (os : List Operand) → has_form op os ≡ true → Given op os
+operands_given (Registers op) os e = registers op os e
+operands_given (Immediate op) os e = immediate op os e
+operands_given Lui os e = upper os e
+operands_given (Branch op) os e = branch op os e
+operands_given (Load op) os e = load op os e
+operands_given (Store op) os e = store op os e
+operands_given Copy os e = copy os e
+operands_given PseudoBr os e = jump os e
+operands_given PseudoCall os e = call os e
+operands_given PseudoRet os e = return' os e

@@ -1,0 +1,77 @@
+-- Each item of a function that was read is readable.
+use Rattle.std.proofs.Common.{◌≡◌, ℕ, List, All, Option, None, Result, Ok, Err, refl, sym, ap, subst}
+use Rattle.std.proofs.lemmas.List.Elements.{All-map, All-weaker}
+use Rattle.read_refusal.specs.declared.first.Refusal.{Refusal}
+use Rattle.read_metadata.specs.Maps.{Maps}
+use Rattle.read_documents.specs.declared.parts.FunctionDocument.{FunctionDocument}
+use Rattle.mir_func.specs.declared.block.Block.{Block}
+use Rattle.mir_func.specs.declared.item.Item.{Item}
+use Rattle.mir_func.specs.declared.item.ItemKind.{ItemKind}
+use Rattle.mir_func.specs.declared.location.Loc.{Loc}
+use Rattle.mir_func.specs.Function.{Function}
+use Rattle.mir_func.specs.Sound.{AllItems, LeavesPointer}
+use Rattle.read_declarations.specs.declared.declarations.Declarations.{Declarations}
+use Rattle.read_declarations.specs.Declarations.{declarations_of}
+use Rattle.read_body.specs.declared.body.Body.{Body}
+use Rattle.read_body.specs.Body.{blocks_of}
+use Rattle.read_body.specs.Frame.{ids_of_objects}
+use Rattle.read_program.specs.declared.closing.Parsed.{Parsed}
+use Rattle.read_program.specs.BodyLines.{body_of}
+use Rattle.read_program.specs.Closing.{function_of, Closes, ParsesParts, Parses}
+use Rattle.read_program.specs.Objects.{item_as, block_as, blocks_as}
+use Rattle.read_program.proofs.Bodies.{IsReadBlock, ComesFromLine, body_reads}
+use Rattle.read_program.proofs.Judged.{judged_line}
+use Rattle.read_program.proofs.Lists.{both}
+use Rattle.read_program.proofs.Soundness.{sound_if_ends_well}
+use Rattle.readback_items.specs.Code.{IsReadable}
+use Rattle.readback_items.specs.Readable.{ItemsAreReadable}
+use Rattle.readback_items.proofs.Kept.{Kept, line_kept, kept_as, readable}
+
+-- an item that comes from a line
+item_kept : (meta : Maps) (end : Body) (kind : ItemKind) (loc : Loc) → ComesFromLine meta end kind loc → Kept meta loc kind
+item_kept meta end kind loc from =
+    let line = judged_line meta from.form from.item from.judged in
+    subst (Kept meta loc) from.kind_is
+    (subst (λ (l : Loc). Kept meta l from.item.kind) from.loc_is
+    (subst (λ (l : Loc). Kept meta l from.item.kind) (sym line.loc) (line_kept meta from.form from.item.kind line.line_is)))
+
+module _ (meta : Maps) (end : Body) (ids : List ℕ) where
+  abbrev KeptItem : Item → Type 0
+  KeptItem i = Kept meta i.loc i.kind
+
+  abbrev Comes : Item → Type 0
+  Comes i = ComesFromLine meta end i.kind i.loc
+
+  items_kept : (b : Block) → IsReadBlock (ComesFromLine meta end) b → All KeptItem (block_as ids b).items
+  items_kept b is = All-map KeptItem (item_as ids) b.items
+      (All-weaker Comes (λ i. KeptItem (item_as ids i)) (λ i from. kept_as ids meta i.loc i.kind (item_kept meta end i.kind i.loc from)) b.items is.each)
+
+  all_kept : (bs : List Block) → All (IsReadBlock (ComesFromLine meta end)) bs → AllItems KeptItem (blocks_as ids bs)
+  all_kept bs all = All-map (λ (b : Block). All KeptItem b.items) (block_as ids) bs
+      (All-weaker (IsReadBlock (ComesFromLine meta end)) (λ b. All KeptItem (block_as ids b).items) items_kept bs all)
+
+  all_readable : (bs : List Block) → AllItems KeptItem bs → AllItems (λ i. LeavesPointer i.kind) bs → AllItems (λ i. IsReadable meta i.loc i.kind) bs
+  all_readable bs kept pointer =
+      All-weaker (λ b. All KeptItem b.items × All (λ i. LeavesPointer i.kind) b.items) (λ (b : Block). All (λ i. IsReadable meta i.loc i.kind) b.items)
+      (λ b each. All-weaker (λ i. KeptItem i × LeavesPointer i.kind) (λ (i : Item). IsReadable meta i.loc i.kind)
+      (λ i is. readable meta i.loc i.kind is.0 is.1) b.items (both KeptItem (λ i. LeavesPointer i.kind) b.items each.0 each.1)) bs
+      (both (λ (b : Block). All KeptItem b.items) (λ (b : Block). All (λ i. LeavesPointer i.kind) b.items) bs kept pointer)
+
+closed_readable : (meta : Maps) (doc : FunctionDocument) (d : Declarations) (body : Body) (p : Parsed) → declarations_of doc ≡ Ok d →
+    body_of meta doc.body ≡ Ok body → Closes doc.closed d body (Ok p) → AllItems (λ i. IsReadable meta i.loc i.kind) p.func.blocks
+closed_readable meta doc d body p declared read closes =
+    let sound = sound_if_ends_well meta doc d body declared read closes.0 closes.3 in
+    let is = body_reads meta doc.body body read in
+    let ids = ids_of_objects body.objects d.stack in
+    subst (λ (bs : List Block). AllItems (λ i. IsReadable meta i.loc i.kind) bs) (sym (ap (λ (f : Function). f.blocks) closes.1))
+    (all_readable meta body ids (blocks_as ids (blocks_of body)) (all_kept meta body ids (blocks_of body) is.blocks) sound.pointer)
+
+by_parts : (meta : Maps) (doc : FunctionDocument) (p : Parsed) (d : Result Declarations Refusal) (body : Result Body Refusal) → declarations_of doc ≡ d →
+    body_of meta doc.body ≡ body → ParsesParts doc.closed d body (Ok p) → AllItems (λ i. IsReadable meta i.loc i.kind) p.func.blocks
+by_parts meta doc p (Ok d) (Ok body) declared read closes = closed_readable meta doc d body p declared read closes
+by_parts meta doc p (Ok d) (Err s) declared read refused = absurd refused
+by_parts meta doc p (Err r) (Ok body) declared read refused = absurd refused
+by_parts meta doc p (Err r) (Err s) declared read refused = absurd refused
+
+pub items_are_readable : ItemsAreReadable
+items_are_readable meta doc p parses = by_parts meta doc p (declarations_of doc) (body_of meta doc.body) refl refl parses

@@ -1,0 +1,77 @@
+-- The implicit operands at the end of an instruction: they are read as they were printed.
+use Rattle.std.proofs.Common.{◌≡◌, Bool, true, false, not, ◌&&◌, List, [], ◌∷◌, Option, Some, map, refl, ap}
+use Rattle.std.specs.Prelude.{filter}
+use Rattle.std.specs.List.{flat_map, list_all}
+use Rattle.std.proofs.lemmas.Bool.{and_parts}
+use Rattle.rv64_instr.specs.declared.operand.Operand.{Operand}
+use Rattle.rv64_instr.specs.declared.operand.Operand.TheVariants.{Def, Use, ImplicitDef, ImplicitUse, Imm, Slot, Object, Block, Symbol, Mask}
+use Rattle.rv64_instr.specs.Form.{is_implicit, is_argument, is_result}
+use Rattle.read_item.specs.Code.{before, placed}
+use Rattle.mir_printer.specs.Printable.{as_slot}
+use Rattle.mir_printer.specs.Spelling.{is_definition}
+use Rattle.readback_items.specs.Forms.{operand_form, set_register}
+
+abbrev pub IsTail : Operand → Type 0
+IsTail (ImplicitDef r) = Unit {0}
+IsTail (ImplicitUse r) = Unit {0}
+IsTail (Def r) = ⊥
+IsTail (Use r) = ⊥
+IsTail (Imm i) = ⊥
+IsTail (Slot n) = ⊥
+IsTail (Object n) = ⊥
+IsTail (Block n) = ⊥
+IsTail (Symbol name) = ⊥
+IsTail Mask = ⊥
+
+pub record Tail (rest : List Operand) : Type 0 where
+  pub sets : flat_map set_register rest ≡ []
+  pub uses : filter (λ o. not (is_definition o)) rest ≡ rest
+  pub slots : map as_slot rest ≡ rest
+  pub placed : placed [] (map operand_form rest) ≡ Some rest
+
+no_tail : Tail []
+unfolding placed
+no_tail = record { sets = refl; uses = refl; slots = refl; placed = refl }
+
+tail_more : (o : Operand) (rest : List Operand) → IsTail o → Tail rest → Tail (o ∷ rest)
+unfolding placed
+tail_more (ImplicitDef r) rest is t = record {
+  sets = t.sets;
+  uses = ap (λ (os : List Operand). ImplicitDef r ∷ os) t.uses;
+  slots = ap (λ (os : List Operand). ImplicitDef r ∷ os) t.slots;
+  placed = ap (before (Some (ImplicitDef r))) t.placed;
+}
+tail_more (ImplicitUse r) rest is t = record {
+  sets = t.sets;
+  uses = ap (λ (os : List Operand). ImplicitUse r ∷ os) t.uses;
+  slots = ap (λ (os : List Operand). ImplicitUse r ∷ os) t.slots;
+  placed = ap (before (Some (ImplicitUse r))) t.placed;
+}
+tail_more o rest is t = absurd is
+
+tails : (p : Operand → Bool) → ((o : Operand) → p o ≡ true → IsTail o) → (rest : List Operand) → list_all p rest ≡ true → Tail rest
+tails p each [] e = no_tail
+tails p each (o ∷ os) e = let parts = and_parts (p o) (list_all p os) e in tail_more o os (each o parts.0) (tails p each os parts.1)
+
+implicit_tail : (o : Operand) → is_implicit o ≡ true → IsTail o
+implicit_tail (ImplicitDef r) e = tt
+implicit_tail (ImplicitUse r) e = tt
+implicit_tail o e = absurd cc
+
+argument_tail : (o : Operand) → is_argument o ≡ true → IsTail o
+argument_tail (ImplicitDef r) e = tt
+argument_tail (ImplicitUse r) e = tt
+argument_tail o e = absurd cc
+
+result_tail : (o : Operand) → is_result o ≡ true → IsTail o
+result_tail (ImplicitUse r) e = tt
+result_tail o e = absurd cc
+
+pub implicits : (rest : List Operand) → list_all is_implicit rest ≡ true → Tail rest
+implicits = tails is_implicit implicit_tail
+
+pub arguments : (rest : List Operand) → list_all is_argument rest ≡ true → Tail rest
+arguments = tails is_argument argument_tail
+
+pub results : (rest : List Operand) → list_all is_result rest ≡ true → Tail rest
+results = tails is_result result_tail

@@ -1,0 +1,53 @@
+-- Debug items: their lines are read back whole.
+use Rattle.std.specs.Prelude.{◌≡◌, ℕ, ◌++◌, codes, List, Option, Some, None, Ok}
+use Rattle.rv64_instr.specs.declared.place.Place.{Place}
+use Rattle.rv64_instr.specs.declared.place.Place.TheVariants.{Register, Slot, Const}
+use Rattle.read_metadata.specs.Maps.{Maps}
+use Rattle.mir_func.specs.declared.item.Item.{Item}
+use Rattle.mir_func.specs.declared.item.ItemKind.{ItemKind}
+use Rattle.mir_func.specs.declared.item.ItemKind.TheVariants.{Code, Mark, Phi}
+use Rattle.mir_func.specs.declared.location.Loc.{Loc}
+use Rattle.mir_func.specs.declared.variable.MarkValue.{MarkValue}
+use Rattle.mir_func.specs.declared.variable.MarkValue.TheVariants.{Nothing, Constant, At, Pair}
+use Rattle.read_item.specs.declared.judged.Judged.TheVariants as judged_as
+use Rattle.read_item.specs.Debug.{inlined_at}
+use Rattle.read_item.specs.Judge.{entries_of, judged}
+use Rattle.read_line.specs.declared.form.BodyLine.TheVariants.{Item as OfItem}
+use Rattle.read_line.specs.declared.form.ItemForm.{ItemForm}
+use Rattle.read_line.specs.Body.{body_line_of}
+use Rattle.mir_printer.specs.Spelling.{item_text}
+use Rattle.readback_items.specs.Laws.{IsWritable}
+
+-- a register whose content is kept: x0 is the constant 0, and x2, the stack pointer, gives nothing
+abbrev pub IsKept : ℕ → Type 0
+IsKept r = (r ≡ 0 → ⊥) × (r ≡ 2 → ⊥)
+
+-- what a mark assigns is read as such: a register isn't x0 or x2
+abbrev pub ValueIsKept : MarkValue → Type 0
+ValueIsKept Nothing = Unit {0}
+ValueIsKept (Constant c) = Unit {0}
+ValueIsKept (At r) = IsKept r
+ValueIsKept (Pair q) = Unit {0}
+
+-- the place of a phi is read as such: a register isn't x0 or x2
+abbrev pub PlaceIsKept : Option Place → Type 0
+PlaceIsKept None = Unit {0}
+PlaceIsKept (Some (Register r)) = IsKept r
+PlaceIsKept (Some (Slot n)) = Unit {0}
+PlaceIsKept (Some (Const c)) = Unit {0}
+
+-- a mark or a phi as one that was read: the variable of a mark is inlined where its location is
+abbrev pub IsDebug : Maps → Loc → ItemKind → Type 0
+IsDebug meta loc (Code i number) = ⊥
+IsDebug meta loc (Mark v m) = (v.inlined_at ≡ inlined_at meta loc) × ValueIsKept m
+IsDebug meta loc (Phi p k) = PlaceIsKept p
+
+-- a line is read as an item, whose kind and location are these
+pub record ReadsAs (meta : Maps) (line : List ℕ) (kind : ItemKind) (loc : Loc) : Type 0 where
+  pub form : ItemForm
+  pub says : body_line_of line ≡ Ok (OfItem form)
+  pub means : judged meta form ≡ Ok (judged_as.Item (record { kind = kind; loc = loc; entries = entries_of form.operands }))
+
+-- The line of a mark or a phi in a function's text is read as the item, with the same metadata.
+abbrev pub DebugLinesReadBack : Type 0
+DebugLinesReadBack = (meta : Maps) (i : Item) → IsWritable i → IsDebug meta i.loc i.kind → ReadsAs meta (codes "    " ++ item_text i) i.kind i.loc

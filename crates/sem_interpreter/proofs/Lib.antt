@@ -1,0 +1,10 @@
+mod MemoryLoops
+pub mod Rows
+pub mod RunLoops
+pub mod Marking
+pub mod Laying
+pub mod History
+pub mod Numbers
+pub mod Inside
+pub mod Stepping
+pub mod Again

@@ -1,0 +1,6 @@
+pub mod Held
+pub mod Places
+pub mod Acts
+pub mod Assigned
+pub mod StandsFor
+pub mod Steps

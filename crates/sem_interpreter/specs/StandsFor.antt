@@ -1,0 +1,121 @@
+-- The state of a run as it is kept, and the states of the definition that it stands for.
+use Rattle.std.specs.Prelude.{◌≡◌, ◌<◌, ◌^◌, ℕ, List, [], length, All, Option, Some, None, Bool, true, ◌&&◌, nat_eq, slice_index}
+use Rattle.std.specs.Map.{lookup}
+use Rattle.rv64_instr.specs.Row.{row_of}
+use Rattle.rv64_instr.specs.declared.start.Answer.{Answer}
+use Rattle.rv64_instr.specs.declared.start.Start.{Start}
+use Rattle.mir_func.specs.declared.position.Pos.{Pos}
+use Rattle.mir_func.specs.declared.block.Block.{Block}
+use Rattle.mir_func.specs.declared.entry.Entry.{Entry}
+use Rattle.mir_func.specs.declared.item.ItemKind.{ItemKind}
+use Rattle.mir_func.specs.declared.item.ItemKind.TheVariants.{Code, Mark, Phi}
+use Rattle.mir_func.specs.declared.object.Object.{Object}
+use Rattle.mir_func.specs.Objects.{area_of, offset_of}
+use Rattle.mir_func.specs.Parts.{Bytes}
+use Rattle.sem_mir.specs.State.{Core, State, Reply, content, written}
+use Rattle.sem_mir.specs.Step as step
+use Rattle.sem_mir.specs.Step.{do_item}
+use Rattle.mir_func.specs.Graph.{Fetch, Here, Silent, Outside, below, block_start, program_of, fetch_in, from_block, KindEdge}
+use Rattle.sem_mir.specs.Follow.{first_of}
+use Rattle.mir_func.specs.Resolve.{resolve}
+use Rattle.sem_interpreter.specs.declared.machine.Machine.{Machine}
+use Rattle.sem_interpreter.specs.declared.machine.Outcome.{Outcome}
+use Rattle.sem_interpreter.specs.declared.machine.Outcome.TheVariants.{Falls, Goes, Returns as Ended, Faults, Waits}
+use Rattle.sem_interpreter.specs.Places.{starting_registers}
+use Rattle.sem_interpreter.specs.Acts.{MachineHolds, IsAnswered}
+use Rattle.sem_interpreter.specs.Assigned.{MarksHold}
+
+-- what is kept: the position, the places that code reads and writes, what each pair got last, and for each variable, by its
+-- node and the node that it is inlined at, what its parts were assigned last
+pub record Concrete : Type 0 where
+  pub pos : Pos
+  pub machine : Machine
+  pub pairs : List ((ℕ × ℕ) × Option ℕ)
+  pub assigned : List ((ℕ × Option ℕ) × List (Option Bytes × Option ℕ))
+
+-- the value of an entry, where there is one
+abbrev pub flat : Option (Option ℕ) → Option ℕ
+flat None = None
+flat (Some o) = o
+
+-- both are the same debug instruction number and the same operand of it
+abbrev pub pair_eq : ℕ × ℕ → ℕ × ℕ → Bool
+pair_eq p q = nat_eq p.0 q.0 && nat_eq p.1 q.1
+
+-- each pair's last value is what the entries say
+abbrev pub PairsHold : List ((ℕ × ℕ) × Option ℕ) → (ℕ → ℕ → Option ℕ) → Type 0
+PairsHold es held = (k o : ℕ) → held k o ≡ flat (lookup (pair_eq (k, o)) es)
+
+-- the core is what is kept, but for the script and the events, which are any
+pub record Holds (c : Concrete) (s : Core) : Type 0 where
+  pub machine : MachineHolds c.machine s
+  pub pairs : PairsHold c.pairs s.pairs
+  pub marks : MarksHold c.assigned s.marks
+
+-- the state is what is kept
+pub record StandsFor (c : Concrete) (s : State) : Type 0 where
+  pub pos : s.pos ≡ c.pos
+  pub core : Holds c s.core
+
+-- a state at the start of a run of the function, with these registers and this memory. The script and the events are any
+pub record Starts (stack : List Object) (blocks : List Block) (start : Start) (s : State) : Type 0 where
+  pub pos : s.pos ≡ block_start (first_of blocks)
+  pub entry : s.core.entry ≡ slice_index start.regs 2
+  pub area : s.core.area ≡ area_of stack
+  pub objects : (n : ℕ) → s.core.objects n ≡ offset_of stack n
+  pub registers : (r : ℕ) → content s.core.regs r ≡ content (starting_registers start.regs) r
+  pub slots : (n : ℕ) → s.core.slots n ≡ None
+  pub memory : (a : ℕ) → s.core.memory a ≡ written (λ _. 0) start.memory a
+  pub pairs : (k o : ℕ) → s.core.pairs k o ≡ None
+  pub marks : s.core.marks ≡ []
+
+-- the script agrees with the answer that is given at a call. At any other item it is any
+abbrev pub IsItemAnswered : ItemKind → Option Answer → List Reply → Type 0
+IsItemAnswered (Code i k) answer script = IsAnswered (row_of i) answer script
+IsItemAnswered (Mark v m) answer script = Unit {0}
+IsItemAnswered (Phi p k) answer script = Unit {0}
+
+-- the same for what stands at a position: at a block's end the script is any
+abbrev pub IsStepAnswered : Fetch → Option Answer → List Reply → Type 0
+IsStepAnswered (Here i) answer script = IsItemAnswered i.kind answer script
+IsStepAnswered (Silent k n) answer script = Unit {0}
+IsStepAnswered Outside answer script = Unit {0}
+
+-- the outcome is the definition's, and what is kept now is its core
+abbrev pub EndsItem : Outcome → Concrete → step.Outcome → Type 0
+EndsItem Falls now x = (c : Core) × (x ≡ step.Falls c) × Holds now c
+EndsItem (Goes n) now x = (c : Core) × (x ≡ step.Goes n c) × Holds now c
+EndsItem Ended now x = (results : List ℕ) × (x ≡ step.Gives results)
+EndsItem Faults now x = x ≡ step.Traps
+EndsItem Waits now x = x ≡ step.Asks
+
+-- what ends the run, faults or waits changes nothing
+abbrev pub StaysAll : Outcome → Concrete → Concrete → Type 0
+StaysAll Falls old new = Unit {0}
+StaysAll (Goes n) old new = Unit {0}
+StaysAll Ended old new = new ≡ old
+StaysAll Faults old new = new ≡ old
+StaysAll Waits old new = new ≡ old
+
+-- an item that goes on does so along an edge, wherever it stands
+abbrev pub ItemLeads : ItemKind → Outcome → Type 0
+ItemLeads kind Falls = (p : Pos) → KindEdge (λ n. n) kind p (below p)
+ItemLeads kind (Goes n) = (p : Pos) → KindEdge (λ n. n) kind p (block_start n)
+ItemLeads kind Ended = Unit {0}
+ItemLeads kind Faults = Unit {0}
+ItemLeads kind Waits = Unit {0}
+
+-- an item leads from what was kept to what is kept now, and ends so
+pub record DoesItem (subs : List Entry) (kind : ItemKind) (answer : Option Answer) (o : Outcome) (old new : Concrete) : Type 0 where
+  pub ends : (s : Core) → Holds old s → IsItemAnswered kind answer s.script → EndsItem o new (do_item (program_of true [] (resolve subs)) kind s)
+  pub stays : StaysAll o old new
+  pub leads : ItemLeads kind o
+  pub pos : new.pos ≡ old.pos
+
+-- a position of the function, other than the last block's end
+abbrev pub IsPosition : List Block → Pos → Type 0
+IsPosition blocks p = fetch_in (from_block blocks p.block) p.item ≡ Outside → ⊥
+
+-- each block has fewer items than a position can count, as those of a function that was read have: `silent`, of 32 bits, is their number
+abbrev pub AreCounted : List Block → Type 0
+AreCounted blocks = All (λ b. length b.items < 2 ^ 32) blocks

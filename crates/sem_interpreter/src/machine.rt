@@ -1,0 +1,337 @@
+//! What code does to registers, frame slots and memory.
+
+ghost use Rattle.std.specs.Prelude.{◌≡◌, ◌≤◌, ℕ, List, ◌∷◌, All, IfOk, OnErr, Option, length};
+ghost use Rattle.std.specs.Option.{option_copied};
+ghost use Rattle.rv64_instr.specs.Row as row;
+ghost use Rattle.rv64_instr.specs.Row.{row_of, implicit_uses};
+ghost use Rattle.rv64_instr.specs.declared.start.Answer.{Answer};
+ghost use Rattle.mir_func.specs.Limits.{MAX_SLOTS};
+ghost use Rattle.mir_func.specs.Objects.{AreLaidFrom};
+ghost use Rattle.mir_func.specs.Sound.{IsSoundObject};
+ghost use Rattle.sem_mir.specs.State.{Core};
+ghost use Rattle.sem_mir.specs.Step.{are_written, is_fault, loaded, object_address, put_in_memory};
+ghost use Rattle.sem_interpreter.specs.Acts.{Acts, AddressHolds, Does, InputHolds, MachineHolds, StartsMachine, Takes};
+
+use crate::frame::{touches_frame, writes_frame};
+use crate::objects::{self, Offsets};
+use crate::registers::Registers;
+use crate::slots::Slots;
+use crate::memory::Memory;
+use mir_func::object::Object;
+use base_ids::code::{BlockId, ObjectId, SlotId};
+use rv64_instr::arithmetic::{compute, extend, is_taken, load_width, store_width};
+use rv64_instr::decoded::{Base, Decoded, Input};
+use rv64_instr::instr::Instr;
+use rv64_instr::op::{BranchOp, LoadOp, RegisterOp, StoreOp};
+use rv64_instr::operand::Operand;
+use rv64_instr::reg::Reg;
+use rv64_instr::start::{Answer, Start};
+use std::alloc::{AllocError, Global};
+
+/// What code reads and writes: registers, frame slots and memory, and where stack objects lie.
+#[derive(Drop)]
+pub struct Machine {
+    /// The stack pointer at entry.
+    pub entry: u64,
+    /// How many bytes right below it stack objects take.
+    pub area: u64,
+    /// How far each object lies above the lowest of these bytes.
+    pub objects: Offsets,
+    pub registers: Registers,
+    pub slots: Slots,
+    pub memory: Memory,
+}
+
+/// How an item ends.
+#[derive(Clone, Copy, Debug, PartialEq, Eq)]
+pub enum Outcome {
+    /// It goes on below.
+    Falls,
+    /// It goes to the block of this number.
+    Goes(BlockId),
+    /// It ends the run.
+    Returns,
+    /// It stops on a frame fault.
+    Faults,
+    /// It waits for the answer to its call.
+    Waits,
+}
+
+impl Machine {
+    /// The machine at the start of a run of a function with these stack objects.
+    pub fn new(alloc: Global, stack: &[Object], start: &Start) -> Result<Machine, AllocError>
+        requires few { length stack.now ≤ MAX_SLOTS }
+        requires each { All IsSoundObject stack.now }
+        requires laid { AreLaidFrom 0 stack.now }
+        ensures { IfOk result (λ made. StartsMachine stack.now start.now made) }
+    {
+        Ok(Machine {
+            entry: start.regs[2],
+            area: objects::area(stack),
+            objects: Offsets::new(alloc, stack)?,
+            registers: Registers::new(alloc, &start.regs)?,
+            slots: Slots::new(alloc),
+            memory: Memory::new(alloc, start.memory.as_slice())?,
+        })
+    }
+
+    /// Does what an instruction does. What would fail, as a call without an answer, leaves all as it was, and so does
+    /// want of memory.
+    pub fn act(&mut self, i: &Instr, answer: Option<&Answer>) -> Result<Outcome, AllocError>
+        ensures ok { IfOk result (λ o. Acts (row_of i.now) (option_copied answer.entry) o self.old self.new) }
+        ensures err { OnErr result (self.new ≡ self.old) }
+    {
+        match i.decoded() {
+            Decoded::Fixes(rd, n) => Ok(self.set(rd, n)),
+            Decoded::Moves(rd, rs) => Ok(self.copy(rd, rs)),
+            Decoded::Sets(rd, op, a, b) => Ok(self.compute(rd, op, a, b)),
+            Decoded::Addresses(rd, n, offset) => Ok(self.address_of(rd, n, offset)),
+            Decoded::Loads(rd, op, base, offset) => Ok(self.load(rd, op, base, offset)),
+            Decoded::Stores(op, rs, base, offset) => self.store(op, rs, base, offset),
+            Decoded::LoadsSlot(rd, n) => Ok(self.load_slot(rd, n)),
+            Decoded::StoresSlot(rs, n) => self.store_slot(rs, n),
+            Decoded::Branches(op, a, b, target) => Ok(self.branch(op, a, b, target)),
+            Decoded::Jumps(target) => Ok(Outcome::Goes(target)),
+            Decoded::Calls => self.call(i.operands.as_slice(), answer),
+            Decoded::Returns => Ok(self.finish(i.operands.as_slice())),
+        }
+    }
+
+    fn set(&mut self, rd: Reg, n: u64) -> Outcome
+        ensures { (answer : Option Answer) → Acts (row.Fixes rd n) answer result self.old self.new }
+    {
+        self.registers.write(rd, n);
+        Outcome::Falls
+    }
+
+    fn copy(&mut self, rd: Reg, rs: Reg) -> Outcome
+        ensures { (answer : Option Answer) → Acts (row.Moves rd rs) answer result self.old self.new }
+    {
+        match self.registers.read(rs) {
+            Some(value) => {
+                self.registers.write(rd, value);
+                Outcome::Falls
+            }
+            None => Outcome::Faults,
+        }
+    }
+
+    fn compute(&mut self, rd: Reg, op: RegisterOp, a: Reg, b: Input) -> Outcome
+        ensures { (answer : Option Answer)
+            → Acts (row.Sets rd op a b) answer result self.old self.new }
+    {
+        let Some(x) = self.registers.read(a) else {
+            return Outcome::Faults;
+        };
+        let Some(y) = self.input(b) else {
+            return Outcome::Faults;
+        };
+        self.registers.write(rd, compute(op, x, y));
+        Outcome::Falls
+    }
+
+    /// The second input of an operation, where what it reads is written.
+    fn input(&self, input: Input) -> Option<u64>
+        ensures { (s : Core) → MachineHolds self.now s → InputHolds s input result }
+    {
+        match input {
+            Input::Content(r) => self.registers.read(r),
+            Input::Number(n) => Some(n),
+        }
+    }
+
+    fn address_of(&mut self, rd: Reg, n: ObjectId, offset: u64) -> Outcome
+        ensures { (answer : Option Answer) → Acts (row.Addresses rd n offset) answer result self.old self.new }
+    {
+        let address = self.object_address(n).wrapping_add(offset);
+        self.registers.write(rd, address);
+        Outcome::Falls
+    }
+
+    /// The address of a stack object. Addresses wrap at 64 bits.
+    fn object_address(&self, n: ObjectId) -> u64
+        ensures { (s : Core) → MachineHolds self.now s → result ≡ object_address s n }
+    {
+        self.entry
+            .wrapping_sub(self.area)
+            .wrapping_add(self.objects.of(n))
+    }
+
+    /// An access's address, where what it reads is written.
+    fn address(&self, base: &Base, offset: u64) -> Option<u64>
+        ensures { (s : Core) → MachineHolds self.now s → AddressHolds s base.now offset result }
+    {
+        match base {
+            Base::PointedBy(r) => match self.registers.read(*r) {
+                Some(b) => Some(b.wrapping_add(offset)),
+                None => None,
+            },
+            Base::ObjectAt(n) => Some(self.object_address(*n).wrapping_add(offset)),
+        }
+    }
+
+    /// Whether an access touches the frame. By a stack object it is no frame fault.
+    fn is_fault(&self, base: &Base, address: u64, count: usize) -> bool
+        ensures { (s : Core) → MachineHolds self.now s → result ≡ is_fault base.now s address count }
+    {
+        match base {
+            Base::PointedBy(_) => touches_frame(self.entry, self.area, address, count),
+            Base::ObjectAt(_) => false,
+        }
+    }
+
+    fn load(&mut self, rd: Reg, op: LoadOp, base: Base, offset: u64) -> Outcome
+        ensures { (answer : Option Answer)
+            → Acts (row.Loads rd op base offset) answer result self.old self.new }
+    {
+        match self.address(&base, offset) {
+            Some(address) => self.load_from(rd, op, &base, address),
+            None => Outcome::Faults,
+        }
+    }
+
+    fn load_from(&mut self, rd: Reg, op: LoadOp, base: &Base, address: u64) -> Outcome
+        ensures { Does (loaded rd op base.now address) result self.old self.new }
+    {
+        let count = load_width(op);
+        if self.is_fault(base, address, count) {
+            return Outcome::Faults;
+        }
+        self.registers
+            .write(rd, extend(op, self.memory.spelled(address, count)));
+        Outcome::Falls
+    }
+
+    fn store(
+        &mut self,
+        op: StoreOp,
+        rs: Reg,
+        base: Base,
+        offset: u64,
+    ) -> Result<Outcome, AllocError>
+        ensures ok { IfOk result (λ o. (answer : Option Answer)
+            → Acts (row.Stores op rs base offset) answer o self.old self.new) }
+        ensures err { OnErr result (self.new ≡ self.old) }
+    {
+        let Some(value) = self.registers.read(rs) else {
+            return Ok(Outcome::Faults);
+        };
+        let Some(address) = self.address(&base, offset) else {
+            return Ok(Outcome::Faults);
+        };
+        self.store_to(op, &base, address, value)
+    }
+
+    fn store_to(
+        &mut self,
+        op: StoreOp,
+        base: &Base,
+        address: u64,
+        value: u64,
+    ) -> Result<Outcome, AllocError>
+        ensures ok { IfOk result (λ o. Does (put_in_memory op base.now address value) o self.old self.new) }
+        ensures err { OnErr result (self.new ≡ self.old) }
+    {
+        let count = store_width(op);
+        if self.is_fault(base, address, count) {
+            return Ok(Outcome::Faults);
+        }
+        self.memory.store(address, count, value)?;
+        Ok(Outcome::Falls)
+    }
+
+    fn load_slot(&mut self, rd: Reg, slot: SlotId) -> Outcome
+        ensures { (answer : Option Answer) → Acts (row.LoadsSlot rd slot) answer result self.old self.new }
+    {
+        match self.slots.read(slot) {
+            Some(value) => {
+                self.registers.write(rd, value);
+                Outcome::Falls
+            }
+            None => Outcome::Faults,
+        }
+    }
+
+    fn store_slot(&mut self, rs: Reg, slot: SlotId) -> Result<Outcome, AllocError>
+        ensures ok { IfOk result (λ o. (answer : Option Answer)
+            → Acts (row.StoresSlot rs slot) answer o self.old self.new) }
+        ensures err { OnErr result (self.new ≡ self.old) }
+    {
+        match self.registers.read(rs) {
+            Some(value) => {
+                self.slots.write(slot, value)?;
+                Ok(Outcome::Falls)
+            }
+            None => Ok(Outcome::Faults),
+        }
+    }
+
+    fn branch(&self, op: BranchOp, a: Reg, b: Reg, target: BlockId) -> Outcome
+        ensures { (answer : Option Answer) → Acts (row.Branches op a b target) answer result self.now self.now }
+    {
+        let Some(x) = self.registers.read(a) else {
+            return Outcome::Faults;
+        };
+        let Some(y) = self.registers.read(b) else {
+            return Outcome::Faults;
+        };
+        if is_taken(op, x, y) {
+            Outcome::Goes(target)
+        } else {
+            Outcome::Falls
+        }
+    }
+
+    fn call(&mut self, operands: &[Operand], answer: Option<&Answer>) -> Result<Outcome, AllocError>
+        ensures ok { IfOk result (λ o. (name : List ℕ) → Acts (row.Calls name (implicit_uses operands.now))
+            (option_copied answer.entry) o self.old self.new) }
+        ensures err { OnErr result (self.new ≡ self.old) }
+    {
+        if !self.are_written(operands) {
+            return Ok(Outcome::Faults);
+        }
+        match answer {
+            Some(given) => self.take(given),
+            None => Ok(Outcome::Waits),
+        }
+    }
+
+    /// Does what the answer to a call does.
+    fn take(&mut self, answer: &Answer) -> Result<Outcome, AllocError>
+        ensures ok { IfOk result (λ o. Takes answer.now o self.old self.new) }
+        ensures err { OnErr result (self.new ≡ self.old) }
+    {
+        if writes_frame(self.entry, self.area, &answer.writes) {
+            return Ok(Outcome::Faults);
+        }
+        self.memory.write(&answer.writes)?;
+        self.registers.write_caller_saved(&answer.regs);
+        Ok(Outcome::Falls)
+    }
+
+    fn finish(&self, operands: &[Operand]) -> Outcome
+        ensures { (answer : Option Answer)
+            → Acts (row.Returns (implicit_uses operands.now)) answer result self.now self.now }
+    {
+        if self.are_written(operands) {
+            Outcome::Returns
+        } else {
+            Outcome::Faults
+        }
+    }
+
+    /// Whether the registers of the implicit uses but x2 are written.
+    fn are_written(&self, operands: &[Operand]) -> bool
+        ensures { (s : Core) → MachineHolds self.now s
+            → result ≡ are_written s (implicit_uses operands.now) }
+    {
+        for operand in operands {
+            if let Operand::ImplicitUse(r) = operand {
+                if r.number() != 2 && self.registers.read(*r).is_none() {
+                    return false;
+                }
+            }
+        }
+        true
+    }
+}

@@ -1,0 +1,71 @@
+//! Where the stack objects of a function lie.
+
+ghost use Rattle.std.specs.Prelude.{◌≡◌, ◌≤◌, All, IfOk, length};
+ghost use Rattle.mir_func.specs.Limits.{MAX_SLOTS};
+ghost use Rattle.mir_func.specs.Objects.{AreLaidFrom, area_of, offset_of};
+ghost use Rattle.mir_func.specs.Sound.{IsSoundObject};
+ghost use Rattle.sem_interpreter.specs.Held.{number_in};
+ghost use Rattle.sem_interpreter.specs.Places.{ObjectsHold};
+
+use indexmap::IndexMap;
+use mir_func::object::Object;
+use base_ids::code::ObjectId;
+use std::alloc::{AllocError, Global};
+use std::marker::Model;
+
+/// How far each object lies above the lowest byte that objects take, by the object's number.
+#[derive(Drop)]
+pub struct Offsets {
+    offsets: IndexMap<u32, u64>,
+}
+
+impl Model for Offsets {
+    ghost use Rattle.std.specs.Prelude.{ℕ, List};
+
+    ghost Value = { List (ℕ × ℕ) };
+
+    ghost view = { λ o. o.offsets.entries };
+}
+
+impl Offsets {
+    /// The offsets of these objects.
+    pub fn new(alloc: Global, objects: &[Object]) -> Result<Offsets, AllocError>
+        ensures { IfOk result (λ made. ObjectsHold made (offset_of objects.now)) }
+    {
+        Ok(Offsets {
+            offsets: offsets_of(alloc, objects)?,
+        })
+    }
+
+    /// The offset of an object, and 0 where there is no object of this number.
+    pub fn of(&self, n: ObjectId) -> u64
+        ensures { result ≡ number_in self.now n }
+    {
+        self.offsets.get(&n.number()).copied().unwrap_or(0)
+    }
+}
+
+/// The offsets by number. Of objects with one number the first counts, so it comes last.
+fn offsets_of(alloc: Global, objects: &[Object]) -> Result<IndexMap<u32, u64>, AllocError>
+    ensures { IfOk result (λ made. ObjectsHold made.entries (offset_of objects.now)) }
+{
+    objects
+        .iter()
+        .rev()
+        .map(|o| (o.id.number(), o.offset))
+        .collect(alloc)
+}
+
+/// How many bytes objects take together: a multiple of 16.
+pub fn area(objects: &[Object]) -> u64
+    requires few { length objects.now ≤ MAX_SLOTS }
+    requires each { All IsSoundObject objects.now }
+    requires laid { AreLaidFrom 0 objects.now }
+    ensures { result ≡ area_of objects.now }
+{
+    let mut end = 0;
+    for o in objects {
+        end = o.offset + u64::from(o.size);
+    }
+    (end + 15) / 16 * 16
+}

@@ -1,0 +1,40 @@
+//! What operands of code with debug instruction numbers had last.
+
+ghost use Rattle.std.specs.Prelude.{◌≤◌, true, Some, IsOk, length};
+ghost use Rattle.indexmap.specs.IndexMap.{spare};
+ghost use Rattle.sem_mir.specs.State.{Core};
+ghost use Rattle.sem_mir.specs.Step.{numbered};
+ghost use Rattle.sem_interpreter.specs.Places.{RegistersHold};
+ghost use Rattle.sem_interpreter.specs.StandsFor.{PairsHold};
+
+use crate::registers::Registers;
+use indexmap::IndexMap;
+use sem_mir::operand::defined;
+use base_ids::code::DebugNumber;
+use rv64_instr::operand::Operand;
+use std::alloc::AllocError;
+
+/// What each pair of a debug instruction number and an operand's index got last.
+pub type Pairs = IndexMap<(u32, usize), Option<u64>>;
+
+/// Gives the pair of each defining operand of code with a number its register's content. It takes no memory where
+/// there is room for a pair of each operand.
+pub fn number(
+    pairs: &mut Pairs,
+    registers: &Registers,
+    call: bool,
+    k: DebugNumber,
+    operands: &[Operand],
+) -> Result<(), AllocError>
+    requires { length operands.now ≤ spare pairs.old }
+    ensures done { IsOk result }
+    ensures given { (s : Core) → RegistersHold registers.now s.regs → PairsHold pairs.old.entries s.pairs
+        → PairsHold pairs.new.entries (numbered true call (Some k) operands.now s).pairs }
+{
+    for (o, operand) in operands.iter().enumerate() {
+        if let Some(r) = defined(call, operand) {
+            pairs.insert((k.number(), o), registers.read(r))?;
+        }
+    }
+    Ok(())
+}

@@ -1,0 +1,80 @@
+-- The lines of a layout are those of its entries.
+use Rattle.std.proofs.Common.{◌≡◌, ℕ, zero, suc, ◌+◌, List, [], ◌∷◌, ◌++◌, map, drop, slice_get, Option, Some, None, Bool, refl, sym, ap, ◌∙◌, subst, arith}
+use Rattle.std.specs.List.{flat_map}
+use Rattle.rv64_instr.specs.Instruction.{Instruction}
+use Rattle.rv64_instr.specs.Row.{row_of}
+use Rattle.mir_func.specs.declared.item.ItemKind.{ItemKind}
+use Rattle.mir_func.specs.declared.item.ItemKind.TheVariants.{Code, Mark, Phi}
+use Rattle.mir_func.specs.declared.position.Origin.{Origin}
+use Rattle.mir_func.specs.declared.position.Pos.{Pos}
+use Rattle.mir_func.specs.Function.{FramedFunction}
+use Rattle.mir_func.specs.Graph.{Fetch, Here, fetch_in}
+use Rattle.mir_func.specs.Successors.{pos_in}
+use Rattle.sem_machine.specs.Image.{CodeLine}
+use Rattle.sem_machine.specs.MachineStep.{call_of}
+use Rattle.emit_code.specs.declared.code.Entry.{Entry}
+use Rattle.emit_code.specs.Listed.{Line, form_lines, kind_lines, lines_at, lines_of}
+use Rattle.emit_code.specs.Rule.{Layout, Form, Nothing, OneWord, CallSite, LongBranch, row_form, form_of, form_entries, address_in, Site, sites_of, entries_at}
+use Rattle.emit_code.specs.Rule.{entries_of}
+use Rattle.emit_code.proofs.Settled as settled
+use Rattle.machine_steps_proof.specs.Images.{code_line}
+use Rattle.sim_machine.specs.Shown.{kind_call, fetch_call, entry_call, IsLineOf, AreLinesOf}
+use Rattle.sim_proof.proofs.Listed.{call_listed, long_none, skip_none, jump_none}
+
+abbrev fetched : FramedFunction → Pos → Fetch
+fetched f p = fetch_in (drop p.block f.blocks) p.item
+
+map_append : (xs ys : List Line) → map code_line (xs ++ ys) ≡ map code_line xs ++ map code_line ys
+map_append [] ys = refl
+map_append (x ∷ xs) ys = ap (λ (zs : List CodeLine). code_line x ∷ zs) (map_append xs ys)
+
+lines_append : (f : FramedFunction) (es : List Entry) (ls : List CodeLine) (es' : List Entry) (ls' : List CodeLine) → AreLinesOf f es ls → AreLinesOf f es'
+    ls' →
+    AreLinesOf f (es ++ es') (ls ++ ls')
+lines_append f [] [] es' ls' h h' = h'
+lines_append f [] (l ∷ ls) es' ls' h h' = absurd h
+lines_append f (e ∷ es) [] es' ls' h h' = absurd h
+lines_append f (e ∷ es) (l ∷ ls) es' ls' h h' = (h.0, lines_append f es ls es' ls' h.1 h')
+
+module _ (l : Layout) where
+  -- the item of a site stands at its point
+  site_stands : (k : ℕ) (s : Site) → slice_get (sites_of l.framed) k ≡ Some s → fetched l.framed s.point ≡ Here s.item
+  site_stands k s e =
+      let p = settled.placed 0 l.framed.blocks k s e in
+      let b : p.counted ≡ p.block = (let q = p.is in omega (arith, q)) in
+      ap (fetched l.framed) p.point ∙ ap (λ (n : ℕ). fetched l.framed (pos_in n p.index)) b
+      ∙ settled.fetched l.framed.blocks p.block p.index s.item p.item
+
+  -- the lines of code of a form beside its entries, where the item's call is known
+  form_beside : (a : ℕ) (o : Origin) (p : Pos) (c : Instruction) (x : Form) →
+      fetch_call (fetched l.framed p) ≡ call_of (row_of c) → row_form (l.long p) (row_of c) ≡ x →
+      AreLinesOf l.framed (form_entries a o p x) (map code_line (form_lines l.framed a o c x))
+  form_beside a o p c Nothing call e = tt
+  form_beside a o p c OneWord call e = (record { address = refl; origin = refl; call = call_listed l.framed c ∙ sym call }, tt)
+  form_beside a o p c CallSite call e = (record { address = refl; origin = refl; call = call_listed l.framed c ∙ sym call }, tt)
+  form_beside a o p c (LongBranch b) call e =
+      let none = call ∙ long_none (l.long p) (row_of c) b e in (
+        record { address = refl; origin = refl; call = skip_none (l.long p) c b e ∙ sym none },
+        (record { address = refl; origin = refl; call = jump_none b ∙ sym none }, tt),
+      )
+
+  kind_beside : (s : Site) (k : ItemKind) → fetch_call (fetched l.framed s.point) ≡ kind_call k →
+      AreLinesOf l.framed (form_entries (address_in l s.point) s.item.origin s.point (form_of (l.long s.point) k)) (map code_line (kind_lines l s k))
+  kind_beside s (Code c n) call =
+      form_beside (address_in l s.point) s.item.origin s.point c (form_of (l.long s.point) (Code c n)) call refl
+  kind_beside s (Mark v m) call = tt
+  kind_beside s (Phi p n) call = tt
+
+  site_beside : (s : Site) → fetched l.framed s.point ≡ Here s.item → AreLinesOf l.framed (entries_at l s) (map code_line (lines_at l s))
+  site_beside s here = kind_beside s s.item.kind (ap fetch_call here)
+
+  sites_beside : (ss : List Site) → ((k : ℕ) (s : Site) → slice_get ss k ≡ Some s → fetched l.framed s.point ≡ Here s.item) →
+      AreLinesOf l.framed (flat_map (entries_at l) ss) (map code_line (flat_map (lines_at l) ss))
+  sites_beside [] stand = tt
+  sites_beside (s ∷ ss) stand =
+      subst (λ (ls : List CodeLine). AreLinesOf l.framed (flat_map (entries_at l) (s ∷ ss)) ls) (sym (map_append (lines_at l s) (flat_map (lines_at l) ss)))
+      (lines_append l.framed (entries_at l s) (map code_line (lines_at l s)) (flat_map (entries_at l) ss) (map code_line (flat_map (lines_at l) ss))
+      (site_beside s (stand 0 s refl)) (sites_beside ss (λ k t e. stand (suc k) t e)))
+
+  pub lines_beside : AreLinesOf l.framed (entries_of l) (map code_line (lines_of l))
+  lines_beside = sites_beside (sites_of l.framed) site_stands

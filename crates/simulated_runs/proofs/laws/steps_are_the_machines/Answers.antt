@@ -1,5 +1,0 @@
-use Rattle.simulated_runs.proofs.Runs.{steps_are_the_machines}
-use Rattle.simulated_runs.proofs.laws.steps_are_the_machines.Goals as goal
-
-pub returns : goal.returns
-returns g c = steps_are_the_machines (g.A.CallAnswers.gives c.args.answers.now)

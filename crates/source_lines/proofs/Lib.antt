@@ -1,9 +1,0 @@
-pub mod Ascending
-pub mod Clean
-pub mod EntrySteps
-pub mod FirstUses
-pub mod Keys
-pub mod Locs
-pub mod RowSteps
-pub mod Split
-pub mod Tables

@@ -1,6 +1,0 @@
-use Rattle.std.proofs.Common.{◌≡◌, drop}
-use Rattle.source_lines.specs.Program.{program_file}
-use Rattle.source_lines.proofs.unit_file.unit_file.Given as goal
-
-abbrev pub invariant-loop-function : goal.invariant-loop-function
-invariant-loop-function l = program_file l.meta (drop l.function-index l.functions) ≡ program_file l.meta l.functions

@@ -1,5 +1,0 @@
-pub mod Files
-pub mod Lines
-pub mod Program
-pub mod Table
-pub mod steps

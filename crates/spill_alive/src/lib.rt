@@ -1,4 +1,0 @@
-//! Which registers come in with a value doesn't hang on debug items.
-#![tactic(auto)]
-
-pub mod laws;

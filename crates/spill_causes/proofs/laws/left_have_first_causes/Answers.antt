@@ -1,5 +1,0 @@
-use Rattle.spill_causes.proofs.Left.{left_have_first_causes}
-use Rattle.spill_causes.proofs.laws.left_have_first_causes.Goals as goal
-
-pub returns : goal.returns
-returns c = left_have_first_causes

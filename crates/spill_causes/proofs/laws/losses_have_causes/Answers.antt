@@ -1,5 +1,0 @@
-use Rattle.spill_causes.proofs.Causes.{losses_have_causes}
-use Rattle.spill_causes.proofs.laws.losses_have_causes.Goals as goal
-
-pub returns : goal.returns
-returns c = losses_have_causes

@@ -1,5 +1,0 @@
-use Rattle.spill_causes.proofs.Causes.{new_slots_are_new}
-use Rattle.spill_causes.proofs.laws.new_slots_are_new.Goals as goal
-
-pub returns : goal.returns
-returns c = new_slots_are_new

@@ -1,6 +1,0 @@
-use Rattle.std.proofs.Common.{◌≡◌, max, drop}
-use Rattle.pass_trait.specs.Sizes.{greatest}
-use Rattle.spill_choice.proofs.choice.greatest.Given as goal
-
-abbrev pub invariant-loop-slot : goal.invariant-loop-slot
-invariant-loop-slot l = max l.most (greatest (drop l.slot-index l.slots)) ≡ greatest l.slots

@@ -1,4 +1,0 @@
-pub mod Agree
-pub mod Places
-pub mod Items
-pub mod Blocks

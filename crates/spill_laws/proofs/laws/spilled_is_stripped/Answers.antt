@@ -1,5 +1,0 @@
-use Rattle.spill_laws.proofs.Stripped.{spilled_is_stripped}
-use Rattle.spill_laws.proofs.laws.spilled_is_stripped.Goals as goal
-
-pub returns : goal.returns
-returns c = spilled_is_stripped

@@ -1,0 +1,33 @@
+-- The laws of spilling as a whole.
+use Rattle.std.specs.Prelude.{ℕ, ◌<◌, List, Contains, Bool, true, false}
+use Rattle.mir_func.specs.declared.entry.Entry.{Entry}
+use Rattle.mir_func.specs.Function.{Function}
+use Rattle.mir_func.specs.Sound.{AllItems, IsSound, HasForm}
+use Rattle.pass_trait.specs.Change.{change}
+use Rattle.pass_trait.specs.Following.{KeepsFollowing}
+use Rattle.pass_trait.specs.Sizes.{greatest_number}
+use Rattle.spill_debug.specs.Asked.{asked}
+use Rattle.spill_rule.specs.Choice.{spilling_of}
+use Rattle.spill_rule.specs.Chosen.{IsReservable, AreDistinct}
+use Rattle.spill_rule.specs.Rule.{Decides}
+use Rattle.spill_proof.specs.Whole.{whole}
+
+-- a function of code in form, a reserve of registers that may be in it, and what says of each whether it is live at the start, where marks
+-- ask by phis with fresh numbers from k on
+pub record MayBeSpilled (reserve : List ℕ) (live : ℕ → Bool) (k : ℕ) (f : Function) (subs : List Entry) : Type 0 where
+  pub sound : IsSound f
+  pub forms : AllItems (λ i. HasForm i.kind) f.blocks
+  pub real : (r : ℕ) → Contains reserve r → IsReservable r
+  pub distinct : AreDistinct reserve
+  pub decides : Decides reserve (asked (spilling_of reserve live f) k f) live
+  pub fresh : greatest_number f subs < k
+
+-- it follows what it followed
+abbrev pub JoinedFollows : Type 0
+JoinedFollows = (reserve : List ℕ) (live : ℕ → Bool) (k : ℕ) (f : Function) (subs : List Entry) → MayBeSpilled reserve live k f subs →
+    KeepsFollowing false true (change f subs (whole reserve live k f) subs)
+
+-- and stays sound
+abbrev pub JoinedIsSound : Type 0
+JoinedIsSound = (reserve : List ℕ) (live : ℕ → Bool) (k : ℕ) (f : Function) (subs : List Entry) → MayBeSpilled reserve live k f subs →
+    IsSound (whole reserve live k f)

@@ -1,0 +1,58 @@
+-- What spilling keeps.
+use Rattle.std.specs.Prelude.{◌≡◌, ℕ, ◌+◌, List, [], ◌∷◌, ◌++◌, Contains, Bool, true, false}
+use Rattle.mir_func.specs.declared.block.Block.{Block}
+use Rattle.mir_func.specs.declared.entry.Entry.{Entry}
+use Rattle.mir_func.specs.Function.{Function}
+use Rattle.mir_func.specs.Sound.{AllItems, IsSound, HasForm}
+use Rattle.pass_trait.specs.declared.loss.Loss.{Loss}
+use Rattle.pass_trait.specs.Change.{change}
+use Rattle.pass_trait.specs.Following.{KeepsFollowing}
+use Rattle.pass_trait.specs.Order.{IsInOrder}
+use Rattle.pass_trait.specs.Sizes.{greatest_number, KeepsSizes}
+use Rattle.pass_trait.specs.Steps.{KeepsSteps}
+use Rattle.spill_code.specs.declared.spilling.Home.{Home}
+use Rattle.spill_code.specs.declared.spilling.Spilling.{Spilling}
+use Rattle.spill_debug.specs.Lost.{AreScratchLosses}
+use Rattle.spill_select.specs.Left.{registers_left}
+use Rattle.spill_rule.specs.Choice.{homes_of, spilling_of}
+use Rattle.spill_rule.specs.Chosen.{IsReservable}
+use Rattle.spill_rule.specs.Rule.{Decides}
+use Rattle.spill_proof.specs.Whole.{whole}
+use Rattle.spill_proof.specs.Step.{spill_step}
+use Rattle.spill_proof.specs.Causes.{IsAscending}
+
+-- these are lost to scratch registers, in order: nothing where no register is spilled
+abbrev pub AreTaken : List Home → Spilling → List Block → List Loss → Type 0
+AreTaken [] s blocks losses = losses ≡ []
+AreTaken (h ∷ hs) s blocks losses = IsInOrder losses × AreScratchLosses s blocks losses
+
+-- registers in ascending order that may be in a reserve
+pub record IsReserve (reserve : List ℕ) : Type 0 where
+  pub ascending : IsAscending reserve
+  pub real : (r : ℕ) → Contains reserve r → IsReservable r
+
+-- the function is spilled from the reserve, with fresh numbers from the one above the greatest on, and these are all losses: those to scratch
+-- registers, then the registers that aren't spilled
+pub record IsSpilledWithLosses (reserve : List ℕ) (f : Function) (subs : List Entry) (new : Function) (losses : List Loss) : Type 0 where
+  pub live : ℕ → Bool
+  pub decides : Decides reserve f live
+  pub made : new ≡ whole reserve live (greatest_number f subs + 1) f
+  pub scratch : List Loss
+  pub taken : AreTaken (homes_of reserve live f) (spilling_of reserve live f) f.blocks scratch
+  pub are : losses ≡ scratch ++ registers_left reserve live f
+
+-- a sound function of code in form follows what it followed
+abbrev pub SpilledKeepsFollowing : Type 0
+SpilledKeepsFollowing = (reserve : List ℕ) (f : Function) (subs : List Entry) (new : Function) (losses : List Loss) → IsReserve reserve → IsSound f →
+    AllItems (λ i. HasForm i.kind) f.blocks → IsSpilledWithLosses reserve f subs new losses → KeepsFollowing false true (change f subs new subs)
+
+-- the one step of spilling is kept, with these losses
+abbrev pub SpilledKeepsSteps : Type 0
+SpilledKeepsSteps = (reserve : List ℕ) (f : Function) (subs : List Entry) (new : Function) (losses : List Loss) → IsReserve reserve → IsSound f →
+    AllItems (λ i. HasForm i.kind) f.blocks → IsSpilledWithLosses reserve f subs new losses →
+    KeepsSteps (spill_step reserve ∷ []) (change f subs new subs) losses
+
+-- there are four times as many items at most, with one for each block
+abbrev pub SpilledKeepsSizes : Type 0
+SpilledKeepsSizes = (reserve : List ℕ) (f : Function) (subs : List Entry) (new : Function) (losses : List Loss) → IsReserve reserve →
+    IsSpilledWithLosses reserve f subs new losses → KeepsSizes 4 1 (change f subs new subs)

@@ -1,0 +1,13 @@
+pub mod Stripped
+pub mod Sound
+pub mod Follows
+pub mod Whole
+pub mod WholeLaws
+pub mod JoinedLaws
+pub mod Sizes
+pub mod Alive
+pub mod Step
+pub mod StepLaws
+pub mod Become
+pub mod Causes
+pub mod Kept

@@ -1,0 +1,70 @@
+//! Registers of a reserve that aren't spilled, and why.
+
+ghost use Rattle.std.specs.Prelude.{◌≡◌, ◌&&◌, cond, None, IfOk};
+ghost use Rattle.pass_trait.specs.Causes.{is_named};
+ghost use Rattle.spill_code.specs.Rewrite.{slot_of};
+ghost use Rattle.spill_rule.specs.Choice.{is_bound, homes_of};
+ghost use Rattle.spill_select.specs.Incoming.{is_among};
+ghost use Rattle.spill_select.specs.Left.{first_reason, or_no_slot, why_left, registers_left};
+
+use crate::choice::{Facts, lacks_scratch, reason_of};
+use pass_trait::loss::{Loss, Losses, Lost, Reason};
+use mir_func::func::Func;
+use rv64_instr::reg::Reg;
+use spill_code::spilling::{Home, slot_of};
+use spill_rule::named::{is_looped, is_named};
+use std::alloc::{AllocError, Global};
+
+/// The losses of the registers of a reserve that code names and that aren't spilled, each with the first reason that
+/// applies, in the order of the reserve. `homes` are those that the rule chooses.
+pub fn registers_left(
+    alloc: Global,
+    reserve: &[Reg],
+    incoming: &[Reg],
+    homes: &[Home],
+    f: &Func,
+) -> Result<Losses, AllocError>
+    requires { homes.now ≡ homes_of reserve.now (is_among incoming.now) f.now }
+    ensures { IfOk result (λ losses. losses ≡ registers_left reserve.now (is_among incoming.now) f.now) }
+{
+    let facts = Facts {
+        lacks_scratch: lacks_scratch(alloc, f)?,
+        is_looped: is_looped(f),
+    };
+    let mut losses = Losses::new(alloc);
+    for r in reserve {
+        if let Some(why) = why_left(f, &facts, incoming, homes, *r) {
+            losses.push(Loss {
+                what: Lost::Register(*r),
+                reason: why,
+            })?;
+        }
+    }
+    Ok(losses)
+}
+
+/// Why a register isn't spilled, where code names it.
+fn why_left(f: &Func, facts: &Facts, incoming: &[Reg], homes: &[Home], r: Reg) -> Option<Reason>
+    ensures { result ≡ cond (is_named f.now r)
+        (or_no_slot (first_reason facts.now.lacks_scratch (is_bound f.now r)
+        (is_among incoming.now r && facts.now.is_looped))
+        (slot_of homes.now r)) None }
+{
+    if !is_named(f, r) {
+        return None;
+    }
+    match reason_of(f, facts, incoming, r) {
+        Some(why) => Some(why),
+        None => no_slot(homes, r),
+    }
+}
+
+/// That there was no slot for a register, where it has no home.
+fn no_slot(homes: &[Home], r: Reg) -> Option<Reason>
+    ensures { result ≡ or_no_slot None (slot_of homes.now r) }
+{
+    match slot_of(homes, r) {
+        None => Some(Reason::NoSlot),
+        Some(_) => None,
+    }
+}

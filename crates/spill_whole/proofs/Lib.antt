@@ -1,4 +1,0 @@
-pub mod Bare
-pub mod Chosen
-pub mod Slots
-pub mod Elsewhere

@@ -1,8 +1,0 @@
-use Rattle.spill_code.specs.declared.spilling.Spilling.{Spilling}
-use Rattle.spill_rule.specs.Choice.{spilling_of}
-use Rattle.spill_whole.proofs.Chosen.{no_scratch}
-use Rattle.spill_whole.proofs.Elsewhere.{asks_elsewhere}
-use Rattle.spill_whole.proofs.laws.asked_elsewhere.Goals as goal
-
-pub returns : goal.returns
-returns c = λ reserve live k f real. asks_elsewhere (spilling_of reserve live f) (no_scratch reserve live f real) k f.blocks

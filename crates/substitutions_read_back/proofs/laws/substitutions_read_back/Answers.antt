@@ -1,5 +1,0 @@
-use Rattle.substitutions_read_back.proofs.Lines.{substitutions_read_back}
-use Rattle.substitutions_read_back.proofs.laws.substitutions_read_back.Goals as goal
-
-pub returns : goal.returns
-returns c = substitutions_read_back

@@ -1,0 +1,6 @@
+pub mod Text
+pub mod Made
+pub mod Passed
+pub mod Compiled
+pub mod OutputAlone
+pub mod RunAlone

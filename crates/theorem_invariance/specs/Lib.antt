@@ -1,0 +1,5 @@
+pub mod Text
+pub mod Passed
+pub mod Compiled
+pub mod OutputAlone
+pub mod RunAlone

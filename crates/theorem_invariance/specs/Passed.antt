@@ -1,0 +1,52 @@
+-- Functions that the same passes made, whatever debug items stand in them.
+use Rattle.std.specs.Prelude.{◌≡◌, ℕ, List}
+use Rattle.mir_func.specs.declared.entry.Entry.{Entry}
+use Rattle.mir_func.specs.Function.{Function}
+use Rattle.mir_func.specs.Strip.{stripped}
+use Rattle.emit_code.specs.Rule.{Layout}
+use Rattle.pass_trait.specs.declared.loss.Loss.{Loss}
+use Rattle.pass_trait.specs.Change.{change}
+use Rattle.pass_trait.specs.Steps.{MakesInTurn, KeepsSteps, MakeCodeAlone}
+use Rattle.invariance_code.specs.Alike.{HaveAlikeCode, HaveSameCode}
+use Rattle.pass_list.specs.declared.kind.PassKind.{PassKind}
+use Rattle.pass_manager.specs.Passes.{steps_of}
+use Rattle.theorem_invariance.specs.Text.{IsLaid, AreLaid, OneByOne}
+use Rattle.invariance_code.specs.Alone.{AreCodedAlike, AreCodedSame}
+
+-- passes in a row, with a reserve for spilling, made the one function of the other, of some substitutions, with some losses
+pub record IsPassed (reserve : List ℕ) (passes : List PassKind) (f g : Function) : Type 0 where
+  pub old_subs : List Entry
+  pub new_subs : List Entry
+  pub losses : List Loss
+  pub kept : KeepsSteps (steps_of reserve passes) (change f old_subs g new_subs) losses
+
+-- the machine code is made of code without debug items: by the passes' rules for code, the frame and the layout
+pub record IsMadeOf (reserve : List ℕ) (passes : List PassKind) (code : Function) (base : ℕ) (l : Layout) : Type 0 where
+  pub made : Function
+  pub by_passes : MakesInTurn (steps_of reserve passes) code made
+  pub layout : Layout
+  pub laid : IsLaid made base layout
+  pub coded : AreCodedSame l layout
+
+-- machine code is made of the code of the function before passes
+abbrev pub PassedIsMadeOfCode : Type 0
+PassedIsMadeOfCode = (reserve : List ℕ) (passes : List PassKind) (f g : Function) (base : ℕ) (l : Layout) →
+    IsPassed reserve passes f g → IsLaid g base l → IsMadeOf reserve passes (stripped f) base l
+
+-- debug items don't change the code that passes make
+abbrev pub PassesMakeCodeAlone : Type 0
+PassesMakeCodeAlone = (reserve : List ℕ) (passes : List PassKind) → MakeCodeAlone (steps_of reserve passes)
+
+-- of functions whose code is alike, one by one, the same passes make functions with the same `.text`, and alike machine code
+abbrev pub PassedHasSameText : Type 0
+PassedHasSameText = (reserve : List ℕ) (passes : List PassKind) (fs gs new others : List Function) (base : ℕ) (text other : List ℕ)
+    (ls ms : List Layout) →
+    OneByOne HaveAlikeCode fs gs → OneByOne (IsPassed reserve passes) fs new → OneByOne (IsPassed reserve passes) gs others →
+    AreLaid base text new ls → AreLaid base other others ms → (text ≡ other) × OneByOne AreCodedAlike ls ms
+
+-- of functions whose code is the same, one by one, the same passes make functions with the same `.text`, and the same machine code
+abbrev pub PassedHasSameCode : Type 0
+PassedHasSameCode = (reserve : List ℕ) (passes : List PassKind) (fs gs new others : List Function) (base : ℕ) (text other : List ℕ)
+    (ls ms : List Layout) →
+    OneByOne HaveSameCode fs gs → OneByOne (IsPassed reserve passes) fs new → OneByOne (IsPassed reserve passes) gs others →
+    AreLaid base text new ls → AreLaid base other others ms → (text ≡ other) × OneByOne AreCodedSame ls ms

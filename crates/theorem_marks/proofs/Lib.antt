@@ -1,0 +1,5 @@
+mod Marks
+mod Order
+pub mod Stand
+mod Replies
+pub mod Start

@@ -1,0 +1,21 @@
+-- The text of a function that was read, and what it is read as.
+use Rattle.std.specs.Prelude.{◌≡◌, ℕ, List, [], ◌∷◌, All, None, Ok}
+use Rattle.read_metadata.specs.Maps.{Maps}
+use Rattle.read_documents.specs.declared.parts.FunctionDocument.{FunctionDocument}
+use Rattle.read_documents.specs.Documents.{documents_of}
+use Rattle.read_program.specs.declared.closing.Parsed.{Parsed}
+use Rattle.read_program.specs.declared.program.Program.{Program}
+use Rattle.read_program.specs.Closing.{Parses}
+use Rattle.read_program.specs.Program.{ReadsText}
+use Rattle.mir_func_printer.specs.FuncText.{func_text}
+use Rattle.readback_functions.specs.Bytes.{AreBytes}
+
+-- the text of a function and its substitutions is one document, which stands for the function and its substitutions by the metadata
+pub record IsReadAsPrinted (meta : Maps) (p : Parsed) : Type 0 where
+  pub document : FunctionDocument
+  pub found : documents_of (func_text p.func p.subs) ≡ record { meta = []; functions = document ∷ []; bad = None }
+  pub reads : Parses meta document (Ok p)
+
+-- So it is for every function of a program that a text of bytes stands for, by the metadata of the program.
+abbrev pub PrintedFunctionsAreRead : Type 0
+PrintedFunctionsAreRead = (text : List ℕ) (p : Program) → AreBytes text → ReadsText text (Ok p) → All (IsReadAsPrinted p.meta) p.functions

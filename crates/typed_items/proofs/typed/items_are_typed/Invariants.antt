@@ -1,6 +1,0 @@
-use Rattle.std.proofs.Common.{All, take}
-use Rattle.typed_items.specs.Typed.{IsTypedItem}
-use Rattle.typed_items.proofs.typed.items_are_typed.Given as goal
-
-abbrev pub invariant-loop-item : goal.invariant-loop-item
-invariant-loop-item l = All IsTypedItem (take l.item-index l.items)

@@ -1,0 +1,182 @@
+-- A number's token on a path is that of a number which an item gives, or of 0. By induction over the path: what has it after an
+-- item had it before, or the item gives it.
+use Rattle.std.proofs.Common.{◌≡◌, ℕ, zero, suc, List, [], ◌∷◌, refl, sym, ap, ◌∙◌, subst, inl, inr, arith}
+use Rattle.std.proofs.lemmas.Bool.Decides.{nat_tests, eqb_tells}
+use Rattle.std.specs.Prelude.{Option, Some, None, Contains, Bool, true, false, cond, nat_lt, not, ◌&&◌, nat_eq, ◌⊎◌}
+use Rattle.rv64_instr.specs.Instruction.{Instruction}
+use Rattle.rv64_instr.specs.Row.{Row, Fixes, Moves, Sets, Addresses, Loads, Stores, LoadsSlot, StoresSlot, Branches, Jumps, Calls, Returns, Unfit, row_of}
+use Rattle.mir_func.specs.declared.entry.OperandPair.{OperandPair}
+use Rattle.mir_func.specs.declared.variable.VarId.{VarId}
+use Rattle.mir_func.specs.declared.variable.MarkValue.{MarkValue}
+use Rattle.mir_func.specs.declared.item.ItemKind.{ItemKind}
+use Rattle.mir_func.specs.declared.item.ItemKind.TheVariants.{Code, Mark, Phi}
+use Rattle.mir_func.specs.Variables.{is_same, overlaps}
+use Rattle.sem_mir.proofs.Assignments.{same_is}
+use Rattle.mir_func.specs.declared.position.Pos.{Pos}
+use Rattle.mir_func.specs.Graph.{Program, Fetch, Here, Silent, Outside}
+use Rattle.sem_mir.specs.Token.{Entry, Fixed, Tokens, Path, begin, onward, after_fetch, entry_tokens, sets_pointer}
+use Rattle.sem_value_ids.specs.Pullback.{
+  Tracked,
+  InRegister,
+  InSlot,
+  OfPair,
+  OfVariable,
+  OfNumber,
+  token_of,
+  token_back,
+  Back,
+  Was,
+  New,
+  Nameless,
+  back,
+  put_back,
+  back_register,
+  slot_stored,
+  back_row,
+  back_code,
+  back_value,
+  back_mark,
+}
+use Rattle.sem_value_ids.proofs.Backwards.{tokens_pull_back}
+use Rattle.value_proof.specs.Classes.{IsKnown, KnowsRow, KnowsItem}
+use Rattle.value_proof.specs.Wanted.{AreThingsOf}
+use Rattle.value_proof.proofs.Passing.{Knows, known_back}
+
+-- a number's token is held by what has a class only if the number has one
+abbrev pub OnlyKnown : (things : List Tracked) → Tokens → Type 0
+OnlyKnown things t = (x : Tracked) (c : ℕ) → IsKnown things x → token_of x t ≡ Some (Fixed c) → Contains things (OfNumber c)
+
+known_entry : (things : List Tracked) → Contains things (OfNumber 0) → OnlyKnown things entry_tokens
+known_entry things h (InRegister zero) c k e = let is : 0 ≡ c = cc in subst (λ (m : ℕ). Contains things (OfNumber m)) is h
+known_entry things h (InRegister (suc r)) c k e = absurd (by_test (nat_lt (suc r) 32 && not (nat_eq (suc r) 2)) e) where
+  by_test : (b : Bool) → cond b (Some (Entry (suc r))) None ≡ Some (Fixed c) → ⊥
+  by_test true e = cc
+  by_test false e = cc
+known_entry things h (InSlot n) c k e = cc
+known_entry things h (OfPair m o) c k e = cc
+known_entry things h (OfVariable v) c k e = cc
+known_entry things h (OfNumber d) c k e = let is : d ≡ c = cc in subst (λ (m : ℕ). Contains things (OfNumber m)) is k
+
+known_before : (things : List Tracked) (n : ℕ) (t : Tokens) (b : Back) (c : ℕ) → OnlyKnown things t → Knows things b → token_back n t b ≡ Some (Fixed c) →
+    Contains things (OfNumber c)
+known_before things n t (Was y) c only k e = only y c k e
+known_before things n t (New i r) c only k e = cc
+known_before things n t Nameless c only k e = cc
+
+-- ---- x2, and slots and parts of variables that have no class, have no token on any path
+
+pub data IsBare (things : List Tracked) : Tracked → Type 0 where
+  pointer : IsBare things (InRegister 2)
+  slot : (n : ℕ) → (Contains things (InSlot n) → ⊥) → IsBare things (InSlot n)
+  variable : (v : VarId) → (Contains things (OfVariable v) → ⊥) → IsBare things (OfVariable v)
+
+abbrev pub NoneIsBare : (things : List Tracked) → Tokens → Type 0
+NoneIsBare things t = (x : Tracked) → IsBare things x → token_of x t ≡ None
+
+abbrev pub StaysBare : Tracked → Back → Type 0
+StaysBare x b = (b ≡ Was x) ⊎ (b ≡ Nameless)
+
+stays_if : (x : Tracked) (c : Bool) (a b : Back) → StaysBare x a → StaysBare x b → StaysBare x (cond c a b)
+stays_if x true a b h k = h
+stays_if x false a b h k = k
+
+pointer_put : (rd : ℕ) (b : Back) → StaysBare (InRegister 2) (put_back rd b 2)
+pointer_put zero b = inl refl
+pointer_put (suc zero) b = inl refl
+pointer_put (suc (suc zero)) b = inr refl
+pointer_put (suc (suc (suc rd))) b = let off : nat_eq 2 (suc (suc (suc rd))) ≡ false = grind (arith, nat_tests) in
+    subst (λ (z : Bool). StaysBare (InRegister 2) (cond z (cond (nat_eq (suc (suc rd)) 1) Nameless b) (Was (InRegister 2)))) (sym off) (inl refl)
+
+pub pointer_stays : (row : Row) → StaysBare (InRegister 2) (back_register 0 row 2)
+pointer_stays (Fixes rd c) = pointer_put rd (Was (OfNumber c))
+pointer_stays (Moves rd rs) = pointer_put rd (Was (InRegister rs))
+pointer_stays (Sets rd op a b) = pointer_put rd (New 0 rd)
+pointer_stays (Addresses rd n offset) = pointer_put rd (New 0 rd)
+pointer_stays (Loads rd op base offset) = pointer_put rd (New 0 rd)
+pointer_stays (Stores op rs base offset) = inl refl
+pointer_stays (LoadsSlot rd n) = pointer_put rd (Was (InSlot n))
+pointer_stays (StoresSlot rs n) = inl refl
+pointer_stays (Branches op a b target) = inl refl
+pointer_stays (Jumps target) = inl refl
+pointer_stays (Calls name args) = inl refl
+pointer_stays (Returns results) = inl refl
+pointer_stays Unfit = inl refl
+
+module _ (things : List Tracked) where
+  slot_stays : (row : Row) (n : ℕ) → KnowsRow things row → (Contains things (InSlot n) → ⊥) → StaysBare (InSlot n) (slot_stored row n)
+  slot_stays (StoresSlot rs m) n k bare = elim (eqb_tells n m) [
+    | inl h ↦ absurd (bare (subst (λ (z : ℕ). Contains things (InSlot z)) (sym h.1) k.1))
+    | inr h ↦ subst (λ (z : Bool). StaysBare (InSlot n) (cond z (Was (InRegister rs)) (Was (InSlot n)))) (sym h.0) (inl refl)
+  ]
+  slot_stays (Fixes rd c) n k bare = inl refl
+  slot_stays (Moves rd rs) n k bare = inl refl
+  slot_stays (Sets rd op a b) n k bare = inl refl
+  slot_stays (Addresses rd m offset) n k bare = inl refl
+  slot_stays (Loads rd op base offset) n k bare = inl refl
+  slot_stays (Stores op rs base offset) n k bare = inl refl
+  slot_stays (LoadsSlot rd m) n k bare = inl refl
+  slot_stays (Branches op a b target) n k bare = inl refl
+  slot_stays (Jumps target) n k bare = inl refl
+  slot_stays (Calls name args) n k bare = inl refl
+  slot_stays (Returns results) n k bare = inl refl
+  slot_stays Unfit n k bare = inl refl
+
+  variable_stays : (resolve : OperandPair → Option OperandPair) (v : VarId) (m : MarkValue) (w : VarId) → Contains things (OfVariable v) →
+      (Contains things (OfVariable w) → ⊥) → StaysBare (OfVariable w) (back_mark resolve v m (OfVariable w))
+  variable_stays resolve v m w known bare = by_test (is_same w v) refl where
+    by_test : (b : Bool) → is_same w v ≡ b → StaysBare (OfVariable w) (cond b (back_value resolve m) (cond (overlaps w v) Nameless (Was (OfVariable w))))
+    by_test true e = absurd (bare (subst (λ (z : VarId). Contains things (OfVariable z)) (sym (same_is w v e)) known))
+    by_test false e = stays_if (OfVariable w) (overlaps w v) Nameless (Was (OfVariable w)) (inr refl) (inl refl)
+
+  row_stays : (row : Row) (x : Tracked) → KnowsRow things row → IsBare things x → StaysBare x (back_row 0 row x)
+  row_stays row _ k pointer = pointer_stays row
+  row_stays row _ k (slot n bare) = stays_if (InSlot n) (sets_pointer row) Nameless (slot_stored row n) (inr refl) (slot_stays row n k bare)
+  row_stays row _ k (variable v bare) = inl refl
+
+  code_stays : (i : Instruction) (j : Option ℕ) (x : Tracked) → KnowsRow things (row_of i) → IsBare things x → StaysBare x (back_code 0 i j x)
+  code_stays i None x k bare = row_stays (row_of i) x k bare
+  code_stays i (Some j) _ k pointer = pointer_stays (row_of i)
+  code_stays i (Some j) _ k (slot n bare) = row_stays (row_of i) (InSlot n) k (slot n bare)
+  code_stays i (Some j) _ k (variable v bare) = inl refl
+
+  pub bare_stays : (resolve : OperandPair → Option OperandPair) (kind : ItemKind) (x : Tracked) → KnowsItem things resolve kind → IsBare things x →
+      StaysBare x (back resolve 0 kind x)
+  bare_stays resolve (Code i j) x k bare = code_stays i j x k.0 bare
+  bare_stays resolve (Mark v m) _ k pointer = inl refl
+  bare_stays resolve (Mark v m) _ k (slot n bare) = inl refl
+  bare_stays resolve (Mark v m) _ k (variable w bare) = variable_stays resolve v m w k.1 bare
+  bare_stays resolve (Phi p j) _ k pointer = inl refl
+  bare_stays resolve (Phi p j) _ k (slot n bare) = inl refl
+  bare_stays resolve (Phi p j) _ k (variable w bare) = inl refl
+
+bare_before : (n : ℕ) (t : Tokens) (x : Tracked) (b : Back) → token_of x t ≡ None → StaysBare x b → token_back n t b ≡ None
+bare_before n t x b none (inl is) = ap (token_back n t) is ∙ none
+bare_before n t x b none (inr is) = ap (token_back n t) is
+
+bare_entry : (things : List Tracked) → NoneIsBare things entry_tokens
+bare_entry things _ pointer = refl
+bare_entry things _ (slot n bare) = refl
+bare_entry things _ (variable v bare) = refl
+
+module _ (g : Program) (things : List Tracked) (are : AreThingsOf g things) where
+  known_after : (n : ℕ) (p : Pos) (f : Fetch) (t : Tokens) → g.fetch p ≡ f → OnlyKnown things t → OnlyKnown things (after_fetch g.resolve n f t)
+  known_after n p (Here item) t here only = λ x c k e.
+      known_before things n t (back g.resolve 0 item.kind x) c only (known_back things g.resolve item.kind x (are.items p item here) k)
+      (sym (tokens_pull_back g.resolve n (item ∷ []) t x) ∙ e)
+  known_after n p (Silent k m) t here only = only
+  known_after n p Outside t here only = only
+
+  bare_after : (n : ℕ) (p : Pos) (f : Fetch) (t : Tokens) → g.fetch p ≡ f → NoneIsBare things t → NoneIsBare things (after_fetch g.resolve n f t)
+  bare_after n p (Here item) t here none = λ x bare.
+      tokens_pull_back g.resolve n (item ∷ []) t x
+      ∙ bare_before n t x (back g.resolve 0 item.kind x) (none x bare) (bare_stays things g.resolve item.kind x (are.items p item here) bare)
+  bare_after n p (Silent k m) t here none = none
+  bare_after n p Outside t here none = none
+
+  pub path_knows : {start : Pos} {n : ℕ} {p : Pos} {t : Tokens} → Path g start n p t → OnlyKnown things t
+  path_knows begin = known_entry things are.zero
+  path_knows (onward {n = n} {p = p} {t = t} path edge) = known_after n p (g.fetch p) t refl (path_knows path)
+
+  pub path_bare : {start : Pos} {n : ℕ} {p : Pos} {t : Tokens} → Path g start n p t → NoneIsBare things t
+  path_bare begin = bare_entry things
+  path_bare (onward {n = n} {p = p} {t = t} path edge) = bare_after n p (g.fetch p) t refl (path_bare path)

@@ -1,0 +1,5 @@
+pub mod Passing
+pub mod Known
+pub mod Wanted
+mod Leaving
+pub mod Keeping

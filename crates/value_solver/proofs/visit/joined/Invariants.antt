@@ -1,0 +1,7 @@
+use Rattle.std.proofs.Common.{length, take}
+use Rattle.value_solver.specs.Joining.{IsJoin}
+use Rattle.value_solver.specs.Hands.{handed}
+use Rattle.value_solver.proofs.visit.joined.Given as goal
+
+abbrev pub invariant-loop-p : goal.invariant-loop-p
+invariant-loop-p l = IsJoin (length l.start.classes) (handed l.start l.flows l.entries l.block (take l.p-index l.predecessors)) l.joined

@@ -1,0 +1,6 @@
+pub mod Entry
+pub mod Numbering
+pub mod Joining
+pub mod Hands
+pub mod Flows
+pub mod Invariants

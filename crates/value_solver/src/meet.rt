@@ -1,0 +1,27 @@
+//! The join of two numberings.
+
+ghost use Rattle.std.specs.Prelude.{◌≡◌, ℕ, ◌↔◌, ◌<◌, ◌≤◌, length, IfOk};
+ghost use Rattle.value_solver.specs.Numbering.{IsMeet};
+
+use indexmap::IndexSet;
+use std::alloc::{AllocError, Global};
+
+/// The pairs of classes that a join numbers, by their place. One set serves all joins of a sweep.
+pub type Pairs = IndexSet<(u32, u64)>;
+
+/// Numbers pairs of classes by first appearance. The pair of twice 0 comes first. What the set of pairs held before is
+/// forgotten.
+pub fn meet(alloc: Global, pairs: &mut Pairs, a: &[u32], b: &[u64]) -> Result<Vec<u32>, AllocError>
+    requires few { length a.now < 4294967295 }
+    requires long { length b.now ≡ length a.now }
+    ensures { IfOk result (λ c. IsMeet a.now b.now c.items) }
+{
+    pairs.clear();
+    pairs.insert_full((0, 0))?;
+    let mut classes = Vec::with_capacity(alloc, a.len())?;
+    for i in 0..a.len() {
+        let (class, _) = pairs.insert_full((a[i], b[i]))?;
+        classes.push(class as u32)?;
+    }
+    Ok(classes)
+}

@@ -1,0 +1,140 @@
+//! A visit of a block: its entry becomes the join of what its predecessors hand on now.
+
+ghost use Rattle.std.specs.Prelude.{◌≡◌, ◌↔◌, ℕ, ◌<◌, List, ◌++◌, Some, length, slice_set, slice_index_or, IfOk};
+ghost use Rattle.std.specs.Prelude.{IfErr, OnErr, All, IsTrue, true, false, [], ◌≤◌};
+ghost use Rattle.value_solver.specs.Joining.{IsKnown, AreWithin, IsJoin, Hand};
+ghost use Rattle.value_solver.specs.Hands.{IsShaped, AreSoundFlows, handed, preds_at, first_hand, hand_by};
+ghost use Rattle.value_solver.specs.Hands.{ArePredecessors, Visited};
+
+use crate::flow::{Flow, Ways};
+use crate::hand::{Exit, hand_on};
+use crate::join::{empty_join, join};
+use crate::meet::Pairs;
+use crate::entry::BlockEntry;
+use std::alloc::{AllocError, Global};
+
+/// The join of what the start hands on to a block.
+fn first_join(
+    alloc: Global,
+    pairs: &mut Pairs,
+    start: &BlockEntry,
+    block: usize,
+) -> Result<BlockEntry, AllocError>
+    requires few { length start.now.classes < 4294967295 }
+    requires known { IsKnown (length start.now.classes) start.now }
+    ensures { IfOk result (λ e. IsJoin (length start.now.classes) (first_hand start.now block) e) }
+{
+    let empty = empty_join(alloc, start.classes.len())?;
+    match block {
+        0 => {
+            let exit = hand_on(alloc, start, &[])?;
+            join(alloc, pairs, empty, &exit)
+        }
+        _ => Ok(empty),
+    }
+}
+
+/// Joins what a block hands on, if some path is known to lead to it.
+fn join_more(
+    alloc: Global,
+    pairs: &mut Pairs,
+    joined: BlockEntry,
+    entry: &BlockEntry,
+    flow: &Flow,
+) -> Result<BlockEntry, AllocError>
+    requires few { length joined.classes < 4294967295 }
+    requires shaped { IsShaped (length joined.classes) entry.now }
+    requires within { AreWithin (length joined.classes) flow.now.changes }
+    ensures { IfOk result (λ e. (hands : List Hand) → IsJoin (length joined.classes) hands joined
+        → IsJoin (length joined.classes) (hands ++ hand_by (Some entry.now) (Some flow.now)) e) }
+{
+    if !entry.reached {
+        return Ok(joined);
+    }
+    let exit = hand_on(alloc, entry, flow.changes.as_slice())?;
+    join(alloc, pairs, joined, &exit)
+}
+
+/// The join of what the predecessors of a block hand on.
+fn joined(
+    alloc: Global,
+    pairs: &mut Pairs,
+    start: &BlockEntry,
+    flows: &[Flow],
+    entries: &[BlockEntry],
+    block: usize,
+    predecessors: &[u32],
+) -> Result<BlockEntry, AllocError>
+    requires few { length start.now.classes < 4294967295 }
+    requires known { IsKnown (length start.now.classes) start.now }
+    requires sound { AreSoundFlows (length start.now.classes) flows.now }
+    requires shaped { All (IsShaped (length start.now.classes)) entries.now }
+    requires long { length entries.now ≡ length flows.now }
+    requires within { All (λ p. p < length flows.now) predecessors.now }
+    ensures { IfOk result (λ e.
+        IsJoin (length start.now.classes) (handed start.now flows.now entries.now block predecessors.now) e) }
+{
+    let mut joined = first_join(alloc, pairs, start, block)?;
+    for p in predecessors {
+        joined = join_more(
+            alloc,
+            pairs,
+            joined,
+            &entries[*p as usize],
+            &flows[*p as usize],
+        )?;
+    }
+    Ok(joined)
+}
+
+/// Whether two entries say the same.
+fn are_equal(a: &BlockEntry, b: &BlockEntry) -> bool
+    ensures { IsTrue result ↔ (a.now ≡ b.now) }
+{
+    if a.reached != b.reached {
+        return false;
+    }
+    if a.classes.as_slice() != b.classes.as_slice() {
+        return false;
+    }
+    a.given.as_slice() == b.given.as_slice()
+}
+
+/// Visits a block. It tells whether its entry changed.
+pub fn visit(
+    alloc: Global,
+    pairs: &mut Pairs,
+    start: &BlockEntry,
+    flows: &[Flow],
+    preds: &[Ways],
+    entries: &mut Vec<BlockEntry>,
+    block: usize,
+) -> Result<bool, AllocError>
+    requires few { length start.now.classes < 4294967295 }
+    requires known { IsKnown (length start.now.classes) start.now }
+    requires sound { AreSoundFlows (length start.now.classes) flows.now }
+    requires preds { ArePredecessors flows.now preds.now }
+    requires shaped { All (IsShaped (length start.now.classes)) entries.old.items }
+    requires long { length entries.old.items ≡ length flows.now }
+    requires block { block < length flows.now }
+    ensures { IfOk result (λ changed.
+        Visited start.now flows.now preds.now entries.old.items entries.new.items block changed) }
+{
+    let entry = joined(
+        alloc,
+        pairs,
+        start,
+        flows,
+        entries.as_slice(),
+        block,
+        preds[block].as_slice(),
+    )?;
+    if !entry.reached {
+        return Ok(false);
+    }
+    if are_equal(&entry, &entries[block]) {
+        return Ok(false);
+    }
+    entries[block] = entry;
+    Ok(true)
+}

@@ -1,5 +1,0 @@
-pub mod Drops
-pub mod Sizes
-pub mod Settled
-pub mod Coded
-pub mod Alone
