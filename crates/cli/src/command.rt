@@ -9,11 +9,11 @@ ghost use Rattle.cli.specs.declared.command.Plan.{Plan};
 ghost use Rattle.cli.specs.declared.command.RunPlan.{RunPlan};
 ghost use Rattle.cli.specs.declared.command.TestPlan.{TestPlan};
 
+use crate::given::Options;
+use crate::options::options;
 use cli_numbers::generation::{Generation, asked};
 use cli_numbers::list::Numbers;
 use cli_numbers::number::number;
-use crate::given::Options;
-use crate::options::options;
 use pass_list::kind::is_same;
 use pass_list::list::PassList;
 use rv64_instr::name::Name;

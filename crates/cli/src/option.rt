@@ -7,9 +7,9 @@ ghost use Rattle.cli.specs.declared.option.CommandOption.{CommandOption};
 ghost use Rattle.cli.specs.declared.option.CommandOption.TheVariants.{Passes, Reserve};
 
 use cli_numbers::list::{Numbers, option};
+use cli_numbers::text::reserve_list;
 use pass_list::list::PassList;
 use pass_list::text::pass_list;
-use cli_numbers::text::reserve_list;
 use rv64_instr::reg::Registers;
 use std::alloc::{AllocError, Global};
 

@@ -3,8 +3,8 @@
 ghost use Rattle.std.specs.Prelude.{◌≡◌, ◌↔◌, ℕ, List, map, IfOk, Some};
 ghost use Rattle.cli_numbers.specs.Reserve.{AreNamed, IsAnother, IsReserveText};
 
-use crate::name::register;
 use crate::list::pieces;
+use crate::name::register;
 use rv64_instr::reg::{Reg, Registers};
 use std::alloc::{AllocError, Global};
 

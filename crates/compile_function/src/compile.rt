@@ -14,13 +14,13 @@ ghost use Rattle.location_ranges.specs.Lists.{AreListsOf};
 ghost use Rattle.dwarf_unit.specs.Variables.{variables_of_function};
 
 use crate::location_lists::location_lists;
-use emit_code::code::Code;
 use dwarf_loclists::range::RangeLists;
+use dwarf_unit::variables::{VarIds, variables};
+use emit_code::code::Code;
 use emit_function::code::{CodeError, code_of};
 use mir_func::func::Func;
-use std::alloc::Global;
 use mir_substitution::substitutions::Substitutions;
-use dwarf_unit::variables::{VarIds, variables};
+use std::alloc::Global;
 
 /// A function that is compiled.
 #[derive(Debug, Drop)]

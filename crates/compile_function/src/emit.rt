@@ -19,22 +19,22 @@ ghost use Rattle.mir_func.specs.SoundFrame.{HasPhysical};
 ghost use Rattle.read_proof.specs.Read.{IsReadFunction};
 ghost use Rattle.listing_meaning.specs.Listing.{listing_of};
 
-use emit_code::code::Code;
-use listing_text::output::{Bytes, ListedFunction, ListedFunctions};
-use dwarf_loclists::range::RangeLists;
-use emit_function::code::{CodeError, code_of};
 use crate::compile::CompiledFunction;
 use crate::location_lists::location_lists;
+use base_list::List;
+use dwarf_loclists::range::RangeLists;
+use dwarf_unit::variables::variables;
+use emit_code::code::Code;
+use emit_function::code::{CodeError, code_of};
 use listing_function::listing::listing;
 use listing_function::variables::variable_lines;
-use base_list::List;
-use read_metadata::metadata::Metadata;
+use listing_text::output::{Bytes, ListedFunction, ListedFunctions};
 use mir_func::func::Func;
+use mir_substitution::substitutions::Substitutions;
+use read_metadata::metadata::Metadata;
 use read_program::closing::Parsed;
 use std::alloc::{AllocError, Global};
-use mir_substitution::substitutions::Substitutions;
 use thiserror::Error;
-use dwarf_unit::variables::variables;
 
 /// Machine code of functions, in their order.
 pub type Codes = List<Code>;

@@ -6,15 +6,15 @@ ghost use Rattle.mir_func.specs.Resolve.{resolve};
 ghost use Rattle.dwarf_loclists.specs.Ranges.{Ascend};
 ghost use Rattle.location_ranges.specs.Lists.{AreListsOf};
 
-use emit_code::code::Code;
 use dwarf_loclists::range::RangeLists;
-use value_live_ins::values::{MachineValues, solve};
-use mir_func::framed::Framed;
-use mir_func::variable::VarId;
-use std::alloc::{AllocError, Global};
-use mir_substitution::substitutions::Substitutions;
+use emit_code::code::Code;
 use location_ranges::ranges::all_ranges;
 use location_ranges::values::Values;
+use mir_func::framed::Framed;
+use mir_func::variable::VarId;
+use mir_substitution::substitutions::Substitutions;
+use std::alloc::{AllocError, Global};
+use value_live_ins::values::{MachineValues, solve};
 
 /// The location lists of variables over the machine code of a function, in the variables' order: at the address of each
 /// byte of code the location that is wanted for the variable there, by all paths of the function with its frame, and

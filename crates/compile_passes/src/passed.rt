@@ -6,16 +6,16 @@ ghost use Rattle.mir_func.specs.Sound.{items_of};
 ghost use Rattle.pass_list.specs.Names.{AreDistinct};
 ghost use Rattle.read_proof.specs.Read.{IsReadFunction, EntryIsLimited};
 
-use pass_trait::loss::Losses;
-use read_metadata::metadata::Metadata;
 use mir_func::func::Func;
-use read_program::closing::Parsed;
-use pass_list::kind::PassKind;
-use pass_manager::run::run_passes;
-use rv64_instr::reg::Reg;
-use std::alloc::{AllocError, Global};
 use mir_substitution::substitutions::Substitutions;
 use mir_type_facts::typed::{blocks_are_typed, entries_are_typed};
+use pass_list::kind::PassKind;
+use pass_manager::run::run_passes;
+use pass_trait::loss::Losses;
+use read_metadata::metadata::Metadata;
+use read_program::closing::Parsed;
+use rv64_instr::reg::Reg;
+use std::alloc::{AllocError, Global};
 
 /// What passes made of a source.
 #[derive(Drop)]

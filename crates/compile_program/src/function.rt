@@ -12,14 +12,14 @@ ghost use Rattle.compile_program.specs.steps.Made.{IsSourcePushed, IsTooLarge, A
 ghost use Rattle.read_proof.specs.Read.{IsReadFunction, EntryIsLimited};
 
 use crate::compile::{CompileError, FunctionLosses};
-use listing_text::output::{Bytes, ListedFunctions};
-use dwarf_loclists::range::RangeLists;
-use pass_trait::loss::Losses;
 use compile_function::emit::{Codes, Made, push_function};
 use compile_function::passed::after_passes;
+use dwarf_loclists::range::RangeLists;
+use listing_text::output::{Bytes, ListedFunctions};
+use pass_list::kind::PassKind;
+use pass_trait::loss::Losses;
 use read_metadata::metadata::Metadata;
 use read_program::closing::Parsed;
-use pass_list::kind::PassKind;
 use rv64_instr::reg::Reg;
 use std::alloc::Global;
 

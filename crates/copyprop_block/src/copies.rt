@@ -10,14 +10,14 @@ ghost use Rattle.copyprop_block.specs.Copied.{over_items, at_block};
 ghost use Rattle.copyprop_block.specs.Next.{IsCarried, Stands};
 
 use crate::roots::{Root, known_source, learn, rename};
-use mir_func::item::{Item, ItemKind};
 use base_ids::code::DebugNumber;
-use rv64_instr::reg::Reg;
+use mir_func::item::{Item, ItemKind};
+use mir_substitution::substitutions::Substitutions;
 use pass_salvage::above::{Above, choose_way_by, substitute};
 use pass_salvage::salvage::{give_number, put_phi};
 use pass_salvage::way::Way;
+use rv64_instr::reg::Reg;
 use std::alloc::{AllocError, Global};
-use mir_substitution::substitutions::Substitutions;
 
 /// What becomes of an item.
 #[derive(Clone, Copy, Debug, PartialEq, Eq)]

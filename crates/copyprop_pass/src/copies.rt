@@ -9,11 +9,11 @@ ghost use Rattle.copyprop_proof.specs.Rule.{copy_step};
 ghost use Rattle.std.proofs.Common.{rules};
 
 use copyprop_rule::function::blocks_without_copies;
+use mir_func::func::Func;
+use mir_substitution::substitutions::Substitutions;
 use pass_trait::loss::Losses;
 use pass_trait::pass::Pass;
-use mir_func::func::Func;
 use std::alloc::{AllocError, Global};
-use mir_substitution::substitutions::Substitutions;
 
 /// Takes out copies of what is there already, and reads roots in place of copies (LLVM: machine copy propagation).
 /// Nothing is lost: a number goes to the code that gave the copied value, or to a phi.

@@ -9,9 +9,9 @@ ghost use Rattle.copyprop_rule.specs.Rule.{begins, salvaged_function, salvaged_e
 use copyprop_block::copies::copy_items;
 use mir_func::block::{Block, Blocks, copy_blocks};
 use mir_func::func::Func;
+use mir_substitution::substitutions::Substitutions;
 use pass_salvage::fresh::fresh_number;
 use std::alloc::{AllocError, Global};
-use mir_substitution::substitutions::Substitutions;
 
 /// Copies that are known go from blocks, in the order of the text.
 fn copy_in_blocks(

@@ -7,11 +7,11 @@ ghost use Rattle.dce_copies.specs.Blocks.{going_from, blocks_off};
 
 use crate::off::numbers_off;
 use crate::verdicts::{going, verdicts_at};
-use pass_trait::loss::Loss;
 use base_list::List;
 use mir_func::block::Block;
-use std::alloc::{AllocError, Global};
 use mir_substitution::substitutions::Substitutions;
+use pass_trait::loss::Loss;
+use std::alloc::{AllocError, Global};
 
 /// Takes the numbers off the copies of blocks that go, from the last block to the first, and in each from the last item
 /// to the first. `dead` has for each block the verdict on each of its items, and `fresh` is a number that nothing has,

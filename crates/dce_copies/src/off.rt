@@ -8,20 +8,20 @@ ghost use Rattle.dce_copies.specs.Off.{copied_by, numbered_copy, without_number,
 ghost use Rattle.dce_copies.specs.Off.{off_at, off_down};
 
 use crate::verdicts::verdict;
-use pass_trait::loss::{Loss, Lost, Reason};
+use base_ids::code::DebugNumber;
 use mir_func::item::{Item, ItemKind};
 use mir_func::location::Loc;
 use mir_func::position::Origin;
-use sem_mir::align::position_of;
-use base_ids::code::DebugNumber;
+use mir_substitution::substitutions::Substitutions;
+use pass_salvage::salvage::{entry_for, give_number};
+use pass_salvage::way::{Way, choose_way};
+use pass_trait::loss::{Loss, Lost, Reason};
 use rv64_instr::decoded::Decoded;
 use rv64_instr::instr::Instr;
 use rv64_instr::place::Place;
 use rv64_instr::reg::Reg;
-use pass_salvage::salvage::{entry_for, give_number};
-use pass_salvage::way::{Way, choose_way};
+use sem_mir::align::position_of;
 use std::alloc::AllocError;
-use mir_substitution::substitutions::Substitutions;
 
 /// A copy with a number.
 #[derive(Clone, Copy, Debug, PartialEq, Eq)]

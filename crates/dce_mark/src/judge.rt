@@ -11,10 +11,10 @@ ghost use Rattle.rv64_instr.specs.declared.place.Place.TheVariants.{Register};
 ghost use Rattle.dce_mark.specs.Judged.{verdicts, AreJudged};
 
 use base_list::List;
-use pass_liveness::live::Live;
-use pass_liveness::set::PlaceSet;
 use mir_func::func::Func;
 use mir_func::item::{Item, ItemKind};
+use pass_liveness::live::Live;
+use pass_liveness::set::PlaceSet;
 use rv64_instr::instr::Instr;
 use rv64_instr::place::Place;
 use rv64_instr::reg::physical;

@@ -5,14 +5,14 @@ ghost use Rattle.dce_pass.specs.Steps.{dead_steps};
 ghost use Rattle.dce_pass.specs.PassLaws.{rounds_have_one_result, rounds_see_code_alone};
 ghost use Rattle.std.proofs.Common.{rules};
 
-use crate::rounds_laws::rounds_keep;
 use crate::rounds::dead_rounds;
+use crate::rounds_laws::rounds_keep;
 use crate::steps_laws::rounds_keep_steps;
+use mir_func::func::Func;
+use mir_substitution::substitutions::Substitutions;
 use pass_trait::loss::Losses;
 use pass_trait::pass::Pass;
-use mir_func::func::Func;
 use std::alloc::{AllocError, Global};
-use mir_substitution::substitutions::Substitutions;
 
 /// Takes out dead code in rounds, until nothing is dead (LLVM: dead machine instruction elimination). Lost are the
 /// numbers of what goes, but for those of copies, and marks and phis of places that it leaves wrong. The losses of each

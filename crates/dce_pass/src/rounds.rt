@@ -6,10 +6,10 @@ ghost use Rattle.pass_trait.specs.Sizes.{greatest_number, item_count};
 ghost use Rattle.dce_pass.specs.Rounds.{AreDeadRounds};
 
 use dce_proof::one_round::dead_round;
-use pass_trait::loss::Losses;
 use mir_func::func::Func;
-use std::alloc::{AllocError, Global};
 use mir_substitution::substitutions::Substitutions;
+use pass_trait::loss::Losses;
+use std::alloc::{AllocError, Global};
 
 /// Takes dead code out of a function in rounds, until nothing is dead, and gives what was lost, round by round. After
 /// an error the function and the substitutions are only to be dropped.

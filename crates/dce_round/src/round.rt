@@ -6,18 +6,18 @@ ghost use Rattle.pass_trait.specs.Sizes.{greatest_number, item_count};
 ghost use Rattle.dce_salvage_proof.specs.SalvageLaws.{all_off, function_off};
 ghost use Rattle.dce_round.specs.Round.{IsRoundWith};
 
+use base_list::List;
 use dce_copies::blocks::blocks_off;
 use dce_mark::judge::judge;
 use dce_sweep::round::{has_dead, take_out_dead};
-use pass_trait::loss::{Loss, Losses};
-use base_list::List;
-use pass_liveness::live::Live;
 use mir_func::block::{Blocks, copy_blocks};
 use mir_func::func::Func;
-use pass_salvage::fresh::fresh_number;
-use std::alloc::{AllocError, Global};
 use mir_substitution::substitutions::Substitutions;
+use pass_liveness::live::Live;
 use pass_losses::told::put_in_order;
+use pass_salvage::fresh::fresh_number;
+use pass_trait::loss::{Loss, Losses};
+use std::alloc::{AllocError, Global};
 
 /// Takes the dead code out of a function, once, and salvages the numbers of its copies. It gives what is lost, in
 /// order, or None where nothing is dead: then all stays as it was. After an error the function and the substitutions

@@ -6,9 +6,9 @@ ghost use Rattle.dce_stale.specs.Sets.{Swept, Settled};
 
 use crate::walk::visit;
 use base_list::List;
+use mir_func::func::Func;
 use pass_liveness::names::Names;
 use pass_liveness::set::PlaceSet;
-use mir_func::func::Func;
 
 /// Visits blocks in an order, and tells whether any set grew.
 fn sweep(

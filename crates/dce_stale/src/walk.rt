@@ -12,15 +12,15 @@ ghost use Rattle.pass_liveness.specs.Liveness.{items_at};
 ghost use Rattle.dce_stale.specs.Flow.{wrong_past, goes_on, wrong_at, IsHanded};
 ghost use Rattle.dce_stale.specs.Sets.{Handed, HandsOn};
 
+use base_ids::code::BlockId;
 use base_list::List;
-use pass_liveness::names::Names;
-use pass_liveness::set::PlaceSet;
 use mir_func::block::Block;
 use mir_func::exit::Exit;
 use mir_func::func::Func;
 use mir_func::item::{Item, ItemKind};
 use mir_func::successors::id_at;
-use base_ids::code::BlockId;
+use pass_liveness::names::Names;
+use pass_liveness::set::PlaceSet;
 
 /// The verdict of an index; not dead where there is none.
 pub fn verdict(dead: &[bool], index: usize) -> bool

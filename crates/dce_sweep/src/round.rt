@@ -7,14 +7,14 @@ ghost use Rattle.pass_liveness.specs.Liveness.{AreLiveSets};
 ghost use Rattle.dce_sweep.specs.Round.{IsTakenOut};
 
 use crate::left::left_blocks;
+use base_list::List;
 use dce_mark::judge::judge;
 use dce_stale::places::WrongPlaces;
-use pass_trait::loss::Loss;
-use base_list::List;
-use pass_liveness::live::Live;
 use mir_func::func::Func;
-use std::alloc::{AllocError, Global};
 use mir_type_facts::blocks::know_forms;
+use pass_liveness::live::Live;
+use pass_trait::loss::Loss;
+use std::alloc::{AllocError, Global};
 
 /// Takes the dead code out of a function, once: what is live at blocks' ends is needed there. Marks and phis of places
 /// that are wrong without it give nothing. What is lost is appended to `lost`, in the order of the text, also the

@@ -7,9 +7,9 @@ ghost use Rattle.dwarf_info.specs.Kinds.{form_number, abbreviation, abbreviation
 
 use crate::constants::*;
 use crate::kind::{Attribute, Form, Kind};
+use base_list::List;
 use dwarf_base::constants::DW_FORM_string;
 use dwarf_base::leb::{Leb, uleb};
-use base_list::List;
 use std::alloc::{AllocError, Global};
 
 /// Bytes, in order.

@@ -12,8 +12,8 @@ use crate::entry::{
 };
 use crate::size::section_len;
 use crate::unit::{BaseEntry, FunctionEntry, Unit, VariableEntry};
-use dwarf_base::constants::{ADDRESS_SIZE, VERSION};
 use base_list::List;
+use dwarf_base::constants::{ADDRESS_SIZE, VERSION};
 use std::alloc::{AllocError, Global};
 
 /// The bytes of the section's length, which doesn't count them.

@@ -18,9 +18,9 @@ use crate::constants::*;
 use crate::fault::LineError;
 use crate::size::registers;
 use crate::table::{LineTable, Row, RowList, Sequence, Sequences};
+use base_list::List;
 use dwarf_base::constants::{ADDRESS_SIZE, SEGMENT_SELECTOR_SIZE, VERSION};
 use dwarf_base::front::{split_sleb, split_u32, split_uleb};
-use base_list::List;
 use std::alloc::{AllocError, AllocFailed, Global};
 
 /// The sequences of a section `.debug_line`, as `write_line` writes it (DWARF 5 sections 6.2.4 and 6.2.5). Special

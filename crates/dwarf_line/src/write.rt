@@ -12,9 +12,9 @@ ghost use Rattle.dwarf_line.specs.Spelling.{text, tables, header, spelling};
 use crate::constants::*;
 use crate::size::{registers, section_len, tables_len};
 use crate::table::{FileEntry, LineTable, Name, Row, Sequence};
+use base_list::List;
 use dwarf_base::constants::{ADDRESS_SIZE, SEGMENT_SELECTOR_SIZE, VERSION};
 use dwarf_base::leb::{Leb, sleb, uleb};
-use base_list::List;
 use std::alloc::{AllocError, Global};
 
 /// Bytes, in order.

@@ -5,8 +5,8 @@ ghost use Rattle.dwarf_line_table.specs.Files.{dirs_of, entries_of, entry_zero};
 ghost use Rattle.dwarf_line_table.specs.steps.Seen.{seen};
 
 use crate::names::Names;
-use dwarf_line::table::{FileEntries, FileEntry, NameList};
 use base_list::List;
+use dwarf_line::table::{FileEntries, FileEntry, NameList};
 use std::alloc::{AllocError, Global};
 
 /// Directories, and files that have them.

@@ -13,13 +13,13 @@ ghost use Rattle.dwarf_line_table.specs.steps.Places.{ArePlaces};
 use crate::file::Files;
 use crate::places::Places;
 use crate::scope_line::scope_line;
-use emit_code::code::Entry;
+use base_ids::metadata::NodeId;
 use dwarf_info::entry::text_of;
 use dwarf_line::table::{Row, RowList};
+use emit_code::code::Entry;
+use mir_func::location::Loc;
 use read_metadata::metadata::Metadata;
 use read_metadata::node::FileNode;
-use mir_func::location::Loc;
-use base_ids::metadata::NodeId;
 use std::alloc::{AllocError, Global};
 
 /// The file of a scope.

@@ -3,10 +3,10 @@
 ghost use Rattle.std.specs.Prelude.{◌≡◌, Some};
 ghost use Rattle.dwarf_line_table.specs.Lines.{no_line, node_line, scope_line};
 
+use base_ids::metadata::NodeId;
+use mir_func::location::Loc;
 use read_metadata::metadata::Metadata;
 use read_metadata::node::LocationNode;
-use mir_func::location::Loc;
-use base_ids::metadata::NodeId;
 
 /// What a debug location says.
 #[derive(Clone, Copy, Debug, PartialEq, Eq)]

@@ -8,8 +8,8 @@ ghost use Rattle.dwarf_line_table.specs.Program.{program_file};
 
 use crate::compiled::Compiled;
 use crate::file::SourceFile;
-use dwarf_info::entry::text_of;
 use base_list::List;
+use dwarf_info::entry::text_of;
 use read_metadata::metadata::Metadata;
 use read_metadata::node::FileNode;
 use rv64_instr::name::Name;

@@ -9,9 +9,9 @@ ghost use Rattle.dwarf_loclists.specs.Spelling.{list_spelling, bodies, offsets_f
 use crate::constants::*;
 use crate::entry::{entry_len, push_entry};
 use crate::range::{Range, RangeLists, Ranges};
+use base_list::List;
 use dwarf_base::constants::*;
 use dwarf_base::limits::SECTION_LIMIT;
-use base_list::List;
 use std::alloc::{AllocError, Global};
 
 /// Bytes, in order.

@@ -13,8 +13,8 @@ ghost use Rattle.dwarf_loclists.specs.Spelling.{simple_location, gap, piece, Spe
 
 use crate::constants::*;
 use crate::range::Part;
-use dwarf_base::front::{split_sleb, split_uleb};
 use base_ids::code::SlotId;
+use dwarf_base::front::{split_sleb, split_uleb};
 use rv64_instr::place::Place;
 use rv64_instr::reg::physical;
 

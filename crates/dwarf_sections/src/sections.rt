@@ -11,21 +11,21 @@ ghost use Rattle.dwarf_line_table.specs.Program.{MAX_FUNCTIONS, table_of};
 ghost use Rattle.dwarf_unit.specs.Unit.{program_variables, unit_of};
 ghost use Rattle.dwarf_base.specs.Limits.{SECTION_LIMIT};
 
-use emit_code::code::Code;
-use listing_text::output::Bytes;
 use dwarf_info::size::info_size;
 use dwarf_info::write::write_info;
 use dwarf_line::size::line_size;
 use dwarf_line::write::write_line;
-use dwarf_loclists::range::RangeLists;
-use dwarf_loclists::section::{lists_size, write_lists};
-use read_metadata::metadata::Metadata;
-use read_program::closing::Parsed;
 use dwarf_line_table::compiled::Compiled;
 use dwarf_line_table::line_table::line_table;
+use dwarf_loclists::range::RangeLists;
+use dwarf_loclists::section::{lists_size, write_lists};
+use dwarf_unit::unit::make_unit;
+use emit_code::code::Code;
+use listing_text::output::Bytes;
+use read_metadata::metadata::Metadata;
+use read_program::closing::Parsed;
 use std::alloc::{AllocError, Global};
 use thiserror::Error;
-use dwarf_unit::unit::make_unit;
 
 /// Why a section isn't written.
 #[derive(Clone, Copy, Debug, PartialEq, Eq, Error)]

@@ -9,8 +9,8 @@ use crate::types::Types;
 use crate::variable::variables_from;
 use crate::variables::variables;
 use dwarf_info::unit::FunctionEntry;
-use read_metadata::metadata::Metadata;
 use dwarf_line_table::compiled::Compiled;
+use read_metadata::metadata::Metadata;
 use std::alloc::{AllocError, Global};
 
 /// The entry of a function, whose variables' lists are numbered from a number on.

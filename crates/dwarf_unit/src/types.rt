@@ -7,11 +7,11 @@ ghost use Rattle.read_metadata.specs.Metadata.{base_type_at};
 ghost use Rattle.dwarf_line_table.specs.Files.{with_new};
 ghost use Rattle.dwarf_unit.specs.Unit.{base_entry, base_entries};
 
+use base_ids::metadata::NodeId;
 use dwarf_info::unit::{BaseEntries, BaseEntry};
 use indexmap::IndexSet;
 use read_metadata::metadata::Metadata;
 use read_metadata::node::BaseTypeNode;
-use base_ids::metadata::NodeId;
 use std::alloc::{AllocError, Global};
 use std::marker::Model;
 

@@ -7,9 +7,9 @@ ghost use Rattle.dwarf_unit.specs.Unit.{program_variables, unit_of};
 use crate::function::function_entry;
 use crate::types::Types;
 use dwarf_info::unit::{FunctionEntries, Unit};
-use read_metadata::metadata::Metadata;
 use dwarf_line_table::compiled::Compiled;
 use dwarf_line_table::unit_file::unit_file;
+use read_metadata::metadata::Metadata;
 use std::alloc::{AllocError, Global};
 
 /// The unit of functions in the order of the text, which have so many bytes of code together (DWARF 5, section 3.1.1).

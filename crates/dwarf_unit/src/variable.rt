@@ -8,11 +8,11 @@ ghost use Rattle.dwarf_unit.specs.Unit.{readable_type, listed, type_in, node_use
 ghost use Rattle.dwarf_unit.specs.Unit.{type_uses, variable_entry, variables_from};
 
 use crate::types::Types;
+use base_ids::metadata::NodeId;
 use dwarf_info::unit::{VariableEntries, VariableEntry};
+use mir_func::variable::VarId;
 use read_metadata::metadata::Metadata;
 use read_metadata::node::VariableNode;
-use mir_func::variable::VarId;
-use base_ids::metadata::NodeId;
 use std::alloc::{AllocError, Global};
 
 /// The node of a base type, if it is readable.

@@ -7,12 +7,12 @@ ghost use Rattle.dwarf_line_table.specs.Files.{with_new, first_uses};
 ghost use Rattle.dwarf_unit.specs.Variables.{whole, marked, marks_of, variables_of_function};
 ghost use Rattle.dwarf_unit.specs.steps.Keys.{seen};
 
-use indexmap::IndexSet;
+use base_ids::metadata::NodeId;
 use base_list::List;
+use indexmap::IndexSet;
 use mir_func::block::Block;
 use mir_func::item::{Item, ItemKind};
 use mir_func::variable::VarId;
-use base_ids::metadata::NodeId;
 use std::alloc::{AllocError, Global};
 use std::marker::Model;
 

@@ -11,10 +11,10 @@ ghost use Rattle.emit_code.specs.steps.Emitted.{StandsAt, AllStandAt, point_of};
 use crate::code::{Entries, Entry};
 use crate::plan::Plan;
 use crate::span::Span;
+use base_ids::code::BlockIndex;
 use mir_func::block::Block;
 use mir_func::item::Item;
 use mir_func::position::{Origin, Point};
-use base_ids::code::BlockIndex;
 use std::alloc::{AllocError, Global};
 
 /// The entries of blocks, by their plan.

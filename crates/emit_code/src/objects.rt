@@ -9,9 +9,9 @@ ghost use Rattle.mir_func.specs.Objects.{object_of, area_of};
 ghost use Rattle.emit_code.specs.Rule.{object_offset};
 ghost use Rattle.emit_code.specs.steps.Plans.{AreOffsetsOf};
 
+use base_ids::code::ObjectId;
 use mir_func::framed::Framed;
 use mir_func::object::{Object, up_to};
-use base_ids::code::ObjectId;
 use std::alloc::{AllocError, Global};
 use std::collections::BTreeMap;
 

@@ -12,9 +12,9 @@ use crate::objects::ObjectOffsets;
 use crate::rounds::{Sums, settle};
 use crate::span::{Span, Spans, short_spans};
 use crate::table::{Table, at};
+use base_ids::code::BlockId;
 use mir_func::exit::Exit;
 use mir_func::framed::Framed;
-use base_ids::code::BlockId;
 use std::alloc::{AllocError, Global};
 
 /// Where the items of a function stand.

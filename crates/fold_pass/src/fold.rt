@@ -7,20 +7,20 @@ ghost use Rattle.fold_pass.specs.Folded.{AreFoldedWithLosses};
 ghost use Rattle.fold_pass.specs.Laws.{folding_has_one_result, folding_sees_code_alone};
 ghost use Rattle.std.proofs.Common.{rules};
 
+use crate::lost::fold_losses;
 use fold_proof::debug_laws::folded_keeps_items;
 use fold_proof::follow_laws::{folded_follows, kills_strip};
-use crate::lost::fold_losses;
-use fold_rule::fold::fold_blocks;
 use fold_proof::size_laws::folded_keeps_sizes;
-use pass_trait::loss::Losses;
-use pass_trait::pass::Pass;
+use fold_rule::fold::fold_blocks;
 use fold_undef::bypassed::old_ways;
 use fold_undef::put::put_kills;
 use mir_func::block::{Block, copy_blocks};
 use mir_func::func::Func;
-use std::alloc::{AllocError, Global};
 use mir_substitution::substitutions::Substitutions;
 use mir_type_facts::blocks::know_forms;
+use pass_trait::loss::Losses;
+use pass_trait::pass::Pass;
+use std::alloc::{AllocError, Global};
 
 /// Folds branches. The marks and phis of blocks that are bypassed, and all debug items of blocks that weren't reached,
 /// are lost. It is right for functions with the source's ends of blocks, and doesn't keep them.

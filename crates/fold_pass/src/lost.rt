@@ -9,14 +9,14 @@ ghost use Rattle.fold_targets.specs.Leads.{lead};
 ghost use Rattle.fold_targets.specs.Ends.{told, end_in};
 ghost use Rattle.fold_proof.specs.Lost.{is_unreachable, reason_for, loss_of, lost_in, all_lost};
 
-use pass_trait::loss::{Loss, Losses, Lost, Reason};
+use base_ids::code::BlockId;
 use fold_undef::bypassed::{OldWays, end_past};
 use mir_func::block::Block;
 use mir_func::item::{Item, ItemKind};
-use sem_mir::align::position_of;
-use base_ids::code::BlockId;
-use std::alloc::{AllocError, Global};
 use pass_losses::told::put_in_order;
+use pass_trait::loss::{Loss, Losses, Lost, Reason};
+use sem_mir::align::position_of;
+use std::alloc::{AllocError, Global};
 
 /// What is lost of blocks that are folded, each once and in order.
 pub fn fold_losses(alloc: Global, blocks: &[Block], ways: &OldWays) -> Result<Losses, AllocError>

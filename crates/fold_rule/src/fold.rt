@@ -8,11 +8,11 @@ ghost use Rattle.fold_rule.specs.Rule.{folded_block, folded_blocks, AreFolded};
 
 use crate::reached::reached;
 use crate::tail::{Place, rewrite};
+use base_ids::code::BlockId;
 use fold_targets::ends::ends;
 use fold_targets::leads::leads;
 use mir_func::block::Block;
 use mir_func::position::Pos;
-use base_ids::code::BlockId;
 use std::alloc::{AllocError, Global};
 use std::collections::{HashMap, HashSet};
 

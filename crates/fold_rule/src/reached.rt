@@ -9,8 +9,8 @@ ghost use Rattle.fold_rule.specs.Reached.{Reached};
 ghost use Rattle.fold_rule.specs.steps.Walked.{fresh};
 
 use crate::ways::ways_to_ends;
-use mir_func::block::Block;
 use base_ids::code::BlockId;
+use mir_func::block::Block;
 use std::alloc::{AllocError, Global};
 use std::collections::{HashMap, HashSet};
 

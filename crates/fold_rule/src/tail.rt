@@ -17,12 +17,12 @@ ghost use Rattle.fold_rule.specs.steps.Onward.{onward_count};
 
 use crate::turned::{made_jump, send, turn};
 use crate::ways::end_of;
+use base_ids::code::BlockId;
 use fold_targets::leads::always_to;
 use mir_func::exit::Exit;
 use mir_func::item::Item;
 use mir_func::location::Loc;
 use mir_func::position::{Origin, Pos};
-use base_ids::code::BlockId;
 use std::alloc::{AllocError, Global};
 use std::collections::HashMap;
 

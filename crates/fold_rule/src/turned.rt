@@ -5,10 +5,10 @@ ghost use Rattle.std.specs.List.{slice_set};
 ghost use Rattle.rv64_instr.specs.declared.operand.Operand.TheVariants.{Block as OfBlock};
 ghost use Rattle.fold_rule.specs.Turned.{inverse, inverse_op, aimed, to_block, inverse_to, sent, turned, made_jump};
 
+use base_ids::code::BlockId;
 use mir_func::item::{Item, ItemKind};
 use mir_func::location::Loc;
 use mir_func::position::Origin;
-use base_ids::code::BlockId;
 use rv64_instr::instr::Instr;
 use rv64_instr::op::{BranchOp, Op};
 use rv64_instr::operand::{Operand, Operands};

@@ -8,11 +8,11 @@ ghost use Rattle.fold_rule.specs.Tails.{first_of, else_way, ways_of};
 ghost use Rattle.fold_rule.specs.Reached.{ways_in};
 ghost use Rattle.fold_rule.specs.steps.Walked.{ended};
 
+use base_ids::code::BlockId;
 use fold_targets::leads::always_to;
 use mir_func::block::Block;
 use mir_func::exit::Exit;
 use mir_func::item::Item;
-use base_ids::code::BlockId;
 use std::alloc::{AllocError, Global};
 use std::collections::HashMap;
 

@@ -5,10 +5,10 @@ ghost use Rattle.std.specs.HashMap.{get};
 ghost use Rattle.mir_func.specs.Sound.{AreApart, ids_of};
 ghost use Rattle.fold_targets.specs.Leads.{first_id, always_to, lead_of, lead_in, lead};
 
+use base_ids::code::BlockId;
 use mir_func::block::Block;
 use mir_func::exit::Exit;
 use mir_func::item::{Item, ItemKind};
-use base_ids::code::BlockId;
 use std::alloc::{AllocError, Global};
 use std::collections::HashMap;
 

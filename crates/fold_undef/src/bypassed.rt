@@ -9,12 +9,12 @@ ghost use Rattle.fold_targets.specs.Ways.{EndsAt};
 ghost use Rattle.fold_rule.specs.Reached.{Reached};
 ghost use Rattle.fold_undef.specs.Bypassed.{end_past};
 
+use base_ids::code::BlockId;
 use fold_rule::reached::reached_before;
 use fold_rule::ways::end_of;
 use fold_targets::ends::ends;
 use fold_targets::leads::leads;
 use mir_func::block::Block;
-use base_ids::code::BlockId;
 use std::alloc::{AllocError, Global};
 use std::collections::{HashMap, HashSet};
 

@@ -3,11 +3,11 @@
 ghost use Rattle.std.specs.Prelude.{◌≡◌};
 ghost use Rattle.fold_undef.specs.Kill.{kill_of, kill_item};
 
+use base_ids::code::{BlockId, DebugNumber};
 use mir_func::item::{Item, ItemKind};
 use mir_func::location::Loc;
 use mir_func::position::{Origin, Pos};
 use mir_func::variable::{MarkValue, VarId};
-use base_ids::code::{BlockId, DebugNumber};
 
 /// What is taken away.
 #[derive(Clone, Copy, Debug)]

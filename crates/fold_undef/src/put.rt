@@ -12,10 +12,10 @@ ghost use Rattle.fold_undef.specs.steps.Gathered.{kills_at, kills_to, with_kills
 use crate::bypassed::{OldWays, end_past};
 use crate::kill::{Kill, kill_item, kill_of};
 use crate::seen::Seen;
+use base_ids::code::BlockId;
 use base_list::List;
 use mir_func::block::Block;
 use mir_func::item::Item;
-use base_ids::code::BlockId;
 use std::alloc::{AllocError, Global};
 use std::collections::HashMap;
 

@@ -9,11 +9,11 @@ ghost use Rattle.frame_lowering.specs.steps.Framing.{prologue_in, epilogue_in};
 
 use crate::frame::Frame;
 use crate::saving::register;
+use base_ids::code::{BlockId, SlotId};
 use mir_func::framed::SavedRegister;
 use mir_func::item::{Item, ItemKind, Items};
 use mir_func::location::Loc;
 use mir_func::position::{Origin, Pos};
-use base_ids::code::{BlockId, SlotId};
 use rv64_instr::instr::Instr;
 use rv64_instr::op::{ImmediateOp, LoadOp, Op, StoreOp};
 use rv64_instr::operand::{Operand, Operands};

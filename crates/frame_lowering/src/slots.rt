@@ -8,8 +8,8 @@ ghost use Rattle.frame_rule.specs.Rule.{slot_offset};
 ghost use Rattle.frame_lowering.specs.steps.Framing.{offset_in};
 
 use crate::places::DOUBLEWORD;
-use mir_func::func::SlotIds;
 use base_ids::code::SlotId;
+use mir_func::func::SlotIds;
 use std::alloc::{AllocError, Global};
 use std::collections::BTreeMap;
 use std::marker::Model;

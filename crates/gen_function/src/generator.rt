@@ -7,13 +7,13 @@ ghost use Rattle.gen_function.specs.steps.Making.{MakesBlock};
 use crate::draws::Draws;
 use crate::end::{push_beginning, push_end};
 use crate::group::{Kinds, push_groups};
+use base_ids::code::{BlockId, SlotId};
 use mir_func::block::{Block, Blocks};
 use mir_func::func::{Func, SlotIds};
 use mir_func::item::{Item, Items};
 use mir_func::location::Loc;
 use mir_func::object::Objects;
 use mir_func::position::{Origin, Pos};
-use base_ids::code::{BlockId, SlotId};
 use rv64_instr::name::Name;
 use std::alloc::{AllocError, Global};
 

@@ -3,10 +3,10 @@
 ghost use Rattle.std.specs.Prelude.{◌≡◌, ◌<◌, ◌≤◌, IfOk, None};
 ghost use Rattle.gen_function.specs.Items.{register_of, add, copy, constant, store, load, mark, branch, jump, return};
 
+use base_ids::code::{BlockId, DebugNumber, OperandIndex, SlotId};
 use mir_func::entry::OperandPair;
 use mir_func::item::ItemKind;
 use mir_func::variable::{MarkValue, VarId};
-use base_ids::code::{BlockId, DebugNumber, OperandIndex, SlotId};
 use rv64_instr::instr::Instr;
 use rv64_instr::op::{BranchOp, ImmediateOp, LoadOp, Op, RegisterOp, StoreOp};
 use rv64_instr::operand::{Operand, Operands};

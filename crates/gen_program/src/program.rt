@@ -4,13 +4,13 @@ ghost use Rattle.std.specs.Prelude.{◌≡◌, ◌<◌, ◌≤◌, IfOk};
 ghost use Rattle.gen_program.specs.Program.{generated_program};
 ghost use Rattle.read_proof.specs.Read.{IsReadProgram};
 
-use read_metadata::metadata::read_meta;
 use gen_function::generator::generate;
+use mir_substitution::substitutions::Substitutions;
 use read_lexer::line::Lines;
+use read_metadata::metadata::read_meta;
 use read_program::closing::Parsed;
 use read_program::program::{ParsedFunctions, Program};
 use std::alloc::{AllocError, Global};
-use mir_substitution::substitutions::Substitutions;
 
 /// The program whose one function is generated from a number below 65,537, with 1 to 512 blocks. It has no metadata and
 /// no substitutions.

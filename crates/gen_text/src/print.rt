@@ -3,11 +3,11 @@
 ghost use Rattle.std.specs.Prelude.{◌≡◌, ◌+◌, ◌++◌, ◌∷◌, ◌<◌, ◌≤◌, [], IfOk, OnOk};
 ghost use Rattle.gen_text.specs.GeneratedText.{variable_line, head_text, metadata_text, generated_text};
 
-use mir_func_printer::print::print_func;
 use gen_function::generator::generate;
+use mir_func_printer::print::print_func;
 use mir_printer::text::{Text, push_numbered, push_str};
-use std::alloc::{AllocError, Global};
 use mir_substitution::substitutions::Substitutions;
+use std::alloc::{AllocError, Global};
 
 /// The file of the function of a number below 65,537 with 1 to 512 blocks: the metadata of its four variables, `a` to
 /// `d`, and its document.

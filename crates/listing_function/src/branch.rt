@@ -8,11 +8,11 @@ ghost use Rattle.emit_code.specs.Rule.{added_before};
 ghost use Rattle.listing_meaning.specs.Listing.{implicits, line_at};
 ghost use Rattle.listing_function.specs.steps.Operands.{compared, branch_by};
 
+use base_ids::code::{BlockId, DebugNumber};
 use emit_code::branch::inverted;
 use listing_text::output::{Implicit, Implicits, ItemLine, Line, SkipLine};
 use mir_func::item::{Item, ItemKind};
 use mir_func::position::Origin;
-use base_ids::code::{BlockId, DebugNumber};
 use rv64_instr::instr::Instr;
 use rv64_instr::op::{BranchOp, Op};
 use rv64_instr::operand::{Operand, Operands};

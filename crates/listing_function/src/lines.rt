@@ -18,12 +18,12 @@ ghost use Rattle.listing_function.specs.steps.Lines.{long_by, long_lines};
 
 use crate::branch::{Branch, branch_of, jump, skip};
 use crate::lowered::listed;
+use base_ids::code::DebugNumber;
 use emit_code::code::Entry;
 use emit_code::objects::ObjectOffsets;
 use listing_text::output::{ItemLine, Line, Lines};
 use mir_func::item::{Item, ItemKind};
 use mir_func::position::Point;
-use base_ids::code::DebugNumber;
 use rv64_instr::instr::Instr;
 use std::alloc::{AllocError, Global};
 

@@ -11,10 +11,10 @@ ghost use Rattle.listing_function.specs.steps.Entries.{IsLow, IsSource, IsPlaced
 
 use crate::lines::push_items;
 use crate::variables::ListedVariables;
+use base_list::List;
 use emit_code::code::{Code, Entry as Laid};
 use emit_code::objects::ObjectOffsets;
 use listing_text::output::{Lines, ListedBlock, ListedFunction, ListedObject};
-use base_list::List;
 use mir_func::block::Block;
 use mir_func::entry::Entry;
 use mir_func::framed::Framed;

@@ -4,11 +4,11 @@ ghost use Rattle.std.specs.Prelude.{◌≡◌, ◌+◌, ◌<◌, ◌^◌, length
 ghost use Rattle.read_metadata.specs.Metadata.{variable_at};
 ghost use Rattle.listing_function.specs.Variables.{name_of, variables_listed};
 
-use listing_text::output::ListedVariable;
-use base_list::List;
-use read_metadata::metadata::Metadata;
-use mir_func::variable::VarId;
 use base_ids::metadata::NodeId;
+use base_list::List;
+use listing_text::output::ListedVariable;
+use mir_func::variable::VarId;
+use read_metadata::metadata::Metadata;
 use rv64_instr::name::Name;
 use std::alloc::{AllocError, Global};
 

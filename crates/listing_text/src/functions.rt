@@ -10,10 +10,10 @@ use crate::hex::push_address;
 use crate::line::push_lines;
 use crate::name::push_name;
 use crate::output::{ListedBlock, ListedFunction, ListedObject, ListedVariable};
-use mir_func::entry::{Entry, OperandPair};
-use mir_printer::text::{Text, push_decimal, push_numbered, push_str};
 use base_ids::code::BlockId;
 use base_ids::metadata::NodeId;
+use mir_func::entry::{Entry, OperandPair};
+use mir_printer::text::{Text, push_decimal, push_numbered, push_str};
 use std::alloc::AllocError;
 
 /// Appends the listing of functions.

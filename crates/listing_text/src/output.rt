@@ -1,11 +1,11 @@
 //! What an output has.
 
+use base_ids::code::{BlockId, ObjectId};
 use base_list::List;
 use mir_func::entry::Entry;
 use mir_func::item::Item;
 use mir_func::position::Origin;
 use mir_func::variable::VarId;
-use base_ids::code::{BlockId, ObjectId};
 use rv64_instr::name::Name;
 use rv64_instr::op::BranchOp;
 use rv64_instr::reg::Reg;

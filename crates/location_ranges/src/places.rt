@@ -6,10 +6,10 @@ ghost use Rattle.value_tracker.specs.Look.{place_of};
 ghost use Rattle.location_ranges.specs.steps.Places.{IsEmpty, ArePlacesAt};
 
 use crate::stand::Stand;
-use value_tracker::firsts::{empty, fill};
-use value_tracker::look::place_of;
 use rv64_instr::place::Place;
 use std::alloc::AllocError;
+use value_tracker::firsts::{empty, fill};
+use value_tracker::look::place_of;
 
 /// Looks up the place of each part of a variable where the walk stands: the first that has its class, and none where no
 /// path leads. A table of first places is filled for it, and emptied again.

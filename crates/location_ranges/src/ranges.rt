@@ -19,15 +19,15 @@ use crate::stand::{Stand, enter, move_to};
 use crate::track::Track;
 use crate::turn::turn_all;
 use crate::values::Values;
-use value_tracker::index::{Index, index_of};
-use emit_code::code::{Code, Entry};
 use dwarf_loclists::range::{RangeLists, Ranges};
+use emit_code::code::{Code, Entry};
+use location_of_variable::group::{Group, groups};
 use mir_func::block::Block;
 use mir_func::variable::VarId;
 use rv64_instr::place::Place;
 use std::alloc::{AllocError, Global};
 use std::mem;
-use location_of_variable::group::{Group, groups};
+use value_tracker::index::{Index, index_of};
 
 /// The walk between two entries.
 #[derive(Drop)]

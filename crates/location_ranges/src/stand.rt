@@ -11,14 +11,14 @@ ghost use Rattle.value_tracker.specs.Held.{PLACES, Passes};
 ghost use Rattle.location_ranges.specs.Stands.{AreValuesOf, Stands, Fits, Falls, IsBlockAt, program};
 
 use crate::values::Values;
+use mir_func::exit::Exit;
+use mir_func::item::{Item, ItemKind};
+use std::alloc::{AllocError, Global};
 use value_tracker::held::Held;
 use value_tracker::index::Index;
 use value_tracker::look::constants;
 use value_tracker::pass::Block as Fixed;
 use value_tracker::start::{settle, start};
-use mir_func::exit::Exit;
-use mir_func::item::{Item, ItemKind};
-use std::alloc::{AllocError, Global};
 
 /// Where the walk stands, and what it knows there (LLVM: `TransferTracker`).
 #[derive(Drop)]

@@ -4,10 +4,10 @@ ghost use Rattle.std.specs.Prelude.{◌≡◌, OnOk, length};
 ghost use Rattle.location_ranges.specs.steps.Saying.{TurnsBy, TurnedBelow};
 
 use crate::track::Track;
-use rv64_instr::place::Place;
-use std::alloc::{AllocError, Global};
 use location_of_variable::group::Group;
 use location_of_variable::location::location;
+use rv64_instr::place::Place;
+use std::alloc::{AllocError, Global};
 
 /// From an address on each variable is where the places of its parts tell, or nowhere.
 pub fn turn_all(

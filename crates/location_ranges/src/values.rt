@@ -1,9 +1,9 @@
 //! What the walk takes of the analysis of values.
 
-use value_solver::entry::BlockEntry;
-use value_solver::tracked::Tracked;
 use mir_func::variable::VarId;
 use mir_substitution::substitutions::Substitutions;
+use value_solver::entry::BlockEntry;
+use value_solver::tracked::Tracked;
 
 /// What is known of the values of a function with its frame.
 #[derive(Drop)]

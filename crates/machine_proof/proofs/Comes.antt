@@ -209,7 +209,8 @@ module _ (source f : Function) (resolve fresolve : OperandPair → Option Operan
         ap (λ (x : Fetch). moved src.enter s.pos (do_fetch src x s.core)) here ∙ ap (λ (x : ItemKind). moved src.enter s.pos (do_item src x s.core)) ek in
         let physical = subst KindReturnsPhysical ek (of_source q i f) in
         return_goes (row_of c) s.core kinds physical w
-        (with_traps j (act (row_of c) s.core) (Rattle.sem_simulation.proofs.Outcomes.faults_traps src.enter s.pos (with_core j (act (row_of c) s.core)) (sym go ∙
+        (with_traps j (act (row_of c) s.core) (Rattle.sem_simulation.proofs.Outcomes.faults_traps src.enter s.pos (with_core j (act (row_of c) s.core))
+        (sym go ∙
         e))) where
           of_source : (q : Pos) (i : Item) → src.fetch q ≡ Here i → KindReturnsPhysical i.kind
           of_source q i e = by_blocks (from_block source.blocks q.block) refl e where

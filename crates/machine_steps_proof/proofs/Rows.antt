@@ -27,7 +27,8 @@ use Rattle.sem_machine.specs.MachineStep.{Stepped, Continues, past, at, set_regi
 use Rattle.sem_machine.specs.MachineStep as machine
 use Rattle.machine_steps_proof.specs.Beside.{frame_low, object_place, Beside}
 use Rattle.machine_steps_proof.proofs.Objects.{object_within}
-use Rattle.machine_steps_proof.proofs.Memory.{spelled_alike, length_low, stored_spelled, stored_elsewhere, untouched, not_touched, is_in_frame, is_above, touched}
+use Rattle.machine_steps_proof.proofs.Memory.{spelled_alike, length_low, stored_spelled, stored_elsewhere, untouched, not_touched, is_in_frame, is_above}
+use Rattle.machine_steps_proof.proofs.Memory.{touched}
 use Rattle.sem_mir.proofs.Places.{stored_other}
 
 -- a row that a word may have

@@ -34,7 +34,8 @@ use Rattle.machine_steps_proof.proofs.Rows.{IsWordRow, FollowsRow, NeedsFrame, a
 use Rattle.machine_steps_proof.proofs.Calls.{FollowsCall, calls, contents, beside_numbered}
 use Rattle.machine_steps_proof.proofs.Registers.{reads_physical}
 use Rattle.machine_steps_proof.proofs.Points.{of_item, PointerMotion, keeps, lowers, raises, leaves, pointer_motion, start_down}
-use Rattle.machine_steps_proof.proofs.Pointers.{SamePointer, row_keeps, adds_falls, final_needs, adds_needs, final_stops, on_falls, on_goes, falls_one, lowers_to}
+use Rattle.machine_steps_proof.proofs.Pointers.{SamePointer, row_keeps, adds_falls, final_needs, adds_needs, final_stops, on_falls, on_goes, falls_one}
+use Rattle.machine_steps_proof.proofs.Pointers.{lowers_to}
 use Rattle.machine_steps_proof.proofs.Pointers.{raises_to, not_zero, goes_target, goes_into, falls_stays, word_goes, call_goes, numbered_code}
 use Rattle.machine_steps_proof.proofs.Lands.{Lands, below_lands, target_lands}
 use Rattle.mir_func.specs.Exits.{exit_of, row_exit, Leaves}

@@ -3,8 +3,8 @@
 ghost use Rattle.std.specs.Prelude.{◌≡◌, IfOk};
 
 use crate::item::{Items, copy_items};
-use base_list::List;
 use base_ids::code::BlockId;
+use base_list::List;
 use std::alloc::{AllocError, Global};
 
 /// A block of a function (LLVM: `MachineBasicBlock`).

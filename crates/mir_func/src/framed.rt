@@ -2,8 +2,8 @@
 
 use crate::block::Blocks;
 use crate::object::Objects;
-use base_list::List;
 use base_ids::code::SlotId;
+use base_list::List;
 use rv64_instr::name::Name;
 use rv64_instr::reg::Reg;
 use std::marker::Model;

@@ -3,8 +3,8 @@
 ghost use Rattle.std.specs.Prelude.{◌≡◌, ◌+◌, ◌^◌, ◌<◌, ◌≤◌};
 ghost use Rattle.mir_func.specs.Objects.{up_to};
 
-use base_list::List;
 use base_ids::code::ObjectId;
+use base_list::List;
 
 /// A stack object: bytes of the frame whose address code may take (LLVM: a frame index that is no spill slot).
 #[derive(Clone, Copy, Debug, PartialEq, Eq)]

@@ -8,8 +8,8 @@ use crate::name::push_name;
 use crate::stack::{push_stack, push_substitutions};
 use mir_func::func::Func;
 use mir_printer::text::{Text, push_str};
-use std::alloc::{AllocError, Global};
 use mir_substitution::substitutions::Substitutions;
+use std::alloc::{AllocError, Global};
 
 /// The document of a function and its substitutions.
 #[tactic(auto, unfolding(crate::specs::FuncText::func_text))]

@@ -12,10 +12,10 @@ ghost use Rattle.mir_func_printer.specs.FuncText.{
   substitutions_text,
 };
 
+use base_ids::code::SlotId;
 use mir_func::entry::{Entry, OperandPair};
 use mir_func::object::Object;
 use mir_printer::text::{Text, push_numbered, push_str};
-use base_ids::code::SlotId;
 use std::alloc::AllocError;
 
 /// Appends the line of a frame slot.

@@ -5,8 +5,8 @@ ghost use Rattle.mir_printer.specs.Growth.{GrownFrom};
 ghost use Rattle.mir_printer.specs.Spelling.{inlined_at_text, location_text};
 
 use crate::text::{Text, push_numbered, push_str};
-use mir_func::location::{InlineLoc, Loc};
 use base_ids::metadata::NodeId;
+use mir_func::location::{InlineLoc, Loc};
 use std::alloc::AllocError;
 
 /// Appends the debug location that an item carries.

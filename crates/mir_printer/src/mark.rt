@@ -18,9 +18,9 @@ ghost use Rattle.mir_printer.specs.Spelling.{
 
 use crate::operand::push_register;
 use crate::text::{Text, push_decimal, push_numbered, push_signed, push_str};
+use base_ids::code::DebugNumber;
 use mir_func::entry::OperandPair;
 use mir_func::variable::{Fragment, MarkValue, VarId};
-use base_ids::code::DebugNumber;
 use rv64_instr::place::Place;
 use rv64_instr::reg::Reg;
 use std::alloc::AllocError;

@@ -4,8 +4,8 @@ ghost use Rattle.std.specs.Prelude.{◌≡◌, ◌++◌, OnOk, OnErr};
 ghost use Rattle.std.specs.Fmt.{decimal, signed_decimal};
 ghost use Rattle.mir_printer.specs.Growth.{GrownFrom};
 
-use itoa::{Buffer, Integer};
 use base_list::List;
+use itoa::{Buffer, Integer};
 use std::alloc::AllocError;
 
 /// Text that grows at its end, by its bytes.

@@ -6,13 +6,13 @@ ghost use Rattle.mir_func.specs.Parts.{IsPart};
 ghost use Rattle.mir_type_facts.specs.Typed.{IsTypedBlock, IsTypedItem, IsTypedKind, IsTypedCode, IsTypedVariable};
 ghost use Rattle.mir_type_facts.specs.Typed.{IsTypedPlace, IsTypedPair, IsTypedEntry};
 
+use base_ids::code::{BlockId, DebugNumber, ObjectId, OperandIndex, SlotId};
+use base_ids::metadata::NodeId;
 use mir_func::block::Block;
 use mir_func::entry::{Entry, OperandPair};
 use mir_func::item::{Item, ItemKind};
 use mir_func::location::{InlineLoc, Loc};
 use mir_func::variable::{Fragment, MarkValue, VarId};
-use base_ids::code::{BlockId, DebugNumber, ObjectId, OperandIndex, SlotId};
-use base_ids::metadata::NodeId;
 use rv64_instr::instr::Instr;
 use rv64_instr::operand::Operand;
 use rv64_instr::place::Place;

@@ -1,8 +1,8 @@
 //! The program: the command over the host. Faults are told on standard error, and the status is the exit code.
 #![tactic(auto)]
 
-use tool_host::run;
 use std::process::ExitCode;
+use tool_host::run;
 
 fn main(rt: HostRuntime) -> ExitCode {
     run(&rt, rt.stderr())

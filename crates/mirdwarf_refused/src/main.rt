@@ -2,8 +2,8 @@
 //! status and standard output alone, so it sees the fault's line here.
 #![tactic(auto)]
 
-use tool_host::run;
 use std::process::ExitCode;
+use tool_host::run;
 
 fn main(rt: HostRuntime) -> ExitCode {
     run(&rt, rt.stdout())

@@ -14,11 +14,11 @@ ghost use Rattle.pass_liveness.specs.Liveness.{AreLiveSets, DecidesIn, LivePast,
 use crate::index::Index;
 use crate::names::Names;
 use crate::set::PlaceSet;
+use base_ids::code::SlotId;
 use mir_func::block::Block;
 use mir_func::func::Func;
 use mir_func::item::ItemKind;
 use mir_func::successors::Successors;
-use base_ids::code::SlotId;
 use rv64_instr::place::Place;
 use std::alloc::{AllocError, Global};
 use std::marker::Model;

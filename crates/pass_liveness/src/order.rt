@@ -3,10 +3,10 @@
 ghost use Rattle.std.specs.Prelude.{◌≡◌, ℕ, ◌<◌, length, IfOk, All, Contains};
 
 use crate::names::Names;
+use base_ids::code::BlockId;
 use mir_func::block::Block;
 use mir_func::func::Func;
 use mir_func::successors::Successors;
-use base_ids::code::BlockId;
 use std::alloc::{AllocError, Global};
 
 impl Names {

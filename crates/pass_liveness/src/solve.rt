@@ -12,10 +12,10 @@ ghost use Rattle.pass_liveness.specs.Solving.{IsKnownBlock, Visited, Swept, Sett
 
 use crate::names::Names;
 use crate::set::PlaceSet;
+use base_ids::code::BlockId;
 use mir_func::block::Block;
 use mir_func::item::Item;
 use mir_func::successors::id_at;
-use base_ids::code::BlockId;
 
 impl Names {
     /// Adds to a block's set what is live at its start by the sets of the others, and tells whether there was anything

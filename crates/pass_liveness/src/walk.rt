@@ -9,9 +9,9 @@ ghost use Rattle.pass_liveness.specs.Liveness.{has_at_start};
 
 use crate::names::Names;
 use crate::set::PlaceSet;
+use base_ids::code::BlockId;
 use mir_func::exit::Exit;
 use mir_func::item::Item;
-use base_ids::code::BlockId;
 
 impl Names {
     /// Adds what is live at the start of the block of a number.

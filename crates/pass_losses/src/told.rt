@@ -6,8 +6,8 @@ ghost use Rattle.std.specs.List.Sorted.{IsStrictlySortedBy};
 ghost use Rattle.pass_trait.specs.Order.{IsInOrder};
 ghost use Rattle.pass_losses.specs.Told.{AreTold};
 
-use pass_trait::loss::{Loss, Losses};
 use base_list::List;
+use pass_trait::loss::{Loss, Losses};
 
 /// Losses as they are told: in order, each once. It takes no memory.
 pub fn told(lost: Losses) -> Losses

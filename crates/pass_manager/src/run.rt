@@ -8,23 +8,24 @@ ghost use Rattle.pass_trait.specs.Sizes.{greatest, greatest_number, item_count, 
 ghost use Rattle.pass_trait.specs.Sizes.{most_numbers};
 ghost use Rattle.pass_trait.specs.Steps.{KeepsSteps};
 ghost use Rattle.pass_manager.specs.Passes.{steps_of_pass, asks, keeps, factor, count};
-ghost use Rattle.pass_manager.specs.Passes.{passes_of, any_asks, all_keep, Fit, numbers_after, slots_after, KeepsGrowth};
+ghost use Rattle.pass_manager.specs.Passes.{passes_of, any_asks, all_keep, Fit, numbers_after, slots_after};
+ghost use Rattle.pass_manager.specs.Passes.{KeepsGrowth};
 ghost use Rattle.pass_manager.specs.Shown.{KeepsShown};
 ghost use Rattle.pass_manager.specs.Told.{KeepsPasses};
 
-use fold_pass::fold::FoldPass;
 use copyprop_pass::copies::CopyPass;
 use dce_pass::dead::DeadPass;
+use fold_pass::fold::FoldPass;
+use mir_func::func::Func;
+use mir_substitution::substitutions::Substitutions;
+use pass_list::kind::PassKind;
+use pass_losses::told::told;
 use pass_trait::loss::Losses;
 use pass_trait::pass::Pass;
-use mir_func::func::Func;
-use pass_list::kind::PassKind;
 use remat_pass::remat::RematPass;
 use rv64_instr::reg::{Reg, Registers};
 use spill_pass::spill::SpillPass;
 use std::alloc::{AllocError, Global};
-use mir_substitution::substitutions::Substitutions;
-use pass_losses::told::told;
 
 /// Runs passes one after the other, and tells what they lost, one after the other: what a pass lost stands in order,
 /// each once. The reserve has the registers that may be spilled. After an error the function and its substitutions are

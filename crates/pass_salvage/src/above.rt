@@ -20,16 +20,16 @@ ghost use Rattle.pass_salvage.specs.Above.{IsIndexOf, is_past, later, moved};
 
 use crate::salvage::entry_for;
 use crate::way::{Way, first_definition, has_entry, way_unless};
+use base_ids::code::{DebugNumber, OperandIndex};
 use mir_func::entry::OperandPair;
 use mir_func::item::{Item, ItemKind};
 use mir_func::variable::MarkValue;
-use base_ids::code::{DebugNumber, OperandIndex};
+use mir_substitution::substitutions::Substitutions;
 use rv64_instr::decoded::Decoded;
 use rv64_instr::parts::CALLER_SAVED;
 use rv64_instr::reg::Reg;
 use std::alloc::{AllocError, Global};
 use std::collections::HashMap;
-use mir_substitution::substitutions::Substitutions;
 
 /// Where the items above a place define registers and ask for numbers.
 #[derive(Drop)]

@@ -5,15 +5,15 @@ ghost use Rattle.pass_salvage.specs.Way.{way};
 ghost use Rattle.pass_salvage.specs.Salvage.{with_number, entry_for, entries_for, fresh_after, phi_for, items_after};
 
 use crate::way::{Way, choose_way};
+use base_ids::code::{DebugNumber, OperandIndex};
 use mir_func::entry::{Entry, OperandPair};
 use mir_func::item::{Item, ItemKind};
 use mir_func::location::Loc;
 use mir_func::position::Origin;
-use base_ids::code::{DebugNumber, OperandIndex};
+use mir_substitution::substitutions::Substitutions;
 use rv64_instr::place::Place;
 use rv64_instr::reg::Reg;
 use std::alloc::AllocError;
-use mir_substitution::substitutions::Substitutions;
 
 /// Takes a copy of `source` with a number out of a block's items, or puts the phi in its place, and adds the
 /// substitution. `removed` has the ascending indices of the other items that the caller removes too, which stay for

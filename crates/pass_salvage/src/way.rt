@@ -12,15 +12,15 @@ ghost use Rattle.pass_salvage.specs.Way.{last_definition, is_register, first_def
 ghost use Rattle.pass_salvage.specs.Way.{or_fresh, way_by, way};
 ghost use Rattle.pass_salvage.specs.Above.{way_unless};
 
+use base_ids::code::{DebugNumber, OperandIndex};
 use mir_func::entry::OperandPair;
 use mir_func::item::{Item, ItemKind};
 use mir_func::variable::MarkValue;
-use base_ids::code::{DebugNumber, OperandIndex};
+use mir_substitution::substitutions::Substitutions;
 use rv64_instr::instr::Instr;
 use rv64_instr::operand::Operand;
 use rv64_instr::place::Place;
 use rv64_instr::reg::Reg;
-use mir_substitution::substitutions::Substitutions;
 
 /// What becomes of the number of a copy that is removed (LLVM: salvaging of debug information).
 #[derive(Clone, Copy, Debug, PartialEq, Eq)]

@@ -6,8 +6,8 @@ ghost use Rattle.std.proofs.Common.{rules};
 use crate::loss::Losses;
 use crate::pass::Pass;
 use mir_func::func::Func;
-use std::alloc::{AllocError, Global};
 use mir_substitution::substitutions::Substitutions;
+use std::alloc::{AllocError, Global};
 
 /// The pass that does nothing.
 #[derive(Drop)]

@@ -1,7 +1,7 @@
 //! What passes lose, and why.
+use base_ids::code::DebugNumber;
 use base_list::List;
 use mir_func::position::Pos;
-use base_ids::code::DebugNumber;
 use rv64_instr::reg::Reg;
 
 /// Why something is lost, in the order in which reports have them.

@@ -12,15 +12,15 @@ ghost use Rattle.std.proofs.Common.{rules};
 
 use crate::loss::{Loss, Losses, Lost, Reason};
 use crate::pass::Pass;
+use base_ids::code::DebugNumber;
 use mir_func::block::Block;
 use mir_func::func::Func;
 use mir_func::item::{Item, ItemKind};
 use mir_func::position::Origin;
-use base_ids::code::DebugNumber;
+use mir_substitution::substitutions::Substitutions;
 use rv64_instr::decoded::Decoded;
 use rv64_instr::instr::Instr;
 use std::alloc::{AllocError, Global};
-use mir_substitution::substitutions::Substitutions;
 
 /// Takes out no-operations: constant definitions of x0. Their numbers are lost. A function to which slot stores were
 /// added stays as it is.

@@ -9,8 +9,8 @@ ghost use Rattle.pass_trait.specs.Sizes.{greatest, greatest_number, most_numbers
 
 use crate::loss::Losses;
 use mir_func::func::Func;
-use std::alloc::{AllocError, Global};
 use mir_substitution::substitutions::Substitutions;
+use std::alloc::{AllocError, Global};
 
 /// A change of a function and its substitutions, with what it keeps. A pass states of itself the facts below, and its
 /// laws are the clauses of `run` over them:

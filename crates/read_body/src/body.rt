@@ -28,6 +28,7 @@ ghost use Rattle.read_body.specs.Body.{
 use crate::limits::{MAX_CONSTANTS, MAX_ITEMS, MAX_NUMBERS, MAX_VARIABLES};
 use crate::met::Met;
 use crate::variables::{Variables, meet};
+use base_ids::code::{BlockId, DebugNumber, SlotId};
 use base_list::List;
 use mir_func::block::{Block, Blocks};
 use mir_func::item::{Item, ItemKind};
@@ -35,7 +36,6 @@ use mir_func::limits::MAX_BLOCKS;
 use mir_func::location::Loc;
 use mir_func::position::{Origin, Pos};
 use mir_func::variable::MarkValue;
-use base_ids::code::{BlockId, DebugNumber, SlotId};
 use read_refusal::kind::RefusalKind;
 use rv64_instr::decoded::{Base, Decoded};
 use std::alloc::{AllocError, Global};

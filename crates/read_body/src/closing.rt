@@ -5,10 +5,10 @@ ghost use Rattle.mir_func.specs.declared.exit.Exit.{Exit};
 ghost use Rattle.read_body.specs.Closing.{goes_to_one_of, item_goes_to, block_goes_to, blocks_go_to, all_met};
 
 use crate::met::Met;
+use base_ids::code::SlotId;
 use mir_func::block::Block;
 use mir_func::exit::Exit;
 use mir_func::item::Item;
-use base_ids::code::SlotId;
 
 /// Whether control goes to one of these blocks, where it goes to a block of a number.
 fn goes_to_one_of(ids: &Met, exit: Exit) -> bool

@@ -14,11 +14,11 @@ ghost use Rattle.read_body.specs.Frame.{
 };
 
 use crate::met::Met;
+use base_ids::code::ObjectId;
 use base_list::List;
-use read_declarations::stack::StackEntry;
 use mir_func::func::SlotIds;
 use mir_func::object::{Object, Objects, up_to};
-use base_ids::code::ObjectId;
+use read_declarations::stack::StackEntry;
 use std::alloc::{AllocError, Global};
 
 /// The size of a slot, in bytes.

@@ -4,9 +4,9 @@ ghost use Rattle.std.specs.Prelude.{◌≡◌, [], OnOk, OnErr};
 ghost use Rattle.mir_func.specs.Variables.{is_same, is_same_node};
 ghost use Rattle.read_body.specs.Met.{is_known, known};
 
+use base_ids::metadata::NodeId;
 use base_list::List;
 use mir_func::variable::{VarId, are_same_bytes};
-use base_ids::metadata::NodeId;
 use std::alloc::AllocError;
 
 /// Parts of variables, each once, in the order in which they were met first.

@@ -8,13 +8,13 @@ use crate::list::list;
 use crate::name::name;
 use crate::stack::{StackEntries, stack};
 use crate::substitutions::substitutions;
+use mir_substitution::substitutions::Substitutions;
 use read_documents::parts::FunctionDocument;
 use read_lexer::line::Line;
 use read_refusal::first::{Refusal, earlier};
 use read_refusal::kind::RefusalKind;
 use rv64_instr::name::Name;
 use std::alloc::{AllocError, Global};
-use mir_substitution::substitutions::Substitutions;
 use thiserror::Error;
 
 /// What a function declares before its body.

@@ -21,8 +21,8 @@ ghost use Rattle.read_declarations.specs.Entry.{
 
 use crate::stream::{Piece, text_at};
 use base_list::List;
-use read_metadata::token::{is_byte, is_integer, is_text, is_word};
 use read_lexer::line::Line;
+use read_metadata::token::{is_byte, is_integer, is_text, is_word};
 use read_refusal::first::Refusal;
 use read_refusal::kind::RefusalKind;
 use std::alloc::{AllocError, Global};

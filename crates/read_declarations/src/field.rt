@@ -5,10 +5,10 @@ ghost use Rattle.read_declarations.specs.Field.{value_at, number_of, needed, giv
 
 use crate::entry::Field;
 use crate::stream::{Piece, text_at};
+use read_lexer::line::Line;
 use read_metadata::number::integer;
 use read_metadata::text::inside_quotes;
 use read_metadata::token::{is_integer, is_text};
-use read_lexer::line::Line;
 
 /// The value of the field with a key.
 pub fn value_at(lines: &[Line], fields: &[Field], key: &[u8]) -> Option<Piece>

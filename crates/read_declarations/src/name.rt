@@ -16,12 +16,12 @@ ghost use Rattle.read_declarations.specs.Name.{
 
 use crate::entry::bad_line;
 use base_list::List;
-use read_metadata::text::{inside_quotes, unescaped};
-use read_metadata::token::{is_text, is_word, text_of};
 use read_lexer::fault::LexError;
 use read_lexer::lexer::tokens;
 use read_lexer::line::Line;
 use read_lexer::parts::Token;
+use read_metadata::text::{inside_quotes, unescaped};
+use read_metadata::token::{is_text, is_word, text_of};
 use read_refusal::first::Refusal;
 use read_refusal::kind::RefusalKind;
 use rv64_instr::name::Name;

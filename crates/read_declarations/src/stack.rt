@@ -16,10 +16,10 @@ ghost use Rattle.read_declarations.specs.Stack.{
 use crate::entry::Field;
 use crate::field::{given, is_variable_sized, needed, value_at};
 use crate::list::list;
+use base_ids::code::SlotId;
 use base_list::List;
 use mir_func::limits::MAX_SLOTS;
 use read_lexer::line::Line;
-use base_ids::code::SlotId;
 use read_refusal::first::{Refusal, earlier};
 use read_refusal::kind::RefusalKind;
 use std::alloc::{AllocError, Global};

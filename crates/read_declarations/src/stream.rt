@@ -12,12 +12,12 @@ ghost use Rattle.read_declarations.specs.Stream.{
 };
 
 use base_list::List;
-use read_metadata::token::text_of;
 use read_lexer::comment::before_comment;
 use read_lexer::fault::LexError;
 use read_lexer::lexer::tokens;
 use read_lexer::line::Line;
 use read_lexer::parts::{Token, Tokens};
+use read_metadata::token::text_of;
 use read_refusal::first::Refusal;
 use read_refusal::kind::RefusalKind;
 use std::alloc::{AllocError, Global};

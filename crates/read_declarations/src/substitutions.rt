@@ -6,12 +6,12 @@ ghost use Rattle.read_declarations.specs.Substitutions.{pair_of, substitution_of
 use crate::entry::{Field, bad_line};
 use crate::field::{given, needed};
 use crate::list::list;
-use mir_func::entry::{Entry, OperandPair};
-use read_lexer::line::Line;
 use base_ids::code::{DebugNumber, OperandIndex};
+use mir_func::entry::{Entry, OperandPair};
+use mir_substitution::substitutions::Substitutions;
+use read_lexer::line::Line;
 use read_refusal::first::{Refusal, earlier};
 use std::alloc::{AllocError, Global};
-use mir_substitution::substitutions::Substitutions;
 
 /// The substitutions so far, and the first refusal.
 #[derive(Drop)]

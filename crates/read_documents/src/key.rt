@@ -2,7 +2,8 @@
 
 ghost use Rattle.std.specs.Prelude.{◌≡◌};
 ghost use Rattle.std.specs.List.{prefix_len};
-ghost use Rattle.read_documents.specs.Key.{is_close, opens_block, opens_function, is_passed, is_plain, is_key_byte, key_of};
+ghost use Rattle.read_documents.specs.Key.{is_close, opens_block, opens_function, is_passed, is_plain, is_key_byte};
+ghost use Rattle.read_documents.specs.Key.{key_of};
 ghost use Rattle.read_documents.specs.Key.{heading};
 
 /// A key at the start of a function's line.

@@ -1,7 +1,8 @@
 //! A function between the line that opens it and the one that closes it.
 
 ghost use Rattle.std.specs.Prelude.{◌≡◌, OnOk, IfOk};
-ghost use Rattle.read_documents.specs.steps.Scan.{just_opened, has, can_not_take, with_line, taken, can_close, closed_at};
+ghost use Rattle.read_documents.specs.steps.Scan.{just_opened, has, can_not_take, with_line, taken, can_close};
+ghost use Rattle.read_documents.specs.steps.Scan.{closed_at};
 
 use crate::key::{Key, heading, is_plain, opens_block, opens_function};
 use crate::parts::FunctionDocument;

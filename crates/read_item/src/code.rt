@@ -19,9 +19,9 @@ ghost use Rattle.read_item.specs.Code.{
 use crate::judged::JudgeError;
 use crate::operand::{operands_of, places_of};
 use crate::place::Place;
-use read_token::lexeme::{Flag, RegisterName};
 use read_line::form::{ItemForm, OperandForm, RegisterForm};
 use read_refusal::kind::RefusalKind;
+use read_token::lexeme::{Flag, RegisterName};
 use rv64_instr::instr::Instr;
 use rv64_instr::op::Op;
 use std::alloc::Global;

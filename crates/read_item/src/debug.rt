@@ -31,15 +31,15 @@ ghost use Rattle.read_item.specs.Debug.{
 
 use crate::code::is_long;
 use crate::opcode::DebugOpcode;
-use read_metadata::metadata::Metadata;
+use base_ids::code::DebugNumber;
+use base_ids::metadata::NodeId;
 use mir_func::item::ItemKind;
 use mir_func::location::Loc;
 use mir_func::variable::{Fragment, MarkValue, VarId};
-use read_token::lexeme::{Flag, RegisterName};
 use read_line::form::{Expression, ItemForm, OperandForm};
-use base_ids::code::DebugNumber;
-use base_ids::metadata::NodeId;
+use read_metadata::metadata::Metadata;
 use read_refusal::kind::RefusalKind;
+use read_token::lexeme::{Flag, RegisterName};
 use rv64_instr::place::Place;
 use rv64_instr::reg::Reg;
 

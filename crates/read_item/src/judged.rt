@@ -1,9 +1,9 @@
 //! What a line is judged to be.
 
+use base_ids::code::SlotId;
 use base_list::List;
 use mir_func::item::ItemKind;
 use mir_func::location::Loc;
-use base_ids::code::SlotId;
 use read_refusal::kind::RefusalKind;
 use std::alloc::AllocError;
 use thiserror::Error;

@@ -18,9 +18,9 @@ ghost use Rattle.read_item.specs.Code.{
 };
 
 use crate::place::{Place, behind, front, places};
-use read_token::lexeme::{Flag, RegisterName};
-use read_line::form::{ItemForm, OperandForm, RegisterForm};
 use base_ids::code::{BlockId, ObjectId, SlotId};
+use read_line::form::{ItemForm, OperandForm, RegisterForm};
+use read_token::lexeme::{Flag, RegisterName};
 use rv64_instr::arithmetic::{load_width, store_width};
 use rv64_instr::name::Name;
 use rv64_instr::op::Op;

@@ -22,10 +22,10 @@ ghost use Rattle.read_line.specs.Attribute.{
 
 use crate::front::{behind_close, behind_comma};
 use crate::operand::counted;
-use mir_func::location::{InlineLoc, Loc};
-use read_token::lexeme::{Lexeme, Word};
 use base_ids::code::DebugNumber;
 use base_ids::metadata::NodeId;
+use mir_func::location::{InlineLoc, Loc};
+use read_token::lexeme::{Lexeme, Word};
 
 /// What the attributes of an item say.
 #[derive(Clone, Copy, Debug)]

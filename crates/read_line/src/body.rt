@@ -18,13 +18,13 @@ ghost use Rattle.read_line.specs.Body.{
 use crate::form::{BodyLine, LineError};
 use crate::front::behind_bracket;
 use crate::item::item;
-use read_token::lexeme::{BEYOND, Lexeme, Word};
-use read_token::sentence::lexemes;
+use base_ids::code::BlockId;
 use read_lexer::bytes::is_blank;
 use read_lexer::comment::{before_comment, before_memory_operands};
 use read_lexer::fault::LexError;
 use read_lexer::lexer::tokens;
-use base_ids::code::BlockId;
+use read_token::lexeme::{BEYOND, Lexeme, Word};
+use read_token::sentence::lexemes;
 use std::alloc::Global;
 
 /// How many spaces and tabs are at the front.

@@ -16,9 +16,9 @@ ghost use Rattle.read_line.specs.Exceeds.{
 
 use crate::attribute::Attributes;
 use crate::form::{Definitions, OperandForm, OperandForms, RegisterForm};
+use base_ids::metadata::NodeId;
 use mir_func::location::Loc;
 use read_token::lexeme::{BEYOND, Lexeme, Number, RegisterName};
-use base_ids::metadata::NodeId;
 
 /// Whether a number is above 2^30 - 1.
 fn is_beyond(n: u32) -> bool

@@ -1,12 +1,12 @@
 //! The forms of lines.
 
+use base_ids::code::{BlockId, DebugNumber, SlotId};
+use base_ids::metadata::NodeId;
 use base_list::List;
 use mir_func::entry::OperandPair;
 use mir_func::location::Loc;
 use mir_func::variable::Fragment;
 use read_token::lexeme::{Flag, RegisterName};
-use base_ids::code::{BlockId, DebugNumber, SlotId};
-use base_ids::metadata::NodeId;
 use rv64_instr::name::Name;
 use std::alloc::AllocError;
 use thiserror::Error;

@@ -27,9 +27,9 @@ use crate::front::{behind_comma, behind_equals};
 use crate::operand::operand;
 use crate::register::{begins_register, register};
 use base_list::List;
+use read_lexer::parts::Token;
 use read_token::lexeme::{Lexeme, Word};
 use read_token::sentence::text_of;
-use read_lexer::parts::Token;
 use rv64_instr::name::Name;
 use std::alloc::{AllocError, Global};
 

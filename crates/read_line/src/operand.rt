@@ -25,11 +25,11 @@ ghost use Rattle.read_line.specs.Operand.{
 use crate::form::{Expression, OperandForm};
 use crate::front::behind_bracket;
 use crate::register::register;
+use base_ids::code::{DebugNumber, OperandIndex};
 use mir_func::entry::OperandPair;
 use mir_func::variable::Fragment;
 use read_token::lexeme::{BEYOND, Lexeme, Number, Word};
 use read_token::symbol::symbol_name;
-use base_ids::code::{DebugNumber, OperandIndex};
 use std::alloc::{AllocError, Global};
 
 /// An integer where it names or counts something: `BEYOND` where it is negative or above the limit.

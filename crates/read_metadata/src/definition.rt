@@ -19,9 +19,9 @@ ghost use Rattle.read_metadata.specs.Definition.{
 
 use crate::number::spelled;
 use crate::text::{inside_quotes, unescaped};
+use base_ids::metadata::NodeId;
 use base_list::List;
 use read_lexer::bytes::{digits, is_blank, position, symbol_bytes};
-use base_ids::metadata::NodeId;
 use rv64_instr::name::Name;
 use std::alloc::{AllocError, Global};
 

@@ -22,9 +22,9 @@ ghost use Rattle.read_metadata.specs.Field.{
 use crate::number::{integer, node_number};
 use crate::text::inside_quotes;
 use crate::token::{is_byte, is_integer, is_node, is_text, is_word, text_of};
+use base_ids::metadata::NodeId;
 use base_list::List;
 use read_lexer::parts::Token;
-use base_ids::metadata::NodeId;
 use std::alloc::{AllocError, Global};
 
 /// A field: the word before its colon, and the token behind it, None where several are there.

@@ -17,10 +17,10 @@ use crate::kind::node_of_kind;
 use crate::node::Node;
 use crate::number::node_number;
 use crate::token::{is_byte, is_kind, is_node, is_word, text_of};
+use base_ids::metadata::NodeId;
 use read_lexer::fault::LexError;
 use read_lexer::lexer::tokens;
 use read_lexer::parts::Token;
-use base_ids::metadata::NodeId;
 use std::alloc::{AllocError, Global};
 
 /// A line without the spaces at its front.

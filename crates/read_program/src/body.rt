@@ -6,14 +6,14 @@ ghost use Rattle.read_body.specs.Limits.{MAX_ITEMS};
 ghost use Rattle.read_line.specs.Body.{body_line_of};
 ghost use Rattle.read_program.specs.BodyLines.{Reads, label_said, item_said, line_said, behind_line, body_of};
 
-use read_metadata::metadata::Metadata;
+use base_ids::code::BlockId;
 use read_body::body::Body;
 use read_item::judge::judge;
 use read_item::judged::{JudgeError, Judged};
 use read_lexer::line::Line;
 use read_line::body::body_line;
 use read_line::form::{BodyLine, ItemForm, LineError};
-use base_ids::code::BlockId;
+use read_metadata::metadata::Metadata;
 use read_refusal::first::Refusal;
 use read_refusal::kind::RefusalKind;
 use std::alloc::{AllocError, Global};

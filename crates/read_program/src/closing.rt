@@ -12,20 +12,20 @@ ghost use Rattle.read_program.specs.Closing.{AreEntries, entry_ids, parts_of, Cl
 use crate::error::ParseError;
 use crate::objects::{blocks_as, blocks_stay};
 use base_list::List;
+use mir_func::block::{Block, Blocks};
+use mir_func::func::{Func, FuncError, SlotIds};
+use mir_func::object::Objects;
+use mir_substitution::substitutions::Substitutions;
 use read_body::body::Body;
 use read_body::closing::{all_met, blocks_go_to};
 use read_body::frame::{object_ids, objects, slots};
 use read_body::met::Met;
 use read_declarations::declarations::Declarations;
 use read_declarations::stack::StackEntry;
-use mir_func::block::{Block, Blocks};
-use mir_func::func::{Func, FuncError, SlotIds};
-use mir_func::object::Objects;
 use read_refusal::first::Refusal;
 use read_refusal::kind::RefusalKind;
 use rv64_instr::name::Name;
 use std::alloc::{AllocError, Global};
-use mir_substitution::substitutions::Substitutions;
 
 /// A function that a document stands for, with the substitutions of its debug instruction numbers.
 #[derive(Drop)]

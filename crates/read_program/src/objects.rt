@@ -20,12 +20,12 @@ ghost use Rattle.read_program.specs.Objects.{
   blocks_stay,
 };
 
+use base_ids::code::ObjectId;
 use base_list::List;
-use read_body::met::Met;
 use mir_func::block::{Block, Blocks};
 use mir_func::item::{Item, ItemKind, Items};
 use mir_func::object::Object;
-use base_ids::code::ObjectId;
+use read_body::met::Met;
 use rv64_instr::arithmetic::{load_width, store_width};
 use rv64_instr::decoded::{Base, Decoded};
 use rv64_instr::instr::Instr;

@@ -10,10 +10,10 @@ ghost use Rattle.read_program.specs.Closing.{AreEntries, IsRefused, ParsesParts,
 use crate::body::read_body;
 use crate::closing::{Parsed, close};
 use crate::error::ParseError;
-use read_metadata::metadata::Metadata;
 use read_body::body::Body;
 use read_declarations::declarations::{DeclarationError, Declarations, read_declarations};
 use read_documents::parts::FunctionDocument;
+use read_metadata::metadata::Metadata;
 use read_refusal::first::{Refusal, comes_before};
 use std::alloc::{AllocError, Global};
 

@@ -1,9 +1,9 @@
 //! Lexemes.
 
-use base_list::List;
-use read_lexer::parts::Token;
 use base_ids::code::{BlockId, SlotId};
 use base_ids::metadata::NodeId;
+use base_list::List;
+use read_lexer::parts::Token;
 use rv64_instr::reg::Reg;
 
 /// The number that stands for every number above the limit, or below 0 where a number counts or names something:

@@ -20,8 +20,8 @@ ghost use Rattle.read_token.specs.Register.{
 use crate::lexeme::{Lexeme, RegisterName};
 use crate::number::limited;
 use crate::word::named_number;
-use read_lexer::bytes::digits;
 use base_ids::code::{BlockId, SlotId};
+use read_lexer::bytes::digits;
 use rv64_instr::reg::{Reg, physical};
 
 /// The register xN of a number in two digits.

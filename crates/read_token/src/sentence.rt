@@ -8,9 +8,9 @@ use crate::lexeme::{Lexeme, Lexemes};
 use crate::number::{limited, number};
 use crate::register::{percent, register};
 use crate::word::word;
+use base_ids::metadata::NodeId;
 use base_list::List;
 use read_lexer::parts::{Class, Token};
-use base_ids::metadata::NodeId;
 use std::alloc::{AllocError, Global};
 
 /// The bytes of a line that a token spans, as far as the line goes.

@@ -6,8 +6,8 @@ ghost use Rattle.read_token.specs.Sentence.{symbol_name};
 
 use crate::sentence::text_of;
 use base_list::List;
-use read_metadata::text::{inside_quotes, unescaped};
 use read_lexer::parts::Token;
+use read_metadata::text::{inside_quotes, unescaped};
 use rv64_instr::name::Name;
 use std::alloc::{AllocError, Global};
 

@@ -15,8 +15,8 @@ ghost use Rattle.read_token.specs.Word.{
 
 use crate::lexeme::{Flag, Word};
 use crate::number::limited;
-use read_lexer::bytes::digits;
 use base_ids::code::BlockId;
+use read_lexer::bytes::digits;
 
 /// Whether it is a word before a register of which nothing is kept.
 #[tactic(auto, unfolding(crate::specs::Word::is_plain))]

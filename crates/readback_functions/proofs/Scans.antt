@@ -15,7 +15,8 @@ use Rattle.read_documents.specs.declared.scan.Scan.{Scan}
 use Rattle.read_documents.specs.declared.parts.FunctionDocument.{FunctionDocument}
 use Rattle.read_documents.specs.declared.parts.Documents.{Documents}
 use Rattle.read_documents.specs.Key.{is_close, opens_block, opens_function, is_plain, heading}
-use Rattle.read_documents.specs.steps.Scan.{just_opened, has, can_not_take, with_line, with_key, taken_under, taken, can_close, closed_at, start, scan, scan_or_stop}
+use Rattle.read_documents.specs.steps.Scan.{just_opened, has, can_not_take, with_line, with_key, taken_under, taken, can_close, closed_at, start, scan}
+use Rattle.read_documents.specs.steps.Scan.{scan_or_stop}
 use Rattle.read_documents.proofs.Scanned.{scan-lines_of}
 use Rattle.readback_functions.specs.Document.{IsLine, IsIndented, text_of_lines, lines_from, Document, behind_name, document_lines, IsSection, IsDocument}
 use Rattle.readback_functions.specs.Document.{document_at, documents_at, DocumentsReadBack}

@@ -9,8 +9,8 @@ ghost use Rattle.remat_pass.specs.Remat.{set_to, constant_set};
 ghost use Rattle.remat_pass.specs.Table.{known_by, is_among};
 
 use crate::constant::Constant;
-use mir_func::item::ItemKind;
 use base_ids::code::SlotId;
+use mir_func::item::ItemKind;
 use rv64_instr::decoded::Decoded;
 use rv64_instr::parts::CALLER_SAVED;
 use rv64_instr::reg::Reg;

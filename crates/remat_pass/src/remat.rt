@@ -14,14 +14,14 @@ ghost use Rattle.std.proofs.Common.{rules};
 
 use crate::constant::constant_code;
 use crate::known::Known;
-use pass_trait::loss::Losses;
-use pass_trait::pass::Pass;
 use mir_func::block::Block;
 use mir_func::func::Func;
 use mir_func::item::{Item, ItemKind};
+use mir_substitution::substitutions::Substitutions;
+use pass_trait::loss::Losses;
+use pass_trait::pass::Pass;
 use rv64_instr::instr::Instr;
 use std::alloc::{AllocError, Global};
-use mir_substitution::substitutions::Substitutions;
 
 /// Sets constants again where they are copied or loaded from a slot, so that what held them may be dead. Nothing is
 /// lost.

@@ -5,15 +5,15 @@ ghost use Rattle.report_command.specs.Reported.{HasParts, variable_count, part_o
 ghost use Rattle.dwarf_loclists.specs.Ranges.{Ascend};
 ghost use Rattle.report_function.specs.ProgramReport.{function_report, program_report};
 
+use compile_program::compile::Compilation;
+use dwarf_loclists::range::Ranges;
 use emit_code::code::Code;
 use listing_text::output::{ListedFunction, ListedVariable};
-use report_function::make::make_report;
-use report_function::debugify_print::print_report;
-use report_function::report::Names;
-use dwarf_loclists::range::Ranges;
-use pass_trait::loss::Losses;
 use mir_printer::text::Text;
-use compile_program::compile::Compilation;
+use pass_trait::loss::Losses;
+use report_function::debugify_print::print_report;
+use report_function::make::make_report;
+use report_function::report::Names;
 use std::alloc::{AllocError, Global};
 
 /// The reports of the functions of a program that is compiled, one after the other.

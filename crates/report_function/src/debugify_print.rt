@@ -6,8 +6,8 @@ ghost use Rattle.report_function.specs.Text.{reason_text, lost_text, loss_line, 
 
 use crate::report::{Cover, Report};
 use listing_text::name::push_name;
-use pass_trait::loss::{Loss, Lost, Reason};
 use mir_printer::text::{Text, push_decimal, push_numbered, push_str};
+use pass_trait::loss::{Loss, Lost, Reason};
 use std::alloc::{AllocError, Global};
 
 /// The lines of a report: the function, its words, its variables, and what was lost.

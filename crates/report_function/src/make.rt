@@ -6,8 +6,8 @@ ghost use Rattle.report_function.specs.Report.{cover_of, covers_of, report_of};
 
 use crate::covers::covered;
 use crate::report::{Cover, Covers, Names, Report};
-use emit_code::code::Code;
 use dwarf_loclists::range::Ranges;
+use emit_code::code::Code;
 use pass_trait::loss::Losses;
 use rv64_instr::name::Name;
 use std::alloc::{AllocError, Global};

@@ -3,14 +3,14 @@
 ghost use Rattle.std.specs.Prelude.{◌≡◌, All, IfOk};
 ghost use Rattle.report_function.specs.ProgramReport.{IsReportable, function_report, program_report};
 
-use emit_code::code::Code;
-use crate::make::make_report;
 use crate::debugify_print::print_report;
+use crate::make::make_report;
 use crate::report::Names;
-use dwarf_loclists::range::RangeLists;
-use pass_trait::loss::Losses;
 use base_list::List;
+use dwarf_loclists::range::RangeLists;
+use emit_code::code::Code;
 use mir_printer::text::Text;
+use pass_trait::loss::Losses;
 use std::alloc::{AllocError, Global};
 
 /// A function that was compiled, and what was lost on the way.

@@ -1,7 +1,7 @@
 //! Reports.
 
-use pass_trait::loss::Losses;
 use base_list::List;
+use pass_trait::loss::Losses;
 use rv64_instr::name::Name;
 
 /// How many words the ranges of a variable have.

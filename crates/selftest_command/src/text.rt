@@ -13,15 +13,15 @@ ghost use Rattle.run_command.specs.Program.{HasLargeFrame, HasLargeSection, step
 ghost use Rattle.selftest_command.specs.Tested.{IsSelfTestOf};
 ghost use Rattle.selftest_command.specs.steps.First.{TestsFirst, FirstGoesApart};
 
-use run_command::compile::{Compilation, CompileError, compile};
-use selftest_count::text::self_test_text;
+use dwarf_unit::variables::variables;
 use gen_program::program::generated_program;
-use read_program::program::Program;
 use mir_printer::text::Text;
 use pass_list::kind::PassKind;
+use read_program::program::Program;
+use run_command::compile::{Compilation, CompileError, compile};
 use rv64_instr::reg::Reg;
+use selftest_count::text::self_test_text;
 use std::alloc::{AllocError, Global};
-use dwarf_unit::variables::variables;
 
 /// The text of a self-test of the function that is generated from a number, with so many blocks: it is compiled by
 /// passes, and its machine code makes 10,000 steps at most beside it. None comes only where the function makes 2^64 - 1

@@ -11,17 +11,17 @@ ghost use Rattle.selftest_count.specs.steps.Bounds.{CanBeRead};
 
 use crate::counts::Counts;
 use crate::turn::{Turn, make_turn};
-use emit_code::code::Code;
 use dwarf_loclists::range::{RangeLists, Ranges};
+use emit_code::code::Code;
 use mir_func::func::Func;
 use mir_func::variable::VarId;
+use mir_substitution::substitutions::Substitutions;
+use rv64_instr::start::Values;
 use sem_interpreter::state::SourceState;
+use sim_machine::machine::Machine;
 use sim_start::answers::ValueAnswers;
 use sim_start::start::start_with;
-use sim_machine::machine::Machine;
-use rv64_instr::start::Values;
 use std::alloc::{AllocError, Global};
-use mir_substitution::substitutions::Substitutions;
 
 /// The counts of a run of machine code, of so many steps at most, from the start without arguments, beside the run of
 /// its source. Before each step each list is read at the counter, and the source stands where the machine's line comes

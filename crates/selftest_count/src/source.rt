@@ -7,9 +7,9 @@ ghost use Rattle.selftest_count.specs.steps.Beside.{ArrivesSo, AlignsSo, MissesS
 
 use mir_func::func::Func;
 use mir_func::position::Pos;
+use mir_substitution::substitutions::Substitutions;
 use sem_interpreter::state::{SourceState, SourceStep};
 use std::alloc::AllocError;
-use mir_substitution::substitutions::Substitutions;
 
 /// How many steps the source may make from one line to the next.
 const MAX_STEPS: u64 = u64::MAX;

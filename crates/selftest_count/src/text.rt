@@ -9,15 +9,15 @@ ghost use Rattle.selftest_count.specs.Text.{count_line, counts_text, items_of, M
 
 use crate::counts::Counts;
 use crate::run::count_run;
-use emit_code::code::Code;
 use dwarf_loclists::range::RangeLists;
+use emit_code::code::Code;
 use itoa::Integer;
 use mir_func::block::Block;
 use mir_func::func::Func;
 use mir_func::variable::VarId;
 use mir_printer::text::{Text, push_decimal, push_str};
-use std::alloc::{AllocError, Global};
 use mir_substitution::substitutions::Substitutions;
+use std::alloc::{AllocError, Global};
 
 /// How many steps are made at most.
 const MAX_STEPS: u32 = 10_000;

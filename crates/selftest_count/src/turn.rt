@@ -10,18 +10,18 @@ use crate::counts::Counts;
 use crate::known::known;
 use crate::read::reads;
 use crate::source::align;
-use emit_code::code::Entry;
 use dwarf_loclists::range::Ranges;
+use emit_code::code::Entry;
 use mir_func::func::Func;
 use mir_func::position::Origin;
 use mir_func::variable::VarId;
-use sem_mir::align::position_of;
+use mir_substitution::substitutions::Substitutions;
 use sem_interpreter::state::SourceState;
-use sim_start::answers::ValueAnswers;
+use sem_mir::align::position_of;
 use sim_machine::ending::{Stepped, Stop};
 use sim_machine::machine::Machine;
+use sim_start::answers::ValueAnswers;
 use std::alloc::AllocError;
-use mir_substitution::substitutions::Substitutions;
 
 /// How a step of both runs ends.
 #[derive(Clone, Copy, Debug, PartialEq, Eq)]

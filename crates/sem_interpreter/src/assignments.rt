@@ -8,8 +8,8 @@ ghost use Rattle.mir_func.specs.Variables.{low_part};
 ghost use Rattle.sem_mir.specs.Step.{part_of};
 ghost use Rattle.sem_interpreter.specs.Assigned.{Covers, MarksHold, assigned_in, key_of, part_in, parts_of};
 
-use indexmap::IndexMap;
 use base_list::List;
+use indexmap::IndexMap;
 use mir_func::variable::{Fragment, VarId, are_same_bytes, do_meet};
 use std::alloc::{AllocError, Global};
 use std::marker::Model;

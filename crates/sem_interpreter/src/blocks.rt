@@ -4,8 +4,8 @@ ghost use Rattle.std.specs.Prelude.{◌≡◌, ◌<◌, [], MatchOption, length,
 ghost use Rattle.mir_func.specs.Sound.{AreApart, ids_of};
 ghost use Rattle.mir_func.specs.Graph.{from_block};
 
-use mir_func::block::Block;
 use base_ids::code::BlockId;
+use mir_func::block::Block;
 use std::alloc::{AllocError, Global};
 use std::collections::HashMap;
 

@@ -13,12 +13,12 @@ ghost use Rattle.sem_mir.specs.Step.{are_written, is_fault, loaded, object_addre
 ghost use Rattle.sem_interpreter.specs.Acts.{Acts, AddressHolds, Does, InputHolds, MachineHolds, StartsMachine, Takes};
 
 use crate::frame::{touches_frame, writes_frame};
+use crate::memory::Memory;
 use crate::objects::{self, Offsets};
 use crate::registers::Registers;
 use crate::slots::Slots;
-use crate::memory::Memory;
-use mir_func::object::Object;
 use base_ids::code::{BlockId, ObjectId, SlotId};
+use mir_func::object::Object;
 use rv64_instr::arithmetic::{compute, extend, is_taken, load_width, store_width};
 use rv64_instr::decoded::{Base, Decoded, Input};
 use rv64_instr::instr::Instr;

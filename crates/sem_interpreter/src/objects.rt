@@ -7,9 +7,9 @@ ghost use Rattle.mir_func.specs.Sound.{IsSoundObject};
 ghost use Rattle.sem_interpreter.specs.Held.{number_in};
 ghost use Rattle.sem_interpreter.specs.Places.{ObjectsHold};
 
+use base_ids::code::ObjectId;
 use indexmap::IndexMap;
 use mir_func::object::Object;
-use base_ids::code::ObjectId;
 use std::alloc::{AllocError, Global};
 use std::marker::Model;
 

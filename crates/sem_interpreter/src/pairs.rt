@@ -8,10 +8,10 @@ ghost use Rattle.sem_interpreter.specs.Places.{RegistersHold};
 ghost use Rattle.sem_interpreter.specs.StandsFor.{PairsHold};
 
 use crate::registers::Registers;
-use indexmap::IndexMap;
-use sem_mir::operand::defined;
 use base_ids::code::DebugNumber;
+use indexmap::IndexMap;
 use rv64_instr::operand::Operand;
+use sem_mir::operand::defined;
 use std::alloc::AllocError;
 
 /// What each pair of a debug instruction number and an operand's index got last.

@@ -5,8 +5,8 @@ ghost use Rattle.std.specs.Map.{lookup};
 ghost use Rattle.sem_mir.specs.State.{updated};
 ghost use Rattle.sem_interpreter.specs.Places.{SlotsHold};
 
-use indexmap::IndexMap;
 use base_ids::code::SlotId;
+use indexmap::IndexMap;
 use std::alloc::{AllocError, Global};
 use std::marker::Model;
 

@@ -19,6 +19,7 @@ use crate::assignments::{Assignments, part_of};
 use crate::blocks;
 use crate::machine::{Machine, Outcome};
 use crate::pairs::{self, Pairs};
+use base_ids::code::{BlockId, DebugNumber};
 use indexmap::IndexMap;
 use mir_func::block::Block;
 use mir_func::entry::OperandPair;
@@ -26,14 +27,13 @@ use mir_func::func::Func;
 use mir_func::item::ItemKind;
 use mir_func::position::Pos;
 use mir_func::variable::{MarkValue, VarId};
-use base_ids::code::{BlockId, DebugNumber};
+use mir_substitution::substitutions::Substitutions;
 use rv64_instr::instr::Instr;
 use rv64_instr::parts::is_call;
 use rv64_instr::place::Place;
 use rv64_instr::start::{Answer, Start};
 use std::alloc::{AllocError, Global};
 use std::marker::Model;
-use mir_substitution::substitutions::Substitutions;
 
 /// How a step of a run ends.
 #[derive(Clone, Copy, Debug, PartialEq, Eq)]

@@ -12,7 +12,8 @@ use Rattle.mir_func.specs.Graph.{Here, Silent, below, block_start}
 use Rattle.sem_mir.specs.Align.{position_of, is_code, Station, moves_on, waits_at, station_of, IsOrigin, Since, Same, After, since_of}
 use Rattle.sem_mir.specs.Follow.{rank, next_rank, InOrder}
 use Rattle.sem_simulation.specs.Sides.{ShowsSame, since_item}
-use Rattle.sem_simulation.specs.Refinement.{waiting, Walk, there, on, past, IsDoomed, faults, later, later_past, Passes, FaultsAt, Lingers, IsStuck, doomed, halted}
+use Rattle.sem_simulation.specs.Refinement.{waiting, Walk, there, on, past, IsDoomed, faults, later, later_past, Passes, FaultsAt, Lingers, IsStuck, doomed}
+use Rattle.sem_simulation.specs.Refinement.{halted}
 use Rattle.sem_simulation.specs.Refinement.{IsStuckFrom}
 use Rattle.sem_simulation.specs.InPlace.{FallsOrTraps, IsIdleAt, MayTrap, ended, both, taken, passed, added, paired}
 use Rattle.sem_mir.proofs.Outcomes.{step_item}

@@ -15,7 +15,8 @@ use Rattle.sem_simulation.specs.InPlace.{DoAlike, ended, both, taken, passed, ad
 use Rattle.sem_mir.proofs.Alignment.{went_once}
 use Rattle.sem_mir.proofs.Outcomes.{step_item, step_end}
 use Rattle.sem_simulation.proofs.Refinement.{still_follows}
-use Rattle.sem_simulation.proofs.Order.{done_next, rank_high, rank_low, rank_next, same_pos, done_more, waits_after, done_self, waits_until, done_code, IsNoLater}
+use Rattle.sem_simulation.proofs.Order.{done_next, rank_high, rank_low, rank_next, same_pos, done_more, waits_after, done_self, waits_until, done_code}
+use Rattle.sem_simulation.proofs.Order.{IsNoLater}
 use Rattle.sem_simulation.proofs.Order.{no_later, from_less, until_more, until_next, from_next}
 use Rattle.sem_simulation.proofs.Outcomes.{both_return, both_fault, alike_gives, alike_traps}
 use Rattle.sem_simulation.proofs.Between.{Change, fs, gs, Seen, IsNext}

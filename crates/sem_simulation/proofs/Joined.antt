@@ -8,7 +8,8 @@ use Rattle.mir_func.specs.Graph.{Program, below, block_start}
 use Rattle.sem_mir.specs.Align.{position_of, is_code, Station, Count, station_at, IsOrigin, Since, Start, Same, After, Aligns, AnyOrigin, Along, other}
 use Rattle.sem_mir.specs.Align.{FailsBefore, RunsAlong}
 use Rattle.sem_simulation.specs.Sides.{Sides, since_item, ShowsSame}
-use Rattle.sem_simulation.specs.Added.{Standing, Opening, Level, Ahead, Owing, MayCome, IsPlain, MayStand, IsQuiet, View, ended, both, before, opening, entering}
+use Rattle.sem_simulation.specs.Added.{Standing, Opening, Level, Ahead, Owing, MayCome, IsPlain, MayStand, IsQuiet, View, ended, both, before, opening}
+use Rattle.sem_simulation.specs.Added.{entering}
 use Rattle.sem_simulation.specs.Added.{behind, passed, added, paired, Adds, AddedRelation, IsFree}
 use Rattle.sem_mir.proofs.Alignment.{aligns_at, aligns_once, aligns_not_fails}
 use Rattle.sem_mir.proofs.Edges.{step_edge}

@@ -6,7 +6,8 @@ use Rattle.sem_mir.specs.Step.{Went, Faulted, step}
 use Rattle.mir_func.specs.Graph.{Program}
 use Rattle.sem_mir.specs.Align.{Station, IsOrigin, Arrives, here, onward, ArrivesLater, Since, Start, Same, After, since_of, Aligns, AnyOrigin, Along}
 use Rattle.sem_mir.specs.Align.{begin, other, met, Fails, fails_here, fails_on, FailsLater, FailsBefore, Agrees, RunsAlong}
-use Rattle.sem_simulation.specs.Refinement.{waiting, MayPass, gone, early, late, Walk, there, on, past, IsDoomed, faults, later, later_past, Passes, still, pass}
+use Rattle.sem_simulation.specs.Refinement.{waiting, MayPass, gone, early, late, Walk, there, on, past, IsDoomed, faults, later, later_past, Passes, still}
+use Rattle.sem_simulation.specs.Refinement.{pass}
 use Rattle.sem_simulation.specs.Refinement.{FaultsAt, Lingers, stays, goes_by, waits_by, Halts, IsStuck, doomed, halted, IsStuckFrom, Meets, Refines}
 use Rattle.sem_simulation.specs.Refinement.{RefinementFollows}
 use Rattle.sem_simulation.proofs.Order.{cases_pos}

@@ -20,7 +20,8 @@ use Rattle.sem_mir.proofs.Outcomes.{step_item}
 use Rattle.sem_simulation.proofs.Refinement.{IsDoomedFrom, refines_or_doomed, still_follows}
 use Rattle.sem_simulation.proofs.Order.{done_next, rank_next, same_pos, IsDone, done_more, waits_after, done_self, waits_until, done_code, IsUntil, until_more}
 use Rattle.sem_simulation.proofs.Order.{until_here}
-use Rattle.sem_simulation.proofs.Stations.{not_code, debug_below, code_station, debug_station, end_is_station, code_is_some, code_is, debug_is_none, IsStationOf}
+use Rattle.sem_simulation.proofs.Stations.{not_code, debug_below, code_station, debug_station, end_is_station, code_is_some, code_is, debug_is_none}
+use Rattle.sem_simulation.proofs.Stations.{IsStationOf}
 use Rattle.sem_simulation.proofs.Stations.{of_item, of_end, station_is_of, not_past_items, falls_stays}
 use Rattle.sem_simulation.proofs.Outcomes.{both_return, both_fault}
 use Rattle.sem_simulation.proofs.Bypassed.{Rewiring, fs, gs, To, AllDone, ends_f, ends_g, leaves, not_waiting, reaches}

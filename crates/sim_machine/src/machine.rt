@@ -13,11 +13,11 @@ use crate::ending::{Stepped, Stop};
 use crate::hart::Hart;
 use crate::site::{Places, call_at, find, places};
 use crate::word::run_word;
-use sem_interpreter::memory::Memory;
 use emit_code::code::{Code, Entry};
 use emit_code::objects::ObjectOffsets;
 use rv64_instr::reg::Reg;
 use rv64_instr::start::Start;
+use sem_interpreter::memory::Memory;
 use std::alloc::{AllocError, Global};
 use std::marker::Model;
 

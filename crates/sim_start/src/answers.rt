@@ -4,8 +4,8 @@ ghost use Rattle.std.specs.Prelude.{◌≡◌, map};
 ghost use Rattle.rv64_instr.specs.Access.{caller_saved};
 ghost use Rattle.sim_start.specs.Asked.{call_value, call_register, reply_to};
 
-use sim_machine::answers::CallAnswers;
 use rv64_instr::start::{Answer, CallEvent, Values};
+use sim_machine::answers::CallAnswers;
 
 /// Answers by values: the n-th call, from 1, sets x10 to the n-th of them, or to n where there is none, and each other
 /// caller-saved register to 2000 and its number. It writes nothing.

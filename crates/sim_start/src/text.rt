@@ -8,9 +8,9 @@ use crate::answers::ValueAnswers;
 use crate::start::start_with;
 use emit_code::code::Code;
 use mir_printer::text::Text;
+use rv64_instr::start::Values;
 use sim_trace::run::print_run;
 use sim_trace::variable::Variables;
-use rv64_instr::start::Values;
 use std::alloc::{AllocError, Global};
 
 /// The text of a run of machine code with arguments and values for calls, of so many steps at most. Each variable is

@@ -13,11 +13,11 @@ use crate::line::push_line;
 use crate::variable::{Variable, Variables};
 use emit_code::code::Code;
 use mir_printer::text::{Text, push_decimal, push_str};
+use rv64_instr::start::Start;
 use sim_machine::answers::CallAnswers;
 use sim_machine::ending::{Stepped, Stop};
 use sim_machine::hart::Hart;
 use sim_machine::machine::Machine;
-use rv64_instr::start::Start;
 use std::alloc::{AllocError, Global};
 
 /// The text of a run of code from a start, of so many steps at most: before each step a line with its number, the

@@ -12,8 +12,8 @@ ghost use Rattle.sim_trace.specs.steps.Readable.{IsReadablePiece, IsReadable};
 
 use crate::location::location_at;
 use crate::variable::Variable;
-use listing_text::name::push_name;
 use dwarf_loclists::range::{Location, Part};
+use listing_text::name::push_name;
 use mir_printer::text::{Text, push_decimal, push_numbered, push_str};
 use sim_machine::hart::Hart;
 use sim_machine::value::low_bytes;

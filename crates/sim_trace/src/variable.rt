@@ -4,9 +4,9 @@ ghost use Rattle.std.specs.Prelude.{◌≡◌, ◌<◌, map, length, All, IfOk};
 ghost use Rattle.dwarf_loclists.specs.Ranges.{Ascend, ArePlaces};
 ghost use Rattle.sim_trace.specs.Variables.{variable_of};
 
-use listing_text::output::ListedVariable;
-use dwarf_loclists::range::{Range, Ranges};
 use base_list::List;
+use dwarf_loclists::range::{Range, Ranges};
+use listing_text::output::ListedVariable;
 use rv64_instr::name::Name;
 use std::alloc::{AllocError, Global};
 

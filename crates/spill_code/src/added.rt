@@ -5,10 +5,10 @@ ghost use Rattle.spill_code.specs.Rewrite.{load, store, added, loads, stores, tw
 
 use crate::operands::{first_used, other_used};
 use crate::spilling::{Home, Spilling};
+use base_ids::code::{BlockId, SlotId};
 use mir_func::item::{Item, ItemKind, Items};
 use mir_func::location::Loc;
 use mir_func::position::{Origin, Pos};
-use base_ids::code::{BlockId, SlotId};
 use rv64_instr::instr::Instr;
 use rv64_instr::op::{LoadOp, Op, StoreOp};
 use rv64_instr::operand::{Operand, Operands};

@@ -11,15 +11,15 @@ ghost use Rattle.spill_code.specs.Room.{HasRoom, HaveRoom};
 use crate::added::{push_entry, push_loads, push_store};
 use crate::operands::{first_defined, spilled_code};
 use crate::spilling::{Home, Spilling, slot_of};
+use base_ids::code::DebugNumber;
 use mir_func::block::{Block, Blocks};
 use mir_func::item::{Item, ItemKind, Items};
 use mir_func::location::Loc;
 use mir_func::position::{Origin, Pos};
-use sem_mir::align::position_of;
-use base_ids::code::DebugNumber;
 use rv64_instr::instr::Instr;
 use rv64_instr::place::Place;
 use rv64_instr::reg::Reg;
+use sem_mir::align::position_of;
 use std::alloc::{AllocError, Global};
 
 /// The blocks, with loads, stores and scratch registers for spilled registers, and at the first one's start the stores

@@ -3,8 +3,8 @@
 ghost use Rattle.std.specs.Prelude.{◌≡◌};
 ghost use Rattle.spill_code.specs.Rewrite.{slot_of};
 
-use base_list::List;
 use base_ids::code::SlotId;
+use base_list::List;
 use rv64_instr::reg::Reg;
 
 /// A spilled register and the slot in which it lives (LLVM: the stack slot of a spilled register).

@@ -7,13 +7,13 @@ ghost use Rattle.spill_debug.specs.Lost.{AreMarksLost, AreScratchLosses, is_sile
 ghost use Rattle.spill_debug.specs.Lost.{numbers_silenced, marks_silenced, all_numbers_silenced, all_marks_silenced};
 
 use crate::marks::is_scratch;
-use pass_trait::loss::{Loss, Losses, Lost, Reason};
-use pass_trait::nops::lost_numbers;
+use base_ids::code::DebugNumber;
 use mir_func::block::Block;
 use mir_func::item::{Item, ItemKind};
 use mir_func::position::{Origin, Pos};
 use mir_func::variable::MarkValue;
-use base_ids::code::DebugNumber;
+use pass_trait::loss::{Loss, Losses, Lost, Reason};
+use pass_trait::nops::lost_numbers;
 use rv64_instr::place::Place;
 use rv64_instr::reg::Reg;
 use spill_code::spilling::{Spilling, slot_of};

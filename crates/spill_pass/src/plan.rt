@@ -10,18 +10,18 @@ ghost use Rattle.spill_rule.specs.Choice.{entry_of};
 ghost use Rattle.spill_select.specs.Incoming.{is_among};
 ghost use Rattle.spill_pass.specs.Plan.{IsPlan, AreAllLosses};
 
-use pass_trait::loss::Losses;
+use base_ids::code::SlotId;
 use mir_func::block::{Block, Blocks};
 use mir_func::func::{Func, SlotIds};
-use base_ids::code::SlotId;
+use pass_trait::loss::Losses;
 use rv64_instr::reg::{Reg, Registers};
-use spill_select::choice::{choose, entry_of};
-use spill_select::left::registers_left;
 use spill_code::rewrite::spilled_blocks;
 use spill_code::spilling::{Home, Spilling};
-use spill_select::incoming::incoming;
 use spill_debug::lost::scratch_losses;
 use spill_debug::marks::blocks_asked;
+use spill_select::choice::{choose, entry_of};
+use spill_select::incoming::incoming;
+use spill_select::left::registers_left;
 use std::alloc::{AllocError, Global};
 
 /// What is spilled of a function.

@@ -12,15 +12,15 @@ ghost use Rattle.std.proofs.Common.{rules};
 
 use crate::plan::{blocks_in_slots, losses_of, plan_for, slots_with};
 use crate::reserve::reserve_of;
-use pass_trait::loss::Losses;
-use pass_trait::pass::Pass;
 use mir_func::func::Func;
-use rv64_instr::reg::{Reg, Registers};
-use pass_salvage::fresh::fresh_number;
-use spill_proof::kept_laws::{spilled_keeps_following, spilled_keeps_sizes, spilled_keeps_steps};
-use std::alloc::{AllocError, Global};
 use mir_substitution::substitutions::Substitutions;
 use mir_type_facts::blocks::{know_forms, know_silent};
+use pass_salvage::fresh::fresh_number;
+use pass_trait::loss::Losses;
+use pass_trait::pass::Pass;
+use rv64_instr::reg::{Reg, Registers};
+use spill_proof::kept_laws::{spilled_keeps_following, spilled_keeps_sizes, spilled_keeps_steps};
+use std::alloc::{AllocError, Global};
 
 /// Moves registers of a reserve to slots (LLVM: spilling), as many as there is room for. Of the registers given here
 /// those are in the reserve that may be: x8, x9 and x18 to x27. Lost are the marks and phis of the two scratch

@@ -10,11 +10,11 @@ ghost use Rattle.pass_trait.specs.Sizes.{calls};
 ghost use Rattle.spill_rule.specs.Choice.{is_added, binds, is_bound, row_goes, goes, is_looped};
 ghost use Rattle.spill_rule.specs.steps.Any.{any_item};
 
+use base_ids::code::BlockId;
 use mir_func::block::Block;
 use mir_func::func::Func;
 use mir_func::item::{Item, ItemKind};
 use mir_func::position::Origin;
-use base_ids::code::BlockId;
 use rv64_instr::decoded::Decoded;
 use rv64_instr::instr::Instr;
 use rv64_instr::operand::Operand;

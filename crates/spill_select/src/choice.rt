@@ -12,10 +12,10 @@ ghost use Rattle.spill_select.specs.Left.{first_reason};
 
 use crate::among::is_among;
 use crate::scratch::{first_scratch, scratch_of, second_scratch};
-use pass_trait::loss::Reason;
+use base_ids::code::SlotId;
 use mir_func::func::Func;
 use mir_func::limits::MAX_SLOTS;
-use base_ids::code::SlotId;
+use pass_trait::loss::Reason;
 use rv64_instr::reg::{Reg, Registers};
 use spill_code::spilling::{Home, Homes, Spilling};
 use spill_rule::named::{is_bound, is_looped, is_named};

@@ -6,9 +6,9 @@ ghost use Rattle.pass_liveness.specs.Sets.{has};
 ghost use Rattle.spill_rule.specs.Rule.{Decides};
 ghost use Rattle.spill_select.specs.Incoming.{is_among};
 
+use mir_func::func::Func;
 use pass_liveness::live::Live;
 use pass_liveness::set::PlaceSet;
-use mir_func::func::Func;
 use rv64_instr::place::Place;
 use rv64_instr::reg::{Reg, Registers};
 use std::alloc::{AllocError, Global};

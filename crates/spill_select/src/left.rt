@@ -8,8 +8,8 @@ ghost use Rattle.spill_select.specs.Incoming.{is_among};
 ghost use Rattle.spill_select.specs.Left.{first_reason, or_no_slot, why_left, registers_left};
 
 use crate::choice::{Facts, lacks_scratch, reason_of};
-use pass_trait::loss::{Loss, Losses, Lost, Reason};
 use mir_func::func::Func;
+use pass_trait::loss::{Loss, Losses, Lost, Reason};
 use rv64_instr::reg::Reg;
 use spill_code::spilling::{Home, slot_of};
 use spill_rule::named::{is_looped, is_named};

@@ -35,9 +35,11 @@ use Rattle.spill_simulation.specs.MaySpill.{FitsCode, AreHomes}
 use Rattle.spill_simulation.proofs.Explicit.{first_from, defined_is}
 use Rattle.spill_simulation.proofs.Items.{near_on}
 use Rattle.spill_simulation.proofs.Near.{Near}
-use Rattle.spill_simulation.proofs.Places.{stands_at, holds_at, ComesFrom, from_item, from_entry, comes_from, end_in_f, end_past, end_at, past_items, start_in_g}
+use Rattle.spill_simulation.proofs.Places.{stands_at, holds_at, ComesFrom, from_item, from_entry, comes_from, end_in_f, end_past, end_at, past_items}
+use Rattle.spill_simulation.proofs.Places.{start_in_g}
 use Rattle.spill_simulation.proofs.Places.{first_start}
-use Rattle.spill_simulation.proofs.Views.{Stage, Opened, Evenly, Early, Half, Ready, Owes, stands, f as old_program, g as new_program, rf as old_rest, rg as new_rest}
+use Rattle.spill_simulation.proofs.Views.{Stage, Opened, Evenly, Early, Half, Ready, Owes, stands, f as old_program, g as new_program, rf as old_rest}
+use Rattle.spill_simulation.proofs.Views.{rg as new_rest}
 use Rattle.spill_simulation.proofs.Views.{at, Alive, SpillsDef, Extra, Rests, Cores, IsGood, sides as both_sides, framing as framed, view}
 
 module _ (s : Spilling) (slots : List ℕ) (homes : AreHomes s slots) (entry : List Home) (blocks : List Block)

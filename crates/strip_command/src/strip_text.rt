@@ -3,12 +3,12 @@
 ghost use Rattle.std.specs.Prelude.{◌≡◌, IfOk};
 ghost use Rattle.strip_command.specs.StripText.{stripped_func_text, stripped_text};
 
-use mir_func_printer::print::print_func;
 use mir_func::strip::strip;
-use read_program::closing::Parsed;
+use mir_func_printer::print::print_func;
 use mir_printer::text::Text;
-use std::alloc::{AllocError, Global};
 use mir_substitution::substitutions::Substitutions;
+use read_program::closing::Parsed;
+use std::alloc::{AllocError, Global};
 
 /// The document of a function without its debug items.
 fn strip_func(alloc: Global, parsed: &Parsed) -> Result<Text, AllocError>

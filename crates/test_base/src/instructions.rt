@@ -1,7 +1,7 @@
 //! Arithmetic, names, effects and words of instructions, against values worked out by hand and those of an assembler.
 
-use base_list::List;
 use base_ids::code::{BlockId, ObjectId, SlotId};
+use base_list::List;
 use rv64_instr::arithmetic::{compute, extend, is_taken};
 use rv64_instr::instr::Instr;
 use rv64_instr::op::BranchOp::*;

@@ -3,6 +3,8 @@
 //! Each further line is an item: an opcode and its operands, after `#K` where it has a number; `mark V`, `inlined V AT`
 //! or `part V OFFSET LENGTH` and what the variable or its part is assigned; or `phi K` and a place.
 
+use base_ids::code::{BlockId, DebugNumber, ObjectId, OperandIndex, SlotId};
+use base_ids::metadata::NodeId;
 use base_list::List;
 use mir_func::block::{Block, Blocks};
 use mir_func::entry::{Entry, OperandPair};
@@ -12,8 +14,7 @@ use mir_func::location::Loc;
 use mir_func::object::{Object, Objects};
 use mir_func::position::{Origin, Pos};
 use mir_func::variable::{Fragment, MarkValue, VarId};
-use base_ids::code::{BlockId, DebugNumber, ObjectId, OperandIndex, SlotId};
-use base_ids::metadata::NodeId;
+use mir_substitution::substitutions::Substitutions;
 use rv64_instr::instr::Instr;
 use rv64_instr::op::Op;
 use rv64_instr::operand::{Operand, Operands};
@@ -21,7 +22,6 @@ use rv64_instr::place::Place;
 use rv64_instr::reg::Reg;
 use std::alloc::{AllocError, Global};
 use std::str::SplitWhitespace;
-use mir_substitution::substitutions::Substitutions;
 
 pub fn pair(number: u32, operand: u32) -> OperandPair {
     OperandPair {

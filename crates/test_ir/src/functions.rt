@@ -1,14 +1,14 @@
 //! Which functions are sound, and where control goes in them; parts of variables; substitutions.
 
 use crate::build::{entries, entry, function, pair};
+use base_ids::code::BlockId;
 use mir_func::func::{Func, FuncError};
 use mir_func::object::up_to;
 use mir_func::successors::Successors;
 use mir_func::variable::Fragment;
-use base_ids::code::BlockId;
+use mir_substitution::substitutions::Substitutions;
 use std::alloc::{AllocError, Global};
 use std::process::Abort;
-use mir_substitution::substitutions::Substitutions;
 
 /// A function of three blocks, of which the second is a loop.
 const SOUND: &str = "slots 0 0

@@ -6,24 +6,24 @@ ghost use Rattle.pass_trait.specs.Code.{SeesCodeAlone};
 ghost use Rattle.pass_trait.specs.Tests.{IsWatching, NothingIsWrong};
 ghost use Rattle.pass_trait.specs.Sizes.{greatest, greatest_number, most_numbers, numbers_in, numbers_of};
 
-use pass_trait::compose::{Nothing, Then};
-use pass_trait::loss::{Loss, Losses, Lost, Reason};
-use pass_trait::nops::NopPass;
-use pass_trait::pass::{Pass, debug_items_change_no_code};
+use base_ids::code::{BlockId, DebugNumber};
 use base_list::List;
 use mir_func::block::{Block, Blocks};
 use mir_func::func::Func;
 use mir_func::item::{Item, ItemKind, Items};
 use mir_func::location::Loc;
 use mir_func::position::{Origin, Pos};
-use base_ids::code::{BlockId, DebugNumber};
+use mir_substitution::substitutions::Substitutions;
+use pass_trait::compose::{Nothing, Then};
+use pass_trait::loss::{Loss, Losses, Lost, Reason};
+use pass_trait::nops::NopPass;
+use pass_trait::pass::{Pass, debug_items_change_no_code};
 use rv64_instr::instr::Instr;
 use rv64_instr::name::Name;
 use rv64_instr::op::{ImmediateOp, Op};
 use rv64_instr::operand::{Operand, Operands};
 use rv64_instr::reg::physical;
 use std::alloc::{AllocError, Global};
-use mir_substitution::substitutions::Substitutions;
 
 /// A rule that sees silent indices sees where marks stood, and no pass may have it.
 fn silent_indices_are_no_code()

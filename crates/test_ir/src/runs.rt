@@ -3,16 +3,16 @@
 ghost use Rattle.sem_interpreter.specs.StandsFor.{AreCounted, IsPosition};
 
 use crate::build::{entries, function, number, variable};
+use base_ids::code::BlockId;
 use base_list::List;
 use mir_func::func::Func;
 use mir_func::position::Pos;
-use sem_interpreter::state::{SourceState, SourceStep};
-use base_ids::code::BlockId;
+use mir_substitution::substitutions::Substitutions;
 use rv64_instr::start::{Answer, Start};
+use sem_interpreter::state::{SourceState, SourceStep};
 use std::alloc::Global;
 use std::process::Abort;
 use std::str::SplitWhitespace;
-use mir_substitution::substitutions::Substitutions;
 
 /// A byte twice and the last byte of all, and then eight bytes 0x11 and 0x8182838485868788.
 const CELLS: [(u64, u8); 19] = [

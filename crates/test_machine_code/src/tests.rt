@@ -3,17 +3,17 @@
 ghost use Rattle.std.specs.Prelude.{IfOk};
 ghost use Rattle.report_function.specs.ProgramReport.{IsReportable};
 
-use emit_code::code::{Code, Words};
-use dwarf_loclists::reader::list_count;
-use emit_function::code::code_of;
 use base_list::List;
+use dwarf_loclists::reader::list_count;
+use emit_code::code::{Code, Words};
+use emit_function::code::code_of;
 use read_program::program::read_program;
 use report_function::program_print::{Compiled, print_reports};
+use rv64_instr::reg::physical;
+use rv64_instr::start::{Answer, CallEvent, Cells, Start};
 use sim_machine::answers::CallAnswers;
 use sim_machine::ending::{Stepped, Stop};
 use sim_machine::machine::Machine;
-use rv64_instr::reg::physical;
-use rv64_instr::start::{Answer, CallEvent, Cells, Start};
 use std::alloc::Global;
 use std::test::Fail;
 

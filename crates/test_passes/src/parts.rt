@@ -6,27 +6,27 @@ ghost use Rattle.pass_liveness.specs.Liveness.{AreLiveSets};
 ghost use Rattle.pass_trait.specs.Sizes.{greatest, greatest_number, most_numbers};
 
 use crate::shown::{push_blocks, push_entries, push_items, push_losses};
+use base_ids::code::{DebugNumber, SlotId};
+use base_list::List;
 use dce_mark::judge::judge;
 use fold_rule_proof::fold::fold;
-use pass_trait::pass::Pass;
-use base_list::List;
-use pass_liveness::live::Live;
-use pass_liveness::set::PlaceSet;
 use mir_func::block::copy_blocks;
 use mir_func::func::Func;
 use mir_func::item::Item;
-use read_program::closing::Parsed;
-use read_program::program::read_program;
 use mir_printer::text::{Text, push_numbered, push_str};
-use base_ids::code::{DebugNumber, SlotId};
-use rv64_instr::place::Place;
-use rv64_instr::reg::{Reg, Registers, physical};
+use mir_substitution::substitutions::Substitutions;
+use pass_liveness::live::Live;
+use pass_liveness::set::PlaceSet;
 use pass_salvage::fresh::greatest_in_blocks;
 use pass_salvage::salvage::salvage;
+use pass_trait::pass::Pass;
+use read_program::closing::Parsed;
+use read_program::program::read_program;
+use rv64_instr::place::Place;
+use rv64_instr::reg::{Reg, Registers, physical};
 use spill_pass::spill::SpillPass;
 use std::alloc::{AllocError, Global};
 use std::test::Fail;
-use mir_substitution::substitutions::Substitutions;
 
 /// What is run on a function.
 pub enum Part {

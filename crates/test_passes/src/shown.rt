@@ -1,12 +1,12 @@
 //! Items with their origins, substitutions, and losses, a line for each.
 
-use pass_trait::loss::{Loss, Lost, Reason};
 use mir_func::block::Block;
 use mir_func::entry::Entry;
 use mir_func::item::Item;
 use mir_func::position::{Origin, Pos};
 use mir_printer::item::push_item;
 use mir_printer::text::{Text, push_numbered, push_str};
+use pass_trait::loss::{Loss, Lost, Reason};
 use std::alloc::AllocError;
 
 /// Appends blocks, each with its items.

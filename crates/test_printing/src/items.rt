@@ -1,11 +1,11 @@
 //! A branch that reads a virtual register, which no text that is read has.
 
+use base_ids::code::BlockId;
 use mir_func::item::{Item, ItemKind};
 use mir_func::location::Loc;
 use mir_func::position::{Origin, Pos};
 use mir_printer::item::push_item;
 use mir_printer::text::Text;
-use base_ids::code::BlockId;
 use rv64_instr::instr::Instr;
 use rv64_instr::op::{BranchOp, Op};
 use rv64_instr::operand::{Operand, Operands};

@@ -1,19 +1,19 @@
 //! The layout and the values of a function that only returns.
 
-use value_solver::entry::BlockEntry;
-use value_solver::tracked::Tracked;
 use emit_code::code::Code;
 use emit_code::laws::one_layout;
-use listing_text::laws::one_reading;
 use emit_function::code::code_of;
 use frame_lowering::lower::lower;
 use frame_lowering::physical::is_physical;
 use listing_function::laws::listings_are_printable;
-use value_live_ins::values::{MachineValues, solve};
+use listing_text::laws::one_reading;
 use read_program::closing::Parsed;
 use read_program::program::read_program;
 use std::alloc::Global;
 use std::test::Fail;
+use value_live_ins::values::{MachineValues, solve};
+use value_solver::entry::BlockEntry;
+use value_solver::tracked::Tracked;
 
 const RETURN: &str = "---\nname: f\nbody: |\n  bb.7:\n    PseudoRET\n...\n";
 

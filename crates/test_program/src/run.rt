@@ -5,8 +5,8 @@ use anyhow::Context;
 use base_io::bytes::{Bytes, CallNumbers};
 use base_io::memory_sink::MemorySink;
 use base_io::memory_source::MemorySource;
-use tool_driver::driver::mirdwarf;
 use std::alloc::{AllocError, Global};
+use tool_driver::driver::mirdwarf;
 
 /// Room for what is told.
 const TOLD: usize = 1 << 10;

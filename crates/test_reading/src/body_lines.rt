@@ -1,9 +1,9 @@
 //! What lines of a body say by the grammar.
 
 use mir_func::location::Loc;
-use read_token::lexeme::{BEYOND, Flag, RegisterName};
 use read_line::body::body_line;
 use read_line::form::{BodyLine, Expression, ItemForm, LineError, OperandForm, RegisterForm};
+use read_token::lexeme::{BEYOND, Flag, RegisterName};
 use std::alloc::{AllocError, Global};
 use std::test::Fail;
 

@@ -1,5 +1,9 @@
 //! What tokens stand for.
 
+use base_ids::code::{BlockId, SlotId};
+use base_ids::metadata::NodeId;
+use read_lexer::fault::LexError;
+use read_lexer::lexer::tokens;
 use read_token::lexeme::Lexeme::{
     Block, Close, Colon, Comma, Equals, Expression, InlineLocation, Integer, Node, Open, Other,
     Register, Slot,
@@ -7,10 +11,6 @@ use read_token::lexeme::Lexeme::{
 use read_token::lexeme::Number::{Fits, Large, Wide};
 use read_token::lexeme::{BEYOND, Lexeme, RegisterName};
 use read_token::sentence::lexemes;
-use read_lexer::fault::LexError;
-use read_lexer::lexer::tokens;
-use base_ids::code::{BlockId, SlotId};
-use base_ids::metadata::NodeId;
 use std::alloc::Global;
 use std::test::Fail;
 

@@ -1,10 +1,10 @@
 //! What metadata says.
 
 use crate::text::push_bytes;
-use base_list::List;
-use read_metadata::metadata::{Metadata, read_meta};
-use read_lexer::line::{Line, Lines};
 use base_ids::metadata::NodeId;
+use base_list::List;
+use read_lexer::line::{Line, Lines};
+use read_metadata::metadata::{Metadata, read_meta};
 use std::alloc::{AllocError, Global};
 use std::fmt::Write;
 

@@ -2,12 +2,12 @@
 
 use crate::changed::changed;
 use crate::table::{are_named, are_names, are_sequences};
+use base_list::List;
 use dwarf_line::fault::LineError;
 use dwarf_line::read::rows;
 use dwarf_line::size::line_size;
 use dwarf_line::table::{FileEntries, FileEntry, LineTable, NameList, Row, Sequence};
 use dwarf_line::write::write_line;
-use base_list::List;
 use std::alloc::{AllocError, Global};
 use std::test::Fail;
 

@@ -1,11 +1,11 @@
 //! Location lists written by hand from DWARF 5 section 7.29, and damaged ones.
 
 use crate::changed::changed;
+use base_ids::code::SlotId;
 use dwarf_loclists::entry::push_entry;
 use dwarf_loclists::fault::ListFault;
 use dwarf_loclists::range::{Location, Part, Range};
 use dwarf_loclists::reader::{list_count, piece_at, place_at};
-use base_ids::code::SlotId;
 use rv64_instr::place::Place;
 use rv64_instr::reg::physical;
 use std::alloc::Global;

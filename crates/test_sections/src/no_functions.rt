@@ -1,10 +1,10 @@
 //! The sections of a program without functions, which no text is.
 
 use base_list::List;
-use read_metadata::metadata::read_meta;
 use dwarf_line_table::line_table::line_table;
-use std::test::Fail;
 use dwarf_unit::unit::make_unit;
+use read_metadata::metadata::read_meta;
+use std::test::Fail;
 
 #[test]
 fn no_functions_make_an_empty_unit(rt: HostRuntime) -> Result<(), Fail> {

@@ -1,8 +1,8 @@
 //! A function that is compiled alone: the program compiles functions by `compile_function`.
 
 use crate::text::{function_of, register};
-use dwarf_loclists::range::{Location, Range, Ranges};
 use compile_function::compile::compile_function;
+use dwarf_loclists::range::{Location, Range, Ranges};
 use rv64_instr::place::Place;
 use std::alloc::Global;
 use std::test::Fail;

@@ -1,12 +1,12 @@
 //! What is known at the start of blocks, over all paths to them.
 
 use crate::text::{framed_of, function_of, register, variable};
-use value_solver::entry::BlockEntry;
-use value_solver::tracked::Tracked;
-use value_live_ins::values::{MachineValues, solve};
 use std::alloc::Global;
 use std::fmt::Write;
 use std::test::Fail;
+use value_live_ins::values::{MachineValues, solve};
+use value_solver::entry::BlockEntry;
+use value_solver::tracked::Tracked;
 
 /// Bodies, and the registers that have the first variable's value at the start of each block, the prologue's first.
 const BODIES: &[(&str, &str)] = &[

@@ -1,22 +1,22 @@
 //! The classes of places: past a copy, a call and marks of overlapping parts.
 
 use crate::text::{pair, part, register};
-use value_solver::entry::{Bits, BlockEntry, Numbers};
-use value_solver::tracked::Tracked;
-use value_tracker::held::{Held, PLACES};
-use value_tracker::index::{index_of, number_class};
-use value_tracker::pass::Block;
-use value_tracker::start::settle;
+use base_ids::code::DebugNumber;
 use mir_func::item::ItemKind;
 use mir_func::variable::MarkValue;
-use base_ids::code::DebugNumber;
+use mir_substitution::substitutions::Substitutions;
 use rv64_instr::instr::Instr;
 use rv64_instr::op::Op;
 use rv64_instr::operand::{Operand, Operands};
 use std::alloc::Global;
 use std::collections::HashMap;
 use std::test::Fail;
-use mir_substitution::substitutions::Substitutions;
+use value_solver::entry::{Bits, BlockEntry, Numbers};
+use value_solver::tracked::Tracked;
+use value_tracker::held::{Held, PLACES};
+use value_tracker::index::{index_of, number_class};
+use value_tracker::pass::Block;
+use value_tracker::start::settle;
 
 /// `COPY to, from`, with its debug instruction number.
 fn copy(alloc: Global, to: u32, from: u32, number: u32) -> Result<ItemKind, Fail> {

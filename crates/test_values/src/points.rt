@@ -4,14 +4,14 @@ ghost use Rattle.std.specs.Prelude.{◌≡◌, ◌≤◌, length};
 ghost use Rattle.value_tracker.specs.Things.{AreThings};
 
 use crate::text::{framed_of, function_of, pair, register, variable};
-use value_live_ins::values::{MachineValues, solve, solve_asking};
+use location_ranges::values::Values;
 use mir_func::entry::OperandPair;
 use mir_func::framed::Framed;
+use mir_substitution::substitutions::Substitutions;
 use rv64_instr::place::Place;
 use std::alloc::Global;
 use std::test::Fail;
-use mir_substitution::substitutions::Substitutions;
-use location_ranges::values::Values;
+use value_live_ins::values::{MachineValues, solve, solve_asking};
 use value_queries::machine::{holds as holds_pair, kept, same};
 use value_queries::point::{Point, point_at};
 use value_queries::variable::{first_place, holds};

@@ -1,5 +1,7 @@
 //! Functions of texts.
 
+use base_ids::code::{DebugNumber, OperandIndex};
+use base_ids::metadata::NodeId;
 use frame_lowering::lower::lower;
 use frame_lowering::physical::is_physical;
 use mir_func::entry::OperandPair;
@@ -7,8 +9,6 @@ use mir_func::framed::Framed;
 use mir_func::variable::{Fragment, VarId};
 use read_program::closing::Parsed;
 use read_program::program::read_program;
-use base_ids::code::{DebugNumber, OperandIndex};
-use base_ids::metadata::NodeId;
 use rv64_instr::reg::{Reg, physical};
 use std::alloc::Global;
 use std::test::Fail;

@@ -1,14 +1,14 @@
 //! Parts of variables, and the locations by their places.
 
 use crate::text::{part, variable};
-use dwarf_loclists::range::{Location, Part, Parts};
 use base_ids::code::SlotId;
-use rv64_instr::place::Place;
-use std::alloc::Global;
-use std::test::Fail;
+use dwarf_loclists::range::{Location, Part, Parts};
 use location_of_variable::group::groups;
 use location_of_variable::laws::wanted_locations_give_parts;
 use location_of_variable::location::location;
+use rv64_instr::place::Place;
+use std::alloc::Global;
+use std::test::Fail;
 
 fn is_at(found: &Option<Location>, wanted: &Option<Location>) -> bool {
     match (found, wanted) {

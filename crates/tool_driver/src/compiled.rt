@@ -11,13 +11,13 @@ ghost use Rattle.read_proof.specs.Read.{IsReadProgram};
 
 use cli::command::{Plan, RunPlan, TestPlan};
 use cli::fault::Fault;
+use listing_text::print::{print_listing, print_output};
+use mir_printer::text::Text;
+use read_program::program::Program;
 use run_command::compile::{Compilation, CompileError, compile};
 use run_command::name::is_unknown;
 use run_command::report::report;
 use run_command::run::run;
-use listing_text::print::{print_listing, print_output};
-use read_program::program::Program;
-use mir_printer::text::Text;
 use selftest_command::text::self_test;
 use std::alloc::Global;
 

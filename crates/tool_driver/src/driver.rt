@@ -19,16 +19,16 @@ ghost use Rattle.tool_driver.specs.Stream.{change, MetFault, IsWrittenWhole, IsT
 use crate::compiled::{compiled_text, listing_text, report_text, run_text, test_text};
 use crate::reading::program_of;
 use crate::telling::tell;
-use cli::command::{Command, parse};
-use cli::fault::Fault;
-use cli::status::Status;
-use gen_text::print::print_generated;
 use base_io::reading::{ReadError, read_all};
 use base_io::sink::Sink;
 use base_io::source::Source;
 use base_io::writing::write_all;
-use read_program::program::Program;
+use cli::command::{Command, parse};
+use cli::fault::Fault;
+use cli::status::Status;
+use gen_text::print::print_generated;
 use mir_printer::text::Text;
+use read_program::program::Program;
 use std::alloc::Global;
 use strip_command::strip_text::strip_text;
 

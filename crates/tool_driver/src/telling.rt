@@ -6,11 +6,11 @@ ghost use Rattle.base_io.specs.Told.{Appends, AppendsPrefix};
 ghost use Rattle.cli.specs.Fault.{line_of, place_text, status_of};
 ghost use Rattle.tool_driver.specs.Stream.{change, IsTold};
 
-use cli::fault::Fault;
-use cli::status::Status;
 use base_io::fault::Failed;
 use base_io::sink::Sink;
 use base_io::writing::write_all;
+use cli::fault::Fault;
+use cli::status::Status;
 use itoa::Buffer;
 
 /// Tells of a fault by its line, as far as the sink takes it, and gives the status of a run that ends so.

@@ -2,14 +2,14 @@
 //! the contract of the call that it makes; no contract can say what the host gives and takes.
 #![tactic(auto)]
 
-use cli::fault::Fault;
 use base_io::std_sink::StdSink;
 use base_io::std_source::StdSource;
-use tool_driver::driver::mirdwarf;
-use tool_driver::telling::tell;
+use cli::fault::Fault;
 use std::io::Write;
 use std::process::ExitCode;
 use std::{env, io};
+use tool_driver::driver::mirdwarf;
+use tool_driver::telling::tell;
 
 /// Runs the command that the program's words are, on standard input and output, and gives its status as the exit
 /// code. A fault is told by a line on `faults`.

@@ -11,19 +11,19 @@ ghost use Rattle.value_solver.specs.Joining.{AreWithin};
 ghost use Rattle.value_live_ins.specs.steps.Flowing.{Tells};
 ghost use Rattle.value_live_ins.specs.Walking.{IsTracking, AreTracked, decoded, new_of, Walked, AreChanges, AreOwn};
 
+use base_list::List;
+use mir_func::entry::OperandPair;
+use mir_func::item::{Item, ItemKind};
+use mir_func::variable::VarId;
+use mir_substitution::substitutions::Substitutions;
+use rv64_instr::reg::physical;
+use std::alloc::{AllocError, Global};
+use value_solver::flow::{Change, Changes, Source};
 use value_solver::tracked::Tracked;
 use value_tracker::held::{Held, slot_place};
 use value_tracker::index::{Index, key, number_class, pair_class};
 use value_tracker::pass::Block as Fixed;
 use value_tracker::start::start;
-use value_solver::flow::{Change, Changes, Source};
-use base_list::List;
-use mir_func::entry::OperandPair;
-use mir_func::item::{Item, ItemKind};
-use mir_func::variable::VarId;
-use rv64_instr::reg::physical;
-use std::alloc::{AllocError, Global};
-use mir_substitution::substitutions::Substitutions;
 
 /// How many registers an item may make a token for.
 const REGISTERS: usize = 32;

@@ -12,11 +12,11 @@ ghost use Rattle.value_live_ins.specs.steps.Ways.{FlowsBelow, IsFlowAt};
 
 use crate::changes::{Tracking, changes_of};
 use crate::ways::{Indices, ways_of};
-use value_solver::flow::Flow;
+use base_ids::code::BlockId;
 use mir_func::block::Block;
 use mir_func::successors::id_at;
-use base_ids::code::BlockId;
 use std::alloc::{AllocError, Global};
+use value_solver::flow::Flow;
 
 /// The number of the block behind one.
 fn next_of(blocks: &[Block], b: usize) -> Option<BlockId>

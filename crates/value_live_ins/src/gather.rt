@@ -4,9 +4,9 @@ ghost use Rattle.std.specs.Prelude.{◌≡◌, ◌++◌, ◌∷◌, IfOk, OnOk, 
 ghost use Rattle.value_live_ins.specs.Gathering.{MayTrack, IsGathered, Added};
 
 use crate::key::{Key, key_of};
-use value_solver::tracked::{Tracked, TrackedItems};
 use std::alloc::{AllocError, Global};
 use std::collections::HashSet;
+use value_solver::tracked::{Tracked, TrackedItems};
 
 /// Tracked things, each once.
 #[derive(Drop)]

@@ -3,9 +3,9 @@
 ghost use Rattle.std.specs.Prelude.{◌≡◌, ℕ};
 ghost use Rattle.value_live_ins.specs.Keys.{key_of, node_code, start_code, length_code};
 
-use value_solver::tracked::Tracked;
-use mir_func::variable::Fragment;
 use base_ids::metadata::NodeId;
+use mir_func::variable::Fragment;
+use value_solver::tracked::Tracked;
 
 /// A tracked thing's kind and its numbers.
 pub type Key = (u32, u64, u64, u64, u64);

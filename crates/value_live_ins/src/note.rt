@@ -20,14 +20,14 @@ ghost use Rattle.value_live_ins.specs.Gathering.{
 };
 
 use crate::gather::Gathered;
-use value_solver::tracked::Tracked;
 use mir_func::item::ItemKind;
 use mir_func::variable::MarkValue;
+use mir_substitution::substitutions::Substitutions;
 use rv64_instr::decoded::Decoded;
 use rv64_instr::instr::Instr;
 use rv64_instr::place::Place;
 use std::alloc::AllocError;
-use mir_substitution::substitutions::Substitutions;
+use value_solver::tracked::Tracked;
 
 impl Gathered {
     /// Adds a thing that is no part of a variable.

@@ -5,9 +5,9 @@ ghost use Rattle.value_solver.specs.Flows.{IsStart};
 ghost use Rattle.value_live_ins.specs.Walking.{AreTracked};
 ghost use Rattle.value_live_ins.specs.steps.Starting.{starts_with, own_class};
 
+use std::alloc::{AllocError, Global};
 use value_solver::entry::{Bits, BlockEntry, Numbers};
 use value_solver::tracked::Tracked;
-use std::alloc::{AllocError, Global};
 
 /// The entry that the function starts with: registers and numbers have tokens of their own there, and nothing else has
 /// one.

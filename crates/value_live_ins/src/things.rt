@@ -14,15 +14,15 @@ ghost use Rattle.value_live_ins.specs.Gathering.{HasRegister, HasRegistersBelow}
 ghost use Rattle.value_live_ins.specs.Walking.{AreTracked};
 
 use crate::gather::Gathered;
-use value_solver::tracked::{Tracked, TrackedItems};
 use base_list::List;
 use mir_func::block::Block;
 use mir_func::entry::OperandPair;
 use mir_func::item::{Item, ItemKind};
 use mir_func::variable::VarId;
+use mir_substitution::substitutions::Substitutions;
 use rv64_instr::reg::physical;
 use std::alloc::{AllocError, Global};
-use mir_substitution::substitutions::Substitutions;
+use value_solver::tracked::{Tracked, TrackedItems};
 
 /// Parts of variables.
 pub type Variables = List<VarId>;

@@ -18,16 +18,16 @@ use crate::flows::flows_of;
 use crate::opening::start_entry;
 use crate::things::{Things, Variables, things_of};
 use crate::ways::indices_of;
-use value_solver::entry::BlockEntries;
-use value_solver::tracked::{Tracked, TrackedItems};
-use value_tracker::index::index_of;
-use value_solver::solve::{Solved, solve as solve_flows};
 use mir_func::block::Block;
 use mir_func::entry::OperandPair;
 use mir_func::framed::Framed;
 use mir_func::variable::VarId;
-use std::alloc::{AllocError, Global};
 use mir_substitution::substitutions::Substitutions;
+use std::alloc::{AllocError, Global};
+use value_solver::entry::BlockEntries;
+use value_solver::solve::{Solved, solve as solve_flows};
+use value_solver::tracked::{Tracked, TrackedItems};
+use value_tracker::index::index_of;
 
 /// From so many things or blocks on, memory would have run out.
 const MOST: usize = (1 << 32) - 1;

@@ -6,13 +6,13 @@ ghost use Rattle.mir_func.specs.declared.block.Block.{Block};
 ghost use Rattle.mir_func.specs.Successors.{ways};
 ghost use Rattle.value_live_ins.specs.steps.Ways.{enter_by, FindsIds};
 
-use value_solver::flow::Ways;
+use base_ids::code::BlockId;
 use mir_func::block::Block;
 use mir_func::exit::Exit;
 use mir_func::item::Item;
-use base_ids::code::BlockId;
 use std::alloc::{AllocError, Global};
 use std::collections::HashMap;
+use value_solver::flow::Ways;
 
 /// The indices of blocks by their numbers. The prologue's number leads to the block behind it.
 pub type Indices = HashMap<u32, u32>;

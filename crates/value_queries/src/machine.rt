@@ -18,11 +18,11 @@ ghost use Rattle.value_queries.specs.Sitting.{place_number};
 
 use crate::point::Point;
 use crate::sits::{class_sits, named_class, number_of};
-use value_solver::entry::BlockEntry;
-use value_tracker::index::{key, pair_class};
+use location_ranges::values::Values;
 use mir_func::entry::OperandPair;
 use rv64_instr::place::Place;
-use location_ranges::values::Values;
+use value_solver::entry::BlockEntry;
+use value_tracker::index::{key, pair_class};
 
 /// Whether the value of an operand of the instruction with a debug instruction number sits in a place at a point: some
 /// path leads there, and on every path to it both have one token. None exactly where the pair isn't tracked: of all

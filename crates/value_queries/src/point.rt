@@ -8,11 +8,11 @@ ghost use Rattle.location_ranges.specs.Stands.{AreValuesOf};
 ghost use Rattle.value_queries.specs.Sitting.{IsPointOf, position};
 
 use crate::stand::stand_before;
-use value_tracker::index::{Index, index_of};
-use mir_func::block::Block;
-use std::alloc::{AllocError, Global};
 use location_ranges::stand::Stand;
 use location_ranges::values::Values;
+use mir_func::block::Block;
+use std::alloc::{AllocError, Global};
+use value_tracker::index::{Index, index_of};
 
 /// What is known before an item of a block, or behind its last one. Questions about values there take no memory.
 #[derive(Drop)]

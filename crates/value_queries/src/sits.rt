@@ -8,11 +8,11 @@ ghost use Rattle.value_tracker.specs.Held.{slot_place};
 ghost use Rattle.value_queries.specs.Sitting.{IsFit, SitsByClass, named_class};
 
 use crate::point::Point;
-use value_tracker::held::{Held, SLOTS_FROM, slot_place};
-use value_tracker::index::number_class;
 use base_ids::code::SlotId;
 use rv64_instr::place::Place;
 use rv64_instr::reg::Reg;
+use value_tracker::held::{Held, SLOTS_FROM, slot_place};
+use value_tracker::index::number_class;
 
 /// The number that a constant is, modulo 2^64.
 pub fn number_of(c: i64) -> u64

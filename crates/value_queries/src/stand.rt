@@ -5,12 +5,12 @@ ghost use Rattle.mir_func.specs.declared.block.Block.{Block};
 ghost use Rattle.value_tracker.specs.Things.{AreThings, Indexes};
 ghost use Rattle.location_ranges.specs.Stands.{AreValuesOf, Stands, Fits};
 
-use value_tracker::index::Index;
+use location_ranges::stand::{Stand, enter, move_to};
+use location_ranges::values::Values;
 use mir_func::block::Block;
 use mir_func::variable::VarId;
 use std::alloc::{AllocError, Global};
-use location_ranges::stand::{Stand, enter, move_to};
-use location_ranges::values::Values;
+use value_tracker::index::Index;
 
 /// The walk before an item of a block, or behind its last one.
 pub fn stand_before(

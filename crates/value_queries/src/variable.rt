@@ -16,15 +16,15 @@ ghost use Rattle.value_queries.specs.Sitting.{IsPointOf, SitsAt, position};
 use crate::point::Point;
 use crate::sits::class_sits;
 use crate::stand::{index_in, stand_before};
-use value_tracker::held::Held;
-use value_tracker::index::index_of;
+use location_ranges::places::look_up;
+use location_ranges::stand::Stand;
+use location_ranges::values::Values;
 use mir_func::block::Block;
 use mir_func::variable::VarId;
 use rv64_instr::place::Place;
 use std::alloc::{AllocError, Global};
-use location_ranges::places::look_up;
-use location_ranges::stand::Stand;
-use location_ranges::values::Values;
+use value_tracker::held::Held;
+use value_tracker::index::index_of;
 
 /// The first place in which the value of a part of a variable sits on every path to an item of a block, or behind its
 /// last one: a number, else the lowest register, else the lowest slot. None exactly where it sits in none. It walks

@@ -3,8 +3,8 @@
 ghost use Rattle.std.specs.Prelude.{◌≡◌, ℕ, ◌<◌, length, IfOk};
 ghost use Rattle.value_solver.specs.Joining.{IsKnown, AreWithin, SourceWithin, IsPast, class_past, bit_past};
 
-use crate::flow::{Change, Source};
 use crate::entry::BlockEntry;
+use crate::flow::{Change, Source};
 use std::alloc::{AllocError, Global};
 
 /// One more than the greatest number of a register.

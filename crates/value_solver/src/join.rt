@@ -3,9 +3,9 @@
 ghost use Rattle.std.specs.Prelude.{◌≡◌, ℕ, ◌<◌, List, [], ◌∷◌, ◌++◌, length, slice_index_or, false, min, ◌&&◌, IfOk};
 ghost use Rattle.value_solver.specs.Joining.{Hand, IsJoin, IsPast};
 
+use crate::entry::BlockEntry;
 use crate::hand::Exit;
 use crate::meet::{Pairs, meet};
-use crate::entry::BlockEntry;
 use base_list::List;
 use std::alloc::{AllocError, Global};
 

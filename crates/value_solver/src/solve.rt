@@ -11,10 +11,10 @@ ghost use Rattle.value_solver.specs.Hands.{AreSoundFlows};
 ghost use Rattle.value_solver.specs.Flows.{AreFlows, IsStart};
 ghost use Rattle.value_solver.specs.Invariants.{IsProblem, IsOrder, IsTable, Settled};
 
+use crate::entry::{BlockEntries, BlockEntry};
 use crate::flow::{Flow, Ways};
 use crate::order::{order, predecessors};
 use crate::turn::sweep;
-use crate::entry::{BlockEntries, BlockEntry};
 use base_list::List;
 use std::alloc::{AllocError, Global};
 

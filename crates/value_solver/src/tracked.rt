@@ -1,9 +1,9 @@
 //! What is tracked along paths.
 
+use base_ids::code::SlotId;
 use base_list::List;
 use mir_func::entry::OperandPair;
 use mir_func::variable::VarId;
-use base_ids::code::SlotId;
 use rv64_instr::reg::Reg;
 
 /// Something that has a token along a path, or none (LLVM: what InstrRefBasedLDV gives value numbers).

@@ -7,10 +7,10 @@ ghost use Rattle.mir_func.specs.Graph.{Program};
 ghost use Rattle.value_solver.specs.declared.tracked.Tracked.{Tracked};
 ghost use Rattle.value_solver.specs.Invariants.{IsProblem, IsOrder, IsTable, Turned, Swept};
 
+use crate::entry::BlockEntry;
 use crate::flow::{Flow, Ways};
 use crate::meet::Pairs;
 use crate::visit::visit;
-use crate::entry::BlockEntry;
 use std::alloc::{AllocError, Global};
 
 /// Marks blocks.

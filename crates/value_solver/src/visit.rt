@@ -6,11 +6,11 @@ ghost use Rattle.value_solver.specs.Joining.{IsKnown, AreWithin, IsJoin, Hand};
 ghost use Rattle.value_solver.specs.Hands.{IsShaped, AreSoundFlows, handed, preds_at, first_hand, hand_by};
 ghost use Rattle.value_solver.specs.Hands.{ArePredecessors, Visited};
 
+use crate::entry::BlockEntry;
 use crate::flow::{Flow, Ways};
 use crate::hand::{Exit, hand_on};
 use crate::join::{empty_join, join};
 use crate::meet::Pairs;
-use crate::entry::BlockEntry;
 use std::alloc::{AllocError, Global};
 
 /// The join of what the start hands on to a block.

@@ -21,10 +21,10 @@ ghost use Rattle.value_solver.specs.declared.tracked.Tracked.{Tracked};
 ghost use Rattle.value_tracker.specs.Held.{class_at, number_class};
 ghost use Rattle.value_tracker.specs.Things.{is_key, IndexesBelow, Indexes};
 
-use value_solver::tracked::Tracked;
 use mir_func::entry::OperandPair;
 use std::alloc::{AllocError, Global};
 use std::collections::HashMap;
+use value_solver::tracked::Tracked;
 
 /// Where numbers and pairs stand in a list of tracked things.
 #[derive(Drop)]

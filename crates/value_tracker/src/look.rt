@@ -28,11 +28,11 @@ ghost use Rattle.value_tracker.specs.Start.{IsConstantOf, ConstantsNow, constant
 ghost use Rattle.value_tracker.specs.Look.{place_of, place_at, place_by};
 
 use crate::held::SLOTS_FROM;
-use value_solver::tracked::Tracked;
 use base_ids::code::SlotId;
 use rv64_instr::place::Place;
 use rv64_instr::reg::physical;
 use std::alloc::{AllocError, Global};
+use value_solver::tracked::Tracked;
 
 /// The number of each class that a number has, given the classes of all things and the one after them.
 pub fn constants(

@@ -37,17 +37,17 @@ ghost use Rattle.value_tracker.specs.Things.{is_key};
 
 use crate::held::{Held, PLACES, SLOTS_FROM, slot_place};
 use crate::index::{Index, key, number_class, pair_class};
+use base_ids::code::DebugNumber;
 use mir_func::entry::OperandPair;
 use mir_func::item::ItemKind;
 use mir_func::variable::{MarkValue, VarId};
-use sem_mir::operand::defined;
-use base_ids::code::DebugNumber;
+use mir_substitution::substitutions::Substitutions;
 use rv64_instr::instr::Instr;
 use rv64_instr::operand::Operand;
 use rv64_instr::place::Place;
 use rv64_instr::reg::Reg;
+use sem_mir::operand::defined;
 use std::alloc::AllocError;
-use mir_substitution::substitutions::Substitutions;
 
 /// From so many classes on, memory would have run out.
 const MOST_CLASSES: usize = 1 << 62;

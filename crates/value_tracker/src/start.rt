@@ -29,11 +29,11 @@ ghost use Rattle.value_tracker.specs.Start.{stands_at, PlacedBelow};
 
 use crate::held::{Held, PLACES, SLOTS_FROM, slot_place};
 use crate::index::{Index, number_class};
-use value_solver::entry::BlockEntry;
-use value_solver::tracked::Tracked;
 use mir_func::variable::VarId;
 use std::alloc::{AllocError, Global};
 use std::collections::HashMap;
+use value_solver::entry::BlockEntry;
+use value_solver::tracked::Tracked;
 
 /// From so many classes on, memory would have run out.
 const MOST_CLASSES: usize = 1 << 62;
