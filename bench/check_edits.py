@@ -12,7 +12,7 @@ import sys
 from pathlib import Path
 
 TOP = Path(__file__).resolve().parent.parent
-ROW = re.compile(r"^\| `(\w+)` \| `(\w+)` \| (.+) \|$")
+ROW = re.compile(r"^\| `(\w+)` \| `(\w+)` \| (yes|·) \| (.+) \|$")
 
 
 def faults_of(edit, crate):
@@ -46,11 +46,14 @@ def main():
     for (crate, _), path in sorted([*gate.items(), *kept.items()], key=lambda it: str(it[1])):
         told += [f"{path.relative_to(TOP)}:{fault}" for fault in faults_of(path, crate)]
     told += [f"{crate}/{name}: stands in the gate and in bench/edits" for crate, name in sorted(set(gate) & set(kept))]
-    rows = [(m[1], m[2]) for m in map(ROW.match, (TOP / "docs/EDITS.md").read_text().splitlines()) if m]
+    found = [m for m in map(ROW.match, (TOP / "docs/EDITS.md").read_text().splitlines()) if m]
+    rows = [(m[1], m[2]) for m in found]
+    tried = {(m[1], m[2]) for m in found if m[3] == "yes"}
     told += [f"docs/EDITS.md: {crate}/{name} has {rows.count((crate, name))} rows" for crate, name in sorted(set(rows))
              if rows.count((crate, name)) > 1]
-    told += [f"docs/EDITS.md: no row for {crate}/{name}" for crate, name in sorted(set(gate) - set(rows))]
-    told += [f"docs/EDITS.md: no edit {crate}/{name}" for crate, name in sorted(set(rows) - set(gate))]
+    told += [f"docs/EDITS.md: no row with yes for {crate}/{name}" for crate, name in sorted(set(gate) - tried)]
+    told += [f"docs/EDITS.md: no edit of the gate {crate}/{name}" for crate, name in sorted(tried - set(gate))]
+    told += [f"docs/EDITS.md: no edit {crate}/{name}" for crate, name in sorted(set(rows) - tried - set(kept))]
     print(*told, sep="\n", end="\n" if told else "")
     print(f"{len(gate)} edits in the gate, {len(kept)} in bench/edits, {len(told)} faults")
     sys.exit(1 if told else 0)
