@@ -27,15 +27,17 @@ use std::alloc::Global;
 pub struct CompiledFunction {
     /// Its machine code, with the function with its frame.
     pub code: Code,
-    /// Its variables, each as a whole, by the first mark of any of their parts.
+    /// The variables of its source, each as a whole, by the first mark of any of their parts.
     pub variables: VarIds,
     /// A location list for each of them, in their order.
     pub lists: RangeLists,
 }
 
-/// A function from an address on, a multiple of 4. What it can't compile is as `code_of` says.
+/// Compiles a function from an address on, a multiple of 4, with a location list for each variable of its source: the function as it was
+/// before passes, or itself. What it can't compile is as `code_of` says.
 pub fn compile_function(
     alloc: Global,
+    source: &Func,
     f: &Func,
     subs: &Substitutions,
     base: u64,
@@ -45,7 +47,7 @@ pub fn compile_function(
     ensures code { IfOk result (λ c. IsCodeOf (framed_of f.now) base c.code) }
     ensures fits { OnOk result (size_of f.now ≤ MAX_FRAME) }
     ensures few { OnOk result (count_of (framed_of f.now).blocks < MAX_WORDS) }
-    ensures variables { IfOk result (λ c. c.variables ≡ variables_of_function f.now.blocks) }
+    ensures variables { IfOk result (λ c. c.variables ≡ variables_of_function source.now.blocks) }
     ensures lists { IfOk result (λ c.
         AreListsOf (framed_program (framed_of f.now).blocks (resolve subs.now)) (block_start 0) c.code.entries
         c.variables c.lists) }
@@ -55,7 +57,7 @@ pub fn compile_function(
     ensures too_long { IsErrOf result CodeError.TooLong → MAX_WORDS ≤ count_of (framed_of f.now).blocks }
 {
     let code = code_of(alloc, f, base)?;
-    let variables = variables(alloc, f.blocks.as_slice())?;
+    let variables = variables(alloc, source.blocks.as_slice())?;
     let lists = location_lists(alloc, variables.as_slice(), subs, &code)?;
     Ok(CompiledFunction {
         code,

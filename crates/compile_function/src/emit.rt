@@ -3,10 +3,9 @@
 ghost use Rattle.std.specs.Prelude.{◌≡◌, ◌+◌, ◌*◌, ◌%◌, ◌<◌, ◌≤◌, ◌^◌, [], ◌∷◌, ◌++◌, IfOk, OnOk, IsErrOf, length};
 ghost use Rattle.std.specs.List.{flat_map};
 ghost use Rattle.std.specs.Int.{w32, to_le_bytes};
-ghost use Rattle.emit_code.specs.Counts.{MAX_WORDS, MAX_BASE, count_of};
-ghost use Rattle.emit_code.specs.Laid.{IsCodeOf};
+ghost use Rattle.emit_code.specs.Counts.{MAX_WORDS, MAX_BASE};
 ghost use Rattle.emit_code.specs.Rule.{Layout};
-ghost use Rattle.frame_rule.specs.Rule.{size_of, framed_of};
+ghost use Rattle.frame_rule.specs.Rule.{size_of};
 ghost use Rattle.compile_function.specs.declared.emit.EmitError.TheVariants.{Memory};
 ghost use Rattle.compile_function.specs.Emitted.{IsOneCompiled, IsPushed};
 ghost use Rattle.listing_function.specs.Laid.{IsLaid};
@@ -19,13 +18,11 @@ ghost use Rattle.mir_func.specs.SoundFrame.{HasPhysical};
 ghost use Rattle.read_proof.specs.Read.{IsReadFunction};
 ghost use Rattle.listing_meaning.specs.Listing.{listing_of};
 
-use crate::compile::CompiledFunction;
-use crate::location_lists::location_lists;
+use crate::compile::{CompiledFunction, compile_function};
 use base_list::List;
 use dwarf_loclists::range::RangeLists;
-use dwarf_unit::variables::variables;
 use emit_code::code::Code;
-use emit_function::code::{CodeError, code_of};
+use emit_function::code::CodeError;
 use listing_function::listing::listing;
 use listing_function::variables::variable_lines;
 use listing_text::output::{Bytes, ListedFunction, ListedFunctions};
@@ -155,30 +152,8 @@ fn compiled(
     ensures compiled { IfOk result (IsOneCompiled (passed_of source.now function.now subs.now) base) }
     ensures too_large { IsErrOf result EmitError.FrameTooLarge → MAX_FRAME < size_of function.now }
 {
-    let code = laid_out(alloc, function, base)?;
-    let variables = variables(alloc, source.func.blocks.as_slice())?;
-    let lists = location_lists(alloc, variables.as_slice(), subs, &code)?;
-    Ok(CompiledFunction {
-        code,
-        variables,
-        lists,
-    })
-}
-
-/// The machine code of a function with few items and physical registers, from an address on.
-fn laid_out(alloc: Global, function: &Func, base: u64) -> Result<Code, EmitError>
-    requires aligned { base % 4 ≡ 0 }
-    requires low { base < MAX_BASE }
-    requires sound { IsSound function.now }
-    requires few { length (items_of function.now.blocks) ≤ MAX_PASSED }
-    requires physical { AllItems (λ i. HasPhysical i.kind) function.now.blocks }
-    ensures laid { IfOk result (IsCodeOf (framed_of function.now) base) }
-    ensures fits { OnOk result (size_of function.now ≤ MAX_FRAME) }
-    ensures few { OnOk result (count_of (framed_of function.now).blocks < MAX_WORDS) }
-    ensures too_large { IsErrOf result EmitError.FrameTooLarge → MAX_FRAME < size_of function.now }
-{
-    match code_of(alloc, function, base) {
-        Ok(code) => Ok(code),
+    match compile_function(alloc, &source.func, function, subs, base) {
+        Ok(compiled) => Ok(compiled),
         Err(CodeError::FrameTooLarge) => Err(EmitError::FrameTooLarge),
         Err(CodeError::Memory) => Err(EmitError::Memory),
         // Its registers are physical.

@@ -4,8 +4,6 @@
 //! - `rule_laws`: Laws of the rule of branch folding: of one function it makes one, it sees code alone, debug items
 //!   pass through it, and what is bypassed is gone.
 //!
-//! - `fold`: Branch folding of functions: what is folded is a sound function still.
-//!
 //! - `step_laws`: What folded branches and jumps do, step by step: what is sent elsewhere does what it did, and what is
 //!   turned round goes where it fell through.
 //!
@@ -13,7 +11,6 @@
 //!   ways end.
 #![tactic(auto)]
 
-pub mod fold;
 pub mod kill_laws;
 pub mod rule_laws;
 pub mod step_laws;

@@ -12,7 +12,7 @@ use Rattle.compile_theorem.specs.Source.{PassedFunction}
 use Rattle.pass_list.specs.declared.kind.PassKind.{PassKind}
 use Rattle.compile_program.specs.declared.compile.Compilation.{Compilation}
 use Rattle.compile_program.specs.Program.{ArePassed, IsCompilationOf, IsMadeLosing, names_of}
-use Rattle.report_function.specs.declared.program_print.Compiled.{Compiled}
+use Rattle.report_function.specs.declared.compiled.Compiled.{Compiled}
 use Rattle.report_function.specs.ProgramReport.{program_report}
 
 -- ---- the text

@@ -4,7 +4,7 @@ use Rattle.std.specs.List.{flat_map}
 use Rattle.dwarf_loclists.specs.Ranges.{Ascend}
 use Rattle.report_function.specs.Report.{report_of}
 use Rattle.report_function.specs.Text.{report_text}
-use Rattle.report_function.specs.declared.program_print.Compiled.{Compiled}
+use Rattle.report_function.specs.declared.compiled.Compiled.{Compiled}
 
 -- there are as many names as lists, and in each list the ranges ascend
 pub record IsReportable (f : Compiled) : Type 0 where

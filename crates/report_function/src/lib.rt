@@ -5,11 +5,11 @@
 //!   registers passes gave up, and why. The report has the losses as the passes told them, so in the order of the
 //!   passes.
 //!
-//! - `program_print`: The reports of a program: one for each of its functions, in their order.
+//! - `compiled`: What is reported of one function of a program.
 #![tactic(auto)]
 
+pub mod compiled;
 mod covers;
 pub mod debugify_print;
 pub mod make;
-pub mod program_print;
 pub mod report;

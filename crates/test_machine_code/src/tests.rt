@@ -1,14 +1,9 @@
 //! Machine code of small functions.
 
-ghost use Rattle.std.specs.Prelude.{IfOk};
-ghost use Rattle.report_function.specs.ProgramReport.{IsReportable};
-
-use base_list::List;
 use dwarf_loclists::reader::list_count;
 use emit_code::code::{Code, Words};
 use emit_function::code::code_of;
 use read_program::program::read_program;
-use report_function::program_print::{Compiled, print_reports};
 use rv64_instr::reg::physical;
 use rv64_instr::start::{Answer, CallEvent, Cells, Start};
 use sim_machine::answers::CallAnswers;
@@ -16,10 +11,6 @@ use sim_machine::ending::{Stepped, Stop};
 use sim_machine::machine::Machine;
 use std::alloc::Global;
 use std::test::Fail;
-
-/// A function of two words.
-const TWO: &[u8] =
-    b"---\nname: f\nbody: |\n  bb.0:\n    $x10 = ADDI $x0, 0\n    PseudoRET implicit $x10\n...\n";
 
 /// A function of one word, which returns.
 const RETURN: &[u8] = b"---\nname: g\nbody: |\n  bb.0:\n    PseudoRET\n...\n";
@@ -182,18 +173,6 @@ fn stops_at(alloc: Global, word: u32, first: Stepped, second: Stepped) -> Result
     stops(alloc, &code, first, second)
 }
 
-/// A function without variables, of which nothing was lost.
-fn compiled(alloc: Global, text: &[u8]) -> Result<Compiled, Fail>
-    ensures { IfOk result IsReportable }
-{
-    Ok(Compiled {
-        code: code(alloc, text)?,
-        names: List::new(alloc),
-        lists: List::new(alloc),
-        losses: List::new(alloc),
-    })
-}
-
 #[test]
 fn runs_a_loop_with_calls(rt: HostRuntime) -> Result<(), Fail> {
     let code = code(rt.alloc(), SUM)?;
@@ -209,16 +188,5 @@ fn stops_at_words(rt: HostRuntime) -> Result<(), Fail> {
     assert!(rt; stops_at(rt.alloc(), 0x0000_8067, returned, returned)?);
     assert!(rt; stops_at(rt.alloc(), 0x0000_0000, bad, bad)?);
     assert!(rt; stops_at(rt.alloc(), 0x0000_0013, Stepped::Went, left)?);
-    Ok(())
-}
-
-#[test]
-fn reports_functions_in_their_order(rt: HostRuntime) -> Result<(), Fail> {
-    let functions = [compiled(rt.alloc(), TWO)?, compiled(rt.alloc(), RETURN)?];
-    let text = print_reports(rt.alloc(), &functions)?;
-    assert_eq!(rt;
-        text.as_slice(),
-        b"function f\nwords 2\nfunction g\nwords 1\n".as_slice()
-    );
     Ok(())
 }

@@ -9,7 +9,7 @@ use crate::shown::{push_blocks, push_entries, push_items, push_losses};
 use base_ids::code::{DebugNumber, SlotId};
 use base_list::List;
 use dce_mark::judge::judge;
-use fold_rule_proof::fold::fold;
+use fold_pass::fold::fold;
 use mir_func::block::copy_blocks;
 use mir_func::func::Func;
 use mir_func::item::Item;
@@ -124,7 +124,7 @@ fn push_verdicts(blocks: &[List<bool>], text: &mut Text) -> Result<(), AllocErro
 }
 
 fn push_folded(alloc: Global, f: &mut Func, text: &mut Text) -> Result<(), AllocError> {
-    fold(alloc, f)?;
+    let _losses = fold(alloc, f)?;
     push_blocks(text, f.blocks.as_slice())
 }
 

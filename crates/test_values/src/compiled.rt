@@ -1,4 +1,4 @@
-//! A function that is compiled alone: the program compiles functions by `compile_function`.
+//! A function that is compiled by the call by which the program compiles each function.
 
 use crate::text::{function_of, register};
 use compile_function::compile::compile_function;
@@ -39,7 +39,7 @@ fn are_ranges(list: &Ranges, wanted: &[(u64, u64, u32)]) -> Result<bool, Fail> {
 /// Whether the ranges of a function's first variable are these.
 fn has_ranges(alloc: Global, body: &str, wanted: &[(u64, u64, u32)]) -> Result<bool, Fail> {
     let parsed = function_of(alloc, body)?;
-    let compiled = compile_function(alloc, &parsed.func, &parsed.subs, 0)?;
+    let compiled = compile_function(alloc, &parsed.func, &parsed.func, &parsed.subs, 0)?;
     match compiled.lists.as_slice().first() {
         Some(list) => are_ranges(list, wanted),
         None => Ok(false),

@@ -1,6 +1,6 @@
 use Rattle.std.proofs.Common.{rules}
 use Rattle.compile_function.proofs.Few.{few_words}
-use Rattle.compile_function.proofs.emit.laid_out.Goals as goal
+use Rattle.compile_function.proofs.emit.compiled.Goals as goal
 
 -- its items are few, so its words are
 pub unreachable-requires-in-Err-TooLong : goal.unreachable-requires-in-Err-TooLong

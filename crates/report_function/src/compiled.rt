@@ -1,0 +1,23 @@
+//! What is reported of one function of a program.
+
+use crate::report::Names;
+use base_list::List;
+use dwarf_loclists::range::RangeLists;
+use emit_code::code::Code;
+use pass_trait::loss::Losses;
+
+/// A function that was compiled, and what was lost on the way.
+#[derive(Debug, Drop)]
+pub struct Compiled {
+    /// Its machine code, with the function with its frame.
+    pub code: Code,
+    /// The names of its variables, in the order of their lists.
+    pub names: Names,
+    /// Their location lists.
+    pub lists: RangeLists,
+    /// What passes lost, in the order of the passes.
+    pub losses: Losses,
+}
+
+/// Functions, in their order.
+pub type CompiledFunctions = List<Compiled>;
