@@ -1,7 +1,6 @@
 //! What is reported of one function of a program.
 
 use crate::report::Names;
-use base_list::List;
 use dwarf_loclists::range::RangeLists;
 use emit_code::code::Code;
 use pass_trait::loss::Losses;
@@ -18,6 +17,3 @@ pub struct Compiled {
     /// What passes lost, in the order of the passes.
     pub losses: Losses,
 }
-
-/// Functions, in their order.
-pub type CompiledFunctions = List<Compiled>;
