@@ -62,6 +62,7 @@ pub fn read_all<S: Source>(alloc: Global, input: &mut S, limit: usize) -> Result
     // When each error comes, and what it leaves.
     ensures failed { IsErrOf result ReadError.Failed → CountRose (S.faults input.old) (S.faults input.new) }
     ensures too_long { IsErrOf result ReadError.TooLong → TakesCount (S.left input.old) (S.left input.new) (limit + 1) }
+    ensures no_fault { IsErrOf result ReadError.TooLong → S.faults input.new ≡ S.faults input.old }
     ensures err { OnErr result (TakesAtMost (S.left input.old) (S.left input.new) (limit + 1)) }
 
     // Where the bytes left are told, the answer is that for them.

@@ -1,4 +1,4 @@
--- The words of the commands.
+-- The commands, and the words of a command line that are each of them.
 use Rattle.std.specs.Prelude.{◌≡◌, ℕ, ◌≤◌, List, [], ◌∷◌, codes, Option, Some, None}
 use Rattle.std.specs.Fmt.{decimal}
 use Rattle.cli_numbers.specs.declared.generation.Generation.{Generation}
@@ -13,33 +13,33 @@ use Rattle.cli.specs.declared.command.TestPlan.{TestPlan}
 use Rattle.pass_list.specs.declared.kind.PassKind.{PassKind}
 use Rattle.pass_list.specs.Names.{STANDARD}
 
--- the registers of a reserve: none where it isn't given
+-- the registers of `--reserve`: none by default
 abbrev pub reserve_in : Option (List ℕ) → List ℕ
 reserve_in None = []
 reserve_in (Some registers) = registers
 
--- the numbers of an option: none where it isn't given
+-- the numbers of an option: none by default
 abbrev pub numbers_in : Option (List ℕ) → List ℕ
 numbers_in None = []
 numbers_in (Some numbers) = numbers
 
--- the passes of a list: all of them where it isn't given
+-- the passes of `--passes`: all by default
 abbrev pub passes_in : Option (List PassKind) → List PassKind
 passes_in None = STANDARD
 passes_in (Some passes) = passes
 
--- options ask for a plan: a list of passes and a reserve may be given, and no numbers are
+-- the plan of these options, which may include `--passes` and `--reserve` but no numbers
 pub record IsPlanOf (given : Options) (plan : Plan) : Type 0 where
   pub passes : plan.passes ≡ passes_in given.passes
   pub reserve : plan.reserve ≡ reserve_in given.reserve
   pub no_arguments : given.arguments ≡ None
   pub no_answers : given.answers ≡ None
 
--- words are options, in any order and each at most once, that ask for a plan
+-- the words are options, in any order and each at most once, with this plan
 abbrev pub GivesPlan : (words : List (List ℕ)) → Plan → Type 0
 GivesPlan words plan = (given : Options) × GiveOptions none_given words given × IsPlanOf given plan
 
--- options ask for a run of the function of a name, of so many steps at most: each option may be given
+-- the run of the function with this name, for at most `count` steps, with these options, which may be any
 pub record IsRunPlanOf (name : List ℕ) (count : ℕ) (given : Options) (run : RunPlan) : Type 0 where
   pub named : run.name ≡ name
   pub steps : run.steps ≡ count
@@ -48,11 +48,11 @@ pub record IsRunPlanOf (name : List ℕ) (count : ℕ) (given : Options) (run : 
   pub arguments : run.arguments ≡ numbers_in given.arguments
   pub answers : run.answers ≡ numbers_in given.answers
 
--- how many steps a run may have
+-- the greatest number of steps of a run
 abbrev pub MAX_STEPS : ℕ
 MAX_STEPS = 1000000
 
--- a name, a word that is a number of steps, 0 to 1,000,000, and options, in any order and each at most once, ask for a run
+-- a run: a function's name, a number of steps from 0 to 1,000,000, and options, in any order and each at most once
 pub record GivesSteps (name word : List ℕ) (words : List (List ℕ)) (run : RunPlan) : Type 0 where
   pub count : ℕ
   pub spelled : word ≡ decimal count
@@ -61,31 +61,30 @@ pub record GivesSteps (name word : List ℕ) (words : List (List ℕ)) (run : Ru
   pub give : GiveOptions none_given words given
   pub is : IsRunPlanOf name count given run
 
--- so do words: a name, a number of steps, and options
+-- the same, for the words of a run
 abbrev pub GivesRun : (words : List (List ℕ)) → RunPlan → Type 0
 GivesRun [] run = ⊥
 GivesRun (name ∷ []) run = ⊥
 GivesRun (name ∷ steps ∷ words) run = GivesSteps name steps words run
 
--- a function that is made up has a number up to 65,536, and 1 to 512 blocks
+-- a generated function has a number up to 65,536, and 1 to 512 blocks
 pub record IsWithin (g : Generation) : Type 0 where
   pub small : g.number ≤ 65536
   pub some : 1 ≤ g.blocks
   pub few : g.blocks ≤ 512
 
--- two words, the number of a function that is made up and how many blocks it has, and options, in any order and each at most once, that ask for a
--- plan, ask for its self-test
+-- a self-test: the number of a generated function, its number of blocks, and options with a plan, in any order and each at most once
 pub record GivesTestOf (number blocks : List ℕ) (words : List (List ℕ)) (test : TestPlan) : Type 0 where
   pub function : IsGeneration number blocks test.function
   pub plan : GivesPlan words test.plan
 
--- so do words: a number, a number of blocks, and options
+-- the same, for the words of a self-test
 abbrev pub GivesTest : (words : List (List ℕ)) → TestPlan → Type 0
 GivesTest [] test = ⊥
 GivesTest (number ∷ []) test = ⊥
 GivesTest (number ∷ blocks ∷ words) test = GivesTestOf number blocks words test
 
--- the words are a name and what the command of this name asks for
+-- the words are a command: its name, and then what it needs
 abbrev pub IsCommand : (words : List (List ℕ)) → Command → Type 0
 IsCommand [] command = ⊥
 IsCommand (name ∷ words) (Compile plan) = (name ≡ codes "compile") × GivesPlan words plan
@@ -96,7 +95,7 @@ IsCommand (name ∷ words) Strip = (name ≡ codes "strip") × (words ≡ [])
 IsCommand (name ∷ words) (Gen g) = (name ≡ codes "gen") × (words ≡ decimal g.number ∷ decimal g.blocks ∷ []) × IsWithin g
 IsCommand (name ∷ words) (SelfTest test) = (name ≡ codes "selftest") × GivesTest words test
 
--- the numbers of a command are within their limits
+-- the numbers of a generated function in the command are within their limits
 abbrev pub AreWithin : Command → Type 0
 AreWithin (Compile plan) = Unit {0}
 AreWithin (Listing plan) = Unit {0}
@@ -106,7 +105,7 @@ AreWithin Strip = Unit {0}
 AreWithin (Gen g) = IsWithin g
 AreWithin (SelfTest test) = IsWithin test.function
 
--- the name isn't that of a command with a plan
+-- the name is none of the commands with a plan
 pub record IsPlain (name : List ℕ) : Type 0 where
   pub compile : name ≡ codes "compile" → ⊥
   pub listing : name ≡ codes "listing" → ⊥

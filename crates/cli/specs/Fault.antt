@@ -1,4 +1,4 @@
--- What a run that didn't come to its end tells.
+-- The faults of a run: their names, the lines that report them, and their exit statuses.
 use Rattle.std.specs.Prelude.{ℕ, List, [], ◌∷◌, ◌++◌, codes, Option, Some, None}
 use Rattle.std.specs.Fmt.{decimal}
 use Rattle.read_refusal.specs.Kind as kind
@@ -8,7 +8,7 @@ use Rattle.cli.specs.declared.fault.Fault.TheVariants.{FrameTooLarge, SectionToo
 use Rattle.cli.specs.declared.status.Status.{Status}
 use Rattle.cli.specs.declared.status.Status.TheVariants as status
 
--- the line of the input at which a refusal stands; those of the whole input stand at line 0
+-- the line of the input that a fault is about; 0 if it is about the whole input, and none if it isn't about the input's content
 abbrev pub input_line : Fault → Option ℕ
 input_line (Refused r) = Some r.line
 input_line TooLong = Some 0
@@ -21,7 +21,7 @@ input_line Read = None
 input_line Write = None
 input_line Memory = None
 
--- its name
+-- the name of a fault
 abbrev pub name_of : Fault → List ℕ
 name_of (Refused r) = kind.name_of r.kind
 name_of TooLong = codes "TooLong"
@@ -34,16 +34,16 @@ name_of Read = codes "read"
 name_of Write = codes "write"
 name_of Memory = codes "memory"
 
--- a line of the input, as it stands before a refusal's name
+-- the line number before the name of a refusal
 abbrev pub place_text : Option ℕ → List ℕ
 place_text None = []
 place_text (Some n) = codes "line " ++ decimal n ++ codes ": "
 
--- The line that tells of it: the program's name, for a refusal the line of the input, and the name, with a line feed.
+-- The line that reports a fault: the program's name, the line of the input for a refusal, the fault's name, and a line feed.
 unfoldable pub line_of : Fault → List ℕ
 line_of fault = codes "mirdwarf: " ++ place_text (input_line fault) ++ name_of fault ++ 10 ∷ []
 
--- the status that the program ends with by a fault: all faults of the input itself are refusals
+-- the status of a run that ends in a fault: `Refused` for each fault in the input's content
 abbrev pub status_of : Fault → Status
 status_of Usage = status.Usage
 status_of Read = status.ReadFault

@@ -1,4 +1,4 @@
--- The options behind a command's words.
+-- The options of a command.
 use Rattle.std.specs.Prelude.{◌≡◌, ℕ, List, [], ◌∷◌, ◌++◌, codes, map, Some, None}
 use Rattle.std.specs.List.{join_with_byte}
 use Rattle.std.specs.Fmt.{decimal}
@@ -9,30 +9,30 @@ use Rattle.cli.specs.declared.option.CommandOption.{CommandOption}
 use Rattle.cli.specs.declared.option.CommandOption.TheVariants.{Passes, Reserve, Arguments, Answers}
 use Rattle.cli.specs.declared.given.Options.{Options}
 
--- the text of registers: their names with commas between them
+-- the text of registers: their names, separated by commas
 abbrev pub registers_text : List ℕ → List ℕ
 registers_text registers = join_with_byte 44 (map register_name registers)
 
--- the text of numbers: each in decimal digits, with commas between them
+-- the text of numbers: each in decimal digits, separated by commas
 abbrev pub numbers_text : List ℕ → List ℕ
 numbers_text values = join_with_byte 44 (map decimal values)
 
--- the word of an option with its value
+-- the word for an option and its value
 abbrev pub word_of : CommandOption → List ℕ
 word_of (Passes list) = codes "--passes=" ++ text_of list
 word_of (Reserve registers) = codes "--reserve=" ++ registers_text registers
 word_of (Arguments values) = codes "--args=" ++ numbers_text values
 word_of (Answers values) = codes "--answers=" ++ numbers_text values
 
--- an option may have its value: passes that each stand once; registers that may be in a reserve, one at least and each once; one to eight numbers
--- of 64 bits; one to 64 such numbers
+-- the values that an option may have: passes, each once; one or more registers that may be reserved, each once; one to eight numbers of 64 bits; one to 64
+-- numbers of 64 bits
 abbrev pub IsAllowed : CommandOption → Type 0
 IsAllowed (Passes list) = AreDistinct list
 IsAllowed (Reserve registers) = IsReserveText (registers_text registers) registers
 IsAllowed (Arguments values) = AreListed 8 (numbers_text values) values
 IsAllowed (Answers values) = AreListed 64 (numbers_text values) values
 
--- a word is an option with a value that it may have
+-- the word is this option, with a value that it may have
 abbrev pub IsWordOf : CommandOption → List ℕ → Type 0
 IsWordOf option word = (word ≡ word_of option) × IsAllowed option
 
@@ -40,21 +40,21 @@ IsWordOf option word = (word ≡ word_of option) × IsAllowed option
 abbrev pub none_given : Options
 none_given = record { passes = None; reserve = None; arguments = None; answers = None }
 
--- an option isn't given yet, and these are given with it
+-- the options after adding one that isn't among them yet
 abbrev pub IsWith : Options → CommandOption → Options → Type 0
 IsWith given (Passes list) next = (given.passes ≡ None) × (next ≡ record given { passes = Some list })
 IsWith given (Reserve registers) next = (given.reserve ≡ None) × (next ≡ record given { reserve = Some registers })
 IsWith given (Arguments values) next = (given.arguments ≡ None) × (next ≡ record given { arguments = Some values })
 IsWith given (Answers values) next = (given.answers ≡ None) × (next ≡ record given { answers = Some values })
 
--- a word gives an option that isn't given yet, and these are given with it
+-- the options after adding the one in a word, which isn't among them yet
 pub record GivesOption (given : Options) (word : List ℕ) (next : Options) : Type 0 where
   pub option : CommandOption
   pub spelled : word ≡ word_of option
   pub allowed : IsAllowed option
   pub with : IsWith given option next
 
--- the words give options one after the other, each at most once, and these are given in the end
+-- the options after adding those in words, one after the other, each at most once
 abbrev pub GiveOptions : Options → List (List ℕ) → Options → Type 0
 GiveOptions given [] whole = whole ≡ given
 GiveOptions given (word ∷ words) whole = (next : Options) × GivesOption given word next × GiveOptions next words whole

@@ -1,4 +1,4 @@
--- The numbers with which the program ends.
+-- The exit codes of the program.
 use Rattle.std.specs.Prelude.{ℕ}
 use Rattle.cli.specs.declared.status.Status.{Status}
 use Rattle.cli.specs.declared.status.Status.TheVariants.{Done, Refused, Usage, Memory, ReadFault, WriteFault}

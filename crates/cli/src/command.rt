@@ -1,4 +1,4 @@
-//! Commands and their words.
+//! The commands, and the words of a command line that are each of them.
 
 ghost use Rattle.std.specs.Prelude.{◌≡◌, ◌↔◌, ◌∷◌, [], List, map, string_bytes, Some, IfOk};
 ghost use Rattle.cli.specs.Command.{IsCommand, IsPlain, GivesPlan, IsPlanOf, reserve_in};
@@ -20,10 +20,10 @@ use rv64_instr::name::Name;
 use rv64_instr::reg::Registers;
 use std::alloc::{AllocError, Global};
 
-/// How many steps a run may have.
+/// The greatest number of steps of a run.
 const MAX_STEPS: u64 = 1_000_000;
 
-/// What runs on each function before it is compiled.
+/// How each function is transformed before it is compiled.
 #[derive(Debug, Drop)]
 pub struct Plan {
     /// The passes, in their order.
@@ -37,50 +37,51 @@ pub struct Plan {
 pub struct RunPlan {
     /// The function's name.
     pub name: Name,
-    /// How many steps it makes at most: 0 to 1,000,000.
+    /// The greatest number of its steps: 0 to 1,000,000.
     pub steps: u32,
-    /// What runs on each function before it is compiled.
+    /// The passes before compilation, and the registers that may be spilled.
     pub plan: Plan,
-    /// The numbers that the function is called with.
+    /// The arguments of the function.
     pub arguments: Numbers,
-    /// The numbers that its calls answer.
+    /// The return values of the functions that it calls.
     pub answers: Numbers,
 }
 
 /// The self-test of a function.
 #[derive(Debug, Drop)]
 pub struct TestPlan {
-    /// The function, which is made up.
+    /// The function, which is generated.
     pub function: Generation,
-    /// What runs on it before it is compiled.
+    /// The passes before compilation, and the registers that may be spilled.
     pub plan: Plan,
 }
 
-/// What the program is asked to do.
+/// A command with what it needs.
 #[derive(Debug, Drop)]
 pub enum Command {
     /// Writes the sections and the listing of each function after passes.
     Compile(Plan),
     /// Writes the listing of each function alone after passes.
     Listing(Plan),
-    /// Writes of each function after passes how many of its words each variable can be found at, and what passes lost.
+    /// Writes at how many of each function's words each variable has a location, after passes, and what the passes
+    /// lost.
     Report(Plan),
-    /// Writes the steps of a function's machine code, with what its variables hold.
+    /// Writes the steps of a function's machine code, with the values of its variables.
     Run(RunPlan),
     /// Writes each function without its debug items.
     Strip,
-    /// Writes a function that is made up.
+    /// Writes a generated function.
     Gen(Generation),
-    /// Writes how much of a function that is made up its location lists tell along a run of its machine code.
+    /// Writes how many values the location lists of a generated function have along a run of its machine code.
     SelfTest(TestPlan),
 }
 
-/// The command that the words are: `compile`, `listing` or `report` with options in any order, a list of passes, as
-/// `--passes=copy,fold` or `--passes=none`, and if wanted registers that may be spilled, as `--reserve=x8,x18`; `run`
-/// with a function's name, how many steps it makes at most, 0 to 1,000,000, and such options, among which may be the
-/// numbers that it is called with, as `--args=1,2`, and those that its calls answer, as `--answers=3`; `strip`; `gen`
-/// with the number of a function, 0 to 65,536, and how many blocks it has, 1 to 512; or `selftest` with such numbers
-/// and the options of `compile`. None where they are no command.
+/// The command that the words are; `None` if they are none. `compile`, `listing` and `report` have options in any
+/// order: a list of passes, as `--passes=copy,fold` or `--passes=none`, and registers that may be spilled, as
+/// `--reserve=x8,x18`. `run` has a function's name, its greatest number of steps, 0 to 1,000,000, and these options,
+/// as well as the function's arguments, as `--args=1,2`, and the return values of its calls, as `--answers=3`.
+/// `strip` has nothing else. `gen` has the number of a function, 0 to 65,536, and its number of blocks, 1 to 512.
+/// `selftest` has such numbers and the options of `compile`.
 pub fn parse(alloc: Global, words: &[String]) -> Result<Option<Command>, AllocError>
     ensures { IfOk result (λ o. (command : Command) →
         (o ≡ Some command) ↔ IsCommand (map string_bytes words.now) command) }
@@ -91,7 +92,7 @@ pub fn parse(alloc: Global, words: &[String]) -> Result<Option<Command>, AllocEr
     }
 }
 
-/// The command of a name and the words behind it.
+/// The command with this name and these words after it.
 fn named(alloc: Global, name: &str, words: &[String]) -> Result<Option<Command>, AllocError>
     ensures { IfOk result (λ o. (command : Command) →
         (o ≡ Some command) ↔ IsCommand (name.now ∷ map string_bytes words.now) command) }
@@ -129,7 +130,7 @@ fn named(alloc: Global, name: &str, words: &[String]) -> Result<Option<Command>,
     Ok(without_plan(name, words))
 }
 
-/// The command without a plan of a name and the words behind it.
+/// The command without a plan that has this name and these words after it.
 fn without_plan(name: &str, words: &[String]) -> Option<Command>
     requires { IsPlain name.now }
     ensures { (command : Command) →
@@ -147,7 +148,7 @@ fn without_plan(name: &str, words: &[String]) -> Option<Command>
     }
 }
 
-/// The plan that options ask for. None where they are no options, and where numbers are among them.
+/// The plan of options; `None` if a word is no option, an option repeats, or one has numbers.
 fn plan_asked(alloc: Global, words: &[String]) -> Result<Option<Plan>, AllocError>
     ensures { IfOk result (λ o. (plan : Plan) → (o ≡ Some plan) ↔ GivesPlan (map string_bytes words.now) plan) }
 {
@@ -157,7 +158,7 @@ fn plan_asked(alloc: Global, words: &[String]) -> Result<Option<Plan>, AllocErro
     }
 }
 
-/// The plan of options.
+/// The plan of options; `None` if numbers are among them.
 fn plan_of(alloc: Global, given: Options) -> Option<Plan>
     ensures { (plan : Plan) → (result ≡ Some plan) ↔ IsPlanOf given plan }
 {
@@ -176,7 +177,7 @@ fn plan_of(alloc: Global, given: Options) -> Option<Plan>
     })
 }
 
-/// The run that words ask for: a function's name, how many steps, and options. None where they ask for none.
+/// The run of these words: a function's name, a number of steps, and options; `None` if they are none.
 fn run_asked(alloc: Global, words: &[String]) -> Result<Option<RunPlan>, AllocError>
     ensures { IfOk result (λ o. (run : RunPlan) → (o ≡ Some run) ↔ GivesRun (map string_bytes words.now) run) }
 {
@@ -186,7 +187,7 @@ fn run_asked(alloc: Global, words: &[String]) -> Result<Option<RunPlan>, AllocEr
     }
 }
 
-/// The run of the function of a name that a word, how many steps, and options ask for.
+/// The run of the function with this name, for a word that is its number of steps, and options.
 fn steps_asked(
     alloc: Global,
     name: &str,
@@ -206,7 +207,7 @@ fn steps_asked(
     Ok(Some(run_of(alloc, name, count as u32, given)))
 }
 
-/// The run of the function of a name, of so many steps, with options.
+/// The run of the function with this name, for at most `steps` steps, with options.
 fn run_of(alloc: Global, name: Name, steps: u32, given: Options) -> RunPlan
     ensures { (run : RunPlan) → (result ≡ run) ↔ IsRunPlanOf name steps given run }
 {
@@ -228,8 +229,7 @@ fn run_of(alloc: Global, name: Name, steps: u32, given: Options) -> RunPlan
     }
 }
 
-/// The self-test that words ask for: a function's number, how many blocks it has, and options. None where they ask for
-/// none.
+/// The self-test of these words: a function's number, its number of blocks, and options; `None` if they are none.
 fn test_asked(alloc: Global, words: &[String]) -> Result<Option<TestPlan>, AllocError>
     ensures { IfOk result (λ o. (test : TestPlan) → (o ≡ Some test) ↔ GivesTest (map string_bytes words.now) test) }
 {
@@ -239,7 +239,7 @@ fn test_asked(alloc: Global, words: &[String]) -> Result<Option<TestPlan>, Alloc
     }
 }
 
-/// The self-test of the function of two words, with options.
+/// The self-test for two words, the function's number and its number of blocks, and options.
 fn test_of(
     alloc: Global,
     number: &str,
@@ -258,7 +258,7 @@ fn test_of(
     }
 }
 
-/// The passes of a list: all of them where there is no such option.
+/// The passes of `--passes`: all by default.
 fn passes_in(given: Option<PassList>) -> PassList
     ensures { result ≡ passes_in given }
 {
@@ -268,7 +268,7 @@ fn passes_in(given: Option<PassList>) -> PassList
     }
 }
 
-/// The numbers of an option: none where there is no such option.
+/// The numbers of an option: none by default.
 fn numbers_in(alloc: Global, given: Option<Numbers>) -> Numbers
     ensures { result ≡ numbers_in given }
 {
@@ -278,7 +278,7 @@ fn numbers_in(alloc: Global, given: Option<Numbers>) -> Numbers
     }
 }
 
-/// The registers of a reserve: none where there is no such option.
+/// The registers of `--reserve`: none by default.
 fn reserve_in(alloc: Global, reserve: Option<Registers>) -> Registers
     ensures { result ≡ reserve_in reserve }
 {

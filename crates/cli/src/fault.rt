@@ -1,4 +1,4 @@
-//! Why a run didn't come to its end.
+//! The faults of a run.
 
 ghost use Rattle.std.specs.Prelude.{◌≡◌};
 ghost use Rattle.cli.specs.Fault.{input_line, name_of, status_of};
@@ -8,7 +8,7 @@ use crate::status::Status;
 use read_refusal::first::Refusal;
 use std::alloc::AllocError;
 
-/// Why a run didn't come to its end.
+/// Why a run failed.
 #[derive(Clone, Copy, Debug, PartialEq, Eq)]
 pub enum Fault {
     /// The words are no command.
@@ -21,7 +21,7 @@ pub enum Fault {
     Refused(Refusal),
     /// The input has no function.
     NoFunction,
-    /// The input has no function of the name that is asked for.
+    /// The input has no function with the name in the command.
     UnknownFunction,
     /// The frame of a function would have more than 2,032 bytes.
     FrameTooLarge,
@@ -42,8 +42,8 @@ impl From<AllocError> for Fault {
 }
 
 impl Fault {
-    /// The line of the input at which it stands, counted from 1; 0 for a refusal of the whole input, and none for what
-    /// is no refusal.
+    /// The line of the input that the fault is about, counted from 1; 0 if it is about the whole input, and `None` if
+    /// it isn't about the input's content.
     pub fn input_line(self) -> Option<u32>
         ensures { result ≡ input_line self }
     {
@@ -55,7 +55,7 @@ impl Fault {
         }
     }
 
-    /// Its name.
+    /// The name of the fault.
     pub fn name(self) -> &'static str
         ensures { result.now ≡ name_of self }
     {
@@ -73,7 +73,7 @@ impl Fault {
         }
     }
 
-    /// The status of a run that ends so.
+    /// The status of a run that ends in this fault.
     pub fn status(self) -> Status
         ensures { result ≡ status_of self }
     {

@@ -1,4 +1,4 @@
-//! Options that are given.
+//! The options in a command line.
 
 ghost use Rattle.std.specs.Prelude.{◌≡◌, ◌↔◌, Some};
 ghost use Rattle.cli.specs.Options.{none_given, IsWith};
@@ -9,16 +9,16 @@ use cli_numbers::list::Numbers;
 use pass_list::list::PassList;
 use rv64_instr::reg::Registers;
 
-/// The options that are given, each with its value.
+/// The options in a command line, each with its value.
 #[derive(Debug, Drop)]
 pub struct Options {
     /// The passes that run.
     pub passes: Option<PassList>,
     /// The registers that may be spilled.
     pub reserve: Option<Registers>,
-    /// The numbers that a function is called with.
+    /// The arguments of the function that is run.
     pub arguments: Option<Numbers>,
-    /// The numbers that calls answer.
+    /// The return values of the functions that it calls.
     pub answers: Option<Numbers>,
 }
 
@@ -35,7 +35,7 @@ impl Options {
         }
     }
 
-    /// The options with one more, unless it is given already.
+    /// The options with one more; `None` if that one is among them already.
     pub fn with(mut self, option: CommandOption) -> Option<Options>
         ensures { (next : Options) → (result ≡ Some next) ↔ IsWith self option next }
     {

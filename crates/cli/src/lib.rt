@@ -1,10 +1,10 @@
 //! The command line: options, commands and exit statuses.
 //!
-//! - `given`, `option`, `options`: The options behind a command's words: the list of passes, the reserve of spilling,
+//! - `given`, `option`, `options`: The options of a command: the list of passes, the registers that may be spilled,
 //!   and the numbers of a run, in any order and each at most once.
 //!
-//! - `command`, `fault`, `status`: The command line of the program: the words of its commands, the numbers with which
-//!   it ends, and the lines by which it tells why a run didn't come to its end.
+//! - `command`, `fault`, `status`: The commands and their words, the faults of a run with the lines that report them,
+//!   and the exit codes.
 #![tactic(auto)]
 
 pub mod command;

@@ -13,10 +13,10 @@ use pass_list::text::pass_list;
 use rv64_instr::reg::Registers;
 use std::alloc::{AllocError, Global};
 
-/// How many numbers a function may be called with.
+/// The greatest number of arguments.
 const MAX_ARGUMENTS: usize = 8;
 
-/// How many answers of calls may be given.
+/// The greatest number of return values of calls.
 const MAX_ANSWERS: usize = 64;
 
 /// An option with its value.
@@ -26,13 +26,13 @@ pub enum CommandOption {
     Passes(PassList),
     /// `--reserve=` and the registers that may be spilled.
     Reserve(Registers),
-    /// `--args=` and the numbers that a function is called with, one to eight.
+    /// `--args=` and the arguments of the function, one to eight.
     Arguments(Numbers),
-    /// `--answers=` and the numbers that calls answer, one to 64.
+    /// `--answers=` and the return values of calls, one to 64.
     Answers(Numbers),
 }
 
-/// The option that a word is: None where it is none.
+/// The option that a word is; `None` if it is none.
 pub fn command_option(alloc: Global, word: &str) -> Result<Option<CommandOption>, AllocError>
     ensures { IfOk result (λ o. (given : CommandOption) → (o ≡ Some given) ↔ IsWordOf given word.now) }
 {
@@ -51,7 +51,7 @@ pub fn command_option(alloc: Global, word: &str) -> Result<Option<CommandOption>
     Ok(None)
 }
 
-/// The list of passes that a word asks for, as `--passes=copy,fold` or `--passes=none`.
+/// The list of passes in a word, as `--passes=copy,fold` or `--passes=none`.
 fn passes(word: &str) -> Option<PassList>
     ensures { (list : List PassKind) → (result ≡ Some list) ↔ IsWordOf (Passes list) word.now }
 {
@@ -61,7 +61,7 @@ fn passes(word: &str) -> Option<PassList>
     }
 }
 
-/// The registers that a word reserves, as `--reserve=x8,x18`.
+/// The registers in a word, as `--reserve=x8,x18`.
 fn reserve(alloc: Global, word: &str) -> Result<Option<Registers>, AllocError>
     ensures { IfOk result (λ o. (registers : List ℕ) → (o ≡ Some registers) ↔ IsWordOf (Reserve registers) word.now) }
 {

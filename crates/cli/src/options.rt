@@ -8,8 +8,7 @@ use crate::given::Options;
 use crate::option::command_option;
 use std::alloc::{AllocError, Global};
 
-/// The options that the words give, in any order and each at most once: None where a word gives none, or one that is
-/// given already.
+/// The options in these words, in any order and each at most once; `None` if a word is no option, or repeats one.
 pub fn options(alloc: Global, words: &[String]) -> Result<Option<Options>, AllocError>
     ensures { IfOk result (λ o. (whole : Options) →
         (o ≡ Some whole) ↔ GiveOptions none_given (map string_bytes words.now) whole) }
@@ -24,7 +23,7 @@ pub fn options(alloc: Global, words: &[String]) -> Result<Option<Options>, Alloc
     Ok(Some(given))
 }
 
-/// The options with the one that a word gives.
+/// The options with the one in a word; `None` if the word is no option, or one that is among them already.
 fn with_word(alloc: Global, given: Options, word: &str) -> Result<Option<Options>, AllocError>
     ensures { IfOk result (λ o. (next : Options) → (o ≡ Some next) ↔ GivesOption given word.now next) }
 {

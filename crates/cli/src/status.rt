@@ -1,12 +1,12 @@
-//! How a run of the program ends.
+//! The statuses of a run.
 
 ghost use Rattle.std.specs.Prelude.{◌≡◌};
 ghost use Rattle.cli.specs.Status.{number_of};
 
-/// How a run of the program ended.
+/// The status of a run.
 #[derive(Clone, Copy, Debug, PartialEq, Eq)]
 pub enum Status {
-    /// All is written.
+    /// All output is written.
     Done,
     /// The input is refused.
     Refused,
@@ -21,7 +21,7 @@ pub enum Status {
 }
 
 impl Status {
-    /// The number with which the program ends: 0 to 5, in the order of the variants.
+    /// The exit code: 0 to 5, in the order of the variants.
     pub fn number(self) -> u8
         ensures { result ≡ number_of self }
     {

@@ -1,9 +1,9 @@
--- The registers that may be in a reserve, and the texts that name some of them.
+-- The registers that may be reserved for spilling, and texts that list some of them.
 use Rattle.std.specs.Prelude.{◌≡◌, ◌≢◌, ℕ, List, [], ◌∷◌, ◌++◌, map, codes, All, AllPairs, Contains}
 use Rattle.std.specs.List.{join_with_byte}
 use Rattle.std.specs.Fmt.{decimal}
 
--- the registers that may be in a reserve, in ascending order (RISC-V ELF psABI: s0 to s11)
+-- the registers that may be reserved, in ascending order: s0 to s11 (RISC-V ELF psABI)
 abbrev pub RESERVABLE : List ℕ
 RESERVABLE = 8 ∷ 9 ∷ 18 ∷ 19 ∷ 20 ∷ 21 ∷ 22 ∷ 23 ∷ 24 ∷ 25 ∷ 26 ∷ 27 ∷ []
 
@@ -11,19 +11,19 @@ RESERVABLE = 8 ∷ 9 ∷ 18 ∷ 19 ∷ 20 ∷ 21 ∷ 22 ∷ 23 ∷ 24 ∷ 25 ∷
 abbrev pub register_name : ℕ → List ℕ
 register_name r = codes "x" ++ decimal r
 
--- a word names a register that may be in a reserve and is none of these
+-- the word names a register that may be reserved and isn't among these
 pub record IsAnother (registers word : List ℕ) (r : ℕ) : Type 0 where
   pub named : word ≡ register_name r
   pub reservable : Contains RESERVABLE r
   pub other : Contains registers r → ⊥
 
--- the words name these registers, which may be in a reserve, and each once
+-- the words name these registers, which may be reserved, each once
 pub record AreNamed (words : List (List ℕ)) (registers : List ℕ) : Type 0 where
   pub each : words ≡ map register_name registers
   pub reservable : All (Contains RESERVABLE) registers
   pub once : AllPairs (λ r s. r ≢ s) registers
 
--- a text names these registers, with commas between them: at least one, each may be in a reserve, and each once
+-- the text is a list of these registers, separated by commas: one or more, all of which may be reserved, each once
 pub record IsReserveText (text registers : List ℕ) : Type 0 where
   pub named : text ≡ join_with_byte 44 (map register_name registers)
   pub some : registers ≢ []

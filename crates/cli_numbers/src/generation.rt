@@ -1,4 +1,4 @@
-//! Which function is to be made up.
+//! The parameters of a generated function.
 
 ghost use Rattle.std.specs.Prelude.{◌≡◌, ℕ, ◌≤◌, ◌↔◌, Some};
 ghost use Rattle.std.specs.Fmt.{decimal};
@@ -7,13 +7,13 @@ ghost use Rattle.cli_numbers.specs.declared.generation.Generation.{Generation};
 
 use crate::number::number;
 
-/// The greatest number of a function that is made up.
+/// The greatest number of a generated function.
 const MAX_NUMBER: u64 = 65_536;
 
-/// How many blocks it has at most.
+/// The greatest number of its blocks.
 const MAX_BLOCKS: u64 = 512;
 
-/// A function that is to be made up.
+/// A function to generate.
 #[derive(Clone, Copy, Debug, PartialEq, Eq)]
 pub struct Generation {
     /// Its number: 0 to 65,536.
@@ -22,7 +22,7 @@ pub struct Generation {
     pub blocks: u32,
 }
 
-/// The function that two words ask for, by its number and how many blocks it has: `None` where they ask for none.
+/// The function with the number and the number of blocks in two words; `None` if they aren't such numbers.
 pub fn asked(first: &str, second: &str) -> Option<Generation>
     ensures { (g : Generation) → (result ≡ Some g) ↔ IsGeneration first.now second.now g }
 {
@@ -34,7 +34,7 @@ pub fn asked(first: &str, second: &str) -> Option<Generation>
     })
 }
 
-/// How many blocks a word asks for.
+/// The number of blocks in a word, 1 to 512.
 fn some_blocks(word: &str) -> Option<u32>
     ensures { (n : ℕ) → (result ≡ Some n) ↔ ((word.now ≡ decimal n) × (1 ≤ n) × (n ≤ 512)) }
 {

@@ -3,8 +3,8 @@
 //! - `generation`, `list`, `number`: Numbers in the words of a command line: each in decimal digits, without leading
 //!   zeros.
 //!
-//! - `name`, `text`: The registers that a text names for the reserve of spilling: any of those that may be in one, each
-//!   once, with commas between them.
+//! - `name`, `text`: Lists of registers that may be spilled: each one that may be reserved, each once, separated by
+//!   commas.
 #![tactic(auto)]
 
 pub mod generation;

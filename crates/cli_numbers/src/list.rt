@@ -1,4 +1,4 @@
-//! Numbers with commas between them.
+//! Lists of numbers, separated by commas.
 
 ghost use Rattle.std.specs.Prelude.{◌≡◌, ◌==◌, ◌≤◌, List, ℕ, ◌↔◌, Some, IfOk, map, length};
 ghost use Rattle.std.specs.List.{slice_split};
@@ -11,8 +11,8 @@ use std::alloc::{AllocError, Global};
 /// Numbers, in their order.
 pub type Numbers = List<u64>;
 
-/// The numbers of an option, which a word is: its name, up to the sign of equality, and then the numbers. `None` where
-/// the word is something else.
+/// The numbers of an option: the word is its name, up to the equals sign, and then the list. `None` if the word is
+/// something else.
 pub fn option(
     alloc: Global,
     word: &str,
@@ -27,8 +27,7 @@ pub fn option(
     }
 }
 
-/// The numbers that a text lists, with commas between them: at least one, and so many at most. `None` where it lists
-/// none, or more.
+/// The numbers in a text, separated by commas: one or more, and at most `most`. `None` if the text is no such list.
 pub fn numbers(alloc: Global, text: &str, most: usize) -> Result<Option<Numbers>, AllocError>
     ensures { IfOk result (λ o. (values : List ℕ) → (o ≡ Some values) ↔ AreListed most text.now values) }
 {
@@ -36,14 +35,14 @@ pub fn numbers(alloc: Global, text: &str, most: usize) -> Result<Option<Numbers>
     each_number(alloc, &pieces, most)
 }
 
-/// What stands between the commas of a text.
+/// The pieces of a text between its commas.
 pub fn pieces(alloc: Global, text: &str) -> Result<Vec<&str>, AllocError>
     ensures { IfOk result (λ v. map (λ x. x.now) v.items ≡ slice_split (λ b. b == 44) text.now) }
 {
     text.split(',').collect(alloc)
 }
 
-/// The number that each piece is: `None` where one of them is no number, or where there are too many.
+/// The number in each piece; `None` if a piece is no number, or there are more than `most`.
 fn each_number(alloc: Global, pieces: &[&str], most: usize) -> Result<Option<Numbers>, AllocError>
     ensures { IfOk result (λ o. (values : List ℕ) →
         (o ≡ Some values) ↔ (AreSpelled (map (λ p. p.now) pieces.now) values × (length values ≤ most))) }

@@ -1,4 +1,4 @@
-//! Names of registers that may be in a reserve.
+//! Names of the registers that may be reserved.
 
 ghost use Rattle.std.specs.Prelude.{◌≡◌, ◌↔◌, ℕ, Contains, IsTrue, Some};
 ghost use Rattle.std.specs.Fmt.{decimal};
@@ -7,10 +7,10 @@ ghost use Rattle.cli_numbers.specs.Reserve.{RESERVABLE, register_name};
 use crate::number::number;
 use rv64_instr::reg::{Reg, physical};
 
-/// The numbers of the registers that may be in a reserve, in ascending order (RISC-V ELF psABI: s0 to s11).
+/// The numbers of the registers that may be reserved, in ascending order: s0 to s11 (RISC-V ELF psABI).
 const RESERVABLE_NUMBERS: [u64; 12] = [8, 9, 18, 19, 20, 21, 22, 23, 24, 25, 26, 27];
 
-/// The register that a word names, as `x8`: None where it names none that may be in a reserve.
+/// The register with this name, as `x8`; `None` if it is no name of a register that may be reserved.
 pub fn register(word: &str) -> Option<Reg>
     ensures { (r : ℕ) → (result ≡ Some r) ↔ ((word.now ≡ register_name r) × Contains RESERVABLE r) }
 {
@@ -20,7 +20,7 @@ pub fn register(word: &str) -> Option<Reg>
     }
 }
 
-/// The register of a number in decimal digits, if it may be in a reserve.
+/// The register with a number in decimal digits, if it may be reserved.
 fn with_digits(digits: &str) -> Option<Reg>
     ensures { (r : ℕ) → (result ≡ Some r) ↔ ((digits.now ≡ decimal r) × Contains RESERVABLE r) }
 {
@@ -32,7 +32,7 @@ fn with_digits(digits: &str) -> Option<Reg>
     }
 }
 
-/// Whether the register of a number may be in a reserve.
+/// Whether the register with a number may be reserved.
 fn is_reservable(number: u64) -> bool
     ensures { IsTrue result ↔ Contains RESERVABLE number }
 {

@@ -5,7 +5,7 @@ ghost use Rattle.std.specs.Fmt.{decimal};
 
 use itoa::Buffer;
 
-/// The number that a word is: `None` where it is none, and where it is one above the limit.
+/// The number in a word; `None` if it is no number, or above the limit.
 pub fn number(word: &str, limit: u64) -> Option<u64>
     ensures { (n : ℕ) → (result ≡ Some n) ↔ ((word.now ≡ decimal n) × (n ≤ limit)) }
 {
@@ -15,7 +15,7 @@ pub fn number(word: &str, limit: u64) -> Option<u64>
     }
 }
 
-/// A number, where a word is just its digits and it isn't above the limit.
+/// The number `n`, if the word is its decimal digits and it isn't above the limit.
 fn within(word: &str, n: u64, limit: u64) -> Option<u64>
     ensures some { (m : ℕ) → result ≡ Some m → (m ≡ n) × (word.now ≡ decimal n) × (n ≤ limit) }
     ensures all { word.now ≡ decimal n → n ≤ limit → result ≡ Some n }

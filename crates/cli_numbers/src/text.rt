@@ -1,4 +1,4 @@
-//! The registers that a text names.
+//! Lists of registers that may be reserved.
 
 ghost use Rattle.std.specs.Prelude.{◌≡◌, ◌↔◌, ℕ, List, map, IfOk, Some};
 ghost use Rattle.cli_numbers.specs.Reserve.{AreNamed, IsAnother, IsReserveText};
@@ -8,8 +8,8 @@ use crate::name::register;
 use rv64_instr::reg::{Reg, Registers};
 use std::alloc::{AllocError, Global};
 
-/// The registers that a text names for a reserve, as `x8,x18`: at least one, with commas between them, each of those
-/// that may be in a reserve and each once. None where it is no such text.
+/// The registers in a text, as `x8,x18`: one or more, separated by commas, all of which may be reserved, each once.
+/// `None` if the text is no such list.
 pub fn reserve_list(alloc: Global, text: &str) -> Result<Option<Registers>, AllocError>
     ensures { IfOk result (λ o. (registers : List ℕ) → (o ≡ Some registers) ↔ IsReserveText text.now registers) }
 {
@@ -17,8 +17,7 @@ pub fn reserve_list(alloc: Global, text: &str) -> Result<Option<Registers>, Allo
     each_register(alloc, &pieces)
 }
 
-/// The register that each word names: None where one of them names none that may be in a reserve, or one that is named
-/// already.
+/// The register that each word names; `None` if a word is no name of a register that may be reserved, or repeats one.
 fn each_register(alloc: Global, words: &[&str]) -> Result<Option<Registers>, AllocError>
     ensures { IfOk result (λ o. (registers : List ℕ) →
         (o ≡ Some registers) ↔ AreNamed (map (λ w. w.now) words.now) registers) }
@@ -33,7 +32,7 @@ fn each_register(alloc: Global, words: &[&str]) -> Result<Option<Registers>, All
     Ok(Some(registers))
 }
 
-/// The register that a word names, if it is none of these.
+/// The register that a word names, if it isn't among these.
 fn another(word: &str, registers: &[Reg]) -> Option<Reg>
     ensures { (r : ℕ) → (result ≡ Some r) ↔ IsAnother registers.now word.now r }
 {

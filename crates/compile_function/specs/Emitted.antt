@@ -1,4 +1,4 @@
--- A function that is compiled behind others.
+-- A function that is compiled after others.
 use Rattle.std.specs.Prelude.{◌≡◌, ℕ, ◌<◌, ◌≤◌, List, [], ◌∷◌, ◌++◌, length, All}
 use Rattle.emit_code.specs.Counts.{MAX_WORDS, count_of}
 use Rattle.emit_code.specs.Laid.{LaidCode, IsCodeOf}
@@ -21,16 +21,16 @@ use Rattle.compile_theorem.specs.Source.{PassedFunction}
 use Rattle.location_ranges.specs.Lists.{AreListsOf}
 use Rattle.dwarf_unit.specs.Variables.{variables_of_function}
 
--- the name of the variable that a node describes
+-- the name of the variable that a metadata node describes
 abbrev pub names_of : Maps → (node : ℕ) → List ℕ
 names_of meta node = name_of (variable_at meta node)
 
--- lists that can be written
+-- location lists that can be encoded: their ranges ascend, and their places can be listed
 pub record AreWritable (lists : List (List Range)) : Type 0 where
   pub ascend : All Ascend lists
   pub places : All ArePlaces lists
 
--- a function that passes made is compiled from an address on
+-- the passed function is compiled from an address on
 pub record IsOneCompiled (p : PassedFunction) (base : ℕ) (c : CompiledFunction) : Type 0 where
   pub code : IsCodeOf (framed_of p.function) base c.code
   pub fits : size_of p.function ≤ MAX_FRAME
@@ -39,7 +39,7 @@ pub record IsOneCompiled (p : PassedFunction) (base : ℕ) (c : CompiledFunction
   pub lists : AreListsOf (framed_program (framed_of p.function).blocks (resolve p.substitutions)) (block_start 0) c.code.entries c.variables c.lists
   pub ascend : All Ascend c.lists
 
--- one function more is compiled
+-- One more function is compiled and appended.
 pub record IsPushed (meta : Maps) (p : PassedFunction) (before after : Made) : Type 0 where
   pub listed : ListedFunction
   pub compiled : IsCompiledFunction (names_of meta) p (length before.text) (length before.lists) listed

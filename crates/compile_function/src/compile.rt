@@ -1,4 +1,4 @@
-//! The compiling of one function.
+//! Compilation of one function.
 
 ghost use Rattle.std.specs.Prelude.{◌≡◌, ◌<◌, ◌≤◌, ◌%◌, All, IfOk, OnOk, IsErrOf, length};
 ghost use Rattle.mir_func.specs.Graph.{block_start, framed_program};
@@ -22,19 +22,19 @@ use mir_func::func::Func;
 use mir_substitution::substitutions::Substitutions;
 use std::alloc::Global;
 
-/// A function that is compiled.
+/// A compiled function.
 #[derive(Debug, Drop)]
 pub struct CompiledFunction {
-    /// Its machine code, with the function with its frame.
+    /// Its machine code, and the function with its frame.
     pub code: Code,
-    /// The variables of its source, each as a whole, by the first mark of any of their parts.
+    /// The variables of its source as wholes, in the order of their first debug values.
     pub variables: VarIds,
     /// A location list for each of them, in their order.
     pub lists: RangeLists,
 }
 
-/// Compiles a function from an address on, a multiple of 4, with a location list for each variable of its source: the function as it was
-/// before passes, or itself. What it can't compile is as `code_of` says.
+/// Compiles a function from an address on, a multiple of 4, with a location list for each variable of its source: the
+/// function as it was before passes, or the function itself. It has the errors of `code_of`.
 pub fn compile_function(
     alloc: Global,
     source: &Func,

@@ -1,4 +1,4 @@
-//! The compiling of a function behind others.
+//! Compilation of a function after others.
 
 ghost use Rattle.std.specs.Prelude.{◌≡◌, ◌+◌, ◌*◌, ◌%◌, ◌<◌, ◌≤◌, ◌^◌, [], ◌∷◌, ◌++◌, IfOk, OnOk, IsErrOf, length};
 ghost use Rattle.std.specs.List.{flat_map};
@@ -36,12 +36,12 @@ use thiserror::Error;
 /// Machine code of functions, in their order.
 pub type Codes = List<Code>;
 
-/// What was made of the functions of a program so far.
+/// The compiled functions of a program so far.
 #[derive(Drop)]
 pub struct Made {
     /// The bytes of their words.
     pub text: Bytes,
-    /// The lists of their variables.
+    /// Their location lists.
     pub lists: RangeLists,
     /// Their listings.
     pub functions: ListedFunctions,
@@ -49,7 +49,7 @@ pub struct Made {
     pub codes: Codes,
 }
 
-/// Why a function isn't compiled.
+/// Why a function can't be compiled.
 #[derive(Clone, Copy, Debug, PartialEq, Eq, Error)]
 pub enum EmitError {
     /// Its frame would have more than 2,032 bytes.
@@ -68,7 +68,7 @@ impl From<AllocError> for EmitError {
     }
 }
 
-/// Compiles a function that passes made of a source behind others.
+/// Compiles a function that passes made of a source, and appends it to the functions before it.
 pub fn push_function(
     alloc: Global,
     made: &mut Made,
@@ -96,7 +96,7 @@ pub fn push_function(
     Ok(())
 }
 
-/// The listing of a compiled function whose variables' lists have numbers from the first on.
+/// The listing of a compiled function whose location lists are numbered from `first` on.
 fn listed(
     alloc: Global,
     meta: &Metadata,
@@ -114,7 +114,7 @@ fn listed(
     listing(alloc, &compiled.code, lines, substitutions)
 }
 
-/// Appends what was made of a function.
+/// Appends a compiled function.
 fn push_compiled(
     made: &mut Made,
     compiled: CompiledFunction,
@@ -136,7 +136,7 @@ fn push_compiled(
     made.codes.push(code)
 }
 
-/// A function that passes made of a source, from an address on, with lists of the source's variables.
+/// A function that passes made of a source, compiled from an address on, with location lists of the source's variables.
 fn compiled(
     alloc: Global,
     source: &Parsed,
@@ -163,7 +163,7 @@ fn compiled(
     }
 }
 
-/// Appends the bytes of words, the low-order byte of each first.
+/// Appends the bytes of words in little-endian order.
 fn push_words(text: &mut Bytes, words: &[u32]) -> Result<(), AllocError>
     ensures { OnOk result (text.new ≡ text.old ++ flat_map (to_le_bytes w32) words.now) }
 {
@@ -173,7 +173,7 @@ fn push_words(text: &mut Bytes, words: &[u32]) -> Result<(), AllocError>
     Ok(())
 }
 
-/// Appends lists.
+/// Appends location lists.
 fn push_lists(lists: &mut RangeLists, more: RangeLists) -> Result<(), AllocError>
     ensures { OnOk result (lists.new ≡ lists.old ++ more) }
 {

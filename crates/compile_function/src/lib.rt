@@ -1,11 +1,10 @@
 //! Compiles one function: its code, its location lists and its listing.
 //!
-//! - `compile`, `location_lists`: A function, compiled. It gets its frame and is laid out from an address on; what its
-//!   blocks' entries know of all paths is solved, and one walk over its code writes where each variable is at each
-//!   address.
+//! - `compile`, `location_lists`: Adds the frame to a function, lays it out from an address on, solves the live-in
+//!   values of its blocks over all paths, and writes where each variable is at each address in one walk over its code.
 //!
-//! - `emit`: A function compiled behind others: its machine code from the end of theirs, the lists of its source's
-//!   variables, and its listing.
+//! - `emit`: Compiles a function after others: its machine code from the end of theirs, the location lists of its
+//!   source's variables, and its listing.
 #![tactic(auto)]
 
 pub mod compile;

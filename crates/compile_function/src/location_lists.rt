@@ -1,4 +1,4 @@
-//! Where the variables of a function are.
+//! Location lists of a function.
 
 ghost use Rattle.std.specs.Prelude.{◌≡◌, ◌≤◌, All, IfOk, length};
 ghost use Rattle.mir_func.specs.Graph.{block_start, framed_program};
@@ -16,9 +16,9 @@ use mir_substitution::substitutions::Substitutions;
 use std::alloc::{AllocError, Global};
 use value_live_ins::values::{MachineValues, solve};
 
-/// The location lists of variables over the machine code of a function, in the variables' order: at the address of each
-/// byte of code the location that is wanted for the variable there, by all paths of the function with its frame, and
-/// none elsewhere. Marks see through the substitutions.
+/// The location lists of variables over the machine code of a function, in the variables' order. At the address of each
+/// byte of code a list has the location that is wanted for the variable there, by all paths of the function with its
+/// frame. Elsewhere it has none. The values of DBG_INSTR_REFs are found through the substitutions.
 pub fn location_lists(
     alloc: Global,
     variables: &[VarId],

@@ -9,8 +9,8 @@ use Rattle.compile_theorem.specs.Source.{PassedFunction}
 use Rattle.compile_program.specs.Program.{ArePassed, HasSections, names_of}
 use Rattle.read_proof.specs.Read.{IsReadProgram}
 
--- What is compiled of what passes made of a program that was read, with its sections, is printable: its numbers and addresses have 32 bits, and
--- the texts of its items tell them.
+-- An output that is compiled of passed functions of a program that was read, with its sections, is printable: its numbers and addresses have 32 bits,
+-- and its items are printable.
 abbrev pub OutputsArePrintable : Type 0
 OutputsArePrintable = (p : Program) (functions : List PassedFunction) (o : Output) → IsReadProgram p → ArePassed p.meta p.functions functions →
     IsCompiledProgram (names_of p.meta) functions o → HasSections p.meta functions o → IsPrintableOutput (inlined_in p.meta) o

@@ -1,4 +1,4 @@
--- What the line number table of an output tells: from which place of the source each listed line comes.
+-- The line number table of an output: the source line of each listed line.
 use Rattle.std.specs.Prelude.{◌≡◌, ℕ, ◌<◌, ◌≤◌, List, Some, map, length, slice_get, Contains}
 use Rattle.listing_text.specs.declared.output.Line.{Line}
 use Rattle.listing_text.specs.declared.output.Line.TheVariants.{Item, Skip}
@@ -20,12 +20,12 @@ use Rattle.dwarf_line_table.specs.declared.file.SourceFile.{SourceFile}
 use Rattle.dwarf_line_table.specs.Files.{unit_file}
 use Rattle.dwarf_line_table.specs.Lines.{no_line, scope_line, loc_of, position_of, line_of}
 
--- where the code of a line comes from
+-- the origin of a line
 abbrev pub origin_of : Line → Origin
 origin_of (Item l) = l.item.origin
 origin_of (Skip s) = s.origin
 
--- a line of a function has a byte at an address
+-- the line of the function has a byte at the address
 pub record HasByte (f : ListedFunction) (address : ℕ) (line : Line) : Type 0 where
   pub stands : Contains (lines_of f) line
   pub first : ℕ
@@ -33,20 +33,21 @@ pub record HasByte (f : ListedFunction) (address : ℕ) (line : Line) : Type 0 w
   pub from : first ≤ address
   pub within : address < past_line first line
 
--- the unit's file of a program
+-- the file of the program's compile unit
 abbrev pub file_of : Program → SourceFile
 file_of p = unit_file p.meta (map (λ (f : Parsed). f.func.name) p.functions)
 
--- A table gives the address of each byte of what is listed of a function the place of the debug location of the first code at or after the byte's
--- origin, in the origin's block of the function as it was read. Where there is none, or it isn't readable, that is line 0 and column 0 of file 1.
+-- For the address of each byte of a listed function, the table has the line, column and file of the debug location of the first code at or after the
+-- byte's origin, in the origin's block of the function as it was read. If there is none, or it isn't readable, the row has line 0, column 0 and file
+-- 1.
 pub record TellsLinesOf (p : Program) (table : LineTable) (source : Parsed) (f : ListedFunction) : Type 0 where
   pub gives : (address : ℕ) (line : Line) → HasByte f address line →
       GivesLine table address (line_of p.meta (file_of p) source.func.blocks (origin_of line))
   pub none : (address : ℕ) (line : Line) → HasByte f address line → scope_line p.meta (loc_of source.func.blocks (position_of (origin_of line))) ≡ no_line →
       (row : Row) → IsRowAt table address row → IsNoLine row
 
--- the section of lines spells a table that does so for each function of the program and what is listed at its place. It gives no address behind the
--- end of `.text` a row
+-- `.debug_line` encodes a table that has the lines of each function of the program and its listed function. The table has no row for an address from
+-- the end of `.text` on.
 pub record TellsLines (p : Program) (o : Output) : Type 0 where
   pub table : LineTable
   pub spelled : o.rows ≡ spelling table
@@ -54,7 +55,7 @@ pub record TellsLines (p : Program) (o : Output) : Type 0 where
       TellsLinesOf p table source f
   pub beyond : (address : ℕ) → length o.text ≤ address → (row : Row) → IsRowAt table address row → ⊥
 
--- What is compiled of what passes made of a program that was read, with its sections, tells its lines.
+-- The output that is compiled of passed functions of a program that was read, with its sections, has such a table.
 abbrev pub OutputsTellLines : Type 0
 OutputsTellLines = (p : Program) (functions : List PassedFunction) (o : Output) → ArePassed p.meta p.functions functions →
     IsCompiledProgram (names_of p.meta) functions o → HasSections p.meta functions o → TellsLines p o

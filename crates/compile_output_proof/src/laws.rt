@@ -1,16 +1,16 @@
-//! Laws of the outputs of programs that were read: each is the contract of a function that does nothing.
+//! Theorems on the outputs of programs that were read. Each is the contract of an empty function.
 
 ghost use Rattle.compile_output_proof.specs.Laws.{OutputsArePrintable};
 ghost use Rattle.compile_output_proof.specs.Lines.{OutputsTellLines};
 
-/// What is compiled of a program that was read is printable, so its text shows no other output.
+/// The output of a program that was read is printable, so its text is the text of no other output.
 pub fn outputs_are_printable()
     ensures { OutputsArePrintable }
 {}
 
-/// What is compiled of a program that was read tells its lines: the section of lines gives the address of each byte of
-/// code the line, the column and the file of the first code of the source at or after its origin, and no other address
-/// any.
+/// `.debug_line` of the output of a program that was read is exact: for the address of each byte of code it has the
+/// line, column and file of the first code of the source at or after the byte's origin. It has no row for an address
+/// from the end of `.text` on.
 pub fn outputs_tell_lines()
     ensures { OutputsTellLines }
 {}

@@ -1,4 +1,5 @@
-//! What the outputs of programs that were read keep: a law, the contract of a function that does nothing.
+//! The theorems that outputs of programs that were read are printable and have the right line number tables: the
+//! contracts of empty functions.
 #![tactic(auto)]
 
 pub mod laws;

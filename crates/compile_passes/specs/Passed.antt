@@ -1,4 +1,4 @@
--- What passes make of a function that was read.
+-- A function that was read, after passes.
 use Rattle.std.specs.Prelude.{ℕ, List, All}
 use Rattle.listing_text.specs.Shown.{IsPrintableEntry}
 use Rattle.pass_trait.specs.Change.{change}
@@ -14,29 +14,29 @@ use Rattle.pass_list.specs.declared.kind.PassKind.{PassKind}
 pub use Rattle.pass_manager.specs.Passes.{steps_of, passes_of}
 use Rattle.pass_manager.specs.Told.{KeepsPasses}
 
--- how many items a function has at most after passes
+-- the most items that a function has after passes
 abbrev pub MAX_PASSED : ℕ
 MAX_PASSED = 65536
 
--- a function as it was read, with its debug value substitutions
+-- a function that was read, as a source
 abbrev pub source_of : Parsed → SourceFunction
 source_of p = record { function = p.func; substitutions = p.subs }
 
--- a function that passes made of one that was read
+-- a passed function with a source that was read
 abbrev pub passed_of : Parsed → (function : Function) → (substitutions : List Entry) → PassedFunction
 passed_of p f subs = record { source = source_of p; function = f; substitutions = subs }
 
--- steps of passes made the function of its source, one after the other
+-- the steps of passes, one after the other, made the function from its source
 pub record IsMadeBy (steps : List Step) (p : PassedFunction) : Type 0 where
   pub losses : List Loss
   pub kept : KeepsSteps steps (change p.source.function p.source.substitutions p.function p.substitutions) losses
 
--- passes made the function of its source, one after the other, where these registers may be spilled, and this is told of what they lost
+-- The passes, one after the other, made the function from its source, and report these losses. `reserve` is the registers that may be spilled.
 abbrev pub IsMadeLosing : (reserve : List ℕ) → List PassKind → PassedFunction → (told : List Loss) → Type 0
 IsMadeLosing reserve passes p told =
     KeepsPasses (passes_of reserve passes) (change p.source.function p.source.substitutions p.function p.substitutions) told
 
--- the function follows its source, it is as every pass keeps it, and its listing is printable
+-- The function refines its source, has what every pass preserves, and has a printable listing.
 pub record IsCompilable (meta : Maps) (p : PassedFunction) : Type 0 where
   pub passed : IsPassedFunction p
   pub printable : IsPrintableBody (inlined_in meta) p.function

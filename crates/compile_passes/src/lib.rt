@@ -1,5 +1,5 @@
-//! Passes on a function that was read. What they make of it follows it, can be compiled, and has a listing that can be
-//! printed.
+//! Runs passes on a function that was read. The result refines the source, can be compiled, and has a printable
+//! listing.
 #![tactic(auto)]
 
 pub mod passed;

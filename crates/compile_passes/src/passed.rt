@@ -1,4 +1,4 @@
-//! What passes make of a function that was read.
+//! A function that was read, after passes.
 
 ghost use Rattle.std.specs.Prelude.{◌≤◌, All, IfOk, length};
 ghost use Rattle.compile_passes.specs.Passed.{IsMadeLosing, IsCompilable, MAX_PASSED, passed_of};
@@ -17,19 +17,19 @@ use read_program::closing::Parsed;
 use rv64_instr::reg::Reg;
 use std::alloc::{AllocError, Global};
 
-/// What passes made of a source.
+/// The result of passes on a source.
 #[derive(Drop)]
 pub struct Passed {
     /// The function.
     pub function: Func,
-    /// Its debug value substitutions, the source's among them.
+    /// Its debug value substitutions, the source's included.
     pub substitutions: Substitutions,
-    /// What the passes lost, in the order of the passes, and of each pass in order, each once.
+    /// What the passes lost, in the order of the passes, and in the order of each pass, without duplicates.
     pub losses: Losses,
 }
 
-/// What passes, each at most once, make of a function that was read beside metadata. The reserve has the registers that
-/// may be spilled.
+/// Runs passes, each at most once, on a function that was read with metadata. `reserve` is the registers that may be
+/// spilled.
 pub fn after_passes(
     alloc: Global,
     _meta: &Metadata,

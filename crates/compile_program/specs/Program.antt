@@ -1,4 +1,4 @@
--- What compiling makes of a program that was read.
+-- The output of compiling a program.
 use Rattle.std.specs.Prelude.{◌≡◌, ℕ, ◌+◌, ◌*◌, ◌<◌, ◌≤◌, ◌⊎◌, List, [], ◌∷◌, length, map, All, Contains}
 use Rattle.emit_code.specs.Laid.{LaidCode, IsCodeOf}
 use Rattle.listing_text.specs.declared.output.ListedFunction.{ListedFunction}
@@ -30,20 +30,20 @@ use Rattle.dwarf_unit.specs.Unit.{unit_of}
 
 -- ---- sources
 
--- the sources of functions that were read
+-- the functions of a program as source functions
 abbrev pub sources_of : List Parsed → List SourceFunction
 sources_of functions = map source_of functions
 
 -- ---- passes
 
--- what passes made of each of some functions that were read
+-- The n-th passed function is of the n-th function that was read, and can be compiled.
 abbrev pub ArePassed : (meta : Maps) → List Parsed → List PassedFunction → Type 0
 ArePassed meta [] [] = Unit {0}
 ArePassed meta [] (p ∷ ps) = ⊥
 ArePassed meta (f ∷ fs) [] = ⊥
 ArePassed meta (f ∷ fs) (p ∷ ps) = (p.source ≡ source_of f) × IsCompilable meta p × ArePassed meta fs ps
 
--- passes made each of some functions, and this is told of what they lost of each
+-- The passes made each function, with these losses of each.
 abbrev pub AreMadeLosing : (reserve : List ℕ) → List PassKind → List PassedFunction → (told : List (List Loss)) → Type 0
 AreMadeLosing reserve passes [] [] = Unit {0}
 AreMadeLosing reserve passes [] (l ∷ ls) = ⊥
@@ -59,14 +59,15 @@ AreCoded base [] (c ∷ cs) = ⊥
 AreCoded base (f ∷ fs) [] = ⊥
 AreCoded base (f ∷ fs) (c ∷ cs) = IsCodeOf (framed_of f) base c × AreCoded (base + 4 * length c.words) fs cs
 
--- functions that were read, each with the machine code of what passes made of it: they lie one after the other from address 0
+-- The functions that were read, each with the machine code of its passed function. The code begins at address 0.
 pub record HaveCode (functions : List PassedFunction) (compiled : List Compiled) : Type 0 where
   pub sources : map (λ c. c.source.now) compiled ≡ map (λ p. p.source.function) functions
   pub coded : AreCoded 0 (map (λ p. p.function) functions) (map (λ c. c.code.now) compiled)
 
 -- ---- sections
 
--- the sections of a program's entries and lines are the spellings of its unit and of its line number table, and no section is too large
+-- `.debug_abbrev`, `.debug_info` and `.debug_line` encode the abbreviations, the unit and the line number table of the program. `.text`,
+-- `.debug_info`, `.debug_line` and `.debug_loclists` are below the size limit.
 pub record HasSections (meta : Maps) (functions : List PassedFunction) (o : Output) : Type 0 where
   pub compiled : List Compiled
   pub coded : HaveCode functions compiled
@@ -80,7 +81,7 @@ pub record HasSections (meta : Maps) (functions : List PassedFunction) (o : Outp
 
 -- ---- outputs
 
--- the output is compiled of what steps of passes made of a program's functions, with all its sections
+-- The output is compiled of what steps of passes made of the program's functions, with all its sections.
 pub record IsOutputOf (steps : List Step) (p : Program) (o : Output) : Type 0 where
   pub functions : List PassedFunction
   pub passed : ArePassed p.meta p.functions functions
@@ -88,8 +89,8 @@ pub record IsOutputOf (steps : List Step) (p : Program) (o : Output) : Type 0 wh
   pub compiled : IsCompiledProgram (names_of p.meta) functions o
   pub sections : HasSections p.meta functions o
 
--- a program is compiled so: the output, and beside it the machine code of each function, the lists of all variables, one function's behind the
--- other's, and what is told of the losses of each function
+-- The result of compiling a program: the output, the machine code of each function, the location lists of all variables, function by function, and
+-- the losses of each function.
 pub record IsCompilationOf (reserve : List ℕ) (passes : List PassKind) (p : Program) (c : Compilation) : Type 0 where
   pub functions : List PassedFunction
   pub passed : ArePassed p.meta p.functions functions
@@ -103,7 +104,7 @@ pub record IsCompilationOf (reserve : List ℕ) (passes : List PassKind) (p : Pr
 
 -- ---- programs that have no output
 
--- the frame of what steps of passes made of one of the functions is too large
+-- Some function, after the steps of passes, has a frame above the limit.
 pub record HasLargeFrame (steps : List Step) (functions : List Parsed) : Type 0 where
   pub function : Parsed
   pub among : Contains functions function
@@ -112,12 +113,12 @@ pub record HasLargeFrame (steps : List Step) (functions : List Parsed) : Type 0 
   pub made : IsMadeBy steps passed
   pub large : MAX_FRAME < size_of passed.function
 
--- one of these is too large as a section: the lists, the unit, and the line number table
+-- A section of the location lists, of the unit or of the line number table would be too large.
 abbrev pub IsLarge : (meta : Maps) → (text_len : ℕ) → List (List Range) → List Compiled → Type 0
 IsLarge meta text_len lists compiled = (SECTION_LIMIT ≤ length (lists_spelling lists)) ⊎
     ((SECTION_LIMIT ≤ length (entries_spelling (unit_of meta text_len compiled))) ⊎ (SECTION_LIMIT ≤ length (rows_spelling (table_of meta compiled))))
 
--- what its functions are compiled to after steps of passes has a section that is too large
+-- A section of the program, compiled after the steps of passes, would be too large.
 pub record HasLargeSection (steps : List Step) (p : Program) : Type 0 where
   pub functions : List PassedFunction
   pub passed : ArePassed p.meta p.functions functions

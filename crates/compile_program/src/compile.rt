@@ -1,4 +1,4 @@
-//! The compiling of a program.
+//! Compilation of a program to its output.
 
 ghost use Rattle.std.specs.Prelude.{◌≡◌, ◌<◌, [], IfOk, IsErrOf};
 ghost use Rattle.pass_list.specs.Names.{AreDistinct};
@@ -23,19 +23,19 @@ use rv64_instr::reg::Reg;
 use std::alloc::{AllocError, Global};
 use thiserror::Error;
 
-/// What passes lost of each function, in the order of the functions.
+/// The losses of passes, for each function in order.
 pub type FunctionLosses = List<Losses>;
 
-/// A program that is compiled.
+/// A compiled program.
 #[derive(Drop)]
 pub struct Compilation {
     /// Its sections and its listing.
     pub output: Output,
     /// The machine code of its functions, in their order.
     pub codes: Codes,
-    /// The lists of its variables, one function's behind the other's.
+    /// The location lists of its variables, function by function.
     pub lists: RangeLists,
-    /// What passes lost of its functions.
+    /// What passes lost of each function.
     pub losses: FunctionLosses,
 }
 
@@ -83,10 +83,10 @@ impl From<SectionError> for CompileError {
     }
 }
 
-/// The output of a program that was read, and what it is made of: of each function what passes make of it, with its
-/// frame, one after the other from address 0, and the lists of the variables of the function that was read. The reserve
-/// has the registers that may be spilled. It is `FrameTooLarge` where such a function's frame would have more than
-/// 2,032 bytes, and otherwise `SectionTooLarge` exactly where a section would have 2^31 bytes or more.
+/// Compiles a program that was read. Each function is run through the passes and its frame added, and they are laid out
+/// from address 0. The location lists are those of the variables of the source function. `reserve` is the registers
+/// that may be spilled. The error is `FrameTooLarge` if some function's frame would have more than 2,032 bytes, and
+/// otherwise `SectionTooLarge` exactly if a section would have 2^31 bytes or more.
 pub fn compile(
     alloc: Global,
     program: &Program,
@@ -112,7 +112,7 @@ pub fn compile(
     compiled(alloc, program, made, losses, passes, reserve)
 }
 
-/// The program whose functions are compiled after passes.
+/// Makes all sections of a program, of its functions as compiled after passes.
 #[tactic(auto, using(crate::proofs::Passed::have_code))]
 fn compiled(
     alloc: Global,

@@ -1,4 +1,4 @@
-//! The functions of a program, one behind the other.
+//! Compilation of the functions of a program, one after the other.
 
 ghost use Rattle.std.specs.Prelude.{◌+◌, ◌*◌, ◌%◌, ◌<◌, ◌≤◌, ◌^◌, ◌≡◌, All, IfOk, IsErrOf, length};
 ghost use Rattle.emit_code.specs.Counts.{MAX_WORDS, MAX_BASE};
@@ -23,8 +23,8 @@ use read_program::closing::Parsed;
 use rv64_instr::reg::Reg;
 use std::alloc::Global;
 
-/// Compiles functions, one after the other from address 0 on: of each what passes make of it, with what they lose. The
-/// reserve has the registers that may be spilled.
+/// Runs passes on each function and compiles it, from address 0 on. Returns also the losses of each function. `reserve`
+/// is the registers that may be spilled.
 pub fn made_of(
     alloc: Global,
     meta: &Metadata,
@@ -55,7 +55,7 @@ pub fn made_of(
     Ok((made, losses))
 }
 
-/// Compiles what passes make of a source behind others, and gives what they lose.
+/// Runs passes on a function, appends its code, listing and location lists, and returns the losses.
 fn push_source(
     alloc: Global,
     made: &mut Made,

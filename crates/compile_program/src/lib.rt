@@ -1,5 +1,5 @@
-//! The whole of a program, compiled: its functions one after the other, with the lists of their variables, and from
-//! them all sections and the listing.
+//! Compilation of a whole program: its functions are laid out one after the other, then all sections and the listing
+//! are made.
 #![tactic(auto)]
 
 pub mod compile;

@@ -1,5 +1,5 @@
--- What compiling makes of functions that passes made of sources: each with its frame, laid out from where the one before it ends, with its
--- listing and the lists of its source's variables.
+-- The output of compiling passed functions: each is laid out with its frame from the end of the previous one, and has a listing and the location
+-- lists of its source's variables.
 use Rattle.std.specs.Prelude.{◌≡◌, ℕ, ◌+◌, ◌<◌, ◌≤◌, List, [], ◌∷◌, ◌++◌, length}
 use Rattle.std.specs.List.{flat_map}
 use Rattle.std.specs.Int.{w32, to_le_bytes}
@@ -24,8 +24,8 @@ use Rattle.dwarf_unit.specs.Variables.{variables_of_function}
 
 -- ---- functions
 
--- the machine code of a function from an address on: the function with its frame, with the least set of long branches, each of which has
--- its words
+-- The layout of a function at an address: the function with its frame and the least set of long branches. Each word encodes an operation. The
+-- address, the number of words and the frame size are within limits.
 pub record IsLayoutOf (function : Function) (base : ℕ) (l : Layout) : Type 0 where
   pub framed : l.framed ≡ framed_of function
   pub from : l.base ≡ base
@@ -35,12 +35,12 @@ pub record IsLayoutOf (function : Function) (base : ℕ) (l : Layout) : Type 0 w
   pub few : count_of l.framed.blocks < MAX_WORDS
   pub small : size_of function ≤ MAX_FRAME
 
--- the bytes of a function in `.text`: its words in little-endian order
+-- the bytes of a layout in `.text`: its words in little-endian order
 abbrev pub bytes_of : Layout → List ℕ
 bytes_of l = flat_map (to_le_bytes w32) (words_of l)
 
--- what is compiled of a function from an address on, where its first list has this number: its listing, and from there on the bytes of
--- `.text` and the lists. The code and the substitutions are those that passes made, the variables are the source's
+-- A listed function is compiled at address `base`, with location lists numbered from `first`: it is the listing of a layout of the passed function,
+-- with the passed substitutions and the source's variables. The lists are those of the source's variables over the layout's entries.
 pub record IsCompiledFunction (names : ℕ → List ℕ) (p : PassedFunction) (base first : ℕ) (f : ListedFunction) : Type 0 where
   pub layout : Layout
   pub laid : IsLayoutOf p.function base layout
@@ -49,8 +49,8 @@ pub record IsCompiledFunction (names : ℕ → List ℕ) (p : PassedFunction) (b
   pub located : AreListsOf (framed_program layout.framed.blocks (resolve p.substitutions)) (block_start 0) (entries_of layout)
       (variables_of_function p.source.function.blocks) lists
 
--- functions are compiled one after the other: from an address on, where `.text` has these bytes, and from a list's number on, where these are
--- the lists
+-- Functions are compiled one after the other from address `base` and list number `first`. `text` is the bytes from there on, `lists` the location
+-- lists from there on.
 abbrev pub AreCompiled : (names : ℕ → List ℕ) → (base first : ℕ) → (text : List ℕ) → (lists : List (List Range)) → List PassedFunction →
     List ListedFunction → Type 0
 AreCompiled names base first text lists [] [] = (text ≡ []) × (lists ≡ [])
@@ -60,8 +60,8 @@ AreCompiled names base first text lists (p ∷ ps) (f ∷ fs) =
     (c : IsCompiledFunction names p base first f) × (more : List ℕ) × (rest : List (List Range)) × (text ≡ bytes_of c.layout ++ more)
     × (lists ≡ c.lists ++ rest) × AreCompiled names f.high (first + length c.lists) more rest ps fs
 
--- the output of compiling functions that passes made of sources, whose variables' names are told by their nodes: `.text` has the words of all
--- functions, and `.debug_loclists` the lists of all variables
+-- The output is compiled of passed functions: `.text` is the bytes of all functions, `.debug_loclists` encodes the lists of all variables. `names`
+-- maps a variable's metadata node to its name.
 pub record IsCompiledProgram (names : ℕ → List ℕ) (ps : List PassedFunction) (o : Output) : Type 0 where
   pub lists : List (List Range)
   pub section : IsSection o.loclists lists

@@ -1,4 +1,4 @@
--- What holds of each output that compiling makes.
+-- The statements of the correctness theorems for every output of the compiler.
 use Rattle.std.specs.Prelude.{◌≡◌, ℕ, ◌<◌, ◌≤◌, List, All}
 use Rattle.std.specs.List.{flat_map}
 use Rattle.std.specs.Int.{w32, to_le_bytes}
@@ -19,39 +19,40 @@ use Rattle.compile_theorem.specs.Promise.{variable_lines, Promises, IsExact, Are
 use Rattle.compile_theorem.specs.Source.{SourceFunction, IsSourceFunction, PassedFunction, unpassed, sources_among, IsPassedFunction}
 use Rattle.compile_theorem.specs.Words.{HaveWords}
 
--- the functions are as passes make them of sources that were read, and this is their output
+-- The functions are as passes make them of sources, and the output is compiled of them.
 pub record AreCompiledTo (names : ℕ → List ℕ) (functions : List PassedFunction) (o : Output) : Type 0 where
   pub passed : All IsPassedFunction functions
   pub compiled : IsCompiledProgram names functions o
 
--- A source that was read is as passes make it of itself: it follows itself.
+-- Every source that was read refines itself, so it is as passes make it, with no passes.
 abbrev pub SourcesFollowThemselves : Type 0
 SourcesFollowThemselves = (source : SourceFunction) → IsSourceFunction source → IsPassedFunction (unpassed source)
 
--- It keeps the promise of the sources: the machine does what they do, and what its lists give holds values of newest assignments.
+-- The headline holds for each source: the machine code refines it, and each place in the location lists holds the value of the newest assignment.
 abbrev pub CompiledPromises : Type 0
 CompiledPromises = (names : ℕ → List ℕ) (functions : List PassedFunction) (o : Output) → AreCompiledTo names functions o →
     Promises (sources_among functions) o
 
--- Its lists are exact.
+-- The location lists of the output are exact.
 abbrev pub CompiledIsExact : Type 0
 CompiledIsExact = (names : ℕ → List ℕ) (functions : List PassedFunction) (o : Output) → AreCompiledTo names functions o → IsExact o
 
--- Its functions lie one after the other, and in each its lines.
+-- The output is laid out: its functions fill `.text` in order, and the lines of each fill its addresses.
 abbrev pub CompiledIsLaidOut : Type 0
 CompiledIsLaidOut = (names : ℕ → List ℕ) (functions : List PassedFunction) (o : Output) → AreCompiledTo names functions o →
     AreLaidOut names (sources_among functions) o
 
--- Its lines show the functions that passes made, with their frames.
+-- The listing shows the passed functions with their frames.
 abbrev pub CompiledListsPassed : Type 0
 CompiledListsPassed = (names : ℕ → List ℕ) (functions : List PassedFunction) (o : Output) → AreCompiledTo names functions o → ListsPassed functions o
 
--- At its lines stand the bytes of their instructions.
+-- At the address of each listed instruction, `.text` has its encoding.
 abbrev pub CompiledHasWords : Type 0
 CompiledHasWords = (names : ℕ → List ℕ) (functions : List PassedFunction) (o : Output) → AreCompiledTo names functions o → HaveWords o
 
--- What the code of a compiler makes of a function that passes made is compiled of it: its machine code from an address on, the lists of its
--- source's variables over the code's entries, and the listing of the code's layout.
+-- If a passed function with its frame has this machine code at this address, within the limits, and the lists are those of its source's variables
+-- over the code's entries, and the listing is that of the code's layout, then the function is compiled there, with the code's words as bytes and
+-- these lists.
 abbrev pub CodesAreCompiled : Type 0
 CodesAreCompiled = (names : ℕ → List ℕ) (p : PassedFunction) (base first : ℕ) (f : ListedFunction) (code : LaidCode) (lists : List (List Range)) →
     (is : IsCodeOf (framed_of p.function) base code) → base < MAX_BASE → count_of (framed_of p.function).blocks < MAX_WORDS →

@@ -1,4 +1,4 @@
--- What an output promises of a run of its code, and of its lists.
+-- The properties of an output: of runs of its code, of its location lists, and of its layout.
 use Rattle.std.specs.Prelude.{◌≡◌, ℕ, suc, ◌+◌, List, [], ◌∷◌, length, Option, Some, None, slice_get, map, All}
 use Rattle.rv64_instr.specs.declared.place.Place.{Place}
 use Rattle.mir_func.specs.declared.variable.VarId.{VarId}
@@ -18,16 +18,16 @@ use Rattle.listing_meaning.specs.Settled.{settled}
 use Rattle.compile_theorem.specs.Source.{SourceFunction, PassedFunction, OfEach}
 use Rattle.dwarf_unit.specs.Variables.{whole, variables_of_function}
 
--- ---- what its lists give
+-- ---- what its location lists say
 
--- a list of a section gives a part of a variable a place at an address: the whole variable by the place that it is at, and
--- some bytes of it by a piece of just these bytes
+-- List k of `.debug_loclists` has this place for a part of a variable at an address: for the whole variable (no fragment) as a simple location, for a
+-- fragment as a piece with exactly the fragment's offset and length.
 abbrev pub GivesPart : (section : List ℕ) → (list address : ℕ) → Option Bytes → Place → Type 0
 GivesPart section k a None place = PlaceAt section k a (Some place)
 GivesPart section k a (Some b) place = (n : ℕ) × PieceAt section k a n (Some (record { offset = b.offset; length = b.length; place = place }))
 
--- the bytes of the section of lists give a part of a variable of a function a place at an address: the list that a line of the
--- variable names says it there
+-- `.debug_loclists` has this place for a part of a variable at an address, in the list that is named by a listed variable of the function. That
+-- listed variable is the whole variable.
 pub record Gives (o : Output) (f : ListedFunction) (v : VarId) (address : ℕ) (place : Place) : Type 0 where
   pub number : ℕ
   pub line : ListedVariable
@@ -35,30 +35,29 @@ pub record Gives (o : Output) (f : ListedFunction) (v : VarId) (address : ℕ) (
   pub named : line.variable ≡ whole v
   pub given : GivesPart o.loclists line.list address v.fragment place
 
--- ---- where its lines lie
+-- ---- layout of the listing
 
--- the line of a variable, whose list has this number
+-- the listed variable with list number k; its name is that of its metadata node
 abbrev pub variable_listed : (names : ℕ → List ℕ) → (k : ℕ) → VarId → ListedVariable
 variable_listed names k v = record { list = k; variable = v; name = names v.node }
 
--- the lines of variables, whose lists have the numbers from k on, and whose names are told by their nodes
+-- the listed variables, with list numbers k, k + 1, ..
 abbrev pub variable_lines : (names : ℕ → List ℕ) → ℕ → List VarId → List ListedVariable
 variable_lines names k [] = []
 variable_lines names k (v ∷ vs) = variable_listed names k v ∷ variable_lines names (suc k) vs
 
--- functions lie one after the other between two addresses: each begins where the one before it ends
+-- The functions fill the addresses from a to b: each begins at the end of the previous one.
 abbrev pub FunctionsLie : ℕ → List ListedFunction → ℕ → Type 0
 FunctionsLie a [] b = a ≡ b
 FunctionsLie a (f ∷ fs) b = (f.low ≡ a) × FunctionsLie f.high fs b
 
--- what is listed of a source has its name, its stack objects, and all lines between its first address and its end
+-- A listed function has its source's name and stack objects, and its lines fill its addresses in order.
 pub record IsLaidOut (source : SourceFunction) (f : ListedFunction) : Type 0 where
   pub named : f.name ≡ source.function.name
   pub objects : f.objects ≡ map object_listed source.function.objects
   pub lines : LinesLie f
 
--- the variables that are listed are the sources' variables with their names, and from k on their lists are numbered one after
--- the other, function by function
+-- The listed variables are the variables of the sources with their names. List numbers count from k over all functions.
 abbrev pub ListVariables : (names : ℕ → List ℕ) → (k : ℕ) → List SourceFunction → List ListedFunction → Type 0
 ListVariables names k [] [] = Unit {0}
 ListVariables names k [] (f ∷ fs) = ⊥
@@ -66,40 +65,41 @@ ListVariables names k (s ∷ ss) [] = ⊥
 ListVariables names k (s ∷ ss) (f ∷ fs) =
     (f.variables ≡ variable_lines names k (variables_of_function s.function.blocks)) × ListVariables names (k + length f.variables) ss fs
 
--- each source is laid out so, with its variables, whose names are told by their nodes, and their functions fill `.text`
+-- Each listed function is laid out for its source, list numbers count from 0, and the functions fill `.text` from address 0.
 pub record AreLaidOut (names : ℕ → List ℕ) (sources : List SourceFunction) (o : Output) : Type 0 where
   pub each : OfEach IsLaidOut sources o.functions
   pub variables : ListVariables names 0 sources o.functions
   pub functions : FunctionsLie 0 o.functions (length o.text)
 
--- ---- what holds
+-- ---- the properties
 
--- the headline of a source and what is listed of it: from every start, for every script and number of steps, the machine on the
--- function's code stands where its lines say the source stands, with the source's events and result, and what the section gives
--- holds the newest assignment
+-- The headline for a source and its listed function: from every start, for every script of answers to calls and every number of steps, each time the
+-- machine comes to a listed line, the source comes to the line's origin with the same events, unless it stops on a frame fault before. A return has
+-- the same result and restores x1, x2 and the callee-saved registers, and each place in the location lists holds the value of the newest assignment.
+-- The machine stops only at a return or waiting for the answer to a call.
 abbrev pub MeetsHeadline : Output → SourceFunction → ListedFunction → Type 0
 MeetsHeadline o source f = Headline source.function (resolve source.substitutions) (image_of o f) (Gives o f)
 
--- at the address of each byte of a line the section gives a part of a variable the place that is wanted at the line, by the tokens
--- of all paths of the function that the lines show, and none exactly where none is wanted; and at no other address, be it below
--- the function's first or from its end on, it gives any
+-- The location lists are exact for a listed function: at the address of each byte of a line, a part of a variable has exactly the place that is
+-- wanted at the line's position, and none exactly if none is wanted. Wanted places are defined by the value numbers over all paths of the function
+-- that the lines show. At an address outside the function's lines there is no place.
 abbrev pub IsExactFor : Output → ListedFunction → Type 0
 IsExactFor o f = AreExact (program_shown f) (block_start 0) (IsListedAt f) (Gives o f)
 
--- the headline holds of each source and what is listed of it
+-- the headline holds for each source and its listed function
 abbrev pub Promises : List SourceFunction → Output → Type 0
 Promises sources o = OfEach (MeetsHeadline o) sources o.functions
 
--- the lists are exact for each function
+-- the location lists are exact for each listed function
 abbrev pub IsExact : Output → Type 0
 IsExact o = All (IsExactFor o) o.functions
 
--- the lines show a function with its frame, as passes made it, and its substitutions: nothing else is changed on the way. An address of a
--- stack object stands there as one of the object that it leads to
+-- The lines show the passed function with its frame, unchanged, and the listing has its substitutions. An address that is formed from a stack object
+-- is shown relative to the object that it points into (see `settled`).
 pub record ListsFramed (p : PassedFunction) (f : ListedFunction) : Type 0 where
   pub blocks : map contents (blocks_shown f) ≡ map contents (map (settled (framed_of p.function)) (framed_of p.function).blocks)
   pub substitutions : f.substitutions ≡ p.substitutions
 
--- each function is listed so, in order, and nothing else is
+-- The listed functions are exactly the passed functions with their frames, in order.
 abbrev pub ListsPassed : List PassedFunction → Output → Type 0
 ListsPassed functions o = OfEach ListsFramed functions o.functions

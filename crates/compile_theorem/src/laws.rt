@@ -1,4 +1,4 @@
-//! The laws of an output: each is the contract of a function that does nothing.
+//! Theorems on outputs. Each is the contract of an empty function.
 
 ghost use Rattle.compile_theorem.specs.Laws.{
   SourcesFollowThemselves,
@@ -10,40 +10,42 @@ ghost use Rattle.compile_theorem.specs.Laws.{
   CompiledHasWords,
 };
 
-/// A source that was read is as passes make it of itself: where there are no passes, it is what is compiled.
+/// A source function that was read is the result of no passes on itself: it refines itself.
 pub fn sources_follow_themselves()
     ensures { SourcesFollowThemselves }
 {}
 
-/// The machine code of a function that passes made of a source, from an address on, with the lists of the source's
-/// variables and its listing, is what is compiled of the function there.
+/// Connects compiler code to the definition of compiled functions: if a function that passes made of a source has this
+/// machine code at this address, these location lists of the source's variables over the code's entries, and this
+/// listing, then it is compiled at that address.
 pub fn codes_are_compiled()
     ensures { CodesAreCompiled }
 {}
 
-/// What is compiled keeps the promise of the sources: the machine does what they do, and what its lists give holds
-/// values of newest assignments.
+/// The headline holds of each source and its part of a compiled output: the machine code refines the source, and each
+/// location list entry holds the value of the variable's newest assignment.
 pub fn compiled_promises()
     ensures { CompiledPromises }
 {}
 
-/// Its lists are exact: at each line they give each part of each variable the place that is wanted there, and none
-/// where none is wanted; and nothing at any other address.
+/// The location lists of a compiled output are exact: at the address of each byte of a listed line they have, for each
+/// part of each variable, the wanted place, and none if none is wanted. At any other address they have none.
 pub fn compiled_is_exact()
     ensures { CompiledIsExact }
 {}
 
-/// The functions of what is compiled lie one after the other, and in each its lines.
+/// A compiled output is laid out: its functions fill `.text` in order, the lines of each fill its addresses, and the
+/// variables are listed with consecutive list numbers.
 pub fn compiled_is_laid_out()
     ensures { CompiledIsLaidOut }
 {}
 
-/// The lines of what is compiled show the functions that passes made, with their frames.
+/// The listing of a compiled output shows the functions that passes made, with their frames.
 pub fn compiled_lists_passed()
     ensures { CompiledListsPassed }
 {}
 
-/// At the lines of what is compiled stand the bytes of their instructions.
+/// At the address of each listed instruction of a compiled output, `.text` has the instruction's encoding.
 pub fn compiled_has_words()
     ensures { CompiledHasWords }
 {}

@@ -1,5 +1,6 @@
-//! What the output of compiling promises of its sources: the machine does what they do, its lists are exact, its lines
-//! lie one after the other and show the sources with their frames, and their bytes stand at them.
+//! The compiler's correctness theorems, for an output of compiling functions: its machine code refines the source
+//! functions, its location lists are exact, its listing is in address order and shows the passed functions with their
+//! frames, and `.text` has the encoding of each listed instruction.
 #![tactic(auto)]
 
 pub mod laws;

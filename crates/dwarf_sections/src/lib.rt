@@ -1,5 +1,5 @@
-//! The sections of a program's debugging information: its entries, its line number table and its location lists, each
-//! written whole, unless it would be too large.
+//! Writes the debug sections of a program: `.debug_info`, `.debug_line` and `.debug_loclists`. Each is an error if it
+//! would be too large.
 #![tactic(auto)]
 
 pub mod sections;

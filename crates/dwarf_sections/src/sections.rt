@@ -1,4 +1,4 @@
-//! The sections of functions with their machine code.
+//! The debug sections of functions and their machine code.
 
 ghost use Rattle.std.specs.Prelude.{◌≡◌, ◌-◌, ◌<◌, ◌≤◌, ◌^◌, All, IfOk, IsErrOf, length, map};
 ghost use Rattle.dwarf_info.specs.Entries.{spelling as entries_spelling};
@@ -27,7 +27,7 @@ use read_program::closing::Parsed;
 use std::alloc::{AllocError, Global};
 use thiserror::Error;
 
-/// Why a section isn't written.
+/// Why a section can't be written.
 #[derive(Clone, Copy, Debug, PartialEq, Eq, Error)]
 pub enum SectionError {
     /// It would have 2^31 bytes or more.
@@ -46,7 +46,7 @@ impl From<AllocError> for SectionError {
     }
 }
 
-/// The functions with their machine code.
+/// Pairs the functions with their machine code.
 pub fn with_code<'a>(
     alloc: Global,
     functions: &'a [Parsed],
@@ -67,7 +67,7 @@ pub fn with_code<'a>(
     Ok(compiled)
 }
 
-/// The section `.debug_info` of functions with so many bytes of code. It is `TooLarge` exactly from 2^31 bytes on.
+/// The section `.debug_info` of functions, with `text_len` bytes of code. It is `TooLarge` exactly from 2^31 bytes on.
 pub fn info(
     alloc: Global,
     functions: &[Compiled],
@@ -102,7 +102,7 @@ pub fn rows(alloc: Global, functions: &[Compiled], meta: &Metadata) -> Result<By
     Ok(write_line(alloc, &table)?)
 }
 
-/// The section `.debug_loclists` of lists. It is `TooLarge` exactly from 2^31 bytes on.
+/// The section `.debug_loclists` of location lists. It is `TooLarge` exactly from 2^31 bytes on.
 pub fn loclists(alloc: Global, lists: &RangeLists) -> Result<Bytes, SectionError>
     requires ascend { All Ascend lists.now }
     requires places { All ArePlaces lists.now }

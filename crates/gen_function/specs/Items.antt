@@ -13,19 +13,19 @@ use Rattle.mir_func.specs.declared.item.ItemKind.TheVariants.{Code, Mark, Phi}
 use Rattle.mir_func.specs.declared.variable.VarId.{VarId}
 use Rattle.mir_func.specs.declared.variable.MarkValue.TheVariants.{Pair}
 
--- the registers that are drawn from, the argument and result x10 left out
+-- the registers to choose from, without x10, the register of the argument and the result
 abbrev pub REGISTERS : List ℕ
 REGISTERS = 8 ∷ 9 ∷ 11 ∷ 12 ∷ 13 ∷ 18 ∷ 19 ∷ 20 ∷ []
 
--- the register of a draw below 8
+-- the register of a random number below 8
 abbrev pub register_of : (drawn : ℕ) → ℕ
 register_of n = slice_index REGISTERS n
 
--- the variable of a draw below 4: one of the nodes !10 to !13, the whole of it
+-- the variable of a random number below 4: one of the nodes !10 to !13, as a whole
 abbrev pub variable_of : (drawn : ℕ) → VarId
 variable_of n = record { node = 10 + n; inlined_at = None; fragment = None }
 
--- `rd = ADD rs, rt`, numbered
+-- `rd = ADD rs, rt`, with a debug instruction number
 abbrev pub add : (rd rs rt number : ℕ) → ItemKind
 add rd rs rt k = Code (record { op = Registers Add; operands = Def rd ∷ Use rs ∷ Use rt ∷ [] }) (Some k)
 
@@ -33,7 +33,7 @@ add rd rs rt k = Code (record { op = Registers Add; operands = Def rd ∷ Use rs
 abbrev pub copy : (rd rs : ℕ) → (number : Option ℕ) → ItemKind
 copy rd rs k = Code (record { op = Copy; operands = Def rd ∷ Use rs ∷ [] }) k
 
--- `rd = ADDI $x0, n`, numbered
+-- `rd = ADDI $x0, n`, with a debug instruction number
 abbrev pub constant : (rd n number : ℕ) → ItemKind
 constant rd n k = Code (record { op = Immediate Addi; operands = Def rd ∷ Use 0 ∷ Imm (pos n) ∷ [] }) (Some k)
 
@@ -41,7 +41,7 @@ constant rd n k = Code (record { op = Immediate Addi; operands = Def rd ∷ Use 
 abbrev pub store : (rs slot : ℕ) → ItemKind
 store rs n = Code (record { op = Store Sd; operands = Use rs ∷ OfSlot n ∷ Imm (pos 0) ∷ [] }) None
 
--- `rd = LD %stack.N, 0`, numbered
+-- `rd = LD %stack.N, 0`, with a debug instruction number
 abbrev pub load : (rd slot number : ℕ) → ItemKind
 load rd n k = Code (record { op = Load Ld; operands = Def rd ∷ OfSlot n ∷ Imm (pos 0) ∷ [] }) (Some k)
 
@@ -49,7 +49,7 @@ load rd n k = Code (record { op = Load Ld; operands = Def rd ∷ OfSlot n ∷ Im
 abbrev pub phi : (rs number : ℕ) → ItemKind
 phi rs k = Phi (Some (Register rs)) k
 
--- a mark of operand 0 of a number: `DBG_INSTR_REF`
+-- a DBG_INSTR_REF to operand 0 of a debug instruction number
 abbrev pub mark : VarId → (number : ℕ) → ItemKind
 mark v k = Mark v (Pair (record { number = k; operand = 0 }))
 

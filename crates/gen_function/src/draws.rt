@@ -1,4 +1,4 @@
-//! Numbers that are drawn one after the other.
+//! The pseudorandom sequence.
 
 ghost use Rattle.std.specs.Prelude.{◌≡◌, ◌+◌, ◌%◌, ◌^◌, ◌<◌, ◌≤◌};
 ghost use Rattle.gen_function.specs.Draws.{next, draw, give};
@@ -14,14 +14,14 @@ use std::marker::Model;
 /// The node of the first of the four variables.
 const FIRST_VARIABLE: u32 = 10;
 
-/// How many registers, variables and slots are drawn from.
+/// The numbers of registers, variables and slots to choose from.
 const REGISTERS: u32 = 8;
 
 const VARIABLES: u32 = 4;
 
 const SLOTS: u32 = 4;
 
-/// The state of the numbers that are drawn, and how many debug instruction numbers were given.
+/// The state of the pseudorandom sequence, and the number of debug instruction numbers that are used.
 #[derive(Debug, Drop)]
 pub struct Draws {
     state: u32,
@@ -40,7 +40,7 @@ impl Model for Draws {
 }
 
 impl Draws {
-    /// The beginning from a number.
+    /// The sequence from a seed.
     pub fn new(number: u32) -> Draws
         requires { number < 65537 }
         ensures { result ≡ record { state = number; given = 0 } }
@@ -51,7 +51,7 @@ impl Draws {
         }
     }
 
-    /// A number below `n`.
+    /// The next random number, below `n`.
     #[tactic(auto, unfolding(crate::specs::Draws::next))]
     pub fn below(&mut self, n: u32) -> u32
         requires { 0 < n }
@@ -63,7 +63,7 @@ impl Draws {
         self.state % n
     }
 
-    /// One of the registers.
+    /// A random register.
     pub fn register(&mut self) -> Reg
         ensures drawn { result ≡ register_of (self.new.state % 8) }
         ensures state { self.new ≡ draw self.old }
@@ -71,7 +71,7 @@ impl Draws {
         register(self.below(REGISTERS))
     }
 
-    /// One of the variables.
+    /// A random variable.
     pub fn variable(&mut self) -> VarId
         ensures drawn { result ≡ variable_of (self.new.state % 4) }
         ensures state { self.new ≡ draw self.old }
@@ -83,7 +83,7 @@ impl Draws {
         }
     }
 
-    /// One of the slots.
+    /// A random slot.
     pub fn slot(&mut self) -> SlotId
         ensures drawn { result ≡ self.new.state % 4 }
         ensures state { self.new ≡ draw self.old }
@@ -91,7 +91,7 @@ impl Draws {
         SlotId(self.below(SLOTS))
     }
 
-    /// The next debug instruction number.
+    /// The next unused debug instruction number.
     pub fn number(&mut self) -> DebugNumber
         requires { self.old.given < 2 ^ 16 }
         ensures given { result ≡ self.new.given }
@@ -101,7 +101,7 @@ impl Draws {
         DebugNumber(self.given)
     }
 
-    /// A number that was given, or the next one.
+    /// A random debug instruction number: one that is used, or the next one.
     pub fn near_number(&mut self) -> DebugNumber
         requires { self.old.given < 2 ^ 16 }
         ensures drawn { result ≡ self.new.state % (self.old.given + 1) + 1 }

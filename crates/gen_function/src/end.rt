@@ -1,4 +1,4 @@
-//! How blocks begin and end.
+//! The first and last items of blocks.
 
 ghost use Rattle.std.specs.Prelude.{◌≡◌, ◌+◌, ◌-◌, ◌%◌, ◌^◌, ◌<◌, ◌≤◌, OnOk, ◌++◌};
 ghost use Rattle.gen_function.specs.Generator.{last_end, branch_end, jump_end, end_of, end, beginning};
@@ -10,18 +10,18 @@ use crate::items::{branch, copy, jump, numbered, return_result, store};
 use base_ids::code::{BlockId, SlotId};
 use std::alloc::{AllocError, Global};
 
-/// In how many ways a block may end that isn't the last.
+/// The number of kinds of block ends, without that of the last block.
 const ENDS: u32 = 3;
 
-/// How many slots the function has.
+/// The number of slots of the function.
 pub const SLOTS: u32 = 4;
 
-/// The registers that carry the argument and the result, and what is returned at last.
+/// x10, the register of the argument and the result; and x8, which the last block returns.
 const ARGUMENT: u32 = 10;
 
 const RETURNED: u32 = 8;
 
-/// Appends what the first block begins with: its argument is stored into each slot. Other blocks begin with nothing.
+/// Appends the first items of the first block, which store its argument into each slot. Other blocks have none.
 #[tactic(auto, unfolding(crate::specs::Generator::beginning))]
 pub fn push_beginning(alloc: Global, block: u32, kinds: &mut Kinds) -> Result<(), AllocError>
     ensures { OnOk result (kinds.new ≡ kinds.old ++ beginning block) }
@@ -35,7 +35,7 @@ pub fn push_beginning(alloc: Global, block: u32, kinds: &mut Kinds) -> Result<()
     kinds.push(store(alloc, numbered(ARGUMENT), SlotId(3))?)
 }
 
-/// Appends the end of a block, of so many blocks.
+/// Appends the last items of a block, of `blocks` in all.
 #[tactic(auto, unfolding(crate::specs::Generator::end))]
 pub fn push_end(
     alloc: Global,
@@ -55,7 +55,7 @@ pub fn push_end(
     push_way(alloc, way, blocks, block, kinds, draws)
 }
 
-/// Appends the end of the last block.
+/// Appends the last items of the last block.
 fn push_last(alloc: Global, kinds: &mut Kinds) -> Result<(), AllocError>
     ensures { OnOk result (kinds.new ≡ kinds.old ++ last_end) }
 {
@@ -63,7 +63,7 @@ fn push_last(alloc: Global, kinds: &mut Kinds) -> Result<(), AllocError>
     kinds.push(return_result(alloc)?)
 }
 
-/// Appends the end of another block by a draw below 3.
+/// Appends the last items of another block, chosen by a random number below 3.
 #[tactic(auto, unfolding(crate::specs::Generator::end_of))]
 fn push_way(
     alloc: Global,
@@ -101,7 +101,7 @@ fn push_branch(
     kinds.push(branch(alloc, rs, BlockId(target))?)
 }
 
-/// Appends a jump to a block below this one.
+/// Appends a jump to a later block.
 fn push_jump(
     alloc: Global,
     blocks: u32,

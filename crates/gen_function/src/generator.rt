@@ -1,4 +1,4 @@
-//! The function of a number.
+//! Generation of a function from a number.
 
 ghost use Rattle.std.specs.Prelude.{◌≡◌, ◌+◌, ◌*◌, ◌^◌, ◌<◌, ◌≤◌, ◌++◌, ◌∷◌, [], length, IfOk, OnOk};
 ghost use Rattle.gen_function.specs.Generator.{block_items, placed, block_of, blocks_made, generated};
@@ -17,8 +17,8 @@ use mir_func::position::{Origin, Pos};
 use rv64_instr::name::Name;
 use std::alloc::{AllocError, Global};
 
-/// The function of a number below 65,537 with 1 to 512 blocks, named `gen`. It is one as it is read: each item comes
-/// from where it stands.
+/// The function of a number below 65,537 with 1 to 512 blocks, named `gen`. It has the shape of a function that was
+/// read: the origin of each item is its own position.
 pub fn generate(alloc: Global, number: u32, blocks: u32) -> Result<Func, AllocError>
     requires number { number < 65537 }
     requires some { 1 ≤ blocks }
@@ -46,7 +46,7 @@ fn make_blocks(alloc: Global, number: u32, count: u32) -> Result<Blocks, AllocEr
     Ok(blocks)
 }
 
-/// The block of a number, of so many blocks.
+/// The block with this index, of `blocks` in all.
 fn make_block(
     alloc: Global,
     blocks: u32,
@@ -70,7 +70,7 @@ fn make_block(
     })
 }
 
-/// Items as they are read.
+/// Items with their own positions as origins, as they are read.
 fn placed(alloc: Global, block: u32, kinds: Kinds) -> Result<Items, AllocError>
     requires { length kinds < 2 ^ 32 }
     ensures { IfOk result (λ items. items ≡ placed block 0 kinds) }

@@ -22,13 +22,13 @@ use mir_func::item::ItemKind;
 use rv64_instr::place::Place;
 use std::alloc::{AllocError, Global};
 
-/// What items are, in order.
+/// Kinds of items, in order.
 pub type Kinds = List<ItemKind>;
 
-/// How many groups a block has.
+/// The number of groups in a block.
 const GROUPS: u32 = 6;
 
-/// How many shapes groups have, and below which number a constant is.
+/// The number of kinds of groups, and the bound of constants.
 const SHAPES: u32 = 8;
 
 const CONSTANTS: u32 = 64;
@@ -44,7 +44,7 @@ pub fn push_groups(alloc: Global, kinds: &mut Kinds, draws: &mut Draws) -> Resul
     Ok(())
 }
 
-/// Appends a group.
+/// Appends a random group.
 #[tactic(auto, unfolding(crate::specs::Generator::group))]
 fn push_group(alloc: Global, kinds: &mut Kinds, draws: &mut Draws) -> Result<(), AllocError>
     requires { draws.old.given < 2 ^ 16 }
@@ -78,7 +78,7 @@ fn push_shape(
     }
 }
 
-/// Appends an addition with the next number, and a mark of it.
+/// Appends an addition with the next number, and a DBG_INSTR_REF to it.
 fn push_add(alloc: Global, kinds: &mut Kinds, draws: &mut Draws) -> Result<(), AllocError>
     requires { draws.old.given < 2 ^ 16 }
     ensures { OnOk result (Appends (add_group draws.old) kinds.old kinds.new draws.new) }
@@ -103,7 +103,7 @@ fn push_copy(alloc: Global, kinds: &mut Kinds, draws: &mut Draws) -> Result<(), 
     kinds.push(copy(alloc, rd, rs, Some(k))?)
 }
 
-/// Appends a constant with the next number, and a mark of it.
+/// Appends a constant with the next number, and a DBG_INSTR_REF to it.
 fn push_constant(alloc: Global, kinds: &mut Kinds, draws: &mut Draws) -> Result<(), AllocError>
     requires { draws.old.given < 2 ^ 16 }
     ensures { OnOk result (Appends (constant_group draws.old) kinds.old kinds.new draws.new) }
@@ -125,7 +125,7 @@ fn push_store(alloc: Global, kinds: &mut Kinds, draws: &mut Draws) -> Result<(),
     kinds.push(store(alloc, rs, slot)?)
 }
 
-/// Appends a slot load with the next number, and a mark of it.
+/// Appends a slot load with the next number, and a DBG_INSTR_REF to it.
 fn push_load(alloc: Global, kinds: &mut Kinds, draws: &mut Draws) -> Result<(), AllocError>
     requires { draws.old.given < 2 ^ 16 }
     ensures { OnOk result (Appends (load_group draws.old) kinds.old kinds.new draws.new) }
@@ -138,7 +138,7 @@ fn push_load(alloc: Global, kinds: &mut Kinds, draws: &mut Draws) -> Result<(), 
     kinds.push(mark(variable, k))
 }
 
-/// Appends a phi with the next number, and a mark of it.
+/// Appends a DBG_PHI with the next number, and a DBG_INSTR_REF to it.
 fn push_phi(kinds: &mut Kinds, draws: &mut Draws) -> Result<(), AllocError>
     requires { draws.old.given < 2 ^ 16 }
     ensures { OnOk result (Appends (phi_group draws.old) kinds.old kinds.new draws.new) }
@@ -150,7 +150,7 @@ fn push_phi(kinds: &mut Kinds, draws: &mut Draws) -> Result<(), AllocError>
     kinds.push(mark(variable, k))
 }
 
-/// Appends a mark of a number that was given, or of the next one.
+/// Appends a DBG_INSTR_REF to a number that is used, or to the next one.
 fn push_mark(kinds: &mut Kinds, draws: &mut Draws) -> Result<(), AllocError>
     requires { draws.old.given < 2 ^ 16 }
     ensures { OnOk result (Appends (mark_group draws.old) kinds.old kinds.new draws.new) }

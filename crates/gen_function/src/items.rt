@@ -16,7 +16,7 @@ use std::alloc::{AllocError, Global};
 /// The register x10, the argument and the result (RISC-V ELF psABI, "Integer Register Convention": a0).
 const RESULT: u32 = 10;
 
-/// The register of a draw below 8.
+/// The register of a random number below 8.
 pub fn register(drawn: u32) -> Reg
     requires { drawn < 8 }
     ensures { result ≡ register_of drawn }
@@ -42,7 +42,7 @@ pub fn numbered(n: u32) -> Reg
     physical(n).unwrap()
 }
 
-/// `rd = ADD rs, rt`, numbered.
+/// `rd = ADD rs, rt`, with a debug instruction number.
 pub fn add(alloc: Global, rd: Reg, rs: Reg, rt: Reg, k: DebugNumber) -> Result<ItemKind, AllocError>
     ensures { IfOk result (λ made. made ≡ add rd rs rt k) }
 {
@@ -65,7 +65,7 @@ pub fn copy(alloc: Global, rd: Reg, rs: Reg, k: Option<DebugNumber>) -> Result<I
     Ok(ItemKind::Code(Instr { op, operands }, k))
 }
 
-/// `rd = ADDI $x0, n`, numbered.
+/// `rd = ADDI $x0, n`, with a debug instruction number.
 pub fn constant(alloc: Global, rd: Reg, n: u32, k: DebugNumber) -> Result<ItemKind, AllocError>
     requires { n < 64 }
     ensures { IfOk result (λ made. made ≡ constant rd n k) }
@@ -90,7 +90,7 @@ pub fn store(alloc: Global, rs: Reg, slot: SlotId) -> Result<ItemKind, AllocErro
     Ok(ItemKind::Code(Instr { op, operands }, None))
 }
 
-/// `rd = LD %stack.N, 0`, numbered.
+/// `rd = LD %stack.N, 0`, with a debug instruction number.
 pub fn load(alloc: Global, rd: Reg, slot: SlotId, k: DebugNumber) -> Result<ItemKind, AllocError>
     ensures { IfOk result (λ made. made ≡ load rd slot k) }
 {
@@ -102,7 +102,7 @@ pub fn load(alloc: Global, rd: Reg, slot: SlotId, k: DebugNumber) -> Result<Item
     Ok(ItemKind::Code(Instr { op, operands }, Some(k)))
 }
 
-/// A mark of operand 0 of a number.
+/// A DBG_INSTR_REF to operand 0 of a debug instruction number.
 pub fn mark(variable: VarId, k: DebugNumber) -> ItemKind
     ensures { result ≡ mark variable k }
 {

@@ -1,8 +1,8 @@
-//! Functions that are made up, one for each number: large valid inputs for tests of the whole compiler. All is drawn
-//! from one row of numbers, so the same number gives the same function. A function stores its argument into its four
-//! slots, and each of its blocks has six groups of items, which compute, copy, store and load, and mark four variables
-//! of the program that is debugged by the numbers of these instructions. Branches go to any block but the first, so
-//! there are loops and joins; jumps go down, and the last block returns.
+//! Generates functions from numbers, as large valid inputs for tests of the whole compiler. All choices are drawn from
+//! one pseudorandom sequence, so the same number always generates the same function. A function stores its argument
+//! into its four slots. Each of its blocks has six groups of items, which compute, copy, store and load, and assign to
+//! four source variables by DBG_INSTR_REFs to these instructions. Branches have any block but the first as target, so
+//! there are loops and joins. Jumps go forward, and the last block returns.
 #![tactic(auto)]
 
 mod draws;

@@ -1,4 +1,4 @@
--- What holds of generated functions and their runs.
+-- The statements of the theorems on generated functions.
 use Rattle.std.specs.Prelude.{◌≡◌, ℕ, ◌≤◌, Option, None, true}
 use Rattle.mir_func.specs.declared.entry.OperandPair.{OperandPair}
 use Rattle.mir_func.specs.declared.item.ItemKind.{ItemKind}
@@ -11,21 +11,21 @@ use Rattle.sem_mir.specs.State.{State}
 use Rattle.sem_mir.specs.Step.{Faulted, run}
 use Rattle.gen_function.specs.Generator.{generated}
 
--- no run of the function from a start stops on a frame fault, whatever its pairs resolve to
+-- No run of the function from a start stops on a frame fault, whatever its debug value substitutions are.
 abbrev pub NeverFaults : Function → (OperandPair → Option OperandPair) → Type 0
 NeverFaults f resolve = (s : State) → IsStart f.objects (first_of f.blocks) s → (n : ℕ) → run (program_of true f.blocks resolve) n s ≡ Faulted → ⊥
 
--- No generated function has a frame fault.
+-- No run of a generated function stops on a frame fault.
 abbrev pub GeneratedRunsDontFault : Type 0
 GeneratedRunsDontFault = (number count : ℕ) → 1 ≤ count → count ≤ 512 → (resolve : OperandPair → Option OperandPair) →
     NeverFaults (generated number count) resolve
 
--- a mark is of a whole variable
+-- a debug value is for a whole variable
 abbrev pub MarksWhole : ItemKind → Type 0
 MarksWhole (Mark v m) = v.fragment ≡ None
 MarksWhole (Code i k) = Unit {0}
 MarksWhole (Phi p k) = Unit {0}
 
--- The marks of generated functions are of whole variables.
+-- All debug values of generated functions are for whole variables.
 abbrev pub GeneratedFunctionsMarkWholes : Type 0
 GeneratedFunctionsMarkWholes = (number count : ℕ) → 1 ≤ count → count ≤ 512 → AllItems (λ i. MarksWhole i.kind) (generated number count).blocks

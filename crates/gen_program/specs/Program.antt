@@ -4,6 +4,6 @@ use Rattle.read_metadata.specs.Metadata.{metadata_of}
 use Rattle.gen_function.specs.Generator.{generated}
 use Rattle.read_program.specs.declared.program.Program.{Program}
 
--- its one function is the generated one, without metadata and substitutions
+-- the program whose one function is the generated one, without metadata and debug value substitutions
 abbrev pub generated_program : (number blocks : ℕ) → Program
 generated_program number count = record { functions = record { func = generated number count; subs = [] } ∷ []; meta = metadata_of [] }

@@ -1,10 +1,10 @@
-//! Generated functions run, and are functions of a program.
+//! Generated functions as programs, and theorems on their runs.
 //!
-//! - `laws`: Runs of functions that are made up: none stops on a frame fault. Laws, each the contract of a function
-//!   that does nothing.
+//! - `laws`: Theorems, each the contract of an empty function: no run of a generated function stops on a frame fault,
+//!   and its debug values are for whole variables.
 //!
-//! - `program`: The program of a generated function alone: it is as programs are that were read, so it can be compiled
-//!   without being written and read.
+//! - `program`: The program that consists of one generated function. It satisfies what holds of programs that were
+//!   read, so it can be compiled without being printed and parsed.
 #![tactic(auto)]
 
 pub mod laws;

@@ -13,7 +13,7 @@ use read_program::program::{ParsedFunctions, Program};
 use std::alloc::{AllocError, Global};
 
 /// The program whose one function is generated from a number below 65,537, with 1 to 512 blocks. It has no metadata and
-/// no substitutions.
+/// no debug value substitutions.
 pub fn generated_program(alloc: Global, number: u32, blocks: u32) -> Result<Program, AllocError>
     requires number { number < 65537 }
     requires some { 1 ≤ blocks }

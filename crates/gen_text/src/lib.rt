@@ -1,5 +1,4 @@
-//! A function that is made up, as a file that the compiler reads: its metadata, which names its four variables, and its
-//! document.
+//! Prints a generated function as a MIR file: the metadata of its four variables, and its document.
 #![tactic(auto)]
 
 pub mod print;

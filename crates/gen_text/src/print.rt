@@ -1,4 +1,4 @@
-//! The text of a function that is made up.
+//! The text of a generated function.
 
 ghost use Rattle.std.specs.Prelude.{◌≡◌, ◌+◌, ◌++◌, ◌∷◌, ◌<◌, ◌≤◌, [], IfOk, OnOk};
 ghost use Rattle.gen_text.specs.GeneratedText.{variable_line, head_text, metadata_text, generated_text};
@@ -9,8 +9,8 @@ use mir_printer::text::{Text, push_numbered, push_str};
 use mir_substitution::substitutions::Substitutions;
 use std::alloc::{AllocError, Global};
 
-/// The file of the function of a number below 65,537 with 1 to 512 blocks: the metadata of its four variables, `a` to
-/// `d`, and its document.
+/// The MIR file of the function that is generated from a number below 65,537, with 1 to 512 blocks: the metadata of its
+/// four variables, `a` to `d`, and its document.
 pub fn print_generated(alloc: Global, number: u32, blocks: u32) -> Result<Text, AllocError>
     requires number { number < 65537 }
     requires some { 1 ≤ blocks }
@@ -25,7 +25,7 @@ pub fn print_generated(alloc: Global, number: u32, blocks: u32) -> Result<Text, 
     Ok(text)
 }
 
-/// Appends the IR block.
+/// Appends the document of LLVM IR.
 #[tactic(auto, unfolding(crate::specs::GeneratedText::metadata_text))]
 fn push_metadata(text: &mut Text) -> Result<(), AllocError>
     ensures { OnOk result (text.new ≡ text.old ++ metadata_text) }
@@ -38,7 +38,7 @@ fn push_metadata(text: &mut Text) -> Result<(), AllocError>
     push_str(text, "...\n")
 }
 
-/// Appends the lines up to the subprogram's.
+/// Appends the lines up to that of the subprogram.
 #[tactic(auto, unfolding(crate::specs::GeneratedText::head_text))]
 fn push_head(text: &mut Text) -> Result<(), AllocError>
     ensures { OnOk result (text.new ≡ text.old ++ head_text) }

@@ -1,4 +1,4 @@
--- Functions and functions with their frames, seen without their debug items.
+-- Equality of functions, and of functions with their frames, up to debug items.
 use Rattle.std.specs.Prelude.{◌≡◌, map}
 use Rattle.mir_func.specs.Function.{Function, FramedFunction}
 use Rattle.mir_func.specs.Strip.{stripped_blocks, stripped}
@@ -7,42 +7,42 @@ use Rattle.frame_rule.specs.Rule.{framed_of}
 
 -- ---- functions
 
--- without their debug items both have the same names, slots, objects, block numbers and code in order, each kept or not
+-- Without debug items, both have the same names, slots, stack objects, block numbers and code in order, of which the same items are kept and added.
 abbrev pub HaveAlikeCode : Function → Function → Type 0
 HaveAlikeCode f g = AreAlike (stripped f) (stripped g)
 
--- without their debug items they are the same, with their origins
+-- Without debug items, both are equal, including origins.
 abbrev pub HaveSameCode : Function → Function → Type 0
 HaveSameCode f g = stripped f ≡ stripped g
 
 -- ---- functions with their frames
 
--- the function with its frame without its marks, phis and numbers
+-- the function with its frame without its debug values, DBG_PHIs and debug instruction numbers
 abbrev pub stripped_framed : FramedFunction → FramedFunction
 stripped_framed f = record f { blocks = stripped_blocks f.blocks }
 
--- the function with its frame without its positions, silent indices and debug locations: these show where debug items stood
+-- The function with its frame without positions, silent indices and debug locations. These depend on where debug items were.
 abbrev pub placeless_framed : FramedFunction → FramedFunction
 placeless_framed f = record f { blocks = map placeless_block f.blocks }
 
--- without their debug items both have the same names, frames, objects, block numbers and code in order, each kept or not
+-- Without debug items, both have the same names, frames, stack objects, block numbers and code in order, of which the same items are kept and added.
 abbrev pub AreFramedAlike : FramedFunction → FramedFunction → Type 0
 AreFramedAlike f g = placeless_framed (stripped_framed f) ≡ placeless_framed (stripped_framed g)
 
--- without their debug items they are the same, with their origins
+-- Without debug items, both are equal, including origins.
 abbrev pub AreFramedSame : FramedFunction → FramedFunction → Type 0
 AreFramedSame f g = stripped_framed f ≡ stripped_framed g
 
--- ---- laws
+-- ---- theorems
 
--- the frame of a function without debug items is that of the function, without its debug items
+-- Adding the frame after removing debug items is the same as removing debug items after adding the frame.
 abbrev pub FramesStrip : Type 0
 FramesStrip = (f : Function) → framed_of (stripped f) ≡ stripped_framed (framed_of f)
 
--- functions with alike code are alike with their frames
+-- Functions with equal code up to positions have, with their frames, equal code up to positions.
 abbrev pub FramesAlike : Type 0
 FramesAlike = (f g : Function) → HaveAlikeCode f g → AreFramedAlike (framed_of f) (framed_of g)
 
--- functions with the same code are the same with their frames
+-- Functions with equal code and origins have, with their frames, equal code and origins.
 abbrev pub FramesSame : Type 0
 FramesSame = (f g : Function) → HaveSameCode f g → AreFramedSame (framed_of f) (framed_of g)

@@ -1,14 +1,14 @@
-//! Laws of the frame: each is the contract of a function that does nothing.
+//! Theorems on the frame. Each is the contract of an empty function.
 
 ghost use Rattle.invariance_code.specs.Alike.{FramesStrip, FramesAlike, FramesSame};
 
-/// Taking out debug items and making the frame may change places.
+/// Removing debug items and adding the frame commute.
 pub fn frames_strip()
     ensures { FramesStrip }
 {}
 
-/// Functions with their frames have alike code if the functions have, and the same code, with its origins, if they
-/// have the same, whatever debug items stand in them.
+/// If two functions have equal code up to debug items and positions, so have the functions with their frames. The same
+/// holds with equal origins.
 pub fn framed_alike()
     ensures alike { FramesAlike }
     ensures same { FramesSame }

@@ -1,11 +1,11 @@
-//! Frame and machine words are the same with and without debug instructions.
+//! Invariance theorems for one function: its frame and its machine words are the same with and without debug
+//! instructions.
 //!
-//! - `frame_laws`: Laws of the frame without debug items: it is made of code alone, and of functions whose code is
-//!   alike, whatever debug items stand in them, it makes functions whose code is alike.
+//! - `frame_laws`: The frame depends only on the code. Functions with equal code up to debug items have equal code with
+//!   their frames.
 //!
-//! - `words_laws`: Laws of machine code without debug items: the words of a function, and which instruction stands at
-//!   each address, are made of its code alone, whatever debug items stand in it and wherever its code stood in the
-//!   source.
+//! - `words_laws`: The words of a function, and which instruction is at each address, depend only on its code, not on
+//!   debug items or on positions in the source.
 #![tactic(auto)]
 
 pub mod frame_laws;

@@ -1,9 +1,10 @@
-//! Laws of machine code: each is the contract of a function that does nothing.
+//! Theorems on machine code. Each is the contract of an empty function.
 
 ghost use Rattle.invariance_code.specs.Alone.{CodeHasWords, AlikeCodeIsCodedAlike, SameCodeIsCodedSame};
 
-/// A function with its frame has the machine code of its code alone. Where two have alike code, so is their machine
-/// code from one address on, and where they have the same code, with its origins, it is the same.
+/// A function with its frame has the same machine code as without its debug items. If two have equal code up to
+/// positions, their machine code from the same address is equal up to positions; with equal origins, it is equal with
+/// its origins.
 pub fn words_alone()
     ensures stripped { CodeHasWords }
     ensures alike { AlikeCodeIsCodedAlike }

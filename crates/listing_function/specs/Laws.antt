@@ -1,4 +1,4 @@
--- What holds of listings.
+-- The theorem that listings are printable.
 use Rattle.std.specs.Prelude.{ℕ, ◌+◌, ◌*◌, ◌<◌, ◌^◌, List, length, All, Option}
 use Rattle.mir_func.specs.declared.entry.Entry.{Entry}
 use Rattle.mir_func.specs.SoundFrame.{IsFramed}

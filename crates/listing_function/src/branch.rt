@@ -1,4 +1,4 @@
-//! Conditional branches that are long: what skips, and the jump below it.
+//! Long conditional branches: the inverted branch that skips, and the jump after it.
 
 ghost use Rattle.std.specs.Prelude.{◌≡◌, [], ◌∷◌, ◌++◌, Some, None, IfOk, OnOk};
 ghost use Rattle.mir_func.specs.declared.item.ItemKind.TheVariants.{Code};
@@ -19,7 +19,7 @@ use rv64_instr::operand::{Operand, Operands};
 use rv64_instr::reg::Reg;
 use std::alloc::{AllocError, Global};
 
-/// What a conditional branch compares, and where it goes.
+/// What a conditional branch compares, and its target.
 #[derive(Drop)]
 pub(crate) struct Branch {
     /// Its operation.
@@ -28,11 +28,11 @@ pub(crate) struct Branch {
     pub first: Reg,
     /// The second one.
     pub second: Reg,
-    /// The block that it goes to.
+    /// Its target block.
     pub target: BlockId,
 }
 
-/// The conditional branch that an instruction is.
+/// The instruction as a conditional branch, if it is one.
 pub(crate) fn branch_of(i: &Instr) -> Option<Branch>
     ensures { result ≡ branch_by i.now.op i.now.operands }
 {
@@ -69,7 +69,7 @@ fn compared(op: BranchOp, operands: &[Operand]) -> Option<Branch>
     }
 }
 
-/// The line that skips the word below it.
+/// The line of the inverted branch, which skips the next word.
 pub(crate) fn skip(
     alloc: Global,
     address: u32,

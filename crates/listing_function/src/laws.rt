@@ -1,4 +1,4 @@
-//! Laws of listings: each is the contract of a function that does nothing.
+//! Theorems on listings. Each is the contract of an empty function.
 
 ghost use Rattle.listing_function.specs.Laws.{ListingsArePrintable};
 

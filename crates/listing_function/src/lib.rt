@@ -1,4 +1,4 @@
-//! The listing of a function that is laid out: its lines, by the entries of its code, and the lines of its variables.
+//! Makes the listing of a laid-out function: its lines, from the entries of its code, and the lines of its variables.
 #![tactic(auto)]
 
 mod branch;

@@ -1,4 +1,4 @@
-//! The lines of items, by the entries of the code.
+//! The listed lines of items, from the entries of the code.
 
 ghost use Rattle.std.specs.Prelude.{◌≡◌, ℕ, List, [], ◌∷◌, ◌++◌, IsTrue, All, Some, drop, IfOk, OnOk};
 ghost use Rattle.std.specs.List.{flat_map};
@@ -27,7 +27,7 @@ use mir_func::position::Point;
 use rv64_instr::instr::Instr;
 use std::alloc::{AllocError, Global};
 
-/// A branch that is long.
+/// A long conditional branch.
 #[derive(Drop)]
 struct Long {
     /// The address of its jump.
@@ -36,7 +36,7 @@ struct Long {
     branch: Branch,
 }
 
-/// Appends the lines of items, whose entries begin at an index. The result is the index behind them.
+/// Appends the lines of items whose entries begin at index `start`. Returns the index after their entries.
 pub(crate) fn push_items(
     alloc: Global,
     lines: &mut Lines,
@@ -156,7 +156,7 @@ fn push_one(
     }
 }
 
-/// The long branch that an instruction is, whose entries begin at an index.
+/// The long branch of an instruction whose entries begin at index `at`, if it is one.
 fn long_of(entries: &[Entry], at: usize, i: &Instr) -> Option<Long>
     requires { All IsLow entries.now }
     ensures { result ≡ long_by (second_address (drop at entries.now)) (branch_by i.now.op i.now.operands) }
@@ -166,7 +166,7 @@ fn long_of(entries: &[Entry], at: usize, i: &Instr) -> Option<Long>
     Some(Long { jump, branch })
 }
 
-/// The line of an instruction that stands for an item.
+/// The line of an instruction of an item.
 fn code_line(address: u32, item: &Item, i: Instr, number: Option<DebugNumber>) -> Line
     ensures { result ≡ line_at (Some address) item.now (Code i number) }
 {
@@ -180,7 +180,7 @@ fn code_line(address: u32, item: &Item, i: Instr, number: Option<DebugNumber>) -
     })
 }
 
-/// The address of the entry at an index, and none behind the last.
+/// The address of the entry at an index, if there is one.
 fn address(entries: &[Entry], at: usize) -> Option<u32>
     requires { All IsLow entries.now }
     ensures { result ≡ first_address (drop at entries.now) }
@@ -191,7 +191,7 @@ fn address(entries: &[Entry], at: usize) -> Option<u32>
     }
 }
 
-/// The address of the entry behind an index, if it is of the point of the entry at the index.
+/// The address of the entry after an index, if both entries are of the same point.
 fn second(entries: &[Entry], at: usize) -> Option<u32>
     requires { All IsLow entries.now }
     ensures { result ≡ second_address (drop at entries.now) }

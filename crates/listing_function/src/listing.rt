@@ -33,8 +33,8 @@ struct CodeLines {
     blocks: List<ListedBlock>,
 }
 
-/// The listing of a function that is laid out below 2^32, with its variables and the substitutions of its debug
-/// instruction numbers. It takes time in the number of its items, but for a factor of its logarithm.
+/// The listing of a function that is laid out below 2^32, with its variables and its debug value substitutions. The
+/// time is O(n log n) in the number of items.
 pub fn listing(
     alloc: Global,
     code: &Code,
@@ -66,7 +66,7 @@ pub fn listing(
     })
 }
 
-/// The lines of the blocks of a function, of which the first is its prologue.
+/// The lines of the blocks of a function. The first block is the prologue.
 fn code_lines(
     alloc: Global,
     entries: &[Laid],
@@ -109,7 +109,7 @@ fn block_lines(
     Ok(CodeLines { prologue, blocks })
 }
 
-/// Appends blocks, whose entries begin at an index.
+/// Appends blocks whose entries begin at index `start`.
 fn push_blocks(
     alloc: Global,
     listed: &mut List<ListedBlock>,

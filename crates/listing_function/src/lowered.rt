@@ -1,4 +1,4 @@
-//! Instructions as their words reach the frame, by x2.
+//! Instructions after frame index elimination: slots and stack objects as offsets from x2.
 
 ghost use Rattle.std.specs.Prelude.{◌≡◌, [], ◌∷◌, ◌++◌, false, pos, ℤ, IfOk, OnOk, MatchOption};
 ghost use Rattle.rv64_instr.specs.declared.operand.Operand.TheVariants.{Use, Imm};
@@ -17,8 +17,9 @@ use std::alloc::{AllocError, Global};
 /// The number of the stack pointer (RISC-V ELF psABI, "Integer Register Convention": sp).
 const STACK_POINTER: u32 = 2;
 
-/// An instruction as it is listed: a slot, whose number is its offset from x2, or a stack object stands there as its
-/// word reaches it. There is none where that has no form.
+/// An instruction as it is listed: an access to a slot or an address of a stack object is one by x2 and an offset, as
+/// in the instruction's word. A slot's number is its offset from x2. There is none if the result doesn't have the form
+/// of the opcode.
 pub(crate) fn listed(
     alloc: Global,
     offsets: &ObjectOffsets,
@@ -52,7 +53,7 @@ fn lowered(
     }
 }
 
-/// Operands of which the second is x2, and the third a number.
+/// Operands of which the second is x2, and the third the number n.
 fn reaching(
     alloc: Global,
     first: &Operand,

@@ -12,11 +12,10 @@ use read_metadata::metadata::Metadata;
 use rv64_instr::name::Name;
 use std::alloc::{AllocError, Global};
 
-/// The lines of variables.
+/// The listed variables of a function.
 pub type ListedVariables = List<ListedVariable>;
 
-/// The lines of variables, whose lists are numbered from a number on. A variable whose node isn't readable has the
-/// empty name.
+/// The listed variables, with list numbers from `first` on. A variable whose node isn't readable has the empty name.
 pub fn variable_lines(
     alloc: Global,
     meta: &Metadata,
@@ -39,7 +38,7 @@ pub fn variable_lines(
     Ok(lines)
 }
 
-/// The name of the variable of a node.
+/// The name of the variable that a metadata node describes.
 fn name(alloc: Global, meta: &Metadata, node: NodeId) -> Result<Name, AllocError>
     ensures { IfOk result (λ name. name ≡ name_of (variable_at meta.now node)) }
 {

@@ -1,5 +1,5 @@
--- The frame that a listing shows. By their words listed instructions reach it by x2: what they reach so are frame slots and
--- stack objects.
+-- The frame that a listing shows. Listed instructions access the frame by x2 and an offset. These definitions map such accesses back to frame slots
+-- and stack objects.
 use Rattle.std.specs.Prelude.{ℕ, zero, suc, ◌+◌, ◌-◌, ◌^◌, Bool, true, false, cond, nat_eq, nat_le, nat_lt, pos, List, [], ◌∷◌, ◌++◌, Option, Some, None}
 use Rattle.rv64_instr.specs.declared.op.Op.{Op}
 use Rattle.rv64_instr.specs.declared.op.Op.TheVariants.{Registers, Immediate, Lui, Branch, Load, Store, Copy, PseudoBr, PseudoCall, PseudoRet}
@@ -23,16 +23,16 @@ use Rattle.listing_text.specs.declared.output.ListedFunction.{ListedFunction}
 
 -- ---- its size
 
--- the bytes that the listed stack objects take together: the end of the last one, up to a multiple of 16
+-- the end offset of the last listed stack object, or n if there is none
 abbrev pub end_of : ℕ → List ListedObject → ℕ
 end_of n [] = n
 end_of n (o ∷ os) = end_of (o.offset + o.size) os
 
--- the bytes of all stack objects, which lie at the top of the frame
+-- the size of the area of stack objects at the top of the frame: up to the end of the last one, rounded up to a multiple of 16
 abbrev pub area_shown : List ListedObject → ℕ
 area_shown objects = up_to 16 (end_of 0 objects)
 
--- how many bytes code of a row lowers x2 by: `$x2 = ADDI $x2, -N` does by N
+-- by how many bytes an instruction lowers x2: N for `$x2 = ADDI $x2, -N`
 abbrev pub lowered_by : Row → ℕ
 lowered_by (Sets (suc (suc zero)) Add (suc (suc zero)) (Number n)) = 2 ^ 64 - n
 lowered_by (Sets rd op a b) = 0
@@ -49,76 +49,79 @@ lowered_by (Calls name args) = 0
 lowered_by (Returns results) = 0
 lowered_by Unfit = 0
 
--- a mark or a phi leaves x2 as it is
+-- debug items don't change x2
 abbrev pub lowered_by_kind : ItemKind → ℕ
 lowered_by_kind (Code i k) = lowered_by (row_of i)
 lowered_by_kind (Mark v m) = 0
 lowered_by_kind (Phi p k) = 0
 
--- a line that skips is a branch, which leaves x2 as it is
+-- a skip is a branch, which doesn't change x2
 abbrev pub lowered_by_line : Line → ℕ
 lowered_by_line (Item l) = lowered_by_kind l.item.kind
 lowered_by_line (Skip s) = 0
 
--- the size of the frame: what the prologue's first word lowers x2 by
+-- the size of the frame: by how many bytes the first instruction of the prologue lowers x2
 abbrev pub size_shown : (prologue : List Line) → ℕ
 size_shown [] = 0
 size_shown (l ∷ ls) = lowered_by_line l
 
--- how many bytes above x2 slots and saved registers end and the stack objects begin, and the stack objects
+-- `below`: the size of the area of slots and saved registers, which begins at x2 and ends at the stack objects. `objects`: the stack objects.
 pub record ShownFrame : Type 0 where
   pub below : ℕ
   pub objects : List ListedObject
 
--- the frame by the prologue and the listed objects: what is left below the objects is that of slots and saves
+-- the frame of a listed function: its size without the area of stack objects, and its objects
 abbrev pub frame_shown : ListedFunction → ShownFrame
 frame_shown f = record { below = size_shown f.prologue - area_shown f.objects; objects = f.objects }
 
--- ---- what is reached
+-- ---- accesses to the frame
 
--- so many bytes above x2, as operands
+-- the operands of the address x2 + n
 abbrev pub by_pointer : ℕ → List Operand
 by_pointer n = Use 2 ∷ Imm (pos n) ∷ []
 
--- the last object that begins so many bytes above the first one's first byte, or below that
+-- the last object with an offset of at most n, or `found` if there is none
 abbrev pub object_at : Option ListedObject → List ListedObject → (offset : ℕ) → Option ListedObject
 object_at found [] n = found
 object_at found (o ∷ os) n = object_at (cond (nat_le o.offset n) (Some o) found) os n
 
--- an object and the offset from it; no object has none
+-- the operands of an offset into an object, or `otherwise` without an object
 abbrev pub in_object : Option ListedObject → (offset : ℕ) → (otherwise : List Operand) → List Operand
 in_object None n otherwise = otherwise
 in_object (Some o) n otherwise = Object o.id ∷ Imm (pos (n - o.offset)) ∷ []
 
--- so many bytes above x2, as operands by an object
+-- for n from `below` on, the operands of the address x2 + n: the last object that begins there or below and the offset from it, or by x2 if there is
+-- none
 abbrev pub by_object : ShownFrame → ℕ → List Operand
 by_object f n = in_object (object_at None f.objects (n - f.below)) (n - f.below) (by_pointer n)
 
--- what an access so many bytes above x2 is of: below the objects that of a doubleword is of a slot, and from there on of an object
+-- The operands of an access at x2 + n. Below the stack objects, a doubleword access is of a slot, and any other is by x2. From the first object on,
+-- the operands are those of `by_object`.
 abbrev pub accessed : ShownFrame → (is_doubleword : Bool) → ℕ → List Operand
 accessed f true n = cond (nat_lt n f.below) (Slot n ∷ Imm (pos 0) ∷ []) (by_object f n)
 accessed f false n = cond (nat_lt n f.below) (by_pointer n) (by_object f n)
 
--- what a register is set to that is set to so many bytes above x2: x2 itself, as at an end of the frame's life, or an object's address
+-- The operands of the sum x2 + n, which is the new content of register rd: by x2 if rd is x2, as in frame setup and destruction, and otherwise those
+-- of `by_object`.
 abbrev pub summed : ShownFrame → (rd n : ℕ) → List Operand
 summed f rd n = cond (nat_eq rd 2) (by_pointer n) (by_object f n)
 
--- a load by x2 as one of a slot or of an object: only an LD can be of a slot
+-- a load by x2 as a load of a slot or of an object; only LD can be of a slot
 abbrev pub raised_load : ShownFrame → LoadOp → List Operand → List Operand
 raised_load f op (Def rd ∷ Use (suc (suc zero)) ∷ Imm (pos n) ∷ rest) = Def rd ∷ accessed f (nat_eq (load_width op) 8) n ++ rest
 raised_load f op operands = operands
 
--- a store by x2 as one to a slot or to an object: only an SD can be to a slot
+-- a store by x2 as a store to a slot or to an object; only SD can be to a slot
 abbrev pub raised_store : ShownFrame → StoreOp → List Operand → List Operand
 raised_store f op (Use rs ∷ Use (suc (suc zero)) ∷ Imm (pos n) ∷ rest) = Use rs ∷ accessed f (nat_eq (store_width op) 8) n ++ rest
 raised_store f op operands = operands
 
--- x2 plus a number as an object's address, where it isn't x2 that is set
+-- x2 + n as the address of an object, unless the result is x2
 abbrev pub raised_sum : ShownFrame → List Operand → List Operand
 raised_sum f (Def rd ∷ Use (suc (suc zero)) ∷ Imm (pos n) ∷ rest) = Def rd ∷ summed f rd n ++ rest
 raised_sum f operands = operands
 
--- register-immediate arithmetic: only ADDI makes an object's address
+-- register-immediate arithmetic; only ADDI forms the address of an object
 abbrev pub raised_number : ShownFrame → ImmediateOp → List Operand → List Operand
 raised_number f Addi operands = raised_sum f operands
 raised_number f Slti operands = operands
@@ -134,7 +137,7 @@ raised_number f Slliw operands = operands
 raised_number f Srliw operands = operands
 raised_number f Sraiw operands = operands
 
--- the operands of a listed instruction, which reach the frame by x2, as those by its slots and objects
+-- the operands of a listed instruction, with accesses by x2 replaced by slots and objects
 abbrev pub raised_operands : ShownFrame → Op → List Operand → List Operand
 raised_operands f (Registers op) operands = operands
 raised_operands f (Immediate op) operands = raised_number f op operands
@@ -147,7 +150,7 @@ raised_operands f PseudoBr operands = operands
 raised_operands f PseudoCall operands = operands
 raised_operands f PseudoRet operands = operands
 
--- frame index elimination undone: the item names slots and objects again
+-- the reverse of frame index elimination: the item names slots and objects again
 abbrev pub raised : ShownFrame → ItemKind → ItemKind
 raised f (Code i k) = Code (record i { operands = raised_operands f i.op i.operands }) k
 raised f (Mark v m) = Mark v m

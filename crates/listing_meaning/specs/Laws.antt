@@ -1,4 +1,4 @@
--- What holds of the listing of a layout.
+-- The statements of the theorems on the listing of a layout.
 use Rattle.std.specs.Prelude.{◌≡◌, ◌↔◌, ℕ, ◌+◌, ◌<◌, ◌≤◌, ◌++◌, List, drop, map, Contains}
 use Rattle.std.specs.List.{flat_map}
 use Rattle.std.specs.Int.{w32, to_le_bytes}
@@ -18,33 +18,33 @@ use Rattle.listing_meaning.specs.Program.{image_of, blocks_shown, contents, IsLa
 use Rattle.listing_meaning.specs.Settled.{settled, StaysInside}
 use Rattle.listing_meaning.specs.Listing.{listing_of}
 
--- the operands of each instruction of a function have the form of its opcode
+-- the operands of all code have the form of the opcode
 abbrev pub AreFormed : FramedFunction → Type 0
 AreFormed f = AllItems IsFormed f.blocks
 
--- The image of a listing, in an output whose text has the layout's words from its first address on, is one of the layout.
+-- In an output whose `.text` has the layout's words from the layout's first address on, the image of the layout's listing is an image of the layout.
 abbrev pub ListingsShowTheImage : Type 0
 ListingsShowTheImage = (l : Layout) (variables : List ListedVariable) (substitutions : List Entry) (o : Output) (more : List ℕ) → AreFormed l.framed →
     drop l.base o.text ≡ flat_map (to_le_bytes w32) (words_of l) ++ more → IsImageOf l (image_of o (listing_of l variables substitutions))
 
--- The listing of a layout shows exactly the function with its frame: the numbers and the items of its blocks, in their order. An
--- address of a stack object stands there as one of the object that it leads to.
+-- The listing of a layout shows exactly the function with its frame: the numbers and items of its blocks, in order. An address of a stack object is
+-- shown relative to the object that it points into.
 abbrev pub ListingsShowTheFunction : Type 0
 ListingsShowTheFunction = (l : Layout) (variables : List ListedVariable) (substitutions : List Entry) → IsFramed l.framed → AreFormed l.framed →
     map contents (blocks_shown (listing_of l variables substitutions)) ≡ map contents (map (settled l.framed) l.framed.blocks)
 
--- Where each address of a stack object leads to one of its bytes, these are the function's own items.
+-- If each address of a stack object points to one of the object's bytes, the listing shows the function's own items.
 abbrev pub ListingsShowTheItems : Type 0
 ListingsShowTheItems = (l : Layout) (variables : List ListedVariable) (substitutions : List Entry) → IsFramed l.framed → AreFormed l.framed →
     AllItems (λ i. StaysInside l.framed.objects i.kind) l.framed.blocks →
     map contents (blocks_shown (listing_of l variables substitutions)) ≡ map contents l.framed.blocks
 
--- The lines of a listing lie one after the other from the function's first address to its end.
+-- The lines of a listing fill the function's addresses in order.
 abbrev pub ListingsLie : Type 0
 ListingsLie = (l : Layout) (variables : List ListedVariable) (substitutions : List Entry) → AreFormed l.framed → IsWorded l →
     IsLaidOut (listing_of l variables substitutions)
 
--- the byte at an address is one of an entry of this point
+-- an entry of this point has a byte at the address
 pub record HasByteAt (entries : List Laid) (address : ℕ) (p : Pos) : Type 0 where
   pub entry : Laid
   pub among : Contains entries entry
@@ -52,8 +52,8 @@ pub record HasByteAt (entries : List Laid) (address : ℕ) (p : Pos) : Type 0 wh
   pub from : entry.address ≤ address
   pub within : address < entry.address + entry.size
 
--- The listing has a byte at a place exactly where the layout has an entry of this point with that byte: both words of a long branch
--- stand at the branch's place, and both of a call at the call's.
+-- The listing has a byte of an item at an address exactly if the layout has an entry of this item with a byte there: both words of a long branch have
+-- the position of the branch, both of a call that of the call.
 abbrev pub PlacesArePoints : Type 0
 PlacesArePoints = (l : Layout) (variables : List ListedVariable) (substitutions : List Entry) → IsFramed l.framed → AreFormed l.framed →
     (address : ℕ) (p : Pos) → IsListedAt (listing_of l variables substitutions) address p ↔ HasByteAt (entries_of l) address p

@@ -1,4 +1,4 @@
--- The listing of a layout: the lines of a function with its frame, from its first address on.
+-- The listing of a layout: the lines of a function with its frame.
 use Rattle.std.specs.Prelude.{ℕ, suc, ◌+◌, ◌*◌, List, [], ◌∷◌, ◌++◌, length, map, Option, Some, None}
 use Rattle.std.specs.List.{flat_map}
 use Rattle.rv64_instr.specs.declared.op.Op.{Op}
@@ -32,7 +32,7 @@ implicits (ImplicitDef r ∷ rest) = SetsImplicit r ∷ implicits rest
 implicits (ImplicitUse r ∷ rest) = ReadsImplicit r ∷ implicits rest
 implicits (_ ∷ rest) = implicits rest
 
--- the line that skips the word below it: the inverse of a conditional branch, whose operands these are. Nothing else has one
+-- the skip line of a long branch: the inverse of a conditional branch with these operands, over the next word. Other instructions have none.
 abbrev pub branch_skip : (address : ℕ) → Origin → Op → List Operand → List Line
 branch_skip a o (Branch op) (Use first ∷ Use second ∷ target ∷ rest) = Skip (record {
   address = a;
@@ -48,15 +48,15 @@ branch_skip a o op operands = []
 abbrev pub line_at : (address : Option ℕ) → Item → ItemKind → Line
 line_at a i kind = OfItem (record { address = a; item = record i { kind = kind } })
 
--- the lines of code at an address. A frame slot or a stack object is listed as its word reaches it, by x2; a long branch is listed
--- as its inverse over the next word, and there a jump with its number, its location and its origin
+-- The lines of code at an address. A frame slot or a stack object is listed as x2 and an offset, as in the word. A long branch has two lines: its
+-- inverse over the next word, and a jump with the branch's number, debug location and origin.
 abbrev pub form_lines : Layout → (address : ℕ) → Item → Instruction → (number : Option ℕ) → Form → List Line
 form_lines l a i c k Nothing = []
 form_lines l a i c k OneWord = line_at (Some a) i (Code (listed l.framed c) k) ∷ []
 form_lines l a i c k CallSite = line_at (Some a) i (Code (listed l.framed c) k) ∷ []
 form_lines l a i c k (LongBranch n) = branch_skip a i.origin c.op c.operands ++ line_at (Some (a + 4)) i (Code (jump_to n) k) ∷ []
 
--- the lines of an item of a kind: a mark or a phi has one too, without an address
+-- the lines of an item of a kind: a debug value or a DBG_PHI has a line without an address
 abbrev pub kind_lines : Layout → Site → ItemKind → List Line
 kind_lines l s (Code c k) = form_lines l (address_in l s.point) s.item c k (form_of (l.long s.point) (Code c k))
 kind_lines l s (Mark v m) = line_at None s.item (Mark v m) ∷ []
@@ -70,12 +70,12 @@ site_lines l s = kind_lines l s s.item.kind
 abbrev pub items_listed : Layout → (block : ℕ) → List Item → List Line
 items_listed l b items = flat_map (site_lines l) (sites_in b 0 items)
 
--- blocks, of which the first has this index
+-- the listed blocks, of which the first has this index
 abbrev pub blocks_listed : Layout → (index : ℕ) → List Block → List ListedBlock
 blocks_listed l b [] = []
 blocks_listed l b (block ∷ blocks) = record { id = block.id; lines = items_listed l b block.items } ∷ blocks_listed l (suc b) blocks
 
--- the lines of the prologue, which stands at index 0, and the blocks below it
+-- the lines of the prologue, which is the block at index 0
 abbrev pub prologue_listed : Layout → List Block → List Line
 prologue_listed l [] = []
 prologue_listed l (p ∷ blocks) = items_listed l 0 p.items

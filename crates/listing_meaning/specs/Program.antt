@@ -1,6 +1,6 @@
--- What is listed of a function, as a program, as an image, and place by place.
+-- The meaning of a listed function: the function that its lines show, its machine image, and the position of each byte.
 --
--- A long branch has two lines, one that skips and a jump below it. They show one item: the branch that is long, at the jump's place.
+-- A long branch has two lines, a skip and then a jump. They show one item, the long branch, in the place of the jump.
 use Rattle.std.specs.Prelude.{◌≡◌, ℕ, ◌+◌, ◌<◌, ◌≤◌, pos, Bool, true, false, cond, List, [], ◌∷◌, take, map, filter, length, Option, Some, None, slice_get}
 use Rattle.std.specs.List.{flat_map}
 use Rattle.rv64_instr.specs.declared.op.Op.TheVariants.{Branch}
@@ -31,26 +31,26 @@ use Rattle.listing_meaning.specs.Frame.{ShownFrame, area_shown, frame_shown, rai
 
 -- ---- blocks and lines
 
--- the number of the first block
+-- the number of the first block, or 0 if there is none
 abbrev pub first_id : List ListedBlock → ℕ
 first_id [] = 0
 first_id (b ∷ bs) = b.id
 
--- the blocks of a function with what stands before the first as prologue, which has the first block's number
+-- the blocks of a listed function, with its prologue as the first block, which gets the number of the first block of the body
 abbrev pub blocks_of : ListedFunction → List ListedBlock
 blocks_of f = record { id = first_id f.blocks; lines = f.prologue } ∷ f.blocks
 
--- all lines of a function
+-- all lines of a function, the prologue's first
 abbrev pub lines_of : ListedFunction → List Line
 lines_of f = flat_map (λ b. b.lines) (blocks_of f)
 
 -- ---- the function that the lines show
 
--- the branch that a skip and a jump to a block make: the inverse of the skip's, to the jump's target
+-- the branch that a skip and a jump to block `target` encode: the inverse of the skip's operation, with the jump's target
 abbrev pub branch_over : SkipLine → (target : ℕ) → Instruction
 branch_over s n = record { op = Branch (inverted s.op); operands = Use s.first ∷ Use s.second ∷ OfBlock n ∷ map operand_of s.implicit }
 
--- the block that a jump's operands name
+-- the block that an instruction names as its first operand, if it does
 abbrev pub target_of : List Operand → Option ℕ
 target_of [] = None
 target_of (OfBlock n ∷ rest) = Some n
@@ -64,29 +64,29 @@ target_of (Object n ∷ rest) = None
 target_of (Symbol name ∷ rest) = None
 target_of (Mask ∷ rest) = None
 
--- an instruction below a skip, which jumps where it has a target
+-- The instruction after a skip: the long branch, if the instruction has a target block.
 abbrev pub below_skip : SkipLine → (target : Option ℕ) → Instruction → Instruction
 below_skip s None i = i
 below_skip s (Some n) i = branch_over s n
 
--- the kind that a line shows below a skip, or below none
+-- the item kind that a line shows, after a skip or after none
 abbrev pub kind_shown : ShownFrame → Option SkipLine → ItemKind → ItemKind
 kind_shown frame None kind = raised frame kind
 kind_shown frame (Some s) (Code i k) = Code (below_skip s (target_of i.operands) i) k
 kind_shown frame (Some s) (Mark v m) = Mark v m
 kind_shown frame (Some s) (Phi p k) = Phi p k
 
--- the item that a line shows, with its origin and its debug location
+-- the item that a line shows, with the line's origin and debug location
 abbrev pub item_shown : ShownFrame → Option SkipLine → ItemLine → Item
 item_shown frame skip l = record l.item { kind = kind_shown frame skip l.item.kind }
 
--- the items that lines show, of which the first stands below a skip, or below none
+-- the items that lines show, if `skip` is the skip before the first
 abbrev pub items_shown : ShownFrame → Option SkipLine → List Line → List Item
 items_shown frame skip [] = []
 items_shown frame skip (OfItem l ∷ ls) = item_shown frame skip l ∷ items_shown frame None ls
 items_shown frame skip (Skip s ∷ ls) = items_shown frame (Some s) ls
 
--- the block that its lines show
+-- the block that a listed block shows
 abbrev pub block_shown : ShownFrame → ListedBlock → Block
 block_shown frame b = record { id = b.id; items = items_shown frame None b.lines; silent = length b.lines }
 
@@ -94,39 +94,39 @@ block_shown frame b = record { id = b.id; items = items_shown frame None b.lines
 abbrev pub blocks_shown : ListedFunction → List Block
 blocks_shown f = map (block_shown (frame_shown f)) (blocks_of f)
 
--- the function that they show
+-- the program that a function's lines and substitutions show
 abbrev pub program_shown : ListedFunction → Program
 program_shown f = framed_program (blocks_shown f) (resolve f.substitutions)
 
--- the number and the items of a block: its silent position shows in no line
+-- the number and the items of a block, without its silent position, which isn't listed
 abbrev pub contents : Block → ℕ × List Item
 contents b = (b.id, b.items)
 
--- ---- where the bytes of lines stand
+-- ---- addresses of lines
 
--- the line shows an item of its own: one that skips is part of the long branch below it
+-- The line is an item's. A skip is part of the long branch on the next line.
 abbrev pub is_item : Line → Bool
 is_item (OfItem l) = true
 is_item (Skip s) = false
 
--- where the word of a line begins: a debug item has none
+-- the address of the first byte of a line; a debug item has none
 abbrev pub address_of : Line → Option ℕ
 address_of (OfItem l) = l.address
 address_of (Skip s) = Some s.address
 
--- the address after an item: a call has two words, other code one, and a debug item none
+-- the address after an item: a call has two words, other code has one, and a debug item has none
 abbrev pub past_item : ℕ → ItemKind → ℕ
 past_item a (Code i k) = a + cond (is_call (row_of i)) 8 4
 past_item a (Mark v m) = a
 past_item a (Phi p k) = a
 
--- the address after a line: one that skips has one word
+-- the address after a line; a skip has one word
 abbrev pub past_line : ℕ → Line → ℕ
 past_line a (OfItem l) = past_item a l.item.kind
 past_line a (Skip s) = a + 4
 
--- a line that has a byte at an address stands at this place of its function: in this block, 0 for the prologue, and at this index of
--- its items. A line that skips stands where the item below it does
+-- A line with a byte at the address is at this position: in the block with this index, 0 for the prologue, and at this index among the items of the
+-- block. A skip has the position of the next item.
 pub record IsListedAt (f : ListedFunction) (address : ℕ) (p : Pos) : Type 0 where
   pub block : ListedBlock
   pub number : ℕ
@@ -139,33 +139,33 @@ pub record IsListedAt (f : ListedFunction) (address : ℕ) (p : Pos) : Type 0 wh
   pub from : first ≤ address
   pub within : address < past_line first line
 
--- an item has an address exactly where it is code
+-- the address of an item if it is code, and none if it is a debug item
 abbrev pub start_of : (address : ℕ) → (code : Bool) → Option ℕ
 start_of a true = Some a
 start_of a false = None
 
--- lines lie one after the other between two addresses. Code has its address, and a debug item none
+-- The lines fill the addresses from a to b in order: code has its address, and a debug item has none.
 abbrev pub LinesLie : ℕ → List Line → ℕ → Type 0
 LinesLie a [] b = a ≡ b
 LinesLie a (OfItem l ∷ ls) b = (l.address ≡ start_of a (is_code l.item.kind)) × LinesLie (past_item a l.item.kind) ls b
 LinesLie a (Skip s ∷ ls) b = (s.address ≡ a) × LinesLie (a + 4) ls b
 
--- the lines of a function fill its addresses
+-- the lines of a function fill its addresses in order
 abbrev pub IsLaidOut : ListedFunction → Type 0
 IsLaidOut f = LinesLie f.low (lines_of f) f.high
 
--- ---- the image
+-- ---- the machine image
 
--- a branch over the next word as an instruction: the number of bytes stands in the place of the target
+-- a branch over the next word as an instruction: the target operand is the offset 8
 abbrev pub skip_instruction : SkipLine → Instruction
 skip_instruction s = record { op = Branch s.op; operands = Use s.first ∷ Use s.second ∷ Imm (pos 8) ∷ map operand_of s.implicit }
 
--- the line with code that a line is, and none of a debug item
+-- the code line of a line; none for a debug item
 abbrev pub code_lines : Line → List CodeLine
 code_lines (OfItem l) = line_of l.address l.item.origin l.item.kind
 code_lines (Skip s) = record { address = s.address; origin = s.origin; instruction = skip_instruction s } ∷ []
 
--- the image of a function of an output: the bytes of `.text`, the function's first address, its stack objects' bytes, and its
--- lines with code, each with its address, its origin and its instruction
+-- The machine image of a listed function: the bytes of `.text`, the function's first address, the size of its stack objects, and its code lines, each
+-- with address, origin and instruction.
 abbrev pub image_of : Output → ListedFunction → Image
 image_of o f = record { text = o.text; low = f.low; area = area_shown f.objects; lines = flat_map code_lines (lines_of f) }

@@ -1,7 +1,7 @@
--- A function whose addresses of stack objects name the objects that they lead to.
+-- Functions in which each address of a stack object names the object that it points into.
 --
--- What is added to an object's address may lead to its end, and there the next object may begin. The word doesn't tell the two
--- apart, and a listing shows the address as one of the last object that begins at it or below.
+-- An address of the form object + number may point to the end of the object, where the next object may begin. The machine word is the same for both,
+-- and a listing shows the address relative to the last object that begins at it or below it.
 use Rattle.std.specs.Prelude.{◌+◌, pos, List, ◌∷◌, ◌++◌, map}
 use Rattle.rv64_instr.specs.declared.op.Op.{Op}
 use Rattle.rv64_instr.specs.declared.op.Op.TheVariants.{Registers, Immediate, Lui, Branch, Load, Store, Copy, PseudoBr, PseudoCall, PseudoRet}
@@ -20,16 +20,16 @@ use Rattle.mir_func.specs.SoundFrame.{own_size}
 use Rattle.listing_meaning.specs.Frame.{ShownFrame, by_object}
 use Rattle.listing_meaning.specs.Listing.{object_listed}
 
--- the frame that a function's listing shows
+-- the frame that the listing of a function shows
 abbrev pub frame_of : FramedFunction → ShownFrame
 frame_of f = record { below = own_size f; objects = map object_listed f.objects }
 
--- an object's address plus a number
+-- an address of the form object + number, relative to the last object that begins at it or below
 abbrev pub settled_sum : FramedFunction → List Operand → List Operand
 settled_sum f (Def rd ∷ OfObject n ∷ Imm (pos i) ∷ rest) = Def rd ∷ by_object (frame_of f) (own_size f + offset_of f.objects n + i) ++ rest
 settled_sum f operands = operands
 
--- the operands of an instruction: an address of an object settles, and a load or a store stays as it is
+-- the operands of an instruction: addresses of objects are changed so, loads and stores are not
 abbrev pub settled_operands : FramedFunction → Op → List Operand → List Operand
 settled_operands f (Registers op) operands = operands
 settled_operands f (Immediate op) operands = settled_sum f operands
@@ -42,21 +42,21 @@ settled_operands f PseudoBr operands = operands
 settled_operands f PseudoCall operands = operands
 settled_operands f PseudoRet operands = operands
 
--- code names the objects that its addresses lead to
+-- an item kind with the operands of code changed so
 abbrev pub settled_kind : FramedFunction → ItemKind → ItemKind
 settled_kind f (Code c k) = Code (record c { operands = settled_operands f c.op c.operands }) k
 settled_kind f (Mark v m) = Mark v m
 settled_kind f (Phi p k) = Phi p k
 
--- an item that does, with its origin and its debug location as they were
+-- an item changed so, with the same origin and debug location
 abbrev pub settled_item : FramedFunction → Item → Item
 settled_item f i = record i { kind = settled_kind f i.kind }
 
--- a block that does, as a listing shows it
+-- a block changed so, as a listing shows it
 abbrev pub settled : FramedFunction → Block → Block
 settled f b = record b { items = map (settled_item f) b.items }
 
--- what is added to an object's address leads to one of its bytes
+-- If the instruction forms an address of an object, the address is that of one of the object's bytes.
 abbrev pub LeadsInside : List Object → Row → Type 0
 LeadsInside objects (Addresses rd n offset) = HasBytes objects n (offset + 1)
 LeadsInside objects (Fixes rd n) = Unit {0}
@@ -72,7 +72,7 @@ LeadsInside objects (Calls name args) = Unit {0}
 LeadsInside objects (Returns results) = Unit {0}
 LeadsInside objects Unfit = Unit {0}
 
--- code whose address of an object leads to one of its bytes, which a listing shows by the same object
+-- code whose addresses of objects point to bytes of those objects, so that a listing shows them relative to the same objects
 abbrev pub StaysInside : List Object → ItemKind → Type 0
 StaysInside objects (Code c k) = LeadsInside objects (row_of c)
 StaysInside objects (Mark v m) = Unit {0}

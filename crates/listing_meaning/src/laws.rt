@@ -1,26 +1,28 @@
-//! Laws of listings: each is the contract of a function that does nothing.
+//! Theorems on listings. Each is the contract of an empty function.
 
 ghost use Rattle.listing_meaning.specs.Laws.{ListingsShowTheImage, ListingsShowTheFunction, ListingsShowTheItems};
 ghost use Rattle.listing_meaning.specs.Laws.{ListingsLie, PlacesArePoints};
 
-/// The listing of a layout shows an image of the layout.
+/// The image of a layout's listing is an image of the layout.
 pub fn listings_show_the_image()
     ensures { ListingsShowTheImage }
 {}
 
-/// The listing of a layout shows exactly the function with its frame: its blocks and their items. An address of a stack
-/// object stands there as one of the object that it leads to, which is its own where it leads to one of its bytes.
+/// The listing of a layout shows exactly the function with its frame: its blocks and their items. An address that is
+/// formed from a stack object is shown relative to the object that it points into, which is the same object if it
+/// points to one of its bytes.
 pub fn listings_show_the_function()
     ensures function { ListingsShowTheFunction }
     ensures items { ListingsShowTheItems }
 {}
 
-/// The lines of a listing lie one after the other from the function's first address to its end.
+/// The lines of a listing are in address order, without gaps, from the function's first address to its end.
 pub fn listings_lie()
     ensures { ListingsLie }
 {}
 
-/// A listing has a byte at a place exactly where the layout has an entry of this point with that byte.
+/// A listing has a byte of an item at an address exactly if the layout has an entry of this item with a byte at the
+/// address.
 pub fn places_are_points()
     ensures { PlacesArePoints }
 {}

@@ -1,5 +1,5 @@
-//! What a listing shows: the program of its lines, the image of its code, and where its bytes stand; and the listing of
-//! a function that is laid out.
+//! The meaning of a listing: the function that its lines show, the machine image of its code, and the bytes of each
+//! line; and the listing of a layout.
 #![tactic(auto)]
 
 pub mod laws;

@@ -1,4 +1,4 @@
-//! Laws of the listings of functions: each is the contract of a function that does nothing.
+//! Theorems on the listings of functions. Each is the contract of an empty function.
 
 ghost use Rattle.listing_proof.specs.Laws.{
   BodiesArePrintable,
@@ -6,17 +6,17 @@ ghost use Rattle.listing_proof.specs.Laws.{
   ReadFunctionsArePrintable,
 };
 
-/// A function whose numbers have 32 bits is printable with its frame: so are the listings of its layouts.
+/// A function whose numbers have 32 bits is printable with its frame, and so are the listings of its layouts.
 pub fn bodies_are_printable()
     ensures { BodiesArePrintable }
 {}
 
-/// A function that was read has numbers of 32 bits.
+/// The numbers of a function that was read have 32 bits.
 pub fn read_functions_have_printable_bodies()
     ensures { ReadFunctionsHavePrintableBodies }
 {}
 
-/// A function that was read is printable with its frame: so are the listings of its layouts.
+/// A function that was read is printable with its frame, and so are the listings of its layouts.
 pub fn read_functions_are_printable()
     ensures { ReadFunctionsArePrintable }
 {}

@@ -1,4 +1,4 @@
-//! What the listings of functions that were read keep: a law, the contract of a function that does nothing.
+//! The theorem that listings of functions that were read are printable: the contract of an empty function.
 #![tactic(auto)]
 
 pub mod laws;

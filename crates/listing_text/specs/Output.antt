@@ -38,28 +38,28 @@ sections_text o = section_text (codes ".text") o.text ++ section_text (codes ".d
 
 -- ---- a function's own lines
 
--- a byte of a name: a space is written as bytes in quotes are
+-- A byte of a name. A space is escaped, as other bytes are in quoted names.
 abbrev pub name_byte : ℕ → List ℕ
 name_byte b = cond (nat_eq b 32) (codes "\\20") (quoted_byte b)
 
--- a name without blanks, so that a blank ends it
+-- a name without blanks, so that it ends at the next blank
 abbrev pub name_text : List ℕ → List ℕ
 name_text name = flat_map name_byte name
 
--- the head of a function: its name, its first address, and the address behind its code
+-- the first line of a function: its name, its first address, and the address after its code
 abbrev pub function_line : (name : List ℕ) → (low high : ℕ) → List ℕ
 function_line name low high = codes "function " ++ name_text name ++ codes " " ++ address_text low ++ codes " " ++ address_text high ++ 10 ∷ []
 
--- a stack object: its number, its bytes, and its offset from the first object's first byte
+-- a stack object: its number, its size in bytes, and its offset from the first object's first byte
 abbrev pub object_line : ListedObject → List ℕ
 object_line o = codes "object " ++ decimal o.id ++ codes " " ++ decimal o.size ++ codes " " ++ decimal o.offset ++ 10 ∷ []
 
--- the node of the location that a variable is inlined at, or `-`
+-- the node of the location at which a variable is inlined, or `-`
 abbrev pub inlined_text : Option ℕ → List ℕ
 inlined_text None = codes " -"
 inlined_text (Some node) = codes " !" ++ decimal node
 
--- the number of its list, its node, the node that it is inlined at, and its name
+-- a variable: the number of its location list, its node, the node at which it is inlined, and its name
 abbrev pub variable_line : ListedVariable → List ℕ
 variable_line v =
     codes "variable " ++ decimal v.list ++ codes " !" ++ decimal v.variable.node ++ inlined_text v.variable.inlined_at ++ codes " "
@@ -75,11 +75,11 @@ substitution_line e = codes "substitute " ++ pair_text e.src ++ pair_text e.dst 
 
 -- ---- the lines of its code
 
--- a position in the source as block and item, behind a sign
+-- a sign, and a position in the source as block and item
 abbrev pub position_text : (sign : List ℕ) → Pos → List ℕ
 position_text sign p = sign ++ decimal p.block ++ codes "." ++ decimal p.item
 
--- an origin: ` =B.I` of what was kept, ` <B.I` of what was added before a position
+-- an origin: ` =B.I` of a kept item, ` <B.I` of one that was added before a position
 abbrev pub origin_text : Origin → List ℕ
 origin_text (Kept p) = position_text (codes " =") p
 origin_text (Before p) = position_text (codes " <") p
@@ -102,16 +102,16 @@ abbrev pub operand_of : Implicit → Operand
 operand_of (Def r) = ImplicitDef r
 operand_of (Use r) = ImplicitUse r
 
--- an implicit operand behind the operands before it
+-- an implicit operand after other operands
 abbrev pub implicit_text : Implicit → List ℕ
 implicit_text x = codes ", " ++ operand_text (operand_of x)
 
--- a branch over the next word: `+8` stands in the place of its target
+-- a branch over the next word, with `+8` as its target
 abbrev pub skip_text : SkipLine → List ℕ
 skip_text s = branch_name s.op ++ codes " " ++ register_text s.first ++ codes ", " ++ register_text s.second ++ codes ", +8" ++
     flat_map implicit_text s.implicit
 
--- the line of a branch over the next word, the first of the two of a long branch
+-- the line of a branch over the next word, the first line of a long branch
 abbrev pub skip_line : SkipLine → List ℕ
 skip_line s = address_text s.address ++ spaced_origin s.origin ++ skip_text s ++ 10 ∷ []
 
@@ -130,12 +130,12 @@ block_text b = block_line b.id ++ flat_map line_text b.lines
 
 -- ---- functions, and all of it
 
--- what stands before the code of a function: its frame, its variables and its substitutions
+-- the lines before the code of a function: its first line, stack objects, variables and substitutions
 abbrev pub head_text : ListedFunction → List ℕ
 head_text f = function_line f.name f.low f.high ++ flat_map object_line f.objects ++ flat_map variable_line f.variables ++
     flat_map substitution_line f.substitutions
 
--- the prologue stands before the first block
+-- the lines of a function's code, the prologue before the first block
 abbrev pub code_text : ListedFunction → List ℕ
 code_text f = flat_map line_text f.prologue ++ flat_map block_text f.blocks
 
@@ -147,6 +147,6 @@ function_text f = head_text f ++ code_text f
 abbrev pub listing_text : List ListedFunction → List ℕ
 listing_text functions = flat_map function_text functions
 
--- the whole text of an output: its sections, and the listing below them
+-- the whole text of an output: its sections, and then the listing
 abbrev pub spelling : Output → List ℕ
 spelling o = sections_text o ++ listing_text o.functions

@@ -1,4 +1,4 @@
--- What a text shows: the output whose text it is.
+-- The output that a text shows.
 use Rattle.std.specs.Prelude.{◌≡◌, ℕ, false, List, length, All, Option, None, IfSome}
 use Rattle.mir_func.specs.declared.position.Pos.{Pos}
 use Rattle.mir_func.specs.declared.position.Origin.{Origin}
@@ -23,16 +23,16 @@ use Rattle.listing_text.specs.Output.{spelling}
 abbrev pub HasNumbersAt : Pos → Type 0
 HasNumbersAt p = IsNumber p.block × IsNumber p.item
 
--- the position that code comes from, or stands before, can be printed
+-- an origin that can be printed: its position has 32-bit numbers
 abbrev pub IsPrintableOrigin : Origin → Type 0
 IsPrintableOrigin (Kept p) = HasNumbersAt p
 IsPrintableOrigin (Before p) = HasNumbersAt p
 
--- no item that is listed names a stack object: an access by one is listed as its word makes it, by x2
+-- Listed items name no stack objects: an access to one is listed by x2. `inlined` maps the node of a DILocation to that of its `inlinedAt`.
 abbrev pub declared_by : (inlined : ℕ → Option ℕ) → Declared
 declared_by inlined = record { objects = λ n. false; inlined = inlined }
 
--- the text of the line tells the item: its address, its origin and what it is
+-- An item's line that can be printed and read back: it has a 32-bit address or none, and a printable origin and item.
 pub record IsPrintableItem (inlined : ℕ → Option ℕ) (l : ItemLine) : Type 0 where
   pub address : IfSome l.address IsNumber
   pub origin : IsPrintableOrigin l.item.origin
@@ -43,7 +43,7 @@ abbrev pub IsPrintableImplicit : Implicit → Type 0
 IsPrintableImplicit (Def r) = IsNumber r
 IsPrintableImplicit (Use r) = IsNumber r
 
--- the text of the line tells the branch over the next word
+-- a skip line that can be printed and read back: its numbers have 32 bits
 pub record IsPrintableSkip (s : SkipLine) : Type 0 where
   pub address : IsNumber s.address
   pub origin : IsPrintableOrigin s.origin
@@ -51,12 +51,13 @@ pub record IsPrintableSkip (s : SkipLine) : Type 0 where
   pub second : IsNumber s.second
   pub implicit : All IsPrintableImplicit s.implicit
 
--- the line is read back as it is
+-- a line that can be printed and read back
 abbrev pub IsPrintableLine : (inlined : ℕ → Option ℕ) → Line → Type 0
 IsPrintableLine inlined (Item l) = IsPrintableItem inlined l
 IsPrintableLine inlined (Skip s) = IsPrintableSkip s
 
--- the line tells the variable, which has no fragment: the line has no place for one
+-- A variable's line that can be printed and read back: its numbers have 32 bits, and the variable has no fragment, since the line has no room for
+-- one.
 pub record IsPrintableVariable (v : ListedVariable) : Type 0 where
   pub list : IsNumber v.list
   pub node : IsNumber v.variable.node
@@ -79,12 +80,12 @@ pub record IsPrintableEntry (e : Entry) : Type 0 where
   pub dst : HasNumbers e.dst
   pub subreg : IsNumber e.subreg
 
--- the lines of a basic block are read back as they are, and so is its number
+-- a basic block that can be printed and read back
 pub record IsPrintableBlock (inlined : ℕ → Option ℕ) (b : ListedBlock) : Type 0 where
   pub id : IsNumber b.id
   pub lines : All (IsPrintableLine inlined) b.lines
 
--- all that is listed of a function is read back as it is
+-- a listed function that can be printed and read back
 pub record IsPrintableFunction (inlined : ℕ → Option ℕ) (f : ListedFunction) : Type 0 where
   pub low : IsNumber f.low
   pub high : IsNumber f.high
@@ -94,8 +95,8 @@ pub record IsPrintableFunction (inlined : ℕ → Option ℕ) (f : ListedFunctio
   pub prologue : All (IsPrintableLine inlined) f.prologue
   pub blocks : All (IsPrintableBlock inlined) f.blocks
 
--- numbers and addresses have 32 bits, and the items are such that their text tells them. `inlined` says of the nodes of
--- locations at which node they are inlined
+-- An output that can be printed and read back: numbers and addresses have 32 bits, and items are printable. `inlined` maps the node of a DILocation
+-- to that of its `inlinedAt`.
 pub record IsPrintableOutput (inlined : ℕ → Option ℕ) (o : Output) : Type 0 where
   pub text : IsNumber (length o.text)
   pub abbreviations : IsNumber (length o.abbreviations)
@@ -104,12 +105,12 @@ pub record IsPrintableOutput (inlined : ℕ → Option ℕ) (o : Output) : Type 
   pub loclists : IsNumber (length o.loclists)
   pub functions : All (IsPrintableFunction inlined) o.functions
 
--- the text shows the output
+-- the text is that of the output, which is printable
 pub record Shows (inlined : ℕ → Option ℕ) (text : List ℕ) (o : Output) : Type 0 where
   pub spelled : text ≡ spelling o
   pub printable : IsPrintableOutput inlined o
 
--- the text shows an output, and of every output that it shows this holds
+-- The text shows some output, and P holds of every output that it shows.
 pub record OfShown (inlined : ℕ → Option ℕ) (P : Output → Type 0) (text : List ℕ) : Type 0 where
   pub output : Output
   pub shown : Shows inlined text output

@@ -1,4 +1,4 @@
-//! The listing of functions.
+//! The text of listed functions.
 
 ghost use Rattle.std.specs.Prelude.{◌≡◌, ◌++◌, OnOk};
 ghost use Rattle.std.specs.List.{flat_map};
@@ -36,7 +36,7 @@ fn push_function(text: &mut Text, function: &ListedFunction) -> Result<(), Alloc
     push_code(text, function)
 }
 
-/// Appends what stands before a function's code.
+/// Appends the lines before a function's code.
 fn push_head(text: &mut Text, function: &ListedFunction) -> Result<(), AllocError>
     ensures { OnOk result (text.new ≡ text.old ++ head_text function.now) }
 {
@@ -131,7 +131,7 @@ fn push_substitution(text: &mut Text, entry: &Entry) -> Result<(), AllocError>
     text.push(b'\n')
 }
 
-/// Appends a pair, and a blank behind each of its numbers.
+/// Appends a pair, with a blank after each of its numbers.
 fn push_pair(text: &mut Text, pair: &OperandPair) -> Result<(), AllocError>
     ensures { OnOk result (text.new ≡ text.old ++ pair_text pair.now) }
 {

@@ -4,10 +4,10 @@ ghost use Rattle.listing_text.specs.Hex.{hex_digit, hex_byte, hex_lines, address
 use mir_printer::text::Text;
 use std::alloc::AllocError;
 
-/// How many bytes stand on a line.
+/// The number of bytes on a line.
 const LINE: usize = 32;
 
-/// Appends bytes in hexadecimal, 32 to a line. Each line ends with a line feed; no bytes are no line.
+/// Appends bytes in hexadecimal, 32 to a line. Each line ends with a line feed. Without bytes there is no line.
 pub fn push_hex_lines(text: &mut Text, bytes: &[u8]) -> Result<(), AllocError>
     ensures { OnOk result (text.new ≡ text.old ++ hex_lines 0 bytes.now) }
 {

@@ -1,8 +1,7 @@
-//! The output of the compiler as text: the bytes of five sections, and a listing of each function with its lines.
+//! The text of the compiler's output: the bytes of five sections in hexadecimal, and a listing of each function.
 //!
-//! An output has one text, and a text shows one output, so what is proved of what a text shows is proved of what a
-//! reader finds in it. A long branch is listed as the two instructions that it becomes: a line that skips, and the
-//! jump below it.
+//! An output has one text, and a text is of at most one output, so theorems on the output that a text shows hold of
+//! what a reader finds in it. A long branch is listed as its two instructions: a line that skips, and then a jump.
 #![tactic(auto)]
 
 mod functions;

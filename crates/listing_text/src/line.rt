@@ -1,4 +1,4 @@
-//! Lines of items, and of branches that skip.
+//! The text of lines: of items, and of branches that skip.
 
 ghost use Rattle.std.specs.Prelude.{◌≡◌, ◌++◌, OnOk};
 ghost use Rattle.std.specs.List.{flat_map};
@@ -60,7 +60,7 @@ fn push_spaced(text: &mut Text, origin: &Origin) -> Result<(), AllocError>
     text.push(b' ')
 }
 
-/// Appends an origin, behind a blank: ` =B.I` of what was kept, ` <B.I` of what was added before a position.
+/// Appends an origin after a blank: ` =B.I` of kept code, ` <B.I` of code that was added before a position.
 pub fn push_origin(text: &mut Text, origin: &Origin) -> Result<(), AllocError>
     ensures { OnOk result (text.new ≡ text.old ++ origin_text origin.now) }
 {
@@ -87,7 +87,7 @@ fn push_skip_line(text: &mut Text, line: &SkipLine) -> Result<(), AllocError>
     text.push(b'\n')
 }
 
-/// Appends a branch over the next word: `+8` stands in the place of its target.
+/// Appends a branch over the next word, with `+8` as its target.
 fn push_skip(text: &mut Text, line: &SkipLine) -> Result<(), AllocError>
     ensures { OnOk result (text.new ≡ text.old ++ skip_text line.now) }
 {
@@ -125,7 +125,7 @@ fn push_operand(text: &mut Text, operand: &Implicit) -> Result<(), AllocError>
     }
 }
 
-/// Appends a register behind a word.
+/// Appends a word and a register after it.
 fn push_behind(text: &mut Text, word: &str, r: Reg) -> Result<(), AllocError>
     ensures { OnOk result (text.new ≡ text.old ++ (word.now ++ register_text r)) }
 {
@@ -133,7 +133,7 @@ fn push_behind(text: &mut Text, word: &str, r: Reg) -> Result<(), AllocError>
     push_register(text, r)
 }
 
-/// Appends a register: `$xN`, and a virtual one `%K` from K = 0 on.
+/// Appends a register: `$xN`, or `%K` for a virtual one, from K = 0 on.
 fn push_register(text: &mut Text, r: Reg) -> Result<(), AllocError>
     ensures { OnOk result (text.new ≡ text.old ++ register_text r) }
 {

@@ -1,4 +1,4 @@
-//! What an output has.
+//! The output of the compiler.
 
 use base_ids::code::{BlockId, ObjectId};
 use base_list::List;
@@ -16,9 +16,9 @@ pub type Bytes = List<u8>;
 /// The line of an item.
 #[derive(Debug, Drop)]
 pub struct ItemLine {
-    /// The address of its first byte, in bytes, and none for a mark or a phi.
+    /// The address of its first byte, in bytes. A debug value or a DBG_PHI has none.
     pub address: Option<u32>,
-    /// The item. A frame slot or a stack object stands in it as its word reaches it, by x2.
+    /// The item. A frame slot or a stack object is x2 and an offset, as in the item's word.
     pub item: Item,
 }
 
@@ -34,14 +34,15 @@ pub enum Implicit {
 /// Implicit operands, in text order.
 pub type Implicits = List<Implicit>;
 
-/// The first line of a long branch: a branch over the word below it. It has no number and no location.
+/// The first line of a long branch: a branch over the next word. It has no debug instruction number and no debug
+/// location.
 #[derive(Debug, Drop)]
 pub struct SkipLine {
     /// The address of its first byte, in bytes.
     pub address: u32,
-    /// Where it comes from.
+    /// Its origin.
     pub origin: Origin,
-    /// Its operation, which is the inverted one of the branch that is long.
+    /// Its operation: the inverse of that of the long branch.
     pub op: BranchOp,
     /// The first register that it compares.
     pub first: Reg,
@@ -56,7 +57,7 @@ pub struct SkipLine {
 pub enum Line {
     /// An item.
     Item(ItemLine),
-    /// The first word of a long branch. The second one, a jump, is an item's line below it.
+    /// The first word of a long branch. The second one, a jump, is an item's line after it.
     Skip(SkipLine),
 }
 
@@ -66,7 +67,7 @@ pub type Lines = List<Line>;
 /// A variable of a function.
 #[derive(Debug, Drop)]
 pub struct ListedVariable {
-    /// The number of its list in the section of lists.
+    /// The number of its location list in `.debug_loclists`.
     pub list: u32,
     /// The variable, as a whole.
     pub variable: VarId,
@@ -81,7 +82,7 @@ pub struct ListedObject {
     pub id: ObjectId,
     /// Its size in bytes.
     pub size: u32,
-    /// How far it lies above the first object's first byte, in bytes.
+    /// Its offset from the first object's first byte, in bytes.
     pub offset: u32,
 }
 

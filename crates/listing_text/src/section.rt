@@ -1,4 +1,4 @@
-//! Sections.
+//! The text of sections.
 
 ghost use Rattle.std.specs.Prelude.{◌≡◌, ◌++◌, OnOk};
 ghost use Rattle.listing_text.specs.Output.{section_text, sections_text};

@@ -15,7 +15,7 @@ use Rattle.emit_code.specs.declared.code.Entry.{Entry}
 use Rattle.emit_code.specs.Laid.{StandFrom}
 use Rattle.dwarf_loclists.specs.declared.range.Location.{Location}
 use Rattle.dwarf_loclists.specs.declared.range.Range.{Range}
-use Rattle.dwarf_loclists.specs.Ranges.{ArePlaces, IsLocated, location_in}
+use Rattle.dwarf_loclists.specs.Ranges.{Ascend, ArePlaces, IsLocated, location_in}
 use Rattle.location_of_variable.specs.Wanted.{IsWantedLocation, MayBeListed}
 use Rattle.location_ranges.specs.declared.track.Open.{Open}
 use Rattle.location_ranges.specs.declared.track.Track.{Track}
@@ -176,11 +176,12 @@ module _ (g : Program) (start : Pos) (base end : ℕ) (entries : List Entry) (st
       (tt, All-nil (λ (r : Range). r.hi < a)))
 
   -- all entries
-  pub says_all : (v : VarId) (t : Track) → Says g start entries v (length entries) (from (length entries)) t →
+  pub says_all : (v : VarId) (t : Track) → Says g start entries v (length entries) (from (length entries)) t → Ascend (covered t end) →
       AreRangesOf g start entries v (covered t end)
-  says_all v t says = record {
+  says_all v t says up = record {
     inside = λ e (k, lt, is) x has. subst (λ (a : ℕ). IsWantedLocation g start v (point_of e) (location_in (covered t a) x)) (at_end base end entries stand)
         (says.inside k e lt (slice_get_read entries (length entries) k e refl lt (sym is)) x has);
     outside = λ x none. subst (λ (a : ℕ). location_in (covered t a) x ≡ None) (at_end base end entries stand) (says.outside x none);
     places = says.places end;
+    ascend = up;
   }

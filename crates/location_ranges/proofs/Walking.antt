@@ -144,7 +144,8 @@ module _ (blocks : List Block) (v : Values) (entries : List Entry) (variables : 
       each = λ k variable ranges at_v at.
           let c = closes.each k ranges at in
           subst (λ (rs : List Range). AreRangesOf program_of (block_start 0) entries variable rs) (sym c.2)
-          (says_all program_of (block_start 0) base end entries stand variable c.0 (said.say are k variable c.0 at_v c.1));
+          (says_all program_of (block_start 0) base end entries stand variable c.0 (said.say are k variable c.0 at_v c.1)
+          (tracks_are_ranges c.0 end (subst (IsTrackTo (c.0)) (at_end base end entries stand) (said.ascend k c.0 c.1))).0);
     }
 
     pub lists_ascend : All Ascend lists

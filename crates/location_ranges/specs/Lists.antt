@@ -6,7 +6,7 @@ use Rattle.mir_func.specs.Graph.{Program}
 use Rattle.mir_func.specs.Successors.{pos_in}
 use Rattle.emit_code.specs.declared.code.Entry.{Entry}
 use Rattle.dwarf_loclists.specs.declared.range.Range.{Range}
-use Rattle.dwarf_loclists.specs.Ranges.{ArePlaces, location_in}
+use Rattle.dwarf_loclists.specs.Ranges.{Ascend, ArePlaces, location_in}
 use Rattle.location_of_variable.specs.Wanted.{IsWantedLocation}
 
 -- the item that an entry is of
@@ -23,6 +23,7 @@ pub record AreRangesOf (g : Program) (start : Pos) (entries : List Entry) (v : V
   pub inside : (e : Entry) → Contains entries e → (a : ℕ) → HasByte e a → IsWantedLocation g start v (point_of e) (location_in ranges a)
   pub outside : (a : ℕ) → ((e : Entry) → Contains entries e → HasByte e a → ⊥) → location_in ranges a ≡ None
   pub places : ArePlaces ranges
+  pub ascend : Ascend ranges
 
 -- the lists of variables, one for each, in their order
 pub record AreListsOf (g : Program) (start : Pos) (entries : List Entry) (variables : List VarId) (lists : List (List Range)) : Type 0 where

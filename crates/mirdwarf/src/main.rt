@@ -1,4 +1,5 @@
-//! The program: the command over the host. Faults are told on standard error, and the status is the exit code.
+//! The command-line program of the compiler back end. Faults are reported on standard error, and the status is the
+//! exit code.
 #![tactic(auto)]
 
 use std::process::ExitCode;

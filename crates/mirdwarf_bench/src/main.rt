@@ -1,5 +1,5 @@
-//! Reads a MIR file from standard input, cuts it into documents, and counts the tokens of its functions' bodies: what
-//! docs/PERFORMANCE.md counts instructions of.
+//! Reads a MIR file from standard input, splits it into documents, and counts the tokens of its functions' bodies: the
+//! program whose instruction counts are in docs/PERFORMANCE.md.
 #![tactic(auto)]
 
 use read_documents::frame::documents;

@@ -1,5 +1,5 @@
-//! The program on a text that is refused, with faults told on standard output: the merge gate compares a program's
-//! status and standard output alone, so it sees the fault's line here.
+//! The command-line program on an input that is refused, with faults reported on standard output: the merge gate
+//! compares only a program's status and standard output, so it sees the fault's line here.
 #![tactic(auto)]
 
 use std::process::ExitCode;

@@ -1,4 +1,4 @@
-//! The passes by their names.
+//! The passes and their names.
 
 ghost use Rattle.std.specs.Prelude.{◌≡◌, ◌↔◌, IsTrue, Some};
 ghost use Rattle.pass_list.specs.Names.{name_of};
@@ -6,15 +6,15 @@ ghost use Rattle.pass_list.specs.Names.{name_of};
 /// A pass that the program can run.
 #[derive(Clone, Copy, Debug, PartialEq, Eq)]
 pub enum PassKind {
-    /// Copies of what is there already go.
+    /// Copy propagation; copies that change nothing are removed.
     Copy,
-    /// Constants are set again where they are copied or loaded from a slot.
+    /// Rematerialization: constants are set again instead of being copied or loaded from a slot.
     Remat,
-    /// Registers of a reserve move to slots.
+    /// Spilling: reserved registers are moved to slots.
     Spill,
-    /// Code goes whose value nothing needs.
+    /// Dead code elimination.
     Dead,
-    /// Ways through blocks that only jump go to their ends at once.
+    /// Branch folding: branches to blocks that only jump go to the final target at once.
     Fold,
 }
 

@@ -7,15 +7,15 @@ ghost use Rattle.pass_list.specs.Names.{AreDistinct, STANDARD};
 use crate::kind::PassKind;
 use std::marker::Model;
 
-/// How many passes there are.
+/// The number of passes.
 const PASSES: usize = 5;
 
 /// Passes in the order in which they run, each at most once. A contract sees it as the list of them.
 #[derive(Debug, Drop)]
 pub struct PassList {
-    /// The passes, and any others after them.
+    /// The passes, followed by unused elements.
     passes: [PassKind; 5],
-    /// How many there are.
+    /// The number of passes in the list.
     len: usize,
 }
 
@@ -32,7 +32,7 @@ impl Model for PassList {
 }
 
 impl PassList {
-    /// The list of no pass.
+    /// The empty list.
     pub fn empty() -> PassList
         ensures { result ≡ [] }
     {
@@ -42,7 +42,7 @@ impl PassList {
         }
     }
 
-    /// The list of all passes, as they run where no list is asked for: copy, remat, spill, dead, fold.
+    /// The default list, all passes: copy, remat, spill, dead, fold.
     pub fn standard() -> PassList
         ensures { result ≡ STANDARD }
     {
@@ -66,7 +66,7 @@ impl PassList {
         &self.passes[..self.len]
     }
 
-    /// The list with a pass more behind it, unless it has it already.
+    /// The list with a pass appended; `None` if it is in the list already.
     pub fn with(&self, pass: PassKind) -> Option<PassList>
         ensures { (whole : List PassKind) →
             (result ≡ Some whole) ↔ ((whole ≡ self.now ++ pass ∷ []) × AreDistinct whole) }
@@ -83,7 +83,7 @@ impl PassList {
     }
 }
 
-/// Whether a pass is among some.
+/// Whether a pass is in a list.
 fn has(passes: &[PassKind], pass: PassKind) -> bool
     ensures { IsTrue result ↔ Contains passes.now pass }
 {

@@ -1,4 +1,4 @@
-//! The list of passes that a text asks for.
+//! Parsing of lists of passes.
 
 ghost use Rattle.std.specs.Prelude.{◌≡◌, ◌↔◌, List, Some};
 ghost use Rattle.pass_list.specs.declared.kind.PassKind.{PassKind};
@@ -7,8 +7,8 @@ ghost use Rattle.pass_list.specs.Names.{text_of, AreDistinct, IsNamedBehind, Are
 use crate::kind::{is_same, named};
 use crate::list::PassList;
 
-/// The list that a text asks for: `none`, or names of passes with commas between them, each at most once. None where it
-/// is no such text.
+/// The list in a text: `none`, or names of passes, separated by commas, each at most once. `None` if the text is no
+/// such list.
 pub fn pass_list(text: &str) -> Option<PassList>
     ensures { (list : List PassKind) → (result ≡ Some list) ↔ ((text.now ≡ text_of list) × AreDistinct list) }
 {
@@ -19,7 +19,7 @@ pub fn pass_list(text: &str) -> Option<PassList>
     }
 }
 
-/// The list with the passes behind it that names with commas between them ask for.
+/// The list with the passes appended that a text names, separated by commas.
 fn with_names(list: &PassList, text: &str) -> Option<PassList>
     ensures { (whole : List PassKind) → (result ≡ Some whole) ↔ AreNamedBehind list.now text.now whole }
 {
@@ -32,7 +32,7 @@ fn with_names(list: &PassList, text: &str) -> Option<PassList>
     }
 }
 
-/// The list with the pass of a name behind it.
+/// The list with the pass of this name appended.
 fn with_name(list: &PassList, name: &str) -> Option<PassList>
     ensures { (whole : List PassKind) → (result ≡ Some whole) ↔ IsNamedBehind list.now name.now whole }
 {

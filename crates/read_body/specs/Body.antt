@@ -1,4 +1,4 @@
--- The body of a function: blocks of items, each judged by those before it.
+-- The body of a function as it is read: its blocks, and the facts by which further lines are judged.
 use Rattle.std.specs.Prelude.{◌≡◌, ℕ, ◌+◌, Bool, true, false, ◌||◌, nat_le, nat_lt, if◌then◌else◌, List, [], ◌∷◌, ◌++◌, length, Option, Some, None, IfSome, ◌≤◌}
 use Rattle.std.specs.Option.{option_map}
 use Rattle.rv64_instr.specs.Arithmetic.{word}
@@ -21,9 +21,9 @@ use Rattle.read_body.specs.declared.body.Body.{Body}
 use Rattle.read_body.specs.Met.{is_met, met, known}
 use Rattle.read_body.specs.Limits.{MAX_ITEMS, MAX_VARIABLES, MAX_NUMBERS, MAX_CONSTANTS}
 
--- ---- what an item has
+-- ---- facts of an item
 
--- the constant of a row that sets a register to a number
+-- the constant of an instruction that sets a register to one
 abbrev pub row_constant : Row → Option ℕ
 row_constant (Fixes rd n) = Some n
 row_constant (Moves rd rs) = None
@@ -39,25 +39,25 @@ row_constant (Calls name args) = None
 row_constant (Returns results) = None
 row_constant Unfit = None
 
--- the constant that a mark assigns, as 64 bits
+-- the constant of a debug value, as 64 bits
 abbrev pub mark_constant : MarkValue → Option ℕ
 mark_constant Nothing = None
 mark_constant (Constant n) = Some (word n)
 mark_constant (At r) = None
 mark_constant (Pair p) = None
 
--- the constant of a constant definition or a mark
+-- the constant of an instruction that sets a register to one, or of a debug value
 abbrev pub constant_of : ItemKind → Option ℕ
 constant_of (Code i number) = row_constant (row_of i)
 constant_of (Mark v m) = mark_constant m
 constant_of (Phi p number) = None
 
--- the stack object that a base is
+-- the stack object of a base address
 abbrev pub base_object : Base → Option ℕ
 base_object (PointedBy r) = None
 base_object (ObjectAt n) = Some n
 
--- the stack object that a row names
+-- the stack object that an instruction names
 abbrev pub row_object : Row → Option ℕ
 row_object (Addresses rd n offset) = Some n
 row_object (Loads rd op base offset) = base_object base
@@ -79,13 +79,13 @@ object_named (Code i number) = row_object (row_of i)
 object_named (Mark v m) = None
 object_named (Phi p number) = None
 
--- ---- what was read
+-- ---- the blocks
 
--- before the first line
+-- the body before the first line
 abbrev pub nothing_read : Body
 nothing_read = record { before = []; last = None; entries = []; items = 0; ids = []; codes = []; numbers = []; constants = []; objects = []; variables = [] }
 
--- blocks with one more, if it is there
+-- the blocks, with one more if there is one
 abbrev pub and_last : List Block → Option Block → List Block
 and_last before None = before
 and_last before (Some b) = before ++ b ∷ []
@@ -96,24 +96,24 @@ blocks_of body = and_last body.before body.last
 
 -- ---- labels
 
--- why no block may be begun with a number: another has it, or there are as many as may be
+-- why no block may begin with this number: another block has it, or the limit is reached
 abbrev pub label_cause : Body → ℕ → Option RefusalKind
 label_cause body n = if is_met n body.ids then Some DuplicateBlock else (if nat_le MAX_BLOCKS (length body.ids) then Some TooMany else None)
 
--- a block is begun
+-- the body with a new last block
 abbrev pub with_label : Body → ℕ → Body
 with_label body n = record body { before = blocks_of body; last = Some (record { id = n; items = []; silent = 0 }); ids = met n body.ids }
 
 -- ---- items
 
--- whether the number of an item is given already, where one of the two is code; several phis may share one
+-- whether the debug instruction number of an item is a duplicate: an instruction shares its number with no item, but several DBG_PHIs may share one
 abbrev pub repeats : Body → ItemKind → Bool
 repeats body (Code i None) = false
 repeats body (Code i (Some k)) = is_met k body.numbers
 repeats body (Mark v m) = false
 repeats body (Phi p k) = is_met k body.codes
 
--- a block with one item more, which is kept at the place where it was read
+-- a block with one more item, whose origin is its position there
 abbrev pub block_with : ItemKind → Loc → Block → Block
 block_with kind loc b = record {
   id = b.id;
@@ -121,34 +121,34 @@ block_with kind loc b = record {
   silent = b.silent + 1;
 }
 
--- the numbers with that of an item
+-- the body with the debug instruction number of an item recorded
 abbrev pub with_number : Body → ItemKind → Body
 with_number body (Code i None) = body
 with_number body (Code i (Some k)) = record body { codes = met k body.codes; numbers = met k body.numbers }
 with_number body (Mark v m) = body
 with_number body (Phi p k) = record body { numbers = met k body.numbers }
 
--- the constants with one that is there
+-- the body with a constant recorded, if there is one
 abbrev pub with_constant : Body → Option ℕ → Body
 with_constant body None = body
 with_constant body (Some n) = record body { constants = met n body.constants }
 
--- the stack objects with one that is there
+-- the body with a stack object recorded, if there is one
 abbrev pub with_object : Body → Option ℕ → Body
 with_object body None = body
 with_object body (Some n) = record body { objects = met n body.objects }
 
--- the variables with that of a mark
+-- the body with the variable of a debug value recorded
 abbrev pub with_variable : Body → ItemKind → Body
 with_variable body (Code i k) = body
 with_variable body (Mark v m) = record body { variables = known v body.variables }
 with_variable body (Phi p k) = body
 
--- what is met in an item
+-- the body with all facts of an item recorded
 abbrev pub with_facts : Body → ItemKind → Body
 with_facts body kind = with_variable (with_object (with_constant (with_number body kind) (constant_of kind)) (object_named kind)) kind
 
--- an item goes to the last block
+-- the body with an item appended to the last block
 abbrev pub placed : Body → ItemKind → Loc → List ℕ → Body
 placed body kind loc entries = record body {
   last = option_map (block_with kind loc) body.last;
@@ -156,11 +156,11 @@ placed body kind loc entries = record body {
   items = body.items + 1;
 }
 
--- one item more, which names stack entries
+-- the body after one more item, which names these stack entries
 abbrev pub with_item : Body → ItemKind → Loc → List ℕ → Body
 with_item body kind loc entries = placed (with_facts body kind) kind loc entries
 
--- the silent index of the last block counts items of the body
+-- the silent position of the last block is at most the number of items
 abbrev pub IsCounted : Body → Type 0
 IsCounted body = IfSome body.last (λ b. b.silent ≤ body.items)
 
@@ -170,14 +170,14 @@ exceeds body =
     nat_lt MAX_ITEMS body.items || (nat_lt MAX_VARIABLES (length body.variables)
     || (nat_lt MAX_NUMBERS (length body.numbers) || nat_lt MAX_CONSTANTS (length body.constants)))
 
--- why an item may not stand behind those before it
+-- why an item can't follow those before it: a duplicate debug instruction number, or a limit
 abbrev pub item_cause : Body → ItemKind → Loc → List ℕ → Option RefusalKind
 item_cause body kind loc entries =
     if repeats body kind then Some DuplicateNumber
     else (if exceeds (with_item body kind loc entries) then Some TooMany else None)
 
--- Why code may not stand there that is refused for a cause of its own, where it gives a number: the cause with the lower number
--- counts.
+-- The refusal of a line that is refused by itself for `kind` and has this debug instruction number: if the number is a duplicate, the refusal with the
+-- lower number counts.
 abbrev pub refused_cause : Body → RefusalKind → Option ℕ → RefusalKind
 refused_cause body kind None = kind
 refused_cause body kind (Some k) = if is_met k body.numbers then (if nat_lt 9 (kinds.number_of kind) then DuplicateNumber else kind) else kind

@@ -1,4 +1,4 @@
--- What is judged of a whole body.
+-- Checks of a whole body.
 use Rattle.std.specs.Prelude.{ℕ, Bool, true, List}
 use Rattle.std.specs.List.{list_all}
 use Rattle.mir_func.specs.declared.block.Block.{Block}
@@ -8,25 +8,25 @@ use Rattle.mir_func.specs.declared.item.Item.{Item}
 use Rattle.mir_func.specs.Exits.{exit_of}
 use Rattle.read_body.specs.Met.{is_met}
 
--- control goes to one of these blocks, where it goes to a block of a number
+-- whether the branch target of an exit, if it has one, is one of these blocks
 abbrev pub goes_to_one_of : List ℕ → Exit → Bool
 goes_to_one_of ids Onward = true
 goes_to_one_of ids (Perhaps n) = is_met n ids
 goes_to_one_of ids (Always n) = is_met n ids
 goes_to_one_of ids Final = true
 
--- an item's branch or jump, if it is one, goes to a block of one of these numbers
+-- whether an item's branch target, if it has one, is one of these blocks
 abbrev pub item_goes_to : List ℕ → Item → Bool
 item_goes_to ids item = goes_to_one_of ids (exit_of item.kind)
 
--- each branch and jump in a block goes to a block of one of these numbers
+-- whether each branch target in a block is one of these blocks
 abbrev pub block_goes_to : List ℕ → Block → Bool
 block_goes_to ids block = list_all (item_goes_to ids) block.items
 
--- each branch of these blocks goes to one of these block numbers
+-- whether each branch target in these blocks is one of these blocks
 abbrev pub blocks_go_to : List ℕ → List Block → Bool
 blocks_go_to ids blocks = list_all (block_goes_to ids) blocks
 
--- all stack entries that are named are declared
+-- whether each stack entry that is named is declared
 abbrev pub all_met : List ℕ → List ℕ → Bool
 all_met declared named = list_all (λ n. is_met n declared) named

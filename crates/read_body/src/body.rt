@@ -1,4 +1,4 @@
-//! The blocks of a body so far.
+//! The body of a function as it is read.
 
 ghost use Rattle.std.specs.Prelude.{◌≡◌, ◌≤◌, IfOk, IsNone, OnOk};
 ghost use Rattle.rv64_instr.specs.Row.{Row};
@@ -43,12 +43,12 @@ use std::alloc::{AllocError, Global};
 /// The N of each `%stack.N` that lines name, in order.
 pub type StackIds = List<SlotId>;
 
-/// What was read of a body, and what was met in it.
+/// The blocks read so far, and the facts by which further lines are judged.
 #[derive(Drop)]
 pub struct Body {
     /// The blocks before the last.
     pub before: Blocks,
-    /// The last block, to which the next item goes.
+    /// The last block, to which the next item is appended.
     pub last: Option<Block>,
     /// The stack entries that its items name.
     pub entries: StackIds,
@@ -56,19 +56,19 @@ pub struct Body {
     pub items: usize,
     /// The numbers of its blocks.
     pub ids: Met,
-    /// The debug instruction numbers of its code.
+    /// The debug instruction numbers of its instructions.
     pub codes: Met,
-    /// The debug instruction numbers of its items.
+    /// The debug instruction numbers of all its items.
     pub numbers: Met,
-    /// The constants of its constant definitions and its marks, as 64 bits.
+    /// The constants of its debug values and of its instructions that set a register to one, as 64 bits.
     pub constants: Met,
-    /// The stack entries that its code names as stack objects.
+    /// The stack entries that its instructions name as stack objects.
     pub objects: Met,
-    /// The parts of variables that its marks speak of.
+    /// The variables, and fragments of variables, of its debug values.
     pub variables: Variables,
 }
 
-/// The constant that an item has: of a constant definition, or of a mark.
+/// The constant of an item: of an instruction that sets a register to one, or of a debug value.
 fn constant_of(kind: &ItemKind) -> Option<u64>
     ensures { result ≡ constant_of kind.now }
 {
@@ -105,7 +105,7 @@ fn object_of(kind: &ItemKind) -> Option<u32>
 }
 
 impl Body {
-    /// Before the first line. It takes no memory.
+    /// The body before the first line. It takes no memory.
     pub fn new(alloc: Global) -> Body
         ensures { result ≡ nothing_read }
     {
@@ -123,7 +123,7 @@ impl Body {
         }
     }
 
-    /// Why no block may be begun with a number: `DuplicateBlock` or `TooMany`.
+    /// Why no block may begin with this number: `DuplicateBlock` or `TooMany`.
     pub fn label_cause(&self, id: BlockId) -> Option<RefusalKind>
         ensures { result ≡ label_cause self.now id }
     {
@@ -152,7 +152,7 @@ impl Body {
         Ok(())
     }
 
-    /// Whether the number of an item is given already, where one of the two is code.
+    /// Whether the debug instruction number of an item is a duplicate.
     fn repeats(&self, kind: &ItemKind) -> bool
         ensures { result ≡ repeats self.now kind.now }
     {
@@ -163,7 +163,7 @@ impl Body {
         }
     }
 
-    /// Meets the number of an item.
+    /// Records the debug instruction number of an item.
     fn meet_number(&mut self, kind: &ItemKind) -> Result<(), AllocError>
         ensures { OnOk result (self.new ≡ with_number self.old kind.now) }
     {
@@ -177,7 +177,7 @@ impl Body {
         }
     }
 
-    /// Meets a constant, if one is there.
+    /// Records a constant, if there is one.
     fn meet_constant(&mut self, constant: Option<u64>) -> Result<(), AllocError>
         ensures { OnOk result (self.new ≡ with_constant self.old constant) }
     {
@@ -187,7 +187,7 @@ impl Body {
         }
     }
 
-    /// Meets a stack object, if one is there.
+    /// Records a stack object, if there is one.
     fn meet_object(&mut self, object: Option<u32>) -> Result<(), AllocError>
         ensures { OnOk result (self.new ≡ with_object self.old object) }
     {
@@ -197,7 +197,7 @@ impl Body {
         }
     }
 
-    /// Meets the variable of a mark.
+    /// Records the variable of a debug value.
     fn meet_variable(&mut self, kind: &ItemKind) -> Result<(), AllocError>
         ensures { OnOk result (self.new ≡ with_variable self.old kind.now) }
     {
@@ -207,7 +207,7 @@ impl Body {
         }
     }
 
-    /// Meets what an item has.
+    /// Records all facts of an item.
     fn meet_facts(&mut self, kind: &ItemKind) -> Result<(), AllocError>
         ensures { OnOk result (self.new ≡ with_facts self.old kind.now) }
     {
@@ -227,7 +227,7 @@ impl Body {
             || MAX_CONSTANTS < self.constants.len()
     }
 
-    /// Puts an item into the last block, at its place there.
+    /// Appends an item to the last block, with its position there as origin.
     fn place(&mut self, kind: ItemKind, loc: Loc, entries: &[SlotId]) -> Result<(), AllocError>
         requires counted { IsCounted self.old }
         requires few { self.old.items ≤ MOST_ITEMS }
@@ -248,8 +248,8 @@ impl Body {
         Ok(())
     }
 
-    /// One item more, with the stack entries that it names. There is a cause where it may not stand behind those
-    /// before it, and then the body is of no use.
+    /// Adds an item, with the stack entries that it names. If a cause is returned, the item can't follow those before
+    /// it, and the body must not be used any more.
     pub fn add_item(
         &mut self,
         kind: ItemKind,
@@ -275,7 +275,7 @@ impl Body {
         }
     }
 
-    /// Why code may not stand there that is refused for a cause of its own, where it gives a number.
+    /// The refusal of a line that is refused by itself for `kind` and may have a debug instruction number.
     pub fn refused_cause(&self, kind: RefusalKind, number: Option<DebugNumber>) -> RefusalKind
         ensures { result ≡ refused_cause self.now kind number }
     {

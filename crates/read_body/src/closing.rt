@@ -1,4 +1,4 @@
-//! What is judged of a whole body, at the line that closes its function.
+//! Checks of a whole body, at the line that closes its function.
 
 ghost use Rattle.std.specs.Prelude.{◌≡◌};
 ghost use Rattle.mir_func.specs.declared.exit.Exit.{Exit};
@@ -10,7 +10,7 @@ use mir_func::block::Block;
 use mir_func::exit::Exit;
 use mir_func::item::Item;
 
-/// Whether control goes to one of these blocks, where it goes to a block of a number.
+/// Whether the branch target of an exit, if it has one, is one of these blocks.
 fn goes_to_one_of(ids: &Met, exit: Exit) -> bool
     ensures { result ≡ goes_to_one_of ids.now exit }
 {
@@ -36,14 +36,14 @@ fn block_goes_to(ids: &Met, block: &Block) -> bool
         .all(|item| item_goes_to(ids, item))
 }
 
-/// Whether each branch of these blocks goes to one of these block numbers.
+/// Whether each branch target in these blocks is one of these blocks.
 pub fn blocks_go_to(ids: &Met, blocks: &[Block]) -> bool
     ensures { result ≡ blocks_go_to ids.now blocks.now }
 {
     blocks.iter().all(|block| block_goes_to(ids, block))
 }
 
-/// Whether all stack entries that are named are among these.
+/// Whether each stack entry that is named is declared.
 pub fn all_met(declared: &Met, named: &[SlotId]) -> bool
     ensures { result ≡ all_met declared.now named.now }
 {

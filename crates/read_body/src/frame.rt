@@ -1,4 +1,4 @@
-//! The frame of a function: which of its stack entries are slots, and which are objects.
+//! The frame of a function: which of its stack entries are spill slots, and which are stack objects.
 
 ghost use Rattle.std.specs.Prelude.{◌≡◌, ◌+◌, ◌^◌, ◌≤◌, ◌<◌, All, IfOk, OnOk, length};
 ghost use Rattle.mir_func.specs.Limits.{MAX_SLOTS};
@@ -21,17 +21,17 @@ use mir_func::object::{Object, Objects, up_to};
 use read_declarations::stack::StackEntry;
 use std::alloc::{AllocError, Global};
 
-/// The size of a slot, in bytes.
+/// The size of a spill slot, in bytes.
 const SLOT_SIZE: u32 = 8;
 
-/// Whether a stack entry is an object: its size isn't that of a slot, or code names it as an object.
+/// Whether a stack entry is an object: its size isn't that of a spill slot, or code names it as an object.
 fn is_object(named: &Met, entry: &StackEntry) -> bool
     ensures { result ≡ is_object named.now entry.now }
 {
     entry.size != SLOT_SIZE || named.has(u64::from(entry.id.number()))
 }
 
-/// Appends a stack entry that is a slot.
+/// Appends a stack entry, if it is a spill slot.
 fn add_slot(slots: &mut SlotIds, named: &Met, entry: &StackEntry) -> Result<(), AllocError>
     ensures { OnOk result (slots.new ≡ with_slot named.now slots.old entry.now) }
 {
@@ -41,7 +41,7 @@ fn add_slot(slots: &mut SlotIds, named: &Met, entry: &StackEntry) -> Result<(), 
     slots.push(entry.id)
 }
 
-/// The slots among stack entries, where code names these as objects.
+/// The spill slots among stack entries, where `named` are those that code names as objects.
 pub fn slots(alloc: Global, named: &Met, entries: &[StackEntry]) -> Result<SlotIds, AllocError>
     ensures { IfOk result (λ slots. slots ≡ slots_of named.now entries.now) }
 {
@@ -52,16 +52,16 @@ pub fn slots(alloc: Global, named: &Met, entries: &[StackEntry]) -> Result<SlotI
     Ok(slots)
 }
 
-/// Objects that were laid, one after the other.
+/// Stack objects with their offsets.
 #[derive(Drop)]
 pub struct Laid {
     /// The objects.
     pub objects: Objects,
-    /// The end of the last one.
+    /// The end of the last one, in bytes.
     pub end: u64,
 }
 
-/// Lays a stack entry that is an object behind those before it, at the least multiple of its alignment that isn't
+/// Places a stack entry, if it is an object, after those before it, at the least multiple of its alignment that isn't
 /// below their end.
 fn lay(laid: &mut Laid, named: &Met, entry: &StackEntry) -> Result<(), AllocError>
     requires each { IsStackEntry entry.now }
@@ -82,7 +82,7 @@ fn lay(laid: &mut Laid, named: &Met, entry: &StackEntry) -> Result<(), AllocErro
     })
 }
 
-/// The objects among stack entries, in declared order.
+/// The stack objects among stack entries, in declared order.
 pub fn objects(alloc: Global, named: &Met, entries: &[StackEntry]) -> Result<Laid, AllocError>
     requires few { length entries.now ≤ MAX_SLOTS }
     requires each { All IsStackEntry entries.now }
@@ -98,7 +98,7 @@ pub fn objects(alloc: Global, named: &Met, entries: &[StackEntry]) -> Result<Lai
     Ok(laid)
 }
 
-/// Meets the number of a stack entry that is an object.
+/// Inserts the number of a stack entry, if it is an object.
 fn meet_object(ids: &mut Met, named: &Met, entry: &StackEntry) -> Result<(), AllocError>
     ensures { OnOk result (ids.new ≡ with_id named.now ids.old entry.now) }
 {
@@ -108,7 +108,7 @@ fn meet_object(ids: &mut Met, named: &Met, entry: &StackEntry) -> Result<(), All
     ids.meet(u64::from(entry.id.number()))
 }
 
-/// The numbers of the objects among stack entries.
+/// The set of the numbers of the objects among stack entries.
 pub fn object_ids(alloc: Global, named: &Met, entries: &[StackEntry]) -> Result<Met, AllocError>
     ensures { IfOk result (λ ids. ids ≡ ids_of_objects named.now entries.now) }
 {

@@ -1,8 +1,9 @@
-//! The body of a function of machine IR, as its lines are read one after the other.
+//! The body of a machine function as the MIR parser builds it: blocks of items, and the checks that need more than
+//! one line.
 //!
-//! A label begins a block, and an item goes to the block that was begun last. Each line is judged by those before it:
-//! whether its number stands already, and whether a limit is exceeded. An item keeps where it was read as its origin,
-//! and a block's silent index is how many items it has.
+//! A label begins a block, and an item is appended to the block that was begun last. Each line is checked against
+//! those before it, for duplicate numbers and for limits. The origin of an item is the position where it was read,
+//! and a block's silent position is its number of items.
 #![tactic(auto)]
 
 pub mod body;

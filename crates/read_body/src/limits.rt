@@ -1,13 +1,13 @@
 //! The limits of a function's body.
 
-/// How many items it may have.
+/// The greatest number of items.
 pub const MAX_ITEMS: usize = 8_192;
 
-/// How many parts of variables its marks may speak of.
+/// The greatest number of variables and fragments of variables that have debug values.
 pub const MAX_VARIABLES: usize = 1_024;
 
-/// How many debug instruction numbers its items may give.
+/// The greatest number of different debug instruction numbers.
 pub const MAX_NUMBERS: usize = 4_096;
 
-/// How many constants its constant definitions and its marks may have.
+/// The greatest number of different constants, of instructions that set a register to one and of debug values.
 pub const MAX_CONSTANTS: usize = 256;

@@ -1,4 +1,4 @@
-//! Numbers that were met.
+//! Sets of numbers.
 
 ghost use Rattle.std.specs.Prelude.{◌≡◌, [], length, OnOk, OnErr};
 ghost use Rattle.read_body.specs.Met.{is_met, met};
@@ -7,7 +7,7 @@ use std::alloc::{AllocError, Global};
 use std::collections::BTreeSet;
 use std::marker::Model;
 
-/// Numbers, each once, in the order in which they were met first. A contract sees their list.
+/// A set of numbers. A contract sees it as their list, in the order of first insertion.
 #[derive(Drop)]
 pub struct Met {
     list: Vec<u64>,
@@ -26,7 +26,7 @@ impl Model for Met {
 }
 
 impl Met {
-    /// No number. It takes no memory.
+    /// The empty set. It takes no memory.
     pub fn new(alloc: Global) -> Met
         ensures { result ≡ [] }
     {
@@ -36,21 +36,21 @@ impl Met {
         }
     }
 
-    /// Whether a number was met.
+    /// Whether a number is in the set.
     pub fn has(&self, n: u64) -> bool
         ensures { result ≡ is_met n self.now }
     {
         self.set.contains(&n)
     }
 
-    /// How many numbers were met.
+    /// How many numbers are in the set.
     pub fn len(&self) -> usize
         ensures { result ≡ length self.now }
     {
         self.list.len()
     }
 
-    /// Meets a number. A refused call changes nothing.
+    /// Inserts a number. If memory runs out, the set is unchanged.
     pub fn meet(&mut self, n: u64) -> Result<(), AllocError>
         ensures ok { OnOk result (self.new ≡ met n self.old) }
         ensures err { OnErr result (self.new ≡ self.old) }

@@ -1,4 +1,4 @@
-//! Parts of variables that were met.
+//! Sets of variables and fragments of variables.
 
 ghost use Rattle.std.specs.Prelude.{◌≡◌, [], OnOk, OnErr};
 ghost use Rattle.mir_func.specs.Variables.{is_same, is_same_node};
@@ -9,10 +9,10 @@ use base_list::List;
 use mir_func::variable::{VarId, are_same_bytes};
 use std::alloc::AllocError;
 
-/// Parts of variables, each once, in the order in which they were met first.
+/// Variables and fragments of variables, each once, in the order of first insertion.
 pub type Variables = List<VarId>;
 
-/// Whether two nodes that may be there are the same.
+/// Whether two optional nodes are the same.
 fn is_same_node(one: Option<NodeId>, other: Option<NodeId>) -> bool
     ensures { result ≡ is_same_node one other }
 {
@@ -23,7 +23,7 @@ fn is_same_node(one: Option<NodeId>, other: Option<NodeId>) -> bool
     }
 }
 
-/// Whether two are the same part of one variable.
+/// Whether two are the same fragment of the same variable.
 fn is_same(one: &VarId, other: &VarId) -> bool
     ensures { result ≡ is_same one.now other.now }
 {
@@ -32,14 +32,14 @@ fn is_same(one: &VarId, other: &VarId) -> bool
         && are_same_bytes(&one.fragment, &other.fragment)
 }
 
-/// Whether a part was met.
+/// Whether a variable, or a fragment of one, is in the set.
 fn is_known(variable: &VarId, variables: &[VarId]) -> bool
     ensures { result ≡ is_known variable.now variables.now }
 {
     variables.iter().any(|other| is_same(variable, other))
 }
 
-/// Meets a part. A refused call changes nothing.
+/// Inserts a variable, or a fragment of one. If memory runs out, the set is unchanged.
 pub fn meet(variables: &mut Variables, variable: &VarId) -> Result<(), AllocError>
     ensures ok { OnOk result (variables.new ≡ known variable.now variables.old) }
     ensures err { OnErr result (variables.new ≡ variables.old) }

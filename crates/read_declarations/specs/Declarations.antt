@@ -1,4 +1,4 @@
--- What a function's document declares before its body.
+-- The declarations of a function's document: its name, its stack entries and its debug value substitutions.
 use Rattle.std.specs.Prelude.{◌≡◌, List, [], ◌∷◌, Option, Some, None, Result, Ok, Err}
 use Rattle.read_documents.specs.declared.parts.FunctionDocument.{FunctionDocument}
 use Rattle.read_lexer.specs.declared.line.Line.{Line}
@@ -14,22 +14,22 @@ use Rattle.read_declarations.specs.Name.{name_of}
 use Rattle.read_declarations.specs.Stack.{stack_of}
 use Rattle.read_declarations.specs.Substitutions.{substitutions_of}
 
--- an entry of `fixedStack` is no stack entry that is read: the first of them counts
+-- No entry of `fixedStack` is supported: the first one is refused as a stack object. The result is the earlier of that and `refused`.
 abbrev pub fixed_entries : Option Refusal → List Entry → Option Refusal
 fixed_entries refused [] = refused
 fixed_entries refused (e ∷ es) = earlier refused (Some (record { line = e.line; kind = StackObject }))
 
--- the first refusal under `fixedStack`, of which these are the lines
+-- the first refusal in the lines of `fixedStack`
 abbrev pub fixed_refusal : List Line → Option Refusal
 fixed_refusal lines = fixed_entries (list_of lines).refused (list_of lines).entries
 
--- the first refusal of the lines that declare something
+-- the first refusal among the lines that declare something
 abbrev pub refusal_of : FunctionDocument → Option Refusal
 refusal_of doc =
     earlier (earlier (name_of doc.name).refused (stack_of doc.stack).refused)
     (earlier (fixed_refusal doc.fixed) (substitutions_of doc.substitutions).refused)
 
--- what is declared, where nothing is refused
+-- the declarations, which count only if nothing is refused
 abbrev pub declared_of : FunctionDocument → Declarations
 declared_of doc = record {
   name = (name_of doc.name).name;
@@ -42,11 +42,11 @@ abbrev pub checked : Option Refusal → Declarations → Result Declarations Ref
 checked (Some r) declared = Err r
 checked None declared = Ok declared
 
--- What a function's document declares, or the first refusal of the lines that declare it.
+-- The declarations of a function's document, or the first refusal of the lines that declare something.
 abbrev pub declarations_of : FunctionDocument → Result Declarations Refusal
 declarations_of doc = checked (refusal_of doc) (declared_of doc)
 
--- A call's answer is what reading gives, unless memory ran out.
+-- What a call returns is this result, unless memory ran out.
 abbrev pub Gives : Result Declarations DeclarationError → Result Declarations Refusal → Type 0
 Gives (Ok x) read = read ≡ Ok x
 Gives (Err errors.Memory) read = Unit {0}

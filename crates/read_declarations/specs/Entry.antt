@@ -19,7 +19,7 @@ use Rattle.read_declarations.specs.declared.entry.OpenList.{OpenList}
 use Rattle.read_declarations.specs.declared.entry.Listing.{Listing}
 use Rattle.read_declarations.specs.Stream.{text_at}
 
--- a token that is one byte
+-- whether a token is this byte alone
 abbrev pub is_mark : ℕ → Piece → Bool
 is_mark byte p = is_byte byte p.token
 
@@ -35,20 +35,20 @@ has_key lines fields key = list_any (λ f. bytes_eq (text_at lines f.key) (text_
 abbrev pub has_text : BTreeSet (Bor (List ℕ)) → List ℕ → Bool
 has_text keys t = contains_by (λ k. slice_cmp nat_cmp t k.now) keys
 
--- a set has the keys of fields
+-- a set contains the keys of these fields and no others
 abbrev pub AreKeys : List Line → BTreeSet (Bor (List ℕ)) → List Field → Type 0
 AreKeys lines keys fields = (t : List ℕ) → has_text keys t ≡ list_any (λ f. bytes_eq (text_at lines f.key) t) fields
 
--- a set that has the keys of fields comes to have those of others
+-- if the set `keys` contains the keys of `fields` and no others, then `new` contains those of `others` and no more
 abbrev pub KeepsKeys : BTreeSet (Bor (List ℕ)) → List Field → BTreeSet (Bor (List ℕ)) → List Field → Type 0
 KeepsKeys keys fields new others = (lines : List Line) → AreKeys lines keys fields → AreKeys lines new others
 
--- a line that has no form that is read
+-- the refusal of a line that has no accepted form
 abbrev pub bad_line : ℕ → Refusal
 bad_line line = record { line = line; kind = BadLine }
 
--- What may stand at each place: an entry is `-` and fields in curly brackets, a field a word, `:` and a value, with `,`
--- between fields, and no key stands twice in an entry.
+-- Whether a token may come next at each place: an entry is `-` and fields in braces, separated by `,`; a field is a word, `:` and a value; and no key
+-- occurs twice in an entry.
 abbrev pub fits_at : List Line → List Field → Place → Piece → Bool
 fits_at lines fields Outside p = is_mark 45 p
 fits_at lines fields Dash p = is_mark 123 p
@@ -66,21 +66,21 @@ line_at line (Colon key) p = line
 line_at line (Value key) p = line
 line_at line Next p = line
 
--- before the first token
+-- the state before the first token
 abbrev pub nothing_read : OpenList
 nothing_read = record { entries = []; place = Outside; line = 0; fields = [] }
 
--- behind a value `,` leads to a key, and `}` ends the entry
+-- after a value `,` is followed by a key, and `}` ends the entry
 abbrev pub behind_value : OpenList → Piece → OpenList
 behind_value so_far p =
     if is_mark 44 p then record so_far { place = Key }
     else record { entries = so_far.entries ++ record { line = so_far.line; fields = so_far.fields } ∷ []; place = Outside; line = so_far.line; fields = [] }
 
--- a field more
+-- the state after one more field
 abbrev pub with_field : OpenList → Piece → Piece → OpenList
 with_field so_far key value = record so_far { place = Next; fields = so_far.fields ++ record { key = key; value = value } ∷ [] }
 
--- what was read behind a token that may stand there
+-- the state after a token that may come next
 abbrev pub behind : OpenList → Place → Piece → OpenList
 behind so_far Outside p = record so_far { place = Dash; line = p.line }
 behind so_far Dash p = record so_far { place = Key }
@@ -102,17 +102,17 @@ refused_at_end cut line (Colon key) = left_open cut line
 refused_at_end cut line (Value key) = left_open cut line
 refused_at_end cut line Next = left_open cut line
 
--- what was read where no token is left
+-- the result at the end of the tokens
 abbrev pub ended : Bool → OpenList → Listing
 ended cut so_far = record { entries = so_far.entries; refused = refused_at_end cut so_far.line so_far.place }
 
--- The entries of a list up to the first token that may not stand where it does, which refuses the first line of its entry.
+-- The entries of a list up to the first token that can't come next; that token's entry is refused at its first line.
 unfoldable pub entries_from : List Line → Bool → OpenList → List Piece → Listing
 entries_from lines cut so_far [] = ended cut so_far
 entries_from lines cut so_far (p ∷ ps) =
     if fits_at lines so_far.fields so_far.place p then entries_from lines cut (behind so_far so_far.place p) ps
     else record { entries = so_far.entries; refused = Some (bad_line (line_at so_far.line so_far.place p)) }
 
--- the entries that tokens are
+-- the list of entries in these tokens
 abbrev pub entries_of : List Line → Bool → List Piece → Listing
 entries_of lines cut ps = entries_from lines cut nothing_read ps

@@ -1,4 +1,4 @@
--- What the fields of an entry say.
+-- The values of an entry's fields.
 use Rattle.std.specs.Prelude.{ℕ, Bool, false, if◌then◌else◌, codes, List, [], ◌∷◌, Option, Some, None}
 use Rattle.std.specs.Str.{bytes_eq}
 use Rattle.read_lexer.specs.declared.line.Line.{Line}
@@ -14,28 +14,28 @@ unfoldable pub value_at : List Line → List ℕ → List Field → Option Piece
 value_at lines key [] = None
 value_at lines key (f ∷ fs) = if bytes_eq (text_at lines f.key) key then Some f.value else value_at lines key fs
 
--- the number that a value is: an integer from 0 to 2^30 - 1
+-- the number that a value spells: an integer from 0 to 2^30 - 1
 abbrev pub number_of : List Line → Piece → Option ℕ
 number_of lines value = if is_integer value.token then integer_of (text_at lines value) else None
 
--- a value that is read as a number, if it is there
+-- the number that a value spells, or `missing` if there is no value
 abbrev pub number_in : List Line → Option ℕ → Option Piece → Option ℕ
 number_in lines missing None = missing
 number_in lines missing (Some value) = number_of lines value
 
--- the number of the field with a key, which has to be there
+-- the number of the field with this key, if there is such a field and it spells a number
 abbrev pub needed : List Line → List ℕ → List Field → Option ℕ
 needed lines key fields = number_in lines None (value_at lines key fields)
 
--- the number of the field with a key, and another number where the field is missing
+-- the number of the field with this key, or `missing` if there is no such field
 abbrev pub given : List Line → List ℕ → ℕ → List Field → Option ℕ
 given lines key missing fields = number_in lines (Some missing) (value_at lines key fields)
 
--- what a value says: a text in quotes is read without them
+-- the text of a value, without its quotes if it has them
 abbrev pub plain : List Line → Piece → List ℕ
 plain lines value = if is_text value.token then inside_quotes (text_at lines value) else text_at lines value
 
--- whether a field is there and its value is this text, with quotes around it or not
+-- whether there is a value and its text, without quotes, is this
 abbrev pub says : List Line → List ℕ → Option Piece → Bool
 says lines text None = false
 says lines text (Some value) = bytes_eq (plain lines value) text

@@ -1,4 +1,4 @@
--- The list under a key: `[]`, or entries over the lines of the key.
+-- The list under a key: `[]`, or entries on the lines of the key.
 use Rattle.std.specs.Prelude.{ℕ, Bool, ◌&&◌, ◌==◌, if◌then◌else◌, is_some, drop, List, [], ◌∷◌, Option, Some, None}
 use Rattle.read_lexer.specs.declared.line.Line.{Line}
 use Rattle.read_refusal.specs.declared.first.Refusal.{Refusal}
@@ -9,25 +9,25 @@ use Rattle.read_declarations.specs.declared.entry.Listing.{Listing}
 use Rattle.read_declarations.specs.Stream.{stream_of}
 use Rattle.read_declarations.specs.Entry.{is_mark, bad_line, entries_of}
 
--- the empty list, on the line of the key
+-- whether two tokens are `[` and `]` on the key's own line
 abbrev pub is_empty_list : Piece → Piece → Bool
 is_empty_list a b = is_mark 91 a && (is_mark 93 b && (a.at == 0 && b.at == 0))
 
--- nothing may stand behind an empty list
+-- no token may follow `[]`
 abbrev pub behind_empty : List Piece → Option Refusal
 behind_empty [] = None
 behind_empty (p ∷ ps) = Some (bad_line p.line)
 
--- the list that tokens behind a key are
+-- the list in the tokens after a key
 unfoldable pub list_in : List Line → Bool → List Piece → Listing
 list_in lines cut [] = entries_of lines cut []
 list_in lines cut (a ∷ []) = entries_of lines cut (a ∷ [])
 list_in lines cut (a ∷ b ∷ ps) = if is_empty_list a b then record { entries = []; refused = behind_empty ps } else entries_of lines cut (a ∷ b ∷ ps)
 
--- a list, where its tokens may be cut off by a fault
+-- a list whose tokens may end at a lexical fault; its refusal is the earlier of that fault and its own
 abbrev pub with_fault : Option Refusal → Listing → Listing
 with_fault fault read = record { entries = read.entries; refused = earlier fault read.refused }
 
--- The list under a key, of which these are the lines: the key and its colon stand before it.
+-- The list in the lines of a key. The first two tokens are the key and its colon.
 abbrev pub list_of : List Line → Listing
 list_of lines = with_fault (stream_of lines).fault (list_in lines (is_some (stream_of lines).fault) (drop 2 (stream_of lines).pieces))

@@ -1,4 +1,4 @@
--- The tokens of a key's lines, in one stream.
+-- The tokens of a key's lines, as one stream.
 use Rattle.std.specs.Prelude.{ℕ, ◌+◌, List, [], ◌∷◌, ◌++◌, map, take, slice_get, Option, Some, None, Result, Ok, Err}
 use Rattle.read_lexer.specs.declared.fault.LexError.{LexError}
 use Rattle.read_lexer.specs.declared.fault.LexError.TheVariants as errors
@@ -14,7 +14,7 @@ use Rattle.read_declarations.specs.declared.stream.Piece.{Piece}
 use Rattle.read_declarations.specs.declared.stream.LineTokens.{LineTokens}
 use Rattle.read_declarations.specs.declared.stream.TokenStream.{TokenStream}
 
--- the tokens of bytes, and none where they have a fault
+-- the tokens of bytes, or none if the bytes have a fault
 abbrev pub tokens_or_none : Result (List Token) LexError → List Token
 tokens_or_none (Ok ts) = ts
 tokens_or_none (Err e) = []
@@ -25,13 +25,13 @@ before_fault text (errors.BadByte at) = take at text
 before_fault text (errors.UnclosedString at) = take at text
 before_fault text errors.Memory = []
 
--- The tokens of bytes up to a fault. Where the bytes are those before an unclosed quote, they may end with the `@` or `&` of
--- its name, which is no token without it.
+-- The tokens of bytes up to a fault. If the bytes were cut at an unclosed quote, they may end with the `@` or `&` of a quoted symbol, which is no token by
+-- itself: then that byte is left out too.
 abbrev pub tokens_up_to : List ℕ → Result (List Token) LexError → List Token
 tokens_up_to text (Ok ts) = ts
 tokens_up_to text (Err e) = tokens_or_none (tokens_of (before_fault text e))
 
--- the kind of a fault; want of memory is none
+-- the refusal of a lexical fault; want of memory, which is no fault of the text, is mapped to BadByte
 abbrev pub kind_of : LexError → RefusalKind
 kind_of (errors.BadByte at) = BadByte
 kind_of (errors.UnclosedString at) = UnclosedString
@@ -42,21 +42,20 @@ abbrev pub line_tokens_of : List ℕ → Result (List Token) LexError → LineTo
 line_tokens_of text (Ok ts) = record { tokens = ts; fault = None }
 line_tokens_of text (Err e) = record { tokens = tokens_up_to (before_fault text e) (tokens_of (before_fault text e)); fault = Some (kind_of e) }
 
--- a token of the line at an index
+-- a token of the line with index `at` and number `line`
 abbrev pub piece_of : ℕ → ℕ → Token → Piece
 piece_of at line token = record { at = at; line = line; token = token }
 
--- tokens before those of other lines, which aren't read behind a fault
+-- the tokens of a line before those of the lines after it, which are dropped if the line has a fault
 abbrev pub before_lines : List Piece → ℕ → Option RefusalKind → TokenStream → TokenStream
 before_lines pieces line None others = record { pieces = pieces ++ others.pieces; fault = others.fault }
 before_lines pieces line (Some kind) others = record { pieces = pieces; fault = Some (record { line = line; kind = kind }) }
 
--- the tokens of a line, and those of other lines behind them
+-- the tokens of a line, read so far as it has no fault, before those of the lines after it
 abbrev pub with_line : ℕ → ℕ → LineTokens → TokenStream → TokenStream
 with_line at line read others = before_lines (map (piece_of at line) read.tokens) line read.fault others
 
--- The tokens of lines, the first of which has an index, comments left out, up to the first fault. No fault behind it
--- stands at an earlier line.
+-- The tokens of lines without their comments, up to the first fault, where `at` is the index of the first line. No later fault is at an earlier line.
 unfoldable pub stream_from : ℕ → List Line → TokenStream
 stream_from at [] = record { pieces = []; fault = None }
 stream_from at (line ∷ lines) =
@@ -66,7 +65,7 @@ stream_from at (line ∷ lines) =
 abbrev pub stream_of : List Line → TokenStream
 stream_of lines = stream_from 0 lines
 
--- the bytes of a line that a token spans, where the line is there
+-- the bytes of a line that a token spans; none if there is no line
 abbrev pub text_in : Option Line → Token → List ℕ
 text_in None token = []
 text_in (Some line) token = text_of line.text token

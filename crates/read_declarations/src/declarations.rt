@@ -1,4 +1,4 @@
-//! What a function's document declares.
+//! The declarations of a function's document.
 
 ghost use Rattle.std.specs.Prelude.{◌≡◌, IfOk};
 ghost use Rattle.read_declarations.specs.Declarations.{Gives, fixed_refusal, checked, declarations_of};
@@ -17,7 +17,7 @@ use rv64_instr::name::Name;
 use std::alloc::{AllocError, Global};
 use thiserror::Error;
 
-/// What a function declares before its body.
+/// The declarations of a function, which come before its body.
 #[derive(Drop)]
 pub struct Declarations {
     /// Its name.
@@ -28,7 +28,7 @@ pub struct Declarations {
     pub substitutions: Substitutions,
 }
 
-/// Why there are no declarations.
+/// Why declarations couldn't be read.
 #[derive(Debug, Drop, Error)]
 pub enum DeclarationError {
     /// A line is refused: the first one, for the cause with the lowest number.
@@ -47,7 +47,7 @@ impl From<AllocError> for DeclarationError {
     }
 }
 
-/// The first refusal under `fixedStack`, of which these are the lines. No entry of it is read.
+/// The first refusal in the lines of `fixedStack`, of which no entry is supported.
 fn fixed_refusal(alloc: Global, lines: &[Line]) -> Result<Option<Refusal>, AllocError>
     ensures { IfOk result (λ refused. refused ≡ fixed_refusal lines.now) }
 {
@@ -77,7 +77,7 @@ fn checked(
     }
 }
 
-/// What a function's document declares, or the first refusal of the lines that declare it.
+/// The declarations of a function's document, or the first refusal of the lines that declare something.
 pub fn read_declarations(
     alloc: Global,
     document: &FunctionDocument,

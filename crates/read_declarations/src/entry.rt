@@ -28,7 +28,7 @@ use read_refusal::kind::RefusalKind;
 use std::alloc::{AllocError, Global};
 use std::collections::BTreeSet;
 
-/// A field of an entry: the word before its colon, and the token behind it.
+/// A field of an entry: the key, a word, and the value, one token.
 #[derive(Clone, Copy, Debug)]
 pub struct Field {
     pub key: Piece,
@@ -49,24 +49,24 @@ pub struct Entry {
 /// Entries of a list, in order.
 pub type Entries = List<Entry>;
 
-/// Where the tokens so far end.
+/// Which part of an entry comes next.
 #[derive(Clone, Copy, Debug)]
 pub enum Place {
     /// Outside entries.
     Outside,
-    /// Behind an entry's `-`.
+    /// After an entry's `-`.
     Dash,
-    /// Where a key stands.
+    /// At a key.
     Key,
-    /// Behind a key.
+    /// After a key.
     Colon(Piece),
-    /// Behind a key and its colon.
+    /// After a key and its colon.
     Value(Piece),
-    /// Behind a value.
+    /// After a value.
     Next,
 }
 
-/// The entries so far, and the one that is open.
+/// The state of the parser: the entries so far, and the open one.
 #[derive(Debug, Drop)]
 pub struct OpenList {
     pub entries: Entries,
@@ -77,14 +77,14 @@ pub struct OpenList {
     pub fields: Fields,
 }
 
-/// The entries of a list up to the first thing that is none, and the refusal of that.
+/// The entries of a list up to the first token that can't come next, and the refusal of that token's entry.
 #[derive(Debug, Drop)]
 pub struct Listing {
     pub entries: Entries,
     pub refused: Option<Refusal>,
 }
 
-/// Whether a token is a byte that is a token by itself.
+/// Whether a token is this byte alone.
 pub fn is_mark(byte: u8, piece: Piece) -> bool
     ensures { result ≡ is_mark byte piece }
 {
@@ -98,14 +98,14 @@ fn is_value(piece: Piece) -> bool
     is_word(piece.token) || is_integer(piece.token) || is_text(piece.token)
 }
 
-/// Whether a set has the text of a key.
+/// Whether a set contains the text of a key.
 fn has_key(lines: &[Line], keys: &BTreeSet<&[u8]>, key: Piece) -> bool
     ensures { result ≡ has_text keys.now (text_at lines.now key) }
 {
     keys.contains(text_at(lines, key))
 }
 
-/// The refusal of a line that has no form that is read.
+/// The refusal of a line that has no accepted form.
 pub fn bad_line(line: u32) -> Refusal
     ensures { result ≡ bad_line line }
 {
@@ -116,7 +116,7 @@ pub fn bad_line(line: u32) -> Refusal
 }
 
 impl OpenList {
-    /// Before the first token.
+    /// The state before the first token.
     fn new(alloc: Global) -> OpenList
         ensures { result ≡ nothing_read }
     {
@@ -128,7 +128,7 @@ impl OpenList {
         }
     }
 
-    /// Whether a token may stand next. The set has the keys of the open entry.
+    /// Whether a token may come next. The set has the keys of the open entry.
     fn fits(&self, lines: &[Line], keys: &BTreeSet<&[u8]>, piece: Piece) -> bool
         requires { AreKeys lines.now keys.now self.now.fields }
         ensures { result ≡ fits_at lines.now self.now.fields self.now.place piece }
@@ -143,7 +143,7 @@ impl OpenList {
         }
     }
 
-    /// The line of the entry that a token belongs to.
+    /// The first line of the entry that a token belongs to.
     fn line_at(&self, piece: Piece) -> u32
         ensures { result ≡ line_at self.now.line self.now.place piece }
     {
@@ -153,7 +153,7 @@ impl OpenList {
         }
     }
 
-    /// Takes the next token, which may stand there. The set has the keys of the open entry.
+    /// Takes a token that may come next. The set has the keys of the open entry.
     fn take<'a>(
         &mut self,
         alloc: Global,
@@ -192,7 +192,7 @@ impl OpenList {
         }
     }
 
-    /// Takes the token behind a value.
+    /// Takes the token after a value.
     fn take_behind_value(
         &mut self,
         alloc: Global,
@@ -215,7 +215,7 @@ impl OpenList {
         })
     }
 
-    /// What was read where no token is left. An open entry is refused, unless the tokens were cut off by a fault.
+    /// The result at the end of the tokens. An open entry is refused, unless the tokens were cut off by a fault.
     fn ended(self, is_cut: bool) -> Listing
         ensures { result ≡ ended is_cut self }
     {
@@ -231,7 +231,7 @@ impl OpenList {
     }
 }
 
-/// The entries that tokens are.
+/// The list of entries in these tokens.
 pub fn entries(
     alloc: Global,
     lines: &[Line],

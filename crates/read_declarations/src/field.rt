@@ -1,4 +1,4 @@
-//! What the fields of an entry say.
+//! The values of an entry's fields.
 
 ghost use Rattle.std.specs.Prelude.{◌≡◌};
 ghost use Rattle.read_declarations.specs.Field.{value_at, number_of, needed, given, is_variable_sized};
@@ -22,7 +22,7 @@ pub fn value_at(lines: &[Line], fields: &[Field], key: &[u8]) -> Option<Piece>
     None
 }
 
-/// The number that a value is, from 0 to 2^30 - 1.
+/// The number that a value spells, from 0 to 2^30 - 1.
 fn number_of(lines: &[Line], value: Piece) -> Option<u32>
     ensures { result ≡ number_of lines.now value }
 {
@@ -33,15 +33,15 @@ fn number_of(lines: &[Line], value: Piece) -> Option<u32>
     }
 }
 
-/// The number of the field with a key, which has to be there. There is none where it is missing or isn't read.
+/// The number of the field with this key; `None` if the field is missing or spells no such number.
 pub fn needed(lines: &[Line], fields: &[Field], key: &[u8]) -> Option<u32>
     ensures { result ≡ needed lines.now key.now fields.now }
 {
     number_of(lines, value_at(lines, fields, key)?)
 }
 
-/// The number of the field with a key, and another number where the field is missing. There is none where it isn't
-/// read.
+/// The number of the field with this key, or `missing` if there is no such field; `None` if the field spells no such
+/// number.
 pub fn given(lines: &[Line], fields: &[Field], key: &[u8], missing: u32) -> Option<u32>
     ensures { result ≡ given lines.now key.now missing fields.now }
 {
@@ -51,7 +51,7 @@ pub fn given(lines: &[Line], fields: &[Field], key: &[u8], missing: u32) -> Opti
     }
 }
 
-/// Whether the field `type` says that an entry has no fixed size.
+/// Whether an entry has the field `type: variable-sized`.
 pub fn is_variable_sized(lines: &[Line], fields: &[Field]) -> bool
     ensures { result ≡ is_variable_sized lines.now fields.now }
 {

@@ -1,4 +1,4 @@
-//! The list under a key: `[]`, or entries over the lines of the key.
+//! The list under a key: `[]`, or entries on the lines of the key.
 
 ghost use Rattle.std.specs.Prelude.{◌≡◌, drop, IfOk};
 ghost use Rattle.read_declarations.specs.List.{is_empty_list, behind_empty, list_in, list_of};
@@ -10,14 +10,14 @@ use read_lexer::line::Line;
 use read_refusal::first::{Refusal, earlier};
 use std::alloc::{AllocError, Global};
 
-/// Whether tokens are the empty list, on the line of the key.
+/// Whether two tokens are `[` and `]` on the key's own line.
 fn is_empty_list(opening: Piece, closing: Piece) -> bool
     ensures { result ≡ is_empty_list opening closing }
 {
     is_mark(b'[', opening) && is_mark(b']', closing) && opening.at == 0 && closing.at == 0
 }
 
-/// The refusal of what stands behind an empty list.
+/// The refusal of the first token after `[]`, if there is one.
 fn behind_empty(rest: &[Piece]) -> Option<Refusal>
     ensures { result ≡ behind_empty rest.now }
 {
@@ -27,7 +27,7 @@ fn behind_empty(rest: &[Piece]) -> Option<Refusal>
     }
 }
 
-/// The list that tokens behind a key are.
+/// The list in the tokens after a key.
 #[tactic(auto, unfolding(crate::specs::List::list_in))]
 fn list_in(
     alloc: Global,
@@ -46,14 +46,14 @@ fn list_in(
     }
 }
 
-/// The tokens behind a key and its colon.
+/// The tokens after a key and its colon.
 fn behind_key(pieces: &[Piece]) -> &[Piece]
     ensures { result.now ≡ drop 2 pieces.now }
 {
     if pieces.len() < 2 { &[] } else { &pieces[2..] }
 }
 
-/// The list under a key, of which these are the lines. Lines that are missing are an empty list.
+/// The list in the lines of a key. No lines are an empty list.
 pub fn list(alloc: Global, lines: &[Line]) -> Result<Listing, AllocError>
     ensures { IfOk result (λ read. read ≡ list_of lines.now) }
 {

@@ -43,7 +43,7 @@ enum Spelling {
     Double,
     /// In single quotes.
     Single,
-    /// In no form that is read.
+    /// In no accepted form.
     Wrong,
 }
 
@@ -54,14 +54,14 @@ fn opens_with(line: &[u8], quote: u8, token: Token) -> bool
     is_text(token) && text_of(line, token).starts_with(&[quote])
 }
 
-/// Whether a token is a text in single quotes that begins at a place.
+/// Whether a token is a text in single quotes that starts at this index.
 fn is_single_at(line: &[u8], start: usize, token: Token) -> bool
     ensures { result ≡ is_single_at line.now start token }
 {
     opens_with(line, b'\'', token) && token.start == start
 }
 
-/// Whether tokens are texts in single quotes, each right behind the one before, the first at a place.
+/// Whether tokens are adjacent texts in single quotes, the first at this index.
 fn are_single(line: &[u8], start: usize, tokens: &[Token]) -> bool
     ensures { result ≡ are_single line.now start tokens.now }
 {
@@ -75,7 +75,7 @@ fn are_single(line: &[u8], start: usize, tokens: &[Token]) -> bool
     true
 }
 
-/// How the tokens behind the key spell a name.
+/// How the tokens after the key spell a name.
 #[tactic(auto, unfolding(crate::specs::Name::spelling_of))]
 fn spelling_of(line: &[u8], tokens: &[Token]) -> Spelling
     ensures { result ≡ spelling_of line.now tokens.now }
@@ -88,7 +88,7 @@ fn spelling_of(line: &[u8], tokens: &[Token]) -> Spelling
     }
 }
 
-/// The text that texts in single quotes spell together, in which `''` stands for a quote.
+/// The name that adjacent texts in single quotes spell: their contents, with one quote between each two.
 fn joined(alloc: Global, line: &[u8], tokens: &[Token]) -> Result<Name, AllocError>
     ensures { IfOk result (λ name. name ≡ joined line.now tokens.now) }
 {
@@ -117,7 +117,7 @@ fn first_text<'a>(line: &'a [u8], tokens: &[Token]) -> &'a [u8]
     }
 }
 
-/// The name that tokens have in a spelling.
+/// The name that tokens spell, given how they spell it.
 fn name_in(
     alloc: Global,
     line: &[u8],
@@ -134,7 +134,7 @@ fn name_in(
     }
 }
 
-/// The refusal of a line in which a name has such a spelling.
+/// The refusal of a line that spells a name so.
 fn refused_by(line: u32, spelling: Spelling) -> Option<Refusal>
     ensures { result ≡ refused_by line spelling }
 {
@@ -144,14 +144,14 @@ fn refused_by(line: u32, spelling: Spelling) -> Option<Refusal>
     }
 }
 
-/// Tokens without a key and its colon.
+/// The tokens after a key and its colon.
 fn behind_key(tokens: &[Token]) -> &[Token]
     ensures { result.now ≡ drop 2 tokens.now }
 {
     if tokens.len() < 2 { &[] } else { &tokens[2..] }
 }
 
-/// A line that is refused.
+/// No name, and the refusal of a line.
 fn refused(alloc: Global, line: u32, kind: RefusalKind) -> NameRead
     ensures { result ≡ record { name = []; refused = Some (record { line = line; kind = kind }) } }
 {
@@ -161,7 +161,7 @@ fn refused(alloc: Global, line: u32, kind: RefusalKind) -> NameRead
     }
 }
 
-/// The name that a key's own line gives.
+/// The name on a key's own line.
 fn name_of_line(alloc: Global, line: &Line) -> Result<NameRead, AllocError>
     ensures { IfOk result (λ read. read ≡ name_of_line line.now) }
 {
@@ -183,7 +183,7 @@ fn name_of_line(alloc: Global, line: &Line) -> Result<NameRead, AllocError>
     }
 }
 
-/// The name under `name`, of which these are the lines: the first is the key's own, and the others are passed over.
+/// The name in the lines of the key `name`: only the key's own line, the first, counts.
 pub fn name(alloc: Global, lines: &[Line]) -> Result<NameRead, AllocError>
     ensures { IfOk result (λ read. read ≡ name_of lines.now) }
 {

@@ -1,4 +1,4 @@
-//! The entries of `stack`: what a function keeps in its frame.
+//! The entries of `stack`: the objects in a function's stack frame, spill slots included.
 
 ghost use Rattle.std.specs.Prelude.{◌≡◌, IfOk, OnOk};
 ghost use Rattle.read_declarations.specs.Stack.{
@@ -25,7 +25,7 @@ use read_refusal::kind::RefusalKind;
 use std::alloc::{AllocError, Global};
 use std::collections::BTreeSet;
 
-/// An entry of a function's stack frame: a slot, or an object.
+/// An entry of a function's stack frame: a spill slot or a stack object.
 #[derive(Clone, Copy, Debug, PartialEq, Eq)]
 pub struct StackEntry {
     /// The N of `%stack.N`.
@@ -46,14 +46,14 @@ pub struct StackRead {
     pub refused: Option<Refusal>,
 }
 
-/// Whether a stack entry may have an alignment.
+/// Whether a stack entry may have this alignment.
 fn is_alignment(align: u32) -> bool
     ensures { result ≡ is_alignment align }
 {
     align == 1 || align == 2 || align == 4 || align == 8 || align == 16
 }
 
-/// An entry of variable size that says no size.
+/// The refusal of an entry of variable size without `size`.
 fn unsized_entry(id: Option<u32>) -> Result<StackEntry, RefusalKind>
     ensures { result ≡ unsized id }
 {
@@ -63,7 +63,7 @@ fn unsized_entry(id: Option<u32>) -> Result<StackEntry, RefusalKind>
     }
 }
 
-/// An entry whose numbers are these, as far as they are read.
+/// The entry with these numbers, each `None` if it couldn't be read.
 fn entry_with(
     is_variable: bool,
     id: Option<u32>,
@@ -88,7 +88,7 @@ fn entry_with(
     }
 }
 
-/// The stack entry that fields say, judged alone.
+/// The stack entry with these fields, judged by itself.
 fn stack_entry(lines: &[Line], fields: &[Field]) -> Result<StackEntry, RefusalKind>
     ensures { result ≡ stack_entry_of lines.now fields.now }
 {
@@ -102,7 +102,7 @@ fn stack_entry(lines: &[Line], fields: &[Field]) -> Result<StackEntry, RefusalKi
     entry_with(is_variable, id, size, align)
 }
 
-/// Why an entry can't stand behind so many others, where one of them may have its number.
+/// Why an entry can't be added to `count` others: its number is taken, or the limit is reached.
 fn clash(is_there: bool, count: usize) -> Option<RefusalKind>
     ensures { result ≡ clash is_there count }
 {
@@ -125,7 +125,7 @@ fn refusal_at(line: u32, cause: Option<RefusalKind>) -> Option<Refusal>
     }
 }
 
-/// Judges one entry more. The set has the numbers of the entries so far.
+/// Judges one more entry. The set has the numbers of the entries so far.
 fn judge(
     read: &mut StackRead,
     ids: &mut BTreeSet<u32>,
@@ -150,7 +150,7 @@ fn judge(
     }
 }
 
-/// The stack entries under `stack`, of which these are the lines, and the first refusal.
+/// The stack entries in the lines of `stack`, and the first refusal.
 pub fn stack(alloc: Global, lines: &[Line]) -> Result<StackRead, AllocError>
     ensures { IfOk result (λ read. read ≡ stack_of lines.now) }
 {

@@ -1,4 +1,4 @@
-//! The tokens of a key's lines, in one stream.
+//! The tokens of a key's lines, as one stream.
 
 ghost use Rattle.std.specs.Prelude.{◌≡◌, ◌++◌, map, take, IfOk, OnOk};
 ghost use Rattle.read_lexer.specs.Line.{tokens_of};
@@ -25,11 +25,11 @@ use std::alloc::{AllocError, Global};
 /// A token of a key's lines.
 #[derive(Clone, Copy, Debug)]
 pub struct Piece {
-    /// The index of its line among the key's.
+    /// The index of its line among the key's lines.
     pub at: usize,
-    /// The number of its line in the text.
+    /// The number of its line in the text, counted from 1.
     pub line: u32,
-    /// The token, by its place in the line.
+    /// The token, as a span of its line.
     pub token: Token,
 }
 
@@ -50,7 +50,7 @@ pub struct TokenStream {
     pub fault: Option<Refusal>,
 }
 
-/// The tokens of a text, and none where it has a fault.
+/// The tokens of a text, or none if it has a fault.
 fn tokens_or_none(alloc: Global, text: &[u8]) -> Result<Tokens, AllocError>
     ensures { IfOk result (λ ts. ts ≡ tokens_or_none (tokens_of text.now)) }
 {
@@ -61,14 +61,14 @@ fn tokens_or_none(alloc: Global, text: &[u8]) -> Result<Tokens, AllocError>
     }
 }
 
-/// The first bytes of a text, as far as there are so many.
+/// The first `len` bytes of a text, or all if there are fewer.
 fn front(text: &[u8], len: usize) -> &[u8]
     ensures { result.now ≡ take len text.now }
 {
     if len < text.len() { &text[..len] } else { text }
 }
 
-/// The tokens of a text up to a fault that it may have.
+/// The tokens of a text up to its first fault, if it has one.
 fn tokens_up_to(alloc: Global, text: &[u8]) -> Result<Tokens, AllocError>
     ensures { IfOk result (λ ts. ts ≡ tokens_up_to text.now (tokens_of text.now)) }
 {
@@ -121,7 +121,7 @@ fn push_pieces(
     Ok(())
 }
 
-/// The tokens of a key's lines, comments left out, up to the first fault.
+/// The tokens of a key's lines without comments, up to the first fault.
 pub fn stream(alloc: Global, lines: &[Line]) -> Result<TokenStream, AllocError>
     ensures { IfOk result (λ stream. stream ≡ stream_of lines.now) }
 {

@@ -20,7 +20,7 @@ pub struct SubstitutionsRead {
     pub refused: Option<Refusal>,
 }
 
-/// The operand of a number and an index, if both are read.
+/// A pair of an instruction number and an operand index, if both could be read.
 fn pair(number: Option<u32>, operand: Option<u32>) -> Option<OperandPair>
     ensures { result ≡ pair_of number operand }
 {
@@ -33,7 +33,7 @@ fn pair(number: Option<u32>, operand: Option<u32>) -> Option<OperandPair>
     }
 }
 
-/// The substitution that fields say.
+/// The substitution with these fields, if all of them could be read.
 fn substitution_in(lines: &[Line], fields: &[Field]) -> Option<Entry>
     ensures { result ≡ substitution_of lines.now fields.now }
 {
@@ -52,7 +52,7 @@ fn substitution_in(lines: &[Line], fields: &[Field]) -> Option<Entry>
     }
 }
 
-/// Judges one entry more.
+/// Judges one more entry.
 fn judge(read: &mut SubstitutionsRead, line: u32, entry: Option<Entry>) -> Result<(), AllocError>
     ensures { OnOk result (read.new ≡ substituted read.old line entry) }
 {
@@ -65,7 +65,7 @@ fn judge(read: &mut SubstitutionsRead, line: u32, entry: Option<Entry>) -> Resul
     }
 }
 
-/// The substitutions under `debugValueSubstitutions`, of which these are the lines, and the first refusal.
+/// The substitutions in the lines of `debugValueSubstitutions`, and the first refusal.
 pub fn substitutions(alloc: Global, lines: &[Line]) -> Result<SubstitutionsRead, AllocError>
     ensures { IfOk result (λ read. read ≡ substitutions_of lines.now) }
 {

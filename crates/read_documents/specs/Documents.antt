@@ -1,4 +1,4 @@
--- The documents of a file, which are a function of the list of its lines.
+-- The YAML documents of a machine IR file, as a function of its lines.
 use Rattle.std.specs.Prelude.{ℕ, zero, suc, ◌+◌, Bool, true, false, not, ◌&&◌, ◌||◌, nat_lt, if◌then◌else◌, List, [], ◌∷◌, ◌++◌, length, filter, Option, Some}
 use Rattle.std.specs.Prelude.{None, is_none, unwrap_or}
 use Rattle.std.specs.List.{list_any, before_first, position_or_len}
@@ -31,18 +31,19 @@ begins key line = option_map_or (same_key key) (heading line.text) false
 abbrev pub has_key : Key → List Line → Bool
 has_key key lines = list_any (begins key) lines
 
--- the key under which a line stands: its own, or that of the line before
+-- the key that a line belongs to: the one that it begins with, else that of the line before
 abbrev pub key_behind : Key → Line → Key
 key_behind before line = unwrap_or (heading line.text) before
 
--- the lines that stand under a key, where `before` is the key of the line before
+-- the lines that belong to a key, where `before` is the key of the line before the first
 unfoldable pub lines_under : Key → Key → List Line → List Line
 lines_under key before [] = []
 lines_under key before (line ∷ lines) =
     if same_key key (key_behind before line) then line ∷ lines_under key (key_behind before line) lines
     else lines_under key (key_behind before line) lines
 
--- a function's key lines and the lines behind `body`, with the numbers of the lines that open and close it
+-- the document of a function: the lines of each key that is kept, those of `body` without the key's own line, and the numbers of the lines that open and
+-- close it
 unfoldable pub function_document : ℕ → List Line → ℕ → FunctionDocument
 function_document opened lines closed = record {
   opened = opened;
@@ -54,19 +55,19 @@ function_document opened lines closed = record {
   body = filter (λ line. is_none (heading line.text)) (lines_under Body Other lines);
 }
 
--- a key that is kept stands only once in a function
+-- a line begins with a key that is kept and that an earlier line of the function begins with too
 abbrev pub is_repeated : List Line → Line → Bool
 is_repeated earlier line = option_map_or (λ key. not (same_key key Other) && has_key key earlier) (heading line.text) false
 
--- before `body` a line that isn't plain begins with a key
+-- a line before `body` begins with no key and isn't plain
 abbrev pub is_stray : List Line → Line → Bool
 is_stray earlier line = is_none (heading line.text) && (not (is_plain line.text) && not (has_key Body earlier))
 
--- whether a line can't stand in a function behind the lines that are `earlier` in it
+-- whether a line is a fault in a function, after the lines `earlier` of that function
 unfoldable pub is_fault : List Line → Line → Bool
 is_fault earlier line = (opens_block line.text || opens_function line.text) || (is_repeated earlier line || is_stray earlier line)
 
--- the number of the first line that can't stand in a function, behind the lines that are `earlier` in it
+-- the number of the first line that is a fault in a function, after the lines `earlier` of it
 unfoldable pub first_fault : List Line → List Line → Option ℕ
 first_fault earlier [] = None
 first_fault earlier (line ∷ lines) = if is_fault earlier line then Some line.number else first_fault (earlier ++ line ∷ []) lines
@@ -77,31 +78,32 @@ is_complete lines = has_key Name lines && has_key Body lines
 
 -- ---- documents
 
--- the lines up to the first that closes a document
+-- the lines before the first that closes a document, or all of them
 unfoldable pub inside : List Line → List Line
 inside lines = before_first (λ line. is_close line.text) lines
 
--- whether a line closes the document
+-- whether one of the lines closes the document
 unfoldable pub is_closed : List Line → Bool
 is_closed lines = nat_lt (position_or_len (λ line. is_close line.text) lines) (length lines)
 
--- reading ends at a line
+-- no documents, and a fault at this line
 abbrev pub stops : ℕ → Documents
 stops number = record { meta = []; functions = []; bad = Some number }
 
--- The block whose marks `opened` begins and `lines` stand behind, and the documents behind it. A block that isn't closed is a fault at the last line.
+-- The IR block that line `opened` opens, where `lines` are all lines after that one and `others` the documents after the block. A block that isn't closed
+-- is a fault at the last line.
 unfoldable pub block_from : ℕ → List Line → Documents → Documents
 block_from opened lines others =
     if is_closed lines then record others { meta = inside lines ++ others.meta }
     else record { meta = inside lines; functions = []; bad = Some (opened + length lines) }
 
--- reading ends at a function's first fault, if it has one
+-- a fault at this line, if there is one, and else the documents `others`
 abbrev pub fault_or : Option ℕ → Documents → Documents
 fault_or (Some number) others = stops number
 fault_or None others = others
 
--- The function that is opened at a line, where `lines` stand behind it, and the documents behind it. A function without
--- a name or a body is a fault at the line that opens it, and one that isn't closed at the last line.
+-- The function that line `opened` opens, where `lines` are all lines after that one and `others` the documents after the function. The first fault inside
+-- ends the list. A function without a name or a body is a fault at the line that opens it, and one that isn't closed a fault at the last line.
 unfoldable pub function_from : ℕ → List Line → Documents → Documents
 function_from opened lines others =
     fault_or (first_fault [] (inside lines))
@@ -111,8 +113,7 @@ function_from opened lines others =
     else stops (opened + length lines))
     else stops opened)
 
--- The documents of lines. The first `skipped` of them belong to a document that was read. `had_block` says whether the
--- block with the IR came before.
+-- The documents of lines. The first `skipped` lines belong to a document that has been read. `had_block` is whether the IR block came before.
 unfoldable pub documents_from : ℕ → Bool → List Line → Documents
 documents_from skipped had_block [] = record { meta = []; functions = []; bad = None }
 documents_from (suc skipped) had_block (line ∷ lines) = documents_from skipped had_block lines

@@ -1,4 +1,4 @@
-//! A text is cut into documents.
+//! The call that cuts a text into documents.
 
 ghost use Rattle.std.specs.Prelude.{◌≡◌, ◌<◌, ◌^◌, length, IfOk};
 ghost use Rattle.read_documents.specs.Documents.{documents_of};
@@ -8,7 +8,7 @@ use crate::scan::Scan;
 use crate::text::{first_line, trimmed};
 use std::alloc::{AllocError, Global};
 
-/// The documents of a text, up to the first line where it is no sequence of documents.
+/// The documents of a text, up to the first line where it is no sequence of documents. The error is want of memory.
 pub fn documents(alloc: Global, text: &[u8]) -> Result<Documents, AllocError>
     requires { length text.now < 2 ^ 31 }
     ensures { IfOk result (λ documents. documents ≡ documents_of text.now) }

@@ -1,4 +1,4 @@
-//! The marks between documents, and the keys of a function.
+//! The marker lines between documents, and the keys of a function's document.
 
 ghost use Rattle.std.specs.Prelude.{◌≡◌};
 ghost use Rattle.std.specs.List.{prefix_len};
@@ -6,7 +6,7 @@ ghost use Rattle.read_documents.specs.Key.{is_close, opens_block, opens_function
 ghost use Rattle.read_documents.specs.Key.{key_of};
 ghost use Rattle.read_documents.specs.Key.{heading};
 
-/// A key at the start of a function's line.
+/// A key at the start of a line of a function's document.
 #[derive(Clone, Copy, Debug, PartialEq, Eq)]
 pub enum Key {
     Name,
@@ -14,11 +14,11 @@ pub enum Key {
     FixedStack,
     DebugValueSubstitutions,
     Body,
-    /// A key whose lines are passed over.
+    /// Any other key: its lines are ignored.
     Other,
 }
 
-/// Whether a line closes a document.
+/// Whether a line is `...`, which closes a document.
 #[tactic(auto, unfolding(crate::specs::Key::is_close))]
 pub fn is_close(text: &[u8]) -> bool
     ensures { result ≡ is_close text.now }
@@ -26,7 +26,7 @@ pub fn is_close(text: &[u8]) -> bool
     text == b"...".as_slice()
 }
 
-/// Whether a line opens the block with the IR.
+/// Whether a line is `--- |`, which opens the IR block.
 #[tactic(auto, unfolding(crate::specs::Key::opens_block))]
 pub fn opens_block(text: &[u8]) -> bool
     ensures { result ≡ opens_block text.now }
@@ -34,7 +34,7 @@ pub fn opens_block(text: &[u8]) -> bool
     text == b"--- |".as_slice()
 }
 
-/// Whether a line opens a function.
+/// Whether a line is `---`, which opens a function.
 #[tactic(auto, unfolding(crate::specs::Key::opens_function))]
 pub fn opens_function(text: &[u8]) -> bool
     ensures { result ≡ opens_function text.now }
@@ -42,35 +42,35 @@ pub fn opens_function(text: &[u8]) -> bool
     text == b"---".as_slice()
 }
 
-/// Whether a line outside documents is passed over.
+/// Whether a line between documents is ignored: it is empty, or begins with `#` or `;`.
 pub fn is_passed(text: &[u8]) -> bool
     ensures { result ≡ is_passed text.now }
 {
     matches!(text, [] | [b'#' | b';', ..])
 }
 
-/// Whether a function's line may stand before its body without a key.
+/// Whether a function's line before `body` may lack a key: it is empty, or begins with a space, `-` or `#`.
 pub fn is_plain(text: &[u8]) -> bool
     ensures { result ≡ is_plain text.now }
 {
     matches!(text, [] | [b' ' | b'-' | b'#', ..])
 }
 
-/// Whether a byte may stand in a key.
+/// Whether a byte may be part of a key: a letter, a digit or `_`.
 fn is_key_byte(byte: u8) -> bool
     ensures { result ≡ is_key_byte byte }
 {
     byte.is_ascii_alphanumeric() || byte == b'_'
 }
 
-/// How many bytes that may stand in a key are at the front.
+/// The number of key bytes at the front.
 fn key_len(text: &[u8]) -> usize
     ensures { result ≡ prefix_len is_key_byte text.now }
 {
     text.iter().take_while(|b| is_key_byte(**b)).count()
 }
 
-/// The key with a name.
+/// The key that a name spells.
 fn key_of(name: &[u8]) -> Key
     ensures { result ≡ key_of name.now }
 {
@@ -89,7 +89,7 @@ fn key_of(name: &[u8]) -> Key
     }
 }
 
-/// The key that a line begins with, if a name and `:` stand at its start.
+/// The key at the start of a line: one or more key bytes and then `:`.
 #[tactic(auto, unfolding(crate::specs::Key::heading))]
 pub fn heading(text: &[u8]) -> Option<Key>
     ensures { result ≡ heading text.now }

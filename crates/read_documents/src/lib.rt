@@ -1,9 +1,10 @@
-//! The documents of a machine IR file.
+//! The YAML documents of a machine IR file: its IR block and the document of each machine function, as lists of
+//! lines.
 //!
-//! The file is a stream of YAML documents, cut at marks that stand alone on a line: `--- |` opens the block with the
-//! LLVM IR and its metadata, `---` opens a machine function, and `...` closes either. A function's lines stand under
-//! keys at the line's start, of which five are kept with their lines. This layer says which line belongs where, and
-//! at which line a file that isn't cut so goes wrong. It doesn't look into the lines that it keeps.
+//! The documents are separated by marker lines: `--- |` opens the block with the LLVM IR and its metadata, `---`
+//! opens a machine function, and `...` closes either. In a function's document each line belongs to the last key at
+//! the start of a line; the lines of five keys are kept. This crate only sorts lines and finds the first line where
+//! the file isn't such a sequence of documents. It doesn't parse the lines that it keeps.
 #![tactic(auto)]
 
 pub mod frame;

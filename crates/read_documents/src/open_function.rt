@@ -1,4 +1,4 @@
-//! A function between the line that opens it and the one that closes it.
+//! The document of a function that isn't closed yet.
 
 ghost use Rattle.std.specs.Prelude.{◌≡◌, OnOk, IfOk};
 ghost use Rattle.read_documents.specs.steps.Scan.{just_opened, has, can_not_take, with_line, taken, can_close};
@@ -10,11 +10,11 @@ use base_list::List;
 use read_lexer::line::{Line, Lines};
 use std::alloc::{AllocError, Global};
 
-/// A function that isn't closed yet, with the lines so far of each key that is kept.
+/// The document of a function that isn't closed yet: the lines so far of each key that is kept.
 #[derive(Drop)]
 pub struct OpenFunction {
     pub opened: u32,
-    /// The key under which the last line stands.
+    /// The key that the last line belongs to.
     pub key: Key,
     pub has_body: bool,
     pub name: Lines,
@@ -35,7 +35,7 @@ pub fn line_of(alloc: Global, number: u32, text: &[u8]) -> Result<Line, AllocErr
 }
 
 impl OpenFunction {
-    /// A function right behind the line that opens it.
+    /// A function right after the line that opens it.
     pub fn new(alloc: Global, opened: u32) -> OpenFunction
         ensures { result ≡ just_opened opened }
     {
@@ -51,7 +51,7 @@ impl OpenFunction {
         }
     }
 
-    /// Whether a key that is kept was met.
+    /// Whether a line with this key came already, for a key that is kept.
     fn has(&self, key: Key) -> bool
         ensures { result ≡ has self.now key }
     {
@@ -65,7 +65,7 @@ impl OpenFunction {
         }
     }
 
-    /// Whether a line can't stand in the function.
+    /// Whether a line is a fault in the function.
     pub fn can_not_take(&self, text: &[u8]) -> bool
         ensures { result ≡ can_not_take self.now text.now }
     {
@@ -78,7 +78,7 @@ impl OpenFunction {
         }
     }
 
-    /// Takes the next line. A key that is kept has it, and another key's line is passed over.
+    /// Appends the next line to those of its key, if that key is kept, and else ignores it.
     pub fn take(&mut self, alloc: Global, number: u32, text: &[u8]) -> Result<(), AllocError>
         ensures { OnOk result (self.new ≡ taken self.old (record { number = number; text = text.now })) }
     {
@@ -96,7 +96,7 @@ impl OpenFunction {
         }
     }
 
-    /// Appends a line to those of the key under which it stands.
+    /// Appends a line to those of the current key, if that key is kept.
     fn keep(&mut self, alloc: Global, number: u32, text: &[u8]) -> Result<(), AllocError>
         ensures { OnOk result (self.new ≡ with_line self.old self.old.key (record {
           number = number;
@@ -121,7 +121,7 @@ impl OpenFunction {
         !self.name.is_empty() && self.has_body
     }
 
-    /// The function, closed at a line.
+    /// The document of the function, once the line with number `closed` closes it.
     pub fn close(self, closed: u32) -> FunctionDocument
         ensures { result ≡ closed_at self closed }
     {

@@ -1,10 +1,10 @@
-//! What a file is cut into.
+//! The documents of a file, and of each function.
 
 use base_list::List;
 use read_lexer::line::Lines;
 
-/// A function that was closed. The lines of a key begin with the key's own line, those of `body` behind it; a key that
-/// is missing has no lines.
+/// The document of a function that was closed. The lines of a key begin with the key's own line, but those of `body`
+/// after it. A key that is missing has no lines.
 #[derive(Debug, Drop)]
 pub struct FunctionDocument {
     /// The number of the line that opens the function.
@@ -19,20 +19,20 @@ pub struct FunctionDocument {
     pub fixed: Lines,
     /// The lines of `debugValueSubstitutions`.
     pub substitutions: Lines,
-    /// The lines behind `body`.
+    /// The lines after `body:`.
     pub body: Lines,
 }
 
 /// Functions in the order of the file.
 pub type FunctionDocuments = List<FunctionDocument>;
 
-/// The documents of a file, up to the first line where it goes wrong.
+/// The documents of a file, up to its first fault.
 #[derive(Debug, Drop)]
 pub struct Documents {
-    /// The lines of the block with the IR, without its marks.
+    /// The lines of the IR block, without its marker lines.
     pub meta: Lines,
-    /// The functions that were closed.
+    /// The functions that were closed, in the order of the file.
     pub functions: FunctionDocuments,
-    /// The number of the line where the file is no sequence of documents, and None where it is one.
+    /// The number of the first line where the file is no sequence of documents; `None` if it is one.
     pub bad: Option<u32>,
 }

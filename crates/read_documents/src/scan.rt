@@ -1,4 +1,4 @@
-//! The documents of a file, read one line after the other.
+//! The scan that cuts a text into documents, line by line.
 
 ghost use Rattle.std.specs.Prelude.{◌≡◌, OnOk};
 ghost use Rattle.read_documents.specs.steps.Scan.{start, outside_fault, function_fault, fault, block_step};
@@ -12,12 +12,12 @@ use base_list::List;
 use read_lexer::line::Lines;
 use std::alloc::{AllocError, Global};
 
-/// What was read, and which document is open.
+/// The documents read so far, and which document is open.
 #[derive(Drop)]
 pub struct Scan {
-    /// Whether the block with the IR was met.
+    /// Whether an IR block came already.
     pub had_block: bool,
-    /// Whether that block is open.
+    /// Whether the IR block is open.
     pub in_block: bool,
     /// The function that is open, if one is.
     pub function: Option<OpenFunction>,
@@ -25,7 +25,7 @@ pub struct Scan {
     pub functions: FunctionDocuments,
 }
 
-/// The line that a fault in a function stands at, if its next line shows one.
+/// The line number of a fault in a function, if the next line reveals one.
 fn function_fault(function: &OpenFunction, number: u32, text: &[u8]) -> Option<u32>
     ensures { result ≡ function_fault function.now (record { number = number; text = text.now }) }
 {
@@ -43,7 +43,7 @@ fn function_fault(function: &OpenFunction, number: u32, text: &[u8]) -> Option<u
 }
 
 impl Scan {
-    /// The scan before the first line.
+    /// The state before the first line.
     pub fn new(alloc: Global) -> Scan
         ensures { result ≡ start }
     {
@@ -56,7 +56,7 @@ impl Scan {
         }
     }
 
-    /// The line that a fault stands at, if the next line shows one.
+    /// The line number of a fault, if the next line reveals one.
     pub fn fault(&self, number: u32, text: &[u8]) -> Option<u32>
         ensures { result ≡ fault self.now (record { number = number; text = text.now }) }
     {
@@ -67,7 +67,7 @@ impl Scan {
         }
     }
 
-    /// The line that a fault outside documents stands at, if the next line shows one.
+    /// The line number of a fault outside documents, if the next line is one.
     fn outside_fault(&self, number: u32, text: &[u8]) -> Option<u32>
         ensures { result ≡ outside_fault self.now (record { number = number; text = text.now }) }
     {
@@ -82,7 +82,7 @@ impl Scan {
         }
     }
 
-    /// Takes the next line, which shows no fault.
+    /// Takes the next line, which isn't a fault.
     pub fn take(&mut self, alloc: Global, number: u32, text: &[u8]) -> Result<(), AllocError>
         ensures { OnOk result (self.new ≡ step self.old (record { number = number; text = text.now })) }
     {
@@ -104,7 +104,7 @@ impl Scan {
         }
     }
 
-    /// Takes a line of the block.
+    /// Takes a line of the IR block.
     fn take_in_block(&mut self, alloc: Global, number: u32, text: &[u8]) -> Result<(), AllocError>
         ensures { OnOk result (self.new ≡ block_step self.old (record { number = number; text = text.now })) }
     {
@@ -130,7 +130,7 @@ impl Scan {
         }
     }
 
-    /// The line that a fault stands at where the text ends behind the line `last`, if one does.
+    /// The line number of a fault at the end of the text, whose last line has number `last`, if there is one.
     pub fn fault_at_end(&self, last: u32) -> Option<u32>
         ensures { result ≡ fault_at_end self.now self.now.function last }
     {
@@ -142,7 +142,7 @@ impl Scan {
         }
     }
 
-    /// What was read.
+    /// The documents read so far, with the line number of the fault, if any.
     pub fn found(self, bad: Option<u32>) -> Documents
         ensures { result ≡ found self bad }
     {

@@ -1,11 +1,11 @@
-//! A text is cut into lines.
+//! The lines of a text.
 
 ghost use Rattle.std.specs.Prelude.{◌≡◌, ◌∷◌, ◌==◌, ◌<◌, length, position, IfSome};
 ghost use Rattle.std.specs.Str.Lines.{lines, strip_carriage_return};
 ghost use Rattle.read_documents.specs.Lines.{trimmed};
 
-/// The first line of a text without its ending, and the text behind it. A line ends at LF, and with it goes one CR
-/// before it. What stands behind the last LF is a line too.
+/// The first line of a text without its ending, and the text after it. A line ends at LF, and one CR right before the
+/// LF belongs to the ending. Bytes after the last LF are a line too.
 pub fn first_line(text: &[u8]) -> (&[u8], &[u8])
     requires { 0 < length text.now }
     ensures cut { lines text.now ≡ result.0.now ∷ lines result.1.now }
@@ -17,7 +17,7 @@ pub fn first_line(text: &[u8]) -> (&[u8], &[u8])
     }
 }
 
-/// The place of the first LF.
+/// The index of the first LF.
 fn line_feed(text: &[u8]) -> Option<usize>
     ensures place { result ≡ position (λ b. b == 10) text.now }
     ensures within { IfSome result (λ i. i < length text.now) }
@@ -25,7 +25,7 @@ fn line_feed(text: &[u8]) -> Option<usize>
     text.iter().position(|b| *b == b'\n')
 }
 
-/// A line without a CR at its end.
+/// A line without one CR at its end.
 fn without_carriage_return(line: &[u8]) -> &[u8]
     ensures { result.now ≡ strip_carriage_return line.now }
 {

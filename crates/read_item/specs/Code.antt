@@ -1,4 +1,4 @@
--- What a line of code means, or why it is refused.
+-- The instruction that a line of code is, or why the line is refused.
 use Rattle.std.specs.Prelude.{ℕ, ℤ, ◌+◌, Bool, true, false, not, ◌&&◌, ◌||◌, nat_eq, nat_lt, if◌then◌else◌, length, List, [], ◌∷◌, ◌++◌, pos, Option, Some}
 use Rattle.std.specs.Prelude.{None, Result, Ok, Err}
 use Rattle.std.specs.List.{list_any, zip}
@@ -23,43 +23,45 @@ use Rattle.read_item.specs.declared.place.Place.{Place}
 use Rattle.read_item.specs.declared.place.Place.TheVariants as place
 use Rattle.read_item.specs.Place.{places, front, behind}
 
--- how many operands a line may have, those that it sets and implicit ones included
+-- how many operands a line may have, counting the registers before the `=` and implicit ones
 abbrev pub MAX_OPERANDS : ℕ
 MAX_OPERANDS = 64
 
--- a rule that refuses a line where it is broken
+-- a check of a line: whether the line fails it, and the refusal if it does
 pub record Rule : Type 0 where
   pub broken : Bool
   pub refusal : RefusalKind
 
--- the refusal by rules: that of the first that is broken. Rules stand in the order of their refusals' numbers, so it has the lowest
+-- the refusal of the first check that fails. Checks are listed in the order of their refusals' numbers, so it has the lowest number
 abbrev pub refusal_by : List Rule → Option RefusalKind
 refusal_by [] = None
 refusal_by (r ∷ rs) = if r.broken then Some r.refusal else refusal_by rs
 
--- what stands in place of an operand that has a refusal of its own, so that the line's other operands are judged beside it: x10, 0, block 0, no name
+-- the number of the register that replaces an operand which has a check of its own, so that the other operands can be checked too (other kinds of operands
+-- are replaced by 0, block 0 or the empty name)
 abbrev pub STAND_IN : ℕ
 STAND_IN = 10
 
--- the number of a register. A virtual one counts as x10 here, and has a rule of its own
+-- the number of a register. A virtual register counts as x10 here, since it has a check of its own
 abbrev pub number_of : RegisterName → Option ℕ
 number_of (Physical r) = Some r
 number_of (Virtual n) = Some STAND_IN
 number_of Absent = None
 number_of Other = None
 
--- a register behind the opcode: one that is read, unless it is implicit
+-- a register after the opcode: a use, an implicit use or an implicit def
 abbrev pub named : Flag → ℕ → Operand
 named Plain r = operand.Use r
 named Implicit r = operand.ImplicitUse r
 named ImplicitDef r = operand.ImplicitDef r
 
--- a register behind the opcode, if it has a number: `$noreg` and unknown registers have none
+-- a register after the opcode, if it has a number: `$noreg` and unknown registers have none
 abbrev pub used : Flag → Option ℕ → Option Operand
 used flag None = None
 used flag (Some r) = Some (named flag r)
 
--- `%stack.N` in a place. Where it can't stand it counts as what can, and there is a rule of its own
+-- `%stack.N` at an operand position. At a position that takes none it counts as an operand that fits, since it has a check of its own; at an implicit
+-- position it is none
 abbrev pub stack_operand : Place → ℕ → Option Operand
 stack_operand place.Object n = Some (operand.Object n)
 stack_operand place.Slot n = Some (operand.Slot n)
@@ -70,12 +72,12 @@ stack_operand place.Symbol n = Some (operand.Symbol [])
 stack_operand place.Mask n = Some operand.Mask
 stack_operand place.Implicit n = None
 
--- an immediate, unless the integer doesn't fit 64 bits signed
+-- an immediate, if the integer fits 64 bits signed
 abbrev pub number_operand : Option ℤ → Option Operand
 number_operand None = None
 number_operand (Some i) = Some (operand.Imm i)
 
--- the operand of an instruction that an operand of the line is in a place, if code has such operands
+-- the instruction operand for an operand of the line at a position; none if it can't be one in code
 abbrev pub operand_at : Place → OperandForm → Option Operand
 operand_at p (form.Register r) = used r.flag (number_of r.name)
 operand_at p (form.Integer i) = number_operand i
@@ -87,110 +89,110 @@ operand_at p (form.Node n) = None
 operand_at p (form.Expression e) = None
 operand_at p (form.Reference r) = None
 
--- an operand before others, if all are there
+-- an operand before others, if all exist
 abbrev pub before : Option Operand → Option (List Operand) → Option (List Operand)
 before None rest = None
 before (Some o) None = None
 before (Some o) (Some rest) = Some (o ∷ rest)
 
--- some operands before others, if those are there
+-- operands before others, if the others exist
 abbrev pub append_to : List Operand → Option (List Operand) → Option (List Operand)
 append_to xs None = None
 append_to xs (Some ys) = Some (xs ++ ys)
 
--- some operands before others, if all are there
+-- operands before others, if all exist
 abbrev pub joined : Option (List Operand) → Option (List Operand) → Option (List Operand)
 joined None rest = None
 joined (Some xs) rest = append_to xs rest
 
--- the operand that a register before the `=` is: none with an `implicit` or `implicit-def` flag
+-- the def for a register before the `=`; none if it is flagged `implicit` or `implicit-def`
 abbrev pub set_by : Flag → Option ℕ → Option Operand
 set_by Plain (Some r) = Some (operand.Def r)
 set_by Plain None = None
 set_by Implicit n = None
 set_by ImplicitDef n = None
 
--- a register before the `=`: it is set, and isn't implicit
+-- the def for a register before the `=`, if it is a known register without a flag
 abbrev pub definition : RegisterForm → Option Operand
 definition r = set_by r.flag (number_of r.name)
 
--- the registers before the `=`
+-- the defs for the registers before the `=`, if all exist
 unfoldable pub definitions : List RegisterForm → Option (List Operand)
 definitions [] = Some []
 definitions (r ∷ rs) = before (definition r) (definitions rs)
 
--- the operands behind the opcode, each in its place
+-- the operands after the opcode, each at its position, if each exists
 unfoldable pub placed : List Place → List OperandForm → Option (List Operand)
 placed ps [] = Some []
 placed ps (o ∷ os) = before (operand_at (front ps) o) (placed (behind ps) os)
 
--- the number of the operand is one behind which `%stack.N` is a frame slot: what is moved are all its eight bytes
+-- whether a load or store of this width with this offset operand accesses a whole spill slot: eight bytes at offset 0
 abbrev pub is_whole_slot : (width : ℕ) → OperandForm → Bool
 is_whole_slot width (form.Integer (Some i)) = moves_slot width i
 is_whole_slot width _ = false
 
--- a `%stack.N` of the line stands for a frame slot, and not for an object: `rd = LD %stack.N, 0` and `SD rs, %stack.N, 0`
+-- whether a `%stack.N` address on this line is a spill slot and not a stack object, as in `rd = LD %stack.N, 0` and `SD rs, %stack.N, 0`
 abbrev pub names_slot : Op → List OperandForm → Bool
 names_slot (Load op) (address ∷ number ∷ rest) = is_whole_slot (load_width op) number
 names_slot (Store op) (rs ∷ address ∷ number ∷ rest) = is_whole_slot (store_width op) number
 names_slot _ _ = false
 
--- the places of the line's operands
+-- the positions of the line's operands after the opcode
 abbrev pub places_of : Op → ItemForm → List Place
 places_of op line = places op (names_slot op line.operands)
 
--- the operands of the instruction, if code has such operands
+-- the operands of the instruction, defs first, if each exists
 unfoldable pub operands_of : Op → ItemForm → Option (List Operand)
 operands_of op line = joined (definitions line.definitions) (placed (places_of op line) line.operands)
 
--- the operands have the form of the opcode
+-- whether the operands exist and have the form of the opcode
 abbrev pub fits : Op → Option (List Operand) → Bool
 fits op None = false
 fits op (Some operands) = has_form op operands
 
--- a virtual register `%N`, for which a line of code has a refusal of its own
+-- whether a register is virtual, `%N`, which is refused in code
 abbrev pub is_virtual : RegisterForm → Bool
 is_virtual r = elim r.name as (λ _. Bool) [ Physical n ↦ false | Absent ↦ false | Other ↦ false | Virtual n ↦ true ]
 
--- a virtual register
+-- whether an operand is a virtual register
 abbrev pub is_virtual_operand : OperandForm → Bool
 is_virtual_operand (form.Register r) = is_virtual r
 is_virtual_operand _ = false
 
--- a register of that number, not implicit
+-- whether a register is the physical one of this number, without a flag
 abbrev pub is_named : Flag → RegisterName → ℕ → Bool
 is_named Plain (Physical r) n = nat_eq r n
 is_named _ _ n = false
 
--- the stack pointer x2, not implicit
+-- whether a register is the stack pointer x2, without a flag
 abbrev pub is_pointer : RegisterForm → Bool
 is_pointer r = is_named r.flag r.name 2
 
--- the stack pointer x2 behind the opcode, not implicit
+-- whether an operand is the stack pointer x2, without a flag
 abbrev pub is_pointer_operand : OperandForm → Bool
 is_pointer_operand (form.Register r) = is_pointer r
 is_pointer_operand _ = false
 
--- a `%stack.N`, be it a frame slot or an object
+-- whether an operand is `%stack.N`, a spill slot or a stack object
 abbrev pub is_stack : OperandForm → Bool
 is_stack (form.Slot n) = true
 is_stack _ = false
 
--- a place of an address, where `%stack.N` can stand
+-- whether a position is one of an address, where `%stack.N` is allowed
 abbrev pub is_address : Place → Bool
 is_address place.Object = true
 is_address place.Slot = true
 is_address _ = false
 
--- a `%stack.N` where none can stand
+-- whether an operand is `%stack.N` at a position that takes none
 abbrev pub is_misplaced : Place × OperandForm → Bool
 is_misplaced at = is_stack at.1 && not (is_address at.0)
 
--- the line has more operands than it may have
+-- whether the line has too many operands
 abbrev pub is_long : ItemForm → Bool
 is_long line = nat_lt MAX_OPERANDS (length line.definitions + length line.operands)
 
--- the rules of a line of code
+-- the checks of a line of code
 abbrev pub code_rules : Op → ItemForm → List Rule
 code_rules op line =
     record { broken = line.exceeds || not (fits op (operands_of op line)); refusal = kinds.BadOperands } ∷
@@ -199,16 +201,16 @@ code_rules op line =
     record { broken = list_any is_misplaced (zip (places_of op line) line.operands); refusal = kinds.StackObject } ∷
     record { broken = is_long line; refusal = kinds.TooMany } ∷ []
 
--- the instruction of an opcode and its operands; without any where the line's can't be those of code
+-- the instruction of an opcode and these operands, or of no operands if there are none
 abbrev pub instruction : Op → Option (List Operand) → Instruction
 instruction op None = record { op = op; operands = [] }
 instruction op (Some operands) = record { op = op; operands = operands }
 
--- a result, unless a rule refuses the line
+-- a result, unless the line is refused
 abbrev pub unless_refused : {A : Type 0} → Option RefusalKind → A → Result A RefusalKind
 unless_refused None a = Ok a
 unless_refused (Some kind) a = Err kind
 
--- what a line of code means: the instruction of its operands, unless a rule is broken
+-- the instruction that a line of code is, or the refusal of the first check that fails
 unfoldable pub code_of : Op → ItemForm → Result Instruction RefusalKind
 code_of op line = unless_refused (refusal_by (code_rules op line)) (instruction op (operands_of op line))

@@ -1,4 +1,4 @@
--- What an item line means, or why it is refused.
+-- The item that a line is, or why the line is refused.
 use Rattle.std.specs.Prelude.{ℕ, pos, Bool, false, ◌&&◌, is_none, if◌then◌else◌, List, ◌∷◌, Option, Some, None, Result, Ok, Err}
 use Rattle.std.specs.Ordering.{int_eq}
 use Rattle.std.specs.List.{filter_map}
@@ -28,31 +28,31 @@ entry_of _ = None
 abbrev pub entries_of : List OperandForm → List ℕ
 entries_of operands = filter_map entry_of operands
 
--- code with the debug instruction number of its line
+-- an instruction with the debug instruction number of its line
 abbrev pub numbered : Option ℕ → Result Instruction RefusalKind → Result ItemKind RefusalKind
 numbered number (Ok instr) = Ok (items.Code instr number)
 numbered number (Err refusal) = Err refusal
 
--- an item with the location of its line and the stack entries that the line names
+-- an item with the debug location of its line and the numbers of the `%stack.N` on it
 abbrev pub item_of : ItemForm → Result ItemKind RefusalKind → Result Judged RefusalKind
 item_of line (Ok kind) = Ok (Item (record { kind = kind; loc = line.loc; entries = entries_of line.operands }))
 item_of line (Err refusal) = Err refusal
 
--- the integer operand 0
+-- whether an operand is the integer 0
 abbrev pub is_zero : OperandForm → Bool
 is_zero (form.Integer (Some i)) = int_eq i (pos 0)
 is_zero _ = false
 
--- `0, 0, ..`: the frame of a call takes no bytes
+-- whether operands begin with `0, 0`: the call frame takes no bytes
 abbrev pub begins_with_zeros : List OperandForm → Bool
 begins_with_zeros (a ∷ b ∷ rest) = is_zero a && is_zero b
 begins_with_zeros _ = false
 
--- a line that is passed over if something holds, and whose operands are bad otherwise
+-- ignored if this holds, and else refused as BadOperands
 abbrev pub passed_if : Bool → Result Judged RefusalKind
 passed_if good = if good then Ok Passed else Err kinds.BadOperands
 
--- what a line of an opcode means
+-- the item of a line with this opcode, or its refusal
 abbrev pub judged_by : Option Opcode → Maps → ItemForm → Result Judged RefusalKind
 judged_by None meta line = Err kinds.UnknownOpcode
 judged_by (Some (opcodes.Code op)) meta line = item_of line (numbered line.number (code_of op line))
@@ -61,6 +61,6 @@ judged_by (Some opcodes.Label) meta line = passed_if (is_none line.number)
 judged_by (Some opcodes.Pseudo) meta line = Ok Passed
 judged_by (Some opcodes.CallFrame) meta line = passed_if (is_empty line.definitions && begins_with_zeros line.operands)
 
--- what an item line means, by the metadata of its text, or its refusal with the lowest number
+-- the item of a line, given the metadata of its text, or the line's refusal with the lowest number
 unfoldable pub judged : Maps → ItemForm → Result Judged RefusalKind
 judged meta line = judged_by (opcode_of line.opcode) meta line

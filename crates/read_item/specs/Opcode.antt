@@ -14,7 +14,7 @@ use Rattle.read_item.specs.declared.opcode.Opcode.{Opcode}
 use Rattle.read_item.specs.declared.opcode.Opcode.TheVariants.{Code, Debug, Label, Pseudo, CallFrame}
 use Rattle.read_item.specs.declared.opcode.DebugOpcode.TheVariants.{Value, InstrRef, ValueList, Phi}
 
--- the opcodes of code
+-- the opcodes of instructions
 unfoldable pub ops : List Op
 ops = Registers Add ∷ Registers Sub ∷ Registers Sll ∷ Registers Slt ∷ Registers Sltu ∷ Registers Xor ∷ Registers Srl ∷ Registers Sra ∷
     Registers Or ∷ Registers And ∷ Registers Addw ∷ Registers Subw ∷ Registers Sllw ∷ Registers Srlw ∷ Registers Sraw ∷
@@ -24,11 +24,11 @@ ops = Registers Add ∷ Registers Sub ∷ Registers Sll ∷ Registers Slt ∷ Re
     Load Lb ∷ Load Lh ∷ Load Lw ∷ Load Ld ∷ Load Lbu ∷ Load Lhu ∷ Load Lwu ∷ Store Sb ∷ Store Sh ∷ Store Sw ∷ Store Sd ∷
     Lui ∷ Copy ∷ PseudoBr ∷ PseudoCall ∷ PseudoRet ∷ []
 
--- the opcode of code that has that name, if one has
+-- the opcode of an instruction with this mnemonic, if there is one
 unfoldable pub op_named : List ℕ → Option Op
 op_named name = find (λ op. bytes_eq (mnemonic_of op) name) ops
 
--- the opcode of that name that is none of code, if there is one
+-- the debug or ignored opcode with this name, if there is one
 unfoldable pub debug_opcode_of : List ℕ → Option Opcode
 debug_opcode_of name =
     if bytes_eq name (codes "DBG_VALUE") then Some (Debug Value)
@@ -40,11 +40,11 @@ debug_opcode_of name =
     else (if bytes_eq name (codes "ADJCALLSTACKDOWN") || bytes_eq name (codes "ADJCALLSTACKUP") then Some CallFrame
     else None))))))
 
--- an opcode of code where the name is one's, and the other opcode where it isn't
+-- the opcode of an instruction, if the name is one, and else the other opcode
 abbrev pub opcode_or : Option Op → Option Opcode → Option Opcode
 opcode_or (Some op) other = Some (Code op)
 opcode_or None other = other
 
--- the opcode of a name, if one has it
+-- the opcode with this name, if there is one
 unfoldable pub opcode_of : List ℕ → Option Opcode
 opcode_of name = opcode_or (op_named name) (debug_opcode_of name)

@@ -1,4 +1,4 @@
--- What stands where among the operands of an opcode (RISC-V Unprivileged ISA, RV64I; LLVM, Machine IR (MIR) Format Reference Manual).
+-- Which kind of operand each position of an opcode takes (RISC-V Unprivileged ISA, RV64I; LLVM, Machine IR (MIR) Format Reference Manual).
 use Rattle.std.specs.Prelude.{Bool, if◌then◌else◌, List, [], ◌∷◌}
 use Rattle.rv64_instr.specs.declared.op.Op.{Op}
 use Rattle.rv64_instr.specs.declared.op.ImmediateOp.{ImmediateOp}
@@ -7,11 +7,11 @@ use Rattle.rv64_instr.specs.declared.op.ImmediateOp.TheVariants.{Addi, Slti, Slt
 use Rattle.read_item.specs.declared.place.Place.{Place}
 use Rattle.read_item.specs.declared.place.Place.TheVariants.{Register, Object, Slot, Number, Block, Symbol, Mask, Implicit}
 
--- the address's place, which `%stack.N` may have too: it stands for a frame slot or for an object
+-- the position of an address: a register, or `%stack.N` as a spill slot or as a stack object
 abbrev pub address : (slot : Bool) → Place
 address slot = if slot then Slot else Object
 
--- the place of the register that a number is added to, compared with or shifted by: `ADDI` alone adds to an object's address
+-- the position of the first source of an instruction with an immediate: only `ADDI` takes a stack object there, to compute an address in it
 abbrev pub base : ImmediateOp → Place
 base Addi = Object
 base Slti = Register
@@ -27,7 +27,7 @@ base Slliw = Register
 base Srliw = Register
 base Sraiw = Register
 
--- the places behind the register that the instruction sets, implicit ones left out
+-- the positions after the opcode, without implicit operands. `slot` is whether `%stack.N` in an address is a spill slot
 abbrev pub places : Op → (slot : Bool) → List Place
 places (Registers op) slot = Register ∷ Register ∷ []
 places (Immediate op) slot = base op ∷ Number ∷ []
@@ -40,12 +40,12 @@ places PseudoBr slot = Block ∷ []
 places PseudoCall slot = Symbol ∷ Mask ∷ []
 places PseudoRet slot = []
 
--- the first place, and those behind it. Behind the last all places are for implicit registers
+-- the first position; after the last come implicit registers only
 abbrev pub front : List Place → Place
 front [] = Implicit
 front (p ∷ ps) = p
 
--- the places behind the first, none behind the last
+-- the positions after the first
 abbrev pub behind : List Place → List Place
 behind [] = []
 behind (p ∷ ps) = ps

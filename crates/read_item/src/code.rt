@@ -1,4 +1,4 @@
-//! Lines of code.
+//! The instruction that a line of code is.
 
 ghost use Rattle.std.specs.Prelude.{◌≡◌, ◌||◌, IfOk, Ok, Err};
 ghost use Rattle.std.specs.List.{list_any, zip};
@@ -26,7 +26,7 @@ use rv64_instr::instr::Instr;
 use rv64_instr::op::Op;
 use std::alloc::Global;
 
-/// How many operands a line may have, those that it sets and implicit ones included.
+/// How many operands a line may have, counting the registers before the `=` and implicit ones.
 pub const MAX_OPERANDS: usize = 64;
 
 fn is_virtual(register: &RegisterForm) -> bool
@@ -47,7 +47,7 @@ fn is_virtual_operand(form: &OperandForm) -> bool
     }
 }
 
-/// Whether it is x2, and not implicit.
+/// Whether a register is x2, without a flag.
 fn is_pointer(register: &RegisterForm) -> bool
     ensures { result ≡ is_pointer register.now }
 {
@@ -99,7 +99,7 @@ fn uses_pointer(forms: &[OperandForm]) -> bool
     forms.iter().any(is_pointer_operand)
 }
 
-/// Whether a line names x2, but for implicit operands.
+/// Whether a line names x2 without a flag.
 fn names_pointer(line: &ItemForm) -> bool
     ensures { result ≡ (list_any is_pointer line.now.definitions || list_any is_pointer_operand line.now.operands) }
 {
@@ -108,7 +108,7 @@ fn names_pointer(line: &ItemForm) -> bool
     set || used
 }
 
-/// Whether it is a `%stack.N` where none can stand.
+/// Whether an operand is `%stack.N` at a position that takes none.
 fn is_misplaced(place: Place, form: &OperandForm) -> bool
     ensures { result ≡ is_misplaced (place, form.now) }
 {
@@ -121,7 +121,7 @@ fn is_misplaced(place: Place, form: &OperandForm) -> bool
     }
 }
 
-/// Whether a line names a stack entry where none can stand.
+/// Whether a line has a `%stack.N` at a position that takes none.
 fn misplaces_stack(op: Op, line: &ItemForm) -> bool
     ensures { result ≡ list_any is_misplaced (zip (places_of op line.now) line.now.operands) }
 {
@@ -131,7 +131,7 @@ fn misplaces_stack(op: Op, line: &ItemForm) -> bool
         .any(|(place, form)| is_misplaced(*place, form))
 }
 
-/// Whether a line has more operands than it may have.
+/// Whether a line has too many operands.
 pub fn is_long(line: &ItemForm) -> bool
     ensures { result ≡ is_long line.now }
 {
@@ -139,9 +139,9 @@ pub fn is_long(line: &ItemForm) -> bool
     MAX_OPERANDS < behind || MAX_OPERANDS - behind < line.definitions.len()
 }
 
-/// The instruction of a line of code. It is refused as bad operands where they don't have the form of the opcode; where
-/// a virtual register, the stack pointer or a misplaced stack entry stands for what could have that form, as that; and
-/// where there are more than 64.
+/// The instruction that a line of code is. It is refused with the first of these that holds: `BadOperands` if the
+/// operands don't have the form of the opcode or a number is above its limit, `VirtualRegister`, `StackPointerUse`,
+/// `StackObject` for a `%stack.N` at a position that takes none, `TooMany` for more than 64 operands.
 #[tactic(auto, unfolding(crate::specs::Code::code_of))]
 pub fn code_of(alloc: Global, op: Op, line: &ItemForm) -> Result<Instr, JudgeError>
     ensures ok { IfOk result (λ instr. code_of op line.now ≡ Ok instr) }

@@ -1,4 +1,4 @@
-//! Debug lines: marks and phis.
+//! Debug lines: debug values and DBG_PHIs.
 
 ghost use Rattle.std.specs.Prelude.{◌≡◌, Ok, Err};
 ghost use Rattle.read_refusal.specs.declared.kind.RefusalKind.{RefusalKind};
@@ -43,27 +43,27 @@ use read_token::lexeme::{Flag, RegisterName};
 use rv64_instr::place::Place;
 use rv64_instr::reg::Reg;
 
-/// What the operands of a mark say.
+/// The operands of a debug value.
 #[derive(Clone, Copy, Debug, PartialEq, Eq)]
 pub struct MarkForm {
     /// The node of the variable.
     pub node: NodeId,
-    /// The bytes of the variable that are meant, and `None` for the whole.
+    /// The bytes of the variable's fragment, and `None` for the whole variable.
     pub fragment: Option<Fragment>,
-    /// What is assigned.
+    /// Its value.
     pub value: MarkValue,
 }
 
-/// What the operands of a phi say.
+/// The operands of a DBG_PHI.
 #[derive(Clone, Copy, Debug, PartialEq, Eq)]
 pub struct PhiForm {
-    /// Where the value is, and `None` for nowhere.
+    /// The location of the value, and `None` for none.
     pub place: Option<Place>,
-    /// The debug instruction number that gets it.
+    /// The debug instruction number of the DBG_PHI.
     pub number: DebugNumber,
 }
 
-/// What a mark gets from a register: x0 is always 0, and x2 gives nothing.
+/// The value of a DBG_VALUE of a register: the constant 0 for x0, and undef for x2.
 fn content_value(register: Reg) -> MarkValue
     ensures { result ≡ content_value register }
 {
@@ -76,7 +76,7 @@ fn content_value(register: Reg) -> MarkValue
     }
 }
 
-/// What the first operand of `DBG_VALUE` assigns.
+/// The value of a DBG_VALUE by its first operand.
 fn operand_value(form: &OperandForm) -> MarkValue
     ensures { result ≡ operand_value form.now }
 {
@@ -107,7 +107,7 @@ fn register_value(flag: Flag, name: RegisterName) -> MarkValue
     }
 }
 
-/// Whether it is `$noreg`.
+/// Whether the second operand of DBG_VALUE is `$noreg`: the value is the first operand itself.
 fn is_direct(form: &OperandForm) -> bool
     ensures { result ≡ is_direct form.now }
 {
@@ -120,7 +120,7 @@ fn is_direct(form: &OperandForm) -> bool
     }
 }
 
-/// Whether the value of `DBG_VALUE` is its operand itself.
+/// Whether the expression of `DBG_VALUE` leaves the operand as it is.
 fn is_plain(expression: Expression) -> bool
     ensures { result ≡ is_plain expression }
 {
@@ -130,7 +130,7 @@ fn is_plain(expression: Expression) -> bool
     }
 }
 
-/// The part of the variable that the expression of `DBG_VALUE` names.
+/// The fragment of the expression of `DBG_VALUE`.
 fn part_of(expression: Expression) -> Option<Fragment>
     ensures { result ≡ part_of expression }
 {
@@ -143,7 +143,7 @@ fn part_of(expression: Expression) -> Option<Fragment>
     }
 }
 
-/// Whether the value of `DBG_INSTR_REF` is its operand itself.
+/// Whether the expression of `DBG_INSTR_REF` leaves the operand as it is.
 fn is_argument(expression: Expression) -> bool
     ensures { result ≡ is_argument expression }
 {
@@ -156,7 +156,7 @@ fn is_argument(expression: Expression) -> bool
     }
 }
 
-/// The part of the variable that the expression of `DBG_INSTR_REF` names.
+/// The fragment of the expression of `DBG_INSTR_REF`.
 fn part_of_argument(expression: Expression) -> Option<Fragment>
     ensures { result ≡ part_of_argument expression }
 {
@@ -192,7 +192,7 @@ fn value_mark(forms: &[OperandForm]) -> Option<MarkForm>
     }
 }
 
-/// The pair of `dbg-instr-ref(K, O)`, if it stands alone.
+/// The pair of `dbg-instr-ref(K, O)`, if it is the only operand; else undef.
 fn pair_value(forms: &[OperandForm]) -> MarkValue
     ensures { result ≡ pair_value forms.now }
 {
@@ -241,7 +241,7 @@ fn list_mark(forms: &[OperandForm]) -> Option<MarkForm>
     }
 }
 
-/// The place of a register's content for a phi.
+/// The location of a DBG_PHI of a register.
 fn content_place(register: Reg) -> Option<Place>
     ensures { result ≡ content_place register }
 {
@@ -254,7 +254,7 @@ fn content_place(register: Reg) -> Option<Place>
     }
 }
 
-/// The place that a phi takes its value from, if it may have the operand.
+/// The location of a DBG_PHI by its first operand; the outer `Option` is `None` if the operand isn't allowed.
 fn phi_place(form: &OperandForm) -> Option<Option<Place>>
     ensures { result ≡ phi_place form.now }
 {
@@ -278,7 +278,7 @@ fn phi_place(form: &OperandForm) -> Option<Option<Place>>
     }
 }
 
-/// A number that names or counts something: 0 to 2^30 - 1.
+/// A number or count from 0 to 2^30 - 1.
 fn counted(number: i64) -> Option<u32>
     ensures { result ≡ counted number }
 {
@@ -289,7 +289,7 @@ fn counted(number: i64) -> Option<u32>
     }
 }
 
-/// The number that an operand is, where it names or counts something.
+/// The number or count that an operand is.
 fn count_in(form: &OperandForm) -> Option<u32>
     ensures { result ≡ count_in form.now }
 {
@@ -321,7 +321,7 @@ fn phi_of(forms: &[OperandForm]) -> Option<PhiForm>
     }
 }
 
-/// The node that a location is inlined at.
+/// The `inlinedAt` node of a debug location.
 fn inlined_at(meta: &Metadata, loc: Loc) -> Option<NodeId>
     ensures { result ≡ inlined_at meta.now loc }
 {
@@ -370,7 +370,7 @@ fn debug_kind(op: DebugOpcode, meta: &Metadata, line: &ItemForm) -> Option<ItemK
     }
 }
 
-/// The mark or phi of a debug line. It takes no memory.
+/// The debug value or DBG_PHI of a debug line. It takes no memory.
 #[tactic(auto, unfolding(crate::specs::Debug::debug_of))]
 pub fn debug_of(op: DebugOpcode, meta: &Metadata, line: &ItemForm) -> Result<ItemKind, RefusalKind>
     ensures { result ≡ debug_of op meta.now line.now }

@@ -1,4 +1,4 @@
-//! The judging of an item line.
+//! The item that a line is.
 
 ghost use Rattle.std.specs.Prelude.{◌≡◌, ◌&&◌, IfOk, Ok, Err};
 ghost use Rattle.read_refusal.specs.declared.kind.RefusalKind.{RefusalKind};
@@ -47,7 +47,7 @@ fn entries_of(alloc: Global, forms: &[OperandForm]) -> Result<Vec<SlotId>, Alloc
         .collect(alloc)
 }
 
-/// An item with the location of its line and the stack entries that the line names.
+/// An item with the debug location of its line and the numbers of the `%stack.N` on it.
 fn item_of(alloc: Global, line: &ItemForm, kind: ItemKind) -> Result<Judged, JudgeError>
     ensures ok { IfOk result (λ item. item_of line.now (Ok kind) ≡ Ok item) }
     ensures refused { (why : RefusalKind) → result ≡ Err (Refused why) → item_of line.now (Ok kind) ≡ Err why }
@@ -60,7 +60,7 @@ fn item_of(alloc: Global, line: &ItemForm, kind: ItemKind) -> Result<Judged, Jud
     }))
 }
 
-/// The item of a line of code.
+/// The item of a line with an instruction.
 fn judge_code(alloc: Global, op: Op, line: &ItemForm) -> Result<Judged, JudgeError>
     ensures ok { IfOk result (λ item. item_of line.now (numbered line.now.number (code_of op line.now)) ≡ Ok item) }
     ensures refused { (refusal : RefusalKind) → result ≡ Err (Refused refusal)
@@ -106,16 +106,16 @@ fn begins_with_zeros(forms: &[OperandForm]) -> bool
     }
 }
 
-/// Whether a line of code for a call's frame is for a frame of no bytes.
+/// Whether the call frame of an `ADJCALLSTACK` line takes no bytes.
 fn has_no_frame(line: &ItemForm) -> bool
     ensures { result ≡ (is_empty line.now.definitions && begins_with_zeros line.now.operands) }
 {
     line.definitions.is_empty() && begins_with_zeros(line.operands.as_slice())
 }
 
-/// What an item line means. `Refused` comes exactly where a rule refuses it, with the refusal of the lowest number:
-/// an unknown opcode, operands that aren't its opcode's, a virtual register, the stack pointer, a stack entry where
-/// none can stand, or more than 64 operands. `Memory` comes where memory ran out.
+/// The item that a line is. `Refused` is exactly for a line that fails a check, with the lowest number of its
+/// refusals: an unknown opcode, operands that don't fit the opcode, a virtual register, the stack pointer, a
+/// `%stack.N` at a position that takes none, or more than 64 operands. `Memory` is for want of memory.
 #[tactic(auto, unfolding(crate::specs::Judge::judged))]
 pub fn judge(alloc: Global, line: &ItemForm, meta: &Metadata) -> Result<Judged, JudgeError>
     ensures ok { IfOk result (λ item. judged meta.now line.now ≡ Ok item) }

@@ -1,4 +1,4 @@
-//! What a line is judged to be.
+//! The results of judging a line.
 
 use base_ids::code::SlotId;
 use base_list::List;
@@ -11,30 +11,31 @@ use thiserror::Error;
 /// The N of each `%stack.N` of a line, in order.
 pub type StackIds = List<SlotId>;
 
-/// An item that a line gives.
+/// An item, with its debug location and the `%stack.N` on its line.
 #[derive(Debug, Drop)]
 pub struct JudgedItem {
-    /// What it is. In code a `%stack.N` is a slot where the line has the form of a slot's, and an object elsewhere.
+    /// The instruction, debug value or DBG_PHI. A `%stack.N` in an instruction is a spill slot if the line is a load
+    /// or store of eight bytes at offset 0, and else a stack object.
     pub kind: ItemKind,
-    /// The debug location that it carries.
+    /// The debug location of its line.
     pub loc: Loc,
-    /// The stack entries that the line names, which the function has to declare.
+    /// The numbers of the `%stack.N` on its line, which the function has to declare.
     pub entries: StackIds,
 }
 
-/// What a line means.
+/// What a line is.
 #[derive(Debug, Drop)]
 pub enum Judged {
-    /// Nothing: it is passed over.
+    /// It is ignored.
     Passed,
     /// An item.
     Item(JudgedItem),
 }
 
-/// Why a line isn't judged to mean something.
+/// Why a line is no item and isn't ignored either.
 #[derive(Clone, Copy, Debug, PartialEq, Eq, Drop, Error)]
 pub enum JudgeError {
-    /// It is refused: of the refusals whose rules it breaks this has the lowest number.
+    /// It is refused, with the lowest number of its refusals.
     #[error("the line is refused: {}", .0.name())]
     Refused(RefusalKind),
     /// Memory ran out.

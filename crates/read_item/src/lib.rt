@@ -1,12 +1,12 @@
-//! What an item line of machine IR means, or why it is refused.
+//! Semantic checks of one line of a machine function's body: the instruction, debug value or DBG_PHI that it is, or
+//! why it is refused.
 //!
-//! A line that has a form names an opcode and operands. Code has to have the operands of its opcode: so many registers
-//! that it sets, then in each place a register, a number in range, a block, a symbol or a mask, then implicit
-//! registers. A `%stack.N` stands for a frame slot or a stack object, in the address's place of a load or a store and
-//! behind `ADDI` alone. A debug line says which value a variable has from there on, or where the value of a debug
-//! instruction number is. Some lines mean nothing and are passed over. Each rule that a line breaks has its refusal,
-//! and the one with the lowest number is told. (LLVM, Machine IR (MIR) Format Reference Manual; LLVM, "Instruction
-//! referencing for debug info".)
+//! A parsed line names an opcode and operands. An instruction has the operands of its opcode: the registers that it
+//! defines, then at each position a register, an immediate, a block, a symbol or a mask, then implicit registers. A
+//! `%stack.N` is a spill slot or a stack object; it is allowed as the address of a load or a store, and after `ADDI`.
+//! A debug line is a debug value of a variable, or the location of the value of a debug instruction number. Some
+//! lines are ignored. Each failed check has its refusal, and the one with the lowest number is reported. (LLVM,
+//! Machine IR (MIR) Format Reference Manual; LLVM, "Instruction referencing for debug info".)
 #![tactic(auto)]
 
 pub mod code;

@@ -5,42 +5,42 @@ ghost use Rattle.read_item.specs.Opcode.{opcode_of, debug_opcode_of, op_named};
 
 use rv64_instr::op::Op;
 
-/// An opcode of lines that mark values.
+/// An opcode of debug lines.
 #[derive(Clone, Copy, Debug, PartialEq, Eq)]
 pub enum DebugOpcode {
-    /// `DBG_VALUE`: a variable has the content of a register, or a number.
+    /// `DBG_VALUE`: a variable's value is in a register, or a constant.
     Value,
-    /// `DBG_INSTR_REF`: a variable has the value of an operand of the instruction with a debug instruction number.
+    /// `DBG_INSTR_REF`: a variable's value is an operand of the instruction with a debug instruction number.
     InstrRef,
-    /// `DBG_VALUE_LIST`: a variable has a value that is computed from several.
+    /// `DBG_VALUE_LIST`: a variable's value is computed from several.
     ValueList,
-    /// `DBG_PHI`: a debug instruction number has the content of a register or a slot.
+    /// `DBG_PHI`: a debug instruction number for the value in a register or a spill slot.
     Phi,
 }
 
-/// What an item line's opcode says of the line.
+/// The kind of line that an opcode is for.
 #[derive(Clone, Copy, Debug, PartialEq, Eq)]
 pub enum Opcode {
-    /// It is code.
+    /// An instruction.
     Code(Op),
-    /// It marks a value.
+    /// A debug value or DBG_PHI.
     Debug(DebugOpcode),
-    /// `DBG_LABEL`, which is passed over.
+    /// `DBG_LABEL`, which is ignored.
     Label,
-    /// `KILL` and `IMPLICIT_DEF`, which are passed over whatever they name.
+    /// `KILL` and `IMPLICIT_DEF`, which are ignored with any operands.
     Pseudo,
-    /// `ADJCALLSTACKDOWN` and `ADJCALLSTACKUP`: code for the frame of a call, which is passed over where there is none.
+    /// `ADJCALLSTACKDOWN` and `ADJCALLSTACKUP`, which are ignored if the call frame takes no bytes, and else refused.
     CallFrame,
 }
 
-/// The opcode of code of that name.
+/// The opcode of an instruction with this mnemonic.
 fn op_named(name: &[u8]) -> Option<Op>
     ensures { result ≡ op_named name.now }
 {
     Op::from_mnemonic(name)
 }
 
-/// The opcode of that name that is none of code.
+/// The debug or ignored opcode with this name.
 #[tactic(auto, unfolding(crate::specs::Opcode::debug_opcode_of))]
 fn debug_opcode_of(name: &[u8]) -> Option<Opcode>
     ensures { result ≡ debug_opcode_of name.now }
@@ -64,7 +64,7 @@ fn debug_opcode_of(name: &[u8]) -> Option<Opcode>
     }
 }
 
-/// The opcode of a name, and `None` exactly where no opcode has it.
+/// The opcode with this name, and `None` exactly if there is none.
 #[tactic(auto, unfolding(crate::specs::Opcode::opcode_of))]
 pub fn opcode_of(name: &[u8]) -> Option<Opcode>
     ensures { result ≡ opcode_of name.now }

@@ -1,4 +1,4 @@
-//! Operands of instructions, as operands of a line stand for them.
+//! Operands of instructions, from the operands of a line.
 
 ghost use Rattle.std.specs.Prelude.{◌≡◌, IfOk, Ok, Some};
 ghost use Rattle.read_item.specs.Code.{
@@ -28,7 +28,7 @@ use rv64_instr::operand::{Operand, Operands};
 use rv64_instr::reg::{Reg, physical};
 use std::alloc::{AllocError, Global};
 
-/// The register of a name that code may have. A virtual one counts as x10 here.
+/// The register of a name, if code may use it. A virtual register counts as x10 here.
 fn number_of(name: RegisterName) -> Option<Reg>
     ensures { result ≡ number_of name }
 {
@@ -39,7 +39,7 @@ fn number_of(name: RegisterName) -> Option<Reg>
     }
 }
 
-/// A register behind the opcode.
+/// A register after the opcode: a use, an implicit use or an implicit def.
 fn named(flag: Flag, register: Reg) -> Operand
     ensures { result ≡ named flag register }
 {
@@ -50,7 +50,7 @@ fn named(flag: Flag, register: Reg) -> Operand
     }
 }
 
-/// `%stack.N` in a place, where it counts as what can stand there.
+/// `%stack.N` at an operand position; at one that takes none, an operand that fits.
 fn stack_operand(alloc: Global, place: Place, entry: SlotId) -> Option<Operand>
     ensures { result ≡ stack_operand place entry }
 {
@@ -66,7 +66,7 @@ fn stack_operand(alloc: Global, place: Place, entry: SlotId) -> Option<Operand>
     }
 }
 
-/// The operand of an instruction that an operand of the line is in a place, if code has such operands.
+/// The instruction operand for an operand of the line at a position; `None` if it can't be one in code.
 fn operand_at(
     alloc: Global,
     place: Place,
@@ -91,7 +91,7 @@ fn operand_at(
     }
 }
 
-/// A register before the `=`: it is set, and isn't implicit.
+/// The def for a register before the `=`, if it is a known register without a flag.
 fn definition(register: RegisterForm) -> Option<Operand>
     ensures { result ≡ definition register }
 {
@@ -101,7 +101,7 @@ fn definition(register: RegisterForm) -> Option<Operand>
     }
 }
 
-/// The registers before the `=`, if code has such.
+/// The defs for the registers before the `=`, if each exists.
 fn definitions(alloc: Global, registers: &[RegisterForm]) -> Result<Option<Operands>, AllocError>
     ensures { IfOk result (λ operands. operands ≡ definitions registers.now) }
 {
@@ -115,7 +115,7 @@ fn definitions(alloc: Global, registers: &[RegisterForm]) -> Result<Option<Opera
     Ok(Some(operands))
 }
 
-/// Operands, and behind them those behind the opcode, each in its place, if code has such.
+/// The operands `first`, and then those after the opcode, each at its position, if each exists.
 fn placed(
     alloc: Global,
     first: Operands,
@@ -136,7 +136,7 @@ fn placed(
     Ok(Some(operands))
 }
 
-/// Whether the operand is the number of a move of a whole frame slot.
+/// Whether a load or store of this width with this offset operand accesses a whole spill slot.
 fn is_whole_slot(width: usize, form: &OperandForm) -> bool
     ensures { result ≡ is_whole_slot width form.now }
 {
@@ -146,7 +146,7 @@ fn is_whole_slot(width: usize, form: &OperandForm) -> bool
     }
 }
 
-/// Whether a `%stack.N` among the operands stands for a frame slot.
+/// Whether a `%stack.N` address among the operands is a spill slot.
 fn names_slot(op: Op, forms: &[OperandForm]) -> bool
     ensures { result ≡ names_slot op forms.now }
 {
@@ -163,14 +163,14 @@ fn names_slot(op: Op, forms: &[OperandForm]) -> bool
     }
 }
 
-/// The places of the line's operands.
+/// The positions of the line's operands after the opcode.
 pub fn places_of(op: Op, line: &ItemForm) -> &'static [Place]
     ensures { result.now ≡ places_of op line.now }
 {
     places(op, names_slot(op, line.operands.as_slice()))
 }
 
-/// The operands of the instruction, if code has such operands.
+/// The operands of the instruction, defs first, if each exists.
 #[tactic(auto, unfolding(crate::specs::Code::operands_of))]
 pub fn operands_of(alloc: Global, op: Op, line: &ItemForm) -> Result<Option<Operands>, AllocError>
     ensures { IfOk result (λ operands. operands ≡ operands_of op line.now) }

@@ -1,20 +1,20 @@
-//! Places of code operands.
+//! Positions of an instruction's operands.
 
 ghost use Rattle.std.specs.Prelude.{◌≡◌};
 ghost use Rattle.read_item.specs.Place.{places, front, behind};
 
 use rv64_instr::op::{ImmediateOp, Op};
 
-/// What has to stand in a place of an opcode's operands.
+/// What kind of operand a position takes.
 #[derive(Clone, Copy, Debug, PartialEq, Eq)]
 pub enum Place {
     /// A register that is read.
     Register,
     /// A register, or a stack object.
     Object,
-    /// A register, or a frame slot.
+    /// A register, or a spill slot.
     Slot,
-    /// A number.
+    /// An immediate.
     Number,
     /// A block.
     Block,
@@ -22,7 +22,7 @@ pub enum Place {
     Symbol,
     /// A register mask.
     Mask,
-    /// An implicit register: the place is behind those of the opcode.
+    /// An implicit register: the position is after those of the opcode.
     Implicit,
 }
 
@@ -50,8 +50,8 @@ const CALL: [Place; 2] = [Place::Symbol, Place::Mask];
 
 const RETURN: [Place; 0] = [];
 
-/// The places of an opcode's operands behind those that it sets, implicit ones left out. `slot` says whether an
-/// address by `%stack.N` is a frame slot.
+/// The positions of an opcode's operands after the opcode, without implicit operands. `slot` is whether `%stack.N` in
+/// an address is a spill slot.
 pub fn places(op: Op, slot: bool) -> &'static [Place]
     ensures { result.now ≡ places op slot }
 {
@@ -72,7 +72,7 @@ pub fn places(op: Op, slot: bool) -> &'static [Place]
     }
 }
 
-/// The first of some places. Behind the last all places are for implicit registers.
+/// The first position; after the last come implicit registers only.
 pub fn front(places: &[Place]) -> Place
     ensures { result ≡ front places.now }
 {
@@ -82,7 +82,7 @@ pub fn front(places: &[Place]) -> Place
     }
 }
 
-/// The places behind the first.
+/// The positions after the first.
 pub fn behind(places: &[Place]) -> &[Place]
     ensures { result.now ≡ behind places.now }
 {

@@ -1,4 +1,4 @@
--- The bytes that tokens are made of.
+-- The classes of bytes in tokens.
 use Rattle.std.specs.Prelude.{codes, ℕ, ◌+◌, Bool, ◌||◌, ◌==◌, if◌then◌else◌, List, [], ◌∷◌}
 use Rattle.std.specs.List.{prefix_len, list_any}
 use Rattle.std.specs.Char.{is_ascii_alphabetic, is_ascii_alphanumeric}
@@ -7,15 +7,15 @@ use Rattle.std.specs.Char.{is_ascii_alphabetic, is_ascii_alphanumeric}
 abbrev pub is_blank : ℕ → Bool
 is_blank b = b == 32 || b == 9
 
--- a letter or `_`
+-- the first byte of a word: a letter or `_`
 abbrev pub is_word_start : ℕ → Bool
 is_word_start b = is_ascii_alphabetic b || b == 95
 
--- a letter, a digit, `_`, `.` or `-`
+-- a further byte of a word: a letter, a digit, `_`, `.` or `-`
 abbrev pub is_word_byte : ℕ → Bool
 is_word_byte b = is_ascii_alphanumeric b || b == 95 || b == 46 || b == 45
 
--- a word byte or `$`
+-- a byte of a symbol's unquoted name: a word byte or `$`
 abbrev pub is_symbol_byte : ℕ → Bool
 is_symbol_byte b = is_word_byte b || b == 36
 
@@ -23,11 +23,11 @@ is_symbol_byte b = is_word_byte b || b == 36
 abbrev pub is_quote : ℕ → Bool
 is_quote b = b == 34 || b == 39
 
--- a byte that is a token by itself
+-- a byte that is a token by itself, unless it begins a longer one
 abbrev pub is_single : ℕ → Bool
 is_single b = list_any (λ c. b == c) (codes "=,():{}[]<>|+-")
 
--- how long the word at the front is: it begins with a letter or `_`, and goes on as far as word bytes do
+-- the length of the word at the front: a letter or `_`, and word bytes; 0 if there is none
 abbrev pub word_len : List ℕ → ℕ
 word_len [] = 0
 word_len (b ∷ bs) = if is_word_start b then 1 + prefix_len is_word_byte bs else 0

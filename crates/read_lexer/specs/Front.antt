@@ -1,5 +1,5 @@
--- The token at the front of what is left of a line: its first byte tells its class, and the bytes after it how far it
--- goes. (LLVM, "Machine IR (MIR) Format Reference Manual", has the notations.)
+-- The token at the front of the rest of a line: its first byte determines its class, and the bytes after that how long it is. (LLVM, "Machine IR (MIR)
+-- Format Reference Manual", has the notations.)
 use Rattle.std.specs.Prelude.{ℕ, ◌+◌, ◌||◌, ◌==◌, if◌then◌else◌, List, [], ◌∷◌, Option, Some, None, Result, Ok, Err}
 use Rattle.std.specs.List.{prefix_len, position}
 use Rattle.std.specs.Char.{is_ascii_digit, is_ascii_hexdigit}
@@ -10,47 +10,47 @@ use Rattle.read_lexer.specs.declared.parts.Class.TheVariants.{Word, Register, Pe
 use Rattle.read_lexer.specs.declared.parts.Token.{Token}
 use Rattle.read_lexer.specs.Bytes.{is_word_start, is_word_byte, is_symbol_byte, is_quote, is_single, word_len}
 
--- a token of so many bytes, from a place on
+-- a token of this length, from index `at`
 abbrev pub token : Class → ℕ → ℕ → Result Token LexError
 token class at len = Ok (record { class = class; start = at; end = at + len })
 
--- a byte and the run behind it, which has to be there
+-- a token of one byte and a run after it, which must not be empty
 abbrev pub marked : Class → ℕ → ℕ → Result Token LexError
 marked class at run = if run == 0 then Err (BadByte at) else token class at (1 + run)
 
--- a token that goes on for `len` bytes and the closing quote behind the quote at `open_at`, unless none closes it
+-- a token up to the closing quote, which is `len` bytes after the quote at `open_at`; a fault if none closes that
 abbrev pub closed : Class → ℕ → ℕ → Option ℕ → Result Token LexError
 closed class at open_at (Some len) = Ok (record { class = class; start = at; end = open_at + 2 + len })
 closed class at open_at None = Err (UnclosedString open_at)
 
--- A token from a place on that ends with a text in quotes: up to the next quote of the same kind behind the one at `open_at`.
+-- A token from index `at` that ends with a text in quotes: up to the next `quote` after the one at `open_at`. `after` are the bytes after that one.
 abbrev pub quoted : Class → ℕ → ℕ → ℕ → List ℕ → Result Token LexError
 quoted class at open_at quote after = closed class at open_at (position (λ b. b == quote) after)
 
--- behind `!`: digits are a node's, a word is a kind's
+-- after `!`: digits for a metadata node, or a word for a kind of nodes
 abbrev pub metadata_at : ℕ → List ℕ → Result Token LexError
 metadata_at at after = if prefix_len is_ascii_digit after == 0 then marked Kind at (word_len after) else marked Node at (prefix_len is_ascii_digit after)
 
--- behind `@` or `&`: a double quote begins a quoted name
+-- after `@` or `&`: a name in double quotes, or an unquoted one
 abbrev pub symbol_at : ℕ → List ℕ → Result Token LexError
 symbol_at at [] = Err (BadByte at)
 symbol_at at (b ∷ bs) = if b == 34 then quoted Symbol at (at + 1) 34 bs else marked Symbol at (prefix_len is_symbol_byte (b ∷ bs))
 
--- how many hexadecimal digits stand behind `0x`
+-- the number of hexadecimal digits after `0x`; 0 if there is no `0x`
 abbrev pub hexadecimal_len : ℕ → List ℕ → ℕ
 hexadecimal_len first [] = 0
 hexadecimal_len first (b ∷ bs) = if first == 48 then (if b == 120 then prefix_len is_ascii_hexdigit bs else 0) else 0
 
--- from a digit on: `0x` and hexadecimal digits, or digits
+-- an integer from its first digit: `0x` and hexadecimal digits, or decimal digits
 abbrev pub integer_at : ℕ → ℕ → List ℕ → Result Token LexError
 integer_at at first after = if hexadecimal_len first after == 0 then token Integer at (1 + prefix_len is_ascii_digit after) else
     token Integer at (2 + hexadecimal_len first after)
 
--- behind `-`: digits make an integer
+-- after `-`: digits for an integer, or the byte alone
 abbrev pub minus_at : ℕ → List ℕ → Result Token LexError
 minus_at at after = if prefix_len is_ascii_digit after == 0 then token (Single 45) at 1 else token Integer at (1 + prefix_len is_ascii_digit after)
 
--- The token that begins at a place with the byte `first`, where `after` is the rest of the line, or the fault there.
+-- The token, or the lexical fault, at index `at`, where `first` is the byte there and `after` are the bytes after it.
 unfoldable pub token_at : ℕ → ℕ → List ℕ → Result Token LexError
 token_at at first after =
     if is_word_start first then token Word at (1 + prefix_len is_word_byte after)

@@ -6,18 +6,17 @@ use Rattle.read_lexer.specs.declared.parts.Token.{Token}
 use Rattle.read_lexer.specs.Bytes.{is_blank, is_quote}
 use Rattle.read_lexer.specs.Front.{token_at}
 
--- a token, and those after it unless a fault is there
+-- a token before others, unless those have a fault
 abbrev pub followed_by : Token → Result (List Token) LexError → Result (List Token) LexError
 followed_by t (Ok ts) = Ok (t ∷ ts)
 followed_by t (Err e) = Err e
 
--- What is read where a token is there, and the fault where none is.
+-- the result of `next` for a token, or the fault
 abbrev pub and_then : Result Token LexError → (Token → Result (List Token) LexError) → Result (List Token) LexError
 and_then (Ok t) next = next t
 and_then (Err e) next = Err e
 
--- The tokens from a place on. The first `inside` bytes belong to a token that began before; each other byte separates
--- tokens or begins one.
+-- The tokens from index `at`. The first `inside` bytes belong to a token that began before; every other byte separates tokens or begins one.
 unfoldable pub tokens_from : ℕ → ℕ → List ℕ → Result (List Token) LexError
 tokens_from at inside [] = Ok []
 tokens_from at (suc inside) (b ∷ bs) = tokens_from (at + 1) inside bs
@@ -29,22 +28,22 @@ tokens_from at zero (b ∷ bs) =
 abbrev pub tokens_of : List ℕ → Result (List Token) LexError
 tokens_of line = tokens_from 0 0 line
 
--- the bytes from a place up to another separate tokens
+-- all bytes from index `from` to before `to` separate tokens
 abbrev pub AreBlank : List ℕ → ℕ → ℕ → Type 0
 AreBlank line from to = (i : ℕ) → from ≤ i → i < to → IsTrue (is_blank (slice_index line i))
 
--- Tokens that stand in this order from a place on, none of them empty, and what stands outside them separates tokens.
+-- Spans of tokens: in ascending order from index `from`, none of them empty, and all bytes outside them separate tokens.
 abbrev pub AreSpans : List ℕ → ℕ → List Token → Type 0
 AreSpans line from [] = AreBlank line from (length line)
 AreSpans line from (t ∷ ts) = (from ≤ t.start) × AreBlank line from t.start × (t.start < t.end) × (t.end ≤ length line) × AreSpans line t.end ts
 
--- A quote stands at a place of a line, and no quote of its kind behind it.
+-- The byte at this index is a quote, and there is no quote of its kind after it.
 pub record IsUnclosed (line : List ℕ) (at : ℕ) : Type 0 where
   pub within : at < length line
   pub quote : IsTrue (is_quote (slice_index line at))
   pub alone : (i : ℕ) → at < i → i < length line → slice_index line i ≢ slice_index line at
 
--- A call's answer is what reading gives, unless memory ran out.
+-- What a call returns is this result, unless memory ran out.
 abbrev pub Gives : {A : Type 0} → Result A LexError → Result A LexError → Type 0
 Gives (Ok x) read = read ≡ Ok x
 Gives (Err errors.Memory) read = Unit {0}

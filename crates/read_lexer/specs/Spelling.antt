@@ -1,5 +1,4 @@
--- The grammar of tokens: which texts are tokens of a class. A token is the longest text at its place that is one of any
--- class.
+-- The grammar of tokens: which texts are tokens of each class. A token is the longest text from its first byte that is one of any class.
 use Rattle.std.specs.Prelude.{◌≡◌, ℕ, ◌<◌, ◌≤◌, Bool, false, ◌&&◌, ◌||◌, ◌==◌, if◌then◌else◌, IsTrue, List, [], ◌∷◌, length, slice_range}
 use Rattle.std.specs.List.{list_all}
 use Rattle.std.specs.Char.{is_ascii_digit, is_ascii_hexdigit}
@@ -8,17 +7,17 @@ use Rattle.read_lexer.specs.declared.parts.Class.TheVariants.{Word, Register, Pe
 use Rattle.read_lexer.specs.declared.parts.Token.{Token}
 use Rattle.read_lexer.specs.Bytes.{is_word_start, is_word_byte, is_symbol_byte, is_quote, is_single}
 
--- at least one byte, each of which passes
+-- a run: at least one byte, and each of them passes
 abbrev pub is_run : (ℕ → Bool) → List ℕ → Bool
 is_run passes [] = false
 is_run passes (b ∷ bs) = list_all passes (b ∷ bs)
 
--- a letter or `_`, and word bytes
+-- a word: a letter or `_`, and word bytes
 abbrev pub is_word : List ℕ → Bool
 is_word [] = false
 is_word (b ∷ bs) = is_word_start b && list_all is_word_byte bs
 
--- bytes that end at a quote, which stands nowhere before
+-- bytes that end at the first `quote` among them
 abbrev pub is_closed_by : ℕ → List ℕ → Bool
 is_closed_by quote [] = false
 is_closed_by quote (b ∷ bs) = if b == quote then length bs == 0 else is_closed_by quote bs
@@ -46,16 +45,16 @@ spells Integer (b ∷ bs) = (is_ascii_digit b && (list_all is_ascii_digit bs || 
 spells Text (b ∷ bs) = is_quote b && is_closed_by b bs
 spells (Single byte) (b ∷ bs) = (b == byte && is_single b) && length bs == 0
 
--- no text of a line that begins at a place and ends behind `last` is a token
+-- no text from index `start` that ends after `last` is a token
 abbrev pub NoneReaches : List ℕ → ℕ → ℕ → Type 0
 NoneReaches line start last = (class : Class) (end : ℕ) → last < end → end ≤ length line → spells class (slice_range line start end) ≡ false
 
--- a token's text is one of its class, and no longer text at its place is a token
+-- the token's text is one of its class, and no longer text from its first byte is a token
 pub record IsLongest (line : List ℕ) (t : Token) : Type 0 where
   pub spelled : IsTrue (spells t.class (slice_range line t.start t.end))
   pub longest : NoneReaches line t.start t.end
 
--- a byte of the line at which no token begins
+-- no text from this index is a token
 pub record BeginsNothing (line : List ℕ) (at : ℕ) : Type 0 where
   pub within : at < length line
   pub nothing : NoneReaches line at at

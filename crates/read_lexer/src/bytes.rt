@@ -1,4 +1,4 @@
-//! The bytes that tokens are made of, and runs of them.
+//! The classes of bytes in tokens, and runs of them.
 
 ghost use Rattle.std.specs.Prelude.{◌≡◌, ◌==◌, ◌<◌, ◌≤◌, length, position, IfSome};
 ghost use Rattle.std.specs.List.{prefix_len};
@@ -12,21 +12,21 @@ pub fn is_blank(byte: u8) -> bool
     byte == b' ' || byte == b'\t'
 }
 
-/// Whether a word may begin with a byte.
+/// Whether a byte may begin a word.
 pub fn is_word_start(byte: u8) -> bool
     ensures { result ≡ is_word_start byte }
 {
     byte.is_ascii_alphabetic() || byte == b'_'
 }
 
-/// Whether a byte may stand in a word.
+/// Whether a byte may be in a word.
 pub fn is_word_byte(byte: u8) -> bool
     ensures { result ≡ is_word_byte byte }
 {
     byte.is_ascii_alphanumeric() || byte == b'_' || byte == b'.' || byte == b'-'
 }
 
-/// Whether a byte may stand in the bare name of a symbol.
+/// Whether a byte may be in the unquoted name of a symbol.
 pub fn is_symbol_byte(byte: u8) -> bool
     ensures { result ≡ is_symbol_byte byte }
 {
@@ -55,7 +55,7 @@ pub fn is_single(byte: u8) -> bool
     )
 }
 
-/// How many word bytes are at the front.
+/// The number of word bytes at the front.
 #[tactic(auto, using(crate::proofs::Runs::runs))]
 pub fn word_bytes(bytes: &[u8]) -> usize
     ensures value { result ≡ prefix_len is_word_byte bytes.now }
@@ -64,7 +64,7 @@ pub fn word_bytes(bytes: &[u8]) -> usize
     bytes.iter().take_while(|b| is_word_byte(**b)).count()
 }
 
-/// How many symbol bytes are at the front.
+/// The number of symbol bytes at the front.
 #[tactic(auto, using(crate::proofs::Runs::runs))]
 pub fn symbol_bytes(bytes: &[u8]) -> usize
     ensures value { result ≡ prefix_len is_symbol_byte bytes.now }
@@ -73,7 +73,7 @@ pub fn symbol_bytes(bytes: &[u8]) -> usize
     bytes.iter().take_while(|b| is_symbol_byte(**b)).count()
 }
 
-/// How many decimal digits are at the front.
+/// The number of decimal digits at the front.
 #[tactic(auto, using(crate::proofs::Runs::runs))]
 pub fn digits(bytes: &[u8]) -> usize
     ensures value { result ≡ prefix_len is_ascii_digit bytes.now }
@@ -82,7 +82,7 @@ pub fn digits(bytes: &[u8]) -> usize
     bytes.iter().take_while(|b| b.is_ascii_digit()).count()
 }
 
-/// How many hexadecimal digits are at the front.
+/// The number of hexadecimal digits at the front.
 #[tactic(auto, using(crate::proofs::Runs::runs))]
 pub fn hexadecimal_digits(bytes: &[u8]) -> usize
     ensures value { result ≡ prefix_len is_ascii_hexdigit bytes.now }
@@ -91,7 +91,7 @@ pub fn hexadecimal_digits(bytes: &[u8]) -> usize
     bytes.iter().take_while(|b| b.is_ascii_hexdigit()).count()
 }
 
-/// How long the word at the front is, 0 where none is there.
+/// The length of the word at the front; 0 if there is none.
 pub fn word(bytes: &[u8]) -> usize
     ensures value { result ≡ word_len bytes.now }
     ensures within { result ≤ length bytes.now }
@@ -102,7 +102,7 @@ pub fn word(bytes: &[u8]) -> usize
     }
 }
 
-/// The first place of a byte.
+/// The first index of a byte.
 pub fn position(byte: u8, bytes: &[u8]) -> Option<usize>
     ensures value { result ≡ position (λ b. b == byte) bytes.now }
     ensures within { IfSome result (λ i. i < length bytes.now) }

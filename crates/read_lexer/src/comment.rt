@@ -4,8 +4,8 @@ ghost use Rattle.std.specs.Prelude.{◌≡◌, None};
 ghost use Rattle.read_lexer.specs.Bytes.{is_quote};
 ghost use Rattle.read_lexer.specs.Comment.{before, before_comment, before_memory_operands, quote_behind, is_cut};
 
-/// A line without its comment, which begins at the first `;` outside quotes. A quote that isn't closed has the rest of
-/// the line in it.
+/// A line without its comment, which begins at the first `;` outside quotes. An unclosed quote extends to the end of
+/// the line.
 pub fn before_comment(line: &[u8]) -> &[u8]
     ensures { result.now ≡ before_comment line.now }
 {
@@ -19,7 +19,7 @@ pub fn before_memory_operands(line: &[u8]) -> &[u8]
     before(line, b"::")
 }
 
-/// The line's bytes before the first place outside quotes where a mark stands.
+/// The line's bytes before the first `mark` outside quotes.
 fn before<'a>(line: &'a [u8], mark: &[u8]) -> &'a [u8]
     ensures { result.now ≡ before mark.now None line.now }
 {
@@ -33,14 +33,14 @@ fn before<'a>(line: &'a [u8], mark: &[u8]) -> &'a [u8]
     line
 }
 
-/// Whether a mark stands outside quotes at the front.
+/// Whether the bytes begin with `mark`, outside quotes.
 fn is_cut(mark: &[u8], open_quote: Option<u8>, rest: &[u8]) -> bool
     ensures { result ≡ is_cut mark.now open_quote rest.now }
 {
     open_quote.is_none() && rest.starts_with(mark)
 }
 
-/// The quote that is open behind a byte.
+/// The open quote after a byte, if one is open.
 fn quote_behind(open_quote: Option<u8>, byte: u8) -> Option<u8>
     ensures { result ≡ quote_behind open_quote byte }
 {

@@ -6,7 +6,7 @@ ghost use Rattle.read_lexer.specs.declared.fault.LexError.TheVariants.{Memory};
 use std::alloc::AllocError;
 use thiserror::Error;
 
-/// Why a line has no tokens: its first fault from the left, as a byte index into the line, or want of memory.
+/// Why a line has no tokens: its leftmost fault, as a byte index into the line, or want of memory.
 #[derive(Debug, Drop, Error)]
 pub enum LexError {
     /// The byte at this index begins no token.

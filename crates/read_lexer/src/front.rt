@@ -1,4 +1,4 @@
-//! The token at the front of what is left of a line.
+//! The token at the front of the rest of a line.
 
 ghost use Rattle.std.specs.Prelude.{◌≡◌, ◌+◌, ◌<◌, ◌^◌, length, IfOk};
 ghost use Rattle.read_lexer.specs.Front.{token, marked, quoted, metadata_at, symbol_at, hexadecimal_len, integer_at};
@@ -10,7 +10,8 @@ use crate::bytes::{
 use crate::fault::LexError;
 use crate::parts::{Class, Token};
 
-/// The token that begins at `at` with the byte `first`, where `after` is the rest of the line, or the fault there.
+/// The token, or the lexical fault, at index `at`, where `first` is the byte there and `after` are the bytes after
+/// it.
 #[tactic(auto, unfolding(crate::specs::Front::token_at))]
 pub fn token_at(at: usize, first: u8, after: &[u8]) -> Result<Token, LexError>
     requires { at + length after.now + 1 < 2 ^ 64 }
@@ -30,7 +31,7 @@ pub fn token_at(at: usize, first: u8, after: &[u8]) -> Result<Token, LexError>
     }
 }
 
-/// A token of `len` bytes from `at` on.
+/// A token of `len` bytes from index `at`.
 fn token(class: Class, at: usize, len: usize) -> Token
     requires { at + len < 2 ^ 64 }
     ensures { token class at len ≡ Ok result }
@@ -42,7 +43,7 @@ fn token(class: Class, at: usize, len: usize) -> Token
     }
 }
 
-/// A token of one byte and the run of `run` bytes behind it, which has to be there.
+/// A token of one byte and a run of `run` bytes after it, which must not be empty.
 fn marked(class: Class, at: usize, run: usize) -> Result<Token, LexError>
     requires { at + run + 1 < 2 ^ 64 }
     ensures { result ≡ marked class at run }
@@ -53,7 +54,8 @@ fn marked(class: Class, at: usize, run: usize) -> Result<Token, LexError>
     Ok(token(class, at, 1 + run))
 }
 
-/// A token from `at` on that ends with a text in quotes, whose opening quote stands at `open_at`, right before `after`.
+/// A token from index `at` that ends with a text in quotes, whose opening quote is at `open_at`, right before
+/// `after`.
 fn quoted(
     class: Class,
     at: usize,
@@ -96,7 +98,7 @@ fn symbol(at: usize, after: &[u8]) -> Result<Token, LexError>
     }
 }
 
-/// How many hexadecimal digits stand behind `0x`, where `first` and `after` begin so.
+/// The number of hexadecimal digits after `0x`; 0 if `first` and `after` don't begin with `0x`.
 fn hexadecimal(first: u8, after: &[u8]) -> usize
     ensures value { result ≡ hexadecimal_len first after.now }
     ensures within { 0 < result → result < length after.now }

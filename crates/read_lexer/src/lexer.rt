@@ -12,7 +12,7 @@ use crate::parts::Tokens;
 use base_list::List;
 use std::alloc::Global;
 
-/// The tokens of a line, from left to right, or its first fault from the left.
+/// The tokens of a line, from left to right, or its leftmost fault.
 pub fn tokens(alloc: Global, line: &[u8]) -> Result<Tokens, LexError>
     // They are the line's tokens, and the fault is its first one.
     ensures exact { Gives result (tokens_of line.now) }

@@ -1,8 +1,8 @@
-//! Tokens: their classes, and where they stand in their line.
+//! Tokens: their classes, and their spans in the line.
 
 use base_list::List;
 
-/// What a token is, told by its first byte and in four cases by the bytes after it.
+/// The class of a token: its first byte determines it, in four cases with the bytes after that.
 #[derive(Clone, Copy, Debug, PartialEq, Eq)]
 pub enum Class {
     /// A letter or `_`, and then letters, digits, `_`, `.` and `-`, as `ADDI`, `bb.0.entry` or `debug-location`.
@@ -17,11 +17,11 @@ pub enum Class {
     Kind,
     /// `@` or `&`, and then letters, digits, `_`, `.`, `-` and `$`, or a text in double quotes, as `@main`.
     Symbol,
-    /// Digits, behind a `-` or not, or `0x` and hexadecimal digits.
+    /// Digits, after a `-` or not, or `0x` and hexadecimal digits.
     Integer,
     /// The bytes between two double quotes or two single quotes, quotes included.
     Text,
-    /// One of the bytes `= , ( ) : { } [ ] < > | + -`, where a `-` has no digit behind it.
+    /// One of the bytes `= , ( ) : { } [ ] < > | + -`, where no digit follows a `-`.
     Single(u8),
 }
 
@@ -32,7 +32,7 @@ pub struct Token {
     pub class: Class,
     /// The index in the line of its first byte.
     pub start: usize,
-    /// The index in the line behind its last byte.
+    /// The index in the line after its last byte.
     pub end: usize,
 }
 

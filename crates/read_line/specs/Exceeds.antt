@@ -1,4 +1,4 @@
--- Whether a number of an item is beyond the limit, or an integer of its line too wide.
+-- Whether a number on an item's line is above the limit, or an integer too wide.
 use Rattle.std.specs.Prelude.{ℕ, Bool, true, false, ◌||◌, nat_le, List, Option, Some, None}
 use Rattle.std.specs.List.{list_any}
 use Rattle.mir_func.specs.declared.location.Loc.{Loc}
@@ -14,25 +14,25 @@ use Rattle.read_line.specs.declared.form.OperandForm.{OperandForm}
 use Rattle.read_line.specs.declared.form.OperandForm.TheVariants as operands
 use Rattle.read_line.specs.declared.attribute.Attributes.{Attributes}
 
--- a number above 2^30 - 1
+-- whether a number is above 2^30 - 1
 abbrev pub is_beyond : ℕ → Bool
 is_beyond n = nat_le BEYOND n
 
--- a number that may be missing is there and above 2^30 - 1
+-- whether there is a number, and it is above 2^30 - 1
 abbrev pub is_some_beyond : Option ℕ → Bool
 is_some_beyond None = false
 is_some_beyond (Some n) = is_beyond n
 
--- the number of a virtual register
+-- whether the number of a virtual register is above 2^30 - 1
 abbrev pub name_exceeds : RegisterName → Bool
 name_exceeds (Virtual n) = is_beyond n
 name_exceeds name = false
 
--- the number of a virtual register is above 2^30 - 1; other registers have none that could be
+-- the same for a register with its flag
 abbrev pub register_exceeds : RegisterForm → Bool
 register_exceeds r = name_exceeds r.name
 
--- a number of an operand. Integers that are operands may be any
+-- whether a number in an operand is above 2^30 - 1. Integer operands have no such limit
 abbrev pub operand_exceeds : OperandForm → Bool
 operand_exceeds (operands.Register r) = register_exceeds r
 operand_exceeds (operands.Slot n) = is_beyond n
@@ -41,22 +41,22 @@ operand_exceeds (operands.Node n) = is_beyond n
 operand_exceeds (operands.Reference p) = is_beyond p.number || is_beyond p.operand
 operand_exceeds operand = false
 
--- a number of a location
+-- whether a number in a debug location is above 2^30 - 1
 abbrev pub loc_exceeds : Loc → Bool
 loc_exceeds locs.Absent = false
 loc_exceeds (locs.Node n) = is_beyond n
 loc_exceeds (locs.Inline l) = is_beyond l.line || (is_beyond l.column || (is_beyond l.scope || is_some_beyond l.inlined_at))
 
--- the debug instruction number, or a number of the location, is above 2^30 - 1
+-- whether the debug instruction number, or a number in the debug location, is above 2^30 - 1
 abbrev pub attributes_exceed : Attributes → Bool
 attributes_exceed a = is_some_beyond a.number || loc_exceeds a.loc
 
--- an integer whose size is 2^128 or more
+-- whether a lexeme is an integer whose absolute value is 2^128 or more
 abbrev pub is_wide : Lexeme → Bool
 is_wide (Integer Wide) = true
 is_wide t = false
 
--- a number of an item of these parts exceeds, or an integer of its line does
+-- whether some number on the line is above its limit, or some integer has an absolute value of 2^128 or more
 abbrev pub item_exceeds : List Lexeme → List RegisterForm → List OperandForm → Attributes → Bool
 item_exceeds ts definitions operands attributes =
     list_any is_wide ts || (list_any register_exceeds definitions || (list_any operand_exceeds operands || attributes_exceed attributes))

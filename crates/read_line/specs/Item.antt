@@ -1,5 +1,5 @@
--- A line with an item: definitions and `=`, words that are passed over, an opcode, operands separated by commas, and
--- attributes. (LLVM, Machine IR (MIR) Format Reference Manual, "Machine Instructions".)
+-- The line of an item: definitions and `=`, words in lower case that are skipped, an opcode, operands separated by commas, and attributes. (LLVM, Machine
+-- IR (MIR) Format Reference Manual, "Machine Instructions".)
 use Rattle.std.specs.Prelude.{ℕ, zero, suc, Bool, true, false, length, if◌then◌else◌, List, [], ◌∷◌, Option, Some, None}
 use Rattle.read_lexer.specs.declared.parts.Token.{Token}
 use Rattle.read_metadata.specs.Token.{text_of}
@@ -19,23 +19,23 @@ use Rattle.read_line.specs.Operand.{operand_at}
 use Rattle.read_line.specs.Attribute.{attributes_behind, attributes_alone, begins_attribute}
 use Rattle.read_line.specs.Exceeds.{item_exceeds}
 
--- a part before others that were read
+-- an element before those that were read, with the rest
 abbrev pub before : {A : Type 0} → A → Option (List A × List Lexeme) → Option (List A × List Lexeme)
 before x None = None
 before x (Some xs) = Some (x ∷ xs.0, xs.1)
 
--- definitions, and what is left behind their equals sign
+-- the definitions, and the rest after the equals sign
 abbrev pub with_equals : List RegisterForm → List Lexeme → Option (List RegisterForm × List Lexeme)
 with_equals ds ts = behind_equals ts >>= λ rest. Some (ds, rest)
 
--- Registers separated by commas up to an equals sign, at most so many.
+-- Registers separated by commas up to an equals sign, at most `n`, and the rest.
 unfoldable pub definitions_at : ℕ → List Lexeme → Option (List RegisterForm × List Lexeme)
 definitions_at zero ts = None
 definitions_at (suc n) ts = do
   d ← register_at Plain ts
   case_of (behind_comma d.1) (λ rest. before d.0 (definitions_at n rest)) (with_equals (d.0 ∷ []) d.1)
 
--- definitions and an equals sign, both or neither
+-- definitions and an equals sign, or neither, and the rest
 abbrev pub definitions_of : List Lexeme → Option (List RegisterForm × List Lexeme)
 definitions_of ts = if begins_register ts then definitions_at (length ts) ts else Some ([], ts)
 
@@ -54,29 +54,29 @@ is_lower words.Upper = false
 is_lower words.Underscore = false
 is_lower word = true
 
--- words that begin with a lower-case letter are passed over
+-- the lexemes after words that begin with a lower-case letter, which are skipped
 unfoldable pub behind_words : List Lexeme → List Lexeme
 behind_words (lexemes.Word w t ∷ ts) = if is_lower w then behind_words ts else lexemes.Word w t ∷ ts
 behind_words ts = ts
 
--- an opcode
+-- an opcode, a word that begins with an upper-case letter, and the rest
 abbrev pub opcode_at : List Lexeme → Option (Token × List Lexeme)
 opcode_at (lexemes.Word w t ∷ ts) = if is_upper w then Some (t, ts) else None
 opcode_at ts = None
 
--- the lexemes behind a comma, if no attribute stands there
+-- the lexemes after a comma, unless an attribute follows it
 abbrev pub behind_operand : List Lexeme → Option (List Lexeme)
 behind_operand (lexemes.Comma ∷ ts) = if begins_attribute ts then None else Some ts
 behind_operand ts = None
 
--- Operands separated by commas, at most so many.
+-- Operands separated by commas, at most `n`, and the rest.
 unfoldable pub operands_at : List ℕ → ℕ → List Lexeme → Option (List OperandForm × List Lexeme)
 operands_at line zero ts = None
 operands_at line (suc n) ts = do
   o ← operand_at line ts
   case_of (behind_operand o.1) (λ rest. before o.0 (operands_at line n rest)) (Some (o.0 ∷ [], o.1))
 
--- an operand has to stand behind the opcode
+-- whether an operand has to follow the opcode
 abbrev pub begins_operand : List Lexeme → Bool
 begins_operand [] = false
 begins_operand (lexemes.Comma ∷ ts) = false
@@ -84,15 +84,15 @@ begins_operand (lexemes.Word words.InstrNumber t ∷ ts) = false
 begins_operand (lexemes.Word words.Location t ∷ ts) = false
 begins_operand ts = true
 
--- operands, if there are some
+-- operands, or none, and the rest
 abbrev pub operands_of : List ℕ → List Lexeme → Option (List OperandForm × List Lexeme)
 operands_of line ts = if begins_operand ts then operands_at line (length ts) ts else Some ([], ts)
 
--- attributes, if there are some, behind operands or not
+-- the attributes, or none, where `tail` are the lexemes after the opcode and `rest` those after the operands
 abbrev pub attributes_of_item : List Lexeme → List Lexeme → Option Attributes
 attributes_of_item tail rest = if begins_operand tail then attributes_behind rest else attributes_alone tail
 
--- an item of these parts
+-- the form of an item with these parts
 abbrev pub item_with : List Lexeme → List RegisterForm → List ℕ → List OperandForm → Attributes → ItemForm
 item_with ts definitions opcode operands attributes = record {
   definitions = definitions;
@@ -103,7 +103,7 @@ item_with ts definitions opcode operands attributes = record {
   exceeds = item_exceeds ts definitions operands attributes;
 }
 
--- the item of a line with these definitions, where `rest` stands behind them
+-- the item of a line with these definitions, where `rest` are the lexemes after them
 unfoldable pub defined_item : List ℕ → List Lexeme → List RegisterForm → List Lexeme → Option ItemForm
 defined_item line ts definitions rest = do
   opcode ← opcode_at (behind_words rest)
@@ -111,6 +111,6 @@ defined_item line ts definitions rest = do
   attributes ← attributes_of_item opcode.1 operands.1
   Some (item_with ts definitions (text_of line opcode.0) operands.0 attributes)
 
--- the item that the lexemes of a line are
+-- the item in the lexemes of a line
 unfoldable pub item_of : List ℕ → List Lexeme → Option ItemForm
 item_of line ts = definitions_of ts >>= λ definitions. defined_item line ts definitions.0 definitions.1

@@ -1,4 +1,4 @@
--- One operand. (LLVM, Machine IR (MIR) Format Reference Manual, "Machine Operands"; LLVM Language Reference, "DIExpression".)
+-- One operand, parsed. (LLVM, Machine IR (MIR) Format Reference Manual, "Machine Operands"; LLVM Language Reference, "DIExpression".)
 use Rattle.std.specs.Prelude.{ℕ, ℤ, pos, ◌+◌, ◌/◌, ◌%◌, Bool, false, ◌&&◌, ◌==◌, nat_le, if◌then◌else◌, List, ◌∷◌, Option, Some, None}
 use Rattle.mir_func.specs.Limits.{MAX_PART, MAX_PART_END}
 use Rattle.mir_func.specs.Parts.{Bytes}
@@ -19,63 +19,63 @@ use Rattle.read_line.specs.Read.{◌>>=◌}
 use Rattle.read_line.specs.Bracket.{behind_bracket}
 use Rattle.read_line.specs.Register.{register_at}
 
--- a natural number within the limit, and the one that stands for every number beyond it
+-- a natural number, or `BEYOND` for any number above the limit
 abbrev pub capped : ℕ → ℕ
 capped n = if nat_le n BEYOND then n else BEYOND
 
--- an integer where it names or counts something
+-- an integer that is a number or count; `BEYOND` if it is negative or above the limit
 abbrev pub counted : Number → ℕ
 counted (Fits (pos n)) = capped n
 counted number = BEYOND
 
--- an integer that fits 64 bits signed
+-- an integer, if it fits 64 bits signed
 abbrev pub fitting : Number → Option ℤ
 fitting (Fits i) = Some i
 fitting number = None
 
--- the integer 0: the only argument that `DW_OP_LLVM_arg` may name here
+-- whether an integer is 0, the only argument of `DW_OP_LLVM_arg` that is supported
 abbrev pub is_zero : Number → Bool
 is_zero (Fits (pos n)) = n == 0
 is_zero number = false
 
--- how many whole bytes bits are
+-- this many bits in bytes, if they are whole bytes
 abbrev pub whole : ℕ → Option ℕ
 whole bits = if bits % 8 == 0 then Some (bits / 8) else None
 
--- how many whole bytes bits are, up to 65,536 bits
+-- this many bits in bytes, if they are whole bytes and at most 65,536 bits
 abbrev pub whole_bytes : Number → Option ℕ
 whole_bytes (Fits (pos n)) = if nat_le n 65536 then whole n else None
 whole_bytes number = None
 
--- bytes that a part of a variable may have: 1 to 8, none from byte 8,192 on
+-- whether a fragment may have these bytes: 1 to 8 of them, all before byte 8,192
 abbrev pub are_part : ℕ → ℕ → Bool
 are_part offset len = (nat_le 1 len && nat_le len MAX_PART) && nat_le (offset + len) MAX_PART_END
 
--- the part of a variable that a fragment of bits names, where they are whole bytes that a part may have
+-- the bytes of a fragment of `size` bits from bit `offset`, if they are whole bytes that a fragment may have
 abbrev pub part_of : Number → Number → Option Bytes
 part_of offset size = do
   first ← whole_bytes offset
   len ← whole_bytes size
   if are_part first len then Some (record { offset = first; length = len }) else None
 
--- a fragment of a plain expression
+-- an expression that is a fragment alone
 abbrev pub plain_part : Option Bytes → Expression
 plain_part None = expressions.Other
 plain_part (Some part) = expressions.Part part
 
--- a fragment behind the argument
+-- an expression that is a fragment after `DW_OP_LLVM_arg, 0`
 abbrev pub argument_part : Option Bytes → Expression
 argument_part None = expressions.Other
 argument_part (Some part) = expressions.PartOfArgument part
 
--- an expression behind `DW_OP_LLVM_arg, 0`
+-- an expression, from the lexemes after `DW_OP_LLVM_arg, 0`
 abbrev pub argument_expression : List Lexeme → Expression
 argument_expression (lexemes.Close ∷ ts) = expressions.Argument
 argument_expression (lexemes.Comma ∷ lexemes.Word words.Fragment t ∷ lexemes.Comma ∷ lexemes.Integer o ∷ lexemes.Comma ∷ lexemes.Integer s
     ∷ lexemes.Close ∷ ts) = argument_part (part_of o s)
 argument_expression ts = expressions.Other
 
--- what an expression says, behind its opening bracket
+-- an expression, from the lexemes after its opening bracket
 unfoldable pub expression_of : List Lexeme → Expression
 expression_of (lexemes.Close ∷ ts) = expressions.Empty
 expression_of (lexemes.Word words.Argument t ∷ lexemes.Comma ∷ lexemes.Integer n ∷ ts) = if is_zero n then argument_expression ts else expressions.Other
@@ -83,36 +83,36 @@ expression_of (lexemes.Word words.Fragment t ∷ lexemes.Comma ∷ lexemes.Integ
     plain_part (part_of o s)
 expression_of ts = expressions.Other
 
--- an expression, behind its opening bracket
+-- an expression operand, from the lexemes after its opening bracket, and the rest
 abbrev pub expression_at : List Lexeme → Option (OperandForm × List Lexeme)
 expression_at ts = behind_bracket 0 ts >>= λ rest. Some (operands.Expression (expression_of ts), rest)
 
--- a symbol
+-- a symbol operand, and the rest
 abbrev pub symbol_at : List ℕ → List Lexeme → Option (OperandForm × List Lexeme)
 symbol_at line (lexemes.Symbol t ∷ ts) = Some (operands.Symbol (symbol_name line t), ts)
 symbol_at line ts = None
 
--- a symbol behind the bracket of its `target-flags`, which is passed over
+-- a symbol operand after `target-flags(..)`, which is skipped, and the rest
 abbrev pub flagged_symbol_at : List ℕ → List Lexeme → Option (OperandForm × List Lexeme)
 flagged_symbol_at line (lexemes.Open ∷ ts) = behind_bracket 0 ts >>= symbol_at line
 flagged_symbol_at line ts = None
 
--- `(K, O)` behind `dbg-instr-ref`
+-- the operand `dbg-instr-ref(K, O)`, from the lexemes after its word, and the rest
 abbrev pub reference_at : List Lexeme → Option (OperandForm × List Lexeme)
 reference_at (lexemes.Open ∷ lexemes.Integer k ∷ lexemes.Comma ∷ lexemes.Integer o ∷ lexemes.Close ∷ ts) =
     Some (operands.Reference (record { number = counted k; operand = counted o }), ts)
 reference_at ts = None
 
--- a register mask, behind its word: a bracket is passed over
+-- a register mask, from the lexemes after its word, and the rest: a bracket is skipped
 abbrev pub mask_at : List Lexeme → Option (OperandForm × List Lexeme)
 mask_at (lexemes.Open ∷ ts) = behind_bracket 0 ts >>= λ rest. Some (operands.Mask, rest)
 mask_at ts = Some (operands.Mask, ts)
 
--- a register that is an operand
+-- a register operand, and the rest
 abbrev pub register_operand_at : List Lexeme → Option (OperandForm × List Lexeme)
 register_operand_at ts = register_at Plain ts >>= λ r. Some (operands.Register r.0, r.1)
 
--- An operand that begins with a word. Attributes are none, and a register's words are read with the register.
+-- An operand that begins with a word, from the lexemes after it, and the rest. Attributes and register flags begin none here.
 unfoldable pub word_operand_at : List ℕ → Word → List Lexeme → Option (OperandForm × List Lexeme)
 word_operand_at line (words.Flag f) ts = None
 word_operand_at line words.InstrNumber ts = None
@@ -121,7 +121,7 @@ word_operand_at line words.TargetFlags ts = flagged_symbol_at line ts
 word_operand_at line words.InstrRef ts = reference_at ts
 word_operand_at line word ts = mask_at ts
 
--- an operand
+-- an operand, and the rest
 unfoldable pub operand_at : List ℕ → List Lexeme → Option (OperandForm × List Lexeme)
 operand_at line (lexemes.Word (words.Flag f) t ∷ ts) = register_operand_at (lexemes.Word (words.Flag f) t ∷ ts)
 operand_at line (lexemes.Word w t ∷ ts) = word_operand_at line w ts

@@ -1,4 +1,4 @@
-//! What may end an item's line: `debug-instr-number K` and `debug-location !N`.
+//! The attributes at the end of an item's line: `debug-instr-number K` and `debug-location !N`.
 
 ghost use Rattle.std.specs.Prelude.{◌≡◌};
 ghost use Rattle.read_line.specs.Read.{Gives};
@@ -27,7 +27,7 @@ use base_ids::metadata::NodeId;
 use mir_func::location::{InlineLoc, Loc};
 use read_token::lexeme::{Lexeme, Word};
 
-/// What the attributes of an item say.
+/// The attributes of an item.
 #[derive(Clone, Copy, Debug)]
 pub struct Attributes {
     pub number: Option<DebugNumber>,
@@ -43,7 +43,7 @@ pub struct Fields {
     pub inlined_at: Option<NodeId>,
 }
 
-/// Fields and what is left, unless the number was there before.
+/// The fields and the rest, if this number wasn't read before.
 fn number_once(before: Option<u32>, fields: Fields, rest: &[Lexeme]) -> Option<(Fields, &[Lexeme])>
     ensures { Gives (λ x. (x.0, x.1.now)) result (once before fields rest.now) }
 {
@@ -53,7 +53,7 @@ fn number_once(before: Option<u32>, fields: Fields, rest: &[Lexeme]) -> Option<(
     }
 }
 
-/// Fields and what is left, unless the node was there before.
+/// The fields and the rest, if this node wasn't read before.
 fn node_once(before: Option<NodeId>, fields: Fields, rest: &[Lexeme]) -> Option<(Fields, &[Lexeme])>
     ensures { Gives (λ x. (x.0, x.1.now)) result (once before fields rest.now) }
 {
@@ -63,7 +63,7 @@ fn node_once(before: Option<NodeId>, fields: Fields, rest: &[Lexeme]) -> Option<
     }
 }
 
-/// Fields with one more, and what is left behind it.
+/// The fields with one more, and the rest.
 #[tactic(auto, unfolding(crate::specs::Attribute::field_at))]
 fn field(fields: Fields, lexemes: &[Lexeme]) -> Option<(Fields, &[Lexeme])>
     ensures { Gives (λ x. (x.0, x.1.now)) result (field_at fields lexemes.now) }
@@ -116,7 +116,7 @@ fn field(fields: Fields, lexemes: &[Lexeme]) -> Option<(Fields, &[Lexeme])>
     }
 }
 
-/// The location that fields write out, where its line and its scope are there.
+/// The debug location with these fields: the line and the scope are required.
 fn inline_location(fields: Fields) -> Option<Loc>
     ensures { result ≡ location_of fields }
 {
@@ -130,7 +130,7 @@ fn inline_location(fields: Fields) -> Option<Loc>
     }))
 }
 
-/// Fields, and what is left behind the bracket that closes them.
+/// The fields, and the rest after the closing bracket.
 fn closed(fields: Fields, lexemes: &[Lexeme]) -> Option<(Fields, &[Lexeme])>
     ensures { Gives (λ x. (x.0, x.1.now)) result (closed fields lexemes.now) }
 {
@@ -141,7 +141,7 @@ fn closed(fields: Fields, lexemes: &[Lexeme]) -> Option<(Fields, &[Lexeme])>
 /// How many different fields there are.
 const FIELDS: usize = 4;
 
-/// Fields up to the closing bracket, and what is left behind it.
+/// Fields up to the closing bracket, and the rest.
 fn all_fields(lexemes: &[Lexeme]) -> Option<(Fields, &[Lexeme])>
     ensures { Gives (λ x. (x.0, x.1.now)) result (fields_at 4 no_fields lexemes.now) }
 {
@@ -167,7 +167,7 @@ fn all_fields(lexemes: &[Lexeme]) -> Option<(Fields, &[Lexeme])>
     None
 }
 
-/// A location, and what is left behind it.
+/// A debug location, and the rest.
 #[tactic(auto, unfolding(crate::specs::Attribute::location_at))]
 fn location(lexemes: &[Lexeme]) -> Option<(Loc, &[Lexeme])>
     ensures { Gives (λ x. (x.0, x.1.now)) result (location_at lexemes.now) }
@@ -184,7 +184,7 @@ fn location(lexemes: &[Lexeme]) -> Option<(Loc, &[Lexeme])>
     }
 }
 
-/// A number, and what is left behind it.
+/// An integer that is a number, and the rest.
 fn number(lexemes: &[Lexeme]) -> Option<(DebugNumber, &[Lexeme])>
     ensures { Gives (λ x. (x.0, x.1.now)) result (number_at lexemes.now) }
 {
@@ -194,7 +194,7 @@ fn number(lexemes: &[Lexeme]) -> Option<(DebugNumber, &[Lexeme])>
     }
 }
 
-/// Attributes, if nothing is left behind them.
+/// The attributes, if nothing follows them.
 fn ended(attributes: Attributes, rest: &[Lexeme]) -> Option<Attributes>
     ensures { result ≡ ended attributes rest.now }
 {
@@ -205,7 +205,7 @@ fn ended(attributes: Attributes, rest: &[Lexeme]) -> Option<Attributes>
     }
 }
 
-/// The attributes of an item that gives a number, behind the number.
+/// The attributes of a line with this number, from the lexemes after it.
 #[tactic(auto, unfolding(crate::specs::Attribute::behind_number))]
 fn behind_number(number: DebugNumber, lexemes: &[Lexeme]) -> Option<Attributes>
     ensures { result ≡ behind_number number lexemes.now }
@@ -228,7 +228,7 @@ fn behind_number(number: DebugNumber, lexemes: &[Lexeme]) -> Option<Attributes>
     }
 }
 
-/// The attributes of an item that has a location, behind the location.
+/// The attributes of a line with this location, from the lexemes after it.
 #[tactic(auto, unfolding(crate::specs::Attribute::behind_location))]
 fn behind_location(loc: Loc, lexemes: &[Lexeme]) -> Option<Attributes>
     ensures { result ≡ behind_location loc lexemes.now }
@@ -250,7 +250,7 @@ fn behind_location(loc: Loc, lexemes: &[Lexeme]) -> Option<Attributes>
     }
 }
 
-/// Attributes, at least one, up to the line's end.
+/// One or more attributes, up to the end of the line.
 #[tactic(auto, unfolding(crate::specs::Attribute::attributes_of))]
 fn some_attributes(lexemes: &[Lexeme]) -> Option<Attributes>
     ensures { result ≡ attributes_of lexemes.now }
@@ -272,7 +272,7 @@ fn some_attributes(lexemes: &[Lexeme]) -> Option<Attributes>
     }
 }
 
-/// Whether an attribute stands at the front.
+/// Whether the lexemes begin with an attribute.
 pub fn begins_attribute(lexemes: &[Lexeme]) -> bool
     ensures { result ≡ begins_attribute lexemes.now }
 {
@@ -282,7 +282,7 @@ pub fn begins_attribute(lexemes: &[Lexeme]) -> bool
     )
 }
 
-/// What stands behind operands: nothing, or a comma and attributes.
+/// The attributes after operands: none, or a comma and attributes.
 pub fn attributes_behind(lexemes: &[Lexeme]) -> Option<Attributes>
     ensures { result ≡ attributes_behind lexemes.now }
 {
@@ -296,7 +296,7 @@ pub fn attributes_behind(lexemes: &[Lexeme]) -> Option<Attributes>
     }
 }
 
-/// What stands behind an opcode without operands: the comma may be missing.
+/// The attributes after an opcode without operands: there the comma is optional.
 pub fn attributes_alone(lexemes: &[Lexeme]) -> Option<Attributes>
     ensures { result ≡ attributes_alone lexemes.now }
 {

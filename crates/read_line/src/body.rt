@@ -1,4 +1,4 @@
-//! What one line of a function's body says.
+//! One line of a function's body, parsed.
 
 ghost use Rattle.std.specs.Prelude.{◌≡◌, ◌≤◌, length};
 ghost use Rattle.std.specs.List.{prefix_len};
@@ -43,7 +43,7 @@ fn behind_blanks(text: &[u8]) -> &[u8]
     &text[blanks(text)..]
 }
 
-/// Whether it lists successors or live registers.
+/// Whether a line lists successors or live-in registers.
 #[tactic(auto, unfolding(crate::specs::Body::is_listing))]
 fn is_listing(text: &[u8]) -> bool
     ensures { result ≡ is_listing text.now }
@@ -52,7 +52,7 @@ fn is_listing(text: &[u8]) -> bool
     line.starts_with(b"successors:") || line.starts_with(b"liveins:")
 }
 
-/// The label of a block.
+/// The label of a block; one without a number if that is above the limit.
 fn label(block: BlockId) -> BodyLine
     ensures { result ≡ label_of block }
 {
@@ -63,7 +63,7 @@ fn label(block: BlockId) -> BodyLine
     }
 }
 
-/// The label of a block, where a colon has to be all that is left.
+/// A label with this number, if the rest of the line is a colon.
 fn labelled(block: BlockId, rest: &[Lexeme]) -> Result<BodyLine, LineError>
     ensures { result ≡ labelled block (Some rest.now) }
 {
@@ -73,7 +73,7 @@ fn labelled(block: BlockId, rest: &[Lexeme]) -> Result<BodyLine, LineError>
     }
 }
 
-/// What the lexemes of a line say.
+/// The parsed line of these lexemes.
 #[tactic(auto, unfolding(crate::specs::Body::sentence_of))]
 fn sentence(alloc: Global, line: &[u8], lexemes: &[Lexeme]) -> Result<BodyLine, LineError>
     ensures { Says result (sentence_of line.now lexemes.now) }
@@ -96,8 +96,8 @@ fn sentence(alloc: Global, line: &[u8], lexemes: &[Lexeme]) -> Result<BodyLine, 
     }
 }
 
-/// What a line of a function's body says. `BadByte` and `UnclosedString` come where it has no tokens, `BadLine` where
-/// they have no form.
+/// A line of a function's body, parsed. The errors are `BadByte` and `UnclosedString` for a lexical fault, `BadLine`
+/// for lexemes that are no line, and `Memory`.
 #[tactic(auto, unfolding(crate::specs::Body::body_line_of))]
 pub fn body_line(alloc: Global, text: &[u8]) -> Result<BodyLine, LineError>
     ensures { Says result (body_line_of text.now) }

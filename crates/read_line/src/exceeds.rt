@@ -1,4 +1,4 @@
-//! Whether a number of an item is beyond the limit, or an integer of its line too wide.
+//! Whether a number on an item's line is above the limit, or an integer too wide.
 
 ghost use Rattle.std.specs.Prelude.{◌≡◌};
 ghost use Rattle.std.specs.List.{list_any};
@@ -87,7 +87,7 @@ fn attributes_exceed(attributes: Attributes) -> bool
     }
 }
 
-/// Whether it is an integer whose size is 2^128 or more.
+/// Whether a lexeme is an integer whose absolute value is 2^128 or more.
 fn is_wide(lexeme: Lexeme) -> bool
     ensures { result ≡ is_wide lexeme }
 {
@@ -112,7 +112,7 @@ fn operands_exceed(operands: &[OperandForm]) -> bool
     operands.iter().any(|o| operand_exceeds(o))
 }
 
-/// Whether a number of an item of these parts exceeds, or an integer of its line does.
+/// Whether some number on the line is above its limit, or some integer has an absolute value of 2^128 or more.
 pub fn item_exceeds(
     lexemes: &[Lexeme],
     definitions: &Definitions,

@@ -1,4 +1,4 @@
-//! The forms of lines.
+//! The parsed forms of lines.
 
 use base_ids::code::{BlockId, DebugNumber, SlotId};
 use base_ids::metadata::NodeId;
@@ -11,12 +11,12 @@ use rv64_instr::name::Name;
 use std::alloc::AllocError;
 use thiserror::Error;
 
-/// A register where it stands.
+/// A register on a line.
 #[derive(Clone, Copy, Debug, PartialEq, Eq)]
 pub struct RegisterForm {
-    /// Whether it is an implicit operand.
+    /// Its flag: `implicit`, `implicit-def` or none.
     pub flag: Flag,
-    /// Which one it is.
+    /// Its name.
     pub name: RegisterName,
 }
 
@@ -30,8 +30,8 @@ pub enum Expression {
     Empty,
     /// `!DIExpression(DW_OP_LLVM_arg, 0)`.
     Argument,
-    /// `!DIExpression(DW_OP_LLVM_fragment, O, S)` where the S bits from O on are whole bytes that a part of a variable
-    /// may have.
+    /// `!DIExpression(DW_OP_LLVM_fragment, O, S)` where the S bits from bit O are whole bytes that a fragment may
+    /// have.
     Part(Fragment),
     /// The same with `DW_OP_LLVM_arg, 0, ` before it.
     PartOfArgument(Fragment),
@@ -50,7 +50,7 @@ pub enum OperandForm {
     Slot(SlotId),
     /// `%bb.N`.
     Block(BlockId),
-    /// A symbol, by its name with the bytes that its escapes stand for.
+    /// A symbol, by its name with escapes replaced by their bytes.
     Symbol(Name),
     /// A register mask.
     Mask,
@@ -62,31 +62,31 @@ pub enum OperandForm {
     Reference(OperandPair),
 }
 
-/// The operands behind an opcode, in order.
+/// The operands after an opcode, in order.
 pub type OperandForms = List<OperandForm>;
 
-/// A line with an item. In its numbers `BEYOND` stands for every number that `exceeds`.
+/// The line of an item. A number above its limit is `BEYOND` here, and then `exceeds` is set.
 #[derive(Debug, Drop)]
 pub struct ItemForm {
     /// The registers before its `=`.
     pub definitions: Definitions,
     /// Its opcode.
     pub opcode: Name,
-    /// The operands behind it.
+    /// The operands after it.
     pub operands: OperandForms,
-    /// What follows `debug-instr-number`.
+    /// The number after `debug-instr-number`.
     pub number: Option<DebugNumber>,
-    /// What follows `debug-location`.
+    /// The location after `debug-location`.
     pub loc: Loc,
-    /// Whether one of its numbers of registers, slots, blocks, nodes, references, its own number or a location is above
-    /// 2^30 - 1 or negative, or any integer of the line has a size of 2^128 or more.
+    /// Whether a number of a register, stack entry, block, node, reference or location, or the debug instruction
+    /// number, is above 2^30 - 1 or negative, or an integer on the line has an absolute value of 2^128 or more.
     pub exceeds: bool,
 }
 
-/// What a line of a function's body says.
+/// One line of a function's body, parsed.
 #[derive(Debug, Drop)]
 pub enum BodyLine {
-    /// Nothing: it is empty, or it lists successors or live registers.
+    /// Nothing: it is empty, or lists successors or live-in registers.
     Passed,
     /// The label of a block, and `None` for one whose number is above 2^30 - 1.
     Label(Option<BlockId>),
@@ -94,7 +94,7 @@ pub enum BodyLine {
     Item(ItemForm),
 }
 
-/// Why a line has no form.
+/// Why a line couldn't be parsed.
 #[derive(Clone, Copy, Debug, PartialEq, Eq, Drop, Error)]
 pub enum LineError {
     /// A byte begins no token.
@@ -103,7 +103,7 @@ pub enum LineError {
     /// A quote isn't closed.
     #[error("a quote is not closed")]
     UnclosedString,
-    /// The line is of no form.
+    /// The line has no accepted form.
     #[error("the line is of no form")]
     BadLine,
     /// Memory ran out.

@@ -1,4 +1,4 @@
-//! Reading from left to right: what lexemes have at their front.
+//! Parsing from left to right: single lexemes and brackets.
 
 ghost use Rattle.std.specs.Prelude.{◌≡◌, ◌+◌, ◌<◌, ◌≤◌, ◌^◌, IfSome};
 ghost use Rattle.read_line.specs.Read.{Lends, behind_comma, behind_equals, behind_close};
@@ -6,7 +6,7 @@ ghost use Rattle.read_line.specs.Bracket.{inner_behind, behind_bracket};
 
 use read_token::lexeme::Lexeme;
 
-/// The lexemes behind a comma.
+/// The lexemes after a comma.
 pub fn behind_comma(lexemes: &[Lexeme]) -> Option<&[Lexeme]>
     ensures { Lends result (behind_comma lexemes.now) }
 {
@@ -16,7 +16,7 @@ pub fn behind_comma(lexemes: &[Lexeme]) -> Option<&[Lexeme]>
     }
 }
 
-/// The lexemes behind an equals sign.
+/// The lexemes after an equals sign.
 pub fn behind_equals(lexemes: &[Lexeme]) -> Option<&[Lexeme]>
     ensures { Lends result (behind_equals lexemes.now) }
 {
@@ -26,7 +26,7 @@ pub fn behind_equals(lexemes: &[Lexeme]) -> Option<&[Lexeme]>
     }
 }
 
-/// The lexemes behind a closing bracket.
+/// The lexemes after a closing bracket.
 pub fn behind_close(lexemes: &[Lexeme]) -> Option<&[Lexeme]>
     ensures { Lends result (behind_close lexemes.now) }
 {
@@ -36,7 +36,7 @@ pub fn behind_close(lexemes: &[Lexeme]) -> Option<&[Lexeme]>
     }
 }
 
-/// How many brackets are open behind a lexeme, and `None` where it closes the last one.
+/// How many brackets are open inside the outer one after a lexeme; `None` if the lexeme closes the outer one.
 fn inner_behind(inner: usize, lexeme: Lexeme) -> Option<usize>
     requires { inner + 1 < 2 ^ 64 }
     ensures value { result ≡ inner_behind inner lexeme }
@@ -49,7 +49,7 @@ fn inner_behind(inner: usize, lexeme: Lexeme) -> Option<usize>
     }
 }
 
-/// The lexemes behind the bracket that closes the one opened last, which is passed over.
+/// The lexemes after the closing bracket of one that is open; what is inside is skipped.
 pub fn behind_bracket(lexemes: &[Lexeme]) -> Option<&[Lexeme]>
     ensures { Lends result (behind_bracket 0 lexemes.now) }
 {

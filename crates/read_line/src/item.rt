@@ -1,4 +1,4 @@
-//! Lines with an item.
+//! Lines of items.
 
 ghost use Rattle.std.specs.Prelude.{◌≡◌, ◌∷◌, ◌++◌, [], length, IfOk};
 ghost use Rattle.read_line.specs.Read.{Gives, Lends};
@@ -33,7 +33,7 @@ use read_token::sentence::text_of;
 use rv64_instr::name::Name;
 use std::alloc::{AllocError, Global};
 
-/// Registers up to an equals sign, and what is left behind it.
+/// Registers up to an equals sign, and the rest after it.
 fn some_definitions(
     alloc: Global,
     lexemes: &[Lexeme],
@@ -55,7 +55,7 @@ fn some_definitions(
     Ok(None)
 }
 
-/// Definitions, and what is left behind their equals sign.
+/// The definitions, and the rest after the equals sign.
 fn with_equals(found: Definitions, lexemes: &[Lexeme]) -> Option<(Definitions, &[Lexeme])>
     ensures { Gives (λ x. (x.0, x.1.now)) result (with_equals found lexemes.now) }
 {
@@ -63,7 +63,7 @@ fn with_equals(found: Definitions, lexemes: &[Lexeme]) -> Option<(Definitions, &
     Some((found, rest))
 }
 
-/// The definitions before an equals sign, if there are some, and what is left.
+/// Definitions and an equals sign, or neither, and the rest.
 fn definitions(
     alloc: Global,
     lexemes: &[Lexeme],
@@ -94,7 +94,7 @@ fn is_lower(word: Word) -> bool
     )
 }
 
-/// The lexemes behind words that begin with a lower-case letter.
+/// The lexemes after words that begin with a lower-case letter.
 #[tactic(auto, unfolding(crate::specs::Item::behind_words))]
 fn behind_words(lexemes: &[Lexeme]) -> &[Lexeme]
     ensures { result.now ≡ behind_words lexemes.now }
@@ -109,7 +109,7 @@ fn behind_words(lexemes: &[Lexeme]) -> &[Lexeme]
     rest
 }
 
-/// An opcode, and what is left behind it.
+/// An opcode, and the rest.
 fn opcode(lexemes: &[Lexeme]) -> Option<(Token, &[Lexeme])>
     ensures { Gives (λ x. (x.0, x.1.now)) result (opcode_at lexemes.now) }
 {
@@ -119,7 +119,7 @@ fn opcode(lexemes: &[Lexeme]) -> Option<(Token, &[Lexeme])>
     }
 }
 
-/// The lexemes behind a comma, if no attribute stands there.
+/// The lexemes after a comma, unless an attribute follows it.
 fn behind_operand(lexemes: &[Lexeme]) -> Option<&[Lexeme]>
     ensures { Lends result (behind_operand lexemes.now) }
 {
@@ -129,7 +129,7 @@ fn behind_operand(lexemes: &[Lexeme]) -> Option<&[Lexeme]>
     }
 }
 
-/// Operands, at least one, and what is left behind them.
+/// One or more operands, and the rest.
 fn some_operands<'a>(
     alloc: Global,
     line: &[u8],
@@ -156,7 +156,7 @@ fn some_operands<'a>(
     Ok(None)
 }
 
-/// Whether an operand has to stand behind the opcode.
+/// Whether an operand has to follow the opcode.
 fn begins_operand(lexemes: &[Lexeme]) -> bool
     ensures { result ≡ begins_operand lexemes.now }
 {
@@ -166,7 +166,7 @@ fn begins_operand(lexemes: &[Lexeme]) -> bool
     }
 }
 
-/// The operands, if there are some, and what is left behind them.
+/// Operands, or none, and the rest.
 fn operands<'a>(
     alloc: Global,
     line: &[u8],
@@ -181,7 +181,7 @@ fn operands<'a>(
     }
 }
 
-/// The attributes of an item, where `tail` stands behind its opcode and `rest` behind its operands.
+/// The attributes of an item, where `tail` are the lexemes after the opcode and `rest` those after the operands.
 fn item_attributes(tail: &[Lexeme], rest: &[Lexeme]) -> Option<Attributes>
     ensures { result ≡ attributes_of_item tail.now rest.now }
 {
@@ -192,7 +192,7 @@ fn item_attributes(tail: &[Lexeme], rest: &[Lexeme]) -> Option<Attributes>
     }
 }
 
-/// The item of a line with these definitions, where `rest` stands behind them.
+/// The item of a line with these definitions, where `rest` are the lexemes after them.
 #[tactic(auto, unfolding(crate::specs::Item::defined_item))]
 fn defined_item(
     alloc: Global,
@@ -219,7 +219,7 @@ fn defined_item(
     }
 }
 
-/// An item of these parts.
+/// The form of an item with these parts.
 fn item_with(
     lexemes: &[Lexeme],
     definitions: Definitions,
@@ -241,7 +241,7 @@ fn item_with(
     }
 }
 
-/// The item that the lexemes of a line are.
+/// The item in the lexemes of a line.
 #[tactic(auto, unfolding(crate::specs::Item::item_of))]
 pub fn item(alloc: Global, line: &[u8], lexemes: &[Lexeme]) -> Result<Option<ItemForm>, AllocError>
     ensures { IfOk result (λ item. item ≡ item_of line.now lexemes.now) }

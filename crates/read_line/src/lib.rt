@@ -1,8 +1,9 @@
-//! What one line of a function's body says: a label, an item with its operands, or nothing.
+//! The parser of one line of a machine function's body in MIR: a label, an item with its operands, or a line that is
+//! ignored.
 //!
-//! A line stands alone. It is cut before its comment and its memory operands, its tokens become lexemes, and these are
-//! a sentence of a small grammar. Whether the operands suit the opcode, and whether blocks and slots are there, isn't
-//! asked here. (LLVM, Machine IR (MIR) Format Reference Manual, "Machine Instructions".)
+//! Each line is parsed by itself. Its comment and its memory operands are cut off, its tokens become lexemes, and
+//! these are parsed by a small grammar. Whether the operands fit the opcode, and whether blocks and stack entries
+//! exist, isn't checked here. (LLVM, Machine IR (MIR) Format Reference Manual, "Machine Instructions".)
 #![tactic(auto)]
 
 mod attribute;

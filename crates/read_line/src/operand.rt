@@ -1,4 +1,4 @@
-//! Operands.
+//! Operands, parsed.
 
 ghost use Rattle.std.specs.Prelude.{◌≡◌, ◌≤◌, IfOk};
 ghost use Rattle.read_token.specs.Number.{BEYOND};
@@ -32,7 +32,7 @@ use read_token::lexeme::{BEYOND, Lexeme, Number, Word};
 use read_token::symbol::symbol_name;
 use std::alloc::{AllocError, Global};
 
-/// An integer where it names or counts something: `BEYOND` where it is negative or above the limit.
+/// An integer that is a number or count; `BEYOND` if it is negative or above the limit.
 pub fn counted(number: Number) -> u32
     ensures { result ≡ counted number }
 {
@@ -42,7 +42,7 @@ pub fn counted(number: Number) -> u32
     }
 }
 
-/// An integer that fits 64 bits signed.
+/// An integer, if it fits 64 bits signed.
 fn fitting(number: Number) -> Option<i64>
     ensures { result ≡ fitting number }
 {
@@ -58,7 +58,7 @@ fn is_zero(number: Number) -> bool
     matches!(number, Number::Fits(0))
 }
 
-/// How many whole bytes so many bits are, up to 65,536 bits.
+/// This many bits in bytes, if they are whole bytes and at most 65,536 bits.
 fn whole_bytes(bits: Number) -> Option<u32>
     ensures { result ≡ whole_bytes bits }
 {
@@ -68,14 +68,14 @@ fn whole_bytes(bits: Number) -> Option<u32>
     }
 }
 
-/// How many whole bytes so many bits are.
+/// This many bits in bytes, if they are whole bytes.
 fn whole(bits: u32) -> Option<u32>
     ensures { result ≡ whole bits }
 {
     if bits % 8 == 0 { Some(bits / 8) } else { None }
 }
 
-/// The part of a variable that a fragment of `size` bits from `offset` on names.
+/// The bytes of a fragment of `size` bits from bit `offset`, if they are whole bytes that a fragment may have.
 fn part(offset: Number, size: Number) -> Option<Fragment>
     ensures { result ≡ part_of offset size }
 {
@@ -84,7 +84,7 @@ fn part(offset: Number, size: Number) -> Option<Fragment>
     Fragment::new(offset, length)
 }
 
-/// An expression behind `DW_OP_LLVM_arg, 0`.
+/// An expression, from the lexemes after `DW_OP_LLVM_arg, 0`.
 fn argument_expression(lexemes: &[Lexeme]) -> Expression
     ensures { result ≡ argument_expression lexemes.now }
 {
@@ -107,7 +107,7 @@ fn argument_expression(lexemes: &[Lexeme]) -> Expression
     }
 }
 
-/// What an expression says, behind its opening bracket.
+/// An expression, from the lexemes after its opening bracket.
 #[tactic(auto, unfolding(crate::specs::Operand::expression_of))]
 fn expression(lexemes: &[Lexeme]) -> Expression
     ensures { result ≡ expression_of lexemes.now }
@@ -142,7 +142,7 @@ fn expression(lexemes: &[Lexeme]) -> Expression
     }
 }
 
-/// An expression, behind its opening bracket, and the lexemes behind it.
+/// An expression operand, from the lexemes after its opening bracket, and the rest.
 fn expression_operand(lexemes: &[Lexeme]) -> Option<(OperandForm, &[Lexeme])>
     ensures { Gives (λ x. (x.0, x.1.now)) result (expression_at lexemes.now) }
 {
@@ -150,7 +150,7 @@ fn expression_operand(lexemes: &[Lexeme]) -> Option<(OperandForm, &[Lexeme])>
     Some((OperandForm::Expression(expression(lexemes)), rest))
 }
 
-/// A symbol, and the lexemes behind it.
+/// A symbol operand, and the rest.
 fn symbol<'a>(
     alloc: Global,
     line: &[u8],
@@ -167,7 +167,7 @@ fn symbol<'a>(
     }
 }
 
-/// A symbol behind the bracket of its `target-flags`, and the lexemes behind it.
+/// A symbol operand after `target-flags(..)`, from the lexemes after that word, and the rest.
 fn flagged_symbol<'a>(
     alloc: Global,
     line: &[u8],
@@ -184,7 +184,7 @@ fn flagged_symbol<'a>(
     }
 }
 
-/// What stands in brackets behind `dbg-instr-ref`, and the lexemes behind it.
+/// The operand `dbg-instr-ref(K, O)`, from the lexemes after its word, and the rest.
 fn reference(lexemes: &[Lexeme]) -> Option<(OperandForm, &[Lexeme])>
     ensures { Gives (λ x. (x.0, x.1.now)) result (reference_at lexemes.now) }
 {
@@ -207,7 +207,7 @@ fn reference(lexemes: &[Lexeme]) -> Option<(OperandForm, &[Lexeme])>
     }
 }
 
-/// A register mask, behind its word, and the lexemes behind it.
+/// A register mask, from the lexemes after its word, and the rest.
 fn mask(lexemes: &[Lexeme]) -> Option<(OperandForm, &[Lexeme])>
     ensures { Gives (λ x. (x.0, x.1.now)) result (mask_at lexemes.now) }
 {
@@ -217,7 +217,7 @@ fn mask(lexemes: &[Lexeme]) -> Option<(OperandForm, &[Lexeme])>
     }
 }
 
-/// A register, and the lexemes behind it.
+/// A register operand, and the rest.
 fn register_operand(lexemes: &[Lexeme]) -> Option<(OperandForm, &[Lexeme])>
     ensures { Gives (λ x. (x.0, x.1.now)) result (register_operand_at lexemes.now) }
 {
@@ -227,7 +227,7 @@ fn register_operand(lexemes: &[Lexeme]) -> Option<(OperandForm, &[Lexeme])>
     }
 }
 
-/// An operand that begins with a word, and the lexemes behind it. `rest` stands behind the word.
+/// An operand that begins with a word, where `rest` are the lexemes after it, and the rest after the operand.
 #[tactic(auto, unfolding(crate::specs::Operand::word_operand_at))]
 fn word_operand<'a>(
     alloc: Global,
@@ -245,7 +245,7 @@ fn word_operand<'a>(
     }
 }
 
-/// An operand, and the lexemes behind it.
+/// An operand, and the rest.
 #[tactic(auto, unfolding(crate::specs::Operand::operand_at))]
 pub fn operand<'a>(
     alloc: Global,

@@ -1,4 +1,4 @@
-//! Registers, with the words before them and what belongs to them.
+//! Registers with their flags, class and `(tied-def N)`.
 
 ghost use Rattle.std.specs.Prelude.{◌≡◌};
 ghost use Rattle.read_line.specs.Read.{Gives, Lends};
@@ -7,7 +7,7 @@ ghost use Rattle.read_line.specs.Register.{joined, behind_class, behind_tied, na
 use crate::form::RegisterForm;
 use read_token::lexeme::{Flag, Lexeme, RegisterName, Word};
 
-/// The flag of a register before which two words stand, unless one says that it is read and one that it is set.
+/// The flag of a register with two flags; `None` if they are `implicit` and `implicit-def`.
 fn joined(first: Flag, second: Flag) -> Option<Flag>
     ensures { result ≡ joined first second }
 {
@@ -18,7 +18,7 @@ fn joined(first: Flag, second: Flag) -> Option<Flag>
     }
 }
 
-/// The lexemes behind a virtual register's class, which is passed over.
+/// The lexemes after a virtual register's class, which is skipped.
 fn behind_class(name: RegisterName, lexemes: &[Lexeme]) -> Option<&[Lexeme]>
     ensures { Lends result (behind_class name lexemes.now) }
 {
@@ -29,7 +29,7 @@ fn behind_class(name: RegisterName, lexemes: &[Lexeme]) -> Option<&[Lexeme]>
     }
 }
 
-/// The lexemes behind `(tied-def N)`, which is passed over.
+/// The lexemes after `(tied-def N)`, which is skipped.
 fn behind_tied(lexemes: &[Lexeme]) -> Option<&[Lexeme]>
     ensures { Lends result (behind_tied lexemes.now) }
 {
@@ -46,7 +46,7 @@ fn behind_tied(lexemes: &[Lexeme]) -> Option<&[Lexeme]>
     }
 }
 
-/// A register with what belongs to it, and the lexemes behind.
+/// A register, and the rest after its class and `(tied-def N)`.
 #[tactic(auto, unfolding(crate::specs::Register::named_at))]
 fn named(flag: Flag, name: RegisterName, lexemes: &[Lexeme]) -> Option<(RegisterForm, &[Lexeme])>
     ensures { Gives (λ x. (x.0, x.1.now)) result (named_at flag name lexemes.now) }
@@ -55,7 +55,7 @@ fn named(flag: Flag, name: RegisterName, lexemes: &[Lexeme]) -> Option<(Register
     Some((RegisterForm { flag, name }, rest))
 }
 
-/// A register, with the words before it and what belongs to it, and the lexemes behind.
+/// A register with its flags, class and `(tied-def N)`, and the rest.
 #[tactic(auto, unfolding(crate::specs::Register::register_at))]
 pub fn register(lexemes: &[Lexeme]) -> Option<(RegisterForm, &[Lexeme])>
     ensures { Gives (λ x. (x.0, x.1.now)) result (register_at Flag.Plain lexemes.now) }
@@ -75,7 +75,7 @@ pub fn register(lexemes: &[Lexeme]) -> Option<(RegisterForm, &[Lexeme])>
     }
 }
 
-/// Whether a register, perhaps behind words, stands at the front.
+/// Whether the lexemes begin with a register or its flags.
 #[tactic(auto, unfolding(crate::specs::Register::begins_register))]
 pub fn begins_register(lexemes: &[Lexeme]) -> bool
     ensures { result ≡ begins_register lexemes.now }

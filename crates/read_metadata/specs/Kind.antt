@@ -1,5 +1,5 @@
--- What the fields of a node say, by its kind. (LLVM Language Reference Manual, "DILocalVariable", "DILocation", "DIFile",
--- "DIBasicType", "DISubprogram", "DILexicalBlock" and "DILexicalBlockFile".)
+-- The node with given fields, by its kind. (LLVM Language Reference Manual, "DILocalVariable", "DILocation", "DIFile", "DIBasicType", "DISubprogram",
+-- "DILexicalBlock" and "DILexicalBlockFile".)
 use Rattle.std.specs.Prelude.{ℕ, ◌/◌, ◌%◌, Bool, ◌&&◌, ◌||◌, ◌==◌, nat_le, if◌then◌else◌, unwrap_or, codes, List, Option, Some, None}
 use Rattle.std.specs.Str.{bytes_eq}
 use Rattle.read_metadata.specs.declared.field.Field.{Field}
@@ -10,11 +10,11 @@ use Rattle.read_metadata.specs.Encoding.{DW_ATE_UTF}
 use Rattle.read_metadata.specs.Text.{text_value}
 use Rattle.read_metadata.specs.Field.{number_at, node_at, text_at, word_at}
 
--- a kind of scopes that have a file
+-- whether nodes of a kind are scopes with a file
 unfoldable pub is_scope : List ℕ → Bool
 is_scope kind = bytes_eq kind (codes "!DISubprogram") || (bytes_eq kind (codes "!DILexicalBlock") || bytes_eq kind (codes "!DILexicalBlockFile"))
 
--- the code of an encoding that a base type may have (DWARF 5, section 7.8)
+-- the code of a base type's encoding, if it is supported (DWARF 5, section 7.8)
 unfoldable pub encoding_code : List ℕ → Option ℕ
 encoding_code name =
     if bytes_eq name (codes "DW_ATE_address") then Some DW_ATE_address
@@ -31,7 +31,7 @@ encoding_code name =
 abbrev pub MAX_BITS : ℕ
 MAX_BITS = 2040
 
--- a base type's size in bytes: its size in bits is a multiple of 8 from 8 to the greatest
+-- a base type's size in bytes, if its size in bits is a multiple of 8 from 8 to the greatest
 abbrev pub size_in_bytes : Option ℕ → Option ℕ
 size_in_bytes None = None
 size_in_bytes (Some bits) = if bits % 8 == 0 && (nat_le 8 bits && nat_le bits MAX_BITS) then Some (bits / 8) else None
@@ -41,7 +41,7 @@ abbrev pub variable_with : Option (List ℕ) → Option (Option ℕ) → Option 
 variable_with (Some name) (Some arg) (Some base) = Some (nodes.Variable (record { name = text_value name; arg = unwrap_or arg 0; base = base }))
 variable_with _ _ _ = None
 
--- a place in the source, if its fields are readable and its line is there
+-- a source location, if its fields are readable and it has a line
 abbrev pub location_with : Option (Option ℕ) → Option (Option ℕ) → Option (Option ℕ) → Option (Option ℕ) → Option Node
 location_with (Some (Some line)) (Some column) (Some scope) (Some inlined_at) =
     Some (nodes.Location (record { line = line; column = unwrap_or column 0; scope = scope; inlined_at = inlined_at }))
@@ -52,7 +52,7 @@ abbrev pub file_with : Option (List ℕ) → Option (List ℕ) → Option Node
 file_with (Some name) (Some dir) = Some (nodes.File (record { name = text_value name; dir = text_value dir }))
 file_with _ _ = None
 
--- a base type, if its fields are readable and it may have its size and its encoding
+-- a base type, if its fields are readable and its size and its encoding are supported
 abbrev pub base_type_with : Option (List ℕ) → Option ℕ → Option ℕ → Option Node
 base_type_with (Some name) (Some size) (Some encoding) = Some (nodes.BaseType (record { name = text_value name; size = size; encoding = encoding }))
 base_type_with _ _ _ = None
@@ -62,34 +62,34 @@ abbrev pub scope_with : Option (Option ℕ) → Option Node
 scope_with None = None
 scope_with (Some file) = Some (nodes.Scope file)
 
--- what is read of a field that is there
+-- what is read from a value, if there is one
 abbrev pub and_read : {A B : Type 0} → Option A → (A → Option B) → Option B
 and_read None read = None
 and_read (Some x) read = read x
 
--- the variable that fields give
+-- the variable with these fields
 unfoldable pub variable_of : List ℕ → List Field → Option Node
 variable_of line fields = variable_with (text_at line (codes "name") fields) (number_at line (codes "arg") fields) (node_at line (codes "type") fields)
 
--- the place in the source that fields give
+-- the source location with these fields
 unfoldable pub location_of : List ℕ → List Field → Option Node
 location_of line fields = location_with (number_at line (codes "line") fields) (number_at line (codes "column") fields) (node_at line (codes "scope") fields)
     (node_at line (codes "inlinedAt") fields)
 
--- the file that fields give
+-- the file with these fields
 unfoldable pub file_of : List ℕ → List Field → Option Node
 file_of line fields = file_with (text_at line (codes "filename") fields) (text_at line (codes "directory") fields)
 
--- the base type that fields give
+-- the base type with these fields
 unfoldable pub base_type_of : List ℕ → List Field → Option Node
 base_type_of line fields = base_type_with (text_at line (codes "name") fields) (and_read (number_at line (codes "size") fields) size_in_bytes)
     (and_read (word_at line (codes "encoding") fields) encoding_code)
 
--- the scope that fields give
+-- the scope with these fields
 unfoldable pub scope_of : List ℕ → List Field → Option Node
 scope_of line fields = scope_with (node_at line (codes "file") fields)
 
--- the node of a kind that fields give, none where the kind isn't kept
+-- the node of this kind with these fields; none if nodes of the kind aren't kept
 unfoldable pub node_of_kind : List ℕ → List ℕ → List Field → Option Node
 node_of_kind line kind fields =
     if bytes_eq kind (codes "!DILocalVariable") then variable_of line fields

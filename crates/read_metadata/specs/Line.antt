@@ -1,4 +1,4 @@
--- The node that a line gives: `!N = !KIND(..)` or `!N = distinct !KIND(..)`.
+-- The node that a line defines: `!N = !KIND(..)` or `!N = distinct !KIND(..)`.
 use Rattle.std.specs.Prelude.{ℕ, Bool, ◌&&◌, ◌==◌, if◌then◌else◌, codes, drop, List, [], ◌∷◌, Option, Some, None, Result, Ok, Err}
 use Rattle.std.specs.List.{prefix_len}
 use Rattle.std.specs.Str.{bytes_eq}
@@ -24,17 +24,17 @@ behind_spaces text = drop (prefix_len is_space text) text
 abbrev pub is_distinct : List ℕ → Bool
 is_distinct word = bytes_eq word (codes "distinct")
 
--- tokens without the word `distinct` at their front
+-- tokens without a word `distinct` at the front
 unfoldable pub behind_distinct : List ℕ → List Token → List Token
 behind_distinct line [] = []
 behind_distinct line (t ∷ ts) = if is_word t && is_distinct (text_of line t) then ts else t ∷ ts
 
--- the node that a kind and fields give, if the fields are readable
+-- the node of a kind with these fields, if the fields are readable
 abbrev pub node_with : List ℕ → List ℕ → Option (List Field) → Option Node
 node_with line kind None = None
 node_with line kind (Some fields) = node_of_kind line kind fields
 
--- the node that tokens describe: a kind, and fields in round brackets up to the end
+-- the node that tokens define: a kind, and fields in round brackets up to the end
 unfoldable pub described : List ℕ → List Token → Option Node
 described line (kind ∷ open_bracket ∷ ts) = if is_kind kind && is_byte 40 open_bracket then node_with line (text_of line kind) (fields_of ts) else None
 described line ts = None
@@ -44,18 +44,18 @@ abbrev pub numbered : Option ℕ → Option Node → Option (ℕ × Node)
 numbered (Some n) (Some node) = Some (n, node)
 numbered _ _ = None
 
--- the node with its number that tokens give
+-- the node with its number that tokens define
 unfoldable pub assigned : List ℕ → List Token → Option (ℕ × Node)
 assigned line (number ∷ equals ∷ ts) = if is_node number && is_byte 61 equals then numbered (node_number (text_of line number))
     (described line (behind_distinct line ts)) else None
 assigned line ts = None
 
--- the node with its number that a line's tokens give, none where the line has no tokens
+-- the node with its number that the tokens of a line define; none if the line has a lexical fault
 abbrev pub node_of_tokens : List ℕ → Result (List Token) LexError → Option (ℕ × Node)
 node_of_tokens line (Ok ts) = assigned line ts
 node_of_tokens line (Err e) = None
 
--- The node with its number that a line gives, spaces at its front left out. The line begins with `!`.
+-- The node with its number that a line defines. The line has no spaces at the front, so it begins with `!`.
 unfoldable pub node_of_line : List ℕ → Option (ℕ × Node)
 node_of_line [] = None
 node_of_line (b ∷ bs) = if b == 33 then node_of_tokens (b ∷ bs) (tokens_of (b ∷ bs)) else None

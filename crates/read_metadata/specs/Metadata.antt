@@ -1,4 +1,4 @@
--- The metadata of lines, and what it has at a number or a name.
+-- The metadata in lines, and look-ups in it.
 use Rattle.std.specs.Prelude.{ℕ, List, Option, Some, None}
 use Rattle.std.specs.List.{filter_map}
 use Rattle.std.specs.Option.{option_and_then}
@@ -14,85 +14,85 @@ use Rattle.read_metadata.specs.Line.{behind_spaces, node_of_line}
 use Rattle.read_metadata.specs.Definition.{definition_of_line}
 use Rattle.read_metadata.specs.Maps.{Maps, with_node, with_subprogram}
 
--- the nodes with their numbers that the readable lines give, in the lines' order
+-- the nodes with their numbers that readable lines define, in the order of the lines
 abbrev pub nodes_of : List Line → List (ℕ × Node)
 nodes_of lines = filter_map (λ line. node_of_line (behind_spaces line.text)) lines
 
--- the functions that lines define, with their subprograms, in the lines' order
+-- the functions that lines define, with their subprograms, in the order of the lines
 abbrev pub subprograms_of : List Line → List (List ℕ × ℕ)
 subprograms_of lines = filter_map (λ line. definition_of_line (behind_spaces line.text)) lines
 
--- The metadata of lines. Of two nodes of one number, and of two functions of one name, the first counts.
+-- The metadata in lines. Of two nodes with one number, and of two functions with one name, the first counts.
 unfoldable pub metadata_of : List Line → Maps
 metadata_of lines = record { nodes = finite.from_entries (nodes_of lines); subprograms = finite.from_entries (subprograms_of lines) }
 
--- metadata with a node, if one is given and none of its number is there
+-- metadata with a node, if there is one and its number isn't taken
 abbrev pub with_given : Maps → Option (ℕ × Node) → Maps
 with_given m None = m
 with_given m (Some given) = with_node m given.0 given.1
 
--- metadata with a subprogram, if a function is defined and none of its name is there
+-- metadata with the subprogram of a function, if there is one and the function's name isn't taken
 abbrev pub with_defined : Maps → Option (List ℕ × ℕ) → Maps
 with_defined m None = m
 with_defined m (Some defined) = with_subprogram m defined.0 defined.1
 
--- metadata with what one more line gives
+-- metadata with what one more line defines
 abbrev pub with_line : Maps → List ℕ → Maps
 with_line m text = with_defined (with_given m (node_of_line (behind_spaces text))) (definition_of_line (behind_spaces text))
 
--- the node of a number
+-- the node with this number
 abbrev pub node_at : Maps → ℕ → Option Node
 node_at m n = finite.get m.nodes n
 
--- a node that is a variable
+-- the variable that a node is, if it is one
 abbrev pub as_variable : Node → Option VariableNode
 as_variable (nodes.Variable v) = Some v
 as_variable _ = None
 
--- a node that is a place in the source
+-- the source location that a node is, if it is one
 abbrev pub as_location : Node → Option LocationNode
 as_location (nodes.Location l) = Some l
 as_location _ = None
 
--- a node that is a file
+-- the file that a node is, if it is one
 abbrev pub as_file : Node → Option FileNode
 as_file (nodes.File f) = Some f
 as_file _ = None
 
--- a node that is a base type
+-- the base type that a node is, if it is one
 abbrev pub as_base_type : Node → Option BaseTypeNode
 as_base_type (nodes.BaseType t) = Some t
 as_base_type _ = None
 
--- the node of the file of a node that is a scope
+-- the number of the file of a scope, if the node is a scope and has one
 abbrev pub as_scope : Node → Option ℕ
 as_scope (nodes.Scope file) = file
 as_scope _ = None
 
--- the variable of a number
+-- the variable with this number
 abbrev pub variable_at : Maps → ℕ → Option VariableNode
 variable_at m n = option_and_then as_variable (node_at m n)
 
--- the place in the source of a number
+-- the source location with this number
 abbrev pub location_at : Maps → ℕ → Option LocationNode
 location_at m n = option_and_then as_location (node_at m n)
 
--- the file of a number
+-- the file with this number
 abbrev pub file_at : Maps → ℕ → Option FileNode
 file_at m n = option_and_then as_file (node_at m n)
 
--- the node of the file of the scope of a number
+-- the number of the file of the scope with this number
 abbrev pub scope_file_at : Maps → ℕ → Option ℕ
 scope_file_at m n = option_and_then as_scope (node_at m n)
 
--- the file of the scope of a number
+-- the file of the scope with this number
 abbrev pub file_of_scope_at : Maps → ℕ → Option FileNode
 file_of_scope_at m n = option_and_then (file_at m) (scope_file_at m n)
 
--- the base type of a number
+-- the base type with this number
 abbrev pub base_type_at : Maps → ℕ → Option BaseTypeNode
 base_type_at m n = option_and_then as_base_type (node_at m n)
 
--- the subprogram of the function of a name
+-- the subprogram of the function with this name
 abbrev pub subprogram_at : Maps → List ℕ → Option ℕ
 subprogram_at m name = finite.get m.subprograms name

@@ -25,7 +25,7 @@ use read_lexer::bytes::{digits, is_blank, position, symbol_bytes};
 use rv64_instr::name::Name;
 use std::alloc::{AllocError, Global};
 
-/// How many spaces and tabs are at the front.
+/// The number of spaces and tabs at the front.
 #[tactic(auto, using(crate::proofs::Runs::runs))]
 fn blanks(text: &[u8]) -> usize
     ensures value { result ≡ prefix_len is_blank text.now }
@@ -34,7 +34,7 @@ fn blanks(text: &[u8]) -> usize
     text.iter().take_while(|b| is_blank(**b)).count()
 }
 
-/// How long the symbol at the front is: `@`, and a bare name or one in double quotes.
+/// The length of the symbol at the front: `@`, and an unquoted name or one in double quotes.
 #[tactic(auto, unfolding(crate::specs::Definition::symbol_len))]
 fn symbol_len(text: &[u8]) -> Option<usize>
     ensures value { result ≡ symbol_len text.now }
@@ -53,14 +53,14 @@ fn symbol_len(text: &[u8]) -> Option<usize>
     }
 }
 
-/// Whether a byte stands behind an open double quote, where `quoted` says so of the byte before it.
+/// Whether a double quote is open after a byte, where `quoted` is whether one is open before it.
 fn quoted_behind(quoted: bool, byte: u8) -> bool
     ensures { result ≡ quoted_behind quoted byte }
 {
     quoted != (byte == b'"')
 }
 
-/// The digits of a node's number at the front.
+/// The digits of a node `!N` at the front.
 fn node_digits(text: &[u8]) -> Option<&[u8]>
     ensures { Spells result (node_digits text.now) }
 {
@@ -73,7 +73,7 @@ fn node_digits(text: &[u8]) -> Option<&[u8]>
     }
 }
 
-/// The digits of a node's number behind spaces and tabs.
+/// The digits of a node `!N` after spaces and tabs.
 fn node_behind(text: &[u8]) -> Option<&[u8]>
     ensures { Spells result (node_behind text.now) }
 {
@@ -83,7 +83,7 @@ fn node_behind(text: &[u8]) -> Option<&[u8]>
     }
 }
 
-/// The digits of the subprogram's number at the front: `!dbg`, and behind spaces or tabs a node's number.
+/// The digits of the subprogram at the front: `!dbg`, spaces or tabs, and a node.
 fn attachment(text: &[u8]) -> Option<&[u8]>
     ensures { Spells result (attachment text.now) }
 {
@@ -93,7 +93,7 @@ fn attachment(text: &[u8]) -> Option<&[u8]>
     }
 }
 
-/// What is looked for in a line.
+/// What is searched for on a line.
 #[derive(Clone, Copy)]
 enum Sought {
     /// A symbol.
@@ -102,7 +102,7 @@ enum Sought {
     Attachment,
 }
 
-/// Whether it is at the front.
+/// Whether the text begins with what is searched for.
 fn is_sought(sought: Sought, text: &[u8]) -> bool
     ensures { result ≡ is_sought sought text.now }
 {
@@ -112,14 +112,14 @@ fn is_sought(sought: Sought, text: &[u8]) -> bool
     }
 }
 
-/// Whether it is at the front, outside quotes.
+/// Whether the text begins with what is searched for, outside quotes.
 fn is_outside(sought: Sought, quoted: bool, text: &[u8]) -> bool
     ensures { result ≡ is_outside (is_sought sought) quoted text.now }
 {
     !quoted && is_sought(sought, text)
 }
 
-/// A line from the first place outside quotes on where it stands, and nothing where it stands nowhere.
+/// A line from the first index outside quotes at which it begins with what is searched for; empty if there is none.
 fn from_first(sought: Sought, line: &[u8]) -> &[u8]
     ensures { result.now ≡ from_first (is_sought sought) false line.now }
 {
@@ -133,7 +133,7 @@ fn from_first(sought: Sought, line: &[u8]) -> &[u8]
     &line[line.len()..]
 }
 
-/// The name that a symbol has behind its `@`.
+/// The name of a symbol, from the text after its `@`.
 fn name_of(alloc: Global, name: &[u8]) -> Result<Name, AllocError>
     ensures { IfOk result (λ read. read ≡ name_of name.now) }
 {
@@ -143,7 +143,7 @@ fn name_of(alloc: Global, name: &[u8]) -> Result<Name, AllocError>
     }
 }
 
-/// The function that a line defines, by its name, and the node of its subprogram, if both are there.
+/// The name of the function that a line defines, and the node of its subprogram, if it has both.
 #[tactic(auto, unfolding(crate::specs::Definition::definition_of_line))]
 pub fn definition_of_line(alloc: Global, line: &[u8]) -> Result<Option<(Name, NodeId)>, AllocError>
     ensures { IfOk result (λ definition. definition ≡ definition_of_line line.now) }

@@ -20,7 +20,7 @@ const DW_ATE_unsigned_char: u8 = 0x08;
 /// A Unicode character.
 const DW_ATE_UTF: u8 = 0x10;
 
-/// The code of an encoding, unless it isn't one of those that a base type may have.
+/// The code of an encoding, if it is supported.
 #[tactic(auto, unfolding(crate::specs::Kind::encoding_code))]
 pub fn encoding_code(name: &[u8]) -> Option<u8>
     ensures { result ≡ encoding_code name.now }

@@ -1,4 +1,4 @@
-//! The fields of a node, in its round brackets.
+//! The fields of a metadata node, in round brackets.
 
 ghost use Rattle.std.specs.Prelude.{◌≡◌, ◌+◌, ◌<◌, ◌≤◌, ◌^◌, IfOk};
 ghost use Rattle.read_metadata.specs.Field.{
@@ -27,7 +27,7 @@ use base_list::List;
 use read_lexer::parts::Token;
 use std::alloc::{AllocError, Global};
 
-/// A field: the word before its colon, and the token behind it, None where several are there.
+/// A field: its key, a word, and its value, `None` for one of several tokens.
 #[derive(Clone, Copy, Debug)]
 pub struct Field {
     pub key: Token,
@@ -51,7 +51,7 @@ fn closes(token: Token) -> bool
     is_byte(b')', token) || is_byte(b']', token) || is_byte(b'}', token)
 }
 
-/// Whether the bracket that ends a node is the only token left.
+/// Whether the tokens are only the closing bracket of the node.
 fn is_end(tokens: &[Token]) -> bool
     ensures { result ≡ is_end tokens.now }
 {
@@ -61,14 +61,14 @@ fn is_end(tokens: &[Token]) -> bool
     }
 }
 
-/// Whether a token ends a piece: a comma or a closing bracket where no inner bracket is open.
+/// Whether a token ends a piece: a comma or a closing bracket outside inner brackets.
 fn ends_piece(depth: usize, token: Token) -> bool
     ensures { result ≡ ends_piece depth token }
 {
     depth == 0 && (is_byte(b',', token) || closes(token))
 }
 
-/// How many inner brackets are open behind a token.
+/// The number of inner brackets that are open after a token.
 fn depth_behind(depth: usize, token: Token) -> usize
     requires { depth + 1 < 2 ^ 64 }
     ensures value { result ≡ depth_behind depth token }
@@ -83,7 +83,7 @@ fn depth_behind(depth: usize, token: Token) -> usize
     }
 }
 
-/// The fields, if only the bracket that ends the node is left.
+/// The fields, if only the closing bracket of the node is left.
 fn ended(fields: Fields, tokens: &[Token]) -> Option<Fields>
     ensures { result ≡ ended fields tokens.now }
 {
@@ -107,7 +107,7 @@ fn field_of(tokens: &[Token]) -> Option<Field>
     }
 }
 
-/// The fields between a node's opening bracket and its closing one, which ends the tokens, if all of them are fields.
+/// The fields after a node's opening bracket, up to its closing one, which must be the last token.
 pub fn fields(alloc: Global, tokens: &[Token]) -> Result<Option<Fields>, AllocError>
     ensures { IfOk result (λ fields. fields ≡ fields_of tokens.now) }
 {
@@ -134,8 +134,8 @@ pub fn fields(alloc: Global, tokens: &[Token]) -> Result<Option<Fields>, AllocEr
     Ok(None)
 }
 
-/// What is found where one more value stands behind what was found. There is no answer behind a value, or where the
-/// value is several tokens.
+/// The value of a key after one more of its fields; `None` (unreadable) if it has a value already, or the new one has
+/// several tokens.
 fn one_more(found: Option<Token>, value: Option<Token>) -> Option<Option<Token>>
     ensures { result ≡ one_more found value }
 {
@@ -145,8 +145,8 @@ fn one_more(found: Option<Token>, value: Option<Token>) -> Option<Option<Token>>
     }
 }
 
-/// The value of the field with a key, None where no field has it. A key that stands twice, and a value of several
-/// tokens, make a line unreadable: then there is no answer.
+/// The value of the field with this key, `Some(None)` if there is no such field. `None` (the line is unreadable) if
+/// the key repeats or the value has several tokens.
 fn only_value(line: &[u8], fields: &[Field], key: &[u8]) -> Option<Option<Token>>
     ensures { result ≡ only_value line.now key.now fields.now }
 {
@@ -162,7 +162,7 @@ fn only_value(line: &[u8], fields: &[Field], key: &[u8]) -> Option<Option<Token>
     Some(found)
 }
 
-/// The number of the field with a key, None where it is missing. There is no answer where it makes the line unreadable.
+/// The number of the field with this key, `Some(None)` if there is no such field, `None` if the line is unreadable.
 pub fn number_at(line: &[u8], fields: &[Field], key: &[u8]) -> Option<Option<u32>>
     ensures { result ≡ number_at line.now key.now fields.now }
 {
@@ -173,7 +173,7 @@ pub fn number_at(line: &[u8], fields: &[Field], key: &[u8]) -> Option<Option<u32
     }
 }
 
-/// The node of the field with a key, None where it is missing. There is no answer where it makes the line unreadable.
+/// The node of the field with this key, `Some(None)` if there is no such field, `None` if the line is unreadable.
 pub fn node_at(line: &[u8], fields: &[Field], key: &[u8]) -> Option<Option<NodeId>>
     ensures { result ≡ node_at line.now key.now fields.now }
 {
@@ -184,8 +184,8 @@ pub fn node_at(line: &[u8], fields: &[Field], key: &[u8]) -> Option<Option<NodeI
     }
 }
 
-/// The bytes inside the quotes of the field with a key, none where it is missing. There is no answer where it makes the
-/// line unreadable.
+/// The bytes inside the quotes of the field with this key, empty if there is no such field, `None` if the line is
+/// unreadable.
 pub fn text_at<'a>(line: &'a [u8], fields: &[Field], key: &[u8]) -> Option<&'a [u8]>
     ensures { Spells result (text_at line.now key.now fields.now) }
 {
@@ -196,8 +196,7 @@ pub fn text_at<'a>(line: &'a [u8], fields: &[Field], key: &[u8]) -> Option<&'a [
     }
 }
 
-/// The word of the field with a key, none of whose bytes are there where it is missing. There is no answer where it
-/// makes the line unreadable.
+/// The word of the field with this key, empty if there is no such field, `None` if the line is unreadable.
 pub fn word_at<'a>(line: &'a [u8], fields: &[Field], key: &[u8]) -> Option<&'a [u8]>
     ensures { Spells result (word_at line.now key.now fields.now) }
 {

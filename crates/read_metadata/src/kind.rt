@@ -1,4 +1,4 @@
-//! What the fields of a node say, by its kind.
+//! The node with given fields, by its kind.
 
 ghost use Rattle.std.specs.Prelude.{◌≡◌, IfOk};
 ghost use Rattle.read_metadata.specs.Kind.{
@@ -18,7 +18,7 @@ use crate::node::{BaseTypeNode, FileNode, LocationNode, Node, VariableNode};
 use crate::text::text_value;
 use std::alloc::{AllocError, Global};
 
-/// Whether a node of a kind is a scope with a file.
+/// Whether nodes of a kind are scopes with a file.
 #[tactic(auto, unfolding(crate::specs::Kind::is_scope))]
 fn is_scope(kind: &[u8]) -> bool
     ensures { result ≡ is_scope kind.now }
@@ -31,7 +31,7 @@ fn is_scope(kind: &[u8]) -> bool
 /// The greatest size of a base type in bits: 255 bytes.
 const MAX_BITS: u32 = 2040;
 
-/// A base type's size in bytes, where its size in bits is a multiple of 8 from 8 to the greatest.
+/// A base type's size in bytes, if its size in bits is a multiple of 8 from 8 to the greatest.
 fn size_in_bytes(bits: Option<u32>) -> Option<u32>
     ensures { result ≡ size_in_bytes bits }
 {
@@ -41,7 +41,7 @@ fn size_in_bytes(bits: Option<u32>) -> Option<u32>
     }
 }
 
-/// A variable.
+/// The variable with these fields.
 #[tactic(auto, unfolding(crate::specs::Kind::variable_of))]
 fn variable_of(alloc: Global, line: &[u8], fields: &[Field]) -> Result<Option<Node>, AllocError>
     ensures { IfOk result (λ node. node ≡ variable_of line.now fields.now) }
@@ -62,7 +62,7 @@ fn variable_of(alloc: Global, line: &[u8], fields: &[Field]) -> Result<Option<No
     })))
 }
 
-/// A place in the source. It needs a line.
+/// The source location with these fields. A line is required.
 #[tactic(auto, unfolding(crate::specs::Kind::location_of))]
 fn location_of(line: &[u8], fields: &[Field]) -> Option<Node>
     ensures { result ≡ location_of line.now fields.now }
@@ -79,7 +79,7 @@ fn location_of(line: &[u8], fields: &[Field]) -> Option<Node>
     }))
 }
 
-/// A file.
+/// The file with these fields.
 #[tactic(auto, unfolding(crate::specs::Kind::file_of))]
 fn file_of(alloc: Global, line: &[u8], fields: &[Field]) -> Result<Option<Node>, AllocError>
     ensures { IfOk result (λ node. node ≡ file_of line.now fields.now) }
@@ -96,7 +96,7 @@ fn file_of(alloc: Global, line: &[u8], fields: &[Field]) -> Result<Option<Node>,
     })))
 }
 
-/// A base type. It needs a size and an encoding that base types may have.
+/// The base type with these fields. A supported size and a supported encoding are required.
 #[tactic(auto, unfolding(crate::specs::Kind::base_type_of))]
 fn base_type_of(alloc: Global, line: &[u8], fields: &[Field]) -> Result<Option<Node>, AllocError>
     ensures { IfOk result (λ node. node ≡ base_type_of line.now fields.now) }
@@ -123,7 +123,7 @@ fn base_type_of(alloc: Global, line: &[u8], fields: &[Field]) -> Result<Option<N
     })))
 }
 
-/// A scope with the node of its file.
+/// The scope with these fields, by the node of its file.
 #[tactic(auto, unfolding(crate::specs::Kind::scope_of))]
 fn scope_of(line: &[u8], fields: &[Field]) -> Option<Node>
     ensures { result ≡ scope_of line.now fields.now }
@@ -131,7 +131,8 @@ fn scope_of(line: &[u8], fields: &[Field]) -> Option<Node>
     Some(Node::Scope(node_at(line, fields, b"file")?))
 }
 
-/// The node of a kind with these fields, None where its kind isn't kept or its fields make it unreadable.
+/// The node of this kind with these fields; `None` if nodes of the kind aren't kept or the fields make the line
+/// unreadable.
 #[tactic(auto, unfolding(crate::specs::Kind::node_of_kind))]
 pub fn node_of_kind(
     alloc: Global,

@@ -1,10 +1,10 @@
-//! Debug metadata of the IR block.
+//! The reader of LLVM debug metadata in the IR block of a MIR file.
 //!
-//! A function in machine IR names its variables and source places by numbered nodes, `!5`, that stand in the block
-//! with the LLVM IR before it: a line `!5 = !DILocalVariable(name: "n", ..)` gives node 5. This layer reads the lines
-//! of the kinds that debug information is made from, and which subprogram belongs to which function, and finds each
-//! node by its number. Whatever else stands in the block is passed over, whatever it holds. (LLVM Language Reference
-//! Manual, "Metadata" and "Specialized Metadata Nodes".)
+//! A function in machine IR refers to its variables and source locations by numbered nodes, `!5`, which the block
+//! with the LLVM IR before it defines: `!5 = !DILocalVariable(name: "n", ..)` is node 5. This crate reads the lines
+//! of the kinds of nodes that debug information is generated from, and the subprogram of each function, and looks up
+//! nodes by number. All other lines of the block are ignored, whatever they contain. (LLVM Language Reference Manual,
+//! "Metadata" and "Specialized Metadata Nodes".)
 #![tactic(auto)]
 
 mod definition;

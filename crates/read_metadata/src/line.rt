@@ -1,4 +1,4 @@
-//! A line that gives a node: `!5 = !DILocalVariable(name: "n", ..)`.
+//! A line that defines a node: `!5 = !DILocalVariable(name: "n", ..)`.
 
 ghost use Rattle.std.specs.Prelude.{◌≡◌, ◌≤◌, length, IfOk};
 ghost use Rattle.std.specs.List.{prefix_len};
@@ -30,7 +30,7 @@ pub fn behind_spaces(text: &[u8]) -> &[u8]
     &text[spaces(text)..]
 }
 
-/// How many spaces are at the front.
+/// The number of spaces at the front.
 #[tactic(auto, using(crate::proofs::Runs::runs))]
 fn spaces(text: &[u8]) -> usize
     ensures value { result ≡ prefix_len is_space text.now }
@@ -39,7 +39,7 @@ fn spaces(text: &[u8]) -> usize
     text.iter().take_while(|b| **b == b' ').count()
 }
 
-/// The tokens without the word `distinct` at their front.
+/// The tokens without a word `distinct` at the front.
 #[tactic(auto, unfolding(crate::specs::Line::behind_distinct))]
 fn behind_distinct<'a>(line: &[u8], tokens: &'a [Token]) -> &'a [Token]
     ensures { result.now ≡ behind_distinct line.now tokens.now }
@@ -57,7 +57,7 @@ fn is_distinct(word: &[u8]) -> bool
     word == b"distinct".as_slice()
 }
 
-/// The node that its kind and its fields describe, if they are readable.
+/// The node that a kind and fields define, if they are readable.
 #[tactic(auto, unfolding(crate::specs::Line::described))]
 fn described(alloc: Global, line: &[u8], tokens: &[Token]) -> Result<Option<Node>, AllocError>
     ensures { IfOk result (λ node. node ≡ described line.now tokens.now) }
@@ -73,7 +73,7 @@ fn described(alloc: Global, line: &[u8], tokens: &[Token]) -> Result<Option<Node
     }
 }
 
-/// The node with its number that tokens give, if they are readable.
+/// The node with its number that tokens define, if they are readable.
 #[tactic(auto, unfolding(crate::specs::Line::assigned))]
 fn assigned(
     alloc: Global,
@@ -96,7 +96,7 @@ fn assigned(
     }
 }
 
-/// The node with its number that a line gives, if it is readable. It begins with `!`.
+/// The node with its number that a line defines, if it is readable. The line begins with `!`.
 #[tactic(auto, unfolding(crate::specs::Line::node_of_line))]
 pub fn node_of_line(alloc: Global, line: &[u8]) -> Result<Option<(NodeId, Node)>, AllocError>
     ensures { IfOk result (λ node. node ≡ node_of_line line.now) }

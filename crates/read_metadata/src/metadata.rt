@@ -1,4 +1,4 @@
-//! The metadata of a text, and its look-ups.
+//! The metadata of a text, and look-ups in it.
 
 ghost use Rattle.std.specs.Prelude.{◌≡◌, IfOk, OnOk};
 ghost use Rattle.std.specs.Option.{option_copied};
@@ -14,8 +14,8 @@ use std::alloc::{AllocError, Global};
 use std::collections::BTreeMap;
 use std::marker::Model;
 
-/// The nodes that lines give, by their numbers, and the subprograms of functions, by the functions' names. Of two
-/// lines for one number or one name the first counts.
+/// Nodes by their numbers, and subprograms by the names of their functions. Of two lines for one number or one name
+/// the first counts.
 #[derive(Drop)]
 pub struct Metadata {
     nodes: BTreeMap<NodeId, Node>,
@@ -59,7 +59,7 @@ impl Metadata {
         }
     }
 
-    /// Keeps a node, unless one of its number is there.
+    /// Adds a node, unless its number is taken.
     fn keep_node(&mut self, number: NodeId, node: Node) -> Result<(), AllocError>
         ensures { OnOk result (self.new ≡ with_node self.old number node) }
     {
@@ -69,7 +69,7 @@ impl Metadata {
         Ok(())
     }
 
-    /// Keeps the subprogram of a function, unless one of its name is there.
+    /// Adds the subprogram of a function, unless the function's name is taken.
     fn keep_subprogram(&mut self, name: Name, number: NodeId) -> Result<(), AllocError>
         ensures { OnOk result (self.new ≡ with_subprogram self.old name number) }
     {
@@ -79,7 +79,7 @@ impl Metadata {
         Ok(())
     }
 
-    /// Keeps a node, if one is given.
+    /// Adds a node, if there is one.
     fn keep_given(&mut self, given: Option<(NodeId, Node)>) -> Result<(), AllocError>
         ensures { OnOk result (self.new ≡ with_given self.old given) }
     {
@@ -89,7 +89,7 @@ impl Metadata {
         }
     }
 
-    /// Keeps the subprogram of a function, if one is defined.
+    /// Adds the subprogram of a function, if there is one.
     fn keep_defined(&mut self, defined: Option<(Name, NodeId)>) -> Result<(), AllocError>
         ensures { OnOk result (self.new ≡ with_defined self.old defined) }
     {
@@ -99,7 +99,7 @@ impl Metadata {
         }
     }
 
-    /// Keeps what a line gives.
+    /// Adds what a line defines.
     fn take_line(&mut self, alloc: Global, line: &[u8]) -> Result<(), AllocError>
         ensures { OnOk result (self.new ≡ with_line self.old line.now) }
     {
@@ -110,14 +110,14 @@ impl Metadata {
         self.keep_defined(defined)
     }
 
-    /// The node of a number.
+    /// The node with this number.
     fn node(&self, number: NodeId) -> Option<&Node>
         ensures { option_copied result ≡ node_at self.now number }
     {
         self.nodes.get(&number)
     }
 
-    /// The variable of a node, and None exactly where no readable line gives one. It takes no memory.
+    /// The variable with this node number, and `None` exactly if no readable line defines one. It takes no memory.
     pub fn variable(&self, number: NodeId) -> Option<&VariableNode>
         ensures { option_copied result ≡ variable_at self.now number }
     {
@@ -127,7 +127,8 @@ impl Metadata {
         }
     }
 
-    /// The place in the source of a node, and None exactly where no readable line gives one. It takes no memory.
+    /// The source location with this node number, and `None` exactly if no readable line defines one. It takes no
+    /// memory.
     pub fn location(&self, number: NodeId) -> Option<&LocationNode>
         ensures { option_copied result ≡ location_at self.now number }
     {
@@ -137,7 +138,7 @@ impl Metadata {
         }
     }
 
-    /// The file of a node.
+    /// The file with this node number.
     fn file(&self, number: NodeId) -> Option<&FileNode>
         ensures { option_copied result ≡ file_at self.now number }
     {
@@ -147,7 +148,7 @@ impl Metadata {
         }
     }
 
-    /// The node of the file of a scope.
+    /// The node number of the file of the scope with this node number.
     fn scope_file(&self, number: NodeId) -> Option<NodeId>
         ensures { result ≡ scope_file_at self.now number }
     {
@@ -157,15 +158,15 @@ impl Metadata {
         }
     }
 
-    /// The file of a subprogram or a lexical block, and None exactly where no readable line gives such a scope with a
-    /// file, or none gives that file. It takes no memory.
+    /// The file of the subprogram or lexical block with this node number, and `None` exactly if no readable line
+    /// defines such a scope with a file, or none defines that file. It takes no memory.
     pub fn file_of_scope(&self, number: NodeId) -> Option<&FileNode>
         ensures { option_copied result ≡ file_of_scope_at self.now number }
     {
         self.file(self.scope_file(number)?)
     }
 
-    /// The base type of a node, and None exactly where no readable line gives one. It takes no memory.
+    /// The base type with this node number, and `None` exactly if no readable line defines one. It takes no memory.
     pub fn base_type(&self, number: NodeId) -> Option<&BaseTypeNode>
         ensures { option_copied result ≡ base_type_at self.now number }
     {
@@ -175,8 +176,8 @@ impl Metadata {
         }
     }
 
-    /// The node of the subprogram of a function, by the function's name, and None exactly where no line that defines
-    /// that function gives one. It takes no memory.
+    /// The subprogram of the function with this name, and `None` exactly if no line that defines the function has
+    /// one. It takes no memory.
     pub fn subprogram_of(&self, name: &Name) -> Option<NodeId>
         ensures { result ≡ subprogram_at self.now name.now }
     {
@@ -184,7 +185,7 @@ impl Metadata {
     }
 }
 
-/// The metadata that lines of the IR block give. A line that isn't readable is passed over.
+/// The metadata in the lines of the IR block. A line that isn't readable is ignored.
 pub fn read_meta(alloc: Global, lines: &Lines) -> Result<Metadata, AllocError>
     ensures { IfOk result (λ metadata. metadata ≡ metadata_of lines.now) }
 {

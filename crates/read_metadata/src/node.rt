@@ -1,4 +1,4 @@
-//! Nodes of the metadata that are kept.
+//! The metadata nodes that are kept.
 
 use base_ids::metadata::NodeId;
 use rv64_instr::name::Name;
@@ -6,7 +6,7 @@ use rv64_instr::name::Name;
 /// A local variable or a parameter: `!DILocalVariable`.
 #[derive(Debug, Drop)]
 pub struct VariableNode {
-    /// The name, empty where none is given.
+    /// The name, empty if there is none.
     pub name: Name,
     /// Which parameter it is, counted from 1, and 0 for a variable that is none.
     pub arg: u32,
@@ -14,32 +14,32 @@ pub struct VariableNode {
     pub base: Option<NodeId>,
 }
 
-/// A place in the source: `!DILocation`.
+/// A source location: `!DILocation`.
 #[derive(Clone, Copy, Debug)]
 pub struct LocationNode {
     /// The line in the source file, counted from 1, and 0 for code of no line.
     pub line: u32,
-    /// 0 where no column is given.
+    /// The column, 0 if there is none.
     pub column: u32,
     /// The node of the scope.
     pub scope: Option<NodeId>,
-    /// The node of the place of the call, in a function that was inlined.
+    /// The node of the location of the call, if the function was inlined.
     pub inlined_at: Option<NodeId>,
 }
 
 /// A source file: `!DIFile`.
 #[derive(Debug, Drop)]
 pub struct FileNode {
-    /// The file's name, empty where none is given.
+    /// The file's name, empty if there is none.
     pub name: Name,
-    /// The directory, empty where none is given.
+    /// The directory, empty if there is none.
     pub dir: Name,
 }
 
 /// A base type: `!DIBasicType`.
 #[derive(Debug, Drop)]
 pub struct BaseTypeNode {
-    /// The name, empty where none is given.
+    /// The name, empty if there is none.
     pub name: Name,
     /// The size in bytes, from 1 to 255.
     pub size: u32,
@@ -47,7 +47,7 @@ pub struct BaseTypeNode {
     pub encoding: u8,
 }
 
-/// A node that is kept, by its kind.
+/// A node, by its kind.
 #[derive(Debug, Drop)]
 pub enum Node {
     Variable(VariableNode),

@@ -1,4 +1,4 @@
-//! Numbers of nodes and in fields.
+//! The numbers of nodes and in fields.
 
 ghost use Rattle.std.specs.Prelude.{◌≡◌, ◌<◌, ◌≤◌};
 ghost use Rattle.std.specs.Char.{digit_value};
@@ -7,10 +7,10 @@ ghost use Rattle.read_metadata.specs.Number.{spelled, zero_alone, integer_of, no
 use base_ids::limits;
 use base_ids::metadata::NodeId;
 
-/// The greatest number that is read.
+/// The greatest number that is accepted.
 const MAX_NUMBER: u64 = limits::MAX_NUMBER as u64;
 
-/// The value of a digit, where letters go on from 10, and 36 for another byte.
+/// The value of a digit, where letters are 10 and up, and 36 for any other byte.
 pub fn digit_value(byte: u8) -> u8
     ensures value { result ≡ digit_value byte }
     ensures bound { result ≤ 36 }
@@ -23,7 +23,7 @@ pub fn digit_value(byte: u8) -> u8
     }
 }
 
-/// The number that digits spell in a base, unless it is above the limit.
+/// The value of digits in a base, unless it is above the limit.
 pub fn spelled(base: u64, digits: &[u8]) -> Option<u32>
     requires positive { 0 < base }
     requires small { base ≤ 16 }
@@ -49,7 +49,7 @@ fn zero_alone(number: Option<u32>) -> Option<u32>
     }
 }
 
-/// The number of an integer token, unless it is negative or above the limit.
+/// The value of an integer token, unless it is negative or above the limit.
 pub fn integer(text: &[u8]) -> Option<u32>
     ensures { result ≡ integer_of text.now }
 {

@@ -1,4 +1,4 @@
-//! Texts in quotes.
+//! Quoted texts.
 
 ghost use Rattle.std.specs.Prelude.{◌≡◌, ◌-◌, ◌∷◌, ◌<◌, ◌≤◌, length, IfOk, IfSome};
 ghost use Rattle.std.specs.List.{prefix_len};
@@ -9,7 +9,7 @@ use base_list::List;
 use rv64_instr::name::Name;
 use std::alloc::{AllocError, Global};
 
-/// The byte that an escape at the front stands for: `\` and two hexadecimal digits.
+/// The byte of an escape at the front: `\` and two hexadecimal digits.
 fn escape(text: &[u8]) -> Option<u8>
     ensures value { result ≡ escape text.now }
     ensures within { IfSome result (λ _. 3 ≤ length text.now) }
@@ -22,7 +22,7 @@ fn escape(text: &[u8]) -> Option<u8>
     }
 }
 
-/// The byte that the front of a text stands for, and what is behind it: an escape, or a byte as it is.
+/// The first byte of a text, an escape or a byte as it is, and the text after it.
 fn first_byte(text: &[u8]) -> (u8, &[u8])
     requires { 0 < length text.now }
     ensures step { unescaped text.now ≡ result.0 ∷ unescaped result.1.now }
@@ -34,7 +34,7 @@ fn first_byte(text: &[u8]) -> (u8, &[u8])
     }
 }
 
-/// A text with its escapes as the bytes that they stand for.
+/// A text with escapes replaced by their bytes.
 pub fn unescaped(alloc: Global, text: &[u8]) -> Result<Name, AllocError>
     ensures { IfOk result (λ bytes. bytes ≡ unescaped text.now) }
 {
@@ -48,7 +48,7 @@ pub fn unescaped(alloc: Global, text: &[u8]) -> Result<Name, AllocError>
     Ok(bytes)
 }
 
-/// How many bytes stand before the first zero byte.
+/// The number of bytes before the first zero byte.
 fn before_zero(bytes: &[u8]) -> usize
     ensures value { result ≡ prefix_len is_not_zero bytes.now }
     ensures within { result ≤ length bytes.now }
@@ -56,7 +56,7 @@ fn before_zero(bytes: &[u8]) -> usize
     bytes.iter().take_while(|b| **b != 0).count()
 }
 
-/// What a text stands for: its bytes up to the first zero byte.
+/// The value of a text: with escapes replaced by their bytes, up to the first zero byte.
 pub fn text_value(alloc: Global, text: &[u8]) -> Result<Name, AllocError>
     ensures { IfOk result (λ name. name ≡ text_value text.now) }
 {
@@ -65,7 +65,7 @@ pub fn text_value(alloc: Global, text: &[u8]) -> Result<Name, AllocError>
     List::from_slice(alloc, &bytes[..before_zero(bytes)])
 }
 
-/// A text without the quotes round it.
+/// A text without the quotes around it.
 pub fn inside_quotes(text: &[u8]) -> &[u8]
     ensures { result.now ≡ inside_quotes text.now }
 {

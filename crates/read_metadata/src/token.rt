@@ -1,11 +1,11 @@
-//! What tokens of a metadata line are.
+//! The classes of tokens on a metadata line.
 
 ghost use Rattle.std.specs.Prelude.{◌≡◌, slice_range};
 ghost use Rattle.read_metadata.specs.Token.{is_byte, is_word, is_node, is_kind, is_integer, is_text, text_of};
 
 use read_lexer::parts::{Class, Token};
 
-/// Whether a token is a byte that is a token by itself.
+/// Whether a token is this byte alone.
 pub fn is_byte(byte: u8, token: Token) -> bool
     ensures { result ≡ is_byte byte token }
 {
@@ -22,7 +22,7 @@ pub fn is_word(token: Token) -> bool
     matches!(token.class, Class::Word)
 }
 
-/// Whether a token is a node's number.
+/// Whether a token is a node, `!N`.
 pub fn is_node(token: Token) -> bool
     ensures { result ≡ is_node token }
 {
@@ -43,14 +43,14 @@ pub fn is_integer(token: Token) -> bool
     matches!(token.class, Class::Integer)
 }
 
-/// Whether a token is a text in quotes.
+/// Whether a token is a quoted text.
 pub fn is_text(token: Token) -> bool
     ensures { result ≡ is_text token }
 {
     matches!(token.class, Class::Text)
 }
 
-/// The bytes of a line that a token spans, as far as the line goes.
+/// The bytes of a line that a token spans, up to the end of the line.
 pub fn text_of(line: &[u8], token: Token) -> &[u8]
     ensures { result.now ≡ text_of line.now token }
 {

@@ -1,8 +1,8 @@
-//! Laws of the reader of metadata: each is the contract of a function that does nothing.
+//! Laws of the metadata reader: each is the contract of a function that does nothing.
 
 ghost use Rattle.read_metadata_proof.specs.Laws.{FieldsAreReadByTheirGrammar};
 
-/// The reader takes tokens for the fields of a node exactly where they are fields by the grammar, and for just these.
+/// The metadata reader reads tokens as the fields of a node exactly if they are these fields by the grammar.
 pub fn fields_are_read_by_their_grammar()
     ensures { FieldsAreReadByTheirGrammar }
 {}

@@ -1,5 +1,5 @@
-//! The metadata of a file in the words of its grammar (LLVM Language Reference Manual, "Specialized Metadata Nodes"),
-//! and that the reader reads just it.
+//! A grammar of metadata nodes (LLVM Language Reference Manual, "Specialized Metadata Nodes"), and the law that the
+//! metadata reader accepts exactly it.
 #![tactic(auto)]
 
 pub mod laws;

@@ -1,4 +1,4 @@
--- What is judged where a function closes.
+-- The checks at the line that closes a function.
 use Rattle.std.specs.Prelude.{◌≡◌, ℕ, ◌≤◌, Bool, ◌&&◌, if◌then◌else◌, is_some, List, [], ◌∷◌, All, length, Option, Some, None, Result, Ok, Err}
 use Rattle.read_refusal.specs.declared.first.Refusal.{Refusal}
 use Rattle.read_refusal.specs.declared.kind.RefusalKind.{RefusalKind}
@@ -25,20 +25,20 @@ use Rattle.read_program.specs.declared.error.ParseError.TheVariants as errors
 use Rattle.read_program.specs.Objects.{blocks_as, blocks_stay}
 use Rattle.read_program.specs.BodyLines.{body_of}
 
--- the numbers of stack entries, behind those that were met
+-- a set of numbers after adding those of these stack entries
 unfoldable pub ids_behind : List ℕ → List StackEntry → List ℕ
 ids_behind ids [] = ids
 ids_behind ids (e ∷ es) = ids_behind (met e.id ids) es
 
--- the numbers of stack entries
+-- the set of the numbers of these stack entries
 abbrev pub entry_ids : List StackEntry → List ℕ
 entry_ids es = ids_behind [] es
 
--- what the stack entries keep that a document declares: there are few, and each has a size and an alignment within the limits
+-- the limits on the stack entries of a document: at most MAX_SLOTS, each with a size and an alignment within its limits
 abbrev pub AreEntries : List StackEntry → Type 0
 AreEntries es = (length es ≤ MAX_SLOTS) × All IsStackEntry es
 
--- what a function is made of beside its name
+-- the slots, objects and blocks of a function. `named` are the numbers of the stack entries that code names as objects
 abbrev pub laid_out : List ℕ → List StackEntry → List Block → Parts
 laid_out named es blocks = record {
   slots = slots_of named es;
@@ -46,22 +46,23 @@ laid_out named es blocks = record {
   blocks = blocks_as (ids_of_objects named es) blocks;
 }
 
--- each access stays in its object
+-- each access of a stack object is within its object
 abbrev pub stays : Parts → Bool
 stays parts = blocks_stay parts.objects parts.blocks
 
--- the parts of a function, unless an access leaves its object
+-- the slots, objects and blocks of a function, if each access of a stack object is within it
 abbrev pub parts_of : List ℕ → List StackEntry → List Block → Option Parts
 parts_of named es blocks = if stays (laid_out named es blocks) then Some (laid_out named es blocks) else None
 
--- Why a function can't close: a branch goes to no block, or a stack entry that is named isn't declared, or an access leaves its object.
+-- Why a function is refused at its closing line: a branch to a block that it doesn't have, else a `%stack.N` that isn't declared or an access outside its
+-- object.
 abbrev pub closing_cause : Declarations → Body → Option RefusalKind
 closing_cause d body =
     if blocks_go_to body.ids (blocks_of body)
     then (if all_met (entry_ids d.stack) body.entries && is_some (parts_of body.objects d.stack (blocks_of body)) then None else Some StackObject)
     else Some UnknownBlock
 
--- the function of declarations and a body
+-- the function with these declarations and this body
 abbrev pub function_of : Declarations → Body → Function
 function_of d body = record {
   name = d.name;
@@ -70,36 +71,36 @@ function_of d body = record {
   blocks = blocks_as (ids_of_objects body.objects d.stack) (blocks_of body);
 }
 
--- Blocks end well: each ends with no branch, a return, a jump, a conditional branch, or a conditional branch and a jump, and control doesn't
--- fall out of the last one.
+-- Each block ends well: with no branch, a return, a jump, a conditional branch, or a conditional branch and a jump; and there is a last block, through
+-- whose end control doesn't fall.
 abbrev pub EndWell : List Block → Type 0
 EndWell blocks = All (λ b. EndsWell b.items) blocks × LastCloses blocks
 
--- The refusal at the closing line: a cause, or else that its blocks don't end well.
+-- The refusal at the closing line: the cause, if there is one; else BlockEnd, for blocks that don't end well.
 abbrev pub ClosesWith : ℕ → Refusal → Option RefusalKind → Function → Type 0
 ClosesWith line r (Some cause) f = r ≡ record { line = line; kind = cause }
 ClosesWith line r None f = (r ≡ record { line = line; kind = BlockEnd }) × (EndWell f.blocks → ⊥)
 
--- What a call answers where declarations and a body close at a line.
+-- What a call returns for declarations and a body that close at this line. Nothing is claimed if memory ran out.
 abbrev pub Closes : ℕ → Declarations → Body → Result Parsed ParseError → Type 0
 Closes line d body (Ok p) = (closing_cause d body ≡ None) × (p.func ≡ function_of d body) × (p.subs ≡ d.substitutions) × EndWell (function_of d body).blocks
 Closes line d body (Err errors.Memory) = Unit {0}
 Closes line d body (Err (errors.Refused r)) = ClosesWith line r (closing_cause d body) (function_of d body)
 
--- what a call answers where a line is refused
+-- what a call returns for a function with this refusal: it, or that memory ran out
 abbrev pub IsRefused : Refusal → Result Parsed ParseError → Type 0
 IsRefused r (Ok p) = ⊥
 IsRefused r (Err errors.Memory) = Unit {0}
 IsRefused r (Err (errors.Refused s)) = s ≡ r
 
--- what a call answers for what was declared and the body, each read or refused: the first refusal counts
+-- what a call returns for declarations and a body, each read or refused: if any is refused, the first refusal
 abbrev pub ParsesParts : ℕ → Result Declarations Refusal → Result Body Refusal → Result Parsed ParseError → Type 0
 ParsesParts line (Ok d) (Ok body) answer = Closes line d body answer
 ParsesParts line (Err r) (Ok body) answer = IsRefused r answer
 ParsesParts line (Ok d) (Err s) answer = IsRefused s answer
 ParsesParts line (Err r) (Err s) answer = IsRefused (if comes_before s r then s else r) answer
 
--- What a call answers for a function's document, by the metadata of its text: the function that it stands for, or its first
--- refusal, which is that of a line of its declarations or its body, or else of its closing line.
+-- What a call returns for a function's document, given the metadata of its text: the function with its substitutions, or its first refusal. That is the
+-- first of its declarations and body lines, and if there is none, that of the closing line.
 abbrev pub Parses : Maps → FunctionDocument → Result Parsed ParseError → Type 0
 Parses meta doc answer = ParsesParts doc.closed (declarations_of doc) (body_of meta doc.body) answer

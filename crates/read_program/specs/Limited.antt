@@ -1,4 +1,4 @@
--- What every item keeps that was read: the form of its opcode, and numbers within their limits.
+-- The limits on the numbers in an item that was read.
 use Rattle.std.specs.Prelude.{◌≡◌, ℤ, pos, negsuc, ◌<◌, ◌≤◌, ◌^◌, IfSome, All, Option, Some, None}
 use Rattle.rv64_instr.specs.declared.operand.Operand.{Operand}
 use Rattle.rv64_instr.specs.declared.operand.Operand.TheVariants.{Def, Use, ImplicitDef, ImplicitUse, Imm, Slot, Object, Block, Symbol, Mask}
@@ -14,14 +14,14 @@ use Rattle.mir_func.specs.declared.variable.VarId.{VarId}
 use Rattle.mir_func.specs.Parts.{IsPart}
 use Rattle.base_ids.specs.Limits.{MAX_NUMBER}
 
--- a signed number of 64 bits
+-- an integer of 64 bits, signed
 abbrev pub IsSigned : ℤ → Type 0
 IsSigned (pos n) = n < 2 ^ 63
 IsSigned (negsuc n) = n < 2 ^ 63
 
--- ---- the numbers of items: what names or counts something is at most 2^30 - 1, a register is physical, and other integers have 64 bits
+-- ---- the numbers of items: a number or count is at most 2^30 - 1, a register is physical, and other integers have 64 bits
 
--- an operand: registers x0 to x31, immediates of 64 bits, stack entries and blocks within the limit
+-- an operand: a register from x0 to x31, an immediate of 64 bits signed, or a stack entry or block with a number within the limit
 abbrev pub IsLimited : Operand → Type 0
 IsLimited (Def r) = r < 32
 IsLimited (Use r) = r < 32
@@ -34,31 +34,31 @@ IsLimited (Block n) = n ≤ MAX_NUMBER
 IsLimited (Symbol name) = Unit {0}
 IsLimited Mask = Unit {0}
 
--- what a mark assigns: a constant of 64 bits, a physical register, or a pair within the limit
+-- the value of a debug value: a constant of 64 bits signed, a register from x0 to x31, or a pair of numbers within the limit
 abbrev pub ValueIsLimited : MarkValue → Type 0
 ValueIsLimited Nothing = Unit {0}
 ValueIsLimited (Constant i) = IsSigned i
 ValueIsLimited (At r) = r < 32
 ValueIsLimited (Pair q) = (q.number ≤ MAX_NUMBER) × (q.operand ≤ MAX_NUMBER)
 
--- `$x0` is the constant 0, and no other constant is a place
+-- the location of a DBG_PHI: x1 to x31, a spill slot with a number within the limit, or the constant 0 (for `$x0`)
 abbrev pub PlaceIsLimited : Option Place → Type 0
 PlaceIsLimited None = Unit {0}
 PlaceIsLimited (Some (place.Register r)) = (0 < r) × (r < 32)
 PlaceIsLimited (Some (place.Slot n)) = n ≤ MAX_NUMBER
 PlaceIsLimited (Some (place.Const c)) = c ≡ pos 0
 
--- the variable of a mark: its node is within the limit, and its fragment a part that one may have
+-- the variable of a debug value: its node is within the limit, and its fragment, if any, is one that is allowed
 abbrev pub VariableIsLimited : VarId → Type 0
 VariableIsLimited v = (v.node ≤ MAX_NUMBER) × IfSome v.fragment IsPart
 
--- the numbers on an item's line but those of its location, the debug instruction number included
+-- the numbers of an item, the debug instruction number included, but not those of its debug location
 abbrev pub KindIsLimited : ItemKind → Type 0
 KindIsLimited (Code i k) = All IsLimited i.operands × IfSome k (λ n. n ≤ MAX_NUMBER)
 KindIsLimited (Mark v m) = VariableIsLimited v × ValueIsLimited m
 KindIsLimited (Phi p k) = PlaceIsLimited p × (k ≤ MAX_NUMBER)
 
--- a location: its node, or the line, column, scope and `inlinedAt` that it writes out
+-- a debug location: its node is within the limit, or the line, column, scope and `inlinedAt` written out are
 abbrev pub LocIsLimited : Loc → Type 0
 LocIsLimited Absent = Unit {0}
 LocIsLimited (Node n) = n ≤ MAX_NUMBER

@@ -1,4 +1,4 @@
--- What a body's items say once it is known which stack entries are objects.
+-- The items of a body, rewritten once it is known which stack entries are stack objects (`ids`) and which are spill slots.
 use Rattle.std.specs.Prelude.{ℕ, ◌+◌, Bool, true, false, nat_le, if◌then◌else◌, List, map, Option, Some, None}
 use Rattle.std.specs.List.{list_all}
 use Rattle.std.specs.Option.{option_map_or}
@@ -20,7 +20,7 @@ use Rattle.mir_func.specs.declared.object.Object as func
 use Rattle.mir_func.specs.Objects.{object_of}
 use Rattle.read_body.specs.Met.{is_met}
 
--- an operand that names a slot names an object where that entry is one
+-- an operand: a spill slot becomes a stack object if its entry is one
 abbrev pub operand_as : List ℕ → Operand → Operand
 operand_as ids (Slot n) = if is_met n ids then Object n else Slot n
 operand_as ids (Def r) = Def r
@@ -33,55 +33,55 @@ operand_as ids (OfBlock n) = OfBlock n
 operand_as ids (Symbol name) = Symbol name
 operand_as ids Mask = Mask
 
--- the operands of an instruction, where these entries are objects
+-- the operands of an instruction
 abbrev pub operands_as : List ℕ → List Operand → List Operand
 operands_as ids operands = map (operand_as ids) operands
 
--- An instruction, where these entries are objects. A load or a store by a slot has the form of one by an object.
+-- An instruction: its slots become objects, if the opcode takes them so; else it is left as it is.
 abbrev pub instr_as : List ℕ → Instruction → Instruction
 instr_as ids i = if has_form i.op (operands_as ids i.operands) then record { op = i.op; operands = operands_as ids i.operands } else i
 
--- a place that is one of these objects
+-- whether a location is a slot whose entry is a stack object
 abbrev pub is_object : List ℕ → Place → Bool
 is_object ids (places.Slot n) = is_met n ids
 is_object ids (places.Register r) = false
 is_object ids (places.Const c) = false
 
--- a phi of an object is a phi of nothing
+-- the location of a DBG_PHI: none if it is a stack object
 abbrev pub place_as : List ℕ → Option Place → Option Place
 place_as ids None = None
 place_as ids (Some place) = if is_object ids place then None else Some place
 
--- what an item is where these stack entries are objects
+-- the kind of an item
 abbrev pub kind_as : List ℕ → ItemKind → ItemKind
 kind_as ids (Code i k) = Code (instr_as ids i) k
 kind_as ids (Mark v m) = Mark v m
 kind_as ids (Phi p k) = Phi (place_as ids p) k
 
--- an item where these stack entries are objects, at the same place and location
+-- an item, with the same origin and debug location
 abbrev pub item_as : List ℕ → Item → Item
 item_as ids i = record { kind = kind_as ids i.kind; origin = i.origin; loc = i.loc }
 
--- a block where these stack entries are objects
+-- a block
 abbrev pub block_as : List ℕ → Block → Block
 block_as ids b = record { id = b.id; items = map (item_as ids) b.items; silent = b.silent }
 
--- blocks, where these stack entries are objects
+-- the blocks of a function
 abbrev pub blocks_as : List ℕ → List Block → List Block
 blocks_as ids blocks = map (block_as ids) blocks
 
 -- ---- accesses
 
--- an object of this number is there, and has so many bytes at least
+-- whether there is an object of this number, with at least this many bytes
 abbrev pub has_bytes : List func.Object → ℕ → ℕ → Bool
 has_bytes objects n bytes = option_map_or (λ (o : func.Object). nat_le bytes o.size) (object_of objects n) false
 
--- an access up to that many bytes from its base stays in the object; one by a register isn't judged here
+-- whether an access that ends this many bytes after its base is within its object; one with a register as base passes
 abbrev pub base_has_bytes : List func.Object → Base → ℕ → Bool
 base_has_bytes objects (PointedBy r) bytes = true
 base_has_bytes objects (ObjectAt n) bytes = has_bytes objects n bytes
 
--- all bytes of an access are in its object, and what is added to an address leads past its end at most
+-- whether an instruction's access is within its object. An address computed in an object may be at most its end.
 abbrev pub row_stays : List func.Object → Row → Bool
 row_stays objects (Addresses rd n offset) = has_bytes objects n offset
 row_stays objects (Loads rd op base offset) = base_has_bytes objects base (offset + load_width op)
@@ -97,16 +97,16 @@ row_stays objects (Calls name args) = true
 row_stays objects (Returns results) = true
 row_stays objects Unfit = true
 
--- the access of an item, if it has one, stays in its object
+-- whether the access of an item, if it has one, is within its object
 abbrev pub kind_stays : List func.Object → ItemKind → Bool
 kind_stays objects (Code i k) = row_stays objects (row_of i)
 kind_stays objects (Mark v m) = true
 kind_stays objects (Phi p k) = true
 
--- each access of a block stays in its object
+-- whether each access of a block is within its object
 abbrev pub block_stays : List func.Object → Block → Bool
 block_stays objects b = list_all (λ i. kind_stays objects i.kind) b.items
 
--- each access of these blocks stays in its object
+-- whether each access of these blocks is within its object
 abbrev pub blocks_stay : List func.Object → List Block → Bool
 blocks_stay objects blocks = list_all (block_stays objects) blocks

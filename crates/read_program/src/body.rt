@@ -18,7 +18,7 @@ use read_refusal::first::Refusal;
 use read_refusal::kind::RefusalKind;
 use std::alloc::{AllocError, Global};
 
-/// What a line made of a body: nothing was refused, or the line is.
+/// The refusal of a line, if there is one; else the line was added to the body.
 pub type Taken = Result<Option<RefusalKind>, AllocError>;
 
 /// Takes a label.
@@ -58,7 +58,7 @@ fn take_item(alloc: Global, body: &mut Body, form: &ItemForm, meta: &Metadata) -
     }
 }
 
-/// Takes a line.
+/// Takes a line of a body.
 fn take_line(alloc: Global, body: &mut Body, text: &[u8], meta: &Metadata) -> Taken
     requires counted { IsCounted body.old }
     requires few { body.old.items ≤ MAX_ITEMS }
@@ -77,7 +77,7 @@ fn take_line(alloc: Global, body: &mut Body, text: &[u8], meta: &Metadata) -> Ta
     }
 }
 
-/// The body that lines are, or the first refusal of one of them.
+/// The body of these lines, or the first refusal of one of them.
 pub fn read_body(
     alloc: Global,
     lines: &[Line],

@@ -1,4 +1,4 @@
-//! A function where its document closes.
+//! The function of a document, checked at the line that closes it.
 
 ghost use Rattle.std.specs.Prelude.{◌≡◌, IfOk, IfSome, IsNone, Ok};
 ghost use Rattle.read_metadata.specs.Maps.{Maps};
@@ -27,7 +27,7 @@ use read_refusal::kind::RefusalKind;
 use rv64_instr::name::Name;
 use std::alloc::{AllocError, Global};
 
-/// A function that a document stands for, with the substitutions of its debug instruction numbers.
+/// A function that was read, with its debug value substitutions.
 #[derive(Drop)]
 pub struct Parsed {
     /// The function.
@@ -36,7 +36,7 @@ pub struct Parsed {
     pub subs: Substitutions,
 }
 
-/// What a function is made of beside its name.
+/// The parts of a function but its name.
 #[derive(Drop)]
 pub struct Parts {
     pub slots: SlotIds,
@@ -44,7 +44,7 @@ pub struct Parts {
     pub blocks: Blocks,
 }
 
-/// The numbers of stack entries.
+/// The set of the numbers of these stack entries.
 fn entry_ids(alloc: Global, entries: &[StackEntry]) -> Result<Met, AllocError>
     ensures { IfOk result (λ ids. ids ≡ entry_ids entries.now) }
 {
@@ -55,7 +55,7 @@ fn entry_ids(alloc: Global, entries: &[StackEntry]) -> Result<Met, AllocError>
     Ok(ids)
 }
 
-/// Blocks with one more, if it is there.
+/// Blocks with one more, if there is one.
 fn and_last(mut before: Blocks, last: Option<Block>) -> Result<Blocks, AllocError>
     ensures { IfOk result (λ blocks. blocks ≡ and_last before last) }
 {
@@ -65,8 +65,8 @@ fn and_last(mut before: Blocks, last: Option<Block>) -> Result<Blocks, AllocErro
     Ok(before)
 }
 
-/// The parts of a function of these stack entries and blocks, where code names these entries as objects. There are none
-/// where an access leaves its object.
+/// The parts of a function with these stack entries and blocks, where `named` are the entries that code names as
+/// objects. `None` if an access is outside its object.
 fn parts_of(
     alloc: Global,
     named: &Met,
@@ -97,7 +97,7 @@ fn refused(line: u32, kind: RefusalKind) -> ParseError
     ParseError::Refused(Refusal { line, kind })
 }
 
-/// The function of a name and of parts, and `None` where these make no sound one.
+/// The function with this name and these parts; `None` if it isn't well formed.
 fn function(alloc: Global, name: Name, parts: Parts) -> Result<Option<Func>, AllocError>
     ensures some { IfOk result (λ func. IfSome func (λ f. f ≡ record {
       name = name;
@@ -123,8 +123,8 @@ fn function(alloc: Global, name: Name, parts: Parts) -> Result<Option<Func>, All
     }
 }
 
-/// The function of declarations and a body, where both are read and the function closes at a line. Refused there are
-/// `UnknownBlock`, `StackObject` and `BlockEnd`.
+/// The function with these declarations and this body, which close at a line. It may be refused there as
+/// `UnknownBlock`, `StackObject` or `BlockEnd`.
 pub fn close(
     alloc: Global,
     line: u32,

@@ -1,4 +1,4 @@
-//! Why a text stands for nothing.
+//! Why no program was read.
 
 ghost use Rattle.std.specs.Prelude.{◌≡◌};
 ghost use Rattle.read_program.specs.declared.error.ParseError.TheVariants.{Memory};
@@ -7,7 +7,7 @@ use read_refusal::first::Refusal;
 use std::alloc::AllocError;
 use thiserror::Error;
 
-/// Why a text stands for nothing.
+/// Why no program was read.
 #[derive(Debug, Drop, Error)]
 pub enum ParseError {
     /// A line is refused: the first one, for the cause with the lowest number.

@@ -1,8 +1,9 @@
-//! A function of machine IR as its document says it: the lines of its body, read one after the other, its items once it
-//! is known which stack entries are objects, and its closing.
+//! The parser of machine IR (LLVM MIR): from the bytes of a text to its machine functions, with their substitutions
+//! and the metadata that they share, or to the first refusal.
 //!
-//! Each body line is read by itself, then judged behind those before it. Reading stops at the first line that is
-//! refused, so the refusal that is told is the first one of the body.
+//! Each line of a function's body is parsed and judged by itself, and then against the lines before it. Reading stops
+//! at the first line that is refused. Where a function closes, its branches, its stack objects and its block ends are
+//! checked.
 #![tactic(auto)]
 
 pub mod body;

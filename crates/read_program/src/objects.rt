@@ -1,4 +1,4 @@
-//! A body's items once it is known which stack entries are objects.
+//! The items of a body, rewritten once it is known which stack entries are stack objects.
 
 ghost use Rattle.std.specs.Prelude.{◌≡◌, ◌+◌, ◌≤◌, IfOk, map};
 ghost use Rattle.rv64_instr.specs.Row.{Row};
@@ -33,7 +33,7 @@ use rv64_instr::operand::{Operand, Operands};
 use rv64_instr::place::Place;
 use std::alloc::{AllocError, Global};
 
-/// An operand, where these stack entries are objects.
+/// An operand: a spill slot becomes a stack object if its entry is one.
 fn operand_as(ids: &Met, operand: &Operand) -> Result<Operand, AllocError>
     ensures { IfOk result (λ o. o ≡ operand_as ids.now operand.now) }
 {
@@ -55,7 +55,7 @@ fn operands_as(alloc: Global, ids: &Met, operands: &[Operand]) -> Result<Operand
     Ok(renamed)
 }
 
-/// An instruction, where these stack entries are objects.
+/// An instruction: its slots become objects, if the opcode takes them so; else it is left as it is.
 fn instr_as(alloc: Global, ids: &Met, instr: &Instr) -> Result<Instr, AllocError>
     ensures { IfOk result (λ i. i ≡ instr_as ids.now instr.now) }
 {
@@ -66,7 +66,7 @@ fn instr_as(alloc: Global, ids: &Met, instr: &Instr) -> Result<Instr, AllocError
     }
 }
 
-/// Whether a place is one of these objects.
+/// Whether a location is a slot whose entry is a stack object.
 fn is_object(ids: &Met, place: &Place) -> bool
     ensures { result ≡ is_object ids.now place.now }
 {
@@ -76,7 +76,7 @@ fn is_object(ids: &Met, place: &Place) -> bool
     }
 }
 
-/// A phi of an object is a phi of nothing.
+/// The location of a DBG_PHI: none if it is a stack object.
 fn place_as(ids: &Met, place: Option<Place>) -> Option<Place>
     ensures { result ≡ place_as ids.now place }
 {
@@ -134,7 +134,7 @@ fn block_as(alloc: Global, ids: &Met, block: &Block) -> Result<Block, AllocError
     })
 }
 
-/// Blocks, where these stack entries are objects.
+/// The blocks of a function.
 pub fn blocks_as(alloc: Global, ids: &Met, blocks: &[Block]) -> Result<Blocks, AllocError>
     ensures { IfOk result (λ all. all ≡ blocks_as ids.now blocks.now) }
 {
@@ -145,7 +145,7 @@ pub fn blocks_as(alloc: Global, ids: &Met, blocks: &[Block]) -> Result<Blocks, A
     Ok(renamed)
 }
 
-/// Whether an object of a number has room for so many bytes from an offset on.
+/// Whether there is an object of this number with at least `offset + width` bytes.
 fn has_bytes(objects: &[Object], n: ObjectId, offset: u64, width: u64) -> bool
     requires { width ≤ 8 }
     ensures { result ≡ has_bytes objects.now n (offset + width) }
@@ -159,7 +159,7 @@ fn has_bytes(objects: &[Object], n: ObjectId, offset: u64, width: u64) -> bool
     false
 }
 
-/// Whether the bytes of an access are all in its object.
+/// Whether an instruction's access is within its object.
 fn row_stays(objects: &[Object], decoded: &Decoded) -> bool
     ensures { (row : Row) → Shows decoded.now row → result ≡ row_stays objects.now row }
 {
@@ -194,7 +194,7 @@ fn block_stays(objects: &[Object], block: &Block) -> bool
         .all(|item| kind_stays(objects, &item.kind))
 }
 
-/// Whether each access of blocks stays in its object.
+/// Whether each access of these blocks is within its object.
 pub fn blocks_stay(objects: &[Object], blocks: &[Block]) -> bool
     ensures { result ≡ blocks_stay objects.now blocks.now }
 {

@@ -1,4 +1,4 @@
-//! A function as its document says it.
+//! The function in a document.
 
 ghost use Rattle.std.specs.Prelude.{◌≡◌, IfOk};
 ghost use Rattle.read_declarations.specs.Declarations.{declarations_of};
@@ -17,7 +17,7 @@ use read_metadata::metadata::Metadata;
 use read_refusal::first::{Refusal, comes_before};
 use std::alloc::{AllocError, Global};
 
-/// What a document declares, or its first refusal there.
+/// The declarations of a document, or their first refusal.
 fn declared(
     alloc: Global,
     document: &FunctionDocument,
@@ -32,14 +32,14 @@ fn declared(
     }
 }
 
-/// A refused document.
+/// The result for a refused document.
 fn refused(refusal: Refusal) -> Result<Parsed, ParseError>
     ensures { IsRefused refusal result }
 {
     Err(ParseError::Refused(refusal))
 }
 
-/// The function of what was declared and of a body, where both were read; else the first refusal of the two.
+/// The function of these declarations and this body, if both were read; else the first refusal of the two.
 fn put_together(
     alloc: Global,
     line: u32,
@@ -66,10 +66,10 @@ fn put_together(
     }
 }
 
-/// The function that a document stands for, by the metadata of its text. Refused is the first line of its declarations
-/// or its body that can't stand where it does; else, at the line that closes it, a function with a branch to no block,
-/// with a stack entry that isn't declared or an access that leaves its object, or with an end of a block that isn't
-/// one. (LLVM, Machine IR (MIR) Format Reference Manual.)
+/// The function in a document, given the metadata of its text. Refused is the first bad line of its declarations or
+/// its body; if there is none, the line that closes it: for a branch to a block that it doesn't have, a stack entry
+/// that isn't declared, an access outside its stack object, or a block that doesn't end as blocks do. (LLVM, Machine
+/// IR (MIR) Format Reference Manual.)
 pub fn parse(
     alloc: Global,
     document: &FunctionDocument,

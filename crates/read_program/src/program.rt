@@ -1,4 +1,4 @@
-//! A whole text.
+//! The program in a text.
 
 ghost use Rattle.std.specs.Prelude.{◌≡◌, ◌^◌, ◌<◌, [], length, Ok};
 ghost use Rattle.read_program.specs.Program.{program_of, FunctionsFrom, ReadsText, UnlessMemory};
@@ -14,13 +14,13 @@ use read_refusal::first::Refusal;
 use read_refusal::kind::RefusalKind;
 use std::alloc::Global;
 
-/// How many functions a text may have.
+/// The greatest number of functions in a text.
 pub const MAX_FUNCTIONS: usize = 256;
 
 /// Functions in the order of the text.
 pub type ParsedFunctions = List<Parsed>;
 
-/// What a text stands for: its functions, and the metadata of its IR block (LLVM: the machine functions of a module,
+/// The program in a text: its functions, and the metadata of its IR block (LLVM: the machine functions of a module,
 /// `MachineModuleInfo`).
 #[derive(Drop)]
 pub struct Program {
@@ -30,7 +30,7 @@ pub struct Program {
     pub meta: Metadata,
 }
 
-/// The functions of documents in order, up to the first that is refused.
+/// The functions of documents in order, up to the first document that is refused.
 fn read_functions(
     alloc: Global,
     documents: &[FunctionDocument],
@@ -54,7 +54,7 @@ fn read_functions(
     Ok(functions)
 }
 
-/// The program of functions and metadata, where the text is a sequence of documents.
+/// The program with these functions and this metadata, if the text is a sequence of documents.
 fn whole(
     functions: ParsedFunctions,
     meta: Metadata,
@@ -71,9 +71,10 @@ fn whole(
     }
 }
 
-/// The program that a text of fewer than 2^31 bytes stands for. Refused is the first line that can't stand where it
-/// does, with the lowest number of its causes: one of a function, the opening line of a function above the limit, or
-/// a line where the text is no sequence of documents. (YAML 1.2; LLVM, Machine IR (MIR) Format Reference Manual.)
+/// The program in a text of fewer than 2^31 bytes. The error is the first refusal, of a line with the lowest number
+/// of its causes, or want of memory. Refused is a line of a function, the opening line of a function above the limit,
+/// or the first line where the text is no sequence of documents. (YAML 1.2; LLVM, Machine IR (MIR) Format Reference
+/// Manual.)
 pub fn read_program(alloc: Global, text: &[u8]) -> Result<Program, ParseError>
     requires { length text.now < 2 ^ 31 }
     ensures { UnlessMemory result (ReadsText text.now result) }

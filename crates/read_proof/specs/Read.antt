@@ -1,4 +1,4 @@
--- What every function keeps that a text stands for.
+-- Invariants of every function and program that was read from a text.
 use Rattle.std.specs.Prelude.{ℕ, ◌≤◌, is_some, IfSome, List, All, length, Ok}
 use Rattle.read_metadata.specs.Maps.{Maps}
 use Rattle.read_metadata.specs.Metadata.{location_at}
@@ -18,30 +18,31 @@ use Rattle.read_program.specs.Limited.{KindIsLimited, LocIsLimited}
 use Rattle.read_program.specs.Program.{MAX_FUNCTIONS, ReadsText}
 use Rattle.mir_printer.specs.Printable.{Declared, IsPrintable}
 
--- what the text of a function counts on: the numbers of its stack objects, and the metadata
+-- what the printed text of a function depends on: the numbers of its stack objects, and the `inlinedAt` of the location nodes in the metadata
 abbrev pub declared_in : Maps → Function → Declared
 declared_in meta f = record { objects = λ n. is_some (object_of f.objects n); inlined = λ n. inlined_at_node (location_at meta n) }
 
--- ---- numbers: what names or counts something is at most 2^30 - 1
+-- ---- numbers and counts: at most 2^30 - 1
 
--- the debug instruction number and the operand index of a pair
+-- the debug instruction number and the operand index of a pair are within the limit
 abbrev pub PairIsLimited : OperandPair → Type 0
 PairIsLimited q = (q.number ≤ MAX_NUMBER) × (q.operand ≤ MAX_NUMBER)
 
--- a substitution: the pair that is replaced, the one in its place, and the subregister index
+-- the numbers of a substitution are within the limit: those of its source and destination pairs, and its subregister index
 pub record EntryIsLimited (e : Entry) : Type 0 where
   pub src : PairIsLimited e.src
   pub dst : PairIsLimited e.dst
   pub subreg : e.subreg ≤ MAX_NUMBER
 
--- so is the node that a location of the metadata is inlined at
+-- the `inlinedAt` of each location node in the metadata is within the limit
 abbrev pub LocationsAreLimited : Maps → Type 0
 LocationsAreLimited meta = (n : ℕ) → IfSome (inlined_at_node (location_at meta n)) (λ k. k ≤ MAX_NUMBER)
 
 -- ---- functions
 
--- A function as it was read: it is sound, each item is kept at its own place, each block's end is behind its items, code has the form of its opcode,
--- registers are physical, numbers are within their limits, and the text of an item tells all of it.
+-- A function that was read: it is well formed, each item has its own position as origin, the silent position of each block is the end of its items, each
+-- instruction has the form of its opcode, registers are physical, numbers and counts are within their limits, and the printed text of each item determines
+-- its kind and its debug location.
 pub record IsReadFunction (meta : Maps) (f : Function) : Type 0 where
   pub sound : IsSound f
   pub read : IsRead f.blocks
@@ -54,13 +55,14 @@ pub record IsReadFunction (meta : Maps) (f : Function) : Type 0 where
   pub objects : All (λ o. o.id ≤ MAX_NUMBER) f.objects
   pub slots : All (λ n. n ≤ MAX_NUMBER) f.slots
 
--- A program as it was read: it has few functions, each is as it was read, and so are their substitutions and the metadata.
+-- A program that was read: it has at most MAX_FUNCTIONS functions, all as read, and the numbers of their substitutions and of the metadata's locations are
+-- within the limit.
 pub record IsReadProgram (p : Program) : Type 0 where
   pub few : length p.functions ≤ MAX_FUNCTIONS
   pub functions : All (λ (f : Parsed). IsReadFunction p.meta f.func) p.functions
   pub substitutions : All (λ (f : Parsed). All EntryIsLimited f.subs) p.functions
   pub locations : LocationsAreLimited p.meta
 
--- A program that was read is as it was read.
+-- Every program read from a text has these properties.
 abbrev pub ProgramsAreAsRead : Type 0
 ProgramsAreAsRead = (text : List ℕ) (p : Program) → ReadsText text (Ok p) → IsReadProgram p

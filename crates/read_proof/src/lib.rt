@@ -1,5 +1,5 @@
-//! What a program keeps that was read from a text: the laws of reading, each the contract of a function that does
-//! nothing.
+//! Laws of the MIR parser: invariants of every program that it reads. Each law is the contract of a function that
+//! does nothing.
 #![tactic(auto)]
 
 pub mod laws;

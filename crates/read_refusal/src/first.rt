@@ -1,4 +1,4 @@
-//! Refusals, and which of some is the first.
+//! Refusals and their order.
 
 ghost use Rattle.std.specs.Prelude.{◌≡◌};
 ghost use Rattle.read_refusal.specs.First.{comes_before, earlier};
@@ -21,7 +21,7 @@ pub fn comes_before(one: Refusal, other: Refusal) -> bool
     one.line < other.line || (one.line == other.line && one.kind.number() < other.kind.number())
 }
 
-/// The first of two refusals, where both are there.
+/// The first of two optional refusals.
 pub fn earlier(one: Option<Refusal>, other: Option<Refusal>) -> Option<Refusal>
     ensures { result ≡ earlier one other }
 {

@@ -10,29 +10,30 @@ pub enum RefusalKind {
     BadByte,
     /// A quote isn't closed on its line.
     UnclosedString,
-    /// A line stands where no document of the text can have it.
+    /// A line doesn't fit into the sequence of documents.
     BadDocument,
-    /// A line has no form that is read.
+    /// A line has no accepted form.
     BadLine,
-    /// An opcode is no operation that is read.
+    /// An opcode isn't supported.
     UnknownOpcode,
-    /// The operands of an instruction or a debug line aren't those that it takes.
+    /// The operands of an instruction or a debug line don't fit its opcode, or a number is above its limit.
     BadOperands,
-    /// A branch names a block that the function doesn't have.
+    /// A branch target is no block of the function.
     UnknownBlock,
-    /// A block's number stands before another block too.
+    /// Two blocks have the same number.
     DuplicateBlock,
-    /// A debug instruction number is given twice.
+    /// The debug instruction number of an instruction is also that of another item.
     DuplicateNumber,
-    /// A virtual register stands where a physical one has to.
+    /// A virtual register; only physical registers are supported.
     VirtualRegister,
-    /// Code names the stack pointer.
+    /// An instruction names the stack pointer explicitly.
     StackPointerUse,
-    /// A stack entry isn't declared, isn't of a form that is read, or is named where it can't be.
+    /// A stack entry has an unsupported form or a number that is taken, isn't declared, or is named where none is
+    /// allowed; or an access is outside its stack object.
     StackObject,
     /// A limit is exceeded.
     TooMany,
-    /// A block doesn't end as blocks do.
+    /// A block doesn't end in one of the supported forms.
     BlockEnd,
 }
 

@@ -1,7 +1,7 @@
-//! Why a text is no program of machine IR.
+//! Refusals: why the MIR parser rejects a text.
 //!
-//! A reader meets a fault at a line, and names it by its kind. A text may have many; the one that is told is the one
-//! at the first line, and of one line's kinds the one with the lowest number.
+//! A refusal is at a line and of a kind. A text may have many; the one that is reported is at the first such line,
+//! and has the lowest number of that line's kinds.
 #![tactic(auto)]
 
 pub mod first;

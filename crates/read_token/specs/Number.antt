@@ -1,14 +1,14 @@
--- Numbers in the text: digits, `0x` and hexadecimal digits, and a `-` before digits.
+-- The values of numbers: digits, `0x` and hexadecimal digits, and a `-` before digits.
 use Rattle.std.specs.Prelude.{ℕ, zero, suc, pos, negsuc, ◌^◌, ◌&&◌, ◌==◌, min, nat_lt, if◌then◌else◌, List, [], ◌∷◌, Option, Some, None}
 use Rattle.read_metadata.specs.Number.{value_behind}
 use Rattle.read_token.specs.declared.lexeme.Number.{Number}
 use Rattle.read_token.specs.declared.lexeme.Number.TheVariants.{Fits, Large, Wide}
 
--- the number that stands for every number above the limit
+-- the value that replaces every number above the limit
 abbrev pub BEYOND : ℕ
 BEYOND = 1073741824
 
--- the number that digits spell in a base
+-- the value of digits in a base
 abbrev pub value_of : ℕ → List ℕ → ℕ
 value_of base digits = value_behind base 0 digits
 
@@ -16,34 +16,34 @@ value_of base digits = value_behind base 0 digits
 abbrev pub narrow : ℕ → Option ℕ
 narrow n = if nat_lt n (2 ^ 128) then Some n else None
 
--- the number that digits spell in a base, if it is below 2^128
+-- the value of digits in a base, if it is below 2^128
 unfoldable pub narrow_value : ℕ → List ℕ → Option ℕ
 narrow_value base digits = narrow (value_of base digits)
 
--- The number that digits spell where it names or counts something.
+-- The value of decimal digits that are a number or count, and `BEYOND` if it is above the limit.
 unfoldable pub limited : List ℕ → ℕ
 limited digits = min (value_of 10 digits) BEYOND
 
--- an integer without a sign
+-- an integer without a sign, from its absolute value
 abbrev pub unsigned : ℕ → Number
 unsigned n = if nat_lt n (2 ^ 63) then Fits (pos n) else Large
 
--- an integer behind a sign
+-- an integer after `-`, from its absolute value
 abbrev pub negated : ℕ → Number
 negated zero = Fits (pos 0)
 negated (suc n) = if nat_lt n (2 ^ 63) then Fits (negsuc n) else Large
 
--- an integer of a size, unless that is 2^128 or more
+-- an integer from its absolute value; `Wide` if that is 2^128 or more
 abbrev pub sized : (ℕ → Number) → Option ℕ → Number
 sized read None = Wide
 sized read (Some n) = read n
 
--- digits, or `0x` and hexadecimal digits
+-- an integer without a sign: digits, or `0x` and hexadecimal digits
 abbrev pub unsigned_of : ℕ → List ℕ → Number
 unsigned_of a [] = sized unsigned (narrow_value 10 (a ∷ []))
 unsigned_of a (b ∷ bs) = if a == 48 && b == 120 then sized unsigned (narrow_value 16 bs) else sized unsigned (narrow_value 10 (a ∷ b ∷ bs))
 
--- what the text of an integer spells
+-- the value of an integer token
 abbrev pub number_of : List ℕ → Number
 number_of [] = sized unsigned (narrow_value 10 [])
 number_of (a ∷ bs) = if a == 45 then sized negated (narrow_value 10 bs) else unsigned_of a bs

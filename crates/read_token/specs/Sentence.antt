@@ -1,4 +1,4 @@
--- What each token stands for.
+-- The lexeme of each token.
 use Rattle.std.specs.Prelude.{ℕ, ◌==◌, if◌then◌else◌, codes, drop, map, List}
 use Rattle.std.specs.Str.{bytes_eq}
 use Rattle.read_lexer.specs.declared.parts.Class.{Class}
@@ -12,18 +12,18 @@ use Rattle.read_token.specs.Number.{number_of, limited}
 use Rattle.read_token.specs.Word.{word_of}
 use Rattle.read_token.specs.Register.{register_of, percent_of}
 
--- the number of a node, behind its `!`
+-- the number of a node, from the text `!N`
 abbrev pub node_of : List ℕ → ℕ
 node_of text = limited (drop 1 text)
 
--- the kind of a node
+-- the lexeme of a kind of nodes
 unfoldable pub kind_of : List ℕ → Lexeme
 kind_of text =
     if bytes_eq text (codes "!DIExpression") then lexemes.Expression
     else (if bytes_eq text (codes "!DILocation") then lexemes.InlineLocation
     else lexemes.Other)
 
--- a byte that is a token by itself
+-- the lexeme of a byte that is a token by itself
 abbrev pub single_of : ℕ → Lexeme
 single_of byte =
     if byte == 44 then lexemes.Comma
@@ -33,7 +33,7 @@ single_of byte =
     else (if byte == 58 then lexemes.Colon
     else lexemes.Other))))
 
--- what a token of a class and a text stands for
+-- the lexeme of a token with this class and this text
 abbrev pub lexeme_by : Class → Token → List ℕ → Lexeme
 lexeme_by classes.Word t text = lexemes.Word (word_of text) t
 lexeme_by classes.Register t text = lexemes.Register (register_of text)
@@ -45,14 +45,14 @@ lexeme_by classes.Integer t text = lexemes.Integer (number_of text)
 lexeme_by classes.Text t text = lexemes.Other
 lexeme_by (classes.Single byte) t text = single_of byte
 
--- what a token of a line stands for
+-- the lexeme of a token of a line
 unfoldable pub lexeme_of : List ℕ → Token → Lexeme
 lexeme_of line t = lexeme_by t.class t (text_of line t)
 
--- what the tokens of a line stand for
+-- the lexemes of the tokens of a line
 abbrev pub lexemes_of : List ℕ → List Token → List Lexeme
 lexemes_of line ts = map (lexeme_of line) ts
 
--- the name of a symbol, behind its `@` or `&`, with the bytes that its escapes stand for
+-- the name of a symbol, without its `@` or `&` and with escapes replaced by their bytes
 abbrev pub symbol_name : List ℕ → Token → List ℕ
 symbol_name line t = name_of (drop 1 (text_of line t))

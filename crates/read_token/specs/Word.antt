@@ -1,5 +1,4 @@
--- The words that mean something where they stand. (LLVM, Machine IR (MIR) Format Reference Manual, "Register Flags" and
--- "Comments"; LLVM, "Instruction referencing for debug info".)
+-- The keywords. (LLVM, Machine IR (MIR) Format Reference Manual, "Register Flags" and "Comments"; LLVM, "Instruction referencing for debug info".)
 use Rattle.std.specs.Prelude.{ℕ, Bool, true, false, ◌&&◌, ◌||◌, ◌==◌, if◌then◌else◌, codes, take, drop, List, [], ◌∷◌, Option, Some, None}
 use Rattle.std.specs.List.{prefix_len}
 use Rattle.std.specs.Char.{is_ascii_digit, is_ascii_lowercase, is_ascii_uppercase}
@@ -10,19 +9,19 @@ use Rattle.read_token.specs.declared.lexeme.Word.{Word}
 use Rattle.read_token.specs.declared.lexeme.Word.TheVariants as words
 use Rattle.read_token.specs.Number.{limited}
 
--- f of the value, or the other answer where there is none
+-- `f` of the value, or `other` if there is none
 abbrev pub case_of : {A B : Type 0} → Option A → (A → B) → B → B
 case_of None f other = other
 case_of (Some x) f other = f x
 
--- a word before a register of which nothing is kept
+-- whether a word is a register flag that is ignored
 unfoldable pub is_plain : List ℕ → Bool
 is_plain text =
     bytes_eq text (codes "renamable") || (bytes_eq text (codes "killed") || (bytes_eq text (codes "dead") || (bytes_eq text (codes "def")
     || (bytes_eq text (codes "undef") || (bytes_eq text (codes "internal") || (bytes_eq text (codes "early-clobber")
     || bytes_eq text (codes "debug-use")))))))
 
--- the flag that a word before a register sets
+-- the flag of a word before a register
 unfoldable pub flag_of : List ℕ → Option Flag
 flag_of text =
     if bytes_eq text (codes "implicit") then Some Implicit
@@ -30,7 +29,7 @@ flag_of text =
     else (if is_plain text then Some Plain
     else None))
 
--- a word with a meaning of its own
+-- the keyword that a text is, if it is one
 unfoldable pub keyword_of : List ℕ → Option Word
 keyword_of text =
     if bytes_eq text (codes "debug-location") then Some words.Location
@@ -46,28 +45,28 @@ keyword_of text =
     else (if bytes_eq text (codes "inlinedAt") then Some words.InlinedAt
     else None))))))))))
 
--- nothing, or a dot and a name of at least one byte
+-- whether a text is empty, or a dot and a name of at least one byte
 abbrev pub is_name_behind : List ℕ → Bool
 is_name_behind [] = true
 is_name_behind (b ∷ []) = false
 is_name_behind (b ∷ c ∷ cs) = b == 46
 
--- digits, at least one, and behind them a dot and a name or nothing: the number
+-- the number at the front of a text that is digits, at least one, and then nothing or a dot and a name
 unfoldable pub named_number : List ℕ → Option ℕ
 named_number text =
     if prefix_len is_ascii_digit text == 0 then None
     else (if is_name_behind (drop (prefix_len is_ascii_digit text) text) then Some (limited (take (prefix_len is_ascii_digit text) text)) else None)
 
--- the number in `bb.N` and `bb.N.name`
+-- the number N in `bb.N` and `bb.N.name`
 abbrev pub block_of : List ℕ → Option ℕ
 block_of (a ∷ b ∷ c ∷ bs) = if a == 98 && (b == 98 && c == 46) then named_number bs else None
 block_of text = None
 
--- a word with no meaning but the case of its first letter
+-- a word that is no keyword, by the case of its first letter
 abbrev pub initial_of : List ℕ → Word
 initial_of [] = words.Underscore
 initial_of (b ∷ bs) = if is_ascii_lowercase b then words.Lower else (if is_ascii_uppercase b then words.Upper else words.Underscore)
 
--- what a word means
+-- the meaning of a word
 unfoldable pub word_of : List ℕ → Word
 word_of text = case_of (flag_of text) words.Flag (case_of (keyword_of text) (λ w. w) (case_of (block_of text) words.Block (initial_of text)))

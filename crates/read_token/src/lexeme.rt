@@ -1,4 +1,4 @@
-//! Lexemes.
+//! Lexemes: tokens with the values that their texts have.
 
 use base_ids::code::{BlockId, SlotId};
 use base_ids::metadata::NodeId;
@@ -6,50 +6,50 @@ use base_list::List;
 use read_lexer::parts::Token;
 use rv64_instr::reg::Reg;
 
-/// The number that stands for every number above the limit, or below 0 where a number counts or names something:
-/// 2^30. The greatest number within the limit is one less.
+/// The value that replaces every number above the limit, or below 0: 2^30. The greatest number within the limit is
+/// one less.
 pub const BEYOND: u32 = 1 << 30;
 
-/// A register in the text.
+/// The name of a register.
 #[derive(Clone, Copy, Debug, PartialEq, Eq)]
 pub enum RegisterName {
     /// `$x0` to `$x31`.
     Physical(Reg),
     /// `$noreg`.
     Absent,
-    /// Another one behind a `$`.
+    /// Another name after `$`.
     Other,
-    /// `%N`, by its number, and `BEYOND` for every number above the limit.
+    /// `%N`, by its number; `BEYOND` for every number above the limit.
     Virtual(u32),
 }
 
-/// Whether a register is an implicit operand.
+/// The flag of a register: whether it is an implicit operand.
 #[derive(Clone, Copy, Debug, PartialEq, Eq)]
 pub enum Flag {
-    /// It isn't.
+    /// No implicit operand.
     Plain,
-    /// It is, and is read.
+    /// `implicit`: it is used implicitly.
     Implicit,
-    /// It is, and is set.
+    /// `implicit-def`: it is defined implicitly.
     ImplicitDef,
 }
 
-/// An integer in the text.
+/// The value of an integer.
 #[derive(Clone, Copy, Debug, PartialEq, Eq)]
 pub enum Number {
     /// One that fits 64 bits signed.
     Fits(i64),
-    /// Another one, whose size is below 2^128.
+    /// One that doesn't, with an absolute value below 2^128.
     Large,
-    /// One whose size is 2^128 or more.
+    /// One with an absolute value of 2^128 or more.
     Wide,
 }
 
-/// What a word means where it stands.
+/// The meaning of a word.
 #[derive(Clone, Copy, Debug, PartialEq, Eq)]
 pub enum Word {
-    /// A word before a register, with the flag that it sets: `implicit`, `implicit-def`, and `Plain` for `def`, `dead`,
-    /// `killed`, `undef`, `internal`, `early-clobber`, `debug-use` and `renamable`.
+    /// A word before a register, with its flag: `implicit`, `implicit-def`, and `Plain` for `def`, `dead`, `killed`,
+    /// `undef`, `internal`, `early-clobber`, `debug-use` and `renamable`.
     Flag(Flag),
     /// `debug-instr-number`.
     InstrNumber,
@@ -73,7 +73,7 @@ pub enum Word {
     Argument,
     /// `DW_OP_LLVM_fragment`.
     Fragment,
-    /// `bb.N` or `bb.N.name`, where `BEYOND` is the number of every block above the limit.
+    /// `bb.N` or `bb.N.name`; the number is `BEYOND` for every block above the limit.
     Block(BlockId),
     /// Another one that begins with a lower-case letter.
     Lower,
@@ -83,7 +83,7 @@ pub enum Word {
     Underscore,
 }
 
-/// A token by what it stands for. `BEYOND` is the number of every slot, block and node above the limit.
+/// A token with its value. The number of every stack entry, block and node above the limit is `BEYOND`.
 #[derive(Clone, Copy, Debug, PartialEq, Eq)]
 pub enum Lexeme {
     /// A word, with its token.

@@ -1,9 +1,8 @@
-//! The words of machine IR: what each token of a line stands for.
+//! The second stage of the MIR lexer: from the tokens of a line to lexemes, which have values.
 //!
-//! The lexer tells where a token is and of which class. Here its text is read: numbers with their values, registers,
-//! slots and blocks by their numbers, and the words that mean something where they stand. What a line says is then a
-//! sentence of lexemes, and no byte of it is looked at again but a name's. (LLVM, Machine IR (MIR) Format Reference
-//! Manual.)
+//! The lexer determines the span and the class of a token. Here its text is read: the values of numbers, the numbers
+//! of registers, stack entries and blocks, and keywords. The parser of a line then works on lexemes; of the text it
+//! reads only names. (LLVM, Machine IR (MIR) Format Reference Manual.)
 #![tactic(auto)]
 
 pub mod lexeme;

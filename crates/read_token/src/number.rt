@@ -1,4 +1,4 @@
-//! Numbers in the text.
+//! The values of numbers.
 
 ghost use Rattle.std.specs.Prelude.{◌≡◌, ◌+◌, ◌*◌, ◌^◌, ◌<◌, ◌≤◌, SomeIff};
 ghost use Rattle.read_token.specs.Number.{BEYOND, narrow_value, limited, unsigned, negated, sized, number_of};
@@ -6,14 +6,14 @@ ghost use Rattle.read_token.specs.Number.{BEYOND, narrow_value, limited, unsigne
 use crate::lexeme::{BEYOND, Number};
 use read_metadata::number::digit_value;
 
-/// The number that a digit behind others makes, unless it is 2^128 or more.
+/// The value with one more digit, unless it is 2^128 or more.
 fn longer(base: u128, value: u128, digit: u8) -> Option<u128>
     ensures { SomeIff result (value * base + digit < 2 ^ 128) (value * base + digit) }
 {
     value.checked_mul(base)?.checked_add(u128::from(digit))
 }
 
-/// The number that digits spell in a base, unless it is 2^128 or more.
+/// The value of digits in a base, unless it is 2^128 or more.
 fn narrow_value(base: u128, digits: &[u8]) -> Option<u128>
     requires { 0 < base }
     ensures { result ≡ narrow_value base digits.now }
@@ -28,7 +28,7 @@ fn narrow_value(base: u128, digits: &[u8]) -> Option<u128>
     Some(value)
 }
 
-/// The number that digits spell where it names or counts something: `BEYOND` where it is above the limit.
+/// The value of decimal digits that are a number or count; `BEYOND` if it is above the limit.
 pub fn limited(digits: &[u8]) -> u32
     ensures value { result ≡ limited digits.now }
     ensures bound { result ≤ BEYOND }
@@ -39,7 +39,7 @@ pub fn limited(digits: &[u8]) -> u32
     }
 }
 
-/// The integer of a size without a sign.
+/// An integer without a sign, from its absolute value.
 fn unsigned(size: Option<u128>) -> Number
     ensures { result ≡ sized unsigned size }
 {
@@ -50,7 +50,7 @@ fn unsigned(size: Option<u128>) -> Number
     }
 }
 
-/// The integer of a size behind a sign.
+/// An integer after `-`, from its absolute value.
 fn negated(size: Option<u128>) -> Number
     ensures { result ≡ sized negated size }
 {
@@ -62,7 +62,7 @@ fn negated(size: Option<u128>) -> Number
     }
 }
 
-/// What the text of an integer spells.
+/// The value of an integer token.
 pub fn number(text: &[u8]) -> Number
     ensures { result ≡ number_of text.now }
 {

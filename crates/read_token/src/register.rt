@@ -1,4 +1,4 @@
-//! What begins with `$` or `%`.
+//! Tokens that begin with `$` or `%`.
 
 ghost use Rattle.std.specs.Prelude.{◌≡◌};
 ghost use Rattle.read_metadata.specs.Field.{Spells};
@@ -24,7 +24,7 @@ use base_ids::code::{BlockId, SlotId};
 use read_lexer::bytes::digits;
 use rv64_instr::reg::{Reg, physical};
 
-/// The register xN of a number in two digits.
+/// The register whose number is spelled with two digits.
 fn two_digits(tens: u8, ones: u8) -> Option<Reg>
     ensures { result ≡ two_digits tens ones }
 {
@@ -47,7 +47,7 @@ fn physical_name(text: &[u8]) -> Option<Reg>
     }
 }
 
-/// The register that a text with `$` names.
+/// The register named by a token that begins with `$`.
 #[tactic(auto, unfolding(crate::specs::Register::register_of))]
 pub fn register(text: &[u8]) -> RegisterName
     ensures { result ≡ register_of text.now }
@@ -59,7 +59,7 @@ pub fn register(text: &[u8]) -> RegisterName
     }
 }
 
-/// A virtual register, behind its `%`.
+/// A virtual register, from the text after `%`.
 fn virtual_register(text: &[u8]) -> Lexeme
     ensures { result ≡ virtual_of text.now }
 {
@@ -70,7 +70,7 @@ fn virtual_register(text: &[u8]) -> Lexeme
     }
 }
 
-/// A slot, behind `%stack.`.
+/// A stack entry, from the text after `%stack.`.
 fn slot(text: &[u8]) -> Lexeme
     ensures { result ≡ slot_of text.now }
 {
@@ -80,7 +80,7 @@ fn slot(text: &[u8]) -> Lexeme
     }
 }
 
-/// A block, behind `%bb.`.
+/// A block, from the text after `%bb.`.
 fn block_operand(text: &[u8]) -> Lexeme
     ensures { result ≡ block_operand_of text.now }
 {
@@ -90,7 +90,7 @@ fn block_operand(text: &[u8]) -> Lexeme
     }
 }
 
-/// The text behind `stack.`.
+/// The text after `stack.`.
 fn behind_stack(text: &[u8]) -> Option<&[u8]>
     ensures { Spells result (behind_stack text.now) }
 {
@@ -100,7 +100,7 @@ fn behind_stack(text: &[u8]) -> Option<&[u8]>
     }
 }
 
-/// The text behind `bb.`.
+/// The text after `bb.`.
 fn behind_bb(text: &[u8]) -> Option<&[u8]>
     ensures { Spells result (behind_bb text.now) }
 {
@@ -110,7 +110,7 @@ fn behind_bb(text: &[u8]) -> Option<&[u8]>
     }
 }
 
-/// What a text with `%` stands for, behind it.
+/// The lexeme of a token that begins with `%`, from the text after that.
 #[tactic(auto, unfolding(crate::specs::Register::percent_behind))]
 fn percent_behind(text: &[u8]) -> Lexeme
     ensures { result ≡ percent_behind text.now }
@@ -124,7 +124,7 @@ fn percent_behind(text: &[u8]) -> Lexeme
     }
 }
 
-/// What a text with `%` stands for.
+/// The lexeme of a token that begins with `%`.
 pub fn percent(text: &[u8]) -> Lexeme
     ensures { result ≡ percent_of text.now }
 {

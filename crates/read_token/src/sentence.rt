@@ -1,4 +1,4 @@
-//! What the tokens of a line stand for.
+//! The lexemes of the tokens of a line.
 
 ghost use Rattle.std.specs.Prelude.{◌≡◌, slice_range, IfOk};
 ghost use Rattle.read_metadata.specs.Token.{text_of};
@@ -13,7 +13,7 @@ use base_list::List;
 use read_lexer::parts::{Class, Token};
 use std::alloc::{AllocError, Global};
 
-/// The bytes of a line that a token spans, as far as the line goes.
+/// The bytes of a line that a token spans, up to the end of the line.
 pub fn text_of(line: &[u8], token: Token) -> &[u8]
     ensures { result.now ≡ text_of line.now token }
 {
@@ -32,7 +32,7 @@ fn node(text: &[u8]) -> NodeId
     }
 }
 
-/// The kind of a node.
+/// The lexeme of a kind of nodes.
 #[tactic(auto, unfolding(crate::specs::Sentence::kind_of))]
 fn kind(text: &[u8]) -> Lexeme
     ensures { result ≡ kind_of text.now }
@@ -46,7 +46,7 @@ fn kind(text: &[u8]) -> Lexeme
     }
 }
 
-/// A byte that is a token by itself.
+/// The lexeme of a byte that is a token by itself.
 fn single(byte: u8) -> Lexeme
     ensures { result ≡ single_of byte }
 {
@@ -60,7 +60,7 @@ fn single(byte: u8) -> Lexeme
     }
 }
 
-/// What a token of a line stands for.
+/// The lexeme of a token of a line.
 #[tactic(auto, unfolding(crate::specs::Sentence::lexeme_of))]
 fn lexeme(line: &[u8], token: Token) -> Lexeme
     ensures { result ≡ lexeme_of line.now token }
@@ -79,7 +79,7 @@ fn lexeme(line: &[u8], token: Token) -> Lexeme
     }
 }
 
-/// What the tokens of a line stand for, in order.
+/// The lexemes of the tokens of a line, in order.
 pub fn lexemes(alloc: Global, line: &[u8], tokens: &[Token]) -> Result<Lexemes, AllocError>
     ensures { IfOk result (λ lexemes. lexemes ≡ lexemes_of line.now tokens.now) }
 {

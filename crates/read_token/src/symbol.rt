@@ -11,7 +11,7 @@ use read_metadata::text::{inside_quotes, unescaped};
 use rv64_instr::name::Name;
 use std::alloc::{AllocError, Global};
 
-/// The name that a symbol has behind its `@` or `&`.
+/// The name of a symbol, from the text after its `@` or `&`.
 fn name_of(alloc: Global, name: &[u8]) -> Result<Name, AllocError>
     ensures { IfOk result (λ read. read ≡ name_of name.now) }
 {
@@ -21,7 +21,7 @@ fn name_of(alloc: Global, name: &[u8]) -> Result<Name, AllocError>
     }
 }
 
-/// The name of a symbol of a line, with the bytes that its escapes stand for.
+/// The name of a symbol on a line, with escapes replaced by their bytes.
 pub fn symbol_name(alloc: Global, line: &[u8], token: Token) -> Result<Name, AllocError>
     ensures { IfOk result (λ read. read ≡ symbol_name line.now token) }
 {

@@ -1,4 +1,4 @@
-//! The words that mean something where they stand.
+//! The keywords.
 
 ghost use Rattle.std.specs.Prelude.{◌≡◌, ◌≤◌, IfSome};
 ghost use Rattle.read_token.specs.Number.{BEYOND};
@@ -18,7 +18,7 @@ use crate::number::limited;
 use base_ids::code::BlockId;
 use read_lexer::bytes::digits;
 
-/// Whether it is a word before a register of which nothing is kept.
+/// Whether a word is a register flag that is ignored.
 #[tactic(auto, unfolding(crate::specs::Word::is_plain))]
 fn is_plain(text: &[u8]) -> bool
     ensures { result ≡ is_plain text.now }
@@ -33,7 +33,7 @@ fn is_plain(text: &[u8]) -> bool
         || text == b"debug-use".as_slice()
 }
 
-/// The flag that a word before a register sets.
+/// The flag of a word before a register.
 #[tactic(auto, unfolding(crate::specs::Word::flag_of))]
 fn flag(text: &[u8]) -> Option<Flag>
     ensures { result ≡ flag_of text.now }
@@ -49,7 +49,7 @@ fn flag(text: &[u8]) -> Option<Flag>
     }
 }
 
-/// A word with a meaning of its own.
+/// The keyword that a text is, if it is one.
 #[tactic(auto, unfolding(crate::specs::Word::keyword_of))]
 fn keyword(text: &[u8]) -> Option<Word>
     ensures { result ≡ keyword_of text.now }
@@ -81,7 +81,7 @@ fn keyword(text: &[u8]) -> Option<Word>
     }
 }
 
-/// Whether nothing is left, or a dot and a name of at least one byte.
+/// Whether a text is empty, or a dot and a name of at least one byte.
 fn is_name_behind(text: &[u8]) -> bool
     ensures { result ≡ is_name_behind text.now }
 {
@@ -92,7 +92,7 @@ fn is_name_behind(text: &[u8]) -> bool
     }
 }
 
-/// The number that digits spell behind which a dot and a name or nothing stands.
+/// The number at the front of a text that is digits and then nothing or a dot and a name.
 #[tactic(auto, unfolding(crate::specs::Word::named_number))]
 pub fn named_number(text: &[u8]) -> Option<u32>
     ensures value { result ≡ named_number text.now }
@@ -108,7 +108,7 @@ pub fn named_number(text: &[u8]) -> Option<u32>
     }
 }
 
-/// The number in `bb.N` and `bb.N.name`.
+/// The number N in `bb.N` and `bb.N.name`.
 fn block(text: &[u8]) -> Option<u32>
     ensures { result ≡ block_of text.now }
 {
@@ -118,7 +118,7 @@ fn block(text: &[u8]) -> Option<u32>
     }
 }
 
-/// A word with no meaning but the case of its first letter.
+/// A word that is no keyword, by the case of its first letter.
 fn initial(text: &[u8]) -> Word
     ensures { result ≡ initial_of text.now }
 {
@@ -129,7 +129,7 @@ fn initial(text: &[u8]) -> Word
     }
 }
 
-/// What a word means.
+/// The meaning of a word.
 #[tactic(auto, unfolding(crate::specs::Word::word_of))]
 pub fn word(text: &[u8]) -> Word
     ensures { result ≡ word_of text.now }

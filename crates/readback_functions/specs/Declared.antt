@@ -1,4 +1,4 @@
--- The lines of what a function declares as they are printed, and what is read of them.
+-- The printed lines of a function's name and of its stack entries, and what they are read as.
 use Rattle.std.specs.Prelude.{◌≡◌, ℕ, ◌<◌, ◌≤◌, true, cond, ◌&&◌, codes, List, [], ◌∷◌, ◌++◌, map, length, All, None}
 use Rattle.std.specs.Fmt.{decimal}
 use Rattle.base_ids.specs.Limits.{MAX_NUMBER}
@@ -17,14 +17,14 @@ use Rattle.readback_functions.specs.Document.{lines_from}
 abbrev pub name_line : List ℕ → List ℕ
 name_line name = codes "name: " ++ name_text name
 
--- The line of a function's name is read as the name, whatever lines follow it under its key.
+-- The line of a function's name is read as the name.
 abbrev pub NamesReadBack : Type 0
 NamesReadBack = (n : ℕ) (name : List ℕ) → All (λ b. b < 256) name →
     name_of (lines_from n (name_line name ∷ [])) ≡ record { name = name; refused = None }
 
 -- ---- the stack
 
--- the line of a frame slot
+-- the line of a spill slot
 abbrev pub slot_line : ℕ → List ℕ
 slot_line n = codes "  - { id: " ++ (decimal n ++ codes ", size: 8 }")
 
@@ -36,29 +36,29 @@ object_line o = codes "  - { id: " ++ (decimal o.id ++ (codes ", size: " ++ (dec
 abbrev pub entry_lines : List ℕ → List Object → List (List ℕ)
 entry_lines slots objects = map slot_line slots ++ map object_line objects
 
--- the lines of the stack, unless there is neither a slot nor an object
+-- the lines of `stack`; none if there is neither a slot nor an object
 abbrev pub stack_lines : List ℕ → List Object → List (List ℕ)
 stack_lines slots objects = cond (is_nothing slots && is_nothing objects) [] (codes "stack:" ∷ entry_lines slots objects)
 
--- a slot as the stack entry that its line is read as
+-- the stack entry that the line of a slot is read as
 abbrev pub slot_entry : ℕ → StackEntry
 slot_entry n = record { id = n; size = 8; align = 1 }
 
--- an object as the stack entry that its line is read as
+-- the stack entry that the line of an object is read as
 abbrev pub object_entry : Object → StackEntry
 object_entry o = record { id = o.id; size = o.size; align = o.align }
 
--- slots and objects as the stack entries that they are read as
+-- the stack entries that the lines of slots and objects are read as
 abbrev pub entries_read : List ℕ → List Object → List StackEntry
 entries_read slots objects = map slot_entry slots ++ map object_entry objects
 
--- a stack entry within the limits of what is read
+-- a stack entry within the limits of reading
 pub record IsEntry (e : StackEntry) : Type 0 where
   pub id : e.id ≤ MAX_NUMBER
   pub size : e.size ≤ MAX_NUMBER
   pub aligned : is_alignment e.align ≡ true
 
--- The lines of slots and objects are read as stack entries: each number is within the limit, none stands twice, and there are few of them.
+-- The lines of slots and objects are read as these stack entries, if each is within the limits, no number occurs twice, and there are at most MAX_SLOTS.
 abbrev pub StacksReadBack : Type 0
 StacksReadBack = (n : ℕ) (slots : List ℕ) (objects : List Object) → All IsEntry (entries_read slots objects) →
     AreApart (map (λ (e : StackEntry). e.id) (entries_read slots objects)) → length (entries_read slots objects) ≤ MAX_SLOTS →

@@ -1,4 +1,4 @@
--- The documents of functions as they are printed, and what is read of them.
+-- The printed documents of functions, and what they are read as.
 use Rattle.std.specs.Prelude.{◌≡◌, ℕ, ◌+◌, Bool, true, not, ◌&&◌, ◌==◌, nat_le, codes, List, [], ◌∷◌, ◌++◌, length, All, Some, None}
 use Rattle.std.specs.List.{flat_map, list_all}
 use Rattle.read_lexer.specs.declared.line.Line.{Line}
@@ -14,12 +14,12 @@ use Rattle.read_documents.specs.Key.{heading}
 abbrev pub is_printed : ℕ → Bool
 is_printed b = nat_le 32 b && nat_le b 126
 
--- whether the last byte is no space; without bytes it is as it was before
+-- whether the last byte is no space, and `so_far` if there are no bytes
 abbrev pub ends_visibly : Bool → List ℕ → Bool
 ends_visibly so_far [] = so_far
 ends_visibly so_far (b ∷ bs) = ends_visibly (not (b == 32)) bs
 
--- a line that is read as it stands: printable ASCII, and no space at its end
+-- a line that is read unchanged: printable ASCII, and no space at its end
 pub record IsLine (line : List ℕ) : Type 0 where
   pub printed : list_all is_printed line ≡ true
   pub ends : ends_visibly true line ≡ true
@@ -43,18 +43,19 @@ lines_from n (text ∷ texts) = record { number = n; text = text } ∷ lines_fro
 
 -- ---- documents
 
--- what a function's document has: the line of its name, the lines of its stack and of its substitutions, each perhaps none, and those of its blocks
+-- the parts of a function's document: the line of its name, the lines of its stack and of its substitutions, either of which may be empty, and those of its
+-- blocks
 pub record Document : Type 0 where
   pub name : List ℕ
   pub stack : List (List ℕ)
   pub substitutions : List (List ℕ)
   pub body : List (List ℕ)
 
--- the lines behind the name's
+-- the lines after that of the name
 abbrev pub behind_name : Document → List (List ℕ)
 behind_name d = d.stack ++ (d.substitutions ++ codes "body: |" ∷ (d.body ++ codes "..." ∷ []))
 
--- the lines of a document, with those that open and close it
+-- the lines of a document, including those that open and close it
 abbrev pub document_lines : Document → List (List ℕ)
 document_lines d = codes "---" ∷ d.name ∷ behind_name d
 
@@ -63,7 +64,7 @@ abbrev pub IsSection : Key → List (List ℕ) → Type 0
 IsSection key [] = Unit {0}
 IsSection key (line ∷ lines) = (heading line ≡ Some key) × All IsIndented lines
 
--- a document's lines stand under its keys
+-- all lines of a document are read unchanged, and belong to their keys
 pub record IsDocument (d : Document) : Type 0 where
   pub printed : All IsLine (document_lines d)
   pub name : heading d.name ≡ Some Name
@@ -71,7 +72,7 @@ pub record IsDocument (d : Document) : Type 0 where
   pub substitutions : IsSection DebugValueSubstitutions d.substitutions
   pub body : All IsIndented d.body
 
--- a document as it is read from a line on: the lines of the blocks stand behind that of the key `body`
+-- a document as it is read if it begins at line `n`: the lines of the blocks come after that of the key `body`
 abbrev pub document_at : ℕ → Document → FunctionDocument
 document_at n d = record {
   opened = n;
@@ -83,12 +84,12 @@ document_at n d = record {
   body = lines_from (n + 3 + length d.stack + length d.substitutions) d.body;
 }
 
--- documents as they are read one behind the other, the first from a line on
+-- documents as they are read one after the other, the first from line `n`
 unfoldable pub documents_at : ℕ → List Document → List FunctionDocument
 documents_at n [] = []
 documents_at n (d ∷ ds) = document_at n d ∷ documents_at (n + 4 + length d.stack + length d.substitutions + length d.body) ds
 
--- The text of function documents is read as these documents: it has no fault and no metadata.
+-- The text of function documents is read as these documents, without a fault and without metadata.
 abbrev pub DocumentsReadBack : Type 0
 DocumentsReadBack = (ds : List Document) → All IsDocument ds →
     documents_of (text_of_lines (flat_map document_lines ds)) ≡ record { meta = []; functions = documents_at 1 ds; bad = None }

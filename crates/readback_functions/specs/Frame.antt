@@ -1,4 +1,4 @@
--- The slots and objects of a function as stack entries that are read again.
+-- The slots and objects of a function, printed as stack entries and read again.
 use Rattle.std.specs.Prelude.{◌≡◌, ℕ, ◌≤◌, true, List, map, length, All}
 use Rattle.base_ids.specs.Limits.{MAX_NUMBER}
 use Rattle.mir_func.specs.declared.object.Object.{Object}
@@ -10,23 +10,23 @@ use Rattle.read_body.specs.Met.{is_met}
 use Rattle.read_program.specs.Closing.{entry_ids}
 use Rattle.readback_functions.specs.Declared.{IsEntry, entries_read}
 
--- stack entries as they were read: few, each within its limits, and no number twice
+-- the conditions on stack entries that were read: at most MAX_SLOTS, each within its limits, and no number twice
 pub record AreDeclared (es : List StackEntry) : Type 0 where
   pub each : All IsEntry es
   pub apart : AreApart (map (λ (e : StackEntry). e.id) es)
   pub few : length es ≤ MAX_SLOTS
 
--- the slots and the objects among stack entries, as entries that are read again
+-- the stack entries that are read again, if the slots and then the objects among stack entries are printed
 abbrev pub entries_again : List ℕ → List StackEntry → List StackEntry
 entries_again named es = entries_read (slots_of named es) (objects_of named es).objects
 
--- where code names the same objects again, the entries are the slots and objects again, with the same numbers
+-- the stack entries that are read again meet these conditions, and have the same slots, objects and numbers, where code then names the objects `again`
 pub record IsReadBack (named again : List ℕ) (es : List StackEntry) : Type 0 where
   pub declared : AreDeclared (entries_again named es)
   pub slots : slots_of again (entries_again named es) ≡ slots_of named es
   pub objects : (objects_of again (entries_again named es)).objects ≡ (objects_of named es).objects
   pub ids : (n : ℕ) → is_met n (entry_ids es) ≡ true → is_met n (entry_ids (entries_again named es)) ≡ true
 
--- The frame of stack entries is read back: its slots, then its objects.
+-- If code names the same objects, the slots and objects of a frame are read back from their printed lines.
 abbrev pub FramesReadBack : Type 0
 FramesReadBack = (named again : List ℕ) (es : List StackEntry) → AreDeclared es → ((n : ℕ) → is_met n again ≡ is_met n named) → IsReadBack named again es

@@ -1,4 +1,4 @@
--- What is known of a body that was read.
+-- Invariants of a body that was read.
 use Rattle.std.specs.Prelude.{◌≡◌, ℕ, ◌≤◌, Bool, true, false, ◌==◌, List, length, map, All, Contains, IfSome, Ok}
 use Rattle.std.specs.List.{list_any}
 use Rattle.std.specs.Option.{option_map_or}
@@ -19,11 +19,11 @@ use Rattle.read_body.specs.Met.{is_met}
 use Rattle.read_program.specs.BodyLines.{body_of}
 use Rattle.readback_items.specs.Body.{VariableIn}
 
--- an item of this kind names this stack object
+-- whether an item of this kind names this stack object
 abbrev pub names : ℕ → ItemKind → Bool
 names n kind = option_map_or (λ m. n == m) (object_named kind) false
 
--- an item of this kind comes from one of the texts
+-- one of the texts is a line that is read as an item of this kind
 pub record IsOfLine (meta : Maps) (texts : List (List ℕ)) (kind : ItemKind) : Type 0 where
   pub text : List ℕ
   pub there : Contains texts text
@@ -33,8 +33,8 @@ pub record IsOfLine (meta : Maps) (texts : List (List ℕ)) (kind : ItemKind) : 
   pub means : judged meta form ≡ Ok (judged_as.Item item)
   pub is : item.kind ≡ kind
 
--- A body that was read: each item comes from a line, just those objects are met that an item names, and all constants, debug instruction numbers and
--- variables are met, of which there are few.
+-- The invariants of a body: each item comes from a line, its recorded stack objects are exactly those that an item names, and all constants, debug
+-- instruction numbers and variables of its items are recorded, within their limits.
 pub record IsKnown (meta : Maps) (texts : List (List ℕ)) (body : Body) : Type 0 where
   pub each : All (λ i. IsOfLine meta texts i.kind) (items_of (blocks_of body))
   pub objects : (n : ℕ) → is_met n body.objects ≡ list_any (λ i. names n i.kind) (items_of (blocks_of body))
@@ -45,6 +45,6 @@ pub record IsKnown (meta : Maps) (texts : List (List ℕ)) (body : Body) : Type 
   pub variables : All (λ i. VariableIn body.variables i.kind) (items_of (blocks_of body))
   pub few_variables : length body.variables ≤ MAX_VARIABLES
 
--- So it is for every body that lines are.
+-- Every body that was read has these invariants.
 abbrev pub BodiesAreKnown : Type 0
 BodiesAreKnown = (meta : Maps) (lines : List Line) (body : Body) → body_of meta lines ≡ Ok body → IsKnown meta (map (λ (l : Line). l.text) lines) body

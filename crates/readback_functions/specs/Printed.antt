@@ -8,12 +8,12 @@ use Rattle.readback_items.specs.Body.{label_line, item_line}
 use Rattle.readback_functions.specs.Document.{IsLine}
 use Rattle.readback_functions.specs.Declared.{name_line, slot_line, object_line}
 
--- the lines of blocks
+-- the lines of labels and items
 pub record BlockLinesArePrinted : Type 0 where
   pub labels : (n : ℕ) → n ≤ MAX_NUMBER → IsLine (label_line n)
   pub items : (i : Item) → IsWritable i → IsLine (item_line i)
 
--- the lines of what a function declares
+-- the lines of a function's name, slots and objects
 pub record DeclaredLinesArePrinted : Type 0 where
   pub names : (name : List ℕ) → All (λ b. b < 256) name → IsLine (name_line name)
   pub slots : (n : ℕ) → n ≤ MAX_NUMBER → IsLine (slot_line n)

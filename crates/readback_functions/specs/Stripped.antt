@@ -1,4 +1,4 @@
--- The document of a function without its debug items, and what is read of it.
+-- The printed document of a function without its debug items, and what it is read as.
 use Rattle.std.specs.Prelude.{ℕ, ◌+◌, ◌<◌, List, [], ◌∷◌, length, map, All, Ok}
 use Rattle.read_metadata.specs.Maps.{Maps}
 use Rattle.read_documents.specs.declared.parts.FunctionDocument.{FunctionDocument}
@@ -15,18 +15,18 @@ use Rattle.readback_items.specs.Body.{body_lines}
 use Rattle.readback_functions.specs.Document.{Document, IsDocument, document_at}
 use Rattle.readback_functions.specs.Declared.{name_line, stack_lines}
 
--- ---- a function as it is read where it stands
+-- ---- a function with its own positions as origins
 
--- an item that is kept at a place
+-- an item with its own position as origin
 abbrev pub placed_item : (block index : ℕ) → Item → Item
 placed_item block index i = record { kind = i.kind; origin = Kept (record { block = block; item = index }); loc = i.loc }
 
--- items that are kept at their places, from an index on
+-- items with their own positions as origins, from an index on
 unfoldable pub placed_items : (block index : ℕ) → List Item → List Item
 placed_items block index [] = []
 placed_items block index (i ∷ is) = placed_item block index i ∷ placed_items block (index + 1) is
 
--- a block whose items are kept at their places, and which ends behind them
+-- a block with the positions of its own items as origins, and its end as silent position
 abbrev pub placed_block : Block → Block
 placed_block b = record { id = b.id; items = placed_items b.id 0 b.items; silent = length b.items }
 
@@ -40,21 +40,21 @@ placed f = record { name = f.name; slots = f.slots; objects = f.objects; blocks 
 abbrev pub document_of : Function → Document
 document_of f = record { name = name_line f.name; stack = stack_lines f.slots f.objects; substitutions = []; body = body_lines f.blocks }
 
--- the names that a function has are of bytes
+-- the name and the symbols of a function consist of bytes
 pub record HasNamesOfBytes (f : Function) : Type 0 where
   pub name : All (λ b. b < 256) f.name
   pub symbols : AllItems (λ i. HasByteNames i.kind) f.blocks
 
--- a function that was read without its debug items, as it is read again
+-- a function that was read, without its debug items, as it is read again
 abbrev pub reread : Parsed → Parsed
 reread p = record { func = placed (stripped p.func); subs = [] }
 
--- a function that was read is read again: the lines of its document, without its debug items, are read as they stand, and the document stands for
--- the stripped function, whose items are kept where they stand in it, whatever the metadata and wherever it begins
+-- The document of a function without its debug items is read unchanged, and as the stripped function, with its own positions as origins. It is so with any
+-- metadata, and whichever line the document begins at.
 pub record IsReadAgain (p : Parsed) : Type 0 where
   pub document : IsDocument (document_of (stripped p.func))
   pub parses : (meta : Maps) (n : ℕ) → Parses meta (document_at n (document_of (stripped p.func))) (Ok (reread p))
 
--- A function that was read, and whose names are of bytes, is read again without its debug items.
+-- A function that was read, and whose names consist of bytes, is read back without its debug items.
 abbrev pub StrippedReadsBack : Type 0
 StrippedReadsBack = (meta : Maps) (doc : FunctionDocument) (p : Parsed) → Parses meta doc (Ok p) → HasNamesOfBytes p.func → IsReadAgain p

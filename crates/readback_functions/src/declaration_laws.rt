@@ -1,4 +1,4 @@
-//! The laws of names and stacks that are read back.
+//! The laws that names and stack entries are read back.
 
 ghost use Rattle.readback_functions.specs.Declared.{NamesReadBack, StacksReadBack};
 

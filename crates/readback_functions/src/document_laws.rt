@@ -1,9 +1,9 @@
-//! The law of documents that are read back.
+//! The law that documents are read back.
 
 ghost use Rattle.readback_functions.specs.Document.{DocumentsReadBack};
 
-/// The text of function documents, one behind the other, is a text without a fault and without metadata, whose
-/// functions are these documents.
+/// The text of function documents, one after the other, has no fault and no metadata, and its functions are these
+/// documents.
 pub fn documents_read_back()
     ensures { DocumentsReadBack }
 {}

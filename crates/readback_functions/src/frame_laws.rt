@@ -1,8 +1,8 @@
-//! The law of frames that are read back.
+//! The law that stack frames are read back.
 
 ghost use Rattle.readback_functions.specs.Frame.{FramesReadBack};
 
-/// The slots and the objects of a function, read as stack entries, are its slots and its objects again.
+/// The slots and objects of a function, printed and read as stack entries, are its slots and its objects again.
 pub fn frames_read_back()
     ensures { FramesReadBack }
 {}

@@ -1,9 +1,8 @@
-//! The law of functions that are read back.
+//! The law that functions are read back.
 
 ghost use Rattle.readback_functions.specs.Stripped.{StrippedReadsBack};
 
-/// The document of a function that was read, as it is printed without its debug items, is read as the stripped
-/// function.
+/// The document of a function that was read, printed without its debug items, is read as the stripped function.
 pub fn functions_read_back()
     ensures { StrippedReadsBack }
 {}

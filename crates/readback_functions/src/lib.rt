@@ -2,20 +2,21 @@
 //!
 //! - `document_laws`: Documents of functions are read back: laws, each the contract of a function that does nothing.
 //!
-//! - `declaration_laws`: What a function declares before its blocks is read back: laws, each the contract of a function
-//!   that does nothing.
+//! - `declaration_laws`: The name and the stack entries of a function are read back: laws, each the contract of a
+//!   function that does nothing.
 //!
-//! - `frame_laws`: The frame of a function is read back: laws, each the contract of a function that does nothing.
+//! - `frame_laws`: The stack frame of a function is read back: laws, each the contract of a function that does
+//!   nothing.
 //!
-//! - `body_laws`: What is known of a body that was read, beyond what makes its function sound: laws, each the contract
-//!   of a function that does nothing.
+//! - `body_laws`: Invariants of a body that was read, beyond those of its function: laws, each the contract of a
+//!   function that does nothing.
 //!
-//! - `printed_laws`: Printed lines are read as they stand: laws, each the contract of a function that does nothing.
+//! - `printed_laws`: Printed lines are read unchanged: laws, each the contract of a function that does nothing.
 //!
 //! - `function_laws`: Functions without their debug items are read back: laws, each the contract of a function that
 //!   does nothing.
 //!
-//! - `name_laws`: The names of a program that was read are of bytes: a law, the contract of a function that does
+//! - `name_laws`: The names in a program that was read consist of bytes: a law, the contract of a function that does
 //!   nothing.
 #![tactic(auto)]
 

@@ -1,8 +1,8 @@
-//! The law of names that are of bytes.
+//! The law on the names in a program.
 
 ghost use Rattle.readback_functions.specs.Bytes.{NamesAreOfBytes};
 
-/// The names of functions and symbols of a program that a text of bytes stands for are of bytes.
+/// In a program read from a text of bytes, the names of functions and symbols consist of bytes.
 pub fn names_are_of_bytes()
     ensures { NamesAreOfBytes }
 {}

@@ -7,7 +7,7 @@ pub fn block_lines_are_printed()
     ensures { BlockLinesArePrinted }
 {}
 
-/// So are the lines of a name, of slots and of objects.
+/// The same for the lines of a name, of slots and of objects.
 pub fn declared_lines_are_printed()
     ensures { DeclaredLinesArePrinted }
 {}

@@ -1,4 +1,4 @@
--- Code that is judged again.
+-- Instructions that are printed and read again.
 use Rattle.std.specs.Prelude.{◌≡◌, ℕ, List, Ok}
 use Rattle.rv64_instr.specs.declared.op.Op.{Op}
 use Rattle.rv64_instr.specs.Instruction.{Instruction}
@@ -7,7 +7,7 @@ use Rattle.read_item.specs.Code.{code_of}
 use Rattle.read_program.specs.Objects.{instr_as}
 use Rattle.readback_items.specs.Code.{judged_instruction}
 
--- What a line means is judged again so, whichever stack entries are objects: which of them code names as objects doesn't change where a
--- function is printed and read again.
+-- The printed line of an instruction that was read is judged as the same instruction again, whichever stack entries are stack objects. So code names the
+-- same entries as objects after a function is printed and read again.
 abbrev pub CodeIsJudgedAgain : Type 0
 CodeIsJudgedAgain = (op : Op) (line : ItemForm) (i : Instruction) (ids : List ℕ) → code_of op line ≡ Ok i → judged_instruction (instr_as ids i) ≡ i

@@ -1,4 +1,4 @@
--- Items as they are judged where their lines are read back.
+-- The items that printed lines are judged as.
 use Rattle.std.specs.Prelude.{◌≡◌, ℕ, ◌≤◌, if◌then◌else◌, List, map, length, All, IsTrue, Ok}
 use Rattle.rv64_instr.specs.declared.op.Op.{Op}
 use Rattle.rv64_instr.specs.declared.operand.Operand.{Operand}
@@ -18,28 +18,28 @@ use Rattle.readback_items.specs.Debug.{IsDebug}
 use Rattle.readback_items.specs.Forms.{form_of}
 use Rattle.readback_items.specs.Laws.{IsWritable}
 
--- A slot and an object print alike. Where the instruction would have its form with slots in the place of objects, its line is
--- judged so.
+-- Spill slots and stack objects are printed the same. If the operands have the form of the opcode with slots for all objects, the line is judged to have
+-- slots.
 abbrev pub judged_operands : Op → List Operand → List Operand
 judged_operands op operands = if has_form op (map as_slot operands) then map as_slot operands else operands
 
--- an instruction as its line is judged: with slots for objects where its opcode has that form too
+-- the instruction that the line of an instruction is judged as: with slots for objects, if its opcode has that form too
 abbrev pub judged_instruction : Instruction → Instruction
 judged_instruction i = record { op = i.op; operands = judged_operands i.op i.operands }
 
--- an item as its line is judged
+-- the item that the line of an item is judged as
 abbrev pub judged_kind : ItemKind → ItemKind
 judged_kind (Code i k) = Code (judged_instruction i) k
 judged_kind (Mark v m) = Mark v m
 judged_kind (Phi p k) = Phi p k
 
--- an instruction as one that was read: it has the form of its opcode, leaves the stack pointer alone, and has few operands
+-- the conditions on an instruction: it has the form of its opcode, no operand is the stack pointer but implicitly, and it has at most MAX_OPERANDS operands
 pub record IsCode (i : Instruction) : Type 0 where
   pub form : IsTrue (has_form i.op i.operands)
   pub pointer : All IsNotPointer i.operands
   pub few : length i.operands ≤ MAX_OPERANDS
 
--- an item as one that was read
+-- the conditions on an item
 abbrev pub IsReadable : Maps → Loc → ItemKind → Type 0
 IsReadable meta loc (Code i k) = IsCode i
 IsReadable meta loc (Mark v m) = IsDebug meta loc (Mark v m)

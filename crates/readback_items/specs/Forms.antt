@@ -1,4 +1,4 @@
--- The form of the line of an item: what stands on it where it is printed.
+-- The parsed form of an item's printed line.
 use Rattle.std.specs.Prelude.{ℕ, pos, false, not, codes, filter, map, List, [], ◌∷◌, Option, Some, None}
 use Rattle.std.specs.List.{flat_map}
 use Rattle.rv64_instr.specs.declared.operand.Operand.{Operand}
@@ -30,11 +30,11 @@ use Rattle.mir_printer.specs.Spelling.{is_definition}
 abbrev pub register_form : Flag → ℕ → RegisterForm
 register_form flag r = record { flag = flag; name = Physical r }
 
--- no register
+-- `$noreg`
 abbrev pub no_register : OperandForm
 no_register = form.Register (record { flag = Plain; name = Absent })
 
--- what an operand is on its line: slots and objects are both `%stack.N`
+-- the form of an operand: slots and objects are both `%stack.N`
 abbrev pub operand_form : Operand → OperandForm
 operand_form (Def r) = form.Register (register_form Plain r)
 operand_form (Use r) = form.Register (register_form Plain r)
@@ -47,7 +47,7 @@ operand_form (Block n) = form.Block n
 operand_form (Symbol name) = form.Symbol name
 operand_form Mask = form.Mask
 
--- the register that an operand before the `=` is
+-- the register before the `=` for an operand: only a def has one
 abbrev pub set_register : Operand → List RegisterForm
 set_register (Def r) = register_form Plain r ∷ []
 set_register (Use r) = []
@@ -60,7 +60,7 @@ set_register (Block n) = []
 set_register (Symbol name) = []
 set_register Mask = []
 
--- the line of an instruction, with its debug instruction number and its location
+-- the form of an instruction's line, with its debug instruction number and its debug location
 abbrev pub code_form : Instruction → Option ℕ → Loc → ItemForm
 code_form i number loc = record {
   definitions = flat_map set_register i.operands;
@@ -71,7 +71,7 @@ code_form i number loc = record {
   exceeds = false;
 }
 
--- the line of a debug item sets no register, and its numbers are operands
+-- the form of a debug item's line: it has no registers before the `=`, and its numbers are operands
 abbrev pub debug_form : (opcode : List ℕ) → List OperandForm → Loc → ItemForm
 debug_form opcode operands loc = record { definitions = []; opcode = opcode; operands = operands; number = None; loc = loc; exceeds = false }
 
@@ -85,12 +85,12 @@ abbrev pub argument_expression : Option Bytes → Expression
 argument_expression None = expression.Argument
 argument_expression (Some b) = expression.PartOfArgument b
 
--- the line of a `DBG_VALUE`, which is direct: its second operand is `$noreg`
+-- the form of a `DBG_VALUE`: its second operand is `$noreg`
 abbrev pub value_form : OperandForm → VarId → Loc → ItemForm
 value_form value v loc =
     debug_form (codes "DBG_VALUE") (value ∷ no_register ∷ form.Node v.node ∷ form.Expression (plain_expression v.fragment) ∷ []) loc
 
--- the line of a mark: a `DBG_INSTR_REF` of a pair, else a `DBG_VALUE`
+-- the form of a debug value: a `DBG_INSTR_REF` of a pair, else a `DBG_VALUE`
 abbrev pub mark_form : VarId → MarkValue → Loc → ItemForm
 mark_form v Nothing loc = value_form no_register v loc
 mark_form v (Constant c) loc = value_form (form.Integer (Some c)) v loc
@@ -98,19 +98,19 @@ mark_form v (At r) loc = value_form (form.Register (register_form Plain r)) v lo
 mark_form v (Pair q) loc =
     debug_form (codes "DBG_INSTR_REF") (form.Node v.node ∷ form.Expression (argument_expression v.fragment) ∷ form.Reference q ∷ []) loc
 
--- the first operand of a `DBG_PHI`: `$noreg` for no place, `$x0` for the constant, which is 0
+-- the first operand of a `DBG_PHI`: `$noreg` for no location, `$x0` for a constant, which is 0
 abbrev pub place_form : Option Place → OperandForm
 place_form None = no_register
 place_form (Some (place.Register r)) = form.Register (register_form Plain r)
 place_form (Some (place.Slot n)) = form.Slot n
 place_form (Some (place.Const c)) = form.Register (register_form Plain 0)
 
--- the line of an item, by its kind and its location
+-- the form of an item's line, by its kind and its debug location
 abbrev pub kind_form : ItemKind → Loc → ItemForm
 kind_form (Code i number) loc = code_form i number loc
 kind_form (Mark v m) loc = mark_form v m loc
 kind_form (Phi p k) loc = debug_form (codes "DBG_PHI") (place_form p ∷ form.Integer (Some (pos k)) ∷ []) loc
 
--- the form of an item
+-- the form of an item's line
 abbrev pub form_of : Item → ItemForm
 form_of i = kind_form i.kind i.loc

@@ -1,4 +1,4 @@
--- What holds of reading what is printed.
+-- Parsing of printed lines.
 use Rattle.std.specs.Prelude.{◌≡◌, ℕ, ◌<◌, ◌≤◌, ◌++◌, All, codes, Some, Ok}
 use Rattle.std.specs.Fmt.{decimal}
 use Rattle.rv64_instr.specs.declared.operand.Operand.{Operand}
@@ -13,7 +13,7 @@ use Rattle.read_program.specs.Limited.{KindIsLimited, LocIsLimited}
 use Rattle.mir_printer.specs.Spelling.{item_text}
 use Rattle.readback_items.specs.Forms.{form_of}
 
--- a name is of bytes
+-- the name of a symbol consists of bytes
 abbrev pub NameIsBytes : Operand → Type 0
 NameIsBytes (Symbol name) = All (λ b. b < 256) name
 NameIsBytes (Def r) = Unit {0}
@@ -26,22 +26,22 @@ NameIsBytes (Object n) = Unit {0}
 NameIsBytes (Block n) = Unit {0}
 NameIsBytes Mask = Unit {0}
 
--- the symbols that an item names are of bytes; marks and phis name none
+-- the symbols that an item names consist of bytes; debug values and DBG_PHIs name none
 abbrev pub HasByteNames : ItemKind → Type 0
 HasByteNames (Code i number) = All NameIsBytes i.operands
 HasByteNames (Mark v m) = Unit {0}
 HasByteNames (Phi p k) = Unit {0}
 
--- an item as one that was read: its numbers are within their limits, and its names are of bytes
+-- the conditions under which the line of an item is parsed back: its numbers are within their limits, and its names consist of bytes
 pub record IsWritable (i : Item) : Type 0 where
   pub kind : KindIsLimited i.kind
   pub loc : LocIsLimited i.loc
   pub names : HasByteNames i.kind
 
--- The line of an item in a function's text is read as the item's form.
+-- The printed line of an item is parsed as the item's form.
 abbrev pub LinesSayForms : Type 0
 LinesSayForms = (i : Item) → IsWritable i → body_line_of (codes "    " ++ item_text i) ≡ Ok (OfItem (form_of i))
 
--- The line of a label in a function's text is read as the label of the block.
+-- The printed line of a label is parsed as the label of the block.
 abbrev pub LabelsReadBack : Type 0
 LabelsReadBack = (n : ℕ) → n ≤ MAX_NUMBER → body_line_of (codes "  bb." ++ decimal n ++ codes ":") ≡ Ok (Label (Some n))

@@ -1,9 +1,9 @@
-//! The law of bodies that are read back.
+//! The law that the lines of a body are read back.
 
 ghost use Rattle.readback_items.specs.Body.{BodiesReadBack};
 
-/// The lines of blocks, as a function that was read has them, are read as these blocks, with the places in the text as
-/// origins.
+/// The lines of blocks that meet the conditions of blocks that were read are read as these blocks, with the positions
+/// in the text as origins.
 pub fn bodies_read_back()
     ensures { BodiesReadBack }
 {}

@@ -1,8 +1,8 @@
-//! The law of items that were read.
+//! The law on items that were read.
 
 ghost use Rattle.readback_items.specs.Readable.{ItemsAreReadable};
 
-/// The line of each item of a function that was read is judged as the item.
+/// The line of each item of a function that was read meets the conditions under which it is read back.
 pub fn items_are_readable()
     ensures { ItemsAreReadable }
 {}

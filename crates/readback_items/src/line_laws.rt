@@ -1,19 +1,19 @@
-//! Laws of reading what is printed: each is the contract of a function that does nothing.
+//! Laws on the parsing of printed lines: each is the contract of a function that does nothing.
 
 ghost use Rattle.readback_items.specs.Debug.{DebugLinesReadBack};
 ghost use Rattle.readback_items.specs.Laws.{LinesSayForms, LabelsReadBack};
 
-/// The line of an item is read as the item's form.
+/// The printed line of an item is parsed as the item's form.
 pub fn lines_say_forms()
     ensures { LinesSayForms }
 {}
 
-/// The line of a debug item is read back as the item, with the same metadata.
+/// The printed line of a debug item is read back as the item, given the same metadata.
 pub fn debug_lines_read_back()
     ensures { DebugLinesReadBack }
 {}
 
-/// The line of a label is read as the label of the block.
+/// The printed line of a label is parsed as the label of the block.
 pub fn labels_read_back()
     ensures { LabelsReadBack }
 {}

@@ -1,9 +1,9 @@
-//! The law of code that is judged again.
+//! The law on instructions that are read again.
 
 ghost use Rattle.readback_items.specs.Again.{CodeIsJudgedAgain};
 
-/// An instruction that a line means, read where some stack entries are objects, prints as a line that is judged as the
-/// instruction.
+/// The printed line of an instruction that was read is judged as the same instruction again, whichever stack entries
+/// are stack objects.
 pub fn code_is_judged_again()
     ensures { CodeIsJudgedAgain }
 {}

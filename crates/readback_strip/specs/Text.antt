@@ -1,4 +1,4 @@
--- The text of a program without its debug items, and the program that it stands for.
+-- The text of a program without its debug items, and the program that it is read as.
 use Rattle.std.specs.Prelude.{◌≡◌, ℕ, List, [], map, Ok}
 use Rattle.read_metadata.specs.Metadata.{metadata_of}
 use Rattle.read_program.specs.declared.program.Program.{Program}
@@ -7,16 +7,16 @@ use Rattle.strip_command.specs.StripText.{stripped_text}
 use Rattle.readback_functions.specs.Stripped.{reread}
 use Rattle.readback_functions.specs.Bytes.{AreBytes}
 
--- a program without its debug items, as its text is read: each item is kept where it stands there, and there is no metadata
+-- the program that the stripped text is read as: it has no debug items and no metadata, and the origin of each item is its own position
 abbrev pub stripped_program : Program → Program
 stripped_program p = record { functions = map reread p.functions; meta = metadata_of [] }
 
--- the text of a program without its debug items is of bytes and read as the stripped program, of which the same text is written again
+-- The stripped text of a program consists of bytes and is read as the stripped program, and the stripped text of that is the same text.
 pub record IsReadStripped (p : Program) : Type 0 where
   pub bytes : AreBytes (stripped_text p.functions)
   pub reads : ReadsText (stripped_text p.functions) (Ok (stripped_program p))
   pub same : stripped_text (stripped_program p).functions ≡ stripped_text p.functions
 
--- So it is for every program that a text of bytes stands for.
+-- This holds for every program read from a text of bytes.
 abbrev pub StrippedTextsAreRead : Type 0
 StrippedTextsAreRead = (text : List ℕ) (p : Program) → AreBytes text → ReadsText text (Ok p) → IsReadStripped p

@@ -1,10 +1,10 @@
-//! The law of stripped programs.
+//! The law that stripped programs are read back.
 
 ghost use Rattle.readback_strip.specs.Text.{StrippedTextsAreRead};
 
-/// The text that a program is stripped to is accepted, and stands for the stripped program: the functions of the
-/// program without their debug items, with the positions of the new text as origins and silent positions, and without
-/// metadata. Stripped once more it is the same text.
+/// The stripped text of a program is accepted, and read as the stripped program: the functions of the program without
+/// their debug items, with the positions in the new text as origins and silent positions, and without metadata.
+/// Stripping it again results in the same text.
 pub fn stripped_texts_are_read()
     ensures { StrippedTextsAreRead }
 {}

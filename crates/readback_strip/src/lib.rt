@@ -1,4 +1,5 @@
-//! The text of a program without its debug items is read back: a law, the contract of a function that does nothing.
+//! The text of a program without its debug items is parsed back as that program: a law, the contract of a function that
+//! does nothing.
 #![tactic(auto)]
 
 pub mod laws;

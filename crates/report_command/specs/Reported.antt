@@ -1,4 +1,4 @@
--- The report of a program that is compiled.
+-- The report of a compiled program.
 use Rattle.std.specs.Prelude.{◌≡◌, ℕ, ◌+◌, ◌≤◌, List, [], ◌∷◌, length, map, take, drop, All}
 use Rattle.emit_code.specs.Laid.{LaidCode, IsCodeOf}
 use Rattle.listing_text.specs.declared.output.ListedFunction.{ListedFunction}
@@ -17,11 +17,11 @@ use Rattle.report_function.specs.ProgramReport.{program_report}
 
 -- ---- the text
 
--- what is reported of a function: its machine code, the names of its listed variables, their lists, and what was lost
+-- what is reported of a function: its machine code, the names of its listed variables, their location lists, and its losses
 abbrev pub part_of : ListedFunction → LaidCode → List (List Range) → List Loss → Compiled
 part_of f code lists losses = record { code = code; names = map (λ v. v.name) f.variables; lists = lists; losses = losses }
 
--- what is reported of functions: the lists of each stand behind those of the one before it, as many as it has variables
+-- What is reported of functions. `lists` is the location lists of all their variables, function by function.
 abbrev pub parts_of : List ListedFunction → List LaidCode → List (List Range) → List (List Loss) → List Compiled
 parts_of [] codes lists losses = []
 parts_of (f ∷ fs) [] lists losses = []
@@ -29,24 +29,24 @@ parts_of (f ∷ fs) (c ∷ cs) lists [] = []
 parts_of (f ∷ fs) (c ∷ cs) lists (l ∷ ls) =
     part_of f c (take (length f.variables) lists) l ∷ parts_of fs cs (drop (length f.variables) lists) ls
 
--- the report of a program that is compiled
+-- the text of the report of a compiled program
 abbrev pub compilation_report : Compilation → List ℕ
 compilation_report c = program_report (parts_of c.output.functions c.codes c.lists c.losses)
 
--- how many variables functions have
+-- the number of variables of all functions
 abbrev pub variable_count : List ListedFunction → ℕ
 variable_count [] = 0
 variable_count (f ∷ fs) = length f.variables + variable_count fs
 
--- each variable has a list, in which the ranges ascend
+-- Each variable has a location list, and the ranges of each list ascend.
 pub record HasParts (c : Compilation) : Type 0 where
   pub many : variable_count c.output.functions ≤ length c.lists
   pub ascend : All Ascend c.lists
 
--- ---- what it says
+-- ---- the meaning of the report
 
--- what is reported of a function that passes made of its source, and that is compiled from an address and a list's number on: its machine
--- code, the names of the variables that the listing shows, the lists of their wanted locations, and what these passes lost
+-- The function, which passes made of its source, is compiled at address `base` with location lists numbered from `first`. What is reported of it is
+-- its machine code, the names of its listed variables, the location lists of their wanted locations, and the losses of these passes.
 pub record IsReportedAs (names : ℕ → List ℕ) (reserve : List ℕ) (passes : List PassKind) (p : PassedFunction) (base first : ℕ) (f : ListedFunction)
     (r : Compiled) :
     Type 0 where
@@ -56,7 +56,7 @@ pub record IsReportedAs (names : ℕ → List ℕ) (reserve : List ℕ) (passes 
   pub lists : r.lists ≡ compiled.lists
   pub lost : IsMadeLosing reserve passes p r.losses
 
--- so it is of functions that are compiled one after the other
+-- Functions that are compiled one after the other are reported so.
 abbrev pub AreReportedAs : (names : ℕ → List ℕ) → (reserve : List ℕ) → List PassKind → (base first : ℕ) → List PassedFunction → List ListedFunction →
     List Compiled → Type 0
 AreReportedAs names reserve passes base first [] [] [] = Unit {0}
@@ -67,7 +67,7 @@ AreReportedAs names reserve passes base first (p ∷ ps) (f ∷ fs) [] = ⊥
 AreReportedAs names reserve passes base first (p ∷ ps) (f ∷ fs) (r ∷ rs) =
     IsReportedAs names reserve passes p base first f r × AreReportedAs names reserve passes f.high (first + length r.lists) ps fs rs
 
--- a text is the report of what passes made of a program's functions
+-- The text is the report of passed functions of a program, which these passes made.
 pub record IsReportText (reserve : List ℕ) (passes : List PassKind) (p : Program) (text : List ℕ) : Type 0 where
   pub functions : List PassedFunction
   pub passed : ArePassed p.meta p.functions functions
@@ -76,12 +76,12 @@ pub record IsReportText (reserve : List ℕ) (passes : List PassKind) (p : Progr
   pub are : AreReportedAs (names_of p.meta) reserve passes 0 0 functions listed reported
   pub spelled : text ≡ program_report reported
 
--- what is known of the report of each compilation
+-- The report of a compilation can be made, and has the meaning of `IsReportText`.
 pub record IsReported (reserve : List ℕ) (passes : List PassKind) (p : Program) (c : Compilation) : Type 0 where
   pub parts : HasParts c
   pub text : IsReportText reserve passes p (compilation_report c)
 
--- Every compilation of a program has a report, and it is the report of what passes made of the program's functions.
+-- Every compilation of a program has a report, which is that of the functions that these passes made of the program's functions.
 abbrev pub CompilationsAreReported : Type 0
 CompilationsAreReported = (reserve : List ℕ) (passes : List PassKind) (p : Program) (c : Compilation) →
     IsCompilationOf reserve passes p c → IsReported reserve passes p c

@@ -1,9 +1,9 @@
-//! The law of reports.
+//! Theorem on reports: the contract of an empty function.
 
 ghost use Rattle.report_command.specs.Reported.{CompilationsAreReported};
 
-/// What is reported of a compilation is each function that passes made, with its code, its variables and their lists,
-/// and what was lost of it.
+/// The report of a compilation is that of each passed function, with its code, its variables and their location lists,
+/// and what the passes lost.
 pub fn compilations_are_reported()
     ensures { CompilationsAreReported }
 {}

@@ -1,5 +1,5 @@
-//! The report of a program that is compiled: of each function how many of its words each variable can be found at, and
-//! what passes lost of it.
+//! Makes the text that the command `report` writes: for each function of a compiled program, the location coverage of
+//! each variable, in machine words, and what the passes lost.
 #![tactic(auto)]
 
 pub mod laws;

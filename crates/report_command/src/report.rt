@@ -16,7 +16,7 @@ use report_function::make::make_report;
 use report_function::report::Names;
 use std::alloc::{AllocError, Global};
 
-/// The reports of the functions of a program that is compiled, one after the other.
+/// The reports of the functions of a compiled program, one after the other.
 pub fn report(alloc: Global, compilation: &Compilation) -> Result<Text, AllocError>
     requires { HasParts compilation.now }
     ensures { IfOk result (λ text. text ≡ compilation_report compilation.now) }
@@ -33,7 +33,7 @@ pub fn report(alloc: Global, compilation: &Compilation) -> Result<Text, AllocErr
     Ok(text)
 }
 
-/// Appends the reports of functions, each with its code, its variables' lists and what was lost of it.
+/// Appends the reports of functions, each with its code, its variables' location lists and its losses.
 fn push_reports(
     alloc: Global,
     text: &mut Text,

@@ -5,7 +5,7 @@ use Rattle.report_function.specs.Report.{report_of}
 use Rattle.report_function.specs.Text.{report_text}
 use Rattle.report_function.specs.declared.compiled.Compiled.{Compiled}
 
--- the text of the report of a function, on how much of its debug information is kept
+-- the text of the report on the debug info coverage and losses of a function
 abbrev pub function_report : Compiled → List ℕ
 function_report f = report_text (report_of f.code f.names f.lists f.losses)
 

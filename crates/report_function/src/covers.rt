@@ -1,4 +1,4 @@
-//! How many words the ranges of a variable have.
+//! Counts the words that are in the ranges of a variable.
 
 ghost use Rattle.std.specs.Prelude.{◌≡◌, ◌<◌, ◌-◌, ◌^◌, sum_by};
 ghost use Rattle.dwarf_loclists.specs.Ranges.{Ascend};
@@ -7,10 +7,10 @@ ghost use Rattle.report_function.specs.steps.Before.{words_before};
 
 use dwarf_loclists::range::Range;
 
-/// How many bytes a word has.
+/// The number of bytes of a word.
 const WORD: u64 = 4;
 
-/// How many of so many words from an address on the ranges have.
+/// The number of words that are in the ranges, of `count` words from address `base` on.
 pub fn covered(base: u64, count: u64, ranges: &[Range]) -> u64
     requires base { base < 2 ^ 32 }
     requires count { count < 2 ^ 32 }
@@ -33,7 +33,7 @@ fn words_in(base: u64, count: u64, range: &Range) -> u64
     words_before(base, count, range.hi) - words_before(base, count, range.lo)
 }
 
-/// How many of so many words from an address on begin before another.
+/// The number of words that begin before an address, of `count` words from address `base` on.
 #[tactic(auto, unfolding(crate::specs::steps::Before::words_before))]
 fn words_before(base: u64, count: u64, address: u64) -> u64
     requires { count < 2 ^ 32 }

@@ -10,7 +10,7 @@ use mir_printer::text::{Text, push_decimal, push_numbered, push_str};
 use pass_trait::loss::{Loss, Lost, Reason};
 use std::alloc::{AllocError, Global};
 
-/// The lines of a report: the function, its words, its variables, and what was lost.
+/// The lines of a report: the function, its number of words, its variables, and its losses.
 pub fn print_report(alloc: Global, report: &Report) -> Result<Text, AllocError>
     ensures { IfOk result (λ text. text ≡ report_text report.now) }
 {

@@ -1,9 +1,8 @@
-//! The report of coverage and losses of one function.
+//! The report on the debug info coverage and losses of one function, and of a program.
 //!
-//! - `covers`, `make`, `debugify_print`, `report`: What debugging of a function lost on its way to machine code, as a
-//!   compiler writer reads it: how many of its words each variable can be found at, and which numbers, marks and
-//!   registers passes gave up, and why. The report has the losses as the passes told them, so in the order of the
-//!   passes.
+//! - `covers`, `make`, `debugify_print`, `report`: How much debug info of a function was lost in compilation: how many
+//!   of its machine words are in the location list of each variable, and which debug instruction numbers, debug values
+//!   and registers the passes gave up, and why. The losses are in the order of the passes.
 //!
 //! - `compiled`: What is reported of one function of a program.
 #![tactic(auto)]

@@ -1,4 +1,4 @@
-//! The report on machine code.
+//! Makes the report on machine code.
 
 ghost use Rattle.std.specs.Prelude.{◌≡◌, ◌<◌, ◌^◌, All, IfOk, length};
 ghost use Rattle.dwarf_loclists.specs.Ranges.{Ascend};
@@ -12,8 +12,8 @@ use pass_trait::loss::Losses;
 use rv64_instr::name::Name;
 use std::alloc::{AllocError, Global};
 
-/// The report on the code of a function: the names of its variables are in the order of their lists, and the losses are
-/// those of the passes, one after the other.
+/// The report on the code of a function. `names` is the names of its variables, in the order of their location lists,
+/// `losses` the losses of all passes in order.
 pub fn make_report(
     alloc: Global,
     code: &Code,

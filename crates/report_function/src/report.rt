@@ -4,19 +4,19 @@ use base_list::List;
 use pass_trait::loss::Losses;
 use rv64_instr::name::Name;
 
-/// How many words the ranges of a variable have.
+/// The location coverage of a variable.
 #[derive(Debug, Drop)]
 pub struct Cover {
     /// The variable's name.
     pub name: Name,
-    /// How many words have their addresses in its ranges.
+    /// The number of words whose addresses are in its ranges.
     pub words: u64,
 }
 
-/// Covers, in the order of the variables' lists.
+/// Location coverages, in the order of the variables' location lists.
 pub type Covers = List<Cover>;
 
-/// Names of variables, in the order of their lists.
+/// Names of variables, in the order of their location lists.
 pub type Names = List<Name>;
 
 /// The report on a function.
@@ -24,9 +24,9 @@ pub type Names = List<Name>;
 pub struct Report {
     /// The function's name.
     pub name: Name,
-    /// How many words it has.
+    /// Its number of machine words.
     pub words: u64,
-    /// How many of them each variable has.
+    /// The location coverage of each variable.
     pub covers: Covers,
     /// What passes lost, in the order of the passes.
     pub losses: Losses,

@@ -1,4 +1,4 @@
--- A run of a function of a program, beside the source that was read.
+-- A run of a function of a compiled program, and the run of its source.
 use Rattle.std.specs.Prelude.{◌≡◌, ◌≢◌, ◌⊎◌, ℕ, ◌*◌, ◌%◌, ◌^◌, ◌<◌, List, map, take, All, Some, slice_get, true}
 use Rattle.sem_machine.specs.Headline.{StartsAt, AlignsWith, FailsBeforeLine, MachineAlong}
 use Rattle.sem_machine.specs.Image.{CodeLine, Image, line_at}
@@ -39,7 +39,7 @@ use Rattle.run_command.specs.Runs.{HasNone, IsRunOf}
 abbrev pub IsUnknown : (name : List ℕ) → List Parsed → Type 0
 IsUnknown name functions = All (λ (p : Parsed). p.func.name ≢ name) functions
 
--- at this number stands the first function of the name that was read
+-- the first function with the name, of those that were read, has this index
 pub record IsFirstRead (name : List ℕ) (functions : List Parsed) (number : ℕ) : Type 0 where
   pub function : Parsed
   pub stands : slice_get functions number ≡ Some function
@@ -48,8 +48,8 @@ pub record IsFirstRead (name : List ℕ) (functions : List Parsed) (number : ℕ
 
 -- ---- the start
 
--- A start of a function, beside which the machine on its image begins with these arguments: they stand in x10 on, x1 is 4294967296 and x2 1048576,
--- every other register is 1000 and its number, and memory is 0. Its calls are answered by these values.
+-- A start of a function such that the machine on its image begins with these arguments: they are in x10 and the registers after it, x1 is 4294967296
+-- and x2 1048576, every other register is 1000 plus its number, and memory is 0. The results of the calls are these values.
 pub record BeginsAsked (source : Function) (image : Image) (arguments values : List ℕ) (limit : ℕ) (s : State) : Type 0 where
   pub starts : StartsAt source s
   pub entry : s.core.entry ≡ 1048576
@@ -57,34 +57,34 @@ pub record BeginsAsked (source : Function) (image : Image) (arguments values : L
   pub memory : (a : ℕ) → s.core.memory a ≡ 0
   pub script : s.core.script ≡ replies values 1 limit
 
--- ---- the values
+-- ---- the values of variables
 
--- what is told of a variable from a location is the source's: the newest assignment of the whole variable, or of each of its pieces, gave it
+-- The content of a location of a variable is the source's value: of the newest assignment to the whole variable, or to each of its pieces.
 abbrev pub IsSourceValue : State → VarId → Machine → Location → Type 0
 IsSourceValue s v m (Whole p) = Tells s (whole v) (place_content p m)
 IsSourceValue s v m (Parts pieces) = All (λ x. Tells s (part_of v (Some (bytes_of x))) (place_content x.place m % 2 ^ (8 * x.length))) pieces
 
--- so is what is told of each variable of a function by its list, where the machine stands
+-- For each variable of a function, the content of its location at the program counter, if it has one, is the source's value.
 abbrev pub AreSourceValues : ListedFunction → (lists : List (List Range)) → State → Machine → Type 0
 AreSourceValues f lists s m = (n : ℕ) (line : ListedVariable) (v : VarId) (l : Location) → slice_get f.variables n ≡ Some line → line.variable ≡ whole v →
     location_in (variable_of lists line).ranges m.counter ≡ Some l → IsSourceValue s v m l
 
--- the source as its own run has it
+-- the source program
 abbrev pub graph_of : SourceFunction → Graph
 graph_of source = program_of true source.function.blocks (resolve source.substitutions)
 
--- From every start, for every script and number of machine steps: at each line that the machine comes to, the source comes to the line's origin,
--- and what is told of its variables is the source's; or the source stops on a frame fault before.
+-- From every start, for every script and number of machine steps: at each line that the machine comes to, either the source comes to the line's
+-- origin, and the contents of its variables' locations are the source's values, or the source stops on a frame fault before.
 abbrev pub TellsSource : SourceFunction → Image → ListedFunction → (lists : List (List Range)) → Type 0
 TellsSource source image f lists = (s0 : State) → StartsAt source.function s0 → (m : Machine) (s : State) (since : Since) (l : CodeLine) →
     MachineAlong (graph_of source) image (machine_start image s0) s0 m s since → line_at image.lines m.counter ≡ Some l →
     ((s' : State) × AlignsWith (graph_of source) l since s s' × AreSourceValues f lists s' m) ⊎ FailsBeforeLine (graph_of source) l since s
 
--- ---- the whole
+-- ---- the whole statement
 
--- The text is that of a run of the first function of a name. Steps of passes made the functions whose output this is, which shows an image of the
--- function's machine code, and lists of its variables: the text tells the machine's run on this image, with each variable by its list, and what it
--- tells of variables is the source's.
+-- The text is that of a run of the first function with a name. There is an output, compiled of what steps of passes made of the program. The text is
+-- that of the machine's run on the function's image in this output, with the variables by their location lists in the output, and the values of
+-- variables are the source's.
 pub record IsRunOfProgram (steps : List Step) (p : Program) (name : List ℕ) (limit : ℕ) (arguments values text : List ℕ) : Type 0 where
   pub number : ℕ
   pub read : IsFirstRead name p.functions number
@@ -98,7 +98,7 @@ pub record IsRunOfProgram (steps : List Step) (p : Program) (name : List ℕ) (l
       IsRunText (image_of output listed) (map (variable_of lists) listed.variables) limit (machine_start (image_of output listed) s) text
   pub source : TellsSource (source_of read.function) (image_of output listed) listed lists
 
--- ---- the laws
+-- ---- the theorems
 
 -- The run of a compilation is one of its program.
 abbrev pub RunsAreOfPrograms : Type 0
@@ -106,7 +106,7 @@ RunsAreOfPrograms = (reserve : List ℕ) (passes : List PassKind) (p : Program) 
     IsOutputOf (steps_of reserve passes) p c.output → IsCompilationOf reserve passes p c → IsRunOf c name limit arguments values text →
     IsRunOfProgram (steps_of reserve passes) p name limit arguments values text
 
--- Where no function of a compilation has a name, none that was read has it.
+-- If no function of a compilation has a name, no function that was read has it.
 abbrev pub NamesAreRead : Type 0
 NamesAreRead = (reserve : List ℕ) (passes : List PassKind) (p : Program) (c : Compilation) (name : List ℕ) →
     IsOutputOf (steps_of reserve passes) p c.output → HasNone name c.output.functions → IsUnknown name p.functions

@@ -1,5 +1,4 @@
-//! A run of a function of a program that is compiled, in the simulator: its machine code, and its variables by their
-//! lists.
+//! Runs a function of a compiled program in the simulator: its machine code, and its variables by their location lists.
 #![tactic(auto)]
 
 pub use report_command::compile as compile;

@@ -1,11 +1,11 @@
-//! Whether a program has a function of a name.
+//! Whether a program has a function with a name.
 
 ghost use Rattle.std.specs.Prelude.{◌≡◌, ◌↔◌, IsTrue};
 ghost use Rattle.run_command.specs.Source.{IsUnknown};
 
 use read_program::closing::Parsed;
 
-/// Whether none of the functions that were read has a name.
+/// Whether no function that was read has the name.
 pub fn is_unknown(functions: &[Parsed], name: &[u8]) -> bool
     ensures { IsTrue result ↔ IsUnknown name.now functions.now }
 {

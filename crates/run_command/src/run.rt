@@ -11,8 +11,8 @@ use sim_start::text::run_text;
 use sim_trace::variable::variables_of;
 use std::alloc::{AllocError, Global};
 
-/// The text of a run of the first function of a name, of so many steps at most, from arguments, where its calls are
-/// answered by values. None where no function has the name.
+/// The text of a run, for at most `limit` steps, of the first function with a name, with these arguments, and with
+/// these values as the results of its calls. It is `None` if no function has the name.
 pub fn run(
     alloc: Global,
     compilation: &Compilation,
@@ -36,7 +36,7 @@ pub fn run(
     Ok(Some(text))
 }
 
-/// Where the first function of a name stands.
+/// The index of the first function with a name.
 fn first_named(functions: &[ListedFunction], name: &[u8]) -> Option<usize>
     ensures { MatchOption result (HasNone name.now functions.now) (IsFirstNamed name.now functions.now) }
 {

@@ -13,10 +13,10 @@ use Rattle.sim_machine.specs.Shown.{ShowsCode}
 use Rattle.listing_meaning.specs.Program.{image_of}
 use Rattle.dwarf_unit.specs.Variables.{variables_of_function}
 
--- The text tells of the function that is generated from a number with so many blocks, of what passes made of it, where these registers may be spilled,
--- and of a run of 10,000 steps at most of its machine code beside it, which the sections show: the items of the function, the words of its `.text`, the
--- steps of the machine, how many values its lists give before them, and how many of its variables have a value by their newest assignment. No more are
--- given than are known.
+-- The text is that of a self-test of the generated function: it is compiled with passes, with `reserve` as the registers that may be spilled, and its
+-- machine code, which is that of the output, runs in lockstep with it for at most 10,000 steps. The text has the number of items of the function, the
+-- number of its words of `.text`, the number of machine steps, the number of values in its location lists before these steps, and the number of its
+-- variables whose newest assignment has a value there. The number of values in the lists is at most that of the variables.
 pub record IsSelfTestOf (reserve : List ℕ) (passes : List PassKind) (number blocks : ℕ) (text : List ℕ) : Type 0 where
   pub compilation : Compilation
   pub output : IsOutputOf (steps_of reserve passes) (generated_program number blocks) compilation.output

@@ -1,5 +1,6 @@
-//! What the command `selftest` writes: a function is made up from two numbers and compiled, and its machine code runs
-//! beside it. How much its location lists tell on the way is counted, and how much could be told.
+//! Makes the text that the command `selftest` writes: a function is generated from two numbers and compiled, and its
+//! machine code runs in lockstep with it. Counts the values in its location lists during the run, and those that the
+//! source knows.
 #![tactic(auto)]
 
 pub mod text;

@@ -23,9 +23,9 @@ use rv64_instr::reg::Reg;
 use selftest_count::text::self_test_text;
 use std::alloc::{AllocError, Global};
 
-/// The text of a self-test of the function that is generated from a number, with so many blocks: it is compiled by
-/// passes, and its machine code makes 10,000 steps at most beside it. None comes only where the function makes 2^64 - 1
-/// steps meanwhile.
+/// The text of a self-test of the function that is generated from a number, with `blocks` blocks: it is compiled with
+/// passes, and its machine code runs in lockstep with it for at most 10,000 steps. It is `None` only if the function
+/// makes 2^64 - 1 steps or more meanwhile.
 #[tactic(auto, using(crate::proofs::Joined::joined))]
 pub fn self_test(
     alloc: Global,

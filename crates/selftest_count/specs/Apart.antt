@@ -1,4 +1,4 @@
--- Why a run of machine code and its source's don't go together.
+-- Why the runs of machine code and of its source diverge.
 use Rattle.std.specs.Prelude.{◌≡◌, ◌⊎◌, ℕ, zero, suc, ◌<◌, List, Some, None, true}
 use Rattle.mir_func.specs.declared.position.Pos.{Pos}
 use Rattle.mir_func.specs.declared.variable.VarId.{VarId}
@@ -16,35 +16,35 @@ use Rattle.sim_machine.specs.Shown.{entry_at}
 use Rattle.selftest_count.specs.declared.counts.Counts.{Counts}
 use Rattle.selftest_count.specs.Counts.{Counted}
 
--- how many steps the source may make from one line to the next: 2^64 - 1
+-- the most steps that the source may make from one line to the next: 2^64 - 1
 abbrev pub MAX_SOURCE_STEPS : ℕ
 MAX_SOURCE_STEPS = 18446744073709551615
 
--- no step of the source goes on from here
+-- the source makes no further step
 abbrev pub Halts : Program → State → Type 0
 Halts src s = (t : State) → step src s ≡ Went t → ⊥
 
--- the source doesn't come to a position: so many steps are made before, or one doesn't go on
+-- The source doesn't come to a position: it makes this many steps, none of them from there, or it halts before.
 pub data Misses (src : Program) (p : Pos) : (steps : ℕ) → State → Type 0 where
   makes_all : {s : State} → Misses src p zero s
   halts : {n : ℕ} {s : State} → (s.pos ≡ p → ⊥) → Halts src s → Misses src p n s
   goes_on : {n : ℕ} {s u : State} → (s.pos ≡ p → ⊥) → step src s ≡ Went u → Misses src p n u → Misses src p (suc n) s
 
--- the same from the state that was aligned last
+-- The source doesn't come to the position after the state that was aligned last.
 abbrev pub MissesNext : Program → Pos → Since → State → Type 0
 MissesNext src p Start s = Misses src p MAX_SOURCE_STEPS s
 MissesNext src p Same s = Misses src p MAX_SOURCE_STEPS s
 MissesNext src p After s = Halts src s ⊎ ((u : State) × (step src s ≡ Went u) × Misses src p MAX_SOURCE_STEPS u)
 
--- why the machine at m and the source, which was aligned last at s, don't go on together: there is no line, or one of a call, the source
--- doesn't come to it, or the machine stops elsewhere than at a return
+-- The machine at m and the source, which was aligned last at s, diverge: there is no code line at the program counter, or a call's, or the source
+-- doesn't come to the line's origin, or the machine's next step leaves the code or meets a word that encodes no machine operation.
 pub data IsApart (src : Program) (image : Image) (c : LaidCode) (m : Machine) (s : State) (since : Since) : Type 0 where
   at_no_line : line_at image.lines m.counter ≡ None → IsApart src image c m s since
   at_call : (e : Entry) → entry_at c.entries m.counter ≡ Some e → e.call ≡ true → IsApart src image c m s since
   source_misses : (l : CodeLine) → line_at image.lines m.counter ≡ Some l → MissesNext src (position_of l.origin) since s → IsApart src image c m s since
   stops_badly : (IsWell (machine_step image m) → ⊥) → IsApart src image c m s since
 
--- both come to where they don't go on together, before so many steps of the machine
+-- Both come to states at which they diverge, before the machine has made `limit` steps.
 pub record GoesApart (src : Program) (image : Image) (c : LaidCode) (lists : List (List Range)) (parts : List VarId) (limit : ℕ) (m0 : Machine) (s0 : State) :
     Type 0 where
   pub counts : Counts

@@ -17,7 +17,7 @@ use Rattle.selftest_count.specs.declared.counts.Counts.{Counts}
 use Rattle.selftest_count.specs.Apart.{GoesApart}
 use Rattle.selftest_count.specs.Counts.{AreCounts}
 
--- the source at the start that the machine has with no arguments. No call is answered
+-- The source is at the start that corresponds to the machine's start without arguments. The script is empty, so no call is answered.
 pub record BeginsSource (source : Function) (s : State) : Type 0 where
   pub pos : s.pos ≡ block_start (first_of source.blocks)
   pub entry : s.core.entry ≡ 1048576
@@ -32,15 +32,14 @@ pub record BeginsSource (source : Function) (s : State) : Type 0 where
   pub pairs : (k o : ℕ) → s.core.pairs k o ≡ None
   pub marks : s.core.marks ≡ []
 
--- The counts are those of the machine's run of the code from the start without arguments, of so many steps at most, beside the source's:
--- on each image that shows the code.
+-- On each image of the code, the counts are those of the machine's run from the start without arguments, of at most `limit` steps, in lockstep with
+-- the source's.
 abbrev pub AreCountsOf : (source : Function) → (OperandPair → Option OperandPair) → LaidCode → List (List Range) → List VarId → (limit : ℕ) → Counts → Type 0
 AreCountsOf source resolve c lists parts limit n =
     (image : Image) (m : Machine) (s : State) → ShowsCode c image → BeginsRun c [] m → BeginsSource source s →
     AreCounts (program_of true source.blocks resolve) image lists parts limit m s n
 
--- The machine's run of the code from the start without arguments and the source's don't go together for so many steps: on no image that shows the
--- code.
+-- On each image of the code, the machine's run from the start without arguments and the source's diverge within `limit` steps.
 abbrev pub GoApart : (source : Function) → (OperandPair → Option OperandPair) → LaidCode → List (List Range) → List VarId → (limit : ℕ) → Type 0
 GoApart source resolve c lists parts limit =
     (image : Image) (m : Machine) (s : State) → ShowsCode c image → BeginsRun c [] m → BeginsSource source s →

@@ -11,11 +11,11 @@ use Rattle.emit_code.specs.Laid.{LaidCode}
 use Rattle.selftest_count.specs.declared.counts.Counts.{Counts}
 use Rattle.selftest_count.specs.Runs.{AreCountsOf}
 
--- how many items blocks have
+-- the number of items of blocks
 abbrev pub items_of : List Block → ℕ
 items_of blocks = sum_by (λ b. length b.items) blocks
 
--- a label, and a number's digits
+-- a line of a label and a number
 abbrev pub count_line : (label digits : List ℕ) → List ℕ
 count_line label digits = label ++ digits ++ 10 ∷ []
 
@@ -25,11 +25,11 @@ counts_text items words n =
     count_line (codes "items ") (decimal items) ++ count_line (codes "words ") (decimal words) ++ count_line (codes "steps ") (decimal n.steps)
     ++ count_line (codes "reads ") (decimal n.reads) ++ count_line (codes "known ") (decimal n.known)
 
--- how many steps of machine code a self-test makes at most
+-- the most machine steps of a self-test
 abbrev pub MAX_STEPS : ℕ
 MAX_STEPS = 10000
 
--- The text tells the items of the source, the words of its machine code, and the counts of a run of so many steps at most.
+-- The text has the number of items of the source, the number of words of its machine code, and the counts of a run of at most 10,000 steps.
 pub record IsSelfTest (source : Function) (resolve : OperandPair → Option OperandPair) (c : LaidCode) (lists : List (List Range)) (parts : List VarId)
     (text : List ℕ) : Type 0 where
   pub counts : Counts

@@ -3,19 +3,19 @@
 ghost use Rattle.std.specs.Prelude.{◌≡◌, ◌+◌, ◌<◌, ◌≤◌, ◌^◌};
 ghost use Rattle.selftest_count.specs.steps.Bounds.{AreBounded};
 
-/// What is counted along a run.
+/// The counts of a run.
 #[derive(Clone, Copy, Debug, PartialEq, Eq)]
 pub struct Counts {
-    /// The steps that the machine made, a return among them.
+    /// The number of machine steps, including a return.
     pub steps: u32,
-    /// The values that the lists gave before them.
+    /// The number of values in the location lists before each step, summed up.
     pub reads: u128,
-    /// The parts of variables whose last assignment gave a value before them.
+    /// The number of parts of variables whose last assignment has a value, before each step, summed up.
     pub known: u128,
 }
 
 impl Counts {
-    /// Nothing is counted yet.
+    /// Zero counts.
     pub fn new() -> Counts
         ensures made { result ≡ record { steps = 0; reads = 0; known = 0 } }
         ensures bounded { AreBounded result }
@@ -27,7 +27,7 @@ impl Counts {
         }
     }
 
-    /// Counts a step, and what was read and known before it.
+    /// Counts a step, with the values in the location lists and those that are known before it.
     pub fn count(&mut self, reads: u128, known: usize)
         requires steps { self.old.steps + 1 < 2 ^ 32 }
         requires bounded { AreBounded self.old }

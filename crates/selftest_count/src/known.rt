@@ -1,4 +1,4 @@
-//! What the source knows.
+//! The values that the source knows.
 
 ghost use Rattle.std.specs.Prelude.{◌≡◌};
 ghost use Rattle.sem_mir.specs.State.{State};
@@ -8,7 +8,7 @@ ghost use Rattle.selftest_count.specs.Counts.{known_in};
 use mir_func::variable::VarId;
 use sem_interpreter::state::SourceState;
 
-/// How many of the parts of variables have a value by their last assignment.
+/// The number of these parts of variables whose last assignment has a value.
 pub fn known(state: &SourceState, parts: &[VarId]) -> usize
     ensures { (s : State) → StandsFor state.now s → result ≡ known_in parts.now s }
 {

@@ -1,6 +1,6 @@
-//! Runs of machine code beside the run of the function as it was read: how many values the location lists give on the
-//! way, and of how many parts of variables the source knows the value at the same time. So a program tries on itself
-//! how much of what is known its lists tell.
+//! Runs machine code and, in lockstep, the function as it was read. Counts the values that the location lists have
+//! during the run, and the parts of variables of which the source knows the value at the same time. So the program
+//! measures how much of the known values its location lists cover.
 #![tactic(auto)]
 
 pub mod counts;

@@ -1,4 +1,4 @@
-//! What location lists give.
+//! The values in location lists.
 
 ghost use Rattle.std.specs.Prelude.{◌≡◌, ◌≤◌, ◌^◌, All};
 ghost use Rattle.dwarf_loclists.specs.Ranges.{IsLocated, location_in, places_of};
@@ -8,7 +8,7 @@ ghost use Rattle.selftest_count.specs.steps.Bounds.{CanBeRead};
 use dwarf_loclists::range::{Location, Ranges};
 use sim_trace::location::location_at;
 
-/// How many values lists give at an address: one of a whole variable, and one for each piece.
+/// The number of values in location lists at an address: one for a whole variable, and one for each piece.
 pub fn reads(lists: &[Ranges], address: u64) -> u128
     requires { All CanBeRead lists.now }
     ensures is { result ≡ read_at lists.now address }
@@ -21,7 +21,7 @@ pub fn reads(lists: &[Ranges], address: u64) -> u128
     reads
 }
 
-/// How many values ranges give at an address.
+/// The number of values in a location list at an address.
 fn values(ranges: &Ranges, address: u64) -> usize
     requires { CanBeRead ranges.now }
     ensures is { result ≡ values_of (location_in ranges.now address) }
@@ -33,7 +33,7 @@ fn values(ranges: &Ranges, address: u64) -> usize
     }
 }
 
-/// How many places a location names.
+/// The number of places in a location.
 fn places(location: &Location) -> usize
     requires { IsLocated location.now }
     ensures is { result ≡ places_of location.now }

@@ -1,4 +1,4 @@
-//! A whole run, counted.
+//! A whole run with its counts.
 
 ghost use Rattle.std.specs.Prelude.{All, IfNone, IfOk, IfSome};
 ghost use Rattle.mir_func.specs.Resolve.{resolve};
@@ -23,10 +23,10 @@ use sim_start::answers::ValueAnswers;
 use sim_start::start::start_with;
 use std::alloc::{AllocError, Global};
 
-/// The counts of a run of machine code, of so many steps at most, from the start without arguments, beside the run of
-/// its source. Before each step each list is read at the counter, and the source stands where the machine's line comes
-/// from. None where they don't go together: the source doesn't come to a line, calls, or stops on a frame fault, or the
-/// machine stops elsewhere than at a return, or calls.
+/// The counts of a run of machine code, of at most `limit` steps, from the start without arguments, in lockstep with
+/// the run of its source. Before each step the source comes to the origin of the machine's line, and each location list
+/// is read at the program counter. It is `None` if the runs diverge: the source doesn't come to a line, calls, or stops
+/// on a frame fault, or the machine stops other than at a return, or calls.
 pub fn count_run(
     alloc: Global,
     source: &Func,
@@ -60,7 +60,7 @@ pub fn count_run(
     )
 }
 
-/// Makes so many steps at most of both runs from where they begin, and counts them.
+/// Makes at most `limit` steps of both runs from their current states, and counts them.
 fn count_steps(
     machine: &mut Machine<ValueAnswers>,
     state: &mut SourceState,

@@ -1,4 +1,4 @@
-//! The source's run from one line of the machine code to the next.
+//! The source's run from one code line of the machine to the next.
 
 ghost use Rattle.std.specs.Prelude.{◌≡◌, false, IfOk, IsTrue};
 ghost use Rattle.sem_interpreter.specs.StandsFor.{IsPosition, AreCounted};
@@ -11,11 +11,11 @@ use mir_substitution::substitutions::Substitutions;
 use sem_interpreter::state::{SourceState, SourceStep};
 use std::alloc::AllocError;
 
-/// How many steps the source may make from one line to the next.
+/// The most steps that the source may make from one line to the next.
 const MAX_STEPS: u64 = u64::MAX;
 
-/// Goes on to the next state that is aligned with a line of this position. False where it doesn't come there: it stops
-/// before, calls, or makes too many steps.
+/// Steps the source to its next state that is aligned with a line at this position. It is false if there is none: the
+/// source stops or calls before, or makes too many steps.
 pub fn align(
     state: &mut SourceState,
     f: &Func,
@@ -40,7 +40,7 @@ pub fn align(
     }
 }
 
-/// Goes on to the first state at a position, which may be the present one.
+/// Steps the source to its first state at a position, which may be the current one.
 fn arrive(
     state: &mut SourceState,
     f: &Func,

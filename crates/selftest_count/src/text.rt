@@ -1,4 +1,4 @@
-//! Counts as text.
+//! The text of a self-test.
 
 ghost use Rattle.std.specs.Prelude.{◌≡◌, ◌++◌, All, IfNone, IfOk, IfSome, OnOk};
 ghost use Rattle.mir_func.specs.Resolve.{resolve};
@@ -19,11 +19,11 @@ use mir_printer::text::{Text, push_decimal, push_str};
 use mir_substitution::substitutions::Substitutions;
 use std::alloc::{AllocError, Global};
 
-/// How many steps are made at most.
+/// The most machine steps of a self-test.
 const MAX_STEPS: u32 = 10_000;
 
-/// What a function and its machine code are told by: the items of the function, the words of the code, and the counts
-/// of a run of 10,000 steps at most, a line for each. None where `count_run` gives none.
+/// The text of a self-test, a line for each count: the items of the function, the words of its code, and the counts of
+/// a run of at most 10,000 steps. It is `None` if `count_run` is.
 pub fn self_test_text(
     alloc: Global,
     source: &Func,
@@ -49,7 +49,7 @@ pub fn self_test_text(
     }
 }
 
-/// How many items blocks have.
+/// The number of items of blocks.
 fn items(blocks: &[Block]) -> u128
     requires { AreCounted blocks.now }
     ensures { result ≡ items_of blocks.now }

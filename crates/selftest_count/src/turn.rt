@@ -1,4 +1,4 @@
-//! One step of both runs.
+//! One step of both runs in lockstep.
 
 ghost use Rattle.std.specs.Prelude.{◌≡◌, ◌+◌, ◌<◌, ◌^◌, All, IfNone, IfOk, IfSome};
 ghost use Rattle.sem_interpreter.specs.StandsFor.{IsPosition, AreCounted};
@@ -23,14 +23,14 @@ use sim_machine::machine::Machine;
 use sim_start::answers::ValueAnswers;
 use std::alloc::AllocError;
 
-/// How a step of both runs ends.
+/// The result of a step of both runs.
 #[derive(Clone, Copy, Debug, PartialEq, Eq)]
 pub enum Turn {
-    /// Both go on.
+    /// Both continue.
     Went,
     /// The machine returns.
     Returned,
-    /// They don't go together: the source doesn't come to the machine's line, or the machine stops or calls.
+    /// They diverge: the source doesn't come to the machine's line, or the machine stops or calls.
     Apart,
 }
 
@@ -72,7 +72,7 @@ pub fn make_turn(
     }
 }
 
-/// The entry at which the machine stands, if it is no call site and the source comes along.
+/// The entry at the machine's program counter, if it isn't a call site and the source comes to its origin.
 fn meet(
     machine: &Machine<ValueAnswers>,
     state: &mut SourceState,
@@ -103,7 +103,7 @@ fn meet(
     }
 }
 
-/// Whether code is the source's.
+/// Whether code was kept from the source.
 fn is_kept(origin: &Origin) -> bool
     ensures { result ≡ is_kept origin.now }
 {

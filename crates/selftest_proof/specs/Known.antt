@@ -1,4 +1,4 @@
--- What location lists give is known to the source.
+-- The values in location lists are known to the source.
 use Rattle.std.specs.Prelude.{◌≡◌, ℕ, ◌≤◌, List, length, Option, Some, None, false, slice_get, All, Contains}
 use Rattle.std.specs.List.{AllPairs}
 use Rattle.rv64_instr.specs.declared.place.Place.{Place}
@@ -22,18 +22,19 @@ use Rattle.sim_machine.specs.Shown.{ShowsCode}
 use Rattle.selftest_count.specs.declared.counts.Counts.{Counts}
 use Rattle.selftest_count.specs.Runs.{AreCountsOf}
 
--- what a location of a variable tells at an address is given: each place for a part of the variable
+-- each place in a location of a variable is related to its part of the variable by `gives`
 abbrev pub IsGiven : (gives : VarId → (address : ℕ) → Place → Type 0) → VarId → (address : ℕ) → Location → Type 0
 IsGiven gives v a (Whole p) = gives (part_of v None) a p
 IsGiven gives v a (Parts pieces) = All (λ x. gives (part_of v (Some (bytes_of x))) a x.place) pieces
 
--- a mark is of one of these parts
+-- if the item is a debug value, its part of a variable is one of these
 abbrev pub MarksPartOf : List VarId → ItemKind → Type 0
 MarksPartOf parts (Mark v m) = Contains parts v
 MarksPartOf parts (Code i k) = Unit {0}
 MarksPartOf parts (Phi p k) = Unit {0}
 
--- there is a list for each variable, no two variables are the same, what the lists tell is given, and the source's marks are of the parts
+-- There is a list for each variable, no two variables are the same, each place in the lists is related by `gives`, and the source's debug values are
+-- for the given parts.
 pub record AreGiven (gives : VarId → (address : ℕ) → Place → Type 0) (source : Function) (variables parts : List VarId) (lists : List (List Range)) :
     Type 0 where
   pub for_all : length lists ≡ length variables
@@ -43,7 +44,7 @@ pub record AreGiven (gives : VarId → (address : ℕ) → Place → Type 0) (so
       location_in ranges a ≡ Some l → IsGiven gives v a l
   pub marked : AllItems (λ i. MarksPartOf parts i.kind) source.blocks
 
--- Where the headline holds of an image that shows the code, and these lists tell what its lists give, a run from the start reads no more
+-- If the headline holds of an image of the code, for a relation `gives` that covers all places of the lists, a run from the start reads no more
 -- values than are known.
 abbrev pub ReadsAreKnown : (gives : VarId → (address : ℕ) → Place → Type 0) → Type 0
 ReadsAreKnown gives = (source : Function) (resolve : OperandPair → Option OperandPair) (image : Image) (c : LaidCode) (lists : List (List Range))

@@ -1,4 +1,4 @@
--- A run of machine code and its source's go together.
+-- The runs of machine code and of its source stay in lockstep.
 use Rattle.std.specs.Prelude.{◌≡◌, ℕ, ◌≤◌, List, All, Option, false, true}
 use Rattle.rv64_instr.specs.declared.place.Place.{Place}
 use Rattle.mir_func.specs.declared.entry.OperandPair.{OperandPair}
@@ -20,23 +20,23 @@ use Rattle.selftest_count.specs.Runs.{BeginsSource, GoApart}
 abbrev pub HasNoFault : Function → (OperandPair → Option OperandPair) → Type 0
 HasNoFault source resolve = (s : State) → BeginsSource source s → (n : ℕ) → run (program_of true source.blocks resolve) n s ≡ Faulted → ⊥
 
--- the code calls nothing
+-- the code has no call sites
 abbrev pub HasNoCall : LaidCode → Type 0
 HasNoCall c = All (λ (e : Entry). e.call ≡ false) c.entries
 
--- the source's run from a state makes 2^64 - 1 steps at least
+-- the source's run from a state makes at least 2^64 - 1 steps
 pub record RunsLongFrom (source : Function) (resolve : OperandPair → Option OperandPair) (s : State) : Type 0 where
   pub steps : ℕ
   pub many : MAX_SOURCE_STEPS ≤ steps
   pub to : State
   pub goes : run (program_of true source.blocks resolve) steps s ≡ Went to
 
--- so does its run from the start without arguments
+-- the source's run from the start without arguments makes at least 2^64 - 1 steps
 abbrev pub RunsLong : Function → (OperandPair → Option OperandPair) → Type 0
 RunsLong source resolve = (s : State) → BeginsSource source s → RunsLongFrom source resolve s
 
--- Where the headline holds of an image that shows the code, the code calls nothing and the source has no fault, both go together, unless the source
--- makes 2^64 - 1 steps.
+-- If the headline holds of an image of the code, the code has no calls and the source no frame fault, then the runs diverge only if the source makes
+-- at least 2^64 - 1 steps.
 abbrev pub RunsGoTogether : (gives : VarId → (address : ℕ) → Place → Type 0) → Type 0
 RunsGoTogether gives = (source : Function) (resolve : OperandPair → Option OperandPair) (image : Image) (c : LaidCode) (lists : List (List Range))
     (parts : List VarId) (limit : ℕ) → Headline source resolve image gives → ShowsCode c image → HasNoFault source resolve → HasNoCall c →

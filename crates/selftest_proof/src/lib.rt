@@ -1,5 +1,5 @@
-//! What location lists give along a run is known to the source: so of a run of compiled code no more values are read
-//! than are known.
+//! Proves the inequality that self-tests print: all values in location lists during a run of compiled code are known to
+//! the source, so no more values are read than are known.
 #![tactic(auto)]
 
 pub mod laws;

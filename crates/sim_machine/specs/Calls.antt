@@ -1,4 +1,4 @@
--- Calls of the machine as they are answered.
+-- Calls of the machine and their answers.
 use Rattle.std.specs.Prelude.{ℕ, ◌+◌, ◌%◌, ◌^◌, List, ◌∷◌, map}
 use Rattle.rv64_instr.specs.Access.{caller_saved}
 use Rattle.rv64_instr.specs.declared.start.Answer.{Answer}
@@ -9,15 +9,15 @@ use Rattle.sem_machine.specs.MachineStep.{past}
 use Rattle.sem_interpreter.specs.Held.{some_writes}
 use Rattle.sim_machine.specs.Kept.{calls_in}
 
--- the call of a name with the contents of registers. Its number counts the calls of the run from 1, modulo 2^64
+-- The event of a call: the name, the contents of the argument registers, and the number of the call in the run, from 1, modulo 2^64.
 abbrev pub event_of : (name args : List ℕ) → Machine → CallEvent
 event_of name args s = record { name = name; args = map (register s) args; number = (calls_in s.events + 1) % 2 ^ 64 }
 
--- the answer as a script has it
+-- the answer as an element of a script
 abbrev pub reply_of : Answer → Reply
 reply_of a = record { regs = a.regs; writes = some_writes a.writes }
 
--- the machine behind a call with this answer, with these answers left
+-- the machine after a call with this answer, with the rest of the script
 abbrev pub after_call : (name args : List ℕ) → Reply → (rest : List Reply) → Machine → Machine
 after_call name args r rest s =
     let regs = set_all_in caller_saved r.regs s.regs in

@@ -1,4 +1,4 @@
--- What is kept of a running machine, and the states of the definition that it stands for.
+-- The simulator's state, and the machine states that it represents.
 use Rattle.std.specs.Prelude.{◌≡◌, ℕ, suc, ◌%◌, ◌^◌, ◌<◌, List, [], ◌∷◌, slice_index}
 use Rattle.sem_interpreter.specs.Held.{MemoryHolds}
 use Rattle.sem_mir.specs.State.{Event, Called, Wrote}
@@ -6,13 +6,14 @@ use Rattle.sem_machine.specs.Machine.{Machine, register}
 use Rattle.sem_machine.specs.MachineStep.{Stepped, Continues}
 use Rattle.sim_machine.specs.declared.hart.Hart.{Hart}
 
--- how many calls are among events
+-- the number of calls among events
 abbrev pub calls_in : List Event → ℕ
 calls_in [] = 0
 calls_in (Called name args ∷ events) = suc (calls_in events)
 calls_in (Wrote a bytes ∷ events) = calls_in events
 
--- what is kept stands for a state of the machine: all of it but the script and the events, of which the calls are counted, modulo 2^64
+-- A simulator state represents a machine state: all parts but the script and the events are equal. Of the events only the calls are counted, modulo
+-- 2^64.
 pub record StandsFor (h : Hart) (s : Machine) : Type 0 where
   pub entry : s.entry ≡ h.entry
   pub area : s.area ≡ h.area
@@ -21,12 +22,12 @@ pub record StandsFor (h : Hart) (s : Machine) : Type 0 where
   pub memory : MemoryHolds h.memory s.memory
   pub calls : calls_in s.events % 2 ^ 64 ≡ h.calls
 
--- a step goes on to a state that what is kept now stands for
+-- A step continues to a state that the simulator state represents.
 pub record Goes (step : Stepped) (now : Hart) : Type 0 where
   pub to : Machine
   pub goes : step ≡ Continues to
   pub stands : StandsFor now to
 
--- the stack pointer at entry and the bytes of stack objects are the same
+-- the stack pointer at entry and the size of the stack objects are the same
 abbrev pub IsSameFrame : (old new : Hart) → Type 0
 IsSameFrame old new = (new.entry ≡ old.entry) × (new.area ≡ old.area)

@@ -1,4 +1,4 @@
--- The image of machine code.
+-- Images of machine code.
 use Rattle.std.specs.Prelude.{◌≡◌, ℕ, List, [], ◌∷◌, ◌++◌, drop, Option, Some, None, cond, nat_eq}
 use Rattle.std.specs.List.{flat_map}
 use Rattle.std.specs.Int.{w32, to_le_bytes}
@@ -13,36 +13,36 @@ use Rattle.sem_machine.specs.MachineStep.{call_of}
 use Rattle.emit_code.specs.declared.code.Entry.{Entry}
 use Rattle.emit_code.specs.Laid.{LaidCode}
 
--- the call of an item
+-- the call of an item, if it is one
 abbrev pub kind_call : ItemKind → Option (List ℕ × List ℕ)
 kind_call (Code i k) = call_of (row_of i)
 kind_call (Mark v m) = None
 kind_call (Phi p k) = None
 
--- the call of the item at a point, and none where a block ends or nothing stands
+-- the call of the item at a point; none at the end of a block or outside
 abbrev pub fetch_call : Fetch → Option (List ℕ × List ℕ)
 fetch_call (Here i) = kind_call i.kind
 fetch_call (Silent k n) = None
 fetch_call Outside = None
 
--- the call of the item that an entry is of
+-- the call of an entry's item, if it is one
 abbrev pub entry_call : FramedFunction → Entry → Option (List ℕ × List ℕ)
 entry_call f e = fetch_call (fetch_in (drop e.point.block f.blocks) e.point.item)
 
--- the line of an entry: its address and origin, and a call exactly where the item is one
+-- A code line is that of an entry: the same address and origin, and the same call if the entry's item is one, or else none.
 pub record IsLineOf (f : FramedFunction) (e : Entry) (l : CodeLine) : Type 0 where
   pub address : l.address ≡ e.address
   pub origin : l.origin ≡ e.origin
   pub call : call_of (row_of l.instruction) ≡ entry_call f e
 
--- the lines are those of the entries, one for each
+-- the code lines are those of the entries, one for each
 abbrev pub AreLinesOf : FramedFunction → List Entry → List CodeLine → Type 0
 AreLinesOf f [] [] = Unit {0}
 AreLinesOf f [] (l ∷ ls) = ⊥
 AreLinesOf f (e ∷ es) [] = ⊥
 AreLinesOf f (e ∷ es) (l ∷ ls) = IsLineOf f e l × AreLinesOf f es ls
 
--- the image has the words of the code from its first address on, and the lines of its entries
+-- The image is one of the code: its text has the code's words from the code's first address on, and it has the code lines of the code's entries.
 pub record ShowsCode (c : LaidCode) (image : Image) : Type 0 where
   pub low : image.low ≡ c.base
   pub area : image.area ≡ area_of c.framed.objects
@@ -50,7 +50,7 @@ pub record ShowsCode (c : LaidCode) (image : Image) : Type 0 where
   pub text : drop c.base image.text ≡ flat_map (to_le_bytes w32) c.words ++ more
   pub lines : AreLinesOf c.framed c.entries image.lines
 
--- the entry that begins at an address
+-- the first entry that begins at an address
 abbrev pub entry_at : List Entry → (address : ℕ) → Option Entry
 entry_at [] a = None
 entry_at (e ∷ es) a = cond (nat_eq e.address a) (Some e) (entry_at es a)

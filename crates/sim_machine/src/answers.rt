@@ -1,4 +1,4 @@
-//! What answers calls.
+//! Answers to calls.
 
 ghost use Rattle.std.specs.Prelude.{◌≡◌, ℕ, false};
 ghost use Rattle.rv64_instr.specs.declared.start.CallEvent.{CallEvent};
@@ -7,13 +7,13 @@ ghost use Rattle.sim_machine.specs.Calls.{reply_of};
 
 use rv64_instr::start::{Answer, CallEvent};
 
-/// What answers the calls of a run. It answers every one.
+/// Determines the results and the memory writes of every call of a run.
 pub trait CallAnswers {
     /// The answers that it may give to a call.
     ghost gives: { Self → CallEvent → Reply → Type 0 };
 
-    /// Its answers write no byte of the frame, by the content of x2 at entry and the bytes right below it that stack
-    /// objects take.
+    /// Its answers write no byte of the frame, which is determined by the content of x2 at entry and the size in bytes
+    /// of the stack objects right below it.
     ghost spares: { Self → (entry area : ℕ) → Type 0 };
 
     /// The answer to a call.

@@ -1,4 +1,4 @@
-//! Calls: what they show, and what their answers do.
+//! Calls: their events, and the effects of their answers.
 
 ghost use Rattle.std.specs.Prelude.{◌≡◌, ◌<◌, ◌+◌, ◌%◌, ◌^◌, true, List, ℕ, ◌∷◌, All, Some, map, IfOk, OnOk, OnErr};
 ghost use Rattle.rv64_instr.specs.Access.{caller_saved};
@@ -18,11 +18,11 @@ use rv64_instr::parts::CALLER_SAVED;
 use rv64_instr::start::{Answer, CallEvent, Values};
 use std::alloc::{AllocError, Global};
 
-/// How many bytes a call site has.
+/// The number of bytes of a call site.
 const CALL_SITE: u64 = 8;
 
 impl Hart {
-    /// What a call shows: the name, and the contents of the registers that it uses implicitly.
+    /// The event of a call: the callee's name, and the contents of the registers that the call uses implicitly.
     pub fn event(&self, alloc: Global, i: &Instr) -> Result<CallEvent, AllocError>
         requires { is_call (row_of i.now) ≡ true }
         ensures { IfOk result (λ e. (s : Machine) (name args : List ℕ) → StandsFor self.now s
@@ -41,7 +41,7 @@ impl Hart {
         }
     }
 
-    /// The contents of the registers that operands use implicitly, x2 left out.
+    /// The contents of the registers that operands use implicitly, except x2.
     fn arguments(&self, alloc: Global, operands: &[Operand]) -> Result<Values, AllocError>
         requires { All (λ r. r < 32) (implicit_uses operands.now) }
         ensures { IfOk result (λ values. (s : Machine) → StandsFor self.now s
@@ -56,7 +56,8 @@ impl Hart {
         Ok(values)
     }
 
-    /// Does what an answer says, and goes past the call site. Want of memory changes nothing.
+    /// Applies the effects of an answer, and advances the program counter past the call site. If memory runs out
+    /// nothing changes.
     pub fn take(&mut self, answer: &Answer) -> Result<(), AllocError>
         requires { self.old.counter < 2 ^ 63 }
         ensures ok { OnOk result ((s : Machine) (name args : List ℕ) (rest : List Reply) → StandsFor self.old s
@@ -71,7 +72,7 @@ impl Hart {
         Ok(())
     }
 
-    /// Sets the registers that a call sets, in ascending order.
+    /// Sets the caller-saved registers, in ascending order.
     fn set_caller_saved(&mut self, values: &[u64; 16])
         ensures stands { (s : Machine) → StandsFor self.old s
             → StandsFor self.new (record s { regs = set_all_in caller_saved values.now s.regs }) }
@@ -84,7 +85,7 @@ impl Hart {
     }
 }
 
-/// The register that an operand uses implicitly, x2 left out.
+/// The register that an operand uses implicitly, except x2.
 fn argument(operand: &Operand) -> Option<u32>
     ensures { result ≡ argument_of operand.now }
 {

@@ -1,21 +1,21 @@
-//! How steps end.
+//! How steps of the simulator end.
 
 /// Why a run stops.
 #[derive(Clone, Copy, Debug, PartialEq, Eq)]
 pub enum Stop {
     /// It returns: the word at the counter is `JALR x0, 0(x1)` (RISC-V Unprivileged ISA, "Unconditional Jumps").
     Returned,
-    /// Nothing begins at the counter.
+    /// No entry begins at the program counter.
     Left,
-    /// The word at the counter is none of an operation.
+    /// The word at the program counter encodes no machine operation.
     BadWord(u32),
 }
 
 /// How a step ends.
 #[derive(Clone, Copy, Debug, PartialEq, Eq)]
 pub enum Stepped {
-    /// The run went on.
+    /// The run continues.
     Went,
-    /// The run stops, at this step and each later one.
+    /// The run stops at this step, and would at each later one.
     Stopped(Stop),
 }

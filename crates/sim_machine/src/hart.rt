@@ -1,4 +1,4 @@
-//! The state of the machine.
+//! The state of the simulator.
 
 ghost use Rattle.std.specs.Prelude.{◌≡◌, ◌<◌, ◌^◌};
 ghost use Rattle.sem_machine.specs.Machine.{Machine, register};
@@ -6,20 +6,20 @@ ghost use Rattle.sem_machine.specs.MachineStep.{past, at, set_register};
 
 use sem_interpreter::memory::Memory;
 
-/// The state of the machine: a hardware thread.
+/// The state of a hardware thread (hart).
 #[derive(Drop)]
 pub struct Hart {
-    /// The content of x2 at entry.
+    /// The content of x2 at function entry.
     pub entry: u64,
-    /// How many bytes right below it stack objects take.
+    /// The size of the stack objects in bytes, which are right below the address `entry`.
     pub area: u64,
-    /// The address of the next word.
+    /// The program counter.
     pub counter: u64,
-    /// The content of x0 to x31.
+    /// The contents of x0 to x31.
     pub regs: [u64; 32],
     /// The bytes that were written.
     pub memory: Memory,
-    /// How many calls were made, modulo 2^64.
+    /// The number of calls so far, modulo 2^64.
     pub calls: u64,
 }
 
@@ -34,7 +34,7 @@ impl Hart {
         self.regs[r as usize]
     }
 
-    /// Sets a register. x0 drops writes.
+    /// Sets a register. Writes to x0 are dropped.
     pub fn write(&mut self, r: u32, value: u64)
         requires { r < 32 }
         ensures stands { (s : Machine) → StandsFor self.old s → StandsFor self.new (set_register r value s) }
@@ -46,7 +46,7 @@ impl Hart {
         }
     }
 
-    /// Goes past a word.
+    /// Advances the program counter by a word.
     pub fn pass(&mut self)
         requires { self.old.counter < 2 ^ 63 }
         ensures stands { (s : Machine) → StandsFor self.old s → StandsFor self.new (past 4 s) }
@@ -55,7 +55,7 @@ impl Hart {
         self.counter += 4;
     }
 
-    /// Goes to an address.
+    /// Sets the program counter.
     pub fn jump(&mut self, target: u64)
         ensures stands { (s : Machine) → StandsFor self.old s → StandsFor self.new (at target s) }
         ensures same { IsSameFrame self.old self.new }
@@ -63,7 +63,7 @@ impl Hart {
         self.counter = target;
     }
 
-    /// Sets a register and goes past a word.
+    /// Sets a register and advances the program counter by a word.
     pub fn set(&mut self, rd: u32, value: u64)
         requires rd { rd < 32 }
         requires low { self.old.counter < 2 ^ 63 }

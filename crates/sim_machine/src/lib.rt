@@ -1,8 +1,9 @@
-//! The run of machine code, a word at a time. The machine here stands for the machine of the definitions, which runs
-//! the image of the code, and a step here for its step: so a program that runs compiled code by this machine sees what
-//! the theorems speak of. At a call site it asks what answers calls, which is kept beside the fact that no answer
-//! writes a byte of the frame. Memory is a map of what was written, and what stands at an address is found without a
-//! search. Location lists are read at the present address, and what they give is looked up in the present state.
+//! A simulator of the machine semantics (`sem_machine`), one word at a time. A simulator state represents states of the
+//! semantics, and a step of the simulator is a step of the semantics on the image of the code, so theorems on the
+//! semantics hold of a program that runs compiled code by this simulator. At a call site a `CallAnswers` determines the
+//! call's results and memory writes; it never writes a byte of the frame. Memory is a map of the bytes that were
+//! written. The entry at an address is found by its index, without a search. Location lists are read at the program
+//! counter, and the places in them are read in the current state.
 #![tactic(auto)]
 
 pub mod answers;

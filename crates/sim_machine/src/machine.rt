@@ -1,4 +1,4 @@
-//! A machine that runs code.
+//! The simulator of machine code.
 
 ghost use Rattle.std.specs.Prelude.{◌≡◌, ◌<◌, ◌+◌, ◌*◌, ◌^◌, ℕ, List, Some, None, true, false, IfSome, IfOk, OnErr};
 ghost use Rattle.std.specs.Prelude.{length, slice_index};
@@ -21,13 +21,13 @@ use sem_interpreter::memory::Memory;
 use std::alloc::{AllocError, Global};
 use std::marker::Model;
 
-/// A machine that runs code, with what answers its calls.
+/// A simulator that runs code, with the answers to its calls.
 #[derive(Drop)]
 pub struct Machine<'a, A: CallAnswers> {
     code: &'a Code,
     answers: A,
     hart: Hart,
-    /// Where entries probably stand.
+    /// The probable index of each word's entry.
     probable: Places,
 }
 
@@ -44,8 +44,8 @@ impl<'a, A: CallAnswers> Model for Machine<'a, A> {
 impl<'a, A: CallAnswers + Drop> Machine<'a, A> {
     ghost use Rattle.sim_machine.specs.Running.{StepsOn, CallsOn, StaysIf};
 
-    /// The machine at the start of the code. x0 reads 0, whatever it starts with. What answers calls writes no byte of
-    /// the frame.
+    /// The simulator at the start of the code. x0 reads 0, whatever its initial content. The answers to calls write no
+    /// byte of the frame.
     pub fn new(
         alloc: Global,
         code: &'a Code,
@@ -66,21 +66,21 @@ impl<'a, A: CallAnswers + Drop> Machine<'a, A> {
         })
     }
 
-    /// The state that is kept.
+    /// The current state.
     pub fn hart(&self) -> &Hart
         ensures { result.now ≡ self.now.hart }
     {
         &self.hart
     }
 
-    /// The address of the next word.
+    /// The program counter.
     pub fn counter(&self) -> u64
         ensures { result ≡ self.now.hart.counter }
     {
         self.hart.counter
     }
 
-    /// The entry that begins at the counter: `None` where none does.
+    /// The entry that begins at the program counter, or `None`.
     pub fn entry(&self) -> Option<Entry>
         ensures found { result ≡ entry_at self.now.code.entries self.now.hart.counter }
         ensures begins { IfSome result (λ e. e.address ≡ self.now.hart.counter) }
@@ -98,8 +98,8 @@ impl<'a, A: CallAnswers + Drop> Machine<'a, A> {
         self.hart.read(r.number())
     }
 
-    /// Makes one step: does the word at the counter, or makes the call of a call site, which is answered. What doesn't
-    /// go on changes nothing.
+    /// Makes one step: executes the word at the program counter, or makes and answers the call of a call site. A step
+    /// that stops changes nothing.
     pub fn step(&mut self) -> Result<Stepped, AllocError>
         ensures code { self.new.code ≡ self.old.code }
         ensures answers { self.new.answers ≡ self.old.answers }
@@ -121,7 +121,7 @@ impl<'a, A: CallAnswers + Drop> Machine<'a, A> {
         }
     }
 
-    /// Makes the call of the call site at the counter.
+    /// Makes the call of the call site at the program counter.
     fn call(&mut self, entry: &Entry) -> Result<Stepped, AllocError>
         requires stands { entry_at self.old.code.entries self.old.hart.counter ≡ Some entry.now }
         requires at { entry.now.address ≡ self.old.hart.counter }
@@ -142,7 +142,7 @@ impl<'a, A: CallAnswers + Drop> Machine<'a, A> {
     }
 }
 
-/// The state at the start of the code.
+/// The initial state for the code.
 fn starting_hart(alloc: Global, code: &Code, start: &Start) -> Result<Hart, AllocError>
     ensures stands { IfOk result (λ h. (s : State) → StartsCode code.now start.now s → StandsFor h s) }
     ensures entry { IfOk result (λ h. h.entry ≡ slice_index start.now.regs 2) }

@@ -1,4 +1,4 @@
-//! What words do.
+//! Execution of machine operations.
 
 ghost use Rattle.std.specs.Prelude.{◌≡◌, ◌<◌, ◌≤◌, ◌+◌, ◌%◌, ◌^◌, ◌/◌, ◌*◌, IsTrue, OnOk, OnErr, pos, ◌*ℤ◌, ◌≤ℤ◌};
 ghost use Rattle.rv64_instr.specs.Arithmetic.{word, extend32};
@@ -20,7 +20,7 @@ use rv64_word::word_op::WordOp;
 use std::alloc::AllocError;
 
 impl Hart {
-    /// Does the word of an operation, which stands at the counter. Want of memory changes nothing.
+    /// Executes the operation of the word at the program counter. If memory runs out nothing changes.
     pub fn operate(&mut self, m: &MachineOp) -> Result<(), AllocError>
         requires encodable { IsTrue (is_encodable m.now) }
         requires low { self.old.counter < 2 ^ 63 }
@@ -80,7 +80,7 @@ impl Hart {
         self.set(rd, extend32((imm * 4096).cast_unsigned()));
     }
 
-    /// Goes to an offset from the counter if the branch is taken.
+    /// Jumps to an offset from the program counter if the branch is taken.
     fn branch(&mut self, op: BranchOp, a: u32, b: u32, offset: u64)
         requires a { a < 32 }
         requires b { b < 32 }
@@ -125,7 +125,7 @@ impl Hart {
         Ok(())
     }
 
-    /// Sets a register to the address of the next word, and goes to an offset from the counter.
+    /// Sets a register to the address of the next word, and jumps to an offset from the program counter.
     fn link(&mut self, rd: u32, offset: u64)
         requires rd { rd < 32 }
         requires low { self.old.counter < 2 ^ 63 }
@@ -138,7 +138,8 @@ impl Hart {
         self.jump(target);
     }
 
-    /// Sets a register to the address of the next word, and goes to an offset from a base, with bit 0 cleared.
+    /// Sets a register to the address of the next word, and jumps to an offset from a base register, with bit 0
+    /// cleared.
     fn link_to(&mut self, rd: u32, base: u32, offset: u64)
         requires rd { rd < 32 }
         requires base { base < 32 }
@@ -152,7 +153,7 @@ impl Hart {
     }
 }
 
-/// The operation on registers that gives the same.
+/// The register-register operation with the same result.
 fn on_registers(op: ImmediateOp) -> RegisterOp
     ensures { result ≡ on_registers op }
 {

@@ -1,4 +1,4 @@
-//! What stands at an address.
+//! Entries and instructions by address.
 
 ghost use Rattle.std.specs.Prelude.{◌≡◌, ◌<◌, ◌+◌, ◌*◌, ◌^◌, List, ℕ, Some, None, Option, true, false, IfSome};
 ghost use Rattle.std.specs.Prelude.{MatchOption, length, slice_index};
@@ -16,13 +16,13 @@ use mir_func::position::Point;
 use rv64_instr::instr::Instr;
 use std::alloc::{AllocError, Global};
 
-/// Where entries probably stand, by how many words their addresses are behind the first one.
+/// For each word from the first address on, the probable index of its entry.
 pub type Places = Vec<usize>;
 
-/// How many bytes a word has.
+/// The number of bytes of a word.
 const WORD: u64 = 4;
 
-/// Where the entries stand: each in one place, and a call, which has two words, in two.
+/// The index of the entry of each word. A call has two words.
 pub fn places(alloc: Global, code: &Code) -> Result<Places, AllocError> {
     let mut places = Vec::new(alloc);
     for (i, entry) in code.entries.as_slice().iter().enumerate() {
@@ -34,7 +34,7 @@ pub fn places(alloc: Global, code: &Code) -> Result<Places, AllocError> {
     Ok(places)
 }
 
-/// The entry that begins at an address. It is looked for only where it isn't at its probable place.
+/// The entry that begins at an address. It is searched for only if it isn't at its probable index.
 pub fn find(probable: &Places, code: &Code, address: u64) -> Option<Entry>
     ensures found { result ≡ entry_at code.now.entries address }
     ensures begins { IfSome result (λ e. e.address ≡ address) }
@@ -48,7 +48,7 @@ pub fn find(probable: &Places, code: &Code, address: u64) -> Option<Entry>
     }
 }
 
-/// The entry at its probable place, where it begins at the address.
+/// The entry at the probable index, if it begins at the address.
 fn probable_entry(probable: &Places, code: &Code, address: u64) -> Option<Entry>
     ensures found { IfSome result (λ e. entry_at code.now.entries address ≡ Some e) }
     ensures begins { IfSome result (λ e. e.address ≡ address) }
@@ -114,7 +114,7 @@ pub fn call_at<'a>(code: &'a Code, entry: &Entry) -> &'a Instr
     }
 }
 
-/// The word of an entry that is no call.
+/// The word of an entry that isn't a call.
 pub fn word_of(code: &Code, entry: &Entry) -> u32
     requires { entry_at code.now.entries entry.now.address ≡ Some entry.now }
     ensures word { (image : Image) → ShowsCode code.now image → word_at image.text entry.now.address ≡ Some result }

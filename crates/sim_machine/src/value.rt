@@ -1,4 +1,4 @@
-//! What location lists give at the present address, in the present state.
+//! Values of variables from their location lists, at the program counter and in the current state.
 
 ghost use Rattle.std.specs.Prelude.{◌≡◌, ◌<◌, ◌^◌, ◌*◌, ◌%◌, ◌≤◌, ℕ, List, IfOk, IfErr, length};
 ghost use Rattle.rv64_instr.specs.declared.place.Place.{Place};
@@ -20,17 +20,17 @@ use rv64_instr::place::Place;
 /// The value of some bytes of a variable.
 #[derive(Clone, Copy, Debug, PartialEq, Eq)]
 pub struct PartValue {
-    /// The first byte of the variable that is meant.
+    /// The offset of its first byte in the variable.
     pub offset: u32,
-    /// How many bytes: 1 to 8.
+    /// The number of bytes: 1 to 8.
     pub length: u32,
-    /// Their value, below 2^(8 * length), the first byte lowest.
+    /// The value of the bytes, below 2^(8 * length), in little-endian order.
     pub value: u64,
 }
 
 impl<'a, A: CallAnswers + Drop> Machine<'a, A> {
-    /// The value that list k, from 0, of a section `.debug_loclists` gives for the whole variable at the counter:
-    /// `None` where it gives no place. It takes no memory.
+    /// The value of the whole variable by list k, from 0, of the section `.debug_loclists` at the program counter:
+    /// `None` if the list has no simple location there. It takes no memory.
     pub fn read_variable(&self, lists: &[u8], k: u32) -> Result<Option<u64>, ListFault>
         requires { (all : List (List Range)) → IsSection lists.now all → k < length all }
         ensures ok { IfOk result (λ v. (s : State) → StandsFor self.now.hart s → VariableIs lists.now k s v) }
@@ -39,8 +39,8 @@ impl<'a, A: CallAnswers + Drop> Machine<'a, A> {
         self.hart().variable(lists, k)
     }
 
-    /// The value of the n-th piece, from 0, that list k gives for a variable at the counter; gaps aren't counted.
-    /// `None` where it gives fewer. It takes no memory.
+    /// The value of the n-th piece, from 0, of a variable by list k at the program counter. Gaps aren't counted. It is
+    /// `None` if the list has fewer pieces there. It takes no memory.
     pub fn read_part(&self, lists: &[u8], k: u32, n: u32) -> Result<Option<PartValue>, ListFault>
         requires { (all : List (List Range)) → IsSection lists.now all → k < length all }
         ensures ok { IfOk result (λ v. (s : State) → StandsFor self.now.hart s → PartIs lists.now k n s v) }
@@ -77,7 +77,7 @@ impl Hart {
         }
     }
 
-    /// What a place holds.
+    /// The content of a place.
     pub fn content(&self, place: Place) -> u64
         requires { IsListed place }
         ensures { (s : State) → StandsFor self.now s → result ≡ place_content place s }

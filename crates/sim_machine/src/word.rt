@@ -1,4 +1,4 @@
-//! Steps elsewhere than at call sites.
+//! Steps that aren't calls.
 
 ghost use Rattle.std.specs.Prelude.{◌≡◌, ◌<◌, ◌^◌, Some, None, false, IfOk, OnErr};
 ghost use Rattle.emit_code.specs.Laid.{LaidCode};
@@ -13,10 +13,10 @@ use emit_code::code::{Code, Entry};
 use rv64_word::machine_op::decode;
 use std::alloc::AllocError;
 
-/// The word that returns: `JALR x0, 0(x1)`.
+/// The word of a return: `JALR x0, 0(x1)`.
 const RETURN: u32 = 0x0000_8067;
 
-/// Does the word of the entry at the counter.
+/// Executes the word of the entry at the program counter.
 pub fn run_word(hart: &mut Hart, code: &Code, entry: &Entry) -> Result<Stepped, AllocError>
     requires stands { entry_at code.now.entries hart.old.counter ≡ Some entry.now }
     requires at { entry.now.address ≡ hart.old.counter }

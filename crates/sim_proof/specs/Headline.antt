@@ -1,4 +1,4 @@
--- What the headline says of a run of the simulator.
+-- The headline for a run of the simulator.
 use Rattle.std.specs.Prelude.{◌≡◌, ◌⊎◌, ℕ, List, Option, Some, true}
 use Rattle.rv64_instr.specs.declared.place.Place.{Place}
 use Rattle.rv64_instr.specs.declared.start.CallEvent.{CallEvent}
@@ -18,18 +18,18 @@ use Rattle.sim_machine.specs.Kept.{StandsFor}
 use Rattle.sim_machine.specs.Shown.{ShowsCode}
 use Rattle.sim_proof.specs.Runs.{Runs}
 
--- a start with these answers as its script
+-- the start with these answers as its script
 abbrev pub with_script : List Reply → State → State
 with_script answers s = record s { core = record s.core { script = answers } }
 
--- the source has come along, and at the line where the machine stands both agree, or it stops on a frame fault before
+-- The source has come along with the machine. At the code line at the program counter both agree, or the source stops on a frame fault before it.
 pub record ComesAlong (src : Program) (image : Image) (lists : VarId → (address : ℕ) → Place → Type 0) (m0 : Machine) (s0 : State) (m : Machine) : Type 0 where
   pub come : HasCome src image m0 s0 m
   pub agrees : (l : CodeLine) → line_at image.lines m.counter ≡ Some l →
       ((s : State) × AlignsWith src l come.since come.aligned s × MachineAgrees src image lists m0 m s) ⊎ FailsBeforeLine src l come.since come.aligned
 
--- what is kept stands for a state to which the machine comes beside the source, or the source has stopped on a frame fault; and the
--- machine's next step goes on, returns, or waits for an answer
+-- The simulator state represents a state that the machine comes to. The source has come along with the machine or has stopped on a frame fault, and
+-- the next machine step continues, returns, or waits for an answer.
 pub record IsBeside (src : Program) (image : Image) (lists : VarId → (address : ℕ) → Place → Type 0) (s0 : State) (now : Hart) : Type 0 where
   pub machine : Machine
   pub stands : StandsFor now machine
@@ -37,8 +37,8 @@ pub record IsBeside (src : Program) (image : Image) (lists : VarId → (address 
   pub well : IsWell (machine_step image machine)
   pub meets : ComesAlong src image lists (machine_start image s0) s0 machine ⊎ HasFailed src image (machine_start image s0) s0
 
--- Where the headline holds of an image that shows the code, and what answers calls gives sound answers, a run of the simulator from a
--- start comes to a state beside the source, which takes the same answers.
+-- If the headline holds of an image of the code, and all answers to calls are sound, then a run of the simulator from a start comes to a state at
+-- which the source has come along (see `IsBeside`), with the same answers.
 abbrev pub RunsMeetTheHeadline : (gives : CallEvent → Reply → Type 0) → (lists : VarId → (address : ℕ) → Place → Type 0) → Type 0
 RunsMeetTheHeadline gives lists = (source : Function) (resolve : OperandPair → Option OperandPair) (image : Image) (c : LaidCode) (from now : Hart)
     (s0 : State) →

@@ -1,4 +1,4 @@
--- The image of a layout, and the machine code that the simulator runs.
+-- Images of a layout are images of the machine code that the simulator runs.
 use Rattle.std.specs.Prelude.{ℕ}
 use Rattle.mir_func.specs.Function.{FramedFunction}
 use Rattle.sem_machine.specs.Image.{Image}
@@ -6,7 +6,7 @@ use Rattle.emit_code.specs.Laid.{LaidCode, IsCodeOf}
 use Rattle.machine_steps_proof.specs.Images.{IsImageOf}
 use Rattle.sim_machine.specs.Shown.{ShowsCode}
 
--- The image of a layout shows the machine code of the function that is laid out: the words from its first address on, and a line for each
--- entry, with its address, its origin, and a call exactly where the entry is one.
+-- An image of a layout is an image of the layout's machine code: its text has the words from the code's first address on, and it has a code line for
+-- each entry, with the entry's address and origin, which is a call exactly if the entry is one.
 abbrev pub ImagesShowCode : Type 0
 ImagesShowCode = (f : FramedFunction) (base : ℕ) (c : LaidCode) (is : IsCodeOf f base c) (image : Image) → IsImageOf is.layout image → ShowsCode c image

@@ -1,8 +1,8 @@
-//! The law of images and the simulator's code: the contract of a function that does nothing.
+//! Theorem on images and the simulator's code: the contract of an empty function.
 
 ghost use Rattle.sim_proof.specs.Shows.{ImagesShowCode};
 
-/// The image of a layout shows the machine code that is made by the layout's rule.
+/// An image of a layout is an image of the layout's machine code.
 pub fn images_show_code()
     ensures { ImagesShowCode }
 {}

@@ -1,4 +1,4 @@
-//! Answers to calls.
+//! Answers to calls by given values.
 
 ghost use Rattle.std.specs.Prelude.{◌≡◌, map};
 ghost use Rattle.rv64_instr.specs.Access.{caller_saved};
@@ -7,8 +7,8 @@ ghost use Rattle.sim_start.specs.Asked.{call_value, call_register, reply_to};
 use rv64_instr::start::{Answer, CallEvent, Values};
 use sim_machine::answers::CallAnswers;
 
-/// Answers by values: the n-th call, from 1, sets x10 to the n-th of them, or to n where there is none, and each other
-/// caller-saved register to 2000 and its number. It writes nothing.
+/// The answer to the n-th call, from 1, sets x10 to the n-th value, or to n if there is none, and each other
+/// caller-saved register to 2000 plus its number. It writes no memory.
 #[derive(Drop)]
 pub struct ValueAnswers {
     /// The values.
@@ -28,7 +28,7 @@ impl CallAnswers for ValueAnswers {
     }
 }
 
-/// What a call of a number sets x10 to.
+/// The value to which the call with this number sets x10.
 fn value(values: &[u64], number: u64) -> u64
     ensures { result ≡ call_value values.now number }
 {

@@ -1,5 +1,5 @@
-//! What the command `run` writes of machine code: its run from a start that the arguments determine, with calls that
-//! are answered by values, line by line.
+//! Makes the text that the command `run` writes: a run of machine code from a start with given arguments, with given
+//! values as the results of its calls, one line for each step.
 #![tactic(auto)]
 
 pub mod answers;

@@ -6,13 +6,13 @@ ghost use Rattle.sim_start.specs.Asked.{start_register, other_register};
 use rv64_instr::start::{Cells, Start};
 use std::alloc::Global;
 
-/// The content of x1 at the start: where the function returns to.
+/// The content of x1 at the start: the return address.
 const RETURN_ADDRESS: u64 = 4_294_967_296;
 
 /// The content of x2 at the start: the stack pointer.
 const STACK_POINTER: u64 = 1_048_576;
 
-/// The start of a run with arguments: they stand in x10 on. Memory is 0. It takes no memory.
+/// The start of a run with arguments, which are in x10 and the registers after it. Memory is 0. It takes no memory.
 pub fn start_with(alloc: Global, arguments: &[u64]) -> Start
     ensures regs { (r : ℕ) → r < 32 → slice_index result.regs r ≡ start_register arguments.now r }
     ensures memory { result.memory ≡ [] }
@@ -46,7 +46,7 @@ fn register(arguments: &[u64], r: usize) -> u64
     }
 }
 
-/// The content of a register from x3 on: an argument, or 1000 and the register's number.
+/// The content of a register from x3 on: an argument, or 1000 plus the register's number.
 fn other_register(arguments: &[u64], r: usize) -> u64
     requires { r < 32 }
     ensures { result ≡ other_register arguments.now r }

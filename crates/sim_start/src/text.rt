@@ -13,8 +13,8 @@ use sim_trace::run::print_run;
 use sim_trace::variable::Variables;
 use std::alloc::{AllocError, Global};
 
-/// The text of a run of machine code with arguments and values for calls, of so many steps at most. Each variable is
-/// told by its location list.
+/// The text of a run of machine code with arguments and results of calls, for at most `limit` steps. The value of each
+/// variable is found by its location list.
 pub fn run_text(
     alloc: Global,
     code: &Code,

@@ -1,4 +1,4 @@
--- The lines of a run.
+-- The lines of the text of a run.
 use Rattle.std.specs.Prelude.{ℕ, ◌*◌, ◌%◌, ◌^◌, List, [], ◌∷◌, ◌++◌, codes, Option, Some, None}
 use Rattle.std.specs.List.{flat_map}
 use Rattle.std.specs.Fmt.{decimal}
@@ -14,36 +14,36 @@ use Rattle.sim_machine.specs.declared.ending.Stop.{Stop}
 use Rattle.sim_machine.specs.declared.ending.Stop.TheVariants.{Returned, Left, BadWord}
 use Rattle.sim_trace.specs.declared.variable.Variable.{Variable}
 
--- ---- what a variable holds. Names are spelled as in a listing
+-- ---- values of variables, with names spelled as in a listing
 
--- it is nowhere: ` NAME=-`
+-- a variable without a location: ` NAME=-`
 abbrev pub nowhere_text : (name : List ℕ) → List ℕ
 nowhere_text name = codes " " ++ name_text name ++ codes "=-"
 
--- its value as a whole: ` NAME=VALUE`
+-- the value of a whole variable: ` NAME=VALUE`
 abbrev pub whole_text : (name : List ℕ) → (value : ℕ) → List ℕ
 whole_text name value = codes " " ++ name_text name ++ codes "=" ++ decimal value
 
--- the value of a piece of it: ` NAME[OFFSET+LENGTH]=VALUE`
+-- the value of a piece of a variable: ` NAME[OFFSET+LENGTH]=VALUE`
 abbrev pub piece_value_text : (name : List ℕ) → (offset length value : ℕ) → List ℕ
 piece_value_text name offset length value =
     codes " " ++ name_text name ++ (codes "[" ++ decimal offset) ++ (codes "+" ++ decimal length) ++ codes "]=" ++ decimal value
 
--- a piece: its first byte, its length, and its value, which is in the low bytes of its place
+-- a piece: its offset, its length, and its value, which is the low bytes of its place
 abbrev pub piece_text : (name : List ℕ) → Machine → Part → List ℕ
 piece_text name s p = piece_value_text name p.offset p.length (place_content p.place s % 2 ^ (8 * p.length))
 
--- the value of the whole variable, or of each of its pieces
+-- the value of a whole variable, or of each of its pieces
 abbrev pub located_text : (name : List ℕ) → Machine → Location → List ℕ
 located_text name s (Whole p) = whole_text name (place_content p s)
 located_text name s (Parts parts) = flat_map (piece_text name s) parts
 
--- what it holds at its location, if it has one
+-- the value of a variable by its location, if it has one
 abbrev pub value_text : (name : List ℕ) → Machine → Option Location → List ℕ
 value_text name s None = nowhere_text name
 value_text name s (Some l) = located_text name s l
 
--- a variable by what its list gives at the counter
+-- the value of a variable by its location list at the program counter
 abbrev pub variable_text : Machine → Variable → List ℕ
 variable_text s v = value_text v.name s (location_in v.ranges s.counter)
 
@@ -53,11 +53,11 @@ variables_text variables s = flat_map (variable_text s) variables
 
 -- ---- a line
 
--- a step's number, the address where the machine stands, and where what stands there comes from
+-- a step's number, the address, and the origin of the code there
 abbrev pub head_text : (number address : ℕ) → Origin → List ℕ
 head_text n a o = decimal n ++ codes " " ++ address_text a ++ origin_text o
 
--- the line before a step, with the variables
+-- the line of a step, with the variables
 abbrev pub step_line : (number : ℕ) → Origin → List Variable → Machine → List ℕ
 step_line n o variables s = head_text n s.counter o ++ variables_text variables s ++ 10 ∷ []
 
@@ -65,7 +65,7 @@ step_line n o variables s = head_text n s.counter o ++ variables_text variables 
 abbrev pub return_line : (value : ℕ) → List ℕ
 return_line v = codes "stop returned " ++ decimal v ++ 10 ∷ []
 
--- how a run stops: where it returns, with the content of x10
+-- how a run stops: if it returns, with the content of x10
 abbrev pub stop_line : Stop → Machine → List ℕ
 stop_line Returned s = return_line (register s 10)
 stop_line Left s = codes "stop left\n"

@@ -1,4 +1,4 @@
--- The text of a run: the machine of the definitions runs on an image, and its lines are those of the steps that it makes.
+-- The text of a run of the machine semantics on an image: a line for each step that it makes, and how it stops.
 use Rattle.std.specs.Prelude.{◌≡◌, ℕ, suc, ◌<◌, ◌≤◌, List, [], ◌++◌, length, codes, Option, Some, None}
 use Rattle.rv64_instr.specs.declared.start.CallEvent.{CallEvent}
 use Rattle.rv64_instr.specs.declared.start.Start.{Start}
@@ -15,37 +15,36 @@ use Rattle.sim_proof.specs.Runs.{WereGiven}
 use Rattle.sim_trace.specs.declared.variable.Variable.{Variable}
 use Rattle.sim_trace.specs.Lines.{step_line, stop_line}
 
--- the line before a step at a line of code, and none where no code is at the counter
+-- the line of a step at a code line; none if no code is at the program counter
 abbrev pub line_at_code : (number : ℕ) → Option CodeLine → List Variable → Machine → List ℕ
 line_at_code n None variables s = []
 line_at_code n (Some l) variables s = step_line n l.origin variables s
 
--- the line before a step from a state
+-- the line of the next step from a state
 abbrev pub line_before : Image → (number : ℕ) → List Variable → Machine → List ℕ
 line_before image n variables s = line_at_code n (line_at image.lines s.counter) variables s
 
--- the machine makes so many steps from one state to another, and this is the text of the lines before them
+-- The machine makes this number of steps from one state to another, and the text is their lines.
 pub data Prints (image : Image) (variables : List Variable) (from : Machine) : (steps : ℕ) → Machine → (text : List ℕ) → Type 0 where
   begins : Prints image variables from 0 from []
   goes_on : {n : ℕ} {s t : Machine} {text more : List ℕ} → Prints image variables from n s text → machine_step image s ≡ Continues t →
       more ≡ text ++ line_before image n variables s → Prints image variables from (suc n) t more
 
--- the text of a run of so many steps at most: all of them are made, or one of them stops
+-- The text is that of a run of at most `limit` steps: all of them are made, or one of them stops.
 pub data IsRunText (image : Image) (variables : List Variable) (limit : ℕ) (from : Machine) (text : List ℕ) : Type 0 where
   makes_steps : {s : Machine} {lines : List ℕ} → Prints image variables from limit s lines → text ≡ lines ++ codes "stop steps\n" →
       IsRunText image variables limit from text
   stops : {n : ℕ} {s : Machine} {lines : List ℕ} (stop : Stop) → n < limit → Prints image variables from n s lines → StopsSo stop image s →
       text ≡ lines ++ line_before image n variables s ++ stop_line stop s → IsRunText image variables limit from text
 
--- a run with these answers, which were given to its calls in their order, at most one at a step, has the text
+-- The text is that of a run with these answers, which were given to its calls in order. There are at most `limit` answers.
 pub record HasText (gives : CallEvent → Reply → Type 0) (image : Image) (variables : List Variable) (limit : ℕ) (answers : List Reply) (from : Machine)
     (text : List ℕ) : Type 0 where
   pub given : WereGiven gives 1 answers
   pub few : length answers ≤ limit
   pub is : IsRunText image variables limit from text
 
--- the text of the machine's run of some code from its start: on each image that shows the code, with the answers to its calls first in its
--- script
+-- The text is that of the machine's run of the code from its start: on each image of the code, with the answers to its calls first in the script.
 pub record IsTextOfRun (gives : CallEvent → Reply → Type 0) (c : LaidCode) (start : Start) (variables : List Variable) (limit : ℕ)
     (text : List ℕ) : Type 0 where
   pub answers : List Reply

@@ -1,8 +1,8 @@
-//! The lines of a run of machine code: before each step its number, where the machine stands and what each variable
-//! holds there, and last how it stops.
+//! Prints a run of machine code: before each step a line with the step's number, the address, the origin and the value
+//! of each variable, and at the end how the run stops.
 //!
-//! A variable is looked for in its own list, whose ranges ascend, by halves. So a line takes a search for each
-//! variable, and never reads a section.
+//! The range of a variable is found by binary search in its own list, whose ranges ascend, so a line takes one search
+//! for each variable and never reads a section.
 #![tactic(auto)]
 
 mod line;

@@ -1,4 +1,4 @@
-//! The line before a step.
+//! The line of a step.
 
 ghost use Rattle.std.specs.Prelude.{◌≡◌, ◌<◌, ◌^◌, ◌++◌, All, OnOk};
 ghost use Rattle.sem_machine.specs.Machine.{Machine as State};
@@ -16,7 +16,7 @@ use mir_printer::text::{Text, push_decimal, push_str};
 use sim_machine::hart::Hart;
 use std::alloc::AllocError;
 
-/// Appends the line before a step at an entry.
+/// Appends the line of a step that executes an entry.
 pub fn push_line(
     text: &mut Text,
     number: u32,

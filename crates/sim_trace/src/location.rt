@@ -5,7 +5,7 @@ ghost use Rattle.dwarf_loclists.specs.Ranges.{Ascend, location_in};
 
 use dwarf_loclists::range::{Location, Range};
 
-/// The location that ranges give at an address, by halves: `None` where none has it.
+/// The location at an address in a location list, by binary search: `None` if no range contains the address.
 pub fn location_at<'a>(ranges: &'a [Range], address: u64) -> Option<&'a Location>
     requires { Ascend ranges.now }
     ensures { MatchOption result (location_in ranges.now address ≡ None)

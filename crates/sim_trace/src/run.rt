@@ -1,4 +1,4 @@
-//! The lines of a whole run.
+//! The text of a whole run.
 
 ghost use Rattle.std.specs.Prelude.{◌≡◌, ◌+◌, ◌*◌, ◌≤◌, ◌^◌, ◌++◌, [], All, IfOk, OnOk, length, slice_index};
 ghost use Rattle.mir_func.specs.Objects.{area_of};
@@ -20,9 +20,9 @@ use sim_machine::hart::Hart;
 use sim_machine::machine::Machine;
 use std::alloc::{AllocError, Global};
 
-/// The text of a run of code from a start, of so many steps at most: before each step a line with its number, the
-/// address in eight hexadecimal digits, where what stands there comes from, and what each variable holds; and last how
-/// the run stops. What answers calls writes no byte of the frame.
+/// The text of a run of code from a start, for at most `limit` steps: before each step a line with its number, the
+/// address in eight hexadecimal digits, the origin of the code there, and the value of each variable; at the end how
+/// the run stops. The answers to calls write no byte of the frame.
 pub fn print_run<A: CallAnswers + Drop>(
     alloc: Global,
     code: &Code,
@@ -43,7 +43,7 @@ pub fn print_run<A: CallAnswers + Drop>(
     Ok(text)
 }
 
-/// Appends the lines of so many steps at most.
+/// Appends the lines of at most `limit` steps.
 fn print_steps<A: CallAnswers + Drop>(
     text: &mut Text,
     machine: &mut Machine<A>,
@@ -65,7 +65,7 @@ fn print_steps<A: CallAnswers + Drop>(
     push_str(text, "stop steps\n")
 }
 
-/// Makes a step, with its line before it.
+/// Prints a line and makes the step.
 fn print_step<A: CallAnswers + Drop>(
     text: &mut Text,
     machine: &mut Machine<A>,
@@ -83,7 +83,7 @@ fn print_step<A: CallAnswers + Drop>(
     machine.step()
 }
 
-/// Appends the line before the next step, unless nothing begins at the counter.
+/// Appends the line of the next step, unless no entry begins at the program counter.
 fn push_line_before<A: CallAnswers + Drop>(
     text: &mut Text,
     machine: &Machine<A>,

@@ -1,4 +1,4 @@
-//! What variables hold, as text.
+//! The text of variables' values.
 
 ghost use Rattle.std.specs.Prelude.{◌≡◌, ◌++◌, OnOk, All};
 ghost use Rattle.std.specs.List.{flat_map};
@@ -19,7 +19,7 @@ use sim_machine::hart::Hart;
 use sim_machine::value::low_bytes;
 use std::alloc::AllocError;
 
-/// Appends what variables hold.
+/// Appends the values of variables.
 pub fn push_variables(
     text: &mut Text,
     hart: &Hart,
@@ -34,7 +34,7 @@ pub fn push_variables(
     Ok(())
 }
 
-/// Appends what a variable holds.
+/// Appends the value of a variable.
 fn push_variable(text: &mut Text, hart: &Hart, variable: &Variable) -> Result<(), AllocError>
     requires { IsReadable variable.now }
     ensures { OnOk result ((s : State) → StandsFor hart.now s → text.new ≡ text.old ++ variable_text s variable.now) }
@@ -46,7 +46,7 @@ fn push_variable(text: &mut Text, hart: &Hart, variable: &Variable) -> Result<()
     }
 }
 
-/// Appends a variable that is nowhere.
+/// Appends a variable that has no location.
 fn push_nowhere(text: &mut Text, name: &[u8]) -> Result<(), AllocError>
     ensures { OnOk result (text.new ≡ text.old ++ nowhere_text name.now) }
 {
@@ -55,7 +55,7 @@ fn push_nowhere(text: &mut Text, name: &[u8]) -> Result<(), AllocError>
     push_str(text, "=-")
 }
 
-/// Appends what a variable holds at its location.
+/// Appends the value of a variable by its location.
 fn push_location(
     text: &mut Text,
     hart: &Hart,
@@ -92,7 +92,7 @@ fn push_pieces(text: &mut Text, hart: &Hart, name: &[u8], parts: &[Part]) -> Res
     Ok(())
 }
 
-/// Appends what a piece of a variable holds.
+/// Appends the value of a piece of a variable.
 fn push_piece(text: &mut Text, hart: &Hart, name: &[u8], part: &Part) -> Result<(), AllocError>
     requires { IsReadablePiece part.now }
     ensures { OnOk result ((s : State) → StandsFor hart.now s → text.new ≡ text.old ++ piece_text name.now s part.now) }

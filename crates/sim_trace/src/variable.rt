@@ -10,19 +10,19 @@ use listing_text::output::ListedVariable;
 use rv64_instr::name::Name;
 use std::alloc::{AllocError, Global};
 
-/// A variable, and where it is.
+/// A variable and its location list.
 #[derive(Debug, Drop)]
 pub struct Variable {
     /// Its name.
     pub name: Name,
-    /// Its location list: the ranges ascend, and name places that can be listed.
+    /// Its location list. The ranges ascend, and their places can be listed.
     pub ranges: Ranges,
 }
 
-/// Variables, in the order of their lists.
+/// Variables, in the order of their location lists.
 pub type Variables = List<Variable>;
 
-/// The variables that are listed, each with its list, whose number its line has.
+/// The listed variables, each with the location list of its list number.
 pub fn variables_of(
     alloc: Global,
     listed: &[ListedVariable],
@@ -43,7 +43,7 @@ pub fn variables_of(
     Ok(variables)
 }
 
-/// The same ranges once more.
+/// A copy of the ranges.
 fn copied(alloc: Global, ranges: &[Range]) -> Result<Ranges, AllocError>
     ensures { IfOk result (λ made. made ≡ ranges.now) }
 {

@@ -5,7 +5,7 @@ use Rattle.mir_func.specs.Strip.{stripped}
 use Rattle.mir_func_printer.specs.FuncText.{func_text}
 use Rattle.read_program.specs.declared.closing.Parsed.{Parsed}
 
--- a function without its debug items, and so without substitutions
+-- the document of a function without its debug items and substitutions
 abbrev pub stripped_func_text : Parsed → List ℕ
 stripped_func_text p = func_text (stripped p.func) []
 

@@ -1,5 +1,5 @@
-//! A program as text without its debug items: the document of each of its functions, without marks, phis, numbers and
-//! substitutions.
+//! The text of a program without its debug items: the MIR document of each of its functions, without debug values,
+//! DBG_PHIs, debug instruction numbers and substitutions.
 #![tactic(auto)]
 
 pub mod strip_text;

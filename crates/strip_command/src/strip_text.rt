@@ -18,7 +18,7 @@ fn strip_func(alloc: Global, parsed: &Parsed) -> Result<Text, AllocError>
     print_func(alloc, &stripped, &Substitutions::new(alloc))
 }
 
-/// The documents of functions without their marks, phis, numbers and substitutions, in their order.
+/// The documents of functions without debug values, DBG_PHIs, debug instruction numbers and substitutions, in order.
 pub fn strip_text(alloc: Global, functions: &[Parsed]) -> Result<Text, AllocError>
     ensures { IfOk result (λ text. text ≡ stripped_text functions.now) }
 {

@@ -1,4 +1,4 @@
-//! What is told of faults that no run shows, and the order of a reserve's registers.
+//! Error messages that no run prints, and the order of the registers for spilling.
 
 use cli::fault::Fault;
 use cli::status::Status;

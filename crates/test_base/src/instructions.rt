@@ -1,4 +1,5 @@
-//! Arithmetic, names, effects and words of instructions, against values worked out by hand and those of an assembler.
+//! Arithmetic, names, effects and encodings of instructions, compared with values worked out by hand and with an
+//! assembler's.
 
 use base_ids::code::{BlockId, ObjectId, SlotId};
 use base_list::List;

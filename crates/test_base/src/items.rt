@@ -1,4 +1,4 @@
-//! What lists hold.
+//! The elements of lists.
 
 use base_list::List;
 

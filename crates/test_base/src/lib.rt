@@ -1,5 +1,5 @@
-//! Tests of lists, instructions and their words, reading and writing, and of what is told of faults: what no row of a
-//! whole run shows.
+//! Tests of lists, of instructions and their encodings, of reading and writing, and of error messages, where no test of
+//! a whole run (`test_program`) shows them.
 #![tactic(auto)]
 
 #[cfg(test)]

@@ -1,4 +1,4 @@
-//! Words both ways, against those of an assembler.
+//! Encoding and decoding of words, compared with an assembler's.
 
 use rv64_instr::op::BranchOp::*;
 use rv64_instr::op::ImmediateOp::*;

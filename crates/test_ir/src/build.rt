@@ -1,7 +1,8 @@
-//! Functions from texts. Lines `slots FIRST LAST` and `object ID SIZE ALIGN OFFSET` declare, and a line `bb FIRST LAST
-//! SILENT` begins a block, or one of each number up to the last: the last number and the silent index may be left out.
-//! Each further line is an item: an opcode and its operands, after `#K` where it has a number; `mark V`, `inlined V AT`
-//! or `part V OFFSET LENGTH` and what the variable or its part is assigned; or `phi K` and a place.
+//! Functions from texts. Lines `slots FIRST LAST` and `object ID SIZE ALIGN OFFSET` declare slots and stack objects. A
+//! line `bb FIRST LAST SILENT` begins a block, or one for each number up to the last; the last number and the silent
+//! index may be left out. Each further line is an item: an opcode and its operands, after `#K` if it has a debug
+//! instruction number; `mark V`, `inlined V AT` or `part V OFFSET LENGTH` and what the variable or its part is
+//! assigned; or `phi K` and a place.
 
 use base_ids::code::{BlockId, DebugNumber, ObjectId, OperandIndex, SlotId};
 use base_ids::metadata::NodeId;

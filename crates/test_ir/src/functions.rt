@@ -1,4 +1,4 @@
-//! Which functions are sound, and where control goes in them; parts of variables; substitutions.
+//! Soundness and control flow of functions; parts of variables; substitutions.
 
 use crate::build::{entries, entry, function, pair};
 use base_ids::code::BlockId;

@@ -1,4 +1,4 @@
-//! Passes through their trait.
+//! Passes by their trait.
 
 ghost use Rattle.std.specs.Prelude.{◌≡◌, ◌+◌, ◌*◌, ◌<◌, ◌^◌, [], flat_map, IfSome};
 ghost use Rattle.mir_func.specs.Limits.{MAX_SLOTS};

@@ -1,5 +1,5 @@
-//! Tests of functions, of their runs as they were read, of substitutions and of passes through their trait: what no row
-//! of a whole run shows. Texts say the functions.
+//! Tests of functions, of the interpreter, of substitutions and of the trait of passes, where no test of a whole run
+//! shows them. The functions are written as texts.
 #![tactic(auto)]
 
 #[cfg(test)]

@@ -1,4 +1,4 @@
-//! Runs of small functions, and what their steps and variables show.
+//! Runs of small functions in the interpreter, and the values that their steps and variables have.
 
 ghost use Rattle.sem_interpreter.specs.StandsFor.{AreCounted, IsPosition};
 

@@ -1,5 +1,5 @@
-//! Tests of what only the inner public calls on machine code show: a simulated run step by step, the stops that no
-//! compiled code comes to, and the reports of several codes.
+//! Tests of calls on machine code that no whole run shows: a simulated run step by step, the stops that no compiled
+//! code comes to, and the reports of several functions.
 #![tactic(auto)]
 
 #[cfg(test)]

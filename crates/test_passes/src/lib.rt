@@ -1,6 +1,5 @@
-//! Tests of what parts of passes make of functions, where no run of the program shows it: what is live and what is dead
-//! at once, folding by the rule for code alone, one copy that is taken out, and spilling from reserves that no command
-//! gives.
+//! Tests of parts of passes, where no run of the program shows them: liveness and dead code, folding by the rule for
+//! code alone, removal of one copy, and spilling with registers that no command can name.
 #![tactic(auto)]
 
 #[cfg(test)]

@@ -1,4 +1,4 @@
-//! What parts of passes make of the function of a text.
+//! Applies parts of passes to the function of a text.
 
 ghost use Rattle.std.specs.Prelude.{◌+◌, ◌*◌, ◌<◌, ◌^◌, [], IsTrue};
 ghost use Rattle.mir_func.specs.Limits.{MAX_SLOTS};

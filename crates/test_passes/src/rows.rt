@@ -1,4 +1,4 @@
-//! Functions, and what parts of passes make of them.
+//! Functions, and the results of parts of passes on them.
 
 use crate::parts::Part;
 

@@ -1,4 +1,4 @@
-//! Items with their origins, substitutions, and losses, a line for each.
+//! Text of items with their origins, of substitutions and of losses, a line for each.
 
 use mir_func::block::Block;
 use mir_func::entry::Entry;

@@ -1,4 +1,4 @@
-//! A branch that reads a virtual register, which no text that is read has.
+//! A branch that reads a virtual register, which the parser doesn't accept.
 
 use base_ids::code::BlockId;
 use mir_func::item::{Item, ItemKind};

@@ -1,5 +1,5 @@
-//! Tests of what no run of the program shows of printing and of the smallest function: substitutions, virtual
-//! registers, and what the layout and the values keep beside the words. What a run shows is in the rows of
+//! Tests of printing and of the smallest function, where no run of the program shows them: substitutions, virtual
+//! registers, and what the layout and the value numbering have besides the words. What a run shows is in the rows of
 //! `test_program`.
 #![tactic(auto)]
 

@@ -1,5 +1,5 @@
-//! Runs the top call on the rows of files, which docs/ROWS.md describes: those that the arguments name, in the folder
-//! where it is run. Of each file it prints how many runs came out as its rows say, and each run that didn't.
+//! Runs the top call on the rows of files, which docs/ROWS.md describes: on the files that the arguments name, in the
+//! current directory. For each file it prints the number of runs that came out as expected, and each run that didn't.
 #![tactic(auto)]
 
 mod part;

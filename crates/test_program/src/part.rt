@@ -1,4 +1,4 @@
-//! The parts of a file, and the bytes that their lines stand for.
+//! The parts of a file, and the bytes that their lines encode.
 
 use anyhow::{Context, bail};
 use std::alloc::Global;

@@ -1,4 +1,4 @@
-//! What lines of a body say by the grammar.
+//! How lines of a body parse.
 
 use mir_func::location::Loc;
 use read_line::body::body_line;

@@ -1,4 +1,4 @@
-//! What tokens stand for.
+//! The values of tokens.
 
 use base_ids::code::{BlockId, SlotId};
 use base_ids::metadata::NodeId;

@@ -1,6 +1,6 @@
-//! Tests of what no run of the program shows of reading: tokens with their places, what each of them stands for, the forms
-//! of body lines, documents with the numbers of their lines, what metadata says of each node, and limits that take
-//! thousands of lines. What a run shows is in the rows of `test_program`.
+//! Tests of the parser, where no run of the program shows it: tokens with their positions and their values, the forms
+//! of body lines, documents with their line numbers, the fields of metadata nodes, and limits that take thousands of
+//! lines. What a run shows is in the rows of `test_program`.
 #![tactic(auto)]
 
 #[cfg(test)]

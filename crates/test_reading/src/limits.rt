@@ -1,5 +1,4 @@
-//! Limits whose texts have thousands of lines, each at its number, where the text is read, and one above, where it is
-//! refused.
+//! Limits whose texts have thousands of lines: at its limit each text is read, and at one more it is refused.
 
 use read_program::error::ParseError;
 use read_program::program::read_program;

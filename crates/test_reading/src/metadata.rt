@@ -1,4 +1,4 @@
-//! What metadata says.
+//! Metadata nodes.
 
 use crate::text::push_bytes;
 use base_ids::metadata::NodeId;

@@ -1,4 +1,4 @@
-//! What is read of lines and texts.
+//! Parses lines and texts.
 
 use crate::metadata::Meta;
 use crate::text::push_bytes;

@@ -1,4 +1,4 @@
-//! Texts of what is read.
+//! Texts of what the parser returns.
 
 use std::alloc::AllocError;
 

@@ -1,4 +1,4 @@
-//! Numbers of variable length, by the examples of DWARF 5 section 7.6, and the extremes.
+//! LEB128 numbers, by the examples of DWARF 5 section 7.6, and at the extremes.
 
 use dwarf_base::front::{split_sleb, split_u32, split_uleb};
 use dwarf_base::leb::{Leb, sleb, uleb};

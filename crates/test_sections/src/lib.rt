@@ -1,6 +1,6 @@
-//! Tests of what only calls within the program show: numbers of variable length, readers of sections on damaged ones,
-//! writers at bounds that no text reaches, and the sections of a program without functions. Whole sections of texts
-//! are rows of `test_program`.
+//! Tests that only calls within the program show: LEB128 numbers, readers of sections on damaged input, writers at
+//! bounds that no text reaches, and the sections of a program without functions. Whole sections of texts are in the
+//! rows of `test_program`.
 #![tactic(auto)]
 
 #[cfg(test)]

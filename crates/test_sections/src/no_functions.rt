@@ -1,4 +1,4 @@
-//! The sections of a program without functions, which no text is.
+//! The sections of a program without functions, which no text can have.
 
 use base_list::List;
 use dwarf_line_table::line_table::line_table;

@@ -1,4 +1,4 @@
-//! What is known at the start of blocks, over all paths to them.
+//! The value numbers at block starts, over all paths to them.
 
 use crate::text::{framed_of, function_of, register, variable};
 use std::alloc::Global;

@@ -1,6 +1,6 @@
-//! Tests of what only calls within the program show: what is known of values where paths join and at points, questions
-//! about them, the classes of places, the locations of parts, and functions that are compiled one at a time. Location
-//! lists of texts are rows of `test_program`.
+//! Tests that only calls within the program show: value numbers at joins and at points, queries of them, live-in values
+//! of places, the locations of parts, and functions that are compiled one at a time. Location lists of texts are in the
+//! rows of `test_program`.
 #![tactic(auto)]
 
 #[cfg(test)]

@@ -1,4 +1,4 @@
-//! The classes of places: past a copy, a call and marks of overlapping parts.
+//! The live-in values of places: after a copy, a call and debug values of overlapping parts.
 
 use crate::text::{pair, part, register};
 use base_ids::code::DebugNumber;

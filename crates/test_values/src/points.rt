@@ -1,4 +1,4 @@
-//! What sits in registers at points, and where a variable is.
+//! The values in registers at points, and the locations of variables there.
 
 ghost use Rattle.std.specs.Prelude.{◌≡◌, ◌≤◌, length};
 ghost use Rattle.value_tracker.specs.Things.{AreThings};

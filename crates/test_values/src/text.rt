@@ -1,4 +1,4 @@
-//! Functions of texts.
+//! Functions from texts.
 
 use base_ids::code::{DebugNumber, OperandIndex};
 use base_ids::metadata::NodeId;

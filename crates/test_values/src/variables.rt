@@ -1,4 +1,4 @@
-//! Parts of variables, and the locations by their places.
+//! Parts of variables, and locations by their places.
 
 use crate::text::{part, variable};
 use base_ids::code::SlotId;

@@ -1,4 +1,4 @@
--- Outputs of what passes made of sources, whatever debug items stand in it.
+-- Outputs that are compiled of passed functions, with and without debug items.
 use Rattle.std.specs.Prelude.{◌≡◌, ℕ, List, map}
 use Rattle.mir_func.specs.Function.{Function}
 use Rattle.emit_code.specs.Rule.{Layout}
@@ -10,21 +10,21 @@ use Rattle.compile_theorem.specs.Compiled.{AreCompiled, IsCompiledProgram}
 use Rattle.compile_theorem.specs.Source.{PassedFunction}
 use Rattle.theorem_invariance.specs.Text.{AreLaid, OneByOne}
 
--- the functions that passes made of sources
+-- the functions that passes made, without their sources
 abbrev pub functions_of : List PassedFunction → List Function
 functions_of sources = map (λ s. s.function) sources
 
--- functions are laid out one after the other, in some layouts
+-- The functions have layouts one after the other from address `base`, and `text` is their bytes.
 pub record HaveLayouts (base : ℕ) (text : List ℕ) (fs : List Function) : Type 0 where
   pub layouts : List Layout
   pub laid : AreLaid base text fs layouts
 
--- what is compiled is laid out one after the other
+-- Compiled functions have layouts one after the other.
 abbrev pub CompiledIsLaid : Type 0
 CompiledIsLaid = (names : ℕ → List ℕ) (sources : List PassedFunction) (base first : ℕ) (text : List ℕ) (lists : List (List Range)) (fs : List ListedFunction) →
     AreCompiled names base first text lists sources fs → HaveLayouts base text (functions_of sources)
 
--- debug items don't change `.text`
+-- Two outputs of passed functions with pairwise equal code up to debug items have the same `.text`.
 abbrev pub CompiledHasSameText : Type 0
 CompiledHasSameText = (names names' : ℕ → List ℕ) (sources others : List PassedFunction) (o o' : Output) →
     OneByOne HaveAlikeCode (functions_of sources) (functions_of others) → IsCompiledProgram names sources o → IsCompiledProgram names' others o' →

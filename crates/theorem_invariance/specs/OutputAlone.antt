@@ -1,4 +1,4 @@
--- Outputs of programs that differ in their debug items.
+-- Outputs of two programs that may differ in their debug items.
 use Rattle.std.specs.Prelude.{◌≡◌, ℕ, List}
 use Rattle.listing_text.specs.declared.output.Output.{Output}
 use Rattle.invariance_code.specs.Alike.{HaveAlikeCode}
@@ -8,15 +8,15 @@ use Rattle.pass_list.specs.declared.kind.PassKind.{PassKind}
 use Rattle.compile_program.specs.Program.{IsOutputOf, steps_of}
 use Rattle.theorem_invariance.specs.Text.{OneByOne}
 
--- two functions that were read have alike code
+-- two functions that were read have equal code up to debug items (see `HaveAlikeCode`)
 abbrev pub AreReadAlike : Parsed → Parsed → Type 0
 AreReadAlike f g = HaveAlikeCode f.func g.func
 
--- Two programs have alike code, function by function.
+-- Two programs have as many functions, with pairwise equal code up to debug items.
 abbrev pub HaveAlikeFunctions : Program → Program → Type 0
 HaveAlikeFunctions p q = OneByOne AreReadAlike p.functions q.functions
 
--- Outputs of programs with alike code have the same `.text`, after any passes.
+-- Outputs of two such programs, compiled with the same passes, have the same `.text`.
 abbrev pub OutputsOfAlikeCode : Type 0
 OutputsOfAlikeCode = (reserve : List ℕ) (passes : List PassKind) (p q : Program) (o o' : Output) → HaveAlikeFunctions p q →
     IsOutputOf (steps_of reserve passes) p o → IsOutputOf (steps_of reserve passes) q o' → o.text ≡ o'.text

@@ -1,4 +1,4 @@
--- Runs of the command that compiles, on texts that differ in their debug items.
+-- Runs of the command `compile` on two texts that may differ in their debug items.
 use Rattle.std.specs.Prelude.{◌≡◌, ℕ, List}
 use Rattle.cli.specs.declared.command.Plan.{Plan}
 use Rattle.cli.specs.declared.command.Command.TheVariants.{Compile}
@@ -7,13 +7,12 @@ use Rattle.tool_driver.specs.Run.{Finishes, HasWritten}
 use Rattle.tool_driver.specs.Stream.{Change}
 use Rattle.theorem_invariance.specs.OutputAlone.{HaveAlikeFunctions}
 
--- each run read a program and wrote an output of it: where the functions of both programs, one by one, have alike code, both outputs have the
--- same `.text`
+-- Each run read a program and wrote an output. If both programs have pairwise equal code up to debug items, both outputs have the same `.text`.
 abbrev pub WroteSameText : (input output input' output' : Change) → Type 0
 WroteSameText input output input' output' =
     HasWritten (λ p o. HasWritten (λ q o'. HaveAlikeFunctions p q → o.text ≡ o'.text) input' output') input output
 
--- So it is for any two runs that end well with the same plan: the same passes, and the same registers that may be spilled.
+-- This holds for any two runs that finish without error, with the same plan: the same passes, and the same registers that may be spilled.
 abbrev pub RunsWriteCodeAlone : Type 0
 RunsWriteCodeAlone = (plan : Plan) (words words' : List (List ℕ)) (input output input' output' : Change) →
     IsCommand words (Compile plan) → IsCommand words' (Compile plan) → Finishes words input output → Finishes words' input' output' →

@@ -1,9 +1,9 @@
-//! Laws of outputs: each is the contract of a function that does nothing.
+//! Theorems on outputs. Each is the contract of an empty function.
 
 ghost use Rattle.theorem_invariance.specs.Compiled.{CompiledIsLaid, CompiledHasSameText};
 
-/// What is compiled is laid out one after the other. So the outputs of functions whose code is alike, one by one, have
-/// the same `.text`, whatever debug items stand in them.
+/// Compiled functions are laid out one after the other. So the outputs of functions with pairwise equal code up to
+/// debug items have the same `.text`.
 pub fn compiled_alone()
     ensures laid { CompiledIsLaid }
     ensures text { CompiledHasSameText }

@@ -1,19 +1,20 @@
-//! The program's `.text` is the same with and without debug instructions. Nothing stands on these theorems.
+//! Invariance theorems: the program's `.text` is the same with and without debug instructions. No other crate depends
+//! on these theorems.
 //!
-//! - `text_laws`: Laws of `.text` without debug items: two programs whose functions have alike code, one by one, have
-//!   the same bytes of `.text`, whatever debug items stand in them.
+//! - `text_laws`: Code layout. Two programs whose functions have equal code up to debug items, pairwise, have the same
+//!   bytes of `.text`.
 //!
-//! - `passes_laws`: Laws of passes and `.text`: of functions whose code is alike, one by one, the same passes make
-//!   functions with the same bytes of `.text`, whatever debug items stand in them.
+//! - `passes_laws`: Passes and code layout. From functions with equal code up to debug items, pairwise, the same passes
+//!   make functions with the same bytes of `.text`.
 //!
-//! - `code_laws`: Laws of outputs and debug items: what is compiled of sources whose code is alike, one by one, has the
-//!   same `.text`, whatever debug items stand in them.
+//! - `code_laws`: Outputs. Two outputs that are compiled of passed functions with equal code up to debug items,
+//!   pairwise, have the same `.text`.
 //!
-//! - `output_laws`: Laws of outputs after passes: of programs whose functions have alike code, one by one, the same
-//!   passes make outputs with the same `.text`, whatever debug items stand in them.
+//! - `output_laws`: Outputs of programs. From two programs with equal code up to debug items, the same passes and
+//!   compilation make the same `.text`.
 //!
-//! - `run_laws`: The law of two runs of the command: what `compile` writes as machine code hangs on the code that it
-//!   read and on its options alone, whatever debug items stand in the text.
+//! - `run_laws`: Runs of the command. The machine code that `compile` writes depends only on the code that it reads and
+//!   on its options, not on the debug items in the text.
 #![tactic(auto)]
 
 pub mod code_laws;

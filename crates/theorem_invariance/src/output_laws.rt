@@ -1,10 +1,10 @@
-//! The law of outputs and debug items: the contract of a function that does nothing.
+//! Invariance of outputs under debug items: the contract of an empty function.
 
 ghost use Rattle.theorem_invariance.specs.OutputAlone.{OutputsOfAlikeCode};
 
-/// Debug items never change machine code: outputs of two programs after the same passes have the same `.text` where the
-/// functions of both, one by one, have the same names, slots, objects, block numbers and code in order, whatever marks,
-/// phis, numbers, origins and locations stand in them.
+/// Debug items never change machine code. The outputs of two programs after the same passes have the same `.text` if
+/// the functions of both, pairwise, have the same names, slots, stack objects, block numbers and code in order,
+/// whatever debug values, DBG_PHIs, debug instruction numbers, origins and debug locations they have.
 pub fn outputs_are_of_code_alone()
     ensures { OutputsOfAlikeCode }
 {}

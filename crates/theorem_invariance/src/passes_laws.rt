@@ -1,11 +1,12 @@
-//! Laws of passes and `.text`: each is the contract of a function that does nothing.
+//! Theorems on passes and `.text`. Each is the contract of an empty function.
 
 ghost use Rattle.theorem_invariance.specs.Passed.{PassesMakeCodeAlone, PassedIsMadeOfCode};
 ghost use Rattle.theorem_invariance.specs.Passed.{PassedHasSameText, PassedHasSameCode};
 
-/// Any passes in a row make code of code alone, and machine code is made of it. Of functions whose code is alike, one
-/// by one, they make functions with the same `.text`, and with alike machine code each; with the same machine code
-/// where the code is the same, with its origins.
+/// The code after any list of passes depends only on the code before it, and the machine code depends only on that.
+/// From two lists of functions with pairwise equal code up to positions, the same passes make functions with the same
+/// `.text`, and with pairwise equal machine code up to positions; if origins are equal too, then with equal machine
+/// code and origins.
 pub fn passes_alone()
     ensures code { PassesMakeCodeAlone }
     ensures made { PassedIsMadeOfCode }

@@ -1,9 +1,10 @@
-//! The law of runs and debug items: the contract of a function that does nothing.
+//! Invariance of runs under debug items: the contract of an empty function.
 
 ghost use Rattle.theorem_invariance.specs.RunAlone.{RunsWriteCodeAlone};
 
-/// Debug items never change machine code: two runs of `compile` with the same passes and reserve, on any two texts that
-/// stand for functions with the same names, slots, objects, block numbers and code in order, write the same `.text`.
+/// Debug items never change machine code. Two runs of `compile` with the same passes and the same registers for
+/// spilling write the same `.text` if the functions in both texts, pairwise, have the same names, slots, stack objects,
+/// block numbers and code in order.
 pub fn runs_write_code_alone()
     ensures { RunsWriteCodeAlone }
 {}

@@ -1,4 +1,4 @@
--- Marks stand between the same kept code as in the source.
+-- Debug values that survive passes are between the same kept code as in the source.
 use Rattle.std.specs.Prelude.{◌≡◌, ◌↔◌, ℕ, ◌<◌, List, [], ◌∷◌, Contains, Some, slice_get, true}
 use Rattle.mir_func.specs.declared.block.Block.{Block}
 use Rattle.mir_func.specs.declared.item.Item.{Item}
@@ -18,12 +18,12 @@ use Rattle.pass_list.specs.declared.kind.PassKind.{PassKind}
 use Rattle.compile_program.specs.declared.compile.Compilation.{Compilation}
 use Rattle.compile_program.specs.Program.{IsCompilationOf, IsMadeLosing}
 
--- no loss of the mark that was read at the position is told
+-- no loss of the debug value at this source position is reported
 abbrev pub IsUntold : (told : List Loss) → Pos → Type 0
 IsUntold told p = (why : Reason) → Contains told (mark_lost (Kept p) why) → ⊥
 
--- A mark of the part of a variable, which was read at the position, stands in the function, in the block of the position. Code of this block that
--- was kept stands before the mark just where it did in the source.
+-- A debug value of the variable v, with the source position p as its origin, is in the function, in the block of p. Each kept code item of this block
+-- has its origin in the same block, and is before the debug value exactly if its origin is before p.
 pub record StandsBetween (f : Function) (p : Pos) (v : VarId) : Type 0 where
   pub block : Block
   pub among : Contains f.blocks block
@@ -36,24 +36,24 @@ pub record StandsBetween (f : Function) (p : Pos) (v : VarId) : Type 0 where
   pub beside : (k : ℕ) (i : Item) (q : Pos) → slice_get block.items k ≡ Some i → is_code i.kind ≡ true → i.origin ≡ Kept q →
       (q.block ≡ p.block) × ((k < index) ↔ (q.item < p.item))
 
--- so stands each mark of the source of which no loss is told
+-- Each debug value of the source that isn't reported lost is in the passed function like this.
 abbrev pub MarksStandIn : PassedFunction → (told : List Loss) → Type 0
 MarksStandIn p told = (at : Pos) (i : Item) (v : VarId) (m : MarkValue) → StandsAt p.source.function at i → i.kind ≡ Mark v m → IsUntold told at →
     StandsBetween p.function at v
 
--- So it is in whatever passes make of a function that was read.
+-- This holds for whatever passes make of a function that was read.
 abbrev pub MarksStand : Type 0
 MarksStand = (reserve : List ℕ) (passes : List PassKind) (p : PassedFunction) (told : List Loss) → IsPassedFunction p →
     IsMadeLosing reserve passes p told → MarksStandIn p told
 
--- each of these functions has the marks of its source, but those of which a loss is told
+-- For each of these functions, all debug values of its source are there, except those that its losses report.
 abbrev pub AllStand : List PassedFunction → (told : List (List Loss)) → Type 0
 AllStand [] [] = Unit {0}
 AllStand [] (l ∷ ls) = ⊥
 AllStand (p ∷ ps) [] = ⊥
 AllStand (p ∷ ps) (l ∷ ls) = MarksStandIn p l × AllStand ps ls
 
--- So it is in every compilation of a program, of the functions whose code and lists it has.
+-- This holds for every compilation of a program, for its passed functions and their losses.
 abbrev pub CompiledMarksStand : Type 0
 CompiledMarksStand = (reserve : List ℕ) (passes : List PassKind) (p : Program) (c : Compilation) →
     (is : IsCompilationOf reserve passes p c) → AllStand is.functions c.losses

@@ -1,12 +1,11 @@
--- Starts that are asked for.
+-- Starts with given arguments and results of calls.
 use Rattle.std.specs.Prelude.{ℕ, ◌<◌, ◌^◌, List, All}
 use Rattle.sem_machine.specs.Image.{Image}
 use Rattle.run_command.specs.Source.{BeginsAsked}
 use Rattle.mir_func.specs.Function.{Function}
 use Rattle.sem_mir.specs.State.{State}
 
--- From arguments and values of 64 bits, and for a number of steps of 64 bits, a run of any function can start, beside which the machine begins on
--- any image.
+-- For any 64-bit arguments and values, and a 64-bit limit of steps, a run of any function can start, together with the machine on any image.
 abbrev pub RunsCanStart : Type 0
 RunsCanStart = (source : Function) (image : Image) (arguments values : List ℕ) (limit : ℕ) → All (λ a. a < 2 ^ 64) arguments →
     All (λ v. v < 2 ^ 64) values → limit < 2 ^ 64 → (s : State) × BeginsAsked source image arguments values limit s

@@ -1,10 +1,10 @@
-//! Debug values that survive keep their order, and every compiled function has a run. Nothing stands on these theorems.
+//! Theorems on debug values and starts: debug values that survive passes keep their order with kept code, and every
+//! function has a start. No other crate depends on these theorems.
 //!
-//! - `order_laws`: The law of marks and kept code: what passes make of a function has each mark that no pass lost
-//!   between the same kept code as the source.
+//! - `order_laws`: After passes, each debug value that isn't reported lost is between the same kept code as in the
+//!   source.
 //!
-//! - `start_laws`: The law of starts that are asked for: every function has one for all arguments and values of its
-//!   calls.
+//! - `start_laws`: Every function has a start with any given arguments and any given results of its calls.
 #![tactic(auto)]
 
 pub mod order_laws;

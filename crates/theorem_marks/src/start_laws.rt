@@ -1,9 +1,9 @@
-//! The law of starts: the contract of a function that does nothing.
+//! Existence of starts: the contract of an empty function.
 
 ghost use Rattle.theorem_marks.specs.Starts.{RunsCanStart};
 
-/// A run of a function can start as it is asked for, whatever its arguments and the values of its calls are: what is
-/// said of a run from every such start is said of one.
+/// A run of a function can start with any arguments and any values as its calls' results. So a statement about runs
+/// from all such starts isn't vacuous.
 pub fn runs_can_start()
     ensures { RunsCanStart }
 {}

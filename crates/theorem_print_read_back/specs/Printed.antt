@@ -1,4 +1,4 @@
--- The text of a function that was read, and what it is read as.
+-- The printed text of a function that was read, and how it parses.
 use Rattle.std.specs.Prelude.{◌≡◌, ℕ, List, [], ◌∷◌, All, None, Ok}
 use Rattle.read_metadata.specs.Maps.{Maps}
 use Rattle.read_documents.specs.declared.parts.FunctionDocument.{FunctionDocument}
@@ -10,12 +10,12 @@ use Rattle.read_program.specs.Program.{ReadsText}
 use Rattle.mir_func_printer.specs.FuncText.{func_text}
 use Rattle.readback_functions.specs.Bytes.{AreBytes}
 
--- the text of a function and its substitutions is one document, which stands for the function and its substitutions by the metadata
+-- The text of the function and its substitutions is one document, which parses to the function and its substitutions, given the metadata.
 pub record IsReadAsPrinted (meta : Maps) (p : Parsed) : Type 0 where
   pub document : FunctionDocument
   pub found : documents_of (func_text p.func p.subs) ≡ record { meta = []; functions = document ∷ []; bad = None }
   pub reads : Parses meta document (Ok p)
 
--- So it is for every function of a program that a text of bytes stands for, by the metadata of the program.
+-- This holds for every function of a program that some text parses to, with the program's metadata.
 abbrev pub PrintedFunctionsAreRead : Type 0
 PrintedFunctionsAreRead = (text : List ℕ) (p : Program) → AreBytes text → ReadsText text (Ok p) → All (IsReadAsPrinted p.meta) p.functions

@@ -1,10 +1,9 @@
-//! A function that is printed whole, debug instructions and substitutions included, parses back to itself. Nothing
-//! stands on these theorems.
+//! Round-trip theorems: a function that is printed whole, debug instructions and substitutions included, parses back to
+//! itself. No other crate depends on these theorems.
 //!
-//! - `substitution_laws`: Substitutions are read back: a law, the contract of a function that does nothing.
+//! - `substitution_laws`: Printed debug value substitutions parse back to themselves.
 //!
-//! - `print_laws`: What is printed of a function that was read is read back: a law, the contract of a function that
-//!   does nothing.
+//! - `print_laws`: The printed text of a function that was read parses back to that function.
 #![tactic(auto)]
 
 pub mod print_laws;

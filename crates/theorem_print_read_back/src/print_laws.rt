@@ -1,9 +1,10 @@
-//! The law of printed functions.
+//! Round trip of functions: the contract of an empty function.
 
 ghost use Rattle.theorem_print_read_back.specs.Printed.{PrintedFunctionsAreRead};
 
-/// The text of a function that was read is one document, and with the metadata of its text this stands for the same
-/// function and its substitutions again: origins, silent positions, marks, phis and numbers included.
+/// The printed text of a function that was read is one document. With the metadata of the program, it parses to the
+/// same function and the same substitutions, including origins, silent positions, debug values, DBG_PHIs and debug
+/// instruction numbers.
 pub fn printed_functions_are_read()
     ensures { PrintedFunctionsAreRead }
 {}

@@ -1,8 +1,8 @@
-//! The law of substitutions.
+//! Round trip of debug value substitutions: the contract of an empty function.
 
 ghost use Rattle.theorem_print_read_back.specs.Substitutions.{SubstitutionsReadBack};
 
-/// The lines of substitutions as they are printed are read as these substitutions.
+/// The printed lines of debug value substitutions parse back to the same substitutions.
 pub fn substitutions_read_back()
     ensures { SubstitutionsReadBack }
 {}

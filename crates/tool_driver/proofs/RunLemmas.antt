@@ -201,7 +201,7 @@ read_told input bytes text read told =
 not_too_long : (command : Command) (input : Change) → IsAnswerableText command input.before.bytes → IsTooLong input → ⊥
 not_too_long command input form long =
     let P : Option (List ℕ) → Type 0 = λ b. TakesCount b input.after.bytes (INPUT_LIMIT + 1) in
-    omega (arith, form.within, TakesCount-told form.text input.after.bytes (INPUT_LIMIT + 1) (subst P form.told long))
+    omega (arith, form.within, TakesCount-told form.text input.after.bytes (INPUT_LIMIT + 1) (subst P form.told long.takes))
 
 -- a command that reads is answered by its text
 by_text : (command : Command) (left : Option (List ℕ)) → IsReader command → IsAnswerable command left → IsAnswerableText command left

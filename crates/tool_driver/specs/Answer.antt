@@ -1,4 +1,4 @@
--- What a command writes of a text, or why it refuses it.
+-- What a command writes for a text, or why it refuses the text.
 use Rattle.std.specs.Prelude.{◌≡◌, ◌≢◌, ℕ, List, [], Ok, Err}
 use Rattle.pass_trait.specs.Steps.{Step}
 use Rattle.read_refusal.specs.declared.first.Refusal.{Refusal}
@@ -20,7 +20,7 @@ use Rattle.gen_program.specs.Program.{generated_program}
 use Rattle.selftest_command.specs.Tested.{IsSelfTestOf}
 use Rattle.tool_driver.specs.Compiled.{plan_steps, IsCompiledText, IsListingText}
 
--- a text stands for a program with a function
+-- the text is read as this program, which has a function
 pub record HasFunctions (text : List ℕ) (program : Program) : Type 0 where
   pub reads : ReadsText text (Ok program)
   pub some : program.functions ≢ []
@@ -35,7 +35,7 @@ IsReader Strip = Unit {0}
 IsReader (Gen g) = ⊥
 IsReader (SelfTest test) = ⊥
 
--- what a command writes of a program; one that doesn't read writes nothing of any
+-- what a command writes for a program; a command that reads no input writes nothing for any
 abbrev pub Answers : Command → Program → (output : List ℕ) → Type 0
 Answers (Compile plan) program output = IsCompiledText (plan_steps plan) program output
 Answers (Listing plan) program output = IsListingText (plan_steps plan) program output
@@ -45,7 +45,7 @@ Answers Strip program output = output ≡ stripped_text program.functions
 Answers (Gen g) program output = ⊥
 Answers (SelfTest test) program output = ⊥
 
--- the program has no function of the name that a command asks for
+-- the program has no function with the name in the command
 abbrev pub HasNoNamed : Command → Program → Type 0
 HasNoNamed (Compile plan) program = ⊥
 HasNoNamed (Listing plan) program = ⊥
@@ -55,8 +55,7 @@ HasNoNamed Strip program = ⊥
 HasNoNamed (Gen g) program = ⊥
 HasNoNamed (SelfTest test) program = ⊥
 
--- the program is too large for a command: what a command that compiles makes of it has a frame above the limit, and the function that it asks
--- for is there
+-- a command that compiles refuses the program for a frame above the limit, after its passes; a run only if the program has the function that it names
 abbrev pub HasFrameTooLarge : Command → Program → Type 0
 HasFrameTooLarge (Compile plan) program = HasLargeFrame (plan_steps plan) program.functions
 HasFrameTooLarge (Listing plan) program = HasLargeFrame (plan_steps plan) program.functions
@@ -66,7 +65,7 @@ HasFrameTooLarge Strip program = ⊥
 HasFrameTooLarge (Gen g) program = ⊥
 HasFrameTooLarge (SelfTest test) program = ⊥
 
--- or a section
+-- the same for a section above the limit
 abbrev pub HasSectionTooLarge : Command → Program → Type 0
 HasSectionTooLarge (Compile plan) program = HasLargeSection (plan_steps plan) program
 HasSectionTooLarge (Listing plan) program = HasLargeSection (plan_steps plan) program
@@ -76,29 +75,29 @@ HasSectionTooLarge Strip program = ⊥
 HasSectionTooLarge (Gen g) program = ⊥
 HasSectionTooLarge (SelfTest test) program = ⊥
 
--- the programs of which a command writes something
+-- the programs for which a command writes output
 pub record IsAnswered (command : Command) (program : Program) : Type 0 where
   pub named : HasNoNamed command program → ⊥
   pub frames : HasFrameTooLarge command program → ⊥
   pub sections : HasSectionTooLarge command program → ⊥
 
--- a text stands for a program without a function
+-- the text is read as a program without functions
 pub record HasNoFunction (text : List ℕ) : Type 0 where
   pub program : Program
   pub reads : ReadsText text (Ok program)
   pub no_one : program.functions ≡ []
 
--- a text stands for a program with a function, and this is what a command writes of it
+-- the text is read as a program with a function, and this is what the command writes for it
 pub record AnswersText (command : Command) (text output : List ℕ) : Type 0 where
   pub program : Program
   pub has : HasFunctions text program
   pub answers : Answers command program output
 
--- a line of a text is refused
+-- the text is refused at a line, for a cause
 abbrev pub IsRefusedAt : (text : List ℕ) → Refusal → Type 0
 IsRefusedAt text r = ReadsText text (Err (errors.Refused r))
 
--- why no program with a function is read
+-- the faults for which no program with a function is read
 abbrev pub RefusesProgram : (text : List ℕ) → Fault → Type 0
 RefusesProgram text (Refused r) = IsRefusedAt text r
 RefusesProgram text Memory = Unit {0}
@@ -111,7 +110,7 @@ RefusesProgram text Read = ⊥
 RefusesProgram text TooLong = ⊥
 RefusesProgram text Write = ⊥
 
--- why a program has no output after steps of passes
+-- the faults for which a program has no output after these passes
 abbrev pub RefusesToCompile : List Step → Program → Fault → Type 0
 RefusesToCompile steps program FrameTooLarge = HasLargeFrame steps program.functions
 RefusesToCompile steps program SectionTooLarge = HasLargeSection steps program
@@ -126,24 +125,24 @@ RefusesToCompile steps program Write = ⊥
 
 -- ---- self-tests
 
--- the program of the function that a self-test makes up
+-- the program with the generated function of a self-test
 abbrev pub tested_program : TestPlan → Program
 tested_program test = generated_program test.function.number test.function.blocks
 
--- the text of a self-test
+-- the text that a self-test writes
 abbrev pub IsTestText : TestPlan → (text : List ℕ) → Type 0
 IsTestText test text = IsSelfTestOf test.plan.reserve test.plan.passes test.function.number test.function.blocks text
 
--- why a self-test has no text: its function can't be compiled
+-- the faults of a self-test: those of compiling its function
 abbrev pub RefusesToTest : TestPlan → Fault → Type 0
 RefusesToTest test fault = RefusesToCompile (plan_steps test.plan) (tested_program test) fault
 
--- its function can be compiled
+-- the function of a self-test can be compiled
 pub record IsTestable (test : TestPlan) : Type 0 where
   pub frames : HasLargeFrame (plan_steps test.plan) (tested_program test).functions → ⊥
   pub sections : HasLargeSection (plan_steps test.plan) (tested_program test) → ⊥
 
--- a command is a self-test that has no text
+-- the command is a self-test, and this is a fault of it
 abbrev pub FailsToTest : Command → Fault → Type 0
 FailsToTest (Compile plan) fault = ⊥
 FailsToTest (Listing plan) fault = ⊥
@@ -155,7 +154,7 @@ FailsToTest (SelfTest test) fault = RefusesToTest test fault
 
 -- ---- programs that were read
 
--- why a command writes nothing of a program
+-- the faults of a command on a program that was read
 abbrev pub RefusesToWrite : Command → Program → Fault → Type 0
 RefusesToWrite command program UnknownFunction = HasNoNamed command program
 RefusesToWrite command program FrameTooLarge = HasFrameTooLarge command program
@@ -168,17 +167,17 @@ RefusesToWrite command program Read = ⊥
 RefusesToWrite command program TooLong = ⊥
 RefusesToWrite command program Write = ⊥
 
--- why a run that is asked for writes nothing of a program
+-- the faults of a run on a program that was read
 abbrev pub RefusesToRun : RunPlan → Program → Fault → Type 0
 RefusesToRun run program fault = RefusesToWrite (Run run) program fault
 
--- a text stands for a program with a function, of which a command writes nothing
+-- the text is read as a program with a function, and this is a fault of the command on it
 pub record HoldsBack (command : Command) (text : List ℕ) (fault : Fault) : Type 0 where
   pub program : Program
   pub has : HasFunctions text program
   pub refused : RefusesToWrite command program fault
 
--- why a command writes nothing of a text
+-- the faults of a command on a text
 abbrev pub RefusesText : Command → (text : List ℕ) → Fault → Type 0
 RefusesText command text (Refused r) = IsRefusedAt text r
 RefusesText command text NoFunction = HasNoFunction text

@@ -1,4 +1,4 @@
--- What is written of a program by the commands that compile.
+-- What the commands `compile` and `listing` write for a program.
 use Rattle.std.specs.Prelude.{◌≡◌, ℕ, List}
 use Rattle.listing_text.specs.declared.output.Output.{Output}
 use Rattle.listing_text.specs.Output.{spelling, listing_text}
@@ -7,17 +7,17 @@ use Rattle.pass_trait.specs.Steps.{Step}
 use Rattle.read_program.specs.declared.program.Program.{Program}
 use Rattle.run_command.specs.Program.{IsOutputOf, steps_of}
 
--- the steps of a plan: those of its passes, where its reserve may be spilled
+-- the steps of a plan: its passes, with the registers that may be spilled
 abbrev pub plan_steps : Plan → List Step
 plan_steps plan = steps_of plan.reserve plan.passes
 
--- the text is that of an output of a program after steps of passes
+-- the text is that of an output of the program after these passes: its sections and its listing
 pub record IsCompiledText (steps : List Step) (program : Program) (text : List ℕ) : Type 0 where
   pub output : Output
   pub is : IsOutputOf steps program output
   pub spelled : text ≡ spelling output
 
--- the text is that of the functions of such an output
+-- the text is the listing alone of such an output
 pub record IsListingText (steps : List Step) (program : Program) (text : List ℕ) : Type 0 where
   pub output : Output
   pub is : IsOutputOf steps program output

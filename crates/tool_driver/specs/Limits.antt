@@ -1,4 +1,4 @@
--- The limit of inputs.
+-- The limit on the input's length.
 use Rattle.std.specs.Prelude.{ℕ}
 
 -- the most bytes that an input may have: 16 MiB

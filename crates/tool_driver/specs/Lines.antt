@@ -1,4 +1,4 @@
--- What the section of lines says of the machine code of a program.
+-- The contents of the line number section for a program's machine code.
 use Rattle.std.specs.Prelude.{◌≡◌, ℕ, List}
 use Rattle.emit_code.specs.declared.code.Entry.{Entry}
 use Rattle.listing_text.specs.declared.output.Output.{Output}
@@ -13,8 +13,8 @@ use Rattle.dwarf_line_table.specs.declared.compiled.Compiled.{Compiled}
 use Rattle.dwarf_line_table.specs.Program.{program_file, table_of}
 use Rattle.dwarf_line_table.specs.Table.{entry_line}
 
--- the section of lines is the spelling of a table. At the address of each byte of the functions' machine code the table gives the file, the line
--- and the column that the first code at or after the origin of the code there has in the function that was read; and no other address has a row
+-- The line number section encodes a line table. At the address of each byte of machine code the table has the file, line and column, in the function that
+-- was read, of the first code at or after the origin of the machine code there. No other address has a row.
 pub record GivesLines (meta : Maps) (functions : List PassedFunction) (o : Output) : Type 0 where
   pub compiled : List Compiled
   pub coded : HaveCode functions compiled

@@ -1,4 +1,4 @@
--- What a run of the command did to its input, its output and its faults.
+-- What a run of the tool did to its input and its output, and the faults that it reports.
 use Rattle.std.specs.Prelude.{◌≡◌, ◌⊎◌, ℕ, ◌+◌, ◌≤◌, List, length, All, Option, Some}
 use Rattle.listing_text.specs.declared.output.Output.{Output}
 use Rattle.pass_trait.specs.Steps.{Step}
@@ -33,29 +33,29 @@ use Rattle.tool_driver.specs.Lines.{GivesLines}
 use Rattle.tool_driver.specs.Promise.{AllGiveBack, AllStopWell, AllListKept}
 use Rattle.tool_driver.specs.Stream.{Change, MetFault, IsUnread, IsReadWhole, IsReadFor, IsWrittenWhole, IsWrittenInPart, IsTold}
 
--- the words are those of a command
+-- the words are a command
 abbrev pub AreCommand : (words : List (List ℕ)) → Type 0
 AreCommand words = (command : Command) × IsCommand words command
 
--- the input was read to its end, and these were its bytes
+-- the input was read to its end, is within the limit, and consists of these bytes
 pub record HasRead (input : Change) (text : List ℕ) : Type 0 where
   pub whole : IsReadWhole input text
   pub within : length text ≤ INPUT_LIMIT
   pub bytes : AreBytes text
 
--- a text was read that stands for a program with a function
+-- the input was read as this program, which has a function
 pub record HasReadProgram (input : Change) (program : Program) : Type 0 where
   pub text : List ℕ
   pub read : HasRead input text
   pub has : HasFunctions text program
 
--- this is what a command writes of the text that was read
+-- the input was read, and this is what the command writes for it
 pub record AnswersRead (command : Command) (input : Change) (output : List ℕ) : Type 0 where
   pub text : List ℕ
   pub read : HasRead input text
   pub answers : AnswersText command text output
 
--- this is what a command writes: of the text that was read, or the text of a function that is made up or of its self-test, for which nothing is read
+-- what a command writes: for the input that it read, or without reading, a generated function or the self-test of one
 abbrev pub AnswersInput : Command → (input : Change) → (output : List ℕ) → Type 0
 AnswersInput (Compile plan) input output = AnswersRead (Compile plan) input output
 AnswersInput (Listing plan) input output = AnswersRead (Listing plan) input output
@@ -65,35 +65,35 @@ AnswersInput Strip input output = AnswersRead Strip input output
 AnswersInput (Gen g) input output = IsUnread input × (output ≡ generated_text g.number g.blocks)
 AnswersInput (SelfTest test) input output = IsUnread input × IsTestText test output
 
--- the words are a command's, and this is what it writes
+-- the words are a command, and this is what it writes
 pub record Accepts (words : List (List ℕ)) (input : Change) (output : List ℕ) : Type 0 where
   pub command : Command
   pub asked : IsCommand words command
   pub answers : AnswersInput command input output
 
--- all that is to be written was written, and no fault was met
+-- the whole output of the command was written, without a fault
 pub record Finishes (words : List (List ℕ)) (input output : Change) : Type 0 where
   pub text : List ℕ
   pub accepted : Accepts words input text
   pub written : IsWrittenWhole output text
 
--- a prefix of what is to be written was
+-- a prefix of the output of the command was written
 pub record IsCutOff (words : List (List ℕ)) (input output : Change) : Type 0 where
   pub text : List ℕ
   pub accepted : Accepts words input text
   pub front : IsWrittenInPart output text
 
--- the input has more bytes than the limit: one more was read
+-- the input is longer than the limit: one byte more than the limit was read, without a fault
 abbrev pub IsTooLong : (input : Change) → Type 0
 IsTooLong input = IsReadFor input (INPUT_LIMIT + 1)
 
--- a text was read that stands for no program with a function
+-- the input was read, but it is no program with a function, for this fault
 pub record RefusesInput (input : Change) (fault : Fault) : Type 0 where
   pub text : List ℕ
   pub read : HasRead input text
   pub refused : RefusesProgram text fault
 
--- why no program is read of an input
+-- the faults for which no program is read from an input
 abbrev pub HasReadNone : (input : Change) → Fault → Type 0
 HasReadNone input Read = MetFault input
 HasReadNone input Memory = Unit {0}
@@ -106,18 +106,18 @@ HasReadNone input SectionTooLarge = ⊥
 HasReadNone input Usage = ⊥
 HasReadNone input Write = ⊥
 
--- a command reads, and the text that was read is refused so
+-- the command reads its input, and refuses the text for this fault
 pub record RefusesRead (command : Command) (input : Change) (fault : Fault) : Type 0 where
   pub reads : IsReader command
   pub text : List ℕ
   pub read : HasRead input text
   pub refused : RefusesText command text fault
 
--- what a command would compile is too large: of the text that was read, or the function of a self-test
+-- the program is too large for a command: the one in its input, or the function of a self-test
 abbrev pub IsTooLarge : Command → (input : Change) → Fault → Type 0
 IsTooLarge command input fault = RefusesRead command input fault ⊎ FailsToTest command fault
 
--- why a command refuses an input: it reads it, and it is too long, or its text is refused; or a self-test can't be compiled
+-- the faults for which a command refuses its input: it is too long, or its text is refused; or a self-test can't be compiled
 abbrev pub Refuses : Command → (input : Change) → Fault → Type 0
 Refuses command input TooLong = IsReader command × IsTooLong input
 Refuses command input (Refused r) = RefusesRead command input (Refused r)
@@ -130,7 +130,7 @@ Refuses command input Read = ⊥
 Refuses command input Write = ⊥
 Refuses command input Memory = ⊥
 
--- the words are a command's, the input is refused, and the line that stands on the faults says how
+-- the words are a command, its input is refused, and the line for that fault is written to `faults`
 pub record TellsRefusal (words : List (List ℕ)) (input faults : Change) : Type 0 where
   pub command : Command
   pub asked : IsCommand words command
@@ -138,7 +138,7 @@ pub record TellsRefusal (words : List (List ℕ)) (input faults : Change) : Type
   pub refused : Refuses command input fault
   pub told : IsTold faults (line_of fault)
 
--- the bytes of an input are told, they are within the limit, and they stand for a program with a function that a command answers
+-- the bytes of the input are known, within the limit, and a program with a function for which the command writes output
 pub record IsAnswerableText (command : Command) (left : Option (List ℕ)) : Type 0 where
   pub text : List ℕ
   pub told : left ≡ Some text
@@ -147,7 +147,7 @@ pub record IsAnswerableText (command : Command) (left : Option (List ℕ)) : Typ
   pub has : HasFunctions text program
   pub answered : IsAnswered command program
 
--- so they are for a command that reads; one that doesn't is answered whatever the input, a self-test if its function can be compiled
+-- the inputs for which a command writes output; one without an input always does, a self-test if its function can be compiled
 abbrev pub IsAnswerable : Command → (left : Option (List ℕ)) → Type 0
 IsAnswerable (Compile plan) left = IsAnswerableText (Compile plan) left
 IsAnswerable (Listing plan) left = IsAnswerableText (Listing plan) left
@@ -157,7 +157,7 @@ IsAnswerable Strip left = IsAnswerableText Strip left
 IsAnswerable (Gen g) left = Unit {0}
 IsAnswerable (SelfTest test) left = IsTestable test
 
--- a text was read that stands for a program with a function, bytes were written, and this holds of every output that they show (there is one)
+-- the input was read as a program with a function, bytes were written, and `P` holds of every output that they are the text of (there is one)
 pub record HasWritten (P : Program → Output → Type 0) (input output : Change) : Type 0 where
   pub text : List ℕ
   pub read : HasRead input text
@@ -167,41 +167,41 @@ pub record HasWritten (P : Program → Output → Type 0) (input output : Change
   pub written : IsWrittenWhole output bytes
   pub shown : OfShown (inlined_in program.meta) (P program) bytes
 
--- the headline holds of what was read and what was written, for each function: from every start, for every script and number of
--- steps, the machine on the code that the bytes show stands where their lines say the source stands, with the source's events
--- and result, and each place that their section gives for a variable holds its newest assignment
+-- The main theorem, for each function in the input and the bytes written: from every start, for every script of call answers and every number of steps, the
+-- machine on the code in the bytes is at the source position that their lines say, with the source's events and result, and each location in their location
+-- lists holds the variable's newest assignment.
 abbrev pub KeepsHeadline : (input output : Change) → Type 0
 KeepsHeadline input output = HasWritten (λ p. Promises (sources_of p.functions)) input output
 
--- at each return of a function the registers that it is to keep are as at its start
+-- at each return of a function, the registers that it has to preserve have the values from its start
 abbrev pub KeepsRegisters : (input output : Change) → Type 0
 KeepsRegisters input output = HasWritten (λ p. AllGiveBack (sources_of p.functions)) input output
 
--- the machine on a function's code stops nowhere but at a return, or where it waits for an answer
+-- the machine on a function's code stops only at a return, or where it waits for the answer of a call
 abbrev pub StopsAtReturns : (input output : Change) → Type 0
 StopsAtReturns input output = HasWritten (λ p. AllStopWell (sources_of p.functions)) input output
 
--- the section of lists gives each part of a variable the place that is wanted at the address of each byte of a line that is shown, and none
--- exactly where none is wanted; and it gives none at any other address
+-- At the address of each byte of a listed line, the location lists have for each part of a variable the wanted location, and none exactly if none is
+-- wanted. They have none at any other address.
 abbrev pub WroteExactly : (input output : Change) → Type 0
 WroteExactly input output = HasWritten (λ p. IsExact) input output
 
--- while a place keeps the value that a mark told of it, the section gives the marked part of the variable a place
+-- while a location keeps the value of a debug value, the location lists don't leave that part of the variable without a location
 abbrev pub WroteKept : (input output : Change) → Type 0
 WroteKept input output = HasWritten (λ p. AllListKept) input output
 
--- the functions that were read are shown one after the other, in each its lines from its first address to its end, with its name, its stack
--- objects and its variables, whose lists are numbered over all functions and whose names the metadata tells
+-- The output lists the functions in the input, in order: each with its name, stack objects and variables, and with its lines contiguous from its first
+-- address to its end. Location lists are numbered through all functions, and variables have their names in the metadata.
 abbrev pub WroteLaidOut : (input output : Change) → Type 0
 WroteLaidOut input output = HasWritten (λ p. AreLaidOut (names_of p.meta) (sources_of p.functions)) input output
 
--- the bytes of its instruction stand at each line that has an address
+-- each line with an address has the encoding of its instruction at that address
 abbrev pub WroteWords : (input output : Change) → Type 0
 WroteWords input output = HasWritten (λ p. HaveWords) input output
 
--- Steps of passes made of each function that was read the one whose code is written, which follows it. The lines show these functions, each with
--- its frame, and their substitutions. The sections of entries and of lines are those of the program's unit and of its line number table, by the
--- standard's one spelling; and the section of lines gives each byte of machine code its line of the source, and no other address one.
+-- Each function that was read was transformed by these passes, and the result, which simulates it, is the one that is compiled and listed, with its frame
+-- and its substitutions. The `.debug_info`, abbreviation and line sections are the encodings of the program's unit and line table; the line table has for
+-- each byte of machine code its line of the source, and no row for another address.
 pub record ShowsPassed (steps : List Step) (p : Program) (o : Output) : Type 0 where
   pub functions : List PassedFunction
   pub passed : ArePassed p.meta p.functions functions
@@ -210,11 +210,11 @@ pub record ShowsPassed (steps : List Step) (p : Program) (o : Output) : Type 0 w
   pub sections : HasSections p.meta functions o
   pub rows : GivesLines p.meta functions o
 
--- one whole output of what passes made of the input's functions was written
+-- the whole text of one such output was written
 abbrev pub WrotePassed : List Step → (input output : Change) → Type 0
 WrotePassed steps input output = HasWritten (ShowsPassed steps) input output
 
--- a text was read that stands for a program with a function, and bytes were written that are so a text of it
+-- the input was read as a program with a function, and the bytes written are the text `Is` requires for it
 pub record WroteText (Is : Program → (text : List ℕ) → Type 0) (input output : Change) : Type 0 where
   pub text : List ℕ
   pub read : HasRead input text
@@ -224,23 +224,23 @@ pub record WroteText (Is : Program → (text : List ℕ) → Type 0) (input outp
   pub is : Is program bytes
   pub written : IsWrittenWhole output bytes
 
--- the report of what the plan's passes made of the functions that were read was written
+-- the report of the functions after the plan's passes was written
 abbrev pub WroteReport : Plan → (input output : Change) → Type 0
 WroteReport plan input output = WroteText (IsReportText plan.reserve plan.passes) input output
 
--- the text of the run that is asked for was written
+-- the text of the requested run was written
 abbrev pub WroteRun : RunPlan → (input output : Change) → Type 0
 WroteRun run input output =
     WroteText (λ p. IsRunOfProgram (plan_steps run.plan) p run.name run.steps run.arguments run.answers) input output
 
--- the text of the self-test that is asked for was written
+-- the text of the requested self-test was written
 pub record WroteTest (test : TestPlan) (output : Change) : Type 0 where
   pub text : List ℕ
   pub is : IsTestText test text
   pub written : IsWrittenWhole output text
 
--- A text was read, and its functions were written without their debug items. What was written is read in turn: it stands for the program without
--- its debug items, and the command that strips writes the same text of it again.
+-- The input was read, and its functions were written without debug items. What was written can be read: as the program without debug items, for which
+-- `strip` writes the same text again.
 pub record WroteStripped (input output : Change) : Type 0 where
   pub text : List ℕ
   pub read : HasRead input text
@@ -250,7 +250,7 @@ pub record WroteStripped (input output : Change) : Type 0 where
   pub reads : HasFunctions (stripped_text program.functions) (stripped_program program)
   pub again : AnswersText Strip (stripped_text program.functions) (stripped_text program.functions)
 
--- why a command had nothing to write: memory ran out, or it reads, and its input gave nothing
+-- the faults of a command before it writes: want of memory; or, for a command with an input, a failed read or a refusal
 abbrev pub ReadingEnds : Command → (input : Change) → Fault → Type 0
 ReadingEnds command input Read = IsReader command × MetFault input
 ReadingEnds command input Memory = Unit {0}
@@ -263,13 +263,13 @@ ReadingEnds command input SectionTooLarge = Refuses command input SectionTooLarg
 ReadingEnds command input Usage = ⊥
 ReadingEnds command input Write = ⊥
 
--- a command was asked for, and it had nothing to write
+-- the words are a command, which had this fault before it wrote anything
 pub record ReadingEnded (words : List (List ℕ)) (input : Change) (fault : Fault) : Type 0 where
   pub command : Command
   pub asked : IsCommand words command
   pub ended : ReadingEnds command input fault
 
--- why a run ended in a fault
+-- what holds if a run ended in this fault
 abbrev pub Explains : (words : List (List ℕ)) → (input output : Change) → Fault → Type 0
 Explains words input output Usage = AreCommand words → ⊥
 Explains words input output Write = IsCutOff words input output × MetFault output

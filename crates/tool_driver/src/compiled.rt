@@ -1,4 +1,4 @@
-//! What is written of a program by the commands that compile.
+//! The output texts of the commands that compile.
 
 ghost use Rattle.std.specs.Prelude.{IfOk, IfErr};
 ghost use Rattle.run_command.specs.Reported.{IsReportText};
@@ -21,7 +21,7 @@ use run_command::run::run;
 use selftest_command::text::self_test;
 use std::alloc::Global;
 
-/// The sections and the listing of a program after passes.
+/// The text of `compile`: the sections and the listing of a program after passes.
 pub fn compiled_text(alloc: Global, program: &Program, plan: &Plan) -> Result<Text, Fault>
     requires { IsReadProgram program.now }
     ensures ok { IfOk result (IsCompiledText (plan_steps plan.now) program.now) }
@@ -31,7 +31,7 @@ pub fn compiled_text(alloc: Global, program: &Program, plan: &Plan) -> Result<Te
     Ok(print_output(alloc, &compilation.output)?)
 }
 
-/// The listing of a program alone after passes.
+/// The text of `listing`: the listing alone of a program after passes.
 pub fn listing_text(alloc: Global, program: &Program, plan: &Plan) -> Result<Text, Fault>
     requires { IsReadProgram program.now }
     ensures ok { IfOk result (IsListingText (plan_steps plan.now) program.now) }
@@ -41,7 +41,7 @@ pub fn listing_text(alloc: Global, program: &Program, plan: &Plan) -> Result<Tex
     Ok(print_listing(alloc, compilation.output.functions.as_slice())?)
 }
 
-/// The report of a program after passes.
+/// The text of `report`: the report of a program after passes.
 pub fn report_text(alloc: Global, program: &Program, plan: &Plan) -> Result<Text, Fault>
     requires { IsReadProgram program.now }
     ensures ok { IfOk result (IsReportText plan.now.reserve plan.now.passes program.now) }
@@ -51,7 +51,7 @@ pub fn report_text(alloc: Global, program: &Program, plan: &Plan) -> Result<Text
     Ok(report(alloc, &compilation)?)
 }
 
-/// The text of the run that is asked for of a program's function after passes.
+/// The text of `run`: the requested run of one of a program's functions after passes.
 pub fn run_text(alloc: Global, program: &Program, asked: RunPlan) -> Result<Text, Fault>
     requires { IsReadProgram program.now }
     ensures ok { IfOk result (IsRunOfProgram (plan_steps asked.plan) program.now asked.name asked.steps
@@ -67,7 +67,7 @@ pub fn run_text(alloc: Global, program: &Program, asked: RunPlan) -> Result<Text
     }
 }
 
-/// The text of the run that is asked for of a program that is compiled.
+/// The text of the requested run of a compiled program.
 fn run_of(
     alloc: Global,
     _program: &Program,
@@ -101,8 +101,8 @@ fn run_of(
     }
 }
 
-/// The text of the self-test that is asked for. Memory runs out too where its function makes 2^64 - 1 steps before it
-/// comes to a line of its machine code.
+/// The text of `selftest`: the requested self-test. The error is also `Memory` if its function takes 2^64 - 1 steps
+/// before it reaches a line of its machine code.
 pub fn test_text(alloc: Global, asked: &TestPlan) -> Result<Text, Fault>
     requires { IsWithin asked.now.function }
     ensures ok { IfOk result (IsTestText asked.now) }
@@ -125,7 +125,7 @@ pub fn test_text(alloc: Global, asked: &TestPlan) -> Result<Text, Fault>
     }
 }
 
-/// A program that is compiled after passes.
+/// A program compiled after passes.
 fn compilation(alloc: Global, program: &Program, plan: &Plan) -> Result<Compilation, Fault>
     requires { IsReadProgram program.now }
     ensures output { IfOk result (λ c. IsOutputOf (plan_steps plan.now) program.now c.output) }

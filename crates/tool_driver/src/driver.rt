@@ -32,19 +32,19 @@ use read_program::program::Program;
 use std::alloc::Global;
 use strip_command::strip_text::strip_text;
 
-/// The most bytes that an input may have.
+/// The greatest length of an input, in bytes: 16 MiB.
 pub const LIMIT: usize = 16_777_216;
 
-/// Runs the command that the words are: reads the input to its end, and writes what the command asks for of the
-/// functions that the text stands for. `compile`, with the options of a list of passes and of registers that may be
-/// spilled, writes the sections and the listing of what these passes make of them (`--passes=none`: of the functions as
-/// they were read; all passes where no list is given), `listing` with such options the listing alone, and `report` of
-/// each function at how many of its words each variable can be found, and what the passes lost. `run` with a
-/// function's name, a number of steps and such options writes a line for each step of its machine code, with what its
-/// variables hold. `strip` writes the functions without their debug items. `gen` reads nothing, and writes the text of
-/// the function that is made up from its two numbers; `selftest`, with such numbers and the options of `compile`, reads
-/// nothing either, and writes how much of such a function its location lists tell along a run of its machine code. A
-/// fault is told by a line on `faults`.
+/// Runs the command that the words are: reads the input to its end, and writes the command's output for the functions
+/// in it. `compile`, with the options for a list of passes and for registers that may be spilled, writes the sections
+/// and the listing of the functions after these passes (`--passes=none`: of the functions as they were read; all
+/// passes if there is no list). `listing`, with the same options, writes the listing alone, and `report` at how many
+/// of each function's words each variable has a location, and what the passes lost. `run`, with a function's name, a
+/// number of steps and such options, writes a line for each step of its machine code, with the values of its
+/// variables. `strip` writes the functions without their debug items. `gen` reads nothing, and writes the text of the
+/// function that it generates from two numbers. `selftest`, with such numbers and the options of `compile`, reads
+/// nothing either, and writes how many values the location lists of such a function have along a run of its machine
+/// code. A fault is reported by a line on `faults`.
 pub fn mirdwarf<S: Source, K: Sink, E: Sink>(
     alloc: Global,
     words: &[String],
@@ -170,7 +170,7 @@ pub fn mirdwarf<S: Source, K: Sink, E: Sink>(
     }
 }
 
-/// All but the telling of a fault.
+/// The run of a command, but for the line that reports a fault.
 fn run<S: Source, K: Sink>(
     alloc: Global,
     words: &[String],
@@ -200,7 +200,7 @@ fn run<S: Source, K: Sink>(
     }
 }
 
-/// What a command is to write.
+/// The output of a command.
 fn answered<S: Source>(alloc: Global, command: Command, input: &mut S) -> Result<Text, Fault>
     requires { AreWithin command }
     ensures ok { IfOk result (AnswersInput command (change S.left S.faults input.old input.new)) }
@@ -235,7 +235,7 @@ fn answered<S: Source>(alloc: Global, command: Command, input: &mut S) -> Result
     }
 }
 
-/// The program of an input, which is read to its end.
+/// The program in an input, which is read to its end.
 fn read<S: Source>(alloc: Global, input: &mut S) -> Result<Program, Fault>
     ensures ok { IfOk result (HasReadProgram (change S.left S.faults input.old input.new)) }
     ensures err { IfErr result (HasReadNone (change S.left S.faults input.old input.new)) }

@@ -1,4 +1,4 @@
-//! The program of a text.
+//! The program in a text.
 
 ghost use Rattle.std.specs.Prelude.{◌^◌, ◌<◌, length, Ok, IfOk, IfErr};
 ghost use Rattle.tool_driver.specs.Answer.{HasFunctions, RefusesProgram};
@@ -10,7 +10,7 @@ use read_program::error::ParseError;
 use read_program::program::{Program, read_program};
 use std::alloc::Global;
 
-/// The program of a text, with a function.
+/// The program in a text, which has a function.
 pub fn program_of(alloc: Global, text: &[u8]) -> Result<Program, Fault>
     requires { length text.now < 2 ^ 31 }
     ensures ok { IfOk result (HasFunctions text.now) }
@@ -25,12 +25,12 @@ pub fn program_of(alloc: Global, text: &[u8]) -> Result<Program, Fault>
     Ok(program)
 }
 
-/// What a slice has are bytes: numbers below 256.
+/// The elements of a byte slice are numbers below 256.
 fn are_bytes(text: &[u8])
     ensures { AreBytes text.now }
 {}
 
-/// The program of a text, with functions or without.
+/// The program in a text, with functions or without.
 fn any_program(alloc: Global, text: &[u8]) -> Result<Program, Fault>
     requires { length text.now < 2 ^ 31 }
     ensures ok { IfOk result (λ program. ReadsText text.now (Ok program)) }

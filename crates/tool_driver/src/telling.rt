@@ -1,4 +1,4 @@
-//! What is told of a fault.
+//! The line that reports a fault.
 
 ghost use Rattle.std.specs.Prelude.{◌≡◌, ◌≤◌, OnOk, OnErr};
 ghost use Rattle.base_io.specs.Faults.{CountRose};
@@ -13,7 +13,7 @@ use cli::fault::Fault;
 use cli::status::Status;
 use itoa::Buffer;
 
-/// Tells of a fault by its line, as far as the sink takes it, and gives the status of a run that ends so.
+/// Writes the line that reports a fault, as far as the sink takes it, and returns the status of a run that ends so.
 pub fn tell<E: Sink>(fault: Fault, faults: &mut E) -> Status
     ensures status { result ≡ status_of fault }
     ensures line { IsTold (change E.written E.faults faults.old faults.new) (line_of fault) }
@@ -23,7 +23,7 @@ pub fn tell<E: Sink>(fault: Fault, faults: &mut E) -> Status
     fault.status()
 }
 
-/// Writes the line that tells of a fault, piece by piece, since a number in it would take memory otherwise.
+/// Writes the line that reports a fault, piece by piece, since formatting a number would take memory.
 fn write_line<E: Sink>(fault: Fault, faults: &mut E) -> Result<(), Failed>
     ensures ok { OnOk result (Appends (E.written faults.old) (E.written faults.new) (line_of fault)) }
     ensures err { OnErr result (AppendsPrefix (E.written faults.old) (E.written faults.new) (line_of fault)) }
@@ -36,7 +36,7 @@ fn write_line<E: Sink>(fault: Fault, faults: &mut E) -> Result<(), Failed>
     write_all(faults, b"\n")
 }
 
-/// Writes the line of the input at which a refusal stands.
+/// Writes the line number of a refusal in the input, if it has one.
 fn write_place<E: Sink>(line: Option<u32>, faults: &mut E) -> Result<(), Failed>
     ensures ok { OnOk result (Appends (E.written faults.old) (E.written faults.new) (place_text line)) }
     ensures err { OnErr result (AppendsPrefix (E.written faults.old) (E.written faults.new) (place_text line)) }

@@ -1,5 +1,5 @@
-//! The command over the host: the words after the program's name, and standard input and output. What a run does is
-//! the contract of the call that it makes; no contract can say what the host gives and takes.
+//! The command-line tool on a host system: the command-line arguments, standard input and standard output. The
+//! contract of a run is that of the call to the driver; no contract covers what the host reads and writes.
 #![tactic(auto)]
 
 use base_io::std_sink::StdSink;
@@ -11,8 +11,8 @@ use std::{env, io};
 use tool_driver::driver::mirdwarf;
 use tool_driver::telling::tell;
 
-/// Runs the command that the program's words are, on standard input and output, and gives its status as the exit
-/// code. A fault is told by a line on `faults`.
+/// Runs the command in the program's arguments on standard input and output, and returns its status as the exit code.
+/// A fault is reported by a line on `faults`.
 pub fn run<W: Write + Drop>(rt: &HostRuntime, faults: W) -> ExitCode {
     let mut input = StdSource::new(rt.stdin());
     let mut output = StdSink::new(rt.stdout());
@@ -24,7 +24,7 @@ pub fn run<W: Write + Drop>(rt: &HostRuntime, faults: W) -> ExitCode {
     ExitCode::from(status.number())
 }
 
-/// The words after the program's name.
+/// The arguments after the program's name.
 fn words(rt: &HostRuntime) -> Result<Vec<String>, Fault> {
     let mut words = Vec::new(rt.alloc());
     for word in env::args(rt).map_err(word_fault)?.skip(1) {
@@ -35,7 +35,8 @@ fn words(rt: &HostRuntime) -> Result<Vec<String>, Fault> {
     Ok(words)
 }
 
-/// What a fault of the words is: memory ran out, or a word is no UTF-8 and so no word of a command.
+/// The fault for arguments that couldn't be read: want of memory, or a word that is no UTF-8 and so no word of a
+/// command.
 fn word_fault(error: io::Error) -> Fault {
     if error.kind() == io::ErrorKind::OutOfMemory {
         Fault::Memory

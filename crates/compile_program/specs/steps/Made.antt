@@ -1,4 +1,4 @@
--- What was made of functions so far, and of one more.
+-- The state of compilation after some functions, and after one more.
 use Rattle.std.specs.Prelude.{◌≡◌, ℕ, ◌*◌, ◌%◌, ◌<◌, ◌≤◌, List, length, map, All}
 use Rattle.emit_code.specs.Counts.{MAX_WORDS}
 use Rattle.pass_trait.specs.declared.loss.Loss.{Loss}
@@ -16,7 +16,7 @@ use Rattle.compile_theorem.specs.Source.{PassedFunction}
 use Rattle.pass_list.specs.declared.kind.PassKind.{PassKind}
 use Rattle.compile_program.specs.Program.{ArePassed, AreMadeLosing, AreCoded}
 
--- what passes make of a source, losing this, is compiled behind others
+-- One more function is run through the passes, with these losses, and compiled after the previous ones.
 pub record IsSourcePushed (meta : Maps) (reserve : List ℕ) (passes : List PassKind) (q : Parsed) (losses : List Loss) (before after : Made) : Type 0 where
   pub passed : PassedFunction
   pub source : passed.source ≡ source_of q
@@ -24,14 +24,14 @@ pub record IsSourcePushed (meta : Maps) (reserve : List ℕ) (passes : List Pass
   pub lost : IsMadeLosing reserve passes passed losses
   pub pushed : IsPushed meta passed before after
 
--- the frame of what steps of passes make of a source is too large
+-- The function, after the steps of passes, has a frame above the limit.
 pub record IsTooLarge (steps : List Step) (q : Parsed) : Type 0 where
   pub passed : PassedFunction
   pub source : passed.source ≡ source_of q
   pub made : IsMadeBy steps passed
   pub large : MAX_FRAME < size_of passed.function
 
--- what passes made of functions, losing this of each, is compiled from address 0 on
+-- The functions are run through the passes, with these losses of each, and compiled from address 0 on.
 pub record AreMade (meta : Maps) (reserve : List ℕ) (passes : List PassKind) (functions : List Parsed) (losses : List (List Loss)) (m : Made) : Type 0 where
   pub passed : List PassedFunction
   pub are : ArePassed meta functions passed

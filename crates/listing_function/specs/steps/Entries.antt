@@ -1,4 +1,4 @@
--- The walk over items beside their entries.
+-- Definitions for the loop over items and their entries.
 use Rattle.std.specs.Prelude.{◌≡◌, ℕ, ◌<◌, ◌^◌, Bool, ◌&&◌, cond, nat_eq, List, [], ◌∷◌, ◌++◌, drop, Option, Some, None}
 use Rattle.mir_func.specs.declared.item.ItemKind.{ItemKind}
 use Rattle.mir_func.specs.declared.position.Point.{Point}
@@ -12,7 +12,7 @@ use Rattle.emit_code.specs.Rule.{Layout, Site, entries_at}
 use Rattle.emit_code.specs.steps.Emitted.{point_of}
 use Rattle.emit_code.specs.steps.Plans.{AreOffsetsOf}
 
--- an address of 32 bits
+-- an address below 2^32
 abbrev pub IsLow : Entry → Type 0
 IsLow e = e.address < 2 ^ 32
 
@@ -24,27 +24,27 @@ first_address (e ∷ es) = Some e.address
 abbrev pub is_same_point : Point → Point → Bool
 is_same_point p q = nat_eq p.block q.block && nat_eq p.item q.item
 
--- the address of the second entry, if it is of the first one's point
+-- the address of the second entry, if both entries are of the same point
 abbrev pub second_address : List Entry → Option ℕ
 second_address [] = None
 second_address (x ∷ []) = None
 second_address (x ∷ y ∷ es) = cond (is_same_point x.point y.point) (Some y.address) None
 
--- the first entry is of another point
+-- no entry, or a first entry of another point
 abbrev pub BeginsApart : Pos → List Entry → Type 0
 BeginsApart p [] = Unit {0}
 BeginsApart p (e ∷ es) = e.point ≡ point_of p → ⊥
 
--- the entries from an index on are those of an item, and then others, of which the first is of another point
+-- The entries from index `at` on are those of the item at s, and then others, of which the first is of another point.
 pub record StandsAt (l : Layout) (entries : List Entry) (at : ℕ) (s : Site) (others : List Entry) : Type 0 where
   pub here : drop at entries ≡ entries_at l s ++ others
   pub apart : BeginsApart s.point others
 
--- the table has the offsets of a layout's function with its frame
+-- The table has the offsets of the stack objects of the layout's function with its frame.
 pub record IsSource (l : Layout) (o : ObjectOffsets) : Type 0 where
   pub framed : IsFramed l.framed
   pub offsets : AreOffsetsOf l.framed o
 
--- the slot and the object that an item names are there
+-- the slots and the stack objects that an item names exist
 abbrev pub IsPlaced : FramedFunction → ItemKind → Type 0
 IsPlaced f kind = SlotsIn (slot_offsets f) kind × ObjectsIn f.objects kind

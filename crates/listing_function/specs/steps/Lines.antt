@@ -11,13 +11,13 @@ use Rattle.listing_meaning.specs.Listing.{implicits, line_at}
 use Rattle.listing_function.specs.declared.branch.Branch.{Branch}
 use Rattle.listing_function.specs.declared.lines.Long.{Long}
 
--- the long branch of a jump's address and a branch
+-- a long branch, if the instruction is a conditional branch and has the address of its jump
 abbrev pub long_by : Option ℕ → Option Branch → Option Long
 long_by None b = None
 long_by (Some a) None = None
 long_by (Some a) (Some b) = Some (record { jump = a; branch = b })
 
--- what skips, and the jump, which has the item's number, origin and location
+-- the two lines of a long branch: the skip, and the jump, which has the item's number, origin and debug location
 abbrev pub long_lines : (address : ℕ) → Long → Item → List Operand → (number : Option ℕ) → List Line
 long_lines a l item operands k = Skip (record {
   address = a;

@@ -1,4 +1,4 @@
--- Operands of code that is listed.
+-- Operands of listed code.
 use Rattle.std.specs.Prelude.{ℕ, IsTrue, List, ◌∷◌, Option, Some, None}
 use Rattle.rv64_instr.specs.declared.op.Op.{Op}
 use Rattle.rv64_instr.specs.declared.op.BranchOp.{BranchOp}
@@ -8,12 +8,12 @@ use Rattle.rv64_instr.specs.declared.operand.Operand.TheVariants.{Use, Imm, Obje
 use Rattle.rv64_instr.specs.Form.{has_12_bits}
 use Rattle.listing_function.specs.declared.branch.Branch.{Branch}
 
--- what is added to an object's offset has 12 bits
+-- the number that is added to a stack object's address fits in 12 bits
 abbrev pub IsSmall : List Operand → Type 0
 IsSmall (r ∷ Object n ∷ Imm i ∷ rest) = IsTrue (has_12_bits i)
 IsSmall _ = Unit {0}
 
--- what a conditional branch compares, and where it goes
+-- the operation, the compared registers and the target of a conditional branch
 abbrev pub compared : BranchOp → List Operand → Option Branch
 compared op (Use a ∷ Use b ∷ Block n ∷ rest) = Some (record { op = op; first = a; second = b; target = n })
 compared op _ = None

@@ -1,4 +1,4 @@
--- A scan over the lines of a text, one line after the other.
+-- The scan that cuts a text into documents, line by line.
 use Rattle.std.specs.Prelude.{ℕ, Bool, true, false, not, ◌&&◌, ◌||◌, ◌==◌, if◌then◌else◌, List, [], ◌∷◌, ◌++◌, length, Option, Some, None, is_none}
 use Rattle.std.specs.Option.{option_map_or}
 use Rattle.read_lexer.specs.declared.line.Line.{Line}
@@ -10,13 +10,13 @@ use Rattle.read_documents.specs.declared.parts.FunctionDocument.{FunctionDocumen
 use Rattle.read_documents.specs.declared.parts.Documents.{Documents}
 use Rattle.read_documents.specs.Key.{is_close, opens_block, opens_function, is_passed, is_plain, heading}
 
--- ---- an open function
+-- ---- a function that isn't closed yet
 
--- a function right behind the line that opens it
+-- a function right after the line that opens it
 abbrev pub just_opened : ℕ → OpenFunction
 just_opened opened = record { opened = opened; key = Other; has_body = false; name = []; stack = []; fixed = []; substitutions = []; body = [] }
 
--- whether a key that is kept was met
+-- whether a line with this key came already, for a key that is kept
 abbrev pub has : OpenFunction → Key → Bool
 has f Name = not (length f.name == 0)
 has f Stack = not (length f.stack == 0)
@@ -25,13 +25,13 @@ has f DebugValueSubstitutions = not (length f.substitutions == 0)
 has f Body = f.has_body
 has f Other = false
 
--- whether a line can't stand in the function
+-- whether a line is a fault in the function
 abbrev pub can_not_take : OpenFunction → List ℕ → Bool
 can_not_take f text =
     (opens_block text || opens_function text)
     || (option_map_or (λ key. has f key) (heading text) false || (is_none (heading text) && (not (is_plain text) && not f.has_body)))
 
--- the function with one more line of a key
+-- the function with one more line under this key
 abbrev pub with_line : OpenFunction → Key → Line → OpenFunction
 with_line f Name line = record f { name = f.name ++ line ∷ [] }
 with_line f Stack line = record f { stack = f.stack ++ line ∷ [] }
@@ -40,17 +40,17 @@ with_line f DebugValueSubstitutions line = record f { substitutions = f.substitu
 with_line f Body line = record f { body = f.body ++ line ∷ [] }
 with_line f Other line = f
 
--- the function behind a line that begins with a key
+-- the function after a line that begins with a key
 abbrev pub with_key : OpenFunction → Key → Line → OpenFunction
 with_key f Body line = record f { key = Body; has_body = true }
 with_key f key line = with_line (record f { key = key }) key line
 
--- the function behind a line that begins with this key, if with any
+-- the function after a line, given the key that the line begins with, if any
 abbrev pub taken_under : OpenFunction → Option Key → Line → OpenFunction
 taken_under f (Some key) line = with_key f key line
 taken_under f None line = with_line f f.key line
 
--- the function behind a line
+-- the function after a line
 abbrev pub taken : OpenFunction → Line → OpenFunction
 taken f line = taken_under f (heading line.text) line
 
@@ -58,7 +58,7 @@ taken f line = taken_under f (heading line.text) line
 abbrev pub can_close : OpenFunction → Bool
 can_close f = not (length f.name == 0) && f.has_body
 
--- the function once it is closed
+-- the document of the function, once the line with number `closed` closes it
 abbrev pub closed_at : OpenFunction → ℕ → FunctionDocument
 closed_at f closed = record {
   opened = f.opened;
@@ -73,11 +73,11 @@ closed_at f closed = record {
 
 -- ---- the scan
 
--- before the first line
+-- the state before the first line
 abbrev pub start : Scan
 start = record { had_block = false; in_block = false; function = None; meta = []; functions = [] }
 
--- a fault outside documents
+-- the line number of a fault outside documents, if this line is one
 abbrev pub outside_fault : Scan → Line → Option ℕ
 outside_fault s line =
     if is_passed line.text then None
@@ -85,13 +85,13 @@ outside_fault s line =
     else (if opens_function line.text then None
     else Some line.number))
 
--- a fault in a function
+-- the line number of a fault in a function, if this line reveals one: its own, or the function's opening line if `...` comes before a name and a body
 abbrev pub function_fault : OpenFunction → Line → Option ℕ
 function_fault f line =
     if is_close line.text then (if can_close f then None else Some f.opened)
     else (if can_not_take f line.text then Some line.number else None)
 
--- the line that a fault stands at, if the next line shows one
+-- the line number of a fault, if this line reveals one
 abbrev pub fault_in : Scan → Option OpenFunction → Line → Option ℕ
 fault_in s (Some f) line = function_fault f line
 fault_in s None line = if s.in_block then None else outside_fault s line
@@ -99,11 +99,11 @@ fault_in s None line = if s.in_block then None else outside_fault s line
 abbrev pub fault : Scan → Line → Option ℕ
 fault s line = fault_in s s.function line
 
--- behind a line of the block
+-- the state after a line of the IR block
 abbrev pub block_step : Scan → Line → Scan
 block_step s line = if is_close line.text then record s { in_block = false } else record s { meta = s.meta ++ line ∷ [] }
 
--- behind a line outside documents
+-- the state after a line outside documents
 abbrev pub outside_step : Scan → Line → Scan
 outside_step s line =
     if is_passed line.text then s
@@ -111,13 +111,13 @@ outside_step s line =
     else (if opens_function line.text then record s { function = Some (just_opened line.number) }
     else s))
 
--- behind a line of a function
+-- the state after a line of a function
 abbrev pub function_step : Scan → OpenFunction → Line → Scan
 function_step s f line =
     if is_close line.text then record s { function = None; functions = s.functions ++ closed_at f line.number ∷ [] }
     else record s { function = Some (taken f line) }
 
--- behind a line
+-- the state after a line
 abbrev pub step_in : Scan → Option OpenFunction → Line → Scan
 step_in s (Some f) line = function_step s f line
 step_in s None line = if s.in_block then block_step s line else outside_step s line
@@ -125,16 +125,16 @@ step_in s None line = if s.in_block then block_step s line else outside_step s l
 abbrev pub step : Scan → Line → Scan
 step s line = step_in s s.function line
 
--- a fault where the text ends, whose last line has this number
+-- the line number of a fault at the end of the text, whose last line has number `last`
 abbrev pub fault_at_end : Scan → Option OpenFunction → ℕ → Option ℕ
 fault_at_end s (Some f) last = if can_close f then Some last else Some f.opened
 fault_at_end s None last = if s.in_block then Some last else None
 
--- what was read
+-- the documents read so far, with the line number of the fault, if any
 abbrev pub found : Scan → Option ℕ → Documents
 found s bad = record { meta = s.meta; functions = s.functions; bad = bad }
 
--- what the scan gives from a state on, behind the line with number `last`
+-- the documents of the state and the fault at this line, if there is one, and else `others`
 abbrev pub scan_or_stop : Scan → Option ℕ → Documents → Documents
 scan_or_stop s (Some bad) others = found s (Some bad)
 scan_or_stop s None others = others

@@ -1,4 +1,4 @@
--- A self-test of the first function of a program that is compiled.
+-- A self-test of the first function of a compiled program.
 use Rattle.std.specs.Prelude.{◌≡◌, ℕ, List, Some, slice_get}
 use Rattle.emit_code.specs.Laid.{LaidCode}
 use Rattle.selftest_count.specs.Runs.{GoApart}
@@ -14,14 +14,14 @@ pub record IsFirst (p : Program) (c : Compilation) (source : Parsed) (code : Lai
   pub read : slice_get p.functions 0 ≡ Some source
   pub coded : slice_get c.codes 0 ≡ Some code
 
--- the text is that of a self-test of them
+-- the text is that of a self-test of the first function
 pub record TestsFirst (p : Program) (c : Compilation) (text : List ℕ) : Type 0 where
   pub source : Parsed
   pub code : LaidCode
   pub first : IsFirst p c source code
   pub tests : IsSelfTest source.func (resolve source.subs) code c.lists (variables_of_function source.func.blocks) text
 
--- their runs don't go together
+-- the runs of the first function and of its machine code diverge
 pub record FirstGoesApart (p : Program) (c : Compilation) : Type 0 where
   pub source : Parsed
   pub code : LaidCode

@@ -1,4 +1,4 @@
--- Both runs as they are kept.
+-- Both runs, as the code represents them.
 use Rattle.std.specs.Prelude.{◌≡◌, ℕ, ◌<◌, List, [], Some, None, Bool, true, false}
 use Rattle.mir_func.specs.Graph.{Program}
 use Rattle.mir_func.specs.declared.position.Pos.{Pos}
@@ -22,49 +22,49 @@ use Rattle.selftest_count.specs.declared.turn.Turn.TheVariants.{Went, Returned, 
 use Rattle.selftest_count.specs.Apart.{MAX_SOURCE_STEPS, Misses, MissesNext, IsApart, GoesApart}
 use Rattle.selftest_count.specs.Counts.{no_counts, Counted, AreCounts}
 
--- what is kept stands for a state of the source in which no answer is left
+-- the simulator's state represents this state of the source, whose script is empty
 pub record IsAt (k : Concrete) (s : State) : Type 0 where
   pub stands : StandsForSource k s
   pub script : s.core.script ≡ []
 
--- from each such state the source comes to one that what is kept now stands for: the first at the position
+-- From each source state that `old` represents, the source comes to its first state at the position, which `new` represents.
 abbrev pub ArrivesSo : Program → Pos → (old new : Concrete) → Type 0
 ArrivesSo src p old new = (s : State) → IsAt old s → (t : State) × Arrives src (First p) p s t × IsAt new t
 
--- the next alignment counts from the step after the one aligned last, or from that one
+-- `moved`: the next alignment begins after the state that was aligned last, rather than at it
 abbrev pub IsSince : (moved : Bool) → Since → Type 0
 IsSince true since = since ≡ After
 IsSince false since = since ≡ After → ⊥
 
--- from each such state the source comes to the next that is aligned at the position
+-- From each source state that `old` represents, the source comes to its next state aligned at the position, which `new` represents.
 abbrev pub AlignsSo : Program → (moved : Bool) → Pos → (old new : Concrete) → Type 0
 AlignsSo src moved p old new = (s : State) (since : Since) → IsAt old s → IsSince moved since → (t : State) × Aligns src (First p) p since s t × IsAt new t
 
--- from no such state the source comes to the position
+-- From no source state that `old` represents does the source come to the position.
 abbrev pub MissesSo : Program → Pos → (old : Concrete) → Type 0
 MissesSo src p old = (s : State) → IsAt old s → Misses src p MAX_SOURCE_STEPS s
 
--- from no such state the source comes to the next that is aligned at the position
+-- From no source state that `old` represents does the source come to a next state aligned at the position.
 abbrev pub MissesNextSo : Program → (moved : Bool) → Pos → (old : Concrete) → Type 0
 MissesNextSo src moved p old = (s : State) (since : Since) → IsAt old s → IsSince moved since → MissesNext src p since s
 
--- code that is the source's
+-- whether code was kept from the source
 abbrev pub is_kept : Origin → Bool
 is_kept (Kept p) = true
 is_kept (Before p) = false
 
--- the machine stands at an entry, no call site, and the source comes to the state aligned with it
+-- The machine is at this entry, which isn't a call site, and the source comes to the state aligned with it.
 pub record Meets (src : Program) (c : LaidCode) (moved : Bool) (h : Hart) (old new : Concrete) (e : Entry) : Type 0 where
   pub found : entry_at c.entries h.counter ≡ Some e
   pub no_call : entry_call c.framed e ≡ None
   pub aligned : AlignsSo src moved (position_of e.origin) old new
 
--- the machine and the source don't go on together, from each of their states that are kept
+-- The machine and the source diverge, from all of their states that are represented.
 abbrev pub MeetsNot : Program → LaidCode → (moved : Bool) → Hart → (old : Concrete) → Type 0
 MeetsNot src c moved h old = (image : Image) (m : Machine) (s : State) (since : Since) → ShowsCode c image → StandsFor h m → IsAt old s → IsSince moved since →
     IsApart src image c m s since
 
--- what is kept stands for states to which both runs come, with these counts
+-- The machine's and the source's states that are represented are reached by runs in lockstep with these counts.
 pub record Beside (src : Program) (image : Image) (lists : List (List Range)) (parts : List VarId) (m0 : Machine) (s0 : State) (n : Counts) (h : Hart)
     (k : Concrete) (moved : Bool) : Type 0 where
   pub machine : Machine
@@ -75,12 +75,12 @@ pub record Beside (src : Program) (image : Image) (lists : List (List Range)) (p
   pub at : IsAt k state
   pub moves : IsSince moved since
 
--- from states to which both runs come they don't go on together
+-- From states that are reached in lockstep, the runs diverge.
 abbrev pub LeadsApart : Program → LaidCode → List (List Range) → List VarId → Counts → Hart → Concrete → (moved : Bool) → Type 0
 LeadsApart src c lists parts n h k moved = (image : Image) (m0 : Machine) (s0 : State) (limit : ℕ) → ShowsCode c image →
     Beside src image lists parts m0 s0 n h k moved → n.steps < limit → GoesApart src image c lists parts limit m0 s0
 
--- a step leads from states to which both runs come to further ones, or returns, with its counts, or they don't go on together
+-- A step leads from states that are reached in lockstep to further ones, or returns, with its counts, or the runs diverge.
 abbrev pub Leads : Program → LaidCode → List (List Range) → List VarId → Turn → (old new : Counts) → (h h' : Hart) → (k k' : Concrete) → (moved moved' : Bool) →
     Type 0
 Leads src c lists parts Went old new h h' k k' moved moved' = (image : Image) (m0 : Machine) (s0 : State) → ShowsCode c image →
@@ -89,12 +89,12 @@ Leads src c lists parts Returned old new h h' k k' moved moved' = (image : Image
     Beside src image lists parts m0 s0 old h k moved → old.steps < limit → AreCounts src image lists parts limit m0 s0 new
 Leads src c lists parts Apart old new h h' k k' moved moved' = LeadsApart src c lists parts old h k moved
 
--- from where both runs begin, these are the counts of so many steps at most
+-- From the start of both runs, these are the counts of at most `limit` steps.
 abbrev pub CountsFrom : Program → LaidCode → List (List Range) → List VarId → (limit : ℕ) → Hart → Concrete → Counts → Type 0
 CountsFrom src c lists parts limit h k n = (image : Image) (m0 : Machine) (s0 : State) → ShowsCode c image →
     Beside src image lists parts m0 s0 no_counts h k false → AreCounts src image lists parts limit m0 s0 n
 
--- from where both runs begin, they don't go on together for so many steps
+-- From the start of both runs, they diverge within `limit` steps.
 abbrev pub ApartFrom : Program → LaidCode → List (List Range) → List VarId → (limit : ℕ) → Hart → Concrete → Type 0
 ApartFrom src c lists parts limit h k = (image : Image) (m0 : Machine) (s0 : State) → ShowsCode c image →
     Beside src image lists parts m0 s0 no_counts h k false → GoesApart src image c lists parts limit m0 s0

@@ -1,10 +1,10 @@
--- Operations with a number as those on registers.
+-- Register-immediate operations as register-register operations.
 use Rattle.rv64_instr.specs.declared.op.ImmediateOp.{ImmediateOp}
 use Rattle.rv64_instr.specs.declared.op.ImmediateOp.TheVariants.{Addi, Slti, Sltiu, Xori, Ori, Andi, Slli, Srli, Srai, Addiw, Slliw, Srliw, Sraiw}
 use Rattle.rv64_instr.specs.declared.op.RegisterOp.{RegisterOp}
 use Rattle.rv64_instr.specs.declared.op.RegisterOp.TheVariants.{Add, Sll, Slt, Sltu, Xor, Srl, Sra, Or, And, Addw, Sllw, Srlw, Sraw}
 
--- the operation on registers that gives the same
+-- the register-register operation with the same result
 abbrev pub on_registers : ImmediateOp → RegisterOp
 on_registers Addi = Add
 on_registers Slti = Slt

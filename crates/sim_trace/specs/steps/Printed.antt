@@ -1,4 +1,4 @@
--- The lines of a run as they are written.
+-- The lines of a run as the code appends them.
 use Rattle.std.specs.Prelude.{◌≡◌, ℕ, suc, ◌<◌, List, [], ◌++◌, codes, Option, Some, None}
 use Rattle.rv64_instr.specs.declared.start.CallEvent.{CallEvent}
 use Rattle.sem_mir.specs.State.{Reply}
@@ -15,16 +15,16 @@ use Rattle.sim_machine.specs.Shown.{entry_at}
 use Rattle.sim_trace.specs.declared.variable.Variable.{Variable}
 use Rattle.sim_trace.specs.Lines.{step_line, stop_line}
 
--- the line before a step at an entry, and none where nothing begins at the counter
+-- the line of a step at an entry; none if no entry begins at the program counter
 abbrev pub line_at_entry : (number : ℕ) → Option Entry → List Variable → Machine → List ℕ
 line_at_entry n None variables s = []
 line_at_entry n (Some e) variables s = step_line n e.origin variables s
 
--- the line before a step is appended, whatever state what is kept stands for
+-- The line of a step is appended. It is the same for each machine state that the simulator state represents.
 abbrev pub IsLineAdded : (number : ℕ) → Option Entry → List Variable → Hart → (text more : List ℕ) → Type 0
 IsLineAdded n e variables h text more = (s : Machine) → StandsFor h s → more ≡ text ++ line_at_entry n e variables s
 
--- a step with its line before it
+-- a step, with its line before it
 pub record IsPrintedStep (gives : CallEvent → Reply → Type 0) (c : LaidCode) (variables : List Variable) (n : ℕ) (r : Stepped) (old new : Hart)
     (text more : List ℕ) : Type 0 where
   pub line : IsLineAdded n (entry_at c.entries old.counter) variables old text more
@@ -43,7 +43,7 @@ pub data Printed (gives : CallEvent → Reply → Type 0) (c : LaidCode) (variab
 abbrev pub IsStopAdded : Stop → Hart → (text more : List ℕ) → Type 0
 IsStopAdded stop h text more = (s : Machine) → StandsFor h s → more ≡ text ++ stop_line stop s
 
--- a run of so many steps at most, from its first line to its last
+-- a run of at most `limit` steps, with all its lines
 pub data IsRunPrinted (gives : CallEvent → Reply → Type 0) (c : LaidCode) (variables : List Variable) (limit : ℕ) (from : Hart) (text : List ℕ) : Type 0 where
   made_steps : {h : Hart} {lines : List ℕ} → Printed gives c variables from limit h lines → text ≡ lines ++ codes "stop steps\n" →
       IsRunPrinted gives c variables limit from text

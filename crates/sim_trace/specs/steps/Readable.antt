@@ -1,4 +1,4 @@
--- Lists that can be read: what they name can be listed, and their ranges ascend.
+-- Location lists that can be read: their places can be listed, and their ranges ascend.
 use Rattle.std.specs.Prelude.{◌≤◌}
 use Rattle.dwarf_loclists.specs.declared.range.Part.{Part}
 use Rattle.dwarf_loclists.specs.Ranges.{IsListed, ArePlaces, Ascend}
